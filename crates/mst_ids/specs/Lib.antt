@@ -1,0 +1,5 @@
+pub mod Texts
+pub mod Costs
+pub mod Identifiers
+pub mod Fields
+pub mod Names

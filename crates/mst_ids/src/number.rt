@@ -1,0 +1,150 @@
+ghost use Rattle.std.specs.Prelude.{◌≡◌, ◌≤◌, ◌++◌, OnOk, OnErr, decimal};
+ghost use Rattle.std.specs.Option.{SomeIff};
+
+use crate::text::push_decimal;
+use std::alloc::AllocError;
+use std::marker::Model;
+
+/// A priority as a script writes it, in steps from 0, the best, to 15 (802.1Q-2022, 13.26 and 13.27).
+#[derive(Clone, Copy, Debug, PartialEq, Eq, PartialOrd, Ord, Hash)]
+pub struct Priority {
+    step: u8,
+}
+
+impl Model for Priority {
+    ghost use Rattle.std.specs.Prelude.{ℕ, ◌≤◌};
+
+    ghost Value = { ℕ };
+
+    ghost view = { λ a. a.step };
+
+    ghost invariant = { λ a. a.step ≤ 15 };
+
+    ghost inverse = { λ n. record { step = n } };
+}
+
+impl Priority {
+    /// The priority of bridges and ports that is in force where none was set.
+    pub const DEFAULT: u8 = 8;
+
+    /// The priority of this many steps, or nothing above 15.
+    pub fn new(step: u64) -> Option<Priority>
+        ensures { SomeIff result (step ≤ 15) step }
+    {
+        if step > 15 {
+            return None;
+        }
+        Some(Priority { step: step as u8 })
+    }
+
+    /// The steps, 0 to 15.
+    pub fn step(self) -> u8
+        ensures value { result ≡ self }
+        ensures small { result ≤ 15 }
+    {
+        self.step
+    }
+}
+
+/// The number of a port on its bridge, 1 to 4095.
+#[derive(Clone, Copy, Debug, PartialEq, Eq, PartialOrd, Ord, Hash)]
+pub struct PortNumber {
+    number: u16,
+}
+
+impl Model for PortNumber {
+    ghost use Rattle.std.specs.Prelude.{ℕ, ◌≤◌};
+
+    ghost Value = { ℕ };
+
+    ghost view = { λ a. a.number };
+
+    ghost invariant = { λ a. (1 ≤ a.number) × (a.number ≤ 4095) };
+
+    ghost inverse = { λ n. record { number = n } };
+}
+
+impl PortNumber {
+    /// The port number of this value, or nothing for 0 and above 4095.
+    pub fn new(number: u64) -> Option<PortNumber>
+        ensures { SomeIff result ((1 ≤ number) × (number ≤ 4095)) number }
+    {
+        if number < 1 || number > 4095 {
+            return None;
+        }
+        Some(PortNumber {
+            number: number as u16,
+        })
+    }
+
+    /// The value, 1 to 4095.
+    pub fn value(self) -> u16
+        ensures value { result ≡ self }
+        ensures range { (1 ≤ result) × (result ≤ 4095) }
+    {
+        self.number
+    }
+
+    /// Appends the number in decimal, or changes nothing.
+    pub fn push_text(&self, out: &mut Vec<u8>) -> Result<(), AllocError>
+        ensures ok { OnOk result (out.new.items ≡ out.old.items ++ decimal self.now) }
+        ensures err { OnErr result (out.new.items ≡ out.old.items) }
+    {
+        push_decimal(u64::from(self.number), out)
+    }
+}
+
+/// A spanning tree: 0 is the CIST, and 1 to 4094 are MSTIs by their MSTIDs.
+#[derive(Clone, Copy, Debug, PartialEq, Eq, PartialOrd, Ord, Hash)]
+pub struct Tree {
+    number: u16,
+}
+
+impl Model for Tree {
+    ghost use Rattle.std.specs.Prelude.{ℕ, ◌≤◌};
+
+    ghost Value = { ℕ };
+
+    ghost view = { λ a. a.number };
+
+    ghost invariant = { λ a. a.number ≤ 4094 };
+
+    ghost inverse = { λ n. record { number = n } };
+}
+
+impl Tree {
+    /// The CIST.
+    pub fn cist() -> Tree
+        ensures { result ≡ 0 }
+    {
+        Tree { number: 0 }
+    }
+
+    /// The tree of this number, or nothing above 4094.
+    pub fn new(number: u64) -> Option<Tree>
+        ensures { SomeIff result (number ≤ 4094) number }
+    {
+        if number > 4094 {
+            return None;
+        }
+        Some(Tree {
+            number: number as u16,
+        })
+    }
+
+    /// The number, 0 to 4094.
+    pub fn value(self) -> u16
+        ensures value { result ≡ self }
+        ensures small { result ≤ 4094 }
+    {
+        self.number
+    }
+
+    /// Appends the number in decimal, or changes nothing.
+    pub fn push_text(&self, out: &mut Vec<u8>) -> Result<(), AllocError>
+        ensures ok { OnOk result (out.new.items ≡ out.old.items ++ decimal self.now) }
+        ensures err { OnErr result (out.new.items ≡ out.old.items) }
+    {
+        push_decimal(u64::from(self.number), out)
+    }
+}

@@ -1,0 +1,45 @@
+ghost use Rattle.std.specs.Prelude.{◌≡◌, ◌<◌, ◌++◌, OnOk, OnErr, decimal};
+ghost use Rattle.mst_ids.specs.Texts.{hex_digit as digit_of, hex_pair as pair_of};
+
+use itoa::Buffer;
+use std::alloc::AllocError;
+
+/// The text stands for no value.
+#[derive(Clone, Copy, Debug, PartialEq, Eq)]
+pub struct BadText;
+
+/// Appends a number in decimal, without leading zeros, or changes nothing.
+pub fn push_decimal(number: u64, out: &mut Vec<u8>) -> Result<(), AllocError>
+    ensures ok { OnOk result (out.new.items ≡ out.old.items ++ decimal number) }
+    ensures err { OnErr result (out.new.items ≡ out.old.items) }
+{
+    let mut buffer = Buffer::new();
+    push_bytes(buffer.format(number).as_bytes(), out)
+}
+
+/// Appends the bytes, or changes nothing.
+pub fn push_bytes(bytes: &[u8], out: &mut Vec<u8>) -> Result<(), AllocError>
+    ensures ok { OnOk result (out.new.items ≡ out.old.items ++ bytes.now) }
+    ensures err { OnErr result (out.new.items ≡ out.old.items) }
+{
+    out.extend_from_slice(bytes)
+}
+
+/// The lower case digit of a number below 16.
+pub(crate) fn hex_digit(number: u8) -> u8
+    requires { number < 16 }
+    ensures { result ≡ digit_of number }
+{
+    if number < 10 {
+        b'0' + number
+    } else {
+        b'a' + (number - 10)
+    }
+}
+
+/// The two lower case digits of an octet.
+pub(crate) fn hex_pair(octet: u8) -> [u8; 2]
+    ensures { result ≡ pair_of octet }
+{
+    [hex_digit(octet / 16), hex_digit(octet % 16)]
+}
