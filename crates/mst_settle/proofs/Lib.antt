@@ -1,0 +1,16 @@
+pub mod Grows
+pub mod Places
+pub mod Orders
+pub mod Tests
+pub mod Below
+pub mod Rank
+pub mod Unique
+pub mod Search
+pub mod Offers
+pub mod Exists
+pub mod Steps
+pub mod Parts
+pub mod Hearing
+pub mod Scratch
+pub mod Costs
+pub mod Renamed

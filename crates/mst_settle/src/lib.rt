@@ -1,0 +1,12 @@
+//! Settles the priority vectors of one spanning tree (802.1Q-2022, 13.9 to 13.13): each bridge has the
+//! best vector that it can take, and each LAN the designated port that says the best.
+#![tactic(auto)]
+
+mod heard;
+pub mod laws;
+mod settler;
+mod settling;
+mod topology;
+
+pub use settler::Settler;
+pub use topology::{Plug, Topology};
