@@ -1,0 +1,4 @@
+pub mod Faults
+pub mod Words
+pub mod Arguments
+pub mod Reading

@@ -1,0 +1,60 @@
+-- What a line of a script says, or the least fault of it.
+use Rattle.std.specs.Prelude.{ℕ, Bool, ◌==◌, List, [], ◌∷◌, length, nat_lt, Result, Ok, Err, Option, None, Some, if◌then◌else◌, codes, false}
+use Rattle.std.specs.Option.{option_map_or}
+use Rattle.std.specs.List.{list_all}
+use Rattle.mst_ids.specs.declared.name.PortName.{PortName}
+use Rattle.mst_lang.specs.Words.{words, is_plain}
+use Rattle.mst_lang.specs.Arguments.{is_text, with_one, with_two, with_three, with_name, with_mac, with_kind, with_port_number, with_priority, with_tree}
+use Rattle.mst_lang.specs.declared.line.Line.{Line}
+use Rattle.mst_lang.specs.declared.line.Line.TheVariants.{Blank, Query as query, Edit as edit}
+use Rattle.mst_lang.specs.declared.line.Edit.TheVariants as edits
+use Rattle.mst_lang.specs.declared.line.Query.TheVariants as queries
+use Rattle.mst_lang.specs.declared.line.Command.{Command}
+use Rattle.mst_lang.specs.declared.line.Command.TheVariants.{AddBridge, Kind, AddPort, AddLan, Plug, SetTreePrio, ShowTree}
+use Rattle.mst_lang.specs.declared.line.Fault.{Fault}
+use Rattle.mst_lang.specs.declared.line.Fault.TheVariants.{E01}
+
+-- the words that are commands
+abbrev pub command_of : List ℕ → Option Command
+command_of word =
+    if is_text word (codes "addbridge") then Some AddBridge
+    else (if is_text word (codes "kind") then Some Kind
+    else (if is_text word (codes "addport") then Some AddPort
+    else (if is_text word (codes "addlan") then Some AddLan
+    else (if is_text word (codes "plug") then Some Plug
+    else (if is_text word (codes "settreeprio") then Some SetTreePrio
+    else (if is_text word (codes "showtree") then Some ShowTree
+    else None))))))
+
+abbrev pub port_name : List ℕ → ℕ → PortName
+port_name bridge number = record { bridge = bridge; number = number }
+
+-- what each command makes of its arguments. Those whose fault is E02 are looked at before those whose
+-- fault is E03, so that the least fault is answered
+abbrev pub says : Command → List (List ℕ) → Result Line Fault
+says AddBridge arguments = with_two arguments (λ b m. with_name b (λ bridge. with_mac m (λ mac. Ok (edit (edits.AddBridge bridge mac)))))
+says Kind arguments = with_two arguments (λ b k. with_name b (λ bridge. with_kind k (λ kind. Ok (edit (edits.SetKind bridge kind)))))
+says AddPort arguments = with_two arguments (λ b p. with_name b (λ bridge. with_port_number p (λ number. Ok (edit (edits.AddPort (port_name bridge number))))))
+says AddLan arguments = with_one arguments (λ l. with_name l (λ lan. Ok (edit (edits.AddLan lan))))
+says Plug arguments = with_three arguments (λ b p l. with_name b (λ bridge. with_port_number p (λ number. with_name l (λ lan.
+    Ok (edit (edits.Plug (port_name bridge number) lan))))))
+says SetTreePrio arguments = with_three arguments (λ b t p. with_name b (λ bridge. with_priority p (λ priority. with_tree t (λ tree.
+    Ok (edit (edits.SetTreePriority bridge tree priority))))))
+says ShowTree arguments = with_one arguments (λ t. with_tree t (λ tree. Ok (query (queries.ShowTree tree))))
+
+-- the first byte is `#`
+abbrev pub is_comment : List ℕ → Bool
+is_comment [] = false
+is_comment (b ∷ bs) = b == 35
+
+-- a line by its words: blank where it has none, a comment whatever bytes it holds, else a command, all
+-- of whose bytes are plain
+abbrev pub worded : Bool → List (List ℕ) → Result Line Fault
+worded plain [] = if plain then Ok Blank else Err E01
+worded plain (word ∷ arguments) =
+    if is_comment word then Ok Blank
+    else (if plain then option_map_or (λ command. says command arguments) (command_of word) (Err E01) else Err E01)
+
+-- a line of at most 4,096 bytes
+abbrev pub reading : List ℕ → Result Line Fault
+reading line = if nat_lt 4096 (length line) then Err E01 else worded (list_all is_plain line) (words line)

@@ -1,0 +1,111 @@
+ghost use Rattle.std.specs.Prelude.{◌≡◌};
+ghost use Rattle.mst_lang.specs.Faults.{code_of, text_of};
+
+use mst_ids::{Mac, Name, PortName, Priority, Tree};
+
+/// Which protocol a bridge runs.
+#[derive(Clone, Copy, Debug, PartialEq, Eq)]
+pub enum Kind {
+    /// Multiple spanning trees.
+    Mstp,
+    /// One rapid spanning tree.
+    Rstp,
+}
+
+/// A change of the network.
+#[derive(Clone, Copy, PartialEq, Eq)]
+pub enum Edit {
+    /// A new bridge: of kind mstp, with priority 8 in every tree.
+    AddBridge {
+        bridge: Name,
+        mac: Mac,
+    },
+    /// The kind of a bridge.
+    SetKind {
+        bridge: Name,
+        kind: Kind,
+    },
+    /// A new port, which is in no LAN.
+    AddPort {
+        port: PortName,
+    },
+    /// A new LAN, of 1,000,000 kb/s.
+    AddLan {
+        lan: Name,
+    },
+    /// Joins a port to a LAN.
+    Plug {
+        port: PortName,
+        lan: Name,
+    },
+    /// The priority of a bridge in a tree.
+    SetTreePriority {
+        bridge: Name,
+        tree: Tree,
+        priority: Priority,
+    },
+}
+
+/// A question about the network.
+#[derive(Clone, Copy, PartialEq, Eq)]
+pub enum Query {
+    /// The roots, costs and roles of a tree.
+    ShowTree { tree: Tree },
+}
+
+/// What a line says.
+#[derive(Clone, Copy, PartialEq, Eq)]
+pub enum Line {
+    Edit(Edit),
+    Query(Query),
+    /// No words, or a comment.
+    Blank,
+}
+
+/// The first word of a line.
+#[derive(Clone, Copy)]
+pub enum Command {
+    AddBridge,
+    Kind,
+    AddPort,
+    AddLan,
+    Plug,
+    SetTreePrio,
+    ShowTree,
+}
+
+/// Why a line isn't read.
+#[derive(Clone, Copy, Debug, PartialEq, Eq)]
+pub enum Fault {
+    /// The line is too long, holds a byte that no line may hold, or isn't a command with its number of
+    /// words.
+    E01,
+    /// An argument other than a tree, a VID or a VID list isn't in its form or range.
+    E02,
+    /// A tree, VID or VID list isn't in its form or range.
+    E03,
+}
+
+impl Fault {
+    /// The number of the fault, as it is printed.
+    pub fn code(self) -> &'static str
+        ensures { result.now ≡ code_of self }
+    {
+        match self {
+            Fault::E01 => "E01",
+            Fault::E02 => "E02",
+            Fault::E03 => "E03",
+        }
+    }
+
+    /// What is printed after the number.
+    pub fn text(self) -> &'static str
+        ensures { result.now ≡ text_of self }
+    {
+        match self {
+            Fault::E01 => "no such command",
+            Fault::E02 => "bad argument",
+            Fault::E03 => "bad VID or tree",
+        }
+    }
+}

@@ -1,0 +1,145 @@
+ghost use Rattle.std.specs.Prelude.{◌≡◌};
+ghost use Rattle.mst_lang.specs.Reading.{reading, says, command_of};
+ghost use Rattle.mst_lang.specs.Words.{words};
+
+use crate::arguments::{kind, mac, name, port_number, priority, tree};
+use crate::line::{Command, Edit, Fault, Line, Query};
+use crate::words::{are_plain, next_word, one_word, three_words, two_words};
+use mst_ids::PortName;
+
+/// The most bytes that a line may have.
+const LONGEST: usize = 4096;
+
+/// What a line of a script says, or the least fault of it. The line comes without its end, and no
+/// memory is taken.
+pub fn parse_line(line: &[u8]) -> Result<Line, Fault>
+    ensures { result ≡ reading line.now }
+{
+    if line.len() > LONGEST {
+        return Err(Fault::E01);
+    }
+    let plain = are_plain(line);
+    match next_word(line) {
+        None => {
+            if plain {
+                Ok(Line::Blank)
+            } else {
+                Err(Fault::E01)
+            }
+        }
+        Some(([b'#', ..], _)) => Ok(Line::Blank),
+        Some((word, arguments)) => {
+            if plain {
+                let command = command(word).ok_or(Fault::E01)?;
+                read_arguments(command, arguments)
+            } else {
+                Err(Fault::E01)
+            }
+        }
+    }
+}
+
+/// The command of this word.
+fn command(word: &[u8]) -> Option<Command>
+    ensures { result ≡ command_of word.now }
+{
+    if word == b"addbridge".as_slice() {
+        Some(Command::AddBridge)
+    } else if word == b"kind".as_slice() {
+        Some(Command::Kind)
+    } else if word == b"addport".as_slice() {
+        Some(Command::AddPort)
+    } else if word == b"addlan".as_slice() {
+        Some(Command::AddLan)
+    } else if word == b"plug".as_slice() {
+        Some(Command::Plug)
+    } else if word == b"settreeprio".as_slice() {
+        Some(Command::SetTreePrio)
+    } else if word == b"showtree".as_slice() {
+        Some(Command::ShowTree)
+    } else {
+        None
+    }
+}
+
+/// What the command makes of its arguments.
+fn read_arguments(command: Command, arguments: &[u8]) -> Result<Line, Fault>
+    ensures { result ≡ says command (words arguments.now) }
+{
+    match command {
+        Command::AddBridge => add_bridge(arguments),
+        Command::Kind => set_kind(arguments),
+        Command::AddPort => add_port(arguments),
+        Command::AddLan => add_lan(arguments),
+        Command::Plug => plug(arguments),
+        Command::SetTreePrio => set_tree_priority(arguments),
+        Command::ShowTree => show_tree(arguments),
+    }
+}
+
+fn add_bridge(arguments: &[u8]) -> Result<Line, Fault>
+    ensures { result ≡ says Command.AddBridge (words arguments.now) }
+{
+    let (bridge, address) = two_words(arguments).ok_or(Fault::E01)?;
+    let bridge = name(bridge)?;
+    let mac = mac(address)?;
+    Ok(Line::Edit(Edit::AddBridge { bridge, mac }))
+}
+
+fn set_kind(arguments: &[u8]) -> Result<Line, Fault>
+    ensures { result ≡ says Command.Kind (words arguments.now) }
+{
+    let (bridge, word) = two_words(arguments).ok_or(Fault::E01)?;
+    let bridge = name(bridge)?;
+    let kind = kind(word)?;
+    Ok(Line::Edit(Edit::SetKind { bridge, kind }))
+}
+
+fn add_port(arguments: &[u8]) -> Result<Line, Fault>
+    ensures { result ≡ says Command.AddPort (words arguments.now) }
+{
+    let (bridge, number) = two_words(arguments).ok_or(Fault::E01)?;
+    let bridge = name(bridge)?;
+    let number = port_number(number)?;
+    let port = PortName { bridge, number };
+    Ok(Line::Edit(Edit::AddPort { port }))
+}
+
+fn add_lan(arguments: &[u8]) -> Result<Line, Fault>
+    ensures { result ≡ says Command.AddLan (words arguments.now) }
+{
+    let lan = name(one_word(arguments).ok_or(Fault::E01)?)?;
+    Ok(Line::Edit(Edit::AddLan { lan }))
+}
+
+fn plug(arguments: &[u8]) -> Result<Line, Fault>
+    ensures { result ≡ says Command.Plug (words arguments.now) }
+{
+    let (bridge, number, lan) = three_words(arguments).ok_or(Fault::E01)?;
+    let bridge = name(bridge)?;
+    let number = port_number(number)?;
+    let lan = name(lan)?;
+    let port = PortName { bridge, number };
+    Ok(Line::Edit(Edit::Plug { port, lan }))
+}
+
+fn set_tree_priority(arguments: &[u8]) -> Result<Line, Fault>
+    ensures { result ≡ says Command.SetTreePrio (words arguments.now) }
+{
+    let (bridge, number, steps) = three_words(arguments).ok_or(Fault::E01)?;
+    let bridge = name(bridge)?;
+    let priority = priority(steps)?;
+    let tree = tree(number)?;
+    Ok(Line::Edit(Edit::SetTreePriority {
+        bridge,
+        tree,
+        priority,
+    }))
+}
+
+fn show_tree(arguments: &[u8]) -> Result<Line, Fault>
+    ensures { result ≡ says Command.ShowTree (words arguments.now) }
+{
+    let tree = tree(one_word(arguments).ok_or(Fault::E01)?)?;
+    Ok(Line::Query(Query::ShowTree { tree }))
+}
