@@ -45,7 +45,7 @@ abbrev pub hex_pair : ℕ → List ℕ
 hex_pair n = hex_digit (n / 16) ∷ hex_digit (n % 16) ∷ []
 
 -- the text of a MAC
-abbrev pub mac_text : ℕ → List ℕ
+unfoldable pub mac_text : ℕ → List ℕ
 mac_text n =
     hex_pair (n / 2 ^ 40) ++ 58 ∷ hex_pair (n / 2 ^ 32 % 256) ++ 58 ∷ hex_pair (n / 2 ^ 24 % 256)
     ++ 58 ∷ hex_pair (n / 2 ^ 16 % 256) ++ 58 ∷ hex_pair (n / 2 ^ 8 % 256) ++ 58 ∷ hex_pair (n % 256)
@@ -55,9 +55,9 @@ abbrev pub hex_four : ℕ → List ℕ
 hex_four n = hex_pair (n / 256) ++ hex_pair (n % 256)
 
 -- the text of a Bridge Identifier: its first two octets, a full stop, its MAC address
-abbrev pub bridge_id_text : ℕ → List ℕ
+unfoldable pub bridge_id_text : ℕ → List ℕ
 bridge_id_text n = hex_four (n / 2 ^ 48) ++ 46 ∷ mac_text (n % 2 ^ 48)
 
 -- the text of a Port Identifier
-abbrev pub port_id_text : ℕ → List ℕ
+unfoldable pub port_id_text : ℕ → List ℕ
 port_id_text n = hex_four n

@@ -54,6 +54,7 @@ impl BridgeId {
 }
 
 /// The text of a Bridge Identifier's number.
+#[tactic(auto, unfolding(crate::specs::Texts::bridge_id_text, crate::specs::Texts::mac_text))]
 fn digits_of(number: u64) -> [u8; 22]
     ensures { result ≡ bridge_id_text number }
 {
@@ -117,6 +118,7 @@ impl PortId {
     }
 
     /// Appends the text, four lower case digits, or changes nothing.
+    #[tactic(auto, unfolding(crate::specs::Texts::port_id_text))]
     pub fn push_text(&self, out: &mut Vec<u8>) -> Result<(), AllocError>
         ensures ok { OnOk result (out.new.items ≡ out.old.items ++ port_id_text self.now) }
         ensures err { OnErr result (out.new.items ≡ out.old.items) }

@@ -45,6 +45,7 @@ impl Mac {
 }
 
 /// The text of a MAC's number.
+#[tactic(auto, unfolding(crate::specs::Texts::mac_text))]
 pub(crate) fn digits_of(number: u64) -> [u8; 17]
     requires { number < 2 ^ 48 }
     ensures { result ≡ mac_text number }
