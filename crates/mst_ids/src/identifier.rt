@@ -43,13 +43,19 @@ impl BridgeId {
         self.number
     }
 
-    /// Appends the text, four lower case digits, `.` and the MAC's text, or changes nothing.
+    /// The text: four lower case digits, `.` and the MAC's text.
+    pub fn text(self) -> [u8; 22]
+        ensures { result ≡ bridge_id_text self }
+    {
+        digits_of(self.number)
+    }
+
+    /// Appends the text, or changes nothing.
     pub fn push_text(&self, out: &mut Vec<u8>) -> Result<(), AllocError>
         ensures ok { OnOk result (out.new.items ≡ out.old.items ++ bridge_id_text self.now) }
         ensures err { OnErr result (out.new.items ≡ out.old.items) }
     {
-        let digits = digits_of(self.number);
-        push_bytes(&digits, out)
+        push_bytes(&self.text(), out)
     }
 }
 
@@ -117,13 +123,19 @@ impl PortId {
         self.number
     }
 
-    /// Appends the text, four lower case digits, or changes nothing.
+    /// The text: four lower case digits.
     #[tactic(auto, unfolding(crate::specs::Texts::port_id_text))]
+    pub fn text(self) -> [u8; 4]
+        ensures { result ≡ port_id_text self }
+    {
+        hex_four(self.number)
+    }
+
+    /// Appends the text, or changes nothing.
     pub fn push_text(&self, out: &mut Vec<u8>) -> Result<(), AllocError>
         ensures ok { OnOk result (out.new.items ≡ out.old.items ++ port_id_text self.now) }
         ensures err { OnErr result (out.new.items ≡ out.old.items) }
     {
-        let digits = hex_four(self.number);
-        push_bytes(&digits, out)
+        push_bytes(&self.text(), out)
     }
 }

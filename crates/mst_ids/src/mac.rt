@@ -39,8 +39,7 @@ impl Mac {
         ensures ok { OnOk result (out.new.items ≡ out.old.items ++ mac_text self.now) }
         ensures err { OnErr result (out.new.items ≡ out.old.items) }
     {
-        let digits = digits_of(self.number);
-        push_bytes(&digits, out)
+        push_bytes(&digits_of(self.number), out)
     }
 }
 
