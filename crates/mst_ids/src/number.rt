@@ -24,8 +24,17 @@ impl Model for Priority {
 }
 
 impl Priority {
-    /// The priority of bridges and ports that is in force where none was set.
+    /// The steps of a bridge's or a port's priority where none was set.
     pub const DEFAULT: u8 = 8;
+
+    /// The priority of a bridge or a port where none was set.
+    pub fn standard() -> Priority
+        ensures { result ≡ 8 }
+    {
+        Priority {
+            step: Priority::DEFAULT,
+        }
+    }
 
     /// The priority of this many steps, or nothing above 15.
     pub fn new(step: u64) -> Option<Priority>
