@@ -8,3 +8,6 @@ mod words;
 
 pub use line::{Edit, Fault, Kind, Line, Query};
 pub use read::parse_line;
+
+#[cfg(test)]
+mod tests;
