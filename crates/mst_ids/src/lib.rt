@@ -16,3 +16,6 @@ pub use name::{Name, PortName};
 pub use number::{PortNumber, Priority, Tree};
 pub use record::{BridgeNo, LanNo, PortNo};
 pub use text::{BadText, push_bytes, push_decimal};
+
+#[cfg(test)]
+mod tests;
