@@ -1,5 +1,5 @@
 ghost use Rattle.std.specs.Prelude.{◌≡◌, ℕ, ◌≤◌, IfOk, length};
-ghost use Rattle.mst_settle.specs.Assignment.{vector_of, designated_of};
+ghost use Rattle.mst_settle.specs.Assignment.{vector_of, designated_of, StandsOnce};
 ghost use Rattle.mst_settle.specs.Settled.{Settled, IsDesignated};
 
 use crate::settling::Settling;
@@ -30,6 +30,7 @@ impl<M: Metric> Settler<M> {
         requires { length topology.now.bridges ≤ 1024 }
         ensures settled { IfOk result (λ s. Settled M.rules topology.now (vector_of s)) }
         ensures designated { IfOk result (λ s. (lan : ℕ) → IsDesignated M.rules topology.now (vector_of s) lan (designated_of s lan)) }
+        ensures once { IfOk result StandsOnce }
         ensures settlings { IfOk result (λ s. s.settlings ≡ length s.vectors) }
     {
         topology.known();

@@ -1,6 +1,7 @@
 ghost use Rattle.std.specs.Prelude.{◌≡◌, ◌≢◌, ℕ, ◌+◌, ◌<◌, ◌≤◌, ◌^◌, None, OnOk, length};
-ghost use Rattle.std.specs.BTreeMap.{btree_map_len, IsEmpty};
+ghost use Rattle.std.specs.BTreeMap.{btree_map_len, IsEmpty, IsOrdered};
 ghost use Rattle.std.specs.Option.{ForSome};
+ghost use Rattle.std.specs.Ordering.{nat_cmp};
 ghost use Rattle.mst_settle.specs.Places.{in_map};
 ghost use Rattle.mst_settle.specs.Topology.{HasBridge, HasPort, IsTopology};
 ghost use Rattle.mst_settle.specs.Settled.{Says};
@@ -101,6 +102,7 @@ impl<M: Metric> Settling<M> {
     pub fn new(alloc: Global) -> Self
         ensures vectors { IsEmpty result.vectors }
         ensures lans { IsEmpty result.lans }
+        ensures ordered { IsOrdered nat_cmp result.vectors }
         ensures settlings { result.settlings ≡ 0 }
     {
         Settling {
@@ -232,6 +234,7 @@ impl<M: Metric> Settling<M> {
         requires few { self.old.settlings < 2 ^ 63 }
         requires keeps { Keeps M.rules.order (Says M.rules t.now (in_map self.old.vectors)) (in_map self.old.lans) }
         ensures vectors { OnOk result (IsPut (in_map self.old.vectors) number x (in_map self.new.vectors)) }
+        ensures ordered { OnOk result (IsOrdered nat_cmp self.new.vectors) }
         ensures one_more { OnOk result (btree_map_len self.new.vectors ≡ btree_map_len self.old.vectors + 1) }
         ensures settlings { OnOk result (self.new.settlings ≡ self.old.settlings + 1) }
         ensures keeps { OnOk result (Keeps M.rules.order (Says M.rules t.now (in_map self.new.vectors)) (in_map self.new.lans)) }

@@ -10,3 +10,6 @@ mod msti;
 pub use cist::{CistBridge, CistMetric, CistPort, CistVector};
 pub use metric::Metric;
 pub use msti::{MstiBridge, MstiMetric, MstiPort, MstiVector};
+
+#[cfg(test)]
+mod tests;

@@ -14,6 +14,7 @@ loop-found-init g c =
     record {
       fixed = start_fixed g.M.Metric.rules g.met.M.Metric.lawful c.args.topology.now c.known.ensures (in_map c.new-settling.result.vectors) empty;
       costs = rw c.new-settling.ensures.settlings (start_costs g.M.Metric.rules g.met.M.Metric.lawful c.args.topology.now c.known.ensures (in_map c.new-settling.result.vectors) empty);
+      ordered = c.new-settling.ensures.ordered;
       few = omega arith;
       exact = search rules;
       keeps = keeps_empty g.M.Metric.rules c.args.topology.now (in_map c.new-settling.result.vectors) (in_map c.new-settling.result.lans) empty (empty_map c.new-settling.result.lans c.new-settling.ensures.lans);
@@ -40,6 +41,7 @@ loop-found-preserved g c =
           (in_map c.settle_one.new.self.vectors) c.in_ok-settle_one.ensures.vectors;
       costs = λ n x e. let cost = next_costs g.M.Metric.rules g.met.M.Metric.lawful c.args.topology.now c.known.ensures (in_map c.loop-found.settling.vectors) c.loop-found.invariant.fixed c.in-Some.found.0 c.in-Some.found.1 (c.in-Some.ensures.some c.in-Some.found refl)
           (in_map c.settle_one.new.self.vectors) c.in_ok-settle_one.ensures.vectors (200_000_000 * c.loop-found.settling.settlings) c.loop-found.invariant.costs n x e in omega arith;
+      ordered = c.in_ok-settle_one.ensures.ordered;
       few = omega arith;
       exact = omega arith;
       keeps = c.in_ok-settle_one.ensures.keeps;

@@ -10,6 +10,7 @@ loop-i-init g c =
     let put : IsPut (in_map c.args.self.now.vectors) c.args.number c.args.x (in_map c.insert.new.self) = map_put (in_map c.args.self.now.vectors) (in_map c.insert.new.self) c.args.number c.args.x c.in_ok-insert.ensures.updates.0 in
     record {
       vectors = put;
+      ordered = c.in_ok-insert.ensures.ordered;
       one_more = rw (c.in_ok-insert.ensures.old ∙ c.requires.free) at c.in_ok-insert.ensures.len;
       settlings = refl;
       keeps = keeps_first g.M.Metric.rules g.met.M.Metric.lawful c.args.t.now c.requires.topology (in_map c.args.self.now.vectors) (in_map c.insert.new.self)
@@ -22,6 +23,7 @@ loop-i-preserved g c =
     let grows = put_grows (in_map c.args.self.now.vectors) c.args.number c.args.x (in_map c.loop-i.self.vectors) c.requires.free c.loop-i.invariant.vectors in
     record {
       vectors = rw same c.loop-i.invariant.vectors;
+      ordered = rw same c.loop-i.invariant.ordered;
       one_more = rw same c.loop-i.invariant.one_more;
       settlings = c.in_ok-hear.ensures.settlings ∙ c.loop-i.invariant.settlings;
       keeps = rw same (keeps_more g.M.Metric.rules g.met.M.Metric.lawful c.args.t.now c.requires.topology (in_map c.args.self.now.vectors) (in_map c.loop-i.self.vectors) grows

@@ -1,5 +1,6 @@
 use Rattle.std.proofs.Common.{◌≡◌, ◌+◌}
-use Rattle.std.specs.BTreeMap.{btree_map_len}
+use Rattle.std.specs.BTreeMap.{btree_map_len, IsOrdered}
+use Rattle.std.specs.Ordering.{nat_cmp}
 use Rattle.mst_settle.specs.Settling.{Keeps, IsPut}
 use Rattle.mst_settle.specs.Places.{in_map}
 use Rattle.mst_settle.proofs.Hearing.{SoFar}
@@ -8,6 +9,7 @@ use Rattle.mst_settle.proofs.settling.Settling.settle_one.Given as goal
 abbrev pub invariant-loop-i : goal.invariant-loop-i
 invariant-loop-i g l = record {
   vectors : IsPut (in_map l.fn.self.vectors) l.number l.fn.x (in_map l.self.vectors);
+  ordered : IsOrdered nat_cmp l.self.vectors;
   one_more : btree_map_len l.self.vectors ≡ btree_map_len l.fn.self.vectors + 1;
   settlings : l.self.settlings ≡ l.fn.self.settlings + 1;
   keeps : Keeps g.M.Metric.rules.order (SoFar g.M.Metric.rules l.t (in_map l.fn.self.vectors) (in_map l.self.vectors) l.i) (in_map l.self.lans);
