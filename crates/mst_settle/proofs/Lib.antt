@@ -1,7 +1,7 @@
 pub mod Grows
 pub mod Places
 pub mod Orders
-pub mod Tests
+pub mod KeyTests
 pub mod Below
 pub mod Rank
 pub mod Unique

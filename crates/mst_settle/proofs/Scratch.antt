@@ -9,7 +9,7 @@ use Rattle.std.specs.BTreeMap.{BTreeMap, IsEmpty}
 use Rattle.mst_settle.specs.Settling.{IsNext, CostsWithin, IsPut}
 use Rattle.mst_settle.specs.Places.{in_map}
 use Rattle.mst_settle.proofs.Orders.{first_part}
-use Rattle.mst_settle.proofs.Tests.{numbers}
+use Rattle.mst_settle.proofs.KeyTests.{numbers}
 use Rattle.mst_settle.proofs.Rank.{contains-among, count, count_strictly_more}
 use Rattle.mst_settle.proofs.Search.{some_is}
 use Rattle.mst_settle.proofs.Exists.{Fixed, fixed_more, is_free}

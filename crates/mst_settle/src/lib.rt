@@ -10,3 +10,6 @@ mod topology;
 
 pub use settler::Settler;
 pub use topology::{Plug, Topology};
+
+#[cfg(test)]
+mod tests;
