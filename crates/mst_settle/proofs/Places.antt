@@ -1,5 +1,5 @@
 -- The index of a list by numbers.
-use Rattle.std.proofs.Common.{◌≡◌, ◌≢◌, ℕ, ◌+◌, ◌<◌, List, [], ◌∷◌, ◌++◌, length, slice_index_or, Option, Some, None, refl, sym, ◌∙◌, ap, inl, inr, ◌⊎◌, arith, cond, Less, Equal, Greater, subst}
+use Rattle.std.proofs.Common.{◌≡◌, ◌≢◌, ℕ, ◌+◌, ◌<◌, List, [], ◌∷◌, ◌++◌, length, slice_index_or, Option, Some, refl, sym, ◌∙◌, ap, inl, inr, ◌⊎◌, arith, cond, Less, Equal, Greater, subst}
 use Rattle.std.specs.declared.cmp.Ordering.{Ordering}
 use Rattle.std.specs.Ordering.{nat_cmp, is_eq, MatchOrdering}
 use Rattle.std.proofs.lemmas.Cmp.{ranked}
@@ -9,12 +9,6 @@ use Rattle.std.proofs.lemmas.List.Elements.{Contains-push_cases}
 use Rattle.mst_settle.specs.Places.{IsIndex}
 use Rattle.mst_settle.specs.Settling.{IsPut}
 use Rattle.mst_settle.proofs.Search.{some_is}
-
-pub index_empty : {B : Type 0} (place_of : ℕ → Option ℕ) → ((n : ℕ) → place_of n ≡ None) → IsIndex {B = B} place_of []
-index_empty place_of none = record {
-  found = λ n i e. let f = none n in let no : ⊥ = cc in absurd no;
-  missing = λ n b e h. let l = h.1 in omega arith;
-}
 
 module _ {B : Type 0} (place_of more : ℕ → Option ℕ) (bridges : List (ℕ × B)) (old : IsIndex place_of bridges) (n : ℕ) (b : B) (puts : IsPut place_of n (length bridges) more) where
   pub index_more : IsIndex more (bridges ++ (n, b) ∷ [])

@@ -25,7 +25,8 @@ impl<M: Metric> Model for Settler<M> {
 }
 
 impl<M: Metric> Settler<M> {
-    /// Settles each bridge of a topology once. It fails only where there is no memory.
+    /// Settles each bridge of a topology once, the best first. It fails only where there is no memory.
+    /// For n bridges with p ports it looks n times at each bridge and each port.
     pub fn from_scratch(alloc: Global, topology: &Topology<M>) -> Result<Self, AllocError>
         requires { length topology.now.bridges ≤ 1024 }
         ensures settled { IfOk result (λ s. Settled M.rules topology.now (vector_of s)) }
@@ -41,14 +42,14 @@ impl<M: Metric> Settler<M> {
         Ok(Settler { settling })
     }
 
-    /// The bridge's settled vector.
+    /// The settled vector of the bridge of that number, or nothing where there is no such bridge.
     pub fn vector(&self, bridge: BridgeNo) -> Option<M::Vector>
         ensures { result ≡ vector_of self.now bridge }
     {
         self.settling.vectors.get(&bridge).copied()
     }
 
-    /// The number of the LAN's designated port.
+    /// The number of the LAN's designated port, or nothing where no port is on the LAN.
     pub fn designated(&self, lan: LanNo) -> Option<PortNo>
         ensures { result ≡ designated_of self.now lan }
     {
@@ -58,7 +59,7 @@ impl<M: Metric> Settler<M> {
         }
     }
 
-    /// How often a bridge was settled.
+    /// How often a bridge was given a vector.
     pub fn settlings(&self) -> u64
         ensures { result ≡ self.now.settlings }
     {

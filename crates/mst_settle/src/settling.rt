@@ -18,18 +18,18 @@ use std::marker::PhantomData;
 
 /// The designated vector of the port, if it is one of the tree and its bridge has a vector.
 fn said<M: Metric>(
-    t: &Topology<M>,
+    topology: &Topology<M>,
     vectors: &BTreeMap<BridgeNo, M::Vector>,
     port: &Plug<M::Port>,
 ) -> Option<M::Vector>
-    requires { HasPort t.now port.now }
-    ensures some { ForSome result (λ x. Says M.rules t.now (in_map vectors.now) port.now x) }
-    ensures none { result ≡ None → (x : M.Vector) → Says M.rules t.now (in_map vectors.now) port.now x → ⊥ }
+    requires { HasPort topology.now port.now }
+    ensures some { ForSome result (λ x. Says M.rules topology.now (in_map vectors.now) port.now x) }
+    ensures none { result ≡ None → (x : M.Vector) → Says M.rules topology.now (in_map vectors.now) port.now x → ⊥ }
 {
     if !port.is_part {
         return None;
     }
-    let bridge = t.bridge(port.bridge)?;
+    let bridge = topology.bridge(port.bridge)?;
     let root = vectors.get(&port.bridge)?;
     Some(M::designated(*root, bridge, &port.settings))
 }
@@ -114,20 +114,15 @@ impl<M: Metric> Settling<M> {
     }
 
     /// The step along a port of a bridge with no vector yet, if another bridge is heard there.
-    fn offered(&self, t: &Topology<M>, port: &Plug<M::Port>) -> Option<M::Vector>
-        requires topology { IsTopology M.rules t.now }
+    fn offered(&self, topology: &Topology<M>, port: &Plug<M::Port>) -> Option<M::Vector>
+        requires topology { IsTopology M.rules topology.now }
         requires costs { CostsWithin M.rules (in_map self.now.vectors) (2 ^ 62) }
-        requires keeps { Keeps M.rules.order (Says M.rules t.now (in_map self.now.vectors)) (in_map self.now.lans) }
-        requires port { HasPort t.now port.now }
-        ensures some { ForSome result (λ x. FreeStep M.rules t.now (in_map self.now.vectors) port.now x) }
-        ensures none { result ≡ None → (x : M.Vector) → FreeStep M.rules t.now (in_map self.now.vectors) port.now x → ⊥ }
+        requires keeps { Keeps M.rules.order (Says M.rules topology.now (in_map self.now.vectors)) (in_map self.now.lans) }
+        requires port { HasPort topology.now port.now }
+        ensures some { ForSome result (λ x. FreeStep M.rules topology.now (in_map self.now.vectors) port.now x) }
+        ensures none { result ≡ None → (x : M.Vector) → FreeStep M.rules topology.now (in_map self.now.vectors) port.now x → ⊥ }
     {
-        let is_part = port.is_part;
-        if !is_part {
-            return None;
-        }
-        let is_restricted = port.is_restricted;
-        if is_restricted {
+        if !port.is_part || port.is_restricted {
             return None;
         }
         if self.vectors.contains_key(&port.bridge) {
@@ -137,53 +132,51 @@ impl<M: Metric> Settling<M> {
         if from.bridge == port.bridge {
             return None;
         }
-        let bridge = t.bridge(port.bridge)?;
-        let sender = t.bridge(from.bridge)?;
+        let bridge = topology.bridge(port.bridge)?;
+        let sender = topology.bridge(from.bridge)?;
         Some(M::step(from.message, sender, bridge, &port.settings))
     }
 
     /// The place of the least step of a bridge with no vector yet.
-    fn least_step(&self, t: &Topology<M>) -> Option<(usize, M::Vector)>
-        requires topology { IsTopology M.rules t.now }
+    fn least_step(&self, topology: &Topology<M>) -> Option<(usize, M::Vector)>
+        requires topology { IsTopology M.rules topology.now }
         requires costs { CostsWithin M.rules (in_map self.now.vectors) (2 ^ 62) }
-        requires keeps { Keeps M.rules.order (Says M.rules t.now (in_map self.now.vectors)) (in_map self.now.lans) }
-        ensures { IsBestOf M.rules.order (HasAt t.now.ports (FreeStep M.rules t.now (in_map self.now.vectors))) (length t.now.ports) result }
+        requires keeps { Keeps M.rules.order (Says M.rules topology.now (in_map self.now.vectors)) (in_map self.now.lans) }
+        ensures { IsBestOf M.rules.order (HasAt topology.now.ports (FreeStep M.rules topology.now (in_map self.now.vectors))) (length topology.now.ports) result }
     {
-        let ports = t.ports();
-        let mut best: Option<(usize, M::Vector)> = None;
-        for i in 0..ports.len() {
-            best = lesser::<M>(best, i, self.offered(t, &ports[i]));
+        let mut best = None;
+        for (place, port) in topology.ports().iter().enumerate() {
+            best = lesser::<M>(best, place, self.offered(topology, port));
         }
         best
     }
 
     /// The place of the least own vector of a bridge with no vector yet.
-    fn least_own(&self, t: &Topology<M>) -> Option<(usize, M::Vector)>
-        ensures { IsBestOf M.rules.order (HasAt t.now.bridges (FreeOwn M.rules (in_map self.now.vectors))) (length t.now.bridges) result }
+    fn least_own(&self, topology: &Topology<M>) -> Option<(usize, M::Vector)>
+        ensures { IsBestOf M.rules.order (HasAt topology.now.bridges (FreeOwn M.rules (in_map self.now.vectors))) (length topology.now.bridges) result }
     {
-        let bridges = t.bridges();
-        let mut best: Option<(usize, M::Vector)> = None;
-        for i in 0..bridges.len() {
-            best = lesser::<M>(best, i, own_free::<M>(&self.vectors, &bridges[i]));
+        let mut best = None;
+        for (place, bridge) in topology.bridges().iter().enumerate() {
+            best = lesser::<M>(best, place, own_free::<M>(&self.vectors, bridge));
         }
         best
     }
 
     /// The number of the bridge to be settled next, with its vector.
-    pub fn next(&self, t: &Topology<M>) -> Option<(BridgeNo, M::Vector)>
-        requires topology { IsTopology M.rules t.now }
+    pub fn next(&self, topology: &Topology<M>) -> Option<(BridgeNo, M::Vector)>
+        requires topology { IsTopology M.rules topology.now }
         requires costs { CostsWithin M.rules (in_map self.now.vectors) (2 ^ 62) }
-        requires keeps { Keeps M.rules.order (Says M.rules t.now (in_map self.now.vectors)) (in_map self.now.lans) }
-        ensures some { ForSome result (λ r. IsNext M.rules t.now (in_map self.now.vectors) r.0 r.1) }
-        ensures none { result ≡ None → (n : ℕ) (b : M.Bridge) → HasBridge t.now n b → in_map self.now.vectors n ≢ None }
+        requires keeps { Keeps M.rules.order (Says M.rules topology.now (in_map self.now.vectors)) (in_map self.now.lans) }
+        ensures some { ForSome result (λ r. IsNext M.rules topology.now (in_map self.now.vectors) r.0 r.1) }
+        ensures none { result ≡ None → (n : ℕ) (b : M.Bridge) → HasBridge topology.now n b → in_map self.now.vectors n ≢ None }
     {
-        let own = self.least_own(t)?;
-        let (number, _) = &t.bridges()[own.0];
-        match self.least_step(t) {
+        let own = self.least_own(topology)?;
+        let (number, _) = &topology.bridges()[own.0];
+        match self.least_step(topology) {
             None => Some((*number, own.1)),
             Some(step) => {
                 if M::order(own.1, step.1).is_gt() {
-                    let port = &t.ports()[step.0];
+                    let port = &topology.ports()[step.0];
                     Some((port.bridge, step.1))
                 } else {
                     Some((*number, own.1))
@@ -195,19 +188,19 @@ impl<M: Metric> Settling<M> {
     /// Hears what a port says, if it is one of the bridge.
     fn hear(
         &mut self,
-        t: &Topology<M>,
+        topology: &Topology<M>,
         bridge: BridgeNo,
         port: &Plug<M::Port>,
     ) -> Result<(), AllocError>
-        requires port { HasPort t.now port.now }
+        requires port { HasPort topology.now port.now }
         ensures vectors { OnOk result (self.new.vectors ≡ self.old.vectors) }
         ensures settlings { OnOk result (self.new.settlings ≡ self.old.settlings) }
-        ensures lans { OnOk result (Hears M.rules t.now (in_map self.old.vectors) bridge port.now (in_map self.old.lans) (in_map self.new.lans)) }
+        ensures lans { OnOk result (Hears M.rules topology.now (in_map self.old.vectors) bridge port.now (in_map self.old.lans) (in_map self.new.lans)) }
     {
         if port.bridge != bridge {
             return Ok(());
         }
-        match said::<M>(t, &self.vectors, port) {
+        match said::<M>(topology, &self.vectors, port) {
             None => Ok(()),
             Some(message) => {
                 let best = self.lans.get(&port.lan).copied();
@@ -225,25 +218,24 @@ impl<M: Metric> Settling<M> {
     /// Gives a bridge its vector.
     pub fn settle_one(
         &mut self,
-        t: &Topology<M>,
+        topology: &Topology<M>,
         number: BridgeNo,
-        x: M::Vector,
+        vector: M::Vector,
     ) -> Result<(), AllocError>
-        requires topology { IsTopology M.rules t.now }
+        requires topology { IsTopology M.rules topology.now }
         requires free { in_map self.old.vectors number ≡ None }
         requires few { self.old.settlings < 2 ^ 63 }
-        requires keeps { Keeps M.rules.order (Says M.rules t.now (in_map self.old.vectors)) (in_map self.old.lans) }
-        ensures vectors { OnOk result (IsPut (in_map self.old.vectors) number x (in_map self.new.vectors)) }
+        requires keeps { Keeps M.rules.order (Says M.rules topology.now (in_map self.old.vectors)) (in_map self.old.lans) }
+        ensures vectors { OnOk result (IsPut (in_map self.old.vectors) number vector (in_map self.new.vectors)) }
         ensures ordered { OnOk result (IsOrdered nat_cmp self.new.vectors) }
         ensures one_more { OnOk result (btree_map_len self.new.vectors ≡ btree_map_len self.old.vectors + 1) }
         ensures settlings { OnOk result (self.new.settlings ≡ self.old.settlings + 1) }
-        ensures keeps { OnOk result (Keeps M.rules.order (Says M.rules t.now (in_map self.new.vectors)) (in_map self.new.lans)) }
+        ensures keeps { OnOk result (Keeps M.rules.order (Says M.rules topology.now (in_map self.new.vectors)) (in_map self.new.lans)) }
     {
-        self.vectors.insert(number, x)?;
+        self.vectors.insert(number, vector)?;
         self.settlings += 1;
-        let ports = t.ports();
-        for i in 0..ports.len() {
-            self.hear(t, number, &ports[i])?;
+        for port in topology.ports() {
+            self.hear(topology, number, port)?;
         }
         Ok(())
     }

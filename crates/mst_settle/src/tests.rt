@@ -1,8 +1,18 @@
-ghost use Rattle.std.specs.Prelude.{◌≡◌, ◌≢◌, IfOk, IsTrue, length};
+ghost use Rattle.std.specs.Prelude.{◌≡◌, ◌≢◌, ℕ, List, Option, IfOk, IsTrue, length};
+ghost use Rattle.mst_ids.specs.declared.name.PortName.{PortName as PortNameOf};
+ghost use Rattle.mst_vector.specs.declared.cist.CistVector.{CistVector as CistVectorOf};
+ghost use Rattle.mst_vector.specs.declared.cist.CistBridge.{CistBridge as CistBridgeOf};
+ghost use Rattle.mst_vector.specs.declared.cist.CistPort.{CistPort as CistPortOf};
+ghost use Rattle.mst_settle.specs.Topology.{Topology as TopologyOf, HasBridge, IsTopology};
+ghost use Rattle.mst_settle.specs.Settled.{Settled};
+ghost use Rattle.mst_settle.specs.Renamed.{Renaming, IsRenamed};
 ghost use Rattle.mst_vector.specs.Cist.{cist_rules};
 
-use crate::{Settler, Topology};
-use mst_ids::{BridgeId, BridgeNo, Cost, LanNo, PortId, PortNo, PortNumber, Priority, Tree, parse_mac};
+use crate::{Settler, Topology, laws};
+use mst_ids::{
+    BridgeId, BridgeNo, Cost, LanNo, Name, PortId, PortName, PortNo, PortNumber, Priority, Tree,
+    parse_mac,
+};
 use mst_vector::{CistBridge, CistMetric, CistPort, Metric};
 use std::alloc::{AllocError, Global};
 use std::test::Fail;
@@ -64,4 +74,20 @@ fn settles_a_pair(rt: HostRuntime) -> Result<(), Fail> {
     assert_eq!(rt; settler.settlings(), 2);
     assert!(rt; settler.vector(BridgeNo(2)).is_none());
     Ok(())
+}
+
+/// Bridges have the same vectors by names as by numbers.
+fn by_names()
+    ensures { (r : Renaming ℕ ℕ ℕ (List ℕ) (List ℕ) PortNameOf) (t : TopologyOf ℕ ℕ ℕ CistBridgeOf CistPortOf) (u : TopologyOf (List ℕ) (List ℕ) PortNameOf CistBridgeOf CistPortOf) (v : ℕ → Option CistVectorOf) (w : List ℕ → Option CistVectorOf) → IsTopology cist_rules t → IsRenamed r t u → Settled cist_rules t v → Settled cist_rules u w → (n : ℕ) (b : CistBridgeOf) → HasBridge t n b → w (r.bridge n) ≡ v n }
+{
+    laws::renamed::<CistMetric, BridgeNo, LanNo, PortNo, Name, Name, PortName>();
+}
+
+#[test]
+fn laws_hold_by_names(rt: HostRuntime) {
+    by_names();
+    laws::one_outcome::<CistMetric, Name, Name, PortName>();
+    laws::has_outcome::<CistMetric, Name, Name, PortName>();
+    laws::costs_bounded::<CistMetric, Name, Name, PortName>();
+    assert!(rt; true);
 }

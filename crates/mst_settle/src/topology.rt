@@ -23,8 +23,8 @@ pub struct Plug<P> {
     pub settings: P,
     /// Whether the port takes part in the tree: others neither speak nor hear.
     pub is_part: bool,
-    /// Whether the port's role is restricted (802.1Q-2022, 13.27.64): then its bridge takes no step
-    /// along it.
+    /// Whether the port's role is restricted (restrictedRole of 802.1Q-2022, 13.27): then its bridge
+    /// takes no step along it.
     pub is_restricted: bool,
 }
 

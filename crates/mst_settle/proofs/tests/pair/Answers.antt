@@ -1,4 +1,4 @@
-use Rattle.std.proofs.Common.{◌≡◌, ℕ, ◌<◌, IsTrue, false, [], ◌∷◌, ◌++◌, refl, ap, inl, inr, arith}
+use Rattle.std.proofs.Common.{◌≡◌, ℕ, IsTrue, false, [], ◌∷◌, refl, ap, inl, inr, arith}
 use Rattle.std.proofs.lemmas.List.Elements.{Contains-push_cases}
 use Rattle.mst_vector.specs.Rules.{Rules}
 use Rattle.mst_settle.specs.Topology.{Plug}
@@ -11,11 +11,13 @@ module _ {B P V : Type 0} (m : Rules B P V) (first second : B) (p : P) where
     has_bridge = (second, (1, omega arith, refl));
     in_range = h;
     number = λ q c e. elim (Contains-push_cases [] (tree_port 0 0 0 p false) q c) [
-        inl none ↦ (let l = none.1 in omega arith)
-      | inr is ↦ (let n : 0 ≡ q.number = ap (λ (x : Plug ℕ ℕ ℕ P). x.number) is in omega arith) ];
+      | inl none ↦ (let l = none.1 in omega arith)
+      | inr is ↦ (let n : 0 ≡ q.number = ap (λ (x : Plug ℕ ℕ ℕ P). x.number) is in omega arith)
+    ];
     identifier = λ q c e f. elim (Contains-push_cases [] (tree_port 0 0 0 p false) q c) [
-        inl none ↦ (let l = none.1 in omega arith)
-      | inr is ↦ (let n : 0 ≡ q.bridge = ap (λ (x : Plug ℕ ℕ ℕ P). x.bridge) is in omega arith) ];
+      | inl none ↦ (let l = none.1 in omega arith)
+      | inr is ↦ (let n : 0 ≡ q.bridge = ap (λ (x : Plug ℕ ℕ ℕ P). x.bridge) is in omega arith)
+    ];
   }
 
 pub add_port-requires-2 : goal.add_port-requires-2

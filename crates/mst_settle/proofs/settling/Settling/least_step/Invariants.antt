@@ -3,5 +3,5 @@ use Rattle.mst_settle.specs.Settling.{FreeStep}
 use Rattle.mst_settle.specs.Places.{in_map}
 use Rattle.mst_settle.proofs.settling.Settling.least_step.Given as goal
 
-abbrev pub invariant-loop-i : goal.invariant-loop-i
-invariant-loop-i g l = IsBestOf g.M.Metric.rules.order (HasAt l.t.ports (FreeStep g.M.Metric.rules l.t (in_map l.self.vectors))) l.i l.best
+abbrev pub invariant-loop-place : goal.invariant-loop-place
+invariant-loop-place g l = IsBestOf g.M.Metric.rules.order (HasAt l.topology.ports (FreeStep g.M.Metric.rules l.topology (in_map l.self.vectors))) l.place l.best
