@@ -1,4 +1,4 @@
--- What the functions that settle a tree promise of the vectors so far.
+-- What the functions that settle a tree say of the vectors so far.
 use Rattle.std.specs.Prelude.{◌≡◌, ◌≢◌, ◌⊎◌, ℕ, ◌≤◌, Option, Some, None, false, cond}
 use Rattle.std.specs.Ordering.{is_gt}
 use Rattle.std.specs.declared.cmp.Ordering.{Ordering}

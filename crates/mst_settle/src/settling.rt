@@ -122,7 +122,8 @@ impl<M: Metric> Settling<M> {
         ensures some { ForSome result (λ x. FreeStep M.rules topology.now (in_map self.now.vectors) port.now x) }
         ensures none { result ≡ None → (x : M.Vector) → FreeStep M.rules topology.now (in_map self.now.vectors) port.now x → ⊥ }
     {
-        if !port.is_part || port.is_restricted {
+        let is_restricted = port.is_restricted;
+        if !port.is_part || is_restricted {
             return None;
         }
         if self.vectors.contains_key(&port.bridge) {

@@ -40,5 +40,5 @@ returns-clause-some g c = λ x e.
     let value = sym c.step.ensures ∙ some_is c.step.result x e in
     rw (← value) (rw (← c.port.view_is)
     (heard_step g.M.Metric.rules g.met.M.Metric.lawful c.args.topology.now c.requires.topology (in_map c.args.self.now.vectors) (in_map c.args.self.now.lans) c.requires.keeps _ c.in_ok-from.field-0.now stored
-    (eqb-false c.in_ok-from.field-0.now.bridge c.port.inside.bridge (sym c.if-eq.ensures)) (rw (← c.port.view_is) at c.requires.port) c.if-not-port.false c.if-port.false empty c.in_ok-bridge.bridge.now c.in_ok-sender.sender.now
+    (eqb-false c.in_ok-from.field-0.now.bridge c.port.inside.bridge (sym c.if-eq.ensures)) (rw (← c.port.view_is) at c.requires.port) c.if-not-port.false c.if-is_restricted.false empty c.in_ok-bridge.bridge.now c.in_ok-sender.sender.now
     (c.in_ok-bridge.ensures.some c.in_ok-bridge.bridge refl) (c.in_ok-sender.ensures.some c.in_ok-sender.sender refl)))
