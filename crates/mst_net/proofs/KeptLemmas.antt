@@ -132,3 +132,10 @@ module _ {K R : Type 0} where
         (ap (λ m. option_map_or (eq k) (get keys m) false) (sym x.2) ∙ kept.numbered k x.0 x.1)
         (ap (λ m. option_map_or (eq l) (get keys m) false) (sym y.2) ∙ kept.numbered l y.0 y.1);
   }
+
+-- tables with the same rows and numbers are numbered alike
+pub same_numbered : {K R : Type 0} (eq : K → K → Bool) (old new : Rows K R) → new.rows ≡ old.rows → new.numbers ≡ old.numbers → IsNumberedBy eq old → IsNumberedBy eq new
+same_numbered eq old new rows numbers was = record {
+  numbered = λ k. ap (λ l. is_some (lookup (eq k) l)) numbers ∙ was.numbered k ∙ ap (λ l. is_some (lookup (eq k) l)) (sym rows);
+  differ = λ k l n h i. was.differ k l n (ap (lookup (eq k)) (sym numbers) ∙ h) (ap (lookup (eq l)) (sym numbers) ∙ i);
+}

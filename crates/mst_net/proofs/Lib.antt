@@ -1,1 +1,5 @@
 pub mod KeptLemmas
+pub mod Keyed
+pub mod Keys
+pub mod AfterLemmas
+pub mod SoundLemmas

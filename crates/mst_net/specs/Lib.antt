@@ -4,3 +4,6 @@ pub mod After
 pub mod Contents
 pub mod Rows
 pub mod Kept
+pub mod Checks
+pub mod Settings
+pub mod NetworkKept

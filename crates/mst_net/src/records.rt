@@ -52,6 +52,7 @@ impl<K: Copy + Eq + Hash, R: Copy> Records<K, R> {
     pub(crate) fn new(alloc: Global) -> Self
         ensures rows { result.rows ≡ [] }
         ensures numbers { result.numbers ≡ [] }
+        ensures numbered { IsNumberedBy K.eq result }
     {
         Records {
             records: IndexMap::new(alloc),
@@ -74,11 +75,20 @@ impl<K: Copy + Eq + Hash, R: Copy> Records<K, R> {
         self.records.get(key).copied()
     }
 
+    /// The row under the key.
+    pub(crate) fn row(&self, key: &K) -> Option<R>
+        ensures { result ≡ lookup (K.eq key.now) self.now.rows }
+    {
+        match self.get(key) {
+            Some(record) => Some(record.row),
+            None => None,
+        }
+    }
+
     /// How many rows there are.
     pub(crate) fn len(&self) -> usize
         ensures len { result ≡ length self.now.rows }
         ensures distinct { IsDistinct K.eq (keys_of self.now.rows) }
-        ensures numbered { IsNumberedBy K.eq self.now }
     {
         self.records.len()
     }
@@ -107,6 +117,7 @@ impl<K: Copy + Eq + Hash, R: Copy> Records<K, R> {
         requires room { 0 < self.old.room }
         ensures rows { (q : K) → lookup (K.eq q) self.new.rows ≡ cond (K.eq key q) (Some row) (lookup (K.eq q) self.old.rows) }
         ensures numbers { (q : K) → lookup (K.eq q) self.new.numbers ≡ cond (K.eq key q) (Some self.old.next) (lookup (K.eq q) self.old.numbers) }
+        ensures numbered { IsNumberedBy K.eq self.new }
     {
         let number = self.keys.insert_reserved(key);
         let _ = self.records.insert(key, Record { number, row }).unwrap();
@@ -117,6 +128,7 @@ impl<K: Copy + Eq + Hash, R: Copy> Records<K, R> {
         requires { IsSome (lookup (K.eq key.now) self.old.rows) }
         ensures rows { (q : K) → lookup (K.eq q) self.new.rows ≡ cond (K.eq key.now q) (Some row) (lookup (K.eq q) self.old.rows) }
         ensures numbers { self.new.numbers ≡ self.old.numbers }
+        ensures numbered { IsNumberedBy K.eq self.new }
     {
         let record = self.records.get_mut(key).unwrap();
         record.row = row;

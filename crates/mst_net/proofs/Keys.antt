@@ -1,0 +1,38 @@
+-- The keys of the network's tables.
+use Rattle.std.proofs.Common.{◌≡◌, ℕ, Bool, List, ◌&&◌, nat_eq, refl, sym, ap, ◌∙◌}
+use Rattle.std.specs.FinMap.{IsAntisymmetric, slice_cmp-IsAntisymmetric, nat_cmp-IsAntisymmetric}
+use Rattle.std.specs.Cmp.{IsTotalOrder, nat_cmp_total, on_total, then_total, both_tied, unsigned_ties}
+use Rattle.std.specs.Cmp.Lexicographic.{pointwise, nat_list_cmp_total, texts_ties}
+use Rattle.std.specs.Ordering.{nat_cmp, eq_by_cmp}
+use Rattle.std.proofs.lemmas.Map.Lookups.{CmpEqualImpliesEq, exact_pairs, exact_unsigned}
+use Rattle.mst_ids.specs.Names.{name_cmp, port_cmp}
+use Rattle.mst_ids.specs.declared.name.PortName.{PortName}
+use Rattle.mst_net.specs.Tables.{BridgeTree, bridge_tree_cmp}
+use Rattle.mst_net.specs.NetworkKept.{port_eq}
+use Rattle.mst_net.proofs.Keyed.{IsKeyed}
+
+abbrev pub name_eq : List ℕ → List ℕ → Bool
+name_eq = pointwise nat_eq
+
+exact_names : IsAntisymmetric name_cmp
+exact_names = slice_cmp-IsAntisymmetric nat_cmp-IsAntisymmetric
+
+pub names : IsKeyed name_eq name_cmp
+names = record { total = nat_list_cmp_total; same = exact_names; ties = texts_ties }
+
+pub ports : IsKeyed port_eq port_cmp
+ports = record {
+  total = then_total (on_total (λ (p : PortName). p.bridge) nat_list_cmp_total) (on_total (λ (p : PortName). p.number) nat_cmp_total);
+  same = λ p q h. ap (λ (x : List ℕ × ℕ). record { bridge = x.0; number = x.1 }) (exact_pairs name_cmp nat_cmp exact_names exact_unsigned (p.bridge, p.number) (q.bridge, q.number) h);
+  ties = λ p q. both_tied _ _ _ _ (texts_ties p.bridge q.bridge) (unsigned_ties p.number q.number);
+}
+
+abbrev pub tree_eq : BridgeTree → BridgeTree → Bool
+tree_eq a b = pointwise nat_eq a.bridge b.bridge && nat_eq a.tree b.tree
+
+pub bridge_trees : IsKeyed tree_eq bridge_tree_cmp
+bridge_trees = record {
+  total = then_total (on_total (λ (k : BridgeTree). k.bridge) nat_list_cmp_total) (on_total (λ (k : BridgeTree). k.tree) nat_cmp_total);
+  same = λ p q h. ap (λ (x : List ℕ × ℕ). record { bridge = x.0; tree = x.1 }) (exact_pairs name_cmp nat_cmp exact_names exact_unsigned (p.bridge, p.tree) (q.bridge, q.tree) h);
+  ties = λ p q. both_tied _ _ _ _ (texts_ties p.bridge q.bridge) (unsigned_ties p.tree q.tree);
+}

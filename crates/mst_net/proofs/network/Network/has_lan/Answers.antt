@@ -1,0 +1,8 @@
+use Rattle.std.proofs.Common.{ap, sym, ◌∙◌}
+use Rattle.std.specs.FinMap as fin
+use Rattle.mst_net.proofs.Keyed.{contains_keyed}
+use Rattle.mst_net.proofs.Keys.{names}
+use Rattle.mst_net.proofs.network.Network.has_lan.Goals as goal
+
+pub returns : goal.returns
+returns c = c.contains.ensures ∙ sym (contains_keyed names c.self.inside.lans.rows c.args.name.now) ∙ ap (λ n. fin.contains_key n.net.lans c.args.name.now) c.self.view_is
