@@ -3,3 +3,4 @@ pub mod Keyed
 pub mod Keys
 pub mod AfterLemmas
 pub mod SoundLemmas
+pub mod EditLemmas

@@ -289,7 +289,7 @@ impl Network {
         requires { CanCommit ready.edit self.old }
         ensures { SameContents self.old self.new }
     {
-        drop(ready);
+        let Ready { edit: _ } = ready;
     }
 
     fn add_bridge(&mut self, bridge: Name, mac: Mac)
