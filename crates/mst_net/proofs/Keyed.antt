@@ -57,8 +57,11 @@ module _ {K X : Type 0} {E : K → K → Bool} {R : K → K → Ordering} (keyed
   pub contains_keyed : (es : List (K × X)) (q : K) → fin.contains_key (from_entries {R = R} es) q ≡ is_some (lookup (E q) es)
   contains_keyed es q = ap is_some (get_keyed es q)
 
-  get_inserted : (m : FinMap R X) (k : K) (v : X) (q : K) → fin.get (fin.insert m k v) q ≡ cond (E k q) (Some v) (fin.get m q)
+  pub get_inserted : (m : FinMap R X) (k : K) (v : X) (q : K) → fin.get (fin.insert m k v) q ≡ cond (E k q) (Some v) (fin.get m q)
   get_inserted m k v q = get-insert keyed.total m k v q ∙ ap (λ b. cond b (Some v) (fin.get m q)) (flipped keyed q k)
+
+  pub get_removed : (m : FinMap R X) (k q : K) → fin.get (fin.remove m k) q ≡ cond (E k q) None (fin.get m q)
+  get_removed m k q = get-remove keyed.total m k q ∙ ap (λ b. cond b None (fin.get m q)) (flipped keyed q k)
 
   -- entries that change at one key make a map that changes there
   pub set_keyed : (es fs : List (K × X)) (k : K) (v : X) → ((q : K) → lookup (E q) fs ≡ cond (E k q) (Some v) (lookup (E q) es)) → from_entries {R = R} fs ≡ fin.insert (from_entries es) k v
@@ -68,7 +71,7 @@ module _ {K X : Type 0} {E : K → K → Bool} {R : K → K → Ordering} (keyed
   pub removed_keyed : (es fs : List (K × X)) (k : K) → ((q : K) → lookup (E q) fs ≡ cond (E k q) None (lookup (E q) es)) → from_entries {R = R} fs ≡ fin.remove (from_entries es) k
   removed_keyed es fs k changed = same_map keyed.total keyed.same _ _ (λ q.
       get_keyed fs q ∙ changed q ∙ ap (cond (E k q) None) (sym (get_keyed es q))
-      ∙ ap (λ b. cond b None (fin.get (from_entries {R = R} es) q)) (sym (flipped keyed q k)) ∙ sym (get-remove keyed.total (from_entries es) k q))
+      ∙ sym (get_removed (from_entries es) k q))
 
   absent_key : (k : K) (es : List (K × X)) → AllByRecursion (λ y. E k y ≡ false) (keys_of es) → lookup (E k) es ≡ None
   absent_key k [] all = refl
@@ -93,7 +96,7 @@ module _ {K X : Type 0} {E : K → K → Bool} {R : K → K → Ordering} (keyed
 
   -- and after a removal what it had
   pub after_remove : (m : FinMap R X) (k q : K) (x : X) → fin.get (fin.remove m k) q ≡ Some x → fin.get m q ≡ Some x
-  after_remove m k q x h = by (eq_by_cmp R q k) (sym (get-remove keyed.total m k q) ∙ h)
+  after_remove m k q x h = by (E k q) (sym (get_removed m k q) ∙ h)
     where
       by : (t : Bool) → cond t None (fin.get m q) ≡ Some x → fin.get m q ≡ Some x
       by true h = absurd (no_some x h)

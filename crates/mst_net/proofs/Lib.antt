@@ -4,3 +4,4 @@ pub mod Keys
 pub mod AfterLemmas
 pub mod SoundLemmas
 pub mod EditLemmas
+pub mod ForeseenLemmas

@@ -7,3 +7,5 @@ pub mod Kept
 pub mod Checks
 pub mod Settings
 pub mod NetworkKept
+pub mod Seen
+pub mod Foreseen

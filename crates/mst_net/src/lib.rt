@@ -1,10 +1,14 @@
 //! The network's records, and the edits that change them.
 #![tactic(auto)]
 
+mod ahead;
+mod contents;
 mod network;
 mod records;
 mod refusal;
 mod settings;
 
+pub use ahead::Ahead;
+pub use contents::{Bridge, Contents, Lan, Port};
 pub use network::{Network, Ready};
 pub use refusal::Refusal;

@@ -3,14 +3,18 @@ ghost use Rattle.mst_lang.specs.declared.line.Edit.TheVariants.{AddBridge, SetKi
 ghost use Rattle.std.specs.FinMap as fin;
 ghost use Rattle.mst_net.specs.Tables.{empty_net, no_numbers, IsNetwork};
 ghost use Rattle.mst_net.specs.After.{after, after_add_bridge, after_set_kind, after_add_port, after_add_lan, after_plug, after_set_tree_priority, mac_taken};
-ghost use Rattle.mst_net.specs.Contents.{SameContents, CanCommit, Commits, IsNumbered};
+ghost use Rattle.mst_net.specs.Contents.{SameContents, CanCommit, Commits, IsNumbered, ahead_of};
+ghost use Rattle.std.specs.Option.{option_map};
+ghost use Rattle.mst_net.specs.Seen.{bridge_row, port_row, lan_row};
 ghost use Rattle.mst_net.specs.Checks.{Checks, HasRoomFor};
 
 use crate::Refusal;
-use crate::records::Records;
+use crate::ahead::Ahead;
+use crate::contents::{Bridge, Contents, Lan, Port};
+use crate::records::{Record, Records};
 use crate::settings::{BridgeInTree, BridgeSettings, LanSettings, PortSettings};
 use indexmap::{IndexMap, IndexSet};
-use mst_ids::{Mac, Name, PortName, Priority, Tree};
+use mst_ids::{BridgeNo, LanNo, Mac, Name, PortName, PortNo, Priority, Tree};
 use mst_lang::{Edit, Kind};
 use std::alloc::{AllocError, Global};
 use std::marker::Model;
@@ -68,6 +72,38 @@ impl Network {
         ensures numbered { IsNumbered self.now.net self.now.numbers }
     {
         let _bridges = &self.bridges;
+    }
+
+    /// The number that the next bridge gets.
+    pub(crate) fn next_bridge(&self) -> usize
+        ensures { result ≡ self.now.next.bridge }
+    {
+        self.bridges.next()
+    }
+
+    /// The number that the next port gets.
+    pub(crate) fn next_port(&self) -> usize
+        ensures { result ≡ self.now.next.port }
+    {
+        self.ports.next()
+    }
+
+    /// The number that the next LAN gets.
+    pub(crate) fn next_lan(&self) -> usize
+        ensures { result ≡ self.now.next.lan }
+    {
+        self.lans.next()
+    }
+
+    /// The contents as they will be once the edit is made.
+    pub fn ahead<'a>(&'a self, ready: &'a Ready) -> Ahead<'a>
+        requires { CanCommit ready.now.edit self.now }
+        ensures { result ≡ ahead_of self.now ready.now.edit }
+    {
+        Ahead {
+            network: self,
+            ready,
+        }
     }
 
     fn has_bridge(&self, name: &Name) -> bool
@@ -348,4 +384,67 @@ impl Network {
             let _ = self.priorities.insert(key, priority).unwrap();
         }
     }
+}
+
+impl Contents for Network {
+    ghost use Rattle.mst_net.specs.Contents.{tables_of};
+
+    ghost tables = { tables_of };
+
+    fn bridge(&self, name: &Name) -> Option<Bridge> {
+        seen_bridge(self.bridges.get(name))
+    }
+
+    fn port(&self, name: &PortName) -> Option<Port> {
+        seen_port(self.ports.get(name))
+    }
+
+    fn lan(&self, name: &Name) -> Option<Lan> {
+        seen_lan(self.lans.get(name))
+    }
+
+    fn tree_priority(&self, bridge: &Name, tree: Tree) -> Priority {
+        let key = BridgeInTree {
+            bridge: *bridge,
+            tree,
+        };
+        match self.priorities.get(&key) {
+            Some(priority) => *priority,
+            None => Priority::new(u64::from(Priority::DEFAULT)).unwrap(),
+        }
+    }
+}
+
+fn seen_bridge(kept: Option<Record<BridgeSettings>>) -> Option<Bridge>
+    ensures row { option_map bridge_row result ≡ option_map (λ found. found.row) kept }
+    ensures number { option_map (λ bridge. bridge.number) result ≡ option_map (λ found. found.number) kept }
+{
+    let Record { number, row } = kept?;
+    Some(Bridge {
+        number: BridgeNo(number),
+        mac: row.mac,
+        kind: row.kind,
+    })
+}
+
+fn seen_port(kept: Option<Record<PortSettings>>) -> Option<Port>
+    ensures row { option_map port_row result ≡ option_map (λ found. found.row) kept }
+    ensures number { option_map (λ port. port.number) result ≡ option_map (λ found. found.number) kept }
+{
+    let Record { number, row } = kept?;
+    Some(Port {
+        number: PortNo(number),
+        lan: row.lan,
+    })
+}
+
+fn seen_lan(kept: Option<Record<LanSettings>>) -> Option<Lan>
+    ensures row { option_map lan_row result ≡ option_map (λ found. found.row) kept }
+    ensures number { option_map (λ lan. lan.number) result ≡ option_map (λ found. found.number) kept }
+{
+    let Record { number, row } = kept?;
+    Some(Lan {
+        number: LanNo(number),
+        speed: row.speed,
+    })
 }

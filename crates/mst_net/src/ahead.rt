@@ -1,0 +1,172 @@
+ghost use Rattle.std.specs.Prelude.{◌≡◌};
+ghost use Rattle.std.specs.Option.{option_map};
+ghost use Rattle.mst_net.specs.After.{is_rstp};
+ghost use Rattle.mst_net.specs.Seen.{bridge_row, port_row, lan_row};
+ghost use Rattle.mst_net.specs.Foreseen.{with_rstp, in_lan, bridge_row_after, port_row_after, lan_row_after, bridge_number_after, port_number_after, lan_number_after, priority_after};
+
+use crate::contents::{Bridge, Contents, Lan, Port};
+use crate::network::{Network, Ready};
+use mst_ids::{BridgeNo, LanNo, Name, PortName, PortNo, Priority, Tree};
+use mst_lang::{Edit, Kind};
+use std::marker::Model;
+
+/// A network as it will be once an edit is made.
+#[derive(Drop)]
+pub struct Ahead<'a> {
+    pub(crate) network: &'a Network,
+    pub(crate) ready: &'a Ready,
+}
+
+impl<'a> Model for Ahead<'a> {
+    ghost use Rattle.mst_net.specs.Contents.{CanCommit, Tables, tables_code, ahead_of};
+
+    ghost Value = { Tables };
+
+    ghost coded = { tables_code };
+
+    ghost view = { λ a. ahead_of a.network.now a.ready.now.edit };
+
+    ghost invariant = { λ a. CanCommit a.ready.now.edit a.network.now };
+}
+
+impl Contents for Ahead<'_> {
+    ghost tables = { λ a. a };
+
+    fn bridge(&self, name: &Name) -> Option<Bridge> {
+        bridge_after(
+            &self.ready.edit,
+            BridgeNo(self.network.next_bridge()),
+            name,
+            self.network.bridge(name),
+        )
+    }
+
+    fn port(&self, name: &PortName) -> Option<Port> {
+        port_after(
+            &self.ready.edit,
+            PortNo(self.network.next_port()),
+            name,
+            self.network.port(name),
+        )
+    }
+
+    fn lan(&self, name: &Name) -> Option<Lan> {
+        lan_after(
+            &self.ready.edit,
+            LanNo(self.network.next_lan()),
+            name,
+            self.network.lan(name),
+        )
+    }
+
+    fn tree_priority(&self, bridge: &Name, tree: Tree) -> Priority {
+        tree_priority_after(
+            &self.ready.edit,
+            bridge,
+            tree,
+            self.network.tree_priority(bridge, tree),
+        )
+    }
+}
+
+/// What the edit makes of the bridge of this name.
+fn bridge_after(edit: &Edit, next: BridgeNo, name: &Name, there: Option<Bridge>) -> Option<Bridge>
+    ensures row { option_map bridge_row result ≡ bridge_row_after edit.now name.now (option_map bridge_row there) }
+    ensures number { option_map (λ bridge. bridge.number) result ≡ bridge_number_after edit.now next name.now (option_map (λ bridge. bridge.number) there) }
+{
+    match *edit {
+        Edit::AddBridge { bridge, mac } if bridge == *name => Some(Bridge {
+            number: next,
+            mac,
+            kind: Kind::Mstp,
+        }),
+        Edit::SetKind { bridge, kind } if bridge == *name => with_kind(there, kind),
+        Edit::AddBridge { .. }
+        | Edit::SetKind { .. }
+        | Edit::AddPort { .. }
+        | Edit::AddLan { .. }
+        | Edit::Plug { .. }
+        | Edit::SetTreePriority { .. } => there,
+    }
+}
+
+fn with_kind(there: Option<Bridge>, kind: Kind) -> Option<Bridge>
+    ensures row { option_map bridge_row result ≡ option_map (with_rstp (is_rstp kind)) (option_map bridge_row there) }
+    ensures number { option_map (λ bridge. bridge.number) result ≡ option_map (λ bridge. bridge.number) there }
+{
+    match there {
+        Some(bridge) => Some(Bridge { kind, ..bridge }),
+        None => None,
+    }
+}
+
+/// What the edit makes of the port of this name.
+fn port_after(edit: &Edit, next: PortNo, name: &PortName, there: Option<Port>) -> Option<Port>
+    ensures row { option_map port_row result ≡ port_row_after edit.now name.now (option_map port_row there) }
+    ensures number { option_map (λ port. port.number) result ≡ port_number_after edit.now next name.now (option_map (λ port. port.number) there) }
+{
+    match *edit {
+        Edit::AddPort { port } if port == *name => Some(Port {
+            number: next,
+            lan: None,
+        }),
+        Edit::Plug { port, lan } if port == *name => with_lan(there, lan),
+        Edit::AddBridge { .. }
+        | Edit::SetKind { .. }
+        | Edit::AddPort { .. }
+        | Edit::AddLan { .. }
+        | Edit::Plug { .. }
+        | Edit::SetTreePriority { .. } => there,
+    }
+}
+
+fn with_lan(there: Option<Port>, lan: Name) -> Option<Port>
+    ensures row { option_map port_row result ≡ option_map (in_lan lan) (option_map port_row there) }
+    ensures number { option_map (λ port. port.number) result ≡ option_map (λ port. port.number) there }
+{
+    match there {
+        Some(port) => Some(Port {
+            lan: Some(lan),
+            ..port
+        }),
+        None => None,
+    }
+}
+
+/// What the edit makes of the LAN of this name.
+fn lan_after(edit: &Edit, next: LanNo, name: &Name, there: Option<Lan>) -> Option<Lan>
+    ensures row { option_map lan_row result ≡ lan_row_after edit.now name.now (option_map lan_row there) }
+    ensures number { option_map (λ lan. lan.number) result ≡ lan_number_after edit.now next name.now (option_map (λ lan. lan.number) there) }
+{
+    match *edit {
+        Edit::AddLan { lan } if lan == *name => Some(Lan {
+            number: next,
+            speed: 1_000_000,
+        }),
+        Edit::AddBridge { .. }
+        | Edit::SetKind { .. }
+        | Edit::AddPort { .. }
+        | Edit::AddLan { .. }
+        | Edit::Plug { .. }
+        | Edit::SetTreePriority { .. } => there,
+    }
+}
+
+/// What the edit makes of the priority of a bridge in a tree.
+fn tree_priority_after(edit: &Edit, name: &Name, other: Tree, there: Priority) -> Priority
+    ensures { result ≡ priority_after edit.now name.now other there }
+{
+    match *edit {
+        Edit::SetTreePriority {
+            bridge,
+            tree,
+            priority,
+        } if bridge == *name && tree == other => priority,
+        Edit::AddBridge { .. }
+        | Edit::SetKind { .. }
+        | Edit::AddPort { .. }
+        | Edit::AddLan { .. }
+        | Edit::Plug { .. }
+        | Edit::SetTreePriority { .. } => there,
+    }
+}
