@@ -410,9 +410,15 @@ impl Contents for Network {
         };
         match self.priorities.get(&key) {
             Some(priority) => *priority,
-            None => Priority::new(u64::from(Priority::DEFAULT)).unwrap(),
+            None => default_priority(),
         }
     }
+}
+
+fn default_priority() -> Priority
+    ensures { result ≡ 8 }
+{
+    Priority::new(u64::from(Priority::DEFAULT)).unwrap()
 }
 
 fn seen_bridge(kept: Option<Record<BridgeSettings>>) -> Option<Bridge>
