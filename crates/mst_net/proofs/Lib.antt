@@ -5,3 +5,4 @@ pub mod AfterLemmas
 pub mod SoundLemmas
 pub mod EditLemmas
 pub mod ForeseenLemmas
+pub mod NamesInOrder

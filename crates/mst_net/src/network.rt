@@ -95,6 +95,24 @@ impl Network {
         self.lans.next()
     }
 
+    /// The names of the bridges, in the order of their bytes.
+    pub fn bridge_names(&self, alloc: Global) -> Result<Vec<Name>, AllocError>
+        ensures { IfOk result (λ names. names.items ≡ fin.keys self.now.net.bridges) }
+    {
+        let mut names = self.bridges.keys(alloc)?;
+        names.sort()?;
+        Ok(names)
+    }
+
+    /// The names of the ports, by the names of their bridges, and then by number.
+    pub fn port_names(&self, alloc: Global) -> Result<Vec<PortName>, AllocError>
+        ensures { IfOk result (λ names. names.items ≡ fin.keys self.now.net.ports) }
+    {
+        let mut names = self.ports.keys(alloc)?;
+        names.sort()?;
+        Ok(names)
+    }
+
     /// The contents as they will be once the edit is made.
     pub fn ahead<'a>(&'a self, ready: &'a Ready) -> Ahead<'a>
         requires { CanCommit ready.now.edit self.now }

@@ -136,7 +136,8 @@ impl<K: Copy + Eq + Hash, R: Copy> Records<K, R> {
 
     /// The keys, in no order that is promised.
     pub(crate) fn keys(&self, alloc: Global) -> Result<Vec<K>, AllocError>
-        ensures { IfOk result (λ keys. keys.items ≡ keys_of self.now.rows) }
+        ensures keys { IfOk result (λ found. found.items ≡ keys_of self.now.rows) }
+        ensures distinct { IsDistinct K.eq (keys_of self.now.rows) }
     {
         collect_keys(&self.records, alloc)
     }
