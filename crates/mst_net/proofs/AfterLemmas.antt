@@ -1,7 +1,6 @@
 -- An edit that is accepted makes a network of a network.
-use Rattle.std.proofs.Common.{◌≡◌, ◌≢◌, ℕ, ◌+◌, ◌<◌, ◌≤◌, ◌^◌, Bool, true, false, not, cond, ◌||◌, ◌⊎◌, inl, inr, List, Option, Some, None, is_some, nat_eq, nat_le, refl, sym, ap, subst, ◌∙◌, arith, true≢false}
-use Rattle.std.specs.Prelude.{Result, Ok, Err, IsOk, if◌then◌else◌, ◌==◌}
-use Rattle.std.specs.Result.{is_ok}
+use Rattle.std.proofs.Common.{◌≡◌, ◌≢◌, ℕ, ◌<◌, ◌≤◌, ◌^◌, Bool, true, false, not, cond, ◌||◌, ◌⊎◌, inl, inr, List, Option, Some, None, is_some, nat_eq, nat_le, refl, sym, ap, subst, ◌∙◌, arith, true≢false}
+use Rattle.std.specs.Prelude.{Result, Ok, Err, IsOk, if◌then◌else◌}
 use Rattle.std.specs.Option.{option_map_or}
 use Rattle.std.specs.FinMap as fin
 use Rattle.std.specs.FinMap.{get-empty, len-empty}
@@ -12,7 +11,6 @@ use Rattle.mst_ids.specs.declared.name.PortName.{PortName}
 use Rattle.mst_lang.specs.declared.line.Kind.{Kind}
 use Rattle.mst_net.specs.Tables.{Net, IsNetwork, BridgeRow, PortRow, LanRow, BridgeTree, bridge_tree_cmp, empty_net}
 use Rattle.mst_net.specs.After.{mac_taken, is_rstp, with_priority, after_add_bridge, after_set_kind, after_add_port, after_add_lan, after_plug, after_set_tree_priority}
-use Rattle.mst_net.specs.declared.refusal.Refusal.{Refusal}
 use Rattle.mst_net.specs.declared.refusal.Refusal.TheVariants.{E04}
 use Rattle.mst_net.proofs.KeptLemmas.{some_is, no_some}
 use Rattle.mst_net.proofs.Keyed.{after_insert, after_remove, still_there, len_added, len_set, any_added, any_set, any_value}
@@ -291,6 +289,7 @@ module _ (net : Net) (is : IsNetwork net) where
     where
       key : BridgeTree
       key = record { bridge = bridge; tree = tree }
+
       was : (k : BridgeTree) (p : ℕ) (t : Bool) → nat_eq priority 8 ≡ t → fin.get (if t then fin.remove net.priorities key else fin.insert net.priorities key priority) k ≡ Some p
           → ((key ≡ k) × (priority ≡ p) × (priority ≢ 8)) ⊎ (fin.get net.priorities k ≡ Some p)
       was k p true e h = inr (after_remove bridge_trees net.priorities key k p h)

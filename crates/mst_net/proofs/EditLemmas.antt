@@ -1,23 +1,21 @@
 -- What changes of the kept tables make of the network.
 use Rattle.std.proofs.Common.{◌≡◌, ℕ, ◌<◌, ◌≤◌, ◌^◌, Bool, true, false, cond, List, Option, Some, None, is_some, nat_eq, IsSome, refl, sym, ap, subst, ◌∙◌, true≢false}
-use Rattle.std.specs.Prelude.{Result, Ok, Err, IsOk, if◌then◌else◌}
+use Rattle.std.specs.Prelude.{Ok, if◌then◌else◌}
 use Rattle.std.specs.FinMap as fin
 use Rattle.std.specs.HashSet as set
-use Rattle.std.specs.HashMap as hash
 use Rattle.std.specs.Cmp.{unsigned_Decides}
 use Rattle.std.specs.Map.{lookup}
 use Rattle.mst_ids.specs.declared.name.PortName.{PortName}
-use Rattle.mst_lang.specs.declared.line.Edit.{Edit}
 use Rattle.mst_lang.specs.declared.line.Edit.TheVariants.{AddBridge, SetKind, AddPort, AddLan, Plug, SetTreePriority}
 use Rattle.mst_lang.specs.declared.line.Kind.{Kind}
-use Rattle.mst_net.specs.Tables.{Net, Numbers, IsNetwork, BridgeRow, PortRow, LanRow, BridgeTree}
+use Rattle.mst_net.specs.Tables.{Net, IsNetwork, BridgeRow, PortRow, BridgeTree}
 use Rattle.mst_net.specs.After.{mac_taken, is_rstp, with_priority}
-use Rattle.mst_net.specs.Contents.{Contents, CanCommit, Commits}
+use Rattle.mst_net.specs.Contents.{CanCommit, Commits}
 use Rattle.mst_net.specs.Rows.{IsNumberedBy}
 use Rattle.mst_net.specs.NetworkKept.{contents_of, port_eq, IsSound}
 use Rattle.mst_net.specs.declared.network.Network.TheInside.{Inside}
 use Rattle.mst_net.proofs.KeptLemmas.{some_is}
-use Rattle.mst_net.proofs.Keyed.{IsKeyed, get_keyed, contains_keyed, set_keyed, removed_keyed}
+use Rattle.mst_net.proofs.Keyed.{get_keyed, contains_keyed, set_keyed, removed_keyed}
 use Rattle.mst_net.proofs.Keys.{name_eq, names, ports, tree_eq, bridge_trees}
 use Rattle.mst_net.proofs.AfterLemmas.{new_bridge, bridge_added, port_added, lan_added, kind_set, port_plugged, priority_set, network_with_bridge, taken_with_bridge, network_with_kind, taken_with_kind, network_with_port, network_with_lan, network_with_plug, network_with_priority}
 

@@ -1,23 +1,22 @@
 -- What is seen of a network once an edit is made.
 use Rattle.std.proofs.Common.{◌≡◌, ℕ, Bool, true, false, cond, List, Option, Some, None, nat_eq, refl, sym, ap, ◌∙◌}
-use Rattle.std.specs.Prelude.{Result, Ok, IsOk, if◌then◌else◌}
+use Rattle.std.specs.Prelude.{Result, IsOk, if◌then◌else◌}
 use Rattle.std.specs.Option.{option_map, unwrap_or}
 use Rattle.std.specs.Result.{result_unwrap_or}
 use Rattle.std.specs.Cmp.{unsigned_Decides}
-use Rattle.std.specs.Ordering.{eq_by_cmp}
 use Rattle.std.specs.declared.cmp.Ordering.{Ordering}
 use Rattle.std.specs.FinMap as fin
 use Rattle.std.specs.FinMap.{FinMap}
 use Rattle.mst_ids.specs.declared.name.PortName.{PortName}
 use Rattle.mst_lang.specs.declared.line.Edit.{Edit}
 use Rattle.mst_lang.specs.declared.line.Edit.TheVariants.{AddBridge, SetKind, AddPort, AddLan, Plug, SetTreePriority}
-use Rattle.mst_net.specs.Tables.{Net, Numbers, BridgeRow, PortRow, LanRow, BridgeTree}
-use Rattle.mst_net.specs.After.{after, is_rstp, with_priority}
+use Rattle.mst_net.specs.Tables.{Net, Numbers, BridgeTree}
+use Rattle.mst_net.specs.After.{after, is_rstp}
 use Rattle.mst_net.specs.Contents.{PerKind, numbers_after, priority_of}
 use Rattle.mst_net.specs.Foreseen.{with_rstp, in_lan, bridge_row_after, port_row_after, lan_row_after, bridge_number_after, port_number_after, lan_number_after, priority_after}
 use Rattle.mst_net.specs.declared.refusal.Refusal.{Refusal}
 use Rattle.mst_net.proofs.Keyed.{IsKeyed, same_keys, get_inserted, get_removed}
-use Rattle.mst_net.proofs.Keys.{name_eq, names, ports, tree_eq, bridge_trees}
+use Rattle.mst_net.proofs.Keys.{names, ports, tree_eq, bridge_trees}
 use Rattle.mst_net.proofs.AfterLemmas.{new_bridge, bridge_added, port_added, lan_added, kind_set, port_plugged, priority_set}
 
 -- a changed row of a key that is there
@@ -70,14 +69,18 @@ foreseen_priority (SetTreePriority bridge tree priority) net q t h = ap (λ r. p
   where
     set : BridgeTree
     set = record { bridge = bridge; tree = tree }
+
     seen : BridgeTree
     seen = record { bridge = q; tree = t }
+
     unwrapped : (b : Bool) (o : Option ℕ) → unwrap_or (cond b (Some priority) o) 8 ≡ cond b priority (unwrap_or o 8)
     unwrapped true o = refl
     unwrapped false o = refl
+
     removed : (b : Bool) (o : Option ℕ) → unwrap_or (cond b None o) 8 ≡ cond b 8 (unwrap_or o 8)
     removed true o = refl
     removed false o = refl
+
     by : (d : Bool) → nat_eq priority 8 ≡ d → unwrap_or (fin.get (if d then fin.remove net.priorities set else fin.insert net.priorities set priority) seen) 8 ≡ cond (tree_eq set seen) priority (priority_of net q t)
     by true e = ap (λ (o : Option ℕ). unwrap_or o 8) (get_removed bridge_trees net.priorities set seen) ∙ removed (tree_eq set seen) (fin.get net.priorities seen)
         ∙ ap (λ (n : ℕ). cond (tree_eq set seen) n (priority_of net q t)) (sym ((unsigned_Decides priority 8).0 e))

@@ -1,11 +1,11 @@
 -- How changes of the kept records show in the rows and the numbers.
-use Rattle.std.proofs.Common.{◌≡◌, ◌≢◌, ℕ, Bool, true, false, cond, List, [], ◌∷◌, map, Option, Some, None, is_some, IsSome, MutBor, refl, sym, ap, subst, ◌∙◌, true≢false}
+use Rattle.std.proofs.Common.{◌≡◌, ℕ, Bool, true, false, cond, List, [], ◌∷◌, map, Option, Some, None, is_some, IsSome, MutBor, refl, sym, ap, subst, ◌∙◌, true≢false}
 use Rattle.std.specs.Option.{option_map, option_map_or, option_copied_mut, unwrap_or}
 use Rattle.std.specs.List.{IsDistinct}
 use Rattle.std.specs.Cmp.{IsEquivalence}
 use Rattle.std.specs.Map.{lookup, keys_of, set_value}
 use Rattle.slab.specs.Slab.{Slab, get, Updates}
-use Rattle.mst_net.specs.Rows.{Rows, IsNumberedBy}
+use Rattle.mst_net.specs.Rows.{IsNumberedBy}
 use Rattle.mst_net.specs.Kept.{rows_of, numbers_of, IsKept}
 use Rattle.mst_net.specs.declared.records.Record.{Record}
 
@@ -18,10 +18,6 @@ no_some x e = true≢false (ap is_some (sym e))
 is_some-map : {X Y : Type 0} (f : X → Y) (o : Option X) → is_some (option_map f o) ≡ is_some o
 is_some-map f None = refl
 is_some-map f (Some x) = refl
-
-none_of : {X Y : Type 0} (f : X → Y) (o : Option X) → option_map f o ≡ None → o ≡ None
-none_of f None e = refl
-none_of f (Some x) e = absurd (no_some (f x) (sym e))
 
 some_of : {X Y : Type 0} (f : X → Y) (o : Option X) → IsSome (option_map f o) → IsSome o
 some_of f None h = h
@@ -73,9 +69,6 @@ module _ {K R : Type 0} where
 
   pub keys-rows_of : (es : List (K × Record R)) → keys_of (rows_of es) ≡ keys_of es
   keys-rows_of es = keys-mapped (λ (r : Record R). r.row) es
-
-  pub absent_row : (test : K → Bool) (es : List (K × Record R)) → lookup test (rows_of es) ≡ None → lookup test es ≡ None
-  absent_row test es none = none_of (λ (r : Record R). r.row) (lookup test es) (sym (row_at test es) ∙ none)
 
   -- a write of a record leaves the numbers, where it has the number that was there
   pub numbers-set_value : (test : K → Bool) (es : List (K × Record R)) (was new : Record R) → lookup test es ≡ Some was → new.number ≡ was.number → numbers_of (set_value test es new) ≡ numbers_of es
@@ -132,10 +125,3 @@ module _ {K R : Type 0} where
         (ap (λ m. option_map_or (eq k) (get keys m) false) (sym x.2) ∙ kept.numbered k x.0 x.1)
         (ap (λ m. option_map_or (eq l) (get keys m) false) (sym y.2) ∙ kept.numbered l y.0 y.1);
   }
-
--- tables with the same rows and numbers are numbered alike
-pub same_numbered : {K R : Type 0} (eq : K → K → Bool) (old new : Rows K R) → new.rows ≡ old.rows → new.numbers ≡ old.numbers → IsNumberedBy eq old → IsNumberedBy eq new
-same_numbered eq old new rows numbers was = record {
-  numbered = λ k. ap (λ l. is_some (lookup (eq k) l)) numbers ∙ was.numbered k ∙ ap (λ l. is_some (lookup (eq k) l)) (sym rows);
-  differ = λ k l n h i. was.differ k l n (ap (lookup (eq k)) (sym numbers) ∙ h) (ap (lookup (eq l)) (sym numbers) ∙ i);
-}

@@ -1,10 +1,10 @@
 -- Finite maps that are made of the entries of a table by keys.
-use Rattle.std.proofs.Common.{◌≡◌, ℕ, ◌+◌, suc, Bool, true, false, cond, ◌||◌, ◌⊎◌, inl, inr, List, [], ◌∷◌, length, map, Option, Some, None, is_some, refl, sym, ap, subst, ◌∙◌, arith, true≢false}
+use Rattle.std.proofs.Common.{◌≡◌, ◌+◌, Bool, true, false, cond, ◌||◌, ◌⊎◌, inl, inr, List, [], ◌∷◌, length, Option, Some, None, is_some, refl, sym, ap, ◌∙◌, arith, true≢false}
 use Rattle.std.specs.List.{IsDistinct, AllByRecursion, list_any}
 use Rattle.std.specs.FinMap as fin
 use Rattle.std.specs.FinMap.{FinMap, IsAntisymmetric, find, put, get-from_entries, get-insert, get-remove, get-entries, same_map, entries-insert, len-insert, len-empty, entries, from_entries}
 use Rattle.std.specs.FinMap.Entries.{by_order}
-use Rattle.std.specs.Cmp.{IsTotalOrder, eq_by_cmp_equiv, tied_itself}
+use Rattle.std.specs.Cmp.{IsTotalOrder, eq_by_cmp_equiv}
 use Rattle.std.specs.Ordering.{eq_by_cmp, is_eq}
 use Rattle.std.specs.declared.cmp.Ordering.{Ordering}
 use Rattle.std.specs.declared.cmp.Ordering.TheVariants.{Less, Equal, Greater}
@@ -41,9 +41,6 @@ module _ {K : Type 0} {E : K → K → Bool} {R : K → K → Ordering} (keyed :
 
   pub same_keys : (k l : K) → E k l ≡ true → k ≡ l
   same_keys k l e = keyed.same k l (equal_tied (R k l) (sym (keyed.ties k l) ∙ e))
-
-  pub tested_itself : (k : K) → E k k ≡ true
-  tested_itself k = keyed.ties k k ∙ ap is_eq (tied_itself keyed.total k)
 
 module _ {K X : Type 0} {E : K → K → Bool} {R : K → K → Ordering} (keyed : IsKeyed E R) where
   find-lookup : (es : List (K × X)) (q : K) → find R q es ≡ lookup (E q) es
@@ -108,9 +105,6 @@ module _ {K X : Type 0} {E : K → K → Bool} {R : K → K → Ordering} (keyed
       by : (t : Bool) → is_some (cond t (Some v) (fin.get m q)) ≡ true
       by true = refl
       by false = there
-
-  pub get_there : (m : FinMap R X) (k : K) (v : X) → fin.get (fin.insert m k v) k ≡ Some v
-  get_there m k v = get_inserted m k v k ∙ ap (λ b. cond b (Some v) (fin.get m k)) (tested_itself keyed k)
 
   pub len_added : (m : FinMap R X) (k : K) (v : X) → fin.contains_key m k ≡ false → fin.len (fin.insert m k v) ≡ fin.len m + 1
   len_added m k v none = len-insert keyed.total m k v ∙ ap (λ b. cond b (fin.len m) (fin.len m + 1)) none

@@ -1,10 +1,10 @@
 -- The keys of the network's tables.
-use Rattle.std.proofs.Common.{◌≡◌, ℕ, Bool, List, ◌&&◌, nat_eq, refl, sym, ap, ◌∙◌}
+use Rattle.std.proofs.Common.{ℕ, Bool, List, ◌&&◌, nat_eq, ap}
 use Rattle.std.specs.FinMap.{IsAntisymmetric, slice_cmp-IsAntisymmetric, nat_cmp-IsAntisymmetric}
-use Rattle.std.specs.Cmp.{IsTotalOrder, nat_cmp_total, on_total, then_total, both_tied, unsigned_ties}
+use Rattle.std.specs.Cmp.{nat_cmp_total, on_total, then_total, both_tied, unsigned_ties}
 use Rattle.std.specs.Cmp.Lexicographic.{pointwise, nat_list_cmp_total, texts_ties}
-use Rattle.std.specs.Ordering.{nat_cmp, eq_by_cmp}
-use Rattle.std.proofs.lemmas.Map.Lookups.{CmpEqualImpliesEq, exact_pairs, exact_unsigned}
+use Rattle.std.specs.Ordering.{nat_cmp}
+use Rattle.std.proofs.lemmas.Map.Lookups.{exact_pairs, exact_unsigned}
 use Rattle.mst_ids.specs.Names.{name_cmp, port_cmp}
 use Rattle.mst_ids.specs.declared.name.PortName.{PortName}
 use Rattle.mst_net.specs.Tables.{BridgeTree, bridge_tree_cmp}

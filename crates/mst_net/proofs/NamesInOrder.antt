@@ -1,5 +1,5 @@
 -- The keys of a table, sorted, are those of its finite map.
-use Rattle.std.proofs.Common.{◌≡◌, ℕ, ◌+◌, ◌<◌, ◌≤◌, suc, Bool, true, false, cond, ◌||◌, ◌&&◌, List, [], ◌∷◌, length, map, Option, Some, None, is_some, get_or, refl, sym, ap, subst, ◌∙◌, arith, true≢false}
+use Rattle.std.proofs.Common.{◌≡◌, ◌+◌, Bool, true, false, cond, ◌||◌, ◌&&◌, List, [], ◌∷◌, map, Option, Some, None, is_some, get_or, refl, sym, ap, subst, ◌∙◌, arith, true≢false}
 use Rattle.std.specs.Prelude.{T}
 use Rattle.std.specs.List.{IsDistinct, AllByRecursion, list_any}
 use Rattle.std.specs.List.Sorted.{IsPermutation, IsSorted, IsStrictlySortedBy}
@@ -9,10 +9,10 @@ use Rattle.std.specs.FinMap.Entries.{below_all, same_entries}
 use Rattle.std.specs.Ordering.{eq_by_cmp, is_eq, is_lt, ordering_reverse}
 use Rattle.std.specs.declared.cmp.Ordering.{Ordering}
 use Rattle.std.specs.declared.cmp.Ordering.TheVariants.{Less, Equal, Greater}
-use Rattle.std.specs.Map.{lookup, keys_of}
+use Rattle.std.specs.Map.{keys_of}
 use Rattle.std.proofs.lemmas.List.Sorted.{list_any-IsPermutation}
 use Rattle.std.proofs.lemmas.Map.Keys.{IsDistinct-IsPermutation, apart_from_distinct, sorted_from_all_adjacent}
-use Rattle.mst_net.proofs.Keyed.{IsKeyed, get_keyed, flipped}
+use Rattle.mst_net.proofs.Keyed.{IsKeyed, flipped}
 
 module _ {K : Type 0} (R : K → K → Ordering) where
   -- the keys as entries with nothing
@@ -82,11 +82,11 @@ module _ {K X : Type 0} {E : K → K → Bool} {R : K → K → Ordering} (keyed
       let m : FinMap R X = from_entries rows in
       let rising = strictly keyed ks up (IsDistinct-IsPermutation E (λ x y. sym (flipped keyed y x) ∙ sym (keyed.ties y x)) (keys_of rows) ks moved distinct) in
       let same : marked R ks ≡ marked R (keys_of (entries m)) = same_entries R keyed.total keyed.same (marked R ks) (marked R (keys_of (entries m)))
-          (sorted_marked R ks rising) (subst T (sym (sorted_keys R (entries m))) (entries_sorted m))
-          (λ q. find_marked R q ks
-          ∙ ap (λ (b : Bool). cond b (Some tt) None)
-          (sym (list_any-IsPermutation (eq_by_cmp R q) (keys_of rows) ks moved) ∙ any_key R q rows ∙ ap is_some (sym (find_is rows q) ∙ get-entries m q) ∙ sym (any_key R q (entries m)))
-          ∙ sym (find_marked R q (keys_of (entries m)))) in
+      (sorted_marked R ks rising) (subst T (sym (sorted_keys R (entries m))) (entries_sorted m))
+      (λ q. find_marked R q ks
+      ∙ ap (λ (b : Bool). cond b (Some tt) None)
+      (sym (list_any-IsPermutation (eq_by_cmp R q) (keys_of rows) ks moved) ∙ any_key R q rows ∙ ap is_some (sym (find_is rows q) ∙ get-entries m q) ∙ sym (any_key R q (entries m)))
+      ∙ sym (find_marked R q (keys_of (entries m)))) in
       sym (unmarked R ks) ∙ ap (map (λ (e : K × Unit {0}). e.0)) same ∙ unmarked R (keys_of (entries m))
     where
       find_is : (es : List (K × X)) (q : K) → fin.get (from_entries {R = R} es) q ≡ find R q es

@@ -1,18 +1,16 @@
 -- What the kept tables say of the network.
-use Rattle.std.proofs.Common.{◌≡◌, ℕ, Bool, true, false, List, [], ◌∷◌, length, Option, Some, None, nat_eq, refl, sym, ap, subst, ◌∙◌, arith}
+use Rattle.std.proofs.Common.{◌≡◌, ℕ, false, List, [], ◌∷◌, length, nat_eq, refl, sym, ap, subst, ◌∙◌, arith}
 use Rattle.std.specs.List.{list_any}
 use Rattle.std.specs.FinMap as fin
 use Rattle.std.specs.FinMap.{len-entries, len-empty, entries}
-use Rattle.std.specs.HashSet as set
 use Rattle.std.specs.Map.{values_of}
-use Rattle.mst_ids.specs.Names.{name_cmp, port_cmp}
-use Rattle.mst_net.specs.Tables.{Net, Numbers, IsNetwork, BridgeRow, empty_net}
+use Rattle.mst_ids.specs.Names.{name_cmp}
+use Rattle.mst_net.specs.Tables.{IsNetwork, BridgeRow, empty_net}
 use Rattle.mst_net.specs.After.{mac_taken}
-use Rattle.mst_net.specs.Contents.{Contents, IsNumbered, SameContents}
+use Rattle.mst_net.specs.Contents.{IsNumbered}
 use Rattle.mst_net.specs.Rows.{IsNumberedBy}
 use Rattle.mst_net.specs.NetworkKept.{contents_of, port_eq, IsSound}
 use Rattle.mst_net.specs.declared.network.Network.TheInside.{Inside}
-use Rattle.mst_net.proofs.KeptLemmas.{same_numbered}
 use Rattle.mst_net.proofs.Keyed.{get_keyed, contains_keyed, same_keys}
 use Rattle.mst_net.proofs.Keys.{name_eq, names, ports}
 use Rattle.mst_net.proofs.AfterLemmas.{no_network}
@@ -51,39 +49,4 @@ numbered_contents a s = record {
   bridges_differ = λ k l n h i. same_keys names k l (s.bridges.differ k l n (sym (get_keyed names a.bridges.numbers k) ∙ h) (sym (get_keyed names a.bridges.numbers l) ∙ i));
   ports_differ = λ k l n h i. same_keys ports k l (s.ports.differ k l n (sym (get_keyed ports a.ports.numbers k) ∙ h) (sym (get_keyed ports a.ports.numbers l) ∙ i));
   lans_differ = λ k l n h i. same_keys names k l (s.lans.differ k l n (sym (get_keyed names a.lans.numbers k) ∙ h) (sym (get_keyed names a.lans.numbers l) ∙ i));
-}
-
--- the tables are as they were
-pub record SameKept (a b : Inside) : Type 0 where
-  pub bridges : b.bridges.rows ≡ a.bridges.rows
-  pub bridge_numbers : b.bridges.numbers ≡ a.bridges.numbers
-  pub ports : b.ports.rows ≡ a.ports.rows
-  pub port_numbers : b.ports.numbers ≡ a.ports.numbers
-  pub lans : b.lans.rows ≡ a.lans.rows
-  pub lan_numbers : b.lans.numbers ≡ a.lans.numbers
-  pub macs : b.macs.keys ≡ a.macs.keys
-  pub priorities : b.priorities.entries ≡ a.priorities.entries
-
-pub same_net : (a b : Inside) → SameKept a b → (contents_of b).net ≡ (contents_of a).net
-same_net a b s i = record {
-  bridges = fin.from_entries (s.bridges i);
-  ports = fin.from_entries (s.ports i);
-  lans = fin.from_entries (s.lans i);
-  priorities = fin.from_entries (s.priorities i);
-}
-
-pub same_numbers : (a b : Inside) → SameKept a b → (contents_of b).numbers ≡ (contents_of a).numbers
-same_numbers a b s i = record {
-  bridges = fin.from_entries (s.bridge_numbers i);
-  ports = fin.from_entries (s.port_numbers i);
-  lans = fin.from_entries (s.lan_numbers i);
-}
-
-pub same_sound : (a b : Inside) → SameKept a b → IsSound a → IsSound b
-same_sound a b s was = record {
-  network = subst IsNetwork (sym (same_net a b s)) was.network;
-  bridges = same_numbered name_eq a.bridges b.bridges s.bridges s.bridge_numbers was.bridges;
-  ports = same_numbered port_eq a.ports b.ports s.ports s.port_numbers was.ports;
-  lans = same_numbered name_eq a.lans b.lans s.lans s.lan_numbers was.lans;
-  macs = λ mac. ap (list_any (nat_eq mac)) s.macs ∙ was.macs mac ∙ ap (mac_taken mac) (sym (same_net a b s));
 }

@@ -1,5 +1,5 @@
 -- What an edit makes of a network, or the least refusal that applies.
-use Rattle.std.specs.Prelude.{◌≡◌, ℕ, ◌==◌, Bool, true, false, not, List, is_some, if◌then◌else◌, nat_le, Result, Ok, Err, Option, None, Some}
+use Rattle.std.specs.Prelude.{ℕ, ◌==◌, Bool, true, false, not, List, is_some, if◌then◌else◌, nat_le, Result, Ok, Err, None, Some}
 use Rattle.std.specs.List.{list_any}
 use Rattle.std.specs.Option.{option_map_or}
 use Rattle.std.specs.FinMap as fin
@@ -10,7 +10,7 @@ use Rattle.mst_lang.specs.declared.line.Kind.TheVariants.{Mstp, Rstp}
 use Rattle.mst_net.specs.declared.refusal.Refusal.{Refusal}
 use Rattle.mst_net.specs.declared.refusal.Refusal.TheVariants.{E04, E05, E06, E07, E08, E09, E10, E14}
 use Rattle.mst_ids.specs.declared.name.PortName.{PortName}
-use Rattle.mst_net.specs.Tables.{Net, BridgeRow, PortRow, BridgeTree}
+use Rattle.mst_net.specs.Tables.{Net, BridgeTree}
 
 -- some bridge has this MAC
 abbrev pub mac_taken : ℕ → Net → Bool
@@ -58,9 +58,9 @@ abbrev pub after_plug : PortName → List ℕ → Net → Result Net Refusal
 after_plug port lan net =
     if not (fin.contains_key net.bridges port.bridge) then Err E04
     else option_map_or (λ row.
-        if not (fin.contains_key net.lans lan) then Err E06
-        else (if is_some row.lan then Err E10
-        else Ok (record net { ports = fin.insert net.ports port (record row { lan = Some lan }) })))
+    if not (fin.contains_key net.lans lan) then Err E06
+    else (if is_some row.lan then Err E10
+    else Ok (record net { ports = fin.insert net.ports port (record row { lan = Some lan }) })))
     (fin.get net.ports port) (Err E05)
 
 abbrev pub after_set_tree_priority : List ℕ → ℕ → ℕ → Net → Result Net Refusal

@@ -1,14 +1,14 @@
 -- What is seen of a network and of its records.
-use Rattle.std.specs.Prelude.{◌≡◌, ℕ, ◌<◌, ◌==◌, Bool, true, false, not, List, Option, Some, None, Result, Ok, Err, IsOk, IsTrue, is_some, refl}
-use Rattle.std.specs.Option.{unwrap_or, option_map}
+use Rattle.std.specs.Prelude.{◌≡◌, ℕ, ◌<◌, Bool, true, false, List, Some, Ok, IsOk, IsTrue, refl}
+use Rattle.std.specs.Option.{unwrap_or}
 use Rattle.std.specs.Result.{result_unwrap_or}
 use Rattle.std.specs.FinMap as fin
 use Rattle.std.specs.Coded.{Coded, code_by, coded×, coded_ℕ, coded_list}
-use Rattle.mst_ids.specs.Names.{name_cmp, port_cmp, coded_port}
+use Rattle.mst_ids.specs.Names.{coded_port}
 use Rattle.mst_ids.specs.declared.name.PortName.{PortName}
 use Rattle.mst_lang.specs.declared.line.Edit.{Edit}
 use Rattle.mst_lang.specs.declared.line.Edit.TheVariants.{AddBridge, SetKind, AddPort, AddLan, Plug, SetTreePriority}
-use Rattle.mst_net.specs.Tables.{Net, Numbers, IsNetwork, BridgeTree, bridge_row_code, port_row_code, lan_row_code, bridge_tree_code}
+use Rattle.mst_net.specs.Tables.{Net, Numbers, bridge_row_code, port_row_code, lan_row_code, bridge_tree_code}
 use Rattle.mst_net.specs.After.{after}
 
 -- a number for each kind of record

@@ -1,7 +1,6 @@
 use Rattle.std.proofs.Common.{ℕ, ap, sym, ◌∙◌}
 use Rattle.std.specs.Option.{option_map}
 use Rattle.std.specs.FinMap as fin
-use Rattle.mst_net.specs.Seen.{bridge_row}
 use Rattle.mst_net.specs.Foreseen.{bridge_row_after, bridge_number_after}
 use Rattle.mst_net.proofs.ForeseenLemmas.{foreseen_bridge, foreseen_bridge_number}
 use Rattle.mst_net.proofs.ahead.AheadContents.bridge.Goals as goal

@@ -1,7 +1,6 @@
 use Rattle.std.proofs.Common.{ℕ, ap, sym, ◌∙◌}
 use Rattle.std.specs.Option.{option_map}
 use Rattle.std.specs.FinMap as fin
-use Rattle.mst_net.specs.Seen.{lan_row}
 use Rattle.mst_net.specs.Foreseen.{lan_row_after, lan_number_after}
 use Rattle.mst_net.proofs.ForeseenLemmas.{foreseen_lan, foreseen_lan_number}
 use Rattle.mst_net.proofs.ahead.AheadContents.lan.Goals as goal

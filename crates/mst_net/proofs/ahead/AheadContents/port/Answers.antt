@@ -1,7 +1,6 @@
 use Rattle.std.proofs.Common.{ℕ, ap, sym, ◌∙◌}
 use Rattle.std.specs.Option.{option_map}
 use Rattle.std.specs.FinMap as fin
-use Rattle.mst_net.specs.Seen.{port_row}
 use Rattle.mst_net.specs.Foreseen.{port_row_after, port_number_after}
 use Rattle.mst_net.proofs.ForeseenLemmas.{foreseen_port, foreseen_port_number}
 use Rattle.mst_net.proofs.ahead.AheadContents.port.Goals as goal

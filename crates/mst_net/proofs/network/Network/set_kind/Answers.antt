@@ -1,4 +1,4 @@
-use Rattle.std.proofs.Common.{◌≡◌, ◌∙◌, sym, ap, subst, refl, Some, None, IsSome}
+use Rattle.std.proofs.Common.{◌≡◌, ◌∙◌, sym, ap, subst, refl, Some, IsSome}
 use Rattle.mst_net.specs.Contents.{Contents, CanCommit, Commits}
 use Rattle.mst_net.specs.NetworkKept.{contents_of}
 use Rattle.mst_net.specs.After.{is_rstp}

@@ -1,4 +1,4 @@
-use Rattle.std.proofs.Common.{◌≡◌, ◌∙◌, ◌≤◌, nat_eq, sym, ap, subst, refl}
+use Rattle.std.proofs.Common.{◌∙◌, ◌≤◌, sym, subst, refl}
 use Rattle.std.proofs.lemmas.Result.{IfOk-at_ok}
 use Rattle.std.specs.Cmp.{unsigned_Decides}
 use Rattle.mst_lang.specs.declared.line.Edit.TheVariants.{SetTreePriority}

@@ -1,8 +1,8 @@
-use Rattle.std.proofs.Common.{◌≡◌, ℕ, false, ap, sym, ◌∙◌, cond, Some}
+use Rattle.std.proofs.Common.{ℕ, false, ap, ◌∙◌, cond, Some}
 use Rattle.std.specs.Option.{option_map_or}
 use Rattle.std.specs.Map.{lookup}
 use Rattle.std.proofs.lemmas.Result.{IfOk-at_ok}
-use Rattle.mst_net.specs.Kept.{IsKept, numbers_of}
+use Rattle.mst_net.specs.Kept.{numbers_of}
 use Rattle.mst_net.specs.declared.records.Record.{Record}
 use Rattle.mst_net.proofs.KeptLemmas.{rows_updated, numbers_updated, kept_updated, kept_numbered, fresh_others}
 use Rattle.mst_net.proofs.records.Records.add.Goals as goal
