@@ -1,5 +1,5 @@
 -- How changes of the kept records show in the rows and the numbers.
-use Rattle.std.proofs.Common.{◌≡◌, ℕ, Bool, true, false, cond, List, [], ◌∷◌, map, Option, Some, None, is_some, IsSome, MutBor, refl, sym, ap, subst, ◌∙◌, true≢false}
+use Rattle.std.proofs.Common.{◌≡◌, ◌≢◌, ℕ, Bool, true, false, cond, List, [], ◌∷◌, map, Option, Some, None, is_some, IsSome, MutBor, refl, sym, ap, subst, ◌∙◌, true≢false}
 use Rattle.std.specs.Option.{option_map, option_map_or, option_copied_mut, unwrap_or}
 use Rattle.std.specs.List.{IsDistinct}
 use Rattle.std.specs.Cmp.{IsEquivalence}
@@ -125,3 +125,32 @@ module _ {K R : Type 0} where
         (ap (λ m. option_map_or (eq k) (get keys m) false) (sym x.2) ∙ kept.numbered k x.0 x.1)
         (ap (λ m. option_map_or (eq l) (get keys m) false) (sym y.2) ∙ kept.numbered l y.0 y.1);
   }
+
+some_passed : {X : Type 0} (test : X → Bool) (o : Option X) → option_map_or test o false ≡ true → (x : X) × (o ≡ Some x) × (test x ≡ true)
+some_passed test None h = absurd (true≢false (sym h))
+some_passed test (Some x) h = (x, refl, h)
+
+-- a number that some key has is that of the key which is kept under it
+pub key_there : {K R : Type 0} (eq : K → K → Bool) → IsEquivalence eq → (es : List (K × Record R)) (keys : Slab K) → IsKept eq es keys → (k : K) (n : ℕ) → lookup (eq k) (numbers_of es) ≡ Some n
+    → (q : K) × (get keys n ≡ Some q) × (lookup (eq q) (numbers_of es) ≡ Some n)
+key_there {K} {R} eq laws es keys kept k n h =
+    let r = number_of (lookup (eq k) es) n (sym (number_at (eq k) es) ∙ h) in
+    let q = some_passed (eq k) (get keys (r.0).number) (kept.numbered k r.0 r.1) in
+    let same : (x : K) → eq q.0 x ≡ eq k x = λ x. sym (laws.congr k q.0 x q.2) in
+    (q.0, ap (get keys) (sym r.2) ∙ q.1, ap (λ t. lookup t (numbers_of es)) (λ i x. same x i) ∙ h)
+
+module _ {K R : Type 0} (eq : K → K → Bool) (laws : IsEquivalence eq) (es : List (K × Record R)) (keys : Slab K) (kept : IsKept eq es keys) (k : K) (n : ℕ) (h : lookup (eq k) (numbers_of es) ≡ Some n) where
+  -- so there is a key under it
+  pub key_missing : get keys n ≡ None → ⊥
+  key_missing none = let q = key_there eq laws es keys kept k n h in no_some q.0 (sym none ∙ q.1)
+
+  -- and its record has the number
+  pub record_missing : (x : K) → get keys n ≡ Some x → lookup (eq x) (numbers_of es) ≡ None → ⊥
+  record_missing x there none =
+      let q = key_there eq laws es keys kept k n h in
+      no_some n (sym none ∙ ap (λ y. lookup (eq y) (numbers_of es)) (some_is x q.0 (sym there ∙ q.1)) ∙ q.2)
+
+  pub number_other : (x : K) (m : ℕ) → get keys n ≡ Some x → lookup (eq x) (numbers_of es) ≡ Some m → m ≢ n → ⊥
+  number_other x m there is other =
+      let q = key_there eq laws es keys kept k n h in
+      other (some_is m n (sym is ∙ ap (λ y. lookup (eq y) (numbers_of es)) (some_is x q.0 (sym there ∙ q.1)) ∙ q.2))

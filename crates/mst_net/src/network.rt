@@ -4,7 +4,8 @@ ghost use Rattle.std.specs.FinMap as fin;
 ghost use Rattle.mst_net.specs.Tables.{empty_net, no_numbers, IsNetwork};
 ghost use Rattle.mst_net.specs.After.{after, after_add_bridge, after_set_kind, after_add_port, after_add_lan, after_plug, after_set_tree_priority, mac_taken};
 ghost use Rattle.mst_net.specs.Contents.{SameContents, CanCommit, Commits, IsNumbered, ahead_of};
-ghost use Rattle.std.specs.Option.{option_map};
+ghost use Rattle.std.specs.Option.{option_map, ForSome};
+ghost use Rattle.mst_ids.specs.declared.name.PortName.{PortName};
 ghost use Rattle.mst_net.specs.Seen.{bridge_row, port_row, lan_row};
 ghost use Rattle.mst_net.specs.Checks.{Checks, HasRoomFor};
 
@@ -64,6 +65,14 @@ impl Network {
             macs: IndexSet::new(alloc),
             priorities: IndexMap::new(alloc),
         }
+    }
+
+    /// The name of the port that has the number.
+    pub fn port_name(&self, number: PortNo) -> Option<PortName>
+        ensures found { ForSome result (λ name. fin.get self.now.numbers.ports name ≡ Some number) }
+        ensures none { result ≡ None → (name : PortName) → fin.get self.now.numbers.ports name ≡ Some number → ⊥ }
+    {
+        self.ports.key(number.0)
     }
 
     /// What holds of every network.

@@ -1,5 +1,5 @@
 ghost use Rattle.std.specs.Prelude.{◌≡◌, ℕ, ◌<◌, List, [], length, cond, Some, None, is_some, IsSome, OnOk, IfOk};
-ghost use Rattle.std.specs.Option.{option_map};
+ghost use Rattle.std.specs.Option.{option_map, ForSome};
 ghost use Rattle.std.specs.List.{IsDistinct};
 ghost use Rattle.std.specs.Map.{lookup, keys_of};
 ghost use Rattle.indexmap.specs.IndexMap.{keys};
@@ -82,6 +82,20 @@ impl<K: Copy + Eq + Hash, R: Copy> Records<K, R> {
         match self.get(key) {
             Some(record) => Some(record.row),
             None => None,
+        }
+    }
+
+    /// The key of the row that has the number.
+    pub(crate) fn key(&self, number: usize) -> Option<K>
+        ensures found { ForSome result (λ key. lookup (K.eq key) self.now.numbers ≡ Some number) }
+        ensures none { result ≡ None → (key : K) → lookup (K.eq key) self.now.numbers ≡ Some number → ⊥ }
+    {
+        let key = *self.keys.get(number)?;
+        let record = self.get(&key)?;
+        if record.number == number {
+            Some(key)
+        } else {
+            None
         }
     }
 
