@@ -1,0 +1,126 @@
+-- What is true of each element of a list, and of any two.
+use Rattle.std.proofs.Common.{◌≡◌, ◌≢◌, ℕ, suc, zero, ◌+◌, ◌<◌, ◌≤◌, Bool, true, false, cond, ◌||◌, List, [], ◌∷◌, ◌++◌, length, take, get_or, map, Option, Some, None, refl, sym, ap, subst, ◌∙◌, arith, true≢false, is_some, ◌⊎◌, inl, inr}
+use Rattle.std.specs.List.{AllByRecursion, All, Contains, filter_map, cons_option, list_any}
+use Rattle.std.specs.Bool.{⊤}
+use Rattle.std.specs.Option.{unwrap_or}
+use Rattle.mst_report.specs.View.{Apart}
+
+pub some_is : {A : Type 0} (x y : A) → Some x ≡ Some y → x ≡ y
+some_is x y e = ap (λ o. unwrap_or o x) e
+
+pub no_some : {A : Type 0} (x : A) → None ≡ Some x → ⊥
+no_some x e = true≢false (ap is_some (sym e))
+
+pub all_mapped : {A B : Type 0} (P : B → Type 0) (f : A → B) (xs : List A) → AllByRecursion (λ x. P (f x)) xs → AllByRecursion P (map f xs)
+all_mapped P f [] h = tt
+all_mapped P f (x ∷ xs) h = (h.0, all_mapped P f xs h.1)
+
+-- a fact of each element, at a place
+pub all_at : {A : Type 0} (P : A → Type 0) (xs : List A) (i : ℕ) (d : A) → i < length xs → AllByRecursion P xs → P (get_or xs i d)
+all_at P [] i d l h = absurd (omega arith)
+all_at P (x ∷ xs) zero d l h = h.0
+all_at P (x ∷ xs) (suc i) d l h = all_at P xs i d (omega arith) h.1
+
+pub all_taken : {A : Type 0} (P : A → Type 0) (n : ℕ) (xs : List A) → AllByRecursion P xs → AllByRecursion P (take n xs)
+all_taken P zero xs h = tt
+all_taken P (suc n) [] h = tt
+all_taken P (suc n) (x ∷ xs) h = (h.0, all_taken P n xs h.1)
+
+pub all_contained : {A : Type 0} (P : A → Type 0) (xs : List A) (x : A) → AllByRecursion P xs → Contains xs x → P x
+all_contained P xs x h c = subst P c.2 (all_at P xs c.0 x c.1 h)
+
+-- what a test of the elements keeps
+pub all_kept : {A B : Type 0} (P : A → Type 0) (Q : B → Type 0) (h : A → Option B) → ((x : A) (y : B) → P x → h x ≡ Some y → Q y) → (xs : List A) → AllByRecursion P xs → AllByRecursion Q (filter_map h xs)
+all_kept P Q h f [] p = tt
+all_kept {A} {B} P Q h f (x ∷ xs) p = go (h x) refl (all_kept P Q h f xs p.1)
+  where
+    go : (o : Option B) → h x ≡ o → AllByRecursion Q (filter_map h xs) → AllByRecursion Q (cons_option o (filter_map h xs))
+    go None e rest = rest
+    go (Some y) e rest = (f x y p.0 e, rest)
+
+-- and of any two of them
+pub apart_kept : {A B : Type 0} (R : A → A → Type 0) (S : B → B → Type 0) (h : A → Option B) → ((x y : A) (a b : B) → R x y → h x ≡ Some a → h y ≡ Some b → S a b) → (xs : List A) → Apart R xs → Apart S (filter_map h xs)
+apart_kept R S h f [] p = tt
+apart_kept {A} {B} R S h f (x ∷ xs) p = go (h x) refl (apart_kept R S h f xs p.1)
+  where
+    go : (o : Option B) → h x ≡ o → Apart S (filter_map h xs) → Apart S (cons_option o (filter_map h xs))
+    go None e rest = rest
+    go (Some a) e rest = (all_kept (R x) (S a) h (λ y b r k. f x y a b r e k) xs p.0, rest)
+
+pub apart_mapped : {A B : Type 0} (R : A → A → Type 0) (S : B → B → Type 0) (f : A → B) → ((x y : A) → R x y → S (f x) (f y)) → (xs : List A) → Apart R xs → Apart S (map f xs)
+apart_mapped R S f g [] p = tt
+apart_mapped {A} R S f g (x ∷ xs) p = (all_mapped (S (f x)) f xs (go xs p.0), apart_mapped R S f g xs p.1)
+  where
+    go : (ys : List A) → AllByRecursion (R x) ys → AllByRecursion (λ y. S (f x) (f y)) ys
+    go [] h = tt
+    go (y ∷ ys) h = (g x y h.0, go ys h.1)
+
+-- the elements before a place, and the one there
+pub apart_at : {A : Type 0} (R : A → A → Type 0) (xs : List A) (i : ℕ) (d : A) → i < length xs → Apart R xs → AllByRecursion (λ x. R x (get_or xs i d)) (take i xs)
+apart_at R [] i d l h = absurd (omega arith)
+apart_at R (x ∷ xs) zero d l h = tt
+apart_at R (x ∷ xs) (suc i) d l h = (all_at (R x) xs i d (omega arith) h.0, apart_at R xs i d (omega arith) h.1)
+
+pub map_kept : {A B C : Type 0} (f : B → C) (h : A → Option B) (k : A → Option C) → ((x : A) → cons_option (k x) [] ≡ map f (cons_option (h x) [])) → (xs : List A) → filter_map k xs ≡ map f (filter_map h xs)
+map_kept f h k e [] = refl
+map_kept {A} {B} {C} f h k e (x ∷ xs) = go (h x) (k x) (e x) (map_kept f h k e xs)
+  where
+    go : (o : Option B) (q : Option C) → cons_option q [] ≡ map f (cons_option o []) → filter_map k xs ≡ map f (filter_map h xs) → cons_option q (filter_map k xs) ≡ map f (cons_option o (filter_map h xs))
+    go None None g rest = rest
+    go None (Some c) g rest = cc
+    go (Some b) None g rest = cc
+    go (Some b) (Some c) g rest = let same : c ≡ f b = cc in λ i. same i ∷ rest i
+
+there_first : {A : Type 0} (x : A) (xs : List A) → Contains (x ∷ xs) x
+there_first x xs = (0, omega arith, refl)
+
+there_later : {A : Type 0} (x y : A) (xs : List A) → Contains xs x → Contains (y ∷ xs) x
+there_later x y xs c = let l = c.1 in (suc c.0, omega arith, c.2)
+
+pub contains_mapped : {A B : Type 0} (f : A → B) (xs : List A) (x : A) → Contains xs x → Contains (map f xs) (f x)
+contains_mapped f [] x c = let l = c.1 in absurd (omega arith)
+contains_mapped f (y ∷ xs) x c = go c.0 c.1 c.2 (contains_mapped f xs x)
+  where
+    go : (k : ℕ) → k < length (y ∷ xs) → get_or (y ∷ xs) k x ≡ x → (Contains xs x → Contains (map f xs) (f x)) → Contains (map f (y ∷ xs)) (f x)
+    go zero l e rest = subst (λ z. Contains (map f (y ∷ xs)) (f z)) e (there_first (f y) (map f xs))
+    go (suc k) l e rest = there_later (f x) (f y) (map f xs) (rest (k, omega arith, e))
+
+pub contains_kept : {A B : Type 0} (h : A → Option B) (xs : List A) (x : A) (y : B) → Contains xs x → h x ≡ Some y → Contains (filter_map h xs) y
+contains_kept h [] x y c e = let l = c.1 in absurd (omega arith)
+contains_kept {A} {B} h (z ∷ xs) x y c e = go c.0 c.1 c.2 (h z) refl (λ d. contains_kept h xs x y d e)
+  where
+    go : (k : ℕ) → k < length (z ∷ xs) → get_or (z ∷ xs) k x ≡ x → (o : Option B) → h z ≡ o → (Contains xs x → Contains (filter_map h xs) y) → Contains (cons_option o (filter_map h xs)) y
+    go zero l at None f rest = absurd (no_some y (sym f ∙ ap h at ∙ e))
+    go zero l at (Some w) f rest = subst (λ v. Contains (w ∷ filter_map h xs) v) (some_is w y (sym f ∙ ap h at ∙ e)) (there_first w (filter_map h xs))
+    go (suc k) l at None f rest = rest (k, omega arith, at)
+    go (suc k) l at (Some w) f rest = there_later y w (filter_map h xs) (rest (k, omega arith, at))
+
+-- some element passes a test
+pub passed : {A : Type 0} (test : A → Bool) (xs : List A) → list_any test xs ≡ true → (x : A) × Contains xs x × (test x ≡ true)
+passed test [] h = absurd (true≢false (sym h))
+passed {A} test (x ∷ xs) h = go (test x) refl h (passed test xs)
+  where
+    go : (b : Bool) → test x ≡ b → (b || list_any test xs) ≡ true → (list_any test xs ≡ true → (y : A) × Contains xs y × (test y ≡ true)) → (y : A) × Contains (x ∷ xs) y × (test y ≡ true)
+    go true e k rest = (x, there_first x xs, e)
+    go false e k rest = let r = rest k in (r.0, there_later r.0 x xs r.1, r.2)
+
+-- each element is in its list
+pub all_there : {A : Type 0} (xs : List A) → AllByRecursion (Contains xs) xs
+all_there [] = tt
+all_there {A} (x ∷ xs) = (there_first x xs, more xs (all_there xs))
+  where
+    more : (ys : List A) → AllByRecursion (Contains xs) ys → AllByRecursion (Contains (x ∷ xs)) ys
+    more [] h = tt
+    more (y ∷ ys) h = (there_later y x xs h.0, more ys h.1)
+
+-- two elements of a list are one, or related in one order or the other
+pub apart_cases : {A : Type 0} (R : A → A → Type 0) (xs : List A) (x y : A) → Apart R xs → Contains xs x → Contains xs y → (x ≡ y) ⊎ (R x y ⊎ R y x)
+apart_cases R [] x y h c d = let l = c.1 in absurd (omega arith)
+apart_cases R (z ∷ zs) x y h c d = go c.0 d.0 c.1 d.1 c.2 d.2 (apart_cases R zs x y h.1)
+  where
+    go : (j k : ℕ) → j < length (z ∷ zs) → k < length (z ∷ zs) → get_or (z ∷ zs) j x ≡ x → get_or (z ∷ zs) k y ≡ y
+        → (Contains zs x → Contains zs y → (x ≡ y) ⊎ (R x y ⊎ R y x)) → (x ≡ y) ⊎ (R x y ⊎ R y x)
+    go zero zero l m e f rest = inl (sym e ∙ f)
+    go zero (suc k) l m e f rest = inr (inl (subst (λ w. R w y) e (all_contained (R z) zs y h.0 (k, omega arith, f))))
+    go (suc j) zero l m e f rest = inr (inr (subst (λ w. R w x) f (all_contained (R z) zs x h.0 (j, omega arith, e))))
+    go (suc j) (suc k) l m e f rest = rest (j, omega arith, e) (k, omega arith, f)

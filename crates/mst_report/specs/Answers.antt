@@ -1,0 +1,11 @@
+-- What answers a query.
+use Rattle.std.specs.Prelude.{◌≡◌, ℕ, List}
+use Rattle.mst_lang.specs.declared.line.Query.{Query}
+use Rattle.mst_lang.specs.declared.line.Query.TheVariants.{ShowTree}
+use Rattle.mst_net.specs.Tables.{Net}
+use Rattle.mst_report.specs.Cist.{Outcome, IsOutcome}
+use Rattle.mst_report.specs.TreeText.{tree_text}
+
+-- the text is the one that a settled outcome of the network has
+abbrev pub Answers : Query → Net → List ℕ → Type 0
+Answers (ShowTree tree) net text = (o : Outcome) × IsOutcome net o × (text ≡ tree_text net o tree)

@@ -1,0 +1,92 @@
+ghost use Rattle.std.specs.Prelude.{◌≡◌, ℕ, IfOk, [], map};
+ghost use Rattle.mst_vector.specs.Cist.{cist_rules};
+ghost use Rattle.mst_settle.specs.Settled.{Settled, IsDesignated};
+ghost use Rattle.mst_settle.specs.Assignment.{vector_of, designated_of};
+ghost use Rattle.mst_report.specs.View.{CanSettle, numbered, numbered_bridge};
+ghost use Rattle.mst_report.specs.Cist.{Outcome, IsOutcome};
+ghost use Rattle.mst_report.specs.Kept.{IsCistOf};
+
+use crate::view::{BridgeSeen, PortSeen, bridges, ports};
+use mst_ids::{BridgeNo, LanNo, Name, PortName, PortNo};
+use mst_net::Network;
+use mst_settle::laws::{has_outcome, renamed};
+use mst_settle::{Settler, Topology};
+use mst_vector::CistMetric;
+use std::alloc::{AllocError, Global};
+
+/// The topology of these bridges, under the numbers of their records.
+fn with_bridges(alloc: Global, bridges: &[BridgeSeen]) -> Result<Topology<CistMetric>, AllocError>
+    requires { CanSettle bridges.now [] }
+    ensures bridges { IfOk result (λ t. t.bridges ≡ map numbered_bridge bridges.now) }
+    ensures ports { IfOk result (λ t. t.ports ≡ []) }
+{
+    let mut topology = Topology::new(alloc);
+    for bridge in bridges {
+        topology.add_bridge(bridge.number, bridge.cist)?;
+    }
+    Ok(topology)
+}
+
+/// The topology of these bridges and ports, under the numbers of their records.
+fn topology(
+    alloc: Global,
+    bridges: &[BridgeSeen],
+    ports: &[PortSeen],
+) -> Result<Topology<CistMetric>, AllocError>
+    requires { CanSettle bridges.now ports.now }
+    ensures { IfOk result (λ t. t ≡ numbered bridges.now ports.now) }
+{
+    let mut topology = with_bridges(alloc, bridges)?;
+    for port in ports {
+        topology.add_port(port.number, port.bridge, port.lan_number, port.cist, false)?;
+    }
+    Ok(topology)
+}
+
+/// Settles the CIST of these bridges and ports.
+pub(crate) fn settle(
+    alloc: Global,
+    bridges: &[BridgeSeen],
+    ports: &[PortSeen],
+) -> Result<Settler<CistMetric>, AllocError>
+    requires { CanSettle bridges.now ports.now }
+    ensures settled { IfOk result (λ s. Settled cist_rules (numbered bridges.now ports.now) (vector_of s)) }
+    ensures designated { IfOk result (λ s. (lan : ℕ) → IsDesignated cist_rules (numbered bridges.now ports.now) (vector_of s) lan (designated_of s lan)) }
+{
+    let topology = topology(alloc, bridges, ports)?;
+    Settler::from_scratch(alloc, &topology)
+}
+
+/// The settled CIST of a network: what is seen of it, and the vectors and designated ports.
+#[derive(Drop)]
+pub(crate) struct Cist {
+    pub(crate) bridges: Vec<BridgeSeen>,
+    pub(crate) ports: Vec<PortSeen>,
+    pub(crate) settler: Settler<CistMetric>,
+}
+
+/// Settles the CIST of a network.
+pub(crate) fn settled_cist(alloc: Global, network: &Network) -> Result<Cist, AllocError>
+    ensures { IfOk result (IsCistOf network.now.net network.now.numbers) }
+{
+    network.known();
+    let bridges = bridges(alloc, network)?;
+    let ports = ports(alloc, network)?;
+    let settler = settle(alloc, bridges.as_slice(), ports.as_slice())?;
+    has_outcome::<CistMetric, Name, Name, PortName>();
+    renamed::<CistMetric, BridgeNo, LanNo, PortNo, Name, Name, PortName>();
+    Ok(Cist {
+        bridges,
+        ports,
+        settler,
+    })
+}
+
+/// Does nothing: its clause says that a network has a settled outcome.
+pub(crate) fn known_outcome(network: &Network)
+    ensures { (o : Outcome) × IsOutcome network.now.net o }
+{
+    network.known();
+    has_outcome::<CistMetric, Name, Name, PortName>();
+    renamed::<CistMetric, BridgeNo, LanNo, PortNo, Name, Name, PortName>();
+}

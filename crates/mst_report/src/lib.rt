@@ -1,0 +1,11 @@
+//! The texts that answer queries about a network.
+#![tactic(auto)]
+
+mod cist;
+mod queries;
+mod role;
+mod text;
+mod view;
+
+pub use queries::answer;
+pub use role::Role;

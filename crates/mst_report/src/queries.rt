@@ -1,0 +1,134 @@
+ghost use Rattle.std.specs.Prelude.{◌≡◌, ◌++◌, [], Option, OnOk, IfOk, map};
+ghost use Rattle.std.specs.List.{flat_map, Contains};
+ghost use Rattle.std.specs.Option.{option_map_or};
+ghost use Rattle.mst_ids.specs.declared.name.PortName.{PortName};
+ghost use Rattle.mst_settle.specs.Assignment.{designated_of};
+ghost use Rattle.mst_report.specs.Answers.{Answers};
+ghost use Rattle.mst_report.specs.Cist.{Outcome, IsOutcome, cist_of};
+ghost use Rattle.mst_report.specs.Kept.{Keeps};
+ghost use Rattle.mst_report.specs.TreeText.{port_text, bridge_text, bridge_line, tree_text};
+ghost use Rattle.mst_report.specs.View.{IsNameOf, named_bridge, named_port};
+
+use crate::cist::{Cist, known_outcome, settled_cist};
+use crate::role::role_of_port;
+use crate::text::{push_bridge, push_heading, push_port};
+use crate::view::{BridgeSeen, PortSeen};
+use mst_ids::{LanNo, PortName, Tree};
+use mst_lang::Query;
+use mst_net::Network;
+use mst_settle::Settler;
+use mst_vector::{CistMetric, CistVector};
+use std::alloc::{AllocError, Global};
+
+/// The text that answers a query about the network. It fails only where there is no memory.
+pub fn answer(alloc: Global, network: &Network, query: &Query) -> Result<Vec<u8>, AllocError>
+    ensures { IfOk result (λ text. Answers query.now network.now.net text.items) }
+{
+    match *query {
+        Query::ShowTree { tree } => tree_text_of(alloc, network, tree),
+    }
+}
+
+/// The text of a tree.
+fn tree_text_of(alloc: Global, network: &Network, tree: Tree) -> Result<Vec<u8>, AllocError>
+    ensures { IfOk result (λ text. (o : Outcome) × IsOutcome network.now.net o × (text.items ≡ tree_text network.now.net o tree)) }
+{
+    let mut text = Vec::new(alloc);
+    push_heading(tree, &mut text)?;
+    if tree.value() == 0 {
+        let cist = settled_cist(alloc, network)?;
+        push_cist(network, &cist, &mut text)?;
+    } else {
+        known_outcome(network);
+    }
+    Ok(text)
+}
+
+/// Appends the lines of all bridges and their ports.
+fn push_cist(network: &Network, cist: &Cist, out: &mut Vec<u8>) -> Result<(), AllocError>
+    ensures { (o : Outcome) → Keeps network.now.net network.now.numbers cist.now o
+        → OnOk result (out.new.items ≡ out.old.items ++ flat_map (bridge_text network.now.net o) (cist_of network.now.net).bridges) }
+{
+    network.known();
+    for bridge in &cist.bridges {
+        push_bridge_text(network, cist, bridge, out)?;
+    }
+    Ok(())
+}
+
+/// Appends the lines of a bridge: its own, and one for each of its ports.
+fn push_bridge_text(
+    network: &Network,
+    cist: &Cist,
+    bridge: &BridgeSeen,
+    out: &mut Vec<u8>,
+) -> Result<(), AllocError>
+    ensures { (o : Outcome) → Keeps network.now.net network.now.numbers cist.now o → Contains cist.now.bridges.items bridge.now
+        → OnOk result (out.new.items ≡ out.old.items ++ bridge_text network.now.net o (named_bridge bridge.now)) }
+{
+    network.known();
+    push_own_line(bridge, cist.settler.vector(bridge.number), out)?;
+    push_ports(network, cist, bridge, out)
+}
+
+/// Appends the line of a bridge, where it has a vector.
+fn push_own_line(
+    bridge: &BridgeSeen,
+    vector: Option<CistVector>,
+    out: &mut Vec<u8>,
+) -> Result<(), AllocError>
+    ensures { OnOk result (out.new.items ≡ out.old.items ++ option_map_or (bridge_line bridge.now.name bridge.now.cist) vector []) }
+{
+    match vector {
+        None => Ok(()),
+        Some(vector) => push_bridge(bridge, &vector, out),
+    }
+}
+
+/// Appends the lines of the ports of a bridge.
+fn push_ports(
+    network: &Network,
+    cist: &Cist,
+    bridge: &BridgeSeen,
+    out: &mut Vec<u8>,
+) -> Result<(), AllocError>
+    ensures { (o : Outcome) → Keeps network.now.net network.now.numbers cist.now o → Contains cist.now.bridges.items bridge.now
+        → OnOk result (out.new.items ≡ out.old.items ++ flat_map (port_text o bridge.now.name) (map named_port cist.now.ports.items)) }
+{
+    for port in &cist.ports {
+        push_port_of(network, cist, bridge, port, out)?;
+    }
+    Ok(())
+}
+
+/// Appends the line of a port, where it is of this bridge.
+fn push_port_of(
+    network: &Network,
+    cist: &Cist,
+    bridge: &BridgeSeen,
+    port: &PortSeen,
+    out: &mut Vec<u8>,
+) -> Result<(), AllocError>
+    ensures { (o : Outcome) → Keeps network.now.net network.now.numbers cist.now o → Contains cist.now.bridges.items bridge.now → Contains cist.now.ports.items port.now
+        → OnOk result (out.new.items ≡ out.old.items ++ port_text o bridge.now.name (named_port port.now)) }
+{
+    if port.name.bridge != bridge.name {
+        return Ok(());
+    }
+    let vector = cist.settler.vector(bridge.number);
+    let designated = designated_port(network, &cist.settler, port.lan_number);
+    push_port(port, role_of_port(vector, designated, port), out)
+}
+
+/// The name of a LAN's designated port.
+fn designated_port(
+    network: &Network,
+    settler: &Settler<CistMetric>,
+    lan: LanNo,
+) -> Option<PortName>
+    ensures { (name : Option PortName) → IsNameOf network.now.numbers (designated_of settler.now lan) name → result ≡ name }
+{
+    network.known();
+    let number = settler.designated(lan)?;
+    network.port_name(number)
+}
