@@ -1,0 +1,6 @@
+pub mod Cuts
+pub mod Known
+pub mod Steps
+pub mod Held
+pub mod Feeds
+pub mod WholeRun

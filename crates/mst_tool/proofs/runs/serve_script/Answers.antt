@@ -1,0 +1,62 @@
+use Rattle.std.proofs.Common.{◌++◌, [], arith, refl, take}
+use Rattle.std.proofs.KnownBytes.{Consumes-nil, Appends-nil, Consumes-trans}
+use Rattle.mst_tool.specs.Engine.{tally_of, start}
+use Rattle.mst_tool.proofs.Feeds.{Feeds-join, Breaks-after, texts_join}
+use Rattle.mst_tool.proofs.WholeRun.{run_prints, run_broken, run_broken_last, run_cut, begins, begins_counted, few_more, Consumes-none}
+use Rattle.mst_tool.proofs.runs.serve_script.Goals as goal
+
+pub turns-init : goal.turns-init
+turns-init g c = record {
+  counted = begins_counted (tally_of c.args.engine.now) c.requires;
+  read = [];
+  done = [];
+  consumed = Consumes-nil _;
+  feeds = begins (tally_of c.args.engine.now) c.new-held.result c.requires c.new-held.ensures;
+  written = Appends-nil _;
+  few = omega arith;
+}
+
+pub turns-preserved : goal.turns-preserved
+turns-preserved g c =
+    let was = c.turns.invariant in
+    let new = c.in-Ok-feed.ensures.ok in
+    let chunk = take c.in-Ok.count c.read.new.buf in
+    record {
+      counted = c.feed.ensures.counted;
+      read = was.read ++ chunk;
+      done = was.done ++ new.0;
+      consumed = Consumes-trans _ _ _ was.read chunk was.consumed c.in-Ok.ensures.bytes.0;
+      feeds = Feeds-join was.done new.0 start (tally_of c.turns.engine) (tally_of c.feed.new.engine) [] c.turns.held c.feed.new.held was.read chunk was.feeds new.1;
+      written = texts_join _ _ _ was.done new.0 was.written new.2;
+      few = few_more was.read c.read.new.buf c.in-Ok.count c.turns.turn was.few c.in-Ok.ensures.bound.0 (omega arith);
+    }
+
+pub returns-clause-fault : goal.returns-clause-fault
+returns-clause-fault g c =
+    let was = c.turns.invariant in
+    run_cut _ _ _ _ was.done (tally_of c.turns.engine) was.read c.turns.held was.consumed was.feeds was.written
+
+pub returns-in-Err-clause-fault : goal.returns-in-Err-clause-fault
+returns-in-Err-clause-fault g c =
+    let was = c.turns.invariant in
+    run_cut _ _ _ _ was.done (tally_of c.turns.engine) was.read c.turns.held was.consumed was.feeds was.written
+
+pub returns-in-Err-feed-clause-fault : goal.returns-in-Err-feed-clause-fault
+returns-in-Err-feed-clause-fault g c =
+    let was = c.turns.invariant in
+    let chunk = take c.in-Ok.count c.read.new.buf in
+    run_broken _ _ _ _ (was.read ++ chunk) (Consumes-trans _ _ _ was.read chunk was.consumed c.in-Ok.ensures.bytes.0)
+    (Breaks-after _ _ _ was.done start (tally_of c.turns.engine) [] c.turns.held was.read chunk was.feeds was.written c.in-Err-feed.ensures.err)
+
+pub returns-in-Err-finish-clause-fault : goal.returns-in-Err-finish-clause-fault
+returns-in-Err-finish-clause-fault g c =
+    let was = c.turns.invariant in
+    run_broken_last _ _ _ _ _ was.done (tally_of c.turns.engine) was.read c.turns.held
+    (Consumes-none _ _ _ was.read c.read.new.buf c.in-Ok.count c.if-count-eq0.true was.consumed c.in-Ok.ensures.bytes.0) (c.in-Ok.ensures.bytes.1 c.if-count-eq0.true (omega arith)) was.feeds was.written c.in-Err-finish.ensures.err
+
+pub returns-in-Ok-finish-clause-ok : goal.returns-in-Ok-finish-clause-ok
+returns-in-Ok-finish-clause-ok g c =
+    let was = c.turns.invariant in
+    let last = c.in-Ok-finish.ensures.ok in
+    run_prints _ _ _ _ was.done last.0 (tally_of c.turns.engine) (tally_of c.finish.new.engine) was.read c.turns.held c.finish.new.held _
+    (Consumes-none _ _ _ was.read c.read.new.buf c.in-Ok.count c.if-count-eq0.true was.consumed c.in-Ok.ensures.bytes.0) (c.in-Ok.ensures.bytes.1 c.if-count-eq0.true (omega arith)) was.feeds last.1 c.finish.ensures.cleared (texts_join _ _ _ was.done last.0 was.written last.2) refl refl refl

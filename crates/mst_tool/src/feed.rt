@@ -1,0 +1,94 @@
+ghost use Rattle.std.specs.Prelude.{◌≡◌, ℕ, ◌+◌, ◌^◌, ◌<◌, Bool, List, [], ◌∷◌, length, OnOk, OnErr};
+ghost use Rattle.std.specs.Io.KnownBytes.{Appends};
+ghost use Rattle.mst_tool.specs.Lines.{drop_cr};
+ghost use Rattle.mst_tool.specs.Script.{Step, Serves, texts_of};
+ghost use Rattle.mst_tool.specs.Written.{AppendsFront};
+ghost use Rattle.mst_tool.specs.Engine.{tally_of, tallied};
+ghost use Rattle.mst_tool.specs.Feeding.{IsCounted, Feeds, Breaks, ending};
+
+use crate::engine::{Engine, print};
+use crate::held_line::HeldLine;
+use crate::print::WriteFailed;
+use std::io::Write;
+
+/// Serves the line that has come, and begins the next.
+pub(crate) fn end_line<W: Write>(
+    engine: &mut Engine,
+    held: &mut HeldLine,
+    writer: &mut W,
+) -> Result<(), WriteFailed>
+    requires few { engine.old.number < 2 ^ 60 }
+    requires counted { IsCounted (tally_of engine.old) }
+    ensures counted { IsCounted (tally_of engine.new) }
+    ensures ok { OnOk result ((made : Step) × Serves engine.old.number engine.old.network.net (drop_cr held.old) made
+        × (tally_of engine.new ≡ tallied (tally_of engine.old) made) × Appends (W.contents writer.old) (W.contents writer.new) made.text) }
+    ensures err { OnErr result ((made : Step) × Serves engine.old.number engine.old.network.net (drop_cr held.old) made
+        × AppendsFront (W.contents writer.old) (W.contents writer.new) made.text) }
+    ensures cleared { held.new ≡ [] }
+{
+    let number = engine.number;
+    let reply = engine.reply(held.line());
+    held.clear();
+    print(writer, number, &reply)
+}
+
+/// Takes a byte of the script.
+pub(crate) fn take_byte<W: Write>(
+    engine: &mut Engine,
+    held: &mut HeldLine,
+    writer: &mut W,
+    byte: u8,
+) -> Result<(), WriteFailed>
+    requires few { engine.old.number < 2 ^ 60 }
+    requires counted { IsCounted (tally_of engine.old) }
+    ensures counted { IsCounted (tally_of engine.new) }
+    ensures ok { OnOk result ((done : List Step) × Feeds done (tally_of engine.old) held.old (byte ∷ []) (tally_of engine.new) held.new
+        × Appends (W.contents writer.old) (W.contents writer.new) (texts_of done)) }
+    ensures err { OnErr result (Breaks (W.contents writer.old) (W.contents writer.new) (tally_of engine.old) held.old (byte ∷ [])) }
+    ensures ended { byte ≡ 10 → held.new ≡ [] }
+{
+    if byte == b'\n' {
+        return end_line(engine, held, writer);
+    }
+    held.push(byte);
+    Ok(())
+}
+
+/// Takes bytes of the script.
+pub(crate) fn feed<W: Write>(
+    engine: &mut Engine,
+    held: &mut HeldLine,
+    writer: &mut W,
+    bytes: &[u8],
+) -> Result<(), WriteFailed>
+    requires few { engine.old.number + length bytes.now < 2 ^ 60 }
+    requires counted { IsCounted (tally_of engine.old) }
+    ensures counted { IsCounted (tally_of engine.new) }
+    ensures ok { OnOk result ((done : List Step) × Feeds done (tally_of engine.old) held.old bytes.now (tally_of engine.new) held.new
+        × Appends (W.contents writer.old) (W.contents writer.new) (texts_of done)) }
+    ensures err { OnErr result (Breaks (W.contents writer.old) (W.contents writer.new) (tally_of engine.old) held.old bytes.now) }
+{
+    for byte in bytes {
+        take_byte(engine, held, writer, *byte)?;
+    }
+    Ok(())
+}
+
+/// Serves the last line, if it has a byte.
+pub(crate) fn finish<W: Write>(
+    engine: &mut Engine,
+    held: &mut HeldLine,
+    writer: &mut W,
+) -> Result<(), WriteFailed>
+    requires few { engine.old.number < 2 ^ 60 }
+    requires counted { IsCounted (tally_of engine.old) }
+    ensures ok { OnOk result ((done : List Step) × Feeds done (tally_of engine.old) held.old (ending held.old) (tally_of engine.new) held.new
+        × Appends (W.contents writer.old) (W.contents writer.new) (texts_of done)) }
+    ensures err { OnErr result (Breaks (W.contents writer.old) (W.contents writer.new) (tally_of engine.old) held.old (ending held.old)) }
+    ensures cleared { held.new ≡ [] }
+{
+    if held.is_empty() {
+        return Ok(());
+    }
+    take_byte(engine, held, writer, b'\n')
+}

@@ -1,0 +1,13 @@
+//! Runs a script over any reader and writer: its lines are edits of a network and queries about it.
+#![tactic(auto)]
+
+mod engine;
+mod feed;
+mod held_line;
+mod print;
+mod runs;
+
+pub use runs::{Outcome, RunFault, run, status};
+
+#[cfg(test)]
+mod tests;

@@ -1,0 +1,112 @@
+ghost use Rattle.std.specs.Prelude.{◌≡◌, IfOk, OnOk, OnErr};
+ghost use Rattle.mst_tool.specs.Engine.{start, tally_of, outcome_of};
+ghost use Rattle.mst_tool.specs.Run.{Prints, PrintsFront, status_of};
+
+use crate::engine::Engine;
+use crate::feed::{feed, finish};
+use crate::held_line::HeldLine;
+use std::alloc::Global;
+use std::io::{Read, Write};
+
+/// What a run that came to the script's end has counted, in lines. A line counts once at most.
+#[derive(Clone, Copy, Debug, PartialEq, Eq)]
+pub struct Outcome {
+    /// Lines that were refused, but for want of memory.
+    pub refused: u64,
+    /// Lines that were refused for want of memory. Each prints so and changes nothing, and the lines
+    /// after it were served.
+    pub memory: u64,
+    /// Captured messages that differ from the planned ones. No line reads captures yet, so there are
+    /// none.
+    pub differing: u64,
+}
+
+/// Why a run stopped before the script's end. The lines before were served, and a front of what the
+/// script prints went out: no byte of another text, and none twice.
+#[derive(Clone, Copy, Debug, PartialEq, Eq)]
+pub enum RunFault {
+    /// The reader failed, or gave no end in 2^32 calls. A call that was interrupted has failed, too,
+    /// and isn't made again.
+    Read,
+    /// The writer failed, or took no byte of some that it was given. A call that was interrupted has
+    /// failed, too, and isn't made again.
+    Write,
+    /// The run itself wanted memory and was refused. A run takes none of its own today, so it doesn't
+    /// answer this: a line that wants memory is refused, and counted in [`Outcome::memory`].
+    Memory,
+}
+
+/// How many calls of the reader a run makes.
+const TURNS: u64 = 1 << 32;
+
+/// Runs the script that the reader gives, from the empty network on, and writes what each line prints
+/// before it reads on.
+///
+/// A line ends in LF or CR LF, and the last one may end with the script. Lines count from 1. One that
+/// is refused prints `line N CODE TEXT`, and the run goes on.
+///
+/// The reader is called with a buffer of 4,096 bytes, up to 2^32 times, and its first answer of 0
+/// bytes is the script's end. The writer is called again where it took some bytes and not all, and not
+/// flushed. After a fault the run calls neither again.
+pub fn run<R: Read + Drop, W: Write>(
+    alloc: Global,
+    reader: R,
+    writer: &mut W,
+) -> Result<Outcome, RunFault>
+    ensures ok { IfOk result (Prints (R.remaining reader) (W.contents writer.old) (W.contents writer.new)) }
+    ensures fault { OnErr result (PrintsFront (R.remaining reader) (W.contents writer.old) (W.contents writer.new)) }
+{
+    let mut engine = Engine::new(alloc);
+    serve_script(&mut engine, reader, writer)?;
+    Ok(engine.outcome())
+}
+
+/// Serves all of a script's lines.
+fn serve_script<R: Read + Drop, W: Write>(
+    engine: &mut Engine,
+    mut reader: R,
+    writer: &mut W,
+) -> Result<(), RunFault>
+    requires { tally_of engine.old ≡ start }
+    ensures ok { OnOk result (Prints (R.remaining reader) (W.contents writer.old) (W.contents writer.new) (outcome_of (tally_of engine.new))) }
+    ensures fault { OnErr result (PrintsFront (R.remaining reader) (W.contents writer.old) (W.contents writer.new)) }
+{
+    let mut held = HeldLine::new();
+    let mut chunk = [0; 4096];
+    'turns: for turn in 0..TURNS {
+        let count = match reader.read(&mut chunk) {
+            Err(_) => return Err(RunFault::Read),
+            Ok(count) => count,
+        };
+        if count == 0 {
+            match finish(engine, &mut held, writer) {
+                Err(_) => return Err(RunFault::Write),
+                Ok(()) => return Ok(()),
+            }
+        }
+        match feed(engine, &mut held, writer, &chunk[..count]) {
+            Err(_) => return Err(RunFault::Write),
+            Ok(()) => {}
+        }
+    }
+    Err(RunFault::Read)
+}
+
+/// The exit status of a run: 3 for a fault or where a line was refused for want of memory, else 1
+/// where a line was refused or something differs, else 0.
+pub fn status(ran: &Result<Outcome, RunFault>) -> u8
+    ensures { result ≡ status_of ran.now }
+{
+    match ran {
+        Err(_) => 3,
+        Ok(outcome) => {
+            if outcome.memory != 0 {
+                3
+            } else if outcome.refused != 0 || outcome.differing != 0 {
+                1
+            } else {
+                0
+            }
+        }
+    }
+}

@@ -1,0 +1,226 @@
+mod rows;
+
+use crate::{Outcome, RunFault, run, status};
+use std::alloc::Global;
+use std::io;
+use std::io::{ErrorKind, Read, Write};
+use std::test::Fail;
+
+/// Gives at most `step` bytes a call. At its end it fails, if it is to.
+#[derive(Drop)]
+struct Source<'a> {
+    left: &'a [u8],
+    step: usize,
+    fails: bool,
+}
+
+impl<'a> Source<'a> {
+    fn new(script: &'a [u8], step: usize) -> Source<'a> {
+        Source {
+            left: script,
+            step,
+            fails: false,
+        }
+    }
+}
+
+impl<'a> Read for Source<'a> {
+    fn read(&mut self, buf: &mut [u8]) -> io::Result<usize> {
+        if self.left.is_empty() && self.fails {
+            return Err(io::Error::from(ErrorKind::Interrupted));
+        }
+        let most = buf.len().min(self.step);
+        self.left.read(&mut buf[..most])
+    }
+}
+
+/// Takes at most `step` bytes a call, and `room` in all. Of more it takes none, or fails, if it is to.
+#[derive(Drop)]
+struct Sink {
+    taken: Vec<u8>,
+    step: usize,
+    room: usize,
+    fails: bool,
+    calls_when_full: u32,
+}
+
+impl Write for Sink {
+    fn write(&mut self, buf: &[u8]) -> io::Result<usize> {
+        if self.room == 0 {
+            self.calls_when_full = self.calls_when_full.saturating_add(1);
+            if self.fails {
+                return Err(io::Error::from(ErrorKind::Interrupted));
+            }
+        }
+        let count = buf.len().min(self.step).min(self.room);
+        self.taken.extend_from_slice(&buf[..count])?;
+        self.room -= count;
+        Ok(count)
+    }
+
+    fn flush(&mut self) -> io::Result<()> {
+        Ok(())
+    }
+}
+
+impl Sink {
+    fn new(alloc: Global, room: usize) -> Sink {
+        Sink {
+            taken: Vec::new(alloc),
+            step: 1,
+            room,
+            fails: false,
+            calls_when_full: 0,
+        }
+    }
+}
+
+fn counts(refused: u64, memory: u64) -> Outcome {
+    Outcome {
+        refused,
+        memory,
+        differing: 0,
+    }
+}
+
+/// Runs a script that is given whole, and then byte by byte.
+fn run_both(
+    alloc: Global,
+    script: &[u8],
+) -> Result<(Vec<u8>, Vec<u8>, Result<Outcome, RunFault>), RunFault> {
+    let mut whole = Vec::new(alloc);
+    let ran = run(alloc, script, &mut whole);
+    let mut slow = Sink::new(alloc, usize::MAX);
+    run(alloc, Source::new(script, 1), &mut slow)?;
+    Ok((whole, slow.taken, ran))
+}
+
+#[derive(Clone, Copy)]
+struct Case {
+    name: &'static str,
+    script: &'static [u8],
+    expected: &'static [u8],
+    counts: Outcome,
+}
+
+#[test]
+fn prints_refusals(rt: HostRuntime) -> Result<(), Fail> {
+    let cases = [
+        Case {
+            name: "empty",
+            script: b"",
+            expected: b"",
+            counts: counts(0, 0),
+        },
+        Case {
+            name: "comments-alone",
+            script: b"\n# comment\n   \t \n\t# \x7f more\n\n",
+            expected: b"",
+            counts: counts(0, 0),
+        },
+        Case {
+            name: "no line feed at the end",
+            script: b"addlan X\naddlan X",
+            expected: b"line 2 E07 name taken\n",
+            counts: counts(1, 0),
+        },
+        Case {
+            name: "carriage returns",
+            script: b"addlan X\r\n\r\naddlan X\r\nkind A\r\n",
+            expected: b"line 3 E07 name taken\nline 4 E01 no such command\n",
+            counts: counts(2, 0),
+        },
+    ];
+    for case in &cases {
+        let (whole, slow, ran) = run_both(rt.alloc(), case.script)?;
+        assert_eq!(rt; whole.as_slice(), case.expected, "{}", case.name);
+        assert_eq!(rt; slow.as_slice(), case.expected, "{}", case.name);
+        assert_eq!(rt; ran, Ok(case.counts), "{}", case.name);
+    }
+    Ok(())
+}
+
+#[test]
+fn always_read_fault(rt: HostRuntime) {
+    let mut written = Vec::new(rt.alloc());
+    let empty: &[u8] = b"";
+    assert_eq!(rt; run(rt.alloc(), empty, &mut written), Ok(counts(0, 0)));
+    assert!(rt; written.is_empty());
+}
+
+#[test]
+fn always_out_of_memory(rt: HostRuntime) {
+    let mut written = Vec::new(rt.alloc());
+    let script: &[u8] = b"addbridge A 02:00:00:00:00:01\nkind A rstp\naddport A 1\naddlan X\n\
+        plug A 1 X\nsettreeprio A 0 4\n";
+    assert_eq!(rt; run(rt.alloc(), script, &mut written), Ok(counts(0, 0)));
+    assert!(rt; written.is_empty());
+}
+
+#[test]
+fn too_long_comments(rt: HostRuntime) -> Result<(), Fail> {
+    let refused: &[u8] = b"line 1 E01 no such command\n";
+    let silent: &[u8] = b"";
+    let ends: [&[u8]; 3] = [b"", b"\n", b"\r\n"];
+    for end in ends {
+        for (count, expected) in [(4096, silent), (4097, refused), (9000, refused)] {
+            let mut script = Vec::new(rt.alloc());
+            for _ in 0..count {
+                script.push(b'#')?;
+            }
+            script.extend_from_slice(end)?;
+            let (whole, slow, _) = run_both(rt.alloc(), script.as_slice())?;
+            assert_eq!(rt; whole.as_slice(), expected, "{count} {end:?}");
+            assert_eq!(rt; slow.as_slice(), expected, "{count} {end:?}");
+        }
+    }
+    Ok(())
+}
+
+#[test]
+fn reader_fails(rt: HostRuntime) {
+    for step in [1, 7, 4096] {
+        let mut reader = Source::new(b"one\ntwo\nthree", step);
+        reader.fails = true;
+        let mut written = Vec::new(rt.alloc());
+        assert_eq!(rt; run(rt.alloc(), reader, &mut written), Err(RunFault::Read));
+        let expected: &[u8] = b"line 1 E01 no such command\nline 2 E01 no such command\n";
+        assert_eq!(rt; written.as_slice(), expected, "{step}");
+    }
+}
+
+#[test]
+fn writer_fails(rt: HostRuntime) {
+    let expected: &[u8] = b"line 1 E01 no such command\nline 2 E01 no such command\n";
+    for fails in [false, true] {
+        for room in 0..expected.len() {
+            let mut writer = Sink::new(rt.alloc(), room);
+            writer.fails = fails;
+            let ran = run(rt.alloc(), Source::new(b"one\ntwo\nthree", 7), &mut writer);
+            assert_eq!(rt; ran, Err(RunFault::Write), "{room}");
+            assert_eq!(rt; writer.taken.as_slice(), &expected[..room], "{room}");
+            assert_eq!(rt; writer.calls_when_full, 1, "{room}");
+        }
+    }
+}
+
+#[test]
+fn statuses(rt: HostRuntime) {
+    let differing = Outcome {
+        refused: 0,
+        memory: 0,
+        differing: 1,
+    };
+    for (ran, expected) in [
+        (Ok(counts(0, 0)), 0),
+        (Ok(counts(1, 0)), 1),
+        (Ok(differing), 1),
+        (Ok(counts(0, 1)), 3),
+        (Ok(counts(1, 1)), 3),
+        (Err(RunFault::Read), 3),
+        (Err(RunFault::Write), 3),
+        (Err(RunFault::Memory), 3),
+    ] {
+        assert_eq!(rt; status(&ran), expected, "{ran:?}");
+    }
+}

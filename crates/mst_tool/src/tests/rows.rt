@@ -1,0 +1,157 @@
+use super::{counts, run_both};
+use std::test::Fail;
+
+/// A script, and what it prints, or the end of that.
+#[derive(Clone, Copy)]
+struct Row {
+    name: &'static str,
+    script: &'static [u8],
+    expected: &'static [u8],
+    is_whole: bool,
+}
+
+const ROWS: [Row; 6] = [
+    Row {
+        name: "triangle",
+        script: b"\
+            addbridge A 02:00:00:00:00:01\n\
+            kind A rstp\n\
+            addbridge B 02:00:00:00:00:02\n\
+            kind B rstp\n\
+            addbridge C 02:00:00:00:00:03\n\
+            kind C rstp\n\
+            addlan X\n\
+            addport A 1\n\
+            addport B 1\n\
+            plug A 1 X\n\
+            plug B 1 X\n\
+            addlan Y\n\
+            addport A 2\n\
+            addport C 1\n\
+            plug A 2 Y\n\
+            plug C 1 Y\n\
+            addlan Z\n\
+            addport B 2\n\
+            addport C 2\n\
+            plug B 2 Z\n\
+            plug C 2 Z\n\
+            showtree 0\n\
+            ",
+        expected: b"\
+            tree 0\n\
+            bridge A 8000.02:00:00:00:00:01 root 8000.02:00:00:00:00:01 ext 0 regional \
+            8000.02:00:00:00:00:01 int 0 from 8000.02:00:00:00:00:01 0000 at 0000\n\
+            port A 1 X 8001 ext 20000 int 20000 Designated\n\
+            port A 2 Y 8002 ext 20000 int 20000 Designated\n\
+            bridge B 8000.02:00:00:00:00:02 root 8000.02:00:00:00:00:01 ext 20000 regional \
+            8000.02:00:00:00:00:02 int 0 from 8000.02:00:00:00:00:01 8001 at 8001\n\
+            port B 1 X 8001 ext 20000 int 20000 Root\n\
+            port B 2 Z 8002 ext 20000 int 20000 Designated\n\
+            bridge C 8000.02:00:00:00:00:03 root 8000.02:00:00:00:00:01 ext 20000 regional \
+            8000.02:00:00:00:00:03 int 0 from 8000.02:00:00:00:00:01 8002 at 8001\n\
+            port C 1 Y 8001 ext 20000 int 20000 Root\n\
+            port C 2 Z 8002 ext 20000 int 20000 Alternate\n\
+            ",
+        is_whole: true,
+    },
+    Row {
+        name: "parallel-links",
+        script: b"\
+            addbridge A 02:00:00:00:00:01\n\
+            kind A rstp\n\
+            addbridge B 02:00:00:00:00:02\n\
+            kind B rstp\n\
+            addlan X\n\
+            addport A 1\n\
+            addport B 2\n\
+            plug A 1 X\n\
+            plug B 2 X\n\
+            addlan Y\n\
+            addport A 2\n\
+            addport B 1\n\
+            plug A 2 Y\n\
+            plug B 1 Y\n\
+            showtree 0\n\
+            ",
+        expected: b"\
+            bridge B 8000.02:00:00:00:00:02 root 8000.02:00:00:00:00:01 ext 20000 regional \
+            8000.02:00:00:00:00:02 int 0 from 8000.02:00:00:00:00:01 8001 at 8002\n\
+            port B 1 Y 8001 ext 20000 int 20000 Alternate\n\
+            port B 2 X 8002 ext 20000 int 20000 Root\n\
+            ",
+        is_whole: false,
+    },
+    Row {
+        name: "backup",
+        script: b"\
+            addbridge A 02:00:00:00:00:01\n\
+            kind A rstp\n\
+            addlan X\n\
+            addport A 1\n\
+            addport A 2\n\
+            plug A 1 X\n\
+            plug A 2 X\n\
+            addlan Y\n\
+            addport A 3\n\
+            plug A 3 Y\n\
+            showtree 0\n\
+            ",
+        expected: b"\
+            port A 1 X 8001 ext 20000 int 20000 Designated\n\
+            port A 2 X 8002 ext 20000 int 20000 Backup\n\
+            port A 3 Y 8003 ext 20000 int 20000 Designated\n\
+            ",
+        is_whole: false,
+    },
+    Row {
+        name: "crlf",
+        script: b"\
+            addbridge A 02:00:00:00:00:01\r\n\
+            \tshowtree\t0\
+            ",
+        expected: b"\
+            tree 0\n\
+            bridge A 8000.02:00:00:00:00:01 root 8000.02:00:00:00:00:01 ext 0 regional \
+            8000.02:00:00:00:00:01 int 0 from 8000.02:00:00:00:00:01 0000 at 0000\n\
+            ",
+        is_whole: true,
+    },
+    Row {
+        name: "tree-0-of-nothing",
+        script: b"\
+            showtree 0\n\
+            ",
+        expected: b"\
+            tree 0\n\
+            ",
+        is_whole: true,
+    },
+    Row {
+        name: "tree-7",
+        script: b"\
+            addbridge A 02:00:00:00:00:01\n\
+            kind A rstp\n\
+            showtree 7\n\
+            ",
+        expected: b"\
+            tree 7\n\
+            ",
+        is_whole: true,
+    },
+];
+
+#[test]
+fn prints_trees(rt: HostRuntime) -> Result<(), Fail> {
+    for row in &ROWS {
+        let (whole, slow, ran) = run_both(rt.alloc(), row.script)?;
+        assert_eq!(rt; ran, Ok(counts(0, 0)), "{}", row.name);
+        assert!(rt; whole.ends_with(row.expected), "{}", row.name);
+        assert!(rt;
+            !row.is_whole || whole.len() == row.expected.len(),
+            "{}",
+            row.name
+        );
+        assert_eq!(rt; slow.as_slice(), whole.as_slice(), "{}", row.name);
+    }
+    Ok(())
+}
