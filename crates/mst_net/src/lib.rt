@@ -7,6 +7,8 @@ mod network;
 mod records;
 mod refusal;
 mod settings;
+#[cfg(test)]
+mod tests;
 
 pub use ahead::Ahead;
 pub use contents::{Bridge, Contents, Lan, Port};
