@@ -20,6 +20,12 @@ use mst_lang::{Edit, Kind};
 use std::alloc::{AllocError, Global};
 use std::marker::Model;
 
+const BRIDGE_LIMIT: usize = 1024;
+
+const PORT_LIMIT: usize = 16_384;
+
+const LAN_LIMIT: usize = 8192;
+
 /// The network's records, each under a number that it keeps.
 #[derive(Drop)]
 pub struct Network {
@@ -208,7 +214,7 @@ impl Network {
         if self.has_mac(mac) {
             return Err(Refusal::E08);
         }
-        if self.bridge_count() >= 1024 {
+        if self.bridge_count() >= BRIDGE_LIMIT {
             return Err(Refusal::E14);
         }
         Ok(())
@@ -233,7 +239,7 @@ impl Network {
         if self.has_port(port) {
             return Err(Refusal::E09);
         }
-        if self.port_count() >= 16_384 {
+        if self.port_count() >= PORT_LIMIT {
             return Err(Refusal::E14);
         }
         Ok(())
@@ -245,7 +251,7 @@ impl Network {
         if self.has_lan(lan) {
             return Err(Refusal::E07);
         }
-        if self.lan_count() >= 8192 {
+        if self.lan_count() >= LAN_LIMIT {
             return Err(Refusal::E14);
         }
         Ok(())
