@@ -1,0 +1,73 @@
+use clap::error::ErrorKind;
+use clap::{Arg, ArgMatches, Command};
+use mst_tool::RunFault;
+use std::alloc::{AllocError, Global};
+use std::env::{self, Env};
+use std::io;
+
+/// Why no script is run.
+#[derive(Drop)]
+pub(crate) enum Stop {
+    /// The words ask for help or are at fault. That was told, and this is the exit status.
+    Told(u8),
+    /// A fault that is still to be told.
+    Fault(RunFault),
+}
+
+impl From<AllocError> for Stop {
+    fn from(_refused: AllocError) -> Stop {
+        Stop::Fault(RunFault::Memory)
+    }
+}
+
+/// The words that the program was called with, its name first.
+pub(crate) fn given_words<R: Env + Eprint + AllocGlobal>(rt: &R) -> Result<Vec<String>, Stop> {
+    match env::args(rt) {
+        Ok(words) => Ok(words.collect(rt.alloc())?),
+        Err(error) if error.kind() == io::ErrorKind::OutOfMemory => {
+            Err(Stop::Fault(RunFault::Memory))
+        }
+        Err(_) => {
+            let _ = eprintln!(rt; "error: a word isn't text in UTF-8");
+            Err(Stop::Told(2))
+        }
+    }
+}
+
+/// The file that the words name, `-` for standard input.
+pub(crate) fn named_file<'a, R: Print + Eprint + AllocGlobal>(
+    rt: &R,
+    words: &'a [String],
+) -> Result<&'a str, Stop> {
+    match command(rt.alloc())?.try_get_matches_from(words) {
+        Ok(matches) => Ok(file_of(&matches)),
+        Err(error) if error.kind() == ErrorKind::OutOfMemory => {
+            Err(Stop::Fault(RunFault::Memory))
+        }
+        Err(error) => match error.print(rt) {
+            Ok(()) => Err(Stop::Told(error.exit_code() as u8)),
+            Err(_) => Err(Stop::Fault(RunFault::Write)),
+        },
+    }
+}
+
+fn command<'a>(alloc: Global) -> Result<Command<'a>, AllocError> {
+    let file = Arg::new(alloc, "FILE")
+        .help("The script, or - for standard input")
+        .required(true);
+    let run = Command::new(alloc, "run").about("Runs a script").arg(file)?;
+    Command::new(alloc, "mstplan")
+        .about(
+            "Plans networks of spanning trees. With no command it reads a script on standard input",
+        )
+        .disable_help_subcommand(true)
+        .subcommand(run)
+}
+
+/// The file of a command, `-` where there is none.
+fn file_of<'a>(matches: &ArgMatches<'a>) -> &'a str {
+    match matches.subcommand() {
+        Some((_, found)) => found.get_str("FILE").unwrap_or("-"),
+        None => "-",
+    }
+}
