@@ -40,16 +40,16 @@ apart k n h = grind (arith, common_steps)
 bridges_at : (bs : List BridgeSeen) → Apart BridgesDiffer bs → AllByRecursion (λ b. bridge_at bs b.number ≡ b.name) bs
 bridges_at [] h = tt
 bridges_at (b ∷ bs) h = (
-    ap (λ t. cond t b.name (bridge_at bs b.number)) (eq-eqb b.number b.number refl),
-    all_both _ _ _ (λ c d e. ap (λ t. cond t b.name (bridge_at bs c.number)) (apart b.number c.number d.numbers) ∙ e) bs h.0 (bridges_at bs h.1),
-  )
+  ap (λ t. cond t b.name (bridge_at bs b.number)) (eq-eqb b.number b.number refl),
+  all_both _ _ _ (λ c d e. ap (λ t. cond t b.name (bridge_at bs c.number)) (apart b.number c.number d.numbers) ∙ e) bs h.0 (bridges_at bs h.1),
+)
 
 ports_at : (ps : List PortSeen) → Apart PortsDiffer ps → AllByRecursion (λ p. port_at ps p.number ≡ p.name) ps
 ports_at [] h = tt
 ports_at (p ∷ ps) h = (
-    ap (λ t. cond t p.name (port_at ps p.number)) (eq-eqb p.number p.number refl),
-    all_both _ _ _ (λ q d e. ap (λ t. cond t p.name (port_at ps q.number)) (apart p.number q.number d.numbers) ∙ e) ps h.0 (ports_at ps h.1),
-  )
+  ap (λ t. cond t p.name (port_at ps p.number)) (eq-eqb p.number p.number refl),
+  all_both _ _ _ (λ q d e. ap (λ t. cond t p.name (port_at ps q.number)) (apart p.number q.number d.numbers) ∙ e) ps h.0 (ports_at ps h.1),
+)
 
 -- a LAN's number finds its name, where no other name has it
 lan_found : (ps : List PortSeen) (n : ℕ) (x : List ℕ) → AllByRecursion (λ q. q.lan_number ≡ n → q.lan ≡ x) ps → list_any (λ q. nat_eq q.lan_number n) ps ≡ true → lan_at ps n ≡ x
@@ -58,6 +58,7 @@ lan_found (p ∷ ps) n x h some = go (nat_eq p.lan_number n) refl some (lan_foun
   where
     equal : nat_eq p.lan_number n ≡ true → p.lan_number ≡ n
     equal e = grind (arith, common_steps)
+
     go : (b : Bool) → nat_eq p.lan_number n ≡ b → (b || list_any (λ q. nat_eq q.lan_number n) ps) ≡ true → (list_any (λ q. nat_eq q.lan_number n) ps ≡ true → lan_at ps n ≡ x) → cond b p.lan (lan_at ps n) ≡ x
     go true e s rest = h.0 (equal e)
     go false e s rest = rest s
@@ -69,6 +70,7 @@ lan_any (q ∷ ps) p c = go c.0 c.1 c.2 (lan_any ps p)
     or_true : (b : Bool) → (b || true) ≡ true
     or_true true = refl
     or_true false = refl
+
     go : (k : ℕ) → k < length (q ∷ ps) → get_or (q ∷ ps) k p ≡ p → (Contains ps p → list_any (λ r. nat_eq r.lan_number p.lan_number) ps ≡ true) → (nat_eq q.lan_number p.lan_number || list_any (λ r. nat_eq r.lan_number p.lan_number) ps) ≡ true
     go zero l e rest = ap (λ b. b || list_any (λ r. nat_eq r.lan_number p.lan_number) ps) (eq-eqb q.lan_number p.lan_number (ap (λ (r : PortSeen). r.lan_number) e))
     go (suc k) l e rest = ap (λ b. nat_eq q.lan_number p.lan_number || b) (rest (k, omega arith, e)) ∙ or_true (nat_eq q.lan_number p.lan_number)

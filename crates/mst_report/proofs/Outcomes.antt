@@ -35,22 +35,26 @@ can_settle net numbers ok num = record {
 -- what can be settled is a topology
 pub is_topology : (bs : List BridgeSeen) (ps : List PortSeen) → CanSettle bs ps → IsTopology cist_rules (numbered bs ps)
 is_topology bs ps can = record {
-    one_bridge = λ n a b h j. one n a b (bridge_cases n n a b h j);
-    one_port = λ p q h j e. elim (port_cases p q h j) [ inl same ↦ same | inr apart ↦ absurd (elim apart [ inl d ↦ d.0 e | inr d ↦ d.0 (sym e) ]) ];
-    has_bridge = λ p h. all_contained (λ (q : Plug ℕ ℕ ℕ CistPort). (b : CistBridge) × HasBridge (numbered bs ps) q.bridge b) (map numbered_port ps) p (all_mapped _ numbered_port ps can.have_bridge) h;
-    in_range = λ p h. all_contained (λ (q : Plug ℕ ℕ ℕ CistPort). IsTrue (cist_rules.in_range q.settings)) (map numbered_port ps) p (all_mapped _ numbered_port ps can.in_range) h;
-    bridge_ids = λ n k a b h j e. elim (bridge_cases n k a b h j) [ inl same ↦ ap (λ (q : ℕ × CistBridge). q.0) same | inr apart ↦ absurd (elim apart [ inl d ↦ d.1 e | inr d ↦ d.1 (sym e) ]) ];
-    port_ids = λ p q h j e f. elim (port_cases p q h j) [ inl same ↦ same | inr apart ↦ absurd (elim apart [ inl d ↦ d.1 e f | inr d ↦ d.1 (sym e) (sym f) ]) ];
-  }
+  one_bridge = λ n a b h j. one n a b (bridge_cases n n a b h j);
+  one_port = λ p q h j e. elim (port_cases p q h j) [ inl same ↦ same | inr apart ↦ absurd (elim apart [ inl d ↦ d.0 e | inr d ↦ d.0 (sym e) ]) ];
+  has_bridge = λ p h. all_contained (λ (q : Plug ℕ ℕ ℕ CistPort). (b : CistBridge) × HasBridge (numbered bs ps) q.bridge b) (map numbered_port ps) p (all_mapped _ numbered_port ps can.have_bridge) h;
+  in_range = λ p h. all_contained (λ (q : Plug ℕ ℕ ℕ CistPort). IsTrue (cist_rules.in_range q.settings)) (map numbered_port ps) p (all_mapped _ numbered_port ps can.in_range) h;
+  bridge_ids = λ n k a b h j e. elim (bridge_cases n k a b h j) [ inl same ↦ ap (λ (q : ℕ × CistBridge). q.0) same | inr apart ↦ absurd (elim apart [ inl d ↦ d.1 e | inr d ↦ d.1 (sym e) ]) ];
+  port_ids = λ p q h j e f. elim (port_cases p q h j) [ inl same ↦ same | inr apart ↦ absurd (elim apart [ inl d ↦ d.1 e f | inr d ↦ d.1 (sym e) (sym f) ]) ];
+}
   where
     BridgesApart : ℕ × CistBridge → ℕ × CistBridge → Type 0
     BridgesApart q r = (q.0 ≢ r.0) × (q.1.id ≢ r.1.id)
+
     PortsApart : Plug ℕ ℕ ℕ CistPort → Plug ℕ ℕ ℕ CistPort → Type 0
     PortsApart p q = (p.number ≢ q.number) × (p.bridge ≡ q.bridge → p.settings.id ≢ q.settings.id)
+
     bridge_cases : (n k : ℕ) (a b : CistBridge) → HasBridge (numbered bs ps) n a → HasBridge (numbered bs ps) k b → (◌≡◌ {A = ℕ × CistBridge} (n, a) (k, b)) ⊎ (((n ≢ k) × (a.id ≢ b.id)) ⊎ ((k ≢ n) × (b.id ≢ a.id)))
     bridge_cases n k a b h j = apart_cases (λ (q r : ℕ × CistBridge). (q.0 ≢ r.0) × (q.1.id ≢ r.1.id)) (map numbered_bridge bs) (n, a) (k, b) (apart_mapped BridgesDiffer _ numbered_bridge (λ x y d. (d.numbers, d.identifiers)) bs can.bridges_differ) h j
+
     port_cases : (p q : Plug ℕ ℕ ℕ CistPort) → HasPort (numbered bs ps) p → HasPort (numbered bs ps) q → (p ≡ q) ⊎ (((p.number ≢ q.number) × (p.bridge ≡ q.bridge → p.settings.id ≢ q.settings.id)) ⊎ ((q.number ≢ p.number) × (q.bridge ≡ p.bridge → q.settings.id ≢ p.settings.id)))
     port_cases p q h j = apart_cases (λ (p q : Plug ℕ ℕ ℕ CistPort). (p.number ≢ q.number) × (p.bridge ≡ q.bridge → p.settings.id ≢ q.settings.id)) (map numbered_port ps) p q (apart_mapped PortsDiffer _ numbered_port (λ x y d. (d.numbers, d.identifiers)) ps can.ports_differ) h j
+
     one : (n : ℕ) (a b : CistBridge) → (◌≡◌ {A = ℕ × CistBridge} (n, a) (n, b)) ⊎ (((n ≢ n) × (a.id ≢ b.id)) ⊎ ((n ≢ n) × (b.id ≢ a.id))) → a ≡ b
     one n a b (inl same) = ap (λ (q : ℕ × CistBridge). q.1) same
     one n a b (inr (inl d)) = absurd (d.0 refl)
@@ -90,9 +94,10 @@ module _ (net : Net) (numbers : Numbers) (ok : IsNetwork net) (num : IsNumbered 
       → ((t : Topology (List ℕ) (List ℕ) PortName CistBridge CistPort) (v : List ℕ → Option CistVector) → IsTopology cist_rules t → KeyTests (List ℕ) (List ℕ) → (lan : List ℕ) → (p : Option PortName) × IsDesignated cist_rules t v lan p)
       → (o : Outcome) × IsOutcome net o
   outcome_there topology vectors ports =
-      let v = vectors (cist_of net) topology name_tests in
-      (record { vector = v.0; designated = λ lan. (ports (cist_of net) v.0 topology name_tests lan).0 },
-      record { settled = v.1; designated = λ lan. (ports (cist_of net) v.0 topology name_tests lan).1 })
+      let v = vectors (cist_of net) topology name_tests in (
+        record { vector = v.0; designated = λ lan. (ports (cist_of net) v.0 topology name_tests lan).0 },
+        record { settled = v.1; designated = λ lan. (ports (cist_of net) v.0 topology name_tests lan).1 },
+      )
 
   -- by the law on renamed topologies, an outcome under names is the one under numbers
   pub outcome_agrees : ((r : Renaming ℕ ℕ ℕ (List ℕ) (List ℕ) PortName) (t : Topology ℕ ℕ ℕ CistBridge CistPort) (u : Topology (List ℕ) (List ℕ) PortName CistBridge CistPort) (v : ℕ → Option CistVector) (w : List ℕ → Option CistVector)
@@ -102,27 +107,31 @@ module _ (net : Net) (numbers : Numbers) (ok : IsNetwork net) (num : IsNumbered 
       → (o : Outcome) → IsOutcome net o → (v : ℕ → Option CistVector) → Settled cist_rules (numbered (bridges_seen net numbers) (ports_seen net numbers)) v
       → (d : ℕ → Option ℕ) → ((lan : ℕ) → IsDesignated cist_rules (numbered (bridges_seen net numbers) (ports_seen net numbers)) v lan (d lan)) → Agrees net numbers o v d
   outcome_agrees vectors ports o is v settled d designated = record {
-      bridges = all_both _ _ _ (λ b there found.
-          sym (vectors (naming bs ps) t (cist_of net) v o.vector numbers_are_topology cist_renamed settled is.settled b.number b.cist (contains_mapped numbered_bridge bs b there)) ∙ ap o.vector found)
-          bs (all_there bs) (bridges_found net numbers num bs ps (bridges_differ net numbers ok num) (ports_differ net numbers ok num) (bridges_numbered net numbers ok num) (ports_numbered net numbers ok num) (ports_have_bridge net numbers ok num));
-      ports = all_both _ _ _ one ps (all_there ps) (lans_found net numbers num bs ps (bridges_differ net numbers ok num) (ports_differ net numbers ok num) (bridges_numbered net numbers ok num) (ports_numbered net numbers ok num) (ports_have_bridge net numbers ok num));
-    }
+    bridges = all_both _ _ _ (λ b there found.
+        sym (vectors (naming bs ps) t (cist_of net) v o.vector numbers_are_topology cist_renamed settled is.settled b.number b.cist (contains_mapped numbered_bridge bs b there)) ∙ ap o.vector found)
+        bs (all_there bs) (bridges_found net numbers num bs ps (bridges_differ net numbers ok num) (ports_differ net numbers ok num) (bridges_numbered net numbers ok num) (ports_numbered net numbers ok num) (ports_have_bridge net numbers ok num));
+    ports = all_both _ _ _ one ps (all_there ps) (lans_found net numbers num bs ps (bridges_differ net numbers ok num) (ports_differ net numbers ok num) (bridges_numbered net numbers ok num) (ports_numbered net numbers ok num) (ports_have_bridge net numbers ok num));
+  }
     where
       bs : List BridgeSeen
       bs = bridges_seen net numbers
+
       ps : List PortSeen
       ps = ports_seen net numbers
+
       t : Topology ℕ ℕ ℕ CistBridge CistPort
       t = numbered (bridges_seen net numbers) (ports_seen net numbers)
+
       named : (a : Option ℕ) (q : Option PortName) (lan : ℕ) → IsDesignated cist_rules t v lan a → MatchOption a (q ≡ None) (λ k. q ≡ Some ((naming bs ps).port k)) → IsNameOf numbers a q
       named None q lan h e = e
       named (Some k) q lan h e = (
-          (naming bs ps).port k,
-          e,
-          ap (λ n. fin.get numbers.ports ((naming bs ps).port n)) (sym h.2)
-          ∙ port_found net numbers num bs ps (bridges_differ net numbers ok num) (ports_differ net numbers ok num) (bridges_numbered net numbers ok num) (ports_numbered net numbers ok num) (ports_have_bridge net numbers ok num) h.0 h.3.says.has_port
-          ∙ ap Some h.2,
-        )
+        (naming bs ps).port k,
+        e,
+        ap (λ n. fin.get numbers.ports ((naming bs ps).port n)) (sym h.2)
+            ∙ port_found net numbers num bs ps (bridges_differ net numbers ok num) (ports_differ net numbers ok num) (bridges_numbered net numbers ok num) (ports_numbered net numbers ok num) (ports_have_bridge net numbers ok num) h.0 h.3.says.has_port
+            ∙ ap Some h.2,
+      )
+
       one : (p : PortSeen) → Contains ps p → (naming bs ps).lan p.lan_number ≡ p.lan → IsNameOf numbers (d p.lan_number) (o.designated p.lan)
       one p there found =
           named (d p.lan_number) (o.designated p.lan) p.lan_number (designated p.lan_number)

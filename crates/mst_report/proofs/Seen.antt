@@ -113,6 +113,7 @@ module _ (net : Net) (numbers : Numbers) (port : PortName) (p : PortSeen) where
       plug : (row : PortRow) (o : Option (List ℕ)) → fin.get net.ports port ≡ Some row → row.lan ≡ o → option_and_then (port_on net numbers port) o ≡ Some p → IsPortSeen net numbers port p
       plug row None f g h = absurd (no_some p h)
       plug row (Some lan) f g h = port_on_is row lan (fin.get net.lans lan) (fin.get numbers.ports port) (fin.get numbers.bridges port.bridge) (fin.get numbers.lans lan) f g refl refl refl refl h
+
       go : (o : Option PortRow) → fin.get net.ports port ≡ o → option_and_then (λ (row : PortRow). option_and_then (port_on net numbers port) row.lan) o ≡ Some p → IsPortSeen net numbers port p
       go None f h = absurd (no_some p h)
       go (Some row) f h = plug row row.lan f refl h
@@ -178,7 +179,7 @@ module _ (net : Net) (numbers : Numbers) (ok : IsNetwork net) (num : IsNumbered 
         numbers = λ same. names_differ x y l (num.bridges_differ x y b.number (p.is_number ∙ ap Some same) q.is_number);
         identifiers = λ same.
             let ids : bridge_id (priority_of net x 0) 0 p.row.mac ≡ bridge_id (priority_of net y 0) 0 q.row.mac =
-                sym (ap (λ (c : CistBridge). c.id) p.is_cist) ∙ same ∙ ap (λ (c : CistBridge). c.id) q.is_cist in
+            sym (ap (λ (c : CistBridge). c.id) p.is_cist) ∙ same ∙ ap (λ (c : CistBridge). c.id) q.is_cist in
             names_differ x y l (ok.macs_differ x y p.row q.row p.is_row q.is_row
             (same_mac p.row.mac q.row.mac (priority_of net x 0) (priority_of net y 0) (ok.mac_fits x p.row p.is_row) (ok.mac_fits y q.row q.is_row) ids));
       }
@@ -223,8 +224,8 @@ module _ (net : Net) (numbers : Numbers) (ok : IsNetwork net) (num : IsNumbered 
   pub ports_in_range : AllByRecursion (λ p. IsTrue (cist_rules.in_range p.cist)) (ports_seen net numbers)
   ports_in_range =
       all_kept (λ _. ⊤) (λ p. IsTrue (cist_rules.in_range p.cist)) (port_seen net numbers) (λ x p _ e.
-        let s = port_is net numbers x p e in
-        subst (λ (c : CistPort). IsTrue (cist_rules.in_range c)) (sym s.is_cist) (both_true (automatic_in_range s.lan_row.speed)))
+      let s = port_is net numbers x p e in
+      subst (λ (c : CistPort). IsTrue (cist_rules.in_range c)) (sym s.is_cist) (both_true (automatic_in_range s.lan_row.speed)))
       (fin.keys net.ports) (all_true (fin.keys net.ports))
 
   -- a bridge that is there is seen
@@ -234,6 +235,7 @@ module _ (net : Net) (numbers : Numbers) (ok : IsNetwork net) (num : IsNumbered 
       key : Contains (fin.keys net.bridges) name
       key = let f = passed (eq_by_cmp name_cmp name) (fin.keys net.bridges) (sym (contains_key-keys net.bridges name) ∙ here) in
           subst (Contains (fin.keys net.bridges)) (sym (name_is name f.0 (tied (name_cmp name f.0) f.2))) f.1
+
       go : (o : Option BridgeRow) → fin.get net.bridges name ≡ o → (c : CistBridge) × Contains (map numbered_bridge (bridges_seen net numbers)) (number, c)
       go None e = absurd (true≢false (sym here ∙ ap is_some e))
       go (Some row) e =
@@ -244,7 +246,7 @@ module _ (net : Net) (numbers : Numbers) (ok : IsNetwork net) (num : IsNumbered 
   pub ports_have_bridge : AllByRecursion (λ p. (c : CistBridge) × Contains (map numbered_bridge (bridges_seen net numbers)) (p.bridge, c)) (ports_seen net numbers)
   ports_have_bridge =
       all_kept (λ _. ⊤) _ (port_seen net numbers) (λ x p _ e.
-        let s = port_is net numbers x p e in bridge_there x.bridge p.bridge (ok.port_has_bridge x s.row s.is_row) s.is_bridge)
+      let s = port_is net numbers x p e in bridge_there x.bridge p.bridge (ok.port_has_bridge x s.row s.is_row) s.is_bridge)
       (fin.keys net.ports) (all_true (fin.keys net.ports))
 
   number_of_bridge : (name : List ℕ) (row : BridgeRow) → fin.get net.bridges name ≡ Some row → (n : ℕ) × (fin.get numbers.bridges name ≡ Some n)
@@ -278,6 +280,7 @@ module _ (net : Net) (numbers : Numbers) (ok : IsNetwork net) (num : IsNumbered 
       on lan (Some w) (Some n) None k p q r = absurd (true≢false (sym q))
       on lan (Some w) (Some n) (Some b) None p q r = absurd (true≢false (sym (r refl)))
       on lan (Some w) (Some n) (Some b) (Some k) p q r = refl
+
       plug : (o : Option (List ℕ)) → e.1.lan ≡ o → cons_option (from_plug e o) (map named_port l) ≡ map named_port (cons_option (option_and_then (port_on net numbers e.0) o) l)
       plug None f = refl
       plug (Some lan) f =

@@ -27,8 +27,8 @@ abbrev pub role_by : Option CistVector → Option PortName → Plug (List ℕ) (
 role_by vector designated p =
     if came_by vector p then Root
     else option_map_or (λ q.
-        if same_port q p.number then Designated
-        else (if same_name q.bridge p.bridge then Backup else Alternate))
+    if same_port q p.number then Designated
+    else (if same_name q.bridge p.bridge then Backup else Alternate))
     designated Alternate
 
 abbrev pub role_of : Outcome → Plug (List ℕ) (List ℕ) PortName CistPort → Role

@@ -9,3 +9,6 @@ mod view;
 
 pub use queries::answer;
 pub use role::Role;
+
+#[cfg(test)]
+mod tests;

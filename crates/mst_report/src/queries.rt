@@ -121,11 +121,7 @@ fn push_port_of(
 }
 
 /// The name of a LAN's designated port.
-fn designated_port(
-    network: &Network,
-    settler: &Settler<CistMetric>,
-    lan: LanNo,
-) -> Option<PortName>
+fn designated_port(network: &Network, settler: &Settler<CistMetric>, lan: LanNo) -> Option<PortName>
     ensures { (name : Option PortName) → IsNameOf network.now.numbers (designated_of settler.now lan) name → result ≡ name }
 {
     network.known();

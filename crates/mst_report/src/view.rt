@@ -1,7 +1,9 @@
 ghost use Rattle.std.specs.Prelude.{◌≡◌, IfOk};
 ghost use Rattle.mst_report.specs.View.{bridge_seen as seen_bridge, port_seen as seen_port, bridges_seen, ports_seen};
 
-use mst_ids::{BridgeId, BridgeNo, LanNo, Name, PortId, PortName, PortNo, Priority, Tree, auto_cost};
+use mst_ids::{
+    BridgeId, BridgeNo, LanNo, Name, PortId, PortName, PortNo, Priority, Tree, auto_cost,
+};
 use mst_lang::Kind;
 use mst_net::{Contents, Network};
 use mst_vector::{CistBridge, CistPort};

@@ -16,8 +16,8 @@ returns c o keeps there =
     let own = option_map_or (bridge_line b.name b.cist) (o.vector b.name) [] in
     let ports = flat_map (port_text o b.name) (map named_port c.args.cist.now.ports.items) in
     on_ok_weaker c.push_ports.result (λ e.
-      e ∙ ap (λ t. t ++ ports) (c.in_ok-push_own_line.ensures
-      ∙ ap (λ v. old ++ option_map_or (bridge_line b.name b.cist) v []) (c.vector.ensures ∙ vector_kept n.net n.numbers c.args.cist.now o keeps b there))
-      ∙ append_assoc old own ports
-      ∙ ap (λ l. old ++ (own ++ flat_map (port_text o b.name) l)) (ap (map named_port) keeps.ports ∙ sym (ports_named n.net n.numbers c.known.ensures.network c.known.ensures.numbered)))
+    e ∙ ap (λ t. t ++ ports) (c.in_ok-push_own_line.ensures
+    ∙ ap (λ v. old ++ option_map_or (bridge_line b.name b.cist) v []) (c.vector.ensures ∙ vector_kept n.net n.numbers c.args.cist.now o keeps b there))
+    ∙ append_assoc old own ports
+    ∙ ap (λ l. old ++ (own ++ flat_map (port_text o b.name) l)) (ap (map named_port) keeps.ports ∙ sym (ports_named n.net n.numbers c.known.ensures.network c.known.ensures.numbered)))
     (c.push_ports.ensures o keeps there)
