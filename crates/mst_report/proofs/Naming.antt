@@ -81,9 +81,6 @@ module _ (net : Net) (numbers : Numbers) (num : IsNumbered net numbers) (bs : Li
     (bridges_numbered : AllByRecursion (λ b. fin.get numbers.bridges b.name ≡ Some b.number) bs)
     (ports_numbered : AllByRecursion (IsNumberedPort numbers) ps)
     (have_bridge : AllByRecursion (λ p. (c : CistBridge) × Contains (map numbered_bridge bs) (p.bridge, c)) ps) where
-  r : Renaming ℕ ℕ ℕ (List ℕ) (List ℕ) PortName
-  r = naming bs ps
-
   -- what a bridge is, under its number and under its name
   record BridgeNamed (b : BridgeSeen) : Type 0 where
     is_name : bridge_at bs b.number ≡ b.name

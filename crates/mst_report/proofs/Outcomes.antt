@@ -20,6 +20,11 @@ use Rattle.mst_report.specs.declared.view.PortSeen.{PortSeen}
 use Rattle.mst_report.proofs.Entries.{all_weaker, all_both}
 use Rattle.mst_report.proofs.Lists.{all_mapped, all_contained, all_there, apart_mapped, apart_cases, contains_mapped}
 use Rattle.mst_report.proofs.Seen.{bridges_differ, ports_differ, bridges_numbered, ports_numbered, ports_have_bridge, ports_in_range, few_bridges, bridges_named, ports_named}
+use Rattle.mst_lang.specs.declared.line.Query.{Query}
+use Rattle.mst_lang.specs.declared.line.Query.TheVariants.{ShowTree}
+use Rattle.mst_report.specs.Answers.{Answers}
+use Rattle.mst_report.specs.TreeText.{tree_text}
+use Rattle.mst_report.proofs.Cists.{cist_topology}
 use Rattle.mst_report.proofs.Naming.{naming, is_renamed, port_found, bridges_found, lans_found}
 
 -- what is seen of a network can be settled
@@ -70,10 +75,25 @@ name_test = record {
 pub name_tests : KeyTests (List ℕ) (List ℕ)
 name_tests = record { same_bridge = pointwise nat_eq; bridges = name_test; same_lan = pointwise nat_eq; lans = name_test }
 
-module _ (net : Net) (numbers : Numbers) (ok : IsNetwork net) (num : IsNumbered net numbers) where
-  r : Renaming ℕ ℕ ℕ (List ℕ) (List ℕ) PortName
-  r = naming (bridges_seen net numbers) (ports_seen net numbers)
+-- by the law that a topology has a settled outcome, a network has one
+pub outcome_there : (net : Net) → IsNetwork net
+    → ((t : Topology (List ℕ) (List ℕ) PortName CistBridge CistPort) → IsTopology cist_rules t → KeyTests (List ℕ) (List ℕ) → (v : List ℕ → Option CistVector) × Settled cist_rules t v)
+    → ((t : Topology (List ℕ) (List ℕ) PortName CistBridge CistPort) (v : List ℕ → Option CistVector) → IsTopology cist_rules t → KeyTests (List ℕ) (List ℕ) → (lan : List ℕ) → (p : Option PortName) × IsDesignated cist_rules t v lan p)
+    → (o : Outcome) × IsOutcome net o
+outcome_there net ok vectors ports =
+    let v = vectors (cist_of net) (cist_topology net ok) name_tests in
+    (record { vector = v.0; designated = λ lan. (ports (cist_of net) v.0 (cist_topology net ok) name_tests lan).0 },
+    record { settled = v.1; designated = λ lan. (ports (cist_of net) v.0 (cist_topology net ok) name_tests lan).1 })
 
+-- by the law that a network has one outcome, a query has one answer
+pub one_text : ((net : Net) (o p : Outcome) → IsNetwork net → IsOutcome net o → IsOutcome net p → (name : List ℕ) → o.vector name ≡ p.vector name)
+    → ((net : Net) (o p : Outcome) → IsNetwork net → IsOutcome net o → IsOutcome net p → (lan : List ℕ) → o.designated lan ≡ p.designated lan)
+    → (query : Query) (net : Net) (a b : List ℕ) → IsNetwork net → Answers query net a → Answers query net b → a ≡ b
+one_text vectors ports (ShowTree tree) net a b ok x y =
+    let same : x.0 ≡ y.0 = λ i. record { vector = λ name. vectors net x.0 y.0 ok x.1 y.1 name i; designated = λ lan. ports net x.0 y.0 ok x.1 y.1 lan i } in
+    x.2 ∙ ap (λ o. tree_text net o tree) same ∙ sym y.2
+
+module _ (net : Net) (numbers : Numbers) (ok : IsNetwork net) (num : IsNumbered net numbers) where
   -- the CIST of a network is what is seen of it, renamed
   pub cist_renamed : IsRenamed (naming (bridges_seen net numbers) (ports_seen net numbers)) (numbered (bridges_seen net numbers) (ports_seen net numbers)) (cist_of net)
   cist_renamed =
@@ -82,22 +102,8 @@ module _ (net : Net) (numbers : Numbers) (ok : IsNetwork net) (num : IsNumbered 
       (is_renamed net numbers num (bridges_seen net numbers) (ports_seen net numbers) (bridges_differ net numbers ok num) (ports_differ net numbers ok num)
       (bridges_numbered net numbers ok num) (ports_numbered net numbers ok num) (ports_have_bridge net numbers ok num))
 
-  by_number : Topology ℕ ℕ ℕ CistBridge CistPort
-  by_number = numbered (bridges_seen net numbers) (ports_seen net numbers)
-
   pub numbers_are_topology : IsTopology cist_rules (numbered (bridges_seen net numbers) (ports_seen net numbers))
   numbers_are_topology = is_topology (bridges_seen net numbers) (ports_seen net numbers) (can_settle net numbers ok num)
-
-  -- by the law that a topology has a settled outcome, a network has one
-  pub outcome_there : IsTopology cist_rules (cist_of net)
-      → ((t : Topology (List ℕ) (List ℕ) PortName CistBridge CistPort) → IsTopology cist_rules t → KeyTests (List ℕ) (List ℕ) → (v : List ℕ → Option CistVector) × Settled cist_rules t v)
-      → ((t : Topology (List ℕ) (List ℕ) PortName CistBridge CistPort) (v : List ℕ → Option CistVector) → IsTopology cist_rules t → KeyTests (List ℕ) (List ℕ) → (lan : List ℕ) → (p : Option PortName) × IsDesignated cist_rules t v lan p)
-      → (o : Outcome) × IsOutcome net o
-  outcome_there topology vectors ports =
-      let v = vectors (cist_of net) topology name_tests in (
-        record { vector = v.0; designated = λ lan. (ports (cist_of net) v.0 topology name_tests lan).0 },
-        record { settled = v.1; designated = λ lan. (ports (cist_of net) v.0 topology name_tests lan).1 },
-      )
 
   -- by the law on renamed topologies, an outcome under names is the one under numbers
   pub outcome_agrees : ((r : Renaming ℕ ℕ ℕ (List ℕ) (List ℕ) PortName) (t : Topology ℕ ℕ ℕ CistBridge CistPort) (u : Topology (List ℕ) (List ℕ) PortName CistBridge CistPort) (v : ℕ → Option CistVector) (w : List ℕ → Option CistVector)
@@ -137,9 +143,3 @@ module _ (net : Net) (numbers : Numbers) (ok : IsNetwork net) (num : IsNumbered 
           named (d p.lan_number) (o.designated p.lan) p.lan_number (designated p.lan_number)
           (ports (naming bs ps) t (cist_of net) v o.vector numbers_are_topology cist_renamed settled is.settled (numbered_port p) (contains_mapped numbered_port ps p there) (d p.lan_number) (o.designated p.lan)
           (designated p.lan_number) (subst (λ lan. IsDesignated cist_rules (cist_of net) o.vector lan (o.designated p.lan)) (sym found) (is.designated p.lan)))
-
-  -- by the law on renamed topologies, the CIST of a network is a topology
-  pub cist_topology : ((r : Renaming ℕ ℕ ℕ (List ℕ) (List ℕ) PortName) (t : Topology ℕ ℕ ℕ CistBridge CistPort) (u : Topology (List ℕ) (List ℕ) PortName CistBridge CistPort) → IsTopology cist_rules t → IsRenamed r t u → IsTopology cist_rules u)
-      → IsTopology cist_rules (cist_of net)
-  cist_topology renamed_topology =
-      renamed_topology (naming (bridges_seen net numbers) (ports_seen net numbers)) (numbered (bridges_seen net numbers) (ports_seen net numbers)) (cist_of net) numbers_are_topology cist_renamed

@@ -37,7 +37,7 @@ less_equal : Less ≡ Equal → ⊥
 less_equal e = true≢false (sym (ap is_eq e))
 
 -- a name is not below itself
-names_differ : (a b : List ℕ) → name_cmp a b ≡ Less → a ≢ b
+pub names_differ : (a b : List ℕ) → name_cmp a b ≡ Less → a ≢ b
 names_differ a b l e = less_equal (sym l ∙ ap (λ x. name_cmp x b) e ∙ tied_itself nat_list_cmp_total b)
 
 -- what is seen of a bridge comes from its row and its number
@@ -69,7 +69,6 @@ bridge_is net numbers name b e = go (fin.get net.bridges name) (fin.get numbers.
 pub record IsPortSeen (net : Net) (numbers : Numbers) (port : PortName) (p : PortSeen) : Type 0 where
   pub row : PortRow
   pub is_row : fin.get net.ports port ≡ Some row
-  pub is_plugged : row.lan ≡ Some p.lan
   pub lan_row : LanRow
   pub is_lan : fin.get net.lans p.lan ≡ Some lan_row
   pub is_number : fin.get numbers.ports port ≡ Some p.number
@@ -97,7 +96,6 @@ module _ (net : Net) (numbers : Numbers) (port : PortName) (p : PortSeen) where
       record {
         row = row;
         is_row = e;
-        is_plugged = f ∙ ap Some same;
         lan_row = w;
         is_lan = ap (fin.get net.lans) (sym same) ∙ g;
         is_number = h ∙ ap Some (ap (λ (x : PortSeen). x.number) is);
@@ -119,28 +117,28 @@ module _ (net : Net) (numbers : Numbers) (port : PortName) (p : PortSeen) where
       go (Some row) f h = plug row row.lan f refl h
 
 -- equal identifiers come of equal MACs
-same_mac : (a b c d : ℕ) → a < 2 ^ 48 → b < 2 ^ 48 → bridge_id c 0 a ≡ bridge_id d 0 b → a ≡ b
+pub same_mac : (a b c d : ℕ) → a < 2 ^ 48 → b < 2 ^ 48 → bridge_id c 0 a ≡ bridge_id d 0 b → a ≡ b
 same_mac a b c d l m e = by_parts (c * 4096 + 0) (d * 4096 + 0) l m e
   where
     by_parts : (x y : ℕ) → a < 2 ^ 48 → b < 2 ^ 48 → x * 2 ^ 48 + a ≡ y * 2 ^ 48 + b → a ≡ b
     by_parts x y l m e = omega arith
 
-ports_total : IsTotalOrder port_cmp
+pub ports_total : IsTotalOrder port_cmp
 ports_total = then_total (on_total (λ (p : PortName). p.bridge) nat_list_cmp_total) (on_total (λ (p : PortName). p.number) nat_cmp_total)
 
-port_names_differ : (a b : PortName) → port_cmp a b ≡ Less → a ≢ b
+pub port_names_differ : (a b : PortName) → port_cmp a b ≡ Less → a ≢ b
 port_names_differ a b l e = less_equal (sym l ∙ ap (λ x. port_cmp x b) e ∙ tied_itself ports_total b)
 
 all_true : {A : Type 0} (xs : List A) → AllByRecursion (λ _. ⊤) xs
 all_true [] = tt
 all_true (x ∷ xs) = (tt, all_true xs)
 
-tied : (o : Ordering) → is_eq o ≡ true → o ≡ Equal
+pub tied : (o : Ordering) → is_eq o ≡ true → o ≡ Equal
 tied Less e = absurd (true≢false (sym e))
 tied Equal e = refl
 tied Greater e = absurd (true≢false (sym e))
 
-both_true : {a : Bool} → IsTrue a → IsTrue (a && a)
+pub both_true : {a : Bool} → IsTrue a → IsTrue (a && a)
 both_true {a} h = subst (λ b. IsTrue (b && b)) (sym h) refl
 
 within : (q : ℕ) → IsTrue (nat_le 1 (max 1 (min 200_000_000 q)) && nat_le (max 1 (min 200_000_000 q)) 200_000_000)
@@ -150,7 +148,7 @@ within q =
     ap (λ b. b && nat_le (max 1 (min 200_000_000 q)) 200_000_000) low ∙ high
 
 -- an automatic cost is in range
-automatic_in_range : (speed : ℕ) → IsTrue (is_cost (automatic_cost speed))
+pub automatic_in_range : (speed : ℕ) → IsTrue (is_cost (automatic_cost speed))
 automatic_in_range speed = within (20_000_000_000 / speed)
 
 -- a row and a number are seen

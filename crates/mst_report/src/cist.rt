@@ -3,13 +3,13 @@ ghost use Rattle.mst_vector.specs.Cist.{cist_rules};
 ghost use Rattle.mst_settle.specs.Settled.{Settled, IsDesignated};
 ghost use Rattle.mst_settle.specs.Assignment.{vector_of, designated_of};
 ghost use Rattle.mst_report.specs.View.{CanSettle, numbered, numbered_bridge};
-ghost use Rattle.mst_report.specs.Cist.{Outcome, IsOutcome};
 ghost use Rattle.mst_report.specs.Kept.{IsCistOf};
 
+use crate::laws::has_outcome;
 use crate::view::{BridgeSeen, PortSeen, bridges, ports};
 use mst_ids::{BridgeNo, LanNo, Name, PortName, PortNo};
 use mst_net::Network;
-use mst_settle::laws::{has_outcome, renamed};
+use mst_settle::laws::renamed;
 use mst_settle::{Settler, Topology};
 use mst_vector::CistMetric;
 use std::alloc::{AllocError, Global};
@@ -73,20 +73,11 @@ pub(crate) fn settled_cist(alloc: Global, network: &Network) -> Result<Cist, All
     let bridges = bridges(alloc, network)?;
     let ports = ports(alloc, network)?;
     let settler = settle(alloc, bridges.as_slice(), ports.as_slice())?;
-    has_outcome::<CistMetric, Name, Name, PortName>();
+    has_outcome();
     renamed::<CistMetric, BridgeNo, LanNo, PortNo, Name, Name, PortName>();
     Ok(Cist {
         bridges,
         ports,
         settler,
     })
-}
-
-/// Does nothing: its clause says that a network has a settled outcome.
-pub(crate) fn known_outcome(network: &Network)
-    ensures { (o : Outcome) × IsOutcome network.now.net o }
-{
-    network.known();
-    has_outcome::<CistMetric, Name, Name, PortName>();
-    renamed::<CistMetric, BridgeNo, LanNo, PortNo, Name, Name, PortName>();
 }

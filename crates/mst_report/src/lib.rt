@@ -2,6 +2,7 @@
 #![tactic(auto)]
 
 mod cist;
+pub mod laws;
 mod queries;
 mod role;
 mod text;

@@ -9,7 +9,8 @@ ghost use Rattle.mst_report.specs.Kept.{Keeps};
 ghost use Rattle.mst_report.specs.TreeText.{port_text, bridge_text, bridge_line, tree_text};
 ghost use Rattle.mst_report.specs.View.{IsNameOf, named_bridge, named_port};
 
-use crate::cist::{Cist, known_outcome, settled_cist};
+use crate::cist::{Cist, settled_cist};
+use crate::laws::has_outcome;
 use crate::role::role_of_port;
 use crate::text::{push_bridge, push_heading, push_port};
 use crate::view::{BridgeSeen, PortSeen};
@@ -39,7 +40,8 @@ fn tree_text_of(alloc: Global, network: &Network, tree: Tree) -> Result<Vec<u8>,
         let cist = settled_cist(alloc, network)?;
         push_cist(network, &cist, &mut text)?;
     } else {
-        known_outcome(network);
+        network.known();
+        has_outcome();
     }
     Ok(text)
 }

@@ -3,7 +3,7 @@ use Rattle.mst_vector.specs.Cist.{cist_rules}
 use Rattle.mst_settle.specs.Settled.{Settled, IsDesignated}
 use Rattle.mst_settle.specs.Assignment.{vector_of, designated_of}
 use Rattle.mst_report.specs.View.{CanSettle, bridges_seen, ports_seen, numbered}
-use Rattle.mst_report.proofs.Outcomes.{can_settle, cist_topology, outcome_there, outcome_agrees}
+use Rattle.mst_report.proofs.Outcomes.{can_settle, outcome_agrees}
 use Rattle.mst_report.proofs.cist.settled_cist.Goals as goal
 
 pub settle-requires : goal.settle-requires
@@ -19,7 +19,7 @@ returns c =
     let ok = c.known.ensures.network in
     let num = c.known.ensures.numbered in
     let s = c.in_ok-settler.settler in
-    let o = outcome_there n.net n.numbers ok num (cist_topology n.net n.numbers ok num c.renamed.ensures.topology) c.has_outcome.ensures.vectors c.has_outcome.ensures.ports in
+    let o = c.has_outcome.ensures n.net ok in
     record {
       outcome = o.0;
       is_outcome = o.1;

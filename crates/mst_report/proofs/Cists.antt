@@ -1,0 +1,153 @@
+-- The CIST of a network is a topology.
+use Rattle.std.proofs.Common.{◌≡◌, ℕ, List, Option, Some, None, IsTrue, refl, sym, ap, subst, ◌∙◌, arith, Less, ◌⊎◌, inl, inr, true, false, map}
+use Rattle.std.specs.List.{AllByRecursion, Contains}
+use Rattle.std.specs.Option.{option_map, option_and_then}
+use Rattle.std.specs.Ordering.{eq_by_cmp}
+use Rattle.std.specs.Cmp.Lexicographic.{nat_list_cmp_total}
+use Rattle.std.specs.FinMap as fin
+use Rattle.std.specs.FinMap.{contains_key-keys}
+use Rattle.mst_ids.specs.Names.{name_cmp, port_cmp}
+use Rattle.mst_ids.specs.Identifiers.{bridge_id, port_id}
+use Rattle.mst_ids.specs.declared.name.PortName.{PortName}
+use Rattle.mst_vector.specs.Cist.{cist_rules}
+use Rattle.mst_vector.specs.declared.cist.CistBridge.{CistBridge}
+use Rattle.mst_vector.specs.declared.cist.CistPort.{CistPort}
+use Rattle.mst_settle.specs.Topology.{Plug, Topology, IsTopology, HasBridge, HasPort}
+use Rattle.mst_net.specs.Tables.{Net, BridgeRow, PortRow, LanRow, IsNetwork}
+use Rattle.mst_net.specs.Contents.{priority_of}
+use Rattle.mst_report.specs.Cist.{cist_bridge, cist_port, cist_of, plugged}
+use Rattle.mst_report.specs.View.{Apart}
+use Rattle.mst_report.proofs.Entries.{entries_apart, entries_found, all_weaker}
+use Rattle.mst_report.proofs.Lists.{some_is, no_some, all_kept, all_mapped, all_contained, all_there, apart_kept, apart_mapped, apart_cases, contains_mapped, passed}
+use Rattle.mst_report.proofs.Seen.{name_is, names_differ, port_names_differ, ports_total, same_mac, tied, both_true, automatic_in_range}
+
+-- a key is the key of an entry
+entry_of : {K X : Type 0} (es : List (K × X)) (k : K) → Contains (map (λ e. e.0) es) k → (x : X) × Contains es (k, x)
+entry_of {K} {X} es k c =
+    all_contained (λ k. (x : X) × Contains es (k, x)) (map (λ e. e.0) es) k
+    (all_mapped (λ k. (x : X) × Contains es (k, x)) (λ (e : K × X). e.0) es (all_weaker (Contains es) _ (λ e h. (e.1, h)) es (all_there es))) c
+
+-- a port on a LAN
+abbrev port_on : PortName → List ℕ → LanRow → Plug (List ℕ) (List ℕ) PortName CistPort
+port_on name lan row = record { number = name; bridge = name.bridge; lan = lan; settings = cist_port name row; is_part = true; is_restricted = false }
+
+-- what a port that is plugged is
+record IsPlugged (e : PortName × PortRow) (p : Plug (List ℕ) (List ℕ) PortName CistPort) : Type 0 where
+  row : LanRow
+  is_number : p.number ≡ e.0
+  is_bridge : p.bridge ≡ e.0.bridge
+  is_cist : p.settings ≡ cist_port e.0 row
+
+plugged_is : (net : Net) (e : PortName × PortRow) (p : Plug (List ℕ) (List ℕ) PortName CistPort) → plugged net e ≡ Some p → IsPlugged e p
+plugged_is net e p h = plug e.1.lan h
+  where
+    on : (lan : List ℕ) (w : Option LanRow) → option_map (port_on e.0 lan) w ≡ Some p → IsPlugged e p
+    on lan None h = absurd (no_some p h)
+    on lan (Some row) h =
+        let is : port_on e.0 lan row ≡ p = some_is (port_on e.0 lan row) p h in
+        record {
+          row = row;
+          is_number = sym (ap (λ (x : Plug (List ℕ) (List ℕ) PortName CistPort). x.number) is);
+          is_bridge = sym (ap (λ (x : Plug (List ℕ) (List ℕ) PortName CistPort). x.bridge) is);
+          is_cist = sym (ap (λ (x : Plug (List ℕ) (List ℕ) PortName CistPort). x.settings) is);
+        }
+    plug : (o : Option (List ℕ)) → option_and_then (λ lan. option_map (port_on e.0 lan) (fin.get net.lans lan)) o ≡ Some p → IsPlugged e p
+    plug None h = absurd (no_some p h)
+    plug (Some lan) h = on lan (fin.get net.lans lan) h
+
+module _ (net : Net) (ok : IsNetwork net) where
+  -- what a bridge of the CIST is
+  record IsBridge (q : List ℕ × CistBridge) : Type 0 where
+    row : BridgeRow
+    is_row : fin.get net.bridges q.0 ≡ Some row
+    is_cist : q.1 ≡ cist_bridge net q.0 row
+
+  -- what a port of it is
+  record IsPort (p : Plug (List ℕ) (List ℕ) PortName CistPort) : Type 0 where
+    row : LanRow
+    is_bridge : p.bridge ≡ p.number.bridge
+    is_cist : p.settings ≡ cist_port p.number row
+    has_bridge : IsTrue (fin.contains_key net.bridges p.bridge)
+
+  each_bridge : AllByRecursion IsBridge (cist_of net).bridges
+  each_bridge =
+      all_mapped IsBridge (λ (e : List ℕ × BridgeRow). (e.0, cist_bridge net e.0 e.1)) (fin.entries net.bridges)
+      (all_weaker _ _ (λ e h. record { row = e.1; is_row = h; is_cist = refl }) (fin.entries net.bridges) (entries_found nat_list_cmp_total net.bridges))
+
+  each_port : AllByRecursion IsPort (cist_of net).ports
+  each_port =
+      all_kept (λ (e : PortName × PortRow). fin.get net.ports e.0 ≡ Some e.1) IsPort (plugged net) (λ e p h k.
+        let is = plugged_is net e p k in
+        record {
+          row = is.row;
+          is_bridge = is.is_bridge ∙ ap (λ (n : PortName). n.bridge) (sym is.is_number);
+          is_cist = is.is_cist ∙ ap (λ n. cist_port n is.row) (sym is.is_number);
+          has_bridge = subst (λ n. IsTrue (fin.contains_key net.bridges n)) (sym is.is_bridge) (ok.port_has_bridge e.0 e.1 h);
+        }) (fin.entries net.ports) (entries_found ports_total net.ports)
+
+  -- names rise, so no two are the same
+  bridges_rise : Apart (λ (q r : List ℕ × CistBridge). name_cmp q.0 r.0 ≡ Less) (cist_of net).bridges
+  bridges_rise =
+      apart_mapped (λ (e f : List ℕ × BridgeRow). name_cmp e.0 f.0 ≡ Less) _ (λ e. (e.0, cist_bridge net e.0 e.1)) (λ e f l. l) (fin.entries net.bridges)
+      (entries_apart nat_list_cmp_total net.bridges)
+
+  ports_rise : Apart (λ (p q : Plug (List ℕ) (List ℕ) PortName CistPort). port_cmp p.number q.number ≡ Less) (cist_of net).ports
+  ports_rise =
+      apart_kept (λ (e f : PortName × PortRow). port_cmp e.0 f.0 ≡ Less) _ (plugged net)
+      (λ e f p q l h k. (λ i. port_cmp ((plugged_is net e p h).is_number i) ((plugged_is net f q k).is_number i)) ∙ l)
+      (fin.entries net.ports) (entries_apart ports_total net.ports)
+
+  one_bridge : (n : List ℕ) (a b : CistBridge) → HasBridge (cist_of net) n a → HasBridge (cist_of net) n b → a ≡ b
+  one_bridge n a b h j = go (apart_cases (λ (q r : List ℕ × CistBridge). name_cmp q.0 r.0 ≡ Less) (cist_of net).bridges (n, a) (n, b) bridges_rise h j)
+    where
+      go : (◌≡◌ {A = List ℕ × CistBridge} (n, a) (n, b)) ⊎ ((name_cmp n n ≡ Less) ⊎ (name_cmp n n ≡ Less)) → a ≡ b
+      go (inl same) = ap (λ (q : List ℕ × CistBridge). q.1) same
+      go (inr (inl l)) = absurd (names_differ n n l refl)
+      go (inr (inr l)) = absurd (names_differ n n l refl)
+
+  one_port : (p q : Plug (List ℕ) (List ℕ) PortName CistPort) → HasPort (cist_of net) p → HasPort (cist_of net) q → p.number ≡ q.number → p ≡ q
+  one_port p q h j e =
+      elim (apart_cases (λ (p q : Plug (List ℕ) (List ℕ) PortName CistPort). port_cmp p.number q.number ≡ Less) (cist_of net).ports p q ports_rise h j) [
+        inl same ↦ same
+      | inr apart ↦ absurd (elim apart [ inl l ↦ port_names_differ p.number q.number l e | inr l ↦ port_names_differ q.number p.number l (sym e) ])
+      ]
+
+  has_bridge : (name : List ℕ) → IsTrue (fin.contains_key net.bridges name) → (b : CistBridge) × HasBridge (cist_of net) name b
+  has_bridge name here =
+      let found = passed (eq_by_cmp name_cmp name) (fin.keys net.bridges) (sym (contains_key-keys net.bridges name) ∙ here) in
+      let key = subst (Contains (fin.keys net.bridges)) (sym (name_is name found.0 (tied (name_cmp name found.0) found.2))) found.1 in
+      let entry = entry_of (fin.entries net.bridges) name key in
+      (cist_bridge net name entry.0, contains_mapped (λ (e : List ℕ × BridgeRow). (e.0, cist_bridge net e.0 e.1)) (fin.entries net.bridges) (name, entry.0) entry.1)
+
+  port_of : (p : Plug (List ℕ) (List ℕ) PortName CistPort) → HasPort (cist_of net) p → IsPort p
+  port_of p h = all_contained IsPort (cist_of net).ports p each_port h
+
+  -- different MACs make different identifiers
+  bridge_ids : (n k : List ℕ) (a b : CistBridge) → HasBridge (cist_of net) n a → HasBridge (cist_of net) k b → a.id ≡ b.id → n ≡ k
+  bridge_ids n k a b h j e =
+      let x = all_contained IsBridge (cist_of net).bridges (n, a) each_bridge h in
+      let y = all_contained IsBridge (cist_of net).bridges (k, b) each_bridge j in
+      let ids : bridge_id (priority_of net n 0) 0 x.row.mac ≡ bridge_id (priority_of net k 0) 0 y.row.mac =
+          sym (ap (λ (c : CistBridge). c.id) x.is_cist) ∙ e ∙ ap (λ (c : CistBridge). c.id) y.is_cist in
+      ok.macs_differ n k x.row y.row x.is_row y.is_row
+      (same_mac x.row.mac y.row.mac (priority_of net n 0) (priority_of net k 0) (ok.mac_fits n x.row x.is_row) (ok.mac_fits k y.row y.is_row) ids)
+
+  -- and different numbers of ports
+  port_ids : (p q : Plug (List ℕ) (List ℕ) PortName CistPort) → HasPort (cist_of net) p → HasPort (cist_of net) q → p.bridge ≡ q.bridge → p.settings.id ≡ q.settings.id → p ≡ q
+  port_ids p q h j e f =
+      let x = port_of p h in
+      let y = port_of q j in
+      let names : p.number.bridge ≡ q.number.bridge = sym x.is_bridge ∙ e ∙ y.is_bridge in
+      let ids : port_id 8 p.number.number ≡ port_id 8 q.number.number = sym (ap (λ (c : CistPort). c.id) x.is_cist) ∙ f ∙ ap (λ (c : CistPort). c.id) y.is_cist in
+      let at : p.number.number ≡ q.number.number = omega arith in
+      one_port p q h j (λ i. record { bridge = names i; number = at i })
+
+  pub cist_topology : IsTopology cist_rules (cist_of net)
+  cist_topology = record {
+    one_bridge = one_bridge;
+    one_port = one_port;
+    has_bridge = λ p h. has_bridge p.bridge (port_of p h).has_bridge;
+    in_range = λ p h. let x = port_of p h in subst (λ (c : CistPort). IsTrue (cist_rules.in_range c)) (sym x.is_cist) (both_true (automatic_in_range x.row.speed));
+    bridge_ids = bridge_ids;
+    port_ids = port_ids;
+  }
