@@ -45,8 +45,8 @@ pub(crate) fn named_file<'a, R: Print + Eprint + AllocGlobal>(
             Err(Stop::Fault(RunFault::Memory))
         }
         Err(error) => match error.print(rt) {
-            Ok(()) => Err(Stop::Told(error.exit_code() as u8)),
-            Err(_) => Err(Stop::Fault(RunFault::Write)),
+            Err(_) if !error.use_stderr() => Err(Stop::Fault(RunFault::Write)),
+            _ => Err(Stop::Told(error.exit_code() as u8)),
         },
     }
 }
