@@ -1,13 +1,13 @@
 -- A topology that is built of bridges and ports, one after another.
-use Rattle.std.proofs.Common.{◌≡◌, ◌≢◌, ℕ, suc, zero, ◌+◌, ◌<◌, List, [], ◌∷◌, ◌++◌, length, map, take, get_or, IsTrue, refl, sym, ap, subst, ◌∙◌, arith}
+use Rattle.std.proofs.Common.{◌≡◌, ◌≢◌, ℕ, ◌+◌, ◌<◌, List, [], ◌∷◌, ◌++◌, length, map, take, get_or, IsTrue, refl, sym, ap, subst, ◌∙◌}
 use Rattle.std.specs.List.{AllByRecursion, Contains}
 use Rattle.std.proofs.lemmas.List.{take_more, map-append}
 use Rattle.mst_vector.specs.Cist.{cist_rules}
 use Rattle.mst_vector.specs.declared.cist.CistBridge.{CistBridge}
 use Rattle.mst_vector.specs.declared.cist.CistPort.{CistPort}
-use Rattle.mst_settle.specs.Topology.{Plug, Topology, HasBridge, HasPort, with_bridge, with_port}
-use Rattle.mst_settle.specs.Grows.{CanAddBridge, CanAddPort, tree_port}
-use Rattle.mst_report.specs.View.{Apart, BridgesDiffer, PortsDiffer, CanSettle, numbered_bridge, numbered_port}
+use Rattle.mst_settle.specs.Topology.{Plug, Topology, HasBridge, HasPort}
+use Rattle.mst_settle.specs.Grows.{CanAddBridge, CanAddPort}
+use Rattle.mst_report.specs.View.{BridgesDiffer, PortsDiffer, CanSettle, numbered_bridge, numbered_port}
 use Rattle.mst_report.specs.declared.view.BridgeSeen.{BridgeSeen}
 use Rattle.mst_report.specs.declared.view.PortSeen.{PortSeen}
 use Rattle.mst_report.proofs.Entries.{all_weaker}

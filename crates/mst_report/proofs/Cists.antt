@@ -12,7 +12,7 @@ use Rattle.mst_ids.specs.declared.name.PortName.{PortName}
 use Rattle.mst_vector.specs.Cist.{cist_rules}
 use Rattle.mst_vector.specs.declared.cist.CistBridge.{CistBridge}
 use Rattle.mst_vector.specs.declared.cist.CistPort.{CistPort}
-use Rattle.mst_settle.specs.Topology.{Plug, Topology, IsTopology, HasBridge, HasPort}
+use Rattle.mst_settle.specs.Topology.{Plug, IsTopology, HasBridge, HasPort}
 use Rattle.mst_net.specs.Tables.{Net, BridgeRow, PortRow, LanRow, IsNetwork}
 use Rattle.mst_net.specs.Contents.{priority_of}
 use Rattle.mst_report.specs.Cist.{cist_bridge, cist_port, cist_of, plugged}
@@ -51,6 +51,7 @@ plugged_is net e p h = plug e.1.lan h
           is_bridge = sym (ap (λ (x : Plug (List ℕ) (List ℕ) PortName CistPort). x.bridge) is);
           is_cist = sym (ap (λ (x : Plug (List ℕ) (List ℕ) PortName CistPort). x.settings) is);
         }
+
     plug : (o : Option (List ℕ)) → option_and_then (λ lan. option_map (port_on e.0 lan) (fin.get net.lans lan)) o ≡ Some p → IsPlugged e p
     plug None h = absurd (no_some p h)
     plug (Some lan) h = on lan (fin.get net.lans lan) h
@@ -77,13 +78,13 @@ module _ (net : Net) (ok : IsNetwork net) where
   each_port : AllByRecursion IsPort (cist_of net).ports
   each_port =
       all_kept (λ (e : PortName × PortRow). fin.get net.ports e.0 ≡ Some e.1) IsPort (plugged net) (λ e p h k.
-        let is = plugged_is net e p k in
-        record {
-          row = is.row;
-          is_bridge = is.is_bridge ∙ ap (λ (n : PortName). n.bridge) (sym is.is_number);
-          is_cist = is.is_cist ∙ ap (λ n. cist_port n is.row) (sym is.is_number);
-          has_bridge = subst (λ n. IsTrue (fin.contains_key net.bridges n)) (sym is.is_bridge) (ok.port_has_bridge e.0 e.1 h);
-        }) (fin.entries net.ports) (entries_found ports_total net.ports)
+      let is = plugged_is net e p k in
+      record {
+        row = is.row;
+        is_bridge = is.is_bridge ∙ ap (λ (n : PortName). n.bridge) (sym is.is_number);
+        is_cist = is.is_cist ∙ ap (λ n. cist_port n is.row) (sym is.is_number);
+        has_bridge = subst (λ n. IsTrue (fin.contains_key net.bridges n)) (sym is.is_bridge) (ok.port_has_bridge e.0 e.1 h);
+      }) (fin.entries net.ports) (entries_found ports_total net.ports)
 
   -- names rise, so no two are the same
   bridges_rise : Apart (λ (q r : List ℕ × CistBridge). name_cmp q.0 r.0 ≡ Less) (cist_of net).bridges
@@ -108,8 +109,8 @@ module _ (net : Net) (ok : IsNetwork net) where
   one_port : (p q : Plug (List ℕ) (List ℕ) PortName CistPort) → HasPort (cist_of net) p → HasPort (cist_of net) q → p.number ≡ q.number → p ≡ q
   one_port p q h j e =
       elim (apart_cases (λ (p q : Plug (List ℕ) (List ℕ) PortName CistPort). port_cmp p.number q.number ≡ Less) (cist_of net).ports p q ports_rise h j) [
-        inl same ↦ same
-      | inr apart ↦ absurd (elim apart [ inl l ↦ port_names_differ p.number q.number l e | inr l ↦ port_names_differ q.number p.number l (sym e) ])
+        | inl same ↦ same
+        | inr apart ↦ absurd (elim apart [ inl l ↦ port_names_differ p.number q.number l e | inr l ↦ port_names_differ q.number p.number l (sym e) ])
       ]
 
   has_bridge : (name : List ℕ) → IsTrue (fin.contains_key net.bridges name) → (b : CistBridge) × HasBridge (cist_of net) name b
@@ -128,7 +129,7 @@ module _ (net : Net) (ok : IsNetwork net) where
       let x = all_contained IsBridge (cist_of net).bridges (n, a) each_bridge h in
       let y = all_contained IsBridge (cist_of net).bridges (k, b) each_bridge j in
       let ids : bridge_id (priority_of net n 0) 0 x.row.mac ≡ bridge_id (priority_of net k 0) 0 y.row.mac =
-          sym (ap (λ (c : CistBridge). c.id) x.is_cist) ∙ e ∙ ap (λ (c : CistBridge). c.id) y.is_cist in
+      sym (ap (λ (c : CistBridge). c.id) x.is_cist) ∙ e ∙ ap (λ (c : CistBridge). c.id) y.is_cist in
       ok.macs_differ n k x.row y.row x.is_row y.is_row
       (same_mac x.row.mac y.row.mac (priority_of net n 0) (priority_of net k 0) (ok.mac_fits n x.row x.is_row) (ok.mac_fits k y.row y.is_row) ids)
 

@@ -1,7 +1,6 @@
 -- What is true of each element of a list, and of any two.
-use Rattle.std.proofs.Common.{◌≡◌, ◌≢◌, ℕ, suc, zero, ◌+◌, ◌<◌, ◌≤◌, Bool, true, false, cond, ◌||◌, List, [], ◌∷◌, ◌++◌, length, take, get_or, map, Option, Some, None, refl, sym, ap, subst, ◌∙◌, arith, true≢false, is_some, ◌⊎◌, inl, inr}
-use Rattle.std.specs.List.{AllByRecursion, All, Contains, filter_map, cons_option, list_any}
-use Rattle.std.specs.Bool.{⊤}
+use Rattle.std.proofs.Common.{◌≡◌, ℕ, suc, zero, ◌<◌, Bool, true, false, ◌||◌, List, [], ◌∷◌, length, take, get_or, map, Option, Some, None, refl, sym, ap, subst, ◌∙◌, arith, true≢false, is_some, ◌⊎◌, inl, inr}
+use Rattle.std.specs.List.{AllByRecursion, Contains, filter_map, cons_option, list_any}
 use Rattle.std.specs.Option.{unwrap_or}
 use Rattle.mst_report.specs.View.{Apart}
 

@@ -1,6 +1,5 @@
 -- What is seen under the numbers of records is what is seen under names, renamed.
-use Rattle.std.proofs.Common.{◌≡◌, ◌≢◌, ℕ, suc, zero, get_or, ◌+◌, ◌<◌, ◌≤◌, Bool, true, false, cond, ◌||◌, nat_eq, List, [], ◌∷◌, length, map, Option, Some, None, is_some, IsTrue, refl, sym, ap, subst, ◌∙◌, arith, true≢false, eq-eqb}
-use Rattle.std.specs.Bool.{⊤}
+use Rattle.std.proofs.Common.{◌≡◌, ◌≢◌, ℕ, suc, zero, get_or, ◌<◌, Bool, true, false, cond, ◌||◌, nat_eq, List, [], ◌∷◌, length, map, Some, refl, sym, ap, subst, ◌∙◌, arith, true≢false, eq-eqb}
 use Rattle.std.specs.List.{AllByRecursion, Contains, list_any}
 use Rattle.std.proofs.lemmas.Grind.{common_steps}
 use Rattle.std.specs.FinMap as fin
@@ -9,7 +8,7 @@ use Rattle.mst_vector.specs.declared.cist.CistBridge.{CistBridge}
 use Rattle.mst_vector.specs.declared.cist.CistPort.{CistPort}
 use Rattle.mst_settle.specs.Topology.{Plug, Topology, HasBridge, HasPort}
 use Rattle.mst_settle.specs.Renamed.{Renaming, renamed, IsRenamed}
-use Rattle.mst_net.specs.Tables.{Net, Numbers, IsNetwork}
+use Rattle.mst_net.specs.Tables.{Net, Numbers}
 use Rattle.mst_net.specs.Contents.{IsNumbered}
 use Rattle.mst_report.specs.View.{Apart, BridgesDiffer, PortsDiffer, named_bridge, named_port, numbered_bridge, numbered_port, numbered}
 use Rattle.mst_report.specs.declared.view.BridgeSeen.{BridgeSeen}

@@ -1,6 +1,6 @@
 -- The settled outcome of a network, under names and under the numbers of records.
-use Rattle.std.proofs.Common.{◌≡◌, ◌≢◌, ℕ, Bool, true, false, List, [], ◌∷◌, map, Option, Some, None, IsTrue, refl, sym, ap, subst, ◌∙◌, ◌⊎◌, inl, inr, nat_eq, MatchOption, true≢false, length, ◌-◌, ◌*◌, ◌≤◌}
-use Rattle.std.specs.List.{AllByRecursion, Contains}
+use Rattle.std.proofs.Common.{◌≡◌, ◌≢◌, ℕ, List, map, Option, Some, None, IsTrue, refl, sym, ap, subst, ◌∙◌, ◌⊎◌, inl, inr, nat_eq, MatchOption}
+use Rattle.std.specs.List.{Contains}
 use Rattle.std.specs.FinMap as fin
 use Rattle.std.specs.Cmp.Lexicographic.{pointwise, bytes_decides}
 use Rattle.mst_ids.specs.declared.name.PortName.{PortName}
@@ -14,10 +14,10 @@ use Rattle.mst_settle.specs.Renamed.{Renaming, IsRenamed}
 use Rattle.mst_net.specs.Tables.{Net, Numbers, IsNetwork}
 use Rattle.mst_net.specs.Contents.{IsNumbered}
 use Rattle.mst_report.specs.Cist.{Outcome, IsOutcome, cist_of}
-use Rattle.mst_report.specs.View.{Apart, BridgesDiffer, PortsDiffer, CanSettle, Agrees, IsNameOf, bridges_seen, ports_seen, named_bridge, named_port, numbered_bridge, numbered_port, numbered}
+use Rattle.mst_report.specs.View.{BridgesDiffer, PortsDiffer, CanSettle, Agrees, IsNameOf, bridges_seen, ports_seen, numbered_bridge, numbered_port, numbered}
 use Rattle.mst_report.specs.declared.view.BridgeSeen.{BridgeSeen}
 use Rattle.mst_report.specs.declared.view.PortSeen.{PortSeen}
-use Rattle.mst_report.proofs.Entries.{all_weaker, all_both}
+use Rattle.mst_report.proofs.Entries.{all_both}
 use Rattle.mst_report.proofs.Lists.{all_mapped, all_contained, all_there, apart_mapped, apart_cases, contains_mapped}
 use Rattle.mst_report.proofs.Seen.{bridges_differ, ports_differ, bridges_numbered, ports_numbered, ports_have_bridge, ports_in_range, few_bridges, bridges_named, ports_named}
 use Rattle.mst_lang.specs.declared.line.Query.{Query}
@@ -81,9 +81,10 @@ pub outcome_there : (net : Net) → IsNetwork net
     → ((t : Topology (List ℕ) (List ℕ) PortName CistBridge CistPort) (v : List ℕ → Option CistVector) → IsTopology cist_rules t → KeyTests (List ℕ) (List ℕ) → (lan : List ℕ) → (p : Option PortName) × IsDesignated cist_rules t v lan p)
     → (o : Outcome) × IsOutcome net o
 outcome_there net ok vectors ports =
-    let v = vectors (cist_of net) (cist_topology net ok) name_tests in
-    (record { vector = v.0; designated = λ lan. (ports (cist_of net) v.0 (cist_topology net ok) name_tests lan).0 },
-    record { settled = v.1; designated = λ lan. (ports (cist_of net) v.0 (cist_topology net ok) name_tests lan).1 })
+    let v = vectors (cist_of net) (cist_topology net ok) name_tests in (
+      record { vector = v.0; designated = λ lan. (ports (cist_of net) v.0 (cist_topology net ok) name_tests lan).0 },
+      record { settled = v.1; designated = λ lan. (ports (cist_of net) v.0 (cist_topology net ok) name_tests lan).1 },
+    )
 
 -- by the law that a network has one outcome, a query has one answer
 pub one_text : ((net : Net) (o p : Outcome) → IsNetwork net → IsOutcome net o → IsOutcome net p → (name : List ℕ) → o.vector name ≡ p.vector name)

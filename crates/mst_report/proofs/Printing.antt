@@ -1,20 +1,20 @@
 -- What is printed of the settled CIST.
-use Rattle.std.proofs.Common.{◌≡◌, ℕ, Bool, true, false, not, cond, List, [], ◌∷◌, ◌++◌, length, map, take, get_or, Option, Some, None, ◌+◌, ◌<◌, refl, sym, ap, subst, ◌∙◌, append_assoc, append-nil, nat_eq}
-use Rattle.std.specs.List.{flat_map, Contains, AllByRecursion}
-use Rattle.std.specs.Option.{ForSome, option_map_or}
+use Rattle.std.proofs.Common.{◌≡◌, ℕ, Bool, true, false, not, cond, List, [], ◌∷◌, ◌++◌, length, map, take, get_or, Option, Some, None, ◌+◌, ◌<◌, refl, sym, ap, subst, ◌∙◌, append_assoc, append-nil}
+use Rattle.std.specs.List.{flat_map, Contains}
+use Rattle.std.specs.Option.{ForSome}
 use Rattle.std.specs.Cmp.Lexicographic.{bytes_decides}
 use Rattle.std.specs.FinMap as fin
 use Rattle.std.proofs.lemmas.Grind.{flat_map-append}
 use Rattle.mst_ids.specs.declared.name.PortName.{PortName}
 use Rattle.mst_settle.specs.Assignment.{vector_of, designated_of}
 use Rattle.mst_vector.specs.declared.cist.CistVector.{CistVector}
-use Rattle.mst_net.specs.Tables.{Net, Numbers, IsNetwork}
+use Rattle.mst_net.specs.Tables.{Net, Numbers}
 use Rattle.mst_net.specs.Contents.{IsNumbered}
-use Rattle.mst_report.specs.Cist.{Outcome, cist_of}
+use Rattle.mst_report.specs.Cist.{Outcome}
 use Rattle.mst_report.specs.Roles.{same_name, role_by, role_of}
 use Rattle.mst_report.specs.TreeText.{port_text, port_line}
 use Rattle.mst_report.specs.Kept.{Keeps}
-use Rattle.mst_report.specs.View.{IsNameOf, named_bridge, named_port, bridges_seen, ports_seen}
+use Rattle.mst_report.specs.View.{IsNameOf, named_port, bridges_seen, ports_seen}
 use Rattle.mst_report.specs.declared.cist.Cist.{Cist}
 use Rattle.mst_report.specs.declared.view.BridgeSeen.{BridgeSeen}
 use Rattle.mst_report.specs.declared.view.PortSeen.{PortSeen}

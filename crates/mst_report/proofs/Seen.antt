@@ -1,5 +1,5 @@
 -- What the CIST sees of a network.
-use Rattle.std.proofs.Common.{◌≡◌, ◌≢◌, ℕ, suc, ◌+◌, ◌*◌, ◌^◌, ◌<◌, ◌≤◌, Bool, true, false, cond, ◌&&◌, nat_le, min, max, ◌/◌, List, [], ◌∷◌, length, map, Option, Some, None, is_some, IsTrue, refl, sym, ap, subst, ◌∙◌, arith, true≢false, Less, Equal, Greater}
+use Rattle.std.proofs.Common.{◌≡◌, ◌≢◌, ℕ, suc, ◌+◌, ◌*◌, ◌^◌, ◌<◌, ◌≤◌, Bool, true, false, ◌&&◌, nat_le, min, max, ◌/◌, List, [], ◌∷◌, length, map, Option, Some, None, is_some, IsTrue, refl, sym, ap, subst, ◌∙◌, arith, true≢false, Less, Equal, Greater}
 use Rattle.std.specs.declared.cmp.Ordering.{Ordering}
 use Rattle.std.specs.Bool.{⊤}
 use Rattle.std.specs.List.{AllByRecursion, Contains, filter_map, cons_option}
@@ -27,7 +27,7 @@ use Rattle.mst_report.specs.Cist.{cist_bridge, cist_port, cist_of, plugged}
 use Rattle.mst_report.specs.View.{Apart, BridgesDiffer, PortsDiffer, bridge_seen, bridges_seen, port_on, port_seen, ports_seen, named_bridge, named_port, numbered_bridge}
 use Rattle.mst_report.specs.declared.view.BridgeSeen.{BridgeSeen}
 use Rattle.mst_report.specs.declared.view.PortSeen.{PortSeen}
-use Rattle.mst_report.proofs.Entries.{entries_apart, entries_found, all_weaker}
+use Rattle.mst_report.proofs.Entries.{entries_apart, entries_found}
 use Rattle.mst_report.proofs.Lists.{some_is, no_some, all_kept, apart_kept, apart_mapped, contains_kept, contains_mapped, passed}
 
 abbrev pub name_is : (a b : List ℕ) → name_cmp a b ≡ Equal → a ≡ b

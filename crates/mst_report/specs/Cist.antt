@@ -1,5 +1,5 @@
 -- The CIST of a network: its bridges and plugged ports by name, and its settled outcome.
-use Rattle.std.specs.Prelude.{◌≡◌, ℕ, Bool, true, false, List, map, filter_map, Option, Some, None}
+use Rattle.std.specs.Prelude.{ℕ, true, false, List, map, filter_map, Option}
 use Rattle.std.specs.Option.{option_map, option_and_then}
 use Rattle.std.specs.FinMap as fin
 use Rattle.mst_ids.specs.Identifiers.{bridge_id, port_id}

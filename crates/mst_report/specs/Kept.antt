@@ -1,5 +1,5 @@
 -- The settled CIST of a network, as it is kept.
-use Rattle.std.specs.Prelude.{◌≡◌, ℕ, Option}
+use Rattle.std.specs.Prelude.{◌≡◌}
 use Rattle.mst_settle.specs.Assignment.{vector_of, designated_of}
 use Rattle.mst_net.specs.Tables.{Net, Numbers}
 use Rattle.mst_report.specs.Cist.{Outcome, IsOutcome}

@@ -1,5 +1,5 @@
 -- What the CIST sees of a network, under names and under the numbers of records.
-use Rattle.std.specs.Prelude.{◌≡◌, ◌≢◌, ℕ, ◌==◌, Bool, true, false, List, [], ◌∷◌, map, filter_map, Option, Some, None, ⊤, IsTrue, length, ◌≤◌, MatchOption}
+use Rattle.std.specs.Prelude.{◌≡◌, ◌≢◌, ℕ, true, false, List, [], ◌∷◌, map, filter_map, Option, Some, None, ⊤, IsTrue, length, ◌≤◌, MatchOption}
 use Rattle.std.specs.Option.{option_map, option_and_then}
 use Rattle.std.specs.List.{AllByRecursion, Contains}
 use Rattle.std.specs.FinMap as fin

@@ -2,7 +2,7 @@ use Rattle.std.proofs.Common.{sym, subst, ◌∙◌}
 use Rattle.mst_vector.specs.Cist.{cist_rules}
 use Rattle.mst_settle.specs.Settled.{Settled, IsDesignated}
 use Rattle.mst_settle.specs.Assignment.{vector_of, designated_of}
-use Rattle.mst_report.specs.View.{CanSettle, bridges_seen, ports_seen, numbered}
+use Rattle.mst_report.specs.View.{CanSettle, ports_seen, numbered}
 use Rattle.mst_report.proofs.Outcomes.{can_settle, outcome_agrees}
 use Rattle.mst_report.proofs.cist.settled_cist.Goals as goal
 

@@ -1,4 +1,4 @@
-use Rattle.std.proofs.Common.{◌≡◌, [], map, take}
+use Rattle.std.proofs.Common.{◌≡◌, map, take}
 use Rattle.mst_report.specs.View.{numbered_bridge, numbered_port}
 use Rattle.mst_report.proofs.cist.topology.Given as goal
 
