@@ -10,7 +10,7 @@ use Rattle.mst_settle.specs.Topology.{Plug, Topology, HasBridge, HasPort}
 use Rattle.mst_settle.specs.Renamed.{Renaming, renamed, IsRenamed}
 use Rattle.mst_net.specs.Tables.{Net, Numbers}
 use Rattle.mst_net.specs.Contents.{IsNumbered}
-use Rattle.mst_report.specs.View.{Apart, BridgesDiffer, PortsDiffer, named_bridge, named_port, numbered_bridge, numbered_port, numbered}
+use Rattle.mst_report.specs.View.{Apart, BridgesDiffer, PortsDiffer, CanSettle, named_bridge, named_port, numbered_bridge, numbered_port, numbered}
 use Rattle.mst_report.specs.declared.view.BridgeSeen.{BridgeSeen}
 use Rattle.mst_report.specs.declared.view.PortSeen.{PortSeen}
 use Rattle.mst_report.proofs.Entries.{all_weaker, all_both}
@@ -74,19 +74,20 @@ lan_any (q ∷ ps) p c = go c.0 c.1 c.2 (lan_any ps p)
     go zero l e rest = ap (λ b. b || list_any (λ r. nat_eq r.lan_number p.lan_number) ps) (eq-eqb q.lan_number p.lan_number (ap (λ (r : PortSeen). r.lan_number) e))
     go (suc k) l e rest = ap (λ b. nat_eq q.lan_number p.lan_number || b) (rest (k, omega arith, e)) ∙ or_true (nat_eq q.lan_number p.lan_number)
 
-module _ (net : Net) (numbers : Numbers) (num : IsNumbered net numbers) (bs : List BridgeSeen) (ps : List PortSeen)
-    (bridges_differ : Apart BridgesDiffer bs)
-    (ports_differ : Apart PortsDiffer ps)
-    (bridges_numbered : AllByRecursion (λ b. fin.get numbers.bridges b.name ≡ Some b.number) bs)
-    (ports_numbered : AllByRecursion (IsNumberedPort numbers) ps)
-    (have_bridge : AllByRecursion (λ p. (c : CistBridge) × Contains (map numbered_bridge bs) (p.bridge, c)) ps) where
+-- what is seen can be settled, and goes by these numbers
+pub record IsSeenBy (numbers : Numbers) (bs : List BridgeSeen) (ps : List PortSeen) : Type 0 where
+  pub can_settle : CanSettle bs ps
+  pub bridges : AllByRecursion (λ b. fin.get numbers.bridges b.name ≡ Some b.number) bs
+  pub ports : AllByRecursion (IsNumberedPort numbers) ps
+
+module _ (net : Net) (numbers : Numbers) (num : IsNumbered net numbers) (bs : List BridgeSeen) (ps : List PortSeen) (seen : IsSeenBy numbers bs ps) where
   -- what a bridge is, under its number and under its name
   record BridgeNamed (b : BridgeSeen) : Type 0 where
     is_name : bridge_at bs b.number ≡ b.name
     is_number : fin.get numbers.bridges b.name ≡ Some b.number
 
   bridges_are_named : AllByRecursion BridgeNamed bs
-  bridges_are_named = all_both _ _ BridgeNamed (λ b e f. record { is_name = e; is_number = f }) bs (bridges_at bs bridges_differ) bridges_numbered
+  bridges_are_named = all_both _ _ BridgeNamed (λ b e f. record { is_name = e; is_number = f }) bs (bridges_at bs seen.can_settle.bridges_differ) seen.bridges
 
   under_number : AllByRecursion (λ (q : ℕ × CistBridge). fin.get numbers.bridges (bridge_at bs q.0) ≡ Some q.0) (map numbered_bridge bs)
   under_number = all_mapped _ numbered_bridge bs (all_weaker BridgeNamed _ (λ b h. ap (fin.get numbers.bridges) h.is_name ∙ h.is_number) bs bridges_are_named)
@@ -99,16 +100,16 @@ module _ (net : Net) (numbers : Numbers) (num : IsNumbered net numbers) (bs : Li
 
   ports_are_named : AllByRecursion PortNamed ps
   ports_are_named =
-      all_both _ _ PortNamed (λ p e f. f e) ps (ports_at ps ports_differ)
+      all_both _ _ PortNamed (λ p e f. f e) ps (ports_at ps seen.can_settle.ports_differ)
       (all_both _ _ (λ p. port_at ps p.number ≡ p.name → PortNamed p) (λ p there f e. f there e) ps (all_there ps)
       (all_both (IsNumberedPort numbers) _ (λ p. Contains ps p → port_at ps p.number ≡ p.name → PortNamed p) (λ p n c there e. record {
         is_port = e;
         is_bridge =
             let at : fin.get numbers.bridges (bridge_at bs p.bridge) ≡ Some p.bridge = all_contained (λ (q : ℕ × CistBridge). fin.get numbers.bridges (bridge_at bs q.0) ≡ Some q.0) (map numbered_bridge bs) (p.bridge, c.0) under_number c.1 in
             num.bridges_differ (bridge_at bs p.bridge) p.name.bridge p.bridge at n.bridge;
-        is_lan = lan_found ps p.lan_number p.lan (all_weaker (IsNumberedPort numbers) _ (λ q m same. num.lans_differ q.lan p.lan p.lan_number (m.lan ∙ ap Some same) n.lan) ps ports_numbered) (lan_any ps p there);
+        is_lan = lan_found ps p.lan_number p.lan (all_weaker (IsNumberedPort numbers) _ (λ q m same. num.lans_differ q.lan p.lan p.lan_number (m.lan ∙ ap Some same) n.lan) ps seen.ports) (lan_any ps p there);
         numbers_are = n;
-      }) ps ports_numbered have_bridge))
+      }) ps seen.ports seen.can_settle.have_bridge))
 
   abbrev by_number : Topology ℕ ℕ ℕ CistBridge CistPort
   by_number = numbered bs ps
@@ -125,7 +126,7 @@ module _ (net : Net) (numbers : Numbers) (num : IsNumbered net numbers) (bs : Li
       (all_mapped _ numbered_port ps (all_weaker PortNamed _ (λ p h. ap (fin.get numbers.ports) h.is_port ∙ h.numbers_are.port) ps ports_are_named)) h
 
   pub bridges_found : AllByRecursion (λ b. (naming bs ps).bridge b.number ≡ b.name) bs
-  bridges_found = bridges_at bs bridges_differ
+  bridges_found = bridges_at bs seen.can_settle.bridges_differ
 
   pub lans_found : AllByRecursion (λ p. (naming bs ps).lan p.lan_number ≡ p.lan) ps
   lans_found = all_weaker PortNamed _ (λ p h. h.is_lan) ps ports_are_named

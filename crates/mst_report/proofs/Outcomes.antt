@@ -25,7 +25,7 @@ use Rattle.mst_lang.specs.declared.line.Query.TheVariants.{ShowTree}
 use Rattle.mst_report.specs.Answers.{Answers}
 use Rattle.mst_report.specs.TreeText.{tree_text}
 use Rattle.mst_report.proofs.Cists.{cist_topology}
-use Rattle.mst_report.proofs.Naming.{naming, is_renamed, port_found, bridges_found, lans_found}
+use Rattle.mst_report.proofs.Naming.{IsSeenBy, naming, is_renamed, port_found, bridges_found, lans_found}
 
 -- what is seen of a network can be settled
 pub can_settle : (net : Net) (numbers : Numbers) → IsNetwork net → IsNumbered net numbers → CanSettle (bridges_seen net numbers) (ports_seen net numbers)
@@ -95,13 +95,15 @@ one_text vectors ports (ShowTree tree) net a b ok x y =
     x.2 ∙ ap (λ o. tree_text net o tree) same ∙ sym y.2
 
 module _ (net : Net) (numbers : Numbers) (ok : IsNetwork net) (num : IsNumbered net numbers) where
+  is_seen : IsSeenBy numbers (bridges_seen net numbers) (ports_seen net numbers)
+  is_seen = record { can_settle = can_settle net numbers ok num; bridges = bridges_numbered net numbers ok num; ports = ports_numbered net numbers ok num }
+
   -- the CIST of a network is what is seen of it, renamed
   pub cist_renamed : IsRenamed (naming (bridges_seen net numbers) (ports_seen net numbers)) (numbered (bridges_seen net numbers) (ports_seen net numbers)) (cist_of net)
   cist_renamed =
       subst (IsRenamed (naming (bridges_seen net numbers) (ports_seen net numbers)) (numbered (bridges_seen net numbers) (ports_seen net numbers)))
       (λ i. record { bridges = sym (bridges_named net numbers ok num) i; ports = sym (ports_named net numbers ok num) i })
-      (is_renamed net numbers num (bridges_seen net numbers) (ports_seen net numbers) (bridges_differ net numbers ok num) (ports_differ net numbers ok num)
-      (bridges_numbered net numbers ok num) (ports_numbered net numbers ok num) (ports_have_bridge net numbers ok num))
+      (is_renamed net numbers num (bridges_seen net numbers) (ports_seen net numbers) is_seen)
 
   pub numbers_are_topology : IsTopology cist_rules (numbered (bridges_seen net numbers) (ports_seen net numbers))
   numbers_are_topology = is_topology (bridges_seen net numbers) (ports_seen net numbers) (can_settle net numbers ok num)
@@ -116,8 +118,8 @@ module _ (net : Net) (numbers : Numbers) (ok : IsNetwork net) (num : IsNumbered 
   outcome_agrees vectors ports o is v settled d designated = record {
     bridges = all_both _ _ _ (λ b there found.
         sym (vectors (naming bs ps) t (cist_of net) v o.vector numbers_are_topology cist_renamed settled is.settled b.number b.cist (contains_mapped numbered_bridge bs b there)) ∙ ap o.vector found)
-        bs (all_there bs) (bridges_found net numbers num bs ps (bridges_differ net numbers ok num) (ports_differ net numbers ok num) (bridges_numbered net numbers ok num) (ports_numbered net numbers ok num) (ports_have_bridge net numbers ok num));
-    ports = all_both _ _ _ one ps (all_there ps) (lans_found net numbers num bs ps (bridges_differ net numbers ok num) (ports_differ net numbers ok num) (bridges_numbered net numbers ok num) (ports_numbered net numbers ok num) (ports_have_bridge net numbers ok num));
+        bs (all_there bs) (bridges_found net numbers num bs ps is_seen);
+    ports = all_both _ _ _ one ps (all_there ps) (lans_found net numbers num bs ps is_seen);
   }
     where
       bs : List BridgeSeen
@@ -135,7 +137,7 @@ module _ (net : Net) (numbers : Numbers) (ok : IsNetwork net) (num : IsNumbered 
         (naming bs ps).port k,
         e,
         ap (λ n. fin.get numbers.ports ((naming bs ps).port n)) (sym h.2)
-            ∙ port_found net numbers num bs ps (bridges_differ net numbers ok num) (ports_differ net numbers ok num) (bridges_numbered net numbers ok num) (ports_numbered net numbers ok num) (ports_have_bridge net numbers ok num) h.0 h.3.says.has_port
+            ∙ port_found net numbers num bs ps is_seen h.0 h.3.says.has_port
             ∙ ap Some h.2,
       )
 

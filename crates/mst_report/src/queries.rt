@@ -21,7 +21,11 @@ use mst_settle::Settler;
 use mst_vector::{CistMetric, CistVector};
 use std::alloc::{AllocError, Global};
 
-/// The text that answers a query about the network. It fails only where there is no memory.
+/// The text that answers a query about the network. Of a tree: its heading, and for the CIST, tree 0,
+/// the root priority vector of each bridge (802.1Q-2022, 13.10) and the role of each of its plugged
+/// ports (13.12), in byte order of names and by port number. The network alone settles the text.
+///
+/// It fails only where there is no memory.
 pub fn answer(alloc: Global, network: &Network, query: &Query) -> Result<Vec<u8>, AllocError>
     ensures { IfOk result (λ text. Answers query.now network.now.net text.items) }
 {

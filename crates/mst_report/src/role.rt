@@ -6,7 +6,7 @@ use crate::view::PortSeen;
 use mst_ids::PortName;
 use mst_vector::CistVector;
 
-/// The role of a port in the CIST (802.1Q-2022, 13.12).
+/// The role of a plugged port in the CIST (802.1Q-2022, 13.12).
 #[derive(Clone, Copy, Debug, PartialEq, Eq)]
 pub enum Role {
     /// It gave its bridge's root priority vector.
