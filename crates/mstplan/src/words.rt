@@ -1,3 +1,6 @@
+ghost use Rattle.std.specs.Prelude.{◌≡◌};
+ghost use Rattle.mst_tool.specs.declared.runs.RunFault as run_fault;
+
 use clap::error::ErrorKind;
 use clap::{Arg, ArgMatches, Command};
 use mst_tool::RunFault;
@@ -14,16 +17,17 @@ pub(crate) enum Stop {
     Fault(RunFault),
 }
 
-impl From<AllocError> for Stop {
-    fn from(_refused: AllocError) -> Stop {
-        Stop::Fault(RunFault::Memory)
-    }
+/// What stops the program where memory was refused.
+fn starved(_refused: AllocError) -> Stop
+    ensures { result ≡ Stop.Fault RunFault.Memory }
+{
+    Stop::Fault(RunFault::Memory)
 }
 
 /// The words that the program was called with, its name first.
 pub(crate) fn given_words<R: Env + Eprint + AllocGlobal>(rt: &R) -> Result<Vec<String>, Stop> {
     match env::args(rt) {
-        Ok(words) => Ok(words.collect(rt.alloc())?),
+        Ok(words) => words.collect(rt.alloc()).map_err(starved),
         Err(error) if error.kind() == io::ErrorKind::OutOfMemory => {
             Err(Stop::Fault(RunFault::Memory))
         }
@@ -39,7 +43,10 @@ pub(crate) fn named_file<'a, R: Print + Eprint + AllocGlobal>(
     rt: &R,
     words: &'a [String],
 ) -> Result<&'a str, Stop> {
-    match command(rt.alloc())?.try_get_matches_from(words) {
+    match command(rt.alloc())
+        .map_err(starved)?
+        .try_get_matches_from(words)
+    {
         Ok(matches) => Ok(file_of(&matches)),
         Err(error) if error.kind() == ErrorKind::OutOfMemory => {
             Err(Stop::Fault(RunFault::Memory))
