@@ -1,6 +1,6 @@
 -- The arguments of commands: which word is in which form, and what is made of its value.
 --     with_name, with_mac, ..      the argument's value goes on, and another word is the fault that the argument's form gives
-use Rattle.std.specs.Prelude.{ℕ, ◌+◌, ◌-◌, ◌*◌, Bool, ◌&&◌, List, [], ◌∷◌, length, nat_le, nat_eq, Result, Err, Option, Some, None, if◌then◌else◌, codes, fold}
+use Rattle.std.specs.Prelude.{ℕ, ◌+◌, ◌-◌, ◌*◌, Bool, ◌&&◌, List, [], ◌∷◌, length, nat_le, nat_eq, ◌==◌, Result, Err, Option, Some, None, if◌then◌else◌, codes, fold}
 use Rattle.std.specs.Char.{is_ascii_digit}
 use Rattle.std.specs.Option.{option_map_or}
 use Rattle.std.specs.List.{list_all}
@@ -8,6 +8,10 @@ use Rattle.std.specs.Cmp.Lexicographic.{pointwise}
 use Rattle.mst_ids.specs.Texts.{is_name, mac_value}
 use Rattle.mst_lang.specs.declared.line.Kind.{Kind}
 use Rattle.mst_lang.specs.declared.line.Kind.TheVariants.{Mstp, Rstp}
+use Rattle.mst_lang.specs.declared.line.Power.{Power}
+use Rattle.mst_lang.specs.declared.line.Power.TheVariants.{On, Off}
+use Rattle.mst_lang.specs.declared.line.LanState.{LanState}
+use Rattle.mst_lang.specs.declared.line.LanState.TheVariants.{Up, Down}
 use Rattle.mst_lang.specs.declared.line.Fault.{Fault}
 use Rattle.mst_lang.specs.declared.line.Fault.TheVariants.{E01, E02, E03}
 
@@ -51,6 +55,21 @@ with_tree = with_number 0 4094 E03
 -- a kind of bridge
 abbrev pub with_kind : {A : Type 0} → List ℕ → (Kind → Result A Fault) → Result A Fault
 with_kind word make = if is_text word (codes "mstp") then make Mstp else (if is_text word (codes "rstp") then make Rstp else Err E02)
+
+-- whether a bridge is on or off
+abbrev pub with_power : {A : Type 0} → List ℕ → (Power → Result A Fault) → Result A Fault
+with_power word make = if is_text word (codes "on") then make On else (if is_text word (codes "off") then make Off else Err E02)
+
+-- whether a LAN is up or down
+abbrev pub with_lan_state : {A : Type 0} → List ℕ → (LanState → Result A Fault) → Result A Fault
+with_lan_state word make = if is_text word (codes "up") then make Up else (if is_text word (codes "down") then make Down else Err E02)
+
+-- a path cost, 1 to 200,000,000, or 0 for the automatic one
+abbrev pub cost_of : ℕ → Option ℕ
+cost_of n = if n == 0 then None else Some n
+
+abbrev pub with_cost : {A : Type 0} → List ℕ → (Option ℕ → Result A Fault) → Result A Fault
+with_cost word make = with_number 0 200_000_000 E02 word (λ n. make (cost_of n))
 
 -- one, two or three words and no more
 abbrev pub one_of : List (List ℕ) → Option (List ℕ)

@@ -2,3 +2,4 @@ pub mod Faults
 pub mod Words
 pub mod Arguments
 pub mod Reading
+pub mod Ranges

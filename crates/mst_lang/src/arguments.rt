@@ -3,10 +3,10 @@ ghost use Rattle.std.specs.List.{list_all};
 ghost use Rattle.std.specs.Result.{result_ok};
 ghost use Rattle.mst_ids.specs.Texts.{mac_value};
 ghost use Rattle.std.specs.Char.{is_ascii_digit as digit};
-ghost use Rattle.mst_lang.specs.Arguments.{digits_value, number_value, with_name, with_kind, with_port_number, with_priority, with_tree};
+ghost use Rattle.mst_lang.specs.Arguments.{digits_value, number_value, with_name, with_kind, with_power, with_lan_state, with_port_number, with_priority, with_cost, with_tree};
 
-use crate::line::{Fault, Kind};
-use mst_ids::{Mac, Name, PortNumber, Priority, Tree, parse_mac};
+use crate::line::{Fault, Kind, LanState, Power};
+use mst_ids::{Cost, Mac, Name, PortNumber, Priority, Tree, parse_mac};
 
 /// A name of a bridge or a LAN.
 pub(crate) fn name(word: &[u8]) -> Result<Name, Fault>
@@ -40,6 +40,28 @@ pub(crate) fn kind(word: &[u8]) -> Result<Kind, Fault>
     }
 }
 
+/// Whether a bridge is on or off.
+pub(crate) fn power(word: &[u8]) -> Result<Power, Fault>
+    ensures { result ≡ with_power word.now Ok }
+{
+    match word {
+        b"on" => Ok(Power::On),
+        b"off" => Ok(Power::Off),
+        _ => Err(Fault::E02),
+    }
+}
+
+/// Whether a LAN is up or down.
+pub(crate) fn lan_state(word: &[u8]) -> Result<LanState, Fault>
+    ensures { result ≡ with_lan_state word.now Ok }
+{
+    match word {
+        b"up" => Ok(LanState::Up),
+        b"down" => Ok(LanState::Down),
+        _ => Err(Fault::E02),
+    }
+}
+
 /// The number of a port.
 pub(crate) fn port_number(word: &[u8]) -> Result<PortNumber, Fault>
     ensures { result ≡ with_port_number word.now Ok }
@@ -54,6 +76,20 @@ pub(crate) fn priority(word: &[u8]) -> Result<Priority, Fault>
 {
     let number = number(word).ok_or(Fault::E02)?;
     Priority::new(number).ok_or(Fault::E02)
+}
+
+/// A path cost, or none for the automatic one, which is written 0.
+pub(crate) fn cost(word: &[u8]) -> Result<Option<Cost>, Fault>
+    ensures { result ≡ with_cost word.now Ok }
+{
+    let number = number(word).ok_or(Fault::E02)?;
+    if number == 0 {
+        return Ok(None);
+    }
+    match Cost::new(number) {
+        Some(cost) => Ok(Some(cost)),
+        None => Err(Fault::E02),
+    }
 }
 
 /// A tree.

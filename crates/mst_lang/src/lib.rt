@@ -2,11 +2,12 @@
 #![tactic(auto)]
 
 mod arguments;
+pub mod laws;
 mod line;
 mod read;
 mod words;
 
-pub use line::{Edit, Fault, Kind, Line, Query};
+pub use line::{Edit, Fault, Kind, LanState, Line, Power, Query};
 pub use read::parse_line;
 
 #[cfg(test)]

@@ -1,7 +1,7 @@
 ghost use Rattle.std.specs.Prelude.{◌≡◌};
 ghost use Rattle.mst_lang.specs.Faults.{code_of, text_of};
 
-use mst_ids::{Mac, Name, PortName, Priority, Tree};
+use mst_ids::{Cost, Mac, Name, PortName, Priority, Tree};
 
 /// Which protocol a bridge runs.
 #[derive(Clone, Copy, Debug, PartialEq, Eq)]
@@ -12,37 +12,70 @@ pub enum Kind {
     Rstp,
 }
 
+/// Whether a bridge is switched on.
+#[derive(Clone, Copy, Debug, PartialEq, Eq)]
+pub enum Power {
+    On,
+    Off,
+}
+
+/// Whether a LAN works.
+#[derive(Clone, Copy, Debug, PartialEq, Eq)]
+pub enum LanState {
+    Up,
+    Down,
+}
+
 /// A change of the network.
 #[derive(Clone, Copy, PartialEq, Eq)]
 pub enum Edit {
-    /// A new bridge: of kind mstp, with priority 8 in every tree.
+    /// A new bridge: on, of kind mstp, with priority 8 in every tree.
     AddBridge {
         bridge: Name,
         mac: Mac,
+    },
+    /// Switches a bridge on or off.
+    SetPower {
+        bridge: Name,
+        power: Power,
     },
     /// The kind of a bridge.
     SetKind {
         bridge: Name,
         kind: Kind,
     },
-    /// A new port, which is in no LAN.
+    /// A new port, which is in no LAN and whose costs are automatic.
     AddPort {
         port: PortName,
     },
-    /// A new LAN, of 1,000,000 kb/s.
+    /// A new LAN, which is up and of 1,000,000 kb/s.
     AddLan {
         lan: Name,
+    },
+    /// The state of a LAN.
+    SetLanState {
+        lan: Name,
+        state: LanState,
     },
     /// Joins a port to a LAN.
     Plug {
         port: PortName,
         lan: Name,
     },
+    /// Takes a port out of its LAN.
+    Unplug {
+        port: PortName,
+    },
     /// The priority of a bridge in a tree.
     SetTreePriority {
         bridge: Name,
         tree: Tree,
         priority: Priority,
+    },
+    /// The external path cost of a port, or none for the automatic one.
+    SetPortPathCost {
+        port: PortName,
+        cost: Option<Cost>,
     },
 }
 
@@ -66,11 +99,15 @@ pub enum Line {
 #[derive(Clone, Copy)]
 pub enum Command {
     AddBridge,
+    Bridge,
     Kind,
     AddPort,
     AddLan,
+    Lan,
     Plug,
+    Unplug,
     SetTreePrio,
+    SetPortPathCost,
     ShowTree,
 }
 

@@ -2,7 +2,7 @@ ghost use Rattle.std.specs.Prelude.{◌≡◌};
 ghost use Rattle.mst_lang.specs.Reading.{reading, says, command_of};
 ghost use Rattle.mst_lang.specs.Words.{words};
 
-use crate::arguments::{kind, mac, name, port_number, priority, tree};
+use crate::arguments::{cost, kind, lan_state, mac, name, port_number, power, priority, tree};
 use crate::line::{Command, Edit, Fault, Line, Query};
 use crate::words::{are_plain, next_word, one_word, three_words, two_words};
 use mst_ids::PortName;
@@ -45,16 +45,24 @@ fn command(word: &[u8]) -> Option<Command>
 {
     if word == b"addbridge".as_slice() {
         Some(Command::AddBridge)
+    } else if word == b"bridge".as_slice() {
+        Some(Command::Bridge)
     } else if word == b"kind".as_slice() {
         Some(Command::Kind)
     } else if word == b"addport".as_slice() {
         Some(Command::AddPort)
     } else if word == b"addlan".as_slice() {
         Some(Command::AddLan)
+    } else if word == b"lan".as_slice() {
+        Some(Command::Lan)
     } else if word == b"plug".as_slice() {
         Some(Command::Plug)
+    } else if word == b"unplug".as_slice() {
+        Some(Command::Unplug)
     } else if word == b"settreeprio".as_slice() {
         Some(Command::SetTreePrio)
+    } else if word == b"setportpathcost".as_slice() {
+        Some(Command::SetPortPathCost)
     } else if word == b"showtree".as_slice() {
         Some(Command::ShowTree)
     } else {
@@ -68,11 +76,15 @@ fn read_arguments(command: Command, arguments: &[u8]) -> Result<Line, Fault>
 {
     match command {
         Command::AddBridge => add_bridge(arguments),
+        Command::Bridge => set_power(arguments),
         Command::Kind => set_kind(arguments),
         Command::AddPort => add_port(arguments),
         Command::AddLan => add_lan(arguments),
+        Command::Lan => set_lan_state(arguments),
         Command::Plug => plug(arguments),
+        Command::Unplug => unplug(arguments),
         Command::SetTreePrio => set_tree_priority(arguments),
+        Command::SetPortPathCost => set_port_path_cost(arguments),
         Command::ShowTree => show_tree(arguments),
     }
 }
@@ -84,6 +96,15 @@ fn add_bridge(arguments: &[u8]) -> Result<Line, Fault>
     let bridge = name(bridge)?;
     let mac = mac(address)?;
     Ok(Line::Edit(Edit::AddBridge { bridge, mac }))
+}
+
+fn set_power(arguments: &[u8]) -> Result<Line, Fault>
+    ensures { result ≡ says Command.Bridge (words arguments.now) }
+{
+    let (bridge, word) = two_words(arguments).ok_or(Fault::E01)?;
+    let bridge = name(bridge)?;
+    let power = power(word)?;
+    Ok(Line::Edit(Edit::SetPower { bridge, power }))
 }
 
 fn set_kind(arguments: &[u8]) -> Result<Line, Fault>
@@ -112,6 +133,15 @@ fn add_lan(arguments: &[u8]) -> Result<Line, Fault>
     Ok(Line::Edit(Edit::AddLan { lan }))
 }
 
+fn set_lan_state(arguments: &[u8]) -> Result<Line, Fault>
+    ensures { result ≡ says Command.Lan (words arguments.now) }
+{
+    let (lan, word) = two_words(arguments).ok_or(Fault::E01)?;
+    let lan = name(lan)?;
+    let state = lan_state(word)?;
+    Ok(Line::Edit(Edit::SetLanState { lan, state }))
+}
+
 fn plug(arguments: &[u8]) -> Result<Line, Fault>
     ensures { result ≡ says Command.Plug (words arguments.now) }
 {
@@ -121,6 +151,16 @@ fn plug(arguments: &[u8]) -> Result<Line, Fault>
     let lan = name(lan)?;
     let port = PortName { bridge, number };
     Ok(Line::Edit(Edit::Plug { port, lan }))
+}
+
+fn unplug(arguments: &[u8]) -> Result<Line, Fault>
+    ensures { result ≡ says Command.Unplug (words arguments.now) }
+{
+    let (bridge, number) = two_words(arguments).ok_or(Fault::E01)?;
+    let bridge = name(bridge)?;
+    let number = port_number(number)?;
+    let port = PortName { bridge, number };
+    Ok(Line::Edit(Edit::Unplug { port }))
 }
 
 fn set_tree_priority(arguments: &[u8]) -> Result<Line, Fault>
@@ -135,6 +175,17 @@ fn set_tree_priority(arguments: &[u8]) -> Result<Line, Fault>
         tree,
         priority,
     }))
+}
+
+fn set_port_path_cost(arguments: &[u8]) -> Result<Line, Fault>
+    ensures { result ≡ says Command.SetPortPathCost (words arguments.now) }
+{
+    let (bridge, number, amount) = three_words(arguments).ok_or(Fault::E01)?;
+    let bridge = name(bridge)?;
+    let number = port_number(number)?;
+    let cost = cost(amount)?;
+    let port = PortName { bridge, number };
+    Ok(Line::Edit(Edit::SetPortPathCost { port, cost }))
 }
 
 fn show_tree(arguments: &[u8]) -> Result<Line, Fault>

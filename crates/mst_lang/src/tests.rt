@@ -1,7 +1,7 @@
 //! The answers are written by hand from the words of the grammar.
 
 use super::*;
-use mst_ids::{Name, PortName, PortNumber, Priority, Tree, parse_mac};
+use mst_ids::{Cost, Name, PortName, PortNumber, Priority, Tree, parse_mac};
 use std::test::Fail;
 
 fn name(text: &str) -> Result<Name, Fail> {
@@ -23,70 +23,156 @@ fn priority(step: u64) -> Result<Priority, Fail> {
     Ok(Priority::new(step).ok_or("priority")?)
 }
 
+fn set_power(bridge: &str, power: Power) -> Result<Edit, Fail> {
+    Ok(Edit::SetPower {
+        bridge: name(bridge)?,
+        power,
+    })
+}
+
+fn set_kind(bridge: &str, kind: Kind) -> Result<Edit, Fail> {
+    Ok(Edit::SetKind {
+        bridge: name(bridge)?,
+        kind,
+    })
+}
+
+fn add_port(bridge: &str, number: u64) -> Result<Edit, Fail> {
+    Ok(Edit::AddPort {
+        port: port(bridge, number)?,
+    })
+}
+
+fn unplug(bridge: &str, number: u64) -> Result<Edit, Fail> {
+    Ok(Edit::Unplug {
+        port: port(bridge, number)?,
+    })
+}
+
+fn set_lan_state(lan: &str, state: LanState) -> Result<Edit, Fail> {
+    Ok(Edit::SetLanState {
+        lan: name(lan)?,
+        state,
+    })
+}
+
+fn set_cost(bridge: &str, number: u64, cost: u64) -> Result<Edit, Fail> {
+    Ok(Edit::SetPortPathCost {
+        port: port(bridge, number)?,
+        cost: Some(Cost::new(cost).ok_or("cost")?),
+    })
+}
+
+fn set_automatic_cost(bridge: &str, number: u64) -> Result<Edit, Fail> {
+    Ok(Edit::SetPortPathCost {
+        port: port(bridge, number)?,
+        cost: None,
+    })
+}
+
 #[test]
-fn each_command_is_read(rt: HostRuntime) -> Result<(), Fail> {
+fn each_command_of_bridges_is_read(rt: HostRuntime) -> Result<(), Fail> {
     let mac = parse_mac(b"02:00:00:00:00:0a")?;
     let add_bridge = Edit::AddBridge {
         bridge: name("sw1")?,
         mac,
     };
-    let edits = [
+    let set_tree_priority = Edit::SetTreePriority {
+        bridge: name("sw1")?,
+        tree: tree(4094)?,
+        priority: priority(15)?,
+    };
+    for (line, edit) in [
         ("addbridge sw1 02:00:00:00:00:0a", add_bridge),
         ("addbridge sw1 02-00:00-00:00-0A", add_bridge),
-        (
-            "kind sw1 mstp",
-            Edit::SetKind {
-                bridge: name("sw1")?,
-                kind: Kind::Mstp,
-            },
-        ),
-        (
-            "kind sw1 rstp",
-            Edit::SetKind {
-                bridge: name("sw1")?,
-                kind: Kind::Rstp,
-            },
-        ),
-        (
-            "addport sw1 4095",
-            Edit::AddPort {
-                port: port("sw1", 4095)?,
-            },
-        ),
-        (
-            "addport sw1 0000000001",
-            Edit::AddPort {
-                port: port("sw1", 1)?,
-            },
-        ),
-        (
-            "addlan 0bcdefgh.jkl_n-P",
-            Edit::AddLan {
-                lan: name("0bcdefgh.jkl_n-P")?,
-            },
-        ),
-        (
-            "\tplug \t sw1  7 \tL1\t ",
-            Edit::Plug {
-                port: port("sw1", 7)?,
-                lan: name("L1")?,
-            },
-        ),
-        (
-            "settreeprio sw1 4094 15",
-            Edit::SetTreePriority {
-                bridge: name("sw1")?,
-                tree: tree(4094)?,
-                priority: priority(15)?,
-            },
-        ),
-    ];
-    for (line, edit) in edits {
+        ("bridge sw1 on", set_power("sw1", Power::On)?),
+        ("bridge sw1 off", set_power("sw1", Power::Off)?),
+        (" bridge\t on  off\t", set_power("on", Power::Off)?),
+        ("kind sw1 mstp", set_kind("sw1", Kind::Mstp)?),
+        ("kind sw1 rstp", set_kind("sw1", Kind::Rstp)?),
+        ("settreeprio sw1 4094 15", set_tree_priority),
+    ] {
         assert!(rt;
             parse_line(line.as_bytes()) == Ok(Line::Edit(edit)),
             "at {line}"
         );
     }
+    Ok(())
+}
+
+#[test]
+fn each_command_of_ports_is_read(rt: HostRuntime) -> Result<(), Fail> {
+    let plug = Edit::Plug {
+        port: port("sw1", 7)?,
+        lan: name("L1")?,
+    };
+    for (line, edit) in [
+        ("addport sw1 4095", add_port("sw1", 4095)?),
+        ("addport sw1 0000000001", add_port("sw1", 1)?),
+        ("\tplug \t sw1  7 \tL1\t ", plug),
+        ("unplug sw1 1", unplug("sw1", 1)?),
+        ("unplug sw1 4095", unplug("sw1", 4095)?),
+        ("unplug sw1 0000004095", unplug("sw1", 4095)?),
+        ("\tunplug \t sw1  7\t ", unplug("sw1", 7)?),
+    ] {
+        assert!(rt;
+            parse_line(line.as_bytes()) == Ok(Line::Edit(edit)),
+            "at {line}"
+        );
+    }
+    Ok(())
+}
+
+#[test]
+fn each_path_cost_is_read(rt: HostRuntime) -> Result<(), Fail> {
+    for (line, edit) in [
+        ("setportpathcost sw1 1 0", set_automatic_cost("sw1", 1)?),
+        ("setportpathcost sw1 7 00", set_automatic_cost("sw1", 7)?),
+        (
+            "setportpathcost sw1 4095 0000000000",
+            set_automatic_cost("sw1", 4095)?,
+        ),
+        ("setportpathcost sw1 1 1", set_cost("sw1", 1, 1)?),
+        ("setportpathcost sw1 4095 007", set_cost("sw1", 4095, 7)?),
+        (
+            "setportpathcost sw1 0007 200000000",
+            set_cost("sw1", 7, 200_000_000)?,
+        ),
+        (
+            "setportpathcost sw1 1 0200000000",
+            set_cost("sw1", 1, 200_000_000)?,
+        ),
+        (" setportpathcost\tsw1 2  3\t", set_cost("sw1", 2, 3)?),
+    ] {
+        assert!(rt;
+            parse_line(line.as_bytes()) == Ok(Line::Edit(edit)),
+            "at {line}"
+        );
+    }
+    Ok(())
+}
+
+#[test]
+fn each_command_of_lans_is_read(rt: HostRuntime) -> Result<(), Fail> {
+    let add_lan = Edit::AddLan {
+        lan: name("0bcdefgh.jkl_n-P")?,
+    };
+    for (line, edit) in [
+        ("addlan 0bcdefgh.jkl_n-P", add_lan),
+        ("lan L1 up", set_lan_state("L1", LanState::Up)?),
+        ("lan L1 down", set_lan_state("L1", LanState::Down)?),
+        ("\tlan  up \tdown ", set_lan_state("up", LanState::Down)?),
+    ] {
+        assert!(rt;
+            parse_line(line.as_bytes()) == Ok(Line::Edit(edit)),
+            "at {line}"
+        );
+    }
+    Ok(())
+}
+
+#[test]
+fn each_query_is_read(rt: HostRuntime) -> Result<(), Fail> {
     for (line, number) in [
         ("showtree 0", 0),
         ("showtree 04094", 4094),
@@ -104,25 +190,56 @@ fn each_command_is_read(rt: HostRuntime) -> Result<(), Fail> {
 }
 
 #[test]
-fn each_fault_is_told(rt: HostRuntime) {
+fn lines_that_are_no_command_are_told(rt: HostRuntime) {
     for line in [
         "nosuch",
         "AddLan a",
-        "addlan",
-        "addlan a b",
-        "addlan a #b",
-        "plug a 1",
-        "plug a 1 b c",
-        "showtree",
+        "Bridge sw1 on",
+        "LAN L1 up",
+        "setportpathcosts sw1 1 1",
         "addlan a\u{7f}",
         "addlan a\u{b}",
         "addlan \u{e9}",
         "\u{b}",
         " \u{7f} ",
         "kind - stp\u{7f}",
+        "bridge sw1 on\u{b}",
+        "lan L1\u{7f} up",
     ] {
         assert!(rt; parse_line(line.as_bytes()) == Err(Fault::E01), "at {line}");
     }
+}
+
+#[test]
+fn wrong_numbers_of_words_are_told(rt: HostRuntime) {
+    for line in [
+        "addlan",
+        "addlan a b",
+        "addlan a #b",
+        "plug a 1",
+        "plug a 1 b c",
+        "showtree",
+        "bridge",
+        "bridge sw1",
+        "bridge sw1 on off",
+        "bridge sw1 on #",
+        "lan",
+        "lan L1",
+        "lan L1 up down",
+        "unplug",
+        "unplug sw1",
+        "unplug sw1 1 L1",
+        "setportpathcost",
+        "setportpathcost sw1",
+        "setportpathcost sw1 1",
+        "setportpathcost sw1 1 0 0",
+    ] {
+        assert!(rt; parse_line(line.as_bytes()) == Err(Fault::E01), "at {line}");
+    }
+}
+
+#[test]
+fn bad_arguments_are_told(rt: HostRuntime) {
     for line in [
         "addlan abcdefghijklmnopq",
         "addlan -a",
@@ -142,6 +259,53 @@ fn each_fault_is_told(rt: HostRuntime) {
     ] {
         assert!(rt; parse_line(line.as_bytes()) == Err(Fault::E02), "at {line}");
     }
+}
+
+#[test]
+fn bad_switches_are_told(rt: HostRuntime) {
+    for line in [
+        "bridge sw1 maybe",
+        "bridge sw1 ON",
+        "bridge sw1 up",
+        "bridge sw1 o",
+        "bridge on sw1",
+        "bridge -sw1 on",
+        "bridge abcdefghijklmnopq off",
+        "lan L1 UP",
+        "lan L1 on",
+        "lan L1 downs",
+        "lan L/1 up",
+        "lan .L1 down",
+    ] {
+        assert!(rt; parse_line(line.as_bytes()) == Err(Fault::E02), "at {line}");
+    }
+}
+
+#[test]
+fn bad_ports_and_costs_are_told(rt: HostRuntime) {
+    for line in [
+        "unplug sw1 0",
+        "unplug sw1 4096",
+        "unplug sw1 00000000001",
+        "unplug sw! 1",
+        "unplug sw1 L1",
+        "setportpathcost sw1 1 200000001",
+        "setportpathcost sw1 1 9999999999",
+        "setportpathcost sw1 1 4294967297",
+        "setportpathcost sw1 1 00000000001",
+        "setportpathcost sw1 1 00000000000",
+        "setportpathcost sw1 1 -1",
+        "setportpathcost sw1 1 auto",
+        "setportpathcost sw1 0 1",
+        "setportpathcost sw1 4096 0",
+        "setportpathcost _ 1 1",
+    ] {
+        assert!(rt; parse_line(line.as_bytes()) == Err(Fault::E02), "at {line}");
+    }
+}
+
+#[test]
+fn bad_trees_are_told(rt: HostRuntime) {
     for line in [
         "settreeprio sw1 4095 15",
         "settreeprio sw1 a 15",

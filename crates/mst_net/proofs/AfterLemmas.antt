@@ -1,17 +1,21 @@
 -- An edit that is accepted makes a network of a network.
 use Rattle.std.proofs.Common.{◌≡◌, ◌≢◌, ℕ, ◌<◌, ◌≤◌, ◌^◌, Bool, true, false, not, cond, ◌||◌, ◌⊎◌, inl, inr, List, Option, Some, None, is_some, nat_eq, nat_le, refl, sym, ap, subst, ◌∙◌, arith, true≢false}
 use Rattle.std.specs.Prelude.{Result, Ok, Err, IsOk, if◌then◌else◌}
-use Rattle.std.specs.Option.{option_map_or}
+use Rattle.std.specs.Option.{option_map_or, ForSome}
+use Rattle.std.specs.Result.{result_unwrap_or}
 use Rattle.std.specs.FinMap as fin
 use Rattle.std.specs.FinMap.{get-empty, len-empty}
 use Rattle.std.proofs.lemmas.Bool.{leb-false}
 use Rattle.std.specs.Cmp.{unsigned_Decides}
 use Rattle.mst_ids.specs.Names.{name_cmp, port_cmp}
 use Rattle.mst_ids.specs.declared.name.PortName.{PortName}
-use Rattle.mst_lang.specs.declared.line.Kind.{Kind}
+use Rattle.mst_lang.specs.declared.line.Edit.{Edit}
+use Rattle.mst_lang.specs.declared.line.Edit.TheVariants.{AddBridge, SetPower, SetKind, AddPort, AddLan, SetLanState, Plug, Unplug, SetTreePriority, SetPortPathCost}
+use Rattle.mst_lang.specs.Ranges.{InRange}
 use Rattle.mst_net.specs.Tables.{Net, IsNetwork, BridgeRow, PortRow, LanRow, BridgeTree, bridge_tree_cmp, empty_net}
-use Rattle.mst_net.specs.After.{mac_taken, is_rstp, with_priority, after_add_bridge, after_set_kind, after_add_port, after_add_lan, after_plug, after_set_tree_priority}
-use Rattle.mst_net.specs.declared.refusal.Refusal.TheVariants.{E04}
+use Rattle.mst_net.specs.After.{mac_taken, new_bridge, new_port, new_lan, in_lan, with_kind, with_power, with_state, with_external, with_bridge, with_port, with_lan, with_priority, at_bridge, at_lan, at_port, after_add_bridge, after_add_port, after_add_lan, after_plug, after_unplug, after}
+use Rattle.mst_net.specs.declared.refusal.Refusal.{Refusal}
+use Rattle.mst_net.specs.declared.refusal.Refusal.TheVariants.{E04, E05, E06, E11}
 use Rattle.mst_net.proofs.KeptLemmas.{some_is, no_some}
 use Rattle.mst_net.proofs.Keyed.{after_insert, after_remove, still_there, len_added, len_set, any_added, any_set, any_value}
 use Rattle.mst_net.proofs.Keys.{names, ports, bridge_trees}
@@ -36,6 +40,7 @@ no_network = record {
   port_has_bridge = λ p x h. absurd (no_some x (sym (get-empty port_cmp p) ∙ h));
   port_number_fits = λ p x h. absurd (no_some x (sym (get-empty port_cmp p) ∙ h));
   plug_has_lan = λ p x lan h i. absurd (no_some x (sym (get-empty port_cmp p) ∙ h));
+  cost_fits = λ p x cost h i. absurd (no_some x (sym (get-empty port_cmp p) ∙ h));
   speed_fits = λ l x h. absurd (no_some x (sym (get-empty name_cmp l) ∙ h));
   priority_has_bridge = λ k priority h. absurd (no_some priority (sym (get-empty bridge_tree_cmp k) ∙ h));
   priority_fits = λ k priority h. absurd (no_some priority (sym (get-empty bridge_tree_cmp k) ∙ h));
@@ -44,13 +49,10 @@ no_network = record {
   lan_limit = omega (arith, len-empty name_cmp LanRow);
 }
 
--- ---- a new bridge
-abbrev pub new_bridge : ℕ → BridgeRow
-new_bridge mac = record { mac = mac; is_rstp = false }
-
+-- ---- what an edit that isn't refused makes
 pub bridge_added : (bridge : List ℕ) (mac : ℕ) (net : Net) → IsOk (after_add_bridge bridge mac net)
     → (fin.contains_key net.bridges bridge ≡ false) × (mac_taken mac net ≡ false) × (nat_le 1024 (fin.len net.bridges) ≡ false)
-    × (after_add_bridge bridge mac net ≡ Ok (record net { bridges = fin.insert net.bridges bridge (new_bridge mac) }))
+    × (after_add_bridge bridge mac net ≡ Ok (with_bridge net bridge (new_bridge mac)))
 bridge_added bridge mac net h =
     let a = if_ok _ _ _ h in
     let b = if_ok _ _ _ a.1 in
@@ -59,7 +61,7 @@ bridge_added bridge mac net h =
 
 pub port_added : (port : PortName) (net : Net) → IsOk (after_add_port port net)
     → (fin.contains_key net.bridges port.bridge ≡ true) × (fin.contains_key net.ports port ≡ false) × (nat_le 16384 (fin.len net.ports) ≡ false)
-    × (after_add_port port net ≡ Ok (record net { ports = fin.insert net.ports port (record { lan = None }) }))
+    × (after_add_port port net ≡ Ok (with_port net port new_port))
 port_added port net h =
     let a = if_ok _ _ _ h in
     let b = if_ok _ _ _ a.1 in
@@ -68,43 +70,53 @@ port_added port net h =
 
 pub lan_added : (lan : List ℕ) (net : Net) → IsOk (after_add_lan lan net)
     → (fin.contains_key net.lans lan ≡ false) × (nat_le 8192 (fin.len net.lans) ≡ false)
-    × (after_add_lan lan net ≡ Ok (record net { lans = fin.insert net.lans lan (record { speed = 1_000_000 }) }))
+    × (after_add_lan lan net ≡ Ok (with_lan net lan new_lan))
 lan_added lan net h =
     let a = if_ok _ _ _ h in
     let b = if_ok _ _ _ a.1 in
     (a.0, b.0, a.2 ∙ b.2)
 
-pub kind_set : (bridge : List ℕ) (kind : Kind) (net : Net) → IsOk (after_set_kind bridge kind net)
-    → (row : BridgeRow) × (fin.get net.bridges bridge ≡ Some row)
-    × (after_set_kind bridge kind net ≡ Ok (record net { bridges = fin.insert net.bridges bridge (record row { is_rstp = is_rstp kind }) }))
-kind_set bridge kind net h =
-    let a = found_ok _ _ _ h in
-    (a.0, a.1, a.3)
+-- the settings of a bridge, a LAN or a port that is there
+pub bridge_found : (bridge : List ℕ) (net : Net) (make : BridgeRow → Result Net Refusal) → IsOk (at_bridge bridge net make)
+    → (row : BridgeRow) × (fin.get net.bridges bridge ≡ Some row) × IsOk (make row) × (at_bridge bridge net make ≡ make row)
+bridge_found bridge net make h = found_ok make (fin.get net.bridges bridge) E04 h
+
+pub lan_found : (lan : List ℕ) (net : Net) (make : LanRow → Result Net Refusal) → IsOk (at_lan lan net make)
+    → (row : LanRow) × (fin.get net.lans lan ≡ Some row) × IsOk (make row) × (at_lan lan net make ≡ make row)
+lan_found lan net make h = found_ok make (fin.get net.lans lan) E06 h
+
+pub port_found : (port : PortName) (net : Net) (make : PortRow → Result Net Refusal) → IsOk (at_port port net make)
+    → (row : PortRow) × (fin.get net.ports port ≡ Some row) × IsOk (make row) × (at_port port net make ≡ make row)
+port_found port net make h =
+    let a = if_ok _ _ _ h in
+    let b = found_ok make (fin.get net.ports port) E05 a.1 in
+    (b.0, b.1, b.2, a.2 ∙ b.3)
 
 pub port_plugged : (port : PortName) (lan : List ℕ) (net : Net) → IsOk (after_plug port lan net)
     → (row : PortRow) × (fin.get net.ports port ≡ Some row) × (fin.contains_key net.lans lan ≡ true)
-    × (after_plug port lan net ≡ Ok (record net { ports = fin.insert net.ports port (record row { lan = Some lan }) }))
+    × (after_plug port lan net ≡ Ok (with_port net port (in_lan (Some lan) row)))
 port_plugged port lan net h =
-    let a = if_ok _ _ _ h in
-    let b = found_ok _ _ _ a.1 in
+    let b = port_found port net _ h in
     let c = if_ok _ _ _ b.2 in
     let d = if_ok _ _ _ c.1 in
-    (b.0, b.1, not_false _ c.0, a.2 ∙ b.3 ∙ c.2 ∙ d.2)
+    (b.0, b.1, not_false _ c.0, b.3 ∙ c.2 ∙ d.2)
 
-pub priority_set : (bridge : List ℕ) (tree priority : ℕ) (net : Net) → IsOk (after_set_tree_priority bridge tree priority net)
-    → (fin.contains_key net.bridges bridge ≡ true) × (after_set_tree_priority bridge tree priority net ≡ Ok (with_priority net (record { bridge = bridge; tree = tree }) priority))
-priority_set bridge tree priority net h = by (fin.contains_key net.bridges bridge) (with_priority net (record { bridge = bridge; tree = tree }) priority) h
+pub port_unplugged : (port : PortName) (net : Net) → IsOk (after_unplug port net)
+    → (row : PortRow) × (fin.get net.ports port ≡ Some row) × (after_unplug port net ≡ Ok (with_port net port (in_lan None row)))
+port_unplugged port net h =
+    let b = port_found port net _ h in
+    (b.0, b.1, b.3 ∙ by (is_some b.0.lan) (with_port net port (in_lan None b.0)) b.2)
   where
-    by : (b : Bool) (new : Net) → IsOk (if b then Ok new else Err E04) → (b ≡ true) × ((if b then Ok new else Err E04) ≡ Ok new)
-    by true new h = (refl, refl)
+    by : (t : Bool) (new : Net) → IsOk (if t then Ok new else Err E11) → (if t then Ok new else Err E11) ≡ Ok new
+    by true new h = refl
     by false new h = absurd (true≢false (sym h))
 
 module _ (net : Net) (is : IsNetwork net) where
   free : (mac : ℕ) (a : List ℕ) (x : BridgeRow) → mac_taken mac net ≡ false → fin.get net.bridges a ≡ Some x → x.mac ≡ mac → ⊥
   free mac a x none there same = true≢false (sym (any_value names (λ b. nat_eq b.mac mac) net.bridges a x there ((unsigned_Decides x.mac mac).1 same)) ∙ none)
 
-  pub network_with_bridge : (bridge : List ℕ) (mac : ℕ) → mac < 2 ^ 48 → IsOk (after_add_bridge bridge mac net)
-      → IsNetwork (record net { bridges = fin.insert net.bridges bridge (new_bridge mac) })
+  -- ---- a new bridge
+  pub network_with_bridge : (bridge : List ℕ) (mac : ℕ) → mac < 2 ^ 48 → IsOk (after_add_bridge bridge mac net) → IsNetwork (with_bridge net bridge (new_bridge mac))
   network_with_bridge bridge mac fits h =
       let ok = bridge_added bridge mac net h in
       let row = new_bridge mac in
@@ -128,6 +140,7 @@ module _ (net : Net) (is : IsNetwork net) where
         port_has_bridge = λ p x h. still p.bridge (is.port_has_bridge p x h);
         port_number_fits = is.port_number_fits;
         plug_has_lan = is.plug_has_lan;
+        cost_fits = is.cost_fits;
         speed_fits = is.speed_fits;
         priority_has_bridge = λ k priority h. still k.bridge (is.priority_has_bridge k priority h);
         priority_fits = is.priority_fits;
@@ -137,38 +150,37 @@ module _ (net : Net) (is : IsNetwork net) where
       }
 
   pub taken_with_bridge : (bridge : List ℕ) (mac : ℕ) (other : ℕ) → fin.contains_key net.bridges bridge ≡ false
-      → mac_taken other (record net { bridges = fin.insert net.bridges bridge (new_bridge mac) }) ≡ cond (nat_eq mac other) true (mac_taken other net)
+      → mac_taken other (with_bridge net bridge (new_bridge mac)) ≡ cond (nat_eq mac other) true (mac_taken other net)
   taken_with_bridge bridge mac other none = any_added names (λ b. nat_eq b.mac other) net.bridges bridge (new_bridge mac) none ∙ by (nat_eq mac other) (mac_taken other net)
     where
       by : (a b : Bool) → (a || b) ≡ cond a true b
       by true b = refl
       by false b = refl
 
-  -- ---- a bridge of another kind
-  pub network_with_kind : (bridge : List ℕ) (kind : Kind) (row : BridgeRow) → fin.get net.bridges bridge ≡ Some row
-      → IsNetwork (record net { bridges = fin.insert net.bridges bridge (record row { is_rstp = is_rstp kind }) })
-  network_with_kind bridge kind row there =
-      let new : BridgeRow = record row { is_rstp = is_rstp kind } in
+  -- ---- other settings of a bridge, with its MAC
+  pub network_with_settings : (bridge : List ℕ) (old new : BridgeRow) → fin.get net.bridges bridge ≡ Some old → new.mac ≡ old.mac → IsNetwork (with_bridge net bridge new)
+  network_with_settings bridge old new there mac =
       let was = after_insert names net.bridges bridge new in
       let still = still_there names net.bridges bridge new in
       record {
         macs_differ = λ a b x y h i same. elim (was a x h) [
           | inl p ↦ elim (was b y i) [
             | inl q ↦ sym p.0 ∙ q.0
-            | inr q ↦ sym p.0 ∙ is.macs_differ bridge b row y there q (ap (λ (r : BridgeRow). r.mac) p.1 ∙ same)
+            | inr q ↦ sym p.0 ∙ is.macs_differ bridge b old y there q (sym mac ∙ ap (λ (r : BridgeRow). r.mac) p.1 ∙ same)
           ]
           | inr p ↦ elim (was b y i) [
-            | inl q ↦ is.macs_differ a bridge x row p there (same ∙ ap (λ (r : BridgeRow). r.mac) (sym q.1)) ∙ q.0
+            | inl q ↦ is.macs_differ a bridge x old p there (same ∙ ap (λ (r : BridgeRow). r.mac) (sym q.1) ∙ mac) ∙ q.0
             | inr q ↦ is.macs_differ a b x y p q same
           ]
         ];
         mac_fits = λ a x h. elim (was a x h) [
-          | inl p ↦ subst (λ (r : BridgeRow). r.mac < 2 ^ 48) p.1 (is.mac_fits bridge row there)
+          | inl p ↦ subst (λ n. n < 2 ^ 48) (sym mac ∙ ap (λ (r : BridgeRow). r.mac) p.1) (is.mac_fits bridge old there)
           | inr p ↦ is.mac_fits a x p
         ];
         port_has_bridge = λ p x h. still p.bridge (is.port_has_bridge p x h);
         port_number_fits = is.port_number_fits;
         plug_has_lan = is.plug_has_lan;
+        cost_fits = is.cost_fits;
         speed_fits = is.speed_fits;
         priority_has_bridge = λ k priority h. still k.bridge (is.priority_has_bridge k priority h);
         priority_fits = is.priority_fits;
@@ -177,45 +189,64 @@ module _ (net : Net) (is : IsNetwork net) where
         lan_limit = is.lan_limit;
       }
 
-  pub taken_with_kind : (bridge : List ℕ) (kind : Kind) (row : BridgeRow) (other : ℕ) → fin.get net.bridges bridge ≡ Some row
-      → mac_taken other (record net { bridges = fin.insert net.bridges bridge (record row { is_rstp = is_rstp kind }) }) ≡ mac_taken other net
-  taken_with_kind bridge kind row other there = any_set names (λ b. nat_eq b.mac other) net.bridges bridge (record row { is_rstp = is_rstp kind }) row there refl
+  pub taken_with_settings : (bridge : List ℕ) (old new : BridgeRow) (other : ℕ) → fin.get net.bridges bridge ≡ Some old → new.mac ≡ old.mac
+      → mac_taken other (with_bridge net bridge new) ≡ mac_taken other net
+  taken_with_settings bridge old new other there mac = any_set names (λ b. nat_eq b.mac other) net.bridges bridge new old there (ap (λ n. nat_eq n other) mac)
 
-  -- ---- a new port
-  pub network_with_port : (port : PortName) → (1 ≤ port.number) × (port.number ≤ 4095) → IsOk (after_add_port port net)
-      → IsNetwork (record net { ports = fin.insert net.ports port (record { lan = None }) })
-  network_with_port port fits h =
-      let ok = port_added port net h in
-      let row : PortRow = record { lan = None } in
+  -- ---- a port's settings
+  record PortFits (port : PortName) (row : PortRow) : Type 0 where
+    pub has_bridge : fin.contains_key net.bridges port.bridge ≡ true
+    pub number_fits : (1 ≤ port.number) × (port.number ≤ 4095)
+    pub has_lan : (lan : List ℕ) → row.lan ≡ Some lan → fin.contains_key net.lans lan ≡ true
+    pub cost_fits : (cost : ℕ) → row.external ≡ Some cost → (1 ≤ cost) × (cost ≤ 200_000_000)
+
+  with_port_row : (port : PortName) (row : PortRow) → PortFits port row → fin.len (fin.insert net.ports port row) ≤ 16384 → IsNetwork (with_port net port row)
+  with_port_row port row fits few =
       let was = after_insert ports net.ports port row in
       record {
         macs_differ = is.macs_differ;
         mac_fits = is.mac_fits;
         port_has_bridge = λ p x h. elim (was p x h) [
-          | inl q ↦ subst (λ (p : PortName). fin.contains_key net.bridges p.bridge ≡ true) q.0 ok.0
+          | inl q ↦ subst (λ (p : PortName). fin.contains_key net.bridges p.bridge ≡ true) q.0 fits.has_bridge
           | inr q ↦ is.port_has_bridge p x q
         ];
         port_number_fits = λ p x h. elim (was p x h) [
-          | inl q ↦ subst (λ (p : PortName). (1 ≤ p.number) × (p.number ≤ 4095)) q.0 fits
+          | inl q ↦ subst (λ (p : PortName). (1 ≤ p.number) × (p.number ≤ 4095)) q.0 fits.number_fits
           | inr q ↦ is.port_number_fits p x q
         ];
         plug_has_lan = λ p x lan h i. elim (was p x h) [
-          | inl q ↦ absurd (no_some lan (ap (λ (r : PortRow). r.lan) q.1 ∙ i))
+          | inl q ↦ fits.has_lan lan (ap (λ (r : PortRow). r.lan) q.1 ∙ i)
           | inr q ↦ is.plug_has_lan p x lan q i
+        ];
+        cost_fits = λ p x cost h i. elim (was p x h) [
+          | inl q ↦ fits.cost_fits cost (ap (λ (r : PortRow). r.external) q.1 ∙ i)
+          | inr q ↦ is.cost_fits p x cost q i
         ];
         speed_fits = is.speed_fits;
         priority_has_bridge = is.priority_has_bridge;
         priority_fits = is.priority_fits;
         bridge_limit = is.bridge_limit;
-        port_limit = omega (arith, len_added ports net.ports port row ok.1, leb-false 16384 (fin.len net.ports) ok.2);
+        port_limit = few;
         lan_limit = is.lan_limit;
       }
 
-  -- ---- a new LAN
-  pub network_with_lan : (lan : List ℕ) → IsOk (after_add_lan lan net) → IsNetwork (record net { lans = fin.insert net.lans lan (record { speed = 1_000_000 }) })
-  network_with_lan lan h =
-      let ok = lan_added lan net h in
-      let row : LanRow = record { speed = 1_000_000 } in
+  pub network_with_port : (port : PortName) → (1 ≤ port.number) × (port.number ≤ 4095) → IsOk (after_add_port port net) → IsNetwork (with_port net port new_port)
+  network_with_port port fits h =
+      let ok = port_added port net h in
+      with_port_row port new_port
+      (record { has_bridge = ok.0; number_fits = fits; has_lan = λ lan e. absurd (no_some lan e); cost_fits = λ cost e. absurd (no_some cost e) })
+      (omega (arith, len_added ports net.ports port new_port ok.1, leb-false 16384 (fin.len net.ports) ok.2))
+
+  pub network_with_port_settings : (port : PortName) (old new : PortRow) → fin.get net.ports port ≡ Some old → ((lan : List ℕ) → new.lan ≡ Some lan → fin.contains_key net.lans lan ≡ true)
+      → ((cost : ℕ) → new.external ≡ Some cost → (1 ≤ cost) × (cost ≤ 200_000_000)) → IsNetwork (with_port net port new)
+  network_with_port_settings port old new there lan cost =
+      with_port_row port new
+      (record { has_bridge = is.port_has_bridge port old there; number_fits = is.port_number_fits port old there; has_lan = lan; cost_fits = cost })
+      (omega (arith, len_set ports net.ports port new (ap is_some there), is.port_limit))
+
+  -- ---- a LAN's settings
+  with_lan_row : (lan : List ℕ) (row : LanRow) → (1 ≤ row.speed) × (row.speed ≤ 9_999_999_999) → fin.len (fin.insert net.lans lan row) ≤ 8192 → IsNetwork (with_lan net lan row)
+  with_lan_row lan row fits few =
       let was = after_insert names net.lans lan row in
       record {
         macs_differ = is.macs_differ;
@@ -223,45 +254,27 @@ module _ (net : Net) (is : IsNetwork net) where
         port_has_bridge = is.port_has_bridge;
         port_number_fits = is.port_number_fits;
         plug_has_lan = λ p x other h i. still_there names net.lans lan row other (is.plug_has_lan p x other h i);
+        cost_fits = is.cost_fits;
         speed_fits = λ l x h. elim (was l x h) [
-          | inl q ↦ subst (λ (r : LanRow). (1 ≤ r.speed) × (r.speed ≤ 9_999_999_999)) q.1 (omega arith, omega arith)
+          | inl q ↦ subst (λ (r : LanRow). (1 ≤ r.speed) × (r.speed ≤ 9_999_999_999)) q.1 fits
           | inr q ↦ is.speed_fits l x q
         ];
         priority_has_bridge = is.priority_has_bridge;
         priority_fits = is.priority_fits;
         bridge_limit = is.bridge_limit;
         port_limit = is.port_limit;
-        lan_limit = omega (arith, len_added names net.lans lan row ok.0, leb-false 8192 (fin.len net.lans) ok.1);
+        lan_limit = few;
       }
 
-  -- ---- a port in a LAN
-  pub network_with_plug : (port : PortName) (lan : List ℕ) (row : PortRow) → fin.get net.ports port ≡ Some row → fin.contains_key net.lans lan ≡ true
-      → IsNetwork (record net { ports = fin.insert net.ports port (record row { lan = Some lan }) })
-  network_with_plug port lan row there has =
-      let new : PortRow = record row { lan = Some lan } in
-      let was = after_insert ports net.ports port new in
-      record {
-        macs_differ = is.macs_differ;
-        mac_fits = is.mac_fits;
-        port_has_bridge = λ p x h. elim (was p x h) [
-          | inl q ↦ subst (λ (p : PortName). fin.contains_key net.bridges p.bridge ≡ true) q.0 (is.port_has_bridge port row there)
-          | inr q ↦ is.port_has_bridge p x q
-        ];
-        port_number_fits = λ p x h. elim (was p x h) [
-          | inl q ↦ subst (λ (p : PortName). (1 ≤ p.number) × (p.number ≤ 4095)) q.0 (is.port_number_fits port row there)
-          | inr q ↦ is.port_number_fits p x q
-        ];
-        plug_has_lan = λ p x other h i. elim (was p x h) [
-          | inl q ↦ subst (λ (l : List ℕ). fin.contains_key net.lans l ≡ true) (some_is lan other (ap (λ (r : PortRow). r.lan) q.1 ∙ i)) has
-          | inr q ↦ is.plug_has_lan p x other q i
-        ];
-        speed_fits = is.speed_fits;
-        priority_has_bridge = is.priority_has_bridge;
-        priority_fits = is.priority_fits;
-        bridge_limit = is.bridge_limit;
-        port_limit = omega (arith, len_set ports net.ports port new (ap is_some there), is.port_limit);
-        lan_limit = is.lan_limit;
-      }
+  pub network_with_lan : (lan : List ℕ) → IsOk (after_add_lan lan net) → IsNetwork (with_lan net lan new_lan)
+  network_with_lan lan h =
+      let ok = lan_added lan net h in
+      with_lan_row lan new_lan (omega arith, omega arith) (omega (arith, len_added names net.lans lan new_lan ok.0, leb-false 8192 (fin.len net.lans) ok.1))
+
+  pub network_with_lan_settings : (lan : List ℕ) (old new : LanRow) → fin.get net.lans lan ≡ Some old → new.speed ≡ old.speed → IsNetwork (with_lan net lan new)
+  network_with_lan_settings lan old new there speed =
+      with_lan_row lan new (subst (λ n. (1 ≤ n) × (n ≤ 9_999_999_999)) (sym speed) (is.speed_fits lan old there))
+      (omega (arith, len_set names net.lans lan new (ap is_some there), is.lan_limit))
 
   -- ---- a priority
   pub network_with_priority : (bridge : List ℕ) (tree priority : ℕ) → priority ≤ 15 → fin.contains_key net.bridges bridge ≡ true
@@ -273,6 +286,7 @@ module _ (net : Net) (is : IsNetwork net) where
         port_has_bridge = is.port_has_bridge;
         port_number_fits = is.port_number_fits;
         plug_has_lan = is.plug_has_lan;
+        cost_fits = is.cost_fits;
         speed_fits = is.speed_fits;
         priority_has_bridge = λ k p h. elim (was k p (nat_eq priority 8) refl h) [
           | inl q ↦ subst (λ (k : BridgeTree). fin.contains_key net.bridges k.bridge ≡ true) q.0 has
@@ -297,3 +311,39 @@ module _ (net : Net) (is : IsNetwork net) where
         | inl q ↦ inl (q.0, q.1, λ eight. true≢false (sym ((unsigned_Decides priority 8).1 eight) ∙ e))
         | inr q ↦ inr q
       ]
+
+  -- ---- any edit whose values are in their ranges
+  made : (edit : Edit) → InRange edit → IsOk (after edit net) → IsNetwork (result_unwrap_or (after edit net) net)
+  made (AddBridge bridge mac) fits h = subst (λ r. IsNetwork (result_unwrap_or r net)) (sym (bridge_added bridge mac net h).3) (network_with_bridge bridge mac fits h)
+  made (SetPower bridge power) fits h =
+      let a = bridge_found bridge net (λ row. Ok (with_bridge net bridge (with_power power row))) h in
+      subst (λ r. IsNetwork (result_unwrap_or r net)) (sym a.3) (network_with_settings bridge a.0 (with_power power a.0) a.1 refl)
+  made (SetKind bridge kind) fits h =
+      let a = bridge_found bridge net (λ row. Ok (with_bridge net bridge (with_kind kind row))) h in
+      subst (λ r. IsNetwork (result_unwrap_or r net)) (sym a.3) (network_with_settings bridge a.0 (with_kind kind a.0) a.1 refl)
+  made (AddPort port) fits h = subst (λ r. IsNetwork (result_unwrap_or r net)) (sym (port_added port net h).3) (network_with_port port fits h)
+  made (AddLan lan) fits h = subst (λ r. IsNetwork (result_unwrap_or r net)) (sym (lan_added lan net h).2) (network_with_lan lan h)
+  made (SetLanState lan state) fits h =
+      let a = lan_found lan net (λ row. Ok (with_lan net lan (with_state state row))) h in
+      subst (λ r. IsNetwork (result_unwrap_or r net)) (sym a.3) (network_with_lan_settings lan a.0 (with_state state a.0) a.1 refl)
+  made (Plug port lan) fits h =
+      let a = port_plugged port lan net h in
+      subst (λ r. IsNetwork (result_unwrap_or r net)) (sym a.3)
+      (network_with_port_settings port a.0 (in_lan (Some lan) a.0) a.1 (λ other e. subst (λ (l : List ℕ). fin.contains_key net.lans l ≡ true) (some_is lan other e) a.2) (λ cost e. is.cost_fits port a.0 cost a.1 e))
+  made (Unplug port) fits h =
+      let a = port_unplugged port net h in
+      subst (λ r. IsNetwork (result_unwrap_or r net)) (sym a.2)
+      (network_with_port_settings port a.0 (in_lan None a.0) a.1 (λ lan e. absurd (no_some lan e)) (λ cost e. is.cost_fits port a.0 cost a.1 e))
+  made (SetTreePriority bridge tree priority) fits h =
+      let a = bridge_found bridge net (λ row. Ok (with_priority net (record { bridge = bridge; tree = tree }) priority)) h in
+      subst (λ r. IsNetwork (result_unwrap_or r net)) (sym a.3) (network_with_priority bridge tree priority fits (ap is_some a.1))
+  made (SetPortPathCost port cost) fits h =
+      let a = port_found port net (λ row. Ok (with_port net port (with_external cost row))) h in
+      subst (λ r. IsNetwork (result_unwrap_or r net)) (sym a.3)
+      (network_with_port_settings port a.0 (with_external cost a.0) a.1 (λ lan e. is.plug_has_lan port a.0 lan a.1 e) (in_range cost fits))
+    where
+      in_range : (o : Option ℕ) → ForSome o (λ c. (1 ≤ c) × (c ≤ 200_000_000)) → (c : ℕ) → o ≡ Some c → (1 ≤ c) × (c ≤ 200_000_000)
+      in_range o fits c e = fits c e
+
+  pub after_is_network : (edit : Edit) (new : Net) → InRange edit → after edit net ≡ Ok new → IsNetwork new
+  after_is_network edit new fits e = subst (λ r. IsNetwork (result_unwrap_or r net)) e (made edit fits (subst IsOk (sym e) refl))

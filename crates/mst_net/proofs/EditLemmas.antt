@@ -6,22 +6,24 @@ use Rattle.std.specs.HashSet as set
 use Rattle.std.specs.Cmp.{unsigned_Decides}
 use Rattle.std.specs.Map.{lookup}
 use Rattle.mst_ids.specs.declared.name.PortName.{PortName}
-use Rattle.mst_lang.specs.declared.line.Edit.TheVariants.{AddBridge, SetKind, AddPort, AddLan, Plug, SetTreePriority}
-use Rattle.mst_lang.specs.declared.line.Kind.{Kind}
-use Rattle.mst_net.specs.Tables.{Net, IsNetwork, BridgeRow, PortRow, BridgeTree}
-use Rattle.mst_net.specs.After.{mac_taken, is_rstp, with_priority}
+use Rattle.mst_lang.specs.declared.line.Edit.TheVariants.{AddBridge, AddPort, AddLan, SetTreePriority}
+use Rattle.mst_net.specs.Tables.{Net, IsNetwork, BridgeRow, PortRow, LanRow, BridgeTree}
+use Rattle.mst_net.specs.After.{mac_taken, new_bridge, new_port, new_lan, with_bridge, with_port, with_lan, with_priority}
 use Rattle.mst_net.specs.Contents.{CanCommit, Commits}
 use Rattle.mst_net.specs.Rows.{IsNumberedBy}
 use Rattle.mst_net.specs.NetworkKept.{contents_of, port_eq, IsSound}
 use Rattle.mst_net.specs.declared.network.Network.TheInside.{Inside}
-use Rattle.mst_net.proofs.KeptLemmas.{some_is}
-use Rattle.mst_net.proofs.Keyed.{get_keyed, contains_keyed, set_keyed, removed_keyed}
+use Rattle.mst_net.proofs.Keyed.{contains_keyed, set_keyed, removed_keyed}
 use Rattle.mst_net.proofs.Keys.{name_eq, names, ports, tree_eq, bridge_trees}
-use Rattle.mst_net.proofs.AfterLemmas.{new_bridge, bridge_added, port_added, lan_added, kind_set, port_plugged, priority_set, network_with_bridge, taken_with_bridge, network_with_kind, taken_with_kind, network_with_port, network_with_lan, network_with_plug, network_with_priority}
+use Rattle.mst_net.proofs.AfterLemmas.{bridge_added, port_added, lan_added, bridge_found, network_with_bridge, taken_with_bridge, network_with_settings, taken_with_settings, network_with_port, network_with_port_settings, network_with_lan, network_with_lan_settings, network_with_priority}
 
 pub absent : {X : Type 0} (o : Option X) → is_some o ≡ false → o ≡ None
 absent None e = refl
 absent (Some x) e = absurd (true≢false e)
+
+pub value_of : {X : Type 0} (o : Option X) → IsSome o → (x : X) × (o ≡ Some x)
+value_of None h = absurd (true≢false (sym h))
+value_of (Some x) h = (x, refl)
 
 pub not_equal : (x y : ℕ) → (x ≡ y → ⊥) → nat_eq x y ≡ false
 not_equal x y differ = by (nat_eq x y) refl
@@ -34,25 +36,44 @@ module _ (a b : Inside) where
   abbrev was : Net
   was = (contents_of a).net
 
-  -- ---- a new bridge
+  -- ---- a change of the bridges
+  module _ (bridge : List ℕ) (row : BridgeRow) (others : record b { bridges = a.bridges; macs = a.macs } ≡ a)
+      (rows : (q : List ℕ) → lookup (name_eq q) b.bridges.rows ≡ cond (name_eq bridge q) (Some row) (lookup (name_eq q) a.bridges.rows)) where
+    pub net_with_bridge : (contents_of b).net ≡ with_bridge was bridge row
+    net_with_bridge i = record {
+      bridges = set_keyed names a.bridges.rows b.bridges.rows bridge row rows i;
+      ports = fin.from_entries (others i).ports.rows;
+      lans = fin.from_entries (others i).lans.rows;
+      priorities = fin.from_entries (others i).priorities.entries;
+    }
+
+    bridges_sound : IsSound a → IsNumberedBy name_eq b.bridges → IsNetwork (with_bridge was bridge row)
+        → ((q : ℕ) → set.contains nat_eq b.macs q ≡ mac_taken q (with_bridge was bridge row)) → IsSound b
+    bridges_sound s numbered network macs = record {
+      network = subst IsNetwork (sym net_with_bridge) network;
+      bridges = numbered;
+      ports = subst (λ (x : Inside). IsNumberedBy port_eq x.ports) (sym others) s.ports;
+      lans = subst (λ (x : Inside). IsNumberedBy name_eq x.lans) (sym others) s.lans;
+      macs = λ q. macs q ∙ ap (mac_taken q) (sym net_with_bridge);
+    }
+
+    -- other settings of a bridge
+    pub bridge_set_sound : IsSound a → IsNumberedBy name_eq b.bridges → b.macs ≡ a.macs → (old : BridgeRow) → fin.get was.bridges bridge ≡ Some old → old.mac ≡ row.mac → IsSound b
+    bridge_set_sound s numbered same old there mac =
+        bridges_sound s numbered (network_with_settings was s.network bridge old row there (sym mac))
+        (λ q. ap (λ m. set.contains nat_eq m q) same ∙ s.macs q ∙ sym (taken_with_settings was s.network bridge old row q there (sym mac)))
+
+  -- a new bridge
   module _ (bridge : List ℕ) (mac : ℕ) (can : CanCommit (AddBridge bridge mac) (contents_of a)) where
     pub absent_bridge : lookup (name_eq bridge) a.bridges.rows ≡ None
     absent_bridge = absent _ (sym (contains_keyed names a.bridges.rows bridge) ∙ (bridge_added bridge mac was can.accepted).0)
 
     module _ (others : record b { bridges = a.bridges; macs = a.macs } ≡ a)
         (rows : (q : List ℕ) → lookup (name_eq q) b.bridges.rows ≡ cond (name_eq bridge q) (Some (new_bridge mac)) (lookup (name_eq q) a.bridges.rows)) where
-      net_with_bridge : (contents_of b).net ≡ record was { bridges = fin.insert was.bridges bridge (new_bridge mac) }
-      net_with_bridge i = record {
-        bridges = set_keyed names a.bridges.rows b.bridges.rows bridge (new_bridge mac) rows i;
-        ports = fin.from_entries (others i).ports.rows;
-        lans = fin.from_entries (others i).lans.rows;
-        priorities = fin.from_entries (others i).priorities.entries;
-      }
-
       pub bridge_commits : ((q : List ℕ) → lookup (name_eq q) b.bridges.numbers ≡ cond (name_eq bridge q) (Some a.bridges.next) (lookup (name_eq q) a.bridges.numbers))
           → Commits (AddBridge bridge mac) (contents_of a) (contents_of b)
       bridge_commits numbers = record {
-        net = (bridge_added bridge mac was can.accepted).3 ∙ ap Ok (sym net_with_bridge);
+        net = (bridge_added bridge mac was can.accepted).3 ∙ ap Ok (sym (net_with_bridge bridge (new_bridge mac) others rows));
         numbers = λ i. record {
           bridges = set_keyed names a.bridges.numbers b.bridges.numbers bridge a.bridges.next numbers i;
           ports = fin.from_entries (others i).ports.numbers;
@@ -61,61 +82,14 @@ module _ (a b : Inside) where
       }
 
       pub bridge_sound : IsSound a → mac < 2 ^ 48 → IsNumberedBy name_eq b.bridges → ((q : ℕ) → set.contains nat_eq b.macs q ≡ cond (nat_eq mac q) true (set.contains nat_eq a.macs q)) → IsSound b
-      bridge_sound s fits numbered macs = record {
-        network = subst IsNetwork (sym net_with_bridge) (network_with_bridge was s.network bridge mac fits can.accepted);
-        bridges = numbered;
-        ports = subst (λ (x : Inside). IsNumberedBy port_eq x.ports) (sym others) s.ports;
-        lans = subst (λ (x : Inside). IsNumberedBy name_eq x.lans) (sym others) s.lans;
-        macs = λ q. macs q ∙ ap (cond (nat_eq mac q) true) (s.macs q)
-            ∙ sym (taken_with_bridge was s.network bridge mac q (bridge_added bridge mac was can.accepted).0) ∙ ap (mac_taken q) (sym net_with_bridge);
-      }
-
-  -- ---- a bridge of another kind
-  module _ (bridge : List ℕ) (kind : Kind) (can : CanCommit (SetKind bridge kind) (contents_of a)) where
-    pub bridge_there : IsSome (lookup (name_eq bridge) a.bridges.rows)
-    bridge_there = ap is_some (sym (get_keyed names a.bridges.rows bridge) ∙ (kind_set bridge kind was can.accepted).1)
-
-    module _ (old : BridgeRow) (there : lookup (name_eq bridge) a.bridges.rows ≡ Some old)
-        (others : record b { bridges = a.bridges } ≡ a)
-        (rows : (q : List ℕ) → lookup (name_eq q) b.bridges.rows ≡ cond (name_eq bridge q) (Some (record old { is_rstp = is_rstp kind })) (lookup (name_eq q) a.bridges.rows)) where
-      net_with_kind : (contents_of b).net ≡ record was { bridges = fin.insert was.bridges bridge (record old { is_rstp = is_rstp kind }) }
-      net_with_kind i = record {
-        bridges = set_keyed names a.bridges.rows b.bridges.rows bridge (record old { is_rstp = is_rstp kind }) rows i;
-        ports = fin.from_entries (others i).ports.rows;
-        lans = fin.from_entries (others i).lans.rows;
-        priorities = fin.from_entries (others i).priorities.entries;
-      }
-
-      found : fin.get was.bridges bridge ≡ Some old
-      found = get_keyed names a.bridges.rows bridge ∙ there
-
-      pub kind_commits : b.bridges.numbers ≡ a.bridges.numbers → Commits (SetKind bridge kind) (contents_of a) (contents_of b)
-      kind_commits numbers =
-          let set = kind_set bridge kind was can.accepted in
-          let same : set.0 ≡ old = some_is _ _ (sym set.1 ∙ found) in
-          record {
-            net = set.2 ∙ ap (λ (row : BridgeRow). Ok (record was { bridges = fin.insert was.bridges bridge (record row { is_rstp = is_rstp kind }) })) same ∙ ap Ok (sym net_with_kind);
-            numbers = λ i. record {
-              bridges = fin.from_entries (numbers i);
-              ports = fin.from_entries (others i).ports.numbers;
-              lans = fin.from_entries (others i).lans.numbers;
-            };
-          }
-
-      pub kind_sound : IsSound a → IsNumberedBy name_eq b.bridges → IsSound b
-      kind_sound s numbered = record {
-        network = subst IsNetwork (sym net_with_kind) (network_with_kind was s.network bridge kind old found);
-        bridges = numbered;
-        ports = subst (λ (x : Inside). IsNumberedBy port_eq x.ports) (sym others) s.ports;
-        lans = subst (λ (x : Inside). IsNumberedBy name_eq x.lans) (sym others) s.lans;
-        macs = λ q. ap (λ (x : Inside). set.contains nat_eq x.macs q) others ∙ s.macs q
-            ∙ sym (taken_with_kind was s.network bridge kind old q found) ∙ ap (mac_taken q) (sym net_with_kind);
-      }
+      bridge_sound s fits numbered macs =
+          bridges_sound bridge (new_bridge mac) others rows s numbered (network_with_bridge was s.network bridge mac fits can.accepted)
+          (λ q. macs q ∙ ap (cond (nat_eq mac q) true) (s.macs q) ∙ sym (taken_with_bridge was s.network bridge mac q (bridge_added bridge mac was can.accepted).0))
 
   -- ---- a change of the ports
   module _ (port : PortName) (row : PortRow) (others : record b { ports = a.ports } ≡ a)
       (rows : (q : PortName) → lookup (port_eq q) b.ports.rows ≡ cond (port_eq port q) (Some row) (lookup (port_eq q) a.ports.rows)) where
-    net_with_port : (contents_of b).net ≡ record was { ports = fin.insert was.ports port row }
+    pub net_with_port : (contents_of b).net ≡ with_port was port row
     net_with_port i = record {
       bridges = fin.from_entries (others i).bridges.rows;
       ports = set_keyed ports a.ports.rows b.ports.rows port row rows i;
@@ -123,8 +97,8 @@ module _ (a b : Inside) where
       priorities = fin.from_entries (others i).priorities.entries;
     }
 
-    port_sound : IsSound a → IsNumberedBy port_eq b.ports → IsNetwork (record was { ports = fin.insert was.ports port row }) → IsSound b
-    port_sound s numbered network = record {
+    ports_sound : IsSound a → IsNumberedBy port_eq b.ports → IsNetwork (with_port was port row) → IsSound b
+    ports_sound s numbered network = record {
       network = subst IsNetwork (sym net_with_port) network;
       bridges = subst (λ (x : Inside). IsNumberedBy name_eq x.bridges) (sym others) s.bridges;
       ports = numbered;
@@ -132,17 +106,22 @@ module _ (a b : Inside) where
       macs = λ q. ap (λ (x : Inside). set.contains nat_eq x.macs q) others ∙ s.macs q ∙ ap (mac_taken q) (sym net_with_port);
     }
 
+    -- other settings of a port
+    pub port_set_sound : IsSound a → IsNumberedBy port_eq b.ports → (old : PortRow) → fin.get was.ports port ≡ Some old → ((lan : List ℕ) → row.lan ≡ Some lan → fin.contains_key was.lans lan ≡ true)
+        → ((cost : ℕ) → row.external ≡ Some cost → (1 ≤ cost) × (cost ≤ 200_000_000)) → IsSound b
+    port_set_sound s numbered old there lan cost = ports_sound s numbered (network_with_port_settings was s.network port old row there lan cost)
+
   -- a new port
   module _ (port : PortName) (can : CanCommit (AddPort port) (contents_of a)) where
     pub absent_port : lookup (port_eq port) a.ports.rows ≡ None
     absent_port = absent _ (sym (contains_keyed ports a.ports.rows port) ∙ (port_added port was can.accepted).1)
 
     module _ (others : record b { ports = a.ports } ≡ a)
-        (rows : (q : PortName) → lookup (port_eq q) b.ports.rows ≡ cond (port_eq port q) (Some (record { lan = None })) (lookup (port_eq q) a.ports.rows)) where
+        (rows : (q : PortName) → lookup (port_eq q) b.ports.rows ≡ cond (port_eq port q) (Some new_port) (lookup (port_eq q) a.ports.rows)) where
       pub add_port_commits : ((q : PortName) → lookup (port_eq q) b.ports.numbers ≡ cond (port_eq port q) (Some a.ports.next) (lookup (port_eq q) a.ports.numbers))
           → Commits (AddPort port) (contents_of a) (contents_of b)
       add_port_commits numbers = record {
-        net = (port_added port was can.accepted).3 ∙ ap Ok (sym (net_with_port port (record { lan = None }) others rows));
+        net = (port_added port was can.accepted).3 ∙ ap Ok (sym (net_with_port port new_port others rows));
         numbers = λ i. record {
           bridges = fin.from_entries (others i).bridges.numbers;
           ports = set_keyed ports a.ports.numbers b.ports.numbers port a.ports.next numbers i;
@@ -151,49 +130,43 @@ module _ (a b : Inside) where
       }
 
       pub add_port_sound : IsSound a → (1 ≤ port.number) × (port.number ≤ 4095) → IsNumberedBy port_eq b.ports → IsSound b
-      add_port_sound s fits numbered = port_sound port (record { lan = None }) others rows s numbered (network_with_port was s.network port fits can.accepted)
+      add_port_sound s fits numbered = ports_sound port new_port others rows s numbered (network_with_port was s.network port fits can.accepted)
 
-  -- a port in a LAN
-  module _ (port : PortName) (lan : List ℕ) (can : CanCommit (Plug port lan) (contents_of a)) where
-    pub port_there : IsSome (lookup (port_eq port) a.ports.rows)
-    port_there = ap is_some (sym (get_keyed ports a.ports.rows port) ∙ (port_plugged port lan was can.accepted).1)
+  -- ---- a change of the LANs
+  module _ (lan : List ℕ) (row : LanRow) (others : record b { lans = a.lans } ≡ a)
+      (rows : (q : List ℕ) → lookup (name_eq q) b.lans.rows ≡ cond (name_eq lan q) (Some row) (lookup (name_eq q) a.lans.rows)) where
+    pub net_with_lan : (contents_of b).net ≡ with_lan was lan row
+    net_with_lan i = record {
+      bridges = fin.from_entries (others i).bridges.rows;
+      ports = fin.from_entries (others i).ports.rows;
+      lans = set_keyed names a.lans.rows b.lans.rows lan row rows i;
+      priorities = fin.from_entries (others i).priorities.entries;
+    }
 
-    module _ (others : record b { ports = a.ports } ≡ a)
-        (rows : (q : PortName) → lookup (port_eq q) b.ports.rows ≡ cond (port_eq port q) (Some (record { lan = Some lan })) (lookup (port_eq q) a.ports.rows)) where
-      pub plug_commits : b.ports.numbers ≡ a.ports.numbers → Commits (Plug port lan) (contents_of a) (contents_of b)
-      plug_commits numbers = record {
-        net = (port_plugged port lan was can.accepted).3 ∙ ap Ok (sym (net_with_port port (record { lan = Some lan }) others rows));
-        numbers = λ i. record {
-          bridges = fin.from_entries (others i).bridges.numbers;
-          ports = fin.from_entries (numbers i);
-          lans = fin.from_entries (others i).lans.numbers;
-        };
-      }
+    lans_sound : IsSound a → IsNumberedBy name_eq b.lans → IsNetwork (with_lan was lan row) → IsSound b
+    lans_sound s numbered network = record {
+      network = subst IsNetwork (sym net_with_lan) network;
+      bridges = subst (λ (x : Inside). IsNumberedBy name_eq x.bridges) (sym others) s.bridges;
+      ports = subst (λ (x : Inside). IsNumberedBy port_eq x.ports) (sym others) s.ports;
+      lans = numbered;
+      macs = λ q. ap (λ (x : Inside). set.contains nat_eq x.macs q) others ∙ s.macs q ∙ ap (mac_taken q) (sym net_with_lan);
+    }
 
-      pub plug_sound : IsSound a → IsNumberedBy port_eq b.ports → IsSound b
-      plug_sound s numbered =
-          let plugged = port_plugged port lan was can.accepted in
-          port_sound port (record { lan = Some lan }) others rows s numbered (network_with_plug was s.network port lan plugged.0 plugged.1 plugged.2)
+    -- other settings of a LAN
+    pub lan_set_sound : IsSound a → IsNumberedBy name_eq b.lans → (old : LanRow) → fin.get was.lans lan ≡ Some old → old.speed ≡ row.speed → IsSound b
+    lan_set_sound s numbered old there speed = lans_sound s numbered (network_with_lan_settings was s.network lan old row there (sym speed))
 
-  -- ---- a new LAN
+  -- a new LAN
   module _ (lan : List ℕ) (can : CanCommit (AddLan lan) (contents_of a)) where
     pub absent_lan : lookup (name_eq lan) a.lans.rows ≡ None
     absent_lan = absent _ (sym (contains_keyed names a.lans.rows lan) ∙ (lan_added lan was can.accepted).0)
 
     module _ (others : record b { lans = a.lans } ≡ a)
-        (rows : (q : List ℕ) → lookup (name_eq q) b.lans.rows ≡ cond (name_eq lan q) (Some (record { speed = 1_000_000 })) (lookup (name_eq q) a.lans.rows)) where
-      net_with_lan : (contents_of b).net ≡ record was { lans = fin.insert was.lans lan (record { speed = 1_000_000 }) }
-      net_with_lan i = record {
-        bridges = fin.from_entries (others i).bridges.rows;
-        ports = fin.from_entries (others i).ports.rows;
-        lans = set_keyed names a.lans.rows b.lans.rows lan (record { speed = 1_000_000 }) rows i;
-        priorities = fin.from_entries (others i).priorities.entries;
-      }
-
+        (rows : (q : List ℕ) → lookup (name_eq q) b.lans.rows ≡ cond (name_eq lan q) (Some new_lan) (lookup (name_eq q) a.lans.rows)) where
       pub lan_commits : ((q : List ℕ) → lookup (name_eq q) b.lans.numbers ≡ cond (name_eq lan q) (Some a.lans.next) (lookup (name_eq q) a.lans.numbers))
           → Commits (AddLan lan) (contents_of a) (contents_of b)
       lan_commits numbers = record {
-        net = (lan_added lan was can.accepted).2 ∙ ap Ok (sym net_with_lan);
+        net = (lan_added lan was can.accepted).2 ∙ ap Ok (sym (net_with_lan lan new_lan others rows));
         numbers = λ i. record {
           bridges = fin.from_entries (others i).bridges.numbers;
           ports = fin.from_entries (others i).ports.numbers;
@@ -202,13 +175,7 @@ module _ (a b : Inside) where
       }
 
       pub lan_sound : IsSound a → IsNumberedBy name_eq b.lans → IsSound b
-      lan_sound s numbered = record {
-        network = subst IsNetwork (sym net_with_lan) (network_with_lan was s.network lan can.accepted);
-        bridges = subst (λ (x : Inside). IsNumberedBy name_eq x.bridges) (sym others) s.bridges;
-        ports = subst (λ (x : Inside). IsNumberedBy port_eq x.ports) (sym others) s.ports;
-        lans = numbered;
-        macs = λ q. ap (λ (x : Inside). set.contains nat_eq x.macs q) others ∙ s.macs q ∙ ap (mac_taken q) (sym net_with_lan);
-      }
+      lan_sound s numbered = lans_sound lan new_lan others rows s numbered (network_with_lan was s.network lan can.accepted)
 
   -- ---- a priority
   module _ (bridge : List ℕ) (tree priority : ℕ) (can : CanCommit (SetTreePriority bridge tree priority) (contents_of a))
@@ -222,9 +189,12 @@ module _ (a b : Inside) where
       priorities = set_there i;
     }
 
+    bridge_there : (row : BridgeRow) × (fin.get was.bridges bridge ≡ Some row)
+    bridge_there = let f = bridge_found bridge was (λ row. Ok (with_priority was (record { bridge = bridge; tree = tree }) priority)) can.accepted in (f.0, f.1)
+
     pub priority_commits : Commits (SetTreePriority bridge tree priority) (contents_of a) (contents_of b)
     priority_commits = record {
-      net = (priority_set bridge tree priority was can.accepted).1 ∙ ap Ok (sym net_with_priority);
+      net = (bridge_found bridge was (λ row. Ok (with_priority was (record { bridge = bridge; tree = tree }) priority)) can.accepted).3 ∙ ap Ok (sym net_with_priority);
       numbers = λ i. record {
         bridges = fin.from_entries (others i).bridges.numbers;
         ports = fin.from_entries (others i).ports.numbers;
@@ -234,7 +204,7 @@ module _ (a b : Inside) where
 
     pub priority_sound : IsSound a → priority ≤ 15 → IsSound b
     priority_sound s fits = record {
-      network = subst IsNetwork (sym net_with_priority) (network_with_priority was s.network bridge tree priority fits (priority_set bridge tree priority was can.accepted).0);
+      network = subst IsNetwork (sym net_with_priority) (network_with_priority was s.network bridge tree priority fits (ap is_some bridge_there.1));
       bridges = subst (λ (x : Inside). IsNumberedBy name_eq x.bridges) (sym others) s.bridges;
       ports = subst (λ (x : Inside). IsNumberedBy port_eq x.ports) (sym others) s.ports;
       lans = subst (λ (x : Inside). IsNumberedBy name_eq x.lans) (sym others) s.lans;

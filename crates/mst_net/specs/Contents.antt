@@ -7,7 +7,7 @@ use Rattle.std.specs.Coded.{Coded, code_by, coded×, coded_ℕ, coded_list}
 use Rattle.mst_ids.specs.Names.{coded_port}
 use Rattle.mst_ids.specs.declared.name.PortName.{PortName}
 use Rattle.mst_lang.specs.declared.line.Edit.{Edit}
-use Rattle.mst_lang.specs.declared.line.Edit.TheVariants.{AddBridge, SetKind, AddPort, AddLan, Plug, SetTreePriority}
+use Rattle.mst_lang.specs.declared.line.Edit.TheVariants.{AddBridge, AddPort, AddLan, SetTreePriority}
 use Rattle.mst_net.specs.Tables.{Net, Numbers, bridge_row_code, port_row_code, lan_row_code, bridge_tree_code}
 use Rattle.mst_net.specs.After.{after}
 
@@ -79,9 +79,7 @@ abbrev pub numbers_after : Edit → PerKind → Numbers → Numbers
 numbers_after (AddBridge bridge mac) next numbers = record numbers { bridges = fin.insert numbers.bridges bridge next.bridge }
 numbers_after (AddPort port) next numbers = record numbers { ports = fin.insert numbers.ports port next.port }
 numbers_after (AddLan lan) next numbers = record numbers { lans = fin.insert numbers.lans lan next.lan }
-numbers_after (SetKind bridge kind) next numbers = numbers
-numbers_after (Plug port lan) next numbers = numbers
-numbers_after (SetTreePriority bridge tree priority) next numbers = numbers
+numbers_after _ next numbers = numbers
 
 -- the edit was made
 pub record Commits (edit : Edit) (old new : Contents) : Type 0 where

@@ -1,15 +1,15 @@
 -- What a look-up shows of a record.
 use Rattle.mst_net.specs.Tables.{BridgeRow, PortRow, LanRow}
-use Rattle.mst_net.specs.After.{is_rstp}
+use Rattle.mst_net.specs.After.{is_rstp, is_on, is_up}
 use Rattle.mst_net.specs.declared.contents.Bridge.{Bridge}
 use Rattle.mst_net.specs.declared.contents.Port.{Port}
 use Rattle.mst_net.specs.declared.contents.Lan.{Lan}
 
 abbrev pub bridge_row : Bridge → BridgeRow
-bridge_row b = record { mac = b.mac; is_rstp = is_rstp b.kind }
+bridge_row b = record { mac = b.mac; is_rstp = is_rstp b.kind; is_on = is_on b.power }
 
 abbrev pub port_row : Port → PortRow
-port_row p = record { lan = p.lan }
+port_row p = record { lan = p.lan; external = p.external }
 
 abbrev pub lan_row : Lan → LanRow
-lan_row l = record { speed = l.speed }
+lan_row l = record { speed = l.speed; is_up = is_up l.state }

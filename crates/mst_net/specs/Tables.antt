@@ -12,14 +12,18 @@ use Rattle.mst_ids.specs.declared.name.PortName.{PortName}
 pub record BridgeRow : Type 0 where
   pub mac : ℕ
   pub is_rstp : Bool
+  pub is_on : Bool
 
--- a port's settings: the LAN that it is plugged into, if there is one
+-- a port's settings: the LAN that it is plugged into, if there is one, and its external path cost, or none
+-- where it is automatic
 pub record PortRow : Type 0 where
   pub lan : Option (List ℕ)
+  pub external : Option ℕ
 
--- a LAN's settings: its speed in kb/s
+-- a LAN's settings: its speed in kb/s, and whether it is up
 pub record LanRow : Type 0 where
   pub speed : ℕ
+  pub is_up : Bool
 
 -- a bridge in a tree
 pub record BridgeTree : Type 0 where
@@ -57,6 +61,7 @@ pub record IsNetwork (net : Net) : Type 0 where
   pub port_has_bridge : (p : PortName) (x : PortRow) → fin.get net.ports p ≡ Some x → IsTrue (fin.contains_key net.bridges p.bridge)
   pub port_number_fits : (p : PortName) (x : PortRow) → fin.get net.ports p ≡ Some x → (1 ≤ p.number) × (p.number ≤ 4095)
   pub plug_has_lan : (p : PortName) (x : PortRow) (lan : List ℕ) → fin.get net.ports p ≡ Some x → x.lan ≡ Some lan → IsTrue (fin.contains_key net.lans lan)
+  pub cost_fits : (p : PortName) (x : PortRow) (cost : ℕ) → fin.get net.ports p ≡ Some x → x.external ≡ Some cost → (1 ≤ cost) × (cost ≤ 200_000_000)
   pub speed_fits : (l : List ℕ) (x : LanRow) → fin.get net.lans l ≡ Some x → (1 ≤ x.speed) × (x.speed ≤ 9_999_999_999)
   pub priority_has_bridge : (k : BridgeTree) (priority : ℕ) → fin.get net.priorities k ≡ Some priority → IsTrue (fin.contains_key net.bridges k.bridge)
   pub priority_fits : (k : BridgeTree) (priority : ℕ) → fin.get net.priorities k ≡ Some priority → (priority ≤ 15) × (priority ≢ 8)
@@ -66,13 +71,17 @@ pub record IsNetwork (net : Net) : Type 0 where
 
 -- how the tables are stored, so that proofs can tell two of them apart
 abbrev pub bridge_row_code : Coded BridgeRow
-bridge_row_code = code_by (ℕ × Bool) (coded× coded_ℕ coded_bool) (λ b. (b.mac, b.is_rstp)) (λ p. record { mac = p.0; is_rstp = p.1 }) (λ _. refl)
+bridge_row_code =
+    code_by (ℕ × (Bool × Bool)) (coded× coded_ℕ (coded× coded_bool coded_bool)) (λ b. (b.mac, (b.is_rstp, b.is_on)))
+    (λ p. record { mac = p.0; is_rstp = p.1.0; is_on = p.1.1 }) (λ _. refl)
 
 abbrev pub port_row_code : Coded PortRow
-port_row_code = code_by (Option (List ℕ)) (coded_option (coded_list coded_ℕ)) (λ p. p.lan) (λ o. record { lan = o }) (λ _. refl)
+port_row_code =
+    code_by (Option (List ℕ) × Option ℕ) (coded× (coded_option (coded_list coded_ℕ)) (coded_option coded_ℕ)) (λ p. (p.lan, p.external))
+    (λ p. record { lan = p.0; external = p.1 }) (λ _. refl)
 
 abbrev pub lan_row_code : Coded LanRow
-lan_row_code = code_by ℕ coded_ℕ (λ l. l.speed) (λ n. record { speed = n }) (λ _. refl)
+lan_row_code = code_by (ℕ × Bool) (coded× coded_ℕ coded_bool) (λ l. (l.speed, l.is_up)) (λ p. record { speed = p.0; is_up = p.1 }) (λ _. refl)
 
 abbrev pub bridge_tree_code : Coded BridgeTree
 bridge_tree_code = code_by (List ℕ × ℕ) (coded× (coded_list coded_ℕ) coded_ℕ) (λ k. (k.bridge, k.tree)) (λ p. record { bridge = p.0; tree = p.1 }) (λ _. refl)

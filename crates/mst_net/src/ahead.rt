@@ -1,13 +1,13 @@
 ghost use Rattle.std.specs.Prelude.{◌≡◌};
 ghost use Rattle.std.specs.Option.{option_map};
-ghost use Rattle.mst_net.specs.After.{is_rstp};
+ghost use Rattle.mst_net.specs.After.{with_kind as kind_set, with_power as power_set, in_lan, with_external, with_state as state_set};
 ghost use Rattle.mst_net.specs.Seen.{bridge_row, port_row, lan_row};
-ghost use Rattle.mst_net.specs.Foreseen.{with_rstp, in_lan, bridge_row_after, port_row_after, lan_row_after, bridge_number_after, port_number_after, lan_number_after, priority_after};
+ghost use Rattle.mst_net.specs.Foreseen.{bridge_row_after, port_row_after, lan_row_after, bridge_number_after, port_number_after, lan_number_after, priority_after};
 
 use crate::contents::{Bridge, Contents, Lan, Port};
 use crate::network::{Network, Ready};
-use mst_ids::{BridgeNo, LanNo, Name, PortName, PortNo, Priority, Tree};
-use mst_lang::{Edit, Kind};
+use mst_ids::{BridgeNo, Cost, LanNo, Name, PortName, PortNo, Priority, Tree};
+use mst_lang::{Edit, Kind, LanState, Power};
 use std::marker::Model;
 
 /// A network as it will be once an edit is made.
@@ -79,19 +79,26 @@ fn bridge_after(edit: &Edit, next: BridgeNo, name: &Name, there: Option<Bridge>)
             number: next,
             mac,
             kind: Kind::Mstp,
+            power: Power::On,
         }),
+        Edit::SetPower { bridge, power } if bridge == *name => with_power(there, power),
         Edit::SetKind { bridge, kind } if bridge == *name => with_kind(there, kind),
-        Edit::AddBridge { .. }
-        | Edit::SetKind { .. }
-        | Edit::AddPort { .. }
-        | Edit::AddLan { .. }
-        | Edit::Plug { .. }
-        | Edit::SetTreePriority { .. } => there,
+        _ => there,
+    }
+}
+
+fn with_power(there: Option<Bridge>, power: Power) -> Option<Bridge>
+    ensures row { option_map bridge_row result ≡ option_map (power_set power) (option_map bridge_row there) }
+    ensures number { option_map (λ bridge. bridge.number) result ≡ option_map (λ bridge. bridge.number) there }
+{
+    match there {
+        Some(bridge) => Some(Bridge { power, ..bridge }),
+        None => None,
     }
 }
 
 fn with_kind(there: Option<Bridge>, kind: Kind) -> Option<Bridge>
-    ensures row { option_map bridge_row result ≡ option_map (with_rstp (is_rstp kind)) (option_map bridge_row there) }
+    ensures row { option_map bridge_row result ≡ option_map (kind_set kind) (option_map bridge_row there) }
     ensures number { option_map (λ bridge. bridge.number) result ≡ option_map (λ bridge. bridge.number) there }
 {
     match there {
@@ -109,26 +116,31 @@ fn port_after(edit: &Edit, next: PortNo, name: &PortName, there: Option<Port>) -
         Edit::AddPort { port } if port == *name => Some(Port {
             number: next,
             lan: None,
+            external: None,
         }),
-        Edit::Plug { port, lan } if port == *name => with_lan(there, lan),
-        Edit::AddBridge { .. }
-        | Edit::SetKind { .. }
-        | Edit::AddPort { .. }
-        | Edit::AddLan { .. }
-        | Edit::Plug { .. }
-        | Edit::SetTreePriority { .. } => there,
+        Edit::Plug { port, lan } if port == *name => with_lan(there, Some(lan)),
+        Edit::Unplug { port } if port == *name => with_lan(there, None),
+        Edit::SetPortPathCost { port, cost } if port == *name => with_cost(there, cost),
+        _ => there,
     }
 }
 
-fn with_lan(there: Option<Port>, lan: Name) -> Option<Port>
+fn with_lan(there: Option<Port>, lan: Option<Name>) -> Option<Port>
     ensures row { option_map port_row result ≡ option_map (in_lan lan) (option_map port_row there) }
     ensures number { option_map (λ port. port.number) result ≡ option_map (λ port. port.number) there }
 {
     match there {
-        Some(port) => Some(Port {
-            lan: Some(lan),
-            ..port
-        }),
+        Some(port) => Some(Port { lan, ..port }),
+        None => None,
+    }
+}
+
+fn with_cost(there: Option<Port>, external: Option<Cost>) -> Option<Port>
+    ensures row { option_map port_row result ≡ option_map (with_external external) (option_map port_row there) }
+    ensures number { option_map (λ port. port.number) result ≡ option_map (λ port. port.number) there }
+{
+    match there {
+        Some(port) => Some(Port { external, ..port }),
         None => None,
     }
 }
@@ -142,13 +154,20 @@ fn lan_after(edit: &Edit, next: LanNo, name: &Name, there: Option<Lan>) -> Optio
         Edit::AddLan { lan } if lan == *name => Some(Lan {
             number: next,
             speed: 1_000_000,
+            state: LanState::Up,
         }),
-        Edit::AddBridge { .. }
-        | Edit::SetKind { .. }
-        | Edit::AddPort { .. }
-        | Edit::AddLan { .. }
-        | Edit::Plug { .. }
-        | Edit::SetTreePriority { .. } => there,
+        Edit::SetLanState { lan, state } if lan == *name => with_state(there, state),
+        _ => there,
+    }
+}
+
+fn with_state(there: Option<Lan>, state: LanState) -> Option<Lan>
+    ensures row { option_map lan_row result ≡ option_map (state_set state) (option_map lan_row there) }
+    ensures number { option_map (λ lan. lan.number) result ≡ option_map (λ lan. lan.number) there }
+{
+    match there {
+        Some(lan) => Some(Lan { state, ..lan }),
+        None => None,
     }
 }
 
@@ -162,11 +181,6 @@ fn tree_priority_after(edit: &Edit, name: &Name, other: Tree, there: Priority) -
             tree,
             priority,
         } if bridge == *name && tree == other => priority,
-        Edit::AddBridge { .. }
-        | Edit::SetKind { .. }
-        | Edit::AddPort { .. }
-        | Edit::AddLan { .. }
-        | Edit::Plug { .. }
-        | Edit::SetTreePriority { .. } => there,
+        _ => there,
     }
 }

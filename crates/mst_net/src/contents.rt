@@ -4,8 +4,8 @@ ghost use Rattle.std.specs.FinMap as fin;
 ghost use Rattle.mst_net.specs.Contents.{Tables, priority_of};
 ghost use Rattle.mst_net.specs.Seen.{bridge_row, port_row, lan_row};
 
-use mst_ids::{BridgeNo, LanNo, Mac, Name, PortName, PortNo, Priority, Tree};
-use mst_lang::Kind;
+use mst_ids::{BridgeNo, Cost, LanNo, Mac, Name, PortName, PortNo, Priority, Tree};
+use mst_lang::{Kind, LanState, Power};
 
 /// A bridge's number and settings.
 #[derive(Clone, Copy)]
@@ -13,20 +13,24 @@ pub struct Bridge {
     pub number: BridgeNo,
     pub mac: Mac,
     pub kind: Kind,
+    pub power: Power,
 }
 
-/// A port's number, and the LAN that it is plugged into, if there is one.
+/// A port's number, the LAN that it is plugged into, if there is one, and its external path cost, or none
+/// where it is automatic.
 #[derive(Clone, Copy)]
 pub struct Port {
     pub number: PortNo,
     pub lan: Option<Name>,
+    pub external: Option<Cost>,
 }
 
-/// A LAN's number, and its speed in kb/s, 1 to 9,999,999,999.
+/// A LAN's number, its speed in kb/s, 1 to 9,999,999,999, and its state.
 #[derive(Clone, Copy)]
 pub struct Lan {
     pub number: LanNo,
     pub speed: u64,
+    pub state: LanState,
 }
 
 /// The records of a network, or of one as it will be. A look-up takes no memory, and a time that doesn't

@@ -3,6 +3,7 @@
 
 mod ahead;
 mod contents;
+pub mod laws;
 mod network;
 mod records;
 mod refusal;

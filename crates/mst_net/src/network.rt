@@ -1,8 +1,8 @@
-ghost use Rattle.std.specs.Prelude.{◌≡◌, ◌≢◌, ℕ, ◌<◌, ◌≤◌, Ok, Err, MatchResult, IfOk, IfErr, OnOk, IsOk, if◌then◌else◌};
-ghost use Rattle.mst_lang.specs.declared.line.Edit.TheVariants.{AddBridge, SetKind, AddPort, AddLan, Plug, SetTreePriority};
+ghost use Rattle.std.specs.Prelude.{◌≡◌, ◌≢◌, ℕ, ◌<◌, ◌≤◌, Option, Some, None, Ok, Err, MatchResult, IfOk, IfErr, OnOk, IsOk, IsSome, IsTrue, ok_or, if◌then◌else◌};
+ghost use Rattle.mst_lang.specs.declared.line.Edit.TheVariants.{AddBridge, SetPower, SetKind, AddPort, AddLan, SetLanState, Plug, Unplug, SetTreePriority, SetPortPathCost};
 ghost use Rattle.std.specs.FinMap as fin;
-ghost use Rattle.mst_net.specs.Tables.{empty_net, no_numbers, IsNetwork};
-ghost use Rattle.mst_net.specs.After.{after, after_add_bridge, after_set_kind, after_add_port, after_add_lan, after_plug, after_set_tree_priority, mac_taken};
+ghost use Rattle.mst_net.specs.Tables.{empty_net, no_numbers, IsNetwork, BridgeRow, LanRow};
+ghost use Rattle.mst_net.specs.After.{after, after_add_bridge, after_add_port, after_add_lan, after_plug, after_unplug, after_set_port_path_cost, mac_taken, with_bridge, with_port, with_lan};
 ghost use Rattle.mst_net.specs.Contents.{SameContents, CanCommit, Commits, IsNumbered, ahead_of};
 ghost use Rattle.std.specs.Option.{option_map, ForSome};
 ghost use Rattle.mst_ids.specs.declared.name.PortName.{PortName};
@@ -15,8 +15,8 @@ use crate::contents::{Bridge, Contents, Lan, Port};
 use crate::records::{Record, Records};
 use crate::settings::{BridgeInTree, BridgeSettings, LanSettings, PortSettings};
 use indexmap::{IndexMap, IndexSet};
-use mst_ids::{BridgeNo, LanNo, Mac, Name, PortName, PortNo, Priority, Tree};
-use mst_lang::{Edit, Kind};
+use mst_ids::{BridgeNo, Cost, LanNo, Mac, Name, PortName, PortNo, Priority, Tree};
+use mst_lang::{Edit, Kind, LanState, Power};
 use std::alloc::{AllocError, Global};
 use std::marker::Model;
 
@@ -181,6 +181,18 @@ impl Network {
         self.lans.len()
     }
 
+    fn bridge_settings(&self, bridge: &Name) -> Option<BridgeSettings>
+        ensures { result ≡ fin.get self.now.net.bridges bridge.now }
+    {
+        self.bridges.row(bridge)
+    }
+
+    fn lan_settings(&self, lan: &Name) -> Option<LanSettings>
+        ensures { result ≡ fin.get self.now.net.lans lan.now }
+    {
+        self.lans.row(lan)
+    }
+
     fn port_settings(&self, port: &PortName) -> Option<PortSettings>
         ensures { result ≡ fin.get self.now.net.ports port.now }
     {
@@ -193,15 +205,15 @@ impl Network {
     {
         match *edit {
             Edit::AddBridge { bridge, mac } => self.check_add_bridge(&bridge, mac),
-            Edit::SetKind { bridge, kind: _ } => self.check_bridge(&bridge),
+            Edit::SetPower { bridge, .. } => self.check_bridge(&bridge),
+            Edit::SetKind { bridge, .. } => self.check_bridge(&bridge),
             Edit::AddPort { port } => self.check_add_port(&port),
             Edit::AddLan { lan } => self.check_add_lan(&lan),
+            Edit::SetLanState { lan, .. } => self.check_lan(&lan),
             Edit::Plug { port, lan } => self.check_plug(&port, &lan),
-            Edit::SetTreePriority {
-                bridge,
-                tree: _,
-                priority: _,
-            } => self.check_bridge(&bridge),
+            Edit::Unplug { port } => self.check_unplug(&port),
+            Edit::SetTreePriority { bridge, .. } => self.check_bridge(&bridge),
+            Edit::SetPortPathCost { port, .. } => self.check_port(&port),
         }
     }
 
@@ -257,23 +269,54 @@ impl Network {
         Ok(())
     }
 
-    fn check_plug(&self, port: &PortName, lan: &Name) -> Result<(), Refusal>
-        ensures { Checks result (after_plug port.now lan.now self.now.net) }
+    fn check_lan(&self, lan: &Name) -> Result<(), Refusal>
+        ensures { result ≡ (if fin.contains_key self.now.net.lans lan.now then Ok tt else Err Refusal.E06) }
+    {
+        if self.has_lan(lan) {
+            Ok(())
+        } else {
+            Err(Refusal::E06)
+        }
+    }
+
+    /// The settings of a port, or why there are none.
+    fn known_port(&self, port: &PortName) -> Result<PortSettings, Refusal>
+        ensures { result ≡ (if fin.contains_key self.now.net.bridges port.now.bridge then ok_or (fin.get self.now.net.ports port.now) Refusal.E05 else Err Refusal.E04) }
     {
         if !self.has_bridge(&port.bridge) {
             return Err(Refusal::E04);
         }
-        match self.port_settings(port) {
-            None => Err(Refusal::E05),
-            Some(settings) => {
-                if !self.has_lan(lan) {
-                    return Err(Refusal::E06);
-                }
-                if settings.lan.is_some() {
-                    return Err(Refusal::E10);
-                }
-                Ok(())
-            }
+        self.port_settings(port).ok_or(Refusal::E05)
+    }
+
+    fn check_port(&self, port: &PortName) -> Result<(), Refusal>
+        ensures { (cost : Option ℕ) → Checks result (after_set_port_path_cost port.now cost self.now.net) }
+    {
+        let _settings = self.known_port(port)?;
+        Ok(())
+    }
+
+    fn check_plug(&self, port: &PortName, lan: &Name) -> Result<(), Refusal>
+        ensures { Checks result (after_plug port.now lan.now self.now.net) }
+    {
+        let settings = self.known_port(port)?;
+        if !self.has_lan(lan) {
+            return Err(Refusal::E06);
+        }
+        if settings.lan.is_some() {
+            return Err(Refusal::E10);
+        }
+        Ok(())
+    }
+
+    fn check_unplug(&self, port: &PortName) -> Result<(), Refusal>
+        ensures { Checks result (after_unplug port.now self.now.net) }
+    {
+        let settings = self.known_port(port)?;
+        if settings.lan.is_some() {
+            Ok(())
+        } else {
+            Err(Refusal::E11)
         }
     }
 
@@ -300,7 +343,12 @@ impl Network {
             Edit::AddPort { .. } => self.make_room_for_port(),
             Edit::AddLan { .. } => self.make_room_for_lan(),
             Edit::SetTreePriority { .. } => self.make_room_for_priority(),
-            Edit::SetKind { .. } | Edit::Plug { .. } => Ok(()),
+            Edit::SetPower { .. }
+            | Edit::SetKind { .. }
+            | Edit::SetLanState { .. }
+            | Edit::Plug { .. }
+            | Edit::Unplug { .. }
+            | Edit::SetPortPathCost { .. } => Ok(()),
         }
     }
 
@@ -341,15 +389,19 @@ impl Network {
         let Ready { edit } = ready;
         match edit {
             Edit::AddBridge { bridge, mac } => self.add_bridge(bridge, mac),
+            Edit::SetPower { bridge, power } => self.set_power(&bridge, power),
             Edit::SetKind { bridge, kind } => self.set_kind(&bridge, kind),
             Edit::AddPort { port } => self.add_port(port),
             Edit::AddLan { lan } => self.add_lan(lan),
+            Edit::SetLanState { lan, state } => self.set_lan_state(&lan, state),
             Edit::Plug { port, lan } => self.plug(&port, lan),
+            Edit::Unplug { port } => self.unplug(&port),
             Edit::SetTreePriority {
                 bridge,
                 tree,
                 priority,
             } => self.set_tree_priority(bridge, tree, priority),
+            Edit::SetPortPathCost { port, cost } => self.set_port_path_cost(&port, cost),
         }
     }
 
@@ -372,16 +424,34 @@ impl Network {
             BridgeSettings {
                 mac,
                 kind: Kind::Mstp,
+                power: Power::On,
             },
         );
+    }
+
+    /// Changes the settings of a bridge, but for its MAC.
+    fn set_bridge(&mut self, bridge: &Name, settings: BridgeSettings)
+        requires { (row : BridgeRow) × (fin.get self.old.net.bridges bridge.now ≡ Some row) × (row.mac ≡ settings.mac) }
+        ensures net { self.new.net ≡ with_bridge self.old.net bridge.now settings }
+        ensures numbers { self.new.numbers ≡ self.old.numbers }
+    {
+        self.bridges.set(bridge, settings);
+    }
+
+    fn set_power(&mut self, bridge: &Name, power: Power)
+        requires { CanCommit (SetPower bridge.now power) self.old }
+        ensures { Commits (SetPower bridge.now power) self.old self.new }
+    {
+        let settings = self.bridge_settings(bridge).unwrap();
+        self.set_bridge(bridge, BridgeSettings { power, ..settings });
     }
 
     fn set_kind(&mut self, bridge: &Name, kind: Kind)
         requires { CanCommit (SetKind bridge.now kind) self.old }
         ensures { Commits (SetKind bridge.now kind) self.old self.new }
     {
-        let mac = self.bridges.row(bridge).unwrap().mac;
-        self.bridges.set(bridge, BridgeSettings { mac, kind });
+        let settings = self.bridge_settings(bridge).unwrap();
+        self.set_bridge(bridge, BridgeSettings { kind, ..settings });
     }
 
     fn add_port(&mut self, port: PortName)
@@ -389,21 +459,85 @@ impl Network {
         ensures { Commits (AddPort port) self.old self.new }
     {
         prove!((1..=4095).contains(&port.number.value()));
-        self.ports.add(port, PortSettings { lan: None });
+        self.ports.add(
+            port,
+            PortSettings {
+                lan: None,
+                external: None,
+            },
+        );
     }
 
     fn add_lan(&mut self, lan: Name)
         requires { CanCommit (AddLan lan) self.old }
         ensures { Commits (AddLan lan) self.old self.new }
     {
-        self.lans.add(lan, LanSettings { speed: 1_000_000 });
+        self.lans.add(
+            lan,
+            LanSettings {
+                speed: 1_000_000,
+                state: LanState::Up,
+            },
+        );
+    }
+
+    /// Changes the settings of a LAN, but for its speed.
+    fn set_lan(&mut self, lan: &Name, settings: LanSettings)
+        requires { (row : LanRow) × (fin.get self.old.net.lans lan.now ≡ Some row) × (row.speed ≡ settings.speed) }
+        ensures net { self.new.net ≡ with_lan self.old.net lan.now settings }
+        ensures numbers { self.new.numbers ≡ self.old.numbers }
+    {
+        self.lans.set(lan, settings);
+    }
+
+    fn set_lan_state(&mut self, lan: &Name, state: LanState)
+        requires { CanCommit (SetLanState lan.now state) self.old }
+        ensures { Commits (SetLanState lan.now state) self.old self.new }
+    {
+        let settings = self.lan_settings(lan).unwrap();
+        self.set_lan(lan, LanSettings { state, ..settings });
+    }
+
+    /// Changes the settings of a port. The LAN that it is then in, if any, is there.
+    fn set_port(&mut self, port: &PortName, settings: PortSettings)
+        requires there { IsSome (fin.get self.old.net.ports port.now) }
+        requires lan { ForSome settings.lan (λ lan. IsTrue (fin.contains_key self.old.net.lans lan)) }
+        ensures net { self.new.net ≡ with_port self.old.net port.now settings }
+        ensures numbers { self.new.numbers ≡ self.old.numbers }
+    {
+        known_cost(settings.external);
+        self.ports.set(port, settings);
     }
 
     fn plug(&mut self, port: &PortName, lan: Name)
         requires { CanCommit (Plug port.now lan) self.old }
         ensures { Commits (Plug port.now lan) self.old self.new }
     {
-        self.ports.set(port, PortSettings { lan: Some(lan) });
+        let settings = self.port_settings(port).unwrap();
+        self.set_port(
+            port,
+            PortSettings {
+                lan: Some(lan),
+                ..settings
+            },
+        );
+    }
+
+    fn unplug(&mut self, port: &PortName)
+        requires { CanCommit (Unplug port.now) self.old }
+        ensures { Commits (Unplug port.now) self.old self.new }
+    {
+        let row = self.port_settings(port).unwrap();
+        self.set_port(port, PortSettings { lan: None, ..row });
+    }
+
+    fn set_port_path_cost(&mut self, port: &PortName, external: Option<Cost>)
+        requires { CanCommit (SetPortPathCost port.now external) self.old }
+        ensures { Commits (SetPortPathCost port.now external) self.old self.new }
+    {
+        self.known();
+        let row = self.port_settings(port).unwrap();
+        self.set_port(port, PortSettings { external, ..row });
     }
 
     fn set_tree_priority(&mut self, bridge: Name, tree: Tree, priority: Priority)
@@ -443,15 +577,18 @@ impl Contents for Network {
         };
         match self.priorities.get(&key) {
             Some(priority) => *priority,
-            None => default_priority(),
+            None => Priority::standard(),
         }
     }
 }
 
-fn default_priority() -> Priority
-    ensures { result ≡ 8 }
+/// What holds of every cost that is set.
+fn known_cost(cost: Option<Cost>)
+    ensures { ForSome cost (λ value. (1 ≤ value) × (value ≤ 200_000_000)) }
 {
-    Priority::new(u64::from(Priority::DEFAULT)).unwrap()
+    if let Some(cost) = cost {
+        prove!((1..=200_000_000).contains(&cost.value()));
+    }
 }
 
 fn seen_bridge(kept: Option<Record<BridgeSettings>>) -> Option<Bridge>
@@ -463,6 +600,7 @@ fn seen_bridge(kept: Option<Record<BridgeSettings>>) -> Option<Bridge>
         number: BridgeNo(number),
         mac: row.mac,
         kind: row.kind,
+        power: row.power,
     })
 }
 
@@ -474,6 +612,7 @@ fn seen_port(kept: Option<Record<PortSettings>>) -> Option<Port>
     Some(Port {
         number: PortNo(number),
         lan: row.lan,
+        external: row.external,
     })
 }
 
@@ -485,5 +624,6 @@ fn seen_lan(kept: Option<Record<LanSettings>>) -> Option<Lan>
     Some(Lan {
         number: LanNo(number),
         speed: row.speed,
+        state: row.state,
     })
 }

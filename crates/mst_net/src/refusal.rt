@@ -18,6 +18,8 @@ pub enum Refusal {
     E09,
     /// The port is plugged already.
     E10,
+    /// The port isn't plugged.
+    E11,
     /// There are as many bridges, ports or LANs as there may be.
     E14,
     /// Memory was wanted and refused.
@@ -37,6 +39,7 @@ impl Refusal {
             Refusal::E08 => "E08",
             Refusal::E09 => "E09",
             Refusal::E10 => "E10",
+            Refusal::E11 => "E11",
             Refusal::E14 => "E14",
             Refusal::E99 => "E99",
         }
@@ -54,6 +57,7 @@ impl Refusal {
             Refusal::E08 => "MAC taken",
             Refusal::E09 => "port number taken",
             Refusal::E10 => "port plugged",
+            Refusal::E11 => "port not plugged",
             Refusal::E14 => "limit",
             Refusal::E99 => "want of memory",
         }

@@ -1,6 +1,6 @@
 use super::*;
-use mst_ids::{Mac, Name, PortName, PortNumber, Priority, Tree, parse_mac};
-use mst_lang::{Edit, Kind};
+use mst_ids::{Cost, Mac, Name, PortName, PortNumber, Priority, Tree, parse_mac};
+use mst_lang::{Edit, Kind, LanState, Power};
 use std::alloc::Global;
 use std::process::Abort;
 use std::test::Fail;
@@ -51,6 +51,33 @@ fn plug(bridge: &str, number: u64, lan: &str) -> Result<Edit, Fail> {
     })
 }
 
+fn set_power(bridge: &str, power: Power) -> Result<Edit, Fail> {
+    Ok(Edit::SetPower {
+        bridge: name(bridge)?,
+        power,
+    })
+}
+
+fn set_state(lan: &str, state: LanState) -> Result<Edit, Fail> {
+    Ok(Edit::SetLanState {
+        lan: name(lan)?,
+        state,
+    })
+}
+
+fn unplug(bridge: &str, number: u64) -> Result<Edit, Fail> {
+    Ok(Edit::Unplug {
+        port: port(bridge, number)?,
+    })
+}
+
+fn set_cost(bridge: &str, number: u64, cost: Option<Cost>) -> Result<Edit, Fail> {
+    Ok(Edit::SetPortPathCost {
+        port: port(bridge, number)?,
+        cost,
+    })
+}
+
 fn set_priority(bridge: &str, step: u64) -> Result<Edit, Fail> {
     Ok(Edit::SetTreePriority {
         bridge: name(bridge)?,
@@ -60,14 +87,20 @@ fn set_priority(bridge: &str, step: u64) -> Result<Edit, Fail> {
 }
 
 fn apply(network: &mut Network, edit: &Edit) -> Result<(), Refusal> {
-    let ready = network.prepare(edit)?;
-    network.commit(ready);
-    Ok(())
+    match network.prepare(edit) {
+        Ok(ready) => {
+            network.commit(ready);
+            Ok(())
+        }
+        Err(refusal) => Err(refusal),
+    }
 }
 
 fn change(network: &mut Network, edit: Result<Edit, Fail>) -> Result<(), Fail> {
-    apply(network, &edit?)?;
-    Ok(())
+    match edit {
+        Ok(edit) => Ok(apply(network, &edit)?),
+        Err(fail) => Err(fail),
+    }
 }
 
 fn step(n: u32) -> Result<Edit, Fail> {
@@ -125,6 +158,63 @@ fn ports_are_plugged(rt: HostRuntime) -> Result<(), Fail> {
     plug_port(&rt, &mut network)
 }
 
+fn switch(rt: &impl Abort, network: &mut Network) -> Result<(), Fail> {
+    fill(network)?;
+    let bridge = name("b")?;
+    let lan = name("x")?;
+    assert_eq!(rt;
+        network.bridge(&bridge).ok_or("no bridge")?.power,
+        Power::On
+    );
+    assert_eq!(rt; network.lan(&lan).ok_or("no LAN")?.state, LanState::Up);
+    change(network, set_power("b", Power::Off))?;
+    change(network, set_state("x", LanState::Down))?;
+    assert_eq!(rt;
+        network.bridge(&bridge).ok_or("no bridge")?.power,
+        Power::Off
+    );
+    assert_eq!(rt; network.lan(&lan).ok_or("no LAN")?.state, LanState::Down);
+    change(network, set_power("b", Power::On))?;
+    change(network, set_state("x", LanState::Up))?;
+    assert_eq!(rt;
+        network.bridge(&bridge).ok_or("no bridge")?.power,
+        Power::On
+    );
+    assert_eq!(rt; network.lan(&lan).ok_or("no LAN")?.state, LanState::Up);
+    Ok(())
+}
+
+#[test]
+fn bridges_and_lans_are_switched(rt: HostRuntime) -> Result<(), Fail> {
+    let mut network = Network::new(rt.alloc());
+    switch(&rt, &mut network)
+}
+
+fn unplug_port(rt: &impl Abort, network: &mut Network) -> Result<(), Fail> {
+    fill(network)?;
+    let cost = Cost::new(200_000_000);
+    change(network, set_cost("b", 1, cost))?;
+    let found = network.port(&port("b", 1)?).ok_or("no port")?;
+    assert!(rt; found.external == cost);
+    change(network, unplug("b", 1))?;
+    let found = network.port(&port("b", 1)?).ok_or("no port")?;
+    assert!(rt; found.lan.is_none());
+    assert!(rt; found.external == cost);
+    assert_eq!(rt; found.number.0, 1);
+    change(network, plug("b", 1, "x"))?;
+    change(network, set_cost("b", 1, None))?;
+    let found = network.port(&port("b", 1)?).ok_or("no port")?;
+    assert!(rt; found.lan == Some(name("x")?));
+    assert!(rt; found.external.is_none());
+    Ok(())
+}
+
+#[test]
+fn ports_are_unplugged_and_cost(rt: HostRuntime) -> Result<(), Fail> {
+    let mut network = Network::new(rt.alloc());
+    unplug_port(&rt, &mut network)
+}
+
 fn list_names(rt: &impl Abort, alloc: Global, network: &mut Network) -> Result<(), Fail> {
     fill(network)?;
     let bridges = network.bridge_names(alloc)?;
@@ -170,13 +260,27 @@ fn refused_step(n: u32) -> (Result<Edit, Fail>, Refusal) {
         3 => (new_lan("x"), Refusal::E07),
         4 => (new_bridge("c", "00:00:00:00:00:02"), Refusal::E08),
         5 => (new_port("b", 1), Refusal::E09),
-        _ => (plug("b", 1, "x"), Refusal::E10),
+        6 => (plug("b", 1, "x"), Refusal::E10),
+        7 => (unplug("b", 2), Refusal::E11),
+        _ => late_refused_step(n),
+    }
+}
+
+/// Refusals of edits of what is there.
+fn late_refused_step(n: u32) -> (Result<Edit, Fail>, Refusal) {
+    match n {
+        8 => (set_power("c", Power::Off), Refusal::E04),
+        9 => (set_state("y", LanState::Down), Refusal::E06),
+        10 => (unplug("c", 1), Refusal::E04),
+        11 => (unplug("b", 3), Refusal::E05),
+        12 => (set_cost("c", 1, None), Refusal::E04),
+        _ => (set_cost("b", 3, None), Refusal::E05),
     }
 }
 
 fn refuse(rt: &impl Abort, network: &mut Network) -> Result<(), Fail> {
     fill(network)?;
-    for n in 0..7 {
+    for n in 0..14 {
         let (edit, refusal) = refused_step(n);
         assert_eq!(rt; apply(network, &edit?), Err(refusal), "at {n}");
     }
@@ -210,8 +314,59 @@ fn bridges_are_limited(rt: HostRuntime) -> Result<(), Fail> {
     add_bridges(&rt, rt.alloc(), &mut network)
 }
 
+fn add_ports(rt: &impl Abort, alloc: Global, network: &mut Network) -> Result<(), Fail> {
+    for n in 0..5 {
+        change(network, numbered_bridge(alloc, n))?;
+    }
+    for n in 0..16_384 {
+        change(network, numbered_port(alloc, n))?;
+    }
+    let edit = numbered_port(alloc, 16_384)?;
+    assert_eq!(rt; apply(network, &edit), Err(Refusal::E14));
+    Ok(())
+}
+
+/// One of the ports 1 to 4,000 of the bridges.
+fn numbered_port(alloc: Global, n: u32) -> Result<Edit, Fail> {
+    let bridge = format!(in alloc; "b{}", n / 4000)?;
+    new_port(bridge.as_str(), u64::from(n % 4000) + 1)
+}
+
+#[test]
+fn ports_are_limited(rt: HostRuntime) -> Result<(), Fail> {
+    let mut network = Network::new(rt.alloc());
+    add_ports(&rt, rt.alloc(), &mut network)
+}
+
+fn numbered_lan(alloc: Global, n: u32) -> Result<Edit, Fail> {
+    let lan = format!(in alloc; "x{n}")?;
+    new_lan(lan.as_str())
+}
+
+fn add_lans(rt: &impl Abort, alloc: Global, network: &mut Network) -> Result<(), Fail> {
+    for n in 0..8192 {
+        change(network, numbered_lan(alloc, n))?;
+    }
+    let edit = numbered_lan(alloc, 8192)?;
+    assert_eq!(rt; apply(network, &edit), Err(Refusal::E14));
+    Ok(())
+}
+
+#[test]
+fn lans_are_limited(rt: HostRuntime) -> Result<(), Fail> {
+    let mut network = Network::new(rt.alloc());
+    add_lans(&rt, rt.alloc(), &mut network)
+}
+
 #[test]
 fn refusals_have_texts(rt: HostRuntime) {
-    assert_eq!(rt; Refusal::E14.code(), "E14");
-    assert_eq!(rt; Refusal::E14.text(), "limit");
+    for (refusal, code, text) in [
+        (Refusal::E10, "E10", "port plugged"),
+        (Refusal::E11, "E11", "port not plugged"),
+        (Refusal::E14, "E14", "limit"),
+        (Refusal::E99, "E99", "want of memory"),
+    ] {
+        assert_eq!(rt; refusal.code(), code);
+        assert_eq!(rt; refusal.text(), text);
+    }
 }

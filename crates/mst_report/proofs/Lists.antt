@@ -1,8 +1,10 @@
 -- What is true of each element of a list, and of any two.
-use Rattle.std.proofs.Common.{◌≡◌, ℕ, suc, zero, ◌<◌, Bool, true, false, ◌||◌, List, [], ◌∷◌, length, take, get_or, map, Option, Some, None, refl, sym, ap, subst, ◌∙◌, arith, true≢false, is_some, ◌⊎◌, inl, inr}
-use Rattle.std.specs.List.{AllByRecursion, Contains, filter_map, cons_option, list_any}
+use Rattle.std.proofs.Common.{◌≡◌, ℕ, suc, zero, ◌<◌, ◌≤◌, Bool, true, false, cond, ◌||◌, List, [], ◌∷◌, length, take, get_or, map, Option, Some, None, refl, sym, ap, subst, ◌∙◌, arith, true≢false, is_some, ◌⊎◌, inl, inr}
+use Rattle.std.specs.List.{AllByRecursion, Contains, filter, filter_map, cons_option, list_any}
+use Rattle.std.proofs.lemmas.Bool.{cases_Bool}
 use Rattle.std.specs.Option.{unwrap_or}
 use Rattle.mst_report.specs.View.{Apart}
+use Rattle.mst_report.proofs.Entries.{all_weaker}
 
 pub some_is : {A : Type 0} (x y : A) → Some x ≡ Some y → x ≡ y
 some_is x y e = ap (λ o. unwrap_or o x) e
@@ -123,3 +125,50 @@ apart_cases R (z ∷ zs) x y h c d = go c.0 d.0 c.1 d.1 c.2 d.2 (apart_cases R z
     go zero (suc k) l m e f rest = inr (inl (subst (λ w. R w y) e (all_contained (R z) zs y h.0 (k, omega arith, f))))
     go (suc j) zero l m e f rest = inr (inr (subst (λ w. R w x) f (all_contained (R z) zs x h.0 (j, omega arith, e))))
     go (suc j) (suc k) l m e f rest = rest (j, omega arith, e) (k, omega arith, f)
+
+-- what is true of each element that passes a test
+pub all_passing : {A : Type 0} (P Q : A → Type 0) (test : A → Bool) → ((x : A) → P x → test x ≡ true → Q x) → (xs : List A) → AllByRecursion P xs → AllByRecursion Q (filter test xs)
+all_passing P Q test f [] h = tt
+all_passing P Q test f (x ∷ xs) h = elim (cases_Bool (test x)) [
+  | inl e ↦ rw e (f x h.0 e, all_passing P Q test f xs h.1)
+  | inr e ↦ rw e (all_passing P Q test f xs h.1)
+]
+
+-- and of any two of them
+pub apart_filtered : {A : Type 0} (R : A → A → Type 0) (test : A → Bool) (xs : List A) → Apart R xs → Apart R (filter test xs)
+apart_filtered R test [] h = tt
+apart_filtered R test (x ∷ xs) h = elim (cases_Bool (test x)) [
+  | inl e ↦ rw e (all_passing (R x) (R x) test (λ y r _. r) xs h.0, apart_filtered R test xs h.1)
+  | inr e ↦ rw e (apart_filtered R test xs h.1)
+]
+
+-- the changed elements that pass are those that pass once changed
+pub filter_mapped : {A B : Type 0} (test : B → Bool) (f : A → B) (xs : List A) → filter test (map f xs) ≡ map f (filter (λ x. test (f x)) xs)
+filter_mapped test f [] = refl
+filter_mapped test f (x ∷ xs) = elim (cases_Bool (test (f x))) [
+  | inl e ↦ rw e (ap (λ l. f x ∷ l) (filter_mapped test f xs))
+  | inr e ↦ rw e (filter_mapped test f xs)
+]
+
+-- a list that is changed twice
+pub mapped_twice : {A B C : Type 0} (g : B → C) (f : A → B) (xs : List A) → map g (map f xs) ≡ map (λ x. g (f x)) xs
+mapped_twice g f [] = refl
+mapped_twice g f (x ∷ xs) = ap (λ l. g (f x) ∷ l) (mapped_twice g f xs)
+
+-- no more pass a test than there are
+pub length_filtered : {A : Type 0} (test : A → Bool) (xs : List A) → length (filter test xs) ≤ length xs
+length_filtered test [] = omega arith
+length_filtered test (x ∷ xs) = elim (cases_Bool (test x)) [ inl e ↦ rw e (omega (arith, length_filtered test xs)) | inr e ↦ rw e (omega (arith, length_filtered test xs)) ]
+
+-- each element that passes is among those that do
+all_filtered : {A : Type 0} (test : A → Bool) (xs : List A) → AllByRecursion (λ x. test x ≡ true → Contains (filter test xs) x) xs
+all_filtered test [] = tt
+all_filtered {A} test (x ∷ xs) = (λ t. subst (λ b. Contains (cond b (x ∷ filter test xs) (filter test xs)) x) (sym t) (there_first x (filter test xs)), later (test x) (all_filtered test xs))
+  where
+    later : (b : Bool) → AllByRecursion (λ y. test y ≡ true → Contains (filter test xs) y) xs → AllByRecursion (λ y. test y ≡ true → Contains (cond b (x ∷ filter test xs) (filter test xs)) y) xs
+    later true h = all_weaker _ _ (λ y c t. there_later y x (filter test xs) (c t)) xs h
+    later false h = h
+
+-- and so is this one
+pub contains_filtered : {A : Type 0} (test : A → Bool) (xs : List A) (x : A) → Contains xs x → test x ≡ true → Contains (filter test xs) x
+contains_filtered test xs x = all_contained (λ x. test x ≡ true → Contains (filter test xs) x) xs x (all_filtered test xs)

@@ -14,12 +14,12 @@ use Rattle.mst_settle.specs.Renamed.{Renaming, IsRenamed}
 use Rattle.mst_net.specs.Tables.{Net, Numbers, IsNetwork}
 use Rattle.mst_net.specs.Contents.{IsNumbered}
 use Rattle.mst_report.specs.Cist.{Outcome, IsOutcome, cist_of}
-use Rattle.mst_report.specs.View.{BridgesDiffer, PortsDiffer, CanSettle, Agrees, IsNameOf, bridges_seen, ports_seen, numbered_bridge, numbered_port, numbered}
+use Rattle.mst_report.specs.View.{BridgesDiffer, PortsDiffer, CanSettle, Agrees, IsNameOf, bridges_seen, ports_seen, on_bridges, enabled_ports, numbered_bridge, numbered_port, numbered}
 use Rattle.mst_report.specs.declared.view.BridgeSeen.{BridgeSeen}
 use Rattle.mst_report.specs.declared.view.PortSeen.{PortSeen}
 use Rattle.mst_report.proofs.Entries.{all_both}
 use Rattle.mst_report.proofs.Lists.{all_mapped, all_contained, all_there, apart_mapped, apart_cases, contains_mapped}
-use Rattle.mst_report.proofs.Seen.{bridges_differ, ports_differ, bridges_numbered, ports_numbered, ports_have_bridge, ports_in_range, few_bridges, bridges_named, ports_named}
+use Rattle.mst_report.proofs.Seen.{bridges_differ, ports_differ, bridges_numbered, ports_numbered, ports_have_bridge, ports_in_range, few_bridges, cist_bridges_named, cist_ports_named}
 use Rattle.mst_lang.specs.declared.line.Query.{Query}
 use Rattle.mst_lang.specs.declared.line.Query.TheVariants.{ShowTree}
 use Rattle.mst_report.specs.Answers.{Answers}
@@ -28,7 +28,7 @@ use Rattle.mst_report.proofs.Cists.{cist_topology}
 use Rattle.mst_report.proofs.Naming.{IsSeenBy, naming, is_renamed, port_found, bridges_found, lans_found}
 
 -- what is seen of a network can be settled
-pub can_settle : (net : Net) (numbers : Numbers) → IsNetwork net → IsNumbered net numbers → CanSettle (bridges_seen net numbers) (ports_seen net numbers)
+pub can_settle : (net : Net) (numbers : Numbers) → IsNetwork net → IsNumbered net numbers → CanSettle (on_bridges (bridges_seen net numbers)) (enabled_ports (ports_seen net numbers))
 can_settle net numbers ok num = record {
   bridges_differ = bridges_differ net numbers ok num;
   ports_differ = ports_differ net numbers ok num;
@@ -95,26 +95,33 @@ one_text vectors ports (ShowTree tree) net a b ok x y =
     x.2 ∙ ap (λ o. tree_text net o tree) same ∙ sym y.2
 
 module _ (net : Net) (numbers : Numbers) (ok : IsNetwork net) (num : IsNumbered net numbers) where
-  is_seen : IsSeenBy numbers (bridges_seen net numbers) (ports_seen net numbers)
+  -- the bridges that are on, and the ports that are enabled
+  abbrev on : List BridgeSeen
+  on = on_bridges (bridges_seen net numbers)
+
+  abbrev enabled : List PortSeen
+  enabled = enabled_ports (ports_seen net numbers)
+
+  is_seen : IsSeenBy numbers on enabled
   is_seen = record { can_settle = can_settle net numbers ok num; bridges = bridges_numbered net numbers ok num; ports = ports_numbered net numbers ok num }
 
-  -- the CIST of a network is what is seen of it, renamed
-  pub cist_renamed : IsRenamed (naming (bridges_seen net numbers) (ports_seen net numbers)) (numbered (bridges_seen net numbers) (ports_seen net numbers)) (cist_of net)
+  -- the CIST of a network is what is on and enabled of it, renamed
+  pub cist_renamed : IsRenamed (naming on enabled) (numbered on enabled) (cist_of net)
   cist_renamed =
-      subst (IsRenamed (naming (bridges_seen net numbers) (ports_seen net numbers)) (numbered (bridges_seen net numbers) (ports_seen net numbers)))
-      (λ i. record { bridges = sym (bridges_named net numbers ok num) i; ports = sym (ports_named net numbers ok num) i })
-      (is_renamed net numbers num (bridges_seen net numbers) (ports_seen net numbers) is_seen)
+      subst (IsRenamed (naming on enabled) (numbered on enabled))
+      (λ i. record { bridges = sym (cist_bridges_named net numbers ok num) i; ports = sym (cist_ports_named net numbers ok num) i })
+      (is_renamed net numbers num on enabled is_seen)
 
-  pub numbers_are_topology : IsTopology cist_rules (numbered (bridges_seen net numbers) (ports_seen net numbers))
-  numbers_are_topology = is_topology (bridges_seen net numbers) (ports_seen net numbers) (can_settle net numbers ok num)
+  pub numbers_are_topology : IsTopology cist_rules (numbered on enabled)
+  numbers_are_topology = is_topology on enabled (can_settle net numbers ok num)
 
   -- by the law on renamed topologies, an outcome under names is the one under numbers
   pub outcome_agrees : ((r : Renaming ℕ ℕ ℕ (List ℕ) (List ℕ) PortName) (t : Topology ℕ ℕ ℕ CistBridge CistPort) (u : Topology (List ℕ) (List ℕ) PortName CistBridge CistPort) (v : ℕ → Option CistVector) (w : List ℕ → Option CistVector)
       → IsTopology cist_rules t → IsRenamed r t u → Settled cist_rules t v → Settled cist_rules u w → (n : ℕ) (b : CistBridge) → HasBridge t n b → w (r.bridge n) ≡ v n)
       → ((r : Renaming ℕ ℕ ℕ (List ℕ) (List ℕ) PortName) (t : Topology ℕ ℕ ℕ CistBridge CistPort) (u : Topology (List ℕ) (List ℕ) PortName CistBridge CistPort) (v : ℕ → Option CistVector) (w : List ℕ → Option CistVector)
       → IsTopology cist_rules t → IsRenamed r t u → Settled cist_rules t v → Settled cist_rules u w → (p : Plug ℕ ℕ ℕ CistPort) → HasPort t p → (o : Option ℕ) (q : Option PortName) → IsDesignated cist_rules t v p.lan o → IsDesignated cist_rules u w (r.lan p.lan) q → MatchOption o (q ≡ None) (λ k. q ≡ Some (r.port k)))
-      → (o : Outcome) → IsOutcome net o → (v : ℕ → Option CistVector) → Settled cist_rules (numbered (bridges_seen net numbers) (ports_seen net numbers)) v
-      → (d : ℕ → Option ℕ) → ((lan : ℕ) → IsDesignated cist_rules (numbered (bridges_seen net numbers) (ports_seen net numbers)) v lan (d lan)) → Agrees net numbers o v d
+      → (o : Outcome) → IsOutcome net o → (v : ℕ → Option CistVector) → Settled cist_rules (numbered (on_bridges (bridges_seen net numbers)) (enabled_ports (ports_seen net numbers))) v
+      → (d : ℕ → Option ℕ) → ((lan : ℕ) → IsDesignated cist_rules (numbered (on_bridges (bridges_seen net numbers)) (enabled_ports (ports_seen net numbers))) v lan (d lan)) → Agrees net numbers o v d
   outcome_agrees vectors ports o is v settled d designated = record {
     bridges = all_both _ _ _ (λ b there found.
         sym (vectors (naming bs ps) t (cist_of net) v o.vector numbers_are_topology cist_renamed settled is.settled b.number b.cist (contains_mapped numbered_bridge bs b there)) ∙ ap o.vector found)
@@ -123,13 +130,13 @@ module _ (net : Net) (numbers : Numbers) (ok : IsNetwork net) (num : IsNumbered 
   }
     where
       bs : List BridgeSeen
-      bs = bridges_seen net numbers
+      bs = on_bridges (bridges_seen net numbers)
 
       ps : List PortSeen
-      ps = ports_seen net numbers
+      ps = enabled_ports (ports_seen net numbers)
 
       t : Topology ℕ ℕ ℕ CistBridge CistPort
-      t = numbered (bridges_seen net numbers) (ports_seen net numbers)
+      t = numbered bs ps
 
       named : (a : Option ℕ) (q : Option PortName) (lan : ℕ) → IsDesignated cist_rules t v lan a → MatchOption a (q ≡ None) (λ k. q ≡ Some ((naming bs ps).port k)) → IsNameOf numbers a q
       named None q lan h e = e

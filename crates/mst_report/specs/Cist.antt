@@ -1,6 +1,6 @@
--- The CIST of a network: its bridges and plugged ports by name, and its settled outcome.
-use Rattle.std.specs.Prelude.{ℕ, true, false, List, map, filter_map, Option}
-use Rattle.std.specs.Option.{option_map, option_and_then}
+-- What the trees see of a network, by name: its view, the CIST, and the settled outcome of that.
+use Rattle.std.specs.Prelude.{ℕ, Bool, true, false, ◌&&◌, List, map, filter, filter_map, Option, unwrap_or}
+use Rattle.std.specs.Option.{option_map, option_map_or, option_and_then}
 use Rattle.std.specs.FinMap as fin
 use Rattle.mst_ids.specs.Identifiers.{bridge_id, port_id}
 use Rattle.mst_ids.specs.Costs.{automatic_cost}
@@ -20,27 +20,61 @@ cist_bridge net name row =
     let id = bridge_id (priority_of net name 0) 0 row.mac in
     record { id = id; region = id; is_rstp = row.is_rstp }
 
--- a port on a LAN: its identifier, by the default priority 8, and its costs, by the LAN's speed
-abbrev pub cist_port : PortName → LanRow → CistPort
-cist_port port lan = record { id = port_id 8 port.number; external = automatic_cost lan.speed; internal = automatic_cost lan.speed }
+-- a port on a LAN: its identifier, by the default priority 8, and its costs. The external one is the one
+-- that was set; an automatic cost goes by the LAN's speed
+abbrev pub cist_port : PortName → PortRow → LanRow → CistPort
+cist_port port row lan = record {
+  id = port_id 8 port.number;
+  external = unwrap_or row.external (automatic_cost lan.speed);
+  internal = automatic_cost lan.speed;
+}
 
--- a port by its name, if it is plugged
-abbrev pub plugged : Net → PortName × PortRow → Option (Plug (List ℕ) (List ℕ) PortName CistPort)
+-- a bridge as the trees see it
+pub record BridgeView : Type 0 where
+  pub name : List ℕ
+  pub settings : CistBridge
+  pub is_on : Bool
+
+-- a plugged port as the trees see it, with its LAN
+pub record PortView : Type 0 where
+  pub name : PortName
+  pub lan : List ℕ
+  pub settings : CistPort
+  pub is_enabled : Bool
+
+-- the bridge of this name is on
+abbrev pub is_on : Net → List ℕ → Bool
+is_on net name = option_map_or (λ row. row.is_on) (fin.get net.bridges name) false
+
+-- a port by its name, if it is plugged. It is enabled where its bridge is on and its LAN is up
+abbrev pub plugged : Net → PortName × PortRow → Option PortView
 plugged net e =
     option_and_then (λ lan. option_map (λ row. record {
-      number = e.0;
-      bridge = e.0.bridge;
+      name = e.0;
       lan = lan;
-      settings = cist_port e.0 row;
-      is_part = true;
-      is_restricted = false;
+      settings = cist_port e.0 e.1 row;
+      is_enabled = is_on net e.0.bridge && row.is_up;
     }) (fin.get net.lans lan)) e.1.lan
 
--- all bridges, in byte order of names, and all plugged ports, by bridge and number
+-- the view: all bridges, in byte order of names, and all plugged ports, by bridge and number
+abbrev pub view_bridges : Net → List BridgeView
+view_bridges net = map (λ e. record { name = e.0; settings = cist_bridge net e.0 e.1; is_on = e.1.is_on }) (fin.entries net.bridges)
+
+abbrev pub view_ports : Net → List PortView
+view_ports net = filter_map (plugged net) (fin.entries net.ports)
+
+-- a bridge and a port of the view in the CIST
+abbrev pub tree_bridge : BridgeView → List ℕ × CistBridge
+tree_bridge b = (b.name, b.settings)
+
+abbrev pub tree_port : PortView → Plug (List ℕ) (List ℕ) PortName CistPort
+tree_port p = record { number = p.name; bridge = p.name.bridge; lan = p.lan; settings = p.settings; is_part = true; is_restricted = false }
+
+-- the CIST: the bridges that are on and the ports that are enabled
 abbrev pub cist_of : Net → Topology (List ℕ) (List ℕ) PortName CistBridge CistPort
 cist_of net = record {
-  bridges = map (λ e. (e.0, cist_bridge net e.0 e.1)) (fin.entries net.bridges);
-  ports = filter_map (plugged net) (fin.entries net.ports);
+  bridges = map tree_bridge (filter (λ b. b.is_on) (view_bridges net));
+  ports = map tree_port (filter (λ p. p.is_enabled) (view_ports net));
 }
 
 -- the root priority vector of each bridge, and the designated port of each LAN

@@ -3,13 +3,11 @@ use Rattle.std.specs.Prelude.{ℕ, ◌==◌, List, [], ◌∷◌, ◌++◌, if�
 use Rattle.std.specs.List.{flat_map}
 use Rattle.std.specs.Option.{option_map_or}
 use Rattle.mst_ids.specs.Texts.{bridge_id_text, port_id_text}
-use Rattle.mst_ids.specs.declared.name.PortName.{PortName}
 use Rattle.mst_vector.specs.declared.cist.CistBridge.{CistBridge}
 use Rattle.mst_vector.specs.declared.cist.CistPort.{CistPort}
 use Rattle.mst_vector.specs.declared.cist.CistVector.{CistVector}
-use Rattle.mst_settle.specs.Topology.{Plug}
 use Rattle.mst_net.specs.Tables.{Net}
-use Rattle.mst_report.specs.Cist.{Outcome, cist_of}
+use Rattle.mst_report.specs.Cist.{Outcome, BridgeView, PortView, view_bridges, view_ports}
 use Rattle.mst_report.specs.Roles.{same_name, role_of, role_text}
 use Rattle.mst_report.specs.Words.{line}
 use Rattle.mst_report.specs.declared.role.Role.{Role}
@@ -25,22 +23,28 @@ vector_words v =
 abbrev pub bridge_line : List ℕ → CistBridge → CistVector → List ℕ
 bridge_line name b v = line (codes "bridge" ∷ name ∷ bridge_id_text b.id ∷ vector_words v)
 
--- `port B P LAN PID ext EXT int INT`, which its role follows
-abbrev pub port_words : Plug (List ℕ) (List ℕ) PortName CistPort → List (List ℕ)
-port_words p =
-    codes "port" ∷ p.bridge ∷ decimal p.number.number ∷ p.lan ∷ port_id_text p.settings.id
-    ∷ codes "ext" ∷ decimal p.settings.external ∷ codes "int" ∷ decimal p.settings.internal ∷ []
+-- `bridge B off`
+abbrev pub off_line : List ℕ → List ℕ
+off_line name = line (codes "bridge" ∷ name ∷ codes "off" ∷ [])
 
-abbrev pub port_line : Plug (List ℕ) (List ℕ) PortName CistPort → Role → List ℕ
-port_line p role = line (port_words p ++ role_text role ∷ [])
+-- `PID ext EXT int INT`, of an enabled port
+abbrev pub cost_words : CistPort → List (List ℕ)
+cost_words p = port_id_text p.id ∷ codes "ext" ∷ decimal p.external ∷ codes "int" ∷ decimal p.internal ∷ []
+
+-- `port B P LAN`, what an enabled port has, and its role
+abbrev pub port_line : PortView → Role → List ℕ
+port_line p role =
+    line (codes "port" ∷ p.name.bridge ∷ decimal p.name.number ∷ p.lan ∷ (if p.is_enabled then cost_words p.settings else []) ++ role_text role ∷ [])
 
 -- the line of a port, where it is of this bridge
-abbrev pub port_text : Outcome → List ℕ → Plug (List ℕ) (List ℕ) PortName CistPort → List ℕ
-port_text o bridge p = if same_name p.bridge bridge then port_line p (role_of o p) else []
+abbrev pub port_text : Outcome → List ℕ → PortView → List ℕ
+port_text o bridge p = if same_name p.name.bridge bridge then port_line p (role_of o p) else []
 
 -- the lines of a bridge: its own, and one for each of its ports
-abbrev pub bridge_text : Net → Outcome → List ℕ × CistBridge → List ℕ
-bridge_text net o b = option_map_or (bridge_line b.0 b.1) (o.vector b.0) [] ++ flat_map (port_text o b.0) (cist_of net).ports
+abbrev pub bridge_text : Net → Outcome → BridgeView → List ℕ
+bridge_text net o b =
+    (if b.is_on then option_map_or (bridge_line b.name b.settings) (o.vector b.name) [] else off_line b.name)
+    ++ flat_map (port_text o b.name) (view_ports net)
 
 -- `tree T`
 abbrev pub tree_heading : ℕ → List ℕ
@@ -48,4 +52,4 @@ tree_heading tree = line (codes "tree" ∷ decimal tree ∷ [])
 
 -- the CIST: the heading, and the lines of each bridge. A tree that no bridge has is its heading alone
 abbrev pub tree_text : Net → Outcome → ℕ → List ℕ
-tree_text net o tree = tree_heading tree ++ (if tree == 0 then flat_map (bridge_text net o) (cist_of net).bridges else [])
+tree_text net o tree = tree_heading tree ++ (if tree == 0 then flat_map (bridge_text net o) (view_bridges net) else [])

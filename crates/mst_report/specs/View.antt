@@ -1,5 +1,5 @@
 -- What the CIST sees of a network, under names and under the numbers of records.
-use Rattle.std.specs.Prelude.{◌≡◌, ◌≢◌, ℕ, true, false, List, [], ◌∷◌, map, filter_map, Option, Some, None, ⊤, IsTrue, length, ◌≤◌, MatchOption}
+use Rattle.std.specs.Prelude.{◌≡◌, ◌≢◌, ℕ, true, false, List, [], ◌∷◌, map, filter, filter_map, ◌&&◌, Option, Some, None, ⊤, IsTrue, length, ◌≤◌, MatchOption}
 use Rattle.std.specs.Option.{option_map, option_and_then}
 use Rattle.std.specs.List.{AllByRecursion, Contains}
 use Rattle.std.specs.FinMap as fin
@@ -8,43 +8,63 @@ use Rattle.mst_vector.specs.Cist.{cist_rules}
 use Rattle.mst_vector.specs.declared.cist.CistBridge.{CistBridge}
 use Rattle.mst_vector.specs.declared.cist.CistPort.{CistPort}
 use Rattle.mst_settle.specs.Topology.{Plug, Topology}
-use Rattle.mst_net.specs.Tables.{Net, Numbers}
+use Rattle.mst_net.specs.Tables.{Net, Numbers, PortRow}
 use Rattle.mst_vector.specs.declared.cist.CistVector.{CistVector}
-use Rattle.mst_report.specs.Cist.{Outcome, cist_bridge, cist_port}
+use Rattle.mst_report.specs.Cist.{Outcome, BridgeView, PortView, cist_bridge, cist_port, is_on, tree_bridge, tree_port}
 use Rattle.mst_report.specs.declared.view.BridgeSeen.{BridgeSeen}
 use Rattle.mst_report.specs.declared.view.PortSeen.{PortSeen}
 
 -- the bridge of this name
 abbrev pub bridge_seen : Net → Numbers → List ℕ → Option BridgeSeen
 bridge_seen net numbers name =
-    option_and_then (λ row. option_map (λ number. record { name = name; number = number; cist = cist_bridge net name row }) (fin.get numbers.bridges name))
+    option_and_then (λ row. option_map (λ number. record { name = name; number = number; cist = cist_bridge net name row; is_on = row.is_on }) (fin.get numbers.bridges name))
     (fin.get net.bridges name)
 
 -- all bridges, in byte order of names
 abbrev pub bridges_seen : Net → Numbers → List BridgeSeen
 bridges_seen net numbers = filter_map (bridge_seen net numbers) (fin.keys net.bridges)
 
--- the port on the LAN of this name
-abbrev pub port_on : Net → Numbers → PortName → List ℕ → Option PortSeen
-port_on net numbers port lan =
-    option_and_then (λ row. option_and_then (λ number. option_and_then (λ bridge. option_map (λ lan_number.
-    record { name = port; number = number; bridge = bridge; lan = lan; lan_number = lan_number; cist = cist_port port row })
-    (fin.get numbers.lans lan)) (fin.get numbers.bridges port.bridge)) (fin.get numbers.ports port)) (fin.get net.lans lan)
+-- the port of this name and these settings, on the LAN of this name
+abbrev pub port_on : Net → Numbers → PortName → PortRow → List ℕ → Option PortSeen
+port_on net numbers port row lan =
+    option_and_then (λ lan_row. option_and_then (λ number. option_and_then (λ bridge. option_map (λ lan_number. record {
+      name = port;
+      number = number;
+      bridge = bridge;
+      lan = lan;
+      lan_number = lan_number;
+      cist = cist_port port row lan_row;
+      is_enabled = is_on net port.bridge && lan_row.is_up;
+    }) (fin.get numbers.lans lan)) (fin.get numbers.bridges port.bridge)) (fin.get numbers.ports port)) (fin.get net.lans lan)
 
 -- the port of this name, if it is plugged
 abbrev pub port_seen : Net → Numbers → PortName → Option PortSeen
-port_seen net numbers port = option_and_then (λ row. option_and_then (port_on net numbers port) row.lan) (fin.get net.ports port)
+port_seen net numbers port = option_and_then (λ row. option_and_then (port_on net numbers port row) row.lan) (fin.get net.ports port)
 
 -- all plugged ports, by bridge and number
 abbrev pub ports_seen : Net → Numbers → List PortSeen
 ports_seen net numbers = filter_map (port_seen net numbers) (fin.keys net.ports)
 
--- a bridge and a port under names
+-- those that take part in the CIST
+abbrev pub on_bridges : List BridgeSeen → List BridgeSeen
+on_bridges = filter (λ b. b.is_on)
+
+abbrev pub enabled_ports : List PortSeen → List PortSeen
+enabled_ports = filter (λ p. p.is_enabled)
+
+-- a bridge and a port in the view
+abbrev pub viewed_bridge : BridgeSeen → BridgeView
+viewed_bridge b = record { name = b.name; settings = b.cist; is_on = b.is_on }
+
+abbrev pub viewed_port : PortSeen → PortView
+viewed_port p = record { name = p.name; lan = p.lan; settings = p.cist; is_enabled = p.is_enabled }
+
+-- in the CIST under names
 abbrev pub named_bridge : BridgeSeen → List ℕ × CistBridge
-named_bridge b = (b.name, b.cist)
+named_bridge b = tree_bridge (viewed_bridge b)
 
 abbrev pub named_port : PortSeen → Plug (List ℕ) (List ℕ) PortName CistPort
-named_port p = record { number = p.name; bridge = p.name.bridge; lan = p.lan; settings = p.cist; is_part = true; is_restricted = false }
+named_port p = tree_port (viewed_port p)
 
 -- and under the numbers of their records
 abbrev pub numbered_bridge : BridgeSeen → ℕ × CistBridge
@@ -86,5 +106,5 @@ IsNameOf numbers number name = MatchOption number (name ≡ None) (λ k. (q : Po
 
 -- under the numbers of records the outcome has these vectors and these designated ports
 pub record Agrees (net : Net) (numbers : Numbers) (o : Outcome) (vector : ℕ → Option CistVector) (designated : ℕ → Option ℕ) : Type 0 where
-  pub bridges : AllByRecursion (λ b. vector b.number ≡ o.vector b.name) (bridges_seen net numbers)
-  pub ports : AllByRecursion (λ p. IsNameOf numbers (designated p.lan_number) (o.designated p.lan)) (ports_seen net numbers)
+  pub bridges : AllByRecursion (λ b. vector b.number ≡ o.vector b.name) (on_bridges (bridges_seen net numbers))
+  pub ports : AllByRecursion (λ p. IsNameOf numbers (designated p.lan_number) (o.designated p.lan)) (enabled_ports (ports_seen net numbers))

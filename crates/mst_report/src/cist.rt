@@ -2,7 +2,7 @@ ghost use Rattle.std.specs.Prelude.{◌≡◌, ℕ, IfOk, [], map};
 ghost use Rattle.mst_vector.specs.Cist.{cist_rules};
 ghost use Rattle.mst_settle.specs.Settled.{Settled, IsDesignated};
 ghost use Rattle.mst_settle.specs.Assignment.{vector_of, designated_of};
-ghost use Rattle.mst_report.specs.View.{CanSettle, numbered, numbered_bridge};
+ghost use Rattle.mst_report.specs.View.{CanSettle, numbered, numbered_bridge, on_bridges, enabled_ports};
 ghost use Rattle.mst_report.specs.Kept.{IsCistOf};
 
 use crate::laws::has_outcome;
@@ -65,6 +65,28 @@ pub(crate) struct Cist {
     pub(crate) settler: Settler<CistMetric>,
 }
 
+/// The bridges that are on.
+fn on(alloc: Global, bridges: &[BridgeSeen]) -> Result<Vec<BridgeSeen>, AllocError>
+    ensures { IfOk result (λ v. v.items ≡ on_bridges bridges.now) }
+{
+    bridges
+        .iter()
+        .filter(|bridge| bridge.is_on)
+        .copied()
+        .collect(alloc)
+}
+
+/// The ports that are enabled.
+fn enabled(alloc: Global, ports: &[PortSeen]) -> Result<Vec<PortSeen>, AllocError>
+    ensures { IfOk result (λ v. v.items ≡ enabled_ports ports.now) }
+{
+    ports
+        .iter()
+        .filter(|port| port.is_enabled)
+        .copied()
+        .collect(alloc)
+}
+
 /// Settles the CIST of a network.
 pub(crate) fn settled_cist(alloc: Global, network: &Network) -> Result<Cist, AllocError>
     ensures { IfOk result (IsCistOf network.now.net network.now.numbers) }
@@ -72,7 +94,9 @@ pub(crate) fn settled_cist(alloc: Global, network: &Network) -> Result<Cist, All
     network.known();
     let bridges = bridges(alloc, network)?;
     let ports = ports(alloc, network)?;
-    let settler = settle(alloc, bridges.as_slice(), ports.as_slice())?;
+    let on = on(alloc, bridges.as_slice())?;
+    let enabled = enabled(alloc, ports.as_slice())?;
+    let settler = settle(alloc, on.as_slice(), enabled.as_slice())?;
     has_outcome();
     renamed::<CistMetric, BridgeNo, LanNo, PortNo, Name, Name, PortName>();
     Ok(Cist {

@@ -1,18 +1,19 @@
-ghost use Rattle.std.specs.Prelude.{◌≡◌, ◌++◌, [], Option, OnOk, IfOk, map};
+ghost use Rattle.std.specs.Prelude.{◌≡◌, ◌++◌, [], Option, OnOk, IfOk, IsTrue, map, if◌then◌else◌};
 ghost use Rattle.std.specs.List.{flat_map, Contains};
 ghost use Rattle.std.specs.Option.{option_map_or};
 ghost use Rattle.mst_ids.specs.declared.name.PortName.{PortName};
 ghost use Rattle.mst_settle.specs.Assignment.{designated_of};
 ghost use Rattle.mst_report.specs.Answers.{Answers};
-ghost use Rattle.mst_report.specs.Cist.{Outcome, IsOutcome, cist_of};
+ghost use Rattle.mst_report.specs.Cist.{Outcome, IsOutcome, view_bridges};
 ghost use Rattle.mst_report.specs.Kept.{Keeps};
-ghost use Rattle.mst_report.specs.TreeText.{port_text, bridge_text, bridge_line, tree_text};
-ghost use Rattle.mst_report.specs.View.{IsNameOf, named_bridge, named_port};
+ghost use Rattle.mst_report.specs.Roles.{role_of};
+ghost use Rattle.mst_report.specs.TreeText.{port_text, bridge_text, bridge_line, off_line, tree_text};
+ghost use Rattle.mst_report.specs.View.{IsNameOf, viewed_bridge, viewed_port};
 
 use crate::cist::{Cist, settled_cist};
 use crate::laws::has_outcome;
-use crate::role::role_of_port;
-use crate::text::{push_bridge, push_heading, push_port};
+use crate::role::{Role, role_of_port};
+use crate::text::{push_bridge, push_heading, push_off, push_port};
 use crate::view::{BridgeSeen, PortSeen};
 use mst_ids::{LanNo, PortName, Tree};
 use mst_lang::Query;
@@ -22,8 +23,9 @@ use mst_vector::{CistMetric, CistVector};
 use std::alloc::{AllocError, Global};
 
 /// The text that answers a query about the network. Of a tree: its heading, and for the CIST, tree 0,
-/// the root priority vector of each bridge (802.1Q-2022, 13.10) and the role of each of its plugged
-/// ports (13.12), in byte order of names and by port number. The network alone settles the text.
+/// each bridge with its root priority vector (802.1Q-2022, 13.10), or that it is off, and each of its
+/// plugged ports with its role (13.12), in byte order of names and by port number. The network alone
+/// settles the text.
 ///
 /// It fails only where there is no memory.
 pub fn answer(alloc: Global, network: &Network, query: &Query) -> Result<Vec<u8>, AllocError>
@@ -53,7 +55,7 @@ fn tree_text_of(alloc: Global, network: &Network, tree: Tree) -> Result<Vec<u8>,
 /// Appends the lines of all bridges and their ports.
 fn push_cist(network: &Network, cist: &Cist, out: &mut Vec<u8>) -> Result<(), AllocError>
     ensures { (o : Outcome) → Keeps network.now.net network.now.numbers cist.now o
-        → OnOk result (out.new.items ≡ out.old.items ++ flat_map (bridge_text network.now.net o) (cist_of network.now.net).bridges) }
+        → OnOk result (out.new.items ≡ out.old.items ++ flat_map (bridge_text network.now.net o) (view_bridges network.now.net)) }
 {
     network.known();
     for bridge in &cist.bridges {
@@ -70,21 +72,24 @@ fn push_bridge_text(
     out: &mut Vec<u8>,
 ) -> Result<(), AllocError>
     ensures { (o : Outcome) → Keeps network.now.net network.now.numbers cist.now o → Contains cist.now.bridges.items bridge.now
-        → OnOk result (out.new.items ≡ out.old.items ++ bridge_text network.now.net o (named_bridge bridge.now)) }
+        → OnOk result (out.new.items ≡ out.old.items ++ bridge_text network.now.net o (viewed_bridge bridge.now)) }
 {
     network.known();
     push_own_line(bridge, cist.settler.vector(bridge.number), out)?;
     push_ports(network, cist, bridge, out)
 }
 
-/// Appends the line of a bridge, where it has a vector.
+/// Appends the line of a bridge: that it is off, or its vector.
 fn push_own_line(
     bridge: &BridgeSeen,
     vector: Option<CistVector>,
     out: &mut Vec<u8>,
 ) -> Result<(), AllocError>
-    ensures { OnOk result (out.new.items ≡ out.old.items ++ option_map_or (bridge_line bridge.now.name bridge.now.cist) vector []) }
+    ensures { OnOk result (out.new.items ≡ out.old.items ++ (if bridge.now.is_on then option_map_or (bridge_line bridge.now.name bridge.now.cist) vector [] else off_line bridge.now.name)) }
 {
+    if !bridge.is_on {
+        return push_off(&bridge.name, out);
+    }
     match vector {
         None => Ok(()),
         Some(vector) => push_bridge(bridge, &vector, out),
@@ -99,7 +104,7 @@ fn push_ports(
     out: &mut Vec<u8>,
 ) -> Result<(), AllocError>
     ensures { (o : Outcome) → Keeps network.now.net network.now.numbers cist.now o → Contains cist.now.bridges.items bridge.now
-        → OnOk result (out.new.items ≡ out.old.items ++ flat_map (port_text o bridge.now.name) (map named_port cist.now.ports.items)) }
+        → OnOk result (out.new.items ≡ out.old.items ++ flat_map (port_text o bridge.now.name) (map viewed_port cist.now.ports.items)) }
 {
     for port in &cist.ports {
         push_port_of(network, cist, bridge, port, out)?;
@@ -116,14 +121,31 @@ fn push_port_of(
     out: &mut Vec<u8>,
 ) -> Result<(), AllocError>
     ensures { (o : Outcome) → Keeps network.now.net network.now.numbers cist.now o → Contains cist.now.bridges.items bridge.now → Contains cist.now.ports.items port.now
-        → OnOk result (out.new.items ≡ out.old.items ++ port_text o bridge.now.name (named_port port.now)) }
+        → OnOk result (out.new.items ≡ out.old.items ++ port_text o bridge.now.name (viewed_port port.now)) }
 {
     if port.name.bridge != bridge.name {
         return Ok(());
     }
     let vector = cist.settler.vector(bridge.number);
-    let designated = designated_port(network, &cist.settler, port.lan_number);
-    push_port(port, role_of_port(vector, designated, port), out)
+    push_port(port, role_in(network, &cist.settler, vector, port), out)
+}
+
+/// The role of a port, by the root priority vector of its bridge.
+fn role_in(
+    network: &Network,
+    settler: &Settler<CistMetric>,
+    vector: Option<CistVector>,
+    port: &PortSeen,
+) -> Role
+    ensures { (o : Outcome) → (IsTrue port.now.is_enabled → vector ≡ o.vector port.now.name.bridge)
+        → (IsTrue port.now.is_enabled → IsNameOf network.now.numbers (designated_of settler.now port.now.lan_number) (o.designated port.now.lan))
+        → result ≡ role_of o (viewed_port port.now) }
+{
+    if !port.is_enabled {
+        return Role::Disabled;
+    }
+    let designated = designated_port(network, settler, port.lan_number);
+    role_of_port(vector, designated, port)
 }
 
 /// The name of a LAN's designated port.

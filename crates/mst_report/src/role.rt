@@ -1,6 +1,6 @@
 ghost use Rattle.std.specs.Prelude.{◌≡◌};
 ghost use Rattle.mst_report.specs.Roles.{role_text, role_by};
-ghost use Rattle.mst_report.specs.View.{named_port};
+ghost use Rattle.mst_report.specs.View.{viewed_port};
 
 use crate::view::PortSeen;
 use mst_ids::PortName;
@@ -17,6 +17,8 @@ pub enum Role {
     Alternate,
     /// Its LAN's designated port is another one of its bridge.
     Backup,
+    /// It isn't enabled: its bridge is off, or its LAN is down.
+    Disabled,
 }
 
 impl Role {
@@ -29,17 +31,18 @@ impl Role {
             Role::Designated => "Designated",
             Role::Alternate => "Alternate",
             Role::Backup => "Backup",
+            Role::Disabled => "Disabled",
         }
     }
 }
 
-/// The role of a port, by the root priority vector of its bridge and the designated port of its LAN.
+/// The role of an enabled port, by the root priority vector of its bridge and the designated port of its LAN.
 pub(crate) fn role_of_port(
     vector: Option<CistVector>,
     designated: Option<PortName>,
     port: &PortSeen,
 ) -> Role
-    ensures { result ≡ role_by vector designated (named_port port.now) }
+    ensures { result ≡ role_by vector designated (viewed_port port.now) }
 {
     if let Some(vector) = vector
         && vector.receiver == port.cist.id

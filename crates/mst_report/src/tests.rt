@@ -104,8 +104,10 @@ fn edit_of(line: &str) -> Option<Edit> {
 /// Makes the edit that a line says.
 fn make(network: &mut Network, line: &str) -> Result<(), Refusal> {
     if let Some(edit) = edit_of(line) {
-        let ready = network.prepare(&edit)?;
-        network.commit(ready);
+        match network.prepare(&edit) {
+            Ok(ready) => network.commit(ready),
+            Err(refusal) => return Err(refusal),
+        }
     }
     Ok(())
 }
@@ -167,6 +169,7 @@ fn roles_are_named(rt: HostRuntime) {
         (Role::Designated, "Designated"),
         (Role::Alternate, "Alternate"),
         (Role::Backup, "Backup"),
+        (Role::Disabled, "Disabled"),
     ] {
         assert_eq!(rt; role.name(), name);
     }

@@ -1,12 +1,12 @@
-ghost use Rattle.std.specs.Prelude.{◌≡◌, ◌++◌, ◌∷◌, [], OnOk, map};
+ghost use Rattle.std.specs.Prelude.{◌≡◌, ◌++◌, ◌∷◌, [], OnOk, map, codes, decimal};
 ghost use Rattle.mst_report.specs.Words.{line, line_rest};
-ghost use Rattle.mst_report.specs.TreeText.{bridge_line, port_words, port_line, tree_heading};
-ghost use Rattle.mst_report.specs.View.{named_port};
+ghost use Rattle.mst_report.specs.TreeText.{bridge_line, off_line, port_line, cost_words, tree_heading};
+ghost use Rattle.mst_report.specs.View.{viewed_port};
 
 use crate::role::Role;
 use crate::view::{BridgeSeen, PortSeen};
 use itoa::Buffer;
-use mst_ids::{Tree, push_bytes};
+use mst_ids::{Name, Tree, push_bytes};
 use mst_vector::CistVector;
 use std::alloc::AllocError;
 
@@ -80,16 +80,28 @@ pub(crate) fn push_bridge(
     push_line(&words, out)
 }
 
-/// Appends the line of a port with its role.
-pub(crate) fn push_port(port: &PortSeen, role: Role, out: &mut Vec<u8>) -> Result<(), AllocError>
-    ensures { OnOk result (out.new.items ≡ out.old.items ++ port_line (named_port port.now) role) }
+/// Appends the line of a bridge that is off.
+pub(crate) fn push_off(bridge: &Name, out: &mut Vec<u8>) -> Result<(), AllocError>
+    ensures { OnOk result (out.new.items ≡ out.old.items ++ off_line bridge.now) }
 {
-    push_named_role(port, role.name(), out)
+    let words: [&[u8]; 3] = [b"bridge", bridge.as_bytes(), b"off"];
+    push_line(&words, out)
 }
 
-/// Appends the line of a port with the name of its role.
-fn push_named_role(port: &PortSeen, role: &str, out: &mut Vec<u8>) -> Result<(), AllocError>
-    ensures { OnOk result (out.new.items ≡ out.old.items ++ line (port_words (named_port port.now) ++ role.now ∷ [])) }
+/// Appends the line of a port with its role.
+pub(crate) fn push_port(port: &PortSeen, role: Role, out: &mut Vec<u8>) -> Result<(), AllocError>
+    ensures { OnOk result (out.new.items ≡ out.old.items ++ port_line (viewed_port port.now) role) }
+{
+    if port.is_enabled {
+        push_enabled(port, role.name(), out)
+    } else {
+        push_disabled(port, role.name(), out)
+    }
+}
+
+/// Appends the line of an enabled port with the name of its role.
+fn push_enabled(port: &PortSeen, role: &str, out: &mut Vec<u8>) -> Result<(), AllocError>
+    ensures { OnOk result (out.new.items ≡ out.old.items ++ line (codes "port" ∷ port.now.name.bridge ∷ decimal port.now.name.number ∷ port.now.lan ∷ cost_words port.now.cist ++ role.now ∷ [])) }
 {
     let mut number = Buffer::new();
     let mut external = Buffer::new();
@@ -105,6 +117,21 @@ fn push_named_role(port: &PortSeen, role: &str, out: &mut Vec<u8>) -> Result<(),
         external.format(port.cist.external.value()).as_bytes(),
         b"int",
         internal.format(port.cist.internal.value()).as_bytes(),
+        role.as_bytes(),
+    ];
+    push_line(&words, out)
+}
+
+/// Appends the line of a port that isn't enabled with the name of its role.
+fn push_disabled(port: &PortSeen, role: &str, out: &mut Vec<u8>) -> Result<(), AllocError>
+    ensures { OnOk result (out.new.items ≡ out.old.items ++ line (codes "port" ∷ port.now.name.bridge ∷ decimal port.now.name.number ∷ port.now.lan ∷ role.now ∷ [])) }
+{
+    let mut number = Buffer::new();
+    let words: [&[u8]; 5] = [
+        b"port",
+        port.name.bridge.as_bytes(),
+        number.format(port.name.number.value()).as_bytes(),
+        port.lan.as_bytes(),
         role.as_bytes(),
     ];
     push_line(&words, out)

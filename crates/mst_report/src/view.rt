@@ -1,10 +1,11 @@
 ghost use Rattle.std.specs.Prelude.{◌≡◌, IfOk};
+ghost use Rattle.mst_net.specs.After.{is_on as power_is_on, is_up as state_is_up};
 ghost use Rattle.mst_report.specs.View.{bridge_seen as seen_bridge, port_seen as seen_port, bridges_seen, ports_seen};
 
 use mst_ids::{
     BridgeId, BridgeNo, LanNo, Name, PortId, PortName, PortNo, Priority, Tree, auto_cost,
 };
-use mst_lang::Kind;
+use mst_lang::{Kind, LanState, Power};
 use mst_net::{Contents, Network};
 use mst_vector::{CistBridge, CistPort};
 use std::alloc::{AllocError, Global};
@@ -15,6 +16,7 @@ pub(crate) struct BridgeSeen {
     pub(crate) name: Name,
     pub(crate) number: BridgeNo,
     pub(crate) cist: CistBridge,
+    pub(crate) is_on: bool,
 }
 
 /// A plugged port as the CIST sees it.
@@ -26,6 +28,26 @@ pub(crate) struct PortSeen {
     pub(crate) lan: Name,
     pub(crate) lan_number: LanNo,
     pub(crate) cist: CistPort,
+    /// Its bridge is on and its LAN is up.
+    pub(crate) is_enabled: bool,
+}
+
+fn is_on(power: Power) -> bool
+    ensures { result ≡ power_is_on power }
+{
+    match power {
+        Power::On => true,
+        Power::Off => false,
+    }
+}
+
+fn is_up(state: LanState) -> bool
+    ensures { result ≡ state_is_up state }
+{
+    match state {
+        LanState::Up => true,
+        LanState::Down => false,
+    }
 }
 
 /// The bridge of this name.
@@ -47,6 +69,7 @@ pub(crate) fn bridge_seen(network: &Network, name: &Name) -> Option<BridgeSeen>
             region: id,
             is_rstp,
         },
+        is_on: is_on(bridge.power),
     })
 }
 
@@ -59,7 +82,7 @@ pub(crate) fn port_seen(network: &Network, name: &PortName) -> Option<PortSeen>
     let lan_name = port.lan?;
     let lan = network.lan(&lan_name)?;
     let bridge = network.bridge(&name.bridge)?;
-    let cost = auto_cost(lan.speed);
+    let automatic = auto_cost(lan.speed);
     Some(PortSeen {
         name: *name,
         number: port.number,
@@ -68,9 +91,10 @@ pub(crate) fn port_seen(network: &Network, name: &PortName) -> Option<PortSeen>
         lan_number: lan.number,
         cist: CistPort {
             id: PortId::new(Priority::standard(), name.number),
-            external: cost,
-            internal: cost,
+            external: port.external.unwrap_or(automatic),
+            internal: automatic,
         },
+        is_enabled: is_on(bridge.power) && is_up(lan.state),
     })
 }
 

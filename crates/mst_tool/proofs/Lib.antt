@@ -4,3 +4,4 @@ pub mod Steps
 pub mod Held
 pub mod Feeds
 pub mod WholeRun
+pub mod OneRun

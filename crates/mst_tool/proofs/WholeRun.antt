@@ -6,7 +6,7 @@ use Rattle.std.specs.Io.KnownBytes.{Appends, Consumes, IsAtEnd}
 use Rattle.std.proofs.KnownBytes.{Consumes-trans}
 use Rattle.mst_net.specs.Tables.{empty_net}
 use Rattle.mst_tool.specs.Lines.{lines_of}
-use Rattle.mst_tool.specs.Script.{Step, Runs, texts_of}
+use Rattle.mst_tool.specs.Script.{Step, Runs, texts_of, lacks_of}
 use Rattle.mst_tool.specs.Written.{AppendsFront}
 use Rattle.mst_tool.specs.Engine.{Tally, start}
 use Rattle.mst_tool.specs.Feeding.{lines_held, IsCounted, Feeds, Breaks, ending}
@@ -50,20 +50,24 @@ run_done d e t u read p q f g cleared =
     (g.runs [] [] (subst (λ l. Runs u.number u.net (lines_held l []) []) (sym cleared) (runs-none u.number u.net))))
 
 -- a run that was not stopped
-pub run_prints : (reads rest written now : Option (List ℕ)) (d e : List Step) (t u : Tally) (read p q : List ℕ) (outcome : Outcome)
+pub run_prints : ((script : List ℕ) (a b : List Step) → Runs 1 empty_net (lines_of script) a → Runs 1 empty_net (lines_of script) b → lacks_of a ≡ 0 → lacks_of b ≡ 0 → a ≡ b)
+    → (reads rest written now : Option (List ℕ)) (d e : List Step) (t u : Tally) (read p q : List ℕ) (outcome : Outcome)
     → Consumes reads rest read → IsAtEnd rest → Feeds d start [] read t p → Feeds e t p (ending p) u q → q ≡ [] → Appends written now (texts_of (d ++ e))
     → outcome.memory ≡ u.memory → outcome.refused ≡ u.refused → outcome.differing ≡ 0 → Prints reads written now outcome
-run_prints reads rest written now d e t u read p q outcome consumed at_end f g cleared went memory refused differing =
+run_prints one_run reads rest written now d e t u read p q outcome consumed at_end f g cleared went memory refused differing =
     let all = Feeds-join d e start t u [] p q read (ending p) f g in
+    let runs = run_done d e t u read p q f g cleared in
+    let lacks : outcome.memory ≡ lacks_of (d ++ e) = memory ∙ all.memory ∙ omega arith in
     record {
       script = read;
       steps = d ++ e;
       read = Reads-all reads rest read consumed at_end;
-      runs = run_done d e t u read p q f g cleared;
+      runs = runs;
       printed = went;
-      memory = memory ∙ all.memory ∙ omega arith;
+      memory = lacks;
       refused = refused ∙ all.refused ∙ omega arith;
       differing = differing;
+      only = λ none others other_runs given. one_run read others (d ++ e) other_runs runs given (sym lacks ∙ none);
     }
 
 -- a run that was stopped by the writer

@@ -15,7 +15,7 @@ Reads (Some bytes) script = bytes ≡ script
 
 -- All of the script's lines were served, from the empty network on, and what they print was written. The
 -- outcome counts the lines that were refused: those for want of memory, each of which prints so, and the
--- others
+-- others. Where none was for want of memory, the script has no other steps that meet none
 pub record Prints (reads written now : Option (List ℕ)) (outcome : Outcome) : Type 0 where
   pub script : List ℕ
   pub steps : List Step
@@ -25,6 +25,7 @@ pub record Prints (reads written now : Option (List ℕ)) (outcome : Outcome) : 
   pub memory : outcome.memory ≡ lacks_of steps
   pub refused : outcome.refused ≡ refusals_of steps
   pub differing : outcome.differing ≡ 0
+  pub only : outcome.memory ≡ 0 → (others : List Step) → Runs 1 empty_net (lines_of script) others → lacks_of others ≡ 0 → others ≡ steps
 
 -- a front of what the script prints was written
 pub record PrintsFront (reads written now : Option (List ℕ)) : Type 0 where

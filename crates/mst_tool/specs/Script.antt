@@ -65,6 +65,11 @@ Runs number net [] (s ∷ steps) = ⊥
 Runs number net (line ∷ lines) [] = ⊥
 Runs number net (line ∷ lines) (s ∷ steps) = Serves number net line s × Runs (number + 1) s.net lines steps
 
+-- the network that the steps leave
+abbrev pub left_by : Net → List Step → Net
+left_by net [] = net
+left_by net (s ∷ steps) = left_by s.net steps
+
 -- what the steps print
 abbrev pub texts_of : List Step → List ℕ
 texts_of = flat_map (λ s. s.text)

@@ -112,9 +112,13 @@ fn apply(network: &mut Network, edit: &Edit) -> Result<(), Refusal>
     ensures refused { IfErr result (λ refusal. refusal ≢ Refusal.E99 → after edit.now network.old.net ≡ Err refusal) }
     ensures memory { result ≡ Err Refusal.E99 → IsOk (after edit.now network.old.net) }
 {
-    let ready = network.prepare(edit)?;
-    network.commit(ready);
-    Ok(())
+    match network.prepare(edit) {
+        Ok(ready) => {
+            network.commit(ready);
+            Ok(())
+        }
+        Err(refusal) => Err(refusal),
+    }
 }
 
 /// Writes a reply.

@@ -4,6 +4,7 @@
 mod engine;
 mod feed;
 mod held_line;
+pub mod laws;
 mod print;
 mod runs;
 

@@ -5,6 +5,7 @@ ghost use Rattle.mst_tool.specs.Run.{Prints, PrintsFront, status_of};
 use crate::engine::Engine;
 use crate::feed::{feed, finish};
 use crate::held_line::HeldLine;
+use crate::laws::one_run;
 use std::alloc::Global;
 use std::io::{Read, Write};
 
@@ -40,7 +41,7 @@ pub enum RunFault {
 const TURNS: u64 = 1 << 32;
 
 /// Runs the script that the reader gives, from the empty network on, and writes what each line prints
-/// before it reads on.
+/// before it reads on. Where no line meets want of memory, what is written is a function of the script.
 ///
 /// A line ends in LF or CR LF, and the last one may end with the script. Lines count from 1. One that
 /// is refused prints `line N CODE TEXT`, and the run goes on.
@@ -71,6 +72,7 @@ fn serve_script<R: Read + Drop, W: Write>(
     ensures ok { OnOk result (Prints (R.remaining reader) (W.contents writer.old) (W.contents writer.new) (outcome_of (tally_of engine.new))) }
     ensures fault { OnErr result (PrintsFront (R.remaining reader) (W.contents writer.old) (W.contents writer.new)) }
 {
+    one_run();
     let mut held = HeldLine::new();
     let mut chunk = [0; 4096];
     'turns: for turn in 0..TURNS {

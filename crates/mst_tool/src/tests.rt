@@ -125,6 +125,15 @@ fn prints_refusals(rt: HostRuntime) -> Result<(), Fail> {
             counts: counts(1, 0),
         },
         Case {
+            name: "what isn't there",
+            script: b"addbridge A 02:00:00:00:00:01\naddport A 1\nunplug A 1\nunplug A 2\n\
+                bridge B on\nlan X up\nsetportpathcost A 2 0\nlan X upp\n",
+            expected: b"line 3 E11 port not plugged\nline 4 E05 no such port\n\
+                line 5 E04 no such bridge\nline 6 E06 no such LAN\nline 7 E05 no such port\n\
+                line 8 E02 bad argument\n",
+            counts: counts(6, 0),
+        },
+        Case {
             name: "carriage returns",
             script: b"addlan X\r\n\r\naddlan X\r\nkind A\r\n",
             expected: b"line 3 E07 name taken\nline 4 E01 no such command\n",
@@ -152,7 +161,8 @@ fn always_read_fault(rt: HostRuntime) {
 fn always_out_of_memory(rt: HostRuntime) {
     let mut written = Vec::new(rt.alloc());
     let script: &[u8] = b"addbridge A 02:00:00:00:00:01\nkind A rstp\naddport A 1\naddlan X\n\
-        plug A 1 X\nsettreeprio A 0 4\n";
+        plug A 1 X\nsettreeprio A 0 4\nsetportpathcost A 1 7\nunplug A 1\nlan X down\n\
+        bridge A off\n";
     assert_eq!(rt; run(rt.alloc(), script, &mut written), Ok(counts(0, 0)));
     assert!(rt; written.is_empty());
 }

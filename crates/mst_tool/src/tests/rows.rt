@@ -10,7 +10,7 @@ struct Row {
     is_whole: bool,
 }
 
-const ROWS: [Row; 6] = [
+const ROWS: [Row; 8] = [
     Row {
         name: "triangle",
         script: b"\
@@ -102,6 +102,131 @@ const ROWS: [Row; 6] = [
             port A 3 Y 8003 ext 20000 int 20000 Designated\n\
             ",
         is_whole: false,
+    },
+    Row {
+        name: "root-off-and-on",
+        script: b"\
+            addbridge A 02:00:00:00:00:01\n\
+            kind A rstp\n\
+            addbridge B 02:00:00:00:00:02\n\
+            kind B rstp\n\
+            addbridge C 02:00:00:00:00:03\n\
+            kind C rstp\n\
+            addlan X\n\
+            addport A 1\n\
+            addport B 1\n\
+            plug A 1 X\n\
+            plug B 1 X\n\
+            addlan Y\n\
+            addport A 2\n\
+            addport C 1\n\
+            plug A 2 Y\n\
+            plug C 1 Y\n\
+            addlan Z\n\
+            addport B 2\n\
+            addport C 2\n\
+            plug B 2 Z\n\
+            plug C 2 Z\n\
+            bridge A off\n\
+            showtree 0\n\
+            bridge A on\n\
+            showtree 0\n\
+            ",
+        expected: b"\
+            tree 0\n\
+            bridge A off\n\
+            port A 1 X Disabled\n\
+            port A 2 Y Disabled\n\
+            bridge B 8000.02:00:00:00:00:02 root 8000.02:00:00:00:00:02 ext 0 regional \
+            8000.02:00:00:00:00:02 int 0 from 8000.02:00:00:00:00:02 0000 at 0000\n\
+            port B 1 X 8001 ext 20000 int 20000 Designated\n\
+            port B 2 Z 8002 ext 20000 int 20000 Designated\n\
+            bridge C 8000.02:00:00:00:00:03 root 8000.02:00:00:00:00:02 ext 20000 regional \
+            8000.02:00:00:00:00:03 int 0 from 8000.02:00:00:00:00:02 8002 at 8002\n\
+            port C 1 Y 8001 ext 20000 int 20000 Designated\n\
+            port C 2 Z 8002 ext 20000 int 20000 Root\n\
+            tree 0\n\
+            bridge A 8000.02:00:00:00:00:01 root 8000.02:00:00:00:00:01 ext 0 regional \
+            8000.02:00:00:00:00:01 int 0 from 8000.02:00:00:00:00:01 0000 at 0000\n\
+            port A 1 X 8001 ext 20000 int 20000 Designated\n\
+            port A 2 Y 8002 ext 20000 int 20000 Designated\n\
+            bridge B 8000.02:00:00:00:00:02 root 8000.02:00:00:00:00:01 ext 20000 regional \
+            8000.02:00:00:00:00:02 int 0 from 8000.02:00:00:00:00:01 8001 at 8001\n\
+            port B 1 X 8001 ext 20000 int 20000 Root\n\
+            port B 2 Z 8002 ext 20000 int 20000 Designated\n\
+            bridge C 8000.02:00:00:00:00:03 root 8000.02:00:00:00:00:01 ext 20000 regional \
+            8000.02:00:00:00:00:03 int 0 from 8000.02:00:00:00:00:01 8002 at 8001\n\
+            port C 1 Y 8001 ext 20000 int 20000 Root\n\
+            port C 2 Z 8002 ext 20000 int 20000 Alternate\n\
+            ",
+        is_whole: true,
+    },
+    Row {
+        name: "costs-and-plugs",
+        script: b"\
+            addbridge A 02:00:00:00:00:01\n\
+            kind A rstp\n\
+            addbridge B 02:00:00:00:00:02\n\
+            kind B rstp\n\
+            addlan X\n\
+            addport A 1\n\
+            addport B 1\n\
+            plug A 1 X\n\
+            plug B 1 X\n\
+            addlan Y\n\
+            addport A 2\n\
+            addport B 2\n\
+            plug A 2 Y\n\
+            plug B 2 Y\n\
+            setportpathcost B 1 30000\n\
+            showtree 0\n\
+            lan Y down\n\
+            showtree 0\n\
+            unplug B 1\n\
+            showtree 0\n\
+            plug B 1 X\n\
+            lan Y up\n\
+            setportpathcost B 1 0\n\
+            showtree 0\n\
+            ",
+        expected: b"\
+            tree 0\n\
+            bridge A 8000.02:00:00:00:00:01 root 8000.02:00:00:00:00:01 ext 0 regional \
+            8000.02:00:00:00:00:01 int 0 from 8000.02:00:00:00:00:01 0000 at 0000\n\
+            port A 1 X 8001 ext 20000 int 20000 Designated\n\
+            port A 2 Y 8002 ext 20000 int 20000 Designated\n\
+            bridge B 8000.02:00:00:00:00:02 root 8000.02:00:00:00:00:01 ext 20000 regional \
+            8000.02:00:00:00:00:02 int 0 from 8000.02:00:00:00:00:01 8002 at 8002\n\
+            port B 1 X 8001 ext 30000 int 20000 Alternate\n\
+            port B 2 Y 8002 ext 20000 int 20000 Root\n\
+            tree 0\n\
+            bridge A 8000.02:00:00:00:00:01 root 8000.02:00:00:00:00:01 ext 0 regional \
+            8000.02:00:00:00:00:01 int 0 from 8000.02:00:00:00:00:01 0000 at 0000\n\
+            port A 1 X 8001 ext 20000 int 20000 Designated\n\
+            port A 2 Y Disabled\n\
+            bridge B 8000.02:00:00:00:00:02 root 8000.02:00:00:00:00:01 ext 30000 regional \
+            8000.02:00:00:00:00:02 int 0 from 8000.02:00:00:00:00:01 8001 at 8001\n\
+            port B 1 X 8001 ext 30000 int 20000 Root\n\
+            port B 2 Y Disabled\n\
+            tree 0\n\
+            bridge A 8000.02:00:00:00:00:01 root 8000.02:00:00:00:00:01 ext 0 regional \
+            8000.02:00:00:00:00:01 int 0 from 8000.02:00:00:00:00:01 0000 at 0000\n\
+            port A 1 X 8001 ext 20000 int 20000 Designated\n\
+            port A 2 Y Disabled\n\
+            bridge B 8000.02:00:00:00:00:02 root 8000.02:00:00:00:00:02 ext 0 regional \
+            8000.02:00:00:00:00:02 int 0 from 8000.02:00:00:00:00:02 0000 at 0000\n\
+            port B 2 Y Disabled\n\
+            tree 0\n\
+            bridge A 8000.02:00:00:00:00:01 root 8000.02:00:00:00:00:01 ext 0 regional \
+            8000.02:00:00:00:00:01 int 0 from 8000.02:00:00:00:00:01 0000 at 0000\n\
+            port A 1 X 8001 ext 20000 int 20000 Designated\n\
+            port A 2 Y 8002 ext 20000 int 20000 Designated\n\
+            bridge B 8000.02:00:00:00:00:02 root 8000.02:00:00:00:00:01 ext 20000 regional \
+            8000.02:00:00:00:00:02 int 0 from 8000.02:00:00:00:00:01 8001 at 8001\n\
+            port B 1 X 8001 ext 20000 int 20000 Root\n\
+            port B 2 Y 8002 ext 20000 int 20000 Alternate\n\
+            ",
+        is_whole: true,
     },
     Row {
         name: "crlf",

@@ -58,5 +58,5 @@ pub returns-in-Ok-finish-clause-ok : goal.returns-in-Ok-finish-clause-ok
 returns-in-Ok-finish-clause-ok g c =
     let was = c.turns.invariant in
     let last = c.in-Ok-finish.ensures.ok in
-    run_prints _ _ _ _ was.done last.0 (tally_of c.turns.engine) (tally_of c.finish.new.engine) was.read c.turns.held c.finish.new.held _
+    run_prints c.one_run.ensures _ _ _ _ was.done last.0 (tally_of c.turns.engine) (tally_of c.finish.new.engine) was.read c.turns.held c.finish.new.held _
     (Consumes-none _ _ _ was.read c.read.new.buf c.in-Ok.count c.if-count-eq0.true was.consumed c.in-Ok.ensures.bytes.0) (c.in-Ok.ensures.bytes.1 c.if-count-eq0.true (omega arith)) was.feeds last.1 c.finish.ensures.cleared (texts_join _ _ _ was.done last.0 was.written last.2) refl refl refl

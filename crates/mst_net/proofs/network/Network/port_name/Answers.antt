@@ -1,7 +1,5 @@
-use Rattle.std.proofs.Common.{◌≡◌, ℕ, Some, None, ap, sym, subst, ◌∙◌}
+use Rattle.std.proofs.Common.{Some, ap, sym, ◌∙◌}
 use Rattle.std.specs.FinMap as fin
-use Rattle.std.specs.Option.{ForSome}
-use Rattle.mst_ids.specs.declared.name.PortName.{PortName}
 use Rattle.mst_net.proofs.Keyed.{get_keyed}
 use Rattle.mst_net.proofs.Keys.{ports}
 use Rattle.mst_net.proofs.network.Network.port_name.Goals as goal

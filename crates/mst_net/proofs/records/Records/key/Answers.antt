@@ -1,4 +1,4 @@
-use Rattle.std.proofs.Common.{ℕ, Some, None, ap, sym, ◌∙◌}
+use Rattle.std.proofs.Common.{ap, sym, ◌∙◌}
 use Rattle.std.specs.Map.{lookup}
 use Rattle.mst_net.proofs.KeptLemmas.{key_missing, record_missing, number_other}
 use Rattle.mst_net.proofs.records.Records.key.Goals as goal
