@@ -1,0 +1,4 @@
+pub mod ConfNameLemmas
+pub mod VidSetLemmas
+pub mod VidListLemmas
+pub mod VidTextLemmas

@@ -13,6 +13,14 @@ abbrev pub is_name : List ℕ → Bool
 is_name [] = false
 is_name (b ∷ bs) = is_ascii_alphanumeric b && (nat_lt (length bs) 16 && list_all is_name_byte bs)
 
+-- a byte that may stand in the name of a configuration
+abbrev pub is_conf_name_byte : ℕ → Bool
+is_conf_name_byte b = nat_le 0x21 b && nat_le b 0x7E
+
+-- 1 to 32 bytes, each of 21 to 7E hexadecimal
+abbrev pub is_conf_name : List ℕ → Bool
+is_conf_name text = nat_le 1 (length text) && (nat_le (length text) 32 && list_all is_conf_name_byte text)
+
 -- what a hexadecimal digit of either case stands for
 abbrev pub hex_value : ℕ → Option ℕ
 hex_value b =

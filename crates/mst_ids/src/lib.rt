@@ -1,6 +1,7 @@
 //! Identifiers, numbers and names of a bridged network, each of fixed size, and their texts.
 #![tactic(auto)]
 
+mod conf_name;
 mod cost;
 mod identifier;
 mod mac;
@@ -8,14 +9,19 @@ mod name;
 mod number;
 mod record;
 mod text;
+mod vid_list;
+mod vid_set;
 
+pub use conf_name::ConfName;
 pub use cost::{Cost, auto_cost};
 pub use identifier::{BridgeId, PortId};
 pub use mac::{Mac, parse_mac};
 pub use name::{Name, PortName};
-pub use number::{PortNumber, Priority, Tree};
+pub use number::{Limit, PortNumber, Priority, Speed, Tree};
 pub use record::{BridgeNo, LanNo, PortNo};
 pub use text::{BadText, push_bytes, push_decimal};
+pub use vid_list::parse_vids;
+pub use vid_set::VidSet;
 
 #[cfg(test)]
 mod tests;

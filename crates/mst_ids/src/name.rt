@@ -8,7 +8,7 @@ ghost use Rattle.std.specs.Prelude.{refl};
 ghost use Rattle.mst_ids.specs.Texts.{is_name as name_text, is_name_byte as name_byte};
 
 use crate::number::PortNumber;
-use crate::text::{BadText, push_bytes};
+use crate::text::{BadText, padded, push_bytes};
 use std::alloc::AllocError;
 use std::cmp::Ordering;
 use std::hash::{Hash, Hasher};
@@ -30,15 +30,15 @@ impl Model for Name {
 
     ghost coded = { coded_list coded_ℕ };
 
-    ghost use Rattle.mst_ids.specs.Fields.{text_of, IsKept, kept, kept-text_of};
+    ghost use Rattle.mst_ids.specs.Fields.{name_of, IsKeptName, kept_name, kept_name-name_of};
 
-    ghost view = { text_of };
+    ghost view = { name_of };
 
-    ghost invariant = { IsKept };
+    ghost invariant = { IsKeptName };
 
-    ghost inverse = { kept };
+    ghost inverse = { kept_name };
 
-    ghost inverse_ok = { kept-text_of };
+    ghost inverse_ok = { kept_name-name_of };
 }
 
 impl Name {
@@ -139,16 +139,6 @@ fn are_name_bytes(bytes: &[u8]) -> bool
     ensures { result ≡ list_all name_byte bytes.now }
 {
     bytes.iter().all(|byte| is_name_byte(byte))
-}
-
-/// The text, and zeros after it.
-fn padded(text: &[u8]) -> [u8; 16]
-    requires { length text.now ≤ 16 }
-    ensures { result ≡ text.now ++ replicate (16 - length text.now) 0 }
-{
-    let mut bytes = [0; 16];
-    bytes[..text.len()].copy_from_slice(text);
-    bytes
 }
 
 fn is_name_byte(byte: &u8) -> bool

@@ -157,3 +157,94 @@ impl Tree {
         push_decimal(u64::from(self.number), out)
     }
 }
+
+/// The speed of a LAN, 1 to 9,999,999,999 kb/s.
+#[derive(Clone, Copy, Debug, PartialEq, Eq, PartialOrd, Ord, Hash)]
+pub struct Speed {
+    kbps: u64,
+}
+
+impl Model for Speed {
+    ghost use Rattle.std.specs.Prelude.{ℕ, ◌≤◌};
+
+    ghost Value = { ℕ };
+
+    ghost view = { λ a. a.kbps };
+
+    ghost invariant = { λ a. (1 ≤ a.kbps) × (a.kbps ≤ 9_999_999_999) };
+
+    ghost inverse = { λ n. record { kbps = n } };
+}
+
+impl Speed {
+    /// The speed of a LAN where none was set, 1 Gb/s.
+    pub fn standard() -> Speed
+        ensures { result ≡ 1_000_000 }
+    {
+        Speed { kbps: 1_000_000 }
+    }
+
+    /// The speed of this many kb/s, or nothing for 0 and above 9,999,999,999.
+    pub fn new(kbps: u64) -> Option<Speed>
+        ensures { SomeIff result ((1 ≤ kbps) × (kbps ≤ 9_999_999_999)) kbps }
+    {
+        if kbps < 1 || kbps > 9_999_999_999 {
+            return None;
+        }
+        Some(Speed { kbps })
+    }
+
+    /// The speed in kb/s, 1 to 9,999,999,999.
+    pub fn value(self) -> u64
+        ensures value { result ≡ self }
+        ensures range { (1 ≤ result) × (result ≤ 9_999_999_999) }
+    {
+        self.kbps
+    }
+}
+
+/// How far from its root a spanning tree may reach, 6 to 40: the hops of a region, or the age of
+/// what is received, in seconds.
+#[derive(Clone, Copy, Debug, PartialEq, Eq, PartialOrd, Ord, Hash)]
+pub struct Limit {
+    value: u8,
+}
+
+impl Model for Limit {
+    ghost use Rattle.std.specs.Prelude.{ℕ, ◌≤◌};
+
+    ghost Value = { ℕ };
+
+    ghost view = { λ a. a.value };
+
+    ghost invariant = { λ a. (6 ≤ a.value) × (a.value ≤ 40) };
+
+    ghost inverse = { λ n. record { value = n } };
+}
+
+impl Limit {
+    /// The limit where none was set.
+    pub fn standard() -> Limit
+        ensures { result ≡ 20 }
+    {
+        Limit { value: 20 }
+    }
+
+    /// The limit of this value, or nothing below 6 and above 40.
+    pub fn new(value: u64) -> Option<Limit>
+        ensures { SomeIff result ((6 ≤ value) × (value ≤ 40)) value }
+    {
+        if value < 6 || value > 40 {
+            return None;
+        }
+        Some(Limit { value: value as u8 })
+    }
+
+    /// The value, 6 to 40.
+    pub fn value(self) -> u64
+        ensures value { result ≡ self }
+        ensures range { (6 ≤ result) × (result ≤ 40) }
+    {
+        u64::from(self.value)
+    }
+}

@@ -56,6 +56,29 @@ fn values_keep_their_ranges(rt: HostRuntime) {
 }
 
 #[test]
+fn speeds_and_limits_keep_their_ranges(rt: HostRuntime) {
+    for (number, is_speed, is_limit) in [
+        (0, false, false),
+        (1, true, false),
+        (5, true, false),
+        (6, true, true),
+        (40, true, true),
+        (41, true, false),
+        (262, true, false),
+        (9_999_999_999, true, false),
+        (10_000_000_000, false, false),
+        (u64::MAX, false, false),
+    ] {
+        let speed = Speed::new(number).map(|speed| speed.value());
+        let limit = Limit::new(number).map(|limit| limit.value());
+        assert_eq!(rt; speed, is_speed.then_some(number), "speed {number}");
+        assert_eq!(rt; limit, is_limit.then_some(number), "limit {number}");
+    }
+    assert_eq!(rt; Speed::standard().value(), 1_000_000);
+    assert_eq!(rt; Limit::standard().value(), 20);
+}
+
+#[test]
 fn macs_are_parsed(rt: HostRuntime) -> Result<(), Fail> {
     for text in [
         "01:23:45:67:89:ab",
@@ -118,6 +141,40 @@ fn names_are_ordered_by_bytes(rt: HostRuntime) -> Result<(), Fail> {
 }
 
 #[test]
+fn names_of_configurations_are_parsed(rt: HostRuntime) -> Result<(), Fail> {
+    let longest = "!abcdefghijklmnopqrstuvwxyz,01~/";
+    for text in ["!", "~", "region", "Region-1/a,b", longest] {
+        assert_eq!(rt;
+            ConfName::parse(text.as_bytes())?.as_bytes(),
+            text.as_bytes()
+        );
+    }
+    for text in [
+        "",
+        " ",
+        "a b",
+        "a\t",
+        "\u{7f}",
+        "\u{e9}",
+        "!abcdefghijklmnopqrstuvwxyz,01~/.",
+    ] {
+        assert!(rt; ConfName::parse(text.as_bytes()).is_err(), "at {text}");
+    }
+    Ok(())
+}
+
+#[test]
+fn a_bridge_names_its_configuration(rt: HostRuntime) -> Result<(), Fail> {
+    let name = ConfName::of_mac(parse_mac(b"02-00-0A-bc-00-1F")?);
+    let mut out = Vec::new(rt.alloc());
+    name.push_text(&mut out)?;
+    assert_eq!(rt; out.as_slice(), b"02:00:0a:bc:00:1f".as_slice());
+    assert!(rt; name == ConfName::parse(b"02:00:0a:bc:00:1f")?);
+    assert!(rt; name != ConfName::parse(b"02:00:0a:bc:00:1e")?);
+    Ok(())
+}
+
+#[test]
 fn texts_are_appended(rt: HostRuntime) -> Result<(), Fail> {
     let mac = parse_mac(b"02:00:00:00:00:01")?;
     let priority = Priority::new(u64::from(Priority::DEFAULT)).ok_or("priority")?;
@@ -161,5 +218,80 @@ fn numbers_and_names_are_appended(rt: HostRuntime) -> Result<(), Fail> {
         out.as_slice(),
         b"sw1 4095 4094 200000000 0 18446744073709551615".as_slice()
     );
+    Ok(())
+}
+
+#[test]
+fn lists_of_vids_are_parsed(rt: HostRuntime) -> Result<(), Fail> {
+    for (list, text) in [
+        ("1", "1"),
+        ("4094", "4094"),
+        ("0000000012", "12"),
+        ("10-12", "10-12"),
+        ("7-7", "7"),
+        ("1,2,3", "1-3"),
+        ("30,20,10", "10,20,30"),
+        ("100-200,150-250,400", "100-250,400"),
+        ("5,5,4-6", "4-6"),
+        ("1-2,4-5", "1-2,4-5"),
+        ("63-64,127,129", "63-64,127,129"),
+        ("1-4094", "1-4094"),
+        ("2-4094,1", "1-4094"),
+    ] {
+        let mut out = Vec::new(rt.alloc());
+        parse_vids(list.as_bytes())?.push_text(&mut out)?;
+        assert_eq!(rt; out.as_slice(), text.as_bytes(), "at {list}");
+    }
+    for list in [
+        "",
+        ",",
+        "1,",
+        ",1",
+        "1,,2",
+        "-",
+        "1-",
+        "-1",
+        "5-3",
+        "1-2-3",
+        "0",
+        "0-5",
+        "4095",
+        "1-4095",
+        "00000000001",
+        "1 ",
+        "1, 2",
+        "+1",
+        "a",
+        "0x1",
+        "1--2",
+    ] {
+        assert!(rt; parse_vids(list.as_bytes()) == Err(BadText), "at {list}");
+    }
+    Ok(())
+}
+
+#[test]
+fn sets_of_vids_have_their_members(rt: HostRuntime) -> Result<(), Fail> {
+    let vids = parse_vids(b"1,63-65,4094")?;
+    for vid in [
+        0, 1, 2, 62, 63, 64, 65, 66, 4093, 4094, 4095, 4096, 4097, 65535,
+    ] {
+        let is_member = matches!(vid, 1 | 63..=65 | 4094);
+        assert_eq!(rt; vids.contains(vid), is_member, "at {vid}");
+        assert_eq!(rt;
+            VidSet::all().contains(vid),
+            (1..4095).contains(&vid),
+            "at {vid}"
+        );
+        assert!(rt; !VidSet::none().contains(vid), "at {vid}");
+    }
+    assert!(rt; vids == parse_vids(b"4094,65,64,63,1")?);
+    assert!(rt; vids != parse_vids(b"1,63-65")?);
+    assert!(rt; VidSet::all() == parse_vids(b"1-4094")?);
+    assert!(rt; VidSet::none().is_empty() && !vids.is_empty());
+    let mut out = Vec::new(rt.alloc());
+    VidSet::none().push_text(&mut out)?;
+    VidSet::all().push_text(&mut out)?;
+    assert_eq!(rt; out.as_slice(), b"-1-4094".as_slice());
     Ok(())
 }
