@@ -7,14 +7,14 @@ use Rattle.std.proofs.lemmas.Bool.{eqb-false}
 use Rattle.std.proofs.lemmas.Result.{IfOk-at_ok}
 use Rattle.mst_ids.specs.Texts.{is_name, mac_value}
 use Rattle.mst_lang.specs.Words.{words, is_plain}
-use Rattle.mst_lang.specs.Arguments.{is_text, number_value, one_of, two_of, three_of, cost_of, with_number, with_name, with_mac, with_one}
+use Rattle.mst_lang.specs.Arguments.{is_text, number_value, one_of, two_of, three_of, four_of, cost_of, with_number, with_name, with_mac, with_one}
 use Rattle.mst_lang.specs.Ranges.{InRange}
 use Rattle.mst_lang.specs.Reading.{command_of, says, is_comment, worded, reading}
 use Rattle.mst_lang.specs.declared.line.Edit.{Edit}
 use Rattle.mst_lang.specs.declared.line.Line.{Line}
 use Rattle.mst_lang.specs.declared.line.Line.TheVariants.{Edit as edit}
 use Rattle.mst_lang.specs.declared.line.Command.{Command}
-use Rattle.mst_lang.specs.declared.line.Command.TheVariants.{AddBridge, Bridge, Kind as KindOf, AddPort, AddLan, Lan, Plug, Unplug, SetTreePrio, SetPortPathCost, ShowTree}
+use Rattle.mst_lang.specs.declared.line.Command.TheVariants.{AddBridge, Bridge, Kind as KindOf, AddPort, AddLan, Lan, Speed as SpeedOf, Plug, Unplug, SetTreePrio, SetTreePortPrio, SetPortPathCost, SetTreePortCost, SetMaxHops, SetMaxAge, ShowTree}
 use Rattle.mst_lang.specs.declared.line.Fault.{Fault}
 use Rattle.mst_lang.specs.declared.line.Fault.TheVariants.{E01, E02, E03}
 use Rattle.mst_lang.proofs.MacLemmas.{between, mac_fits}
@@ -94,6 +94,9 @@ two_fit arguments f h = made_of (λ _. ⊤) f (two_of arguments) E01 (any_value 
 three_fit : (arguments : List (List ℕ)) (f : List ℕ × List ℕ × List ℕ → Result Line Fault) → ((a b c : List ℕ) → Fits (f (a, b, c))) → Fits (option_map_or f (three_of arguments) (Err E01))
 three_fit arguments f h = made_of (λ _. ⊤) f (three_of arguments) E01 (any_value _) (λ p _. h p.0 p.1 p.2)
 
+four_fit : (arguments : List (List ℕ)) (f : List ℕ × List ℕ × List ℕ × List ℕ → Result Line Fault) → ((a b c d : List ℕ) → Fits (f (a, b, c, d))) → Fits (option_map_or f (four_of arguments) (Err E01))
+four_fit arguments f h = made_of (λ _. ⊤) f (four_of arguments) E01 (any_value _) (λ p _. h p.0 p.1 p.2 p.3)
+
 -- ---- each command
 says_fits : (command : Command) (arguments : List (List ℕ)) → Fits (says command arguments)
 says_fits AddBridge arguments = two_fit arguments _ (λ b m. name_fits b _ (address_fits m _ (λ mac fits. fits)))
@@ -102,10 +105,15 @@ says_fits KindOf arguments = two_fit arguments _ (λ b k. name_fits b _ (choice_
 says_fits AddPort arguments = two_fit arguments _ (λ b p. name_fits b _ (number_fits 1 4095 E02 p _ (λ n within. within)))
 says_fits AddLan arguments = one_fits arguments _ (λ l. name_fits l _ tt)
 says_fits Lan arguments = two_fit arguments _ (λ l u. name_fits l _ (choice_fits u (codes "up") (codes "down") _ _ tt tt))
+says_fits SpeedOf arguments = two_fit arguments _ (λ l k. name_fits l _ (number_fits 1 9_999_999_999 E02 k _ (λ n within. within)))
 says_fits Plug arguments = three_fit arguments _ (λ b p l. name_fits b _ (number_fits 1 4095 E02 p _ (λ n _. name_fits l _ tt)))
 says_fits Unplug arguments = two_fit arguments _ (λ b p. name_fits b _ (number_fits 1 4095 E02 p _ (λ n _. tt)))
 says_fits SetTreePrio arguments = three_fit arguments _ (λ b t p. name_fits b _ (number_fits 0 15 E02 p _ (λ n within. number_fits 0 4094 E03 t _ (λ tree _. within.1))))
 says_fits SetPortPathCost arguments = three_fit arguments _ (λ b p c. name_fits b _ (number_fits 1 4095 E02 p _ (λ n _. number_fits 0 200_000_000 E02 c _ (λ cost within. cost_in_range cost within.1))))
+says_fits SetTreePortPrio arguments = four_fit arguments _ (λ b p t q. name_fits b _ (number_fits 1 4095 E02 p _ (λ n _. number_fits 0 15 E02 q _ (λ priority within. number_fits 0 4094 E03 t _ (λ tree _. within.1)))))
+says_fits SetTreePortCost arguments = four_fit arguments _ (λ b p t c. name_fits b _ (number_fits 1 4095 E02 p _ (λ n _. number_fits 0 200_000_000 E02 c _ (λ cost within. number_fits 0 4094 E03 t _ (λ tree _. cost_in_range cost within.1)))))
+says_fits SetMaxHops arguments = two_fit arguments _ (λ b l. name_fits b _ (number_fits 6 40 E02 l _ (λ n within. within)))
+says_fits SetMaxAge arguments = two_fit arguments _ (λ b l. name_fits b _ (number_fits 6 40 E02 l _ (λ n within. within)))
 says_fits ShowTree arguments = one_fits arguments _ (λ t. number_fits 0 4094 E03 t _ (λ n _. tt))
 
 -- ---- each line

@@ -48,6 +48,14 @@ with_port_number = with_number 1 4095 E02
 abbrev pub with_priority : {A : Type 0} → List ℕ → (ℕ → Result A Fault) → Result A Fault
 with_priority = with_number 0 15 E02
 
+-- a speed in kb/s, 1 to 9,999,999,999
+abbrev pub with_speed : {A : Type 0} → List ℕ → (ℕ → Result A Fault) → Result A Fault
+with_speed = with_number 1 9_999_999_999 E02
+
+-- a limit of hops or of age, 6 to 40
+abbrev pub with_limit : {A : Type 0} → List ℕ → (ℕ → Result A Fault) → Result A Fault
+with_limit = with_number 6 40 E02
+
 -- a tree, 0 to 4094
 abbrev pub with_tree : {A : Type 0} → List ℕ → (ℕ → Result A Fault) → Result A Fault
 with_tree = with_number 0 4094 E03
@@ -71,7 +79,7 @@ cost_of n = if n == 0 then None else Some n
 abbrev pub with_cost : {A : Type 0} → List ℕ → (Option ℕ → Result A Fault) → Result A Fault
 with_cost word make = with_number 0 200_000_000 E02 word (λ n. make (cost_of n))
 
--- one, two or three words and no more
+-- one to four words and no more
 abbrev pub one_of : List (List ℕ) → Option (List ℕ)
 one_of (a ∷ []) = Some a
 one_of _ = None
@@ -84,7 +92,11 @@ abbrev pub three_of : List (List ℕ) → Option (List ℕ × List ℕ × List �
 three_of (a ∷ b ∷ c ∷ []) = Some (a, b, c)
 three_of _ = None
 
--- a command with one, two or three arguments
+abbrev pub four_of : List (List ℕ) → Option (List ℕ × List ℕ × List ℕ × List ℕ)
+four_of (a ∷ b ∷ c ∷ d ∷ []) = Some (a, b, c, d)
+four_of _ = None
+
+-- a command with one to four arguments
 abbrev pub with_one : {A : Type 0} → List (List ℕ) → (List ℕ → Result A Fault) → Result A Fault
 with_one arguments make = option_map_or make (one_of arguments) (Err E01)
 
@@ -93,3 +105,6 @@ with_two arguments make = option_map_or (λ p. make p.0 p.1) (two_of arguments) 
 
 abbrev pub with_three : {A : Type 0} → List (List ℕ) → (List ℕ → List ℕ → List ℕ → Result A Fault) → Result A Fault
 with_three arguments make = option_map_or (λ p. make p.0 p.1 p.2) (three_of arguments) (Err E01)
+
+abbrev pub with_four : {A : Type 0} → List (List ℕ) → (List ℕ → List ℕ → List ℕ → List ℕ → Result A Fault) → Result A Fault
+with_four arguments make = option_map_or (λ p. make p.0 p.1 p.2 p.3) (four_of arguments) (Err E01)

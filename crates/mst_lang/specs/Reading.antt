@@ -4,13 +4,13 @@ use Rattle.std.specs.Option.{option_map_or}
 use Rattle.std.specs.List.{list_all}
 use Rattle.mst_ids.specs.declared.name.PortName.{PortName}
 use Rattle.mst_lang.specs.Words.{words, is_plain}
-use Rattle.mst_lang.specs.Arguments.{is_text, with_one, with_two, with_three, with_name, with_mac, with_kind, with_power, with_lan_state, with_port_number, with_priority, with_cost, with_tree}
+use Rattle.mst_lang.specs.Arguments.{is_text, with_one, with_two, with_three, with_four, with_name, with_mac, with_kind, with_power, with_lan_state, with_port_number, with_priority, with_cost, with_speed, with_limit, with_tree}
 use Rattle.mst_lang.specs.declared.line.Line.{Line}
 use Rattle.mst_lang.specs.declared.line.Line.TheVariants.{Blank, Query as query, Edit as edit}
 use Rattle.mst_lang.specs.declared.line.Edit.TheVariants as edits
 use Rattle.mst_lang.specs.declared.line.Query.TheVariants as queries
 use Rattle.mst_lang.specs.declared.line.Command.{Command}
-use Rattle.mst_lang.specs.declared.line.Command.TheVariants.{AddBridge, Bridge, Kind, AddPort, AddLan, Lan, Plug, Unplug, SetTreePrio, SetPortPathCost, ShowTree}
+use Rattle.mst_lang.specs.declared.line.Command.TheVariants.{AddBridge, Bridge, Kind, AddPort, AddLan, Lan, Speed, Plug, Unplug, SetTreePrio, SetTreePortPrio, SetPortPathCost, SetTreePortCost, SetMaxHops, SetMaxAge, ShowTree}
 use Rattle.mst_lang.specs.declared.line.Fault.{Fault}
 use Rattle.mst_lang.specs.declared.line.Fault.TheVariants.{E01}
 
@@ -23,12 +23,17 @@ command_of word =
     else (if is_text word (codes "addport") then Some AddPort
     else (if is_text word (codes "addlan") then Some AddLan
     else (if is_text word (codes "lan") then Some Lan
+    else (if is_text word (codes "speed") then Some Speed
     else (if is_text word (codes "plug") then Some Plug
     else (if is_text word (codes "unplug") then Some Unplug
     else (if is_text word (codes "settreeprio") then Some SetTreePrio
+    else (if is_text word (codes "settreeportprio") then Some SetTreePortPrio
     else (if is_text word (codes "setportpathcost") then Some SetPortPathCost
+    else (if is_text word (codes "settreeportcost") then Some SetTreePortCost
+    else (if is_text word (codes "setmaxhops") then Some SetMaxHops
+    else (if is_text word (codes "setmaxage") then Some SetMaxAge
     else (if is_text word (codes "showtree") then Some ShowTree
-    else None))))))))))
+    else None)))))))))))))))
 
 abbrev pub port_name : List ℕ → ℕ → PortName
 port_name bridge number = record { bridge = bridge; number = number }
@@ -42,13 +47,20 @@ says Kind arguments = with_two arguments (λ b k. with_name b (λ bridge. with_k
 says AddPort arguments = with_two arguments (λ b p. with_name b (λ bridge. with_port_number p (λ number. Ok (edit (edits.AddPort (port_name bridge number))))))
 says AddLan arguments = with_one arguments (λ l. with_name l (λ lan. Ok (edit (edits.AddLan lan))))
 says Lan arguments = with_two arguments (λ l u. with_name l (λ lan. with_lan_state u (λ state. Ok (edit (edits.SetLanState lan state)))))
+says Speed arguments = with_two arguments (λ l k. with_name l (λ lan. with_speed k (λ speed. Ok (edit (edits.SetSpeed lan speed)))))
 says Plug arguments = with_three arguments (λ b p l. with_name b (λ bridge. with_port_number p (λ number. with_name l (λ lan.
     Ok (edit (edits.Plug (port_name bridge number) lan))))))
 says Unplug arguments = with_two arguments (λ b p. with_name b (λ bridge. with_port_number p (λ number. Ok (edit (edits.Unplug (port_name bridge number))))))
 says SetTreePrio arguments = with_three arguments (λ b t p. with_name b (λ bridge. with_priority p (λ priority. with_tree t (λ tree.
     Ok (edit (edits.SetTreePriority bridge tree priority))))))
+says SetTreePortPrio arguments = with_four arguments (λ b p t q. with_name b (λ bridge. with_port_number p (λ number. with_priority q (λ priority. with_tree t (λ tree.
+    Ok (edit (edits.SetTreePortPriority (port_name bridge number) tree priority)))))))
 says SetPortPathCost arguments = with_three arguments (λ b p c. with_name b (λ bridge. with_port_number p (λ number. with_cost c (λ cost.
     Ok (edit (edits.SetPortPathCost (port_name bridge number) cost))))))
+says SetTreePortCost arguments = with_four arguments (λ b p t c. with_name b (λ bridge. with_port_number p (λ number. with_cost c (λ cost. with_tree t (λ tree.
+    Ok (edit (edits.SetTreePortCost (port_name bridge number) tree cost)))))))
+says SetMaxHops arguments = with_two arguments (λ b l. with_name b (λ bridge. with_limit l (λ limit. Ok (edit (edits.SetMaxHops bridge limit)))))
+says SetMaxAge arguments = with_two arguments (λ b l. with_name b (λ bridge. with_limit l (λ limit. Ok (edit (edits.SetMaxAge bridge limit)))))
 says ShowTree arguments = with_one arguments (λ t. with_tree t (λ tree. Ok (query (queries.ShowTree tree))))
 
 -- the first byte is `#`

@@ -3,10 +3,10 @@ ghost use Rattle.std.specs.List.{list_all};
 ghost use Rattle.std.specs.Result.{result_ok};
 ghost use Rattle.mst_ids.specs.Texts.{mac_value};
 ghost use Rattle.std.specs.Char.{is_ascii_digit as digit};
-ghost use Rattle.mst_lang.specs.Arguments.{digits_value, number_value, with_name, with_kind, with_power, with_lan_state, with_port_number, with_priority, with_cost, with_tree};
+ghost use Rattle.mst_lang.specs.Arguments.{digits_value, number_value, with_name, with_kind, with_power, with_lan_state, with_port_number, with_priority, with_cost, with_speed, with_limit, with_tree};
 
 use crate::line::{Fault, Kind, LanState, Power};
-use mst_ids::{Cost, Mac, Name, PortNumber, Priority, Tree, parse_mac};
+use mst_ids::{Cost, Limit, Mac, Name, PortNumber, Priority, Speed, Tree, parse_mac};
 
 /// A name of a bridge or a LAN.
 pub(crate) fn name(word: &[u8]) -> Result<Name, Fault>
@@ -90,6 +90,22 @@ pub(crate) fn cost(word: &[u8]) -> Result<Option<Cost>, Fault>
         Some(cost) => Ok(Some(cost)),
         None => Err(Fault::E02),
     }
+}
+
+/// A speed in kb/s.
+pub(crate) fn speed(word: &[u8]) -> Result<Speed, Fault>
+    ensures { result ≡ with_speed word.now Ok }
+{
+    let number = number(word).ok_or(Fault::E02)?;
+    Speed::new(number).ok_or(Fault::E02)
+}
+
+/// A limit of hops or of age.
+pub(crate) fn limit(word: &[u8]) -> Result<Limit, Fault>
+    ensures { result ≡ with_limit word.now Ok }
+{
+    let number = number(word).ok_or(Fault::E02)?;
+    Limit::new(number).ok_or(Fault::E02)
 }
 
 /// A tree.

@@ -1,7 +1,7 @@
 ghost use Rattle.std.specs.Prelude.{◌≡◌};
 ghost use Rattle.mst_lang.specs.Faults.{code_of, text_of};
 
-use mst_ids::{Cost, Mac, Name, PortName, Priority, Tree};
+use mst_ids::{Cost, Limit, Mac, Name, PortName, Priority, Speed, Tree};
 
 /// Which protocol a bridge runs.
 #[derive(Clone, Copy, Debug, PartialEq, Eq)]
@@ -57,6 +57,11 @@ pub enum Edit {
         lan: Name,
         state: LanState,
     },
+    /// The speed of a LAN.
+    SetSpeed {
+        lan: Name,
+        speed: Speed,
+    },
     /// Joins a port to a LAN.
     Plug {
         port: PortName,
@@ -72,10 +77,32 @@ pub enum Edit {
         tree: Tree,
         priority: Priority,
     },
+    /// The priority of a port in a tree.
+    SetTreePortPriority {
+        port: PortName,
+        tree: Tree,
+        priority: Priority,
+    },
     /// The external path cost of a port, or none for the automatic one.
     SetPortPathCost {
         port: PortName,
         cost: Option<Cost>,
+    },
+    /// The internal path cost of a port in a tree, or none for the automatic one.
+    SetTreePortCost {
+        port: PortName,
+        tree: Tree,
+        cost: Option<Cost>,
+    },
+    /// Over how many bridges what a bridge says inside its region may go.
+    SetMaxHops {
+        bridge: Name,
+        limit: Limit,
+    },
+    /// Over how many bridges what a bridge says outside its region may go.
+    SetMaxAge {
+        bridge: Name,
+        limit: Limit,
     },
 }
 
@@ -104,10 +131,15 @@ pub enum Command {
     AddPort,
     AddLan,
     Lan,
+    Speed,
     Plug,
     Unplug,
     SetTreePrio,
+    SetTreePortPrio,
     SetPortPathCost,
+    SetTreePortCost,
+    SetMaxHops,
+    SetMaxAge,
     ShowTree,
 }
 

@@ -2,9 +2,11 @@ ghost use Rattle.std.specs.Prelude.{◌≡◌};
 ghost use Rattle.mst_lang.specs.Reading.{reading, says, command_of};
 ghost use Rattle.mst_lang.specs.Words.{words};
 
-use crate::arguments::{cost, kind, lan_state, mac, name, port_number, power, priority, tree};
+use crate::arguments::{
+    cost, kind, lan_state, limit, mac, name, port_number, power, priority, speed, tree,
+};
 use crate::line::{Command, Edit, Fault, Line, Query};
-use crate::words::{are_plain, next_word, one_word, three_words, two_words};
+use crate::words::{are_plain, four_words, next_word, one_word, three_words, two_words};
 use mst_ids::PortName;
 
 /// The most bytes that a line may have.
@@ -55,14 +57,24 @@ fn command(word: &[u8]) -> Option<Command>
         Some(Command::AddLan)
     } else if word == b"lan".as_slice() {
         Some(Command::Lan)
+    } else if word == b"speed".as_slice() {
+        Some(Command::Speed)
     } else if word == b"plug".as_slice() {
         Some(Command::Plug)
     } else if word == b"unplug".as_slice() {
         Some(Command::Unplug)
     } else if word == b"settreeprio".as_slice() {
         Some(Command::SetTreePrio)
+    } else if word == b"settreeportprio".as_slice() {
+        Some(Command::SetTreePortPrio)
     } else if word == b"setportpathcost".as_slice() {
         Some(Command::SetPortPathCost)
+    } else if word == b"settreeportcost".as_slice() {
+        Some(Command::SetTreePortCost)
+    } else if word == b"setmaxhops".as_slice() {
+        Some(Command::SetMaxHops)
+    } else if word == b"setmaxage".as_slice() {
+        Some(Command::SetMaxAge)
     } else if word == b"showtree".as_slice() {
         Some(Command::ShowTree)
     } else {
@@ -81,10 +93,15 @@ fn read_arguments(command: Command, arguments: &[u8]) -> Result<Line, Fault>
         Command::AddPort => add_port(arguments),
         Command::AddLan => add_lan(arguments),
         Command::Lan => set_lan_state(arguments),
+        Command::Speed => set_speed(arguments),
         Command::Plug => plug(arguments),
         Command::Unplug => unplug(arguments),
         Command::SetTreePrio => set_tree_priority(arguments),
+        Command::SetTreePortPrio => set_tree_port_priority(arguments),
         Command::SetPortPathCost => set_port_path_cost(arguments),
+        Command::SetTreePortCost => set_tree_port_cost(arguments),
+        Command::SetMaxHops => set_max_hops(arguments),
+        Command::SetMaxAge => set_max_age(arguments),
         Command::ShowTree => show_tree(arguments),
     }
 }
@@ -142,6 +159,15 @@ fn set_lan_state(arguments: &[u8]) -> Result<Line, Fault>
     Ok(Line::Edit(Edit::SetLanState { lan, state }))
 }
 
+fn set_speed(arguments: &[u8]) -> Result<Line, Fault>
+    ensures { result ≡ says Command.Speed (words arguments.now) }
+{
+    let (lan, word) = two_words(arguments).ok_or(Fault::E01)?;
+    let lan = name(lan)?;
+    let speed = speed(word)?;
+    Ok(Line::Edit(Edit::SetSpeed { lan, speed }))
+}
+
 fn plug(arguments: &[u8]) -> Result<Line, Fault>
     ensures { result ≡ says Command.Plug (words arguments.now) }
 {
@@ -177,6 +203,22 @@ fn set_tree_priority(arguments: &[u8]) -> Result<Line, Fault>
     }))
 }
 
+fn set_tree_port_priority(arguments: &[u8]) -> Result<Line, Fault>
+    ensures { result ≡ says Command.SetTreePortPrio (words arguments.now) }
+{
+    let (bridge, number, number_of_tree, step) = four_words(arguments).ok_or(Fault::E01)?;
+    let bridge = name(bridge)?;
+    let number = port_number(number)?;
+    let priority = priority(step)?;
+    let tree = tree(number_of_tree)?;
+    let port = PortName { bridge, number };
+    Ok(Line::Edit(Edit::SetTreePortPriority {
+        port,
+        tree,
+        priority,
+    }))
+}
+
 fn set_port_path_cost(arguments: &[u8]) -> Result<Line, Fault>
     ensures { result ≡ says Command.SetPortPathCost (words arguments.now) }
 {
@@ -186,6 +228,36 @@ fn set_port_path_cost(arguments: &[u8]) -> Result<Line, Fault>
     let cost = cost(amount)?;
     let port = PortName { bridge, number };
     Ok(Line::Edit(Edit::SetPortPathCost { port, cost }))
+}
+
+fn set_tree_port_cost(arguments: &[u8]) -> Result<Line, Fault>
+    ensures { result ≡ says Command.SetTreePortCost (words arguments.now) }
+{
+    let (bridge, number, number_of_tree, amount) = four_words(arguments).ok_or(Fault::E01)?;
+    let bridge = name(bridge)?;
+    let number = port_number(number)?;
+    let cost = cost(amount)?;
+    let tree = tree(number_of_tree)?;
+    let port = PortName { bridge, number };
+    Ok(Line::Edit(Edit::SetTreePortCost { port, tree, cost }))
+}
+
+fn set_max_hops(arguments: &[u8]) -> Result<Line, Fault>
+    ensures { result ≡ says Command.SetMaxHops (words arguments.now) }
+{
+    let (bridge, word) = two_words(arguments).ok_or(Fault::E01)?;
+    let bridge = name(bridge)?;
+    let limit = limit(word)?;
+    Ok(Line::Edit(Edit::SetMaxHops { bridge, limit }))
+}
+
+fn set_max_age(arguments: &[u8]) -> Result<Line, Fault>
+    ensures { result ≡ says Command.SetMaxAge (words arguments.now) }
+{
+    let (bridge, word) = two_words(arguments).ok_or(Fault::E01)?;
+    let bridge = name(bridge)?;
+    let limit = limit(word)?;
+    Ok(Line::Edit(Edit::SetMaxAge { bridge, limit }))
 }
 
 fn show_tree(arguments: &[u8]) -> Result<Line, Fault>

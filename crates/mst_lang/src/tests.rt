@@ -1,7 +1,7 @@
 //! The answers are written by hand from the words of the grammar.
 
 use super::*;
-use mst_ids::{Cost, Name, PortName, PortNumber, Priority, Tree, parse_mac};
+use mst_ids::{Cost, Limit, Name, PortName, PortNumber, Priority, Speed, Tree, parse_mac};
 use std::test::Fail;
 
 fn name(text: &str) -> Result<Name, Fail> {
@@ -68,6 +68,114 @@ fn set_automatic_cost(bridge: &str, number: u64) -> Result<Edit, Fail> {
         port: port(bridge, number)?,
         cost: None,
     })
+}
+
+fn set_speed(lan: &str, kbps: u64) -> Result<Edit, Fail> {
+    Ok(Edit::SetSpeed {
+        lan: name(lan)?,
+        speed: Speed::new(kbps).ok_or("speed")?,
+    })
+}
+
+fn limit(value: u64) -> Result<Limit, Fail> {
+    Ok(Limit::new(value).ok_or("limit")?)
+}
+
+fn set_hops(bridge: &str, value: u64) -> Result<Edit, Fail> {
+    Ok(Edit::SetMaxHops {
+        bridge: name(bridge)?,
+        limit: limit(value)?,
+    })
+}
+
+fn set_age(bridge: &str, value: u64) -> Result<Edit, Fail> {
+    Ok(Edit::SetMaxAge {
+        bridge: name(bridge)?,
+        limit: limit(value)?,
+    })
+}
+
+fn set_port_priority(bridge: &str, number: u64, of: u64, step: u64) -> Result<Edit, Fail> {
+    Ok(Edit::SetTreePortPriority {
+        port: port(bridge, number)?,
+        tree: tree(of)?,
+        priority: priority(step)?,
+    })
+}
+
+fn set_tree_cost(bridge: &str, number: u64, of: u64, cost: u64) -> Result<Edit, Fail> {
+    Ok(Edit::SetTreePortCost {
+        port: port(bridge, number)?,
+        tree: tree(of)?,
+        cost: Cost::new(cost),
+    })
+}
+
+#[test]
+fn each_limit_and_speed_is_read(rt: HostRuntime) -> Result<(), Fail> {
+    for (line, edit) in [
+        ("speed L1 1", set_speed("L1", 1)?),
+        ("speed L1 9999999999", set_speed("L1", 9_999_999_999)?),
+        ("speed L1 0000010000", set_speed("L1", 10_000)?),
+        ("setmaxhops sw1 6", set_hops("sw1", 6)?),
+        ("setmaxhops sw1 40", set_hops("sw1", 40)?),
+        ("setmaxage sw1 6", set_age("sw1", 6)?),
+        ("setmaxage sw1 0000000040", set_age("sw1", 40)?),
+    ] {
+        assert!(rt;
+            parse_line(line.as_bytes()) == Ok(Line::Edit(edit)),
+            "at {line}"
+        );
+    }
+    Ok(())
+}
+
+#[test]
+fn each_setting_of_a_port_in_a_tree_is_read(rt: HostRuntime) -> Result<(), Fail> {
+    for (line, edit) in [
+        (
+            "settreeportprio sw1 1 0 0",
+            set_port_priority("sw1", 1, 0, 0)?,
+        ),
+        (
+            "settreeportprio sw1 4095 4094 15",
+            set_port_priority("sw1", 4095, 4094, 15)?,
+        ),
+        ("settreeportcost sw1 1 0 0", set_tree_cost("sw1", 1, 0, 0)?),
+        ("settreeportcost sw1 1 7 1", set_tree_cost("sw1", 1, 7, 1)?),
+        (
+            "settreeportcost sw1 4095 4094 200000000",
+            set_tree_cost("sw1", 4095, 4094, 200_000_000)?,
+        ),
+    ] {
+        assert!(rt;
+            parse_line(line.as_bytes()) == Ok(Line::Edit(edit)),
+            "at {line}"
+        );
+    }
+    Ok(())
+}
+
+#[test]
+fn bad_limits_and_speeds_are_told(rt: HostRuntime) {
+    for line in [
+        "speed L1 0",
+        "speed L1 10000000000",
+        "speed L1 1G",
+        "speed L/1 1",
+        "setmaxhops sw1 5",
+        "setmaxhops sw1 41",
+        "setmaxage sw1 5",
+        "setmaxage sw1 41",
+        "setmaxage - 20",
+        "settreeportprio sw1 0 0 1",
+        "settreeportprio sw1 1 0 16",
+        "settreeportprio sw1 1 4095 16",
+        "settreeportcost sw1 1 4095 200000001",
+        "settreeportcost sw1 4096 4095 1",
+    ] {
+        assert!(rt; parse_line(line.as_bytes()) == Err(Fault::E02), "at {line}");
+    }
 }
 
 #[test]
@@ -233,6 +341,14 @@ fn wrong_numbers_of_words_are_told(rt: HostRuntime) {
         "setportpathcost sw1",
         "setportpathcost sw1 1",
         "setportpathcost sw1 1 0 0",
+        "speed L1",
+        "speed L1 1 1",
+        "setmaxhops sw1",
+        "setmaxage sw1 20 20",
+        "settreeportprio sw1 1 0",
+        "settreeportprio sw1 1 0 8 8",
+        "settreeportcost sw1 1 0",
+        "settreeportcost sw1 1 0 1 1",
     ] {
         assert!(rt; parse_line(line.as_bytes()) == Err(Fault::E01), "at {line}");
     }
@@ -309,6 +425,9 @@ fn bad_trees_are_told(rt: HostRuntime) {
     for line in [
         "settreeprio sw1 4095 15",
         "settreeprio sw1 a 15",
+        "settreeportprio sw1 1 4095 15",
+        "settreeportcost sw1 1 4095 1",
+        "settreeportcost sw1 1 x 0",
         "showtree 4095",
         "showtree 00000000000",
         "showtree 0x1",

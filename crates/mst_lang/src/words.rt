@@ -2,7 +2,7 @@ ghost use Rattle.std.specs.Prelude.{◌≡◌, ℕ, ◌∷◌, [], ◌<◌, leng
 ghost use Rattle.std.specs.Option.{option_map};
 ghost use Rattle.std.specs.List.{list_all};
 ghost use Rattle.mst_lang.specs.Words.{is_blank as blank_byte, is_plain as plain_byte, words};
-ghost use Rattle.mst_lang.specs.Arguments.{one_of, two_of, three_of};
+ghost use Rattle.mst_lang.specs.Arguments.{one_of, two_of, three_of, four_of};
 
 fn is_blank(byte: u8) -> bool
     ensures { result ≡ blank_byte byte }
@@ -87,4 +87,13 @@ pub(crate) fn three_words(text: &[u8]) -> Option<(&[u8], &[u8], &[u8])>
     let (first, rest) = next_word(text)?;
     let (second, third) = two_words(rest)?;
     Some((first, second, third))
+}
+
+/// The four words, if there are four and no more.
+pub(crate) fn four_words(text: &[u8]) -> Option<(&[u8], &[u8], &[u8], &[u8])>
+    ensures { option_map (λ p. (p.0.now, p.1.now, p.2.now, p.3.now)) result ≡ four_of (words text.now) }
+{
+    let (first, rest) = next_word(text)?;
+    let (second, third, fourth) = three_words(rest)?;
+    Some((first, second, third, fourth))
 }

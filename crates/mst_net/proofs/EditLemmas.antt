@@ -6,16 +6,16 @@ use Rattle.std.specs.HashSet as set
 use Rattle.std.specs.Cmp.{unsigned_Decides}
 use Rattle.std.specs.Map.{lookup}
 use Rattle.mst_ids.specs.declared.name.PortName.{PortName}
-use Rattle.mst_lang.specs.declared.line.Edit.TheVariants.{AddBridge, AddPort, AddLan, SetTreePriority}
-use Rattle.mst_net.specs.Tables.{Net, IsNetwork, BridgeRow, PortRow, LanRow, BridgeTree}
-use Rattle.mst_net.specs.After.{mac_taken, new_bridge, new_port, new_lan, with_bridge, with_port, with_lan, with_priority}
+use Rattle.mst_lang.specs.declared.line.Edit.TheVariants.{AddBridge, AddPort, AddLan, SetTreePriority, SetTreePortPriority, SetTreePortCost}
+use Rattle.mst_net.specs.Tables.{Net, IsNetwork, IsLimit, IsPathCost, BridgeRow, PortRow, LanRow, BridgeTree, PortTree}
+use Rattle.mst_net.specs.After.{mac_taken, new_bridge, new_port, new_lan, with_bridge, with_port, with_lan, with_priority, with_port_priority, with_port_cost, own_priority}
 use Rattle.mst_net.specs.Contents.{CanCommit, Commits}
 use Rattle.mst_net.specs.Rows.{IsNumberedBy}
 use Rattle.mst_net.specs.NetworkKept.{contents_of, port_eq, IsSound}
 use Rattle.mst_net.specs.declared.network.Network.TheInside.{Inside}
-use Rattle.mst_net.proofs.Keyed.{contains_keyed, set_keyed, removed_keyed}
-use Rattle.mst_net.proofs.Keys.{name_eq, names, ports, tree_eq, bridge_trees}
-use Rattle.mst_net.proofs.AfterLemmas.{bridge_added, port_added, lan_added, bridge_found, network_with_bridge, taken_with_bridge, network_with_settings, taken_with_settings, network_with_port, network_with_port_settings, network_with_lan, network_with_lan_settings, network_with_priority}
+use Rattle.mst_net.proofs.Keyed.{get_keyed, contains_keyed, set_keyed, keep_keyed}
+use Rattle.mst_net.proofs.Keys.{name_eq, names, ports, tree_eq, bridge_trees, port_tree_eq, port_trees}
+use Rattle.mst_net.proofs.AfterLemmas.{bridge_added, port_added, lan_added, bridge_found, port_found, network_with_bridge, taken_with_bridge, network_with_settings, taken_with_settings, network_with_port, network_with_port_settings, network_with_lan, network_with_lan_settings, network_with_priority, network_with_port_priority, network_with_port_cost}
 
 pub absent : {X : Type 0} (o : Option X) → is_some o ≡ false → o ≡ None
 absent None e = refl
@@ -45,6 +45,8 @@ module _ (a b : Inside) where
       ports = fin.from_entries (others i).ports.rows;
       lans = fin.from_entries (others i).lans.rows;
       priorities = fin.from_entries (others i).priorities.entries;
+      port_priorities = fin.from_entries (others i).port_priorities.entries;
+      port_costs = fin.from_entries (others i).port_costs.entries;
     }
 
     bridges_sound : IsSound a → IsNumberedBy name_eq b.bridges → IsNetwork (with_bridge was bridge row)
@@ -58,9 +60,9 @@ module _ (a b : Inside) where
     }
 
     -- other settings of a bridge
-    pub bridge_set_sound : IsSound a → IsNumberedBy name_eq b.bridges → b.macs ≡ a.macs → (old : BridgeRow) → fin.get was.bridges bridge ≡ Some old → old.mac ≡ row.mac → IsSound b
-    bridge_set_sound s numbered same old there mac =
-        bridges_sound s numbered (network_with_settings was s.network bridge old row there (sym mac))
+    pub bridge_set_sound : IsSound a → IsNumberedBy name_eq b.bridges → b.macs ≡ a.macs → (old : BridgeRow) → fin.get was.bridges bridge ≡ Some old → old.mac ≡ row.mac → IsLimit row.max_hops × IsLimit row.max_age → IsSound b
+    bridge_set_sound s numbered same old there mac limits =
+        bridges_sound s numbered (network_with_settings was s.network bridge old row there (sym mac) limits)
         (λ q. ap (λ m. set.contains nat_eq m q) same ∙ s.macs q ∙ sym (taken_with_settings was s.network bridge old row q there (sym mac)))
 
   -- a new bridge
@@ -95,6 +97,8 @@ module _ (a b : Inside) where
       ports = set_keyed ports a.ports.rows b.ports.rows port row rows i;
       lans = fin.from_entries (others i).lans.rows;
       priorities = fin.from_entries (others i).priorities.entries;
+      port_priorities = fin.from_entries (others i).port_priorities.entries;
+      port_costs = fin.from_entries (others i).port_costs.entries;
     }
 
     ports_sound : IsSound a → IsNumberedBy port_eq b.ports → IsNetwork (with_port was port row) → IsSound b
@@ -108,7 +112,7 @@ module _ (a b : Inside) where
 
     -- other settings of a port
     pub port_set_sound : IsSound a → IsNumberedBy port_eq b.ports → (old : PortRow) → fin.get was.ports port ≡ Some old → ((lan : List ℕ) → row.lan ≡ Some lan → fin.contains_key was.lans lan ≡ true)
-        → ((cost : ℕ) → row.external ≡ Some cost → (1 ≤ cost) × (cost ≤ 200_000_000)) → IsSound b
+        → ((cost : ℕ) → row.external ≡ Some cost → IsPathCost cost) → IsSound b
     port_set_sound s numbered old there lan cost = ports_sound s numbered (network_with_port_settings was s.network port old row there lan cost)
 
   -- a new port
@@ -141,6 +145,8 @@ module _ (a b : Inside) where
       ports = fin.from_entries (others i).ports.rows;
       lans = set_keyed names a.lans.rows b.lans.rows lan row rows i;
       priorities = fin.from_entries (others i).priorities.entries;
+      port_priorities = fin.from_entries (others i).port_priorities.entries;
+      port_costs = fin.from_entries (others i).port_costs.entries;
     }
 
     lans_sound : IsSound a → IsNumberedBy name_eq b.lans → IsNetwork (with_lan was lan row) → IsSound b
@@ -153,8 +159,8 @@ module _ (a b : Inside) where
     }
 
     -- other settings of a LAN
-    pub lan_set_sound : IsSound a → IsNumberedBy name_eq b.lans → (old : LanRow) → fin.get was.lans lan ≡ Some old → old.speed ≡ row.speed → IsSound b
-    lan_set_sound s numbered old there speed = lans_sound s numbered (network_with_lan_settings was s.network lan old row there (sym speed))
+    pub lan_set_sound : IsSound a → IsNumberedBy name_eq b.lans → fin.contains_key was.lans lan ≡ true → (1 ≤ row.speed) × (row.speed ≤ 9_999_999_999) → IsSound b
+    lan_set_sound s numbered there fits = lans_sound s numbered (network_with_lan_settings was s.network lan row there fits)
 
   -- a new LAN
   module _ (lan : List ℕ) (can : CanCommit (AddLan lan) (contents_of a)) where
@@ -177,20 +183,21 @@ module _ (a b : Inside) where
       pub lan_sound : IsSound a → IsNumberedBy name_eq b.lans → IsSound b
       lan_sound s numbered = lans_sound lan new_lan others rows s numbered (network_with_lan was s.network lan can.accepted)
 
-  -- ---- a priority
-  module _ (bridge : List ℕ) (tree priority : ℕ) (can : CanCommit (SetTreePriority bridge tree priority) (contents_of a))
-      (others : record b { priorities = a.priorities } ≡ a)
-      (set_there : (contents_of b).net.priorities ≡ (with_priority was (record { bridge = bridge; tree = tree }) priority).priorities) where
+  -- ---- what is set by tree
+  module _ (bridge : List ℕ) (tree priority : ℕ) (can : CanCommit (SetTreePriority bridge tree priority) (contents_of a)) (others : record b { priorities = a.priorities } ≡ a)
+      (entries : (q : BridgeTree) → lookup (tree_eq q) b.priorities.entries ≡ cond (tree_eq (record { bridge = bridge; tree = tree }) q) (own_priority priority) (lookup (tree_eq q) a.priorities.entries)) where
     net_with_priority : (contents_of b).net ≡ with_priority was (record { bridge = bridge; tree = tree }) priority
     net_with_priority i = record {
       bridges = fin.from_entries (others i).bridges.rows;
       ports = fin.from_entries (others i).ports.rows;
       lans = fin.from_entries (others i).lans.rows;
-      priorities = set_there i;
+      priorities = keep_keyed bridge_trees a.priorities.entries b.priorities.entries (record { bridge = bridge; tree = tree }) (own_priority priority) entries i;
+      port_priorities = fin.from_entries (others i).port_priorities.entries;
+      port_costs = fin.from_entries (others i).port_costs.entries;
     }
 
-    bridge_there : (row : BridgeRow) × (fin.get was.bridges bridge ≡ Some row)
-    bridge_there = let f = bridge_found bridge was (λ row. Ok (with_priority was (record { bridge = bridge; tree = tree }) priority)) can.accepted in (f.0, f.1)
+    priority_there : (row : BridgeRow) × (fin.get was.bridges bridge ≡ Some row)
+    priority_there = let f = bridge_found bridge was (λ row. Ok (with_priority was (record { bridge = bridge; tree = tree }) priority)) can.accepted in (f.0, f.1)
 
     pub priority_commits : Commits (SetTreePriority bridge tree priority) (contents_of a) (contents_of b)
     priority_commits = record {
@@ -204,22 +211,77 @@ module _ (a b : Inside) where
 
     pub priority_sound : IsSound a → priority ≤ 15 → IsSound b
     priority_sound s fits = record {
-      network = subst IsNetwork (sym net_with_priority) (network_with_priority was s.network bridge tree priority fits (ap is_some bridge_there.1));
+      network = subst IsNetwork (sym net_with_priority) (network_with_priority was s.network (record { bridge = bridge; tree = tree }) priority fits (ap is_some priority_there.1));
       bridges = subst (λ (x : Inside). IsNumberedBy name_eq x.bridges) (sym others) s.bridges;
       ports = subst (λ (x : Inside). IsNumberedBy port_eq x.ports) (sym others) s.ports;
       lans = subst (λ (x : Inside). IsNumberedBy name_eq x.lans) (sym others) s.lans;
       macs = λ q. ap (λ (x : Inside). set.contains nat_eq x.macs q) others ∙ s.macs q ∙ ap (mac_taken q) (sym net_with_priority);
     }
 
-  -- the priority is set in the table, or taken out at the default
-  pub priority_put : (key : BridgeTree) (priority : ℕ) → nat_eq priority 8 ≡ false
-      → ((q : BridgeTree) → lookup (tree_eq q) b.priorities.entries ≡ cond (tree_eq key q) (Some priority) (lookup (tree_eq q) a.priorities.entries))
-      → (contents_of b).net.priorities ≡ (with_priority was key priority).priorities
-  priority_put key priority other entries = set_keyed bridge_trees a.priorities.entries b.priorities.entries key priority entries
-      ∙ ap (λ t. if t then fin.remove was.priorities key else fin.insert was.priorities key priority) (sym other)
+  module _ (port : PortName) (tree priority : ℕ) (can : CanCommit (SetTreePortPriority port tree priority) (contents_of a)) (others : record b { port_priorities = a.port_priorities } ≡ a)
+      (entries : (q : PortTree) → lookup (port_tree_eq q) b.port_priorities.entries ≡ cond (port_tree_eq (record { port = port; tree = tree }) q) (own_priority priority) (lookup (port_tree_eq q) a.port_priorities.entries)) where
+    net_with_port_priority : (contents_of b).net ≡ with_port_priority was (record { port = port; tree = tree }) priority
+    net_with_port_priority i = record {
+      bridges = fin.from_entries (others i).bridges.rows;
+      ports = fin.from_entries (others i).ports.rows;
+      lans = fin.from_entries (others i).lans.rows;
+      priorities = fin.from_entries (others i).priorities.entries;
+      port_priorities = keep_keyed port_trees a.port_priorities.entries b.port_priorities.entries (record { port = port; tree = tree }) (own_priority priority) entries i;
+      port_costs = fin.from_entries (others i).port_costs.entries;
+    }
 
-  pub priority_removed : (key : BridgeTree) (priority : ℕ) → nat_eq priority 8 ≡ true
-      → ((q : BridgeTree) → lookup (tree_eq q) b.priorities.entries ≡ cond (tree_eq key q) None (lookup (tree_eq q) a.priorities.entries))
-      → (contents_of b).net.priorities ≡ (with_priority was key priority).priorities
-  priority_removed key priority default entries = removed_keyed bridge_trees a.priorities.entries b.priorities.entries key entries
-      ∙ ap (λ t. if t then fin.remove was.priorities key else fin.insert was.priorities key priority) (sym default)
+    port_priority_there : (row : PortRow) × (fin.get was.ports port ≡ Some row)
+    port_priority_there = let f = port_found port was (λ row. Ok (with_port_priority was (record { port = port; tree = tree }) priority)) can.accepted in (f.0, f.1)
+
+    pub port_priority_commits : Commits (SetTreePortPriority port tree priority) (contents_of a) (contents_of b)
+    port_priority_commits = record {
+      net = (port_found port was (λ row. Ok (with_port_priority was (record { port = port; tree = tree }) priority)) can.accepted).3 ∙ ap Ok (sym net_with_port_priority);
+      numbers = λ i. record {
+        bridges = fin.from_entries (others i).bridges.numbers;
+        ports = fin.from_entries (others i).ports.numbers;
+        lans = fin.from_entries (others i).lans.numbers;
+      };
+    }
+
+    pub port_priority_sound : IsSound a → priority ≤ 15 → IsSound b
+    port_priority_sound s fits = record {
+      network = subst IsNetwork (sym net_with_port_priority) (network_with_port_priority was s.network (record { port = port; tree = tree }) priority fits (ap is_some port_priority_there.1));
+      bridges = subst (λ (x : Inside). IsNumberedBy name_eq x.bridges) (sym others) s.bridges;
+      ports = subst (λ (x : Inside). IsNumberedBy port_eq x.ports) (sym others) s.ports;
+      lans = subst (λ (x : Inside). IsNumberedBy name_eq x.lans) (sym others) s.lans;
+      macs = λ q. ap (λ (x : Inside). set.contains nat_eq x.macs q) others ∙ s.macs q ∙ ap (mac_taken q) (sym net_with_port_priority);
+    }
+
+  module _ (port : PortName) (tree : ℕ) (cost : Option ℕ) (can : CanCommit (SetTreePortCost port tree cost) (contents_of a)) (others : record b { port_costs = a.port_costs } ≡ a)
+      (entries : (q : PortTree) → lookup (port_tree_eq q) b.port_costs.entries ≡ cond (port_tree_eq (record { port = port; tree = tree }) q) (cost) (lookup (port_tree_eq q) a.port_costs.entries)) where
+    net_with_port_cost : (contents_of b).net ≡ with_port_cost was (record { port = port; tree = tree }) cost
+    net_with_port_cost i = record {
+      bridges = fin.from_entries (others i).bridges.rows;
+      ports = fin.from_entries (others i).ports.rows;
+      lans = fin.from_entries (others i).lans.rows;
+      priorities = fin.from_entries (others i).priorities.entries;
+      port_priorities = fin.from_entries (others i).port_priorities.entries;
+      port_costs = keep_keyed port_trees a.port_costs.entries b.port_costs.entries (record { port = port; tree = tree }) (cost) entries i;
+    }
+
+    port_cost_there : (row : PortRow) × (fin.get was.ports port ≡ Some row)
+    port_cost_there = let f = port_found port was (λ row. Ok (with_port_cost was (record { port = port; tree = tree }) cost)) can.accepted in (f.0, f.1)
+
+    pub port_cost_commits : Commits (SetTreePortCost port tree cost) (contents_of a) (contents_of b)
+    port_cost_commits = record {
+      net = (port_found port was (λ row. Ok (with_port_cost was (record { port = port; tree = tree }) cost)) can.accepted).3 ∙ ap Ok (sym net_with_port_cost);
+      numbers = λ i. record {
+        bridges = fin.from_entries (others i).bridges.numbers;
+        ports = fin.from_entries (others i).ports.numbers;
+        lans = fin.from_entries (others i).lans.numbers;
+      };
+    }
+
+    pub port_cost_sound : IsSound a → ((c : ℕ) → cost ≡ Some c → IsPathCost c) → IsSound b
+    port_cost_sound s fits = record {
+      network = subst IsNetwork (sym net_with_port_cost) (network_with_port_cost was s.network (record { port = port; tree = tree }) cost fits (ap is_some port_cost_there.1));
+      bridges = subst (λ (x : Inside). IsNumberedBy name_eq x.bridges) (sym others) s.bridges;
+      ports = subst (λ (x : Inside). IsNumberedBy port_eq x.ports) (sym others) s.ports;
+      lans = subst (λ (x : Inside). IsNumberedBy name_eq x.lans) (sym others) s.lans;
+      macs = λ q. ap (λ (x : Inside). set.contains nat_eq x.macs q) others ∙ s.macs q ∙ ap (mac_taken q) (sym net_with_port_cost);
+    }

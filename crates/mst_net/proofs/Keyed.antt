@@ -9,6 +9,7 @@ use Rattle.std.specs.Ordering.{eq_by_cmp, is_eq}
 use Rattle.std.specs.declared.cmp.Ordering.{Ordering}
 use Rattle.std.specs.declared.cmp.Ordering.TheVariants.{Less, Equal, Greater}
 use Rattle.std.specs.Map.{lookup, keys_of, values_of}
+use Rattle.mst_net.specs.After.{keep}
 use Rattle.mst_net.proofs.KeptLemmas.{some_is, no_some}
 
 -- the order tells keys apart, and the test of keys says when they tie
@@ -163,3 +164,18 @@ module _ {K X : Type 0} {E : K → K → Bool} {R : K → K → Ordering} (keyed
 
   pub any_value : (P : X → Bool) (m : FinMap R X) (k : K) (x : X) → fin.get m k ≡ Some x → P x ≡ true → list_any P (fin.values m) ≡ true
   any_value P m k x there passes = any_found P k x (entries m) (sym (get-entries m k) ∙ there) passes
+
+-- a table with a value under a key, or with none
+module _ {K X : Type 0} {E : K → K → Bool} {R : K → K → Ordering} (keyed : IsKeyed E R) where
+  pub keep_keyed : (es fs : List (K × X)) (k : K) (o : Option X) → ((q : K) → lookup (E q) fs ≡ cond (E k q) o (lookup (E q) es))
+      → from_entries {R = R} fs ≡ keep (from_entries {R = R} es) k o
+  keep_keyed es fs k None h = removed_keyed keyed es fs k h
+  keep_keyed es fs k (Some x) h = set_keyed keyed es fs k x h
+
+  pub get_kept : (m : FinMap R X) (k : K) (o : Option X) (q : K) → fin.get (keep m k o) q ≡ cond (E k q) o (fin.get m q)
+  get_kept m k None q = get_removed keyed m k q
+  get_kept m k (Some x) q = get_inserted keyed m k x q
+
+  pub after_keep : (m : FinMap R X) (k : K) (o : Option X) (q : K) (x : X) → fin.get (keep m k o) q ≡ Some x → ((k ≡ q) × (o ≡ Some x)) ⊎ (fin.get m q ≡ Some x)
+  after_keep m k None q x h = inr (after_remove keyed m k q x h)
+  after_keep m k (Some v) q x h = elim (after_insert keyed m k v q x h) [ inl p ↦ inl (p.0, ap Some p.1) | inr p ↦ inr p ]

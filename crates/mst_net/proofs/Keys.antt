@@ -7,7 +7,7 @@ use Rattle.std.specs.Ordering.{nat_cmp}
 use Rattle.std.proofs.lemmas.Map.Lookups.{exact_pairs, exact_unsigned}
 use Rattle.mst_ids.specs.Names.{name_cmp, port_cmp}
 use Rattle.mst_ids.specs.declared.name.PortName.{PortName}
-use Rattle.mst_net.specs.Tables.{BridgeTree, bridge_tree_cmp}
+use Rattle.mst_net.specs.Tables.{BridgeTree, PortTree, bridge_tree_cmp, port_tree_cmp}
 use Rattle.mst_net.specs.NetworkKept.{port_eq}
 use Rattle.mst_net.proofs.Keyed.{IsKeyed}
 
@@ -35,4 +35,14 @@ bridge_trees = record {
   total = then_total (on_total (λ (k : BridgeTree). k.bridge) nat_list_cmp_total) (on_total (λ (k : BridgeTree). k.tree) nat_cmp_total);
   same = λ p q h. ap (λ (x : List ℕ × ℕ). record { bridge = x.0; tree = x.1 }) (exact_pairs name_cmp nat_cmp exact_names exact_unsigned (p.bridge, p.tree) (q.bridge, q.tree) h);
   ties = λ p q. both_tied _ _ _ _ (texts_ties p.bridge q.bridge) (unsigned_ties p.tree q.tree);
+}
+
+abbrev pub port_tree_eq : PortTree → PortTree → Bool
+port_tree_eq a b = port_eq a.port b.port && nat_eq a.tree b.tree
+
+pub port_trees : IsKeyed port_tree_eq port_tree_cmp
+port_trees = record {
+  total = then_total (on_total (λ (k : PortTree). k.port) ports.total) (on_total (λ (k : PortTree). k.tree) nat_cmp_total);
+  same = λ p q h. ap (λ (x : PortName × ℕ). record { port = x.0; tree = x.1 }) (exact_pairs port_cmp nat_cmp ports.same exact_unsigned (p.port, p.tree) (q.port, q.tree) h);
+  ties = λ p q. both_tied _ _ _ _ (ports.ties p.port q.port) (unsigned_ties p.tree q.tree);
 }

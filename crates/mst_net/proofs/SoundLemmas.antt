@@ -24,14 +24,16 @@ none_taken mac =
     let none : fin.FinMap name_cmp BridgeRow = fin.empty in
     ap (λ l. list_any (λ (b : BridgeRow). nat_eq b.mac mac) (values_of l)) (no_length (entries none) (sym (len-entries none) ∙ len-empty name_cmp BridgeRow))
 
-pub empty_sound : (a : Inside) → a.bridges.rows ≡ [] → a.ports.rows ≡ [] → a.lans.rows ≡ [] → a.macs.keys ≡ [] → a.priorities.entries ≡ []
+pub empty_sound : (a : Inside) → a.bridges.rows ≡ [] → a.ports.rows ≡ [] → a.lans.rows ≡ [] → a.macs.keys ≡ [] → a.priorities.entries ≡ [] → a.port_priorities.entries ≡ [] → a.port_costs.entries ≡ []
     → IsNumberedBy name_eq a.bridges → IsNumberedBy port_eq a.ports → IsNumberedBy name_eq a.lans → IsSound a
-empty_sound a bridges ports lans macs priorities x y z =
+empty_sound a bridges ports lans macs priorities port_priorities port_costs x y z =
     let net : empty_net ≡ (contents_of a).net = λ i. record {
       bridges = fin.from_entries (sym bridges i);
       ports = fin.from_entries (sym ports i);
       lans = fin.from_entries (sym lans i);
       priorities = fin.from_entries (sym priorities i);
+      port_priorities = fin.from_entries (sym port_priorities i);
+      port_costs = fin.from_entries (sym port_costs i);
     } in
     record {
       network = subst IsNetwork net no_network;

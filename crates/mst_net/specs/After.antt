@@ -3,8 +3,9 @@ use Rattle.std.specs.Prelude.{ℕ, ◌==◌, Bool, true, false, not, List, Optio
 use Rattle.std.specs.List.{list_any}
 use Rattle.std.specs.Option.{option_map_or}
 use Rattle.std.specs.FinMap as fin
+use Rattle.std.specs.declared.cmp.Ordering.{Ordering}
 use Rattle.mst_lang.specs.declared.line.Edit.{Edit}
-use Rattle.mst_lang.specs.declared.line.Edit.TheVariants.{AddBridge, SetPower, SetKind, AddPort, AddLan, SetLanState, Plug, Unplug, SetTreePriority, SetPortPathCost}
+use Rattle.mst_lang.specs.declared.line.Edit.TheVariants.{AddBridge, SetPower, SetKind, AddPort, AddLan, SetLanState, SetSpeed, Plug, Unplug, SetTreePriority, SetTreePortPriority, SetPortPathCost, SetTreePortCost, SetMaxHops, SetMaxAge}
 use Rattle.mst_lang.specs.declared.line.Kind.{Kind}
 use Rattle.mst_lang.specs.declared.line.Kind.TheVariants.{Mstp, Rstp}
 use Rattle.mst_lang.specs.declared.line.Power.{Power}
@@ -14,7 +15,7 @@ use Rattle.mst_lang.specs.declared.line.LanState.TheVariants.{Up, Down}
 use Rattle.mst_net.specs.declared.refusal.Refusal.{Refusal}
 use Rattle.mst_net.specs.declared.refusal.Refusal.TheVariants.{E04, E05, E06, E07, E08, E09, E10, E11, E14}
 use Rattle.mst_ids.specs.declared.name.PortName.{PortName}
-use Rattle.mst_net.specs.Tables.{Net, BridgeRow, PortRow, LanRow, BridgeTree}
+use Rattle.mst_net.specs.Tables.{Net, BridgeRow, PortRow, LanRow, BridgeTree, PortTree}
 
 -- some bridge has this MAC
 abbrev pub mac_taken : ℕ → Net → Bool
@@ -32,9 +33,9 @@ abbrev pub is_up : LanState → Bool
 is_up Up = true
 is_up Down = false
 
--- a new bridge is on and of kind mstp
+-- a new bridge is on and of kind mstp, and has Max Hops 20 and Max Age 20
 abbrev pub new_bridge : ℕ → BridgeRow
-new_bridge mac = record { mac = mac; is_rstp = false; is_on = true }
+new_bridge mac = record { mac = mac; is_rstp = false; is_on = true; max_hops = 20; max_age = 20 }
 
 -- a new port is in no LAN, and its cost is automatic
 abbrev pub new_port : PortRow
@@ -50,6 +51,15 @@ with_kind kind row = record row { is_rstp = is_rstp kind }
 
 abbrev pub with_power : Power → BridgeRow → BridgeRow
 with_power power row = record row { is_on = is_on power }
+
+abbrev pub with_max_hops : ℕ → BridgeRow → BridgeRow
+with_max_hops limit row = record row { max_hops = limit }
+
+abbrev pub with_max_age : ℕ → BridgeRow → BridgeRow
+with_max_age limit row = record row { max_age = limit }
+
+abbrev pub with_speed : ℕ → LanRow → LanRow
+with_speed speed row = record row { speed = speed }
 
 abbrev pub with_state : LanState → LanRow → LanRow
 with_state state row = record row { is_up = is_up state }
@@ -70,10 +80,24 @@ with_port net port row = record net { ports = fin.insert net.ports port row }
 abbrev pub with_lan : Net → List ℕ → LanRow → Net
 with_lan net lan row = record net { lans = fin.insert net.lans lan row }
 
--- and with this priority of a bridge in a tree; at 8, the default, none is kept
+-- a table with a value under a key, or with none
+abbrev pub keep : {K X : Type 0} {R : K → K → Ordering} → fin.FinMap R X → K → Option X → fin.FinMap R X
+keep table k None = fin.remove table k
+keep table k (Some x) = fin.insert table k x
+
+-- what is kept of a priority: nothing at 8, the default
+abbrev pub own_priority : ℕ → Option ℕ
+own_priority priority = if priority == 8 then None else Some priority
+
+-- the network with this priority of a bridge, of a port, or this internal cost of a port, or none, in a tree
 abbrev pub with_priority : Net → BridgeTree → ℕ → Net
-with_priority net k priority =
-    record net { priorities = if priority == 8 then fin.remove net.priorities k else fin.insert net.priorities k priority }
+with_priority net k priority = record net { priorities = keep net.priorities k (own_priority priority) }
+
+abbrev pub with_port_priority : Net → PortTree → ℕ → Net
+with_port_priority net k priority = record net { port_priorities = keep net.port_priorities k (own_priority priority) }
+
+abbrev pub with_port_cost : Net → PortTree → Option ℕ → Net
+with_port_cost net k cost = record net { port_costs = keep net.port_costs k cost }
 
 -- an edit of a bridge, a LAN or a port that has to be there
 abbrev pub at_bridge : List ℕ → Net → (BridgeRow → Result Net Refusal) → Result Net Refusal
@@ -114,6 +138,15 @@ after_set_kind bridge kind net = at_bridge bridge net (λ row. Ok (with_bridge n
 abbrev pub after_set_lan_state : List ℕ → LanState → Net → Result Net Refusal
 after_set_lan_state lan state net = at_lan lan net (λ row. Ok (with_lan net lan (with_state state row)))
 
+abbrev pub after_set_speed : List ℕ → ℕ → Net → Result Net Refusal
+after_set_speed lan speed net = at_lan lan net (λ row. Ok (with_lan net lan (with_speed speed row)))
+
+abbrev pub after_set_max_hops : List ℕ → ℕ → Net → Result Net Refusal
+after_set_max_hops bridge limit net = at_bridge bridge net (λ row. Ok (with_bridge net bridge (with_max_hops limit row)))
+
+abbrev pub after_set_max_age : List ℕ → ℕ → Net → Result Net Refusal
+after_set_max_age bridge limit net = at_bridge bridge net (λ row. Ok (with_bridge net bridge (with_max_age limit row)))
+
 -- a port is plugged where it is in no LAN yet
 abbrev pub after_plug : PortName → List ℕ → Net → Result Net Refusal
 after_plug port lan net = at_port port net (λ row.
@@ -131,6 +164,12 @@ after_set_port_path_cost port cost net = at_port port net (λ row. Ok (with_port
 abbrev pub after_set_tree_priority : List ℕ → ℕ → ℕ → Net → Result Net Refusal
 after_set_tree_priority bridge tree priority net = at_bridge bridge net (λ row. Ok (with_priority net (record { bridge = bridge; tree = tree }) priority))
 
+abbrev pub after_set_tree_port_priority : PortName → ℕ → ℕ → Net → Result Net Refusal
+after_set_tree_port_priority port tree priority net = at_port port net (λ row. Ok (with_port_priority net (record { port = port; tree = tree }) priority))
+
+abbrev pub after_set_tree_port_cost : PortName → ℕ → Option ℕ → Net → Result Net Refusal
+after_set_tree_port_cost port tree cost net = at_port port net (λ row. Ok (with_port_cost net (record { port = port; tree = tree }) cost))
+
 -- the network after the edit, or the least refusal
 abbrev pub after : Edit → Net → Result Net Refusal
 after (AddBridge bridge mac) net = after_add_bridge bridge mac net
@@ -139,7 +178,12 @@ after (SetKind bridge kind) net = after_set_kind bridge kind net
 after (AddPort port) net = after_add_port port net
 after (AddLan lan) net = after_add_lan lan net
 after (SetLanState lan state) net = after_set_lan_state lan state net
+after (SetSpeed lan speed) net = after_set_speed lan speed net
 after (Plug port lan) net = after_plug port lan net
 after (Unplug port) net = after_unplug port net
 after (SetTreePriority bridge tree priority) net = after_set_tree_priority bridge tree priority net
+after (SetTreePortPriority port tree priority) net = after_set_tree_port_priority port tree priority net
 after (SetPortPathCost port cost) net = after_set_port_path_cost port cost net
+after (SetTreePortCost port tree cost) net = after_set_tree_port_cost port tree cost net
+after (SetMaxHops bridge limit) net = after_set_max_hops bridge limit net
+after (SetMaxAge bridge limit) net = after_set_max_age bridge limit net

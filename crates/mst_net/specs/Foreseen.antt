@@ -4,15 +4,17 @@ use Rattle.std.specs.Option.{option_map}
 use Rattle.std.specs.Cmp.Lexicographic.{pointwise}
 use Rattle.mst_ids.specs.declared.name.PortName.{PortName}
 use Rattle.mst_lang.specs.declared.line.Edit.{Edit}
-use Rattle.mst_lang.specs.declared.line.Edit.TheVariants.{AddBridge, SetPower, SetKind, AddPort, AddLan, SetLanState, Plug, Unplug, SetTreePriority, SetPortPathCost}
+use Rattle.mst_lang.specs.declared.line.Edit.TheVariants.{AddBridge, SetPower, SetKind, AddPort, AddLan, SetLanState, SetSpeed, Plug, Unplug, SetTreePriority, SetTreePortPriority, SetPortPathCost, SetTreePortCost, SetMaxHops, SetMaxAge}
 use Rattle.mst_net.specs.Tables.{BridgeRow, PortRow, LanRow}
-use Rattle.mst_net.specs.After.{new_bridge, new_port, new_lan, with_kind, with_power, with_state, in_lan, with_external}
+use Rattle.mst_net.specs.After.{new_bridge, new_port, new_lan, with_kind, with_power, with_max_hops, with_max_age, with_state, with_speed, in_lan, with_external}
 use Rattle.mst_net.specs.NetworkKept.{port_eq}
 
 abbrev pub bridge_row_after : Edit → List ℕ → Option BridgeRow → Option BridgeRow
 bridge_row_after (AddBridge bridge mac) name there = if pointwise nat_eq bridge name then Some (new_bridge mac) else there
 bridge_row_after (SetPower bridge power) name there = if pointwise nat_eq bridge name then option_map (with_power power) there else there
 bridge_row_after (SetKind bridge kind) name there = if pointwise nat_eq bridge name then option_map (with_kind kind) there else there
+bridge_row_after (SetMaxHops bridge limit) name there = if pointwise nat_eq bridge name then option_map (with_max_hops limit) there else there
+bridge_row_after (SetMaxAge bridge limit) name there = if pointwise nat_eq bridge name then option_map (with_max_age limit) there else there
 bridge_row_after _ name there = there
 
 abbrev pub port_row_after : Edit → PortName → Option PortRow → Option PortRow
@@ -25,6 +27,7 @@ port_row_after _ name there = there
 abbrev pub lan_row_after : Edit → List ℕ → Option LanRow → Option LanRow
 lan_row_after (AddLan lan) name there = if pointwise nat_eq lan name then Some new_lan else there
 lan_row_after (SetLanState lan state) name there = if pointwise nat_eq lan name then option_map (with_state state) there else there
+lan_row_after (SetSpeed lan speed) name there = if pointwise nat_eq lan name then option_map (with_speed speed) there else there
 lan_row_after _ name there = there
 
 abbrev pub bridge_number_after : Edit → ℕ → List ℕ → Option ℕ → Option ℕ
@@ -42,3 +45,11 @@ lan_number_after _ next name there = there
 abbrev pub priority_after : Edit → List ℕ → ℕ → ℕ → ℕ
 priority_after (SetTreePriority bridge tree priority) name other there = if pointwise nat_eq bridge name && nat_eq tree other then priority else there
 priority_after _ name other there = there
+
+abbrev pub port_priority_after : Edit → PortName → ℕ → ℕ → ℕ
+port_priority_after (SetTreePortPriority port tree priority) name other there = if port_eq port name && nat_eq tree other then priority else there
+port_priority_after _ name other there = there
+
+abbrev pub port_cost_after : Edit → PortName → ℕ → Option ℕ → Option ℕ
+port_cost_after (SetTreePortCost port tree cost) name other there = if port_eq port name && nat_eq tree other then cost else there
+port_cost_after _ name other there = there

@@ -18,6 +18,8 @@ contents_of a = record {
     ports = fin.from_entries a.ports.rows;
     lans = fin.from_entries a.lans.rows;
     priorities = fin.from_entries a.priorities.entries;
+    port_priorities = fin.from_entries a.port_priorities.entries;
+    port_costs = fin.from_entries a.port_costs.entries;
   };
   numbers = record {
     bridges = fin.from_entries a.bridges.numbers;
@@ -26,7 +28,7 @@ contents_of a = record {
   };
   next = record { bridge = a.bridges.next; port = a.ports.next; lan = a.lans.next };
   room = record { bridge = min a.bridges.room (set.spare a.macs); port = a.ports.room; lan = a.lans.room };
-  priority_room = hash.spare a.priorities;
+  setting_room = record { priority = hash.spare a.priorities; port_priority = hash.spare a.port_priorities; port_cost = hash.spare a.port_costs };
 }
 
 abbrev pub port_eq : PortName → PortName → Bool

@@ -6,7 +6,7 @@ use Rattle.mst_net.specs.declared.contents.Port.{Port}
 use Rattle.mst_net.specs.declared.contents.Lan.{Lan}
 
 abbrev pub bridge_row : Bridge → BridgeRow
-bridge_row b = record { mac = b.mac; is_rstp = is_rstp b.kind; is_on = is_on b.power }
+bridge_row b = record { mac = b.mac; is_rstp = is_rstp b.kind; is_on = is_on b.power; max_hops = b.max_hops; max_age = b.max_age }
 
 abbrev pub port_row : Port → PortRow
 port_row p = record { lan = p.lan; external = p.external }

@@ -1,18 +1,20 @@
 -- The network as finite tables: bridges and LANs by name, ports by the name of their bridge and their
--- number, priorities by bridge and tree.
+-- number, priorities and costs by bridge or port and tree.
 use Rattle.std.specs.Prelude.{◌≡◌, ℕ, ◌^◌, ◌<◌, ◌≤◌, ◌≢◌, Bool, List, Option, Some, IsTrue, refl}
 use Rattle.std.specs.Coded.{Coded, code_by, coded×, coded_ℕ, coded_bool, coded_list, coded_option}
 use Rattle.std.specs.Ordering.{nat_cmp, ordering_then}
 use Rattle.std.specs.declared.cmp.Ordering.{Ordering}
 use Rattle.std.specs.FinMap as fin
-use Rattle.mst_ids.specs.Names.{name_cmp, port_cmp}
+use Rattle.mst_ids.specs.Names.{name_cmp, port_cmp, coded_port}
 use Rattle.mst_ids.specs.declared.name.PortName.{PortName}
 
--- a bridge's settings
+-- a bridge's settings: its MAC, its kind, whether it is on, and how far what it says may go
 pub record BridgeRow : Type 0 where
   pub mac : ℕ
   pub is_rstp : Bool
   pub is_on : Bool
+  pub max_hops : ℕ
+  pub max_age : ℕ
 
 -- a port's settings: the LAN that it is plugged into, if there is one, and its external path cost, or none
 -- where it is automatic
@@ -25,24 +27,41 @@ pub record LanRow : Type 0 where
   pub speed : ℕ
   pub is_up : Bool
 
--- a bridge in a tree
+-- a bridge in a tree, and a port in a tree
 pub record BridgeTree : Type 0 where
   pub bridge : List ℕ
+  pub tree : ℕ
+
+pub record PortTree : Type 0 where
+  pub port : PortName
   pub tree : ℕ
 
 abbrev pub bridge_tree_cmp : BridgeTree → BridgeTree → Ordering
 bridge_tree_cmp a b = ordering_then (name_cmp a.bridge b.bridge) (nat_cmp a.tree b.tree)
 
--- the tables. A priority of 8, the default, is never among the priorities
+abbrev pub port_tree_cmp : PortTree → PortTree → Ordering
+port_tree_cmp a b = ordering_then (port_cmp a.port b.port) (nat_cmp a.tree b.tree)
+
+-- the tables: the records, and what is set by tree: the priorities of bridges and of ports, of which 8, the
+-- default, is never kept, and the internal path costs that aren't automatic
 pub record Net : Type 0 where
   pub bridges : fin.FinMap name_cmp BridgeRow
   pub ports : fin.FinMap port_cmp PortRow
   pub lans : fin.FinMap name_cmp LanRow
   pub priorities : fin.FinMap bridge_tree_cmp ℕ
+  pub port_priorities : fin.FinMap port_tree_cmp ℕ
+  pub port_costs : fin.FinMap port_tree_cmp ℕ
 
 -- with no bridge, port or LAN
 abbrev pub empty_net : Net
-empty_net = record { bridges = fin.empty; ports = fin.empty; lans = fin.empty; priorities = fin.empty }
+empty_net = record {
+  bridges = fin.empty;
+  ports = fin.empty;
+  lans = fin.empty;
+  priorities = fin.empty;
+  port_priorities = fin.empty;
+  port_costs = fin.empty;
+}
 
 -- the stable number of each record
 pub record Numbers : Type 0 where
@@ -53,27 +72,52 @@ pub record Numbers : Type 0 where
 abbrev pub no_numbers : Numbers
 no_numbers = record { bridges = fin.empty; ports = fin.empty; lans = fin.empty }
 
--- What is true of every network: MACs differ, each port's bridge and each plug's LAN is there, values
--- are in their ranges, and the limits hold.
+-- values in their ranges
+abbrev pub IsLimit : ℕ → Type 0
+IsLimit n = (6 ≤ n) × (n ≤ 40)
+
+abbrev pub IsPathCost : ℕ → Type 0
+IsPathCost n = (1 ≤ n) × (n ≤ 200_000_000)
+
+-- a priority that isn't the default
+abbrev pub IsOwnPriority : ℕ → Type 0
+IsOwnPriority n = (n ≤ 15) × (n ≢ 8)
+
+-- the MACs of bridges differ
+pub record AreBridges (bridges : fin.FinMap name_cmp BridgeRow) : Type 0 where
+  pub macs_differ : (a b : List ℕ) (x y : BridgeRow) → fin.get bridges a ≡ Some x → fin.get bridges b ≡ Some y → x.mac ≡ y.mac → a ≡ b
+  pub mac_fits : (a : List ℕ) (x : BridgeRow) → fin.get bridges a ≡ Some x → x.mac < 2 ^ 48
+  pub limits_fit : (a : List ℕ) (x : BridgeRow) → fin.get bridges a ≡ Some x → IsLimit x.max_hops × IsLimit x.max_age
+  pub few : fin.len bridges ≤ 1024
+
+pub record AreLans (lans : fin.FinMap name_cmp LanRow) : Type 0 where
+  pub speed_fits : (l : List ℕ) (x : LanRow) → fin.get lans l ≡ Some x → (1 ≤ x.speed) × (x.speed ≤ 9_999_999_999)
+  pub few : fin.len lans ≤ 8192
+
+-- each port's bridge and each plug's LAN is there
+pub record ArePorts (bridges : fin.FinMap name_cmp BridgeRow) (lans : fin.FinMap name_cmp LanRow) (ports : fin.FinMap port_cmp PortRow) : Type 0 where
+  pub has_bridge : (p : PortName) (x : PortRow) → fin.get ports p ≡ Some x → IsTrue (fin.contains_key bridges p.bridge)
+  pub number_fits : (p : PortName) (x : PortRow) → fin.get ports p ≡ Some x → (1 ≤ p.number) × (p.number ≤ 4095)
+  pub has_lan : (p : PortName) (x : PortRow) (lan : List ℕ) → fin.get ports p ≡ Some x → x.lan ≡ Some lan → IsTrue (fin.contains_key lans lan)
+  pub cost_fits : (p : PortName) (x : PortRow) (cost : ℕ) → fin.get ports p ≡ Some x → x.external ≡ Some cost → IsPathCost cost
+  pub few : fin.len ports ≤ 16384
+
+-- What is true of every network: its records fit together, what is set by tree is set for a bridge or a
+-- port that is there, values are in their ranges, and the limits hold
 pub record IsNetwork (net : Net) : Type 0 where
-  pub macs_differ : (a b : List ℕ) (x y : BridgeRow) → fin.get net.bridges a ≡ Some x → fin.get net.bridges b ≡ Some y → x.mac ≡ y.mac → a ≡ b
-  pub mac_fits : (a : List ℕ) (x : BridgeRow) → fin.get net.bridges a ≡ Some x → x.mac < 2 ^ 48
-  pub port_has_bridge : (p : PortName) (x : PortRow) → fin.get net.ports p ≡ Some x → IsTrue (fin.contains_key net.bridges p.bridge)
-  pub port_number_fits : (p : PortName) (x : PortRow) → fin.get net.ports p ≡ Some x → (1 ≤ p.number) × (p.number ≤ 4095)
-  pub plug_has_lan : (p : PortName) (x : PortRow) (lan : List ℕ) → fin.get net.ports p ≡ Some x → x.lan ≡ Some lan → IsTrue (fin.contains_key net.lans lan)
-  pub cost_fits : (p : PortName) (x : PortRow) (cost : ℕ) → fin.get net.ports p ≡ Some x → x.external ≡ Some cost → (1 ≤ cost) × (cost ≤ 200_000_000)
-  pub speed_fits : (l : List ℕ) (x : LanRow) → fin.get net.lans l ≡ Some x → (1 ≤ x.speed) × (x.speed ≤ 9_999_999_999)
-  pub priority_has_bridge : (k : BridgeTree) (priority : ℕ) → fin.get net.priorities k ≡ Some priority → IsTrue (fin.contains_key net.bridges k.bridge)
-  pub priority_fits : (k : BridgeTree) (priority : ℕ) → fin.get net.priorities k ≡ Some priority → (priority ≤ 15) × (priority ≢ 8)
-  pub bridge_limit : fin.len net.bridges ≤ 1024
-  pub port_limit : fin.len net.ports ≤ 16384
-  pub lan_limit : fin.len net.lans ≤ 8192
+  pub bridges : AreBridges net.bridges
+  pub lans : AreLans net.lans
+  pub ports : ArePorts net.bridges net.lans net.ports
+  pub priorities : (k : BridgeTree) (n : ℕ) → fin.get net.priorities k ≡ Some n → IsTrue (fin.contains_key net.bridges k.bridge) × IsOwnPriority n
+  pub port_priorities : (k : PortTree) (n : ℕ) → fin.get net.port_priorities k ≡ Some n → IsTrue (fin.contains_key net.ports k.port) × IsOwnPriority n
+  pub port_costs : (k : PortTree) (n : ℕ) → fin.get net.port_costs k ≡ Some n → IsTrue (fin.contains_key net.ports k.port) × IsPathCost n
 
 -- how the tables are stored, so that proofs can tell two of them apart
 abbrev pub bridge_row_code : Coded BridgeRow
 bridge_row_code =
-    code_by (ℕ × (Bool × Bool)) (coded× coded_ℕ (coded× coded_bool coded_bool)) (λ b. (b.mac, (b.is_rstp, b.is_on)))
-    (λ p. record { mac = p.0; is_rstp = p.1.0; is_on = p.1.1 }) (λ _. refl)
+    code_by (ℕ × (Bool × (Bool × (ℕ × ℕ)))) (coded× coded_ℕ (coded× coded_bool (coded× coded_bool (coded× coded_ℕ coded_ℕ))))
+    (λ b. (b.mac, (b.is_rstp, (b.is_on, (b.max_hops, b.max_age)))))
+    (λ p. record { mac = p.0; is_rstp = p.1.0; is_on = p.1.1.0; max_hops = p.1.1.1.0; max_age = p.1.1.1.1 }) (λ _. refl)
 
 abbrev pub port_row_code : Coded PortRow
 port_row_code =
@@ -85,3 +129,6 @@ lan_row_code = code_by (ℕ × Bool) (coded× coded_ℕ coded_bool) (λ l. (l.sp
 
 abbrev pub bridge_tree_code : Coded BridgeTree
 bridge_tree_code = code_by (List ℕ × ℕ) (coded× (coded_list coded_ℕ) coded_ℕ) (λ k. (k.bridge, k.tree)) (λ p. record { bridge = p.0; tree = p.1 }) (λ _. refl)
+
+abbrev pub port_tree_code : Coded PortTree
+port_tree_code = code_by (PortName × ℕ) (coded× coded_port coded_ℕ) (λ k. (k.port, k.tree)) (λ p. record { port = p.0; tree = p.1 }) (λ _. refl)

@@ -1,12 +1,12 @@
 ghost use Rattle.std.specs.Prelude.{◌≡◌};
 ghost use Rattle.std.specs.Option.{option_map};
-ghost use Rattle.mst_net.specs.After.{with_kind as kind_set, with_power as power_set, in_lan, with_external, with_state as state_set};
+ghost use Rattle.mst_net.specs.After.{with_kind as kind_set, with_power as power_set, with_max_hops, with_max_age, in_lan, with_external, with_speed, with_state as state_set};
 ghost use Rattle.mst_net.specs.Seen.{bridge_row, port_row, lan_row};
-ghost use Rattle.mst_net.specs.Foreseen.{bridge_row_after, port_row_after, lan_row_after, bridge_number_after, port_number_after, lan_number_after, priority_after};
+ghost use Rattle.mst_net.specs.Foreseen.{bridge_row_after, port_row_after, lan_row_after, bridge_number_after, port_number_after, lan_number_after, priority_after, port_priority_after, port_cost_after};
 
 use crate::contents::{Bridge, Contents, Lan, Port};
 use crate::network::{Network, Ready};
-use mst_ids::{BridgeNo, Cost, LanNo, Name, PortName, PortNo, Priority, Tree};
+use mst_ids::{BridgeNo, Cost, LanNo, Limit, Name, PortName, PortNo, Priority, Speed, Tree};
 use mst_lang::{Edit, Kind, LanState, Power};
 use std::marker::Model;
 
@@ -67,6 +67,24 @@ impl Contents for Ahead<'_> {
             self.network.tree_priority(bridge, tree),
         )
     }
+
+    fn port_priority(&self, port: &PortName, tree: Tree) -> Priority {
+        port_priority_ahead(
+            &self.ready.edit,
+            port,
+            tree,
+            self.network.port_priority(port, tree),
+        )
+    }
+
+    fn port_cost(&self, port: &PortName, tree: Tree) -> Option<Cost> {
+        port_cost_ahead(
+            &self.ready.edit,
+            port,
+            tree,
+            self.network.port_cost(port, tree),
+        )
+    }
 }
 
 /// What the edit makes of the bridge of this name.
@@ -80,9 +98,13 @@ fn bridge_after(edit: &Edit, next: BridgeNo, name: &Name, there: Option<Bridge>)
             mac,
             kind: Kind::Mstp,
             power: Power::On,
+            max_hops: Limit::standard(),
+            max_age: Limit::standard(),
         }),
         Edit::SetPower { bridge, power } if bridge == *name => with_power(there, power),
         Edit::SetKind { bridge, kind } if bridge == *name => with_kind(there, kind),
+        Edit::SetMaxHops { bridge, limit } if bridge == *name => with_hops(there, limit),
+        Edit::SetMaxAge { bridge, limit } if bridge == *name => with_age(there, limit),
         _ => there,
     }
 }
@@ -103,6 +125,26 @@ fn with_kind(there: Option<Bridge>, kind: Kind) -> Option<Bridge>
 {
     match there {
         Some(bridge) => Some(Bridge { kind, ..bridge }),
+        None => None,
+    }
+}
+
+fn with_hops(there: Option<Bridge>, max_hops: Limit) -> Option<Bridge>
+    ensures row { option_map bridge_row result ≡ option_map (with_max_hops max_hops) (option_map bridge_row there) }
+    ensures number { option_map (λ bridge. bridge.number) result ≡ option_map (λ bridge. bridge.number) there }
+{
+    match there {
+        Some(bridge) => Some(Bridge { max_hops, ..bridge }),
+        None => None,
+    }
+}
+
+fn with_age(there: Option<Bridge>, max_age: Limit) -> Option<Bridge>
+    ensures row { option_map bridge_row result ≡ option_map (with_max_age max_age) (option_map bridge_row there) }
+    ensures number { option_map (λ bridge. bridge.number) result ≡ option_map (λ bridge. bridge.number) there }
+{
+    match there {
+        Some(bridge) => Some(Bridge { max_age, ..bridge }),
         None => None,
     }
 }
@@ -153,10 +195,11 @@ fn lan_after(edit: &Edit, next: LanNo, name: &Name, there: Option<Lan>) -> Optio
     match *edit {
         Edit::AddLan { lan } if lan == *name => Some(Lan {
             number: next,
-            speed: 1_000_000,
+            speed: Speed::standard(),
             state: LanState::Up,
         }),
         Edit::SetLanState { lan, state } if lan == *name => with_state(there, state),
+        Edit::SetSpeed { lan, speed } if lan == *name => with_kbps(there, speed),
         _ => there,
     }
 }
@@ -171,6 +214,16 @@ fn with_state(there: Option<Lan>, state: LanState) -> Option<Lan>
     }
 }
 
+fn with_kbps(there: Option<Lan>, speed: Speed) -> Option<Lan>
+    ensures row { option_map lan_row result ≡ option_map (with_speed speed) (option_map lan_row there) }
+    ensures number { option_map (λ lan. lan.number) result ≡ option_map (λ lan. lan.number) there }
+{
+    match there {
+        Some(lan) => Some(Lan { speed, ..lan }),
+        None => None,
+    }
+}
+
 /// What the edit makes of the priority of a bridge in a tree.
 fn tree_priority_after(edit: &Edit, name: &Name, other: Tree, there: Priority) -> Priority
     ensures { result ≡ priority_after edit.now name.now other there }
@@ -181,6 +234,30 @@ fn tree_priority_after(edit: &Edit, name: &Name, other: Tree, there: Priority) -
             tree,
             priority,
         } if bridge == *name && tree == other => priority,
+        _ => there,
+    }
+}
+
+/// What the edit makes of the priority of a port in a tree.
+fn port_priority_ahead(edit: &Edit, name: &PortName, other: Tree, there: Priority) -> Priority
+    ensures { result ≡ port_priority_after edit.now name.now other there }
+{
+    match *edit {
+        Edit::SetTreePortPriority {
+            port,
+            tree,
+            priority,
+        } if port == *name && tree == other => priority,
+        _ => there,
+    }
+}
+
+/// What the edit makes of the internal path cost of a port in a tree.
+fn port_cost_ahead(edit: &Edit, name: &PortName, other: Tree, there: Option<Cost>) -> Option<Cost>
+    ensures { result ≡ port_cost_after edit.now name.now other there }
+{
+    match *edit {
+        Edit::SetTreePortCost { port, tree, cost } if port == *name && tree == other => cost,
         _ => there,
     }
 }

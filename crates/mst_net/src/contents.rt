@@ -1,10 +1,10 @@
 ghost use Rattle.std.specs.Prelude.{◌≡◌};
 ghost use Rattle.std.specs.Option.{option_map};
 ghost use Rattle.std.specs.FinMap as fin;
-ghost use Rattle.mst_net.specs.Contents.{Tables, priority_of};
+ghost use Rattle.mst_net.specs.Contents.{Tables, priority_of, port_priority_of, port_cost_of};
 ghost use Rattle.mst_net.specs.Seen.{bridge_row, port_row, lan_row};
 
-use mst_ids::{BridgeNo, Cost, LanNo, Mac, Name, PortName, PortNo, Priority, Tree};
+use mst_ids::{BridgeNo, Cost, LanNo, Limit, Mac, Name, PortName, PortNo, Priority, Speed, Tree};
 use mst_lang::{Kind, LanState, Power};
 
 /// A bridge's number and settings.
@@ -14,6 +14,8 @@ pub struct Bridge {
     pub mac: Mac,
     pub kind: Kind,
     pub power: Power,
+    pub max_hops: Limit,
+    pub max_age: Limit,
 }
 
 /// A port's number, the LAN that it is plugged into, if there is one, and its external path cost, or none
@@ -25,11 +27,11 @@ pub struct Port {
     pub external: Option<Cost>,
 }
 
-/// A LAN's number, its speed in kb/s, 1 to 9,999,999,999, and its state.
+/// A LAN's number, its speed and its state.
 #[derive(Clone, Copy)]
 pub struct Lan {
     pub number: LanNo,
-    pub speed: u64,
+    pub speed: Speed,
     pub state: LanState,
 }
 
@@ -57,4 +59,12 @@ pub trait Contents {
     /// The priority of a bridge in a tree, 8 where none is set.
     fn tree_priority(&self, bridge: &Name, tree: Tree) -> Priority
         ensures { result ≡ priority_of (tables self.now).net bridge.now tree };
+
+    /// The priority of a port in a tree, 8 where none is set.
+    fn port_priority(&self, port: &PortName, tree: Tree) -> Priority
+        ensures { result ≡ port_priority_of (tables self.now).net port.now tree };
+
+    /// The internal path cost of a port in a tree, or none where it is automatic.
+    fn port_cost(&self, port: &PortName, tree: Tree) -> Option<Cost>
+        ensures { result ≡ port_cost_of (tables self.now).net port.now tree };
 }

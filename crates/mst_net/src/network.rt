@@ -1,8 +1,8 @@
 ghost use Rattle.std.specs.Prelude.{◌≡◌, ◌≢◌, ℕ, ◌<◌, ◌≤◌, Option, Some, None, Ok, Err, MatchResult, IfOk, IfErr, OnOk, IsOk, IsSome, IsTrue, ok_or, if◌then◌else◌};
-ghost use Rattle.mst_lang.specs.declared.line.Edit.TheVariants.{AddBridge, SetPower, SetKind, AddPort, AddLan, SetLanState, Plug, Unplug, SetTreePriority, SetPortPathCost};
+ghost use Rattle.mst_lang.specs.declared.line.Edit.TheVariants.{AddBridge, SetPower, SetKind, AddPort, AddLan, SetLanState, SetSpeed, Plug, Unplug, SetTreePriority, SetTreePortPriority, SetPortPathCost, SetTreePortCost, SetMaxHops, SetMaxAge};
 ghost use Rattle.std.specs.FinMap as fin;
-ghost use Rattle.mst_net.specs.Tables.{empty_net, no_numbers, IsNetwork, BridgeRow, LanRow};
-ghost use Rattle.mst_net.specs.After.{after, after_add_bridge, after_add_port, after_add_lan, after_plug, after_unplug, after_set_port_path_cost, mac_taken, with_bridge, with_port, with_lan};
+ghost use Rattle.mst_net.specs.Tables.{empty_net, no_numbers, Net, IsNetwork, BridgeRow, PortRow};
+ghost use Rattle.mst_net.specs.After.{own_priority as own, after, after_add_bridge, after_add_port, after_add_lan, after_plug, after_unplug, at_port, mac_taken, with_bridge, with_port, with_lan, with_priority, with_port_priority, with_port_cost};
 ghost use Rattle.mst_net.specs.Contents.{SameContents, CanCommit, Commits, IsNumbered, ahead_of};
 ghost use Rattle.std.specs.Option.{option_map, ForSome};
 ghost use Rattle.mst_ids.specs.declared.name.PortName.{PortName};
@@ -13,9 +13,9 @@ use crate::Refusal;
 use crate::ahead::Ahead;
 use crate::contents::{Bridge, Contents, Lan, Port};
 use crate::records::{Record, Records};
-use crate::settings::{BridgeInTree, BridgeSettings, LanSettings, PortSettings};
+use crate::settings::{BridgeInTree, BridgeSettings, LanSettings, PortInTree, PortSettings, keep};
 use indexmap::{IndexMap, IndexSet};
-use mst_ids::{BridgeNo, Cost, LanNo, Mac, Name, PortName, PortNo, Priority, Tree};
+use mst_ids::{BridgeNo, Cost, LanNo, Limit, Mac, Name, PortName, PortNo, Priority, Speed, Tree};
 use mst_lang::{Edit, Kind, LanState, Power};
 use std::alloc::{AllocError, Global};
 use std::marker::Model;
@@ -34,8 +34,11 @@ pub struct Network {
     lans: Records<Name, LanSettings>,
     // The MACs of the bridges.
     macs: IndexSet<Mac>,
-    // The priorities other than the default.
+    // The priorities of bridges and of ports other than the default, and the internal path costs that
+    // aren't automatic.
     priorities: IndexMap<BridgeInTree, Priority>,
+    port_priorities: IndexMap<PortInTree, Priority>,
+    port_costs: IndexMap<PortInTree, Cost>,
 }
 
 impl Model for Network {
@@ -70,6 +73,8 @@ impl Network {
             lans: Records::new(alloc),
             macs: IndexSet::new(alloc),
             priorities: IndexMap::new(alloc),
+            port_priorities: IndexMap::new(alloc),
+            port_costs: IndexMap::new(alloc),
         }
     }
 
@@ -210,10 +215,15 @@ impl Network {
             Edit::AddPort { port } => self.check_add_port(&port),
             Edit::AddLan { lan } => self.check_add_lan(&lan),
             Edit::SetLanState { lan, .. } => self.check_lan(&lan),
+            Edit::SetSpeed { lan, .. } => self.check_lan(&lan),
             Edit::Plug { port, lan } => self.check_plug(&port, &lan),
             Edit::Unplug { port } => self.check_unplug(&port),
             Edit::SetTreePriority { bridge, .. } => self.check_bridge(&bridge),
+            Edit::SetTreePortPriority { port, .. } => self.check_port(&port),
             Edit::SetPortPathCost { port, .. } => self.check_port(&port),
+            Edit::SetTreePortCost { port, .. } => self.check_port(&port),
+            Edit::SetMaxHops { bridge, .. } => self.check_bridge(&bridge),
+            Edit::SetMaxAge { bridge, .. } => self.check_bridge(&bridge),
         }
     }
 
@@ -290,7 +300,7 @@ impl Network {
     }
 
     fn check_port(&self, port: &PortName) -> Result<(), Refusal>
-        ensures { (cost : Option ℕ) → Checks result (after_set_port_path_cost port.now cost self.now.net) }
+        ensures { (make : PortRow → Net) → Checks result (at_port port.now self.now.net (λ row. Ok (make row))) }
     {
         let _settings = self.known_port(port)?;
         Ok(())
@@ -343,12 +353,9 @@ impl Network {
             Edit::AddPort { .. } => self.make_room_for_port(),
             Edit::AddLan { .. } => self.make_room_for_lan(),
             Edit::SetTreePriority { .. } => self.make_room_for_priority(),
-            Edit::SetPower { .. }
-            | Edit::SetKind { .. }
-            | Edit::SetLanState { .. }
-            | Edit::Plug { .. }
-            | Edit::Unplug { .. }
-            | Edit::SetPortPathCost { .. } => Ok(()),
+            Edit::SetTreePortPriority { .. } => self.make_room_for_port_priority(),
+            Edit::SetTreePortCost { .. } => self.make_room_for_port_cost(),
+            _ => Ok(()),
         }
     }
 
@@ -376,9 +383,23 @@ impl Network {
 
     fn make_room_for_priority(&mut self) -> Result<(), AllocError>
         ensures same { SameContents self.old self.new }
-        ensures room { OnOk result (0 < self.new.priority_room) }
+        ensures room { OnOk result (0 < self.new.setting_room.priority) }
     {
         self.priorities.reserve(1)
+    }
+
+    fn make_room_for_port_priority(&mut self) -> Result<(), AllocError>
+        ensures same { SameContents self.old self.new }
+        ensures room { OnOk result (0 < self.new.setting_room.port_priority) }
+    {
+        self.port_priorities.reserve(1)
+    }
+
+    fn make_room_for_port_cost(&mut self) -> Result<(), AllocError>
+        ensures same { SameContents self.old self.new }
+        ensures room { OnOk result (0 < self.new.setting_room.port_cost) }
+    {
+        self.port_costs.reserve(1)
     }
 
     /// Makes the edit. Each record keeps its number. It takes no memory.
@@ -394,6 +415,7 @@ impl Network {
             Edit::AddPort { port } => self.add_port(port),
             Edit::AddLan { lan } => self.add_lan(lan),
             Edit::SetLanState { lan, state } => self.set_lan_state(&lan, state),
+            Edit::SetSpeed { lan, speed } => self.set_speed(&lan, speed),
             Edit::Plug { port, lan } => self.plug(&port, lan),
             Edit::Unplug { port } => self.unplug(&port),
             Edit::SetTreePriority {
@@ -401,7 +423,15 @@ impl Network {
                 tree,
                 priority,
             } => self.set_tree_priority(bridge, tree, priority),
+            Edit::SetTreePortPriority {
+                port,
+                tree,
+                priority,
+            } => self.set_tree_port_priority(port, tree, priority),
             Edit::SetPortPathCost { port, cost } => self.set_port_path_cost(&port, cost),
+            Edit::SetTreePortCost { port, tree, cost } => self.set_tree_port_cost(port, tree, cost),
+            Edit::SetMaxHops { bridge, limit } => self.set_max_hops(&bridge, limit),
+            Edit::SetMaxAge { bridge, limit } => self.set_max_age(&bridge, limit),
         }
     }
 
@@ -425,6 +455,8 @@ impl Network {
                 mac,
                 kind: Kind::Mstp,
                 power: Power::On,
+                max_hops: Limit::standard(),
+                max_age: Limit::standard(),
             },
         );
     }
@@ -435,6 +467,8 @@ impl Network {
         ensures net { self.new.net ≡ with_bridge self.old.net bridge.now settings }
         ensures numbers { self.new.numbers ≡ self.old.numbers }
     {
+        known_limit(settings.max_hops);
+        known_limit(settings.max_age);
         self.bridges.set(bridge, settings);
     }
 
@@ -452,6 +486,22 @@ impl Network {
     {
         let settings = self.bridge_settings(bridge).unwrap();
         self.set_bridge(bridge, BridgeSettings { kind, ..settings });
+    }
+
+    fn set_max_hops(&mut self, bridge: &Name, max_hops: Limit)
+        requires { CanCommit (SetMaxHops bridge.now max_hops) self.old }
+        ensures { Commits (SetMaxHops bridge.now max_hops) self.old self.new }
+    {
+        let row = self.bridge_settings(bridge).unwrap();
+        self.set_bridge(bridge, BridgeSettings { max_hops, ..row });
+    }
+
+    fn set_max_age(&mut self, bridge: &Name, max_age: Limit)
+        requires { CanCommit (SetMaxAge bridge.now max_age) self.old }
+        ensures { Commits (SetMaxAge bridge.now max_age) self.old self.new }
+    {
+        let row = self.bridge_settings(bridge).unwrap();
+        self.set_bridge(bridge, BridgeSettings { max_age, ..row });
     }
 
     fn add_port(&mut self, port: PortName)
@@ -475,18 +525,19 @@ impl Network {
         self.lans.add(
             lan,
             LanSettings {
-                speed: 1_000_000,
+                speed: Speed::standard(),
                 state: LanState::Up,
             },
         );
     }
 
-    /// Changes the settings of a LAN, but for its speed.
+    /// Changes the settings of a LAN.
     fn set_lan(&mut self, lan: &Name, settings: LanSettings)
-        requires { (row : LanRow) × (fin.get self.old.net.lans lan.now ≡ Some row) × (row.speed ≡ settings.speed) }
+        requires { IsSome (fin.get self.old.net.lans lan.now) }
         ensures net { self.new.net ≡ with_lan self.old.net lan.now settings }
         ensures numbers { self.new.numbers ≡ self.old.numbers }
     {
+        known_speed(settings.speed);
         self.lans.set(lan, settings);
     }
 
@@ -496,6 +547,14 @@ impl Network {
     {
         let settings = self.lan_settings(lan).unwrap();
         self.set_lan(lan, LanSettings { state, ..settings });
+    }
+
+    fn set_speed(&mut self, lan: &Name, speed: Speed)
+        requires { CanCommit (SetSpeed lan.now speed) self.old }
+        ensures { Commits (SetSpeed lan.now speed) self.old self.new }
+    {
+        let settings = self.lan_settings(lan).unwrap();
+        self.set_lan(lan, LanSettings { speed, ..settings });
     }
 
     /// Changes the settings of a port. The LAN that it is then in, if any, is there.
@@ -545,11 +604,23 @@ impl Network {
         ensures { Commits (SetTreePriority bridge tree priority) self.old self.new }
     {
         let key = BridgeInTree { bridge, tree };
-        if priority.step() == Priority::DEFAULT {
-            let _ = self.priorities.swap_remove(&key);
-        } else {
-            let _ = self.priorities.insert(key, priority).unwrap();
-        }
+        keep(&mut self.priorities, key, own_priority(priority));
+    }
+
+    fn set_tree_port_priority(&mut self, port: PortName, tree: Tree, priority: Priority)
+        requires { CanCommit (SetTreePortPriority port tree priority) self.old }
+        ensures { Commits (SetTreePortPriority port tree priority) self.old self.new }
+    {
+        let key = PortInTree { port, tree };
+        keep(&mut self.port_priorities, key, own_priority(priority));
+    }
+
+    fn set_tree_port_cost(&mut self, port: PortName, tree: Tree, cost: Option<Cost>)
+        requires { CanCommit (SetTreePortCost port tree cost) self.old }
+        ensures { Commits (SetTreePortCost port tree cost) self.old self.new }
+    {
+        let key = PortInTree { port, tree };
+        keep(&mut self.port_costs, key, own_cost(cost));
     }
 }
 
@@ -580,6 +651,56 @@ impl Contents for Network {
             None => Priority::standard(),
         }
     }
+
+    fn port_priority(&self, port: &PortName, tree: Tree) -> Priority {
+        let key = PortInTree { port: *port, tree };
+        match self.port_priorities.get(&key) {
+            Some(priority) => *priority,
+            None => Priority::standard(),
+        }
+    }
+
+    fn port_cost(&self, port: &PortName, tree: Tree) -> Option<Cost> {
+        self.port_costs
+            .get(&PortInTree { port: *port, tree })
+            .copied()
+    }
+}
+
+/// What is kept of a priority: none of the default.
+fn own_priority(priority: Priority) -> Option<Priority>
+    ensures value { result ≡ own priority }
+    ensures small { priority ≤ 15 }
+{
+    if priority.step() == Priority::DEFAULT {
+        None
+    } else {
+        Some(priority)
+    }
+}
+
+/// What is kept of a cost: none of the automatic one.
+fn own_cost(cost: Option<Cost>) -> Option<Cost>
+    ensures value { result ≡ cost }
+    ensures range { ForSome cost (λ value. (1 ≤ value) × (value ≤ 200_000_000)) }
+{
+    let cost = cost?;
+    prove!((1..=200_000_000).contains(&cost.value()));
+    Some(cost)
+}
+
+/// What holds of every limit.
+fn known_limit(limit: Limit)
+    ensures { (6 ≤ limit) × (limit ≤ 40) }
+{
+    prove!((6..=40).contains(&limit.value()));
+}
+
+/// What holds of every speed.
+fn known_speed(speed: Speed)
+    ensures { (1 ≤ speed) × (speed ≤ 9_999_999_999) }
+{
+    prove!((1..=9_999_999_999).contains(&speed.value()));
 }
 
 /// What holds of every cost that is set.
@@ -601,6 +722,8 @@ fn seen_bridge(kept: Option<Record<BridgeSettings>>) -> Option<Bridge>
         mac: row.mac,
         kind: row.kind,
         power: row.power,
+        max_hops: row.max_hops,
+        max_age: row.max_age,
     })
 }
 

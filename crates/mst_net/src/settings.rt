@@ -1,5 +1,11 @@
-use mst_ids::{Cost, Mac, Name, Tree};
+ghost use Rattle.std.specs.Prelude.{◌≡◌, ◌<◌, cond};
+ghost use Rattle.std.specs.Map.{lookup};
+ghost use Rattle.indexmap.specs.IndexMap.{spare};
+
+use indexmap::IndexMap;
+use mst_ids::{Cost, Limit, Mac, Name, PortName, Speed, Tree};
 use mst_lang::{Kind, LanState, Power};
+use std::hash::Hash;
 use std::marker::Model;
 
 /// A bridge's settings.
@@ -8,6 +14,8 @@ pub(crate) struct BridgeSettings {
     pub(crate) mac: Mac,
     pub(crate) kind: Kind,
     pub(crate) power: Power,
+    pub(crate) max_hops: Limit,
+    pub(crate) max_age: Limit,
 }
 
 impl Model for BridgeSettings {
@@ -20,11 +28,11 @@ impl Model for BridgeSettings {
     ghost use Rattle.mst_net.specs.After.{is_rstp, is_on};
     ghost use Rattle.mst_net.specs.Settings.{kind_of, kind_of-is_rstp, power_of, power_of-is_on};
 
-    ghost view = { λ a. record { mac = a.mac; is_rstp = is_rstp a.kind; is_on = is_on a.power } };
+    ghost view = { λ a. record { mac = a.mac; is_rstp = is_rstp a.kind; is_on = is_on a.power; max_hops = a.max_hops; max_age = a.max_age } };
 
-    ghost inverse = { λ r. record { mac = r.mac; kind = kind_of r.is_rstp; power = power_of r.is_on } };
+    ghost inverse = { λ r. record { mac = r.mac; kind = kind_of r.is_rstp; power = power_of r.is_on; max_hops = r.max_hops; max_age = r.max_age } };
 
-    ghost inverse_ok = { λ a h i. record { mac = a.mac; kind = kind_of-is_rstp a.kind i; power = power_of-is_on a.power i } };
+    ghost inverse_ok = { λ a h i. record { mac = a.mac; kind = kind_of-is_rstp a.kind i; power = power_of-is_on a.power i; max_hops = a.max_hops; max_age = a.max_age } };
 }
 
 /// A port's settings: the LAN that it is plugged into, if there is one, and its external path cost, or none
@@ -47,10 +55,10 @@ impl Model for PortSettings {
     ghost inverse = { λ r. record { lan = r.lan; external = r.external } };
 }
 
-/// A LAN's settings: its speed in kb/s, and its state.
+/// A LAN's settings: its speed and its state.
 #[derive(Clone, Copy)]
 pub(crate) struct LanSettings {
-    pub(crate) speed: u64,
+    pub(crate) speed: Speed,
     pub(crate) state: LanState,
 }
 
@@ -88,4 +96,42 @@ impl Model for BridgeInTree {
     ghost view = { λ a. record { bridge = a.bridge; tree = a.tree } };
 
     ghost inverse = { λ k. record { bridge = k.bridge; tree = k.tree } };
+}
+
+/// A port in a tree, for which a priority or an internal path cost may be set.
+#[derive(Clone, Copy, PartialEq, Eq, Hash)]
+pub(crate) struct PortInTree {
+    pub(crate) port: PortName,
+    pub(crate) tree: Tree,
+}
+
+impl Model for PortInTree {
+    ghost use Rattle.mst_net.specs.Tables.{PortTree, port_tree_code};
+
+    ghost Value = { PortTree };
+
+    ghost coded = { port_tree_code };
+
+    ghost view = { λ a. record { port = a.port; tree = a.tree } };
+
+    ghost inverse = { λ k. record { port = k.port; tree = k.tree } };
+}
+
+/// Keeps a value under the key, or none. It takes no memory.
+pub(crate) fn keep<K: Copy + Eq + Hash, V: Copy>(
+    table: &mut IndexMap<K, V>,
+    key: K,
+    value: Option<V>,
+)
+    requires { 0 < spare table.old }
+    ensures { (q : K) → lookup (K.eq q) table.new.entries ≡ cond (K.eq key q) value (lookup (K.eq q) table.old.entries) }
+{
+    match value {
+        None => {
+            let _ = table.swap_remove(&key);
+        }
+        Some(value) => {
+            let _ = table.insert(key, value).unwrap();
+        }
+    }
 }

@@ -1,5 +1,5 @@
 use super::*;
-use mst_ids::{Cost, Mac, Name, PortName, PortNumber, Priority, Tree, parse_mac};
+use mst_ids::{Cost, Limit, Mac, Name, PortName, PortNumber, Priority, Speed, Tree, parse_mac};
 use mst_lang::{Edit, Kind, LanState, Power};
 use std::alloc::Global;
 use std::process::Abort;
@@ -78,6 +78,43 @@ fn set_cost(bridge: &str, number: u64, cost: Option<Cost>) -> Result<Edit, Fail>
     })
 }
 
+fn set_speed(lan: &str, kbps: u64) -> Result<Edit, Fail> {
+    Ok(Edit::SetSpeed {
+        lan: name(lan)?,
+        speed: Speed::new(kbps).ok_or("no speed")?,
+    })
+}
+
+fn set_hops(bridge: &str, hops: u64) -> Result<Edit, Fail> {
+    Ok(Edit::SetMaxHops {
+        bridge: name(bridge)?,
+        limit: Limit::new(hops).ok_or("no limit")?,
+    })
+}
+
+fn set_age(bridge: &str, age: u64) -> Result<Edit, Fail> {
+    Ok(Edit::SetMaxAge {
+        bridge: name(bridge)?,
+        limit: Limit::new(age).ok_or("no limit")?,
+    })
+}
+
+fn set_port_priority(bridge: &str, number: u64, step: u64) -> Result<Edit, Fail> {
+    Ok(Edit::SetTreePortPriority {
+        port: port(bridge, number)?,
+        tree: Tree::cist(),
+        priority: Priority::new(step).ok_or("no priority")?,
+    })
+}
+
+fn set_tree_cost(bridge: &str, number: u64, cost: u64) -> Result<Edit, Fail> {
+    Ok(Edit::SetTreePortCost {
+        port: port(bridge, number)?,
+        tree: Tree::cist(),
+        cost: Cost::new(cost),
+    })
+}
+
 fn set_priority(bridge: &str, step: u64) -> Result<Edit, Fail> {
     Ok(Edit::SetTreePriority {
         bridge: name(bridge)?,
@@ -148,7 +185,7 @@ fn plug_port(rt: &impl Abort, network: &mut Network) -> Result<(), Fail> {
     assert_eq!(rt; found.number.0, 1);
     assert!(rt; found.lan == Some(lan));
     let found = network.lan(&lan).ok_or("no LAN")?;
-    assert_eq!(rt; found.speed, 1_000_000);
+    assert_eq!(rt; found.speed.value(), 1_000_000);
     Ok(())
 }
 
@@ -215,6 +252,54 @@ fn ports_are_unplugged_and_cost(rt: HostRuntime) -> Result<(), Fail> {
     unplug_port(&rt, &mut network)
 }
 
+fn limit(rt: &impl Abort, network: &mut Network) -> Result<(), Fail> {
+    fill(network)?;
+    let bridge = name("b")?;
+    let found = network.bridge(&bridge).ok_or("no bridge")?;
+    assert_eq!(rt; found.max_hops.value(), 20);
+    assert_eq!(rt; found.max_age.value(), 20);
+    change(network, set_hops("b", 6))?;
+    change(network, set_age("b", 40))?;
+    change(network, set_speed("x", 10_000_000))?;
+    let found = network.bridge(&bridge).ok_or("no bridge")?;
+    assert_eq!(rt; found.max_hops.value(), 6);
+    assert_eq!(rt; found.max_age.value(), 40);
+    let found = network.lan(&name("x")?).ok_or("no LAN")?;
+    assert_eq!(rt; found.speed.value(), 10_000_000);
+    Ok(())
+}
+
+#[test]
+fn limits_and_speeds_are_set(rt: HostRuntime) -> Result<(), Fail> {
+    let mut network = Network::new(rt.alloc());
+    limit(&rt, &mut network)
+}
+
+fn set_by_tree(rt: &impl Abort, network: &mut Network) -> Result<(), Fail> {
+    fill(network)?;
+    let number = port("b", 1)?;
+    assert_eq!(rt; network.port_priority(&number, Tree::cist()).step(), 8);
+    assert!(rt; network.port_cost(&number, Tree::cist()).is_none());
+    change(network, set_port_priority("b", 1, 0))?;
+    change(network, set_tree_cost("b", 1, 7))?;
+    assert_eq!(rt; network.port_priority(&number, Tree::cist()).step(), 0);
+    assert!(rt; network.port_cost(&number, Tree::cist()) == Cost::new(7));
+    let other = Tree::new(7).ok_or("no tree")?;
+    assert_eq!(rt; network.port_priority(&number, other).step(), 8);
+    assert!(rt; network.port_cost(&number, other).is_none());
+    change(network, set_port_priority("b", 1, 8))?;
+    change(network, set_tree_cost("b", 1, 0))?;
+    assert_eq!(rt; network.port_priority(&number, Tree::cist()).step(), 8);
+    assert!(rt; network.port_cost(&number, Tree::cist()).is_none());
+    Ok(())
+}
+
+#[test]
+fn ports_are_set_by_tree(rt: HostRuntime) -> Result<(), Fail> {
+    let mut network = Network::new(rt.alloc());
+    set_by_tree(&rt, &mut network)
+}
+
 fn list_names(rt: &impl Abort, alloc: Global, network: &mut Network) -> Result<(), Fail> {
     fill(network)?;
     let bridges = network.bridge_names(alloc)?;
@@ -274,13 +359,18 @@ fn late_refused_step(n: u32) -> (Result<Edit, Fail>, Refusal) {
         10 => (unplug("c", 1), Refusal::E04),
         11 => (unplug("b", 3), Refusal::E05),
         12 => (set_cost("c", 1, None), Refusal::E04),
-        _ => (set_cost("b", 3, None), Refusal::E05),
+        13 => (set_cost("b", 3, None), Refusal::E05),
+        14 => (set_port_priority("b", 3, 1), Refusal::E05),
+        15 => (set_tree_cost("c", 1, 1), Refusal::E04),
+        16 => (set_speed("y", 1), Refusal::E06),
+        17 => (set_hops("c", 20), Refusal::E04),
+        _ => (set_age("c", 20), Refusal::E04),
     }
 }
 
 fn refuse(rt: &impl Abort, network: &mut Network) -> Result<(), Fail> {
     fill(network)?;
-    for n in 0..14 {
+    for n in 0..19 {
         let (edit, refusal) = refused_step(n);
         assert_eq!(rt; apply(network, &edit?), Err(refusal), "at {n}");
     }

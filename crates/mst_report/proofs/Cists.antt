@@ -13,12 +13,12 @@ use Rattle.mst_vector.specs.declared.cist.CistBridge.{CistBridge}
 use Rattle.mst_vector.specs.declared.cist.CistPort.{CistPort}
 use Rattle.mst_settle.specs.Topology.{Plug, IsTopology, HasBridge, HasPort}
 use Rattle.mst_net.specs.Tables.{Net, BridgeRow, PortRow, LanRow, IsNetwork}
-use Rattle.mst_net.specs.Contents.{priority_of}
+use Rattle.mst_net.specs.Contents.{priority_of, port_priority_of}
 use Rattle.mst_report.specs.Cist.{BridgeView, PortView, cist_bridge, cist_port, is_on, cist_of, plugged, view_bridges, view_ports, tree_bridge, tree_port}
 use Rattle.mst_report.specs.View.{Apart}
 use Rattle.mst_report.proofs.Entries.{entries_apart, entries_found, all_weaker}
 use Rattle.mst_report.proofs.Lists.{some_is, no_some, all_kept, all_mapped, all_contained, all_there, all_passing, apart_kept, apart_mapped, apart_filtered, apart_cases, contains_mapped, contains_filtered}
-use Rattle.mst_report.proofs.Seen.{names_differ, port_names_differ, ports_total, same_mac, costs_in_range, bridge_view, port_view, key_there, row_on}
+use Rattle.mst_report.proofs.Seen.{names_differ, port_names_differ, ports_total, same_mac, costs_in_range, bridge_view, port_view, key_there, row_on, same_port_number}
 
 -- a key is the key of an entry
 entry_of : {K X : Type 0} (es : List (K × X)) (k : K) → Contains (map (λ e. e.0) es) k → (x : X) × Contains es (k, x)
@@ -30,7 +30,7 @@ entry_of {K} {X} es k c =
 record IsPlugged (net : Net) (e : PortName × PortRow) (p : PortView) : Type 0 where
   row : LanRow
   is_name : p.name ≡ e.0
-  is_cist : p.settings ≡ cist_port e.0 e.1 row
+  is_cist : p.settings ≡ cist_port net e.0 e.1 row
   is_state : p.is_enabled ≡ (is_on net e.0.bridge && row.is_up)
 
 plugged_is : (net : Net) (e : PortName × PortRow) (p : PortView) → plugged net e ≡ Some p → IsPlugged net e p
@@ -64,7 +64,7 @@ module _ (net : Net) (ok : IsNetwork net) where
     is_row : fin.get net.ports p.number ≡ Some row
     lan_row : LanRow
     is_bridge : p.bridge ≡ p.number.bridge
-    is_cist : p.settings ≡ cist_port p.number row lan_row
+    is_cist : p.settings ≡ cist_port net p.number row lan_row
     bridge_on : is_on net p.bridge ≡ true
 
   each_bridge : AllByRecursion IsBridge (cist_of net).bridges
@@ -85,7 +85,7 @@ module _ (net : Net) (ok : IsNetwork net) where
         is_row = ap (fin.get net.ports) is.is_name ∙ h;
         lan_row = is.row;
         is_bridge = refl;
-        is_cist = is.is_cist ∙ ap (λ n. cist_port n e.1 is.row) (sym is.is_name);
+        is_cist = is.is_cist ∙ ap (λ n. cist_port net n e.1 is.row) (sym is.is_name);
         bridge_on = ap (λ (n : PortName). is_on net n.bridge) is.is_name ∙ (and_parts _ _ (sym is.is_state ∙ enabled)).0;
       }) (fin.entries net.ports) (entries_found ports_total net.ports)))
 
@@ -145,8 +145,8 @@ module _ (net : Net) (ok : IsNetwork net) where
       let y = all_contained IsBridge (cist_of net).bridges (k, b) each_bridge j in
       let ids : bridge_id (priority_of net n 0) 0 x.row.mac ≡ bridge_id (priority_of net k 0) 0 y.row.mac =
       sym (ap (λ (c : CistBridge). c.id) x.is_cist) ∙ e ∙ ap (λ (c : CistBridge). c.id) y.is_cist in
-      ok.macs_differ n k x.row y.row x.is_row y.is_row
-      (same_mac x.row.mac y.row.mac (priority_of net n 0) (priority_of net k 0) (ok.mac_fits n x.row x.is_row) (ok.mac_fits k y.row y.is_row) ids)
+      ok.bridges.macs_differ n k x.row y.row x.is_row y.is_row
+      (same_mac x.row.mac y.row.mac (priority_of net n 0) (priority_of net k 0) (ok.bridges.mac_fits n x.row x.is_row) (ok.bridges.mac_fits k y.row y.is_row) ids)
 
   -- and different numbers of ports
   port_ids : (p q : Plug (List ℕ) (List ℕ) PortName CistPort) → HasPort (cist_of net) p → HasPort (cist_of net) q → p.bridge ≡ q.bridge → p.settings.id ≡ q.settings.id → p ≡ q
@@ -154,8 +154,11 @@ module _ (net : Net) (ok : IsNetwork net) where
       let x = port_of p h in
       let y = port_of q j in
       let names : p.number.bridge ≡ q.number.bridge = sym x.is_bridge ∙ e ∙ y.is_bridge in
-      let ids : port_id 8 p.number.number ≡ port_id 8 q.number.number = sym (ap (λ (c : CistPort). c.id) x.is_cist) ∙ f ∙ ap (λ (c : CistPort). c.id) y.is_cist in
-      let at : p.number.number ≡ q.number.number = omega arith in
+      let ids : port_id (port_priority_of net p.number 0) p.number.number ≡ port_id (port_priority_of net q.number 0) q.number.number =
+      sym (ap (λ (c : CistPort). c.id) x.is_cist) ∙ f ∙ ap (λ (c : CistPort). c.id) y.is_cist in
+      let at : p.number.number ≡ q.number.number =
+      same_port_number p.number.number q.number.number (port_priority_of net p.number 0) (port_priority_of net q.number 0)
+      (ok.ports.number_fits p.number x.row x.is_row).1 (ok.ports.number_fits q.number y.row y.is_row).1 ids in
       one_port p q h j (λ i. record { bridge = names i; number = at i })
 
   pub cist_topology : IsTopology cist_rules (cist_of net)

@@ -20,8 +20,8 @@ use Rattle.mst_vector.specs.Rules.{is_cost}
 use Rattle.mst_ids.specs.Costs.{automatic_cost}
 use Rattle.mst_vector.specs.declared.cist.CistPort.{CistPort}
 use Rattle.mst_vector.specs.declared.cist.CistBridge.{CistBridge}
-use Rattle.mst_net.specs.Tables.{Net, Numbers, BridgeRow, PortRow, LanRow, IsNetwork}
-use Rattle.mst_net.specs.Contents.{IsNumbered, priority_of}
+use Rattle.mst_net.specs.Tables.{Net, Numbers, BridgeRow, PortRow, LanRow, IsNetwork, IsPathCost}
+use Rattle.mst_net.specs.Contents.{IsNumbered, priority_of, port_priority_of, port_cost_of}
 use Rattle.mst_report.specs.Cist.{BridgeView, PortView, cist_bridge, cist_port, is_on, cist_of, plugged, view_bridges, view_ports, tree_bridge, tree_port}
 use Rattle.mst_report.specs.View.{Apart, BridgesDiffer, PortsDiffer, bridge_seen, bridges_seen, port_on, port_seen, ports_seen, on_bridges, enabled_ports, viewed_bridge, viewed_port, named_bridge, named_port, numbered_bridge}
 use Rattle.mst_report.specs.declared.view.BridgeSeen.{BridgeSeen}
@@ -78,7 +78,7 @@ port_of net port row lan lan_row number bridge lan_number = record {
   bridge = bridge;
   lan = lan;
   lan_number = lan_number;
-  cist = cist_port port row lan_row;
+  cist = cist_port net port row lan_row;
   is_enabled = is_on net port.bridge && lan_row.is_up;
 }
 
@@ -92,7 +92,7 @@ pub record IsPortSeen (net : Net) (numbers : Numbers) (port : PortName) (p : Por
   pub is_bridge : fin.get numbers.bridges port.bridge ≡ Some p.bridge
   pub is_lan_number : fin.get numbers.lans p.lan ≡ Some p.lan_number
   pub is_name : p.name ≡ port
-  pub is_cist : p.cist ≡ cist_port port row lan_row
+  pub is_cist : p.cist ≡ cist_port net port row lan_row
   pub is_state : p.is_enabled ≡ (is_on net port.bridge && lan_row.is_up)
 
 module _ (net : Net) (numbers : Numbers) (port : PortName) (p : PortSeen) where
@@ -166,13 +166,24 @@ within q =
 pub automatic_in_range : (speed : ℕ) → IsTrue (is_cost (automatic_cost speed))
 automatic_in_range speed = within (20_000_000_000 / speed)
 
--- the costs of a port are in range: the external one that was set, and the automatic ones
-pub costs_in_range : (net : Net) → IsNetwork net → (port : PortName) (row : PortRow) (lan : LanRow) → fin.get net.ports port ≡ Some row → IsTrue (cist_rules.in_range (cist_port port row lan))
-costs_in_range net ok port row lan is = and_from (is_cost (cist_port port row lan).external) (is_cost (cist_port port row lan).internal) (external row.external refl) (automatic_in_range lan.speed)
+-- a cost that is set, or the automatic one
+cost_or_automatic : (cost : Option ℕ) (speed : ℕ) → ((c : ℕ) → cost ≡ Some c → IsPathCost c) → IsTrue (is_cost (unwrap_or cost (automatic_cost speed)))
+cost_or_automatic None speed fits = automatic_in_range speed
+cost_or_automatic (Some cost) speed fits = let f = fits cost refl in and_from (nat_le 1 cost) (nat_le cost 200_000_000) (le-leb 1 cost f.0) (le-leb cost 200_000_000 f.1)
+
+-- the costs of a port are in range
+pub costs_in_range : (net : Net) → IsNetwork net → (port : PortName) (row : PortRow) (lan : LanRow) → fin.get net.ports port ≡ Some row → IsTrue (cist_rules.in_range (cist_port net port row lan))
+costs_in_range net ok port row lan is =
+    and_from (is_cost (cist_port net port row lan).external) (is_cost (cist_port net port row lan).internal)
+    (cost_or_automatic row.external lan.speed (λ c e. ok.ports.cost_fits port row c is e))
+    (cost_or_automatic (port_cost_of net port 0) lan.speed (λ c e. (ok.port_costs (record { port = port; tree = 0 }) c e).1))
+
+-- equal identifiers of ports come of equal numbers
+pub same_port_number : (a b c d : ℕ) → a ≤ 4095 → b ≤ 4095 → port_id c a ≡ port_id d b → a ≡ b
+same_port_number a b c d l m e = by_parts c d l m e
   where
-    external : (cost : Option ℕ) → row.external ≡ cost → IsTrue (is_cost (unwrap_or cost (automatic_cost lan.speed)))
-    external None e = automatic_in_range lan.speed
-    external (Some cost) e = let fits = ok.cost_fits port row cost is e in and_from (nat_le 1 cost) (nat_le cost 200_000_000) (le-leb 1 cost fits.0) (le-leb cost 200_000_000 fits.1)
+    by_parts : (x y : ℕ) → a ≤ 4095 → b ≤ 4095 → x * 4096 + a ≡ y * 4096 + b → a ≡ b
+    by_parts x y l m e = omega arith
 
 -- a row and a number are seen
 seen_here : (net : Net) (numbers : Numbers) (name : List ℕ) (row : BridgeRow) (number : ℕ) → fin.get net.bridges name ≡ Some row → fin.get numbers.bridges name ≡ Some number
@@ -209,7 +220,7 @@ abbrev pub bridge_view : Net → List ℕ × BridgeRow → BridgeView
 bridge_view net e = record { name = e.0; settings = cist_bridge net e.0 e.1; is_on = e.1.is_on }
 
 abbrev pub port_view : Net → PortName × PortRow → List ℕ → LanRow → PortView
-port_view net e lan row = record { name = e.0; lan = lan; settings = cist_port e.0 e.1 row; is_enabled = is_on net e.0.bridge && row.is_up }
+port_view net e lan row = record { name = e.0; lan = lan; settings = cist_port net e.0 e.1 row; is_enabled = is_on net e.0.bridge && row.is_up }
 
 -- a port, its bridge and its LAN have their numbers
 pub record IsNumberedPort (numbers : Numbers) (p : PortSeen) : Type 0 where
@@ -227,8 +238,8 @@ module _ (net : Net) (numbers : Numbers) (ok : IsNetwork net) (num : IsNumbered 
         identifiers = λ same.
             let ids : bridge_id (priority_of net x 0) 0 p.row.mac ≡ bridge_id (priority_of net y 0) 0 q.row.mac =
             sym (ap (λ (c : CistBridge). c.id) p.is_cist) ∙ same ∙ ap (λ (c : CistBridge). c.id) q.is_cist in
-            names_differ x y l (ok.macs_differ x y p.row q.row p.is_row q.is_row
-            (same_mac p.row.mac q.row.mac (priority_of net x 0) (priority_of net y 0) (ok.mac_fits x p.row p.is_row) (ok.mac_fits y q.row q.is_row) ids));
+            names_differ x y l (ok.bridges.macs_differ x y p.row q.row p.is_row q.is_row
+            (same_mac p.row.mac q.row.mac (priority_of net x 0) (priority_of net y 0) (ok.bridges.mac_fits x p.row p.is_row) (ok.bridges.mac_fits y q.row q.is_row) ids));
       }
 
   pub bridges_differ : Apart BridgesDiffer (on_bridges (bridges_seen net numbers))
@@ -245,8 +256,8 @@ module _ (net : Net) (numbers : Numbers) (ok : IsNetwork net) (num : IsNumbered 
         numbers = λ same. port_names_differ x y l (num.ports_differ x y q.number (s.is_number ∙ ap Some same) r.is_number);
         identifiers = λ bridges ids.
             let names : x.bridge ≡ y.bridge = num.bridges_differ x.bridge y.bridge q.bridge (s.is_bridge ∙ ap Some bridges) r.is_bridge in
-            let same : port_id 8 x.number ≡ port_id 8 y.number = sym (ap (λ (c : CistPort). c.id) s.is_cist) ∙ ids ∙ ap (λ (c : CistPort). c.id) r.is_cist in
-            let at : x.number ≡ y.number = omega arith in
+            let same : port_id (port_priority_of net x 0) x.number ≡ port_id (port_priority_of net y 0) y.number = sym (ap (λ (c : CistPort). c.id) s.is_cist) ∙ ids ∙ ap (λ (c : CistPort). c.id) r.is_cist in
+            let at : x.number ≡ y.number = same_port_number x.number y.number (port_priority_of net x 0) (port_priority_of net y 0) (ok.ports.number_fits x s.row s.is_row).1 (ok.ports.number_fits y r.row r.is_row).1 same in
             port_names_differ x y l (λ i. record { bridge = names i; number = at i });
       }
 
@@ -335,7 +346,7 @@ module _ (net : Net) (numbers : Numbers) (ok : IsNetwork net) (num : IsNumbered 
       plug None = refl
       plug (Some lan) =
           on lan (fin.get net.lans lan) (fin.get numbers.ports e.0) (fin.get numbers.bridges e.0.bridge) (fin.get numbers.lans lan)
-          (num.ports e.0 ∙ ap is_some here) (num.bridges e.0.bridge ∙ ok.port_has_bridge e.0 e.1 here) (λ h. num.lans lan ∙ h)
+          (num.ports e.0 ∙ ap is_some here) (num.bridges e.0.bridge ∙ ok.ports.has_bridge e.0 e.1 here) (λ h. num.lans lan ∙ h)
 
   named_ports : (es : List (PortName × PortRow)) → AllByRecursion (λ e. fin.get net.ports e.0 ≡ Some e.1) es
       → filter_map (plugged net) es ≡ map viewed_port (filter_map (port_seen net numbers) (map (λ e. e.0) es))
@@ -377,7 +388,7 @@ module _ (net : Net) (numbers : Numbers) (ok : IsNetwork net) (num : IsNumbered 
   few_bridges =
       let on = length_filtered (λ b. b.is_on) (bridges_seen net numbers) in
       let kept = length_kept (bridge_seen net numbers) (fin.keys net.bridges) in
-      let all = ok.bridge_limit in
+      let all = ok.bridges.few in
       omega (arith, on, kept, all, len-entries net.bridges, length-map (fin.entries net.bridges) (λ (e : List ℕ × BridgeRow). e.0))
 
 -- a bridge that is seen is on where its network says so

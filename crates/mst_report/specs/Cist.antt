@@ -12,7 +12,7 @@ use Rattle.mst_vector.specs.declared.cist.CistVector.{CistVector}
 use Rattle.mst_settle.specs.Topology.{Plug, Topology}
 use Rattle.mst_settle.specs.Settled.{Settled, IsDesignated}
 use Rattle.mst_net.specs.Tables.{Net, BridgeRow, PortRow, LanRow}
-use Rattle.mst_net.specs.Contents.{priority_of}
+use Rattle.mst_net.specs.Contents.{priority_of, port_priority_of, port_cost_of}
 
 -- a bridge: its identifier, its region and its kind. Each bridge is a region of its own
 abbrev pub cist_bridge : Net → List ℕ → BridgeRow → CistBridge
@@ -20,13 +20,12 @@ cist_bridge net name row =
     let id = bridge_id (priority_of net name 0) 0 row.mac in
     record { id = id; region = id; is_rstp = row.is_rstp }
 
--- a port on a LAN: its identifier, by the default priority 8, and its costs. The external one is the one
--- that was set; an automatic cost goes by the LAN's speed
-abbrev pub cist_port : PortName → PortRow → LanRow → CistPort
-cist_port port row lan = record {
-  id = port_id 8 port.number;
+-- a port on a LAN: its identifier and its costs. A cost that isn't set goes by the LAN's speed
+abbrev pub cist_port : Net → PortName → PortRow → LanRow → CistPort
+cist_port net port row lan = record {
+  id = port_id (port_priority_of net port 0) port.number;
   external = unwrap_or row.external (automatic_cost lan.speed);
-  internal = automatic_cost lan.speed;
+  internal = unwrap_or (port_cost_of net port 0) (automatic_cost lan.speed);
 }
 
 -- a bridge as the trees see it
@@ -52,7 +51,7 @@ plugged net e =
     option_and_then (λ lan. option_map (λ row. record {
       name = e.0;
       lan = lan;
-      settings = cist_port e.0 e.1 row;
+      settings = cist_port net e.0 e.1 row;
       is_enabled = is_on net e.0.bridge && row.is_up;
     }) (fin.get net.lans lan)) e.1.lan
 

@@ -33,7 +33,7 @@ port_on net numbers port row lan =
       bridge = bridge;
       lan = lan;
       lan_number = lan_number;
-      cist = cist_port port row lan_row;
+      cist = cist_port net port row lan_row;
       is_enabled = is_on net port.bridge && lan_row.is_up;
     }) (fin.get numbers.lans lan)) (fin.get numbers.bridges port.bridge)) (fin.get numbers.ports port)) (fin.get net.lans lan)
 

@@ -2,9 +2,7 @@ ghost use Rattle.std.specs.Prelude.{◌≡◌, IfOk};
 ghost use Rattle.mst_net.specs.After.{is_on as power_is_on, is_up as state_is_up};
 ghost use Rattle.mst_report.specs.View.{bridge_seen as seen_bridge, port_seen as seen_port, bridges_seen, ports_seen};
 
-use mst_ids::{
-    BridgeId, BridgeNo, LanNo, Name, PortId, PortName, PortNo, Priority, Tree, auto_cost,
-};
+use mst_ids::{BridgeId, BridgeNo, LanNo, Name, PortId, PortName, PortNo, Tree, auto_cost};
 use mst_lang::{Kind, LanState, Power};
 use mst_net::{Contents, Network};
 use mst_vector::{CistBridge, CistPort};
@@ -82,7 +80,7 @@ pub(crate) fn port_seen(network: &Network, name: &PortName) -> Option<PortSeen>
     let lan_name = port.lan?;
     let lan = network.lan(&lan_name)?;
     let bridge = network.bridge(&name.bridge)?;
-    let automatic = auto_cost(lan.speed);
+    let automatic = auto_cost(lan.speed.value());
     Some(PortSeen {
         name: *name,
         number: port.number,
@@ -90,9 +88,9 @@ pub(crate) fn port_seen(network: &Network, name: &PortName) -> Option<PortSeen>
         lan: lan_name,
         lan_number: lan.number,
         cist: CistPort {
-            id: PortId::new(Priority::standard(), name.number),
+            id: PortId::new(network.port_priority(name, Tree::cist()), name.number),
             external: port.external.unwrap_or(automatic),
-            internal: automatic,
+            internal: network.port_cost(name, Tree::cist()).unwrap_or(automatic),
         },
         is_enabled: is_on(bridge.power) && is_up(lan.state),
     })

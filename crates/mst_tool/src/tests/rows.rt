@@ -10,7 +10,7 @@ struct Row {
     is_whole: bool,
 }
 
-const ROWS: [Row; 8] = [
+const ROWS: [Row; 9] = [
     Row {
         name: "triangle",
         script: b"\
@@ -216,6 +216,68 @@ const ROWS: [Row; 8] = [
             bridge B 8000.02:00:00:00:00:02 root 8000.02:00:00:00:00:02 ext 0 regional \
             8000.02:00:00:00:00:02 int 0 from 8000.02:00:00:00:00:02 0000 at 0000\n\
             port B 2 Y Disabled\n\
+            tree 0\n\
+            bridge A 8000.02:00:00:00:00:01 root 8000.02:00:00:00:00:01 ext 0 regional \
+            8000.02:00:00:00:00:01 int 0 from 8000.02:00:00:00:00:01 0000 at 0000\n\
+            port A 1 X 8001 ext 20000 int 20000 Designated\n\
+            port A 2 Y 8002 ext 20000 int 20000 Designated\n\
+            bridge B 8000.02:00:00:00:00:02 root 8000.02:00:00:00:00:01 ext 20000 regional \
+            8000.02:00:00:00:00:02 int 0 from 8000.02:00:00:00:00:01 8001 at 8001\n\
+            port B 1 X 8001 ext 20000 int 20000 Root\n\
+            port B 2 Y 8002 ext 20000 int 20000 Alternate\n\
+            ",
+        is_whole: true,
+    },
+    Row {
+        name: "settings-of-ports",
+        script: b"\
+            addbridge A 02:00:00:00:00:01\n\
+            kind A rstp\n\
+            addbridge B 02:00:00:00:00:02\n\
+            kind B rstp\n\
+            addlan X\n\
+            addport A 1\n\
+            addport B 1\n\
+            plug A 1 X\n\
+            plug B 1 X\n\
+            addlan Y\n\
+            addport A 2\n\
+            addport B 2\n\
+            plug A 2 Y\n\
+            plug B 2 Y\n\
+            settreeportprio A 2 0 4\n\
+            settreeportprio A 1 7 0\n\
+            settreeportcost B 1 0 7\n\
+            settreeportcost B 2 1 9\n\
+            showtree 0\n\
+            speed X 10000000\n\
+            showtree 0\n\
+            speed X 1000000\n\
+            settreeportprio A 2 0 8\n\
+            settreeportcost B 1 0 0\n\
+            setmaxhops A 6\n\
+            setmaxage B 40\n\
+            showtree 0\n\
+            ",
+        expected: b"\
+            tree 0\n\
+            bridge A 8000.02:00:00:00:00:01 root 8000.02:00:00:00:00:01 ext 0 regional \
+            8000.02:00:00:00:00:01 int 0 from 8000.02:00:00:00:00:01 0000 at 0000\n\
+            port A 1 X 8001 ext 20000 int 20000 Designated\n\
+            port A 2 Y 4002 ext 20000 int 20000 Designated\n\
+            bridge B 8000.02:00:00:00:00:02 root 8000.02:00:00:00:00:01 ext 20000 regional \
+            8000.02:00:00:00:00:02 int 0 from 8000.02:00:00:00:00:01 4002 at 8002\n\
+            port B 1 X 8001 ext 20000 int 7 Alternate\n\
+            port B 2 Y 8002 ext 20000 int 20000 Root\n\
+            tree 0\n\
+            bridge A 8000.02:00:00:00:00:01 root 8000.02:00:00:00:00:01 ext 0 regional \
+            8000.02:00:00:00:00:01 int 0 from 8000.02:00:00:00:00:01 0000 at 0000\n\
+            port A 1 X 8001 ext 2000 int 2000 Designated\n\
+            port A 2 Y 4002 ext 20000 int 20000 Designated\n\
+            bridge B 8000.02:00:00:00:00:02 root 8000.02:00:00:00:00:01 ext 2000 regional \
+            8000.02:00:00:00:00:02 int 0 from 8000.02:00:00:00:00:01 8001 at 8001\n\
+            port B 1 X 8001 ext 2000 int 7 Root\n\
+            port B 2 Y 8002 ext 20000 int 20000 Alternate\n\
             tree 0\n\
             bridge A 8000.02:00:00:00:00:01 root 8000.02:00:00:00:00:01 ext 0 regional \
             8000.02:00:00:00:00:01 int 0 from 8000.02:00:00:00:00:01 0000 at 0000\n\

@@ -1,5 +1,6 @@
-use Rattle.std.proofs.Common.{is_some, ap, sym, ◌∙◌, refl}
+use Rattle.std.proofs.Common.{is_some, ap, sym, ◌∙◌, refl, subst}
 use Rattle.std.specs.FinMap as fin
+use Rattle.mst_net.specs.Tables.{BridgeRow, IsLimit}
 use Rattle.mst_net.specs.After.{with_bridge}
 use Rattle.mst_net.specs.declared.network.Network.TheInside.{Inside}
 use Rattle.mst_net.proofs.EditLemmas.{net_with_bridge, bridge_set_sound}
@@ -18,7 +19,7 @@ invariant_of-self c =
     let b : Inside = record a { bridges = c.set.new.self } in
     let name = c.args.bridge.now in
     bridge_set_sound a b name c.args.settings refl c.set.ensures.rows c.self.invariant c.set.ensures.numbered refl c.requires.0
-    (ap (λ n. fin.get n.net.bridges name) c.self.view_is ∙ c.requires.1) c.requires.2
+    (ap (λ n. fin.get n.net.bridges name) c.self.view_is ∙ c.requires.1) c.requires.2 (subst IsLimit (ap (λ (r : BridgeRow). r.max_hops) c.settings.view_is) c.known_limit.ensures, subst IsLimit (ap (λ (r : BridgeRow). r.max_age) c.settings.view_is) c.known_limit-2.ensures)
 
 pub returns-clause-net : goal.returns-clause-net
 returns-clause-net c =
