@@ -17,7 +17,7 @@ pub use cost::{Cost, auto_cost};
 pub use identifier::{BridgeId, PortId};
 pub use mac::{Mac, parse_mac};
 pub use name::{Name, PortName};
-pub use number::{Limit, PortNumber, Priority, Speed, Tree};
+pub use number::{Limit, PortNumber, Priority, Speed, Tree, Vid};
 pub use record::{BridgeNo, LanNo, PortNo};
 pub use text::{BadText, push_bytes, push_decimal};
 pub use vid_list::parse_vids;

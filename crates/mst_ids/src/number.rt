@@ -99,7 +99,8 @@ impl PortNumber {
         ensures ok { OnOk result (out.new.items ≡ out.old.items ++ decimal self.now) }
         ensures err { OnErr result (out.new.items ≡ out.old.items) }
     {
-        push_decimal(u64::from(self.number), out)
+        let number = u64::from(self.number);
+        push_decimal(number, out)
     }
 }
 
@@ -155,6 +156,54 @@ impl Tree {
         ensures err { OnErr result (out.new.items ≡ out.old.items) }
     {
         push_decimal(u64::from(self.number), out)
+    }
+}
+
+/// A VLAN's identifier, 1 to 4094 (802.1Q-2022, 9.6).
+#[derive(Clone, Copy, Debug, PartialEq, Eq, PartialOrd, Ord, Hash)]
+pub struct Vid {
+    number: u16,
+}
+
+impl Model for Vid {
+    ghost use Rattle.std.specs.Prelude.{ℕ, ◌≤◌};
+
+    ghost Value = { ℕ };
+
+    ghost view = { λ a. a.number };
+
+    ghost invariant = { λ a. (1 ≤ a.number) × (a.number ≤ 4094) };
+
+    ghost inverse = { λ n. record { number = n } };
+}
+
+impl Vid {
+    /// The VID of this value, or nothing for 0 and above 4094.
+    pub fn new(number: u64) -> Option<Vid>
+        ensures { SomeIff result ((1 ≤ number) × (number ≤ 4094)) number }
+    {
+        if number < 1 || number > 4094 {
+            return None;
+        }
+        Some(Vid {
+            number: number as u16,
+        })
+    }
+
+    /// The value, 1 to 4094.
+    pub fn value(self) -> u16
+        ensures value { result ≡ self }
+        ensures range { (1 ≤ result) × (result ≤ 4094) }
+    {
+        self.number
+    }
+
+    /// Appends the number in decimal, or changes nothing.
+    pub fn push_text(&self, out: &mut Vec<u8>) -> Result<(), AllocError>
+        ensures ok { OnOk result (out.new.items ≡ out.old.items ++ decimal self.now) }
+        ensures err { OnErr result (out.new.items ≡ out.old.items) }
+    {
+        push_decimal(u64::from(self.value()), out)
     }
 }
 

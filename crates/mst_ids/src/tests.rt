@@ -79,6 +79,29 @@ fn speeds_and_limits_keep_their_ranges(rt: HostRuntime) {
 }
 
 #[test]
+fn a_vid_is_from_1_to_4094(rt: HostRuntime) -> Result<(), Fail> {
+    for (number, is_vid) in [
+        (0, false),
+        (1, true),
+        (2, true),
+        (4094, true),
+        (4095, false),
+        (4096, false),
+        (65537, false),
+        (u64::MAX, false),
+    ] {
+        let vid = Vid::new(number).map(|vid| u64::from(vid.value()));
+        assert_eq!(rt; vid, is_vid.then_some(number), "VID {number}");
+    }
+    let mut out = Vec::new(rt.alloc());
+    Vid::new(1).ok_or("VID")?.push_text(&mut out)?;
+    push_bytes(b" ", &mut out)?;
+    Vid::new(4094).ok_or("VID")?.push_text(&mut out)?;
+    assert_eq!(rt; out.as_slice(), b"1 4094".as_slice());
+    Ok(())
+}
+
+#[test]
 fn macs_are_parsed(rt: HostRuntime) -> Result<(), Fail> {
     for text in [
         "01:23:45:67:89:ab",
