@@ -1,20 +1,23 @@
 -- The values of an edit that a line says are in their ranges.
 use Rattle.std.proofs.Common.{◌≡◌, ℕ, ◌<◌, ◌≤◌, ◌^◌, Bool, true, false, List, [], ◌∷◌, length, Option, Some, None, Ok, Err, refl, arith}
 use Rattle.std.specs.Prelude.{Result, ◌==◌, ◌&&◌, nat_lt, nat_le, codes, IfOk, IfSome, if◌then◌else◌, ⊤}
-use Rattle.std.specs.Option.{ForSome, option_map_or}
+use Rattle.std.specs.Option.{ForSome, option_map_or, ok_or}
 use Rattle.std.specs.List.{list_all}
 use Rattle.std.proofs.lemmas.Bool.{eqb-false}
 use Rattle.std.proofs.lemmas.Result.{IfOk-at_ok}
-use Rattle.mst_ids.specs.Texts.{is_name, mac_value}
-use Rattle.mst_lang.specs.Words.{words, is_plain}
-use Rattle.mst_lang.specs.Arguments.{is_text, number_value, one_of, two_of, three_of, four_of, cost_of, with_number, with_name, with_mac, with_one}
+use Rattle.mst_ids.specs.Texts.{is_name, is_conf_name, mac_value}
+use Rattle.mst_ids.specs.Vids.{IsVidSet, is_vid, set_where, vids_value}
+use Rattle.mst_ids.proofs.VidRangeLemmas.{is_vid_set, vids_value-IsVidSet}
+use Rattle.mst_lang.specs.Words.{words, is_plain, one_of, two_of, three_of, four_of}
+use Rattle.mst_lang.specs.Arguments.{is_text, text_of, choice_of, number_value, number_of, with, name, mac, port_number, priority, cost_of, cost, sixteen_bits, limit, speed, conf_name, power, kind, lan_state, tree, vids, members, none_of, one, two, three, four}
 use Rattle.mst_lang.specs.Ranges.{InRange}
-use Rattle.mst_lang.specs.Reading.{command_of, says, is_comment, worded, reading}
+use Rattle.mst_lang.specs.Reading.{command_of, edit as said, query, says, is_comment, worded, reading}
 use Rattle.mst_lang.specs.declared.line.Edit.{Edit}
+use Rattle.mst_lang.specs.declared.line.Query.{Query}
 use Rattle.mst_lang.specs.declared.line.Line.{Line}
-use Rattle.mst_lang.specs.declared.line.Line.TheVariants.{Edit as edit}
+use Rattle.mst_lang.specs.declared.line.Line.TheVariants.{Edit as edit, Mark as marked}
 use Rattle.mst_lang.specs.declared.line.Command.{Command}
-use Rattle.mst_lang.specs.declared.line.Command.TheVariants.{AddBridge, Bridge, Kind as KindOf, AddPort, AddLan, Lan, Speed as SpeedOf, Plug, Unplug, SetTreePrio, SetTreePortPrio, SetPortPathCost, SetTreePortCost, SetMaxHops, SetMaxAge, ShowTree}
+use Rattle.mst_lang.specs.declared.line.Command.TheVariants.{AddBridge, DelBridge, Bridge, Kind as KindOf, AddPort, DelPort, AddLan, DelLan, Lan, Speed as SpeedOf, Plug, Unplug, SetKey, SetSysPri, SetTreePrio, SetTreePortPrio, SetPortPathCost, SetTreePortCost, SetMstConfId, SetVidToMstId, SetMaxHops, SetMaxAge, SetPortVlans, ShowPlan, ShowLag, ShowRegions, ShowNotes, ShowTree, ShowVlan, ShowMstConfId, Mark, Changes}
 use Rattle.mst_lang.specs.declared.line.Fault.{Fault}
 use Rattle.mst_lang.specs.declared.line.Fault.TheVariants.{E01, E02, E03}
 use Rattle.mst_lang.proofs.MacLemmas.{between, mac_fits}
@@ -28,45 +31,61 @@ HasRanges _ = ⊤
 abbrev Fits : Result Line Fault → Type 0
 Fits r = IfOk r HasRanges
 
--- ---- the parts that every command is made of
+-- ---- the forms of arguments
+-- what holds of every value of a form
+record Gives {A : Type 0} (form : List ℕ → Result A Fault) (P : A → Type 0) : Type 0 where
+  each : (word : List ℕ) → IfOk (form word) P
+
 -- what a test lets pass
-if_passed : (b : Bool) (r : Result Line Fault) (fault : Fault) → (b ≡ true → Fits r) → Fits (if b then r else Err fault)
-if_passed true r fault h = h refl
-if_passed false r fault h = tt
+if_passed : {A : Type 0} (P : A → Type 0) (b : Bool) (r : Result A Fault) (fault : Fault) → (b ≡ true → IfOk r P) → IfOk (if b then r else Err fault) P
+if_passed P true r fault h = h refl
+if_passed P false r fault h = tt
 
 -- either of two
-either : (b : Bool) (r s : Result Line Fault) → Fits r → Fits s → Fits (if b then r else s)
-either true r s h i = h
-either false r s h i = i
+either : {A : Type 0} (P : A → Type 0) (b : Bool) (r s : Result A Fault) → IfOk r P → IfOk s P → IfOk (if b then r else s) P
+either P true r s h i = h
+either P false r s h i = i
+
+-- a value, or the fault where there is none
+value_or : {A : Type 0} (P : A → Type 0) (o : Option A) (fault : Fault) → IfSome o P → IfOk (ok_or o fault) P
+value_or P None fault h = tt
+value_or P (Some a) fault h = h
 
 -- what is made of a value
-made_of : {X : Type 0} (P : X → Type 0) (f : X → Result Line Fault) (o : Option X) (fault : Fault) → IfSome o P → ((x : X) → P x → Fits (f x)) → Fits (option_map_or f o (Err fault))
-made_of P f None fault h i = tt
-made_of P f (Some x) fault h i = i x h
+made_of : {X A : Type 0} (P : A → Type 0) (f : X → Result A Fault) (o : Option X) (fault : Fault) → ((x : X) → IfOk (f x) P) → IfOk (option_map_or f o (Err fault)) P
+made_of P f None fault h = tt
+made_of P f (Some x) fault h = h x
 
--- a value of which nothing is said
-any_value : {X : Type 0} (o : Option X) → IfSome o (λ _. ⊤)
-any_value None = tt
-any_value (Some x) = tt
+-- what is made of a value and of what was made so far
+with_fits : {A B : Type 0} (P : A → Type 0) (Q : B → Type 0) (r : Result (A → B) Fault) (s : Result A Fault) → IfOk r (λ make. (a : A) → P a → Q (make a)) → IfOk s P → IfOk (with r s) Q
+with_fits P Q (Ok make) (Ok a) h i = h a i
+with_fits P Q (Ok make) (Err fault) h i = tt
+with_fits P Q (Err fault) (Ok a) h i = tt
+with_fits P Q (Err fault) (Err other) h i = tt
 
--- ---- each form of argument
--- what follows a name
-name_fits : (word : List ℕ) (r : Result Line Fault) → Fits r → Fits (with_name word (λ _. r))
-name_fits word r h = if_passed (is_name word) r E02 (λ _. h)
+text_gives : (is_form : List ℕ → Bool) (fault : Fault) → Gives (text_of is_form fault) (λ text. is_form text ≡ true)
+text_gives is_form fault = record { each = λ word. if_passed (λ text. is_form text ≡ true) (is_form word) (Ok word) fault (λ passed. passed) }
 
--- what is made of a number, which is in its range
-number_fits : (low high : ℕ) (fault : Fault) (word : List ℕ) (f : ℕ → Result Line Fault) → ((n : ℕ) → (low ≤ n) × (n ≤ high) → Fits (f n)) → Fits (with_number low high fault word f)
-number_fits low high fault word f h =
-    made_of (λ _. ⊤) _ (number_value word) fault (any_value _) (λ n _.
-    if_passed (nat_le low n && nat_le n high) (f n) fault (λ both. h n (between low high n both)))
+choice_gives : {A : Type 0} (one other : List ℕ × A) (fault : Fault) → Gives (choice_of one other fault) (λ _. ⊤)
+choice_gives one other fault = record { each = λ word. either (λ _. ⊤) (is_text word one.0) (Ok one.1) _ tt (if_passed (λ _. ⊤) (is_text word other.0) (Ok other.1) fault (λ _. tt)) }
 
--- what is made of a MAC, which has 48 bits
-address_fits : (word : List ℕ) (f : ℕ → Result Line Fault) → ((mac : ℕ) → mac < 2 ^ 48 → Fits (f mac)) → Fits (with_mac word f)
-address_fits word f h = made_of (λ mac. mac < 2 ^ 48) f (mac_value word) E02 (mac_fits word) h
+number_gives : (low high : ℕ) (fault : Fault) → Gives (number_of low high fault) (λ n. (low ≤ n) × (n ≤ high))
+number_gives low high fault = record {
+  each = λ word.
+      made_of (λ n. (low ≤ n) × (n ≤ high)) _ (number_value word) fault (λ n. if_passed (λ n. (low ≤ n) × (n ≤ high)) (nat_le low n && nat_le n high) (Ok n) fault (between low high n));
+}
 
--- what stands for either of two texts
-choice_fits : (word one other : List ℕ) (r s : Result Line Fault) → Fits r → Fits s → Fits (if is_text word one then r else (if is_text word other then s else Err E02))
-choice_fits word one other r s h i = either (is_text word one) r _ h (if_passed (is_text word other) s E02 (λ _. i))
+name_gives : Gives name (λ text. is_name text ≡ true)
+name_gives = text_gives is_name E02
+
+mac_gives : Gives mac (λ mac. mac < 2 ^ 48)
+mac_gives = record { each = λ word. value_or (λ mac. mac < 2 ^ 48) (mac_value word) E02 (mac_fits word) }
+
+port_number_gives : Gives port_number (λ n. (1 ≤ n) × (n ≤ 4095))
+port_number_gives = number_gives 1 4095 E02
+
+priority_gives : Gives priority (λ n. (0 ≤ n) × (n ≤ 15))
+priority_gives = number_gives 0 15 E02
 
 -- no value is some value
 no_some : {X : Type 0} (x : X) → None ≡ Some x → ⊥
@@ -77,52 +96,128 @@ if_other : {X : Type 0} (b : Bool) (x y : X) → (if b then None else Some x) �
 if_other true x y h = absurd (no_some y h)
 if_other false x y h = (refl, cc)
 
+abbrev IsCost : Option ℕ → Type 0
+IsCost cost = ForSome cost (λ c. (1 ≤ c) × (c ≤ 200_000_000))
+
 -- none is the automatic cost, and another is not 0
-cost_in_range : (n : ℕ) → n ≤ 200_000_000 → ForSome (cost_of n) (λ c. (1 ≤ c) × (c ≤ 200_000_000))
-cost_in_range n most c h =
+cost_in_range : (n : ℕ) → (0 ≤ n) × (n ≤ 200_000_000) → IsCost (cost_of n)
+cost_in_range n within c h =
     let other = if_other (n == 0) n c h in
     let positive = eqb-false n 0 other.0 in
+    let most = within.1 in
     (omega arith, omega arith)
 
--- what is made of one, two or three words
-one_fits : (arguments : List (List ℕ)) (f : List ℕ → Result Line Fault) → ((a : List ℕ) → Fits (f a)) → Fits (with_one arguments f)
-one_fits arguments f h = made_of (λ _. ⊤) f (one_of arguments) E01 (any_value _) (λ a _. h a)
+cost_gives : Gives cost IsCost
+cost_gives = record { each = λ word. with_fits (λ n. (0 ≤ n) × (n ≤ 200_000_000)) IsCost (Ok cost_of) (number_of 0 200_000_000 E02 word) cost_in_range ((number_gives 0 200_000_000 E02).each word) }
 
-two_fit : (arguments : List (List ℕ)) (f : List ℕ × List ℕ → Result Line Fault) → ((a b : List ℕ) → Fits (f (a, b))) → Fits (option_map_or f (two_of arguments) (Err E01))
-two_fit arguments f h = made_of (λ _. ⊤) f (two_of arguments) E01 (any_value _) (λ p _. h p.0 p.1)
+sixteen_bits_give : Gives sixteen_bits (λ n. (0 ≤ n) × (n ≤ 65535))
+sixteen_bits_give = number_gives 0 65535 E02
 
-three_fit : (arguments : List (List ℕ)) (f : List ℕ × List ℕ × List ℕ → Result Line Fault) → ((a b c : List ℕ) → Fits (f (a, b, c))) → Fits (option_map_or f (three_of arguments) (Err E01))
-three_fit arguments f h = made_of (λ _. ⊤) f (three_of arguments) E01 (any_value _) (λ p _. h p.0 p.1 p.2)
+limit_gives : Gives limit (λ n. (6 ≤ n) × (n ≤ 40))
+limit_gives = number_gives 6 40 E02
 
-four_fit : (arguments : List (List ℕ)) (f : List ℕ × List ℕ × List ℕ × List ℕ → Result Line Fault) → ((a b c d : List ℕ) → Fits (f (a, b, c, d))) → Fits (option_map_or f (four_of arguments) (Err E01))
-four_fit arguments f h = made_of (λ _. ⊤) f (four_of arguments) E01 (any_value _) (λ p _. h p.0 p.1 p.2 p.3)
+speed_gives : Gives speed (λ n. (1 ≤ n) × (n ≤ 9_999_999_999))
+speed_gives = number_gives 1 9_999_999_999 E02
+
+conf_name_gives : Gives conf_name (λ text. is_conf_name text ≡ true)
+conf_name_gives = text_gives is_conf_name E02
+
+power_gives : Gives power (λ _. ⊤)
+power_gives = choice_gives _ _ E02
+
+kind_gives : Gives kind (λ _. ⊤)
+kind_gives = choice_gives _ _ E02
+
+lan_state_gives : Gives lan_state (λ _. ⊤)
+lan_state_gives = choice_gives _ _ E02
+
+tree_gives : Gives tree (λ n. (0 ≤ n) × (n ≤ 4094))
+tree_gives = number_gives 0 4094 E03
+
+list_fits : (word : List ℕ) → IfOk (vids word) IsVidSet
+list_fits word = value_or IsVidSet (vids_value word) E03 (vids_value-IsVidSet word)
+
+vids_give : Gives vids IsVidSet
+vids_give = record { each = list_fits }
+
+members_give : Gives members IsVidSet
+members_give = record {
+  each = λ word.
+      either IsVidSet (is_text word (codes "all")) (Ok (set_where is_vid)) _ (is_vid_set is_vid refl refl)
+      (either IsVidSet (is_text word (codes "none")) (Ok (set_where (λ _. false))) (vids word) (is_vid_set (λ _. false) refl refl) (list_fits word));
+}
+
+-- ---- an edit with one, two, .. four arguments
+edit_fits : (r : Result Edit Fault) → IfOk r InRange → Fits (said r)
+edit_fits (Ok e) h = h
+edit_fits (Err fault) h = tt
+
+one_fits : {A : Type 0} {f : List ℕ → Result A Fault} {P : A → Type 0} (make : A → Edit) → Gives f P → ((a : A) → P a → InRange (make a)) → (words : List (List ℕ)) → Fits (said (one f make words))
+one_fits {f = f} {P = P} make p fits words = edit_fits _ (made_of InRange _ (one_of words) E01 (λ w. with_fits P InRange (Ok make) (f w) fits (p.each w)))
+
+two_fit : {A B : Type 0} {f : List ℕ → Result A Fault} {g : List ℕ → Result B Fault} {P : A → Type 0} {Q : B → Type 0} (make : A → B → Edit) → Gives f P → Gives g Q → ((a : A) → P a → (b : B) → Q b → InRange (make a b)) → (words : List (List ℕ)) → Fits (said (two f g make words))
+two_fit {f = f} {g = g} {P = P} {Q = Q} make p q fits words = edit_fits _ (made_of InRange _ (two_of words) E01 (λ w.
+    with_fits Q InRange _ (g w.1) (with_fits P _ (Ok make) (f w.0) fits (p.each w.0)) (q.each w.1)))
+
+three_fit : {A B C : Type 0} {f : List ℕ → Result A Fault} {g : List ℕ → Result B Fault} {h : List ℕ → Result C Fault} {P : A → Type 0} {Q : B → Type 0} {R : C → Type 0} (make : A → B → C → Edit) → Gives f P → Gives g Q → Gives h R → ((a : A) → P a → (b : B) → Q b → (c : C) → R c → InRange (make a b c)) → (words : List (List ℕ)) → Fits (said (three f g h make words))
+three_fit {f = f} {g = g} {h = h} {P = P} {Q = Q} {R = R} make p q r fits words = edit_fits _ (made_of InRange _ (three_of words) E01 (λ w.
+    with_fits R InRange _ (h w.2) (with_fits Q _ _ (g w.1) (with_fits P _ (Ok make) (f w.0) fits (p.each w.0)) (q.each w.1)) (r.each w.2)))
+
+four_fit : {A B C D : Type 0} {f : List ℕ → Result A Fault} {g : List ℕ → Result B Fault} {h : List ℕ → Result C Fault} {i : List ℕ → Result D Fault} {P : A → Type 0} {Q : B → Type 0} {R : C → Type 0} {S : D → Type 0} (make : A → B → C → D → Edit) → Gives f P → Gives g Q → Gives h R → Gives i S → ((a : A) → P a → (b : B) → Q b → (c : C) → R c → (d : D) → S d → InRange (make a b c d)) → (words : List (List ℕ)) → Fits (said (four f g h i make words))
+four_fit {f = f} {g = g} {h = h} {i = i} {P = P} {Q = Q} {R = R} {S = S} make p q r s fits words = edit_fits _ (made_of InRange _ (four_of words) E01 (λ w.
+    with_fits S InRange _ (i w.3) (with_fits R _ _ (h w.2) (with_fits Q _ _ (g w.1) (with_fits P _ (Ok make) (f w.0) fits (p.each w.0)) (q.each w.1)) (r.each w.2)) (s.each w.3)))
+
+-- no query is an edit
+query_fits : (r : Result Query Fault) → Fits (query r)
+query_fits (Ok q) = tt
+query_fits (Err fault) = tt
+
+mark_fits : (words : List (List ℕ)) → Fits (none_of marked words)
+mark_fits [] = tt
+mark_fits (word ∷ words) = tt
 
 -- ---- each command
-says_fits : (command : Command) (arguments : List (List ℕ)) → Fits (says command arguments)
-says_fits AddBridge arguments = two_fit arguments _ (λ b m. name_fits b _ (address_fits m _ (λ mac fits. fits)))
-says_fits Bridge arguments = two_fit arguments _ (λ b o. name_fits b _ (choice_fits o (codes "on") (codes "off") _ _ tt tt))
-says_fits KindOf arguments = two_fit arguments _ (λ b k. name_fits b _ (choice_fits k (codes "mstp") (codes "rstp") _ _ tt tt))
-says_fits AddPort arguments = two_fit arguments _ (λ b p. name_fits b _ (number_fits 1 4095 E02 p _ (λ n within. within)))
-says_fits AddLan arguments = one_fits arguments _ (λ l. name_fits l _ tt)
-says_fits Lan arguments = two_fit arguments _ (λ l u. name_fits l _ (choice_fits u (codes "up") (codes "down") _ _ tt tt))
-says_fits SpeedOf arguments = two_fit arguments _ (λ l k. name_fits l _ (number_fits 1 9_999_999_999 E02 k _ (λ n within. within)))
-says_fits Plug arguments = three_fit arguments _ (λ b p l. name_fits b _ (number_fits 1 4095 E02 p _ (λ n _. name_fits l _ tt)))
-says_fits Unplug arguments = two_fit arguments _ (λ b p. name_fits b _ (number_fits 1 4095 E02 p _ (λ n _. tt)))
-says_fits SetTreePrio arguments = three_fit arguments _ (λ b t p. name_fits b _ (number_fits 0 15 E02 p _ (λ n within. number_fits 0 4094 E03 t _ (λ tree _. within.1))))
-says_fits SetPortPathCost arguments = three_fit arguments _ (λ b p c. name_fits b _ (number_fits 1 4095 E02 p _ (λ n _. number_fits 0 200_000_000 E02 c _ (λ cost within. cost_in_range cost within.1))))
-says_fits SetTreePortPrio arguments = four_fit arguments _ (λ b p t q. name_fits b _ (number_fits 1 4095 E02 p _ (λ n _. number_fits 0 15 E02 q _ (λ priority within. number_fits 0 4094 E03 t _ (λ tree _. within.1)))))
-says_fits SetTreePortCost arguments = four_fit arguments _ (λ b p t c. name_fits b _ (number_fits 1 4095 E02 p _ (λ n _. number_fits 0 200_000_000 E02 c _ (λ cost within. number_fits 0 4094 E03 t _ (λ tree _. cost_in_range cost within.1)))))
-says_fits SetMaxHops arguments = two_fit arguments _ (λ b l. name_fits b _ (number_fits 6 40 E02 l _ (λ n within. within)))
-says_fits SetMaxAge arguments = two_fit arguments _ (λ b l. name_fits b _ (number_fits 6 40 E02 l _ (λ n within. within)))
-says_fits ShowTree arguments = one_fits arguments _ (λ t. number_fits 0 4094 E03 t _ (λ n _. tt))
+says_fits : (command : Command) (words : List (List ℕ)) → Fits (says command words)
+says_fits AddBridge words = two_fit _ name_gives mac_gives (λ b p m q. q) words
+says_fits DelBridge words = one_fits _ name_gives (λ b p. tt) words
+says_fits Bridge words = two_fit _ name_gives power_gives (λ b p o q. tt) words
+says_fits KindOf words = two_fit _ name_gives kind_gives (λ b p k q. tt) words
+says_fits AddPort words = two_fit _ name_gives port_number_gives (λ b p n q. q) words
+says_fits DelPort words = two_fit _ name_gives port_number_gives (λ b p n q. tt) words
+says_fits AddLan words = one_fits _ name_gives (λ l p. tt) words
+says_fits DelLan words = one_fits _ name_gives (λ l p. tt) words
+says_fits Lan words = two_fit _ name_gives lan_state_gives (λ l p u q. tt) words
+says_fits SpeedOf words = two_fit _ name_gives speed_gives (λ l p k q. q) words
+says_fits Plug words = three_fit _ name_gives port_number_gives name_gives (λ b p n q l r. tt) words
+says_fits Unplug words = two_fit _ name_gives port_number_gives (λ b p n q. tt) words
+says_fits SetKey words = three_fit _ name_gives port_number_gives sixteen_bits_give (λ b p n q k r. omega (arith, r.1)) words
+says_fits SetSysPri words = two_fit _ name_gives sixteen_bits_give (λ b p s q. omega (arith, q.1)) words
+says_fits SetTreePrio words = three_fit _ name_gives tree_gives priority_gives (λ b p t q s r. (q.1, r.1)) words
+says_fits SetTreePortPrio words = four_fit _ name_gives port_number_gives tree_gives priority_gives (λ b p n q t r s i. (r.1, i.1)) words
+says_fits SetPortPathCost words = three_fit _ name_gives port_number_gives cost_gives (λ b p n q c r. r) words
+says_fits SetTreePortCost words = four_fit _ name_gives port_number_gives tree_gives cost_gives (λ b p n q t r c i. (r.1, i)) words
+says_fits SetMstConfId words = three_fit _ name_gives sixteen_bits_give conf_name_gives (λ b p v q n r. (omega (arith, q.1), r)) words
+says_fits SetVidToMstId words = three_fit _ name_gives tree_gives vids_give (λ b p t q v r. (q.1, r)) words
+says_fits SetMaxHops words = two_fit _ name_gives limit_gives (λ b p l q. q) words
+says_fits SetMaxAge words = two_fit _ name_gives limit_gives (λ b p l q. q) words
+says_fits SetPortVlans words = three_fit _ name_gives port_number_gives members_give (λ b p n q v r. r) words
+says_fits ShowPlan words = query_fits _
+says_fits ShowLag words = query_fits _
+says_fits ShowRegions words = query_fits _
+says_fits ShowNotes words = query_fits _
+says_fits ShowTree words = query_fits _
+says_fits ShowVlan words = query_fits _
+says_fits ShowMstConfId words = query_fits _
+says_fits Mark words = mark_fits words
+says_fits Changes words = query_fits _
 
 -- ---- each line
 words_fit : (plain : Bool) (line : List (List ℕ)) → Fits (worded plain line)
-words_fit plain [] = if_passed plain _ E01 (λ _. tt)
-words_fit plain (word ∷ arguments) = either (is_comment word) _ _ tt
-    (if_passed plain _ E01 (λ _. made_of (λ _. ⊤) _ (command_of word) E01 (any_value _) (λ command _. says_fits command arguments)))
+words_fit plain [] = if_passed HasRanges plain _ E01 (λ _. tt)
+words_fit plain (word ∷ arguments) = either HasRanges (is_comment word) _ _ tt
+    (if_passed HasRanges plain _ E01 (λ _. made_of HasRanges _ (command_of word) E01 (λ command. says_fits command arguments)))
 
 -- whatever edit a line says
 pub edit_in_range : (line : List ℕ) (e : Edit) → reading line ≡ Ok (edit e) → InRange e
 edit_in_range line e is = IfOk-at_ok HasRanges is
-    (either (nat_lt 4096 (length line)) (Err E01) (worded (list_all is_plain line) (words line)) tt (words_fit (list_all is_plain line) (words line)))
+    (either HasRanges (nat_lt 4096 (length line)) (Err E01) (worded (list_all is_plain line) (words line)) tt (words_fit (list_all is_plain line) (words line)))

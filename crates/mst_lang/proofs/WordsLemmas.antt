@@ -1,7 +1,7 @@
 -- Lists of a fixed number of words.
 use Rattle.std.proofs.Common.{◌≡◌, ℕ, List, [], ◌∷◌, Some, None, is_some, sym, ap, true≢false}
 use Rattle.std.specs.Option.{unwrap_or}
-use Rattle.mst_lang.specs.Arguments.{three_of}
+use Rattle.mst_lang.specs.Words.{three_of}
 
 no_words : {X : Type 0} (x : X) → Some x ≡ None → ⊥
 no_words x e = true≢false (ap is_some e)

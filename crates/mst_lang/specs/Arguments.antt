@@ -1,11 +1,10 @@
--- The arguments of commands: which word is in which form, and what is made of its value.
---     with_name, with_mac, ..      the argument's value goes on, and another word is the fault that the argument's form gives
-use Rattle.std.specs.Prelude.{ℕ, ◌+◌, ◌-◌, ◌*◌, Bool, ◌&&◌, List, [], ◌∷◌, length, nat_le, nat_eq, ◌==◌, Result, Err, Option, Some, None, if◌then◌else◌, codes, fold}
-use Rattle.std.specs.Char.{is_ascii_digit}
-use Rattle.std.specs.Option.{option_map_or}
-use Rattle.std.specs.List.{list_all}
+-- The arguments of commands: what a word of each form stands for, or the fault of another word.
+use Rattle.std.specs.Prelude.{ℕ, Bool, ◌&&◌, ◌==◌, false, List, [], nat_le, nat_eq, Result, Ok, Err, Option, Some, None, if◌then◌else◌, codes}
+use Rattle.std.specs.Option.{option_map_or, ok_or}
 use Rattle.std.specs.Cmp.Lexicographic.{pointwise}
-use Rattle.mst_ids.specs.Texts.{is_name, mac_value}
+use Rattle.mst_ids.specs.Texts.{is_name, is_conf_name, mac_value}
+use Rattle.mst_ids.specs.Vids.{decimal_value, is_numeral, is_vid, set_where, vids_value}
+use Rattle.mst_lang.specs.Words.{one_of, two_of, three_of, four_of}
 use Rattle.mst_lang.specs.declared.line.Kind.{Kind}
 use Rattle.mst_lang.specs.declared.line.Kind.TheVariants.{Mstp, Rstp}
 use Rattle.mst_lang.specs.declared.line.Power.{Power}
@@ -18,93 +17,117 @@ use Rattle.mst_lang.specs.declared.line.Fault.TheVariants.{E01, E02, E03}
 abbrev pub is_text : List ℕ → List ℕ → Bool
 is_text = pointwise nat_eq
 
--- the value of decimal digits
-abbrev pub digits_value : List ℕ → ℕ
-digits_value digits = fold (λ n d. n * 10 + (d - 48)) 0 digits
+-- the word itself where it is in its form
+abbrev pub text_of : (List ℕ → Bool) → Fault → List ℕ → Result (List ℕ) Fault
+text_of is_form fault word = if is_form word then Ok word else Err fault
+
+-- which of two words it is
+abbrev pub choice_of : {A : Type 0} → List ℕ × A → List ℕ × A → Fault → List ℕ → Result A Fault
+choice_of one other fault word = if is_text word one.0 then Ok one.1 else (if is_text word other.0 then Ok other.1 else Err fault)
 
 -- 1 to 10 decimal digits, with leading zeros or without
 abbrev pub number_value : List ℕ → Option ℕ
-number_value word =
-    if nat_le 1 (length word) && (nat_le (length word) 10 && list_all is_ascii_digit word) then Some (digits_value word) else None
+number_value word = if is_numeral word then Some (decimal_value word) else None
 
--- a number from the least to the most, else the fault
-abbrev pub with_number : {A : Type 0} → ℕ → ℕ → Fault → List ℕ → (ℕ → Result A Fault) → Result A Fault
-with_number low high fault word make =
-    option_map_or (λ n. if nat_le low n && nat_le n high then make n else Err fault) (number_value word) (Err fault)
+-- a number from the least to the most
+abbrev pub number_of : ℕ → ℕ → Fault → List ℕ → Result ℕ Fault
+number_of low high fault word = option_map_or (λ n. if nat_le low n && nat_le n high then Ok n else Err fault) (number_value word) (Err fault)
 
--- a name of a bridge or a LAN
-abbrev pub with_name : {A : Type 0} → List ℕ → (List ℕ → Result A Fault) → Result A Fault
-with_name word make = if is_name word then make word else Err E02
+-- ---- values and faults together
+-- the lesser of two faults of arguments, which are E02 and E03
+abbrev pub lesser : Fault → Fault → Fault
+lesser E02 _ = E02
+lesser _ E02 = E02
+lesser fault _ = fault
 
--- a MAC address
-abbrev pub with_mac : {A : Type 0} → List ℕ → (ℕ → Result A Fault) → Result A Fault
-with_mac word make = option_map_or make (mac_value word) (Err E02)
+-- what is made of a value, or the lesser fault
+abbrev pub with : {A B : Type 0} → Result (A → B) Fault → Result A Fault → Result B Fault
+with (Ok make) (Ok a) = Ok (make a)
+with (Ok make) (Err fault) = Err fault
+with (Err fault) (Ok a) = Err fault
+with (Err fault) (Err other) = Err (lesser fault other)
 
--- the number of a port, 1 to 4095
-abbrev pub with_port_number : {A : Type 0} → List ℕ → (ℕ → Result A Fault) → Result A Fault
-with_port_number = with_number 1 4095 E02
+-- ---- arguments whose fault is E02
+-- B and L: a name of a bridge or a LAN
+abbrev pub name : List ℕ → Result (List ℕ) Fault
+name = text_of is_name E02
 
--- a priority, 0 to 15
-abbrev pub with_priority : {A : Type 0} → List ℕ → (ℕ → Result A Fault) → Result A Fault
-with_priority = with_number 0 15 E02
+-- MAC: a MAC address
+abbrev pub mac : List ℕ → Result ℕ Fault
+mac word = ok_or (mac_value word) E02
 
--- a speed in kb/s, 1 to 9,999,999,999
-abbrev pub with_speed : {A : Type 0} → List ℕ → (ℕ → Result A Fault) → Result A Fault
-with_speed = with_number 1 9_999_999_999 E02
+-- P: the number of a port
+abbrev pub port_number : List ℕ → Result ℕ Fault
+port_number = number_of 1 4095 E02
 
--- a limit of hops or of age, 6 to 40
-abbrev pub with_limit : {A : Type 0} → List ℕ → (ℕ → Result A Fault) → Result A Fault
-with_limit = with_number 6 40 E02
+-- PRIO: a priority
+abbrev pub priority : List ℕ → Result ℕ Fault
+priority = number_of 0 15 E02
 
--- a tree, 0 to 4094
-abbrev pub with_tree : {A : Type 0} → List ℕ → (ℕ → Result A Fault) → Result A Fault
-with_tree = with_number 0 4094 E03
-
--- a kind of bridge
-abbrev pub with_kind : {A : Type 0} → List ℕ → (Kind → Result A Fault) → Result A Fault
-with_kind word make = if is_text word (codes "mstp") then make Mstp else (if is_text word (codes "rstp") then make Rstp else Err E02)
-
--- whether a bridge is on or off
-abbrev pub with_power : {A : Type 0} → List ℕ → (Power → Result A Fault) → Result A Fault
-with_power word make = if is_text word (codes "on") then make On else (if is_text word (codes "off") then make Off else Err E02)
-
--- whether a LAN is up or down
-abbrev pub with_lan_state : {A : Type 0} → List ℕ → (LanState → Result A Fault) → Result A Fault
-with_lan_state word make = if is_text word (codes "up") then make Up else (if is_text word (codes "down") then make Down else Err E02)
-
--- a path cost, 1 to 200,000,000, or 0 for the automatic one
+-- COST: a path cost, or 0 for the automatic one
 abbrev pub cost_of : ℕ → Option ℕ
 cost_of n = if n == 0 then None else Some n
 
-abbrev pub with_cost : {A : Type 0} → List ℕ → (Option ℕ → Result A Fault) → Result A Fault
-with_cost word make = with_number 0 200_000_000 E02 word (λ n. make (cost_of n))
+abbrev pub cost : List ℕ → Result (Option ℕ) Fault
+cost word = with (Ok cost_of) (number_of 0 200_000_000 E02 word)
 
--- one to four words and no more
-abbrev pub one_of : List (List ℕ) → Option (List ℕ)
-one_of (a ∷ []) = Some a
-one_of _ = None
+-- KEY, SYS and REV: an aggregation key, a system priority, a revision
+abbrev pub sixteen_bits : List ℕ → Result ℕ Fault
+sixteen_bits = number_of 0 65535 E02
 
-abbrev pub two_of : List (List ℕ) → Option (List ℕ × List ℕ)
-two_of (a ∷ b ∷ []) = Some (a, b)
-two_of _ = None
+-- LIM: a limit of hops or of age
+abbrev pub limit : List ℕ → Result ℕ Fault
+limit = number_of 6 40 E02
 
-abbrev pub three_of : List (List ℕ) → Option (List ℕ × List ℕ × List ℕ)
-three_of (a ∷ b ∷ c ∷ []) = Some (a, b, c)
-three_of _ = None
+-- KBPS: a speed in kb/s
+abbrev pub speed : List ℕ → Result ℕ Fault
+speed = number_of 1 9_999_999_999 E02
 
-abbrev pub four_of : List (List ℕ) → Option (List ℕ × List ℕ × List ℕ × List ℕ)
-four_of (a ∷ b ∷ c ∷ d ∷ []) = Some (a, b, c, d)
-four_of _ = None
+-- CNAME: the name of a configuration
+abbrev pub conf_name : List ℕ → Result (List ℕ) Fault
+conf_name = text_of is_conf_name E02
 
--- a command with one to four arguments
-abbrev pub with_one : {A : Type 0} → List (List ℕ) → (List ℕ → Result A Fault) → Result A Fault
-with_one arguments make = option_map_or make (one_of arguments) (Err E01)
+-- `on` or `off`, `mstp` or `rstp`, `up` or `down`
+abbrev pub power : List ℕ → Result Power Fault
+power = choice_of (codes "on", On) (codes "off", Off) E02
 
-abbrev pub with_two : {A : Type 0} → List (List ℕ) → (List ℕ → List ℕ → Result A Fault) → Result A Fault
-with_two arguments make = option_map_or (λ p. make p.0 p.1) (two_of arguments) (Err E01)
+abbrev pub kind : List ℕ → Result Kind Fault
+kind = choice_of (codes "mstp", Mstp) (codes "rstp", Rstp) E02
 
-abbrev pub with_three : {A : Type 0} → List (List ℕ) → (List ℕ → List ℕ → List ℕ → Result A Fault) → Result A Fault
-with_three arguments make = option_map_or (λ p. make p.0 p.1 p.2) (three_of arguments) (Err E01)
+abbrev pub lan_state : List ℕ → Result LanState Fault
+lan_state = choice_of (codes "up", Up) (codes "down", Down) E02
 
-abbrev pub with_four : {A : Type 0} → List (List ℕ) → (List ℕ → List ℕ → List ℕ → List ℕ → Result A Fault) → Result A Fault
-with_four arguments make = option_map_or (λ p. make p.0 p.1 p.2 p.3) (four_of arguments) (Err E01)
+-- ---- arguments whose fault is E03
+-- TREE: a tree
+abbrev pub tree : List ℕ → Result ℕ Fault
+tree = number_of 0 4094 E03
+
+-- VID: a VLAN's identifier
+abbrev pub vid : List ℕ → Result ℕ Fault
+vid = number_of 1 4094 E03
+
+-- VIDS: a list of VIDs
+abbrev pub vids : List ℕ → Result (List Bool) Fault
+vids word = ok_or (vids_value word) E03
+
+-- VIDS, or `all` or `none` in its place
+abbrev pub members : List ℕ → Result (List Bool) Fault
+members word = if is_text word (codes "all") then Ok (set_where is_vid) else (if is_text word (codes "none") then Ok (set_where (λ _. false)) else vids word)
+
+-- ---- a command with no, one, .. four arguments: E01 where it has another number of words, else the least fault
+-- of its arguments, else what is made of their values
+abbrev pub none_of : {A : Type 0} → A → List (List ℕ) → Result A Fault
+none_of made [] = Ok made
+none_of made _ = Err E01
+
+abbrev pub one : {A B : Type 0} → (List ℕ → Result A Fault) → (A → B) → List (List ℕ) → Result B Fault
+one f make words = option_map_or (λ a. with (Ok make) (f a)) (one_of words) (Err E01)
+
+abbrev pub two : {A B C : Type 0} → (List ℕ → Result A Fault) → (List ℕ → Result B Fault) → (A → B → C) → List (List ℕ) → Result C Fault
+two f g make words = option_map_or (λ w. with (with (Ok make) (f w.0)) (g w.1)) (two_of words) (Err E01)
+
+abbrev pub three : {A B C D : Type 0} → (List ℕ → Result A Fault) → (List ℕ → Result B Fault) → (List ℕ → Result C Fault) → (A → B → C → D) → List (List ℕ) → Result D Fault
+three f g h make words = option_map_or (λ w. with (with (with (Ok make) (f w.0)) (g w.1)) (h w.2)) (three_of words) (Err E01)
+
+abbrev pub four : {A B C D E : Type 0} → (List ℕ → Result A Fault) → (List ℕ → Result B Fault) → (List ℕ → Result C Fault) → (List ℕ → Result D Fault) → (A → B → C → D → E) → List (List ℕ) → Result E Fault
+four f g h i make words = option_map_or (λ w. with (with (with (with (Ok make) (f w.0)) (g w.1)) (h w.2)) (i w.3)) (four_of words) (Err E01)

@@ -1,67 +1,106 @@
 -- What a line of a script says, or the least fault of it.
-use Rattle.std.specs.Prelude.{ℕ, Bool, ◌==◌, List, [], ◌∷◌, length, nat_lt, Result, Ok, Err, Option, None, Some, if◌then◌else◌, codes, false}
-use Rattle.std.specs.Option.{option_map_or}
+use Rattle.std.specs.Prelude.{ℕ, Bool, ◌==◌, List, [], ◌∷◌, length, nat_lt, Result, Ok, Err, Option, if◌then◌else◌, codes, false, find}
+use Rattle.std.specs.Option.{option_map, option_map_or}
 use Rattle.std.specs.List.{list_all}
 use Rattle.mst_ids.specs.declared.name.PortName.{PortName}
 use Rattle.mst_lang.specs.Words.{words, is_plain}
-use Rattle.mst_lang.specs.Arguments.{is_text, with_one, with_two, with_three, with_four, with_name, with_mac, with_kind, with_power, with_lan_state, with_port_number, with_priority, with_cost, with_speed, with_limit, with_tree}
+use Rattle.mst_lang.specs.Arguments.{is_text, with, none_of, one, two, three, four, name, mac, port_number, priority, cost, sixteen_bits, limit, speed, conf_name, power, kind, lan_state, tree, vid, vids, members}
 use Rattle.mst_lang.specs.declared.line.Line.{Line}
-use Rattle.mst_lang.specs.declared.line.Line.TheVariants.{Blank, Query as query, Edit as edit}
+use Rattle.mst_lang.specs.declared.line.Line.TheVariants as lines
+use Rattle.mst_lang.specs.declared.line.Edit.{Edit}
 use Rattle.mst_lang.specs.declared.line.Edit.TheVariants as edits
+use Rattle.mst_lang.specs.declared.line.Query.{Query}
 use Rattle.mst_lang.specs.declared.line.Query.TheVariants as queries
 use Rattle.mst_lang.specs.declared.line.Command.{Command}
-use Rattle.mst_lang.specs.declared.line.Command.TheVariants.{AddBridge, Bridge, Kind, AddPort, AddLan, Lan, Speed, Plug, Unplug, SetTreePrio, SetTreePortPrio, SetPortPathCost, SetTreePortCost, SetMaxHops, SetMaxAge, ShowTree}
+use Rattle.mst_lang.specs.declared.line.Command.TheVariants.{AddBridge, DelBridge, Bridge, Kind, AddPort, DelPort, AddLan, DelLan, Lan, Speed, Plug, Unplug, SetKey, SetSysPri, SetTreePrio, SetTreePortPrio, SetPortPathCost, SetTreePortCost, SetMstConfId, SetVidToMstId, SetMaxHops, SetMaxAge, SetPortVlans, ShowPlan, ShowLag, ShowRegions, ShowNotes, ShowTree, ShowVlan, ShowMstConfId, Mark, Changes}
 use Rattle.mst_lang.specs.declared.line.Fault.{Fault}
 use Rattle.mst_lang.specs.declared.line.Fault.TheVariants.{E01}
 
 -- the words that are commands
+abbrev pub commands : List (List ℕ × Command)
+commands =
+    (codes "addbridge", AddBridge) ∷
+    (codes "delbridge", DelBridge) ∷
+    (codes "bridge", Bridge) ∷
+    (codes "kind", Kind) ∷
+    (codes "addport", AddPort) ∷
+    (codes "delport", DelPort) ∷
+    (codes "addlan", AddLan) ∷
+    (codes "dellan", DelLan) ∷
+    (codes "lan", Lan) ∷
+    (codes "speed", Speed) ∷
+    (codes "plug", Plug) ∷
+    (codes "unplug", Unplug) ∷
+    (codes "setkey", SetKey) ∷
+    (codes "setsyspri", SetSysPri) ∷
+    (codes "settreeprio", SetTreePrio) ∷
+    (codes "settreeportprio", SetTreePortPrio) ∷
+    (codes "setportpathcost", SetPortPathCost) ∷
+    (codes "settreeportcost", SetTreePortCost) ∷
+    (codes "setmstconfid", SetMstConfId) ∷
+    (codes "setvid2mstid", SetVidToMstId) ∷
+    (codes "setmaxhops", SetMaxHops) ∷
+    (codes "setmaxage", SetMaxAge) ∷
+    (codes "setportvlans", SetPortVlans) ∷
+    (codes "showplan", ShowPlan) ∷
+    (codes "showlag", ShowLag) ∷
+    (codes "showregions", ShowRegions) ∷
+    (codes "shownotes", ShowNotes) ∷
+    (codes "showtree", ShowTree) ∷
+    (codes "showvlan", ShowVlan) ∷
+    (codes "showmstconfid", ShowMstConfId) ∷
+    (codes "mark", Mark) ∷
+    (codes "changes", Changes) ∷
+    []
+
 abbrev pub command_of : List ℕ → Option Command
-command_of word =
-    if is_text word (codes "addbridge") then Some AddBridge
-    else (if is_text word (codes "bridge") then Some Bridge
-    else (if is_text word (codes "kind") then Some Kind
-    else (if is_text word (codes "addport") then Some AddPort
-    else (if is_text word (codes "addlan") then Some AddLan
-    else (if is_text word (codes "lan") then Some Lan
-    else (if is_text word (codes "speed") then Some Speed
-    else (if is_text word (codes "plug") then Some Plug
-    else (if is_text word (codes "unplug") then Some Unplug
-    else (if is_text word (codes "settreeprio") then Some SetTreePrio
-    else (if is_text word (codes "settreeportprio") then Some SetTreePortPrio
-    else (if is_text word (codes "setportpathcost") then Some SetPortPathCost
-    else (if is_text word (codes "settreeportcost") then Some SetTreePortCost
-    else (if is_text word (codes "setmaxhops") then Some SetMaxHops
-    else (if is_text word (codes "setmaxage") then Some SetMaxAge
-    else (if is_text word (codes "showtree") then Some ShowTree
-    else None)))))))))))))))
+command_of word = option_map (λ entry. entry.1) (find (λ entry. is_text entry.0 word) commands)
 
-abbrev pub port_name : List ℕ → ℕ → PortName
-port_name bridge number = record { bridge = bridge; number = number }
+-- a port by its bridge and its number
+abbrev pub port : List ℕ → ℕ → PortName
+port bridge number = record { bridge = bridge; number = number }
 
--- what each command makes of its arguments. Those whose fault is E02 are looked at before those whose
--- fault is E03, so that the least fault is answered
+abbrev pub edit : Result Edit Fault → Result Line Fault
+edit = with (Ok lines.Edit)
+
+abbrev pub query : Result Query Fault → Result Line Fault
+query = with (Ok lines.Query)
+
+-- what each command makes of the words that follow it: how many they are, the form of each in their order, and
+-- what is made of their values
 abbrev pub says : Command → List (List ℕ) → Result Line Fault
-says AddBridge arguments = with_two arguments (λ b m. with_name b (λ bridge. with_mac m (λ mac. Ok (edit (edits.AddBridge bridge mac)))))
-says Bridge arguments = with_two arguments (λ b o. with_name b (λ bridge. with_power o (λ power. Ok (edit (edits.SetPower bridge power)))))
-says Kind arguments = with_two arguments (λ b k. with_name b (λ bridge. with_kind k (λ kind. Ok (edit (edits.SetKind bridge kind)))))
-says AddPort arguments = with_two arguments (λ b p. with_name b (λ bridge. with_port_number p (λ number. Ok (edit (edits.AddPort (port_name bridge number))))))
-says AddLan arguments = with_one arguments (λ l. with_name l (λ lan. Ok (edit (edits.AddLan lan))))
-says Lan arguments = with_two arguments (λ l u. with_name l (λ lan. with_lan_state u (λ state. Ok (edit (edits.SetLanState lan state)))))
-says Speed arguments = with_two arguments (λ l k. with_name l (λ lan. with_speed k (λ speed. Ok (edit (edits.SetSpeed lan speed)))))
-says Plug arguments = with_three arguments (λ b p l. with_name b (λ bridge. with_port_number p (λ number. with_name l (λ lan.
-    Ok (edit (edits.Plug (port_name bridge number) lan))))))
-says Unplug arguments = with_two arguments (λ b p. with_name b (λ bridge. with_port_number p (λ number. Ok (edit (edits.Unplug (port_name bridge number))))))
-says SetTreePrio arguments = with_three arguments (λ b t p. with_name b (λ bridge. with_priority p (λ priority. with_tree t (λ tree.
-    Ok (edit (edits.SetTreePriority bridge tree priority))))))
-says SetTreePortPrio arguments = with_four arguments (λ b p t q. with_name b (λ bridge. with_port_number p (λ number. with_priority q (λ priority. with_tree t (λ tree.
-    Ok (edit (edits.SetTreePortPriority (port_name bridge number) tree priority)))))))
-says SetPortPathCost arguments = with_three arguments (λ b p c. with_name b (λ bridge. with_port_number p (λ number. with_cost c (λ cost.
-    Ok (edit (edits.SetPortPathCost (port_name bridge number) cost))))))
-says SetTreePortCost arguments = with_four arguments (λ b p t c. with_name b (λ bridge. with_port_number p (λ number. with_cost c (λ cost. with_tree t (λ tree.
-    Ok (edit (edits.SetTreePortCost (port_name bridge number) tree cost)))))))
-says SetMaxHops arguments = with_two arguments (λ b l. with_name b (λ bridge. with_limit l (λ limit. Ok (edit (edits.SetMaxHops bridge limit)))))
-says SetMaxAge arguments = with_two arguments (λ b l. with_name b (λ bridge. with_limit l (λ limit. Ok (edit (edits.SetMaxAge bridge limit)))))
-says ShowTree arguments = with_one arguments (λ t. with_tree t (λ tree. Ok (query (queries.ShowTree tree))))
+says AddBridge arguments = edit (two name mac edits.AddBridge arguments)
+says DelBridge arguments = edit (one name edits.DelBridge arguments)
+says Bridge arguments = edit (two name power edits.SetPower arguments)
+says Kind arguments = edit (two name kind edits.SetKind arguments)
+says AddPort arguments = edit (two name port_number (λ b p. edits.AddPort (port b p)) arguments)
+says DelPort arguments = edit (two name port_number (λ b p. edits.DelPort (port b p)) arguments)
+says AddLan arguments = edit (one name edits.AddLan arguments)
+says DelLan arguments = edit (one name edits.DelLan arguments)
+says Lan arguments = edit (two name lan_state edits.SetLanState arguments)
+says Speed arguments = edit (two name speed edits.SetSpeed arguments)
+says Plug arguments = edit (three name port_number name (λ b p. edits.Plug (port b p)) arguments)
+says Unplug arguments = edit (two name port_number (λ b p. edits.Unplug (port b p)) arguments)
+says SetKey arguments = edit (three name port_number sixteen_bits (λ b p. edits.SetKey (port b p)) arguments)
+says SetSysPri arguments = edit (two name sixteen_bits edits.SetSystemPriority arguments)
+says SetTreePrio arguments = edit (three name tree priority edits.SetTreePriority arguments)
+says SetTreePortPrio arguments = edit (four name port_number tree priority (λ b p. edits.SetTreePortPriority (port b p)) arguments)
+says SetPortPathCost arguments = edit (three name port_number cost (λ b p. edits.SetPortPathCost (port b p)) arguments)
+says SetTreePortCost arguments = edit (four name port_number tree cost (λ b p. edits.SetTreePortCost (port b p)) arguments)
+says SetMstConfId arguments = edit (three name sixteen_bits conf_name edits.SetConfiguration arguments)
+says SetVidToMstId arguments = edit (three name tree vids edits.MapVids arguments)
+says SetMaxHops arguments = edit (two name limit edits.SetMaxHops arguments)
+says SetMaxAge arguments = edit (two name limit edits.SetMaxAge arguments)
+says SetPortVlans arguments = edit (three name port_number members (λ b p. edits.SetPortVlans (port b p)) arguments)
+says ShowPlan arguments = query (none_of queries.ShowPlan arguments)
+says ShowLag arguments = query (none_of queries.ShowLag arguments)
+says ShowRegions arguments = query (none_of queries.ShowRegions arguments)
+says ShowNotes arguments = query (none_of queries.ShowNotes arguments)
+says ShowTree arguments = query (one tree queries.ShowTree arguments)
+says ShowVlan arguments = query (one vid queries.ShowVlan arguments)
+says ShowMstConfId arguments = query (one name queries.ShowConfiguration arguments)
+says Mark arguments = none_of lines.Mark arguments
+says Changes arguments = query (none_of queries.Changes arguments)
 
 -- the first byte is `#`
 abbrev pub is_comment : List ℕ → Bool
@@ -71,9 +110,9 @@ is_comment (b ∷ bs) = b == 35
 -- a line by its words: blank where it has none, a comment whatever bytes it holds, else a command, all
 -- of whose bytes are plain
 abbrev pub worded : Bool → List (List ℕ) → Result Line Fault
-worded plain [] = if plain then Ok Blank else Err E01
+worded plain [] = if plain then Ok lines.Blank else Err E01
 worded plain (word ∷ arguments) =
-    if is_comment word then Ok Blank
+    if is_comment word then Ok lines.Blank
     else (if plain then option_map_or (λ command. says command arguments) (command_of word) (Err E01) else Err E01)
 
 -- a line of at most 4,096 bytes

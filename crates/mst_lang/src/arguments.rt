@@ -1,16 +1,19 @@
-ghost use Rattle.std.specs.Prelude.{◌≡◌, ◌+◌, ◌*◌, ◌^◌, ◌<◌, ◌≤◌, Ok, Err, length, true, IfErr};
+ghost use Rattle.std.specs.Prelude.{◌≡◌, ◌≤◌, length, true};
 ghost use Rattle.std.specs.List.{list_all};
-ghost use Rattle.std.specs.Result.{result_ok};
-ghost use Rattle.mst_ids.specs.Texts.{mac_value};
 ghost use Rattle.std.specs.Char.{is_ascii_digit as digit};
-ghost use Rattle.mst_lang.specs.Arguments.{digits_value, number_value, with_name, with_kind, with_power, with_lan_state, with_port_number, with_priority, with_cost, with_speed, with_limit, with_tree};
+ghost use Rattle.mst_ids.specs.Vids.{decimal_value};
+ghost use Rattle.mst_lang.specs.Arguments.{number_value};
+ghost use Rattle.mst_lang.specs.Arguments as forms;
 
 use crate::line::{Fault, Kind, LanState, Power};
-use mst_ids::{Cost, Limit, Mac, Name, PortNumber, Priority, Speed, Tree, parse_mac};
+use mst_ids::{
+    ConfName, Cost, Limit, Mac, Name, PortNumber, Priority, Speed, Tree, Vid, VidSet, parse_mac,
+    parse_vids,
+};
 
 /// A name of a bridge or a LAN.
 pub(crate) fn name(word: &[u8]) -> Result<Name, Fault>
-    ensures { result ≡ with_name word.now Ok }
+    ensures { result ≡ forms.name word.now }
 {
     match Name::parse(word) {
         Ok(name) => Ok(name),
@@ -20,8 +23,7 @@ pub(crate) fn name(word: &[u8]) -> Result<Name, Fault>
 
 /// A MAC address.
 pub(crate) fn mac(word: &[u8]) -> Result<Mac, Fault>
-    ensures value { result_ok result ≡ mac_value word.now }
-    ensures err { IfErr result (λ fault. fault ≡ Fault.E02) }
+    ensures { result ≡ forms.mac word.now }
 {
     match parse_mac(word) {
         Ok(mac) => Ok(mac),
@@ -31,7 +33,7 @@ pub(crate) fn mac(word: &[u8]) -> Result<Mac, Fault>
 
 /// A kind of bridge.
 pub(crate) fn kind(word: &[u8]) -> Result<Kind, Fault>
-    ensures { result ≡ with_kind word.now Ok }
+    ensures { result ≡ forms.kind word.now }
 {
     match word {
         b"mstp" => Ok(Kind::Mstp),
@@ -42,7 +44,7 @@ pub(crate) fn kind(word: &[u8]) -> Result<Kind, Fault>
 
 /// Whether a bridge is on or off.
 pub(crate) fn power(word: &[u8]) -> Result<Power, Fault>
-    ensures { result ≡ with_power word.now Ok }
+    ensures { result ≡ forms.power word.now }
 {
     match word {
         b"on" => Ok(Power::On),
@@ -53,7 +55,7 @@ pub(crate) fn power(word: &[u8]) -> Result<Power, Fault>
 
 /// Whether a LAN is up or down.
 pub(crate) fn lan_state(word: &[u8]) -> Result<LanState, Fault>
-    ensures { result ≡ with_lan_state word.now Ok }
+    ensures { result ≡ forms.lan_state word.now }
 {
     match word {
         b"up" => Ok(LanState::Up),
@@ -64,7 +66,7 @@ pub(crate) fn lan_state(word: &[u8]) -> Result<LanState, Fault>
 
 /// The number of a port.
 pub(crate) fn port_number(word: &[u8]) -> Result<PortNumber, Fault>
-    ensures { result ≡ with_port_number word.now Ok }
+    ensures { result ≡ forms.port_number word.now }
 {
     let number = number(word).ok_or(Fault::E02)?;
     PortNumber::new(number).ok_or(Fault::E02)
@@ -72,7 +74,7 @@ pub(crate) fn port_number(word: &[u8]) -> Result<PortNumber, Fault>
 
 /// A priority in steps.
 pub(crate) fn priority(word: &[u8]) -> Result<Priority, Fault>
-    ensures { result ≡ with_priority word.now Ok }
+    ensures { result ≡ forms.priority word.now }
 {
     let number = number(word).ok_or(Fault::E02)?;
     Priority::new(number).ok_or(Fault::E02)
@@ -80,7 +82,7 @@ pub(crate) fn priority(word: &[u8]) -> Result<Priority, Fault>
 
 /// A path cost, or none for the automatic one, which is written 0.
 pub(crate) fn cost(word: &[u8]) -> Result<Option<Cost>, Fault>
-    ensures { result ≡ with_cost word.now Ok }
+    ensures { result ≡ forms.cost word.now }
 {
     let number = number(word).ok_or(Fault::E02)?;
     if number == 0 {
@@ -94,7 +96,7 @@ pub(crate) fn cost(word: &[u8]) -> Result<Option<Cost>, Fault>
 
 /// A speed in kb/s.
 pub(crate) fn speed(word: &[u8]) -> Result<Speed, Fault>
-    ensures { result ≡ with_speed word.now Ok }
+    ensures { result ≡ forms.speed word.now }
 {
     let number = number(word).ok_or(Fault::E02)?;
     Speed::new(number).ok_or(Fault::E02)
@@ -102,18 +104,68 @@ pub(crate) fn speed(word: &[u8]) -> Result<Speed, Fault>
 
 /// A limit of hops or of age.
 pub(crate) fn limit(word: &[u8]) -> Result<Limit, Fault>
-    ensures { result ≡ with_limit word.now Ok }
+    ensures { result ≡ forms.limit word.now }
 {
     let number = number(word).ok_or(Fault::E02)?;
     Limit::new(number).ok_or(Fault::E02)
 }
 
+/// An aggregation key, a system priority or a revision.
+pub(crate) fn sixteen_bits(word: &[u8]) -> Result<u16, Fault>
+    ensures { result ≡ forms.sixteen_bits word.now }
+{
+    let number = number(word).ok_or(Fault::E02)?;
+    if number > 65535 {
+        return Err(Fault::E02);
+    }
+    Ok(number as u16)
+}
+
+/// The name of a configuration.
+pub(crate) fn conf_name(word: &[u8]) -> Result<ConfName, Fault>
+    ensures { result ≡ forms.conf_name word.now }
+{
+    match ConfName::parse(word) {
+        Ok(name) => Ok(name),
+        Err(_) => Err(Fault::E02),
+    }
+}
+
 /// A tree.
 pub(crate) fn tree(word: &[u8]) -> Result<Tree, Fault>
-    ensures { result ≡ with_tree word.now Ok }
+    ensures { result ≡ forms.tree word.now }
 {
     let number = number(word).ok_or(Fault::E03)?;
     Tree::new(number).ok_or(Fault::E03)
+}
+
+/// A VLAN's identifier.
+pub(crate) fn vid(word: &[u8]) -> Result<Vid, Fault>
+    ensures { result ≡ forms.vid word.now }
+{
+    let number = number(word).ok_or(Fault::E03)?;
+    Vid::new(number).ok_or(Fault::E03)
+}
+
+/// A list of VIDs.
+pub(crate) fn vids(word: &[u8]) -> Result<VidSet, Fault>
+    ensures { result ≡ forms.vids word.now }
+{
+    match parse_vids(word) {
+        Ok(vids) => Ok(vids),
+        Err(_) => Err(Fault::E03),
+    }
+}
+
+/// A list of VIDs, or `all` or `none` in its place.
+pub(crate) fn members(word: &[u8]) -> Result<VidSet, Fault>
+    ensures { result ≡ forms.members word.now }
+{
+    match word {
+        b"all" => Ok(VidSet::all()),
+        b"none" => Ok(VidSet::none()),
+        _ => vids(word),
+    }
 }
 
 /// A number of 1 to 10 decimal digits.
@@ -136,7 +188,7 @@ fn are_digits(word: &[u8]) -> bool
 fn digits(word: &[u8]) -> u64
     requires few { length word.now ≤ 10 }
     requires digits { list_all digit word.now ≡ true }
-    ensures { result ≡ digits_value word.now }
+    ensures { result ≡ decimal_value word.now }
 {
     let mut value = 0;
     for byte in word {

@@ -1,4 +1,8 @@
 //! The lines of a script: what each one says, by the line grammar.
+//!
+//! A line is words with spaces and tabs between. The first word is a command, and those that follow are its
+//! arguments: each command has a number of them, and each argument a form and a range. [`parse_line`] gives
+//! the edit, the query or the mark that a line says, or the least [`Fault`] of it, and takes no memory.
 #![tactic(auto)]
 
 mod arguments;

@@ -1,7 +1,7 @@
 ghost use Rattle.std.specs.Prelude.{◌≡◌};
 ghost use Rattle.mst_lang.specs.Faults.{code_of, text_of};
 
-use mst_ids::{Cost, Limit, Mac, Name, PortName, Priority, Speed, Tree};
+use mst_ids::{ConfName, Cost, Limit, Mac, Name, PortName, Priority, Speed, Tree, Vid, VidSet};
 
 /// Which protocol a bridge runs.
 #[derive(Clone, Copy, Debug, PartialEq, Eq)]
@@ -34,6 +34,10 @@ pub enum Edit {
         bridge: Name,
         mac: Mac,
     },
+    /// Takes a bridge away, with what is set for it.
+    DelBridge {
+        bridge: Name,
+    },
     /// Switches a bridge on or off.
     SetPower {
         bridge: Name,
@@ -44,12 +48,20 @@ pub enum Edit {
         bridge: Name,
         kind: Kind,
     },
-    /// A new port, which is in no LAN and whose costs are automatic.
+    /// A new port, which is in no LAN, has key 0 and automatic costs, and is a member of all VLANs.
     AddPort {
+        port: PortName,
+    },
+    /// Takes a port away, with what is set for it.
+    DelPort {
         port: PortName,
     },
     /// A new LAN, which is up and of 1,000,000 kb/s.
     AddLan {
+        lan: Name,
+    },
+    /// Takes a LAN away.
+    DelLan {
         lan: Name,
     },
     /// The state of a LAN.
@@ -70,6 +82,16 @@ pub enum Edit {
     /// Takes a port out of its LAN.
     Unplug {
         port: PortName,
+    },
+    /// The aggregation key of a port. Ports of key 0 aren't aggregated.
+    SetKey {
+        port: PortName,
+        key: u16,
+    },
+    /// The system priority of a bridge in the identifiers of its link aggregation groups.
+    SetSystemPriority {
+        bridge: Name,
+        priority: u16,
     },
     /// The priority of a bridge in a tree.
     SetTreePriority {
@@ -94,6 +116,18 @@ pub enum Edit {
         tree: Tree,
         cost: Option<Cost>,
     },
+    /// The revision and the name of a bridge's MST configuration.
+    SetConfiguration {
+        bridge: Name,
+        revision: u16,
+        name: ConfName,
+    },
+    /// Maps VIDs to a tree in a bridge's MST configuration.
+    MapVids {
+        bridge: Name,
+        tree: Tree,
+        vids: VidSet,
+    },
     /// Over how many bridges what a bridge says inside its region may go.
     SetMaxHops {
         bridge: Name,
@@ -104,13 +138,32 @@ pub enum Edit {
         bridge: Name,
         limit: Limit,
     },
+    /// The VLANs that a port is a member of.
+    SetPortVlans {
+        port: PortName,
+        vids: VidSet,
+    },
 }
 
 /// A question about the network.
 #[derive(Clone, Copy, PartialEq, Eq)]
 pub enum Query {
+    /// Every tree, and how far each VLAN reaches.
+    ShowPlan,
+    /// The classes of aggregated LANs.
+    ShowLag,
+    /// The regions.
+    ShowRegions,
+    /// What binds a limit of hops, age or cost.
+    ShowNotes,
     /// The roots, costs and roles of a tree.
     ShowTree { tree: Tree },
+    /// How far a VLAN reaches.
+    ShowVlan { vid: Vid },
+    /// The MST configuration of a bridge.
+    ShowConfiguration { bridge: Name },
+    /// How the network differs from the marked one.
+    Changes,
 }
 
 /// What a line says.
@@ -118,6 +171,8 @@ pub enum Query {
 pub enum Line {
     Edit(Edit),
     Query(Query),
+    /// Remembers the network, for `changes`.
+    Mark,
     /// No words, or a comment.
     Blank,
 }
@@ -126,21 +181,37 @@ pub enum Line {
 #[derive(Clone, Copy)]
 pub enum Command {
     AddBridge,
+    DelBridge,
     Bridge,
     Kind,
     AddPort,
+    DelPort,
     AddLan,
+    DelLan,
     Lan,
     Speed,
     Plug,
     Unplug,
+    SetKey,
+    SetSysPri,
     SetTreePrio,
     SetTreePortPrio,
     SetPortPathCost,
     SetTreePortCost,
+    SetMstConfId,
+    SetVidToMstId,
     SetMaxHops,
     SetMaxAge,
+    SetPortVlans,
+    ShowPlan,
+    ShowLag,
+    ShowRegions,
+    ShowNotes,
     ShowTree,
+    ShowVlan,
+    ShowMstConfId,
+    Mark,
+    Changes,
 }
 
 /// Why a line isn't read.

@@ -1,10 +1,12 @@
-ghost use Rattle.std.specs.Prelude.{◌≡◌};
+#![tactic(auto, using(crate::proofs::FormLemmas::faults))]
+
+ghost use Rattle.std.specs.Prelude.{◌≡◌, find};
+ghost use Rattle.std.specs.Option.{option_map};
 ghost use Rattle.mst_lang.specs.Reading.{reading, says, command_of};
+ghost use Rattle.mst_lang.specs.Arguments.{none_of, is_text};
 ghost use Rattle.mst_lang.specs.Words.{words};
 
-use crate::arguments::{
-    cost, kind, lan_state, limit, mac, name, port_number, power, priority, speed, tree,
-};
+use crate::arguments;
 use crate::line::{Command, Edit, Fault, Line, Query};
 use crate::words::{are_plain, four_words, next_word, one_word, three_words, two_words};
 use mst_ids::PortName;
@@ -41,45 +43,56 @@ pub fn parse_line(line: &[u8]) -> Result<Line, Fault>
     }
 }
 
+/// The words that are commands.
+const COMMANDS: [(&[u8], Command); 32] = [
+    (b"addbridge", Command::AddBridge),
+    (b"delbridge", Command::DelBridge),
+    (b"bridge", Command::Bridge),
+    (b"kind", Command::Kind),
+    (b"addport", Command::AddPort),
+    (b"delport", Command::DelPort),
+    (b"addlan", Command::AddLan),
+    (b"dellan", Command::DelLan),
+    (b"lan", Command::Lan),
+    (b"speed", Command::Speed),
+    (b"plug", Command::Plug),
+    (b"unplug", Command::Unplug),
+    (b"setkey", Command::SetKey),
+    (b"setsyspri", Command::SetSysPri),
+    (b"settreeprio", Command::SetTreePrio),
+    (b"settreeportprio", Command::SetTreePortPrio),
+    (b"setportpathcost", Command::SetPortPathCost),
+    (b"settreeportcost", Command::SetTreePortCost),
+    (b"setmstconfid", Command::SetMstConfId),
+    (b"setvid2mstid", Command::SetVidToMstId),
+    (b"setmaxhops", Command::SetMaxHops),
+    (b"setmaxage", Command::SetMaxAge),
+    (b"setportvlans", Command::SetPortVlans),
+    (b"showplan", Command::ShowPlan),
+    (b"showlag", Command::ShowLag),
+    (b"showregions", Command::ShowRegions),
+    (b"shownotes", Command::ShowNotes),
+    (b"showtree", Command::ShowTree),
+    (b"showvlan", Command::ShowVlan),
+    (b"showmstconfid", Command::ShowMstConfId),
+    (b"mark", Command::Mark),
+    (b"changes", Command::Changes),
+];
+
 /// The command of this word.
 fn command(word: &[u8]) -> Option<Command>
     ensures { result ≡ command_of word.now }
 {
-    if word == b"addbridge".as_slice() {
-        Some(Command::AddBridge)
-    } else if word == b"bridge".as_slice() {
-        Some(Command::Bridge)
-    } else if word == b"kind".as_slice() {
-        Some(Command::Kind)
-    } else if word == b"addport".as_slice() {
-        Some(Command::AddPort)
-    } else if word == b"addlan".as_slice() {
-        Some(Command::AddLan)
-    } else if word == b"lan".as_slice() {
-        Some(Command::Lan)
-    } else if word == b"speed".as_slice() {
-        Some(Command::Speed)
-    } else if word == b"plug".as_slice() {
-        Some(Command::Plug)
-    } else if word == b"unplug".as_slice() {
-        Some(Command::Unplug)
-    } else if word == b"settreeprio".as_slice() {
-        Some(Command::SetTreePrio)
-    } else if word == b"settreeportprio".as_slice() {
-        Some(Command::SetTreePortPrio)
-    } else if word == b"setportpathcost".as_slice() {
-        Some(Command::SetPortPathCost)
-    } else if word == b"settreeportcost".as_slice() {
-        Some(Command::SetTreePortCost)
-    } else if word == b"setmaxhops".as_slice() {
-        Some(Command::SetMaxHops)
-    } else if word == b"setmaxage".as_slice() {
-        Some(Command::SetMaxAge)
-    } else if word == b"showtree".as_slice() {
-        Some(Command::ShowTree)
-    } else {
-        None
-    }
+    let commands = COMMANDS;
+    command_in(commands.as_slice(), word)
+}
+
+/// The command that a table has for a word.
+fn command_in(commands: &[(&[u8], Command)], word: &[u8]) -> Option<Command>
+    ensures { result ≡ option_map (λ entry. entry.1) (find (λ entry. is_text entry.0.now word.now) commands.now) }
+{
+    let (_, command) = commands.iter().find(|(text, _)| *text == word)?;
+    Some(*command)
 }
 
 /// What the command makes of its arguments.
@@ -88,48 +101,82 @@ fn read_arguments(command: Command, arguments: &[u8]) -> Result<Line, Fault>
 {
     match command {
         Command::AddBridge => add_bridge(arguments),
+        Command::DelBridge => del_bridge(arguments),
         Command::Bridge => set_power(arguments),
         Command::Kind => set_kind(arguments),
         Command::AddPort => add_port(arguments),
+        Command::DelPort => del_port(arguments),
         Command::AddLan => add_lan(arguments),
+        Command::DelLan => del_lan(arguments),
         Command::Lan => set_lan_state(arguments),
         Command::Speed => set_speed(arguments),
         Command::Plug => plug(arguments),
         Command::Unplug => unplug(arguments),
+        Command::SetKey => set_key(arguments),
+        Command::SetSysPri => set_system_priority(arguments),
         Command::SetTreePrio => set_tree_priority(arguments),
         Command::SetTreePortPrio => set_tree_port_priority(arguments),
         Command::SetPortPathCost => set_port_path_cost(arguments),
         Command::SetTreePortCost => set_tree_port_cost(arguments),
+        Command::SetMstConfId => set_configuration(arguments),
+        Command::SetVidToMstId => map_vids(arguments),
         Command::SetMaxHops => set_max_hops(arguments),
         Command::SetMaxAge => set_max_age(arguments),
+        Command::SetPortVlans => set_port_vlans(arguments),
+        Command::ShowPlan => without_arguments(Line::Query(Query::ShowPlan), arguments),
+        Command::ShowLag => without_arguments(Line::Query(Query::ShowLag), arguments),
+        Command::ShowRegions => without_arguments(Line::Query(Query::ShowRegions), arguments),
+        Command::ShowNotes => without_arguments(Line::Query(Query::ShowNotes), arguments),
         Command::ShowTree => show_tree(arguments),
+        Command::ShowVlan => show_vlan(arguments),
+        Command::ShowMstConfId => show_configuration(arguments),
+        Command::Mark => without_arguments(Line::Mark, arguments),
+        Command::Changes => without_arguments(Line::Query(Query::Changes), arguments),
+    }
+}
+
+/// What a command says that has no arguments.
+fn without_arguments(line: Line, arguments: &[u8]) -> Result<Line, Fault>
+    ensures { result ≡ none_of line (words arguments.now) }
+{
+    match next_word(arguments) {
+        Some(_) => Err(Fault::E01),
+        None => Ok(line),
     }
 }
 
 fn add_bridge(arguments: &[u8]) -> Result<Line, Fault>
     ensures { result ≡ says Command.AddBridge (words arguments.now) }
 {
-    let (bridge, address) = two_words(arguments).ok_or(Fault::E01)?;
-    let bridge = name(bridge)?;
-    let mac = mac(address)?;
+    let (bridge, mac) = two_words(arguments).ok_or(Fault::E01)?;
+    let bridge = arguments::name(bridge)?;
+    let mac = arguments::mac(mac)?;
     Ok(Line::Edit(Edit::AddBridge { bridge, mac }))
+}
+
+fn del_bridge(arguments: &[u8]) -> Result<Line, Fault>
+    ensures { result ≡ says Command.DelBridge (words arguments.now) }
+{
+    let bridge = one_word(arguments).ok_or(Fault::E01)?;
+    let bridge = arguments::name(bridge)?;
+    Ok(Line::Edit(Edit::DelBridge { bridge }))
 }
 
 fn set_power(arguments: &[u8]) -> Result<Line, Fault>
     ensures { result ≡ says Command.Bridge (words arguments.now) }
 {
-    let (bridge, word) = two_words(arguments).ok_or(Fault::E01)?;
-    let bridge = name(bridge)?;
-    let power = power(word)?;
+    let (bridge, power) = two_words(arguments).ok_or(Fault::E01)?;
+    let bridge = arguments::name(bridge)?;
+    let power = arguments::power(power)?;
     Ok(Line::Edit(Edit::SetPower { bridge, power }))
 }
 
 fn set_kind(arguments: &[u8]) -> Result<Line, Fault>
     ensures { result ≡ says Command.Kind (words arguments.now) }
 {
-    let (bridge, word) = two_words(arguments).ok_or(Fault::E01)?;
-    let bridge = name(bridge)?;
-    let kind = kind(word)?;
+    let (bridge, kind) = two_words(arguments).ok_or(Fault::E01)?;
+    let bridge = arguments::name(bridge)?;
+    let kind = arguments::kind(kind)?;
     Ok(Line::Edit(Edit::SetKind { bridge, kind }))
 }
 
@@ -137,34 +184,53 @@ fn add_port(arguments: &[u8]) -> Result<Line, Fault>
     ensures { result ≡ says Command.AddPort (words arguments.now) }
 {
     let (bridge, number) = two_words(arguments).ok_or(Fault::E01)?;
-    let bridge = name(bridge)?;
-    let number = port_number(number)?;
+    let bridge = arguments::name(bridge)?;
+    let number = arguments::port_number(number)?;
     let port = PortName { bridge, number };
     Ok(Line::Edit(Edit::AddPort { port }))
+}
+
+fn del_port(arguments: &[u8]) -> Result<Line, Fault>
+    ensures { result ≡ says Command.DelPort (words arguments.now) }
+{
+    let (bridge, number) = two_words(arguments).ok_or(Fault::E01)?;
+    let bridge = arguments::name(bridge)?;
+    let number = arguments::port_number(number)?;
+    let port = PortName { bridge, number };
+    Ok(Line::Edit(Edit::DelPort { port }))
 }
 
 fn add_lan(arguments: &[u8]) -> Result<Line, Fault>
     ensures { result ≡ says Command.AddLan (words arguments.now) }
 {
-    let lan = name(one_word(arguments).ok_or(Fault::E01)?)?;
+    let lan = one_word(arguments).ok_or(Fault::E01)?;
+    let lan = arguments::name(lan)?;
     Ok(Line::Edit(Edit::AddLan { lan }))
+}
+
+fn del_lan(arguments: &[u8]) -> Result<Line, Fault>
+    ensures { result ≡ says Command.DelLan (words arguments.now) }
+{
+    let lan = one_word(arguments).ok_or(Fault::E01)?;
+    let lan = arguments::name(lan)?;
+    Ok(Line::Edit(Edit::DelLan { lan }))
 }
 
 fn set_lan_state(arguments: &[u8]) -> Result<Line, Fault>
     ensures { result ≡ says Command.Lan (words arguments.now) }
 {
-    let (lan, word) = two_words(arguments).ok_or(Fault::E01)?;
-    let lan = name(lan)?;
-    let state = lan_state(word)?;
+    let (lan, state) = two_words(arguments).ok_or(Fault::E01)?;
+    let lan = arguments::name(lan)?;
+    let state = arguments::lan_state(state)?;
     Ok(Line::Edit(Edit::SetLanState { lan, state }))
 }
 
 fn set_speed(arguments: &[u8]) -> Result<Line, Fault>
     ensures { result ≡ says Command.Speed (words arguments.now) }
 {
-    let (lan, word) = two_words(arguments).ok_or(Fault::E01)?;
-    let lan = name(lan)?;
-    let speed = speed(word)?;
+    let (lan, speed) = two_words(arguments).ok_or(Fault::E01)?;
+    let lan = arguments::name(lan)?;
+    let speed = arguments::speed(speed)?;
     Ok(Line::Edit(Edit::SetSpeed { lan, speed }))
 }
 
@@ -172,9 +238,9 @@ fn plug(arguments: &[u8]) -> Result<Line, Fault>
     ensures { result ≡ says Command.Plug (words arguments.now) }
 {
     let (bridge, number, lan) = three_words(arguments).ok_or(Fault::E01)?;
-    let bridge = name(bridge)?;
-    let number = port_number(number)?;
-    let lan = name(lan)?;
+    let bridge = arguments::name(bridge)?;
+    let number = arguments::port_number(number)?;
+    let lan = arguments::name(lan)?;
     let port = PortName { bridge, number };
     Ok(Line::Edit(Edit::Plug { port, lan }))
 }
@@ -183,19 +249,39 @@ fn unplug(arguments: &[u8]) -> Result<Line, Fault>
     ensures { result ≡ says Command.Unplug (words arguments.now) }
 {
     let (bridge, number) = two_words(arguments).ok_or(Fault::E01)?;
-    let bridge = name(bridge)?;
-    let number = port_number(number)?;
+    let bridge = arguments::name(bridge)?;
+    let number = arguments::port_number(number)?;
     let port = PortName { bridge, number };
     Ok(Line::Edit(Edit::Unplug { port }))
+}
+
+fn set_key(arguments: &[u8]) -> Result<Line, Fault>
+    ensures { result ≡ says Command.SetKey (words arguments.now) }
+{
+    let (bridge, number, key) = three_words(arguments).ok_or(Fault::E01)?;
+    let bridge = arguments::name(bridge)?;
+    let number = arguments::port_number(number)?;
+    let key = arguments::sixteen_bits(key)?;
+    let port = PortName { bridge, number };
+    Ok(Line::Edit(Edit::SetKey { port, key }))
+}
+
+fn set_system_priority(arguments: &[u8]) -> Result<Line, Fault>
+    ensures { result ≡ says Command.SetSysPri (words arguments.now) }
+{
+    let (bridge, priority) = two_words(arguments).ok_or(Fault::E01)?;
+    let bridge = arguments::name(bridge)?;
+    let priority = arguments::sixteen_bits(priority)?;
+    Ok(Line::Edit(Edit::SetSystemPriority { bridge, priority }))
 }
 
 fn set_tree_priority(arguments: &[u8]) -> Result<Line, Fault>
     ensures { result ≡ says Command.SetTreePrio (words arguments.now) }
 {
-    let (bridge, number, steps) = three_words(arguments).ok_or(Fault::E01)?;
-    let bridge = name(bridge)?;
-    let priority = priority(steps)?;
-    let tree = tree(number)?;
+    let (bridge, tree, priority) = three_words(arguments).ok_or(Fault::E01)?;
+    let bridge = arguments::name(bridge)?;
+    let priority = arguments::priority(priority)?;
+    let tree = arguments::tree(tree)?;
     Ok(Line::Edit(Edit::SetTreePriority {
         bridge,
         tree,
@@ -206,11 +292,11 @@ fn set_tree_priority(arguments: &[u8]) -> Result<Line, Fault>
 fn set_tree_port_priority(arguments: &[u8]) -> Result<Line, Fault>
     ensures { result ≡ says Command.SetTreePortPrio (words arguments.now) }
 {
-    let (bridge, number, number_of_tree, step) = four_words(arguments).ok_or(Fault::E01)?;
-    let bridge = name(bridge)?;
-    let number = port_number(number)?;
-    let priority = priority(step)?;
-    let tree = tree(number_of_tree)?;
+    let (bridge, number, tree, priority) = four_words(arguments).ok_or(Fault::E01)?;
+    let bridge = arguments::name(bridge)?;
+    let number = arguments::port_number(number)?;
+    let priority = arguments::priority(priority)?;
+    let tree = arguments::tree(tree)?;
     let port = PortName { bridge, number };
     Ok(Line::Edit(Edit::SetTreePortPriority {
         port,
@@ -222,10 +308,10 @@ fn set_tree_port_priority(arguments: &[u8]) -> Result<Line, Fault>
 fn set_port_path_cost(arguments: &[u8]) -> Result<Line, Fault>
     ensures { result ≡ says Command.SetPortPathCost (words arguments.now) }
 {
-    let (bridge, number, amount) = three_words(arguments).ok_or(Fault::E01)?;
-    let bridge = name(bridge)?;
-    let number = port_number(number)?;
-    let cost = cost(amount)?;
+    let (bridge, number, cost) = three_words(arguments).ok_or(Fault::E01)?;
+    let bridge = arguments::name(bridge)?;
+    let number = arguments::port_number(number)?;
+    let cost = arguments::cost(cost)?;
     let port = PortName { bridge, number };
     Ok(Line::Edit(Edit::SetPortPathCost { port, cost }))
 }
@@ -233,36 +319,88 @@ fn set_port_path_cost(arguments: &[u8]) -> Result<Line, Fault>
 fn set_tree_port_cost(arguments: &[u8]) -> Result<Line, Fault>
     ensures { result ≡ says Command.SetTreePortCost (words arguments.now) }
 {
-    let (bridge, number, number_of_tree, amount) = four_words(arguments).ok_or(Fault::E01)?;
-    let bridge = name(bridge)?;
-    let number = port_number(number)?;
-    let cost = cost(amount)?;
-    let tree = tree(number_of_tree)?;
+    let (bridge, number, tree, cost) = four_words(arguments).ok_or(Fault::E01)?;
+    let bridge = arguments::name(bridge)?;
+    let number = arguments::port_number(number)?;
+    let cost = arguments::cost(cost)?;
+    let tree = arguments::tree(tree)?;
     let port = PortName { bridge, number };
     Ok(Line::Edit(Edit::SetTreePortCost { port, tree, cost }))
+}
+
+fn set_configuration(arguments: &[u8]) -> Result<Line, Fault>
+    ensures { result ≡ says Command.SetMstConfId (words arguments.now) }
+{
+    let (bridge, revision, name_word) = three_words(arguments).ok_or(Fault::E01)?;
+    let bridge = arguments::name(bridge)?;
+    let revision = arguments::sixteen_bits(revision)?;
+    let name = arguments::conf_name(name_word)?;
+    Ok(Line::Edit(Edit::SetConfiguration {
+        bridge,
+        revision,
+        name,
+    }))
+}
+
+fn map_vids(arguments: &[u8]) -> Result<Line, Fault>
+    ensures { result ≡ says Command.SetVidToMstId (words arguments.now) }
+{
+    let (bridge, tree, vids) = three_words(arguments).ok_or(Fault::E01)?;
+    let bridge = arguments::name(bridge)?;
+    let tree = arguments::tree(tree)?;
+    let vids = arguments::vids(vids)?;
+    Ok(Line::Edit(Edit::MapVids { bridge, tree, vids }))
 }
 
 fn set_max_hops(arguments: &[u8]) -> Result<Line, Fault>
     ensures { result ≡ says Command.SetMaxHops (words arguments.now) }
 {
-    let (bridge, word) = two_words(arguments).ok_or(Fault::E01)?;
-    let bridge = name(bridge)?;
-    let limit = limit(word)?;
+    let (bridge, limit) = two_words(arguments).ok_or(Fault::E01)?;
+    let bridge = arguments::name(bridge)?;
+    let limit = arguments::limit(limit)?;
     Ok(Line::Edit(Edit::SetMaxHops { bridge, limit }))
 }
 
 fn set_max_age(arguments: &[u8]) -> Result<Line, Fault>
     ensures { result ≡ says Command.SetMaxAge (words arguments.now) }
 {
-    let (bridge, word) = two_words(arguments).ok_or(Fault::E01)?;
-    let bridge = name(bridge)?;
-    let limit = limit(word)?;
+    let (bridge, limit) = two_words(arguments).ok_or(Fault::E01)?;
+    let bridge = arguments::name(bridge)?;
+    let limit = arguments::limit(limit)?;
     Ok(Line::Edit(Edit::SetMaxAge { bridge, limit }))
+}
+
+fn set_port_vlans(arguments: &[u8]) -> Result<Line, Fault>
+    ensures { result ≡ says Command.SetPortVlans (words arguments.now) }
+{
+    let (bridge, number, vids) = three_words(arguments).ok_or(Fault::E01)?;
+    let bridge = arguments::name(bridge)?;
+    let number = arguments::port_number(number)?;
+    let vids = arguments::members(vids)?;
+    let port = PortName { bridge, number };
+    Ok(Line::Edit(Edit::SetPortVlans { port, vids }))
 }
 
 fn show_tree(arguments: &[u8]) -> Result<Line, Fault>
     ensures { result ≡ says Command.ShowTree (words arguments.now) }
 {
-    let tree = tree(one_word(arguments).ok_or(Fault::E01)?)?;
+    let tree = one_word(arguments).ok_or(Fault::E01)?;
+    let tree = arguments::tree(tree)?;
     Ok(Line::Query(Query::ShowTree { tree }))
+}
+
+fn show_vlan(arguments: &[u8]) -> Result<Line, Fault>
+    ensures { result ≡ says Command.ShowVlan (words arguments.now) }
+{
+    let vid = one_word(arguments).ok_or(Fault::E01)?;
+    let vid = arguments::vid(vid)?;
+    Ok(Line::Query(Query::ShowVlan { vid }))
+}
+
+fn show_configuration(arguments: &[u8]) -> Result<Line, Fault>
+    ensures { result ≡ says Command.ShowMstConfId (words arguments.now) }
+{
+    let bridge = one_word(arguments).ok_or(Fault::E01)?;
+    let bridge = arguments::name(bridge)?;
+    Ok(Line::Query(Query::ShowConfiguration { bridge }))
 }

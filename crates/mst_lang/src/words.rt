@@ -1,8 +1,7 @@
 ghost use Rattle.std.specs.Prelude.{◌≡◌, ℕ, ◌∷◌, [], ◌<◌, length, MatchOption, slice_index, false};
 ghost use Rattle.std.specs.Option.{option_map};
 ghost use Rattle.std.specs.List.{list_all};
-ghost use Rattle.mst_lang.specs.Words.{is_blank as blank_byte, is_plain as plain_byte, words};
-ghost use Rattle.mst_lang.specs.Arguments.{one_of, two_of, three_of, four_of};
+ghost use Rattle.mst_lang.specs.Words.{is_blank as blank_byte, is_plain as plain_byte, words, one_of, two_of, three_of, four_of};
 
 fn is_blank(byte: u8) -> bool
     ensures { result ≡ blank_byte byte }

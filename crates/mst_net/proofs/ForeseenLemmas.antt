@@ -1,194 +1,474 @@
 -- What is seen of a network once an edit is made.
-use Rattle.std.proofs.Common.{◌≡◌, ℕ, Bool, true, false, cond, List, Option, Some, None, nat_eq, refl, sym, ap, ◌∙◌}
-use Rattle.std.specs.Prelude.{Result, Ok, IsOk, if◌then◌else◌}
-use Rattle.std.specs.Option.{option_map, unwrap_or}
-use Rattle.std.specs.Result.{result_unwrap_or}
-use Rattle.std.specs.Cmp.{unsigned_Decides}
+use Rattle.std.proofs.Common.{◌≡◌, ◌≤◌, ℕ, Bool, true, false, cond, ◌&&◌, inl, inr, List, Option, Some, None, nat_eq, is_some, refl, sym, ap, ◌∙◌, true≢false}
+use Rattle.std.specs.Prelude.{◌==◌, if◌then◌else◌}
+use Rattle.std.specs.List.{list_all}
+use Rattle.std.specs.Option.{unwrap_or, ForSome}
 use Rattle.std.specs.declared.cmp.Ordering.{Ordering}
+use Rattle.std.specs.Bool.{beq}
+use Rattle.std.specs.Cmp.{unsigned_Decides}
+use Rattle.std.specs.Cmp.Lexicographic.{pointwise}
 use Rattle.std.specs.FinMap as fin
-use Rattle.std.specs.FinMap.{FinMap}
+use Rattle.mst_ids.specs.Vids.{has}
 use Rattle.mst_ids.specs.declared.name.PortName.{PortName}
 use Rattle.mst_lang.specs.declared.line.Edit.{Edit}
-use Rattle.mst_lang.specs.declared.line.Edit.TheVariants.{AddBridge, SetPower, SetKind, AddPort, AddLan, SetLanState, SetSpeed, Plug, Unplug, SetTreePriority, SetTreePortPriority, SetPortPathCost, SetTreePortCost, SetMaxHops, SetMaxAge}
-use Rattle.mst_net.specs.Tables.{Net, Numbers, BridgeTree, PortTree}
-use Rattle.mst_net.specs.After.{after, own_priority, new_bridge, new_port, new_lan, with_bridge, with_port, with_lan, with_priority, with_port_priority, with_port_cost, with_kind, with_power, with_max_hops, with_max_age, with_state, with_speed, with_external, in_lan}
-use Rattle.mst_net.specs.Contents.{PerKind, numbers_after, priority_of, port_priority_of, port_cost_of}
-use Rattle.mst_net.specs.Foreseen.{bridge_row_after, port_row_after, lan_row_after, bridge_number_after, port_number_after, lan_number_after, priority_after, port_priority_after, port_cost_after}
-use Rattle.mst_net.specs.declared.refusal.Refusal.{Refusal}
-use Rattle.mst_net.proofs.Keyed.{IsKeyed, same_keys, get_inserted, get_kept}
-use Rattle.mst_net.proofs.Keys.{names, ports, tree_eq, bridge_trees, port_tree_eq, port_trees}
-use Rattle.mst_net.proofs.AfterLemmas.{bridge_added, port_added, lan_added, bridge_found, lan_found, port_found, port_plugged, port_unplugged}
+use Rattle.mst_lang.specs.declared.line.Edit.TheVariants.{AddBridge, DelBridge, SetPower, SetKind, AddPort, DelPort, AddLan, DelLan, SetLanState, SetSpeed, Plug, Unplug, SetKey, SetSystemPriority, SetTreePriority, SetTreePortPriority, SetPortPathCost, SetTreePortCost, SetConfiguration, MapVids, SetMaxHops, SetMaxAge, SetPortVlans}
+use Rattle.mst_net.specs.Table.{no_table, tree_in, mapped}
+use Rattle.mst_net.specs.Tables.{Net, Numbers, BridgeTree, PortTree, port_eq, bridge_tree_eq, port_tree_eq}
+use Rattle.mst_net.specs.After.{effect, refusal_of, own_priority, own_table, own_vlans, all_vids, table_of, vlans_of, new_bridge, new_port, new_lan, with_kind, with_power, with_system_priority, with_configuration, with_max_hops, with_max_age, with_state, with_speed, with_key, with_external, in_lan}
+use Rattle.mst_net.specs.Contents.{PerKind, IsNumbered, numbers_after, priority_of, port_priority_of, port_cost_of}
+use Rattle.mst_net.specs.Foreseen.{bridge_row_after, port_row_after, lan_row_after, bridge_number_after, port_number_after, lan_number_after, priority_after, port_priority_after, port_cost_after, tree_after, vlans_after, without, bridge_name_after, port_name_after, lan_name_after}
+use Rattle.mst_net.proofs.KeptLemmas.{some_is, no_some}
+use Rattle.mst_net.proofs.Keyed.{IsKeyed, same_keys, after_insert, get_inserted, get_removed, get_kept}
+use Rattle.mst_net.proofs.AfterLemmas.{bridge_addable, port_addable, lan_addable}
+use Rattle.mst_net.proofs.Keys.{name_eq, names, ports, bridge_trees, port_trees}
+use Rattle.mst_net.proofs.Changed.{itself, get_changed, get_without, left_of, other_left}
+use Rattle.mst_net.proofs.TableFits.{same_flags, tree_in-no_table, tree_in-mapped, default_mapped}
 
--- a changed row of a key that is there
-changed_at : {K X : Type 0} {E : K → K → Bool} {R : K → K → Ordering} (keyed : IsKeyed E R) (m : FinMap R X) (k : K) (x : X) (f : X → X) (q : K) → fin.get m k ≡ Some x
-    → fin.get (fin.insert m k (f x)) q ≡ cond (E k q) (option_map f (fin.get m q)) (fin.get m q)
-changed_at {K} {X} {E} {R} keyed m k x f q there = get_inserted keyed m k (f x) q ∙ by (E k q) refl
-  where
-    by : (t : Bool) → E k q ≡ t → cond t (Some (f x)) (fin.get m q) ≡ cond t (option_map f (fin.get m q)) (fin.get m q)
-    by true e = sym (ap (option_map f) (ap (fin.get m) (sym (same_keys keyed k q e)) ∙ there))
-    by false e = refl
-
-abbrev made : Net → Result Net Refusal → Net
-made net r = result_unwrap_or r net
-
-pub foreseen_bridge : (e : Edit) (net : Net) (q : List ℕ) → IsOk (after e net) → fin.get (result_unwrap_or (after e net) net).bridges q ≡ bridge_row_after e q (fin.get net.bridges q)
-foreseen_bridge (AddBridge bridge mac) net q h = ap (λ r. fin.get (made net r).bridges q) (bridge_added bridge mac net h).3 ∙ get_inserted names net.bridges bridge (new_bridge mac) q
-foreseen_bridge (SetPower bridge power) net q h = ap (λ r. fin.get (made net r).bridges q) (bridge_found bridge net (λ row. Ok (with_bridge net bridge (with_power power row))) h).3 ∙ (let a = (bridge_found bridge net (λ row. Ok (with_bridge net bridge (with_power power row))) h) in changed_at names net.bridges bridge a.0 (with_power power) q a.1)
-foreseen_bridge (SetKind bridge kind) net q h = ap (λ r. fin.get (made net r).bridges q) (bridge_found bridge net (λ row. Ok (with_bridge net bridge (with_kind kind row))) h).3 ∙ (let a = (bridge_found bridge net (λ row. Ok (with_bridge net bridge (with_kind kind row))) h) in changed_at names net.bridges bridge a.0 (with_kind kind) q a.1)
-foreseen_bridge (AddPort port) net q h = ap (λ r. fin.get (made net r).bridges q) (port_added port net h).3
-foreseen_bridge (AddLan lan) net q h = ap (λ r. fin.get (made net r).bridges q) (lan_added lan net h).2
-foreseen_bridge (SetLanState lan state) net q h = ap (λ r. fin.get (made net r).bridges q) (lan_found lan net (λ row. Ok (with_lan net lan (with_state state row))) h).3
-foreseen_bridge (SetSpeed lan speed) net q h = ap (λ r. fin.get (made net r).bridges q) (lan_found lan net (λ row. Ok (with_lan net lan (with_speed speed row))) h).3
-foreseen_bridge (Plug port lan) net q h = ap (λ r. fin.get (made net r).bridges q) (port_plugged port lan net h).3
-foreseen_bridge (Unplug port) net q h = ap (λ r. fin.get (made net r).bridges q) (port_unplugged port net h).2
-foreseen_bridge (SetTreePriority bridge tree priority) net q h = ap (λ r. fin.get (made net r).bridges q) (bridge_found bridge net (λ row. Ok (with_priority net (record { bridge = bridge; tree = tree }) priority)) h).3
-foreseen_bridge (SetTreePortPriority port tree priority) net q h = ap (λ r. fin.get (made net r).bridges q) (port_found port net (λ row. Ok (with_port_priority net (record { port = port; tree = tree }) priority)) h).3
-foreseen_bridge (SetPortPathCost port cost) net q h = ap (λ r. fin.get (made net r).bridges q) (port_found port net (λ row. Ok (with_port net port (with_external cost row))) h).3
-foreseen_bridge (SetTreePortCost port tree cost) net q h = ap (λ r. fin.get (made net r).bridges q) (port_found port net (λ row. Ok (with_port_cost net (record { port = port; tree = tree }) cost)) h).3
-foreseen_bridge (SetMaxHops bridge limit) net q h = ap (λ r. fin.get (made net r).bridges q) (bridge_found bridge net (λ row. Ok (with_bridge net bridge (with_max_hops limit row))) h).3 ∙ (let a = (bridge_found bridge net (λ row. Ok (with_bridge net bridge (with_max_hops limit row))) h) in changed_at names net.bridges bridge a.0 (with_max_hops limit) q a.1)
-foreseen_bridge (SetMaxAge bridge limit) net q h = ap (λ r. fin.get (made net r).bridges q) (bridge_found bridge net (λ row. Ok (with_bridge net bridge (with_max_age limit row))) h).3 ∙ (let a = (bridge_found bridge net (λ row. Ok (with_bridge net bridge (with_max_age limit row))) h) in changed_at names net.bridges bridge a.0 (with_max_age limit) q a.1)
-
-pub foreseen_port : (e : Edit) (net : Net) (q : PortName) → IsOk (after e net) → fin.get (result_unwrap_or (after e net) net).ports q ≡ port_row_after e q (fin.get net.ports q)
-foreseen_port (AddBridge bridge mac) net q h = ap (λ r. fin.get (made net r).ports q) (bridge_added bridge mac net h).3
-foreseen_port (SetPower bridge power) net q h = ap (λ r. fin.get (made net r).ports q) (bridge_found bridge net (λ row. Ok (with_bridge net bridge (with_power power row))) h).3
-foreseen_port (SetKind bridge kind) net q h = ap (λ r. fin.get (made net r).ports q) (bridge_found bridge net (λ row. Ok (with_bridge net bridge (with_kind kind row))) h).3
-foreseen_port (AddPort port) net q h = ap (λ r. fin.get (made net r).ports q) (port_added port net h).3 ∙ get_inserted ports net.ports port new_port q
-foreseen_port (AddLan lan) net q h = ap (λ r. fin.get (made net r).ports q) (lan_added lan net h).2
-foreseen_port (SetLanState lan state) net q h = ap (λ r. fin.get (made net r).ports q) (lan_found lan net (λ row. Ok (with_lan net lan (with_state state row))) h).3
-foreseen_port (SetSpeed lan speed) net q h = ap (λ r. fin.get (made net r).ports q) (lan_found lan net (λ row. Ok (with_lan net lan (with_speed speed row))) h).3
-foreseen_port (Plug port lan) net q h = ap (λ r. fin.get (made net r).ports q) (port_plugged port lan net h).3 ∙ (let a = port_plugged port lan net h in changed_at ports net.ports port a.0 (in_lan (Some lan)) q a.1)
-foreseen_port (Unplug port) net q h = ap (λ r. fin.get (made net r).ports q) (port_unplugged port net h).2 ∙ (let a = port_unplugged port net h in changed_at ports net.ports port a.0 (in_lan None) q a.1)
-foreseen_port (SetTreePriority bridge tree priority) net q h = ap (λ r. fin.get (made net r).ports q) (bridge_found bridge net (λ row. Ok (with_priority net (record { bridge = bridge; tree = tree }) priority)) h).3
-foreseen_port (SetTreePortPriority port tree priority) net q h = ap (λ r. fin.get (made net r).ports q) (port_found port net (λ row. Ok (with_port_priority net (record { port = port; tree = tree }) priority)) h).3
-foreseen_port (SetPortPathCost port cost) net q h = ap (λ r. fin.get (made net r).ports q) (port_found port net (λ row. Ok (with_port net port (with_external cost row))) h).3 ∙ (let a = (port_found port net (λ row. Ok (with_port net port (with_external cost row))) h) in changed_at ports net.ports port a.0 (with_external cost) q a.1)
-foreseen_port (SetTreePortCost port tree cost) net q h = ap (λ r. fin.get (made net r).ports q) (port_found port net (λ row. Ok (with_port_cost net (record { port = port; tree = tree }) cost)) h).3
-foreseen_port (SetMaxHops bridge limit) net q h = ap (λ r. fin.get (made net r).ports q) (bridge_found bridge net (λ row. Ok (with_bridge net bridge (with_max_hops limit row))) h).3
-foreseen_port (SetMaxAge bridge limit) net q h = ap (λ r. fin.get (made net r).ports q) (bridge_found bridge net (λ row. Ok (with_bridge net bridge (with_max_age limit row))) h).3
-
-pub foreseen_lan : (e : Edit) (net : Net) (q : List ℕ) → IsOk (after e net) → fin.get (result_unwrap_or (after e net) net).lans q ≡ lan_row_after e q (fin.get net.lans q)
-foreseen_lan (AddBridge bridge mac) net q h = ap (λ r. fin.get (made net r).lans q) (bridge_added bridge mac net h).3
-foreseen_lan (SetPower bridge power) net q h = ap (λ r. fin.get (made net r).lans q) (bridge_found bridge net (λ row. Ok (with_bridge net bridge (with_power power row))) h).3
-foreseen_lan (SetKind bridge kind) net q h = ap (λ r. fin.get (made net r).lans q) (bridge_found bridge net (λ row. Ok (with_bridge net bridge (with_kind kind row))) h).3
-foreseen_lan (AddPort port) net q h = ap (λ r. fin.get (made net r).lans q) (port_added port net h).3
-foreseen_lan (AddLan lan) net q h = ap (λ r. fin.get (made net r).lans q) (lan_added lan net h).2 ∙ get_inserted names net.lans lan new_lan q
-foreseen_lan (SetLanState lan state) net q h = ap (λ r. fin.get (made net r).lans q) (lan_found lan net (λ row. Ok (with_lan net lan (with_state state row))) h).3 ∙ (let a = (lan_found lan net (λ row. Ok (with_lan net lan (with_state state row))) h) in changed_at names net.lans lan a.0 (with_state state) q a.1)
-foreseen_lan (SetSpeed lan speed) net q h = ap (λ r. fin.get (made net r).lans q) (lan_found lan net (λ row. Ok (with_lan net lan (with_speed speed row))) h).3 ∙ (let a = (lan_found lan net (λ row. Ok (with_lan net lan (with_speed speed row))) h) in changed_at names net.lans lan a.0 (with_speed speed) q a.1)
-foreseen_lan (Plug port lan) net q h = ap (λ r. fin.get (made net r).lans q) (port_plugged port lan net h).3
-foreseen_lan (Unplug port) net q h = ap (λ r. fin.get (made net r).lans q) (port_unplugged port net h).2
-foreseen_lan (SetTreePriority bridge tree priority) net q h = ap (λ r. fin.get (made net r).lans q) (bridge_found bridge net (λ row. Ok (with_priority net (record { bridge = bridge; tree = tree }) priority)) h).3
-foreseen_lan (SetTreePortPriority port tree priority) net q h = ap (λ r. fin.get (made net r).lans q) (port_found port net (λ row. Ok (with_port_priority net (record { port = port; tree = tree }) priority)) h).3
-foreseen_lan (SetPortPathCost port cost) net q h = ap (λ r. fin.get (made net r).lans q) (port_found port net (λ row. Ok (with_port net port (with_external cost row))) h).3
-foreseen_lan (SetTreePortCost port tree cost) net q h = ap (λ r. fin.get (made net r).lans q) (port_found port net (λ row. Ok (with_port_cost net (record { port = port; tree = tree }) cost)) h).3
-foreseen_lan (SetMaxHops bridge limit) net q h = ap (λ r. fin.get (made net r).lans q) (bridge_found bridge net (λ row. Ok (with_bridge net bridge (with_max_hops limit row))) h).3
-foreseen_lan (SetMaxAge bridge limit) net q h = ap (λ r. fin.get (made net r).lans q) (bridge_found bridge net (λ row. Ok (with_bridge net bridge (with_max_age limit row))) h).3
-
--- a priority that is kept where it isn't the default
+-- ---- what is kept of a setting, seen again
 own_seen : (priority : ℕ) (t : Bool) (o : Option ℕ) → unwrap_or (cond t (own_priority priority) o) 8 ≡ cond t priority (unwrap_or o 8)
-own_seen priority false o = refl
 own_seen priority true o = by (nat_eq priority 8) refl
   where
-    by : (d : Bool) → nat_eq priority 8 ≡ d → unwrap_or (if d then None else Some priority) 8 ≡ priority
+    by : (t : Bool) → nat_eq priority 8 ≡ t → unwrap_or (if t then None else Some priority) 8 ≡ priority
     by true e = sym ((unsigned_Decides priority 8).0 e)
     by false e = refl
+own_seen priority false o = refl
 
-pub foreseen_priority : (e : Edit) (net : Net) (q : List ℕ) (t : ℕ) → IsOk (after e net) → priority_of (result_unwrap_or (after e net) net) q t ≡ priority_after e q t (priority_of net q t)
-foreseen_priority (AddBridge bridge mac) net q t h = ap (λ r. priority_of (made net r) q t) (bridge_added bridge mac net h).3
-foreseen_priority (SetPower bridge power) net q t h = ap (λ r. priority_of (made net r) q t) (bridge_found bridge net (λ row. Ok (with_bridge net bridge (with_power power row))) h).3
-foreseen_priority (SetKind bridge kind) net q t h = ap (λ r. priority_of (made net r) q t) (bridge_found bridge net (λ row. Ok (with_bridge net bridge (with_kind kind row))) h).3
-foreseen_priority (AddPort port) net q t h = ap (λ r. priority_of (made net r) q t) (port_added port net h).3
-foreseen_priority (AddLan lan) net q t h = ap (λ r. priority_of (made net r) q t) (lan_added lan net h).2
-foreseen_priority (SetLanState lan state) net q t h = ap (λ r. priority_of (made net r) q t) (lan_found lan net (λ row. Ok (with_lan net lan (with_state state row))) h).3
-foreseen_priority (SetSpeed lan speed) net q t h = ap (λ r. priority_of (made net r) q t) (lan_found lan net (λ row. Ok (with_lan net lan (with_speed speed row))) h).3
-foreseen_priority (Plug port lan) net q t h = ap (λ r. priority_of (made net r) q t) (port_plugged port lan net h).3
-foreseen_priority (Unplug port) net q t h = ap (λ r. priority_of (made net r) q t) (port_unplugged port net h).2
-foreseen_priority (SetTreePriority bridge tree priority) net q t h = ap (λ r. priority_of (made net r) q t) (bridge_found bridge net (λ row. Ok (with_priority net (record { bridge = bridge; tree = tree }) priority)) h).3 ∙ ap (λ (o : Option ℕ). unwrap_or o 8) (get_kept bridge_trees net.priorities (record { bridge = bridge; tree = tree }) (own_priority priority) (record { bridge = q; tree = t })) ∙ own_seen priority (tree_eq (record { bridge = bridge; tree = tree }) (record { bridge = q; tree = t })) (fin.get net.priorities (record { bridge = q; tree = t }))
-foreseen_priority (SetTreePortPriority port tree priority) net q t h = ap (λ r. priority_of (made net r) q t) (port_found port net (λ row. Ok (with_port_priority net (record { port = port; tree = tree }) priority)) h).3
-foreseen_priority (SetPortPathCost port cost) net q t h = ap (λ r. priority_of (made net r) q t) (port_found port net (λ row. Ok (with_port net port (with_external cost row))) h).3
-foreseen_priority (SetTreePortCost port tree cost) net q t h = ap (λ r. priority_of (made net r) q t) (port_found port net (λ row. Ok (with_port_cost net (record { port = port; tree = tree }) cost)) h).3
-foreseen_priority (SetMaxHops bridge limit) net q t h = ap (λ r. priority_of (made net r) q t) (bridge_found bridge net (λ row. Ok (with_bridge net bridge (with_max_hops limit row))) h).3
-foreseen_priority (SetMaxAge bridge limit) net q t h = ap (λ r. priority_of (made net r) q t) (bridge_found bridge net (λ row. Ok (with_bridge net bridge (with_max_age limit row))) h).3
+own_table_seen : (vids : List Bool) (tree : ℕ) (table : List ℕ) (t : Bool) (o : Option (List ℕ)) → unwrap_or (cond t (own_table (mapped vids tree table)) o) no_table ≡ cond t (mapped vids tree table) (unwrap_or o no_table)
+own_table_seen vids tree table true o = by (list_all (λ t. t == 0) (mapped vids tree table)) refl
+  where
+    by : (t : Bool) → list_all (λ t. t == 0) (mapped vids tree table) ≡ t → unwrap_or (if t then None else Some (mapped vids tree table)) no_table ≡ mapped vids tree table
+    by true e = sym (default_mapped vids tree table e)
+    by false e = refl
+own_table_seen vids tree table false o = refl
 
-pub foreseen_port_priority : (e : Edit) (net : Net) (q : PortName) (t : ℕ) → IsOk (after e net) → port_priority_of (result_unwrap_or (after e net) net) q t ≡ port_priority_after e q t (port_priority_of net q t)
-foreseen_port_priority (AddBridge bridge mac) net q t h = ap (λ r. port_priority_of (made net r) q t) (bridge_added bridge mac net h).3
-foreseen_port_priority (SetPower bridge power) net q t h = ap (λ r. port_priority_of (made net r) q t) (bridge_found bridge net (λ row. Ok (with_bridge net bridge (with_power power row))) h).3
-foreseen_port_priority (SetKind bridge kind) net q t h = ap (λ r. port_priority_of (made net r) q t) (bridge_found bridge net (λ row. Ok (with_bridge net bridge (with_kind kind row))) h).3
-foreseen_port_priority (AddPort port) net q t h = ap (λ r. port_priority_of (made net r) q t) (port_added port net h).3
-foreseen_port_priority (AddLan lan) net q t h = ap (λ r. port_priority_of (made net r) q t) (lan_added lan net h).2
-foreseen_port_priority (SetLanState lan state) net q t h = ap (λ r. port_priority_of (made net r) q t) (lan_found lan net (λ row. Ok (with_lan net lan (with_state state row))) h).3
-foreseen_port_priority (SetSpeed lan speed) net q t h = ap (λ r. port_priority_of (made net r) q t) (lan_found lan net (λ row. Ok (with_lan net lan (with_speed speed row))) h).3
-foreseen_port_priority (Plug port lan) net q t h = ap (λ r. port_priority_of (made net r) q t) (port_plugged port lan net h).3
-foreseen_port_priority (Unplug port) net q t h = ap (λ r. port_priority_of (made net r) q t) (port_unplugged port net h).2
-foreseen_port_priority (SetTreePriority bridge tree priority) net q t h = ap (λ r. port_priority_of (made net r) q t) (bridge_found bridge net (λ row. Ok (with_priority net (record { bridge = bridge; tree = tree }) priority)) h).3
-foreseen_port_priority (SetTreePortPriority port tree priority) net q t h = ap (λ r. port_priority_of (made net r) q t) (port_found port net (λ row. Ok (with_port_priority net (record { port = port; tree = tree }) priority)) h).3 ∙ ap (λ (o : Option ℕ). unwrap_or o 8) (get_kept port_trees net.port_priorities (record { port = port; tree = tree }) (own_priority priority) (record { port = q; tree = t })) ∙ own_seen priority (port_tree_eq (record { port = port; tree = tree }) (record { port = q; tree = t })) (fin.get net.port_priorities (record { port = q; tree = t }))
-foreseen_port_priority (SetPortPathCost port cost) net q t h = ap (λ r. port_priority_of (made net r) q t) (port_found port net (λ row. Ok (with_port net port (with_external cost row))) h).3
-foreseen_port_priority (SetTreePortCost port tree cost) net q t h = ap (λ r. port_priority_of (made net r) q t) (port_found port net (λ row. Ok (with_port_cost net (record { port = port; tree = tree }) cost)) h).3
-foreseen_port_priority (SetMaxHops bridge limit) net q t h = ap (λ r. port_priority_of (made net r) q t) (bridge_found bridge net (λ row. Ok (with_bridge net bridge (with_max_hops limit row))) h).3
-foreseen_port_priority (SetMaxAge bridge limit) net q t h = ap (λ r. port_priority_of (made net r) q t) (bridge_found bridge net (λ row. Ok (with_bridge net bridge (with_max_age limit row))) h).3
+own_vlans_seen : (vids : List Bool) (t : Bool) (o : Option (List Bool)) → unwrap_or (cond t (own_vlans vids) o) all_vids ≡ cond t vids (unwrap_or o all_vids)
+own_vlans_seen vids true o = by (pointwise beq vids all_vids) refl
+  where
+    by : (t : Bool) → pointwise beq vids all_vids ≡ t → unwrap_or (if t then None else Some vids) all_vids ≡ vids
+    by true e = sym (same_flags vids all_vids e)
+    by false e = refl
+own_vlans_seen vids false o = refl
 
-pub foreseen_port_cost : (e : Edit) (net : Net) (q : PortName) (t : ℕ) → IsOk (after e net) → port_cost_of (result_unwrap_or (after e net) net) q t ≡ port_cost_after e q t (port_cost_of net q t)
-foreseen_port_cost (AddBridge bridge mac) net q t h = ap (λ r. port_cost_of (made net r) q t) (bridge_added bridge mac net h).3
-foreseen_port_cost (SetPower bridge power) net q t h = ap (λ r. port_cost_of (made net r) q t) (bridge_found bridge net (λ row. Ok (with_bridge net bridge (with_power power row))) h).3
-foreseen_port_cost (SetKind bridge kind) net q t h = ap (λ r. port_cost_of (made net r) q t) (bridge_found bridge net (λ row. Ok (with_bridge net bridge (with_kind kind row))) h).3
-foreseen_port_cost (AddPort port) net q t h = ap (λ r. port_cost_of (made net r) q t) (port_added port net h).3
-foreseen_port_cost (AddLan lan) net q t h = ap (λ r. port_cost_of (made net r) q t) (lan_added lan net h).2
-foreseen_port_cost (SetLanState lan state) net q t h = ap (λ r. port_cost_of (made net r) q t) (lan_found lan net (λ row. Ok (with_lan net lan (with_state state row))) h).3
-foreseen_port_cost (SetSpeed lan speed) net q t h = ap (λ r. port_cost_of (made net r) q t) (lan_found lan net (λ row. Ok (with_lan net lan (with_speed speed row))) h).3
-foreseen_port_cost (Plug port lan) net q t h = ap (λ r. port_cost_of (made net r) q t) (port_plugged port lan net h).3
-foreseen_port_cost (Unplug port) net q t h = ap (λ r. port_cost_of (made net r) q t) (port_unplugged port net h).2
-foreseen_port_cost (SetTreePriority bridge tree priority) net q t h = ap (λ r. port_cost_of (made net r) q t) (bridge_found bridge net (λ row. Ok (with_priority net (record { bridge = bridge; tree = tree }) priority)) h).3
-foreseen_port_cost (SetTreePortPriority port tree priority) net q t h = ap (λ r. port_cost_of (made net r) q t) (port_found port net (λ row. Ok (with_port_priority net (record { port = port; tree = tree }) priority)) h).3
-foreseen_port_cost (SetPortPathCost port cost) net q t h = ap (λ r. port_cost_of (made net r) q t) (port_found port net (λ row. Ok (with_port net port (with_external cost row))) h).3
-foreseen_port_cost (SetTreePortCost port tree cost) net q t h = ap (λ r. port_cost_of (made net r) q t) (port_found port net (λ row. Ok (with_port_cost net (record { port = port; tree = tree }) cost)) h).3 ∙ get_kept port_trees net.port_costs (record { port = port; tree = tree }) cost (record { port = q; tree = t })
-foreseen_port_cost (SetMaxHops bridge limit) net q t h = ap (λ r. port_cost_of (made net r) q t) (bridge_found bridge net (λ row. Ok (with_bridge net bridge (with_max_hops limit row))) h).3
-foreseen_port_cost (SetMaxAge bridge limit) net q t h = ap (λ r. port_cost_of (made net r) q t) (bridge_found bridge net (λ row. Ok (with_bridge net bridge (with_max_age limit row))) h).3
+gone_seen : {X : Type 0} (t : Bool) (o : Option X) (x : X) → unwrap_or (cond t None o) x ≡ cond t x (unwrap_or o x)
+gone_seen true o x = refl
+gone_seen false o x = refl
 
+-- the default table, and a table of which some VIDs are mapped
+emptied : (t : Bool) (table : List ℕ) (v : ℕ) → tree_in (cond t no_table table) v ≡ cond t 0 (tree_in table v)
+emptied true table v = tree_in-no_table v
+emptied false table v = refl
+
+mapped_seen : (vids : List Bool) (tree : ℕ) (net : Net) (bridge q : List ℕ) (v : ℕ) → (1 ≤ v) × (v ≤ 4094)
+    → tree_in (cond (name_eq bridge q) (mapped vids tree (table_of net bridge)) (table_of net q)) v ≡ cond (name_eq bridge q && has vids v) tree (tree_in (table_of net q) v)
+mapped_seen vids tree net bridge q v fits = by (name_eq bridge q) refl
+  where
+    by : (t : Bool) → name_eq bridge q ≡ t → tree_in (cond t (mapped vids tree (table_of net bridge)) (table_of net q)) v ≡ cond (t && has vids v) tree (tree_in (table_of net q) v)
+    by true e = tree_in-mapped vids tree (table_of net bridge) v fits ∙ ap (λ b. cond (has vids v) tree (tree_in (table_of net b) v)) (same_keys names bridge q e)
+    by false e = refl
+
+-- ---- the records
+pub foreseen_bridge : (e : Edit) (net : Net) (q : List ℕ) → fin.get (effect e net).bridges q ≡ bridge_row_after e q (fin.get net.bridges q)
+foreseen_bridge (AddBridge bridge mac) net q = get_inserted names net.bridges bridge (new_bridge mac) q
+foreseen_bridge (DelBridge bridge) net q = get_removed names net.bridges bridge q
+foreseen_bridge (SetPower bridge power) net q = get_changed names net.bridges bridge (with_power power) q
+foreseen_bridge (SetKind bridge kind) net q = get_changed names net.bridges bridge (with_kind kind) q
+foreseen_bridge (AddPort port) net q = refl
+foreseen_bridge (DelPort port) net q = refl
+foreseen_bridge (AddLan lan) net q = refl
+foreseen_bridge (DelLan lan) net q = refl
+foreseen_bridge (SetLanState lan state) net q = refl
+foreseen_bridge (SetSpeed lan speed) net q = refl
+foreseen_bridge (Plug port lan) net q = refl
+foreseen_bridge (Unplug port) net q = refl
+foreseen_bridge (SetKey port key) net q = refl
+foreseen_bridge (SetSystemPriority bridge priority) net q = get_changed names net.bridges bridge (with_system_priority priority) q
+foreseen_bridge (SetTreePriority bridge tree priority) net q = refl
+foreseen_bridge (SetTreePortPriority port tree priority) net q = refl
+foreseen_bridge (SetPortPathCost port cost) net q = refl
+foreseen_bridge (SetTreePortCost port tree cost) net q = refl
+foreseen_bridge (SetConfiguration bridge revision name) net q = get_changed names net.bridges bridge (with_configuration revision name) q
+foreseen_bridge (MapVids bridge tree vids) net q = refl
+foreseen_bridge (SetMaxHops bridge limit) net q = get_changed names net.bridges bridge (with_max_hops limit) q
+foreseen_bridge (SetMaxAge bridge limit) net q = get_changed names net.bridges bridge (with_max_age limit) q
+foreseen_bridge (SetPortVlans port vids) net q = refl
+
+pub foreseen_port : (e : Edit) (net : Net) (q : PortName) → fin.get (effect e net).ports q ≡ port_row_after e q (fin.get net.ports q)
+foreseen_port (AddBridge bridge mac) net q = refl
+foreseen_port (DelBridge bridge) net q = refl
+foreseen_port (SetPower bridge power) net q = refl
+foreseen_port (SetKind bridge kind) net q = refl
+foreseen_port (AddPort port) net q = get_inserted ports net.ports port new_port q
+foreseen_port (DelPort port) net q = get_removed ports net.ports port q
+foreseen_port (AddLan lan) net q = refl
+foreseen_port (DelLan lan) net q = refl
+foreseen_port (SetLanState lan state) net q = refl
+foreseen_port (SetSpeed lan speed) net q = refl
+foreseen_port (Plug port lan) net q = get_changed ports net.ports port (in_lan (Some lan)) q
+foreseen_port (Unplug port) net q = get_changed ports net.ports port (in_lan None) q
+foreseen_port (SetKey port key) net q = get_changed ports net.ports port (with_key key) q
+foreseen_port (SetSystemPriority bridge priority) net q = refl
+foreseen_port (SetTreePriority bridge tree priority) net q = refl
+foreseen_port (SetTreePortPriority port tree priority) net q = refl
+foreseen_port (SetPortPathCost port cost) net q = get_changed ports net.ports port (with_external cost) q
+foreseen_port (SetTreePortCost port tree cost) net q = refl
+foreseen_port (SetConfiguration bridge revision name) net q = refl
+foreseen_port (MapVids bridge tree vids) net q = refl
+foreseen_port (SetMaxHops bridge limit) net q = refl
+foreseen_port (SetMaxAge bridge limit) net q = refl
+foreseen_port (SetPortVlans port vids) net q = refl
+
+pub foreseen_lan : (e : Edit) (net : Net) (q : List ℕ) → fin.get (effect e net).lans q ≡ lan_row_after e q (fin.get net.lans q)
+foreseen_lan (AddBridge bridge mac) net q = refl
+foreseen_lan (DelBridge bridge) net q = refl
+foreseen_lan (SetPower bridge power) net q = refl
+foreseen_lan (SetKind bridge kind) net q = refl
+foreseen_lan (AddPort port) net q = refl
+foreseen_lan (DelPort port) net q = refl
+foreseen_lan (AddLan lan) net q = get_inserted names net.lans lan new_lan q
+foreseen_lan (DelLan lan) net q = get_removed names net.lans lan q
+foreseen_lan (SetLanState lan state) net q = get_changed names net.lans lan (with_state state) q
+foreseen_lan (SetSpeed lan speed) net q = get_changed names net.lans lan (with_speed speed) q
+foreseen_lan (Plug port lan) net q = refl
+foreseen_lan (Unplug port) net q = refl
+foreseen_lan (SetKey port key) net q = refl
+foreseen_lan (SetSystemPriority bridge priority) net q = refl
+foreseen_lan (SetTreePriority bridge tree priority) net q = refl
+foreseen_lan (SetTreePortPriority port tree priority) net q = refl
+foreseen_lan (SetPortPathCost port cost) net q = refl
+foreseen_lan (SetTreePortCost port tree cost) net q = refl
+foreseen_lan (SetConfiguration bridge revision name) net q = refl
+foreseen_lan (MapVids bridge tree vids) net q = refl
+foreseen_lan (SetMaxHops bridge limit) net q = refl
+foreseen_lan (SetMaxAge bridge limit) net q = refl
+foreseen_lan (SetPortVlans port vids) net q = refl
+
+-- ---- what is set by tree or VID
+pub foreseen_priority : (e : Edit) (net : Net) (q : List ℕ) (t : ℕ) → priority_of (effect e net) q t ≡ priority_after e q t (priority_of net q t)
+foreseen_priority (AddBridge bridge mac) net q t = refl
+foreseen_priority (DelBridge bridge) net q t = ap (λ o. unwrap_or o 8) (get_without bridge_trees net.priorities (λ k. name_eq bridge k.bridge) (record { bridge = q; tree = t })) ∙ gone_seen (name_eq bridge q) (fin.get net.priorities (record { bridge = q; tree = t })) 8
+foreseen_priority (SetPower bridge power) net q t = refl
+foreseen_priority (SetKind bridge kind) net q t = refl
+foreseen_priority (AddPort port) net q t = refl
+foreseen_priority (DelPort port) net q t = refl
+foreseen_priority (AddLan lan) net q t = refl
+foreseen_priority (DelLan lan) net q t = refl
+foreseen_priority (SetLanState lan state) net q t = refl
+foreseen_priority (SetSpeed lan speed) net q t = refl
+foreseen_priority (Plug port lan) net q t = refl
+foreseen_priority (Unplug port) net q t = refl
+foreseen_priority (SetKey port key) net q t = refl
+foreseen_priority (SetSystemPriority bridge priority) net q t = refl
+foreseen_priority (SetTreePriority bridge tree priority) net q t = ap (λ o. unwrap_or o 8) (get_kept bridge_trees net.priorities (record { bridge = bridge; tree = tree }) (own_priority priority) (record { bridge = q; tree = t })) ∙ own_seen priority (bridge_tree_eq (record { bridge = bridge; tree = tree }) (record { bridge = q; tree = t })) (fin.get net.priorities (record { bridge = q; tree = t }))
+foreseen_priority (SetTreePortPriority port tree priority) net q t = refl
+foreseen_priority (SetPortPathCost port cost) net q t = refl
+foreseen_priority (SetTreePortCost port tree cost) net q t = refl
+foreseen_priority (SetConfiguration bridge revision name) net q t = refl
+foreseen_priority (MapVids bridge tree vids) net q t = refl
+foreseen_priority (SetMaxHops bridge limit) net q t = refl
+foreseen_priority (SetMaxAge bridge limit) net q t = refl
+foreseen_priority (SetPortVlans port vids) net q t = refl
+
+pub foreseen_port_priority : (e : Edit) (net : Net) (q : PortName) (t : ℕ) → port_priority_of (effect e net) q t ≡ port_priority_after e q t (port_priority_of net q t)
+foreseen_port_priority (AddBridge bridge mac) net q t = refl
+foreseen_port_priority (DelBridge bridge) net q t = refl
+foreseen_port_priority (SetPower bridge power) net q t = refl
+foreseen_port_priority (SetKind bridge kind) net q t = refl
+foreseen_port_priority (AddPort port) net q t = refl
+foreseen_port_priority (DelPort port) net q t = ap (λ o. unwrap_or o 8) (get_without port_trees net.port_priorities (λ k. port_eq port k.port) (record { port = q; tree = t })) ∙ gone_seen (port_eq port q) (fin.get net.port_priorities (record { port = q; tree = t })) 8
+foreseen_port_priority (AddLan lan) net q t = refl
+foreseen_port_priority (DelLan lan) net q t = refl
+foreseen_port_priority (SetLanState lan state) net q t = refl
+foreseen_port_priority (SetSpeed lan speed) net q t = refl
+foreseen_port_priority (Plug port lan) net q t = refl
+foreseen_port_priority (Unplug port) net q t = refl
+foreseen_port_priority (SetKey port key) net q t = refl
+foreseen_port_priority (SetSystemPriority bridge priority) net q t = refl
+foreseen_port_priority (SetTreePriority bridge tree priority) net q t = refl
+foreseen_port_priority (SetTreePortPriority port tree priority) net q t = ap (λ o. unwrap_or o 8) (get_kept port_trees net.port_priorities (record { port = port; tree = tree }) (own_priority priority) (record { port = q; tree = t })) ∙ own_seen priority (port_tree_eq (record { port = port; tree = tree }) (record { port = q; tree = t })) (fin.get net.port_priorities (record { port = q; tree = t }))
+foreseen_port_priority (SetPortPathCost port cost) net q t = refl
+foreseen_port_priority (SetTreePortCost port tree cost) net q t = refl
+foreseen_port_priority (SetConfiguration bridge revision name) net q t = refl
+foreseen_port_priority (MapVids bridge tree vids) net q t = refl
+foreseen_port_priority (SetMaxHops bridge limit) net q t = refl
+foreseen_port_priority (SetMaxAge bridge limit) net q t = refl
+foreseen_port_priority (SetPortVlans port vids) net q t = refl
+
+pub foreseen_port_cost : (e : Edit) (net : Net) (q : PortName) (t : ℕ) → port_cost_of (effect e net) q t ≡ port_cost_after e q t (port_cost_of net q t)
+foreseen_port_cost (AddBridge bridge mac) net q t = refl
+foreseen_port_cost (DelBridge bridge) net q t = refl
+foreseen_port_cost (SetPower bridge power) net q t = refl
+foreseen_port_cost (SetKind bridge kind) net q t = refl
+foreseen_port_cost (AddPort port) net q t = refl
+foreseen_port_cost (DelPort port) net q t = get_without port_trees net.port_costs (λ k. port_eq port k.port) (record { port = q; tree = t })
+foreseen_port_cost (AddLan lan) net q t = refl
+foreseen_port_cost (DelLan lan) net q t = refl
+foreseen_port_cost (SetLanState lan state) net q t = refl
+foreseen_port_cost (SetSpeed lan speed) net q t = refl
+foreseen_port_cost (Plug port lan) net q t = refl
+foreseen_port_cost (Unplug port) net q t = refl
+foreseen_port_cost (SetKey port key) net q t = refl
+foreseen_port_cost (SetSystemPriority bridge priority) net q t = refl
+foreseen_port_cost (SetTreePriority bridge tree priority) net q t = refl
+foreseen_port_cost (SetTreePortPriority port tree priority) net q t = refl
+foreseen_port_cost (SetPortPathCost port cost) net q t = refl
+foreseen_port_cost (SetTreePortCost port tree cost) net q t = get_kept port_trees net.port_costs (record { port = port; tree = tree }) cost (record { port = q; tree = t })
+foreseen_port_cost (SetConfiguration bridge revision name) net q t = refl
+foreseen_port_cost (MapVids bridge tree vids) net q t = refl
+foreseen_port_cost (SetMaxHops bridge limit) net q t = refl
+foreseen_port_cost (SetMaxAge bridge limit) net q t = refl
+foreseen_port_cost (SetPortVlans port vids) net q t = refl
+
+pub foreseen_table : (e : Edit) (net : Net) (q : List ℕ) (v : ℕ) → (1 ≤ v) × (v ≤ 4094) → tree_in (table_of (effect e net) q) v ≡ tree_after e q v (tree_in (table_of net q) v)
+foreseen_table (AddBridge bridge mac) net q v fits = refl
+foreseen_table (DelBridge bridge) net q v fits = ap (λ o. tree_in (unwrap_or o no_table) v) (get_removed names net.tables bridge q) ∙ ap (λ l. tree_in l v) (gone_seen (name_eq bridge q) (fin.get net.tables q) no_table) ∙ emptied (name_eq bridge q) (table_of net q) v
+foreseen_table (SetPower bridge power) net q v fits = refl
+foreseen_table (SetKind bridge kind) net q v fits = refl
+foreseen_table (AddPort port) net q v fits = refl
+foreseen_table (DelPort port) net q v fits = refl
+foreseen_table (AddLan lan) net q v fits = refl
+foreseen_table (DelLan lan) net q v fits = refl
+foreseen_table (SetLanState lan state) net q v fits = refl
+foreseen_table (SetSpeed lan speed) net q v fits = refl
+foreseen_table (Plug port lan) net q v fits = refl
+foreseen_table (Unplug port) net q v fits = refl
+foreseen_table (SetKey port key) net q v fits = refl
+foreseen_table (SetSystemPriority bridge priority) net q v fits = refl
+foreseen_table (SetTreePriority bridge tree priority) net q v fits = refl
+foreseen_table (SetTreePortPriority port tree priority) net q v fits = refl
+foreseen_table (SetPortPathCost port cost) net q v fits = refl
+foreseen_table (SetTreePortCost port tree cost) net q v fits = refl
+foreseen_table (SetConfiguration bridge revision name) net q v fits = refl
+foreseen_table (MapVids bridge tree vids) net q v fits = ap (λ o. tree_in (unwrap_or o no_table) v) (get_kept names net.tables bridge (own_table (mapped vids tree (table_of net bridge))) q) ∙ ap (λ l. tree_in l v) (own_table_seen vids tree (table_of net bridge) (name_eq bridge q) (fin.get net.tables q)) ∙ mapped_seen vids tree net bridge q v fits
+foreseen_table (SetMaxHops bridge limit) net q v fits = refl
+foreseen_table (SetMaxAge bridge limit) net q v fits = refl
+foreseen_table (SetPortVlans port vids) net q v fits = refl
+
+pub foreseen_vlans : (e : Edit) (net : Net) (q : PortName) → vlans_of (effect e net) q ≡ vlans_after e q (vlans_of net q)
+foreseen_vlans (AddBridge bridge mac) net q = refl
+foreseen_vlans (DelBridge bridge) net q = refl
+foreseen_vlans (SetPower bridge power) net q = refl
+foreseen_vlans (SetKind bridge kind) net q = refl
+foreseen_vlans (AddPort port) net q = refl
+foreseen_vlans (DelPort port) net q = ap (λ o. unwrap_or o all_vids) (get_removed ports net.vlans port q) ∙ gone_seen (port_eq port q) (fin.get net.vlans q) all_vids
+foreseen_vlans (AddLan lan) net q = refl
+foreseen_vlans (DelLan lan) net q = refl
+foreseen_vlans (SetLanState lan state) net q = refl
+foreseen_vlans (SetSpeed lan speed) net q = refl
+foreseen_vlans (Plug port lan) net q = refl
+foreseen_vlans (Unplug port) net q = refl
+foreseen_vlans (SetKey port key) net q = refl
+foreseen_vlans (SetSystemPriority bridge priority) net q = refl
+foreseen_vlans (SetTreePriority bridge tree priority) net q = refl
+foreseen_vlans (SetTreePortPriority port tree priority) net q = refl
+foreseen_vlans (SetPortPathCost port cost) net q = refl
+foreseen_vlans (SetTreePortCost port tree cost) net q = refl
+foreseen_vlans (SetConfiguration bridge revision name) net q = refl
+foreseen_vlans (MapVids bridge tree vids) net q = refl
+foreseen_vlans (SetMaxHops bridge limit) net q = refl
+foreseen_vlans (SetMaxAge bridge limit) net q = refl
+foreseen_vlans (SetPortVlans port vids) net q = ap (λ o. unwrap_or o all_vids) (get_kept ports net.vlans port (own_vlans vids) q) ∙ own_vlans_seen vids (port_eq port q) (fin.get net.vlans q)
+
+-- ---- the numbers of the records
 pub foreseen_bridge_number : (e : Edit) (next : PerKind) (numbers : Numbers) (q : List ℕ) → fin.get (numbers_after e next numbers).bridges q ≡ bridge_number_after e next.bridge q (fin.get numbers.bridges q)
 foreseen_bridge_number (AddBridge bridge mac) next numbers q = get_inserted names numbers.bridges bridge next.bridge q
+foreseen_bridge_number (DelBridge bridge) next numbers q = get_removed names numbers.bridges bridge q
 foreseen_bridge_number (SetPower bridge power) next numbers q = refl
 foreseen_bridge_number (SetKind bridge kind) next numbers q = refl
 foreseen_bridge_number (AddPort port) next numbers q = refl
+foreseen_bridge_number (DelPort port) next numbers q = refl
 foreseen_bridge_number (AddLan lan) next numbers q = refl
+foreseen_bridge_number (DelLan lan) next numbers q = refl
 foreseen_bridge_number (SetLanState lan state) next numbers q = refl
 foreseen_bridge_number (SetSpeed lan speed) next numbers q = refl
 foreseen_bridge_number (Plug port lan) next numbers q = refl
 foreseen_bridge_number (Unplug port) next numbers q = refl
+foreseen_bridge_number (SetKey port key) next numbers q = refl
+foreseen_bridge_number (SetSystemPriority bridge priority) next numbers q = refl
 foreseen_bridge_number (SetTreePriority bridge tree priority) next numbers q = refl
 foreseen_bridge_number (SetTreePortPriority port tree priority) next numbers q = refl
 foreseen_bridge_number (SetPortPathCost port cost) next numbers q = refl
 foreseen_bridge_number (SetTreePortCost port tree cost) next numbers q = refl
+foreseen_bridge_number (SetConfiguration bridge revision name) next numbers q = refl
+foreseen_bridge_number (MapVids bridge tree vids) next numbers q = refl
 foreseen_bridge_number (SetMaxHops bridge limit) next numbers q = refl
 foreseen_bridge_number (SetMaxAge bridge limit) next numbers q = refl
+foreseen_bridge_number (SetPortVlans port vids) next numbers q = refl
 
 pub foreseen_port_number : (e : Edit) (next : PerKind) (numbers : Numbers) (q : PortName) → fin.get (numbers_after e next numbers).ports q ≡ port_number_after e next.port q (fin.get numbers.ports q)
 foreseen_port_number (AddBridge bridge mac) next numbers q = refl
+foreseen_port_number (DelBridge bridge) next numbers q = refl
 foreseen_port_number (SetPower bridge power) next numbers q = refl
 foreseen_port_number (SetKind bridge kind) next numbers q = refl
 foreseen_port_number (AddPort port) next numbers q = get_inserted ports numbers.ports port next.port q
+foreseen_port_number (DelPort port) next numbers q = get_removed ports numbers.ports port q
 foreseen_port_number (AddLan lan) next numbers q = refl
+foreseen_port_number (DelLan lan) next numbers q = refl
 foreseen_port_number (SetLanState lan state) next numbers q = refl
 foreseen_port_number (SetSpeed lan speed) next numbers q = refl
 foreseen_port_number (Plug port lan) next numbers q = refl
 foreseen_port_number (Unplug port) next numbers q = refl
+foreseen_port_number (SetKey port key) next numbers q = refl
+foreseen_port_number (SetSystemPriority bridge priority) next numbers q = refl
 foreseen_port_number (SetTreePriority bridge tree priority) next numbers q = refl
 foreseen_port_number (SetTreePortPriority port tree priority) next numbers q = refl
 foreseen_port_number (SetPortPathCost port cost) next numbers q = refl
 foreseen_port_number (SetTreePortCost port tree cost) next numbers q = refl
+foreseen_port_number (SetConfiguration bridge revision name) next numbers q = refl
+foreseen_port_number (MapVids bridge tree vids) next numbers q = refl
 foreseen_port_number (SetMaxHops bridge limit) next numbers q = refl
 foreseen_port_number (SetMaxAge bridge limit) next numbers q = refl
+foreseen_port_number (SetPortVlans port vids) next numbers q = refl
 
 pub foreseen_lan_number : (e : Edit) (next : PerKind) (numbers : Numbers) (q : List ℕ) → fin.get (numbers_after e next numbers).lans q ≡ lan_number_after e next.lan q (fin.get numbers.lans q)
 foreseen_lan_number (AddBridge bridge mac) next numbers q = refl
+foreseen_lan_number (DelBridge bridge) next numbers q = refl
 foreseen_lan_number (SetPower bridge power) next numbers q = refl
 foreseen_lan_number (SetKind bridge kind) next numbers q = refl
 foreseen_lan_number (AddPort port) next numbers q = refl
+foreseen_lan_number (DelPort port) next numbers q = refl
 foreseen_lan_number (AddLan lan) next numbers q = get_inserted names numbers.lans lan next.lan q
+foreseen_lan_number (DelLan lan) next numbers q = get_removed names numbers.lans lan q
 foreseen_lan_number (SetLanState lan state) next numbers q = refl
 foreseen_lan_number (SetSpeed lan speed) next numbers q = refl
 foreseen_lan_number (Plug port lan) next numbers q = refl
 foreseen_lan_number (Unplug port) next numbers q = refl
+foreseen_lan_number (SetKey port key) next numbers q = refl
+foreseen_lan_number (SetSystemPriority bridge priority) next numbers q = refl
 foreseen_lan_number (SetTreePriority bridge tree priority) next numbers q = refl
 foreseen_lan_number (SetTreePortPriority port tree priority) next numbers q = refl
 foreseen_lan_number (SetPortPathCost port cost) next numbers q = refl
 foreseen_lan_number (SetTreePortCost port tree cost) next numbers q = refl
+foreseen_lan_number (SetConfiguration bridge revision name) next numbers q = refl
+foreseen_lan_number (MapVids bridge tree vids) next numbers q = refl
 foreseen_lan_number (SetMaxHops bridge limit) next numbers q = refl
 foreseen_lan_number (SetMaxAge bridge limit) next numbers q = refl
+foreseen_lan_number (SetPortVlans port vids) next numbers q = refl
+
+-- ---- the names by number
+-- the name that has a number, if some name has it
+pub record IsNamed {K : Type 0} {R : K → K → Ordering} (numbers : fin.FinMap R ℕ) (number : ℕ) (o : Option K) : Type 0 where
+  pub found : ForSome o (λ name. fin.get numbers name ≡ Some number)
+  pub none : o ≡ None → (name : K) → fin.get numbers name ≡ Some number → ⊥
+
+module _ {K : Type 0} {E : K → K → Bool} {R : K → K → Ordering} (keyed : IsKeyed E R) (numbers : fin.FinMap R ℕ) (number : ℕ) (o : Option K) (was : IsNamed numbers number o) where
+  -- a new name with a number that no name had
+  name_added : (k : K) (next : ℕ) → fin.contains_key numbers k ≡ false → ((q : K) → fin.get numbers q ≡ Some next → ⊥) → IsNamed (fin.insert numbers k next) number (if nat_eq next number then Some k else o)
+  name_added k next absent fresh = by (nat_eq next number) refl
+    where
+      other : (q : K) → fin.get numbers q ≡ Some number → fin.get (fin.insert numbers k next) q ≡ Some number
+      other q h = get_inserted keyed numbers k next q ∙ at (E k q) refl
+        where
+          at : (t : Bool) → E k q ≡ t → cond t (Some next) (fin.get numbers q) ≡ Some number
+          at true e = absurd (true≢false (sym (ap is_some (ap (fin.get numbers) (same_keys keyed k q e) ∙ h)) ∙ absent))
+          at false e = h
+
+      by : (t : Bool) → nat_eq next number ≡ t → IsNamed (fin.insert numbers k next) number (if t then Some k else o)
+      by true e = record {
+        found = λ name is.
+            let here : k ≡ name = some_is k name is in
+            ap (fin.get (fin.insert numbers k next)) (sym here) ∙ get_inserted keyed numbers k next k ∙ ap (λ b. cond b (Some next) (fin.get numbers k)) (itself keyed k) ∙ ap Some ((unsigned_Decides next number).0 e);
+        none = λ is. absurd (no_some k (sym is));
+      }
+      by false e = record {
+        found = λ name is. other name (was.found name is);
+        none = λ is name h. elim (after_insert keyed numbers k next name number h) [
+          | inl p ↦ true≢false (sym ((unsigned_Decides next number).1 p.1) ∙ e)
+          | inr p ↦ was.none is name p
+        ];
+      }
+
+  -- a name that is taken away with its number
+  name_removed : (k : K) → ((p q : K) (n : ℕ) → fin.get numbers p ≡ Some n → fin.get numbers q ≡ Some n → p ≡ q) → IsNamed (fin.remove numbers k) number (without (E k) o)
+  name_removed k differ = by o refl
+    where
+      at : (name : K) → fin.get numbers name ≡ Some number → (t : Bool) → E k name ≡ t → IsNamed (fin.remove numbers k) number (if t then None else Some name)
+      at name there true e = record {
+        found = λ q is. absurd (no_some q is);
+        none = λ _ q h. let left = left_of keyed numbers k q number h in true≢false (sym e ∙ ap (E k) (differ name q number there left.1) ∙ left.0);
+      }
+      at name there false e = record {
+        found = λ q is. let same : name ≡ q = some_is name q is in other_left keyed numbers k q (ap (E k) (sym same) ∙ e) ∙ ap (fin.get numbers) (sym same) ∙ there;
+        none = λ is. absurd (no_some name (sym is));
+      }
+
+      by : (p : Option K) → o ≡ p → IsNamed (fin.remove numbers k) number (without (E k) p)
+      by None e = record { found = λ q is. absurd (no_some q is); none = λ _ q h. was.none e q (left_of keyed numbers k q number h).1 }
+      by (Some name) e = at name (was.found name e) (E k name) refl
+
+pub foreseen_bridge_name : (e : Edit) (net : Net) (next : PerKind) (numbers : Numbers) → IsNumbered net numbers → refusal_of e net ≡ None → ((q : List ℕ) → fin.get numbers.bridges q ≡ Some next.bridge → ⊥) → (number : ℕ) (o : Option (List ℕ))
+    → IsNamed numbers.bridges number o → IsNamed (numbers_after e next numbers).bridges number (bridge_name_after e next.bridge number o)
+foreseen_bridge_name (AddBridge bridge mac) net next numbers is can fresh number o was = name_added names numbers.bridges number o was bridge next.bridge (is.bridges bridge ∙ (bridge_addable net bridge mac can).0) fresh
+foreseen_bridge_name (DelBridge bridge) net next numbers is can fresh number o was = name_removed names numbers.bridges number o was bridge is.bridges_differ
+foreseen_bridge_name (SetPower bridge power) net next numbers is can fresh number o was = was
+foreseen_bridge_name (SetKind bridge kind) net next numbers is can fresh number o was = was
+foreseen_bridge_name (AddPort port) net next numbers is can fresh number o was = was
+foreseen_bridge_name (DelPort port) net next numbers is can fresh number o was = was
+foreseen_bridge_name (AddLan lan) net next numbers is can fresh number o was = was
+foreseen_bridge_name (DelLan lan) net next numbers is can fresh number o was = was
+foreseen_bridge_name (SetLanState lan state) net next numbers is can fresh number o was = was
+foreseen_bridge_name (SetSpeed lan speed) net next numbers is can fresh number o was = was
+foreseen_bridge_name (Plug port lan) net next numbers is can fresh number o was = was
+foreseen_bridge_name (Unplug port) net next numbers is can fresh number o was = was
+foreseen_bridge_name (SetKey port key) net next numbers is can fresh number o was = was
+foreseen_bridge_name (SetSystemPriority bridge priority) net next numbers is can fresh number o was = was
+foreseen_bridge_name (SetTreePriority bridge tree priority) net next numbers is can fresh number o was = was
+foreseen_bridge_name (SetTreePortPriority port tree priority) net next numbers is can fresh number o was = was
+foreseen_bridge_name (SetPortPathCost port cost) net next numbers is can fresh number o was = was
+foreseen_bridge_name (SetTreePortCost port tree cost) net next numbers is can fresh number o was = was
+foreseen_bridge_name (SetConfiguration bridge revision name) net next numbers is can fresh number o was = was
+foreseen_bridge_name (MapVids bridge tree vids) net next numbers is can fresh number o was = was
+foreseen_bridge_name (SetMaxHops bridge limit) net next numbers is can fresh number o was = was
+foreseen_bridge_name (SetMaxAge bridge limit) net next numbers is can fresh number o was = was
+foreseen_bridge_name (SetPortVlans port vids) net next numbers is can fresh number o was = was
+
+pub foreseen_port_name : (e : Edit) (net : Net) (next : PerKind) (numbers : Numbers) → IsNumbered net numbers → refusal_of e net ≡ None → ((q : PortName) → fin.get numbers.ports q ≡ Some next.port → ⊥) → (number : ℕ) (o : Option (PortName))
+    → IsNamed numbers.ports number o → IsNamed (numbers_after e next numbers).ports number (port_name_after e next.port number o)
+foreseen_port_name (AddBridge bridge mac) net next numbers is can fresh number o was = was
+foreseen_port_name (DelBridge bridge) net next numbers is can fresh number o was = was
+foreseen_port_name (SetPower bridge power) net next numbers is can fresh number o was = was
+foreseen_port_name (SetKind bridge kind) net next numbers is can fresh number o was = was
+foreseen_port_name (AddPort port) net next numbers is can fresh number o was = name_added ports numbers.ports number o was port next.port (is.ports port ∙ (port_addable net port can).1) fresh
+foreseen_port_name (DelPort port) net next numbers is can fresh number o was = name_removed ports numbers.ports number o was port is.ports_differ
+foreseen_port_name (AddLan lan) net next numbers is can fresh number o was = was
+foreseen_port_name (DelLan lan) net next numbers is can fresh number o was = was
+foreseen_port_name (SetLanState lan state) net next numbers is can fresh number o was = was
+foreseen_port_name (SetSpeed lan speed) net next numbers is can fresh number o was = was
+foreseen_port_name (Plug port lan) net next numbers is can fresh number o was = was
+foreseen_port_name (Unplug port) net next numbers is can fresh number o was = was
+foreseen_port_name (SetKey port key) net next numbers is can fresh number o was = was
+foreseen_port_name (SetSystemPriority bridge priority) net next numbers is can fresh number o was = was
+foreseen_port_name (SetTreePriority bridge tree priority) net next numbers is can fresh number o was = was
+foreseen_port_name (SetTreePortPriority port tree priority) net next numbers is can fresh number o was = was
+foreseen_port_name (SetPortPathCost port cost) net next numbers is can fresh number o was = was
+foreseen_port_name (SetTreePortCost port tree cost) net next numbers is can fresh number o was = was
+foreseen_port_name (SetConfiguration bridge revision name) net next numbers is can fresh number o was = was
+foreseen_port_name (MapVids bridge tree vids) net next numbers is can fresh number o was = was
+foreseen_port_name (SetMaxHops bridge limit) net next numbers is can fresh number o was = was
+foreseen_port_name (SetMaxAge bridge limit) net next numbers is can fresh number o was = was
+foreseen_port_name (SetPortVlans port vids) net next numbers is can fresh number o was = was
+
+pub foreseen_lan_name : (e : Edit) (net : Net) (next : PerKind) (numbers : Numbers) → IsNumbered net numbers → refusal_of e net ≡ None → ((q : List ℕ) → fin.get numbers.lans q ≡ Some next.lan → ⊥) → (number : ℕ) (o : Option (List ℕ))
+    → IsNamed numbers.lans number o → IsNamed (numbers_after e next numbers).lans number (lan_name_after e next.lan number o)
+foreseen_lan_name (AddBridge bridge mac) net next numbers is can fresh number o was = was
+foreseen_lan_name (DelBridge bridge) net next numbers is can fresh number o was = was
+foreseen_lan_name (SetPower bridge power) net next numbers is can fresh number o was = was
+foreseen_lan_name (SetKind bridge kind) net next numbers is can fresh number o was = was
+foreseen_lan_name (AddPort port) net next numbers is can fresh number o was = was
+foreseen_lan_name (DelPort port) net next numbers is can fresh number o was = was
+foreseen_lan_name (AddLan lan) net next numbers is can fresh number o was = name_added names numbers.lans number o was lan next.lan (is.lans lan ∙ (lan_addable net lan can).0) fresh
+foreseen_lan_name (DelLan lan) net next numbers is can fresh number o was = name_removed names numbers.lans number o was lan is.lans_differ
+foreseen_lan_name (SetLanState lan state) net next numbers is can fresh number o was = was
+foreseen_lan_name (SetSpeed lan speed) net next numbers is can fresh number o was = was
+foreseen_lan_name (Plug port lan) net next numbers is can fresh number o was = was
+foreseen_lan_name (Unplug port) net next numbers is can fresh number o was = was
+foreseen_lan_name (SetKey port key) net next numbers is can fresh number o was = was
+foreseen_lan_name (SetSystemPriority bridge priority) net next numbers is can fresh number o was = was
+foreseen_lan_name (SetTreePriority bridge tree priority) net next numbers is can fresh number o was = was
+foreseen_lan_name (SetTreePortPriority port tree priority) net next numbers is can fresh number o was = was
+foreseen_lan_name (SetPortPathCost port cost) net next numbers is can fresh number o was = was
+foreseen_lan_name (SetTreePortCost port tree cost) net next numbers is can fresh number o was = was
+foreseen_lan_name (SetConfiguration bridge revision name) net next numbers is can fresh number o was = was
+foreseen_lan_name (MapVids bridge tree vids) net next numbers is can fresh number o was = was
+foreseen_lan_name (SetMaxHops bridge limit) net next numbers is can fresh number o was = was
+foreseen_lan_name (SetMaxAge bridge limit) net next numbers is can fresh number o was = was
+foreseen_lan_name (SetPortVlans port vids) net next numbers is can fresh number o was = was

@@ -42,6 +42,10 @@ map_cond : {X Y : Type 0} (f : X → Y) (b : Bool) (r : X) (o : Option X) → op
 map_cond f true r o = refl
 map_cond f false r o = refl
 
+map_cond_none : {X Y : Type 0} (f : X → Y) (b : Bool) (o : Option X) → option_map f (cond b None o) ≡ cond b None (option_map f o)
+map_cond_none f true o = refl
+map_cond_none f false o = refl
+
 -- a key that is put under a number that was free leaves the others
 pub fresh_others : {K : Type 0} (old new : Slab K) (number : ℕ) (slot : Option K) → get old number ≡ None → Updates old new number slot → (n : ℕ) (k : K) → get old n ≡ Some k → get new n ≡ Some k
 fresh_others old new number slot vacant updates n k there = updates.others n (λ e. no_some k (sym vacant ∙ ap (get old) (sym e) ∙ there)) ∙ there
@@ -113,6 +117,31 @@ module _ {K R : Type 0} where
               let k = key_kept q (get old s.number) there in
               ap (λ o. option_map_or (eq q) o false) (others s.number k.0 k.1 ∙ sym k.1) ∙ there
 
+  -- the removal of a record
+  module _ (eq : K → K → Bool) (es fs : List (K × Record R)) (key : K)
+      (removed : (q : K) → lookup (eq q) fs ≡ cond (eq key q) None (lookup (eq q) es)) where
+    pub rows_removed : (q : K) → lookup (eq q) (rows_of fs) ≡ cond (eq key q) None (lookup (eq q) (rows_of es))
+    rows_removed q =
+        let f : Record R → R = λ r. r.row in
+        row_at (eq q) fs ∙ ap (option_map f) (removed q) ∙ map_cond_none f (eq key q) (lookup (eq q) es) ∙ ap (cond (eq key q) None) (sym (row_at (eq q) es))
+
+    pub numbers_removed : (q : K) → lookup (eq q) (numbers_of fs) ≡ cond (eq key q) None (lookup (eq q) (numbers_of es))
+    numbers_removed q =
+        let f : Record R → ℕ = λ r. r.number in
+        number_at (eq q) fs ∙ ap (option_map f) (removed q) ∙ map_cond_none f (eq key q) (lookup (eq q) es) ∙ ap (cond (eq key q) None) (sym (number_at (eq q) es))
+
+    -- the other records are kept, since none has the number that goes
+    pub kept_removed : IsEquivalence eq → (r : Record R) → lookup (eq key) es ≡ Some r → (old new : Slab K) → Updates old new r.number None → IsKept eq es old → IsDistinct eq (keys_of fs) → IsKept eq fs new
+    kept_removed laws r there old new updates kept unique = record { numbered = λ q s h. by q s (eq key q) refl (sym (removed q) ∙ h); unique = unique }
+      where
+        by : (q : K) (s : Record R) (t : Bool) → eq key q ≡ t → cond t None (lookup (eq q) es) ≡ Some s → option_map_or (eq q) (get new s.number) false ≡ true
+        by q s true e h = absurd (no_some s h)
+        by q s false e h =
+            let named = kept.numbered q s h in
+            let apart : s.number ≢ r.number = λ same.
+            true≢false (sym (same_key_of eq laws key q (get old r.number) (kept.numbered key r there) (ap (λ n. option_map_or (eq q) (get old n) false) (sym same) ∙ named)) ∙ e) in
+            ap (λ o. option_map_or (eq q) o false) (updates.others s.number apart) ∙ named
+
   -- kept records have numbers of their own
   pub kept_numbered : (eq : K → K → Bool) → IsEquivalence eq → (es : List (K × Record R)) (keys : Slab K) (next room : ℕ) → IsKept eq es keys
       → IsNumberedBy eq (record { rows = rows_of es; numbers = numbers_of es; next = next; room = room })
@@ -138,6 +167,10 @@ key_there {K} {R} eq laws es keys kept k n h =
     let q = some_passed (eq k) (get keys (r.0).number) (kept.numbered k r.0 r.1) in
     let same : (x : K) → eq q.0 x ≡ eq k x = λ x. sym (laws.congr k q.0 x q.2) in
     (q.0, ap (get keys) (sym r.2) ∙ q.1, ap (λ t. lookup t (numbers_of es)) (λ i x. same x i) ∙ h)
+
+-- a record's number has a key
+pub number_has_key : {K R : Type 0} (eq : K → K → Bool) (es : List (K × Record R)) (keys : Slab K) → IsKept eq es keys → (k : K) (r : Record R) → lookup (eq k) es ≡ Some r → IsSome (get keys r.number)
+number_has_key eq es keys kept k r there = ap is_some (some_passed (eq k) (get keys r.number) (kept.numbered k r there)).1
 
 module _ {K R : Type 0} (eq : K → K → Bool) (laws : IsEquivalence eq) (es : List (K × Record R)) (keys : Slab K) (kept : IsKept eq es keys) (k : K) (n : ℕ) (h : lookup (eq k) (numbers_of es) ≡ Some n) where
   -- so there is a key under it

@@ -1,5 +1,5 @@
 -- The keys of the network's tables.
-use Rattle.std.proofs.Common.{ℕ, Bool, List, ◌&&◌, nat_eq, ap}
+use Rattle.std.proofs.Common.{ℕ, Bool, List, nat_eq, ap}
 use Rattle.std.specs.FinMap.{IsAntisymmetric, slice_cmp-IsAntisymmetric, nat_cmp-IsAntisymmetric}
 use Rattle.std.specs.Cmp.{nat_cmp_total, on_total, then_total, both_tied, unsigned_ties}
 use Rattle.std.specs.Cmp.Lexicographic.{pointwise, nat_list_cmp_total, texts_ties}
@@ -7,8 +7,7 @@ use Rattle.std.specs.Ordering.{nat_cmp}
 use Rattle.std.proofs.lemmas.Map.Lookups.{exact_pairs, exact_unsigned}
 use Rattle.mst_ids.specs.Names.{name_cmp, port_cmp}
 use Rattle.mst_ids.specs.declared.name.PortName.{PortName}
-use Rattle.mst_net.specs.Tables.{BridgeTree, PortTree, bridge_tree_cmp, port_tree_cmp}
-use Rattle.mst_net.specs.NetworkKept.{port_eq}
+use Rattle.mst_net.specs.Tables.{BridgeTree, PortTree, bridge_tree_cmp, port_tree_cmp, port_eq, bridge_tree_eq, port_tree_eq}
 use Rattle.mst_net.proofs.Keyed.{IsKeyed}
 
 abbrev pub name_eq : List ℕ → List ℕ → Bool
@@ -27,18 +26,12 @@ ports = record {
   ties = λ p q. both_tied _ _ _ _ (texts_ties p.bridge q.bridge) (unsigned_ties p.number q.number);
 }
 
-abbrev pub tree_eq : BridgeTree → BridgeTree → Bool
-tree_eq a b = pointwise nat_eq a.bridge b.bridge && nat_eq a.tree b.tree
-
-pub bridge_trees : IsKeyed tree_eq bridge_tree_cmp
+pub bridge_trees : IsKeyed bridge_tree_eq bridge_tree_cmp
 bridge_trees = record {
   total = then_total (on_total (λ (k : BridgeTree). k.bridge) nat_list_cmp_total) (on_total (λ (k : BridgeTree). k.tree) nat_cmp_total);
   same = λ p q h. ap (λ (x : List ℕ × ℕ). record { bridge = x.0; tree = x.1 }) (exact_pairs name_cmp nat_cmp exact_names exact_unsigned (p.bridge, p.tree) (q.bridge, q.tree) h);
   ties = λ p q. both_tied _ _ _ _ (texts_ties p.bridge q.bridge) (unsigned_ties p.tree q.tree);
 }
-
-abbrev pub port_tree_eq : PortTree → PortTree → Bool
-port_tree_eq a b = port_eq a.port b.port && nat_eq a.tree b.tree
 
 pub port_trees : IsKeyed port_tree_eq port_tree_cmp
 port_trees = record {

@@ -1,7 +1,13 @@
 pub mod KeptLemmas
 pub mod Keyed
 pub mod Keys
+pub mod Counting
+pub mod Changed
+pub mod TableLemmas
+pub mod TableFits
+pub mod SetByTree
 pub mod AfterLemmas
+pub mod StandingLemmas
 pub mod SoundLemmas
 pub mod EditLemmas
 pub mod ForeseenLemmas

@@ -5,11 +5,14 @@ use Rattle.std.specs.FinMap as fin
 use Rattle.std.specs.FinMap.{len-entries, len-empty, entries}
 use Rattle.std.specs.Map.{values_of}
 use Rattle.mst_ids.specs.Names.{name_cmp}
-use Rattle.mst_net.specs.Tables.{IsNetwork, BridgeRow, empty_net}
-use Rattle.mst_net.specs.After.{mac_taken}
+use Rattle.mst_net.specs.Tables.{Net, IsNetwork, BridgeRow, port_eq, empty_net}
+use Rattle.mst_net.specs.After.{mac_taken, is_of_bridge, is_in_lan}
 use Rattle.mst_net.specs.Contents.{IsNumbered}
+use Rattle.mst_net.specs.Counting.{count_where}
 use Rattle.mst_net.specs.Rows.{IsNumberedBy}
-use Rattle.mst_net.specs.NetworkKept.{contents_of, port_eq, IsSound}
+use Rattle.mst_net.specs.Tally.{count_in}
+use Rattle.mst_net.proofs.Counting.{count_empty}
+use Rattle.mst_net.specs.NetworkKept.{contents_of, IsSound}
 use Rattle.mst_net.specs.declared.network.Network.TheInside.{Inside}
 use Rattle.mst_net.proofs.Keyed.{get_keyed, contains_keyed, same_keys}
 use Rattle.mst_net.proofs.Keys.{name_eq, names, ports}
@@ -24,16 +27,19 @@ none_taken mac =
     let none : fin.FinMap name_cmp BridgeRow = fin.empty in
     ap (λ l. list_any (λ (b : BridgeRow). nat_eq b.mac mac) (values_of l)) (no_length (entries none) (sym (len-entries none) ∙ len-empty name_cmp BridgeRow))
 
-pub empty_sound : (a : Inside) → a.bridges.rows ≡ [] → a.ports.rows ≡ [] → a.lans.rows ≡ [] → a.macs.keys ≡ [] → a.priorities.entries ≡ [] → a.port_priorities.entries ≡ [] → a.port_costs.entries ≡ []
+pub empty_sound : (a : Inside) → a.bridges.rows ≡ [] → a.ports.rows ≡ [] → a.lans.rows ≡ [] → a.macs.keys ≡ [] → ((q : List ℕ) → count_in name_eq a.port_counts q ≡ 0) → ((q : List ℕ) → count_in name_eq a.plug_counts q ≡ 0)
+    → a.priorities.entries ≡ [] → a.port_priorities.entries ≡ [] → a.port_costs.entries ≡ [] → a.tables.entries ≡ [] → a.vlans.entries ≡ []
     → IsNumberedBy name_eq a.bridges → IsNumberedBy port_eq a.ports → IsNumberedBy name_eq a.lans → IsSound a
-empty_sound a bridges ports lans macs priorities port_priorities port_costs x y z =
+empty_sound a no_bridges no_ports no_lans macs port_counts plug_counts priorities port_priorities port_costs tables vlans x y z =
     let net : empty_net ≡ (contents_of a).net = λ i. record {
-      bridges = fin.from_entries (sym bridges i);
-      ports = fin.from_entries (sym ports i);
-      lans = fin.from_entries (sym lans i);
+      bridges = fin.from_entries (sym no_bridges i);
+      ports = fin.from_entries (sym no_ports i);
+      lans = fin.from_entries (sym no_lans i);
       priorities = fin.from_entries (sym priorities i);
       port_priorities = fin.from_entries (sym port_priorities i);
       port_costs = fin.from_entries (sym port_costs i);
+      tables = fin.from_entries (sym tables i);
+      vlans = fin.from_entries (sym vlans i);
     } in
     record {
       network = subst IsNetwork net no_network;
@@ -41,6 +47,8 @@ empty_sound a bridges ports lans macs priorities port_priorities port_costs x y 
       ports = y;
       lans = z;
       macs = λ mac. ap (list_any (nat_eq mac)) macs ∙ sym (none_taken mac) ∙ ap (mac_taken mac) net;
+      port_counts = λ q. port_counts q ∙ sym (count_empty ports (is_of_bridge q)) ∙ ap (λ (n : Net). count_where (is_of_bridge q) n.ports) net;
+      plug_counts = λ q. plug_counts q ∙ sym (count_empty ports (is_in_lan q)) ∙ ap (λ (n : Net). count_where (is_in_lan q) n.ports) net;
     }
 
 pub numbered_contents : (a : Inside) → IsSound a → IsNumbered (contents_of a).net (contents_of a).numbers

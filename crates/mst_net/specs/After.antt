@@ -1,11 +1,16 @@
--- What an edit makes of a network, or the least refusal that applies.
-use Rattle.std.specs.Prelude.{ℕ, ◌==◌, Bool, true, false, not, List, Option, is_some, if◌then◌else◌, nat_le, Result, Ok, Err, None, Some}
-use Rattle.std.specs.List.{list_any}
-use Rattle.std.specs.Option.{option_map_or}
+-- What refuses an edit, and what an edit that isn't refused makes of a network.
+use Rattle.std.specs.Prelude.{ℕ, ◌==◌, Bool, true, false, not, List, [], ◌∷◌, Option, is_some, if◌then◌else◌, nat_le, nat_lt, nat_eq, Result, Ok, Err, None, Some}
+use Rattle.std.specs.List.{list_any, list_all}
+use Rattle.std.specs.Option.{option_map_or, unwrap_or}
+use Rattle.std.specs.Bool.{beq}
+use Rattle.std.specs.Cmp.Lexicographic.{pointwise}
 use Rattle.std.specs.FinMap as fin
 use Rattle.std.specs.declared.cmp.Ordering.{Ordering}
+use Rattle.mst_ids.specs.Texts.{mac_text}
+use Rattle.mst_ids.specs.Vids.{set_where, is_vid}
+use Rattle.mst_ids.specs.declared.name.PortName.{PortName}
 use Rattle.mst_lang.specs.declared.line.Edit.{Edit}
-use Rattle.mst_lang.specs.declared.line.Edit.TheVariants.{AddBridge, SetPower, SetKind, AddPort, AddLan, SetLanState, SetSpeed, Plug, Unplug, SetTreePriority, SetTreePortPriority, SetPortPathCost, SetTreePortCost, SetMaxHops, SetMaxAge}
+use Rattle.mst_lang.specs.declared.line.Edit.TheVariants.{AddBridge, DelBridge, SetPower, SetKind, AddPort, DelPort, AddLan, DelLan, SetLanState, SetSpeed, Plug, Unplug, SetKey, SetSystemPriority, SetTreePriority, SetTreePortPriority, SetPortPathCost, SetTreePortCost, SetConfiguration, MapVids, SetMaxHops, SetMaxAge, SetPortVlans}
 use Rattle.mst_lang.specs.declared.line.Kind.{Kind}
 use Rattle.mst_lang.specs.declared.line.Kind.TheVariants.{Mstp, Rstp}
 use Rattle.mst_lang.specs.declared.line.Power.{Power}
@@ -13,14 +18,105 @@ use Rattle.mst_lang.specs.declared.line.Power.TheVariants.{On, Off}
 use Rattle.mst_lang.specs.declared.line.LanState.{LanState}
 use Rattle.mst_lang.specs.declared.line.LanState.TheVariants.{Up, Down}
 use Rattle.mst_net.specs.declared.refusal.Refusal.{Refusal}
-use Rattle.mst_net.specs.declared.refusal.Refusal.TheVariants.{E04, E05, E06, E07, E08, E09, E10, E11, E14}
-use Rattle.mst_ids.specs.declared.name.PortName.{PortName}
-use Rattle.mst_net.specs.Tables.{Net, BridgeRow, PortRow, LanRow, BridgeTree, PortTree}
+use Rattle.mst_net.specs.declared.refusal.Refusal.TheVariants.{E04, E05, E06, E07, E08, E09, E10, E11, E12, E13, E14, E15}
+use Rattle.mst_net.specs.Table.{no_table, mapped, tree_count}
+use Rattle.mst_net.specs.Tables.{Net, BridgeRow, PortRow, LanRow, port_eq}
+
+-- ---- what is asked of a network
+abbrev pub has_bridge : List ℕ → Net → Bool
+has_bridge bridge net = fin.contains_key net.bridges bridge
+
+abbrev pub has_port : PortName → Net → Bool
+has_port port net = fin.contains_key net.ports port
+
+abbrev pub has_lan : List ℕ → Net → Bool
+has_lan lan net = fin.contains_key net.lans lan
 
 -- some bridge has this MAC
 abbrev pub mac_taken : ℕ → Net → Bool
 mac_taken mac net = list_any (λ b. b.mac == mac) (fin.values net.bridges)
 
+-- the port is in a LAN
+abbrev pub is_plugged : PortName → Net → Bool
+is_plugged port net = option_map_or (λ row. is_some row.lan) (fin.get net.ports port) false
+
+-- a port is the bridge's, and a port is in the LAN
+abbrev pub is_of_bridge : List ℕ → PortName → PortRow → Bool
+is_of_bridge bridge port row = pointwise nat_eq bridge port.bridge
+
+abbrev pub is_in_lan : List ℕ → PortName → PortRow → Bool
+is_in_lan lan port row = option_map_or (pointwise nat_eq lan) row.lan false
+
+-- some port passes a test of its name and settings
+abbrev pub some_port : (PortName → PortRow → Bool) → Net → Bool
+some_port test net = list_any (λ e. test e.0 e.1) (fin.entries net.ports)
+
+-- the table of a bridge, and the VLANs of a port
+abbrev pub all_vids : List Bool
+all_vids = set_where is_vid
+
+abbrev pub table_of : Net → List ℕ → List ℕ
+table_of net bridge = unwrap_or (fin.get net.tables bridge) no_table
+
+abbrev pub vlans_of : Net → PortName → List Bool
+vlans_of net port = unwrap_or (fin.get net.vlans port) all_vids
+
+-- ---- what refuses an edit
+-- the refusal of the first test that holds
+abbrev pub first_of : List (Bool × Refusal) → Option Refusal
+first_of [] = None
+first_of (test ∷ tests) = if test.0 then Some test.1 else first_of tests
+
+abbrev pub no_bridge : List ℕ → Net → Bool × Refusal
+no_bridge bridge net = (not (has_bridge bridge net), E04)
+
+abbrev pub no_port : PortName → Net → Bool × Refusal
+no_port port net = (not (has_port port net), E05)
+
+abbrev pub no_lan : List ℕ → Net → Bool × Refusal
+no_lan lan net = (not (has_lan lan net), E06)
+
+-- whatever changes a bridge, a port or a LAN asks that it is there
+abbrev pub of_bridge : List ℕ → Net → List (Bool × Refusal)
+of_bridge bridge net = no_bridge bridge net ∷ []
+
+abbrev pub of_port : PortName → Net → List (Bool × Refusal)
+of_port port net = no_bridge port.bridge net ∷ no_port port net ∷ []
+
+abbrev pub of_lan : List ℕ → Net → List (Bool × Refusal)
+of_lan lan net = no_lan lan net ∷ []
+
+-- the refusals of each edit, from the least number on
+abbrev pub refusals : Edit → Net → List (Bool × Refusal)
+refusals (AddBridge bridge mac) net = (has_bridge bridge net, E07) ∷ (mac_taken mac net, E08) ∷ (nat_le 1024 (fin.len net.bridges), E14) ∷ []
+refusals (DelBridge bridge) net = no_bridge bridge net ∷ (some_port (is_of_bridge bridge) net, E12) ∷ []
+refusals (SetPower bridge power) net = of_bridge bridge net
+refusals (SetKind bridge kind) net = of_bridge bridge net
+refusals (AddPort port) net = no_bridge port.bridge net ∷ (has_port port net, E09) ∷ (nat_le 16384 (fin.len net.ports), E14) ∷ []
+refusals (DelPort port) net = no_bridge port.bridge net ∷ no_port port net ∷ (is_plugged port net, E10) ∷ []
+refusals (AddLan lan) net = (has_lan lan net, E07) ∷ (nat_le 8192 (fin.len net.lans), E14) ∷ []
+refusals (DelLan lan) net = no_lan lan net ∷ (some_port (is_in_lan lan) net, E13) ∷ []
+refusals (SetLanState lan state) net = of_lan lan net
+refusals (SetSpeed lan speed) net = of_lan lan net
+refusals (Plug port lan) net = no_bridge port.bridge net ∷ no_port port net ∷ no_lan lan net ∷ (is_plugged port net, E10) ∷ []
+refusals (Unplug port) net = no_bridge port.bridge net ∷ no_port port net ∷ (not (is_plugged port net), E11) ∷ []
+refusals (SetKey port key) net = of_port port net
+refusals (SetSystemPriority bridge priority) net = of_bridge bridge net
+refusals (SetTreePriority bridge tree priority) net = of_bridge bridge net
+refusals (SetTreePortPriority port tree priority) net = of_port port net
+refusals (SetPortPathCost port cost) net = of_port port net
+refusals (SetTreePortCost port tree cost) net = of_port port net
+refusals (SetConfiguration bridge revision name) net = of_bridge bridge net
+refusals (MapVids bridge tree vids) net = no_bridge bridge net ∷ (nat_lt 64 (tree_count (mapped vids tree (table_of net bridge))), E15) ∷ []
+refusals (SetMaxHops bridge limit) net = of_bridge bridge net
+refusals (SetMaxAge bridge limit) net = of_bridge bridge net
+refusals (SetPortVlans port vids) net = of_port port net
+
+-- why an edit is refused, if it is
+abbrev pub refusal_of : Edit → Net → Option Refusal
+refusal_of edit net = first_of (refusals edit net)
+
+-- ---- what an edit makes
 abbrev pub is_rstp : Kind → Bool
 is_rstp Mstp = false
 is_rstp Rstp = true
@@ -33,24 +129,31 @@ abbrev pub is_up : LanState → Bool
 is_up Up = true
 is_up Down = false
 
--- a new bridge is on and of kind mstp, and has Max Hops 20 and Max Age 20
+-- a new bridge is on and of kind mstp, its system priority is 32768, its configuration has revision 0 and the
+-- text of its MAC as name, and its Max Hops and Max Age are 20
 abbrev pub new_bridge : ℕ → BridgeRow
-new_bridge mac = record { mac = mac; is_rstp = false; is_on = true; max_hops = 20; max_age = 20 }
+new_bridge mac = record { mac = mac; is_rstp = false; is_on = true; system_priority = 32_768; revision = 0; conf_name = mac_text mac; max_hops = 20; max_age = 20 }
 
--- a new port is in no LAN, and its cost is automatic
+-- a new port is in no LAN, has key 0, and its cost is automatic
 abbrev pub new_port : PortRow
-new_port = record { lan = None; external = None }
+new_port = record { lan = None; key = 0; external = None }
 
 -- a new LAN is up and has 1,000,000 kb/s
 abbrev pub new_lan : LanRow
 new_lan = record { speed = 1_000_000; is_up = true }
 
--- what is made of the settings of a bridge, a LAN or a port
+-- other settings of a bridge, a LAN or a port
 abbrev pub with_kind : Kind → BridgeRow → BridgeRow
 with_kind kind row = record row { is_rstp = is_rstp kind }
 
 abbrev pub with_power : Power → BridgeRow → BridgeRow
 with_power power row = record row { is_on = is_on power }
+
+abbrev pub with_system_priority : ℕ → BridgeRow → BridgeRow
+with_system_priority priority row = record row { system_priority = priority }
+
+abbrev pub with_configuration : ℕ → List ℕ → BridgeRow → BridgeRow
+with_configuration revision name row = record row { revision = revision; conf_name = name }
 
 abbrev pub with_max_hops : ℕ → BridgeRow → BridgeRow
 with_max_hops limit row = record row { max_hops = limit }
@@ -67,123 +170,83 @@ with_state state row = record row { is_up = is_up state }
 abbrev pub in_lan : Option (List ℕ) → PortRow → PortRow
 in_lan lan row = record row { lan = lan }
 
+abbrev pub with_key : ℕ → PortRow → PortRow
+with_key key row = record row { key = key }
+
 abbrev pub with_external : Option ℕ → PortRow → PortRow
 with_external cost row = record row { external = cost }
 
--- the network with these settings of a bridge, a port or a LAN
-abbrev pub with_bridge : Net → List ℕ → BridgeRow → Net
-with_bridge net bridge row = record net { bridges = fin.insert net.bridges bridge row }
+-- a table with what stands under a key changed, if there is something
+abbrev pub change : {K X : Type 0} {R : K → K → Ordering} → fin.FinMap R X → K → (X → X) → fin.FinMap R X
+change table k f = option_map_or (λ x. fin.insert table k (f x)) (fin.get table k) table
 
-abbrev pub with_port : Net → PortName → PortRow → Net
-with_port net port row = record net { ports = fin.insert net.ports port row }
+abbrev pub change_bridge : List ℕ → (BridgeRow → BridgeRow) → Net → Net
+change_bridge bridge f net = record net { bridges = change net.bridges bridge f }
 
-abbrev pub with_lan : Net → List ℕ → LanRow → Net
-with_lan net lan row = record net { lans = fin.insert net.lans lan row }
+abbrev pub change_port : PortName → (PortRow → PortRow) → Net → Net
+change_port port f net = record net { ports = change net.ports port f }
+
+abbrev pub change_lan : List ℕ → (LanRow → LanRow) → Net → Net
+change_lan lan f net = record net { lans = change net.lans lan f }
 
 -- a table with a value under a key, or with none
 abbrev pub keep : {K X : Type 0} {R : K → K → Ordering} → fin.FinMap R X → K → Option X → fin.FinMap R X
 keep table k None = fin.remove table k
 keep table k (Some x) = fin.insert table k x
 
--- what is kept of a priority: nothing at 8, the default
+-- what is kept of a priority, a table or a set of VLANs: nothing of the default, which is 8, the table with
+-- all VIDs in the CIST, and all VLANs
 abbrev pub own_priority : ℕ → Option ℕ
 own_priority priority = if priority == 8 then None else Some priority
 
--- the network with this priority of a bridge, of a port, or this internal cost of a port, or none, in a tree
-abbrev pub with_priority : Net → BridgeTree → ℕ → Net
-with_priority net k priority = record net { priorities = keep net.priorities k (own_priority priority) }
+abbrev pub own_table : List ℕ → Option (List ℕ)
+own_table table = if list_all (λ tree. tree == 0) table then None else Some table
 
-abbrev pub with_port_priority : Net → PortTree → ℕ → Net
-with_port_priority net k priority = record net { port_priorities = keep net.port_priorities k (own_priority priority) }
+abbrev pub own_vlans : List Bool → Option (List Bool)
+own_vlans vids = if pointwise beq vids all_vids then None else Some vids
 
-abbrev pub with_port_cost : Net → PortTree → Option ℕ → Net
-with_port_cost net k cost = record net { port_costs = keep net.port_costs k cost }
+-- a bridge taken away with what is set for it, and a port
+abbrev pub without_bridge : List ℕ → Net → Net
+without_bridge bridge net = record net {
+  bridges = fin.remove net.bridges bridge;
+  priorities = fin.retain_keys net.priorities (λ k. not (pointwise nat_eq bridge k.bridge));
+  tables = fin.remove net.tables bridge;
+}
 
--- an edit of a bridge, a LAN or a port that has to be there
-abbrev pub at_bridge : List ℕ → Net → (BridgeRow → Result Net Refusal) → Result Net Refusal
-at_bridge bridge net make = option_map_or make (fin.get net.bridges bridge) (Err E04)
+abbrev pub without_port : PortName → Net → Net
+without_port port net = record net {
+  ports = fin.remove net.ports port;
+  port_priorities = fin.retain_keys net.port_priorities (λ k. not (port_eq port k.port));
+  port_costs = fin.retain_keys net.port_costs (λ k. not (port_eq port k.port));
+  vlans = fin.remove net.vlans port;
+}
 
-abbrev pub at_lan : List ℕ → Net → (LanRow → Result Net Refusal) → Result Net Refusal
-at_lan lan net make = option_map_or make (fin.get net.lans lan) (Err E06)
+-- what each edit makes of a network in which nothing refuses it
+abbrev pub effect : Edit → Net → Net
+effect (AddBridge bridge mac) net = record net { bridges = fin.insert net.bridges bridge (new_bridge mac) }
+effect (DelBridge bridge) net = without_bridge bridge net
+effect (SetPower bridge power) net = change_bridge bridge (with_power power) net
+effect (SetKind bridge kind) net = change_bridge bridge (with_kind kind) net
+effect (AddPort port) net = record net { ports = fin.insert net.ports port new_port }
+effect (DelPort port) net = without_port port net
+effect (AddLan lan) net = record net { lans = fin.insert net.lans lan new_lan }
+effect (DelLan lan) net = record net { lans = fin.remove net.lans lan }
+effect (SetLanState lan state) net = change_lan lan (with_state state) net
+effect (SetSpeed lan speed) net = change_lan lan (with_speed speed) net
+effect (Plug port lan) net = change_port port (in_lan (Some lan)) net
+effect (Unplug port) net = change_port port (in_lan None) net
+effect (SetKey port key) net = change_port port (with_key key) net
+effect (SetSystemPriority bridge priority) net = change_bridge bridge (with_system_priority priority) net
+effect (SetTreePriority bridge tree priority) net = record net { priorities = keep net.priorities (record { bridge = bridge; tree = tree }) (own_priority priority) }
+effect (SetTreePortPriority port tree priority) net = record net { port_priorities = keep net.port_priorities (record { port = port; tree = tree }) (own_priority priority) }
+effect (SetPortPathCost port cost) net = change_port port (with_external cost) net
+effect (SetTreePortCost port tree cost) net = record net { port_costs = keep net.port_costs (record { port = port; tree = tree }) cost }
+effect (SetConfiguration bridge revision name) net = change_bridge bridge (with_configuration revision name) net
+effect (MapVids bridge tree vids) net = record net { tables = keep net.tables bridge (own_table (mapped vids tree (table_of net bridge))) }
+effect (SetMaxHops bridge limit) net = change_bridge bridge (with_max_hops limit) net
+effect (SetMaxAge bridge limit) net = change_bridge bridge (with_max_age limit) net
+effect (SetPortVlans port vids) net = record net { vlans = keep net.vlans port (own_vlans vids) }
 
-abbrev pub at_port : PortName → Net → (PortRow → Result Net Refusal) → Result Net Refusal
-at_port port net make = if not (fin.contains_key net.bridges port.bridge) then Err E04 else option_map_or make (fin.get net.ports port) (Err E05)
-
-abbrev pub after_add_bridge : List ℕ → ℕ → Net → Result Net Refusal
-after_add_bridge bridge mac net =
-    if fin.contains_key net.bridges bridge then Err E07
-    else (if mac_taken mac net then Err E08
-    else (if nat_le 1024 (fin.len net.bridges) then Err E14
-    else Ok (with_bridge net bridge (new_bridge mac))))
-
-abbrev pub after_add_port : PortName → Net → Result Net Refusal
-after_add_port port net =
-    if not (fin.contains_key net.bridges port.bridge) then Err E04
-    else (if fin.contains_key net.ports port then Err E09
-    else (if nat_le 16384 (fin.len net.ports) then Err E14
-    else Ok (with_port net port new_port)))
-
-abbrev pub after_add_lan : List ℕ → Net → Result Net Refusal
-after_add_lan lan net =
-    if fin.contains_key net.lans lan then Err E07
-    else (if nat_le 8192 (fin.len net.lans) then Err E14
-    else Ok (with_lan net lan new_lan))
-
-abbrev pub after_set_power : List ℕ → Power → Net → Result Net Refusal
-after_set_power bridge power net = at_bridge bridge net (λ row. Ok (with_bridge net bridge (with_power power row)))
-
-abbrev pub after_set_kind : List ℕ → Kind → Net → Result Net Refusal
-after_set_kind bridge kind net = at_bridge bridge net (λ row. Ok (with_bridge net bridge (with_kind kind row)))
-
-abbrev pub after_set_lan_state : List ℕ → LanState → Net → Result Net Refusal
-after_set_lan_state lan state net = at_lan lan net (λ row. Ok (with_lan net lan (with_state state row)))
-
-abbrev pub after_set_speed : List ℕ → ℕ → Net → Result Net Refusal
-after_set_speed lan speed net = at_lan lan net (λ row. Ok (with_lan net lan (with_speed speed row)))
-
-abbrev pub after_set_max_hops : List ℕ → ℕ → Net → Result Net Refusal
-after_set_max_hops bridge limit net = at_bridge bridge net (λ row. Ok (with_bridge net bridge (with_max_hops limit row)))
-
-abbrev pub after_set_max_age : List ℕ → ℕ → Net → Result Net Refusal
-after_set_max_age bridge limit net = at_bridge bridge net (λ row. Ok (with_bridge net bridge (with_max_age limit row)))
-
--- a port is plugged where it is in no LAN yet
-abbrev pub after_plug : PortName → List ℕ → Net → Result Net Refusal
-after_plug port lan net = at_port port net (λ row.
-    if not (fin.contains_key net.lans lan) then Err E06
-    else (if is_some row.lan then Err E10
-    else Ok (with_port net port (in_lan (Some lan) row))))
-
--- and unplugged where it is in one
-abbrev pub after_unplug : PortName → Net → Result Net Refusal
-after_unplug port net = at_port port net (λ row. if is_some row.lan then Ok (with_port net port (in_lan None row)) else Err E11)
-
-abbrev pub after_set_port_path_cost : PortName → Option ℕ → Net → Result Net Refusal
-after_set_port_path_cost port cost net = at_port port net (λ row. Ok (with_port net port (with_external cost row)))
-
-abbrev pub after_set_tree_priority : List ℕ → ℕ → ℕ → Net → Result Net Refusal
-after_set_tree_priority bridge tree priority net = at_bridge bridge net (λ row. Ok (with_priority net (record { bridge = bridge; tree = tree }) priority))
-
-abbrev pub after_set_tree_port_priority : PortName → ℕ → ℕ → Net → Result Net Refusal
-after_set_tree_port_priority port tree priority net = at_port port net (λ row. Ok (with_port_priority net (record { port = port; tree = tree }) priority))
-
-abbrev pub after_set_tree_port_cost : PortName → ℕ → Option ℕ → Net → Result Net Refusal
-after_set_tree_port_cost port tree cost net = at_port port net (λ row. Ok (with_port_cost net (record { port = port; tree = tree }) cost))
-
--- the network after the edit, or the least refusal
+-- the network after the edit, or why it is refused
 abbrev pub after : Edit → Net → Result Net Refusal
-after (AddBridge bridge mac) net = after_add_bridge bridge mac net
-after (SetPower bridge power) net = after_set_power bridge power net
-after (SetKind bridge kind) net = after_set_kind bridge kind net
-after (AddPort port) net = after_add_port port net
-after (AddLan lan) net = after_add_lan lan net
-after (SetLanState lan state) net = after_set_lan_state lan state net
-after (SetSpeed lan speed) net = after_set_speed lan speed net
-after (Plug port lan) net = after_plug port lan net
-after (Unplug port) net = after_unplug port net
-after (SetTreePriority bridge tree priority) net = after_set_tree_priority bridge tree priority net
-after (SetTreePortPriority port tree priority) net = after_set_tree_port_priority port tree priority net
-after (SetPortPathCost port cost) net = after_set_port_path_cost port cost net
-after (SetTreePortCost port tree cost) net = after_set_tree_port_cost port tree cost net
-after (SetMaxHops bridge limit) net = after_set_max_hops bridge limit net
-after (SetMaxAge bridge limit) net = after_set_max_age bridge limit net
+after edit net = option_map_or Err (refusal_of edit net) (Ok (effect edit net))

@@ -1,15 +1,15 @@
 -- What is seen of a network and of its records.
-use Rattle.std.specs.Prelude.{◌≡◌, ℕ, ◌<◌, Bool, true, false, List, Some, Ok, IsOk, IsTrue, Option, refl}
+use Rattle.std.specs.Prelude.{◌≡◌, ℕ, ◌<◌, Bool, List, Some, None, Ok, Option, refl}
 use Rattle.std.specs.Option.{unwrap_or}
-use Rattle.std.specs.Result.{result_unwrap_or}
 use Rattle.std.specs.FinMap as fin
-use Rattle.std.specs.Coded.{Coded, code_by, coded×, coded_ℕ, coded_list}
+use Rattle.std.specs.Coded.{Coded, code_by, coded×, coded_ℕ, coded_bool, coded_list}
 use Rattle.mst_ids.specs.Names.{coded_port}
 use Rattle.mst_ids.specs.declared.name.PortName.{PortName}
+use Rattle.mst_lang.specs.Ranges.{InRange}
 use Rattle.mst_lang.specs.declared.line.Edit.{Edit}
-use Rattle.mst_lang.specs.declared.line.Edit.TheVariants.{AddBridge, AddPort, AddLan, SetTreePriority, SetTreePortPriority, SetTreePortCost}
+use Rattle.mst_lang.specs.declared.line.Edit.TheVariants.{AddBridge, DelBridge, AddPort, DelPort, AddLan, DelLan, Plug, SetTreePriority, SetTreePortPriority, SetTreePortCost, MapVids, SetPortVlans}
 use Rattle.mst_net.specs.Tables.{Net, Numbers, bridge_row_code, port_row_code, lan_row_code, bridge_tree_code, port_tree_code}
-use Rattle.mst_net.specs.After.{after}
+use Rattle.mst_net.specs.After.{after, effect, refusal_of}
 
 -- a number for each kind of record
 pub record PerKind : Type 0 where
@@ -17,20 +17,25 @@ pub record PerKind : Type 0 where
   pub port : ℕ
   pub lan : ℕ
 
--- a number for each table of what is set by tree
-pub record PerSetting : Type 0 where
+-- for how many more records of each kind, plugs, and settings by tree or VID there is room
+pub record Room : Type 0 where
+  pub bridge : ℕ
+  pub port : ℕ
+  pub lan : ℕ
+  pub plug : ℕ
   pub priority : ℕ
   pub port_priority : ℕ
   pub port_cost : ℕ
+  pub table : ℕ
+  pub vlans : ℕ
 
 -- the tables, the number of each record, the number that the next record of each kind gets, and for how
--- many more records of each kind, and more settings by tree, there is room
+-- many more there is room
 pub record Contents : Type 0 where
   pub net : Net
   pub numbers : Numbers
   pub next : PerKind
-  pub room : PerKind
-  pub setting_room : PerSetting
+  pub room : Room
 
 -- the tables and the numbers alone
 pub record Tables : Type 0 where
@@ -55,56 +60,48 @@ pub record SameContents (old new : Contents) : Type 0 where
   pub numbers : new.numbers ≡ old.numbers
   pub next : new.next ≡ old.next
 
--- what the edit needs room for
-abbrev pub adds_bridge : Edit → Bool
-adds_bridge (AddBridge bridge mac) = true
-adds_bridge _ = false
+-- the room for what the edit may add
+abbrev pub room_for : Edit → Room → ℕ
+room_for (AddBridge bridge mac) room = room.bridge
+room_for (AddPort port) room = room.port
+room_for (AddLan lan) room = room.lan
+room_for (Plug port lan) room = room.plug
+room_for (SetTreePriority bridge tree priority) room = room.priority
+room_for (SetTreePortPriority port tree priority) room = room.port_priority
+room_for (SetTreePortCost port tree cost) room = room.port_cost
+room_for (MapVids bridge tree vids) room = room.table
+room_for (SetPortVlans port vids) room = room.vlans
+room_for _ room = 1
 
-abbrev pub adds_port : Edit → Bool
-adds_port (AddPort port) = true
-adds_port _ = false
-
-abbrev pub adds_lan : Edit → Bool
-adds_lan (AddLan lan) = true
-adds_lan _ = false
-
-abbrev pub sets_priority : Edit → Bool
-sets_priority (SetTreePriority bridge tree priority) = true
-sets_priority _ = false
-
-abbrev pub sets_port_priority : Edit → Bool
-sets_port_priority (SetTreePortPriority port tree priority) = true
-sets_port_priority _ = false
-
-abbrev pub sets_port_cost : Edit → Bool
-sets_port_cost (SetTreePortCost port tree cost) = true
-sets_port_cost _ = false
-
--- the edit isn't refused, and there is room for what it adds
+-- the edit's values are in their ranges, nothing refuses it, and there is room for what it may add
 pub record CanCommit (edit : Edit) (now : Contents) : Type 0 where
-  pub accepted : IsOk (after edit now.net)
-  pub bridge_room : IsTrue (adds_bridge edit) → 0 < now.room.bridge
-  pub port_room : IsTrue (adds_port edit) → 0 < now.room.port
-  pub lan_room : IsTrue (adds_lan edit) → 0 < now.room.lan
-  pub priority_room : IsTrue (sets_priority edit) → 0 < now.setting_room.priority
-  pub port_priority_room : IsTrue (sets_port_priority edit) → 0 < now.setting_room.port_priority
-  pub port_cost_room : IsTrue (sets_port_cost edit) → 0 < now.setting_room.port_cost
+  pub in_range : InRange edit
+  pub accepted : refusal_of edit now.net ≡ None
+  pub room : 0 < room_for edit now.room
 
--- each record keeps its number, and a new one gets the next
+-- each record that stays keeps its number, and a new one gets the next
 abbrev pub numbers_after : Edit → PerKind → Numbers → Numbers
 numbers_after (AddBridge bridge mac) next numbers = record numbers { bridges = fin.insert numbers.bridges bridge next.bridge }
+numbers_after (DelBridge bridge) next numbers = record numbers { bridges = fin.remove numbers.bridges bridge }
 numbers_after (AddPort port) next numbers = record numbers { ports = fin.insert numbers.ports port next.port }
+numbers_after (DelPort port) next numbers = record numbers { ports = fin.remove numbers.ports port }
 numbers_after (AddLan lan) next numbers = record numbers { lans = fin.insert numbers.lans lan next.lan }
+numbers_after (DelLan lan) next numbers = record numbers { lans = fin.remove numbers.lans lan }
 numbers_after _ next numbers = numbers
 
--- the edit was made
+-- the edit was made, and had not been refused
 pub record Commits (edit : Edit) (old new : Contents) : Type 0 where
   pub net : after edit old.net ≡ Ok new.net
   pub numbers : new.numbers ≡ numbers_after edit old.next old.numbers
 
+-- the edit was made
+pub record Makes (edit : Edit) (old new : Contents) : Type 0 where
+  pub net : new.net ≡ effect edit old.net
+  pub numbers : new.numbers ≡ numbers_after edit old.next old.numbers
+
 -- what will be seen once the edit is made
 abbrev pub ahead_of : Contents → Edit → Tables
-ahead_of c edit = record { net = result_unwrap_or (after edit c.net) c.net; numbers = numbers_after edit c.next c.numbers }
+ahead_of c edit = record { net = effect edit c.net; numbers = numbers_after edit c.next c.numbers }
 
 -- the priority of a bridge in a tree, 8 where none is set
 abbrev pub priority_of : Net → List ℕ → ℕ → ℕ
@@ -123,9 +120,19 @@ abbrev pub net_code : Coded Net
 net_code =
     code_by _
     (coded× (fin.code (coded_list coded_ℕ) bridge_row_code) (coded× (fin.code coded_port port_row_code) (coded× (fin.code (coded_list coded_ℕ) lan_row_code)
-    (coded× (fin.code bridge_tree_code coded_ℕ) (coded× (fin.code port_tree_code coded_ℕ) (fin.code port_tree_code coded_ℕ))))))
-    (λ n. (n.bridges, (n.ports, (n.lans, (n.priorities, (n.port_priorities, n.port_costs))))))
-    (λ p. record { bridges = p.0; ports = p.1.0; lans = p.1.1.0; priorities = p.1.1.1.0; port_priorities = p.1.1.1.1.0; port_costs = p.1.1.1.1.1 }) (λ _. refl)
+    (coded× (fin.code bridge_tree_code coded_ℕ) (coded× (fin.code port_tree_code coded_ℕ) (coded× (fin.code port_tree_code coded_ℕ)
+    (coded× (fin.code (coded_list coded_ℕ) (coded_list coded_ℕ)) (fin.code coded_port (coded_list coded_bool)))))))))
+    (λ n. (n.bridges, (n.ports, (n.lans, (n.priorities, (n.port_priorities, (n.port_costs, (n.tables, n.vlans))))))))
+    (λ p. record {
+      bridges = p.0;
+      ports = p.1.0;
+      lans = p.1.1.0;
+      priorities = p.1.1.1.0;
+      port_priorities = p.1.1.1.1.0;
+      port_costs = p.1.1.1.1.1.0;
+      tables = p.1.1.1.1.1.1.0;
+      vlans = p.1.1.1.1.1.1.1;
+    }) (λ _. refl)
 
 abbrev pub numbers_code : Coded Numbers
 numbers_code =
@@ -136,16 +143,27 @@ numbers_code =
 abbrev pub per_kind_code : Coded PerKind
 per_kind_code = code_by (ℕ × (ℕ × ℕ)) (coded× coded_ℕ (coded× coded_ℕ coded_ℕ)) (λ k. (k.bridge, (k.port, k.lan))) (λ p. record { bridge = p.0; port = p.1.0; lan = p.1.1 }) (λ _. refl)
 
-abbrev pub per_setting_code : Coded PerSetting
-per_setting_code =
-    code_by (ℕ × (ℕ × ℕ)) (coded× coded_ℕ (coded× coded_ℕ coded_ℕ)) (λ k. (k.priority, (k.port_priority, k.port_cost)))
-    (λ p. record { priority = p.0; port_priority = p.1.0; port_cost = p.1.1 }) (λ _. refl)
+abbrev pub room_code : Coded Room
+room_code =
+    code_by (ℕ × (ℕ × (ℕ × (ℕ × (ℕ × (ℕ × (ℕ × (ℕ × ℕ))))))))
+    (coded× coded_ℕ (coded× coded_ℕ (coded× coded_ℕ (coded× coded_ℕ (coded× coded_ℕ (coded× coded_ℕ (coded× coded_ℕ (coded× coded_ℕ coded_ℕ))))))))
+    (λ r. (r.bridge, (r.port, (r.lan, (r.plug, (r.priority, (r.port_priority, (r.port_cost, (r.table, r.vlans)))))))))
+    (λ p. record {
+      bridge = p.0;
+      port = p.1.0;
+      lan = p.1.1.0;
+      plug = p.1.1.1.0;
+      priority = p.1.1.1.1.0;
+      port_priority = p.1.1.1.1.1.0;
+      port_cost = p.1.1.1.1.1.1.0;
+      table = p.1.1.1.1.1.1.1.0;
+      vlans = p.1.1.1.1.1.1.1.1;
+    }) (λ _. refl)
 
 abbrev pub tables_code : Coded Tables
 tables_code = code_by _ (coded× net_code numbers_code) (λ t. (t.net, t.numbers)) (λ p. record { net = p.0; numbers = p.1 }) (λ _. refl)
 
 abbrev pub contents_code : Coded Contents
 contents_code =
-    code_by _ (coded× net_code (coded× numbers_code (coded× per_kind_code (coded× per_kind_code per_setting_code))))
-    (λ c. (c.net, (c.numbers, (c.next, (c.room, c.setting_room)))))
-    (λ p. record { net = p.0; numbers = p.1.0; next = p.1.1.0; room = p.1.1.1.0; setting_room = p.1.1.1.1 }) (λ _. refl)
+    code_by _ (coded× net_code (coded× numbers_code (coded× per_kind_code room_code))) (λ c. (c.net, (c.numbers, (c.next, c.room))))
+    (λ p. record { net = p.0; numbers = p.1.0; next = p.1.1.0; room = p.1.1.1 }) (λ _. refl)

@@ -1,9 +1,14 @@
+pub mod Table
 pub mod Tables
+pub mod SetByTree
 pub mod Refusals
 pub mod After
 pub mod Contents
+pub mod Standing
 pub mod Rows
 pub mod Kept
+pub mod Counting
+pub mod Tally
 pub mod Checks
 pub mod Settings
 pub mod NetworkKept

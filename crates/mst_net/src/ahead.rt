@@ -1,12 +1,16 @@
-ghost use Rattle.std.specs.Prelude.{◌≡◌};
+ghost use Rattle.std.specs.Prelude.{◌≡◌, ◌≤◌};
 ghost use Rattle.std.specs.Option.{option_map};
-ghost use Rattle.mst_net.specs.After.{with_kind as kind_set, with_power as power_set, with_max_hops, with_max_age, in_lan, with_external, with_speed, with_state as state_set};
+ghost use Rattle.mst_net.specs.After.{with_kind as kind_set, with_power as power_set, with_system_priority as system_priority_set, with_configuration as configuration_set, with_max_hops, with_max_age, in_lan, with_key as key_set, with_external, with_speed, with_state as state_set};
 ghost use Rattle.mst_net.specs.Seen.{bridge_row, port_row, lan_row};
-ghost use Rattle.mst_net.specs.Foreseen.{bridge_row_after, port_row_after, lan_row_after, bridge_number_after, port_number_after, lan_number_after, priority_after, port_priority_after, port_cost_after};
+ghost use Rattle.mst_net.specs.Foreseen.{bridge_row_after, port_row_after, lan_row_after, bridge_number_after, port_number_after, lan_number_after, bridge_name_after, port_name_after, lan_name_after, priority_after, port_priority_after, port_cost_after, tree_after, vlans_after};
 
-use crate::contents::{Bridge, Contents, Lan, Port};
+use crate::contents::{Bridge, Contents, Lan, Port, seen_bridge, seen_lan, seen_port};
 use crate::network::{Network, Ready};
-use mst_ids::{BridgeNo, Cost, LanNo, Limit, Name, PortName, PortNo, Priority, Speed, Tree};
+use crate::settings::{BridgeSettings, LanSettings, PortSettings};
+use mst_ids::{
+    BridgeNo, ConfName, Cost, LanNo, Limit, Name, PortName, PortNo, Priority, Speed, Tree, Vid,
+    VidSet,
+};
 use mst_lang::{Edit, Kind, LanState, Power};
 use std::marker::Model;
 
@@ -59,8 +63,38 @@ impl Contents for Ahead<'_> {
         )
     }
 
+    fn bridge_name(&self, number: BridgeNo) -> Option<Name> {
+        self.network.known();
+        bridge_name_ahead(
+            &self.ready.edit,
+            BridgeNo(self.network.next_bridge()),
+            number,
+            self.network.bridge_name(number),
+        )
+    }
+
+    fn port_name(&self, number: PortNo) -> Option<PortName> {
+        self.network.known();
+        port_name_ahead(
+            &self.ready.edit,
+            PortNo(self.network.next_port()),
+            number,
+            self.network.port_name(number),
+        )
+    }
+
+    fn lan_name(&self, number: LanNo) -> Option<Name> {
+        self.network.known();
+        lan_name_ahead(
+            &self.ready.edit,
+            LanNo(self.network.next_lan()),
+            number,
+            self.network.lan_name(number),
+        )
+    }
+
     fn tree_priority(&self, bridge: &Name, tree: Tree) -> Priority {
-        tree_priority_after(
+        tree_priority_ahead(
             &self.ready.edit,
             bridge,
             tree,
@@ -85,6 +119,27 @@ impl Contents for Ahead<'_> {
             self.network.port_cost(port, tree),
         )
     }
+
+    fn tree_of(&self, bridge: &Name, vid: Vid) -> Tree {
+        known_vid(vid);
+        tree_ahead(
+            &self.ready.edit,
+            bridge,
+            vid,
+            self.network.tree_of(bridge, vid),
+        )
+    }
+
+    fn port_vlans(&self, port: &PortName) -> VidSet {
+        port_vlans_ahead(&self.ready.edit, port, self.network.port_vlans(port))
+    }
+}
+
+/// What holds of every VID.
+fn known_vid(vid: Vid)
+    ensures { (1 ≤ vid) × (vid ≤ 4094) }
+{
+    prove!((1..=4094).contains(&vid.value()));
 }
 
 /// What the edit makes of the bridge of this name.
@@ -93,16 +148,20 @@ fn bridge_after(edit: &Edit, next: BridgeNo, name: &Name, there: Option<Bridge>)
     ensures number { option_map (λ bridge. bridge.number) result ≡ bridge_number_after edit.now next name.now (option_map (λ bridge. bridge.number) there) }
 {
     match *edit {
-        Edit::AddBridge { bridge, mac } if bridge == *name => Some(Bridge {
-            number: next,
-            mac,
-            kind: Kind::Mstp,
-            power: Power::On,
-            max_hops: Limit::standard(),
-            max_age: Limit::standard(),
-        }),
+        Edit::AddBridge { bridge, mac } if bridge == *name => {
+            Some(seen_bridge(next, BridgeSettings::new(mac)))
+        }
+        Edit::DelBridge { bridge } if bridge == *name => None,
         Edit::SetPower { bridge, power } if bridge == *name => with_power(there, power),
         Edit::SetKind { bridge, kind } if bridge == *name => with_kind(there, kind),
+        Edit::SetSystemPriority { bridge, priority } if bridge == *name => {
+            with_system_priority(there, priority)
+        }
+        Edit::SetConfiguration {
+            bridge,
+            revision,
+            name: conf_name,
+        } if bridge == *name => with_configuration(there, revision, conf_name),
         Edit::SetMaxHops { bridge, limit } if bridge == *name => with_hops(there, limit),
         Edit::SetMaxAge { bridge, limit } if bridge == *name => with_age(there, limit),
         _ => there,
@@ -125,6 +184,33 @@ fn with_kind(there: Option<Bridge>, kind: Kind) -> Option<Bridge>
 {
     match there {
         Some(bridge) => Some(Bridge { kind, ..bridge }),
+        None => None,
+    }
+}
+
+fn with_system_priority(there: Option<Bridge>, system_priority: u16) -> Option<Bridge>
+    ensures row { option_map bridge_row result ≡ option_map (system_priority_set system_priority) (option_map bridge_row there) }
+    ensures number { option_map (λ bridge. bridge.number) result ≡ option_map (λ bridge. bridge.number) there }
+{
+    match there {
+        Some(bridge) => Some(Bridge {
+            system_priority,
+            ..bridge
+        }),
+        None => None,
+    }
+}
+
+fn with_configuration(there: Option<Bridge>, revision: u16, conf_name: ConfName) -> Option<Bridge>
+    ensures row { option_map bridge_row result ≡ option_map (configuration_set revision conf_name) (option_map bridge_row there) }
+    ensures number { option_map (λ bridge. bridge.number) result ≡ option_map (λ bridge. bridge.number) there }
+{
+    match there {
+        Some(bridge) => Some(Bridge {
+            revision,
+            conf_name,
+            ..bridge
+        }),
         None => None,
     }
 }
@@ -155,13 +241,11 @@ fn port_after(edit: &Edit, next: PortNo, name: &PortName, there: Option<Port>) -
     ensures number { option_map (λ port. port.number) result ≡ port_number_after edit.now next name.now (option_map (λ port. port.number) there) }
 {
     match *edit {
-        Edit::AddPort { port } if port == *name => Some(Port {
-            number: next,
-            lan: None,
-            external: None,
-        }),
+        Edit::AddPort { port } if port == *name => Some(seen_port(next, PortSettings::new())),
+        Edit::DelPort { port } if port == *name => None,
         Edit::Plug { port, lan } if port == *name => with_lan(there, Some(lan)),
         Edit::Unplug { port } if port == *name => with_lan(there, None),
+        Edit::SetKey { port, key } if port == *name => with_key(there, key),
         Edit::SetPortPathCost { port, cost } if port == *name => with_cost(there, cost),
         _ => there,
     }
@@ -173,6 +257,16 @@ fn with_lan(there: Option<Port>, lan: Option<Name>) -> Option<Port>
 {
     match there {
         Some(port) => Some(Port { lan, ..port }),
+        None => None,
+    }
+}
+
+fn with_key(there: Option<Port>, key: u16) -> Option<Port>
+    ensures row { option_map port_row result ≡ option_map (key_set key) (option_map port_row there) }
+    ensures number { option_map (λ port. port.number) result ≡ option_map (λ port. port.number) there }
+{
+    match there {
+        Some(port) => Some(Port { key, ..port }),
         None => None,
     }
 }
@@ -193,11 +287,8 @@ fn lan_after(edit: &Edit, next: LanNo, name: &Name, there: Option<Lan>) -> Optio
     ensures number { option_map (λ lan. lan.number) result ≡ lan_number_after edit.now next name.now (option_map (λ lan. lan.number) there) }
 {
     match *edit {
-        Edit::AddLan { lan } if lan == *name => Some(Lan {
-            number: next,
-            speed: Speed::standard(),
-            state: LanState::Up,
-        }),
+        Edit::AddLan { lan } if lan == *name => Some(seen_lan(next, LanSettings::new())),
+        Edit::DelLan { lan } if lan == *name => None,
         Edit::SetLanState { lan, state } if lan == *name => with_state(there, state),
         Edit::SetSpeed { lan, speed } if lan == *name => with_kbps(there, speed),
         _ => there,
@@ -224,11 +315,55 @@ fn with_kbps(there: Option<Lan>, speed: Speed) -> Option<Lan>
     }
 }
 
+/// What the edit makes of the name of the bridge that has a number.
+fn bridge_name_ahead(
+    edit: &Edit,
+    next: BridgeNo,
+    number: BridgeNo,
+    there: Option<Name>,
+) -> Option<Name>
+    ensures { result ≡ bridge_name_after edit.now next number there }
+{
+    match *edit {
+        Edit::AddBridge { bridge, .. } if next == number => Some(bridge),
+        Edit::DelBridge { bridge } if there == Some(bridge) => None,
+        _ => there,
+    }
+}
+
+/// What the edit makes of the name of the port that has a number.
+fn port_name_ahead(
+    edit: &Edit,
+    next: PortNo,
+    number: PortNo,
+    there: Option<PortName>,
+) -> Option<PortName>
+    ensures { result ≡ port_name_after edit.now next number there }
+{
+    match *edit {
+        Edit::AddPort { port } if next == number => Some(port),
+        Edit::DelPort { port } if there == Some(port) => None,
+        _ => there,
+    }
+}
+
+/// What the edit makes of the name of the LAN that has a number.
+fn lan_name_ahead(edit: &Edit, next: LanNo, number: LanNo, there: Option<Name>) -> Option<Name>
+    ensures { result ≡ lan_name_after edit.now next number there }
+{
+    match *edit {
+        Edit::AddLan { lan } if next == number => Some(lan),
+        Edit::DelLan { lan } if there == Some(lan) => None,
+        _ => there,
+    }
+}
+
 /// What the edit makes of the priority of a bridge in a tree.
-fn tree_priority_after(edit: &Edit, name: &Name, other: Tree, there: Priority) -> Priority
+fn tree_priority_ahead(edit: &Edit, name: &Name, other: Tree, there: Priority) -> Priority
     ensures { result ≡ priority_after edit.now name.now other there }
 {
     match *edit {
+        Edit::DelBridge { bridge } if bridge == *name => Priority::standard(),
         Edit::SetTreePriority {
             bridge,
             tree,
@@ -243,6 +378,7 @@ fn port_priority_ahead(edit: &Edit, name: &PortName, other: Tree, there: Priorit
     ensures { result ≡ port_priority_after edit.now name.now other there }
 {
     match *edit {
+        Edit::DelPort { port } if port == *name => Priority::standard(),
         Edit::SetTreePortPriority {
             port,
             tree,
@@ -257,7 +393,31 @@ fn port_cost_ahead(edit: &Edit, name: &PortName, other: Tree, there: Option<Cost
     ensures { result ≡ port_cost_after edit.now name.now other there }
 {
     match *edit {
+        Edit::DelPort { port } if port == *name => None,
         Edit::SetTreePortCost { port, tree, cost } if port == *name && tree == other => cost,
+        _ => there,
+    }
+}
+
+/// What the edit makes of the tree that a bridge maps a VID to.
+fn tree_ahead(edit: &Edit, name: &Name, vid: Vid, there: Tree) -> Tree
+    ensures { result ≡ tree_after edit.now name.now vid there }
+{
+    match *edit {
+        Edit::DelBridge { bridge } if bridge == *name => Tree::cist(),
+        Edit::MapVids { bridge, tree, vids } if bridge == *name && vids.contains(vid.value()) =>
+            tree,
+        _ => there,
+    }
+}
+
+/// What the edit makes of the VLANs of a port.
+fn port_vlans_ahead(edit: &Edit, name: &PortName, there: VidSet) -> VidSet
+    ensures { result ≡ vlans_after edit.now name.now there }
+{
+    match *edit {
+        Edit::DelPort { port } if port == *name => VidSet::all(),
+        Edit::SetPortVlans { port, vids } if port == *name => vids,
         _ => there,
     }
 }

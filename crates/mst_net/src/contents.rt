@@ -1,10 +1,17 @@
-ghost use Rattle.std.specs.Prelude.{◌≡◌};
-ghost use Rattle.std.specs.Option.{option_map};
+ghost use Rattle.std.specs.Prelude.{◌≡◌, List, ℕ, Some, None};
+ghost use Rattle.std.specs.Option.{option_map, ForSome};
 ghost use Rattle.std.specs.FinMap as fin;
 ghost use Rattle.mst_net.specs.Contents.{Tables, priority_of, port_priority_of, port_cost_of};
+ghost use Rattle.mst_ids.specs.declared.name.PortName.{PortName};
+ghost use Rattle.mst_net.specs.After.{table_of, vlans_of};
+ghost use Rattle.mst_net.specs.Table.{tree_in};
 ghost use Rattle.mst_net.specs.Seen.{bridge_row, port_row, lan_row};
 
-use mst_ids::{BridgeNo, Cost, LanNo, Limit, Mac, Name, PortName, PortNo, Priority, Speed, Tree};
+use crate::settings::{BridgeSettings, LanSettings, PortSettings};
+use mst_ids::{
+    BridgeNo, ConfName, Cost, LanNo, Limit, Mac, Name, PortName, PortNo, Priority, Speed, Tree,
+    Vid, VidSet,
+};
 use mst_lang::{Kind, LanState, Power};
 
 /// A bridge's number and settings.
@@ -14,16 +21,23 @@ pub struct Bridge {
     pub mac: Mac,
     pub kind: Kind,
     pub power: Power,
+    /// Its priority in the identifiers of link aggregation groups.
+    pub system_priority: u16,
+    /// The revision of its MST configuration.
+    pub revision: u16,
+    /// The name of its MST configuration.
+    pub conf_name: ConfName,
     pub max_hops: Limit,
     pub max_age: Limit,
 }
 
-/// A port's number, the LAN that it is plugged into, if there is one, and its external path cost, or none
-/// where it is automatic.
+/// A port's number, the LAN that it is plugged into, if there is one, its aggregation key, of which 0 is none,
+/// and its external path cost, or none where it is automatic.
 #[derive(Clone, Copy)]
 pub struct Port {
     pub number: PortNo,
     pub lan: Option<Name>,
+    pub key: u16,
     pub external: Option<Cost>,
 }
 
@@ -56,6 +70,21 @@ pub trait Contents {
         ensures row { option_map lan_row result ≡ fin.get (tables self.now).net.lans name.now }
         ensures number { option_map (λ lan. lan.number) result ≡ fin.get (tables self.now).numbers.lans name.now };
 
+    /// The name of the bridge that has the number.
+    fn bridge_name(&self, number: BridgeNo) -> Option<Name>
+        ensures found { ForSome result (λ name. fin.get (tables self.now).numbers.bridges name ≡ Some number) }
+        ensures none { result ≡ None → (name : List ℕ) → fin.get (tables self.now).numbers.bridges name ≡ Some number → ⊥ };
+
+    /// The name of the port that has the number.
+    fn port_name(&self, number: PortNo) -> Option<PortName>
+        ensures found { ForSome result (λ name. fin.get (tables self.now).numbers.ports name ≡ Some number) }
+        ensures none { result ≡ None → (name : PortName) → fin.get (tables self.now).numbers.ports name ≡ Some number → ⊥ };
+
+    /// The name of the LAN that has the number.
+    fn lan_name(&self, number: LanNo) -> Option<Name>
+        ensures found { ForSome result (λ name. fin.get (tables self.now).numbers.lans name ≡ Some number) }
+        ensures none { result ≡ None → (name : List ℕ) → fin.get (tables self.now).numbers.lans name ≡ Some number → ⊥ };
+
     /// The priority of a bridge in a tree, 8 where none is set.
     fn tree_priority(&self, bridge: &Name, tree: Tree) -> Priority
         ensures { result ≡ priority_of (tables self.now).net bridge.now tree };
@@ -67,4 +96,55 @@ pub trait Contents {
     /// The internal path cost of a port in a tree, or none where it is automatic.
     fn port_cost(&self, port: &PortName, tree: Tree) -> Option<Cost>
         ensures { result ≡ port_cost_of (tables self.now).net port.now tree };
+
+    /// The tree that a bridge maps a VID to, the CIST where it maps it to no other.
+    fn tree_of(&self, bridge: &Name, vid: Vid) -> Tree
+        ensures { result ≡ tree_in (table_of (tables self.now).net bridge.now) vid };
+
+    /// The VLANs that a port is a member of, all where none were set.
+    fn port_vlans(&self, port: &PortName) -> VidSet
+        ensures { result ≡ vlans_of (tables self.now).net port.now };
+}
+
+/// A bridge of this number with these settings.
+pub(crate) fn seen_bridge(number: BridgeNo, row: BridgeSettings) -> Bridge
+    ensures row { bridge_row result ≡ row }
+    ensures number { result.number ≡ number }
+{
+    Bridge {
+        number,
+        mac: row.mac,
+        kind: row.kind,
+        power: row.power,
+        system_priority: row.system_priority,
+        revision: row.revision,
+        conf_name: row.conf_name,
+        max_hops: row.max_hops,
+        max_age: row.max_age,
+    }
+}
+
+/// A port of this number with these settings.
+pub(crate) fn seen_port(number: PortNo, row: PortSettings) -> Port
+    ensures row { port_row result ≡ row }
+    ensures number { result.number ≡ number }
+{
+    Port {
+        number,
+        lan: row.lan,
+        key: row.key,
+        external: row.external,
+    }
+}
+
+/// A LAN of this number with these settings.
+pub(crate) fn seen_lan(number: LanNo, row: LanSettings) -> Lan
+    ensures row { lan_row result ≡ row }
+    ensures number { result.number ≡ number }
+{
+    Lan {
+        number,
+        speed: row.speed,
+        state: row.state,
+    }
 }

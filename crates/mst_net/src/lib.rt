@@ -2,16 +2,21 @@
 #![tactic(auto)]
 
 mod ahead;
+mod changes;
+mod checks;
 mod contents;
 pub mod laws;
 mod network;
 mod records;
 mod refusal;
 mod settings;
-#[cfg(test)]
-mod tests;
+mod table;
+mod tally;
 
 pub use ahead::Ahead;
 pub use contents::{Bridge, Contents, Lan, Port};
 pub use network::{Network, Ready};
 pub use refusal::Refusal;
+
+#[cfg(test)]
+mod tests;

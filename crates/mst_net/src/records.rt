@@ -109,7 +109,8 @@ impl<K: Copy + Eq + Hash, R: Copy> Records<K, R> {
 
     /// The number that the next row gets.
     pub(crate) fn next(&self) -> usize
-        ensures { result ≡ self.now.next }
+        ensures next { result ≡ self.now.next }
+        ensures fresh { (q : K) → lookup (K.eq q) self.now.numbers ≡ Some result → ⊥ }
     {
         self.keys.vacant_key()
     }
@@ -146,6 +147,19 @@ impl<K: Copy + Eq + Hash, R: Copy> Records<K, R> {
     {
         let record = self.records.get_mut(key).unwrap();
         record.row = row;
+    }
+
+    /// Takes away the row under a key that has one. Its number is the one that the next row gets; the other
+    /// rows keep theirs. It takes no memory.
+    pub(crate) fn remove(&mut self, key: &K)
+        requires { IsSome (lookup (K.eq key.now) self.old.rows) }
+        ensures rows { (q : K) → lookup (K.eq q) self.new.rows ≡ cond (K.eq key.now q) None (lookup (K.eq q) self.old.rows) }
+        ensures numbers { (q : K) → lookup (K.eq q) self.new.numbers ≡ cond (K.eq key.now q) None (lookup (K.eq q) self.old.numbers) }
+        ensures next { lookup (K.eq key.now) self.old.numbers ≡ Some self.new.next }
+        ensures numbered { IsNumberedBy K.eq self.new }
+    {
+        let record = self.records.swap_remove(key).unwrap();
+        let _ = self.keys.remove(record.number);
     }
 
     /// The keys, in no order that is promised.

@@ -20,8 +20,16 @@ pub enum Refusal {
     E10,
     /// The port isn't plugged.
     E11,
+    /// The bridge has ports.
+    E12,
+    /// The LAN has plugs.
+    E13,
     /// There are as many bridges, ports or LANs as there may be.
     E14,
+    /// The bridge's MST configuration would have more than 64 trees other than the CIST.
+    E15,
+    /// There is no marked network. No edit is refused so.
+    E16,
     /// Memory was wanted and refused.
     E99,
 }
@@ -40,7 +48,11 @@ impl Refusal {
             Refusal::E09 => "E09",
             Refusal::E10 => "E10",
             Refusal::E11 => "E11",
+            Refusal::E12 => "E12",
+            Refusal::E13 => "E13",
             Refusal::E14 => "E14",
+            Refusal::E15 => "E15",
+            Refusal::E16 => "E16",
             Refusal::E99 => "E99",
         }
     }
@@ -58,7 +70,11 @@ impl Refusal {
             Refusal::E09 => "port number taken",
             Refusal::E10 => "port plugged",
             Refusal::E11 => "port not plugged",
+            Refusal::E12 => "bridge has ports",
+            Refusal::E13 => "LAN has plugs",
             Refusal::E14 => "limit",
+            Refusal::E15 => "more than 64 trees",
+            Refusal::E16 => "no mark",
             Refusal::E99 => "want of memory",
         }
     }

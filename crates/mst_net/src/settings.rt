@@ -1,9 +1,13 @@
-ghost use Rattle.std.specs.Prelude.{◌≡◌, ◌<◌, cond};
+ghost use Rattle.std.specs.Prelude.{◌≡◌, ◌<◌, cond, None, IsTrue};
 ghost use Rattle.std.specs.Map.{lookup};
 ghost use Rattle.indexmap.specs.IndexMap.{spare};
+ghost use Rattle.mst_ids.specs.Texts.{is_conf_name};
+ghost use Rattle.mst_net.specs.After.{new_bridge, new_port, new_lan};
+ghost use Rattle.mst_net.specs.Tables.{IsLimit, BridgeTree, PortTree, bridge_tree_eq, port_tree_eq};
+ghost use Rattle.mst_net.specs.SetByTree.{in_trees_of_bridge, in_trees_of_port};
 
 use indexmap::IndexMap;
-use mst_ids::{Cost, Limit, Mac, Name, PortName, Speed, Tree};
+use mst_ids::{ConfName, Cost, Limit, Mac, Name, PortName, Priority, Speed, Tree};
 use mst_lang::{Kind, LanState, Power};
 use std::hash::Hash;
 use std::marker::Model;
@@ -14,6 +18,9 @@ pub(crate) struct BridgeSettings {
     pub(crate) mac: Mac,
     pub(crate) kind: Kind,
     pub(crate) power: Power,
+    pub(crate) system_priority: u16,
+    pub(crate) revision: u16,
+    pub(crate) conf_name: ConfName,
     pub(crate) max_hops: Limit,
     pub(crate) max_age: Limit,
 }
@@ -28,18 +35,47 @@ impl Model for BridgeSettings {
     ghost use Rattle.mst_net.specs.After.{is_rstp, is_on};
     ghost use Rattle.mst_net.specs.Settings.{kind_of, kind_of-is_rstp, power_of, power_of-is_on};
 
-    ghost view = { λ a. record { mac = a.mac; is_rstp = is_rstp a.kind; is_on = is_on a.power; max_hops = a.max_hops; max_age = a.max_age } };
+    ghost view = { λ a. record { mac = a.mac; is_rstp = is_rstp a.kind; is_on = is_on a.power; system_priority = a.system_priority; revision = a.revision; conf_name = a.conf_name; max_hops = a.max_hops; max_age = a.max_age } };
 
-    ghost inverse = { λ r. record { mac = r.mac; kind = kind_of r.is_rstp; power = power_of r.is_on; max_hops = r.max_hops; max_age = r.max_age } };
+    ghost inverse = { λ r. record { mac = r.mac; kind = kind_of r.is_rstp; power = power_of r.is_on; system_priority = r.system_priority; revision = r.revision; conf_name = r.conf_name; max_hops = r.max_hops; max_age = r.max_age } };
 
-    ghost inverse_ok = { λ a h i. record { mac = a.mac; kind = kind_of-is_rstp a.kind i; power = power_of-is_on a.power i; max_hops = a.max_hops; max_age = a.max_age } };
+    ghost inverse_ok = { λ a h i. record { mac = a.mac; kind = kind_of-is_rstp a.kind i; power = power_of-is_on a.power i; system_priority = a.system_priority; revision = a.revision; conf_name = a.conf_name; max_hops = a.max_hops; max_age = a.max_age } };
 }
 
-/// A port's settings: the LAN that it is plugged into, if there is one, and its external path cost, or none
-/// where it is automatic.
+impl BridgeSettings {
+    /// The settings of a new bridge.
+    pub(crate) fn new(mac: Mac) -> BridgeSettings
+        ensures { result ≡ new_bridge mac }
+    {
+        BridgeSettings {
+            mac,
+            kind: Kind::Mstp,
+            power: Power::On,
+            system_priority: 32_768,
+            revision: 0,
+            conf_name: ConfName::of_mac(mac),
+            max_hops: Limit::standard(),
+            max_age: Limit::standard(),
+        }
+    }
+
+    /// What holds of the settings of every bridge.
+    pub(crate) fn known(&self)
+        ensures name { IsTrue (is_conf_name self.now.conf_name) }
+        ensures limits { IsLimit self.now.max_hops × IsLimit self.now.max_age }
+    {
+        let _name = self.conf_name.as_bytes();
+        prove!((6..=40).contains(&self.max_hops.value()));
+        prove!((6..=40).contains(&self.max_age.value()));
+    }
+}
+
+/// A port's settings: the LAN that it is plugged into, if there is one, its aggregation key, and its external
+/// path cost, or none where it is automatic.
 #[derive(Clone, Copy)]
 pub(crate) struct PortSettings {
     pub(crate) lan: Option<Name>,
+    pub(crate) key: u16,
     pub(crate) external: Option<Cost>,
 }
 
@@ -50,9 +86,22 @@ impl Model for PortSettings {
 
     ghost coded = { port_row_code };
 
-    ghost view = { λ a. record { lan = a.lan; external = a.external } };
+    ghost view = { λ a. record { lan = a.lan; key = a.key; external = a.external } };
 
-    ghost inverse = { λ r. record { lan = r.lan; external = r.external } };
+    ghost inverse = { λ r. record { lan = r.lan; key = r.key; external = r.external } };
+}
+
+impl PortSettings {
+    /// The settings of a new port.
+    pub(crate) fn new() -> PortSettings
+        ensures { result ≡ new_port }
+    {
+        PortSettings {
+            lan: None,
+            key: 0,
+            external: None,
+        }
+    }
 }
 
 /// A LAN's settings: its speed and its state.
@@ -77,6 +126,18 @@ impl Model for LanSettings {
     ghost inverse = { λ r. record { speed = r.speed; state = state_of r.is_up } };
 
     ghost inverse_ok = { λ a h i. record { speed = a.speed; state = state_of-is_up a.state i } };
+}
+
+impl LanSettings {
+    /// The settings of a new LAN.
+    pub(crate) fn new() -> LanSettings
+        ensures { result ≡ new_lan }
+    {
+        LanSettings {
+            speed: Speed::standard(),
+            state: LanState::Up,
+        }
+    }
 }
 
 /// A bridge in a tree, for which a priority may be set.
@@ -133,5 +194,36 @@ pub(crate) fn keep<K: Copy + Eq + Hash, V: Copy>(
         Some(value) => {
             let _ = table.insert(key, value).unwrap();
         }
+    }
+}
+
+/// Takes away what is set for the bridge, in every tree.
+pub(crate) fn forget_bridge(table: &mut IndexMap<BridgeInTree, Priority>, bridge: &Name)
+    ensures { (q : BridgeTree) → lookup (bridge_tree_eq q) table.new.entries ≡ cond (in_trees_of_bridge bridge.now q) None (lookup (bridge_tree_eq q) table.old.entries) }
+{
+    if table.is_empty() {
+        return;
+    }
+    for number in 0..4095 {
+        let tree = Tree::new(number).unwrap();
+        let key = BridgeInTree {
+            bridge: *bridge,
+            tree,
+        };
+        let _ = table.swap_remove(&key);
+    }
+}
+
+/// Takes away what is set for the port, in every tree.
+pub(crate) fn forget_port<V: Copy>(table: &mut IndexMap<PortInTree, V>, port: &PortName)
+    ensures { (q : PortTree) → lookup (port_tree_eq q) table.new.entries ≡ cond (in_trees_of_port port.now q) None (lookup (port_tree_eq q) table.old.entries) }
+{
+    if table.is_empty() {
+        return;
+    }
+    for number in 0..4095 {
+        let tree = Tree::new(number).unwrap();
+        let key = PortInTree { port: *port, tree };
+        let _ = table.swap_remove(&key);
     }
 }

@@ -1,6 +1,14 @@
 use super::*;
-use mst_ids::{Cost, Limit, Mac, Name, PortName, PortNumber, Priority, Speed, Tree, parse_mac};
-use mst_lang::{Edit, Kind, LanState, Power};
+use crate::records::Records;
+use crate::settings::{BridgeInTree, PortInTree, forget_bridge, forget_port};
+use crate::table::Table;
+use crate::tally::Tally;
+use indexmap::IndexMap;
+use mst_ids::{
+    BridgeNo, Cost, LanNo, Limit, Mac, Name, PortName, PortNo, PortNumber, Priority, Speed, Tree,
+    Vid, VidSet, parse_mac, parse_vids,
+};
+use mst_lang::{Edit, Kind, LanState, Line, Power, parse_line};
 use std::alloc::Global;
 use std::process::Abort;
 use std::test::Fail;
@@ -453,10 +461,375 @@ fn refusals_have_texts(rt: HostRuntime) {
     for (refusal, code, text) in [
         (Refusal::E10, "E10", "port plugged"),
         (Refusal::E11, "E11", "port not plugged"),
+        (Refusal::E12, "E12", "bridge has ports"),
+        (Refusal::E13, "E13", "LAN has plugs"),
         (Refusal::E14, "E14", "limit"),
+        (Refusal::E15, "E15", "more than 64 trees"),
+        (Refusal::E16, "E16", "no mark"),
         (Refusal::E99, "E99", "want of memory"),
     ] {
         assert_eq!(rt; refusal.code(), code);
         assert_eq!(rt; refusal.text(), text);
     }
+}
+
+/// The edit that a line says.
+fn edit_of(line: &str) -> Result<Edit, Fail> {
+    match parse_line(line.as_bytes()) {
+        Ok(Line::Edit(edit)) => Ok(edit),
+        _ => Err("no edit".into()),
+    }
+}
+
+fn make(network: &mut Network, line: &str) -> Result<(), Fail> {
+    change(network, edit_of(line))
+}
+
+fn vid(number: u64) -> Result<Vid, Fail> {
+    Ok(Vid::new(number).ok_or("no VID")?)
+}
+
+fn set_configuration(rt: &impl Abort, network: &mut Network) -> Result<(), Fail> {
+    fill(network)?;
+    let bridge = name("b")?;
+    let found = network.bridge(&bridge).ok_or("no bridge")?;
+    assert_eq!(rt; found.system_priority, 32_768);
+    assert_eq!(rt; found.revision, 0);
+    assert!(rt; found.conf_name.as_bytes() == b"00:00:00:00:00:02".as_slice());
+    make(network, "setsyspri b 65535")?;
+    make(network, "setmstconfid b 65535 area")?;
+    make(network, "setvid2mstid b 7 10-20")?;
+    make(network, "setvid2mstid b 0 20")?;
+    let found = network.bridge(&bridge).ok_or("no bridge")?;
+    assert_eq!(rt; found.system_priority, 65_535);
+    assert_eq!(rt; found.revision, 65_535);
+    assert!(rt; found.conf_name.as_bytes() == b"area".as_slice());
+    assert_eq!(rt; network.tree_of(&bridge, vid(19)?).value(), 7);
+    assert_eq!(rt; network.tree_of(&bridge, vid(20)?).value(), 0);
+    assert_eq!(rt; network.tree_of(&name("a")?, vid(19)?).value(), 0);
+    Ok(())
+}
+
+#[test]
+fn configurations_are_set(rt: HostRuntime) -> Result<(), Fail> {
+    let mut network = Network::new(rt.alloc());
+    set_configuration(&rt, &mut network)
+}
+
+fn set_port(rt: &impl Abort, network: &mut Network) -> Result<(), Fail> {
+    fill(network)?;
+    let first = port("b", 1)?;
+    assert_eq!(rt; network.port(&first).ok_or("no port")?.key, 0);
+    assert!(rt; network.port_vlans(&first) == VidSet::all());
+    make(network, "setkey b 1 65535")?;
+    make(network, "setportvlans b 1 5,7-9")?;
+    assert_eq!(rt; network.port(&first).ok_or("no port")?.key, 65_535);
+    assert!(rt; network.port_vlans(&first) == parse_vids(b"5,7-9")?);
+    assert!(rt; network.port_vlans(&port("b", 2)?) == VidSet::all());
+    make(network, "setportvlans b 1 none")?;
+    assert!(rt; network.port_vlans(&first).is_empty());
+    make(network, "setportvlans b 1 all")?;
+    assert!(rt; network.port_vlans(&first) == VidSet::all());
+    Ok(())
+}
+
+#[test]
+fn keys_and_vlans_are_set(rt: HostRuntime) -> Result<(), Fail> {
+    let mut network = Network::new(rt.alloc());
+    set_port(&rt, &mut network)
+}
+
+/// Sets what goes with a bridge or a port, and takes both away.
+fn delete(network: &mut Network) -> Result<(), Fail> {
+    fill(network)?;
+    make(network, "settreeprio b 7 1")?;
+    make(network, "setvid2mstid b 7 10")?;
+    make(network, "settreeportprio b 1 7 2")?;
+    make(network, "settreeportcost b 1 7 3")?;
+    make(network, "setportvlans b 1 none")?;
+    make(network, "unplug b 1")?;
+    make(network, "delport b 1")?;
+    make(network, "delport b 2")?;
+    make(network, "delbridge b")?;
+    make(network, "dellan x")
+}
+
+fn add_again(rt: &impl Abort, network: &mut Network) -> Result<(), Fail> {
+    delete(network)?;
+    let bridge = name("b")?;
+    let first = port("b", 1)?;
+    let tree = tree(7)?;
+    assert!(rt; network.bridge(&bridge).is_none());
+    assert!(rt; network.port(&first).is_none());
+    assert!(rt; network.lan(&name("x")?).is_none());
+    make(network, "addbridge b 00:00:00:00:00:02")?;
+    make(network, "addport b 1")?;
+    assert_eq!(rt; network.tree_priority(&bridge, tree).step(), 8);
+    assert_eq!(rt; network.tree_of(&bridge, vid(10)?).value(), 0);
+    assert_eq!(rt; network.port_priority(&first, tree).step(), 8);
+    assert!(rt; network.port_cost(&first, tree).is_none());
+    assert!(rt; network.port_vlans(&first) == VidSet::all());
+    Ok(())
+}
+
+#[test]
+fn what_is_deleted_is_forgotten(rt: HostRuntime) -> Result<(), Fail> {
+    let mut network = Network::new(rt.alloc());
+    add_again(&rt, &mut network)
+}
+
+fn look_up_numbers(rt: &impl Abort, network: &mut Network) -> Result<(), Fail> {
+    fill(network)?;
+    assert!(rt; network.bridge_name(BridgeNo(0)) == Some(name("b")?));
+    assert!(rt; network.bridge_name(BridgeNo(2)).is_none());
+    assert!(rt; network.port_name(PortNo(1)) == Some(port("b", 1)?));
+    assert!(rt; network.lan_name(LanNo(0)) == Some(name("x")?));
+    make(network, "delbridge a")?;
+    assert!(rt; network.bridge_name(BridgeNo(1)).is_none());
+    make(network, "addbridge c 00:00:00:00:00:03")?;
+    assert!(rt; network.bridge_name(BridgeNo(1)) == Some(name("c")?));
+    Ok(())
+}
+
+#[test]
+fn records_are_found_by_number(rt: HostRuntime) -> Result<(), Fail> {
+    let mut network = Network::new(rt.alloc());
+    look_up_numbers(&rt, &mut network)
+}
+
+fn look_ahead_of_settings(rt: &impl Abort, network: &mut Network) -> Result<(), Fail> {
+    fill(network)?;
+    let bridge = name("b")?;
+    let ready = network.prepare(&edit_of("setvid2mstid b 7 10")?)?;
+    assert_eq!(rt; network.ahead(&ready).tree_of(&bridge, vid(10)?).value(), 7);
+    assert_eq!(rt; network.ahead(&ready).tree_of(&bridge, vid(11)?).value(), 0);
+    assert_eq!(rt; network.tree_of(&bridge, vid(10)?).value(), 0);
+    network.abandon(ready);
+    let first = port("b", 1)?;
+    let ready = network.prepare(&edit_of("setportvlans b 1 none")?)?;
+    assert!(rt; network.ahead(&ready).port_vlans(&first).is_empty());
+    assert!(rt; network.port_vlans(&first) == VidSet::all());
+    network.abandon(ready);
+    let ready = network.prepare(&edit_of("settreeportcost b 1 0 9")?)?;
+    assert!(rt; network.ahead(&ready).port_cost(&first, Tree::cist()) == Cost::new(9));
+    network.abandon(ready);
+    Ok(())
+}
+
+#[test]
+fn ahead_shows_settings(rt: HostRuntime) -> Result<(), Fail> {
+    let mut network = Network::new(rt.alloc());
+    look_ahead_of_settings(&rt, &mut network)
+}
+
+fn look_ahead_of_deletion(rt: &impl Abort, network: &mut Network) -> Result<(), Fail> {
+    fill(network)?;
+    let second = port("b", 2)?;
+    let ready = network.prepare(&edit_of("delport b 2")?)?;
+    assert!(rt; network.ahead(&ready).port(&second).is_none());
+    assert!(rt; network.ahead(&ready).port_name(PortNo(0)).is_none());
+    assert!(rt; network.port_name(PortNo(0)) == Some(second));
+    network.abandon(ready);
+    let ready = network.prepare(&edit_of("addlan y")?)?;
+    assert!(rt; network.ahead(&ready).lan(&name("y")?).is_some());
+    assert!(rt; network.ahead(&ready).lan_name(LanNo(1)) == Some(name("y")?));
+    assert!(rt; network.lan_name(LanNo(1)).is_none());
+    network.abandon(ready);
+    Ok(())
+}
+
+#[test]
+fn ahead_shows_what_is_deleted(rt: HostRuntime) -> Result<(), Fail> {
+    let mut network = Network::new(rt.alloc());
+    look_ahead_of_deletion(&rt, &mut network)
+}
+
+/// The number of the fault or of the refusal that a line meets, or nothing.
+fn code_of(network: &mut Network, line: &str) -> &'static str {
+    match parse_line(line.as_bytes()) {
+        Err(fault) => fault.code(),
+        Ok(Line::Edit(edit)) => match apply(network, &edit) {
+            Ok(()) => "",
+            Err(refusal) => refusal.code(),
+        },
+        Ok(_) => "",
+    }
+}
+
+/// Lines with what each is refused by.
+const REFUSED: [(&str, &str); 19] = [
+    ("addbridge A 02:00:00:00:00:01", ""),
+    ("addbridge B 02-00-00-00-00-01", "E08"),
+    ("addbridge A 02:00:00:00:00:01", "E07"),
+    ("settreeprio Z 0 16", "E02"),
+    ("setvid2mstid A 1 4095", "E03"),
+    ("setvid2mstid Z 1 1", "E04"),
+    ("addport A 1", ""),
+    ("addport A 1", "E09"),
+    ("unplug A 1", "E11"),
+    ("plug A 1 X", "E06"),
+    ("addlan X", ""),
+    ("plug A 1 X", ""),
+    ("plug A 1 X", "E10"),
+    ("delport A 1", "E10"),
+    ("delport A 2", "E05"),
+    ("delbridge A", "E12"),
+    ("dellan X", "E13"),
+    ("mstplan", "E01"),
+    ("showvlan 0", "E03"),
+];
+
+fn refuse_lines(rt: &impl Abort, alloc: Global, network: &mut Network) -> Result<(), Fail> {
+    for (line, code) in REFUSED {
+        let bridges = network.bridge_names(alloc)?.len();
+        let ports = network.port_names(alloc)?.len();
+        let plug = network.port(&port("A", 1)?).and_then(|found| found.lan);
+        assert_eq!(rt; code_of(network, line), code, "at {line}");
+        if code != "" {
+            assert_eq!(rt; network.bridge_names(alloc)?.len(), bridges, "at {line}");
+            assert_eq!(rt; network.port_names(alloc)?.len(), ports, "at {line}");
+            let left = network.port(&port("A", 1)?).and_then(|found| found.lan);
+            assert!(rt; left == plug, "at {line}");
+        }
+    }
+    Ok(())
+}
+
+#[test]
+fn lines_are_refused(rt: HostRuntime) -> Result<(), Fail> {
+    let mut network = Network::new(rt.alloc());
+    refuse_lines(&rt, rt.alloc(), &mut network)
+}
+
+fn map_to_trees(rt: &impl Abort, alloc: Global, network: &mut Network) -> Result<(), Fail> {
+    make(network, "addbridge A 02:00:00:00:00:01")?;
+    for n in 1..65 {
+        let line = format!(in alloc; "setvid2mstid A {n} {n}")?;
+        make(network, line.as_str())?;
+    }
+    assert_eq!(rt; code_of(network, "setvid2mstid A 65 65"), "E15");
+    assert_eq!(rt; network.tree_of(&name("A")?, vid(65)?).value(), 0);
+    assert_eq!(rt; code_of(network, "setvid2mstid A 65 64"), "");
+    assert_eq!(rt; network.tree_of(&name("A")?, vid(64)?).value(), 65);
+    Ok(())
+}
+
+#[test]
+fn trees_are_limited(rt: HostRuntime) -> Result<(), Fail> {
+    let mut network = Network::new(rt.alloc());
+    map_to_trees(&rt, rt.alloc(), &mut network)
+}
+
+#[test]
+fn laws_can_be_called() {
+    laws::networks();
+    laws::standing();
+}
+
+fn tree(number: u64) -> Result<Tree, Fail> {
+    Ok(Tree::new(number).ok_or("no tree")?)
+}
+
+#[test]
+fn rows_are_removed_and_their_numbers_used_again(rt: HostRuntime) -> Result<(), Fail> {
+    let mut rows: Records<u32, u8> = Records::new(rt.alloc());
+    rows.reserve()?;
+    rows.add(70, 1);
+    rows.reserve()?;
+    rows.add(71, 2);
+    let number = rows.get(&70).ok_or("no row")?.number;
+    let last = rows.get(&71).ok_or("no row")?.number;
+    rows.remove(&70);
+    assert_eq!(rt; rows.len(), 1);
+    assert!(rt; rows.key(number).is_none());
+    assert_eq!(rt; rows.get(&71).ok_or("no row")?.number, last);
+    assert_eq!(rt; rows.next(), number);
+    Ok(())
+}
+
+#[test]
+fn records_are_counted_for_each_key(rt: HostRuntime) -> Result<(), Fail> {
+    let mut tally: Tally<u32> = Tally::new(rt.alloc());
+    tally.reserve()?;
+    tally.raise(5);
+    tally.reserve()?;
+    tally.raise(5);
+    assert!(rt; !tally.has(&6));
+    tally.lower(&5);
+    assert!(rt; tally.has(&5));
+    tally.lower(&5);
+    assert!(rt; !tally.has(&5));
+    Ok(())
+}
+
+#[test]
+fn vids_are_mapped_to_trees(rt: HostRuntime) -> Result<(), Fail> {
+    let mut table = Table::new();
+    assert!(rt; table.is_default());
+    assert_eq!(rt; table.tree_count(), 0);
+    let first = Vid::new(1).ok_or("no VID")?;
+    let last = Vid::new(4094).ok_or("no VID")?;
+    table.map(&parse_vids(b"1-10,4094")?, tree(4094)?);
+    table.map(&parse_vids(b"2,3")?, tree(7)?);
+    assert_eq!(rt; table.tree(first).value(), 4094);
+    assert_eq!(rt; table.tree(last).value(), 4094);
+    assert_eq!(rt; table.tree(Vid::new(3).ok_or("no VID")?).value(), 7);
+    assert_eq!(rt; table.tree(Vid::new(11).ok_or("no VID")?).value(), 0);
+    assert_eq!(rt; table.tree_count(), 2);
+    assert!(rt; !table.is_default());
+    table.map(&parse_vids(b"1-4094")?, Tree::cist());
+    assert!(rt; table.is_default());
+    Ok(())
+}
+
+fn bridge_in_tree(bridge: &str, number: u64) -> Result<BridgeInTree, Fail> {
+    Ok(BridgeInTree {
+        bridge: name(bridge)?,
+        tree: tree(number)?,
+    })
+}
+
+fn port_in_tree(bridge: &str, number: u64) -> Result<PortInTree, Fail> {
+    let bridge = name(bridge)?;
+    let port = PortNumber::new(1).ok_or("no port number")?;
+    Ok(PortInTree {
+        port: PortName {
+            bridge,
+            number: port,
+        },
+        tree: tree(number)?,
+    })
+}
+
+#[test]
+fn priorities_of_a_bridge_are_forgotten(rt: HostRuntime) -> Result<(), Fail> {
+    let mut table: IndexMap<BridgeInTree, Priority> = IndexMap::new(rt.alloc());
+    let priority = Priority::standard();
+    let first = bridge_in_tree("a", 0)?;
+    let last = bridge_in_tree("a", 4094)?;
+    let other = bridge_in_tree("b", 4094)?;
+    table.insert(first, priority)?;
+    table.insert(last, priority)?;
+    table.insert(other, priority)?;
+    forget_bridge(&mut table, &name("a")?);
+    assert!(rt; !table.contains_key(&first));
+    assert!(rt; !table.contains_key(&last));
+    assert!(rt; table.contains_key(&other));
+    Ok(())
+}
+
+#[test]
+fn costs_of_a_port_are_forgotten(rt: HostRuntime) -> Result<(), Fail> {
+    let mut table: IndexMap<PortInTree, u8> = IndexMap::new(rt.alloc());
+    let first = port_in_tree("a", 0)?;
+    let last = port_in_tree("a", 4094)?;
+    let other = port_in_tree("b", 0)?;
+    table.insert(first, 1)?;
+    table.insert(last, 2)?;
+    table.insert(other, 3)?;
+    forget_port(&mut table, &first.port);
+    assert!(rt; !table.contains_key(&first));
+    assert!(rt; !table.contains_key(&last));
+    assert!(rt; table.contains_key(&other));
+    Ok(())
 }

@@ -21,7 +21,7 @@ use Rattle.mst_report.proofs.Entries.{all_both}
 use Rattle.mst_report.proofs.Lists.{all_mapped, all_contained, all_there, apart_mapped, apart_cases, contains_mapped}
 use Rattle.mst_report.proofs.Seen.{bridges_differ, ports_differ, bridges_numbered, ports_numbered, ports_have_bridge, ports_in_range, few_bridges, cist_bridges_named, cist_ports_named}
 use Rattle.mst_lang.specs.declared.line.Query.{Query}
-use Rattle.mst_lang.specs.declared.line.Query.TheVariants.{ShowTree}
+use Rattle.mst_lang.specs.declared.line.Query.TheVariants.{ShowPlan, ShowLag, ShowRegions, ShowNotes, ShowTree, ShowVlan, ShowConfiguration, Changes}
 use Rattle.mst_report.specs.Answers.{Answers}
 use Rattle.mst_report.specs.TreeText.{tree_text}
 use Rattle.mst_report.proofs.Cists.{cist_topology}
@@ -93,6 +93,13 @@ pub one_text : ((net : Net) (o p : Outcome) → IsNetwork net → IsOutcome net 
 one_text vectors ports (ShowTree tree) net a b ok x y =
     let same : x.0 ≡ y.0 = λ i. record { vector = λ name. vectors net x.0 y.0 ok x.1 y.1 name i; designated = λ lan. ports net x.0 y.0 ok x.1 y.1 lan i } in
     x.2 ∙ ap (λ o. tree_text net o tree) same ∙ sym y.2
+one_text vectors ports ShowPlan net a b ok x y = absurd x
+one_text vectors ports ShowLag net a b ok x y = absurd x
+one_text vectors ports ShowRegions net a b ok x y = absurd x
+one_text vectors ports ShowNotes net a b ok x y = absurd x
+one_text vectors ports (ShowVlan vid) net a b ok x y = absurd x
+one_text vectors ports (ShowConfiguration bridge) net a b ok x y = absurd x
+one_text vectors ports Changes net a b ok x y = absurd x
 
 module _ (net : Net) (numbers : Numbers) (ok : IsNetwork net) (num : IsNumbered net numbers) where
   -- the bridges that are on, and the ports that are enabled

@@ -176,7 +176,7 @@ pub costs_in_range : (net : Net) → IsNetwork net → (port : PortName) (row : 
 costs_in_range net ok port row lan is =
     and_from (is_cost (cist_port net port row lan).external) (is_cost (cist_port net port row lan).internal)
     (cost_or_automatic row.external lan.speed (λ c e. ok.ports.cost_fits port row c is e))
-    (cost_or_automatic (port_cost_of net port 0) lan.speed (λ c e. (ok.port_costs (record { port = port; tree = 0 }) c e).1))
+    (cost_or_automatic (port_cost_of net port 0) lan.speed (λ c e. (ok.port_costs (record { port = port; tree = 0 }) c e).2))
 
 -- equal identifiers of ports come of equal numbers
 pub same_port_number : (a b c d : ℕ) → a ≤ 4095 → b ≤ 4095 → port_id c a ≡ port_id d b → a ≡ b

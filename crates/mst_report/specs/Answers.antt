@@ -6,6 +6,8 @@ use Rattle.mst_net.specs.Tables.{Net}
 use Rattle.mst_report.specs.Cist.{Outcome, IsOutcome}
 use Rattle.mst_report.specs.TreeText.{tree_text}
 
--- the text is the one that a settled outcome of the network has
+-- the text of a tree is the one that a settled outcome of the network has; no text answers the other queries
+-- yet
 abbrev pub Answers : Query → Net → List ℕ → Type 0
 Answers (ShowTree tree) net text = (o : Outcome) × IsOutcome net o × (text ≡ tree_text net o tree)
+Answers _ net text = ⊥

@@ -8,7 +8,7 @@ mod role;
 mod text;
 mod view;
 
-pub use queries::answer;
+pub use queries::show_tree;
 pub use role::Role;
 
 #[cfg(test)]

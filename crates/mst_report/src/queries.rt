@@ -3,6 +3,7 @@ ghost use Rattle.std.specs.List.{flat_map, Contains};
 ghost use Rattle.std.specs.Option.{option_map_or};
 ghost use Rattle.mst_ids.specs.declared.name.PortName.{PortName};
 ghost use Rattle.mst_settle.specs.Assignment.{designated_of};
+ghost use Rattle.mst_lang.specs.declared.line.Query.TheVariants.{ShowTree};
 ghost use Rattle.mst_report.specs.Answers.{Answers};
 ghost use Rattle.mst_report.specs.Cist.{Outcome, IsOutcome, view_bridges};
 ghost use Rattle.mst_report.specs.Kept.{Keeps};
@@ -16,29 +17,18 @@ use crate::role::{Role, role_of_port};
 use crate::text::{push_bridge, push_heading, push_off, push_port};
 use crate::view::{BridgeSeen, PortSeen};
 use mst_ids::{LanNo, PortName, Tree};
-use mst_lang::Query;
-use mst_net::Network;
+use mst_net::{Contents, Network};
 use mst_settle::Settler;
 use mst_vector::{CistMetric, CistVector};
 use std::alloc::{AllocError, Global};
 
-/// The text that answers a query about the network. Of a tree: its heading, and for the CIST, tree 0,
-/// each bridge with its root priority vector (802.1Q-2022, 13.10), or that it is off, and each of its
+/// The text of a tree: its heading, and for the CIST, tree 0, each bridge with its root priority vector (802.1Q-2022, 13.10), or that it is off, and each of its
 /// plugged ports with its role (13.12), in byte order of names and by port number. The network alone
 /// settles the text.
 ///
 /// It fails only where there is no memory.
-pub fn answer(alloc: Global, network: &Network, query: &Query) -> Result<Vec<u8>, AllocError>
-    ensures { IfOk result (λ text. Answers query.now network.now.net text.items) }
-{
-    match *query {
-        Query::ShowTree { tree } => tree_text_of(alloc, network, tree),
-    }
-}
-
-/// The text of a tree.
-fn tree_text_of(alloc: Global, network: &Network, tree: Tree) -> Result<Vec<u8>, AllocError>
-    ensures { IfOk result (λ text. (o : Outcome) × IsOutcome network.now.net o × (text.items ≡ tree_text network.now.net o tree)) }
+pub fn show_tree(alloc: Global, network: &Network, tree: Tree) -> Result<Vec<u8>, AllocError>
+    ensures { IfOk result (λ text. Answers (ShowTree tree) network.now.net text.items) }
 {
     let mut text = Vec::new(alloc);
     push_heading(tree, &mut text)?;

@@ -1,8 +1,8 @@
 //! The texts are worked by hand from the rules of the standard.
 
-use crate::{Role, answer};
+use crate::{Role, answer, laws};
 use mst_ids::Tree;
-use mst_lang::{Edit, Line, Query, parse_line};
+use mst_lang::{Edit, Line, parse_line};
 use mst_net::{Network, Refusal};
 use std::alloc::Global;
 use std::test::Fail;
@@ -121,16 +121,10 @@ fn network_of(alloc: Global, script: &[&str]) -> Result<Network, Refusal> {
     Ok(network)
 }
 
-/// The query of a tree.
-fn query_of(tree: u64) -> Option<Query> {
-    let tree = Tree::new(tree)?;
-    Some(Query::ShowTree { tree })
-}
-
-/// The answer to a query about the network that a script makes, where there is memory.
-fn answer_to(alloc: Global, script: &[&str], query: &Query) -> Option<Vec<u8>> {
+/// The text of a tree of the network that a script makes, where there is memory.
+fn text_of(alloc: Global, script: &[&str], tree: u64) -> Option<Vec<u8>> {
     let network = network_of(alloc, script).ok()?;
-    answer(alloc, &network, query).ok()
+    show_tree(alloc, &network, Tree::new(tree)?).ok()
 }
 
 #[test]
@@ -141,8 +135,7 @@ fn trees_are_told(rt: HostRuntime) -> Result<(), Fail> {
         ("tree 7", &ONE_BRIDGE, 7, "tree 7\n"),
     ];
     for (row, script, tree, text) in rows {
-        let query = query_of(tree).ok_or("tree")?;
-        let answer = answer_to(rt.alloc(), script, &query).ok_or("no answer")?;
+        let answer = text_of(rt.alloc(), script, tree).ok_or("no answer")?;
         assert!(rt; answer.as_slice() == text.as_bytes(), "at {row}");
     }
     Ok(())
@@ -155,8 +148,7 @@ fn last_lines_are_told(rt: HostRuntime) -> Result<(), Fail> {
         ("backup", &BACKUP, BACKUP_END),
     ];
     for (row, script, end) in rows {
-        let query = query_of(0).ok_or("tree")?;
-        let answer = answer_to(rt.alloc(), script, &query).ok_or("no answer")?;
+        let answer = text_of(rt.alloc(), script, 0).ok_or("no answer")?;
         assert!(rt; answer.as_slice().ends_with(end.as_bytes()), "at {row}");
     }
     Ok(())
@@ -173,4 +165,11 @@ fn roles_are_named(rt: HostRuntime) {
     ] {
         assert_eq!(rt; role.name(), name);
     }
+}
+
+#[test]
+fn laws_can_be_called() {
+    laws::has_outcome();
+    laws::one_outcome();
+    laws::one_answer();
 }

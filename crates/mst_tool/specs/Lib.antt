@@ -1,4 +1,5 @@
 pub mod Lines
+pub mod Served
 pub mod Script
 pub mod Written
 pub mod Engine

@@ -2,7 +2,7 @@
 use Rattle.std.specs.Prelude.{◌≡◌, ℕ, ◌+◌, Bool, true, false, List, [], ◌∷◌, ◌++◌, ◌⊎◌, Result, Ok, Err, codes, decimal, count_by}
 use Rattle.std.specs.List.{flat_map}
 use Rattle.mst_lang.specs.declared.line.Line.{Line}
-use Rattle.mst_lang.specs.declared.line.Line.TheVariants.{Blank, Edit as edit, Query as query}
+use Rattle.mst_lang.specs.declared.line.Line.TheVariants.{Blank, Mark, Edit as edit, Query as query}
 use Rattle.mst_lang.specs.declared.line.Fault.{Fault}
 use Rattle.mst_lang.specs.Reading.{reading}
 use Rattle.mst_lang.specs.Faults as fault
@@ -12,6 +12,7 @@ use Rattle.mst_net.specs.Refusals as refusal
 use Rattle.mst_net.specs.Tables.{Net}
 use Rattle.mst_net.specs.After.{after}
 use Rattle.mst_report.specs.Answers.{Answers}
+use Rattle.mst_tool.specs.Served.{served}
 
 -- what a line does: the network after it, the text that it prints, and whether it is refused, for want of
 -- memory or else
@@ -51,12 +52,13 @@ edited false number net (Ok new) = silent new
 abbrev pub ServesRead : ℕ → Net → Result Line Fault → Step → Type 0
 ServesRead number net (Err f) s = s ≡ refused number (fault.code_of f) (fault.text_of f) net
 ServesRead number net (Ok Blank) s = s ≡ silent net
+ServesRead number net (Ok Mark) s = s ≡ silent net
 ServesRead number net (Ok (edit e)) s = s ≡ edited s.lacking number net (after e net)
 ServesRead number net (Ok (query q)) s = (s ≡ starved number net) ⊎ ((text : List ℕ) × Answers q net text × (s ≡ printed net text))
 
 -- what the line of this number does to the network
 abbrev pub Serves : ℕ → Net → List ℕ → Step → Type 0
-Serves number net line s = ServesRead number net (reading line) s
+Serves number net line s = ServesRead number net (served (reading line)) s
 
 -- the lines, the first of this number, do these steps one after another
 unfoldable pub Runs : ℕ → Net → List (List ℕ) → List Step → Type 0

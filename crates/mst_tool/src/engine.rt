@@ -2,15 +2,16 @@ ghost use Rattle.std.specs.Prelude.{◌≡◌, ◌≢◌, ℕ, ◌+◌, ◌^◌,
 ghost use Rattle.std.specs.Io.KnownBytes.{Appends};
 ghost use Rattle.mst_net.specs.After.{after};
 ghost use Rattle.mst_tool.specs.Written.{AppendsFront};
-ghost use Rattle.mst_tool.specs.Script.{Serves, refusal_line};
+ghost use Rattle.mst_tool.specs.Served.{is_served_edit, served};
+ghost use Rattle.mst_tool.specs.Script.{Serves, ServesRead, refusal_line};
 ghost use Rattle.mst_tool.specs.Engine.{start, tally_of, tallied, outcome_of, reply_text, replied};
 
 use crate::print::{WriteFailed, put, put_parts};
 use crate::runs::Outcome;
 use itoa::Buffer;
-use mst_lang::{Edit, Fault, Line, parse_line};
+use mst_lang::{Edit, Fault, Line, Query, parse_line};
 use mst_net::{Network, Refusal};
-use mst_report::answer;
+use mst_report::show_tree;
 use std::alloc::Global;
 use std::io::Write;
 
@@ -92,16 +93,39 @@ fn reply_to(alloc: Global, network: &mut Network, number: u64, line: &[u8]) -> R
 {
     match parse_line(line) {
         Err(fault) => Reply::Unread(fault),
-        Ok(Line::Blank) => Reply::Silent,
-        Ok(Line::Edit(edit)) => match apply(network, &edit) {
+        Ok(line) => serve(alloc, network, number, &line),
+    }
+}
+
+/// Serves a line that is read. A command that isn't served is refused as an unknown one.
+fn serve(alloc: Global, network: &mut Network, number: u64, line: &Line) -> Reply
+    ensures { ServesRead number network.old.net (served (Ok line.now)) (replied number network.new.net result) }
+{
+    match line {
+        Line::Blank => Reply::Silent,
+        Line::Edit(edit) if is_served(edit) => match apply(network, edit) {
             Ok(()) => Reply::Silent,
             Err(Refusal::E99) => Reply::Starved,
             Err(refusal) => Reply::Refused(refusal),
         },
-        Ok(Line::Query(query)) => match answer(alloc, network, &query) {
+        Line::Query(Query::ShowTree { tree }) => match show_tree(alloc, network, *tree) {
             Ok(text) => Reply::Text(text),
             Err(_) => Reply::Starved,
         },
+        _ => Reply::Unread(Fault::E01),
+    }
+}
+
+/// Whether an edit is served: all are but those of aggregation and of MST configurations.
+fn is_served(edit: &Edit) -> bool
+    ensures { result ≡ is_served_edit edit.now }
+{
+    match edit {
+        Edit::SetKey { .. } => false,
+        Edit::SetSystemPriority { .. } => false,
+        Edit::SetConfiguration { .. } => false,
+        Edit::MapVids { .. } => false,
+        _ => true,
     }
 }
 

@@ -1,6 +1,6 @@
 mod rows;
 
-use crate::{Outcome, RunFault, run, status};
+use crate::{Outcome, RunFault, laws, run, status};
 use std::alloc::Global;
 use std::io;
 use std::io::{ErrorKind, Read, Write};
@@ -233,4 +233,10 @@ fn statuses(rt: HostRuntime) {
     ] {
         assert_eq!(rt; status(&ran), expected, "{ran:?}");
     }
+}
+
+#[test]
+fn laws_can_be_called() {
+    laws::one_run();
+    laws::network_alone();
 }

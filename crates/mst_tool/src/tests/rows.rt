@@ -1,16 +1,17 @@
 use super::{counts, run_both};
 use std::test::Fail;
 
-/// A script, and what it prints, or the end of that.
+/// A script, how many of its lines are refused, and what it prints, or the end of that.
 #[derive(Clone, Copy)]
 struct Row {
     name: &'static str,
     script: &'static [u8],
     expected: &'static [u8],
+    refused: u64,
     is_whole: bool,
 }
 
-const ROWS: [Row; 9] = [
+const ROWS: [Row; 11] = [
     Row {
         name: "triangle",
         script: b"\
@@ -52,6 +53,7 @@ const ROWS: [Row; 9] = [
             port C 1 Y 8001 ext 20000 int 20000 Root\n\
             port C 2 Z 8002 ext 20000 int 20000 Alternate\n\
             ",
+        refused: 0,
         is_whole: true,
     },
     Row {
@@ -79,6 +81,7 @@ const ROWS: [Row; 9] = [
             port B 1 Y 8001 ext 20000 int 20000 Alternate\n\
             port B 2 X 8002 ext 20000 int 20000 Root\n\
             ",
+        refused: 0,
         is_whole: false,
     },
     Row {
@@ -101,6 +104,7 @@ const ROWS: [Row; 9] = [
             port A 2 X 8002 ext 20000 int 20000 Backup\n\
             port A 3 Y 8003 ext 20000 int 20000 Designated\n\
             ",
+        refused: 0,
         is_whole: false,
     },
     Row {
@@ -159,6 +163,7 @@ const ROWS: [Row; 9] = [
             port C 1 Y 8001 ext 20000 int 20000 Root\n\
             port C 2 Z 8002 ext 20000 int 20000 Alternate\n\
             ",
+        refused: 0,
         is_whole: true,
     },
     Row {
@@ -226,6 +231,7 @@ const ROWS: [Row; 9] = [
             port B 1 X 8001 ext 20000 int 20000 Root\n\
             port B 2 Y 8002 ext 20000 int 20000 Alternate\n\
             ",
+        refused: 0,
         is_whole: true,
     },
     Row {
@@ -288,6 +294,7 @@ const ROWS: [Row; 9] = [
             port B 1 X 8001 ext 20000 int 20000 Root\n\
             port B 2 Y 8002 ext 20000 int 20000 Alternate\n\
             ",
+        refused: 0,
         is_whole: true,
     },
     Row {
@@ -301,6 +308,7 @@ const ROWS: [Row; 9] = [
             bridge A 8000.02:00:00:00:00:01 root 8000.02:00:00:00:00:01 ext 0 regional \
             8000.02:00:00:00:00:01 int 0 from 8000.02:00:00:00:00:01 0000 at 0000\n\
             ",
+        refused: 0,
         is_whole: true,
     },
     Row {
@@ -311,6 +319,7 @@ const ROWS: [Row; 9] = [
         expected: b"\
             tree 0\n\
             ",
+        refused: 0,
         is_whole: true,
     },
     Row {
@@ -323,6 +332,73 @@ const ROWS: [Row; 9] = [
         expected: b"\
             tree 7\n\
             ",
+        refused: 0,
+        is_whole: true,
+    },
+    Row {
+        name: "taken-away",
+        script: b"\
+            addbridge A 02:00:00:00:00:01\n\
+            kind A rstp\n\
+            addport A 1\n\
+            addlan X\n\
+            plug A 1 X\n\
+            settreeprio A 0 0\n\
+            setportvlans A 1 none\n\
+            delbridge A\n\
+            delport A 1\n\
+            dellan X\n\
+            unplug A 1\n\
+            delport A 1\n\
+            dellan X\n\
+            delbridge A\n\
+            showtree 0\n\
+            addbridge A 02:00:00:00:00:01\n\
+            showtree 0\n\
+            ",
+        expected: b"\
+            line 8 E12 bridge has ports\n\
+            line 9 E10 port plugged\n\
+            line 10 E13 LAN has plugs\n\
+            tree 0\n\
+            tree 0\n\
+            bridge A 8000.02:00:00:00:00:01 root 8000.02:00:00:00:00:01 ext 0 regional \
+            8000.02:00:00:00:00:01 int 0 from 8000.02:00:00:00:00:01 0000 at 0000\n\
+            ",
+        refused: 3,
+        is_whole: true,
+    },
+    Row {
+        name: "not-served",
+        script: b"\
+            addbridge A 02:00:00:00:00:01\n\
+            addport A 1\n\
+            setkey A 1 65536\n\
+            setkey A 1 7\n\
+            setsyspri A 1\n\
+            setmstconfid A 1 area\n\
+            setvid2mstid A 1 4095\n\
+            setvid2mstid A 1 10\n\
+            mark\n\
+            showlag\n\
+            showvlan 0\n\
+            showvlan 1\n\
+            changes\n\
+            ",
+        expected: b"\
+            line 3 E02 bad argument\n\
+            line 4 E01 no such command\n\
+            line 5 E01 no such command\n\
+            line 6 E01 no such command\n\
+            line 7 E03 bad VID or tree\n\
+            line 8 E01 no such command\n\
+            line 9 E01 no such command\n\
+            line 10 E01 no such command\n\
+            line 11 E03 bad VID or tree\n\
+            line 12 E01 no such command\n\
+            line 13 E01 no such command\n\
+            ",
+        refused: 11,
         is_whole: true,
     },
 ];
@@ -331,7 +407,7 @@ const ROWS: [Row; 9] = [
 fn prints_trees(rt: HostRuntime) -> Result<(), Fail> {
     for row in &ROWS {
         let (whole, slow, ran) = run_both(rt.alloc(), row.script)?;
-        assert_eq!(rt; ran, Ok(counts(0, 0)), "{}", row.name);
+        assert_eq!(rt; ran, Ok(counts(row.refused, 0)), "{}", row.name);
         assert!(rt; whole.ends_with(row.expected), "{}", row.name);
         assert!(rt;
             !row.is_whole || whole.len() == row.expected.len(),

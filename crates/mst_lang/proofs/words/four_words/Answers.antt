@@ -1,6 +1,5 @@
 use Rattle.std.proofs.Common.{◌∷◌, ◌∙◌, ap, sym}
-use Rattle.mst_lang.specs.Words.{words}
-use Rattle.mst_lang.specs.Arguments.{four_of}
+use Rattle.mst_lang.specs.Words.{words, four_of}
 use Rattle.mst_lang.proofs.WordsLemmas.{three_words_are}
 use Rattle.mst_lang.proofs.words.four_words.Goals as goal
 

@@ -11,13 +11,13 @@ returns-clause-row c =
     let edit = c.self.inside.ready.now.edit in
     let name = c.args.name.now in
     c.port_after.ensures.row ∙ ap (port_row_after edit name) c.port.ensures.row
-    ∙ sym (foreseen_port edit old.net name c.self.invariant.accepted) ∙ ap (λ t. fin.get t.net.ports name) c.self.view_is
+    ∙ sym (foreseen_port edit old.net name) ∙ ap (λ t. fin.get t.net.ports name) c.self.view_is
 
 pub returns-clause-number : goal.returns-clause-number
 returns-clause-number c =
     let old = c.self.inside.network.now in
     let edit = c.self.inside.ready.now.edit in
     let name = c.args.name.now in
-    c.port_after.ensures.number ∙ ap (λ (n : ℕ). port_number_after edit n name (option_map (λ r. r.number) c.port.result)) c.next_port.ensures
+    c.port_after.ensures.number ∙ ap (λ (n : ℕ). port_number_after edit n name (option_map (λ r. r.number) c.port.result)) c.next_port.ensures.next
     ∙ ap (port_number_after edit old.next.port name) c.port.ensures.number
     ∙ sym (foreseen_port_number edit old.next old.numbers name) ∙ ap (λ t. fin.get t.numbers.ports name) c.self.view_is

@@ -1,14 +1,14 @@
-use Rattle.std.proofs.Common.{◌≡◌, ◌<◌, ◌^◌, ◌∙◌, ℕ, List, Some, cond, true, false, ap, sym, subst, refl}
-use Rattle.mst_net.specs.Contents.{Contents, CanCommit, Commits}
+use Rattle.std.proofs.Common.{◌≡◌, ◌∙◌, ℕ, List, Some, cond, ap, sym, subst, refl}
+use Rattle.std.proofs.lemmas.Result.{IfOk-at_ok}
+use Rattle.std.specs.Map.{lookup}
+use Rattle.mst_lang.specs.declared.line.Edit.TheVariants.{AddBridge}
+use Rattle.mst_net.specs.After.{new_bridge}
+use Rattle.mst_net.specs.Contents.{Contents, CanCommit, Makes}
 use Rattle.mst_net.specs.NetworkKept.{contents_of}
 use Rattle.mst_net.specs.declared.network.Network.TheInside.{Inside}
-use Rattle.std.proofs.lemmas.Result.{IfOk-at_ok}
-use Rattle.mst_lang.specs.declared.line.Edit.TheVariants.{AddBridge}
-use Rattle.std.specs.Map.{lookup}
 use Rattle.mst_net.specs.Tables.{BridgeRow}
-use Rattle.mst_net.specs.After.{new_bridge}
 use Rattle.mst_net.proofs.Keys.{name_eq}
-use Rattle.mst_net.proofs.EditLemmas.{absent_bridge, bridge_commits, bridge_sound}
+use Rattle.mst_net.proofs.EditLemmas.{absent_bridge, bridge_made, bridge_sound}
 use Rattle.mst_net.proofs.network.Network.add_bridge.Goals as goal
 
 pub add-requires-clause-absent : goal.add-requires-clause-absent
@@ -20,21 +20,16 @@ pub invariant_of-self : goal.invariant_of-self
 invariant_of-self c =
     let a = c.self.inside in
     let b : Inside = record a { bridges = c.add.new.self; macs = c.insert.new.self } in
-    let row : BridgeRow = record { mac = c.args.mac; is_rstp = false; is_on = true; max_hops = c.standard.result; max_age = c.standard-2.result } in
-    let standard : row ≡ new_bridge c.args.mac = λ i. record { mac = c.args.mac; is_rstp = false; is_on = true; max_hops = c.standard.ensures i; max_age = c.standard-2.ensures i } in
     let rows : (q : List ℕ) → lookup (name_eq q) b.bridges.rows ≡ cond (name_eq c.args.bridge q) (Some (new_bridge c.args.mac)) (lookup (name_eq q) a.bridges.rows) =
-    λ q. c.add.ensures.rows q ∙ ap (λ (r : BridgeRow). cond (name_eq c.args.bridge q) (Some r) (lookup (name_eq q) a.bridges.rows)) standard in
+    λ q. c.add.ensures.rows q ∙ ap (λ (r : BridgeRow). cond (name_eq c.args.bridge q) (Some r) (lookup (name_eq q) a.bridges.rows)) c.new.ensures in
     bridge_sound a b c.args.bridge c.args.mac (subst (CanCommit (AddBridge c.args.bridge c.args.mac)) (sym c.self.view_is) c.requires) refl rows
-    c.self.invariant (subst (λ n. n < 2 ^ 48) c.number.ensures.value c.number.ensures.small) c.add.ensures.numbered
-    (IfOk-at_ok _ c.unwrap.ensures c.insert.ensures.updates).0
+    c.self.invariant c.add.ensures.numbered (IfOk-at_ok _ c.unwrap.ensures c.insert.ensures.updates).0
 
 pub returns : goal.returns
 returns c =
     let a = c.self.inside in
     let b : Inside = record a { bridges = c.add.new.self; macs = c.insert.new.self } in
-    let row : BridgeRow = record { mac = c.args.mac; is_rstp = false; is_on = true; max_hops = c.standard.result; max_age = c.standard-2.result } in
-    let standard : row ≡ new_bridge c.args.mac = λ i. record { mac = c.args.mac; is_rstp = false; is_on = true; max_hops = c.standard.ensures i; max_age = c.standard-2.ensures i } in
     let rows : (q : List ℕ) → lookup (name_eq q) b.bridges.rows ≡ cond (name_eq c.args.bridge q) (Some (new_bridge c.args.mac)) (lookup (name_eq q) a.bridges.rows) =
-    λ q. c.add.ensures.rows q ∙ ap (λ (r : BridgeRow). cond (name_eq c.args.bridge q) (Some r) (lookup (name_eq q) a.bridges.rows)) standard in
-    subst (λ (old : Contents). CanCommit (AddBridge c.args.bridge c.args.mac) old → Commits (AddBridge c.args.bridge c.args.mac) old (contents_of b)) c.self.view_is
-    (λ can. bridge_commits a b c.args.bridge c.args.mac can refl rows c.add.ensures.numbers) c.requires
+    λ q. c.add.ensures.rows q ∙ ap (λ (r : BridgeRow). cond (name_eq c.args.bridge q) (Some r) (lookup (name_eq q) a.bridges.rows)) c.new.ensures in
+    subst (λ (old : Contents). CanCommit (AddBridge c.args.bridge c.args.mac) old → Makes (AddBridge c.args.bridge c.args.mac) old (contents_of b)) c.self.view_is
+    (λ can. bridge_made a b c.args.bridge c.args.mac can refl rows c.add.ensures.numbers) c.requires

@@ -5,7 +5,7 @@ use Rattle.mst_net.proofs.Keys.{ports}
 use Rattle.mst_net.proofs.network.NetworkContents.port.Goals as goal
 
 pub returns-clause-row : goal.returns-clause-row
-returns-clause-row c = c.seen_port.ensures.row ∙ c.get.ensures.row ∙ sym (get_keyed ports c.self.inside.ports.rows c.args.name.now) ∙ ap (λ n. fin.get n.net.ports c.args.name.now) c.self.view_is
+returns-clause-row c = c.kept_port.ensures.row ∙ c.get.ensures.row ∙ sym (get_keyed ports c.self.inside.ports.rows c.args.name.now) ∙ ap (λ n. fin.get n.net.ports c.args.name.now) c.self.view_is
 
 pub returns-clause-number : goal.returns-clause-number
-returns-clause-number c = c.seen_port.ensures.number ∙ c.get.ensures.number ∙ sym (get_keyed ports c.self.inside.ports.numbers c.args.name.now) ∙ ap (λ n. fin.get n.numbers.ports c.args.name.now) c.self.view_is
+returns-clause-number c = c.kept_port.ensures.number ∙ c.get.ensures.number ∙ sym (get_keyed ports c.self.inside.ports.numbers c.args.name.now) ∙ ap (λ n. fin.get n.numbers.ports c.args.name.now) c.self.view_is

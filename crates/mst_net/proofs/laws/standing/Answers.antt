@@ -1,0 +1,5 @@
+use Rattle.mst_net.proofs.StandingLemmas.{standing_same}
+use Rattle.mst_net.proofs.laws.standing.Goals as goal
+
+pub returns : goal.returns
+returns c = standing_same

@@ -1,0 +1,9 @@
+use Rattle.std.proofs.Common.{ap, sym, ◌∙◌}
+use Rattle.std.specs.FinMap as fin
+use Rattle.mst_net.proofs.Keyed.{get_keyed}
+use Rattle.mst_net.proofs.Keys.{names}
+use Rattle.mst_net.proofs.network.Network.next_lan.Goals as goal
+
+pub returns-clause-fresh : goal.returns-clause-fresh
+returns-clause-fresh c name at =
+    c.next.ensures.fresh name (sym (get_keyed names c.self.inside.lans.numbers name) ∙ ap (λ n. fin.get n.numbers.lans name) c.self.view_is ∙ at)

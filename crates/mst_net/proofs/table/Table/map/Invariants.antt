@@ -1,0 +1,6 @@
+use Rattle.mst_net.proofs.TableLemmas.{MapsBelow}
+use Rattle.mst_net.proofs.table.Table.map.Given as goal
+
+-- the VIDs of the set are mapped up to the next
+abbrev pub invariant-loop-index : goal.invariant-loop-index
+invariant-loop-index l = MapsBelow l.initial.self-inside.trees l.self-inside.trees l.vids l.tree l.index

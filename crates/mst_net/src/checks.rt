@@ -1,0 +1,206 @@
+ghost use Rattle.std.specs.Prelude.{◌≡◌, Err, ok_or, if◌then◌else◌};
+ghost use Rattle.std.specs.FinMap as fin;
+ghost use Rattle.mst_lang.specs.declared.line.Edit.TheVariants.{AddBridge, DelBridge, AddPort, DelPort, AddLan, DelLan, Plug, Unplug, MapVids};
+ghost use Rattle.mst_net.specs.After.{first_of, of_bridge, of_port, of_lan, refusal_of, table_of};
+ghost use Rattle.mst_net.specs.Table.{mapped};
+ghost use Rattle.mst_net.specs.Checks.{answer_of};
+
+use crate::Refusal;
+use crate::network::Network;
+use crate::settings::PortSettings;
+use crate::table::Table;
+use mst_ids::{Mac, Name, PortName, Tree, VidSet};
+use mst_lang::Edit;
+
+const BRIDGE_LIMIT: usize = 1024;
+
+const PORT_LIMIT: usize = 16_384;
+
+const LAN_LIMIT: usize = 8192;
+
+const TREE_LIMIT: usize = 64;
+
+// What refuses an edit.
+impl Network {
+    /// Whether nothing refuses the edit, else the least refusal that applies.
+    pub(crate) fn check(&self, edit: &Edit) -> Result<(), Refusal>
+        ensures { result ≡ answer_of (refusal_of edit.now self.now.net) }
+    {
+        match *edit {
+            Edit::AddBridge { bridge, mac } => self.check_add_bridge(&bridge, mac),
+            Edit::DelBridge { bridge } => self.check_del_bridge(&bridge),
+            Edit::SetPower { bridge, .. } => self.check_bridge(&bridge),
+            Edit::SetKind { bridge, .. } => self.check_bridge(&bridge),
+            Edit::AddPort { port } => self.check_add_port(&port),
+            Edit::DelPort { port } => self.check_del_port(&port),
+            Edit::AddLan { lan } => self.check_add_lan(&lan),
+            Edit::DelLan { lan } => self.check_del_lan(&lan),
+            Edit::SetLanState { lan, .. } => self.check_lan(&lan),
+            Edit::SetSpeed { lan, .. } => self.check_lan(&lan),
+            Edit::Plug { port, lan } => self.check_plug(&port, &lan),
+            Edit::Unplug { port } => self.check_unplug(&port),
+            Edit::SetKey { port, .. } => self.check_port(&port),
+            Edit::SetSystemPriority { bridge, .. } => self.check_bridge(&bridge),
+            Edit::SetTreePriority { bridge, .. } => self.check_bridge(&bridge),
+            Edit::SetTreePortPriority { port, .. } => self.check_port(&port),
+            Edit::SetPortPathCost { port, .. } => self.check_port(&port),
+            Edit::SetTreePortCost { port, .. } => self.check_port(&port),
+            Edit::SetConfiguration { bridge, .. } => self.check_bridge(&bridge),
+            Edit::MapVids { bridge, tree, vids } => self.check_map_vids(&bridge, tree, &vids),
+            Edit::SetMaxHops { bridge, .. } => self.check_bridge(&bridge),
+            Edit::SetMaxAge { bridge, .. } => self.check_bridge(&bridge),
+            Edit::SetPortVlans { port, .. } => self.check_port(&port),
+        }
+    }
+
+    fn check_add_bridge(&self, bridge: &Name, mac: Mac) -> Result<(), Refusal>
+        ensures { result ≡ answer_of (refusal_of (AddBridge bridge.now mac) self.now.net) }
+    {
+        if self.has_bridge(bridge) {
+            return Err(Refusal::E07);
+        }
+        if self.has_mac(mac) {
+            return Err(Refusal::E08);
+        }
+        if self.bridge_count() >= BRIDGE_LIMIT {
+            return Err(Refusal::E14);
+        }
+        Ok(())
+    }
+
+    fn check_del_bridge(&self, bridge: &Name) -> Result<(), Refusal>
+        ensures { result ≡ answer_of (refusal_of (DelBridge bridge.now) self.now.net) }
+    {
+        self.check_bridge(bridge)?;
+        if self.has_ports(bridge) {
+            return Err(Refusal::E12);
+        }
+        Ok(())
+    }
+
+    fn check_bridge(&self, bridge: &Name) -> Result<(), Refusal>
+        ensures { result ≡ answer_of (first_of (of_bridge bridge.now self.now.net)) }
+    {
+        if self.has_bridge(bridge) {
+            Ok(())
+        } else {
+            Err(Refusal::E04)
+        }
+    }
+
+    fn check_add_port(&self, port: &PortName) -> Result<(), Refusal>
+        ensures { result ≡ answer_of (refusal_of (AddPort port.now) self.now.net) }
+    {
+        if !self.has_bridge(&port.bridge) {
+            return Err(Refusal::E04);
+        }
+        if self.has_port(port) {
+            return Err(Refusal::E09);
+        }
+        if self.port_count() >= PORT_LIMIT {
+            return Err(Refusal::E14);
+        }
+        Ok(())
+    }
+
+    fn check_del_port(&self, port: &PortName) -> Result<(), Refusal>
+        ensures { result ≡ answer_of (refusal_of (DelPort port.now) self.now.net) }
+    {
+        if self.known_port(port)?.lan.is_some() {
+            return Err(Refusal::E10);
+        }
+        Ok(())
+    }
+
+    fn check_add_lan(&self, lan: &Name) -> Result<(), Refusal>
+        ensures { result ≡ answer_of (refusal_of (AddLan lan.now) self.now.net) }
+    {
+        if self.has_lan(lan) {
+            return Err(Refusal::E07);
+        }
+        if self.lan_count() >= LAN_LIMIT {
+            return Err(Refusal::E14);
+        }
+        Ok(())
+    }
+
+    fn check_del_lan(&self, lan: &Name) -> Result<(), Refusal>
+        ensures { result ≡ answer_of (refusal_of (DelLan lan.now) self.now.net) }
+    {
+        self.check_lan(lan)?;
+        if self.has_plugs(lan) {
+            return Err(Refusal::E13);
+        }
+        Ok(())
+    }
+
+    fn check_lan(&self, lan: &Name) -> Result<(), Refusal>
+        ensures { result ≡ answer_of (first_of (of_lan lan.now self.now.net)) }
+    {
+        if self.has_lan(lan) {
+            Ok(())
+        } else {
+            Err(Refusal::E06)
+        }
+    }
+
+    /// The settings of a port, or why there are none.
+    fn known_port(&self, port: &PortName) -> Result<PortSettings, Refusal>
+        ensures { result ≡ (if fin.contains_key self.now.net.bridges port.now.bridge then ok_or (fin.get self.now.net.ports port.now) Refusal.E05 else Err Refusal.E04) }
+    {
+        if !self.has_bridge(&port.bridge) {
+            return Err(Refusal::E04);
+        }
+        self.port_settings(port).ok_or(Refusal::E05)
+    }
+
+    fn check_port(&self, port: &PortName) -> Result<(), Refusal>
+        ensures { result ≡ answer_of (first_of (of_port port.now self.now.net)) }
+    {
+        let _settings = self.known_port(port)?;
+        Ok(())
+    }
+
+    fn check_plug(&self, port: &PortName, lan: &Name) -> Result<(), Refusal>
+        ensures { result ≡ answer_of (refusal_of (Plug port.now lan.now) self.now.net) }
+    {
+        let settings = self.known_port(port)?;
+        if !self.has_lan(lan) {
+            return Err(Refusal::E06);
+        }
+        if settings.lan.is_some() {
+            return Err(Refusal::E10);
+        }
+        Ok(())
+    }
+
+    fn check_unplug(&self, port: &PortName) -> Result<(), Refusal>
+        ensures { result ≡ answer_of (refusal_of (Unplug port.now) self.now.net) }
+    {
+        let settings = self.known_port(port)?;
+        if settings.lan.is_some() {
+            Ok(())
+        } else {
+            Err(Refusal::E11)
+        }
+    }
+
+    fn check_map_vids(&self, bridge: &Name, tree: Tree, vids: &VidSet) -> Result<(), Refusal>
+        ensures { result ≡ answer_of (refusal_of (MapVids bridge.now tree vids.now) self.now.net) }
+    {
+        self.check_bridge(bridge)?;
+        if self.table_with(bridge, tree, vids).tree_count() > TREE_LIMIT {
+            return Err(Refusal::E15);
+        }
+        Ok(())
+    }
+
+    /// The table of a bridge with these VIDs in a tree.
+    pub(crate) fn table_with(&self, bridge: &Name, tree: Tree, vids: &VidSet) -> Table
+        ensures { result ≡ mapped vids.now tree (table_of self.now.net bridge.now) }
+    {
+        let mut table = self.table(bridge);
+        table.map(vids, tree);
+        table
+    }
+}

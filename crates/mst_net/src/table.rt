@@ -1,0 +1,100 @@
+ghost use Rattle.std.specs.Prelude.{◌≡◌, ◌==◌, ℕ, ◌<◌, ◌↔◌, false, length, count_by, slice_index_or, IsTrue};
+ghost use Rattle.std.specs.List.{list_all};
+ghost use Rattle.mst_net.specs.Table.{no_table, tree_in, mapped, has_tree, tree_count};
+
+use mst_ids::{Tree, Vid, VidSet};
+use std::marker::Model;
+
+/// Which tree each VID is mapped to.
+#[derive(Clone, Copy)]
+pub(crate) struct Table {
+    trees: [Tree; 4094],
+}
+
+impl Model for Table {
+    ghost use Rattle.std.specs.Prelude.{◌≡◌, ℕ, List, length};
+    ghost use Rattle.std.specs.Coded.{coded_ℕ, coded_list};
+
+    ghost Value = { List ℕ };
+
+    ghost coded = { coded_list coded_ℕ };
+
+    ghost view = { λ a. a.trees };
+
+    ghost invariant = { λ a. length a.trees ≡ 4094 };
+
+    ghost inverse = { λ trees. record { trees = trees } };
+}
+
+impl Table {
+    /// Every VID in the CIST.
+    pub(crate) fn new() -> Table
+        ensures { result ≡ no_table }
+    {
+        let cist = Tree::cist();
+        Table {
+            trees: [cist; 4094],
+        }
+    }
+
+    /// The tree that a VID is mapped to.
+    pub(crate) fn tree(&self, vid: Vid) -> Tree
+        ensures { result ≡ tree_in self.now vid }
+    {
+        self.trees[usize::from(vid.value()) - 1]
+    }
+
+    /// Maps the VIDs of the set to the tree; the other VIDs stay where they are.
+    pub(crate) fn map(&mut self, vids: &VidSet, tree: Tree)
+        ensures { self.new ≡ mapped vids.now tree self.old }
+    {
+        for index in 0..4094 {
+            if vids.contains(index as u16 + 1) {
+                self.trees[index] = tree;
+            }
+        }
+    }
+
+    /// How many of the trees 1 to 4094 some VID is mapped to.
+    pub(crate) fn tree_count(&self) -> usize
+        ensures { result ≡ tree_count self.now }
+    {
+        let seen = self.trees_seen();
+        count(&seen[1..])
+    }
+
+    /// Whether each VID is in the CIST.
+    pub(crate) fn is_default(&self) -> bool
+        ensures default { IsTrue result ↔ (self.now ≡ no_table) }
+        ensures all { result ≡ list_all (λ tree. tree == 0) self.now }
+    {
+        self.all_in_cist()
+    }
+
+    /// A flag for each tree, 0 to 4094: whether some VID is mapped to it.
+    fn trees_seen(&self) -> [bool; 4095]
+        ensures long { length result ≡ 4095 }
+        ensures seen { (tree : ℕ) → tree < 4095 → slice_index_or result tree false ≡ has_tree self.now tree }
+    {
+        let mut seen = [false; 4095];
+        for index in 0..4094 {
+            let tree = self.trees[index];
+            seen[usize::from(tree.value())] = true;
+        }
+        seen
+    }
+
+    fn all_in_cist(&self) -> bool
+        ensures all { result ≡ list_all (λ tree. tree == 0) self.now }
+        ensures long { length self.now ≡ 4094 }
+    {
+        self.trees.iter().all(|tree| tree.value() == 0)
+    }
+}
+
+/// How many of the flags are set.
+fn count(flags: &[bool]) -> usize
+    ensures { result ≡ count_by (λ flag. flag) flags.now }
+{
+    flags.iter().filter(|flag| **flag).count()
+}

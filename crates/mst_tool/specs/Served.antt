@@ -1,0 +1,34 @@
+-- The commands that a run serves.
+use Rattle.std.specs.Prelude.{Bool, true, false, Result, Ok, Err, if◌then◌else◌}
+use Rattle.mst_lang.specs.declared.line.Line.{Line}
+use Rattle.mst_lang.specs.declared.line.Line.TheVariants.{Mark, Edit as edit, Query as query}
+use Rattle.mst_lang.specs.declared.line.Edit.{Edit}
+use Rattle.mst_lang.specs.declared.line.Edit.TheVariants.{SetKey, SetSystemPriority, SetConfiguration, MapVids}
+use Rattle.mst_lang.specs.declared.line.Query.{Query}
+use Rattle.mst_lang.specs.declared.line.Query.TheVariants.{ShowTree}
+use Rattle.mst_lang.specs.declared.line.Fault.{Fault}
+use Rattle.mst_lang.specs.declared.line.Fault.TheVariants.{E01}
+
+-- all edits but of aggregation and of MST configurations
+abbrev pub is_served_edit : Edit → Bool
+is_served_edit (SetKey port key) = false
+is_served_edit (SetSystemPriority bridge priority) = false
+is_served_edit (SetConfiguration bridge revision name) = false
+is_served_edit (MapVids bridge tree vids) = false
+is_served_edit _ = true
+
+-- of the queries that of a tree
+abbrev pub is_served_query : Query → Bool
+is_served_query (ShowTree tree) = true
+is_served_query _ = false
+
+abbrev pub is_served : Line → Bool
+is_served (edit e) = is_served_edit e
+is_served (query q) = is_served_query q
+is_served Mark = false
+is_served _ = true
+
+-- a line that is read and isn't served is refused as one whose command is unknown
+abbrev pub served : Result Line Fault → Result Line Fault
+served (Ok line) = if is_served line then Ok line else Err E01
+served (Err fault) = Err fault
