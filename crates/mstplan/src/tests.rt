@@ -1,0 +1,35 @@
+use crate::faults::{fault_of, message};
+use mst_tool::{Outcome, RunFault};
+
+fn counts(refused: u64, memory: u64) -> Result<Outcome, RunFault> {
+    Ok(Outcome {
+        refused,
+        memory,
+        differing: 0,
+    })
+}
+
+#[test]
+fn faults_are_told(rt: HostRuntime) {
+    for (ran, fault) in [
+        (counts(0, 0), None),
+        (counts(3, 0), None),
+        (counts(0, 1), Some(RunFault::Memory)),
+        (Err(RunFault::Read), Some(RunFault::Read)),
+        (Err(RunFault::Write), Some(RunFault::Write)),
+        (Err(RunFault::Memory), Some(RunFault::Memory)),
+    ] {
+        assert_eq!(rt; fault_of(&ran), fault, "{ran:?}");
+    }
+}
+
+#[test]
+fn faults_have_lines(rt: HostRuntime) {
+    for (fault, line) in [
+        (RunFault::Read, "mstplan: read fault"),
+        (RunFault::Write, "mstplan: write fault"),
+        (RunFault::Memory, "mstplan: out of memory"),
+    ] {
+        assert_eq!(rt; message(fault), line);
+    }
+}
