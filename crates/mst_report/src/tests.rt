@@ -1,6 +1,6 @@
 //! The texts are worked by hand from the rules of the standard.
 
-use crate::{Role, answer, laws};
+use crate::{Role, laws, show_tree};
 use mst_ids::Tree;
 use mst_lang::{Edit, Line, parse_line};
 use mst_net::{Network, Refusal};
@@ -123,8 +123,9 @@ fn network_of(alloc: Global, script: &[&str]) -> Result<Network, Refusal> {
 
 /// The text of a tree of the network that a script makes, where there is memory.
 fn text_of(alloc: Global, script: &[&str], tree: u64) -> Option<Vec<u8>> {
+    let tree = Tree::new(tree)?;
     let network = network_of(alloc, script).ok()?;
-    show_tree(alloc, &network, Tree::new(tree)?).ok()
+    show_tree(alloc, &network, tree).ok()
 }
 
 #[test]
