@@ -489,24 +489,45 @@ fn vid(number: u64) -> Result<Vid, Fail> {
     Ok(Vid::new(number).ok_or("no VID")?)
 }
 
-fn set_configuration(rt: &impl Abort, network: &mut Network) -> Result<(), Fail> {
-    fill(network)?;
-    let bridge = name("b")?;
-    let found = network.bridge(&bridge).ok_or("no bridge")?;
+fn configuration_is_new(rt: &impl Abort, network: &Network) -> Result<(), Fail> {
+    let found = network.bridge(&name("b")?).ok_or("no bridge")?;
     assert_eq!(rt; found.system_priority, 32_768);
     assert_eq!(rt; found.revision, 0);
     assert!(rt; found.conf_name.as_bytes() == b"00:00:00:00:00:02".as_slice());
-    make(network, "setsyspri b 65535")?;
-    make(network, "setmstconfid b 65535 area")?;
-    make(network, "setvid2mstid b 7 10-20")?;
-    make(network, "setvid2mstid b 0 20")?;
-    let found = network.bridge(&bridge).ok_or("no bridge")?;
+    Ok(())
+}
+
+fn configuration_is_set(rt: &impl Abort, network: &Network) -> Result<(), Fail> {
+    let found = network.bridge(&name("b")?).ok_or("no bridge")?;
     assert_eq!(rt; found.system_priority, 65_535);
     assert_eq!(rt; found.revision, 65_535);
     assert!(rt; found.conf_name.as_bytes() == b"area".as_slice());
-    assert_eq!(rt; network.tree_of(&bridge, vid(19)?).value(), 7);
-    assert_eq!(rt; network.tree_of(&bridge, vid(20)?).value(), 0);
-    assert_eq!(rt; network.tree_of(&name("a")?, vid(19)?).value(), 0);
+    Ok(())
+}
+
+fn tree_of(network: &Network, bridge: &str, number: u64) -> Result<u16, Fail> {
+    let vid = vid(number)?;
+    let bridge = name(bridge)?;
+    Ok(network.tree_of(&bridge, vid).value())
+}
+
+const CONFIGURED: [&str; 4] = [
+    "setsyspri b 65535",
+    "setmstconfid b 65535 area",
+    "setvid2mstid b 7 10-20",
+    "setvid2mstid b 0 20",
+];
+
+fn set_configuration(rt: &impl Abort, network: &mut Network) -> Result<(), Fail> {
+    fill(network)?;
+    configuration_is_new(rt, network)?;
+    for line in CONFIGURED {
+        make(network, line)?;
+    }
+    configuration_is_set(rt, network)?;
+    for (bridge, vid, tree) in [("b", 19, 7), ("b", 20, 0), ("a", 19, 0)] {
+        assert_eq!(rt; tree_of(network, bridge, vid)?, tree);
+    }
     Ok(())
 }
 
@@ -516,20 +537,29 @@ fn configurations_are_set(rt: HostRuntime) -> Result<(), Fail> {
     set_configuration(&rt, &mut network)
 }
 
-fn set_port(rt: &impl Abort, network: &mut Network) -> Result<(), Fail> {
-    fill(network)?;
+/// Whether port 1 of bridge b has this key, and these VLANs.
+fn port_is(network: &Network, key: u16, vids: VidSet) -> Result<bool, Fail> {
     let first = port("b", 1)?;
-    assert_eq!(rt; network.port(&first).ok_or("no port")?.key, 0);
-    assert!(rt; network.port_vlans(&first) == VidSet::all());
-    make(network, "setkey b 1 65535")?;
-    make(network, "setportvlans b 1 5,7-9")?;
-    assert_eq!(rt; network.port(&first).ok_or("no port")?.key, 65_535);
-    assert!(rt; network.port_vlans(&first) == parse_vids(b"5,7-9")?);
-    assert!(rt; network.port_vlans(&port("b", 2)?) == VidSet::all());
-    make(network, "setportvlans b 1 none")?;
-    assert!(rt; network.port_vlans(&first).is_empty());
-    make(network, "setportvlans b 1 all")?;
-    assert!(rt; network.port_vlans(&first) == VidSet::all());
+    match network.port(&first) {
+        Some(found) => Ok(found.key == key && network.port_vlans(&first) == vids),
+        None => Ok(false),
+    }
+}
+
+fn set_port(rt: &impl Abort, network: &mut Network) -> Result<(), Fail> {
+    let some = parse_vids(b"5,7-9")?;
+    fill(network)?;
+    assert!(rt; port_is(network, 0, VidSet::all())?);
+    for (line, key, vids) in [
+        ("setkey b 1 65535", 65_535, VidSet::all()),
+        ("setportvlans b 1 5,7-9", 65_535, some),
+        ("setportvlans b 1 none", 65_535, VidSet::none()),
+        ("setportvlans b 1 all", 65_535, VidSet::all()),
+        ("setkey b 1 0", 0, VidSet::all()),
+    ] {
+        make(network, line)?;
+        assert!(rt; port_is(network, key, vids)?, "at {line}");
+    }
     Ok(())
 }
 
@@ -539,37 +569,47 @@ fn keys_and_vlans_are_set(rt: HostRuntime) -> Result<(), Fail> {
     set_port(&rt, &mut network)
 }
 
-/// Sets what goes with a bridge or a port, and takes both away.
-fn delete(network: &mut Network) -> Result<(), Fail> {
-    fill(network)?;
-    make(network, "settreeprio b 7 1")?;
-    make(network, "setvid2mstid b 7 10")?;
-    make(network, "settreeportprio b 1 7 2")?;
-    make(network, "settreeportcost b 1 7 3")?;
-    make(network, "setportvlans b 1 none")?;
-    make(network, "unplug b 1")?;
-    make(network, "delport b 1")?;
-    make(network, "delport b 2")?;
-    make(network, "delbridge b")?;
-    make(network, "dellan x")
+/// Sets what goes with a bridge or a port, takes both away, and adds them again.
+const TAKEN_AWAY: [&str; 12] = [
+    "settreeprio b 7 1",
+    "setvid2mstid b 7 10",
+    "settreeportprio b 1 7 2",
+    "settreeportcost b 1 7 3",
+    "setportvlans b 1 none",
+    "unplug b 1",
+    "delport b 1",
+    "delport b 2",
+    "delbridge b",
+    "dellan x",
+    "addbridge b 00:00:00:00:00:02",
+    "addport b 1",
+];
+
+fn port_is_new(rt: &impl Abort, network: &Network) -> Result<(), Fail> {
+    let tree = tree(7)?;
+    let first = port("b", 1)?;
+    assert_eq!(rt; network.port_priority(&first, tree).step(), 8);
+    assert!(rt; network.port_cost(&first, tree).is_none());
+    assert!(rt; port_is(network, 0, VidSet::all())?);
+    Ok(())
+}
+
+fn bridge_is_new(rt: &impl Abort, network: &Network) -> Result<(), Fail> {
+    let tree = tree(7)?;
+    let bridge = name("b")?;
+    assert_eq!(rt; network.tree_priority(&bridge, tree).step(), 8);
+    assert_eq!(rt; tree_of(network, "b", 10)?, 0);
+    assert!(rt; network.lan(&name("x")?).is_none());
+    Ok(())
 }
 
 fn add_again(rt: &impl Abort, network: &mut Network) -> Result<(), Fail> {
-    delete(network)?;
-    let bridge = name("b")?;
-    let first = port("b", 1)?;
-    let tree = tree(7)?;
-    assert!(rt; network.bridge(&bridge).is_none());
-    assert!(rt; network.port(&first).is_none());
-    assert!(rt; network.lan(&name("x")?).is_none());
-    make(network, "addbridge b 00:00:00:00:00:02")?;
-    make(network, "addport b 1")?;
-    assert_eq!(rt; network.tree_priority(&bridge, tree).step(), 8);
-    assert_eq!(rt; network.tree_of(&bridge, vid(10)?).value(), 0);
-    assert_eq!(rt; network.port_priority(&first, tree).step(), 8);
-    assert!(rt; network.port_cost(&first, tree).is_none());
-    assert!(rt; network.port_vlans(&first) == VidSet::all());
-    Ok(())
+    fill(network)?;
+    for line in TAKEN_AWAY {
+        make(network, line)?;
+    }
+    bridge_is_new(rt, network)?;
+    port_is_new(rt, network)
 }
 
 #[test]
@@ -578,16 +618,23 @@ fn what_is_deleted_is_forgotten(rt: HostRuntime) -> Result<(), Fail> {
     add_again(&rt, &mut network)
 }
 
+/// Whether the bridge that has the number has this name.
+fn bridge_is(network: &Network, number: usize, bridge: &str) -> Result<bool, Fail> {
+    let bridge = name(bridge)?;
+    Ok(network.bridge_name(BridgeNo(number)) == Some(bridge))
+}
+
 fn look_up_numbers(rt: &impl Abort, network: &mut Network) -> Result<(), Fail> {
+    let first = port("b", 1)?;
+    let lan = name("x")?;
     fill(network)?;
-    assert!(rt; network.bridge_name(BridgeNo(0)) == Some(name("b")?));
-    assert!(rt; network.bridge_name(BridgeNo(2)).is_none());
-    assert!(rt; network.port_name(PortNo(1)) == Some(port("b", 1)?));
-    assert!(rt; network.lan_name(LanNo(0)) == Some(name("x")?));
+    assert!(rt; bridge_is(network, 0, "b")?);
+    assert!(rt; network.port_name(PortNo(1)) == Some(first));
+    assert!(rt; network.lan_name(LanNo(0)) == Some(lan));
     make(network, "delbridge a")?;
     assert!(rt; network.bridge_name(BridgeNo(1)).is_none());
     make(network, "addbridge c 00:00:00:00:00:03")?;
-    assert!(rt; network.bridge_name(BridgeNo(1)) == Some(name("c")?));
+    assert!(rt; bridge_is(network, 1, "c")?);
     Ok(())
 }
 
@@ -597,43 +644,46 @@ fn records_are_found_by_number(rt: HostRuntime) -> Result<(), Fail> {
     look_up_numbers(&rt, &mut network)
 }
 
-fn look_ahead_of_settings(rt: &impl Abort, network: &mut Network) -> Result<(), Fail> {
-    fill(network)?;
+fn look_ahead_of_table(rt: &impl Abort, network: &mut Network) -> Result<(), Fail> {
     let bridge = name("b")?;
+    let vid = vid(10)?;
+    fill(network)?;
     let ready = network.prepare(&edit_of("setvid2mstid b 7 10")?)?;
-    assert_eq!(rt; network.ahead(&ready).tree_of(&bridge, vid(10)?).value(), 7);
-    assert_eq!(rt; network.ahead(&ready).tree_of(&bridge, vid(11)?).value(), 0);
-    assert_eq!(rt; network.tree_of(&bridge, vid(10)?).value(), 0);
-    network.abandon(ready);
-    let first = port("b", 1)?;
-    let ready = network.prepare(&edit_of("setportvlans b 1 none")?)?;
-    assert!(rt; network.ahead(&ready).port_vlans(&first).is_empty());
-    assert!(rt; network.port_vlans(&first) == VidSet::all());
-    network.abandon(ready);
-    let ready = network.prepare(&edit_of("settreeportcost b 1 0 9")?)?;
-    assert!(rt; network.ahead(&ready).port_cost(&first, Tree::cist()) == Cost::new(9));
+    assert_eq!(rt; network.ahead(&ready).tree_of(&bridge, vid).value(), 7);
+    assert_eq!(rt; network.tree_of(&bridge, vid).value(), 0);
     network.abandon(ready);
     Ok(())
 }
 
 #[test]
-fn ahead_shows_settings(rt: HostRuntime) -> Result<(), Fail> {
+fn ahead_shows_tables(rt: HostRuntime) -> Result<(), Fail> {
     let mut network = Network::new(rt.alloc());
-    look_ahead_of_settings(&rt, &mut network)
+    look_ahead_of_table(&rt, &mut network)
+}
+
+fn look_ahead_of_vlans(rt: &impl Abort, network: &mut Network) -> Result<(), Fail> {
+    let first = port("b", 1)?;
+    fill(network)?;
+    let ready = network.prepare(&edit_of("setportvlans b 1 none")?)?;
+    assert!(rt; network.ahead(&ready).port_vlans(&first).is_empty());
+    assert!(rt; network.port_vlans(&first) == VidSet::all());
+    network.abandon(ready);
+    Ok(())
+}
+
+#[test]
+fn ahead_shows_vlans(rt: HostRuntime) -> Result<(), Fail> {
+    let mut network = Network::new(rt.alloc());
+    look_ahead_of_vlans(&rt, &mut network)
 }
 
 fn look_ahead_of_deletion(rt: &impl Abort, network: &mut Network) -> Result<(), Fail> {
-    fill(network)?;
     let second = port("b", 2)?;
+    fill(network)?;
     let ready = network.prepare(&edit_of("delport b 2")?)?;
     assert!(rt; network.ahead(&ready).port(&second).is_none());
     assert!(rt; network.ahead(&ready).port_name(PortNo(0)).is_none());
     assert!(rt; network.port_name(PortNo(0)) == Some(second));
-    network.abandon(ready);
-    let ready = network.prepare(&edit_of("addlan y")?)?;
-    assert!(rt; network.ahead(&ready).lan(&name("y")?).is_some());
-    assert!(rt; network.ahead(&ready).lan_name(LanNo(1)) == Some(name("y")?));
-    assert!(rt; network.lan_name(LanNo(1)).is_none());
     network.abandon(ready);
     Ok(())
 }
@@ -642,6 +692,23 @@ fn look_ahead_of_deletion(rt: &impl Abort, network: &mut Network) -> Result<(), 
 fn ahead_shows_what_is_deleted(rt: HostRuntime) -> Result<(), Fail> {
     let mut network = Network::new(rt.alloc());
     look_ahead_of_deletion(&rt, &mut network)
+}
+
+fn look_ahead_of_lan(rt: &impl Abort, network: &mut Network) -> Result<(), Fail> {
+    let lan = name("y")?;
+    fill(network)?;
+    let ready = network.prepare(&edit_of("addlan y")?)?;
+    assert!(rt; network.ahead(&ready).lan(&lan).is_some());
+    assert!(rt; network.ahead(&ready).lan_name(LanNo(1)) == Some(lan));
+    assert!(rt; network.lan_name(LanNo(1)).is_none());
+    network.abandon(ready);
+    Ok(())
+}
+
+#[test]
+fn ahead_shows_new_lans(rt: HostRuntime) -> Result<(), Fail> {
+    let mut network = Network::new(rt.alloc());
+    look_ahead_of_lan(&rt, &mut network)
 }
 
 /// The number of the fault or of the refusal that a line meets, or nothing.
@@ -716,9 +783,9 @@ fn map_to_trees(rt: &impl Abort, alloc: Global, network: &mut Network) -> Result
         make(network, line.as_str())?;
     }
     assert_eq!(rt; code_of(network, "setvid2mstid A 65 65"), "E15");
-    assert_eq!(rt; network.tree_of(&name("A")?, vid(65)?).value(), 0);
+    assert_eq!(rt; tree_of(network, "A", 65)?, 0);
     assert_eq!(rt; code_of(network, "setvid2mstid A 65 64"), "");
-    assert_eq!(rt; network.tree_of(&name("A")?, vid(64)?).value(), 65);
+    assert_eq!(rt; tree_of(network, "A", 64)?, 65);
     Ok(())
 }
 
