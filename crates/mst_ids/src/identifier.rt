@@ -1,10 +1,10 @@
 ghost use Rattle.std.specs.Prelude.{◌≡◌, ℕ, ◌+◌, ◌*◌, ◌^◌, ◌<◌, ◌++◌, OnOk, OnErr};
 ghost use Rattle.mst_ids.specs.Identifiers.{bridge_id, port_id};
-ghost use Rattle.mst_ids.specs.Texts.{hex_four as four_of, bridge_id_text, port_id_text};
+ghost use Rattle.mst_ids.specs.Texts.{bridge_id_text, port_id_text};
 
 use crate::mac::{Mac, digits_of as mac_digits_of};
 use crate::number::{PortNumber, Priority, Tree};
-use crate::text::{hex_pair, push_bytes};
+use crate::text::{hex_four, push_bytes};
 use std::alloc::AllocError;
 use std::marker::Model;
 
@@ -71,15 +71,6 @@ fn digits_of(number: u64) -> [u8; 22]
     [
         a, b, c, d, b'.', e, f, g, h, i, j, k, l, m, n, o, p, q, r, s, t, u,
     ]
-}
-
-/// The four lower case digits of a number of 16 bits.
-fn hex_four(number: u16) -> [u8; 4]
-    ensures { result ≡ four_of number }
-{
-    let [a, b] = hex_pair((number / 256) as u8);
-    let [c, d] = hex_pair((number % 256) as u8);
-    [a, b, c, d]
 }
 
 /// A Port Identifier (802.1Q-2022, 13.27.46): 4 bits of priority and the 12-bit port number. The

@@ -19,7 +19,7 @@ pub use mac::{Mac, parse_mac};
 pub use name::{Name, PortName};
 pub use number::{Limit, PortNumber, Priority, Speed, Tree, Vid};
 pub use record::{BridgeNo, LanNo, PortNo};
-pub use text::{BadText, push_bytes, push_decimal};
+pub use text::{BadText, push_bytes, push_decimal, push_hex_four};
 pub use vid_list::parse_vids;
 pub use vid_set::VidSet;
 

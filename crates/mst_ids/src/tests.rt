@@ -245,6 +245,21 @@ fn numbers_and_names_are_appended(rt: HostRuntime) -> Result<(), Fail> {
 }
 
 #[test]
+fn hexadecimal_numbers_are_appended(rt: HostRuntime) -> Result<(), Fail> {
+    for (number, text) in [
+        (0, "0000"),
+        (7, "0007"),
+        (0x80ab, "80ab"),
+        (u16::MAX, "ffff"),
+    ] {
+        let mut out = Vec::new(rt.alloc());
+        push_hex_four(number, &mut out)?;
+        assert!(rt; out.as_slice() == text.as_bytes(), "at {text}");
+    }
+    Ok(())
+}
+
+#[test]
 fn lists_of_vids_are_parsed(rt: HostRuntime) -> Result<(), Fail> {
     for (list, text) in [
         ("1", "1"),

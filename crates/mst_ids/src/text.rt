@@ -1,5 +1,5 @@
 ghost use Rattle.std.specs.Prelude.{◌≡◌, ◌-◌, ◌<◌, ◌≤◌, ◌++◌, length, replicate, OnOk, OnErr, decimal};
-ghost use Rattle.mst_ids.specs.Texts.{hex_digit as digit_of, hex_pair as pair_of};
+ghost use Rattle.mst_ids.specs.Texts.{hex_digit as digit_of, hex_pair as pair_of, hex_four as four_of};
 
 use itoa::Buffer;
 use std::alloc::AllocError;
@@ -15,6 +15,23 @@ pub fn push_decimal(number: u64, out: &mut Vec<u8>) -> Result<(), AllocError>
 {
     let mut buffer = Buffer::new();
     push_bytes(buffer.format(number).as_bytes(), out)
+}
+
+/// Appends a number of 16 bits as four lower case hexadecimal digits, or changes nothing.
+pub fn push_hex_four(number: u16, out: &mut Vec<u8>) -> Result<(), AllocError>
+    ensures ok { OnOk result (out.new.items ≡ out.old.items ++ four_of number) }
+    ensures err { OnErr result (out.new.items ≡ out.old.items) }
+{
+    push_bytes(&hex_four(number), out)
+}
+
+/// The four lower case digits of a number of 16 bits.
+pub(crate) fn hex_four(number: u16) -> [u8; 4]
+    ensures { result ≡ four_of number }
+{
+    let [a, b] = hex_pair((number / 256) as u8);
+    let [c, d] = hex_pair((number % 256) as u8);
+    [a, b, c, d]
 }
 
 /// Appends the bytes, or changes nothing.
