@@ -1,17 +1,16 @@
 -- An edit that nothing refuses makes a network of a network.
-use Rattle.std.proofs.Common.{◌≡◌, ℕ, ◌<◌, ◌≤◌, ◌^◌, Bool, true, false, not, cond, ◌||◌, ◌⊎◌, inl, inr, List, [], ◌∷◌, length, Option, Some, None, is_some, nat_eq, nat_le, refl, sym, ap, subst, ◌∙◌, arith, true≢false}
-use Rattle.std.specs.Prelude.{Result, Ok, Err, IsTrue, ◌==◌, nat_lt, if◌then◌else◌}
-use Rattle.std.specs.Option.{option_map, option_map_or, unwrap_or, ForSome}
+use Rattle.std.proofs.Common.{◌≡◌, ℕ, ◌<◌, ◌≤◌, ◌^◌, Bool, true, false, not, ◌⊎◌, inl, inr, List, Option, Some, None, is_some, nat_eq, refl, sym, ap, subst, ◌∙◌, arith, true≢false}
+use Rattle.std.specs.Prelude.{Result, Ok, Err, IsTrue, ◌==◌, if◌then◌else◌}
+use Rattle.std.specs.Option.{option_map_or, unwrap_or, ForSome}
 use Rattle.std.specs.Bool.{beq}
-use Rattle.std.specs.List.{list_any, list_all, AllByRecursion}
+use Rattle.std.specs.List.{list_all, AllByRecursion}
 use Rattle.std.specs.FinMap as fin
-use Rattle.std.specs.FinMap.{FinMap, get-empty, len-empty, len-entries, entries}
+use Rattle.std.specs.FinMap.{FinMap, get-empty, len-empty}
 use Rattle.std.proofs.lemmas.Bool.{leb-false, ltb-false}
 use Rattle.std.specs.Cmp.{unsigned_Decides}
 use Rattle.std.specs.Cmp.Lexicographic.{pointwise}
-use Rattle.std.specs.Map.{values_of}
 use Rattle.mst_ids.specs.Names.{name_cmp, port_cmp}
-use Rattle.mst_ids.specs.Texts.{is_conf_name, mac_text}
+use Rattle.mst_ids.specs.Texts.{is_conf_name}
 use Rattle.mst_ids.specs.Vids.{IsVidSet}
 use Rattle.mst_ids.proofs.ConfNameLemmas.{is_conf_name-mac_text}
 use Rattle.mst_ids.specs.declared.name.PortName.{PortName}
@@ -20,11 +19,11 @@ use Rattle.mst_lang.specs.declared.line.Edit.TheVariants.{AddBridge, DelBridge, 
 use Rattle.mst_lang.specs.Ranges.{InRange}
 use Rattle.mst_net.specs.Table.{no_table, mapped, tree_count}
 use Rattle.mst_net.specs.Tables.{Net, IsNetwork, AreBridges, AreLans, ArePorts, IsLimit, IsPathCost, IsOwnPriority, IsTable, BridgeRow, PortRow, LanRow, BridgeTree, PortTree, bridge_tree_cmp, port_tree_cmp, port_eq, empty_net}
-use Rattle.mst_net.specs.After.{has_bridge, has_port, has_lan, mac_taken, is_plugged, is_of_bridge, is_in_lan, some_port, all_vids, table_of, first_of, refusals, refusal_of, effect, after, new_bridge, new_port, new_lan, in_lan, with_kind, with_power, with_system_priority, with_configuration, with_max_hops, with_max_age, with_state, with_speed, with_key, with_external, change, change_bridge, change_port, change_lan, keep, own_priority, own_table, own_vlans}
+use Rattle.mst_net.specs.After.{has_bridge, has_port, has_lan, mac_taken, is_plugged, is_of_bridge, is_in_lan, some_port, all_vids, table_of, refusal_of, effect, after, new_bridge, new_port, new_lan, in_lan, with_kind, with_power, with_system_priority, with_configuration, with_max_hops, with_max_age, with_state, with_speed, with_key, with_external, change, change_bridge, change_port, change_lan, keep, own_priority, own_table, own_vlans}
 use Rattle.mst_net.specs.declared.refusal.Refusal.{Refusal}
 use Rattle.mst_net.specs.declared.refusal.Refusal.TheVariants.{E04, E05, E06}
 use Rattle.mst_net.proofs.KeptLemmas.{some_is, no_some}
-use Rattle.mst_net.proofs.Keyed.{after_insert, after_keep, still_there, len_added, len_set, any_value}
+use Rattle.mst_net.proofs.Keyed.{after_insert, after_keep, still_there, len_added, any_value}
 use Rattle.mst_net.proofs.Changed.{changed_from, contains_changed, len_changed, left_of, other_left, len_removed, left_without}
 use Rattle.mst_net.proofs.Counting.{none_counted}
 use Rattle.mst_net.proofs.TableFits.{mapped_fits, no_table_fits}

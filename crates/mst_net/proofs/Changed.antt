@@ -1,10 +1,10 @@
 -- Tables of which one entry is changed or taken away.
-use Rattle.std.proofs.Common.{◌≡◌, ◌≤◌, ◌-◌, ℕ, Bool, true, false, not, cond, ◌||◌, ◌&&◌, List, [], ◌∷◌, Option, Some, None, is_some, refl, sym, ap, subst, ◌∙◌, arith, true≢false}
-use Rattle.std.specs.Prelude.{T, if◌then◌else◌}
+use Rattle.std.proofs.Common.{◌≡◌, ◌≤◌, ◌-◌, Bool, true, false, not, cond, ◌||◌, ◌&&◌, List, [], ◌∷◌, Option, Some, None, is_some, refl, sym, ap, subst, ◌∙◌, arith, true≢false}
+use Rattle.std.specs.Prelude.{T}
 use Rattle.std.specs.Option.{option_map, option_map_or}
 use Rattle.std.specs.List.{list_any}
 use Rattle.std.specs.FinMap as fin
-use Rattle.std.specs.FinMap.{FinMap, find, is_sorted, get-entries, get-retain_keys, entries, entries_sorted, same_map, len-remove}
+use Rattle.std.specs.FinMap.{FinMap, find, is_sorted, get-entries, get-retain_keys, entries, entries_sorted, len-remove}
 use Rattle.std.specs.FinMap.Entries.{below_all}
 use Rattle.std.specs.Ordering.{eq_by_cmp, is_eq, is_lt, ordering_reverse}
 use Rattle.std.specs.Cmp.{tied_itself}
@@ -13,7 +13,7 @@ use Rattle.std.specs.declared.cmp.Ordering.TheVariants.{Less, Equal, Greater}
 use Rattle.std.specs.Map.{values_of}
 use Rattle.mst_net.specs.After.{change}
 use Rattle.mst_net.proofs.KeptLemmas.{some_is, no_some}
-use Rattle.mst_net.proofs.Keyed.{IsKeyed, same_keys, flipped, get_inserted, get_removed, len_set, any_set}
+use Rattle.mst_net.proofs.Keyed.{IsKeyed, same_keys, get_inserted, get_removed, len_set, any_set}
 
 mapped_some : {X : Type 0} (f : X → X) (o : Option X) (x : X) → option_map f o ≡ Some x → (y : X) × (o ≡ Some y) × (f y ≡ x)
 mapped_some f None x h = absurd (no_some x h)
@@ -23,12 +23,12 @@ mapped_is : {X : Type 0} (f : X → X) (o : Option X) → is_some (option_map f 
 mapped_is f None = refl
 mapped_is f (Some y) = refl
 
-both_hold : (a b : Bool) → T (a && b) → T a × T b
+pub both_hold : (a b : Bool) → T (a && b) → T a × T b
 both_hold true true h = (tt, tt)
 both_hold true false h = absurd h
 both_hold false b h = absurd h
 
-is_less : (o : Ordering) → T (is_lt o) → o ≡ Less
+pub is_less : (o : Ordering) → T (is_lt o) → o ≡ Less
 is_less Less h = refl
 is_less Equal h = absurd h
 is_less Greater h = absurd h

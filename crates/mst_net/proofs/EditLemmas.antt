@@ -1,35 +1,35 @@
 -- What changes of the kept tables make of the network.
-use Rattle.std.proofs.Common.{◌≡◌, ◌+◌, ◌-◌, ℕ, ◌<◌, ◌≤◌, ◌^◌, Bool, true, false, cond, ◌||◌, ◌⊎◌, inl, inr, List, Option, Some, None, is_some, nat_eq, IsSome, refl, sym, ap, subst, ◌∙◌, arith, true≢false}
-use Rattle.std.specs.Prelude.{not, IsTrue, nat_le, ◌&&◌}
+use Rattle.std.proofs.Common.{◌≡◌, ◌+◌, ◌-◌, ℕ, ◌<◌, ◌≤◌, ◌^◌, Bool, true, false, cond, ◌||◌, inl, inr, List, Option, Some, None, is_some, nat_eq, IsSome, refl, sym, ap, subst, ◌∙◌, arith, true≢false}
+use Rattle.std.specs.Prelude.{IsTrue}
 use Rattle.std.specs.Option.{option_map_or, ForSome}
 use Rattle.std.specs.List.{list_any}
 use Rattle.std.specs.FinMap as fin
-use Rattle.std.specs.FinMap.{FinMap, same_map}
+use Rattle.std.specs.FinMap.{FinMap}
 use Rattle.std.specs.HashSet as set
-use Rattle.std.proofs.lemmas.Bool.{le-leb}
 use Rattle.std.specs.Cmp.{unsigned_Decides, both_ways}
-use Rattle.std.specs.declared.cmp.Ordering.{Ordering}
 use Rattle.std.specs.Map.{lookup}
-use Rattle.mst_ids.specs.Names.{name_cmp, port_cmp}
+use Rattle.mst_ids.specs.Names.{name_cmp}
 use Rattle.mst_ids.specs.Texts.{is_conf_name}
 use Rattle.mst_ids.specs.declared.name.PortName.{PortName}
 use Rattle.mst_lang.specs.declared.line.Edit.{Edit}
 use Rattle.mst_lang.specs.declared.line.Edit.TheVariants.{AddBridge, DelBridge, AddPort, DelPort, AddLan, DelLan, Plug, Unplug}
-use Rattle.mst_net.specs.Tables.{Net, IsNetwork, IsLimit, IsPathCost, BridgeRow, PortRow, LanRow, BridgeTree, PortTree, port_eq, bridge_tree_eq, port_tree_eq}
-use Rattle.mst_net.specs.After.{has_bridge, mac_taken, is_plugged, is_of_bridge, is_in_lan, effect, new_bridge, new_port, new_lan, in_lan, change, keep}
-use Rattle.mst_net.specs.Contents.{CanCommit, Makes, numbers_after}
+use Rattle.mst_net.specs.Tables.{Net, IsNetwork, IsLimit, IsPathCost, BridgeRow, PortRow, LanRow, port_eq}
+use Rattle.mst_net.specs.After.{mac_taken, is_of_bridge, is_in_lan, effect, new_bridge, new_port, new_lan, in_lan, change}
+use Rattle.mst_net.specs.Contents.{CanCommit, Makes}
 use Rattle.mst_net.specs.Counting.{count_where}
 use Rattle.mst_net.specs.Rows.{IsNumberedBy}
-use Rattle.mst_net.specs.SetByTree.{in_trees_of_bridge, in_trees_of_port}
+use Rattle.mst_net.specs.ByTree.{with_by_tree}
+use Rattle.mst_net.specs.SettingsAfter.{set_after, IsSetByTree}
 use Rattle.mst_net.specs.Tally.{count_in}
 use Rattle.mst_net.specs.NetworkKept.{contents_of, IsSound}
 use Rattle.mst_net.specs.declared.network.Network.TheInside.{Inside}
-use Rattle.mst_net.proofs.KeptLemmas.{some_is, no_some}
-use Rattle.mst_net.proofs.Keyed.{IsKeyed, same_keys, flipped, get_keyed, contains_keyed, get_inserted, set_keyed, removed_keyed, keep_keyed, any_added, any_set, any_value}
-use Rattle.mst_net.proofs.Keys.{name_eq, names, ports, bridge_trees, port_trees}
-use Rattle.mst_net.proofs.Changed.{itself, changed_is, any_changed, get_without, left_of, other_left, value_found}
+use Rattle.mst_net.proofs.KeptLemmas.{some_is}
+use Rattle.mst_net.proofs.Keyed.{same_keys, flipped, contains_keyed, set_keyed, removed_keyed, any_added, any_set, any_value}
+use Rattle.mst_net.proofs.Keys.{name_eq, names, ports}
+use Rattle.mst_net.proofs.Changed.{itself, changed_is, any_changed, left_of, other_left, value_found}
+use Rattle.mst_net.proofs.SettingsLemmas.{set_alone, not_renumbered}
 use Rattle.mst_net.proofs.Counting.{count_added, count_removed, count_set, count_le}
-use Rattle.mst_net.proofs.AfterLemmas.{Kept, PortKept, bridge_changed, port_changed, lan_changed, effect_is_network, bridge_addable, bridge_deletable, port_addable, port_deletable, port_pluggable, port_unpluggable, lan_addable, lan_deletable}
+use Rattle.mst_net.proofs.AfterLemmas.{bridge_changed, port_changed, lan_changed, effect_is_network, bridge_addable, bridge_deletable, port_addable, port_deletable, port_pluggable, lan_addable, lan_deletable}
 
 pub absent : {X : Type 0} (o : Option X) → is_some o ≡ false → o ≡ None
 absent None e = refl
@@ -72,7 +72,7 @@ module _ (a b : Inside) (s : IsSound a) (network : IsNetwork (contents_of b).net
   }
 
   -- where the bridges and their MACs alone were written
-  pub sound_with_bridges : record b { bridges = a.bridges; macs = a.macs; priorities = a.priorities; tables = a.tables } ≡ a → IsNumberedBy name_eq b.bridges → HasMacs b → IsSound b
+  pub sound_with_bridges : record b { bridges = a.bridges; macs = a.macs; settings = a.settings } ≡ a → IsNumberedBy name_eq b.bridges → HasMacs b → IsSound b
   sound_with_bridges others rows macs = sound_by
       (record { bridges = rows; ports = subst (λ (x : Inside). IsNumberedBy port_eq x.ports) (sym others) s.ports; lans = subst (λ (x : Inside). IsNumberedBy name_eq x.lans) (sym others) s.lans })
       macs (subst CountsPorts (sym others) s.port_counts) (subst CountsPlugs (sym others) s.plug_counts)
@@ -84,14 +84,14 @@ module _ (a b : Inside) (s : IsSound a) (network : IsNetwork (contents_of b).net
       (subst HasMacs (sym others) s.macs) (subst CountsPorts (sym others) s.port_counts) (subst CountsPlugs (sym others) s.plug_counts)
 
   -- the ports and their counts alone
-  pub sound_with_ports : record b { ports = a.ports; port_counts = a.port_counts; plug_counts = a.plug_counts; port_priorities = a.port_priorities; port_costs = a.port_costs; vlans = a.vlans } ≡ a → IsNumberedBy port_eq b.ports
+  pub sound_with_ports : record b { ports = a.ports; port_counts = a.port_counts; plug_counts = a.plug_counts; settings = a.settings } ≡ a → IsNumberedBy port_eq b.ports
       → CountsPorts b → CountsPlugs b → IsSound b
   sound_with_ports others rows of_bridges of_lans = sound_by
       (record { bridges = subst (λ (x : Inside). IsNumberedBy name_eq x.bridges) (sym others) s.bridges; ports = rows; lans = subst (λ (x : Inside). IsNumberedBy name_eq x.lans) (sym others) s.lans })
       (subst HasMacs (sym others) s.macs) of_bridges of_lans
 
   -- settings by tree or VID alone
-  pub sound_with_settings : record b { priorities = a.priorities; port_priorities = a.port_priorities; port_costs = a.port_costs; tables = a.tables; vlans = a.vlans } ≡ a → IsSound b
+  pub sound_with_settings : record b { settings = a.settings } ≡ a → IsSound b
   sound_with_settings others = sound_by
       (record {
         bridges = subst (λ (x : Inside). IsNumberedBy name_eq x.bridges) (sym others) s.bridges;
@@ -263,19 +263,6 @@ module _ (a : Inside) (s : IsSound a) where
       at_least true m n h e = omega arith
       at_least false m n h e = absurd (true≢false (sym h))
 
--- ---- what is left of settings by tree, of which all trees are forgotten
-pub forgotten : {K X : Type 0} {E : K → K → Bool} {R : K → K → Ordering} (keyed : IsKeyed E R) (es fs : List (K × X)) (gone small : K → Bool)
-    → ((q : K) → lookup (E q) fs ≡ cond (gone q && small q) None (lookup (E q) es)) → ((q : K) (x : X) → lookup (E q) es ≡ Some x → small q ≡ true)
-    → fin.from_entries {R = R} fs ≡ fin.retain_keys (fin.from_entries es) (λ k. not (gone k))
-forgotten {X = X} {E = E} keyed es fs gone small left fit = same_map keyed.total keyed.same _ _ (λ q.
-    get_keyed keyed fs q ∙ left q ∙ by (gone q) (small q) (lookup (E q) es) (fit q) ∙ ap (cond (gone q) None) (sym (get_keyed keyed es q)) ∙ sym (get_without keyed (fin.from_entries es) gone q))
-  where
-    by : (t u : Bool) (o : Option X) → ((x : X) → o ≡ Some x → u ≡ true) → cond (t && u) None o ≡ cond t None o
-    by true true o h = refl
-    by true false None h = refl
-    by true false (Some x) h = absurd (true≢false (sym (h x refl)))
-    by false u o h = refl
-
 -- ---- written records
 module _ (a b : Inside) where
   abbrev old_net : Net
@@ -301,7 +288,7 @@ module _ (a b : Inside) where
       let network : IsNetwork (record old_net { bridges = change old_net.bridges bridge (λ _. new) }) =
       bridge_changed old_net s.network bridge (λ _. new) (λ row at. record { mac = sym mac ∙ ap (λ (r : BridgeRow). r.mac) (some_is old row (sym there ∙ at)); name = λ _. name; limits = λ _. limits }) in
       let net = net_with_bridges others bridge new rows in
-      sound_with_bridges a b s (subst IsNetwork (ap (λ m. record old_net { bridges = m }) is ∙ sym net) network) (λ i. record (others i) { bridges = a.bridges; macs = a.macs; priorities = a.priorities; tables = a.tables }) numbers
+      sound_with_bridges a b s (subst IsNetwork (ap (λ m. record old_net { bridges = m }) is ∙ sym net) network) (λ i. record (others i) { bridges = a.bridges; macs = a.macs; settings = a.settings }) numbers
       (λ q. ap (λ (x : Inside). set.contains nat_eq x.macs q) others ∙ mac_same old new there mac q ∙ ap (λ (n : Net). mac_taken q n) (sym net))
     where
       mac_same : (old new : BridgeRow) → fin.get old_net.bridges bridge ≡ Some old → old.mac ≡ new.mac → (q : ℕ) → set.contains nat_eq a.macs q ≡ mac_taken q (record old_net { bridges = fin.insert old_net.bridges bridge new })
@@ -324,7 +311,7 @@ module _ (a b : Inside) where
       port_changed old_net s.network port (λ _. new) (λ row at. record { lan = λ l e. inl (ap (λ (r : PortRow). r.lan) (some_is row old (sym at ∙ there)) ∙ lan ∙ e); cost = λ c e. inr (cost c e) }) in
       let table : fin.from_entries b.ports.rows ≡ fin.insert old_net.ports port new = set_keyed ports a.ports.rows b.ports.rows port new rows in
       sound_with_ports a b s (subst IsNetwork (ap (λ m. record old_net { ports = m }) is ∙ sym (net_with_ports others port new rows)) network)
-      (λ i. record (others i) { ports = a.ports; port_counts = a.port_counts; plug_counts = a.plug_counts; port_priorities = a.port_priorities; port_costs = a.port_costs; vlans = a.vlans }) numbers
+      (λ i. record (others i) { ports = a.ports; port_counts = a.port_counts; plug_counts = a.plug_counts; settings = a.settings }) numbers
       (λ q. ap (λ (x : Inside). count_in name_eq x.port_counts q) others ∙ of_bridge_kept a s port new old there q ∙ ap (count_where (is_of_bridge q)) (sym table))
       (λ q. ap (λ (x : Inside). count_in name_eq x.plug_counts q) others ∙ in_lan_kept a s port new old there (sym lan) q ∙ ap (count_where (is_in_lan q)) (sym table))
 
@@ -354,7 +341,7 @@ module _ (a b : Inside) where
 
       pub bridge_sound : IsSound a → IsNumberedBy name_eq b.bridges → ((q : ℕ) → set.contains nat_eq b.macs q ≡ cond (nat_eq mac q) true (set.contains nat_eq a.macs q)) → IsSound b
       bridge_sound s numbers macs =
-          sound_with_bridges a b s (made_network a b s (AddBridge bridge mac) can net_added) (λ i. record (others i) { priorities = a.priorities; tables = a.tables }) numbers
+          sound_with_bridges a b s (made_network a b s (AddBridge bridge mac) can net_added) (λ i. record (others i) { settings = a.settings }) numbers
           (λ q. macs q ∙ mac_added a s bridge mac (bridge_addable before bridge mac can.accepted).0 q ∙ ap (λ (n : Net). mac_taken q n) (sym net_added))
 
   -- a bridge that is taken away
@@ -362,17 +349,11 @@ module _ (a b : Inside) where
     pub present_bridge : IsSome (lookup (name_eq bridge) a.bridges.rows)
     present_bridge = sym (contains_keyed names a.bridges.rows bridge) ∙ (bridge_deletable before bridge can.accepted).0
 
-    module _ (s : IsSound a) (others : record b { bridges = a.bridges; macs = a.macs; priorities = a.priorities; tables = a.tables } ≡ a)
+    module _ (s : IsSound a) (others : record b { bridges = a.bridges; macs = a.macs; settings = a.settings } ≡ a)
         (rows : (q : List ℕ) → lookup (name_eq q) b.bridges.rows ≡ cond (name_eq bridge q) None (lookup (name_eq q) a.bridges.rows))
-        (priorities : (q : BridgeTree) → lookup (bridge_tree_eq q) b.priorities.entries ≡ cond (in_trees_of_bridge bridge q) None (lookup (bridge_tree_eq q) a.priorities.entries))
-        (tables : (q : List ℕ) → lookup (name_eq q) b.tables.entries ≡ cond (name_eq bridge q) None (lookup (name_eq q) a.tables.entries)) where
+        (forgets : b.settings.set ≡ set_after (DelBridge bridge) a.settings.set) where
       net_left : (contents_of b).net ≡ effect (DelBridge bridge) before
-      net_left i = record (contents_of (others i)).net {
-        bridges = removed_keyed names a.bridges.rows b.bridges.rows bridge rows i;
-        priorities = forgotten bridge_trees a.priorities.entries b.priorities.entries (λ k. name_eq bridge k.bridge) (λ k. nat_le k.tree 4094) priorities
-            (λ q x there. le-leb q.tree 4094 (s.network.priorities q x (get_keyed bridge_trees a.priorities.entries q ∙ there)).1) i;
-        tables = removed_keyed names a.tables.entries b.tables.entries bridge tables i;
-      }
+      net_left i = record (with_by_tree (contents_of (others i)).net (forgets i)) { bridges = removed_keyed names a.bridges.rows b.bridges.rows bridge rows i }
 
       pub bridge_unmade : ((q : List ℕ) → lookup (name_eq q) b.bridges.numbers ≡ cond (name_eq bridge q) None (lookup (name_eq q) a.bridges.numbers)) → Makes (DelBridge bridge) (contents_of a) (contents_of b)
       bridge_unmade numbers = record {
@@ -408,7 +389,7 @@ module _ (a b : Inside) where
       port_sound s numbers counts =
           let free = (port_addable before port can.accepted).1 in
           sound_with_ports a b s (made_network a b s (AddPort port) can port_net_added)
-          (λ i. record (others i) { plug_counts = a.plug_counts; port_priorities = a.port_priorities; port_costs = a.port_costs; vlans = a.vlans }) numbers
+          (λ i. record (others i) { plug_counts = a.plug_counts; settings = a.settings }) numbers
           (λ q. counts q ∙ port_counted a s port free q ∙ ap (count_where (is_of_bridge q)) (sym port_table_added))
           (λ q. ap (λ (x : Inside). count_in name_eq x.plug_counts q) others ∙ new_port_in_none a s port free q ∙ ap (count_where (is_in_lan q)) (sym port_table_added))
 
@@ -426,23 +407,14 @@ module _ (a b : Inside) where
     pub port_counted_once : IsSound a → 1 ≤ count_in name_eq a.port_counts port.bridge
     port_counted_once s = one_of_bridge a s port gone_row.0 gone_row.1
 
-    module _ (s : IsSound a) (others : record b { ports = a.ports; port_counts = a.port_counts; port_priorities = a.port_priorities; port_costs = a.port_costs; vlans = a.vlans } ≡ a)
+    module _ (s : IsSound a) (others : record b { ports = a.ports; port_counts = a.port_counts; settings = a.settings } ≡ a)
         (rows : (q : PortName) → lookup (port_eq q) b.ports.rows ≡ cond (port_eq port q) None (lookup (port_eq q) a.ports.rows))
-        (priorities : (q : PortTree) → lookup (port_tree_eq q) b.port_priorities.entries ≡ cond (in_trees_of_port port q) None (lookup (port_tree_eq q) a.port_priorities.entries))
-        (costs : (q : PortTree) → lookup (port_tree_eq q) b.port_costs.entries ≡ cond (in_trees_of_port port q) None (lookup (port_tree_eq q) a.port_costs.entries))
-        (vlans : (q : PortName) → lookup (port_eq q) b.vlans.entries ≡ cond (port_eq port q) None (lookup (port_eq q) a.vlans.entries)) where
+        (forgets : b.settings.set ≡ set_after (DelPort port) a.settings.set) where
       port_table_left : fin.from_entries b.ports.rows ≡ fin.remove before.ports port
       port_table_left = removed_keyed ports a.ports.rows b.ports.rows port rows
 
       port_net_left : (contents_of b).net ≡ effect (DelPort port) before
-      port_net_left i = record (contents_of (others i)).net {
-        ports = port_table_left i;
-        port_priorities = forgotten port_trees a.port_priorities.entries b.port_priorities.entries (λ k. port_eq port k.port) (λ k. nat_le k.tree 4094) priorities
-            (λ q x there. le-leb q.tree 4094 (s.network.port_priorities q x (get_keyed port_trees a.port_priorities.entries q ∙ there)).1) i;
-        port_costs = forgotten port_trees a.port_costs.entries b.port_costs.entries (λ k. port_eq port k.port) (λ k. nat_le k.tree 4094) costs
-            (λ q x there. le-leb q.tree 4094 (s.network.port_costs q x (get_keyed port_trees a.port_costs.entries q ∙ there)).1) i;
-        vlans = removed_keyed ports a.vlans.entries b.vlans.entries port vlans i;
-      }
+      port_net_left i = record (with_by_tree (contents_of (others i)).net (forgets i)) { ports = port_table_left i }
 
       pub port_unmade : ((q : PortName) → lookup (port_eq q) b.ports.numbers ≡ cond (port_eq port q) None (lookup (port_eq q) a.ports.numbers)) → Makes (DelPort port) (contents_of a) (contents_of b)
       port_unmade numbers = record {
@@ -464,7 +436,7 @@ module _ (a b : Inside) where
 
     plug_sound : IsSound a → IsNetwork (contents_of b).net → IsNumberedBy port_eq b.ports → ((q : List ℕ) → count_in name_eq b.plug_counts q ≡ count_where (is_in_lan q) (fin.insert before.ports port new)) → IsSound b
     plug_sound s network numbers counts =
-        sound_with_ports a b s network (λ i. record (others i) { port_counts = a.port_counts; port_priorities = a.port_priorities; port_costs = a.port_costs; vlans = a.vlans }) numbers
+        sound_with_ports a b s network (λ i. record (others i) { port_counts = a.port_counts; settings = a.settings }) numbers
         (λ q. ap (λ (x : Inside). count_in name_eq x.port_counts q) others ∙ of_bridge_kept a s port new old there q ∙ ap (count_where (is_of_bridge q)) (sym plug_table))
         (λ q. counts q ∙ ap (count_where (is_in_lan q)) (sym plug_table))
 
@@ -525,42 +497,13 @@ module _ (a b : Inside) where
       pub lan_left_sound : IsSound a → IsNumberedBy name_eq b.lans → IsSound b
       lan_left_sound s numbers = sound_with_lans a b s (made_network a b s (DelLan lan) can lan_net_left) others numbers
 
-  -- a value that is kept under a key, or none
-  pub kept_priorities : record b { priorities = a.priorities } ≡ a → (k : BridgeTree) (given kept : Option (ℕ)) → given ≡ kept → ((q : BridgeTree) → lookup (bridge_tree_eq q) b.priorities.entries ≡ cond (bridge_tree_eq k q) given (lookup (bridge_tree_eq q) a.priorities.entries))
-      → (contents_of b).net ≡ record before { priorities = keep before.priorities k kept }
-  kept_priorities others k given kept is entries =
-      let table = keep_keyed bridge_trees a.priorities.entries b.priorities.entries k given entries ∙ ap (keep before.priorities k) is in
-      λ i. record (contents_of (others i)).net { priorities = table i }
-
-  pub kept_port_priorities : record b { port_priorities = a.port_priorities } ≡ a → (k : PortTree) (given kept : Option (ℕ)) → given ≡ kept → ((q : PortTree) → lookup (port_tree_eq q) b.port_priorities.entries ≡ cond (port_tree_eq k q) given (lookup (port_tree_eq q) a.port_priorities.entries))
-      → (contents_of b).net ≡ record before { port_priorities = keep before.port_priorities k kept }
-  kept_port_priorities others k given kept is entries =
-      let table = keep_keyed port_trees a.port_priorities.entries b.port_priorities.entries k given entries ∙ ap (keep before.port_priorities k) is in
-      λ i. record (contents_of (others i)).net { port_priorities = table i }
-
-  pub kept_port_costs : record b { port_costs = a.port_costs } ≡ a → (k : PortTree) (given kept : Option (ℕ)) → given ≡ kept → ((q : PortTree) → lookup (port_tree_eq q) b.port_costs.entries ≡ cond (port_tree_eq k q) given (lookup (port_tree_eq q) a.port_costs.entries))
-      → (contents_of b).net ≡ record before { port_costs = keep before.port_costs k kept }
-  kept_port_costs others k given kept is entries =
-      let table = keep_keyed port_trees a.port_costs.entries b.port_costs.entries k given entries ∙ ap (keep before.port_costs k) is in
-      λ i. record (contents_of (others i)).net { port_costs = table i }
-
-  pub kept_tables : record b { tables = a.tables } ≡ a → (k : List ℕ) (given kept : Option (List ℕ)) → given ≡ kept → ((q : List ℕ) → lookup (name_eq q) b.tables.entries ≡ cond (name_eq k q) given (lookup (name_eq q) a.tables.entries))
-      → (contents_of b).net ≡ record before { tables = keep before.tables k kept }
-  kept_tables others k given kept is entries =
-      let table = keep_keyed names a.tables.entries b.tables.entries k given entries ∙ ap (keep before.tables k) is in
-      λ i. record (contents_of (others i)).net { tables = table i }
-
-  pub kept_vlans : record b { vlans = a.vlans } ≡ a → (k : PortName) (given kept : Option (List Bool)) → given ≡ kept → ((q : PortName) → lookup (port_eq q) b.vlans.entries ≡ cond (port_eq k q) given (lookup (port_eq q) a.vlans.entries))
-      → (contents_of b).net ≡ record before { vlans = keep before.vlans k kept }
-  kept_vlans others k given kept is entries =
-      let table = keep_keyed ports a.vlans.entries b.vlans.entries k given entries ∙ ap (keep before.vlans k) is in
-      λ i. record (contents_of (others i)).net { vlans = table i }
-
   -- what is set by tree or VID
-  module _ (edit : Edit) (can : CanCommit edit (contents_of a)) (others : record b { priorities = a.priorities; port_priorities = a.port_priorities; port_costs = a.port_costs; tables = a.tables; vlans = a.vlans } ≡ a)
-      (net : (contents_of b).net ≡ effect edit before) where
-    pub setting_made : numbers_after edit (contents_of a).next (contents_of a).numbers ≡ (contents_of a).numbers → Makes edit (contents_of a) (contents_of b)
-    setting_made none = record { net = net; numbers = (λ i. (contents_of (others i)).numbers) ∙ sym none }
+  module _ (edit : Edit) (is : IsSetByTree edit) (can : CanCommit edit (contents_of a)) (others : record b { settings = a.settings } ≡ a) (sets : b.settings.set ≡ set_after edit a.settings.set) where
+    net_set : (contents_of b).net ≡ effect edit before
+    net_set = (λ i. with_by_tree (contents_of (others i)).net (sets i)) ∙ set_alone edit is before
+
+    pub setting_made : Makes edit (contents_of a) (contents_of b)
+    setting_made = record { net = net_set; numbers = (λ i. (contents_of (others i)).numbers) ∙ sym (not_renumbered edit is (contents_of a).next (contents_of a).numbers) }
 
     pub setting_sound : IsSound a → IsSound b
-    setting_sound s = sound_with_settings a b s (made_network a b s edit can net) others
+    setting_sound s = sound_with_settings a b s (made_network a b s edit can net_set) others

@@ -9,6 +9,9 @@ pub mod SetByTree
 pub mod AfterLemmas
 pub mod StandingLemmas
 pub mod SoundLemmas
+pub mod SettingsLemmas
 pub mod EditLemmas
 pub mod ForeseenLemmas
 pub mod NamesInOrder
+pub mod NumbersAfter
+pub mod NamesAfter

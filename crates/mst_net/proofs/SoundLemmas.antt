@@ -10,6 +10,7 @@ use Rattle.mst_net.specs.After.{mac_taken, is_of_bridge, is_in_lan}
 use Rattle.mst_net.specs.Contents.{IsNumbered}
 use Rattle.mst_net.specs.Counting.{count_where}
 use Rattle.mst_net.specs.Rows.{IsNumberedBy}
+use Rattle.mst_net.specs.ByTree.{nothing_set}
 use Rattle.mst_net.specs.Tally.{count_in}
 use Rattle.mst_net.proofs.Counting.{count_empty}
 use Rattle.mst_net.specs.NetworkKept.{contents_of, IsSound}
@@ -28,18 +29,18 @@ none_taken mac =
     ap (λ l. list_any (λ (b : BridgeRow). nat_eq b.mac mac) (values_of l)) (no_length (entries none) (sym (len-entries none) ∙ len-empty name_cmp BridgeRow))
 
 pub empty_sound : (a : Inside) → a.bridges.rows ≡ [] → a.ports.rows ≡ [] → a.lans.rows ≡ [] → a.macs.keys ≡ [] → ((q : List ℕ) → count_in name_eq a.port_counts q ≡ 0) → ((q : List ℕ) → count_in name_eq a.plug_counts q ≡ 0)
-    → a.priorities.entries ≡ [] → a.port_priorities.entries ≡ [] → a.port_costs.entries ≡ [] → a.tables.entries ≡ [] → a.vlans.entries ≡ []
+    → a.settings.set ≡ nothing_set
     → IsNumberedBy name_eq a.bridges → IsNumberedBy port_eq a.ports → IsNumberedBy name_eq a.lans → IsSound a
-empty_sound a no_bridges no_ports no_lans macs port_counts plug_counts priorities port_priorities port_costs tables vlans x y z =
+empty_sound a no_bridges no_ports no_lans macs port_counts plug_counts settings x y z =
     let net : empty_net ≡ (contents_of a).net = λ i. record {
       bridges = fin.from_entries (sym no_bridges i);
       ports = fin.from_entries (sym no_ports i);
       lans = fin.from_entries (sym no_lans i);
-      priorities = fin.from_entries (sym priorities i);
-      port_priorities = fin.from_entries (sym port_priorities i);
-      port_costs = fin.from_entries (sym port_costs i);
-      tables = fin.from_entries (sym tables i);
-      vlans = fin.from_entries (sym vlans i);
+      priorities = (sym settings i).priorities;
+      port_priorities = (sym settings i).port_priorities;
+      port_costs = (sym settings i).port_costs;
+      tables = (sym settings i).tables;
+      vlans = (sym settings i).vlans;
     } in
     record {
       network = subst IsNetwork net no_network;

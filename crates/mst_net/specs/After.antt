@@ -1,7 +1,7 @@
 -- What refuses an edit, and what an edit that isn't refused makes of a network.
 use Rattle.std.specs.Prelude.{ℕ, ◌==◌, Bool, true, false, not, List, [], ◌∷◌, Option, is_some, if◌then◌else◌, nat_le, nat_lt, nat_eq, Result, Ok, Err, None, Some}
 use Rattle.std.specs.List.{list_any, list_all}
-use Rattle.std.specs.Option.{option_map_or, unwrap_or}
+use Rattle.std.specs.Option.{option_map_or}
 use Rattle.std.specs.Bool.{beq}
 use Rattle.std.specs.Cmp.Lexicographic.{pointwise}
 use Rattle.std.specs.FinMap as fin
@@ -19,7 +19,8 @@ use Rattle.mst_lang.specs.declared.line.LanState.{LanState}
 use Rattle.mst_lang.specs.declared.line.LanState.TheVariants.{Up, Down}
 use Rattle.mst_net.specs.declared.refusal.Refusal.{Refusal}
 use Rattle.mst_net.specs.declared.refusal.Refusal.TheVariants.{E04, E05, E06, E07, E08, E09, E10, E11, E12, E13, E14, E15}
-use Rattle.mst_net.specs.Table.{no_table, mapped, tree_count}
+use Rattle.mst_net.specs.Table.{mapped, tree_count}
+use Rattle.mst_net.specs.ByTree.{table_in, vlans_in}
 use Rattle.mst_net.specs.Tables.{Net, BridgeRow, PortRow, LanRow, port_eq}
 
 -- ---- what is asked of a network
@@ -56,10 +57,10 @@ abbrev pub all_vids : List Bool
 all_vids = set_where is_vid
 
 abbrev pub table_of : Net → List ℕ → List ℕ
-table_of net bridge = unwrap_or (fin.get net.tables bridge) no_table
+table_of net bridge = table_in net.tables bridge
 
 abbrev pub vlans_of : Net → PortName → List Bool
-vlans_of net port = unwrap_or (fin.get net.vlans port) all_vids
+vlans_of net port = vlans_in net.vlans port
 
 -- ---- what refuses an edit
 -- the refusal of the first test that holds

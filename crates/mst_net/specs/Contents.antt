@@ -1,6 +1,5 @@
 -- What is seen of a network and of its records.
-use Rattle.std.specs.Prelude.{◌≡◌, ℕ, ◌<◌, Bool, List, Some, None, Ok, Option, refl}
-use Rattle.std.specs.Option.{unwrap_or}
+use Rattle.std.specs.Prelude.{◌≡◌, ℕ, ◌<◌, List, Some, None, Ok, Option, refl}
 use Rattle.std.specs.FinMap as fin
 use Rattle.std.specs.Coded.{Coded, code_by, coded×, coded_ℕ, coded_bool, coded_list}
 use Rattle.mst_ids.specs.Names.{coded_port}
@@ -9,6 +8,7 @@ use Rattle.mst_lang.specs.Ranges.{InRange}
 use Rattle.mst_lang.specs.declared.line.Edit.{Edit}
 use Rattle.mst_lang.specs.declared.line.Edit.TheVariants.{AddBridge, DelBridge, AddPort, DelPort, AddLan, DelLan, Plug, SetTreePriority, SetTreePortPriority, SetTreePortCost, MapVids, SetPortVlans}
 use Rattle.mst_net.specs.Tables.{Net, Numbers, bridge_row_code, port_row_code, lan_row_code, bridge_tree_code, port_tree_code}
+use Rattle.mst_net.specs.ByTree.{priority_in, port_priority_in, port_cost_in}
 use Rattle.mst_net.specs.After.{after, effect, refusal_of}
 
 -- a number for each kind of record
@@ -105,15 +105,15 @@ ahead_of c edit = record { net = effect edit c.net; numbers = numbers_after edit
 
 -- the priority of a bridge in a tree, 8 where none is set
 abbrev pub priority_of : Net → List ℕ → ℕ → ℕ
-priority_of net bridge tree = unwrap_or (fin.get net.priorities (record { bridge = bridge; tree = tree })) 8
+priority_of net bridge tree = priority_in net.priorities bridge tree
 
 -- the priority of a port in a tree, 8 where none is set
 abbrev pub port_priority_of : Net → PortName → ℕ → ℕ
-port_priority_of net port tree = unwrap_or (fin.get net.port_priorities (record { port = port; tree = tree })) 8
+port_priority_of net port tree = port_priority_in net.port_priorities port tree
 
 -- the internal path cost of a port in a tree, none where it is automatic
 abbrev pub port_cost_of : Net → PortName → ℕ → Option ℕ
-port_cost_of net port tree = fin.get net.port_costs (record { port = port; tree = tree })
+port_cost_of net port tree = port_cost_in net.port_costs port tree
 
 -- how they are stored
 abbrev pub net_code : Coded Net

@@ -2,8 +2,10 @@ pub mod Table
 pub mod Tables
 pub mod SetByTree
 pub mod Refusals
+pub mod ByTree
 pub mod After
 pub mod Contents
+pub mod SettingsAfter
 pub mod Standing
 pub mod Rows
 pub mod Kept
@@ -11,6 +13,7 @@ pub mod Counting
 pub mod Tally
 pub mod Checks
 pub mod Settings
+pub mod SettingsKept
 pub mod NetworkKept
 pub mod Seen
 pub mod Foreseen

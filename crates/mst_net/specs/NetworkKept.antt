@@ -2,7 +2,6 @@
 use Rattle.std.specs.Prelude.{◌≡◌, ℕ, List, min, nat_eq}
 use Rattle.std.specs.FinMap as fin
 use Rattle.std.specs.Cmp.Lexicographic.{pointwise}
-use Rattle.std.specs.HashMap as hash
 use Rattle.std.specs.HashSet as set
 use Rattle.mst_net.specs.Tables.{IsNetwork, port_eq}
 use Rattle.mst_net.specs.After.{mac_taken, is_of_bridge, is_in_lan}
@@ -18,11 +17,11 @@ contents_of a = record {
     bridges = fin.from_entries a.bridges.rows;
     ports = fin.from_entries a.ports.rows;
     lans = fin.from_entries a.lans.rows;
-    priorities = fin.from_entries a.priorities.entries;
-    port_priorities = fin.from_entries a.port_priorities.entries;
-    port_costs = fin.from_entries a.port_costs.entries;
-    tables = fin.from_entries a.tables.entries;
-    vlans = fin.from_entries a.vlans.entries;
+    priorities = a.settings.set.priorities;
+    port_priorities = a.settings.set.port_priorities;
+    port_costs = a.settings.set.port_costs;
+    tables = a.settings.set.tables;
+    vlans = a.settings.set.vlans;
   };
   numbers = record {
     bridges = fin.from_entries a.bridges.numbers;
@@ -35,11 +34,11 @@ contents_of a = record {
     port = min a.ports.room a.port_counts.room;
     lan = a.lans.room;
     plug = a.plug_counts.room;
-    priority = hash.spare a.priorities;
-    port_priority = hash.spare a.port_priorities;
-    port_cost = hash.spare a.port_costs;
-    table = hash.spare a.tables;
-    vlans = hash.spare a.vlans;
+    priority = a.settings.room.priority;
+    port_priority = a.settings.room.port_priority;
+    port_cost = a.settings.room.port_cost;
+    table = a.settings.room.table;
+    vlans = a.settings.room.vlans;
   };
 }
 

@@ -5,13 +5,16 @@ ghost use Rattle.mst_net.specs.Seen.{bridge_row, port_row, lan_row};
 ghost use Rattle.mst_net.specs.Foreseen.{bridge_row_after, port_row_after, lan_row_after, bridge_number_after, port_number_after, lan_number_after, bridge_name_after, port_name_after, lan_name_after, priority_after, port_priority_after, port_cost_after, tree_after, vlans_after};
 
 use crate::contents::{Bridge, Contents, Lan, Port, seen_bridge, seen_lan, seen_port};
+use crate::names::{with_name, without_name};
 use crate::network::{Network, Ready};
 use crate::settings::{BridgeSettings, LanSettings, PortSettings};
+use crate::tree_settings::TreeSettings;
 use mst_ids::{
     BridgeNo, ConfName, Cost, LanNo, Limit, Name, PortName, PortNo, Priority, Speed, Tree, Vid,
     VidSet,
 };
 use mst_lang::{Edit, Kind, LanState, Power};
+use std::alloc::{AllocError, Global};
 use std::marker::Model;
 
 /// A network as it will be once an edit is made.
@@ -35,6 +38,15 @@ impl<'a> Model for Ahead<'a> {
 
 impl Contents for Ahead<'_> {
     ghost tables = { λ a. a };
+
+    fn known(&self) {
+        self.network.known();
+        let _next = (
+            self.network.next_bridge(),
+            self.network.next_port(),
+            self.network.next_lan(),
+        );
+    }
 
     fn bridge(&self, name: &Name) -> Option<Bridge> {
         bridge_after(
@@ -93,6 +105,33 @@ impl Contents for Ahead<'_> {
         )
     }
 
+    fn bridge_names(&self, alloc: Global) -> Result<Vec<Name>, AllocError> {
+        let names = self.network.bridge_names(alloc)?;
+        match self.ready.edit {
+            Edit::AddBridge { bridge, .. } => with_name(names, bridge),
+            Edit::DelBridge { bridge } => Ok(without_name(names, bridge)),
+            _ => Ok(names),
+        }
+    }
+
+    fn port_names(&self, alloc: Global) -> Result<Vec<PortName>, AllocError> {
+        let names = self.network.port_names(alloc)?;
+        match self.ready.edit {
+            Edit::AddPort { port } => with_name(names, port),
+            Edit::DelPort { port } => Ok(without_name(names, port)),
+            _ => Ok(names),
+        }
+    }
+
+    fn lan_names(&self, alloc: Global) -> Result<Vec<Name>, AllocError> {
+        let names = self.network.lan_names(alloc)?;
+        match self.ready.edit {
+            Edit::AddLan { lan } => with_name(names, lan),
+            Edit::DelLan { lan } => Ok(without_name(names, lan)),
+            _ => Ok(names),
+        }
+    }
+
     fn tree_priority(&self, bridge: &Name, tree: Tree) -> Priority {
         tree_priority_ahead(
             &self.ready.edit,
@@ -132,6 +171,14 @@ impl Contents for Ahead<'_> {
 
     fn port_vlans(&self, port: &PortName) -> VidSet {
         port_vlans_ahead(&self.ready.edit, port, self.network.port_vlans(port))
+    }
+
+    fn settings(&self) -> Result<TreeSettings, AllocError> {
+        self.network.known();
+        let mut settings = self.network.settings()?;
+        settings.reserve(&self.ready.edit)?;
+        settings.make(&self.ready.edit);
+        Ok(settings)
     }
 }
 

@@ -2,18 +2,14 @@ ghost use Rattle.std.specs.Prelude.{◌≡◌, ◌≤◌, IsSome, IsTrue, Some};
 ghost use Rattle.std.specs.FinMap as fin;
 ghost use Rattle.std.specs.Option.{ForSome};
 ghost use Rattle.mst_ids.specs.Texts.{is_conf_name};
-ghost use Rattle.mst_lang.specs.declared.line.Edit.TheVariants.{AddBridge, DelBridge, SetPower, SetKind, AddPort, DelPort, AddLan, DelLan, SetLanState, SetSpeed, Plug, Unplug, SetKey, SetSystemPriority, SetTreePriority, SetTreePortPriority, SetPortPathCost, SetTreePortCost, SetConfiguration, MapVids, SetMaxHops, SetMaxAge, SetPortVlans};
-ghost use Rattle.mst_net.specs.After.{own_priority as own, own_table as kept_table, own_vlans as kept_vlans};
+ghost use Rattle.mst_lang.specs.declared.line.Edit.TheVariants.{AddBridge, DelBridge, SetPower, SetKind, AddPort, DelPort, AddLan, DelLan, SetLanState, SetSpeed, Plug, Unplug, SetKey, SetSystemPriority, SetPortPathCost, SetConfiguration, SetMaxHops, SetMaxAge};
 ghost use Rattle.mst_net.specs.Contents.{CanCommit, Makes};
+ghost use Rattle.mst_net.specs.SettingsAfter.{IsSetByTree};
 ghost use Rattle.mst_net.specs.Tables.{BridgeRow, PortRow, IsLimit, IsPathCost};
 
 use crate::network::Network;
-use crate::settings::{
-    BridgeInTree, BridgeSettings, LanSettings, PortInTree, PortSettings, forget_bridge,
-    forget_port, keep,
-};
-use crate::table::Table;
-use mst_ids::{ConfName, Cost, Limit, Mac, Name, PortName, Priority, Speed, Tree, VidSet};
+use crate::settings::{BridgeSettings, LanSettings, PortSettings};
+use mst_ids::{ConfName, Cost, Limit, Mac, Name, PortName, Speed};
 use mst_lang::{Edit, Kind, LanState, Power};
 
 // What edits make of the records.
@@ -40,27 +36,19 @@ impl Network {
             Edit::SetSystemPriority { bridge, priority } => self.set_system_priority(
                 &bridge, priority,
             ),
-            Edit::SetTreePriority {
-                bridge,
-                tree,
-                priority,
-            } => self.set_tree_priority(bridge, tree, priority),
-            Edit::SetTreePortPriority {
-                port,
-                tree,
-                priority,
-            } => self.set_tree_port_priority(port, tree, priority),
+            Edit::SetTreePriority { .. } => self.set_by_tree(&edit),
+            Edit::SetTreePortPriority { .. } => self.set_by_tree(&edit),
             Edit::SetPortPathCost { port, cost } => self.set_port_path_cost(&port, cost),
-            Edit::SetTreePortCost { port, tree, cost } => self.set_tree_port_cost(port, tree, cost),
+            Edit::SetTreePortCost { .. } => self.set_by_tree(&edit),
             Edit::SetConfiguration {
                 bridge,
                 revision,
                 name,
             } => self.set_configuration(&bridge, revision, name),
-            Edit::MapVids { bridge, tree, vids } => self.map_vids(bridge, tree, &vids),
+            Edit::MapVids { .. } => self.set_by_tree(&edit),
             Edit::SetMaxHops { bridge, limit } => self.set_max_hops(&bridge, limit),
             Edit::SetMaxAge { bridge, limit } => self.set_max_age(&bridge, limit),
-            Edit::SetPortVlans { port, vids } => self.set_port_vlans(port, vids),
+            Edit::SetPortVlans { .. } => self.set_by_tree(&edit),
         }
     }
 
@@ -79,8 +67,7 @@ impl Network {
         let settings = self.bridge_settings(bridge).unwrap();
         let _ = self.macs.swap_remove(&settings.mac);
         self.bridges.remove(bridge);
-        forget_bridge(&mut self.priorities, bridge);
-        let _ = self.tables.swap_remove(bridge);
+        self.settings.forget_bridge(bridge);
     }
 
     /// Changes the settings of a bridge, but for its MAC.
@@ -169,9 +156,7 @@ impl Network {
     {
         self.ports.remove(port);
         self.port_counts.lower(&port.bridge);
-        forget_port(&mut self.port_priorities, port);
-        forget_port(&mut self.port_costs, port);
-        let _ = self.vlans.swap_remove(port);
+        self.settings.forget_port(port);
     }
 
     /// Changes the settings of a port, but for the LAN that it is in.
@@ -265,76 +250,13 @@ impl Network {
         self.set_lan(lan, LanSettings { speed, ..row });
     }
 
-    fn set_tree_priority(&mut self, bridge: Name, tree: Tree, priority: Priority)
-        requires { CanCommit (SetTreePriority bridge tree priority) self.old }
-        ensures { Makes (SetTreePriority bridge tree priority) self.old self.new }
+    /// Sets something by tree or VID.
+    fn set_by_tree(&mut self, edit: &Edit)
+        requires can { CanCommit edit.now self.old }
+        requires by_tree { IsSetByTree edit.now }
+        ensures { Makes edit.now self.old self.new }
     {
-        let key = BridgeInTree { bridge, tree };
-        keep(&mut self.priorities, key, own_priority(priority));
-    }
-
-    fn set_tree_port_priority(&mut self, port: PortName, tree: Tree, priority: Priority)
-        requires { CanCommit (SetTreePortPriority port tree priority) self.old }
-        ensures { Makes (SetTreePortPriority port tree priority) self.old self.new }
-    {
-        let key = PortInTree { port, tree };
-        keep(&mut self.port_priorities, key, own_priority(priority));
-    }
-
-    fn set_tree_port_cost(&mut self, port: PortName, tree: Tree, cost: Option<Cost>)
-        requires { CanCommit (SetTreePortCost port tree cost) self.old }
-        ensures { Makes (SetTreePortCost port tree cost) self.old self.new }
-    {
-        let key = PortInTree { port, tree };
-        keep(&mut self.port_costs, key, cost);
-    }
-
-    fn map_vids(&mut self, bridge: Name, tree: Tree, vids: &VidSet)
-        requires { CanCommit (MapVids bridge tree vids.now) self.old }
-        ensures { Makes (MapVids bridge tree vids.now) self.old self.new }
-    {
-        let table = self.table_with(&bridge, tree, vids);
-        keep(&mut self.tables, bridge, own_table(table));
-    }
-
-    fn set_port_vlans(&mut self, port: PortName, vids: VidSet)
-        requires { CanCommit (SetPortVlans port vids) self.old }
-        ensures { Makes (SetPortVlans port vids) self.old self.new }
-    {
-        keep(&mut self.vlans, port, own_vlans(vids));
-    }
-}
-
-/// What is kept of a priority: none of the default.
-fn own_priority(priority: Priority) -> Option<Priority>
-    ensures { result ≡ own priority }
-{
-    if priority.step() == Priority::DEFAULT {
-        None
-    } else {
-        Some(priority)
-    }
-}
-
-/// What is kept of a table: none with all VIDs in the CIST.
-fn own_table(table: Table) -> Option<Table>
-    ensures { result ≡ kept_table table }
-{
-    if table.is_default() {
-        None
-    } else {
-        Some(table)
-    }
-}
-
-/// What is kept of the VLANs of a port: none where it is a member of all.
-fn own_vlans(vids: VidSet) -> Option<VidSet>
-    ensures { result ≡ kept_vlans vids }
-{
-    if vids == VidSet::all() {
-        None
-    } else {
-        Some(vids)
+        self.settings.make(edit);
     }
 }
 

@@ -1,14 +1,12 @@
 ghost use Rattle.std.specs.Prelude.{◌≡◌, Err, ok_or, if◌then◌else◌};
 ghost use Rattle.std.specs.FinMap as fin;
 ghost use Rattle.mst_lang.specs.declared.line.Edit.TheVariants.{AddBridge, DelBridge, AddPort, DelPort, AddLan, DelLan, Plug, Unplug, MapVids};
-ghost use Rattle.mst_net.specs.After.{first_of, of_bridge, of_port, of_lan, refusal_of, table_of};
-ghost use Rattle.mst_net.specs.Table.{mapped};
+ghost use Rattle.mst_net.specs.After.{first_of, of_bridge, of_port, of_lan, refusal_of};
 ghost use Rattle.mst_net.specs.Checks.{answer_of};
 
 use crate::Refusal;
 use crate::network::Network;
 use crate::settings::PortSettings;
-use crate::table::Table;
 use mst_ids::{Mac, Name, PortName, Tree, VidSet};
 use mst_lang::Edit;
 
@@ -189,18 +187,10 @@ impl Network {
         ensures { result ≡ answer_of (refusal_of (MapVids bridge.now tree vids.now) self.now.net) }
     {
         self.check_bridge(bridge)?;
-        if self.table_with(bridge, tree, vids).tree_count() > TREE_LIMIT {
+        let table = self.settings.table_with(bridge, tree, vids);
+        if table.tree_count() > TREE_LIMIT {
             return Err(Refusal::E15);
         }
         Ok(())
-    }
-
-    /// The table of a bridge with these VIDs in a tree.
-    pub(crate) fn table_with(&self, bridge: &Name, tree: Tree, vids: &VidSet) -> Table
-        ensures { result ≡ mapped vids.now tree (table_of self.now.net bridge.now) }
-    {
-        let mut table = self.table(bridge);
-        table.map(vids, tree);
-        table
     }
 }

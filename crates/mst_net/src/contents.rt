@@ -1,18 +1,22 @@
-ghost use Rattle.std.specs.Prelude.{◌≡◌, List, ℕ, Some, None};
+ghost use Rattle.std.specs.Prelude.{◌≡◌, List, ℕ, Some, None, IfOk};
 ghost use Rattle.std.specs.Option.{option_map, ForSome};
 ghost use Rattle.std.specs.FinMap as fin;
-ghost use Rattle.mst_net.specs.Contents.{Tables, priority_of, port_priority_of, port_cost_of};
+ghost use Rattle.mst_net.specs.ByTree.{by_tree};
+ghost use Rattle.mst_net.specs.Tables.{IsNetwork};
+ghost use Rattle.mst_net.specs.Contents.{Tables, IsNumbered, priority_of, port_priority_of, port_cost_of};
 ghost use Rattle.mst_ids.specs.declared.name.PortName.{PortName};
 ghost use Rattle.mst_net.specs.After.{table_of, vlans_of};
 ghost use Rattle.mst_net.specs.Table.{tree_in};
 ghost use Rattle.mst_net.specs.Seen.{bridge_row, port_row, lan_row};
 
 use crate::settings::{BridgeSettings, LanSettings, PortSettings};
+use crate::tree_settings::TreeSettings;
 use mst_ids::{
     BridgeNo, ConfName, Cost, LanNo, Limit, Mac, Name, PortName, PortNo, Priority, Speed, Tree,
     Vid, VidSet,
 };
 use mst_lang::{Kind, LanState, Power};
+use std::alloc::{AllocError, Global};
 
 /// A bridge's number and settings.
 #[derive(Clone, Copy)]
@@ -50,10 +54,15 @@ pub struct Lan {
 }
 
 /// The records of a network, or of one as it will be. A look-up takes no memory, and a time that doesn't
-/// grow with the network.
+/// grow with the network. A list or a copy takes memory, and a time that grows with it.
 pub trait Contents {
     /// What is seen of it.
     ghost tables: { Self → Tables };
+
+    /// What holds of every network.
+    fn known(&self)
+        ensures network { IsNetwork (tables self.now).net }
+        ensures numbered { IsNumbered (tables self.now).net (tables self.now).numbers };
 
     /// The bridge of this name.
     fn bridge(&self, name: &Name) -> Option<Bridge>
@@ -85,6 +94,18 @@ pub trait Contents {
         ensures found { ForSome result (λ name. fin.get (tables self.now).numbers.lans name ≡ Some number) }
         ensures none { result ≡ None → (name : List ℕ) → fin.get (tables self.now).numbers.lans name ≡ Some number → ⊥ };
 
+    /// The names of the bridges, in the order of their bytes. It takes memory, as every list does.
+    fn bridge_names(&self, alloc: Global) -> Result<Vec<Name>, AllocError>
+        ensures { IfOk result (λ names. names.items ≡ fin.keys (tables self.now).net.bridges) };
+
+    /// The names of the ports, by the names of their bridges, and then by number. It takes memory.
+    fn port_names(&self, alloc: Global) -> Result<Vec<PortName>, AllocError>
+        ensures { IfOk result (λ names. names.items ≡ fin.keys (tables self.now).net.ports) };
+
+    /// The names of the LANs, in the order of their bytes. It takes memory.
+    fn lan_names(&self, alloc: Global) -> Result<Vec<Name>, AllocError>
+        ensures { IfOk result (λ names. names.items ≡ fin.keys (tables self.now).net.lans) };
+
     /// The priority of a bridge in a tree, 8 where none is set.
     fn tree_priority(&self, bridge: &Name, tree: Tree) -> Priority
         ensures { result ≡ priority_of (tables self.now).net bridge.now tree };
@@ -104,6 +125,10 @@ pub trait Contents {
     /// The VLANs that a port is a member of, all where none were set.
     fn port_vlans(&self, port: &PortName) -> VidSet
         ensures { result ≡ vlans_of (tables self.now).net port.now };
+
+    /// A copy of what is set by tree or VID. It takes memory.
+    fn settings(&self) -> Result<TreeSettings, AllocError>
+        ensures { IfOk result (λ copy. copy.set ≡ by_tree (tables self.now).net) };
 }
 
 /// A bridge of this number with these settings.

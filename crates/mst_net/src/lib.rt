@@ -6,17 +6,20 @@ mod changes;
 mod checks;
 mod contents;
 pub mod laws;
+mod names;
 mod network;
 mod records;
 mod refusal;
 mod settings;
 mod table;
 mod tally;
+mod tree_settings;
 
 pub use ahead::Ahead;
 pub use contents::{Bridge, Contents, Lan, Port};
 pub use network::{Network, Ready};
 pub use refusal::Refusal;
+pub use tree_settings::TreeSettings;
 
 #[cfg(test)]
 mod tests;

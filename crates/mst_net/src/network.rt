@@ -3,7 +3,7 @@ ghost use Rattle.std.specs.FinMap as fin;
 ghost use Rattle.std.specs.Option.{option_map};
 ghost use Rattle.mst_ids.specs.declared.name.PortName.{PortName};
 ghost use Rattle.mst_net.specs.Tables.{empty_net, no_numbers, IsNetwork};
-ghost use Rattle.mst_net.specs.After.{after, mac_taken, some_port, is_of_bridge, is_in_lan, table_of};
+ghost use Rattle.mst_net.specs.After.{after, mac_taken, some_port, is_of_bridge, is_in_lan};
 ghost use Rattle.mst_net.specs.Seen.{bridge_row, port_row, lan_row};
 ghost use Rattle.mst_net.specs.Contents.{SameContents, CanCommit, Commits, IsNumbered, ahead_of, room_for};
 
@@ -11,17 +11,16 @@ use crate::Refusal;
 use crate::ahead::Ahead;
 use crate::contents::{Bridge, Contents, Lan, Port, seen_bridge, seen_lan, seen_port};
 use crate::records::{Record, Records};
-use crate::settings::{BridgeInTree, BridgeSettings, LanSettings, PortInTree, PortSettings};
-use crate::table::Table;
+use crate::settings::{BridgeSettings, LanSettings, PortSettings};
 use crate::tally::Tally;
-use indexmap::{IndexMap, IndexSet};
+use crate::tree_settings::TreeSettings;
+use indexmap::IndexSet;
 use mst_ids::{BridgeNo, Cost, LanNo, Mac, Name, PortName, PortNo, Priority, Tree, Vid, VidSet};
 use mst_lang::{Edit, laws};
 use std::alloc::{AllocError, Global};
 use std::marker::Model;
 
 /// The network's records, each under a number that it keeps.
-#[derive(Drop)]
 pub struct Network {
     pub(crate) bridges: Records<Name, BridgeSettings>,
     pub(crate) ports: Records<PortName, PortSettings>,
@@ -31,13 +30,22 @@ pub struct Network {
     // How many ports each bridge has, and how many plugs each LAN has.
     pub(crate) port_counts: Tally<Name>,
     pub(crate) plug_counts: Tally<Name>,
-    // What is set by tree or VID, but for defaults: the priorities of bridges and of ports, the internal
-    // path costs, the tables of bridges, and the VLANs of ports.
-    pub(crate) priorities: IndexMap<BridgeInTree, Priority>,
-    pub(crate) port_priorities: IndexMap<PortInTree, Priority>,
-    pub(crate) port_costs: IndexMap<PortInTree, Cost>,
-    pub(crate) tables: IndexMap<Name, Table>,
-    pub(crate) vlans: IndexMap<PortName, VidSet>,
+    pub(crate) settings: TreeSettings,
+}
+
+// By hand, so that a caller's check takes a drop as one call and not field by field.
+impl Drop for Network {
+    fn drop(self) {
+        let Network {
+            bridges: _,
+            ports: _,
+            lans: _,
+            macs: _,
+            port_counts: _,
+            plug_counts: _,
+            settings: _,
+        } = self;
+    }
 }
 
 impl Model for Network {
@@ -73,20 +81,8 @@ impl Network {
             macs: IndexSet::new(alloc),
             port_counts: Tally::new(alloc),
             plug_counts: Tally::new(alloc),
-            priorities: IndexMap::new(alloc),
-            port_priorities: IndexMap::new(alloc),
-            port_costs: IndexMap::new(alloc),
-            tables: IndexMap::new(alloc),
-            vlans: IndexMap::new(alloc),
+            settings: TreeSettings::new(alloc),
         }
-    }
-
-    /// What holds of every network.
-    pub fn known(&self)
-        ensures network { IsNetwork self.now.net }
-        ensures numbered { IsNumbered self.now.net self.now.numbers }
-    {
-        let _bridges = &self.bridges;
     }
 
     /// The number that the next bridge gets.
@@ -111,24 +107,6 @@ impl Network {
         ensures fresh { (name : List ℕ) → fin.get self.now.numbers.lans name ≡ Some result → ⊥ }
     {
         self.lans.next()
-    }
-
-    /// The names of the bridges, in the order of their bytes.
-    pub fn bridge_names(&self, alloc: Global) -> Result<Vec<Name>, AllocError>
-        ensures { IfOk result (λ names. names.items ≡ fin.keys self.now.net.bridges) }
-    {
-        let mut names = self.bridges.keys(alloc)?;
-        names.sort()?;
-        Ok(names)
-    }
-
-    /// The names of the ports, by the names of their bridges, and then by number.
-    pub fn port_names(&self, alloc: Global) -> Result<Vec<PortName>, AllocError>
-        ensures { IfOk result (λ names. names.items ≡ fin.keys self.now.net.ports) }
-    {
-        let mut names = self.ports.keys(alloc)?;
-        names.sort()?;
-        Ok(names)
     }
 
     /// The contents as they will be once the edit is made.
@@ -183,12 +161,7 @@ impl Network {
             Edit::AddPort { .. } => self.make_room_for_port(),
             Edit::AddLan { .. } => self.lans.reserve(),
             Edit::Plug { .. } => self.plug_counts.reserve(),
-            Edit::SetTreePriority { .. } => self.priorities.reserve(1),
-            Edit::SetTreePortPriority { .. } => self.port_priorities.reserve(1),
-            Edit::SetTreePortCost { .. } => self.port_costs.reserve(1),
-            Edit::MapVids { .. } => self.tables.reserve(1),
-            Edit::SetPortVlans { .. } => self.vlans.reserve(1),
-            _ => Ok(()),
+            _ => self.settings.reserve(edit),
         }
     }
 
@@ -279,22 +252,16 @@ impl Network {
     {
         self.ports.row(port)
     }
-
-    /// Which tree each VID is mapped to by a bridge.
-    pub(crate) fn table(&self, bridge: &Name) -> Table
-        ensures { result ≡ table_of self.now.net bridge.now }
-    {
-        match self.tables.get(bridge) {
-            Some(table) => *table,
-            None => Table::new(),
-        }
-    }
 }
 
 impl Contents for Network {
     ghost use Rattle.mst_net.specs.Contents.{tables_of};
 
     ghost tables = { tables_of };
+
+    fn known(&self) {
+        let _bridges = &self.bridges;
+    }
 
     fn bridge(&self, name: &Name) -> Option<Bridge> {
         kept_bridge(self.bridges.get(name))
@@ -320,43 +287,46 @@ impl Contents for Network {
         self.lans.key(number.0)
     }
 
+    fn bridge_names(&self, alloc: Global) -> Result<Vec<Name>, AllocError> {
+        let mut names = self.bridges.keys(alloc)?;
+        names.sort()?;
+        Ok(names)
+    }
+
+    fn port_names(&self, alloc: Global) -> Result<Vec<PortName>, AllocError> {
+        let mut names = self.ports.keys(alloc)?;
+        names.sort()?;
+        Ok(names)
+    }
+
+    fn lan_names(&self, alloc: Global) -> Result<Vec<Name>, AllocError> {
+        let mut names = self.lans.keys(alloc)?;
+        names.sort()?;
+        Ok(names)
+    }
+
     fn tree_priority(&self, bridge: &Name, tree: Tree) -> Priority {
-        let key = BridgeInTree {
-            bridge: *bridge,
-            tree,
-        };
-        match self.priorities.get(&key) {
-            Some(priority) => *priority,
-            None => Priority::standard(),
-        }
+        self.settings.tree_priority(bridge, tree)
     }
 
     fn port_priority(&self, port: &PortName, tree: Tree) -> Priority {
-        let key = PortInTree { port: *port, tree };
-        match self.port_priorities.get(&key) {
-            Some(priority) => *priority,
-            None => Priority::standard(),
-        }
+        self.settings.port_priority(port, tree)
     }
 
     fn port_cost(&self, port: &PortName, tree: Tree) -> Option<Cost> {
-        self.port_costs
-            .get(&PortInTree { port: *port, tree })
-            .copied()
+        self.settings.port_cost(port, tree)
     }
 
     fn tree_of(&self, bridge: &Name, vid: Vid) -> Tree {
-        match self.tables.get(bridge) {
-            Some(table) => table.tree(vid),
-            None => Tree::cist(),
-        }
+        self.settings.tree_of(bridge, vid)
     }
 
     fn port_vlans(&self, port: &PortName) -> VidSet {
-        match self.vlans.get(port) {
-            Some(vids) => *vids,
-            None => VidSet::all(),
-        }
+        self.settings.port_vlans(port)
+    }
+
+    fn settings(&self) -> Result<TreeSettings, AllocError> {
+        self.settings.copy()
     }
 }
 

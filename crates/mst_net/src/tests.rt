@@ -1,3 +1,5 @@
+//! Networks are made by lines of scripts, and the expected values are worked by hand from the rules.
+
 use super::*;
 use crate::records::Records;
 use crate::settings::{BridgeInTree, PortInTree, forget_bridge, forget_port};
@@ -5,130 +7,30 @@ use crate::table::Table;
 use crate::tally::Tally;
 use indexmap::IndexMap;
 use mst_ids::{
-    BridgeNo, Cost, LanNo, Limit, Mac, Name, PortName, PortNo, PortNumber, Priority, Speed, Tree,
-    Vid, VidSet, parse_mac, parse_vids,
+    BridgeNo, LanNo, Name, PortName, PortNo, PortNumber, Priority, Tree, Vid, VidSet, parse_vids,
 };
 use mst_lang::{Edit, Kind, LanState, Line, Power, parse_line};
 use std::alloc::Global;
 use std::process::Abort;
 use std::test::Fail;
 
-fn name(text: &str) -> Result<Name, Fail> {
-    Ok(Name::parse(text.as_bytes())?)
+fn name(text: &str) -> Option<Name> {
+    Name::parse(text.as_bytes()).ok()
 }
 
-fn mac(text: &str) -> Result<Mac, Fail> {
-    Ok(parse_mac(text.as_bytes())?)
-}
-
-fn port(bridge: &str, number: u64) -> Result<PortName, Fail> {
-    Ok(PortName {
+fn port(bridge: &str, number: u64) -> Option<PortName> {
+    Some(PortName {
         bridge: name(bridge)?,
-        number: PortNumber::new(number).ok_or("no port number")?,
+        number: PortNumber::new(number)?,
     })
 }
 
-fn new_bridge(bridge: &str, address: &str) -> Result<Edit, Fail> {
-    Ok(Edit::AddBridge {
-        bridge: name(bridge)?,
-        mac: mac(address)?,
-    })
-}
-
-fn set_kind(bridge: &str, kind: Kind) -> Result<Edit, Fail> {
-    Ok(Edit::SetKind {
-        bridge: name(bridge)?,
-        kind,
-    })
-}
-
-fn new_port(bridge: &str, number: u64) -> Result<Edit, Fail> {
-    Ok(Edit::AddPort {
-        port: port(bridge, number)?,
-    })
-}
-
-fn new_lan(lan: &str) -> Result<Edit, Fail> {
-    Ok(Edit::AddLan { lan: name(lan)? })
-}
-
-fn plug(bridge: &str, number: u64, lan: &str) -> Result<Edit, Fail> {
-    Ok(Edit::Plug {
-        port: port(bridge, number)?,
-        lan: name(lan)?,
-    })
-}
-
-fn set_power(bridge: &str, power: Power) -> Result<Edit, Fail> {
-    Ok(Edit::SetPower {
-        bridge: name(bridge)?,
-        power,
-    })
-}
-
-fn set_state(lan: &str, state: LanState) -> Result<Edit, Fail> {
-    Ok(Edit::SetLanState {
-        lan: name(lan)?,
-        state,
-    })
-}
-
-fn unplug(bridge: &str, number: u64) -> Result<Edit, Fail> {
-    Ok(Edit::Unplug {
-        port: port(bridge, number)?,
-    })
-}
-
-fn set_cost(bridge: &str, number: u64, cost: Option<Cost>) -> Result<Edit, Fail> {
-    Ok(Edit::SetPortPathCost {
-        port: port(bridge, number)?,
-        cost,
-    })
-}
-
-fn set_speed(lan: &str, kbps: u64) -> Result<Edit, Fail> {
-    Ok(Edit::SetSpeed {
-        lan: name(lan)?,
-        speed: Speed::new(kbps).ok_or("no speed")?,
-    })
-}
-
-fn set_hops(bridge: &str, hops: u64) -> Result<Edit, Fail> {
-    Ok(Edit::SetMaxHops {
-        bridge: name(bridge)?,
-        limit: Limit::new(hops).ok_or("no limit")?,
-    })
-}
-
-fn set_age(bridge: &str, age: u64) -> Result<Edit, Fail> {
-    Ok(Edit::SetMaxAge {
-        bridge: name(bridge)?,
-        limit: Limit::new(age).ok_or("no limit")?,
-    })
-}
-
-fn set_port_priority(bridge: &str, number: u64, step: u64) -> Result<Edit, Fail> {
-    Ok(Edit::SetTreePortPriority {
-        port: port(bridge, number)?,
-        tree: Tree::cist(),
-        priority: Priority::new(step).ok_or("no priority")?,
-    })
-}
-
-fn set_tree_cost(bridge: &str, number: u64, cost: u64) -> Result<Edit, Fail> {
-    Ok(Edit::SetTreePortCost {
-        port: port(bridge, number)?,
-        tree: Tree::cist(),
-        cost: Cost::new(cost),
-    })
-}
-
-fn set_priority(bridge: &str, step: u64) -> Result<Edit, Fail> {
-    Ok(Edit::SetTreePriority {
-        bridge: name(bridge)?,
-        tree: Tree::cist(),
-        priority: Priority::new(step).ok_or("no priority")?,
-    })
+/// The edit that a line says.
+fn edit_of(line: &str) -> Option<Edit> {
+    match parse_line(line.as_bytes()) {
+        Ok(Line::Edit(edit)) => Some(edit),
+        _ => None,
+    }
 }
 
 fn apply(network: &mut Network, edit: &Edit) -> Result<(), Refusal> {
@@ -141,319 +43,493 @@ fn apply(network: &mut Network, edit: &Edit) -> Result<(), Refusal> {
     }
 }
 
-fn change(network: &mut Network, edit: Result<Edit, Fail>) -> Result<(), Fail> {
-    match edit {
-        Ok(edit) => Ok(apply(network, &edit)?),
-        Err(fail) => Err(fail),
+/// The number of the fault or of the refusal that a line meets, or nothing.
+fn code_of(network: &mut Network, line: &str) -> &'static str {
+    match parse_line(line.as_bytes()) {
+        Err(fault) => fault.code(),
+        Ok(Line::Edit(edit)) => match apply(network, &edit) {
+            Ok(()) => "",
+            Err(refusal) => refusal.code(),
+        },
+        Ok(_) => "",
     }
 }
 
-fn step(n: u32) -> Result<Edit, Fail> {
-    match n {
-        0 => new_bridge("b", "00:00:00:00:00:02"),
-        1 => new_bridge("a", "00:00:00:00:00:01"),
-        2 => new_port("b", 2),
-        3 => new_port("b", 1),
-        4 => new_lan("x"),
-        _ => plug("b", 1, "x"),
+/// Makes the edits that the lines say. The number of the first refusal ends it.
+fn make_all(network: &mut Network, lines: &[&str]) -> Result<(), Fail> {
+    for line in lines {
+        let code = code_of(network, line);
+        if code != "" {
+            return Err(code.into());
+        }
     }
+    Ok(())
 }
 
 /// Bridges b and a, of which b has port 1 in LAN x and port 2 in none.
-fn fill(network: &mut Network) -> Result<(), Fail> {
-    for n in 0..6 {
-        change(network, step(n))?;
+const SMALL: [&str; 6] = [
+    "addbridge b 00:00:00:00:00:02",
+    "addbridge a 00:00:00:00:00:01",
+    "addport b 2",
+    "addport b 1",
+    "addlan x",
+    "plug b 1 x",
+];
+
+/// The network of these lines.
+fn network_of(alloc: Global, lines: &[&str]) -> Result<Network, Fail> {
+    let mut network = Network::new(alloc);
+    make_all(&mut network, lines)?;
+    Ok(network)
+}
+
+/// What is asked of a network, as a number, or none where there is no record of it.
+#[derive(Clone, Copy)]
+enum Asked {
+    /// The numbers of the records.
+    Bridge(&'static str),
+    Port(u64),
+    Lan(&'static str),
+    /// The first byte of the name of the bridge or LAN, and the number of the port, with a record's number.
+    BridgeAt(usize),
+    PortAt(usize),
+    LanAt(usize),
+    /// Settings of bridge b: 1 for mstp, for on, and for this name of its configuration.
+    Mstp,
+    On,
+    SystemPriority,
+    Revision,
+    ConfName(&'static str),
+    Hops,
+    Age,
+    /// Settings of port 1 of bridge b: 1 for plugged, and 0 for automatic costs.
+    Plugged,
+    Key,
+    Cost,
+    /// Settings of LAN x: 1 for up.
+    Speed,
+    Up,
+    /// By tree: of bridge b, and of its port 1, 0 for automatic costs.
+    Priority(u64),
+    PortPriority(u64),
+    InternalCost(u64),
+    /// The tree of a VID at bridge b, and 1 for a VLAN of its port 1.
+    TreeOf(u64),
+    InVlan(u16),
+}
+
+/// The value of a setting of bridge b.
+fn bridge_value<C: Contents>(contents: &C, asked: Asked) -> Option<u64> {
+    let found = contents.bridge(&name("b")?)?;
+    match asked {
+        Asked::Mstp => Some(u64::from(found.kind == Kind::Mstp)),
+        Asked::On => Some(u64::from(found.power == Power::On)),
+        Asked::SystemPriority => Some(u64::from(found.system_priority)),
+        Asked::Revision => Some(u64::from(found.revision)),
+        Asked::ConfName(text) => Some(u64::from(found.conf_name.as_bytes() == text.as_bytes())),
+        Asked::Hops => Some(found.max_hops.value()),
+        Asked::Age => Some(found.max_age.value()),
+        _ => None,
     }
-    Ok(())
 }
 
-fn set_bridge(rt: &impl Abort, network: &mut Network) -> Result<(), Fail> {
-    fill(network)?;
-    change(network, set_kind("b", Kind::Rstp))?;
-    change(network, set_priority("b", 3))?;
-    let name = name("b")?;
-    let bridge = network.bridge(&name).ok_or("no bridge")?;
-    assert_eq!(rt; bridge.number.0, 0);
-    assert_eq!(rt; bridge.kind, Kind::Rstp);
-    assert_eq!(rt; network.tree_priority(&name, Tree::cist()).step(), 3);
-    Ok(())
+/// The value of a setting of port 1 of bridge b, or of LAN x.
+fn link_value<C: Contents>(contents: &C, asked: Asked) -> Option<u64> {
+    let port = contents.port(&port("b", 1)?);
+    let lan = contents.lan(&name("x")?);
+    match asked {
+        Asked::Plugged => Some(u64::from(port?.lan == name("x"))),
+        Asked::Key => Some(u64::from(port?.key)),
+        Asked::Cost => Some(port?.external.map_or(0, |cost| cost.value())),
+        Asked::Speed => Some(lan?.speed.value()),
+        Asked::Up => Some(u64::from(lan?.state == LanState::Up)),
+        _ => bridge_value(contents, asked),
+    }
 }
 
-#[test]
-fn bridges_are_set(rt: HostRuntime) -> Result<(), Fail> {
-    let mut network = Network::new(rt.alloc());
-    set_bridge(&rt, &mut network)
+/// The number of a record, or what has the number.
+fn number_value<C: Contents>(contents: &C, asked: Asked) -> Option<u64> {
+    match asked {
+        Asked::Bridge(text) => Some(contents.bridge(&name(text)?)?.number.0 as u64),
+        Asked::Port(number) => Some(contents.port(&port("b", number)?)?.number.0 as u64),
+        Asked::Lan(text) => Some(contents.lan(&name(text)?)?.number.0 as u64),
+        Asked::BridgeAt(number) => first_byte(contents.bridge_name(BridgeNo(number))?),
+        Asked::PortAt(number) => {
+            let name = contents.port_name(PortNo(number))?;
+            Some(u64::from(name.number.value()))
+        }
+        Asked::LanAt(number) => first_byte(contents.lan_name(LanNo(number))?),
+        _ => link_value(contents, asked),
+    }
 }
 
-fn plug_port(rt: &impl Abort, network: &mut Network) -> Result<(), Fail> {
-    fill(network)?;
-    network.known();
-    let lan = name("x")?;
-    let found = network.port(&port("b", 1)?).ok_or("no port")?;
-    assert_eq!(rt; found.number.0, 1);
-    assert!(rt; found.lan == Some(lan));
-    let found = network.lan(&lan).ok_or("no LAN")?;
-    assert_eq!(rt; found.speed.value(), 1_000_000);
-    Ok(())
+fn first_byte(name: Name) -> Option<u64> {
+    name.as_bytes().first().map(|byte| u64::from(*byte))
 }
 
-#[test]
-fn ports_are_plugged(rt: HostRuntime) -> Result<(), Fail> {
-    let mut network = Network::new(rt.alloc());
-    plug_port(&rt, &mut network)
-}
-
-fn switch(rt: &impl Abort, network: &mut Network) -> Result<(), Fail> {
-    fill(network)?;
+/// What is asked of a network, or of one as it will be.
+fn value<C: Contents>(contents: &C, asked: Asked) -> Option<u64> {
     let bridge = name("b")?;
-    let lan = name("x")?;
-    assert_eq!(rt;
-        network.bridge(&bridge).ok_or("no bridge")?.power,
-        Power::On
-    );
-    assert_eq!(rt; network.lan(&lan).ok_or("no LAN")?.state, LanState::Up);
-    change(network, set_power("b", Power::Off))?;
-    change(network, set_state("x", LanState::Down))?;
-    assert_eq!(rt;
-        network.bridge(&bridge).ok_or("no bridge")?.power,
-        Power::Off
-    );
-    assert_eq!(rt; network.lan(&lan).ok_or("no LAN")?.state, LanState::Down);
-    change(network, set_power("b", Power::On))?;
-    change(network, set_state("x", LanState::Up))?;
-    assert_eq!(rt;
-        network.bridge(&bridge).ok_or("no bridge")?.power,
-        Power::On
-    );
-    assert_eq!(rt; network.lan(&lan).ok_or("no LAN")?.state, LanState::Up);
-    Ok(())
-}
-
-#[test]
-fn bridges_and_lans_are_switched(rt: HostRuntime) -> Result<(), Fail> {
-    let mut network = Network::new(rt.alloc());
-    switch(&rt, &mut network)
-}
-
-fn unplug_port(rt: &impl Abort, network: &mut Network) -> Result<(), Fail> {
-    fill(network)?;
-    let cost = Cost::new(200_000_000);
-    change(network, set_cost("b", 1, cost))?;
-    let found = network.port(&port("b", 1)?).ok_or("no port")?;
-    assert!(rt; found.external == cost);
-    change(network, unplug("b", 1))?;
-    let found = network.port(&port("b", 1)?).ok_or("no port")?;
-    assert!(rt; found.lan.is_none());
-    assert!(rt; found.external == cost);
-    assert_eq!(rt; found.number.0, 1);
-    change(network, plug("b", 1, "x"))?;
-    change(network, set_cost("b", 1, None))?;
-    let found = network.port(&port("b", 1)?).ok_or("no port")?;
-    assert!(rt; found.lan == Some(name("x")?));
-    assert!(rt; found.external.is_none());
-    Ok(())
-}
-
-#[test]
-fn ports_are_unplugged_and_cost(rt: HostRuntime) -> Result<(), Fail> {
-    let mut network = Network::new(rt.alloc());
-    unplug_port(&rt, &mut network)
-}
-
-fn limit(rt: &impl Abort, network: &mut Network) -> Result<(), Fail> {
-    fill(network)?;
-    let bridge = name("b")?;
-    let found = network.bridge(&bridge).ok_or("no bridge")?;
-    assert_eq!(rt; found.max_hops.value(), 20);
-    assert_eq!(rt; found.max_age.value(), 20);
-    change(network, set_hops("b", 6))?;
-    change(network, set_age("b", 40))?;
-    change(network, set_speed("x", 10_000_000))?;
-    let found = network.bridge(&bridge).ok_or("no bridge")?;
-    assert_eq!(rt; found.max_hops.value(), 6);
-    assert_eq!(rt; found.max_age.value(), 40);
-    let found = network.lan(&name("x")?).ok_or("no LAN")?;
-    assert_eq!(rt; found.speed.value(), 10_000_000);
-    Ok(())
-}
-
-#[test]
-fn limits_and_speeds_are_set(rt: HostRuntime) -> Result<(), Fail> {
-    let mut network = Network::new(rt.alloc());
-    limit(&rt, &mut network)
-}
-
-fn set_by_tree(rt: &impl Abort, network: &mut Network) -> Result<(), Fail> {
-    fill(network)?;
-    let number = port("b", 1)?;
-    assert_eq!(rt; network.port_priority(&number, Tree::cist()).step(), 8);
-    assert!(rt; network.port_cost(&number, Tree::cist()).is_none());
-    change(network, set_port_priority("b", 1, 0))?;
-    change(network, set_tree_cost("b", 1, 7))?;
-    assert_eq!(rt; network.port_priority(&number, Tree::cist()).step(), 0);
-    assert!(rt; network.port_cost(&number, Tree::cist()) == Cost::new(7));
-    let other = Tree::new(7).ok_or("no tree")?;
-    assert_eq!(rt; network.port_priority(&number, other).step(), 8);
-    assert!(rt; network.port_cost(&number, other).is_none());
-    change(network, set_port_priority("b", 1, 8))?;
-    change(network, set_tree_cost("b", 1, 0))?;
-    assert_eq!(rt; network.port_priority(&number, Tree::cist()).step(), 8);
-    assert!(rt; network.port_cost(&number, Tree::cist()).is_none());
-    Ok(())
-}
-
-#[test]
-fn ports_are_set_by_tree(rt: HostRuntime) -> Result<(), Fail> {
-    let mut network = Network::new(rt.alloc());
-    set_by_tree(&rt, &mut network)
-}
-
-fn list_names(rt: &impl Abort, alloc: Global, network: &mut Network) -> Result<(), Fail> {
-    fill(network)?;
-    let bridges = network.bridge_names(alloc)?;
-    assert_eq!(rt; bridges.len(), 2);
-    assert!(rt; bridges[0] == name("a")?);
-    let ports = network.port_names(alloc)?;
-    assert_eq!(rt; ports.len(), 2);
-    assert_eq!(rt; ports[0].number.value(), 1);
-    Ok(())
-}
-
-#[test]
-fn names_are_in_order(rt: HostRuntime) -> Result<(), Fail> {
-    let mut network = Network::new(rt.alloc());
-    list_names(&rt, rt.alloc(), &mut network)
-}
-
-fn look_ahead(rt: &impl Abort, network: &mut Network) -> Result<(), Fail> {
-    let name = name("c")?;
-    let edit = new_bridge("c", "00:00:00:00:00:03")?;
-    let ready = network.prepare(&edit)?;
-    assert!(rt; network.bridge(&name).is_none());
-    let ahead = network.ahead(&ready);
-    assert!(rt; ahead.bridge(&name).is_some());
-    assert_eq!(rt; ahead.tree_priority(&name, Tree::cist()).step(), 8);
-    network.abandon(ready);
-    assert!(rt; network.bridge(&name).is_none());
-    Ok(())
-}
-
-#[test]
-fn ahead_shows_the_edit(rt: HostRuntime) -> Result<(), Fail> {
-    let mut network = Network::new(rt.alloc());
-    look_ahead(&rt, &mut network)
-}
-
-/// An edit of the small network, and why it is refused.
-fn refused_step(n: u32) -> (Result<Edit, Fail>, Refusal) {
-    match n {
-        0 => (new_port("c", 1), Refusal::E04),
-        1 => (plug("b", 3, "x"), Refusal::E05),
-        2 => (plug("b", 2, "y"), Refusal::E06),
-        3 => (new_lan("x"), Refusal::E07),
-        4 => (new_bridge("c", "00:00:00:00:00:02"), Refusal::E08),
-        5 => (new_port("b", 1), Refusal::E09),
-        6 => (plug("b", 1, "x"), Refusal::E10),
-        7 => (unplug("b", 2), Refusal::E11),
-        _ => late_refused_step(n),
+    let port = port("b", 1)?;
+    match asked {
+        Asked::Priority(tree) => {
+            let priority = contents.tree_priority(&bridge, Tree::new(tree)?);
+            Some(u64::from(priority.step()))
+        }
+        Asked::PortPriority(tree) => {
+            let priority = contents.port_priority(&port, Tree::new(tree)?);
+            Some(u64::from(priority.step()))
+        }
+        Asked::InternalCost(tree) => {
+            let cost = contents.port_cost(&port, Tree::new(tree)?);
+            Some(cost.map_or(0, |cost| cost.value()))
+        }
+        Asked::TreeOf(vid) => {
+            let tree = contents.tree_of(&bridge, Vid::new(vid)?);
+            Some(u64::from(tree.value()))
+        }
+        Asked::InVlan(vid) => Some(u64::from(contents.port_vlans(&port).contains(vid))),
+        _ => number_value(contents, asked),
     }
 }
 
-/// Refusals of edits of what is there.
-fn late_refused_step(n: u32) -> (Result<Edit, Fail>, Refusal) {
-    match n {
-        8 => (set_power("c", Power::Off), Refusal::E04),
-        9 => (set_state("y", LanState::Down), Refusal::E06),
-        10 => (unplug("c", 1), Refusal::E04),
-        11 => (unplug("b", 3), Refusal::E05),
-        12 => (set_cost("c", 1, None), Refusal::E04),
-        13 => (set_cost("b", 3, None), Refusal::E05),
-        14 => (set_port_priority("b", 3, 1), Refusal::E05),
-        15 => (set_tree_cost("c", 1, 1), Refusal::E04),
-        16 => (set_speed("y", 1), Refusal::E06),
-        17 => (set_hops("c", 20), Refusal::E04),
-        _ => (set_age("c", 20), Refusal::E04),
+/// A line, what is asked, and the answers before and after its edit.
+type Change = (&'static str, Asked, Option<u64>, Option<u64>);
+
+const SETTINGS: [Change; 21] = [
+    ("kind b rstp", Asked::Mstp, Some(1), Some(0)),
+    ("bridge b off", Asked::On, Some(1), Some(0)),
+    ("bridge b on", Asked::On, Some(0), Some(1)),
+    (
+        "setsyspri b 65535",
+        Asked::SystemPriority,
+        Some(32_768),
+        Some(65_535),
+    ),
+    (
+        "setmstconfid b 65535 area",
+        Asked::Revision,
+        Some(0),
+        Some(65_535),
+    ),
+    (
+        "setmstconfid b 1 arena",
+        Asked::ConfName("area"),
+        Some(1),
+        Some(0),
+    ),
+    (
+        "setmstconfid b 1 area",
+        Asked::ConfName("area"),
+        Some(0),
+        Some(1),
+    ),
+    ("setmaxhops b 6", Asked::Hops, Some(20), Some(6)),
+    ("setmaxage b 40", Asked::Age, Some(20), Some(40)),
+    ("setkey b 1 65535", Asked::Key, Some(0), Some(65_535)),
+    ("setkey b 1 0", Asked::Key, Some(65_535), Some(0)),
+    (
+        "setportpathcost b 1 200000000",
+        Asked::Cost,
+        Some(0),
+        Some(200_000_000),
+    ),
+    (
+        "unplug b 1",
+        Asked::Cost,
+        Some(200_000_000),
+        Some(200_000_000),
+    ),
+    ("plug b 1 x", Asked::Plugged, Some(0), Some(1)),
+    (
+        "setportpathcost b 1 0",
+        Asked::Cost,
+        Some(200_000_000),
+        Some(0),
+    ),
+    ("unplug b 1", Asked::Plugged, Some(1), Some(0)),
+    ("plug b 1 x", Asked::Port(1), Some(1), Some(1)),
+    (
+        "speed x 10000000",
+        Asked::Speed,
+        Some(1_000_000),
+        Some(10_000_000),
+    ),
+    ("lan x down", Asked::Up, Some(1), Some(0)),
+    ("lan x up", Asked::Up, Some(0), Some(1)),
+    ("lan x up", Asked::Lan("x"), Some(0), Some(0)),
+];
+
+const BY_TREE: [Change; 16] = [
+    ("settreeprio b 0 3", Asked::Priority(0), Some(8), Some(3)),
+    ("settreeprio b 7 1", Asked::Priority(0), Some(3), Some(3)),
+    ("settreeprio b 7 8", Asked::Priority(7), Some(1), Some(8)),
+    (
+        "settreeportprio b 1 0 0",
+        Asked::PortPriority(0),
+        Some(8),
+        Some(0),
+    ),
+    (
+        "settreeportprio b 1 7 2",
+        Asked::PortPriority(0),
+        Some(0),
+        Some(0),
+    ),
+    (
+        "settreeportprio b 1 7 8",
+        Asked::PortPriority(7),
+        Some(2),
+        Some(8),
+    ),
+    (
+        "settreeportcost b 1 0 7",
+        Asked::InternalCost(0),
+        Some(0),
+        Some(7),
+    ),
+    (
+        "settreeportcost b 1 7 9",
+        Asked::InternalCost(0),
+        Some(7),
+        Some(7),
+    ),
+    (
+        "settreeportcost b 1 7 0",
+        Asked::InternalCost(7),
+        Some(9),
+        Some(0),
+    ),
+    (
+        "setvid2mstid b 7 10-20",
+        Asked::TreeOf(20),
+        Some(0),
+        Some(7),
+    ),
+    ("setvid2mstid b 0 20", Asked::TreeOf(20), Some(7), Some(0)),
+    ("setvid2mstid a 7 21", Asked::TreeOf(19), Some(7), Some(7)),
+    ("setportvlans b 1 5,7-9", Asked::InVlan(6), Some(1), Some(0)),
+    ("setportvlans b 1 none", Asked::InVlan(5), Some(1), Some(0)),
+    (
+        "setportvlans b 1 all",
+        Asked::InVlan(4094),
+        Some(0),
+        Some(1),
+    ),
+    (
+        "setportvlans b 2 none",
+        Asked::InVlan(4094),
+        Some(1),
+        Some(1),
+    ),
+];
+
+const RECORDS: [Change; 12] = [
+    (
+        "addbridge c 00:00:00:00:00:03",
+        Asked::Bridge("c"),
+        None,
+        Some(2),
+    ),
+    ("delbridge a", Asked::BridgeAt(1), Some(97), None),
+    ("delbridge c", Asked::Bridge("b"), Some(0), Some(0)),
+    (
+        "addbridge d 00:00:00:00:00:03",
+        Asked::BridgeAt(2),
+        None,
+        Some(100),
+    ),
+    ("addport b 9", Asked::Port(9), None, Some(2)),
+    ("delport b 2", Asked::PortAt(0), Some(2), None),
+    ("addport b 7", Asked::PortAt(0), None, Some(7)),
+    ("unplug b 1", Asked::LanAt(0), Some(120), Some(120)),
+    ("addlan y", Asked::Lan("y"), None, Some(1)),
+    ("dellan x", Asked::LanAt(0), Some(120), None),
+    ("addlan z", Asked::LanAt(0), None, Some(122)),
+    ("delport b 9", Asked::Port(1), Some(1), Some(1)),
+];
+
+/// Sets what goes with a bridge or a port, takes both away, and adds them again.
+const FORGOTTEN: [Change; 13] = [
+    ("settreeprio b 7 1", Asked::Priority(7), Some(8), Some(1)),
+    ("setvid2mstid b 7 10", Asked::TreeOf(10), Some(0), Some(7)),
+    (
+        "settreeportprio b 1 7 2",
+        Asked::PortPriority(7),
+        Some(8),
+        Some(2),
+    ),
+    (
+        "settreeportcost b 1 7 3",
+        Asked::InternalCost(7),
+        Some(0),
+        Some(3),
+    ),
+    ("setportvlans b 1 none", Asked::InVlan(5), Some(1), Some(0)),
+    ("unplug b 1", Asked::InVlan(5), Some(0), Some(0)),
+    ("delport b 1", Asked::InVlan(5), Some(0), Some(1)),
+    ("delport b 2", Asked::InternalCost(7), Some(0), Some(0)),
+    ("delbridge b", Asked::Priority(7), Some(1), Some(8)),
+    (
+        "addbridge b 00:00:00:00:00:02",
+        Asked::TreeOf(10),
+        Some(0),
+        Some(0),
+    ),
+    ("addport b 1", Asked::PortPriority(7), Some(8), Some(8)),
+    (
+        "addport b 2",
+        Asked::ConfName("00:00:00:00:00:02"),
+        Some(1),
+        Some(1),
+    ),
+    ("dellan x", Asked::Up, Some(1), None),
+];
+
+/// What is asked of the network as it will be once the edit is made, which is given up.
+fn value_ahead(network: &mut Network, edit: &Edit, asked: Asked) -> Option<u64> {
+    match network.prepare(edit) {
+        Ok(ready) => {
+            let found = value(&network.ahead(&ready), asked);
+            network.abandon(ready);
+            found
+        }
+        Err(_) => None,
     }
 }
 
-fn refuse(rt: &impl Abort, network: &mut Network) -> Result<(), Fail> {
-    fill(network)?;
-    for n in 0..19 {
-        let (edit, refusal) = refused_step(n);
-        assert_eq!(rt; apply(network, &edit?), Err(refusal), "at {n}");
+/// The same for the edit of a line.
+fn value_ahead_of(network: &mut Network, line: &str, asked: Asked) -> Option<u64> {
+    match edit_of(line) {
+        Some(edit) => value_ahead(network, &edit, asked),
+        None => None,
+    }
+}
+
+fn check_changes(rt: &impl Abort, alloc: Global, changes: &[Change]) -> Result<(), Fail> {
+    let mut network = network_of(alloc, &SMALL)?;
+    for (line, asked, before, after) in changes {
+        assert_eq!(rt; value(&network, *asked), *before, "before {line}");
+        assert_eq!(rt;
+            value_ahead_of(&mut network, line, *asked),
+            *after,
+            "ahead of {line}"
+        );
+        assert_eq!(rt; value(&network, *asked), *before, "given up: {line}");
+        assert_eq!(rt; code_of(&mut network, line), "", "at {line}");
+        assert_eq!(rt; value(&network, *asked), *after, "after {line}");
     }
     Ok(())
 }
+
+#[test]
+fn settings_are_changed(rt: HostRuntime) -> Result<(), Fail> {
+    check_changes(&rt, rt.alloc(), &SETTINGS)
+}
+
+#[test]
+fn settings_by_tree_are_changed(rt: HostRuntime) -> Result<(), Fail> {
+    check_changes(&rt, rt.alloc(), &BY_TREE)
+}
+
+#[test]
+fn records_are_added_and_taken_away(rt: HostRuntime) -> Result<(), Fail> {
+    check_changes(&rt, rt.alloc(), &RECORDS)
+}
+
+#[test]
+fn what_is_deleted_is_forgotten(rt: HostRuntime) -> Result<(), Fail> {
+    check_changes(&rt, rt.alloc(), &FORGOTTEN)
+}
+
+/// Lines that the small network refuses, and why.
+const REFUSED: [(&str, &str); 19] = [
+    ("addport c 1", "E04"),
+    ("plug b 3 x", "E05"),
+    ("plug b 2 y", "E06"),
+    ("addlan x", "E07"),
+    ("addbridge c 00:00:00:00:00:02", "E08"),
+    ("addport b 1", "E09"),
+    ("plug b 1 x", "E10"),
+    ("unplug b 2", "E11"),
+    ("bridge c off", "E04"),
+    ("lan y down", "E06"),
+    ("unplug c 1", "E04"),
+    ("unplug b 3", "E05"),
+    ("setportpathcost c 1 0", "E04"),
+    ("setportpathcost b 3 0", "E05"),
+    ("settreeportprio b 3 0 1", "E05"),
+    ("settreeportcost c 1 0 1", "E04"),
+    ("speed y 1", "E06"),
+    ("setmaxhops c 20", "E04"),
+    ("setmaxage c 20", "E04"),
+];
 
 #[test]
 fn edits_are_refused(rt: HostRuntime) -> Result<(), Fail> {
-    let mut network = Network::new(rt.alloc());
-    refuse(&rt, &mut network)
-}
-
-fn numbered_bridge(alloc: Global, n: u32) -> Result<Edit, Fail> {
-    let bridge = format!(in alloc; "b{n}")?;
-    let address = format!(in alloc; "00:00:00:00:{:02x}:{:02x}", n / 256, n % 256)?;
-    new_bridge(bridge.as_str(), address.as_str())
-}
-
-fn add_bridges(rt: &impl Abort, alloc: Global, network: &mut Network) -> Result<(), Fail> {
-    for n in 0..1024 {
-        change(network, numbered_bridge(alloc, n))?;
+    let mut network = network_of(rt.alloc(), &SMALL)?;
+    for (line, code) in REFUSED {
+        assert_eq!(rt; code_of(&mut network, line), code, "at {line}");
     }
-    let edit = numbered_bridge(alloc, 1024)?;
-    assert_eq!(rt; apply(network, &edit), Err(Refusal::E14));
     Ok(())
 }
 
-#[test]
-fn bridges_are_limited(rt: HostRuntime) -> Result<(), Fail> {
-    let mut network = Network::new(rt.alloc());
-    add_bridges(&rt, rt.alloc(), &mut network)
+/// What there is a limit of.
+#[derive(Clone, Copy)]
+enum Limited {
+    Bridges,
+    Ports,
+    Lans,
 }
 
-fn add_ports(rt: &impl Abort, alloc: Global, network: &mut Network) -> Result<(), Fail> {
-    for n in 0..5 {
-        change(network, numbered_bridge(alloc, n))?;
+/// The line that adds the bridge, port or LAN of this number: ports come in bridges of 4,000.
+fn numbered(alloc: Global, limited: Limited, n: u32) -> Option<String> {
+    match limited {
+        Limited::Bridges => {
+            format!(in alloc;
+                "addbridge b{n} 00:00:00:00:{:02x}:{:02x}",
+                n / 256,
+                n % 256
+            )
+            .ok()
+        }
+        Limited::Ports => format!(in alloc; "addport b{} {}", n / 4000, n % 4000 + 1).ok(),
+        Limited::Lans => format!(in alloc; "addlan x{n}").ok(),
     }
-    for n in 0..16_384 {
-        change(network, numbered_port(alloc, n))?;
-    }
-    let edit = numbered_port(alloc, 16_384)?;
-    assert_eq!(rt; apply(network, &edit), Err(Refusal::E14));
-    Ok(())
 }
 
-/// One of the ports 1 to 4,000 of the bridges.
-fn numbered_port(alloc: Global, n: u32) -> Result<Edit, Fail> {
-    let bridge = format!(in alloc; "b{}", n / 4000)?;
-    new_port(bridge.as_str(), u64::from(n % 4000) + 1)
+/// Adds the one of this number, and tells the number of the refusal.
+fn add(alloc: Global, network: &mut Network, limited: Limited, n: u32) -> Option<&'static str> {
+    let line = numbered(alloc, limited, n)?;
+    Some(code_of(network, line.as_str()))
+}
+
+/// Adds so many, of which none is refused, and tells the number of the refusal of the next.
+fn fill(
+    alloc: Global,
+    network: &mut Network,
+    limited: Limited,
+    count: u32,
+) -> Option<&'static str> {
+    for n in 0..count {
+        if add(alloc, network, limited, n) != Some("") {
+            return None;
+        }
+    }
+    add(alloc, network, limited, count)
 }
 
 #[test]
-fn ports_are_limited(rt: HostRuntime) -> Result<(), Fail> {
+fn records_are_limited(rt: HostRuntime) {
     let mut network = Network::new(rt.alloc());
-    add_ports(&rt, rt.alloc(), &mut network)
-}
-
-fn numbered_lan(alloc: Global, n: u32) -> Result<Edit, Fail> {
-    let lan = format!(in alloc; "x{n}")?;
-    new_lan(lan.as_str())
-}
-
-fn add_lans(rt: &impl Abort, alloc: Global, network: &mut Network) -> Result<(), Fail> {
-    for n in 0..8192 {
-        change(network, numbered_lan(alloc, n))?;
+    for (limited, count) in [
+        (Limited::Bridges, 1024),
+        (Limited::Ports, 16_384),
+        (Limited::Lans, 8192),
+    ] {
+        let code = fill(rt.alloc(), &mut network, limited, count);
+        assert!(rt; code == Some("E14"), "after {count}");
     }
-    let edit = numbered_lan(alloc, 8192)?;
-    assert_eq!(rt; apply(network, &edit), Err(Refusal::E14));
-    Ok(())
-}
-
-#[test]
-fn lans_are_limited(rt: HostRuntime) -> Result<(), Fail> {
-    let mut network = Network::new(rt.alloc());
-    add_lans(&rt, rt.alloc(), &mut network)
 }
 
 #[test]
@@ -473,258 +549,176 @@ fn refusals_have_texts(rt: HostRuntime) {
     }
 }
 
-/// The edit that a line says.
-fn edit_of(line: &str) -> Result<Edit, Fail> {
-    match parse_line(line.as_bytes()) {
-        Ok(Line::Edit(edit)) => Ok(edit),
-        _ => Err("no edit".into()),
-    }
+fn are_names(names: &[Name], wanted: &[&str]) -> bool {
+    names.len() == wanted.len()
+        && names
+            .iter()
+            .zip(wanted)
+            .all(|(name, wanted)| name.as_bytes() == wanted.as_bytes())
 }
 
-fn make(network: &mut Network, line: &str) -> Result<(), Fail> {
-    change(network, edit_of(line))
+fn are_ports(names: &[PortName], wanted: &[(&str, u16)]) -> bool {
+    names.len() == wanted.len()
+        && names.iter().zip(wanted).all(|(name, wanted)| {
+            name.bridge.as_bytes() == wanted.0.as_bytes() && name.number.value() == wanted.1
+        })
 }
 
-fn vid(number: u64) -> Result<Vid, Fail> {
-    Ok(Vid::new(number).ok_or("no VID")?)
+/// The bridges, the ports and the LANs, in order.
+type Listed = (
+    &'static [&'static str],
+    &'static [(&'static str, u16)],
+    &'static [&'static str],
+);
+
+/// Whether the names are these.
+fn lists<C: Contents>(alloc: Global, contents: &C, wanted: &Listed) -> Option<bool> {
+    let bridges = contents.bridge_names(alloc).ok()?;
+    let ports = contents.port_names(alloc).ok()?;
+    let lans = contents.lan_names(alloc).ok()?;
+    Some(
+        are_names(bridges.as_slice(), wanted.0)
+            && are_ports(ports.as_slice(), wanted.1)
+            && are_names(lans.as_slice(), wanted.2),
+    )
 }
 
-fn configuration_is_new(rt: &impl Abort, network: &Network) -> Result<(), Fail> {
-    let found = network.bridge(&name("b")?).ok_or("no bridge")?;
-    assert_eq!(rt; found.system_priority, 32_768);
-    assert_eq!(rt; found.revision, 0);
-    assert!(rt; found.conf_name.as_bytes() == b"00:00:00:00:00:02".as_slice());
-    Ok(())
-}
+/// The names in the small network.
+const LISTED: Listed = (&["a", "b"], &[("b", 1), ("b", 2)], &["x"]);
 
-fn configuration_is_set(rt: &impl Abort, network: &Network) -> Result<(), Fail> {
-    let found = network.bridge(&name("b")?).ok_or("no bridge")?;
-    assert_eq!(rt; found.system_priority, 65_535);
-    assert_eq!(rt; found.revision, 65_535);
-    assert!(rt; found.conf_name.as_bytes() == b"area".as_slice());
-    Ok(())
-}
-
-fn tree_of(network: &Network, bridge: &str, number: u64) -> Result<u16, Fail> {
-    let vid = vid(number)?;
-    let bridge = name(bridge)?;
-    Ok(network.tree_of(&bridge, vid).value())
-}
-
-const CONFIGURED: [&str; 4] = [
-    "setsyspri b 65535",
-    "setmstconfid b 65535 area",
-    "setvid2mstid b 7 10-20",
-    "setvid2mstid b 0 20",
+/// Edits of the small network, and the names that there are once each is made.
+const LISTED_AHEAD: [(&str, Listed); 7] = [
+    (
+        "addbridge aa 00:00:00:00:00:03",
+        (&["a", "aa", "b"], &[("b", 1), ("b", 2)], &["x"]),
+    ),
+    ("delbridge a", (&["b"], &[("b", 1), ("b", 2)], &["x"])),
+    (
+        "addport a 7",
+        (&["a", "b"], &[("a", 7), ("b", 1), ("b", 2)], &["x"]),
+    ),
+    ("delport b 2", (&["a", "b"], &[("b", 1)], &["x"])),
+    (
+        "addlan w",
+        (&["a", "b"], &[("b", 1), ("b", 2)], &["w", "x"]),
+    ),
+    ("unplug b 1", LISTED),
+    ("lan x down", LISTED),
 ];
 
-fn set_configuration(rt: &impl Abort, network: &mut Network) -> Result<(), Fail> {
-    fill(network)?;
-    configuration_is_new(rt, network)?;
-    for line in CONFIGURED {
-        make(network, line)?;
+/// Whether the names are these once the edit is made, which is given up.
+fn lists_ahead(alloc: Global, network: &mut Network, edit: &Edit, wanted: &Listed) -> Option<bool> {
+    match network.prepare(edit) {
+        Ok(ready) => lists(alloc, &network.ahead(&ready), wanted),
+        Err(_) => None,
     }
-    configuration_is_set(rt, network)?;
-    for (bridge, vid, tree) in [("b", 19, 7), ("b", 20, 0), ("a", 19, 0)] {
-        assert_eq!(rt; tree_of(network, bridge, vid)?, tree);
+}
+
+/// The same for the edit of a line.
+fn lists_ahead_of(
+    alloc: Global,
+    network: &mut Network,
+    line: &str,
+    wanted: &Listed,
+) -> Option<bool> {
+    match edit_of(line) {
+        Some(edit) => lists_ahead(alloc, network, &edit, wanted),
+        None => None,
+    }
+}
+
+#[test]
+fn ahead_lists_names(rt: HostRuntime) -> Result<(), Fail> {
+    let mut network = network_of(rt.alloc(), &SMALL)?;
+    for (line, wanted) in LISTED_AHEAD {
+        let found = lists_ahead_of(rt.alloc(), &mut network, line, &wanted);
+        assert!(rt; found == Some(true), "at {line}");
+        let found = lists(rt.alloc(), &network, &LISTED);
+        assert!(rt; found == Some(true), "after {line}");
     }
     Ok(())
 }
 
 #[test]
-fn configurations_are_set(rt: HostRuntime) -> Result<(), Fail> {
+fn ahead_lists_no_lan_that_is_taken_away(rt: HostRuntime) {
     let mut network = Network::new(rt.alloc());
-    set_configuration(&rt, &mut network)
+    let none: Listed = (&[], &[], &[]);
+    assert_eq!(rt; code_of(&mut network, "addlan x"), "");
+    let found = lists_ahead_of(rt.alloc(), &mut network, "dellan x", &none);
+    assert!(rt; found == Some(true));
 }
 
-/// Whether port 1 of bridge b has this key, and these VLANs.
-fn port_is(network: &Network, key: u16, vids: VidSet) -> Result<bool, Fail> {
-    let first = port("b", 1)?;
-    match network.port(&first) {
-        Some(found) => Ok(found.key == key && network.port_vlans(&first) == vids),
-        None => Ok(false),
-    }
+/// The priorities of bridge b and of its port 1 in tree 7, the internal path cost of the port, or 0 where it
+/// is automatic, the tree of VID 10, and 1 where the port is in no VLAN.
+fn set_in_seven(settings: &TreeSettings) -> Option<[u64; 5]> {
+    let tree = Tree::new(7)?;
+    let bridge = name("b")?;
+    let port = port("b", 1)?;
+    Some([
+        u64::from(settings.tree_priority(&bridge, tree).step()),
+        u64::from(settings.port_priority(&port, tree).step()),
+        settings
+            .port_cost(&port, tree)
+            .map_or(0, |cost| cost.value()),
+        u64::from(settings.tree_of(&bridge, Vid::new(10)?).value()),
+        u64::from(settings.port_vlans(&port).is_empty()),
+    ])
 }
 
-fn set_port(rt: &impl Abort, network: &mut Network) -> Result<(), Fail> {
-    let some = parse_vids(b"5,7-9")?;
-    fill(network)?;
-    assert!(rt; port_is(network, 0, VidSet::all())?);
-    for (line, key, vids) in [
-        ("setkey b 1 65535", 65_535, VidSet::all()),
-        ("setportvlans b 1 5,7-9", 65_535, some),
-        ("setportvlans b 1 none", 65_535, VidSet::none()),
-        ("setportvlans b 1 all", 65_535, VidSet::all()),
-        ("setkey b 1 0", 0, VidSet::all()),
-    ] {
-        make(network, line)?;
-        assert!(rt; port_is(network, key, vids)?, "at {line}");
-    }
-    Ok(())
-}
-
-#[test]
-fn keys_and_vlans_are_set(rt: HostRuntime) -> Result<(), Fail> {
-    let mut network = Network::new(rt.alloc());
-    set_port(&rt, &mut network)
-}
-
-/// Sets what goes with a bridge or a port, takes both away, and adds them again.
-const TAKEN_AWAY: [&str; 12] = [
-    "settreeprio b 7 1",
-    "setvid2mstid b 7 10",
-    "settreeportprio b 1 7 2",
-    "settreeportcost b 1 7 3",
-    "setportvlans b 1 none",
-    "unplug b 1",
-    "delport b 1",
-    "delport b 2",
-    "delbridge b",
-    "dellan x",
-    "addbridge b 00:00:00:00:00:02",
-    "addport b 1",
+/// Edits of the small network, each after those before it, and what is set once it is made.
+const SET: [(&str, [u64; 5]); 9] = [
+    ("settreeprio b 7 3", [3, 8, 0, 0, 0]),
+    ("settreeportprio b 1 7 2", [3, 2, 0, 0, 0]),
+    ("settreeportcost b 1 7 5", [3, 2, 5, 0, 0]),
+    ("setvid2mstid b 7 10", [3, 2, 5, 7, 0]),
+    ("setportvlans b 1 none", [3, 2, 5, 7, 1]),
+    ("unplug b 1", [3, 2, 5, 7, 1]),
+    ("delport b 1", [3, 8, 0, 7, 0]),
+    ("delport b 2", [3, 8, 0, 7, 0]),
+    ("delbridge b", [8, 8, 0, 0, 0]),
 ];
 
-fn port_is_new(rt: &impl Abort, network: &Network) -> Result<(), Fail> {
-    let tree = tree(7)?;
-    let first = port("b", 1)?;
-    assert_eq!(rt; network.port_priority(&first, tree).step(), 8);
-    assert!(rt; network.port_cost(&first, tree).is_none());
-    assert!(rt; port_is(network, 0, VidSet::all())?);
-    Ok(())
-}
-
-fn bridge_is_new(rt: &impl Abort, network: &Network) -> Result<(), Fail> {
-    let tree = tree(7)?;
-    let bridge = name("b")?;
-    assert_eq!(rt; network.tree_priority(&bridge, tree).step(), 8);
-    assert_eq!(rt; tree_of(network, "b", 10)?, 0);
-    assert!(rt; network.lan(&name("x")?).is_none());
-    Ok(())
-}
-
-fn add_again(rt: &impl Abort, network: &mut Network) -> Result<(), Fail> {
-    fill(network)?;
-    for line in TAKEN_AWAY {
-        make(network, line)?;
+/// What is set once the edit is made, which is given up, in numbers.
+fn seven_ahead(network: &mut Network, edit: &Edit) -> Option<[u64; 5]> {
+    match network.prepare(edit) {
+        Ok(ready) => {
+            let settings = network.ahead(&ready).settings().ok()?;
+            set_in_seven(&settings)
+        }
+        Err(_) => None,
     }
-    bridge_is_new(rt, network)?;
-    port_is_new(rt, network)
 }
 
-#[test]
-fn what_is_deleted_is_forgotten(rt: HostRuntime) -> Result<(), Fail> {
-    let mut network = Network::new(rt.alloc());
-    add_again(&rt, &mut network)
-}
-
-/// Whether the bridge that has the number has this name.
-fn bridge_is(network: &Network, number: usize, bridge: &str) -> Result<bool, Fail> {
-    let bridge = name(bridge)?;
-    Ok(network.bridge_name(BridgeNo(number)) == Some(bridge))
-}
-
-fn look_up_numbers(rt: &impl Abort, network: &mut Network) -> Result<(), Fail> {
-    let first = port("b", 1)?;
-    let lan = name("x")?;
-    fill(network)?;
-    assert!(rt; bridge_is(network, 0, "b")?);
-    assert!(rt; network.port_name(PortNo(1)) == Some(first));
-    assert!(rt; network.lan_name(LanNo(0)) == Some(lan));
-    make(network, "delbridge a")?;
-    assert!(rt; network.bridge_name(BridgeNo(1)).is_none());
-    make(network, "addbridge c 00:00:00:00:00:03")?;
-    assert!(rt; bridge_is(network, 1, "c")?);
-    Ok(())
-}
-
-#[test]
-fn records_are_found_by_number(rt: HostRuntime) -> Result<(), Fail> {
-    let mut network = Network::new(rt.alloc());
-    look_up_numbers(&rt, &mut network)
-}
-
-fn look_ahead_of_table(rt: &impl Abort, network: &mut Network) -> Result<(), Fail> {
-    let bridge = name("b")?;
-    let vid = vid(10)?;
-    fill(network)?;
-    let ready = network.prepare(&edit_of("setvid2mstid b 7 10")?)?;
-    assert_eq!(rt; network.ahead(&ready).tree_of(&bridge, vid).value(), 7);
-    assert_eq!(rt; network.tree_of(&bridge, vid).value(), 0);
-    network.abandon(ready);
-    Ok(())
-}
-
-#[test]
-fn ahead_shows_tables(rt: HostRuntime) -> Result<(), Fail> {
-    let mut network = Network::new(rt.alloc());
-    look_ahead_of_table(&rt, &mut network)
-}
-
-fn look_ahead_of_vlans(rt: &impl Abort, network: &mut Network) -> Result<(), Fail> {
-    let first = port("b", 1)?;
-    fill(network)?;
-    let ready = network.prepare(&edit_of("setportvlans b 1 none")?)?;
-    assert!(rt; network.ahead(&ready).port_vlans(&first).is_empty());
-    assert!(rt; network.port_vlans(&first) == VidSet::all());
-    network.abandon(ready);
-    Ok(())
-}
-
-#[test]
-fn ahead_shows_vlans(rt: HostRuntime) -> Result<(), Fail> {
-    let mut network = Network::new(rt.alloc());
-    look_ahead_of_vlans(&rt, &mut network)
-}
-
-fn look_ahead_of_deletion(rt: &impl Abort, network: &mut Network) -> Result<(), Fail> {
-    let second = port("b", 2)?;
-    fill(network)?;
-    let ready = network.prepare(&edit_of("delport b 2")?)?;
-    assert!(rt; network.ahead(&ready).port(&second).is_none());
-    assert!(rt; network.ahead(&ready).port_name(PortNo(0)).is_none());
-    assert!(rt; network.port_name(PortNo(0)) == Some(second));
-    network.abandon(ready);
-    Ok(())
-}
-
-#[test]
-fn ahead_shows_what_is_deleted(rt: HostRuntime) -> Result<(), Fail> {
-    let mut network = Network::new(rt.alloc());
-    look_ahead_of_deletion(&rt, &mut network)
-}
-
-fn look_ahead_of_lan(rt: &impl Abort, network: &mut Network) -> Result<(), Fail> {
-    let lan = name("y")?;
-    fill(network)?;
-    let ready = network.prepare(&edit_of("addlan y")?)?;
-    assert!(rt; network.ahead(&ready).lan(&lan).is_some());
-    assert!(rt; network.ahead(&ready).lan_name(LanNo(1)) == Some(lan));
-    assert!(rt; network.lan_name(LanNo(1)).is_none());
-    network.abandon(ready);
-    Ok(())
-}
-
-#[test]
-fn ahead_shows_new_lans(rt: HostRuntime) -> Result<(), Fail> {
-    let mut network = Network::new(rt.alloc());
-    look_ahead_of_lan(&rt, &mut network)
-}
-
-/// The number of the fault or of the refusal that a line meets, or nothing.
-fn code_of(network: &mut Network, line: &str) -> &'static str {
-    match parse_line(line.as_bytes()) {
-        Err(fault) => fault.code(),
-        Ok(Line::Edit(edit)) => match apply(network, &edit) {
-            Ok(()) => "",
-            Err(refusal) => refusal.code(),
-        },
-        Ok(_) => "",
+/// The same for the edit of a line.
+fn seven_ahead_of(network: &mut Network, line: &str) -> Option<[u64; 5]> {
+    match edit_of(line) {
+        Some(edit) => seven_ahead(network, &edit),
+        None => None,
     }
+}
+
+/// What is set, in numbers.
+fn seven(network: &Network) -> Option<[u64; 5]> {
+    let settings = network.settings().ok()?;
+    set_in_seven(&settings)
+}
+
+#[test]
+fn settings_are_copied(rt: HostRuntime) -> Result<(), Fail> {
+    let mut network = network_of(rt.alloc(), &SMALL)?;
+    for (line, set) in SET {
+        assert!(rt;
+            seven_ahead_of(&mut network, line) == Some(set),
+            "ahead of {line}"
+        );
+        assert_eq!(rt; code_of(&mut network, line), "", "at {line}");
+        assert!(rt; seven(&network) == Some(set), "after {line}");
+    }
+    Ok(())
 }
 
 /// Lines with what each is refused by.
-const REFUSED: [(&str, &str); 19] = [
+const REFUSED_LINES: [(&str, &str); 19] = [
     ("addbridge A 02:00:00:00:00:01", ""),
     ("addbridge B 02-00-00-00-00-01", "E08"),
     ("addbridge A 02:00:00:00:00:01", "E07"),
@@ -747,62 +741,55 @@ const REFUSED: [(&str, &str); 19] = [
 ];
 
 /// Whether bridge A, its port 1, and a plug of that are there.
-fn seen(network: &Network) -> Result<[bool; 3], Fail> {
+fn seen(network: &Network) -> Option<[bool; 3]> {
     let bridge = network.bridge(&name("A")?).is_some();
     match network.port(&port("A", 1)?) {
-        Some(found) => Ok([bridge, true, found.lan.is_some()]),
-        None => Ok([bridge, false, false]),
+        Some(found) => Some([bridge, true, found.lan.is_some()]),
+        None => Some([bridge, false, false]),
     }
-}
-
-fn refuse_line(rt: &impl Abort, network: &mut Network, line: &str, code: &str) -> Result<(), Fail> {
-    let before = seen(network)?;
-    assert_eq!(rt; code_of(network, line), code, "at {line}");
-    let after = seen(network)?;
-    assert!(rt; code == "" || after == before, "at {line}");
-    Ok(())
-}
-
-fn refuse_lines(rt: &impl Abort, network: &mut Network) -> Result<(), Fail> {
-    for (line, code) in REFUSED {
-        refuse_line(rt, network, line, code)?;
-    }
-    Ok(())
 }
 
 #[test]
-fn lines_are_refused(rt: HostRuntime) -> Result<(), Fail> {
+fn lines_are_refused(rt: HostRuntime) {
     let mut network = Network::new(rt.alloc());
-    refuse_lines(&rt, &mut network)
+    for (line, code) in REFUSED_LINES {
+        let before = seen(&network);
+        assert_eq!(rt; code_of(&mut network, line), code, "at {line}");
+        assert!(rt; code == "" || seen(&network) == before, "at {line}");
+    }
 }
 
-fn map_to_trees(rt: &impl Abort, alloc: Global, network: &mut Network) -> Result<(), Fail> {
-    make(network, "addbridge A 02:00:00:00:00:01")?;
-    for n in 1..65 {
-        let line = format!(in alloc; "setvid2mstid A {n} {n}")?;
-        make(network, line.as_str())?;
-    }
-    assert_eq!(rt; code_of(network, "setvid2mstid A 65 65"), "E15");
-    assert_eq!(rt; tree_of(network, "A", 65)?, 0);
-    assert_eq!(rt; code_of(network, "setvid2mstid A 65 64"), "");
-    assert_eq!(rt; tree_of(network, "A", 64)?, 65);
-    Ok(())
+/// Maps a VID of bridge A to the tree of its number, and tells the number of the refusal.
+fn map_own(alloc: Global, network: &mut Network, vid: u64) -> Option<&'static str> {
+    let line = format!(in alloc; "setvid2mstid A {vid} {vid}").ok()?;
+    Some(code_of(network, line.as_str()))
+}
+
+fn tree_of(network: &Network, vid: u64) -> Option<u16> {
+    Some(network.tree_of(&name("A")?, Vid::new(vid)?).value())
 }
 
 #[test]
 fn trees_are_limited(rt: HostRuntime) -> Result<(), Fail> {
-    let mut network = Network::new(rt.alloc());
-    map_to_trees(&rt, rt.alloc(), &mut network)
+    let mut network = network_of(rt.alloc(), &["addbridge A 02:00:00:00:00:01"])?;
+    for vid in 1..65 {
+        assert!(rt;
+            map_own(rt.alloc(), &mut network, vid) == Some(""),
+            "at {vid}"
+        );
+    }
+    assert!(rt; map_own(rt.alloc(), &mut network, 65) == Some("E15"));
+    assert_eq!(rt; tree_of(&network, 65), Some(0));
+    assert_eq!(rt; code_of(&mut network, "setvid2mstid A 65 64"), "");
+    assert_eq!(rt; tree_of(&network, 64), Some(65));
+    Ok(())
 }
 
 #[test]
-fn laws_can_be_called() {
+fn laws_can_be_called(rt: HostRuntime) {
+    Network::new(rt.alloc()).known();
     laws::networks();
     laws::standing();
-}
-
-fn tree(number: u64) -> Result<Tree, Fail> {
-    Ok(Tree::new(number).ok_or("no tree")?)
 }
 
 #[test]
@@ -812,13 +799,13 @@ fn rows_are_removed_and_their_numbers_used_again(rt: HostRuntime) -> Result<(), 
     rows.add(70, 1);
     rows.reserve()?;
     rows.add(71, 2);
-    let number = rows.get(&70).ok_or("no row")?.number;
-    let last = rows.get(&71).ok_or("no row")?.number;
+    let first = rows.get(&70).map_or(9, |row| row.number);
+    let last = rows.get(&71).map_or(9, |row| row.number);
     rows.remove(&70);
     assert_eq!(rt; rows.len(), 1);
-    assert!(rt; rows.key(number).is_none());
-    assert_eq!(rt; rows.get(&71).ok_or("no row")?.number, last);
-    assert_eq!(rt; rows.next(), number);
+    assert!(rt; rows.key(first).is_none());
+    assert_eq!(rt; rows.get(&71).map_or(9, |row| row.number), last);
+    assert_eq!(rt; rows.next(), first);
     Ok(())
 }
 
@@ -837,74 +824,97 @@ fn records_are_counted_for_each_key(rt: HostRuntime) -> Result<(), Fail> {
     Ok(())
 }
 
+/// VIDs, the tree that they are mapped to, how many trees there are then, and VIDs with their trees.
+const MAPPED: [(&str, u64, usize, [(u64, u16); 4]); 4] = [
+    ("1", 0, 0, [(1, 0), (2, 0), (3, 0), (4094, 0)]),
+    (
+        "1-10,4094",
+        4094,
+        1,
+        [(1, 4094), (10, 4094), (11, 0), (4094, 4094)],
+    ),
+    ("2,3", 7, 2, [(1, 4094), (3, 7), (4, 4094), (4094, 4094)]),
+    ("1-4094", 0, 0, [(1, 0), (3, 0), (11, 0), (4094, 0)]),
+];
+
 #[test]
 fn vids_are_mapped_to_trees(rt: HostRuntime) -> Result<(), Fail> {
     let mut table = Table::new();
-    assert!(rt; table.is_default());
-    assert_eq!(rt; table.tree_count(), 0);
-    let first = Vid::new(1).ok_or("no VID")?;
-    let last = Vid::new(4094).ok_or("no VID")?;
-    table.map(&parse_vids(b"1-10,4094")?, tree(4094)?);
-    table.map(&parse_vids(b"2,3")?, tree(7)?);
-    assert_eq!(rt; table.tree(first).value(), 4094);
-    assert_eq!(rt; table.tree(last).value(), 4094);
-    assert_eq!(rt; table.tree(Vid::new(3).ok_or("no VID")?).value(), 7);
-    assert_eq!(rt; table.tree(Vid::new(11).ok_or("no VID")?).value(), 0);
-    assert_eq!(rt; table.tree_count(), 2);
-    assert!(rt; !table.is_default());
-    table.map(&parse_vids(b"1-4094")?, Tree::cist());
-    assert!(rt; table.is_default());
+    for (vids, number, count, trees) in MAPPED {
+        let tree = Tree::new(number).ok_or("no tree")?;
+        table.map(&parse_vids(vids.as_bytes())?, tree);
+        assert_eq!(rt; table.tree_count(), count, "after {vids}");
+        assert_eq!(rt; table.is_default(), count == 0, "after {vids}");
+        for (vid, wanted) in trees {
+            let vid = Vid::new(vid).ok_or("no VID")?;
+            assert_eq!(rt; table.tree(vid).value(), wanted, "after {vids}");
+        }
+    }
     Ok(())
 }
 
-fn bridge_in_tree(bridge: &str, number: u64) -> Result<BridgeInTree, Fail> {
-    Ok(BridgeInTree {
+/// A bridge or its port 1, a tree, and whether it is kept once what is set for bridge a or its port is forgotten.
+const KEPT: [(&str, u64, bool); 4] = [
+    ("a", 0, false),
+    ("a", 4094, false),
+    ("b", 0, true),
+    ("b", 4094, true),
+];
+
+fn bridge_in_tree(bridge: &str, tree: u64) -> Option<BridgeInTree> {
+    Some(BridgeInTree {
         bridge: name(bridge)?,
-        tree: tree(number)?,
+        tree: Tree::new(tree)?,
     })
 }
 
-fn port_in_tree(bridge: &str, number: u64) -> Result<PortInTree, Fail> {
-    let bridge = name(bridge)?;
-    let port = PortNumber::new(1).ok_or("no port number")?;
-    Ok(PortInTree {
-        port: PortName {
-            bridge,
-            number: port,
-        },
-        tree: tree(number)?,
+fn port_in_tree(bridge: &str, tree: u64) -> Option<PortInTree> {
+    Some(PortInTree {
+        port: port(bridge, 1)?,
+        tree: Tree::new(tree)?,
     })
+}
+
+fn priorities(alloc: Global) -> Option<IndexMap<BridgeInTree, Priority>> {
+    let mut priorities = IndexMap::new(alloc);
+    for (bridge, tree, _) in KEPT {
+        let key = bridge_in_tree(bridge, tree)?;
+        priorities.insert(key, Priority::standard()).ok()?;
+    }
+    Some(priorities)
 }
 
 #[test]
 fn priorities_of_a_bridge_are_forgotten(rt: HostRuntime) -> Result<(), Fail> {
-    let mut table: IndexMap<BridgeInTree, Priority> = IndexMap::new(rt.alloc());
-    let priority = Priority::standard();
-    let first = bridge_in_tree("a", 0)?;
-    let last = bridge_in_tree("a", 4094)?;
-    let other = bridge_in_tree("b", 4094)?;
-    table.insert(first, priority)?;
-    table.insert(last, priority)?;
-    table.insert(other, priority)?;
-    forget_bridge(&mut table, &name("a")?);
-    assert!(rt; !table.contains_key(&first));
-    assert!(rt; !table.contains_key(&last));
-    assert!(rt; table.contains_key(&other));
+    let a = name("a").ok_or("no name")?;
+    let mut priorities = priorities(rt.alloc()).ok_or("no priorities")?;
+    forget_bridge(&mut priorities, &a);
+    for (bridge, tree, is_kept) in KEPT {
+        let is_found = bridge_in_tree(bridge, tree).is_some_and(|key| priorities.contains_key(
+            &key,
+        ));
+        assert_eq!(rt; is_found, is_kept);
+    }
     Ok(())
+}
+
+fn costs(alloc: Global) -> Option<IndexMap<PortInTree, u8>> {
+    let mut costs = IndexMap::new(alloc);
+    for (bridge, tree, _) in KEPT {
+        let key = port_in_tree(bridge, tree)?;
+        costs.insert(key, 1).ok()?;
+    }
+    Some(costs)
 }
 
 #[test]
 fn costs_of_a_port_are_forgotten(rt: HostRuntime) -> Result<(), Fail> {
-    let mut table: IndexMap<PortInTree, u8> = IndexMap::new(rt.alloc());
-    let first = port_in_tree("a", 0)?;
-    let last = port_in_tree("a", 4094)?;
-    let other = port_in_tree("b", 0)?;
-    table.insert(first, 1)?;
-    table.insert(last, 2)?;
-    table.insert(other, 3)?;
-    forget_port(&mut table, &first.port);
-    assert!(rt; !table.contains_key(&first));
-    assert!(rt; !table.contains_key(&last));
-    assert!(rt; table.contains_key(&other));
+    let a = port("a", 1).ok_or("no port")?;
+    let mut costs = costs(rt.alloc()).ok_or("no costs")?;
+    forget_port(&mut costs, &a);
+    for (bridge, tree, is_kept) in KEPT {
+        let is_found = port_in_tree(bridge, tree).is_some_and(|key| costs.contains_key(&key));
+        assert_eq!(rt; is_found, is_kept);
+    }
     Ok(())
 }

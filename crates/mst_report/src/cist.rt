@@ -8,7 +8,7 @@ ghost use Rattle.mst_report.specs.Kept.{IsCistOf};
 use crate::laws::has_outcome;
 use crate::view::{BridgeSeen, PortSeen, bridges, ports};
 use mst_ids::{BridgeNo, LanNo, Name, PortName, PortNo};
-use mst_net::Network;
+use mst_net::{Contents, Network};
 use mst_settle::laws::renamed;
 use mst_settle::{Settler, Topology};
 use mst_vector::CistMetric;

@@ -4,6 +4,7 @@ use Rattle.mst_net.specs.Contents.{Contents, CanCommit, Makes}
 use Rattle.mst_net.specs.NetworkKept.{contents_of}
 use Rattle.mst_net.specs.declared.network.Network.TheInside.{Inside}
 use Rattle.mst_net.proofs.EditLemmas.{present_port, port_counted_once, port_unmade, port_left_sound}
+use Rattle.mst_net.proofs.SettingsLemmas.{network_in_trees}
 use Rattle.mst_net.proofs.network.Network.del_port.Goals as goal
 
 pub remove-requires : goal.remove-requires
@@ -16,16 +17,19 @@ lower-requires c =
     let a = c.self.inside in
     port_counted_once a a c.args.port.now (subst (CanCommit (DelPort c.args.port.now)) (sym c.self.view_is) c.requires) c.self.invariant
 
+pub forget_port-requires : goal.forget_port-requires
+forget_port-requires c = network_in_trees (contents_of c.self.inside).net c.self.invariant.network
+
 pub invariant_of-self : goal.invariant_of-self
 invariant_of-self c =
     let a = c.self.inside in
-    let b : Inside = record a { ports = c.remove.new.self; port_counts = c.lower.new.self; port_priorities = c.forget_port.new.table; port_costs = c.forget_port-2.new.table; vlans = c.swap_remove.new.self } in
-    port_left_sound a b c.args.port.now (subst (CanCommit (DelPort c.args.port.now)) (sym c.self.view_is) c.requires) c.self.invariant refl c.remove.ensures.rows c.forget_port.ensures c.forget_port-2.ensures c.swap_remove.ensures.updates.0
+    let b : Inside = record a { ports = c.remove.new.self; port_counts = c.lower.new.self; settings = c.forget_port.new.self } in
+    port_left_sound a b c.args.port.now (subst (CanCommit (DelPort c.args.port.now)) (sym c.self.view_is) c.requires) c.self.invariant refl c.remove.ensures.rows c.forget_port.ensures
     c.remove.ensures.numbered c.lower.ensures
 
 pub returns : goal.returns
 returns c =
     let a = c.self.inside in
-    let b : Inside = record a { ports = c.remove.new.self; port_counts = c.lower.new.self; port_priorities = c.forget_port.new.table; port_costs = c.forget_port-2.new.table; vlans = c.swap_remove.new.self } in
+    let b : Inside = record a { ports = c.remove.new.self; port_counts = c.lower.new.self; settings = c.forget_port.new.self } in
     subst (λ (old : Contents). CanCommit (DelPort c.args.port.now) old → Makes (DelPort c.args.port.now) old (contents_of b)) c.self.view_is
-    (λ can. port_unmade a b c.args.port.now can c.self.invariant refl c.remove.ensures.rows c.forget_port.ensures c.forget_port-2.ensures c.swap_remove.ensures.updates.0 c.remove.ensures.numbers) c.requires
+    (λ can. port_unmade a b c.args.port.now can c.self.invariant refl c.remove.ensures.rows c.forget_port.ensures c.remove.ensures.numbers) c.requires

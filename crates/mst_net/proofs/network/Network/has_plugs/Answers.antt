@@ -1,4 +1,4 @@
-use Rattle.std.proofs.Common.{ap, sym, ◌∙◌}
+use Rattle.std.proofs.Common.{ap, ◌∙◌}
 use Rattle.std.specs.Prelude.{nat_lt}
 use Rattle.mst_net.specs.After.{some_port, is_in_lan}
 use Rattle.mst_net.specs.NetworkKept.{contents_of}

@@ -11,12 +11,8 @@ invariant_of-result c =
       macs = c.new-4.result;
       port_counts = c.new-5.result;
       plug_counts = c.new-6.result;
-      priorities = c.new-7.result;
-      port_priorities = c.new-8.result;
-      port_costs = c.new-9.result;
-      tables = c.new-10.result;
-      vlans = c.new-11.result;
+      settings = c.new-7.result;
     } in
     empty_sound a c.new.ensures.rows c.new-2.ensures.rows c.new-3.ensures.rows c.new-4.ensures.empty c.new-5.ensures.none c.new-6.ensures.none
-    c.new-7.ensures.empty c.new-8.ensures.empty c.new-9.ensures.empty c.new-10.ensures.empty c.new-11.ensures.empty
+    c.new-7.ensures
     c.new.ensures.numbered c.new-2.ensures.numbered c.new-3.ensures.numbered

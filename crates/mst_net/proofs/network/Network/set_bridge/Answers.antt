@@ -1,9 +1,8 @@
-use Rattle.std.proofs.Common.{is_some, ap, sym, ◌∙◌, refl, subst}
+use Rattle.std.proofs.Common.{is_some, ap, sym, ◌∙◌, refl}
 use Rattle.std.specs.FinMap as fin
-use Rattle.mst_net.specs.Tables.{IsNetwork, BridgeRow}
 use Rattle.mst_net.specs.declared.network.Network.TheInside.{Inside}
-use Rattle.mst_net.proofs.EditLemmas.{sound_with_bridges, mac_kept, net_with_bridges, bridge_set}
-use Rattle.mst_net.proofs.Keyed.{get_keyed, set_keyed}
+use Rattle.mst_net.proofs.EditLemmas.{net_with_bridges, bridge_set}
+use Rattle.mst_net.proofs.Keyed.{get_keyed}
 use Rattle.mst_net.proofs.Keys.{names}
 use Rattle.mst_net.proofs.network.Network.set_bridge.Goals as goal
 

@@ -1,4 +1,4 @@
-use Rattle.std.proofs.Common.{is_some, ap, sym, ◌∙◌, refl, subst}
+use Rattle.std.proofs.Common.{is_some, ap, sym, ◌∙◌, refl}
 use Rattle.std.specs.FinMap as fin
 use Rattle.mst_net.specs.Tables.{PortRow}
 use Rattle.mst_net.specs.declared.network.Network.TheInside.{Inside}

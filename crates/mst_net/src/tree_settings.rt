@@ -1,0 +1,288 @@
+ghost use Rattle.std.specs.Prelude.{◌≡◌, ◌<◌, OnOk, IfOk};
+ghost use Rattle.mst_lang.specs.declared.line.Edit.TheVariants.{DelBridge, DelPort, SetTreePriority, SetTreePortPriority, SetTreePortCost, MapVids, SetPortVlans};
+ghost use Rattle.mst_net.specs.After.{own_priority as own, own_table as kept_table, own_vlans as kept_vlans};
+ghost use Rattle.mst_net.specs.ByTree.{AreInTrees, nothing_set, priority_in, port_priority_in, port_cost_in, table_in, vlans_in};
+ghost use Rattle.mst_net.specs.SettingsAfter.{set_after, room_to_set};
+ghost use Rattle.mst_net.specs.Table.{tree_in, mapped};
+
+use crate::settings::{BridgeInTree, PortInTree, forget_bridge, forget_port, keep};
+use crate::table::Table;
+use indexmap::IndexMap;
+use mst_ids::{Cost, Name, PortName, Priority, Tree, Vid, VidSet};
+use mst_lang::Edit;
+use std::alloc::{AllocError, Global};
+use std::marker::Model;
+
+/// What is set by tree or VID, but for defaults: the priorities of bridges and of ports, the internal path
+/// costs, the tables of bridges, and the VLANs of ports.
+pub struct TreeSettings {
+    priorities: IndexMap<BridgeInTree, Priority>,
+    port_priorities: IndexMap<PortInTree, Priority>,
+    port_costs: IndexMap<PortInTree, Cost>,
+    tables: IndexMap<Name, Table>,
+    vlans: IndexMap<PortName, VidSet>,
+}
+
+// By hand, as a network's.
+impl Drop for TreeSettings {
+    fn drop(self) {
+        let TreeSettings {
+            priorities: _,
+            port_priorities: _,
+            port_costs: _,
+            tables: _,
+            vlans: _,
+        } = self;
+    }
+}
+
+impl Model for TreeSettings {
+    ghost use Rattle.mst_net.specs.ByTree.{Settings, settings_code};
+
+    ghost Value = { Settings };
+
+    ghost coded = { settings_code };
+
+    ghost use Rattle.mst_net.specs.SettingsKept.{settings_of};
+
+    ghost view = { settings_of };
+}
+
+impl TreeSettings {
+    /// Nothing is set, which takes no memory.
+    pub(crate) fn new(alloc: Global) -> TreeSettings
+        ensures { result.set ≡ nothing_set }
+    {
+        TreeSettings {
+            priorities: IndexMap::new(alloc),
+            port_priorities: IndexMap::new(alloc),
+            port_costs: IndexMap::new(alloc),
+            tables: IndexMap::new(alloc),
+            vlans: IndexMap::new(alloc),
+        }
+    }
+
+    /// A copy.
+    pub(crate) fn copy(&self) -> Result<TreeSettings, AllocError>
+        ensures { IfOk result (λ copy. copy.set ≡ self.now.set) }
+    {
+        let priorities = self.priorities.clone()?;
+        let port_priorities = self.port_priorities.clone()?;
+        let port_costs = self.port_costs.clone()?;
+        let tables = self.tables.clone()?;
+        let vlans = self.vlans.clone()?;
+        Ok(TreeSettings {
+            priorities,
+            port_priorities,
+            port_costs,
+            tables,
+            vlans,
+        })
+    }
+
+    /// The priority of a bridge in a tree, 8 where none is set.
+    pub fn tree_priority(&self, bridge: &Name, tree: Tree) -> Priority
+        ensures { result ≡ priority_in self.now.set.priorities bridge.now tree }
+    {
+        let key = BridgeInTree {
+            bridge: *bridge,
+            tree,
+        };
+        match self.priorities.get(&key) {
+            Some(priority) => *priority,
+            None => Priority::standard(),
+        }
+    }
+
+    /// The priority of a port in a tree, 8 where none is set.
+    pub fn port_priority(&self, port: &PortName, tree: Tree) -> Priority
+        ensures { result ≡ port_priority_in self.now.set.port_priorities port.now tree }
+    {
+        let key = PortInTree { port: *port, tree };
+        match self.port_priorities.get(&key) {
+            Some(priority) => *priority,
+            None => Priority::standard(),
+        }
+    }
+
+    /// The internal path cost of a port in a tree, or none where it is automatic.
+    pub fn port_cost(&self, port: &PortName, tree: Tree) -> Option<Cost>
+        ensures { result ≡ port_cost_in self.now.set.port_costs port.now tree }
+    {
+        self.port_costs
+            .get(&PortInTree { port: *port, tree })
+            .copied()
+    }
+
+    /// The tree that a bridge maps a VID to, the CIST where it maps it to no other.
+    pub fn tree_of(&self, bridge: &Name, vid: Vid) -> Tree
+        ensures { result ≡ tree_in (table_in self.now.set.tables bridge.now) vid }
+    {
+        match self.tables.get(bridge) {
+            Some(table) => table.tree(vid),
+            None => Tree::cist(),
+        }
+    }
+
+    /// The VLANs that a port is a member of, all where none were set.
+    pub fn port_vlans(&self, port: &PortName) -> VidSet
+        ensures { result ≡ vlans_in self.now.set.vlans port.now }
+    {
+        match self.vlans.get(port) {
+            Some(vids) => *vids,
+            None => VidSet::all(),
+        }
+    }
+
+    /// Which tree each VID is mapped to by a bridge.
+    fn table(&self, bridge: &Name) -> Table
+        ensures { result ≡ table_in self.now.set.tables bridge.now }
+    {
+        match self.tables.get(bridge) {
+            Some(table) => *table,
+            None => Table::new(),
+        }
+    }
+
+    /// The table of a bridge with these VIDs in a tree.
+    pub(crate) fn table_with(&self, bridge: &Name, tree: Tree, vids: &VidSet) -> Table
+        ensures { result ≡ mapped vids.now tree (table_in self.now.set.tables bridge.now) }
+    {
+        let mut table = self.table(bridge);
+        table.map(vids, tree);
+        table
+    }
+
+    /// Makes room for what the edit may set.
+    pub(crate) fn reserve(&mut self, edit: &Edit) -> Result<(), AllocError>
+        ensures same { self.new.set ≡ self.old.set }
+        ensures room { OnOk result (0 < room_to_set edit.now self.new.room) }
+    {
+        match edit {
+            Edit::SetTreePriority { .. } => self.priorities.reserve(1),
+            Edit::SetTreePortPriority { .. } => self.port_priorities.reserve(1),
+            Edit::SetTreePortCost { .. } => self.port_costs.reserve(1),
+            Edit::MapVids { .. } => self.tables.reserve(1),
+            Edit::SetPortVlans { .. } => self.vlans.reserve(1),
+            _ => Ok(()),
+        }
+    }
+
+    /// Sets what the edit sets, and forgets what is set for a bridge or a port that it takes away. It takes no
+    /// memory.
+    pub(crate) fn make(&mut self, edit: &Edit)
+        requires trees { AreInTrees self.old.set }
+        requires room { 0 < room_to_set edit.now self.old.room }
+        ensures { self.new.set ≡ set_after edit.now self.old.set }
+    {
+        match *edit {
+            Edit::DelBridge { bridge } => self.forget_bridge(&bridge),
+            Edit::DelPort { port } => self.forget_port(&port),
+            Edit::SetTreePriority {
+                bridge,
+                tree,
+                priority,
+            } => self.set_priority(bridge, tree, priority),
+            Edit::SetTreePortPriority {
+                port,
+                tree,
+                priority,
+            } => self.set_port_priority(port, tree, priority),
+            Edit::SetTreePortCost { port, tree, cost } => self.set_port_cost(port, tree, cost),
+            Edit::MapVids { bridge, tree, vids } => self.map_vids(bridge, tree, &vids),
+            Edit::SetPortVlans { port, vids } => self.set_port_vlans(port, vids),
+            _ => {}
+        }
+    }
+
+    /// Forgets what is set for a bridge.
+    pub(crate) fn forget_bridge(&mut self, bridge: &Name)
+        requires { AreInTrees self.old.set }
+        ensures { self.new.set ≡ set_after (DelBridge bridge.now) self.old.set }
+    {
+        forget_bridge(&mut self.priorities, bridge);
+        let _ = self.tables.swap_remove(bridge);
+    }
+
+    /// Forgets what is set for a port.
+    pub(crate) fn forget_port(&mut self, port: &PortName)
+        requires { AreInTrees self.old.set }
+        ensures { self.new.set ≡ set_after (DelPort port.now) self.old.set }
+    {
+        forget_port(&mut self.port_priorities, port);
+        forget_port(&mut self.port_costs, port);
+        let _ = self.vlans.swap_remove(port);
+    }
+
+    fn set_priority(&mut self, bridge: Name, tree: Tree, priority: Priority)
+        requires { 0 < self.old.room.priority }
+        ensures { self.new.set ≡ set_after (SetTreePriority bridge tree priority) self.old.set }
+    {
+        let key = BridgeInTree { bridge, tree };
+        keep(&mut self.priorities, key, own_priority(priority));
+    }
+
+    fn set_port_priority(&mut self, port: PortName, tree: Tree, priority: Priority)
+        requires { 0 < self.old.room.port_priority }
+        ensures { self.new.set ≡ set_after (SetTreePortPriority port tree priority) self.old.set }
+    {
+        let key = PortInTree { port, tree };
+        keep(&mut self.port_priorities, key, own_priority(priority));
+    }
+
+    fn set_port_cost(&mut self, port: PortName, tree: Tree, cost: Option<Cost>)
+        requires { 0 < self.old.room.port_cost }
+        ensures { self.new.set ≡ set_after (SetTreePortCost port tree cost) self.old.set }
+    {
+        let key = PortInTree { port, tree };
+        keep(&mut self.port_costs, key, cost);
+    }
+
+    fn map_vids(&mut self, bridge: Name, tree: Tree, vids: &VidSet)
+        requires { 0 < self.old.room.table }
+        ensures { self.new.set ≡ set_after (MapVids bridge tree vids.now) self.old.set }
+    {
+        let table = self.table_with(&bridge, tree, vids);
+        keep(&mut self.tables, bridge, own_table(table));
+    }
+
+    fn set_port_vlans(&mut self, port: PortName, vids: VidSet)
+        requires { 0 < self.old.room.vlans }
+        ensures { self.new.set ≡ set_after (SetPortVlans port vids) self.old.set }
+    {
+        keep(&mut self.vlans, port, own_vlans(vids));
+    }
+}
+
+/// What is kept of a priority: none of the default.
+fn own_priority(priority: Priority) -> Option<Priority>
+    ensures { result ≡ own priority }
+{
+    if priority.step() == Priority::DEFAULT {
+        None
+    } else {
+        Some(priority)
+    }
+}
+
+/// What is kept of a table: none with all VIDs in the CIST.
+fn own_table(table: Table) -> Option<Table>
+    ensures { result ≡ kept_table table }
+{
+    if table.is_default() {
+        None
+    } else {
+        Some(table)
+    }
+}
+
+/// What is kept of the VLANs of a port: none where it is a member of all.
+fn own_vlans(vids: VidSet) -> Option<VidSet>
+    ensures { result ≡ kept_vlans vids }
+{
+    if vids == VidSet::all() {
+        None
+    } else {
+        Some(vids)
+    }
+}
