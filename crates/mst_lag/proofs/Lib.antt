@@ -1,0 +1,7 @@
+pub mod Names
+pub mod Lists
+pub mod Entries
+pub mod Sides
+pub mod Known
+pub mod Viewing
+pub mod Steps
