@@ -4,7 +4,7 @@ use Rattle.std.specs.List.{AllByRecursion, Contains, filter, filter_map, cons_op
 use Rattle.std.proofs.lemmas.Bool.{cases_Bool}
 use Rattle.std.specs.Option.{unwrap_or}
 use Rattle.mst_report.specs.View.{Apart}
-use Rattle.mst_report.proofs.Entries.{all_weaker}
+use Rattle.mst_report.proofs.Entries.{all_weaker, all_both}
 
 pub some_is : {A : Type 0} (x y : A) → Some x ≡ Some y → x ≡ y
 some_is x y e = ap (λ o. unwrap_or o x) e
@@ -21,11 +21,6 @@ pub all_at : {A : Type 0} (P : A → Type 0) (xs : List A) (i : ℕ) (d : A) →
 all_at P [] i d l h = absurd (omega arith)
 all_at P (x ∷ xs) zero d l h = h.0
 all_at P (x ∷ xs) (suc i) d l h = all_at P xs i d (omega arith) h.1
-
-pub all_taken : {A : Type 0} (P : A → Type 0) (n : ℕ) (xs : List A) → AllByRecursion P xs → AllByRecursion P (take n xs)
-all_taken P zero xs h = tt
-all_taken P (suc n) [] h = tt
-all_taken P (suc n) (x ∷ xs) h = (h.0, all_taken P n xs h.1)
 
 pub all_contained : {A : Type 0} (P : A → Type 0) (xs : List A) (x : A) → AllByRecursion P xs → Contains xs x → P x
 all_contained P xs x h c = subst P c.2 (all_at P xs c.0 x c.1 h)
@@ -62,16 +57,6 @@ apart_at R [] i d l h = absurd (omega arith)
 apart_at R (x ∷ xs) zero d l h = tt
 apart_at R (x ∷ xs) (suc i) d l h = (all_at (R x) xs i d (omega arith) h.0, apart_at R xs i d (omega arith) h.1)
 
-pub map_kept : {A B C : Type 0} (f : B → C) (h : A → Option B) (k : A → Option C) → ((x : A) → cons_option (k x) [] ≡ map f (cons_option (h x) [])) → (xs : List A) → filter_map k xs ≡ map f (filter_map h xs)
-map_kept f h k e [] = refl
-map_kept {A} {B} {C} f h k e (x ∷ xs) = go (h x) (k x) (e x) (map_kept f h k e xs)
-  where
-    go : (o : Option B) (q : Option C) → cons_option q [] ≡ map f (cons_option o []) → filter_map k xs ≡ map f (filter_map h xs) → cons_option q (filter_map k xs) ≡ map f (cons_option o (filter_map h xs))
-    go None None g rest = rest
-    go None (Some c) g rest = cc
-    go (Some b) None g rest = cc
-    go (Some b) (Some c) g rest = let same : c ≡ f b = cc in λ i. same i ∷ rest i
-
 there_first : {A : Type 0} (x : A) (xs : List A) → Contains (x ∷ xs) x
 there_first x xs = (0, omega arith, refl)
 
@@ -85,16 +70,6 @@ contains_mapped f (y ∷ xs) x c = go c.0 c.1 c.2 (contains_mapped f xs x)
     go : (k : ℕ) → k < length (y ∷ xs) → get_or (y ∷ xs) k x ≡ x → (Contains xs x → Contains (map f xs) (f x)) → Contains (map f (y ∷ xs)) (f x)
     go zero l e rest = subst (λ z. Contains (map f (y ∷ xs)) (f z)) e (there_first (f y) (map f xs))
     go (suc k) l e rest = there_later (f x) (f y) (map f xs) (rest (k, omega arith, e))
-
-pub contains_kept : {A B : Type 0} (h : A → Option B) (xs : List A) (x : A) (y : B) → Contains xs x → h x ≡ Some y → Contains (filter_map h xs) y
-contains_kept h [] x y c e = let l = c.1 in absurd (omega arith)
-contains_kept {A} {B} h (z ∷ xs) x y c e = go c.0 c.1 c.2 (h z) refl (λ d. contains_kept h xs x y d e)
-  where
-    go : (k : ℕ) → k < length (z ∷ xs) → get_or (z ∷ xs) k x ≡ x → (o : Option B) → h z ≡ o → (Contains xs x → Contains (filter_map h xs) y) → Contains (cons_option o (filter_map h xs)) y
-    go zero l at None f rest = absurd (no_some y (sym f ∙ ap h at ∙ e))
-    go zero l at (Some w) f rest = subst (λ v. Contains (w ∷ filter_map h xs) v) (some_is w y (sym f ∙ ap h at ∙ e)) (there_first w (filter_map h xs))
-    go (suc k) l at None f rest = rest (k, omega arith, at)
-    go (suc k) l at (Some w) f rest = there_later y w (filter_map h xs) (rest (k, omega arith, at))
 
 -- some element passes a test
 pub passed : {A : Type 0} (test : A → Bool) (xs : List A) → list_any test xs ≡ true → (x : A) × Contains xs x × (test x ≡ true)
@@ -172,3 +147,23 @@ all_filtered {A} test (x ∷ xs) = (λ t. subst (λ b. Contains (cond b (x ∷ f
 -- and so is this one
 pub contains_filtered : {A : Type 0} (test : A → Bool) (xs : List A) (x : A) → Contains xs x → test x ≡ true → Contains (filter test xs) x
 contains_filtered test xs x = all_contained (λ x. test x ≡ true → Contains (filter test xs) x) xs x (all_filtered test xs)
+
+-- a fact of each changed element
+pub all_unmapped : {A B : Type 0} (P : B → Type 0) (f : A → B) (xs : List A) → AllByRecursion P (map f xs) → AllByRecursion (λ x. P (f x)) xs
+all_unmapped P f [] h = tt
+all_unmapped P f (x ∷ xs) h = (h.0, all_unmapped P f xs h.1)
+
+pub apart_unmapped : {A B : Type 0} (R : B → B → Type 0) (f : A → B) (xs : List A) → Apart R (map f xs) → Apart (λ x y. R (f x) (f y)) xs
+apart_unmapped R f [] h = tt
+apart_unmapped R f (x ∷ xs) h = (all_unmapped (R (f x)) f xs h.0, apart_unmapped R f xs h.1)
+
+-- any two elements are related, and each has a fact
+pub apart_with : {A : Type 0} (R : A → A → Type 0) (P : A → Type 0) (S : A → A → Type 0) → ((x y : A) → R x y → P x → P y → S x y) → (xs : List A) → Apart R xs → AllByRecursion P xs → Apart S xs
+apart_with R P S f [] h p = tt
+apart_with R P S f (x ∷ xs) h p = (all_both (R x) P (S x) (λ y r q. f x y r p.0 q) xs h.0 p.1, apart_with R P S f xs h.1 p.1)
+
+-- an element of the changed list comes of one
+pub contains_unmapped : {A B : Type 0} (f : A → B) (xs : List A) (y : B) → Contains (map f xs) y → (x : A) × Contains xs x × (f x ≡ y)
+contains_unmapped {A} {B} f xs y c =
+    all_contained (λ z. (x : A) × Contains xs x × (f x ≡ z)) (map f xs) y
+    (all_mapped (λ z. (x : A) × Contains xs x × (f x ≡ z)) f xs (all_weaker (Contains xs) _ (λ x h. (x, h, refl)) xs (all_there xs))) c

@@ -10,12 +10,11 @@ use Rattle.mst_settle.specs.Topology.{Plug, Topology, HasBridge, HasPort}
 use Rattle.mst_settle.specs.Renamed.{Renaming, renamed, IsRenamed}
 use Rattle.mst_net.specs.Tables.{Net, Numbers}
 use Rattle.mst_net.specs.Contents.{IsNumbered}
-use Rattle.mst_report.specs.View.{Apart, BridgesDiffer, PortsDiffer, CanSettle, named_bridge, named_port, numbered_bridge, numbered_port, numbered}
+use Rattle.mst_report.specs.View.{Apart, BridgesDiffer, PortsDiffer, CanSettle, HasNumbers, named_bridge, named_port, numbered_bridge, numbered_port, numbered}
 use Rattle.mst_report.specs.declared.view.BridgeSeen.{BridgeSeen}
 use Rattle.mst_report.specs.declared.view.PortSeen.{PortSeen}
 use Rattle.mst_report.proofs.Entries.{all_weaker, all_both}
 use Rattle.mst_report.proofs.Lists.{some_is, all_mapped, all_contained, all_there, contains_mapped}
-use Rattle.mst_report.proofs.Seen.{IsNumberedPort}
 
 -- the name of the bridge, the LAN or the port with a number
 abbrev bridge_at : List BridgeSeen → ℕ → List ℕ
@@ -78,7 +77,7 @@ lan_any (q ∷ ps) p c = go c.0 c.1 c.2 (lan_any ps p)
 pub record IsSeenBy (numbers : Numbers) (bs : List BridgeSeen) (ps : List PortSeen) : Type 0 where
   pub can_settle : CanSettle bs ps
   pub bridges : AllByRecursion (λ b. fin.get numbers.bridges b.name ≡ Some b.number) bs
-  pub ports : AllByRecursion (IsNumberedPort numbers) ps
+  pub ports : AllByRecursion (HasNumbers numbers) ps
 
 module _ (net : Net) (numbers : Numbers) (num : IsNumbered net numbers) (bs : List BridgeSeen) (ps : List PortSeen) (seen : IsSeenBy numbers bs ps) where
   -- what a bridge is, under its number and under its name
@@ -96,18 +95,18 @@ module _ (net : Net) (numbers : Numbers) (num : IsNumbered net numbers) (bs : Li
     is_port : port_at ps p.number ≡ p.name
     is_bridge : bridge_at bs p.bridge ≡ p.name.bridge
     is_lan : lan_at ps p.lan_number ≡ p.lan
-    numbers_are : IsNumberedPort numbers p
+    numbers_are : HasNumbers numbers p
 
   ports_are_named : AllByRecursion PortNamed ps
   ports_are_named =
       all_both _ _ PortNamed (λ p e f. f e) ps (ports_at ps seen.can_settle.ports_differ)
       (all_both _ _ (λ p. port_at ps p.number ≡ p.name → PortNamed p) (λ p there f e. f there e) ps (all_there ps)
-      (all_both (IsNumberedPort numbers) _ (λ p. Contains ps p → port_at ps p.number ≡ p.name → PortNamed p) (λ p n c there e. record {
+      (all_both (HasNumbers numbers) _ (λ p. Contains ps p → port_at ps p.number ≡ p.name → PortNamed p) (λ p n c there e. record {
         is_port = e;
         is_bridge =
             let at : fin.get numbers.bridges (bridge_at bs p.bridge) ≡ Some p.bridge = all_contained (λ (q : ℕ × CistBridge). fin.get numbers.bridges (bridge_at bs q.0) ≡ Some q.0) (map numbered_bridge bs) (p.bridge, c.0) under_number c.1 in
             num.bridges_differ (bridge_at bs p.bridge) p.name.bridge p.bridge at n.bridge;
-        is_lan = lan_found ps p.lan_number p.lan (all_weaker (IsNumberedPort numbers) _ (λ q m same. num.lans_differ q.lan p.lan p.lan_number (m.lan ∙ ap Some same) n.lan) ps seen.ports) (lan_any ps p there);
+        is_lan = lan_found ps p.lan_number p.lan (all_weaker (HasNumbers numbers) _ (λ q m same. num.lans_differ q.lan p.lan p.lan_number (m.lan ∙ ap Some same) n.lan) ps seen.ports) (lan_any ps p there);
         numbers_are = n;
       }) ps seen.ports seen.can_settle.have_bridge))
 

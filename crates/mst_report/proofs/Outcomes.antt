@@ -14,12 +14,12 @@ use Rattle.mst_settle.specs.Renamed.{Renaming, IsRenamed}
 use Rattle.mst_net.specs.Tables.{Net, Numbers, IsNetwork}
 use Rattle.mst_net.specs.Contents.{IsNumbered}
 use Rattle.mst_report.specs.Cist.{Outcome, IsOutcome, cist_of}
-use Rattle.mst_report.specs.View.{BridgesDiffer, PortsDiffer, CanSettle, Agrees, IsNameOf, bridges_seen, ports_seen, on_bridges, enabled_ports, numbered_bridge, numbered_port, numbered}
+use Rattle.mst_report.specs.View.{BridgesDiffer, PortsDiffer, CanSettle, Shows, Agrees, IsNameOf, on_bridges, enabled_ports, numbered_bridge, numbered_port, numbered}
 use Rattle.mst_report.specs.declared.view.BridgeSeen.{BridgeSeen}
 use Rattle.mst_report.specs.declared.view.PortSeen.{PortSeen}
 use Rattle.mst_report.proofs.Entries.{all_both}
 use Rattle.mst_report.proofs.Lists.{all_mapped, all_contained, all_there, apart_mapped, apart_cases, contains_mapped}
-use Rattle.mst_report.proofs.Seen.{bridges_differ, ports_differ, bridges_numbered, ports_numbered, ports_have_bridge, ports_in_range, few_bridges, cist_bridges_named, cist_ports_named}
+use Rattle.mst_report.proofs.Seen.{bridges_differ, ports_differ, bridges_numbered, ports_numbered, ports_have_bridge, ports_in_range, few_on, cist_bridges_named, cist_ports_named}
 use Rattle.mst_lang.specs.declared.line.Query.{Query}
 use Rattle.mst_lang.specs.declared.line.Query.TheVariants.{ShowPlan, ShowLag, ShowRegions, ShowNotes, ShowTree, ShowVlan, ShowConfiguration, Changes}
 use Rattle.mst_report.specs.Answers.{Answers}
@@ -28,13 +28,13 @@ use Rattle.mst_report.proofs.Cists.{cist_topology}
 use Rattle.mst_report.proofs.Naming.{IsSeenBy, naming, is_renamed, port_found, bridges_found, lans_found}
 
 -- what is seen of a network can be settled
-pub can_settle : (net : Net) (numbers : Numbers) → IsNetwork net → IsNumbered net numbers → CanSettle (on_bridges (bridges_seen net numbers)) (enabled_ports (ports_seen net numbers))
-can_settle net numbers ok num = record {
-  bridges_differ = bridges_differ net numbers ok num;
-  ports_differ = ports_differ net numbers ok num;
-  have_bridge = ports_have_bridge net numbers ok num;
-  in_range = ports_in_range net numbers ok num;
-  few = few_bridges net numbers ok num;
+pub can_settle : (net : Net) (numbers : Numbers) → IsNetwork net → IsNumbered net numbers → (bs : List BridgeSeen) (ps : List PortSeen) → Shows net numbers bs ps → CanSettle (on_bridges bs) (enabled_ports ps)
+can_settle net numbers ok num bs ps shows = record {
+  bridges_differ = bridges_differ net numbers ok num bs ps shows;
+  ports_differ = ports_differ net numbers ok num bs ps shows;
+  have_bridge = ports_have_bridge net numbers ok num bs ps shows;
+  in_range = ports_in_range net numbers ok num bs ps shows;
+  few = few_on net numbers ok num bs ps shows;
 }
 
 -- what can be settled is a topology
@@ -48,12 +48,6 @@ is_topology bs ps can = record {
   port_ids = λ p q h j e f. elim (port_cases p q h j) [ inl same ↦ same | inr apart ↦ absurd (elim apart [ inl d ↦ d.1 e f | inr d ↦ d.1 (sym e) (sym f) ]) ];
 }
   where
-    BridgesApart : ℕ × CistBridge → ℕ × CistBridge → Type 0
-    BridgesApart q r = (q.0 ≢ r.0) × (q.1.id ≢ r.1.id)
-
-    PortsApart : Plug ℕ ℕ ℕ CistPort → Plug ℕ ℕ ℕ CistPort → Type 0
-    PortsApart p q = (p.number ≢ q.number) × (p.bridge ≡ q.bridge → p.settings.id ≢ q.settings.id)
-
     bridge_cases : (n k : ℕ) (a b : CistBridge) → HasBridge (numbered bs ps) n a → HasBridge (numbered bs ps) k b → (◌≡◌ {A = ℕ × CistBridge} (n, a) (k, b)) ⊎ (((n ≢ k) × (a.id ≢ b.id)) ⊎ ((k ≢ n) × (b.id ≢ a.id)))
     bridge_cases n k a b h j = apart_cases (λ (q r : ℕ × CistBridge). (q.0 ≢ r.0) × (q.1.id ≢ r.1.id)) (map numbered_bridge bs) (n, a) (k, b) (apart_mapped BridgesDiffer _ numbered_bridge (λ x y d. (d.numbers, d.identifiers)) bs can.bridges_differ) h j
 
@@ -94,53 +88,53 @@ one_text vectors ports (ShowTree tree) net a b ok x y =
     let same : x.0 ≡ y.0 = λ i. record { vector = λ name. vectors net x.0 y.0 ok x.1 y.1 name i; designated = λ lan. ports net x.0 y.0 ok x.1 y.1 lan i } in
     x.2 ∙ ap (λ o. tree_text net o tree) same ∙ sym y.2
 one_text vectors ports ShowPlan net a b ok x y = absurd x
-one_text vectors ports ShowLag net a b ok x y = absurd x
+one_text vectors ports ShowLag net a b ok x y = x ∙ sym y
 one_text vectors ports ShowRegions net a b ok x y = absurd x
 one_text vectors ports ShowNotes net a b ok x y = absurd x
 one_text vectors ports (ShowVlan vid) net a b ok x y = absurd x
 one_text vectors ports (ShowConfiguration bridge) net a b ok x y = absurd x
 one_text vectors ports Changes net a b ok x y = absurd x
 
-module _ (net : Net) (numbers : Numbers) (ok : IsNetwork net) (num : IsNumbered net numbers) where
+module _ (net : Net) (numbers : Numbers) (ok : IsNetwork net) (num : IsNumbered net numbers) (seen_bridges : List BridgeSeen) (seen_ports : List PortSeen) (shows : Shows net numbers seen_bridges seen_ports) where
   -- the bridges that are on, and the ports that are enabled
   abbrev on : List BridgeSeen
-  on = on_bridges (bridges_seen net numbers)
+  on = on_bridges seen_bridges
 
   abbrev enabled : List PortSeen
-  enabled = enabled_ports (ports_seen net numbers)
+  enabled = enabled_ports seen_ports
 
   is_seen : IsSeenBy numbers on enabled
-  is_seen = record { can_settle = can_settle net numbers ok num; bridges = bridges_numbered net numbers ok num; ports = ports_numbered net numbers ok num }
+  is_seen = record { can_settle = can_settle net numbers ok num seen_bridges seen_ports shows; bridges = bridges_numbered net numbers ok num seen_bridges seen_ports shows; ports = ports_numbered net numbers ok num seen_bridges seen_ports shows }
 
   -- the CIST of a network is what is on and enabled of it, renamed
   pub cist_renamed : IsRenamed (naming on enabled) (numbered on enabled) (cist_of net)
   cist_renamed =
       subst (IsRenamed (naming on enabled) (numbered on enabled))
-      (λ i. record { bridges = sym (cist_bridges_named net numbers ok num) i; ports = sym (cist_ports_named net numbers ok num) i })
+      (λ i. record { bridges = sym (cist_bridges_named net numbers ok num seen_bridges seen_ports shows) i; ports = sym (cist_ports_named net numbers ok num seen_bridges seen_ports shows) i })
       (is_renamed net numbers num on enabled is_seen)
 
   pub numbers_are_topology : IsTopology cist_rules (numbered on enabled)
-  numbers_are_topology = is_topology on enabled (can_settle net numbers ok num)
+  numbers_are_topology = is_topology on enabled (can_settle net numbers ok num seen_bridges seen_ports shows)
 
   -- by the law on renamed topologies, an outcome under names is the one under numbers
   pub outcome_agrees : ((r : Renaming ℕ ℕ ℕ (List ℕ) (List ℕ) PortName) (t : Topology ℕ ℕ ℕ CistBridge CistPort) (u : Topology (List ℕ) (List ℕ) PortName CistBridge CistPort) (v : ℕ → Option CistVector) (w : List ℕ → Option CistVector)
       → IsTopology cist_rules t → IsRenamed r t u → Settled cist_rules t v → Settled cist_rules u w → (n : ℕ) (b : CistBridge) → HasBridge t n b → w (r.bridge n) ≡ v n)
       → ((r : Renaming ℕ ℕ ℕ (List ℕ) (List ℕ) PortName) (t : Topology ℕ ℕ ℕ CistBridge CistPort) (u : Topology (List ℕ) (List ℕ) PortName CistBridge CistPort) (v : ℕ → Option CistVector) (w : List ℕ → Option CistVector)
       → IsTopology cist_rules t → IsRenamed r t u → Settled cist_rules t v → Settled cist_rules u w → (p : Plug ℕ ℕ ℕ CistPort) → HasPort t p → (o : Option ℕ) (q : Option PortName) → IsDesignated cist_rules t v p.lan o → IsDesignated cist_rules u w (r.lan p.lan) q → MatchOption o (q ≡ None) (λ k. q ≡ Some (r.port k)))
-      → (o : Outcome) → IsOutcome net o → (v : ℕ → Option CistVector) → Settled cist_rules (numbered (on_bridges (bridges_seen net numbers)) (enabled_ports (ports_seen net numbers))) v
-      → (d : ℕ → Option ℕ) → ((lan : ℕ) → IsDesignated cist_rules (numbered (on_bridges (bridges_seen net numbers)) (enabled_ports (ports_seen net numbers))) v lan (d lan)) → Agrees net numbers o v d
+      → (o : Outcome) → IsOutcome net o → (v : ℕ → Option CistVector) → Settled cist_rules (numbered (on_bridges seen_bridges) (enabled_ports seen_ports)) v
+      → (d : ℕ → Option ℕ) → ((lan : ℕ) → IsDesignated cist_rules (numbered (on_bridges seen_bridges) (enabled_ports seen_ports)) v lan (d lan)) → Agrees numbers seen_bridges seen_ports o v d
   outcome_agrees vectors ports o is v settled d designated = record {
-    bridges = all_both _ _ _ (λ b there found.
+    vectors = all_both _ _ _ (λ b there found.
         sym (vectors (naming bs ps) t (cist_of net) v o.vector numbers_are_topology cist_renamed settled is.settled b.number b.cist (contains_mapped numbered_bridge bs b there)) ∙ ap o.vector found)
         bs (all_there bs) (bridges_found net numbers num bs ps is_seen);
-    ports = all_both _ _ _ one ps (all_there ps) (lans_found net numbers num bs ps is_seen);
+    designated_ports = all_both _ _ _ one ps (all_there ps) (lans_found net numbers num bs ps is_seen);
   }
     where
       bs : List BridgeSeen
-      bs = on_bridges (bridges_seen net numbers)
+      bs = on_bridges seen_bridges
 
       ps : List PortSeen
-      ps = enabled_ports (ports_seen net numbers)
+      ps = enabled_ports seen_ports
 
       t : Topology ℕ ℕ ℕ CistBridge CistPort
       t = numbered bs ps

@@ -1,5 +1,5 @@
 -- What is printed of the settled CIST.
-use Rattle.std.proofs.Common.{◌≡◌, ℕ, Bool, true, false, not, cond, List, [], ◌∷◌, ◌++◌, length, map, take, get_or, Option, Some, None, ◌+◌, ◌<◌, refl, sym, ap, subst, ◌∙◌, append_assoc, append-nil}
+use Rattle.std.proofs.Common.{◌≡◌, ℕ, Bool, true, false, not, cond, List, [], ◌∷◌, ◌++◌, length, map, take, get_or, Option, Some, None, ◌+◌, ◌<◌, refl, sym, ap, ◌∙◌, append_assoc, append-nil}
 use Rattle.std.specs.List.{flat_map, Contains}
 use Rattle.std.specs.Option.{ForSome, option_map_or}
 use Rattle.std.specs.Cmp.Lexicographic.{bytes_decides}
@@ -8,13 +8,14 @@ use Rattle.std.proofs.lemmas.Grind.{flat_map-append}
 use Rattle.mst_ids.specs.declared.name.PortName.{PortName}
 use Rattle.mst_settle.specs.Assignment.{vector_of, designated_of}
 use Rattle.mst_vector.specs.declared.cist.CistVector.{CistVector}
-use Rattle.mst_net.specs.Tables.{Net, Numbers}
+use Rattle.mst_net.specs.Tables.{Net, Numbers, IsNetwork}
 use Rattle.mst_net.specs.Contents.{IsNumbered}
-use Rattle.mst_report.specs.Cist.{Outcome, PortView, is_on}
+use Rattle.mst_report.specs.Cist.{Outcome, PortView}
+use Rattle.mst_lag.specs.View.{is_on}
 use Rattle.mst_report.specs.Roles.{same_name, role_of}
 use Rattle.mst_report.specs.TreeText.{bridge_line, off_line, port_text, port_line}
 use Rattle.mst_report.specs.Kept.{Keeps}
-use Rattle.mst_report.specs.View.{IsNameOf, bridges_seen, ports_seen, on_bridges, enabled_ports}
+use Rattle.mst_report.specs.View.{IsNameOf, on_bridges, enabled_ports}
 use Rattle.mst_report.specs.declared.cist.Cist.{Cist}
 use Rattle.mst_report.specs.declared.view.BridgeSeen.{BridgeSeen}
 use Rattle.mst_report.specs.declared.view.PortSeen.{PortSeen}
@@ -36,26 +37,26 @@ text_more f g xs i d old now new l e h =
     h ∙ ap (λ t. t ++ f (g (get_or xs i d))) e ∙ append_assoc old (flat_map f (map g (take i xs))) (f (g (get_or xs i d)))
     ∙ ap (λ t. old ++ t) (ap (λ t. flat_map f (map g (take i xs)) ++ t) (sym (append-nil (f (g (get_or xs i d))))) ∙ sym (flat_map-append f (map g (take i xs)) (g (get_or xs i d) ∷ [])) ∙ ap (flat_map f) (map_more g xs i d l))
 
--- the vector of a bridge that is kept and on
-pub vector_kept : (net : Net) (numbers : Numbers) (c : Cist) (o : Outcome) → Keeps net numbers c o → (b : BridgeSeen) → Contains c.bridges.items b → b.is_on ≡ true → vector_of c.settler b.number ≡ o.vector b.name
-vector_kept net numbers c o keeps b there on =
-    all_contained (λ b. vector_of c.settler b.number ≡ o.vector b.name) (on_bridges (bridges_seen net numbers)) b keeps.agrees.bridges
-    (contains_filtered (λ b. b.is_on) (bridges_seen net numbers) b (subst (λ bs. Contains bs b) keeps.bridges there) on)
+module _ (net : Net) (numbers : Numbers) (c : Cist) (o : Outcome) (keeps : Keeps net numbers c o) where
+  -- the vector of a bridge that is kept and on
+  pub vector_kept : (b : BridgeSeen) → Contains c.bridges.items b → b.is_on ≡ true → vector_of c.settler b.number ≡ o.vector b.name
+  vector_kept b there on =
+      all_contained (λ b. vector_of c.settler b.number ≡ o.vector b.name) (on_bridges c.bridges.items) b keeps.agrees.vectors
+      (contains_filtered (λ b. b.is_on) c.bridges.items b there on)
 
--- the designated port of an enabled port's LAN
-pub designated_kept : (net : Net) (numbers : Numbers) (c : Cist) (o : Outcome) → Keeps net numbers c o → (p : PortSeen) → Contains c.ports.items p → p.is_enabled ≡ true → IsNameOf numbers (designated_of c.settler p.lan_number) (o.designated p.lan)
-designated_kept net numbers c o keeps p there enabled =
-    all_contained (λ p. IsNameOf numbers (designated_of c.settler p.lan_number) (o.designated p.lan)) (enabled_ports (ports_seen net numbers)) p keeps.agrees.ports
-    (contains_filtered (λ p. p.is_enabled) (ports_seen net numbers) p (subst (λ ps. Contains ps p) keeps.ports there) enabled)
+  -- the designated port of an enabled port's LAN
+  pub designated_kept : (p : PortSeen) → Contains c.ports.items p → p.is_enabled ≡ true → IsNameOf numbers (designated_of c.settler p.lan_number) (o.designated p.lan)
+  designated_kept p there enabled =
+      all_contained (λ p. IsNameOf numbers (designated_of c.settler p.lan_number) (o.designated p.lan)) (enabled_ports c.ports.items) p keeps.agrees.designated_ports
+      (contains_filtered (λ p. p.is_enabled) c.ports.items p there enabled)
 
--- the vector of the bridge of an enabled port, which is on
-pub port_vector_kept : (net : Net) (numbers : Numbers) (c : Cist) (o : Outcome) → Keeps net numbers c o → (b : BridgeSeen) → Contains c.bridges.items b → (p : PortSeen) → Contains c.ports.items p → same_name p.name.bridge b.name ≡ true → p.is_enabled ≡ true
-    → vector_of c.settler b.number ≡ o.vector p.name.bridge
-port_vector_kept net numbers c o keeps b bridge p port of enabled =
-    let names : p.name.bridge ≡ b.name = (bytes_decides p.name.bridge b.name).0 of in
-    let power = all_contained (λ b. is_on net b.name ≡ b.is_on) (bridges_seen net numbers) b (bridges_powered net numbers) (subst (λ bs. Contains bs b) keeps.bridges bridge) in
-    let on = all_contained (λ p. p.is_enabled ≡ true → is_on net p.name.bridge ≡ true) (ports_seen net numbers) p (ports_powered net numbers) (subst (λ ps. Contains ps p) keeps.ports port) enabled in
-    vector_kept net numbers c o keeps b bridge (sym power ∙ ap (is_on net) (sym names) ∙ on) ∙ ap o.vector (sym names)
+  -- the vector of the bridge of an enabled port, which is on
+  pub port_vector_kept : IsNetwork net → (b : BridgeSeen) → Contains c.bridges.items b → (p : PortSeen) → Contains c.ports.items p → same_name p.name.bridge b.name ≡ true → p.is_enabled ≡ true → vector_of c.settler b.number ≡ o.vector p.name.bridge
+  port_vector_kept ok b bridge p port of enabled =
+      let names : p.name.bridge ≡ b.name = (bytes_decides p.name.bridge b.name).0 of in
+      let power = all_contained (λ b. is_on net b.name ≡ b.is_on) c.bridges.items b (bridges_powered net numbers ok c.bridges.items c.ports.items keeps.shows) bridge in
+      let on = all_contained (λ p. p.is_enabled ≡ true → is_on net p.name.bridge ≡ true) c.ports.items p (ports_powered net numbers ok c.bridges.items c.ports.items keeps.shows) port enabled in
+      vector_kept b bridge (sym power ∙ ap (is_on net) (sym names) ∙ on) ∙ ap o.vector (sym names)
 
 -- the line of a bridge, which names its vector where it is on
 abbrev pub own_line : BridgeSeen → Option CistVector → List ℕ

@@ -4,4 +4,6 @@ pub mod Kept
 pub mod Roles
 pub mod Words
 pub mod TreeText
+pub mod LagText
+pub mod LagView
 pub mod Answers

@@ -7,7 +7,7 @@ use Rattle.mst_vector.specs.declared.cist.CistBridge.{CistBridge}
 use Rattle.mst_vector.specs.declared.cist.CistPort.{CistPort}
 use Rattle.mst_vector.specs.declared.cist.CistVector.{CistVector}
 use Rattle.mst_net.specs.Tables.{Net}
-use Rattle.mst_report.specs.Cist.{Outcome, BridgeView, PortView, view_bridges, view_ports}
+use Rattle.mst_report.specs.Cist.{Outcome, BridgeView, PortView, cist_bridges, cist_ports}
 use Rattle.mst_report.specs.Roles.{same_name, role_of, role_text}
 use Rattle.mst_report.specs.Words.{line}
 use Rattle.mst_report.specs.declared.role.Role.{Role}
@@ -44,7 +44,7 @@ port_text o bridge p = if same_name p.name.bridge bridge then port_line p (role_
 abbrev pub bridge_text : Net → Outcome → BridgeView → List ℕ
 bridge_text net o b =
     (if b.is_on then option_map_or (bridge_line b.name b.settings) (o.vector b.name) [] else off_line b.name)
-    ++ flat_map (port_text o b.name) (view_ports net)
+    ++ flat_map (port_text o b.name) (cist_ports net)
 
 -- `tree T`
 abbrev pub tree_heading : ℕ → List ℕ
@@ -52,4 +52,4 @@ tree_heading tree = line (codes "tree" ∷ decimal tree ∷ [])
 
 -- the CIST: the heading, and the lines of each bridge. A tree that no bridge has is its heading alone
 abbrev pub tree_text : Net → Outcome → ℕ → List ℕ
-tree_text net o tree = tree_heading tree ++ (if tree == 0 then flat_map (bridge_text net o) (view_bridges net) else [])
+tree_text net o tree = tree_heading tree ++ (if tree == 0 then flat_map (bridge_text net o) (cist_bridges net) else [])

@@ -1,49 +1,38 @@
 -- What the CIST sees of a network, under names and under the numbers of records.
-use Rattle.std.specs.Prelude.{◌≡◌, ◌≢◌, ℕ, true, false, List, [], ◌∷◌, map, filter, filter_map, ◌&&◌, Option, Some, None, ⊤, IsTrue, length, ◌≤◌, MatchOption}
-use Rattle.std.specs.Option.{option_map, option_and_then}
+use Rattle.std.specs.Prelude.{◌≡◌, ◌≢◌, ℕ, true, false, List, [], ◌∷◌, map, filter, Option, Some, None, ⊤, IsTrue, length, ◌≤◌, MatchOption}
 use Rattle.std.specs.List.{AllByRecursion, Contains}
 use Rattle.std.specs.FinMap as fin
 use Rattle.mst_ids.specs.declared.name.PortName.{PortName}
 use Rattle.mst_vector.specs.Cist.{cist_rules}
 use Rattle.mst_vector.specs.declared.cist.CistBridge.{CistBridge}
 use Rattle.mst_vector.specs.declared.cist.CistPort.{CistPort}
-use Rattle.mst_settle.specs.Topology.{Plug, Topology}
-use Rattle.mst_net.specs.Tables.{Net, Numbers, PortRow}
 use Rattle.mst_vector.specs.declared.cist.CistVector.{CistVector}
-use Rattle.mst_report.specs.Cist.{Outcome, BridgeView, PortView, cist_bridge, cist_port, is_on, tree_bridge, tree_port}
+use Rattle.mst_settle.specs.Topology.{Plug, Topology}
+use Rattle.mst_net.specs.Tables.{Net, Numbers}
+use Rattle.mst_net.specs.Seen.{bridge_row}
+use Rattle.mst_lag.specs.Viewed.{named_port as logical_port}
+use Rattle.mst_lag.specs.declared.in_view.BridgeInView.{BridgeInView}
+use Rattle.mst_lag.specs.declared.in_view.PortInView.{PortInView}
+use Rattle.mst_report.specs.Cist.{Outcome, BridgeView, PortView, cist_bridge, cist_port, cist_bridges, cist_ports, tree_bridge, tree_port}
 use Rattle.mst_report.specs.declared.view.BridgeSeen.{BridgeSeen}
 use Rattle.mst_report.specs.declared.view.PortSeen.{PortSeen}
 
--- the bridge of this name
-abbrev pub bridge_seen : Net → Numbers → List ℕ → Option BridgeSeen
-bridge_seen net numbers name =
-    option_and_then (λ row. option_map (λ number. record { name = name; number = number; cist = cist_bridge net name row; is_on = row.is_on }) (fin.get numbers.bridges name))
-    (fin.get net.bridges name)
+-- a bridge and a logical port of the network's view, as the CIST sees them
+abbrev pub seen_bridge : Net → BridgeInView → BridgeSeen
+seen_bridge net b =
+    let row = bridge_row b.bridge in
+    record { name = b.name; number = b.bridge.number; cist = cist_bridge net b.name row; is_on = row.is_on }
 
--- all bridges, in byte order of names
-abbrev pub bridges_seen : Net → Numbers → List BridgeSeen
-bridges_seen net numbers = filter_map (bridge_seen net numbers) (fin.keys net.bridges)
-
--- the port of this name and these settings, on the LAN of this name
-abbrev pub port_on : Net → Numbers → PortName → PortRow → List ℕ → Option PortSeen
-port_on net numbers port row lan =
-    option_and_then (λ lan_row. option_and_then (λ number. option_and_then (λ bridge. option_map (λ lan_number. record {
-      name = port;
-      number = number;
-      bridge = bridge;
-      lan = lan;
-      lan_number = lan_number;
-      cist = cist_port net port row lan_row;
-      is_enabled = is_on net port.bridge && lan_row.is_up;
-    }) (fin.get numbers.lans lan)) (fin.get numbers.bridges port.bridge)) (fin.get numbers.ports port)) (fin.get net.lans lan)
-
--- the port of this name, if it is plugged
-abbrev pub port_seen : Net → Numbers → PortName → Option PortSeen
-port_seen net numbers port = option_and_then (λ row. option_and_then (port_on net numbers port row) row.lan) (fin.get net.ports port)
-
--- all plugged ports, by bridge and number
-abbrev pub ports_seen : Net → Numbers → List PortSeen
-ports_seen net numbers = filter_map (port_seen net numbers) (fin.keys net.ports)
+abbrev pub seen_port : Net → PortInView → PortSeen
+seen_port net p = record {
+  name = p.name;
+  number = p.number;
+  bridge = p.bridge;
+  lan = p.lan;
+  lan_number = p.lan_number;
+  cist = cist_port net (logical_port p);
+  is_enabled = p.is_enabled;
+}
 
 -- those that take part in the CIST
 abbrev pub on_bridges : List BridgeSeen → List BridgeSeen
@@ -52,12 +41,25 @@ on_bridges = filter (λ b. b.is_on)
 abbrev pub enabled_ports : List PortSeen → List PortSeen
 enabled_ports = filter (λ p. p.is_enabled)
 
--- a bridge and a port in the view
+-- a bridge and a port under their names
 abbrev pub viewed_bridge : BridgeSeen → BridgeView
 viewed_bridge b = record { name = b.name; settings = b.cist; is_on = b.is_on }
 
 abbrev pub viewed_port : PortSeen → PortView
 viewed_port p = record { name = p.name; lan = p.lan; settings = p.cist; is_enabled = p.is_enabled }
+
+-- a port, its bridge and its logical LAN have the numbers of their records
+pub record HasNumbers (numbers : Numbers) (p : PortSeen) : Type 0 where
+  pub port : fin.get numbers.ports p.name ≡ Some p.number
+  pub bridge : fin.get numbers.bridges p.name.bridge ≡ Some p.bridge
+  pub lan : fin.get numbers.lans p.lan ≡ Some p.lan_number
+
+-- these lists show what the CIST sees of the network, under the numbers of its records
+pub record Shows (net : Net) (numbers : Numbers) (bridges : List BridgeSeen) (ports : List PortSeen) : Type 0 where
+  pub all_bridges : map viewed_bridge bridges ≡ cist_bridges net
+  pub all_ports : map viewed_port ports ≡ cist_ports net
+  pub bridge_numbers : AllByRecursion (λ b. fin.get numbers.bridges b.name ≡ Some b.number) bridges
+  pub port_numbers : AllByRecursion (HasNumbers numbers) ports
 
 -- in the CIST under names
 abbrev pub named_bridge : BridgeSeen → List ℕ × CistBridge
@@ -105,6 +107,6 @@ abbrev pub IsNameOf : Numbers → Option ℕ → Option PortName → Type 0
 IsNameOf numbers number name = MatchOption number (name ≡ None) (λ k. (q : PortName) × (name ≡ Some q) × (fin.get numbers.ports q ≡ Some k))
 
 -- under the numbers of records the outcome has these vectors and these designated ports
-pub record Agrees (net : Net) (numbers : Numbers) (o : Outcome) (vector : ℕ → Option CistVector) (designated : ℕ → Option ℕ) : Type 0 where
-  pub bridges : AllByRecursion (λ b. vector b.number ≡ o.vector b.name) (on_bridges (bridges_seen net numbers))
-  pub ports : AllByRecursion (λ p. IsNameOf numbers (designated p.lan_number) (o.designated p.lan)) (enabled_ports (ports_seen net numbers))
+pub record Agrees (numbers : Numbers) (bridges : List BridgeSeen) (ports : List PortSeen) (o : Outcome) (vector : ℕ → Option CistVector) (designated : ℕ → Option ℕ) : Type 0 where
+  pub vectors : AllByRecursion (λ b. vector b.number ≡ o.vector b.name) (on_bridges bridges)
+  pub designated_ports : AllByRecursion (λ p. IsNameOf numbers (designated p.lan_number) (o.designated p.lan)) (enabled_ports ports)

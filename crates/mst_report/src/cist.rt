@@ -1,5 +1,6 @@
 ghost use Rattle.std.specs.Prelude.{◌≡◌, ℕ, IfOk, [], map};
 ghost use Rattle.mst_vector.specs.Cist.{cist_rules};
+ghost use Rattle.mst_lag.specs.Viewed.{IsView};
 ghost use Rattle.mst_settle.specs.Settled.{Settled, IsDesignated};
 ghost use Rattle.mst_settle.specs.Assignment.{vector_of, designated_of};
 ghost use Rattle.mst_report.specs.View.{CanSettle, numbered, numbered_bridge, on_bridges, enabled_ports};
@@ -8,6 +9,7 @@ ghost use Rattle.mst_report.specs.Kept.{IsCistOf};
 use crate::laws::has_outcome;
 use crate::view::{BridgeSeen, PortSeen, bridges, ports};
 use mst_ids::{BridgeNo, LanNo, Name, PortName, PortNo};
+use mst_lag::{View, view};
 use mst_net::{Contents, Network};
 use mst_settle::laws::renamed;
 use mst_settle::{Settler, Topology};
@@ -87,13 +89,14 @@ fn enabled(alloc: Global, ports: &[PortSeen]) -> Result<Vec<PortSeen>, AllocErro
         .collect(alloc)
 }
 
-/// Settles the CIST of a network.
-pub(crate) fn settled_cist(alloc: Global, network: &Network) -> Result<Cist, AllocError>
+/// Settles the CIST of a network, by its view.
+fn cist_of_view(alloc: Global, network: &Network, view: &View) -> Result<Cist, AllocError>
+    requires { IsView network.now.net network.now.numbers view.now }
     ensures { IfOk result (IsCistOf network.now.net network.now.numbers) }
 {
     network.known();
-    let bridges = bridges(alloc, network)?;
-    let ports = ports(alloc, network)?;
+    let bridges = bridges(alloc, network, view.bridges())?;
+    let ports = ports(alloc, network, view.ports())?;
     let on = on(alloc, bridges.as_slice())?;
     let enabled = enabled(alloc, ports.as_slice())?;
     let settler = settle(alloc, on.as_slice(), enabled.as_slice())?;
@@ -104,4 +107,12 @@ pub(crate) fn settled_cist(alloc: Global, network: &Network) -> Result<Cist, All
         ports,
         settler,
     })
+}
+
+/// Settles the CIST of a network.
+pub(crate) fn settled_cist(alloc: Global, network: &Network) -> Result<Cist, AllocError>
+    ensures { IfOk result (IsCistOf network.now.net network.now.numbers) }
+{
+    let view = view(alloc, network)?;
+    cist_of_view(alloc, network, &view)
 }

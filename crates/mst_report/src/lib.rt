@@ -2,12 +2,14 @@
 #![tactic(auto)]
 
 mod cist;
+mod lags;
 pub mod laws;
 mod queries;
 mod role;
 mod text;
 mod view;
 
+pub use lags::show_lag;
 pub use queries::show_tree;
 pub use role::Role;
 

@@ -5,7 +5,7 @@ ghost use Rattle.mst_ids.specs.declared.name.PortName.{PortName};
 ghost use Rattle.mst_settle.specs.Assignment.{designated_of};
 ghost use Rattle.mst_lang.specs.declared.line.Query.TheVariants.{ShowTree};
 ghost use Rattle.mst_report.specs.Answers.{Answers};
-ghost use Rattle.mst_report.specs.Cist.{Outcome, IsOutcome, view_bridges};
+ghost use Rattle.mst_report.specs.Cist.{Outcome, IsOutcome, cist_bridges};
 ghost use Rattle.mst_report.specs.Kept.{Keeps};
 ghost use Rattle.mst_report.specs.Roles.{role_of};
 ghost use Rattle.mst_report.specs.TreeText.{port_text, bridge_text, bridge_line, off_line, tree_text};
@@ -22,9 +22,9 @@ use mst_settle::Settler;
 use mst_vector::{CistMetric, CistVector};
 use std::alloc::{AllocError, Global};
 
-/// The text of a tree: its heading, and for the CIST, tree 0, each bridge with its root priority vector (802.1Q-2022, 13.10), or that it is off, and each of its
-/// plugged ports with its role (13.12), in byte order of names and by port number. The network alone
-/// settles the text.
+/// The text of a tree: its heading, and for the CIST, tree 0, each bridge with its root priority vector
+/// (802.1Q-2022, 13.10), or that it is off, and each of its logical ports with its role (13.12), in byte
+/// order of names and by port number. The network alone settles the text.
 ///
 /// It fails only where there is no memory.
 pub fn show_tree(alloc: Global, network: &Network, tree: Tree) -> Result<Vec<u8>, AllocError>
@@ -45,9 +45,8 @@ pub fn show_tree(alloc: Global, network: &Network, tree: Tree) -> Result<Vec<u8>
 /// Appends the lines of all bridges and their ports.
 fn push_cist(network: &Network, cist: &Cist, out: &mut Vec<u8>) -> Result<(), AllocError>
     ensures { (o : Outcome) → Keeps network.now.net network.now.numbers cist.now o
-        → OnOk result (out.new.items ≡ out.old.items ++ flat_map (bridge_text network.now.net o) (view_bridges network.now.net)) }
+        → OnOk result (out.new.items ≡ out.old.items ++ flat_map (bridge_text network.now.net o) (cist_bridges network.now.net)) }
 {
-    network.known();
     for bridge in &cist.bridges {
         push_bridge_text(network, cist, bridge, out)?;
     }
@@ -64,7 +63,6 @@ fn push_bridge_text(
     ensures { (o : Outcome) → Keeps network.now.net network.now.numbers cist.now o → Contains cist.now.bridges.items bridge.now
         → OnOk result (out.new.items ≡ out.old.items ++ bridge_text network.now.net o (viewed_bridge bridge.now)) }
 {
-    network.known();
     push_own_line(bridge, cist.settler.vector(bridge.number), out)?;
     push_ports(network, cist, bridge, out)
 }
@@ -116,6 +114,7 @@ fn push_port_of(
     if port.name.bridge != bridge.name {
         return Ok(());
     }
+    network.known();
     let vector = cist.settler.vector(bridge.number);
     push_port(port, role_in(network, &cist.settler, vector, port), out)
 }

@@ -6,18 +6,18 @@ use crate::view::PortSeen;
 use mst_ids::PortName;
 use mst_vector::CistVector;
 
-/// The role of a plugged port in the CIST (802.1Q-2022, 13.12).
+/// The role of a logical port in the CIST (802.1Q-2022, 13.12).
 #[derive(Clone, Copy, Debug, PartialEq, Eq)]
 pub enum Role {
     /// It gave its bridge's root priority vector.
     Root,
-    /// It is its LAN's designated port.
+    /// It is its logical LAN's designated port.
     Designated,
-    /// Its LAN's designated port is on another bridge.
+    /// Its logical LAN's designated port is on another bridge.
     Alternate,
-    /// Its LAN's designated port is another one of its bridge.
+    /// Its logical LAN's designated port is another one of its bridge.
     Backup,
-    /// It isn't enabled: its bridge is off, or its LAN is down.
+    /// It isn't enabled: its bridge is off, or its logical LAN is down.
     Disabled,
 }
 
@@ -36,7 +36,8 @@ impl Role {
     }
 }
 
-/// The role of an enabled port, by the root priority vector of its bridge and the designated port of its LAN.
+/// The role of an enabled port, by the root priority vector of its bridge and the designated port of its
+/// logical LAN.
 pub(crate) fn role_of_port(
     vector: Option<CistVector>,
     designated: Option<PortName>,

@@ -1,6 +1,6 @@
 //! The texts are worked by hand from the rules of the standard.
 
-use crate::{Role, laws, show_tree};
+use crate::{Role, laws, show_lag, show_tree};
 use mst_ids::Tree;
 use mst_lang::{Edit, Line, parse_line};
 use mst_net::{Network, Refusal};
@@ -93,6 +93,96 @@ const NO_BRIDGES: [&str; 0] = [];
 
 const ONE_BRIDGE: [&str; 2] = ["addbridge A 02:00:00:00:00:01", "kind A rstp"];
 
+/// Two bridges with two links, and one key on all four ports.
+const ONE_CLASS: [&str; 18] = [
+    "addbridge A 02:00:00:00:00:01",
+    "kind A rstp",
+    "addbridge B 02:00:00:00:00:02",
+    "kind B rstp",
+    "addlan X",
+    "addport A 1",
+    "addport B 1",
+    "plug A 1 X",
+    "plug B 1 X",
+    "addlan Y",
+    "addport A 2",
+    "addport B 2",
+    "plug A 2 Y",
+    "plug B 2 Y",
+    "setkey A 1 7",
+    "setkey A 2 7",
+    "setkey B 1 7",
+    "setkey B 2 7",
+];
+
+/// Three bridges on one LAN, and one key on all ports.
+const THREE_PLUGS: [&str; 16] = [
+    "addbridge A 02:00:00:00:00:01",
+    "kind A rstp",
+    "addbridge B 02:00:00:00:00:02",
+    "kind B rstp",
+    "addbridge C 02:00:00:00:00:03",
+    "kind C rstp",
+    "addlan X",
+    "addport A 1",
+    "addport B 1",
+    "addport C 1",
+    "plug A 1 X",
+    "plug B 1 X",
+    "plug C 1 X",
+    "setkey A 1 7",
+    "setkey B 1 7",
+    "setkey C 1 7",
+];
+
+/// The two bridges with these lines more, the last lines of tree 0, and the lines of the classes.
+const CLASSES: [(&str, &[&str], &str, &str); 4] = [
+    (
+        "both links up",
+        &[],
+        "\
+bridge B 8000.02:00:00:00:00:02 root 8000.02:00:00:00:00:01 ext 10000 regional 8000.02:00:00:00:00:02 int 0 from 8000.02:00:00:00:00:01 8001 at 8001
+port B 1 X 8001 ext 10000 int 10000 Root
+",
+        "\
+lag X 8000.02:00:00:00:00:01.0007+8000.02:00:00:00:00:02.0007 speed 2000000 up X,Y lans X,Y ports A:1,A:2,B:1,B:2
+",
+    ),
+    (
+        "one link down",
+        &["lan X down"],
+        "\
+port B 1 X 8001 ext 20000 int 20000 Root
+",
+        "\
+lag X 8000.02:00:00:00:00:01.0007+8000.02:00:00:00:00:02.0007 speed 1000000 up Y lans X,Y ports A:1,A:2,B:1,B:2
+",
+    ),
+    (
+        "both links down",
+        &["lan X down", "lan Y down"],
+        "\
+bridge B 8000.02:00:00:00:00:02 root 8000.02:00:00:00:00:02 ext 0 regional 8000.02:00:00:00:00:02 int 0 from 8000.02:00:00:00:00:02 0000 at 0000
+port B 1 X Disabled
+",
+        "\
+lag X 8000.02:00:00:00:00:01.0007+8000.02:00:00:00:00:02.0007 speed 0 up - lans X,Y ports A:1,A:2,B:1,B:2
+",
+    ),
+    (
+        "two keys",
+        &["setkey B 2 8"],
+        "\
+port B 1 X 8001 ext 20000 int 20000 Root
+port B 2 Y 8002 ext 20000 int 20000 Alternate
+",
+        "\
+lag X 8000.02:00:00:00:00:01.0007+8000.02:00:00:00:00:02.0007 speed 1000000 up X lans X ports A:1,B:1
+lag Y 8000.02:00:00:00:00:01.0007+8000.02:00:00:00:00:02.0008 speed 1000000 up Y lans Y ports A:2,B:2
+",
+    ),
+];
+
 /// The edit that a line says.
 fn edit_of(line: &str) -> Option<Edit> {
     match parse_line(line.as_bytes()) {
@@ -112,20 +202,37 @@ fn make(network: &mut Network, line: &str) -> Result<(), Refusal> {
     Ok(())
 }
 
-/// The network that a script makes.
-fn network_of(alloc: Global, script: &[&str]) -> Result<Network, Refusal> {
-    let mut network = Network::new(alloc);
-    for line in script {
-        make(&mut network, line)?;
+/// Makes the edits that the lines say, and tells whether none was refused.
+fn make_all(network: &mut Network, lines: &[&str]) -> bool {
+    for line in lines {
+        if make(network, line).is_err() {
+            return false;
+        }
     }
-    Ok(network)
+    true
+}
+
+/// The network of a script and of these lines after it.
+fn network_of(alloc: Global, script: &[&str], lines: &[&str]) -> Option<Network> {
+    let mut network = Network::new(alloc);
+    if make_all(&mut network, script) && make_all(&mut network, lines) {
+        Some(network)
+    } else {
+        None
+    }
 }
 
 /// The text of a tree of the network that a script makes, where there is memory.
 fn text_of(alloc: Global, script: &[&str], tree: u64) -> Option<Vec<u8>> {
     let tree = Tree::new(tree)?;
-    let network = network_of(alloc, script).ok()?;
+    let network = network_of(alloc, script, &[])?;
     show_tree(alloc, &network, tree).ok()
+}
+
+/// The text of the classes of links of the network that a script and these lines make, where there is memory.
+fn classes_of(alloc: Global, script: &[&str], lines: &[&str]) -> Option<Vec<u8>> {
+    let network = network_of(alloc, script, lines)?;
+    show_lag(alloc, &network).ok()
 }
 
 #[test]
@@ -151,6 +258,43 @@ fn last_lines_are_told(rt: HostRuntime) -> Result<(), Fail> {
     for (row, script, end) in rows {
         let answer = text_of(rt.alloc(), script, 0).ok_or("no answer")?;
         assert!(rt; answer.as_slice().ends_with(end.as_bytes()), "at {row}");
+    }
+    Ok(())
+}
+
+/// The text of tree 0 of the two bridges with these lines more.
+fn tree_with(alloc: Global, lines: &[&str]) -> Option<Vec<u8>> {
+    let network = network_of(alloc, &ONE_CLASS, lines)?;
+    show_tree(alloc, &network, Tree::cist()).ok()
+}
+
+#[test]
+fn classes_count_as_one_in_trees(rt: HostRuntime) -> Result<(), Fail> {
+    for (row, lines, end, _) in CLASSES {
+        let tree = tree_with(rt.alloc(), lines).ok_or("no answer")?;
+        assert!(rt; tree.as_slice().ends_with(end.as_bytes()), "at {row}");
+    }
+    Ok(())
+}
+
+#[test]
+fn classes_are_told(rt: HostRuntime) -> Result<(), Fail> {
+    for (row, lines, _, text) in CLASSES {
+        let classes = classes_of(rt.alloc(), &ONE_CLASS, lines).ok_or("no answer")?;
+        assert!(rt; classes.as_slice() == text.as_bytes(), "at {row}");
+    }
+    Ok(())
+}
+
+#[test]
+fn links_of_no_class_are_left_out(rt: HostRuntime) -> Result<(), Fail> {
+    for script in [
+        TRIANGLE.as_slice(),
+        BACKUP.as_slice(),
+        THREE_PLUGS.as_slice(),
+    ] {
+        let classes = classes_of(rt.alloc(), script, &[]).ok_or("no answer")?;
+        assert!(rt; classes.is_empty());
     }
     Ok(())
 }

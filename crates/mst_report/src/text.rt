@@ -22,7 +22,7 @@ fn push_rest(words: &[&[u8]], out: &mut Vec<u8>) -> Result<(), AllocError>
 }
 
 /// Appends a line of words.
-fn push_line(words: &[&[u8]], out: &mut Vec<u8>) -> Result<(), AllocError>
+pub(crate) fn push_line(words: &[&[u8]], out: &mut Vec<u8>) -> Result<(), AllocError>
     ensures { OnOk result (out.new.items ≡ out.old.items ++ line (map (λ word. word.now) words.now)) }
 {
     match words {

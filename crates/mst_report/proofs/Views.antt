@@ -1,0 +1,233 @@
+-- The bridges and the logical ports of a network, under names.
+use Rattle.std.proofs.Common.{◌≡◌, ◌≢◌, ℕ, ◌+◌, ◌*◌, ◌^◌, ◌<◌, ◌≤◌, true, false, ◌&&◌, nat_le, min, max, ◌/◌, List, length, map, Option, Some, None, is_some, IsTrue, refl, sym, ap, subst, ◌∙◌, Bool, arith, true≢false, Less, Equal, Greater}
+use Rattle.std.specs.declared.cmp.Ordering.{Ordering}
+use Rattle.std.specs.List.{AllByRecursion, Contains, filter}
+use Rattle.std.specs.Option.{option_map, option_map_or, unwrap_or}
+use Rattle.std.specs.Ordering.{is_eq, eq_by_cmp}
+use Rattle.std.specs.Cmp.{IsTotalOrder, tied_itself}
+use Rattle.std.specs.Cmp.Lexicographic.{nat_list_cmp_total}
+use Rattle.std.proofs.lemmas.Cmp.{on_total, then_total, nat_cmp_total}
+use Rattle.std.proofs.lemmas.Bool.{le-leb, and_parts, and_from}
+use Rattle.std.proofs.lemmas.List.{length-map}
+use Rattle.std.specs.FinMap as fin
+use Rattle.std.specs.FinMap.{slice_cmp-IsAntisymmetric, nat_cmp-IsAntisymmetric, contains_key-keys, len-entries}
+use Rattle.mst_ids.specs.Names.{name_cmp, port_cmp}
+use Rattle.mst_ids.specs.Identifiers.{bridge_id, port_id}
+use Rattle.mst_ids.specs.Costs.{automatic_cost}
+use Rattle.mst_ids.specs.declared.name.PortName.{PortName}
+use Rattle.mst_vector.specs.Cist.{cist_rules}
+use Rattle.mst_vector.specs.declared.cist.CistBridge.{CistBridge}
+use Rattle.mst_vector.specs.Rules.{is_cost}
+use Rattle.mst_net.specs.Tables.{Net, BridgeRow, PortRow, IsNetwork, IsPathCost, port_eq}
+use Rattle.mst_net.specs.Contents.{priority_of, port_priority_of, port_cost_of}
+use Rattle.mst_lag.specs.Aggregation.{Plug, plug_of, plugs}
+use Rattle.mst_lag.specs.View.{LogicalPort, logical_port, as_port, is_on, is_up, logical_lan, view_ports}
+use Rattle.mst_report.specs.Cist.{BridgeView, PortView, cist_bridge, cist_port, port_view, cist_bridges, cist_ports}
+use Rattle.mst_report.specs.View.{Apart}
+use Rattle.mst_report.proofs.Entries.{all_weaker, entries_apart, entries_found}
+use Rattle.mst_report.proofs.Lists.{some_is, no_some, all_kept, all_mapped, all_passing, apart_kept, apart_mapped, apart_filtered, all_contained, all_there, contains_mapped, passed}
+
+pub name_is : (a b : List ℕ) → name_cmp a b ≡ Equal → a ≡ b
+name_is = slice_cmp-IsAntisymmetric nat_cmp-IsAntisymmetric
+
+less_equal : Less ≡ Equal → ⊥
+less_equal e = true≢false (sym (ap is_eq e))
+
+-- a name is not below itself
+pub names_differ : (a b : List ℕ) → name_cmp a b ≡ Less → a ≢ b
+names_differ a b l e = less_equal (sym l ∙ ap (λ x. name_cmp x b) e ∙ tied_itself nat_list_cmp_total b)
+
+pub ports_total : IsTotalOrder port_cmp
+ports_total = then_total (on_total (λ (p : PortName). p.bridge) nat_list_cmp_total) (on_total (λ (p : PortName). p.number) nat_cmp_total)
+
+pub port_names_differ : (a b : PortName) → port_cmp a b ≡ Less → a ≢ b
+port_names_differ a b l e = less_equal (sym l ∙ ap (λ x. port_cmp x b) e ∙ tied_itself ports_total b)
+
+-- equal identifiers come of equal MACs
+pub same_mac : (a b c d : ℕ) → a < 2 ^ 48 → b < 2 ^ 48 → bridge_id c 0 a ≡ bridge_id d 0 b → a ≡ b
+same_mac a b c d l m e = by_parts (c * 4096 + 0) (d * 4096 + 0) l m e
+  where
+    by_parts : (x y : ℕ) → a < 2 ^ 48 → b < 2 ^ 48 → x * 2 ^ 48 + a ≡ y * 2 ^ 48 + b → a ≡ b
+    by_parts x y l m e = omega arith
+
+-- equal identifiers of ports come of equal numbers
+pub same_port_number : (a b c d : ℕ) → a ≤ 4095 → b ≤ 4095 → port_id c a ≡ port_id d b → a ≡ b
+same_port_number a b c d l m e = by_parts c d l m e
+  where
+    by_parts : (x y : ℕ) → a ≤ 4095 → b ≤ 4095 → x * 4096 + a ≡ y * 4096 + b → a ≡ b
+    by_parts x y l m e = omega arith
+
+within : (q : ℕ) → IsTrue (nat_le 1 (max 1 (min 200_000_000 q)) && nat_le (max 1 (min 200_000_000 q)) 200_000_000)
+within q =
+    let low = le-leb 1 (max 1 (min 200_000_000 q)) (omega arith) in
+    let high = le-leb (max 1 (min 200_000_000 q)) 200_000_000 (omega arith) in
+    ap (λ b. b && nat_le (max 1 (min 200_000_000 q)) 200_000_000) low ∙ high
+
+-- an automatic cost is in range
+automatic_in_range : (speed : ℕ) → IsTrue (is_cost (automatic_cost speed))
+automatic_in_range speed = within (20_000_000_000 / speed)
+
+-- a cost that is set, or the automatic one
+cost_or_automatic : (cost : Option ℕ) (speed : ℕ) → ((c : ℕ) → cost ≡ Some c → IsPathCost c) → IsTrue (is_cost (unwrap_or cost (automatic_cost speed)))
+cost_or_automatic None speed fits = automatic_in_range speed
+cost_or_automatic (Some cost) speed fits = let f = fits cost refl in and_from (nat_le 1 cost) (nat_le cost 200_000_000) (le-leb 1 cost f.0) (le-leb cost 200_000_000 f.1)
+
+tied : (o : Ordering) → is_eq o ≡ true → o ≡ Equal
+tied Less e = absurd (true≢false (sym e))
+tied Equal e = refl
+tied Greater e = absurd (true≢false (sym e))
+
+-- a name that is a key is among the keys
+key_there : (net : Net) (name : List ℕ) → fin.contains_key net.bridges name ≡ true → Contains (fin.keys net.bridges) name
+key_there net name here =
+    let found = passed (eq_by_cmp name_cmp name) (fin.keys net.bridges) (sym (contains_key-keys net.bridges name) ∙ here) in
+    subst (Contains (fin.keys net.bridges)) (sym (name_is name found.0 (tied (name_cmp name found.0) found.2))) found.1
+
+-- a key is the key of an entry
+entry_of : {K X : Type 0} (es : List (K × X)) (k : K) → Contains (map (λ e. e.0) es) k → (x : X) × Contains es (k, x)
+entry_of {K} {X} es k c =
+    all_contained (λ k. (x : X) × Contains es (k, x)) (map (λ e. e.0) es) k
+    (all_mapped (λ k. (x : X) × Contains es (k, x)) (λ (e : K × X). e.0) es (all_weaker (Contains es) _ (λ e h. (e.1, h)) es (all_there es))) c
+
+-- the entry of a bridge's row
+entry_there : (net : Net) (name : List ℕ) (row : BridgeRow) → fin.get net.bridges name ≡ Some row → Contains (fin.entries net.bridges) (name, row)
+entry_there net name row is =
+    let entry = entry_of (fin.entries net.bridges) name (key_there net name (ap is_some is)) in
+    let found = all_contained (λ (e : List ℕ × BridgeRow). fin.get net.bridges e.0 ≡ Some e.1) (fin.entries net.bridges) (name, entry.0) (entries_found nat_list_cmp_total net.bridges) entry.1 in
+    subst (λ r. Contains (fin.entries net.bridges) (name, r)) (some_is entry.0 row (sym found ∙ is)) entry.1
+
+-- a bridge that is on has a row that says so
+record IsOn (net : Net) (name : List ℕ) : Type 0 where
+  row : BridgeRow
+  is_row : fin.get net.bridges name ≡ Some row
+  is_power : row.is_on ≡ true
+
+row_on : (net : Net) (name : List ℕ) → is_on net name ≡ true → IsOn net name
+row_on net name on = go (fin.get net.bridges name) refl on
+  where
+    go : (o : Option BridgeRow) → fin.get net.bridges name ≡ o → option_map_or (λ row. row.is_on) o false ≡ true → IsOn net name
+    go None e h = absurd (true≢false (sym h))
+    go (Some row) e h = record { row = row; is_row = e; is_power = h }
+
+-- what a plug takes of its port's row
+record IsPlugOf (e : PortName × PortRow) (p : Plug) : Type 0 where
+  is_port : e.0 ≡ p.port
+  is_external : e.1.external ≡ p.external
+
+plug_is : (e : PortName × PortRow) (p : Plug) → plug_of e ≡ Some p → IsPlugOf e p
+plug_is e p h = go e.1.lan h
+  where
+    go : (o : Option (List ℕ)) → option_map (λ lan. record { port = e.0; lan = lan; key = e.1.key; external = e.1.external }) o ≡ Some p → IsPlugOf e p
+    go None k = absurd (no_some p k)
+    go (Some lan) k =
+        let is = some_is (record { port = e.0; lan = lan; key = e.1.key; external = e.1.external }) p k in
+        record { is_port = ap (λ (x : Plug). x.port) is; is_external = ap (λ (x : Plug). x.external) is }
+
+-- a bridge of the view comes from its row
+pub record IsBridgeView (net : Net) (b : BridgeView) : Type 0 where
+  pub row : BridgeRow
+  pub is_row : fin.get net.bridges b.name ≡ Some row
+  pub is_cist : b.settings ≡ cist_bridge net b.name row
+  pub is_power : b.is_on ≡ row.is_on
+
+-- a logical port has a row, an identifier of its number, and costs in range, and its bridge is on where it is
+-- enabled
+pub record IsPortView (net : Net) (p : PortView) : Type 0 where
+  pub row : PortRow
+  pub is_row : fin.get net.ports p.name ≡ Some row
+  pub is_id : p.settings.id ≡ port_id (port_priority_of net p.name 0) p.name.number
+  pub in_range : IsTrue (cist_rules.in_range p.settings)
+  pub bridge_on : p.is_enabled ≡ true → is_on net p.name.bridge ≡ true
+
+-- a bridge in the view, of its entry
+abbrev pub bridge_view : Net → List ℕ × BridgeRow → BridgeView
+bridge_view net e = record { name = e.0; settings = cist_bridge net e.0 e.1; is_on = e.1.is_on }
+
+module _ (net : Net) (ok : IsNetwork net) where
+  pub bridges_are : AllByRecursion (IsBridgeView net) (cist_bridges net)
+  bridges_are =
+      all_mapped (IsBridgeView net) (bridge_view net) (fin.entries net.bridges)
+      (all_weaker _ _ (λ e h. record { row = e.1; is_row = h; is_cist = refl; is_power = refl }) (fin.entries net.bridges) (entries_found nat_list_cmp_total net.bridges))
+
+  -- a plug with a row of this external cost
+  record HasRow (p : Plug) : Type 0 where
+    row : PortRow
+    is_row : fin.get net.ports p.port ≡ Some row
+    is_external : row.external ≡ p.external
+
+  plugs_are : AllByRecursion HasRow (plugs net)
+  plugs_are =
+      all_kept (λ (e : PortName × PortRow). fin.get net.ports e.0 ≡ Some e.1) HasRow plug_of
+      (λ e p h k. let is = plug_is e p k in record { row = e.1; is_row = ap (fin.get net.ports) (sym is.is_port) ∙ h; is_external = is.is_external })
+      (fin.entries net.ports) (entries_found ports_total net.ports)
+
+  port_is : (p : Plug) → HasRow p → IsPortView net (port_view net (as_port net p))
+  port_is p h =
+      let port = as_port net p in
+      record {
+        row = h.row;
+        is_row = h.is_row;
+        is_id = refl;
+        in_range =
+            and_from (is_cost (cist_port net port).external) (is_cost (cist_port net port).internal)
+            (cost_or_automatic p.external (max 1 port.speed) (λ c e. ok.ports.cost_fits p.port h.row c h.is_row (h.is_external ∙ e)))
+            (cost_or_automatic (port_cost_of net p.port 0) (max 1 port.speed) (λ c e. (ok.port_costs (record { port = p.port; tree = 0 }) c e).2));
+        bridge_on = λ enabled. (and_parts (is_on net p.port.bridge) (is_up net (logical_lan net p.lan)) enabled).0;
+      }
+
+  abbrev is_logical : Plug → Bool
+  is_logical p = port_eq (logical_port net p).port p.port
+
+  pub ports_are : AllByRecursion (IsPortView net) (cist_ports net)
+  ports_are =
+      all_mapped (IsPortView net) (port_view net) (view_ports net)
+      (all_mapped (λ p. IsPortView net (port_view net p)) (as_port net) (filter is_logical (plugs net))
+      (all_passing HasRow (λ p. IsPortView net (port_view net (as_port net p))) is_logical (λ p h _. port_is p h) (plugs net) plugs_are))
+
+  -- names rise, so no two are the same
+  pub bridges_rise : Apart (λ (b c : BridgeView). name_cmp b.name c.name ≡ Less) (cist_bridges net)
+  bridges_rise =
+      apart_mapped (λ (e f : List ℕ × BridgeRow). name_cmp e.0 f.0 ≡ Less) (λ (b c : BridgeView). name_cmp b.name c.name ≡ Less) (bridge_view net) (λ e f l. l) (fin.entries net.bridges)
+      (entries_apart nat_list_cmp_total net.bridges)
+
+  plugs_rise : Apart (λ (p q : Plug). port_cmp p.port q.port ≡ Less) (plugs net)
+  plugs_rise =
+      apart_kept (λ (e f : PortName × PortRow). port_cmp e.0 f.0 ≡ Less) (λ (p q : Plug). port_cmp p.port q.port ≡ Less) plug_of
+      (λ e f p q l h k. (λ i. port_cmp (sym (plug_is e p h).is_port i) (sym (plug_is f q k).is_port i)) ∙ l)
+      (fin.entries net.ports) (entries_apart ports_total net.ports)
+
+  pub ports_rise : Apart (λ (p q : PortView). port_cmp p.name q.name ≡ Less) (cist_ports net)
+  ports_rise =
+      apart_mapped (λ (p q : LogicalPort). port_cmp p.name q.name ≡ Less) (λ (p q : PortView). port_cmp p.name q.name ≡ Less) (port_view net) (λ p q l. l) (view_ports net)
+      (apart_mapped (λ (p q : Plug). port_cmp p.port q.port ≡ Less) (λ (p q : LogicalPort). port_cmp p.name q.name ≡ Less) (as_port net) (λ p q l. l) (filter is_logical (plugs net))
+      (apart_filtered (λ (p q : Plug). port_cmp p.port q.port ≡ Less) is_logical (plugs net) plugs_rise))
+
+  -- there are no more bridges than may be
+  pub few_bridges : length (cist_bridges net) ≤ 1024
+  few_bridges =
+      let few = ok.bridges.few in
+      omega (arith, few, len-entries net.bridges, length-map (fin.entries net.bridges) (bridge_view net))
+
+  -- two bridges of one identifier have one name
+  pub one_id : (b c : BridgeView) → IsBridgeView net b → IsBridgeView net c → b.settings.id ≡ c.settings.id → b.name ≡ c.name
+  one_id b c x y e =
+      let ids : bridge_id (priority_of net b.name 0) 0 x.row.mac ≡ bridge_id (priority_of net c.name 0) 0 y.row.mac =
+      sym (ap (λ (s : CistBridge). s.id) x.is_cist) ∙ e ∙ ap (λ (s : CistBridge). s.id) y.is_cist in
+      ok.bridges.macs_differ b.name c.name x.row y.row x.is_row y.is_row
+      (same_mac x.row.mac y.row.mac (priority_of net b.name 0) (priority_of net c.name 0) (ok.bridges.mac_fits b.name x.row x.is_row) (ok.bridges.mac_fits c.name y.row y.is_row) ids)
+
+  -- two ports of one bridge and one identifier have one name
+  pub one_port_id : (p q : PortView) → IsPortView net p → IsPortView net q → p.name.bridge ≡ q.name.bridge → p.settings.id ≡ q.settings.id → p.name ≡ q.name
+  one_port_id p q x y names e =
+      let ids : port_id (port_priority_of net p.name 0) p.name.number ≡ port_id (port_priority_of net q.name 0) q.name.number = sym x.is_id ∙ e ∙ y.is_id in
+      let at : p.name.number ≡ q.name.number =
+      same_port_number p.name.number q.name.number (port_priority_of net p.name 0) (port_priority_of net q.name 0)
+      (ok.ports.number_fits p.name x.row x.is_row).1 (ok.ports.number_fits q.name y.row y.is_row).1 ids in
+      λ i. record { bridge = names i; number = at i }
+
+  -- a bridge that is on is in the view
+  pub bridge_there : (name : List ℕ) → is_on net name ≡ true → (b : BridgeView) × Contains (cist_bridges net) b × (b.name ≡ name) × (b.is_on ≡ true)
+  bridge_there name on =
+      let r = row_on net name on in
+      let b = bridge_view net (name, r.row) in
+      (b, contains_mapped (bridge_view net) (fin.entries net.bridges) (name, r.row) (entry_there net name r.row r.is_row), refl, r.is_power)
