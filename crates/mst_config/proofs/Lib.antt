@@ -1,0 +1,5 @@
+mod Copied
+mod Groups
+mod Placed
+mod Regioned
+mod Octets
