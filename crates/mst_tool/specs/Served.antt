@@ -3,23 +3,22 @@ use Rattle.std.specs.Prelude.{Bool, true, false, Result, Ok, Err, if◌then◌el
 use Rattle.mst_lang.specs.declared.line.Line.{Line}
 use Rattle.mst_lang.specs.declared.line.Line.TheVariants.{Mark, Edit as edit, Query as query}
 use Rattle.mst_lang.specs.declared.line.Edit.{Edit}
-use Rattle.mst_lang.specs.declared.line.Edit.TheVariants.{SetKey, SetSystemPriority, SetConfiguration, MapVids}
+use Rattle.mst_lang.specs.declared.line.Edit.TheVariants.{SetConfiguration, MapVids}
 use Rattle.mst_lang.specs.declared.line.Query.{Query}
-use Rattle.mst_lang.specs.declared.line.Query.TheVariants.{ShowTree}
+use Rattle.mst_lang.specs.declared.line.Query.TheVariants.{ShowTree, ShowLag}
 use Rattle.mst_lang.specs.declared.line.Fault.{Fault}
 use Rattle.mst_lang.specs.declared.line.Fault.TheVariants.{E01}
 
--- all edits but of aggregation and of MST configurations
+-- all edits but of MST configurations
 abbrev pub is_served_edit : Edit → Bool
-is_served_edit (SetKey port key) = false
-is_served_edit (SetSystemPriority bridge priority) = false
 is_served_edit (SetConfiguration bridge revision name) = false
 is_served_edit (MapVids bridge tree vids) = false
 is_served_edit _ = true
 
--- of the queries that of a tree
+-- of the queries those of a tree and of the classes of links
 abbrev pub is_served_query : Query → Bool
 is_served_query (ShowTree tree) = true
+is_served_query ShowLag = true
 is_served_query _ = false
 
 abbrev pub is_served : Line → Bool

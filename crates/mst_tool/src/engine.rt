@@ -4,6 +4,7 @@ ghost use Rattle.mst_net.specs.After.{after};
 ghost use Rattle.mst_tool.specs.Written.{AppendsFront};
 ghost use Rattle.mst_tool.specs.Served.{is_served_edit, served};
 ghost use Rattle.mst_tool.specs.Script.{Serves, ServesRead, refusal_line};
+ghost use Rattle.mst_tool.specs.declared.engine.Reply.TheVariants.{Text, Starved};
 ghost use Rattle.mst_tool.specs.Engine.{start, tally_of, tallied, outcome_of, reply_text, replied};
 
 use crate::print::{WriteFailed, put, put_parts};
@@ -11,8 +12,8 @@ use crate::runs::Outcome;
 use itoa::Buffer;
 use mst_lang::{Edit, Fault, Line, Query, parse_line};
 use mst_net::{Network, Refusal};
-use mst_report::show_tree;
-use std::alloc::Global;
+use mst_report::{show_lag, show_tree};
+use std::alloc::{AllocError, Global};
 use std::io::Write;
 
 /// What a run keeps from line to line.
@@ -108,21 +109,28 @@ fn serve(alloc: Global, network: &mut Network, number: u64, line: &Line) -> Repl
             Err(Refusal::E99) => Reply::Starved,
             Err(refusal) => Reply::Refused(refusal),
         },
-        Line::Query(Query::ShowTree { tree }) => match show_tree(alloc, network, *tree) {
-            Ok(text) => Reply::Text(text),
-            Err(_) => Reply::Starved,
-        },
+        Line::Query(Query::ShowTree { tree }) => shown(show_tree(alloc, network, *tree)),
+        Line::Query(Query::ShowLag) => shown(show_lag(alloc, network)),
         _ => Reply::Unread(Fault::E01),
     }
 }
 
-/// Whether an edit is served: all are but those of aggregation and of MST configurations.
+/// What a query is answered by: its text, or that memory was wanted for it.
+fn shown(text: Result<Vec<u8>, AllocError>) -> Reply
+    ensures text { IfOk text (λ t. result ≡ Text t) }
+    ensures starved { OnErr text (result ≡ Starved) }
+{
+    match text {
+        Ok(text) => Reply::Text(text),
+        Err(_) => Reply::Starved,
+    }
+}
+
+/// Whether an edit is served: all are but those of MST configurations.
 fn is_served(edit: &Edit) -> bool
     ensures { result ≡ is_served_edit edit.now }
 {
     match edit {
-        Edit::SetKey { .. } => false,
-        Edit::SetSystemPriority { .. } => false,
         Edit::SetConfiguration { .. } => false,
         Edit::MapVids { .. } => false,
         _ => true,

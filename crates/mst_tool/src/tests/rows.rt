@@ -11,7 +11,7 @@ struct Row {
     is_whole: bool,
 }
 
-const ROWS: [Row; 11] = [
+const ROWS: [Row; 16] = [
     Row {
         name: "triangle",
         script: b"\
@@ -369,18 +369,236 @@ const ROWS: [Row; 11] = [
         is_whole: true,
     },
     Row {
+        name: "bundle",
+        script: b"\
+            addbridge A 02:00:00:00:00:01\n\
+            kind A rstp\n\
+            addbridge B 02:00:00:00:00:02\n\
+            kind B rstp\n\
+            addlan X\n\
+            addport A 1\n\
+            addport B 1\n\
+            plug A 1 X\n\
+            plug B 1 X\n\
+            addlan Y\n\
+            addport A 2\n\
+            addport B 2\n\
+            plug A 2 Y\n\
+            plug B 2 Y\n\
+            setkey A 1 7\n\
+            setkey A 2 7\n\
+            setkey B 1 7\n\
+            setkey B 2 7\n\
+            showlag\n\
+            showtree 0\n\
+            lan X down\n\
+            showtree 0\n\
+            lan Y down\n\
+            showtree 0\n\
+            showlag\n\
+            ",
+        expected: b"\
+            lag X 8000.02:00:00:00:00:01.0007+8000.02:00:00:00:00:02.0007 speed 2000000 up X,Y \
+            lans X,Y ports A:1,A:2,B:1,B:2\n\
+            tree 0\n\
+            bridge A 8000.02:00:00:00:00:01 root 8000.02:00:00:00:00:01 ext 0 regional \
+            8000.02:00:00:00:00:01 int 0 from 8000.02:00:00:00:00:01 0000 at 0000\n\
+            port A 1 X 8001 ext 10000 int 10000 Designated\n\
+            bridge B 8000.02:00:00:00:00:02 root 8000.02:00:00:00:00:01 ext 10000 regional \
+            8000.02:00:00:00:00:02 int 0 from 8000.02:00:00:00:00:01 8001 at 8001\n\
+            port B 1 X 8001 ext 10000 int 10000 Root\n\
+            tree 0\n\
+            bridge A 8000.02:00:00:00:00:01 root 8000.02:00:00:00:00:01 ext 0 regional \
+            8000.02:00:00:00:00:01 int 0 from 8000.02:00:00:00:00:01 0000 at 0000\n\
+            port A 1 X 8001 ext 20000 int 20000 Designated\n\
+            bridge B 8000.02:00:00:00:00:02 root 8000.02:00:00:00:00:01 ext 20000 regional \
+            8000.02:00:00:00:00:02 int 0 from 8000.02:00:00:00:00:01 8001 at 8001\n\
+            port B 1 X 8001 ext 20000 int 20000 Root\n\
+            tree 0\n\
+            bridge A 8000.02:00:00:00:00:01 root 8000.02:00:00:00:00:01 ext 0 regional \
+            8000.02:00:00:00:00:01 int 0 from 8000.02:00:00:00:00:01 0000 at 0000\n\
+            port A 1 X Disabled\n\
+            bridge B 8000.02:00:00:00:00:02 root 8000.02:00:00:00:00:02 ext 0 regional \
+            8000.02:00:00:00:00:02 int 0 from 8000.02:00:00:00:00:02 0000 at 0000\n\
+            port B 1 X Disabled\n\
+            lag X 8000.02:00:00:00:00:01.0007+8000.02:00:00:00:00:02.0007 speed 0 up - lans X,Y \
+            ports A:1,A:2,B:1,B:2\n\
+            ",
+        refused: 0,
+        is_whole: true,
+    },
+    Row {
+        name: "bundle-two-classes",
+        script: b"\
+            addbridge A 02:00:00:00:00:01\n\
+            kind A rstp\n\
+            addbridge B 02:00:00:00:00:02\n\
+            kind B rstp\n\
+            addlan X\n\
+            addport A 1\n\
+            addport B 1\n\
+            plug A 1 X\n\
+            plug B 1 X\n\
+            addlan Y\n\
+            addport A 2\n\
+            addport B 2\n\
+            plug A 2 Y\n\
+            plug B 2 Y\n\
+            setkey A 1 7\n\
+            setkey A 2 7\n\
+            setkey B 1 7\n\
+            setkey B 2 7\n\
+            setkey B 2 8\n\
+            showlag\n\
+            setsyspri A 32769\n\
+            showlag\n\
+            showtree 0\n\
+            ",
+        expected: b"\
+            lag X 8000.02:00:00:00:00:01.0007+8000.02:00:00:00:00:02.0007 speed 1000000 up X lans \
+            X ports A:1,B:1\n\
+            lag Y 8000.02:00:00:00:00:01.0007+8000.02:00:00:00:00:02.0008 speed 1000000 up Y lans \
+            Y ports A:2,B:2\n\
+            lag X 8000.02:00:00:00:00:02.0007+8001.02:00:00:00:00:01.0007 speed 1000000 up X lans \
+            X ports A:1,B:1\n\
+            lag Y 8000.02:00:00:00:00:02.0008+8001.02:00:00:00:00:01.0007 speed 1000000 up Y lans \
+            Y ports A:2,B:2\n\
+            tree 0\n\
+            bridge A 8000.02:00:00:00:00:01 root 8000.02:00:00:00:00:01 ext 0 regional \
+            8000.02:00:00:00:00:01 int 0 from 8000.02:00:00:00:00:01 0000 at 0000\n\
+            port A 1 X 8001 ext 20000 int 20000 Designated\n\
+            port A 2 Y 8002 ext 20000 int 20000 Designated\n\
+            bridge B 8000.02:00:00:00:00:02 root 8000.02:00:00:00:00:01 ext 20000 regional \
+            8000.02:00:00:00:00:02 int 0 from 8000.02:00:00:00:00:01 8001 at 8001\n\
+            port B 1 X 8001 ext 20000 int 20000 Root\n\
+            port B 2 Y 8002 ext 20000 int 20000 Alternate\n\
+            ",
+        refused: 0,
+        is_whole: true,
+    },
+    Row {
+        name: "bundle-three-plugs",
+        script: b"\
+            addbridge A 02:00:00:00:00:01\n\
+            kind A rstp\n\
+            addbridge B 02:00:00:00:00:02\n\
+            kind B rstp\n\
+            addbridge C 02:00:00:00:00:03\n\
+            kind C rstp\n\
+            addlan X\n\
+            addport A 1\n\
+            addport B 1\n\
+            addport C 1\n\
+            plug A 1 X\n\
+            plug B 1 X\n\
+            plug C 1 X\n\
+            setkey A 1 7\n\
+            setkey B 1 7\n\
+            setkey C 1 7\n\
+            showlag\n\
+            ",
+        expected: b"",
+        refused: 0,
+        is_whole: true,
+    },
+    Row {
+        name: "auto-cost-three-links",
+        script: b"\
+            addbridge A 02:00:00:00:00:01\n\
+            kind A rstp\n\
+            addbridge B 02:00:00:00:00:02\n\
+            kind B rstp\n\
+            addlan X\n\
+            addport A 1\n\
+            addport B 1\n\
+            plug A 1 X\n\
+            plug B 1 X\n\
+            addlan Y\n\
+            addport A 2\n\
+            addport B 2\n\
+            plug A 2 Y\n\
+            plug B 2 Y\n\
+            addlan Z\n\
+            addport A 3\n\
+            addport B 3\n\
+            plug A 3 Z\n\
+            plug B 3 Z\n\
+            setkey A 1 1\n\
+            setkey A 2 1\n\
+            setkey A 3 1\n\
+            setkey B 1 1\n\
+            setkey B 2 1\n\
+            setkey B 3 1\n\
+            speed X 9999999999\n\
+            speed Y 9999999999\n\
+            speed Z 9999999999\n\
+            showtree 0\n\
+            ",
+        expected: b"\
+            port B 1 X 8001 ext 1 int 1 Root\n\
+            ",
+        refused: 0,
+        is_whole: false,
+    },
+    Row {
+        name: "lowest-member-moves",
+        script: b"\
+            addbridge A 02:00:00:00:00:01\n\
+            kind A rstp\n\
+            addbridge B 02:00:00:00:00:02\n\
+            kind B rstp\n\
+            addlan X\n\
+            addport A 1\n\
+            addport B 1\n\
+            plug A 1 X\n\
+            plug B 1 X\n\
+            addlan Y\n\
+            addport A 2\n\
+            addport B 2\n\
+            plug A 2 Y\n\
+            plug B 2 Y\n\
+            setkey A 1 7\n\
+            setkey A 2 7\n\
+            setkey B 1 7\n\
+            setkey B 2 7\n\
+            settreeportprio A 1 0 0\n\
+            settreeportprio A 2 0 15\n\
+            unplug A 1\n\
+            unplug B 1\n\
+            showtree 0\n\
+            plug A 1 X\n\
+            plug B 1 X\n\
+            showtree 0\n\
+            ",
+        expected: b"\
+            tree 0\n\
+            bridge A 8000.02:00:00:00:00:01 root 8000.02:00:00:00:00:01 ext 0 regional \
+            8000.02:00:00:00:00:01 int 0 from 8000.02:00:00:00:00:01 0000 at 0000\n\
+            port A 2 Y f002 ext 20000 int 20000 Designated\n\
+            bridge B 8000.02:00:00:00:00:02 root 8000.02:00:00:00:00:01 ext 20000 regional \
+            8000.02:00:00:00:00:02 int 0 from 8000.02:00:00:00:00:01 f002 at 8002\n\
+            port B 2 Y 8002 ext 20000 int 20000 Root\n\
+            tree 0\n\
+            bridge A 8000.02:00:00:00:00:01 root 8000.02:00:00:00:00:01 ext 0 regional \
+            8000.02:00:00:00:00:01 int 0 from 8000.02:00:00:00:00:01 0000 at 0000\n\
+            port A 1 X 0001 ext 10000 int 10000 Designated\n\
+            bridge B 8000.02:00:00:00:00:02 root 8000.02:00:00:00:00:01 ext 10000 regional \
+            8000.02:00:00:00:00:02 int 0 from 8000.02:00:00:00:00:01 0001 at 8001\n\
+            port B 1 X 8001 ext 10000 int 10000 Root\n\
+            ",
+        refused: 0,
+        is_whole: true,
+    },
+    Row {
         name: "not-served",
         script: b"\
             addbridge A 02:00:00:00:00:01\n\
             addport A 1\n\
             setkey A 1 65536\n\
-            setkey A 1 7\n\
-            setsyspri A 1\n\
             setmstconfid A 1 area\n\
             setvid2mstid A 1 4095\n\
             setvid2mstid A 1 10\n\
             mark\n\
-            showlag\n\
             showvlan 0\n\
             showvlan 1\n\
             changes\n\
@@ -388,17 +606,14 @@ const ROWS: [Row; 11] = [
         expected: b"\
             line 3 E02 bad argument\n\
             line 4 E01 no such command\n\
-            line 5 E01 no such command\n\
+            line 5 E03 bad VID or tree\n\
             line 6 E01 no such command\n\
-            line 7 E03 bad VID or tree\n\
-            line 8 E01 no such command\n\
+            line 7 E01 no such command\n\
+            line 8 E03 bad VID or tree\n\
             line 9 E01 no such command\n\
             line 10 E01 no such command\n\
-            line 11 E03 bad VID or tree\n\
-            line 12 E01 no such command\n\
-            line 13 E01 no such command\n\
             ",
-        refused: 11,
+        refused: 8,
         is_whole: true,
     },
 ];
