@@ -11,7 +11,7 @@ struct Row {
     is_whole: bool,
 }
 
-const ROWS: [Row; 16] = [
+const ROWS: [Row; 18] = [
     Row {
         name: "triangle",
         script: b"\
@@ -500,6 +500,40 @@ const ROWS: [Row; 16] = [
         expected: b"",
         refused: 0,
         is_whole: true,
+    },
+    Row {
+        name: "auto-cost-fast",
+        script: b"\
+            addbridge A 02:00:00:00:00:01\n\
+            kind A rstp\n\
+            addlan X\n\
+            addport A 1\n\
+            plug A 1 X\n\
+            speed X 9999999999\n\
+            showtree 0\n\
+            ",
+        expected: b"\
+            port A 1 X 8001 ext 2 int 2 Designated\n\
+            ",
+        refused: 0,
+        is_whole: false,
+    },
+    Row {
+        name: "auto-cost-slow",
+        script: b"\
+            addbridge A 02:00:00:00:00:01\n\
+            kind A rstp\n\
+            addlan X\n\
+            addport A 1\n\
+            plug A 1 X\n\
+            speed X 1\n\
+            showtree 0\n\
+            ",
+        expected: b"\
+            port A 1 X 8001 ext 200000000 int 200000000 Designated\n\
+            ",
+        refused: 0,
+        is_whole: false,
     },
     Row {
         name: "auto-cost-three-links",
