@@ -192,7 +192,9 @@ pub(crate) fn keep<K: Copy + Eq + Hash, V: Copy>(
             let _ = table.swap_remove(&key);
         }
         Some(value) => {
-            let _ = table.insert(key, value).unwrap();
+            if let Ok(entry) = table.entry(key) {
+                *entry.or_insert(value) = value;
+            }
         }
     }
 }
