@@ -26,16 +26,16 @@ pub fn hmac_md5(key: &[u8], text: &[u8]) -> [u8; 16]
     md5_of_two(&masked(&block, 0x5C), &inner)
 }
 
-/// The Configuration Digest of a table: the HMAC of its octets under the standard's key. It takes no
-/// memory.
+/// The Configuration Digest of a table (802.1Q-2022, 13.8): the HMAC of its octets under the standard's key.
+/// It takes no memory.
 pub fn digest(table: &Table) -> [u8; 16]
     ensures { result ≡ digest_of table.now }
 {
     hmac_md5(&DIGEST_KEY, &octets(table))
 }
 
-/// The octets of the MST Configuration Identifier of a bridge whose configuration has this name, this
-/// revision and this table. It takes no memory.
+/// The octets of the MST Configuration Identifier (802.1Q-2022, 13.8) of a bridge whose configuration has this
+/// name, this revision and this table. It takes no memory.
 pub fn mcid(name: &ConfName, revision: u16, table: &Table) -> [u8; 51]
     ensures { result ≡ identifier name.now revision table.now }
 {

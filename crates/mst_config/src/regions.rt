@@ -50,9 +50,9 @@ impl Classes {
     }
 }
 
-/// The regions of a network's bridges. Two bridges are in one where both are of kind mstp and the names,
-/// the revisions and the whole tables of their MST configurations are equal. It compares about one table
-/// for each bridge. `AllocError`: memory was wanted and refused.
+/// The regions of a network's bridges (802.1Q-2022, 13.8). Two bridges are in one where both are of kind mstp
+/// and the names, the revisions and the whole tables of their MST configurations are equal. It compares about
+/// one table for each bridge. `AllocError`: memory was wanted and refused.
 pub fn region_classes<C: Contents>(alloc: Global, contents: &C) -> Result<Classes, AllocError>
     ensures { IfOk result (λ classes. AreRegions (C.tables contents.now).net (C.tables contents.now).numbers classes) }
 {
