@@ -1,4 +1,3 @@
-mod Copied
 mod Groups
 mod Placed
 mod Regioned

@@ -4,10 +4,10 @@ ghost use Rattle.byteorder.specs.Endian.{big_bytes};
 ghost use Rattle.md5.specs.Md5.{md5};
 ghost use Rattle.mst_config.specs.Digest.{octets as octets_of, key_block as key_block_of, hmac, digest_of, identifier};
 
-use crate::table::Table;
 use byteorder::{BigEndian, ByteOrder};
 use md5::{Digest, Md5};
 use mst_ids::{ConfName, Tree};
+use mst_net::Table;
 
 /// The key of Configuration Digests that the standard gives.
 const DIGEST_KEY: [u8; 16] = [

@@ -5,11 +5,10 @@
 mod configuration;
 mod digests;
 mod regions;
-mod table;
 
 pub use digests::{digest, hmac_md5, mcid};
+pub use mst_net::Table;
 pub use regions::{Classes, region_classes};
-pub use table::Table;
 
 #[cfg(test)]
 mod tests;

@@ -4,7 +4,6 @@ ghost use Rattle.mst_config.specs.Classes.{AreRegions, same_in};
 ghost use Rattle.mst_config.specs.Configured.{configured};
 
 use crate::configuration::{Configuration, note};
-use crate::table::Table;
 use indexmap::{IndexMap, IndexSet};
 use mst_ids::{BridgeNo, Name};
 use mst_lang::Kind;
@@ -80,7 +79,7 @@ fn configuration<C: Contents>(contents: &C, name: &Name) -> Option<(BridgeNo, Co
             Configuration {
                 name: bridge.conf_name,
                 revision: bridge.revision,
-                table: Table::of_named(contents, name),
+                table: contents.table(name),
             },
         )),
     }

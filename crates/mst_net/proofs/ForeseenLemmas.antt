@@ -1,5 +1,5 @@
 -- What is seen of a network once an edit is made.
-use Rattle.std.proofs.Common.{◌≡◌, ◌≤◌, ℕ, Bool, true, false, cond, ◌&&◌, inl, inr, List, Option, Some, None, nat_eq, is_some, refl, sym, ap, ◌∙◌, true≢false}
+use Rattle.std.proofs.Common.{◌≡◌, ℕ, Bool, true, false, cond, inl, inr, List, Option, Some, None, nat_eq, is_some, refl, sym, ap, ◌∙◌, true≢false}
 use Rattle.std.specs.Prelude.{◌==◌, if◌then◌else◌}
 use Rattle.std.specs.List.{list_all}
 use Rattle.std.specs.Option.{unwrap_or, ForSome}
@@ -8,21 +8,20 @@ use Rattle.std.specs.Bool.{beq}
 use Rattle.std.specs.Cmp.{unsigned_Decides}
 use Rattle.std.specs.Cmp.Lexicographic.{pointwise}
 use Rattle.std.specs.FinMap as fin
-use Rattle.mst_ids.specs.Vids.{has}
 use Rattle.mst_ids.specs.declared.name.PortName.{PortName}
 use Rattle.mst_lang.specs.declared.line.Edit.{Edit}
 use Rattle.mst_lang.specs.declared.line.Edit.TheVariants.{AddBridge, DelBridge, SetPower, SetKind, AddPort, DelPort, AddLan, DelLan, SetLanState, SetSpeed, Plug, Unplug, SetKey, SetSystemPriority, SetTreePriority, SetTreePortPriority, SetPortPathCost, SetTreePortCost, SetConfiguration, MapVids, SetMaxHops, SetMaxAge, SetPortVlans}
-use Rattle.mst_net.specs.Table.{no_table, tree_in, mapped}
+use Rattle.mst_net.specs.Table.{no_table, mapped}
 use Rattle.mst_net.specs.Tables.{Net, Numbers, port_eq, bridge_tree_eq, port_tree_eq}
 use Rattle.mst_net.specs.After.{effect, refusal_of, own_priority, own_table, own_vlans, all_vids, table_of, vlans_of, new_bridge, new_port, new_lan, with_kind, with_power, with_system_priority, with_configuration, with_max_hops, with_max_age, with_state, with_speed, with_key, with_external, in_lan}
 use Rattle.mst_net.specs.Contents.{PerKind, IsNumbered, numbers_after, priority_of, port_priority_of, port_cost_of}
-use Rattle.mst_net.specs.Foreseen.{bridge_row_after, port_row_after, lan_row_after, bridge_number_after, port_number_after, lan_number_after, priority_after, port_priority_after, port_cost_after, tree_after, vlans_after, without, bridge_name_after, port_name_after, lan_name_after}
+use Rattle.mst_net.specs.Foreseen.{bridge_row_after, port_row_after, lan_row_after, bridge_number_after, port_number_after, lan_number_after, priority_after, port_priority_after, port_cost_after, table_after, vlans_after, without, bridge_name_after, port_name_after, lan_name_after}
 use Rattle.mst_net.proofs.KeptLemmas.{some_is, no_some}
 use Rattle.mst_net.proofs.Keyed.{IsKeyed, same_keys, after_insert, get_inserted, get_removed, get_kept}
 use Rattle.mst_net.proofs.AfterLemmas.{bridge_addable, port_addable, lan_addable}
 use Rattle.mst_net.proofs.Keys.{name_eq, names, ports, bridge_trees, port_trees}
 use Rattle.mst_net.proofs.Changed.{itself, get_changed, get_without, left_of, other_left}
-use Rattle.mst_net.proofs.TableFits.{same_flags, tree_in-no_table, tree_in-mapped, default_mapped}
+use Rattle.mst_net.proofs.TableFits.{same_flags, default_mapped}
 
 -- ---- what is kept of a setting, seen again
 own_seen : (priority : ℕ) (t : Bool) (o : Option ℕ) → unwrap_or (cond t (own_priority priority) o) 8 ≡ cond t priority (unwrap_or o 8)
@@ -53,17 +52,12 @@ gone_seen : {X : Type 0} (t : Bool) (o : Option X) (x : X) → unwrap_or (cond t
 gone_seen true o x = refl
 gone_seen false o x = refl
 
--- the default table, and a table of which some VIDs are mapped
-emptied : (t : Bool) (table : List ℕ) (v : ℕ) → tree_in (cond t no_table table) v ≡ cond t 0 (tree_in table v)
-emptied true table v = tree_in-no_table v
-emptied false table v = refl
-
-mapped_seen : (vids : List Bool) (tree : ℕ) (net : Net) (bridge q : List ℕ) (v : ℕ) → (1 ≤ v) × (v ≤ 4094)
-    → tree_in (cond (name_eq bridge q) (mapped vids tree (table_of net bridge)) (table_of net q)) v ≡ cond (name_eq bridge q && has vids v) tree (tree_in (table_of net q) v)
-mapped_seen vids tree net bridge q v fits = by (name_eq bridge q) refl
+-- a table of which some VIDs are mapped
+mapped_seen : (vids : List Bool) (tree : ℕ) (net : Net) (bridge q : List ℕ) → cond (name_eq bridge q) (mapped vids tree (table_of net bridge)) (table_of net q) ≡ cond (name_eq bridge q) (mapped vids tree (table_of net q)) (table_of net q)
+mapped_seen vids tree net bridge q = by (name_eq bridge q) refl
   where
-    by : (t : Bool) → name_eq bridge q ≡ t → tree_in (cond t (mapped vids tree (table_of net bridge)) (table_of net q)) v ≡ cond (t && has vids v) tree (tree_in (table_of net q) v)
-    by true e = tree_in-mapped vids tree (table_of net bridge) v fits ∙ ap (λ b. cond (has vids v) tree (tree_in (table_of net b) v)) (same_keys names bridge q e)
+    by : (t : Bool) → name_eq bridge q ≡ t → cond t (mapped vids tree (table_of net bridge)) (table_of net q) ≡ cond t (mapped vids tree (table_of net q)) (table_of net q)
+    by true e = ap (λ b. mapped vids tree (table_of net b)) (same_keys names bridge q e)
     by false e = refl
 
 -- ---- the records
@@ -218,30 +212,30 @@ foreseen_port_cost (SetMaxHops bridge limit) net q t = refl
 foreseen_port_cost (SetMaxAge bridge limit) net q t = refl
 foreseen_port_cost (SetPortVlans port vids) net q t = refl
 
-pub foreseen_table : (e : Edit) (net : Net) (q : List ℕ) (v : ℕ) → (1 ≤ v) × (v ≤ 4094) → tree_in (table_of (effect e net) q) v ≡ tree_after e q v (tree_in (table_of net q) v)
-foreseen_table (AddBridge bridge mac) net q v fits = refl
-foreseen_table (DelBridge bridge) net q v fits = ap (λ o. tree_in (unwrap_or o no_table) v) (get_removed names net.tables bridge q) ∙ ap (λ l. tree_in l v) (gone_seen (name_eq bridge q) (fin.get net.tables q) no_table) ∙ emptied (name_eq bridge q) (table_of net q) v
-foreseen_table (SetPower bridge power) net q v fits = refl
-foreseen_table (SetKind bridge kind) net q v fits = refl
-foreseen_table (AddPort port) net q v fits = refl
-foreseen_table (DelPort port) net q v fits = refl
-foreseen_table (AddLan lan) net q v fits = refl
-foreseen_table (DelLan lan) net q v fits = refl
-foreseen_table (SetLanState lan state) net q v fits = refl
-foreseen_table (SetSpeed lan speed) net q v fits = refl
-foreseen_table (Plug port lan) net q v fits = refl
-foreseen_table (Unplug port) net q v fits = refl
-foreseen_table (SetKey port key) net q v fits = refl
-foreseen_table (SetSystemPriority bridge priority) net q v fits = refl
-foreseen_table (SetTreePriority bridge tree priority) net q v fits = refl
-foreseen_table (SetTreePortPriority port tree priority) net q v fits = refl
-foreseen_table (SetPortPathCost port cost) net q v fits = refl
-foreseen_table (SetTreePortCost port tree cost) net q v fits = refl
-foreseen_table (SetConfiguration bridge revision name) net q v fits = refl
-foreseen_table (MapVids bridge tree vids) net q v fits = ap (λ o. tree_in (unwrap_or o no_table) v) (get_kept names net.tables bridge (own_table (mapped vids tree (table_of net bridge))) q) ∙ ap (λ l. tree_in l v) (own_table_seen vids tree (table_of net bridge) (name_eq bridge q) (fin.get net.tables q)) ∙ mapped_seen vids tree net bridge q v fits
-foreseen_table (SetMaxHops bridge limit) net q v fits = refl
-foreseen_table (SetMaxAge bridge limit) net q v fits = refl
-foreseen_table (SetPortVlans port vids) net q v fits = refl
+pub foreseen_table : (e : Edit) (net : Net) (q : List ℕ) → table_of (effect e net) q ≡ table_after e q (table_of net q)
+foreseen_table (AddBridge bridge mac) net q = refl
+foreseen_table (DelBridge bridge) net q = ap (λ o. unwrap_or o no_table) (get_removed names net.tables bridge q) ∙ gone_seen (name_eq bridge q) (fin.get net.tables q) no_table
+foreseen_table (SetPower bridge power) net q = refl
+foreseen_table (SetKind bridge kind) net q = refl
+foreseen_table (AddPort port) net q = refl
+foreseen_table (DelPort port) net q = refl
+foreseen_table (AddLan lan) net q = refl
+foreseen_table (DelLan lan) net q = refl
+foreseen_table (SetLanState lan state) net q = refl
+foreseen_table (SetSpeed lan speed) net q = refl
+foreseen_table (Plug port lan) net q = refl
+foreseen_table (Unplug port) net q = refl
+foreseen_table (SetKey port key) net q = refl
+foreseen_table (SetSystemPriority bridge priority) net q = refl
+foreseen_table (SetTreePriority bridge tree priority) net q = refl
+foreseen_table (SetTreePortPriority port tree priority) net q = refl
+foreseen_table (SetPortPathCost port cost) net q = refl
+foreseen_table (SetTreePortCost port tree cost) net q = refl
+foreseen_table (SetConfiguration bridge revision name) net q = refl
+foreseen_table (MapVids bridge tree vids) net q = ap (λ o. unwrap_or o no_table) (get_kept names net.tables bridge (own_table (mapped vids tree (table_of net bridge))) q) ∙ own_table_seen vids tree (table_of net bridge) (name_eq bridge q) (fin.get net.tables q) ∙ mapped_seen vids tree net bridge q
+foreseen_table (SetMaxHops bridge limit) net q = refl
+foreseen_table (SetMaxAge bridge limit) net q = refl
+foreseen_table (SetPortVlans port vids) net q = refl
 
 pub foreseen_vlans : (e : Edit) (net : Net) (q : PortName) → vlans_of (effect e net) q ≡ vlans_after e q (vlans_of net q)
 foreseen_vlans (AddBridge bridge mac) net q = refl

@@ -1,11 +1,11 @@
 -- Tables of VIDs as they are seen, and the range of their trees.
-use Rattle.std.proofs.Common.{◌≡◌, ◌≤◌, ℕ, zero, suc, Bool, true, false, cond, List, [], ◌∷◌, map, length, replicate, get_or, refl, arith}
+use Rattle.std.proofs.Common.{◌≡◌, ◌≤◌, ℕ, zero, suc, Bool, true, false, List, [], ◌∷◌, map, length, replicate, get_or, refl, arith}
 use Rattle.std.specs.Prelude.{◌==◌, if◌then◌else◌}
 use Rattle.std.specs.Bool.{beq}
 use Rattle.std.specs.List.{range_with_len, list_all, AllByRecursion}
 use Rattle.std.specs.Cmp.{booleans_Decides}
 use Rattle.std.specs.Cmp.Lexicographic.{pointwise, pointwise_decides}
-use Rattle.std.proofs.lemmas.List.FromFn.{length-map-range_with_len, get_or-map-range_with_len}
+use Rattle.std.proofs.lemmas.List.FromFn.{length-map-range_with_len}
 use Rattle.mst_ids.specs.Vids.{has}
 use Rattle.mst_net.specs.Table.{no_table, tree_in, mapped}
 use Rattle.mst_net.proofs.TableLemmas.{default_tells}
@@ -24,11 +24,6 @@ pub tree_in-no_table : (v : ℕ) → tree_in no_table v ≡ 0
 unfolding no_table
 tree_in-no_table zero = refl
 tree_in-no_table (suc v) = at_any 4094 v 0
-
-pub tree_in-mapped : (vids : List Bool) (tree : ℕ) (table : List ℕ) (v : ℕ) → (1 ≤ v) × (v ≤ 4094) → tree_in (mapped vids tree table) v ≡ cond (has vids v) tree (tree_in table v)
-unfolding mapped
-tree_in-mapped vids tree table zero fits = absurd (omega (arith, fits.0))
-tree_in-mapped vids tree table (suc v) fits = get_or-map-range_with_len (λ vid. if has vids vid then tree else tree_in table vid) 1 4094 v (suc v) 0 (omega (arith, fits.1)) (omega arith)
 
 pub length-mapped : (vids : List Bool) (tree : ℕ) (table : List ℕ) → length (mapped vids tree table) ≡ 4094
 unfolding mapped

@@ -2,10 +2,10 @@
 use Rattle.std.specs.Prelude.{ℕ, ◌&&◌, List, Bool, Option, None, Some, if◌then◌else◌, nat_eq}
 use Rattle.std.specs.Option.{option_map, option_and_then}
 use Rattle.std.specs.Cmp.Lexicographic.{pointwise}
-use Rattle.mst_ids.specs.Vids.{has}
 use Rattle.mst_ids.specs.declared.name.PortName.{PortName}
 use Rattle.mst_lang.specs.declared.line.Edit.{Edit}
 use Rattle.mst_lang.specs.declared.line.Edit.TheVariants.{AddBridge, DelBridge, SetPower, SetKind, AddPort, DelPort, AddLan, DelLan, SetLanState, SetSpeed, Plug, Unplug, SetKey, SetSystemPriority, SetTreePriority, SetTreePortPriority, SetPortPathCost, SetTreePortCost, SetConfiguration, MapVids, SetMaxHops, SetMaxAge, SetPortVlans}
+use Rattle.mst_net.specs.Table.{no_table, mapped}
 use Rattle.mst_net.specs.Tables.{BridgeRow, PortRow, LanRow, port_eq}
 use Rattle.mst_net.specs.After.{new_bridge, new_port, new_lan, with_kind, with_power, with_system_priority, with_configuration, with_max_hops, with_max_age, with_state, with_speed, in_lan, with_key, with_external, all_vids}
 
@@ -88,10 +88,10 @@ port_cost_after (DelPort port) name other there = if port_eq port name then None
 port_cost_after (SetTreePortCost port tree cost) name other there = if port_eq port name && nat_eq tree other then cost else there
 port_cost_after _ name other there = there
 
-abbrev pub tree_after : Edit → List ℕ → ℕ → ℕ → ℕ
-tree_after (DelBridge bridge) name vid there = if pointwise nat_eq bridge name then 0 else there
-tree_after (MapVids bridge tree vids) name vid there = if pointwise nat_eq bridge name && has vids vid then tree else there
-tree_after _ name vid there = there
+abbrev pub table_after : Edit → List ℕ → List ℕ → List ℕ
+table_after (DelBridge bridge) name there = if pointwise nat_eq bridge name then no_table else there
+table_after (MapVids bridge tree vids) name there = if pointwise nat_eq bridge name then mapped vids tree there else there
+table_after _ name there = there
 
 abbrev pub vlans_after : Edit → PortName → List Bool → List Bool
 vlans_after (DelPort port) name there = if port_eq port name then all_vids else there

@@ -1,17 +1,17 @@
-ghost use Rattle.std.specs.Prelude.{◌≡◌, ◌≤◌};
+ghost use Rattle.std.specs.Prelude.{◌≡◌};
 ghost use Rattle.std.specs.Option.{option_map};
 ghost use Rattle.mst_net.specs.After.{with_kind as kind_set, with_power as power_set, with_system_priority as system_priority_set, with_configuration as configuration_set, with_max_hops, with_max_age, in_lan, with_key as key_set, with_external, with_speed, with_state as state_set};
 ghost use Rattle.mst_net.specs.Seen.{bridge_row, port_row, lan_row};
-ghost use Rattle.mst_net.specs.Foreseen.{bridge_row_after, port_row_after, lan_row_after, bridge_number_after, port_number_after, lan_number_after, bridge_name_after, port_name_after, lan_name_after, priority_after, port_priority_after, port_cost_after, tree_after, vlans_after};
+ghost use Rattle.mst_net.specs.Foreseen.{bridge_row_after, port_row_after, lan_row_after, bridge_number_after, port_number_after, lan_number_after, bridge_name_after, port_name_after, lan_name_after, priority_after, port_priority_after, port_cost_after, table_after, vlans_after};
 
 use crate::contents::{Bridge, Contents, Lan, Port, seen_bridge, seen_lan, seen_port};
 use crate::names::{with_name, without_name};
 use crate::network::{Network, Ready};
 use crate::settings::{BridgeSettings, LanSettings, PortSettings};
+use crate::table::Table;
 use crate::tree_settings::TreeSettings;
 use mst_ids::{
-    BridgeNo, ConfName, Cost, LanNo, Limit, Name, PortName, PortNo, Priority, Speed, Tree, Vid,
-    VidSet,
+    BridgeNo, ConfName, Cost, LanNo, Limit, Name, PortName, PortNo, Priority, Speed, Tree, VidSet,
 };
 use mst_lang::{Edit, Kind, LanState, Power};
 use std::alloc::{AllocError, Global};
@@ -159,14 +159,8 @@ impl Contents for Ahead<'_> {
         )
     }
 
-    fn tree_of(&self, bridge: &Name, vid: Vid) -> Tree {
-        known_vid(vid);
-        tree_ahead(
-            &self.ready.edit,
-            bridge,
-            vid,
-            self.network.tree_of(bridge, vid),
-        )
+    fn table(&self, bridge: &Name) -> Table {
+        table_ahead(&self.ready.edit, bridge, self.network.table(bridge))
     }
 
     fn port_vlans(&self, port: &PortName) -> VidSet {
@@ -180,13 +174,6 @@ impl Contents for Ahead<'_> {
         settings.make(&self.ready.edit);
         Ok(settings)
     }
-}
-
-/// What holds of every VID.
-fn known_vid(vid: Vid)
-    ensures { (1 ≤ vid) × (vid ≤ 4094) }
-{
-    prove!((1..=4094).contains(&vid.value()));
 }
 
 /// What the edit makes of the bridge of this name.
@@ -446,14 +433,17 @@ fn port_cost_ahead(edit: &Edit, name: &PortName, other: Tree, there: Option<Cost
     }
 }
 
-/// What the edit makes of the tree that a bridge maps a VID to.
-fn tree_ahead(edit: &Edit, name: &Name, vid: Vid, there: Tree) -> Tree
-    ensures { result ≡ tree_after edit.now name.now vid there }
+/// What the edit makes of the table of a bridge.
+fn table_ahead(edit: &Edit, name: &Name, there: Table) -> Table
+    ensures { result ≡ table_after edit.now name.now there }
 {
     match *edit {
-        Edit::DelBridge { bridge } if bridge == *name => Tree::cist(),
-        Edit::MapVids { bridge, tree, vids } if bridge == *name && vids.contains(vid.value()) =>
-            tree,
+        Edit::DelBridge { bridge } if bridge == *name => Table::new(),
+        Edit::MapVids { bridge, tree, vids } if bridge == *name => {
+            let mut table = there;
+            table.map(&vids, tree);
+            table
+        }
         _ => there,
     }
 }

@@ -6,14 +6,14 @@ ghost use Rattle.mst_net.specs.Tables.{IsNetwork};
 ghost use Rattle.mst_net.specs.Contents.{Tables, IsNumbered, priority_of, port_priority_of, port_cost_of};
 ghost use Rattle.mst_ids.specs.declared.name.PortName.{PortName};
 ghost use Rattle.mst_net.specs.After.{table_of, vlans_of};
-ghost use Rattle.mst_net.specs.Table.{tree_in};
 ghost use Rattle.mst_net.specs.Seen.{bridge_row, port_row, lan_row};
 
 use crate::settings::{BridgeSettings, LanSettings, PortSettings};
+use crate::table::Table;
 use crate::tree_settings::TreeSettings;
 use mst_ids::{
     BridgeNo, ConfName, Cost, LanNo, Limit, Mac, Name, PortName, PortNo, Priority, Speed, Tree,
-    Vid, VidSet,
+    VidSet,
 };
 use mst_lang::{Kind, LanState, Power};
 use std::alloc::{AllocError, Global};
@@ -118,9 +118,9 @@ pub trait Contents {
     fn port_cost(&self, port: &PortName, tree: Tree) -> Option<Cost>
         ensures { result ≡ port_cost_of (tables self.now).net port.now tree };
 
-    /// The tree that a bridge maps a VID to, the CIST where it maps it to no other.
-    fn tree_of(&self, bridge: &Name, vid: Vid) -> Tree
-        ensures { result ≡ tree_in (table_of (tables self.now).net bridge.now) vid };
+    /// The table of a bridge, with all VIDs in the CIST where it maps none to another tree.
+    fn table(&self, bridge: &Name) -> Table
+        ensures { result ≡ table_of (tables self.now).net bridge.now };
 
     /// The VLANs that a port is a member of, all where none were set.
     fn port_vlans(&self, port: &PortName) -> VidSet

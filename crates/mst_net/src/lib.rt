@@ -19,6 +19,7 @@ pub use ahead::Ahead;
 pub use contents::{Bridge, Contents, Lan, Port};
 pub use network::{Network, Ready};
 pub use refusal::Refusal;
+pub use table::Table;
 pub use tree_settings::TreeSettings;
 
 #[cfg(test)]

@@ -1,21 +1,22 @@
-ghost use Rattle.std.specs.Prelude.{◌≡◌, ◌≢◌, ◌<◌, List, ℕ, Some, None, Ok, Err, IfOk, IfErr, OnOk, IsOk};
+ghost use Rattle.std.specs.Prelude.{◌≡◌, ◌≢◌, ◌<◌, List, ℕ, Some, Ok, Err, IfOk, IfErr, OnOk, IsOk};
 ghost use Rattle.std.specs.FinMap as fin;
 ghost use Rattle.std.specs.Option.{option_map};
 ghost use Rattle.mst_ids.specs.declared.name.PortName.{PortName};
-ghost use Rattle.mst_net.specs.Tables.{empty_net, no_numbers, IsNetwork};
+ghost use Rattle.mst_net.specs.Tables.{empty_net, no_numbers};
 ghost use Rattle.mst_net.specs.After.{after, mac_taken, some_port, is_of_bridge, is_in_lan};
 ghost use Rattle.mst_net.specs.Seen.{bridge_row, port_row, lan_row};
-ghost use Rattle.mst_net.specs.Contents.{SameContents, CanCommit, Commits, IsNumbered, ahead_of, room_for};
+ghost use Rattle.mst_net.specs.Contents.{SameContents, CanCommit, Commits, ahead_of, room_for};
 
 use crate::Refusal;
 use crate::ahead::Ahead;
 use crate::contents::{Bridge, Contents, Lan, Port, seen_bridge, seen_lan, seen_port};
 use crate::records::{Record, Records};
 use crate::settings::{BridgeSettings, LanSettings, PortSettings};
+use crate::table::Table;
 use crate::tally::Tally;
 use crate::tree_settings::TreeSettings;
 use indexmap::IndexSet;
-use mst_ids::{BridgeNo, Cost, LanNo, Mac, Name, PortName, PortNo, Priority, Tree, Vid, VidSet};
+use mst_ids::{BridgeNo, Cost, LanNo, Mac, Name, PortName, PortNo, Priority, Tree, VidSet};
 use mst_lang::{Edit, laws};
 use std::alloc::{AllocError, Global};
 use std::marker::Model;
@@ -317,8 +318,8 @@ impl Contents for Network {
         self.settings.port_cost(port, tree)
     }
 
-    fn tree_of(&self, bridge: &Name, vid: Vid) -> Tree {
-        self.settings.tree_of(bridge, vid)
+    fn table(&self, bridge: &Name) -> Table {
+        self.settings.table(bridge)
     }
 
     fn port_vlans(&self, port: &PortName) -> VidSet {

@@ -1,13 +1,17 @@
-ghost use Rattle.std.specs.Prelude.{◌≡◌, ◌==◌, ℕ, ◌<◌, ◌↔◌, false, length, count_by, slice_index_or, IsTrue};
+ghost use Rattle.std.specs.Prelude.{◌≡◌, ◌==◌, ℕ, ◌<◌, ◌↔◌, List, Some, false, length, count_by, slice_index_or, IsTrue};
+ghost use Rattle.std.specs.FinMap as fin;
 ghost use Rattle.std.specs.List.{list_all};
+ghost use Rattle.mst_net.specs.After.{table_of};
 ghost use Rattle.mst_net.specs.Table.{no_table, tree_in, mapped, has_tree, tree_count};
 
-use mst_ids::{Tree, Vid, VidSet};
+use crate::contents::Contents;
+use mst_ids::{BridgeNo, Tree, Vid, VidSet};
 use std::marker::Model;
 
-/// Which tree each VID is mapped to.
-#[derive(Clone, Copy)]
-pub(crate) struct Table {
+/// The tree of each VID from 1 to 4094 in rising order, as its MSTID, of which 0 is the CIST. It is of fixed
+/// size.
+#[derive(Clone, Copy, PartialEq, Eq, Hash)]
+pub struct Table {
     trees: [Tree; 4094],
 }
 
@@ -27,6 +31,18 @@ impl Model for Table {
 }
 
 impl Table {
+    /// The table of the bridge of this number, which some bridge has. It takes no memory.
+    pub fn of<C: Contents>(contents: &C, bridge: BridgeNo) -> Table
+        requires { (name : List ℕ) × (fin.get (C.tables contents.now).numbers.bridges name ≡ Some bridge) }
+        ensures { (name : List ℕ) → fin.get (C.tables contents.now).numbers.bridges name ≡ Some bridge → result ≡ table_of (C.tables contents.now).net name }
+    {
+        contents.known();
+        match contents.bridge_name(bridge) {
+            Some(name) => contents.table(&name),
+            None => Table::new(),
+        }
+    }
+
     /// Every VID in the CIST.
     pub(crate) fn new() -> Table
         ensures { result ≡ no_table }
@@ -38,10 +54,18 @@ impl Table {
     }
 
     /// The tree that a VID is mapped to.
-    pub(crate) fn tree(&self, vid: Vid) -> Tree
+    pub fn tree(&self, vid: Vid) -> Tree
         ensures { result ≡ tree_in self.now vid }
     {
         self.trees[usize::from(vid.value()) - 1]
+    }
+
+    /// The trees, those of the VIDs 1 to 4094 in rising order.
+    pub fn trees(&self) -> &[Tree]
+        ensures trees { result.now ≡ self.now }
+        ensures long { length self.now ≡ 4094 }
+    {
+        &self.trees
     }
 
     /// Maps the VIDs of the set to the tree; the other VIDs stay where they are.

@@ -185,7 +185,7 @@ fn value<C: Contents>(contents: &C, asked: Asked) -> Option<u64> {
             Some(cost.map_or(0, |cost| cost.value()))
         }
         Asked::TreeOf(vid) => {
-            let tree = contents.tree_of(&bridge, Vid::new(vid)?);
+            let tree = contents.table(&bridge).tree(Vid::new(vid)?);
             Some(u64::from(tree.value()))
         }
         Asked::InVlan(vid) => Some(u64::from(contents.port_vlans(&port).contains(vid))),
@@ -766,7 +766,7 @@ fn map_own(alloc: Global, network: &mut Network, vid: u64) -> Option<&'static st
 }
 
 fn tree_of(network: &Network, vid: u64) -> Option<u16> {
-    Some(network.tree_of(&name("A")?, Vid::new(vid)?).value())
+    Some(network.table(&name("A")?).tree(Vid::new(vid)?).value())
 }
 
 #[test]

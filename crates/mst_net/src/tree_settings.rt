@@ -67,10 +67,11 @@ impl TreeSettings {
         ensures { IfOk result (λ copy. copy.set ≡ self.now.set) }
     {
         let priorities = self.priorities.clone()?;
-        let port_priorities = self.port_priorities.clone()?;
-        let port_costs = self.port_costs.clone()?;
-        let tables = self.tables.clone()?;
-        let vlans = self.vlans.clone()?;
+        let (port_priorities, port_costs) = copies_by_tree(
+            &self.port_priorities,
+            &self.port_costs,
+        )?;
+        let (tables, vlans) = copies_by_vid(&self.tables, &self.vlans)?;
         Ok(TreeSettings {
             priorities,
             port_priorities,
@@ -134,8 +135,8 @@ impl TreeSettings {
         }
     }
 
-    /// Which tree each VID is mapped to by a bridge.
-    fn table(&self, bridge: &Name) -> Table
+    /// The table of a bridge, with all VIDs in the CIST where none is set.
+    pub fn table(&self, bridge: &Name) -> Table
         ensures { result ≡ table_in self.now.set.tables bridge.now }
     {
         match self.tables.get(bridge) {
@@ -285,4 +286,29 @@ fn own_vlans(vids: VidSet) -> Option<VidSet>
     } else {
         Some(vids)
     }
+}
+
+/// Copies of what is set for ports by tree. In two functions with `copies_by_vid`, since each way out of one
+/// has to drop all that is copied so far.
+fn copies_by_tree(
+    priorities: &IndexMap<PortInTree, Priority>,
+    costs: &IndexMap<PortInTree, Cost>,
+) -> Result<(IndexMap<PortInTree, Priority>, IndexMap<PortInTree, Cost>), AllocError>
+    ensures { IfOk result (λ copies. (copies.0.entries ≡ priorities.now.entries) × (copies.1.entries ≡ costs.now.entries)) }
+{
+    let priorities = priorities.clone()?;
+    let costs = costs.clone()?;
+    Ok((priorities, costs))
+}
+
+/// Copies of what is set by VID: the tables of bridges and the VLANs of ports.
+fn copies_by_vid(
+    tables: &IndexMap<Name, Table>,
+    vlans: &IndexMap<PortName, VidSet>,
+) -> Result<(IndexMap<Name, Table>, IndexMap<PortName, VidSet>), AllocError>
+    ensures { IfOk result (λ copies. (copies.0.entries ≡ tables.now.entries) × (copies.1.entries ≡ vlans.now.entries)) }
+{
+    let tables = tables.clone()?;
+    let vlans = vlans.clone()?;
+    Ok((tables, vlans))
 }
