@@ -8,6 +8,7 @@ use Rattle.mst_ids.specs.Names.{name_cmp, port_cmp}
 use Rattle.mst_vector.specs.Cist.{cist_rules}
 use Rattle.mst_vector.specs.declared.cist.CistBridge.{CistBridge}
 use Rattle.mst_net.specs.Tables.{Net, Numbers, IsNetwork}
+use Rattle.mst_net.specs.ByTree.{by_tree}
 use Rattle.mst_net.specs.Contents.{IsNumbered}
 use Rattle.mst_lag.specs.View.{is_on}
 use Rattle.mst_lag.specs.Viewed.{Viewed, IsView, named_bridge as lag_bridge, named_port as lag_port, HasNumbers as lag_numbers}
@@ -135,18 +136,18 @@ module _ (net : Net) (numbers : Numbers) (ok : IsNetwork net) (num : IsNumbered 
       omega (arith, on, all, length-map bs viewed_bridge, ap length shows.all_bridges)
 
 -- the view of a network shows it
-pub view_shows : (net : Net) (numbers : Numbers) (v : Viewed) → IsView net numbers v → Shows net numbers (map (seen_bridge net) v.bridges) (map (seen_port net) v.ports)
+pub view_shows : (net : Net) (numbers : Numbers) (v : Viewed) → IsView net numbers v → Shows net numbers (map (seen_bridge (by_tree net)) v.bridges) (map (seen_port (by_tree net)) v.ports)
 view_shows net numbers v is = record {
   all_bridges =
-      mapped_twice viewed_bridge (seen_bridge net) v.bridges
+      mapped_twice viewed_bridge (seen_bridge (by_tree net)) v.bridges
       ∙ sym (mapped_twice (bridge_view net) lag_bridge v.bridges)
       ∙ ap (map (bridge_view net)) is.bridges;
   all_ports =
-      mapped_twice viewed_port (seen_port net) v.ports
+      mapped_twice viewed_port (seen_port (by_tree net)) v.ports
       ∙ sym (mapped_twice (port_view net) lag_port v.ports)
       ∙ ap (map (port_view net)) is.ports;
-  bridge_numbers = all_mapped (λ (b : BridgeSeen). fin.get numbers.bridges b.name ≡ Some b.number) (seen_bridge net) v.bridges is.bridge_numbers;
+  bridge_numbers = all_mapped (λ (b : BridgeSeen). fin.get numbers.bridges b.name ≡ Some b.number) (seen_bridge (by_tree net)) v.bridges is.bridge_numbers;
   port_numbers =
-      all_mapped (HasNumbers numbers) (seen_port net) v.ports
-      (all_weaker (lag_numbers numbers) (λ p. HasNumbers numbers (seen_port net p)) (λ p h. record { port = h.port; bridge = h.bridge; lan = h.lan }) v.ports is.port_numbers);
+      all_mapped (HasNumbers numbers) (seen_port (by_tree net)) v.ports
+      (all_weaker (lag_numbers numbers) (λ p. HasNumbers numbers (seen_port (by_tree net) p)) (λ p h. record { port = h.port; bridge = h.bridge; lan = h.lan }) v.ports is.port_numbers);
 }

@@ -19,6 +19,7 @@ use Rattle.mst_vector.specs.Cist.{cist_rules}
 use Rattle.mst_vector.specs.declared.cist.CistBridge.{CistBridge}
 use Rattle.mst_vector.specs.Rules.{is_cost}
 use Rattle.mst_net.specs.Tables.{Net, BridgeRow, PortRow, IsNetwork, IsPathCost, port_eq}
+use Rattle.mst_net.specs.ByTree.{by_tree}
 use Rattle.mst_net.specs.Contents.{priority_of, port_priority_of, port_cost_of}
 use Rattle.mst_lag.specs.Aggregation.{Plug, plug_of, plugs}
 use Rattle.mst_lag.specs.View.{LogicalPort, logical_port, as_port, is_on, is_up, logical_lan, view_ports}
@@ -127,7 +128,7 @@ plug_is e p h = go e.1.lan h
 pub record IsBridgeView (net : Net) (b : BridgeView) : Type 0 where
   pub row : BridgeRow
   pub is_row : fin.get net.bridges b.name ≡ Some row
-  pub is_cist : b.settings ≡ cist_bridge net b.name row
+  pub is_cist : b.settings ≡ cist_bridge (by_tree net) b.name row
   pub is_power : b.is_on ≡ row.is_on
 
 -- a logical port has a row, an identifier of its number, and costs in range, and its bridge is on where it is
@@ -141,7 +142,7 @@ pub record IsPortView (net : Net) (p : PortView) : Type 0 where
 
 -- a bridge in the view, of its entry
 abbrev pub bridge_view : Net → List ℕ × BridgeRow → BridgeView
-bridge_view net e = record { name = e.0; settings = cist_bridge net e.0 e.1; is_on = e.1.is_on }
+bridge_view net e = record { name = e.0; settings = cist_bridge (by_tree net) e.0 e.1; is_on = e.1.is_on }
 
 module _ (net : Net) (ok : IsNetwork net) where
   pub bridges_are : AllByRecursion (IsBridgeView net) (cist_bridges net)
@@ -169,7 +170,7 @@ module _ (net : Net) (ok : IsNetwork net) where
         is_row = h.is_row;
         is_id = refl;
         in_range =
-            and_from (is_cost (cist_port net port).external) (is_cost (cist_port net port).internal)
+            and_from (is_cost (cist_port (by_tree net) port).external) (is_cost (cist_port (by_tree net) port).internal)
             (cost_or_automatic p.external (max 1 port.speed) (λ c e. ok.ports.cost_fits p.port h.row c h.is_row (h.is_external ∙ e)))
             (cost_or_automatic (port_cost_of net p.port 0) (max 1 port.speed) (λ c e. (ok.port_costs (record { port = p.port; tree = 0 }) c e).2));
         bridge_on = λ enabled. (and_parts (is_on net p.port.bridge) (is_up net (logical_lan net p.lan)) enabled).0;

@@ -12,21 +12,21 @@ use Rattle.mst_settle.specs.Topology.{Plug, Topology}
 use Rattle.mst_settle.specs.Settled.{Settled, IsDesignated}
 use Rattle.mst_lag.specs.View.{LogicalPort, view_ports}
 use Rattle.mst_net.specs.Tables.{Net, BridgeRow}
-use Rattle.mst_net.specs.Contents.{priority_of, port_priority_of, port_cost_of}
+use Rattle.mst_net.specs.ByTree.{ByTree, by_tree, priority_in, port_priority_in, port_cost_in}
 
 -- a bridge: its identifier, its region and its kind. Each bridge is a region of its own
-abbrev pub cist_bridge : Net → List ℕ → BridgeRow → CistBridge
-cist_bridge net name row =
-    let id = bridge_id (priority_of net name 0) 0 row.mac in
+abbrev pub cist_bridge : ByTree → List ℕ → BridgeRow → CistBridge
+cist_bridge set name row =
+    let id = bridge_id (priority_in set.priorities name 0) 0 row.mac in
     record { id = id; region = id; is_rstp = row.is_rstp }
 
 -- a logical port: its identifier and its costs. A cost that isn't set goes by the speed of the logical LAN.
 -- Where no member is up there is no speed: the port then takes no part, and no text has its costs
-abbrev pub cist_port : Net → LogicalPort → CistPort
-cist_port net p = record {
-  id = port_id (port_priority_of net p.name 0) p.name.number;
+abbrev pub cist_port : ByTree → LogicalPort → CistPort
+cist_port set p = record {
+  id = port_id (port_priority_in set.port_priorities p.name 0) p.name.number;
   external = unwrap_or p.external (automatic_cost (max 1 p.speed));
-  internal = unwrap_or (port_cost_of net p.name 0) (automatic_cost (max 1 p.speed));
+  internal = unwrap_or (port_cost_in set.port_costs p.name 0) (automatic_cost (max 1 p.speed));
 }
 
 -- a bridge as the trees see it
@@ -43,11 +43,11 @@ pub record PortView : Type 0 where
   pub is_enabled : Bool
 
 abbrev pub port_view : Net → LogicalPort → PortView
-port_view net p = record { name = p.name; lan = p.lan; settings = cist_port net p; is_enabled = p.is_enabled }
+port_view net p = record { name = p.name; lan = p.lan; settings = cist_port (by_tree net) p; is_enabled = p.is_enabled }
 
 -- all bridges, in byte order of names, and all logical ports, by bridge and number
 abbrev pub cist_bridges : Net → List BridgeView
-cist_bridges net = map (λ e. record { name = e.0; settings = cist_bridge net e.0 e.1; is_on = e.1.is_on }) (fin.entries net.bridges)
+cist_bridges net = map (λ e. record { name = e.0; settings = cist_bridge (by_tree net) e.0 e.1; is_on = e.1.is_on }) (fin.entries net.bridges)
 
 abbrev pub cist_ports : Net → List PortView
 cist_ports net = map (port_view net) (view_ports net)

@@ -9,6 +9,7 @@ use Rattle.mst_vector.specs.declared.cist.CistPort.{CistPort}
 use Rattle.mst_vector.specs.declared.cist.CistVector.{CistVector}
 use Rattle.mst_settle.specs.Topology.{Plug, Topology}
 use Rattle.mst_net.specs.Tables.{Net, Numbers}
+use Rattle.mst_net.specs.ByTree.{ByTree}
 use Rattle.mst_net.specs.Seen.{bridge_row}
 use Rattle.mst_lag.specs.Viewed.{named_port as logical_port}
 use Rattle.mst_lag.specs.declared.in_view.BridgeInView.{BridgeInView}
@@ -17,20 +18,20 @@ use Rattle.mst_report.specs.Cist.{Outcome, BridgeView, PortView, cist_bridge, ci
 use Rattle.mst_report.specs.declared.view.BridgeSeen.{BridgeSeen}
 use Rattle.mst_report.specs.declared.view.PortSeen.{PortSeen}
 
--- a bridge and a logical port of the network's view, as the CIST sees them
-abbrev pub seen_bridge : Net → BridgeInView → BridgeSeen
-seen_bridge net b =
+-- a bridge and a logical port of the network's view, as the CIST sees them by what is set for tree 0
+abbrev pub seen_bridge : ByTree → BridgeInView → BridgeSeen
+seen_bridge set b =
     let row = bridge_row b.bridge in
-    record { name = b.name; number = b.bridge.number; cist = cist_bridge net b.name row; is_on = row.is_on }
+    record { name = b.name; number = b.bridge.number; cist = cist_bridge set b.name row; is_on = row.is_on }
 
-abbrev pub seen_port : Net → PortInView → PortSeen
-seen_port net p = record {
+abbrev pub seen_port : ByTree → PortInView → PortSeen
+seen_port set p = record {
   name = p.name;
   number = p.number;
   bridge = p.bridge;
   lan = p.lan;
   lan_number = p.lan_number;
-  cist = cist_port net (logical_port p);
+  cist = cist_port set (logical_port p);
   is_enabled = p.is_enabled;
 }
 

@@ -95,8 +95,9 @@ fn cist_of_view(alloc: Global, network: &Network, view: &View) -> Result<Cist, A
     ensures { IfOk result (IsCistOf network.now.net network.now.numbers) }
 {
     network.known();
-    let bridges = bridges(alloc, network, view.bridges())?;
-    let ports = ports(alloc, network, view.ports())?;
+    let settings = view.settings();
+    let bridges = bridges(alloc, settings, view.bridges())?;
+    let ports = ports(alloc, settings, view.ports())?;
     let on = on(alloc, bridges.as_slice())?;
     let enabled = enabled(alloc, ports.as_slice())?;
     let settler = settle(alloc, on.as_slice(), enabled.as_slice())?;

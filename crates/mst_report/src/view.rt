@@ -5,7 +5,7 @@ ghost use Rattle.mst_report.specs.View.{seen_bridge, seen_port};
 use mst_ids::{BridgeId, BridgeNo, LanNo, Name, PortId, PortName, PortNo, Tree, auto_cost};
 use mst_lag::{BridgeInView, PortInView};
 use mst_lang::{Kind, Power};
-use mst_net::{Contents, Network};
+use mst_net::TreeSettings;
 use mst_vector::{CistBridge, CistPort};
 use std::alloc::{AllocError, Global};
 
@@ -42,11 +42,11 @@ fn is_on(power: Power) -> bool
 }
 
 impl BridgeSeen {
-    /// A bridge of the network's view, with the priority that the network has for it.
-    fn of(network: &Network, seen: &BridgeInView) -> Self
-        ensures { result ≡ seen_bridge network.now.net seen.now }
+    /// A bridge of the network's view, with the priority that is set for it.
+    fn of(settings: &TreeSettings, seen: &BridgeInView) -> Self
+        ensures { result ≡ seen_bridge settings.now.set seen.now }
     {
-        let priority = network.tree_priority(&seen.name, Tree::cist());
+        let priority = settings.tree_priority(&seen.name, Tree::cist());
         let id = BridgeId::new(priority, Tree::cist(), seen.bridge.mac);
         let is_rstp = match seen.bridge.kind {
             Kind::Mstp => false,
@@ -66,13 +66,13 @@ impl BridgeSeen {
 }
 
 impl PortSeen {
-    /// A logical port of the network's view, with the priority and the internal path cost that the network
-    /// has for it. A cost that isn't set goes by the speed of the logical LAN.
-    fn of(network: &Network, seen: &PortInView) -> Self
-        ensures { result ≡ seen_port network.now.net seen.now }
+    /// A logical port of the network's view, with the priority and the internal path cost that are set for
+    /// it. A cost that isn't set goes by the speed of the logical LAN.
+    fn of(settings: &TreeSettings, seen: &PortInView) -> Self
+        ensures { result ≡ seen_port settings.now.set seen.now }
     {
         let automatic = auto_cost(seen.speed.max(1));
-        let internal = network.port_cost(&seen.name, Tree::cist());
+        let internal = settings.port_cost(&seen.name, Tree::cist());
         PortSeen {
             name: seen.name,
             number: seen.number,
@@ -81,7 +81,7 @@ impl PortSeen {
             lan_number: seen.lan_number,
             cist: CistPort {
                 id: PortId::new(
-                    network.port_priority(&seen.name, Tree::cist()),
+                    settings.port_priority(&seen.name, Tree::cist()),
                     seen.name.number,
                 ),
                 external: seen.external.unwrap_or(automatic),
@@ -92,30 +92,30 @@ impl PortSeen {
     }
 }
 
-/// The bridges of the network's view.
+/// The bridges of the network's view, by what is set for tree 0.
 pub(crate) fn bridges(
     alloc: Global,
-    network: &Network,
+    settings: &TreeSettings,
     bridges: &[BridgeInView],
 ) -> Result<Vec<BridgeSeen>, AllocError>
-    ensures { IfOk result (λ v. v.items ≡ map (seen_bridge network.now.net) bridges.now) }
+    ensures { IfOk result (λ v. v.items ≡ map (seen_bridge settings.now.set) bridges.now) }
 {
     bridges
         .iter()
-        .map(|bridge| BridgeSeen::of(network, bridge))
+        .map(|bridge| BridgeSeen::of(settings, bridge))
         .collect(alloc)
 }
 
-/// The logical ports of the network's view.
+/// The logical ports of the network's view, by what is set for tree 0.
 pub(crate) fn ports(
     alloc: Global,
-    network: &Network,
+    settings: &TreeSettings,
     ports: &[PortInView],
 ) -> Result<Vec<PortSeen>, AllocError>
-    ensures { IfOk result (λ v. v.items ≡ map (seen_port network.now.net) ports.now) }
+    ensures { IfOk result (λ v. v.items ≡ map (seen_port settings.now.set) ports.now) }
 {
     ports
         .iter()
-        .map(|port| PortSeen::of(network, port))
+        .map(|port| PortSeen::of(settings, port))
         .collect(alloc)
 }
