@@ -103,9 +103,9 @@ struct Case {
     counts: Outcome,
 }
 
-#[test]
-fn prints_refusals(rt: HostRuntime) -> Result<(), Fail> {
-    let cases = [
+/// Scripts whose lines are refused, or print nothing.
+fn refusals() -> [Case; 5] {
+    [
         Case {
             name: "empty",
             script: b"",
@@ -139,7 +139,12 @@ fn prints_refusals(rt: HostRuntime) -> Result<(), Fail> {
             expected: b"line 3 E07 name taken\nline 4 E01 no such command\n",
             counts: counts(2, 0),
         },
-    ];
+    ]
+}
+
+#[test]
+fn prints_refusals(rt: HostRuntime) -> Result<(), Fail> {
+    let cases = refusals();
     for case in &cases {
         let (whole, slow, ran) = run_both(rt.alloc(), case.script)?;
         assert_eq!(rt; whole.as_slice(), case.expected, "{}", case.name);
