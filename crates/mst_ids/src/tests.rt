@@ -280,6 +280,11 @@ fn lists_of_vids_are_parsed(rt: HostRuntime) -> Result<(), Fail> {
         parse_vids(list.as_bytes())?.push_text(&mut out)?;
         assert_eq!(rt; out.as_slice(), text.as_bytes(), "at {list}");
     }
+    Ok(())
+}
+
+#[test]
+fn what_is_no_list_of_vids_is_refused(rt: HostRuntime) {
     for list in [
         "",
         ",",
@@ -305,7 +310,6 @@ fn lists_of_vids_are_parsed(rt: HostRuntime) -> Result<(), Fail> {
     ] {
         assert!(rt; parse_vids(list.as_bytes()) == Err(BadText), "at {list}");
     }
-    Ok(())
 }
 
 #[test]
