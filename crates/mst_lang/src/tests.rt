@@ -477,7 +477,7 @@ fn lists_of_vids_are_judged(rt: HostRuntime) -> Result<(), Fail> {
 }
 
 #[test]
-fn the_least_fault_is_told(rt: HostRuntime) {
+fn a_bad_command_is_told_first(rt: HostRuntime) {
     assert_faults(
         &rt,
         &[
@@ -494,6 +494,10 @@ fn the_least_fault_is_told(rt: HostRuntime) {
         ],
         Fault::E01,
     );
+}
+
+#[test]
+fn a_bad_argument_is_told_before_a_bad_tree(rt: HostRuntime) {
     assert_faults(
         &rt,
         &[
@@ -510,6 +514,10 @@ fn the_least_fault_is_told(rt: HostRuntime) {
         ],
         Fault::E02,
     );
+}
+
+#[test]
+fn a_bad_tree_or_vid_is_told_last(rt: HostRuntime) {
     assert_faults(
         &rt,
         &[
