@@ -55,7 +55,7 @@ impl BridgeId {
         ensures ok { OnOk result (out.new.items ≡ out.old.items ++ bridge_id_text self.now) }
         ensures err { OnErr result (out.new.items ≡ out.old.items) }
     {
-        push_bytes(&self.text(), out)
+        push_bytes(&digits_of(self.number), out)
     }
 }
 
