@@ -196,7 +196,7 @@ fn value<C: Contents>(contents: &C, asked: Asked) -> Option<u64> {
 /// A line, what is asked, and the answers before and after its edit.
 type Change = (&'static str, Asked, Option<u64>, Option<u64>);
 
-const SETTINGS: [Change; 21] = [
+const OF_BRIDGES: [Change; 9] = [
     ("kind b rstp", Asked::Mstp, Some(1), Some(0)),
     ("bridge b off", Asked::On, Some(1), Some(0)),
     ("bridge b on", Asked::On, Some(0), Some(1)),
@@ -226,6 +226,9 @@ const SETTINGS: [Change; 21] = [
     ),
     ("setmaxhops b 6", Asked::Hops, Some(20), Some(6)),
     ("setmaxage b 40", Asked::Age, Some(20), Some(40)),
+];
+
+const OF_LINKS: [Change; 12] = [
     ("setkey b 1 65535", Asked::Key, Some(0), Some(65_535)),
     ("setkey b 1 0", Asked::Key, Some(65_535), Some(0)),
     (
@@ -406,25 +409,33 @@ fn value_ahead_of(network: &mut Network, line: &str, asked: Asked) -> Option<u64
     }
 }
 
+/// Whether the edit of the line makes this change, shows it ahead, and leaves the network as it is where it is
+/// given up.
+fn makes(network: &mut Network, change: &Change) -> bool {
+    let (line, asked, before, after) = *change;
+    value(network, asked) == before
+        && value_ahead_of(network, line, asked) == after
+        && value(network, asked) == before
+        && code_of(network, line) == ""
+        && value(network, asked) == after
+}
+
 fn check_changes(rt: &impl Abort, alloc: Global, changes: &[Change]) -> Result<(), Fail> {
     let mut network = network_of(alloc, &SMALL)?;
-    for (line, asked, before, after) in changes {
-        assert_eq!(rt; value(&network, *asked), *before, "before {line}");
-        assert_eq!(rt;
-            value_ahead_of(&mut network, line, *asked),
-            *after,
-            "ahead of {line}"
-        );
-        assert_eq!(rt; value(&network, *asked), *before, "given up: {line}");
-        assert_eq!(rt; code_of(&mut network, line), "", "at {line}");
-        assert_eq!(rt; value(&network, *asked), *after, "after {line}");
+    for change in changes {
+        assert!(rt; makes(&mut network, change), "at {}", change.0);
     }
     Ok(())
 }
 
 #[test]
-fn settings_are_changed(rt: HostRuntime) -> Result<(), Fail> {
-    check_changes(&rt, rt.alloc(), &SETTINGS)
+fn settings_of_bridges_are_changed(rt: HostRuntime) -> Result<(), Fail> {
+    check_changes(&rt, rt.alloc(), &OF_BRIDGES)
+}
+
+#[test]
+fn settings_of_links_are_changed(rt: HostRuntime) -> Result<(), Fail> {
+    check_changes(&rt, rt.alloc(), &OF_LINKS)
 }
 
 #[test]
@@ -468,8 +479,8 @@ const REFUSED: [(&str, &str); 19] = [
 #[test]
 fn edits_are_refused(rt: HostRuntime) -> Result<(), Fail> {
     let mut network = network_of(rt.alloc(), &SMALL)?;
-    for (line, code) in REFUSED {
-        assert_eq!(rt; code_of(&mut network, line), code, "at {line}");
+    for (line, code) in &REFUSED {
+        assert!(rt; code_of(&mut network, line) == *code, "at {line}");
     }
     Ok(())
 }
@@ -627,14 +638,20 @@ fn lists_ahead_of(
     }
 }
 
+/// Whether the names are these ahead of the line's edit, and those of the small network where it is given up.
+fn lists_both(alloc: Global, network: &mut Network, line: &str, wanted: &Listed) -> bool {
+    lists_ahead_of(alloc, network, line, wanted) == Some(true)
+        && lists(alloc, network, &LISTED) == Some(true)
+}
+
 #[test]
 fn ahead_lists_names(rt: HostRuntime) -> Result<(), Fail> {
     let mut network = network_of(rt.alloc(), &SMALL)?;
-    for (line, wanted) in LISTED_AHEAD {
-        let found = lists_ahead_of(rt.alloc(), &mut network, line, &wanted);
-        assert!(rt; found == Some(true), "at {line}");
-        let found = lists(rt.alloc(), &network, &LISTED);
-        assert!(rt; found == Some(true), "after {line}");
+    for (line, wanted) in &LISTED_AHEAD {
+        assert!(rt;
+            lists_both(rt.alloc(), &mut network, line, wanted),
+            "at {line}"
+        );
     }
     Ok(())
 }
@@ -749,13 +766,17 @@ fn seen(network: &Network) -> Option<[bool; 3]> {
     }
 }
 
+/// Whether the line is refused by this number, and changes nothing then.
+fn refuses(network: &mut Network, line: &str, code: &str) -> bool {
+    let before = seen(network);
+    code_of(network, line) == code && (code == "" || seen(network) == before)
+}
+
 #[test]
 fn lines_are_refused(rt: HostRuntime) {
     let mut network = Network::new(rt.alloc());
-    for (line, code) in REFUSED_LINES {
-        let before = seen(&network);
-        assert_eq!(rt; code_of(&mut network, line), code, "at {line}");
-        assert!(rt; code == "" || seen(&network) == before, "at {line}");
+    for (line, code) in &REFUSED_LINES {
+        assert!(rt; refuses(&mut network, line, code), "at {line}");
     }
 }
 
@@ -792,6 +813,10 @@ fn laws_can_be_called(rt: HostRuntime) {
     laws::standing();
 }
 
+fn number_under(rows: &Records<u32, u8>, key: u32) -> usize {
+    rows.get(&key).map_or(9, |row| row.number)
+}
+
 #[test]
 fn rows_are_removed_and_their_numbers_used_again(rt: HostRuntime) -> Result<(), Fail> {
     let mut rows: Records<u32, u8> = Records::new(rt.alloc());
@@ -799,13 +824,11 @@ fn rows_are_removed_and_their_numbers_used_again(rt: HostRuntime) -> Result<(), 
     rows.add(70, 1);
     rows.reserve()?;
     rows.add(71, 2);
-    let first = rows.get(&70).map_or(9, |row| row.number);
-    let last = rows.get(&71).map_or(9, |row| row.number);
+    let first = number_under(&rows, 70);
+    let last = number_under(&rows, 71);
     rows.remove(&70);
-    assert_eq!(rt; rows.len(), 1);
-    assert!(rt; rows.key(first).is_none());
-    assert_eq!(rt; rows.get(&71).map_or(9, |row| row.number), last);
-    assert_eq!(rt; rows.next(), first);
+    assert!(rt; rows.len() == 1 && rows.key(first).is_none());
+    assert!(rt; number_under(&rows, 71) == last && rows.next() == first);
     Ok(())
 }
 
@@ -825,7 +848,9 @@ fn records_are_counted_for_each_key(rt: HostRuntime) -> Result<(), Fail> {
 }
 
 /// VIDs, the tree that they are mapped to, how many trees there are then, and VIDs with their trees.
-const MAPPED: [(&str, u64, usize, [(u64, u16); 4]); 4] = [
+type Mapped = (&'static str, u64, usize, [(u64, u16); 4]);
+
+const MAPPED: [Mapped; 4] = [
     ("1", 0, 0, [(1, 0), (2, 0), (3, 0), (4094, 0)]),
     (
         "1-10,4094",
@@ -837,20 +862,28 @@ const MAPPED: [(&str, u64, usize, [(u64, u16); 4]); 4] = [
     ("1-4094", 0, 0, [(1, 0), (3, 0), (11, 0), (4094, 0)]),
 ];
 
-#[test]
-fn vids_are_mapped_to_trees(rt: HostRuntime) -> Result<(), Fail> {
-    let mut table = Table::new();
-    for (vids, number, count, trees) in MAPPED {
-        let tree = Tree::new(number).ok_or("no tree")?;
-        table.map(&parse_vids(vids.as_bytes())?, tree);
-        assert_eq!(rt; table.tree_count(), count, "after {vids}");
-        assert_eq!(rt; table.is_default(), count == 0, "after {vids}");
-        for (vid, wanted) in trees {
-            let vid = Vid::new(vid).ok_or("no VID")?;
-            assert_eq!(rt; table.tree(vid).value(), wanted, "after {vids}");
+/// Whether the table has so many trees and these VIDs in theirs, once the VIDs are mapped.
+fn maps(table: &mut Table, mapped: &Mapped) -> Option<bool> {
+    let (vids, tree, count, trees) = mapped;
+    table.map(&parse_vids(vids.as_bytes()).ok()?, Tree::new(*tree)?);
+    for (vid, wanted) in trees {
+        if table.tree(Vid::new(*vid)?).value() != *wanted {
+            return Some(false);
         }
     }
-    Ok(())
+    Some(table.tree_count() == *count && table.is_default() == (*count == 0))
+}
+
+#[test]
+fn vids_are_mapped_to_trees(rt: HostRuntime) {
+    let mut table = Table::new();
+    for mapped in &MAPPED {
+        assert!(rt;
+            maps(&mut table, mapped) == Some(true),
+            "after {}",
+            mapped.0
+        );
+    }
 }
 
 /// A bridge or its port 1, a tree, and whether it is kept once what is set for bridge a or its port is forgotten.
