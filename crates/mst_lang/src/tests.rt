@@ -119,8 +119,8 @@ impl Values {
         })
     }
 
-    /// The edit of each command, in the order of the grammar.
-    fn edits(self) -> [Edit; 23] {
+    /// The edits that add, take away, switch and plug records, in the order of the grammar.
+    fn of_records(self) -> [Edit; 12] {
         let Values {
             bridge,
             lan,
@@ -130,15 +130,7 @@ impl Values {
             kind,
             state,
             speed,
-            priority,
-            path_cost,
-            tree_cost,
-            word,
-            limit,
-            name,
-            tree,
-            mapped,
-            members,
+            ..
         } = self;
         let port = || PortName { bridge, number };
         [
@@ -154,6 +146,21 @@ impl Values {
             Edit::SetSpeed { lan, speed },
             Edit::Plug { port: port(), lan },
             Edit::Unplug { port: port() },
+        ]
+    }
+
+    /// The edits of keys and priorities, in the order of the grammar.
+    fn of_priorities(self) -> [Edit; 4] {
+        let Values {
+            bridge,
+            number,
+            word,
+            tree,
+            priority,
+            ..
+        } = self;
+        let port = || PortName { bridge, number };
+        [
             Edit::SetKey {
                 port: port(),
                 key: word,
@@ -172,6 +179,24 @@ impl Values {
                 tree,
                 priority,
             },
+        ]
+    }
+
+    /// The edits of costs and of configurations, in the order of the grammar.
+    fn of_costs(self) -> [Edit; 4] {
+        let Values {
+            bridge,
+            number,
+            tree,
+            path_cost,
+            tree_cost,
+            word,
+            name,
+            mapped,
+            ..
+        } = self;
+        let port = || PortName { bridge, number };
+        [
             Edit::SetPortPathCost {
                 port: port(),
                 cost: path_cost,
@@ -191,10 +216,23 @@ impl Values {
                 tree,
                 vids: mapped,
             },
+        ]
+    }
+
+    /// The edits of limits and VLANs, in the order of the grammar.
+    fn of_limits(self) -> [Edit; 3] {
+        let Values {
+            bridge,
+            number,
+            limit,
+            members,
+            ..
+        } = self;
+        [
             Edit::SetMaxHops { bridge, limit },
             Edit::SetMaxAge { bridge, limit },
             Edit::SetPortVlans {
-                port: port(),
+                port: PortName { bridge, number },
                 vids: members,
             },
         ]
@@ -271,7 +309,10 @@ fn edits_of_the_least_values_are_read(rt: HostRuntime) -> Result<(), Fail> {
         "setmaxage 0 6",
         "setportvlans 0 1 none",
     ];
-    assert_edits(&rt, &lines, &Values::lowest()?.edits());
+    assert_edits(&rt, &lines[..12], &Values::lowest()?.of_records());
+    assert_edits(&rt, &lines[12..16], &Values::lowest()?.of_priorities());
+    assert_edits(&rt, &lines[16..20], &Values::lowest()?.of_costs());
+    assert_edits(&rt, &lines[20..], &Values::lowest()?.of_limits());
     Ok(())
 }
 
@@ -302,7 +343,10 @@ fn edits_of_the_greatest_values_are_read(rt: HostRuntime) -> Result<(), Fail> {
         "setmaxage zzzzzzzzzzzzzzzz 40",
         "setportvlans zzzzzzzzzzzzzzzz 4095 all",
     ];
-    assert_edits(&rt, &lines, &Values::highest()?.edits());
+    assert_edits(&rt, &lines[..12], &Values::highest()?.of_records());
+    assert_edits(&rt, &lines[12..16], &Values::highest()?.of_priorities());
+    assert_edits(&rt, &lines[16..20], &Values::highest()?.of_costs());
+    assert_edits(&rt, &lines[20..], &Values::highest()?.of_limits());
     Ok(())
 }
 
