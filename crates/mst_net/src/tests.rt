@@ -677,7 +677,7 @@ fn set_in_seven(settings: &TreeSettings) -> Option<[u64; 5]> {
         settings
             .port_cost(&port, tree)
             .map_or(0, |cost| cost.value()),
-        u64::from(settings.tree_of(&bridge, Vid::new(10)?).value()),
+        u64::from(settings.table(&bridge).tree(Vid::new(10)?).value()),
         u64::from(settings.port_vlans(&port).is_empty()),
     ])
 }

@@ -187,21 +187,25 @@ fn better_port_comes_last(rt: HostRuntime) -> Result<(), Fail> {
     Ok(())
 }
 
-/// Only a LAN's designated port is heard. The last bridge shares LAN 2 with an outer bridge, whose
-/// root path cost is 10, and with one of its own region, whose external root path cost is 15. It
-/// hears the outer one, which is designated, and adds its own port's 10, though the other one's
-/// message would leave it at 15.
-#[test]
-fn only_the_designated_port_is_heard(rt: HostRuntime) -> Result<(), Fail> {
-    let root = bridge(b"02:00:00:00:00:01")?;
-    let outer = bridge(b"02:00:00:00:00:02")?;
+/// A root, an outer bridge, and two bridges of one region.
+fn four_bridges() -> Result<[CistBridge; 4], Fail> {
     let inner = bridge(b"02:00:00:00:00:03")?;
-    let last = CistBridge {
-        region: inner.region,
-        ..bridge(b"02:00:00:00:00:04")?
-    };
-    let bridges = [root, outer, inner, last];
-    let ports = [
+    let last = bridge(b"02:00:00:00:00:04")?;
+    Ok([
+        bridge(b"02:00:00:00:00:01")?,
+        bridge(b"02:00:00:00:00:02")?,
+        inner,
+        CistBridge {
+            region: inner.region,
+            ..last
+        },
+    ])
+}
+
+/// Their ports: LAN 0 joins the root and the outer bridge, LAN 1 the root and the inner one, and LAN 2 all but
+/// the root.
+fn seven_ports() -> [PortAt; 7] {
+    [
         port_at(0, 0, 1, 1),
         port_at(0, 1, 2, 1),
         port_at(1, 0, 1, 10),
@@ -209,17 +213,35 @@ fn only_the_designated_port_is_heard(rt: HostRuntime) -> Result<(), Fail> {
         port_at(2, 1, 1, 15),
         port_at(2, 2, 2, 100),
         port_at(3, 2, 1, 10),
-    ];
-    let topology = topology_of(rt.alloc(), &bridges, &ports)?;
+    ]
+}
+
+fn external(settler: &Settler<CistMetric>, place: usize) -> Option<u64> {
+    Some(settler.vector(BridgeNo(place))?.external)
+}
+
+/// Whether the bridges have these external root path costs.
+fn has_externals(settler: &Settler<CistMetric>, costs: [u64; 4]) -> bool {
+    external(settler, 0) == Some(costs[0])
+        && external(settler, 1) == Some(costs[1])
+        && external(settler, 2) == Some(costs[2])
+        && external(settler, 3) == Some(costs[3])
+}
+
+/// Only a LAN's designated port is heard. The last bridge shares LAN 2 with an outer bridge, whose
+/// root path cost is 10, and with one of its own region, whose external root path cost is 15. It
+/// hears the outer one, which is designated, and adds its own port's 10, though the other one's
+/// message would leave it at 15.
+#[test]
+fn only_the_designated_port_is_heard(rt: HostRuntime) -> Result<(), Fail> {
+    let bridges = four_bridges()?;
+    let topology = topology_of(rt.alloc(), &bridges, &seven_ports())?;
     let settler = settled(rt.alloc(), &topology)?;
-    assert_eq!(rt; settler.designated(LanNo(2)), Some(PortNo(3)));
-    for (place, external) in [(0, 0), (1, 10), (2, 15), (3, 20)] {
-        let vector = settler.vector(BridgeNo(place)).ok_or("no vector")?;
-        assert_eq!(rt; vector.external, external, "at {place}");
-    }
-    let vector = settler.vector(BridgeNo(3)).ok_or("no vector")?;
-    assert_eq!(rt; vector.designated, outer.id);
-    assert_eq!(rt; vector.regional, last.id);
+    assert!(rt; settler.designated(LanNo(2)) == Some(PortNo(3)));
+    assert!(rt; has_externals(&settler, [0, 10, 15, 20]));
+    let [_, outer, _, last] = bridges;
+    let found = settler.vector(BridgeNo(3)).ok_or("no vector")?;
+    assert!(rt; found.designated == outer.id && found.regional == last.id);
     Ok(())
 }
 
