@@ -21,6 +21,3 @@ pub use network::{Network, Ready};
 pub use refusal::Refusal;
 pub use table::Table;
 pub use tree_settings::TreeSettings;
-
-#[cfg(test)]
-mod tests;

@@ -1,3 +1,4 @@
+mod network;
 mod rows;
 
 use crate::{Outcome, RunFault, laws, run, status};

@@ -1,15 +1,8 @@
 //! Networks are made by lines of scripts, and the expected values are worked by hand from the rules.
 
-use super::*;
-use crate::records::Records;
-use crate::settings::{BridgeInTree, PortInTree, forget_bridge, forget_port};
-use crate::table::Table;
-use crate::tally::Tally;
-use indexmap::IndexMap;
-use mst_ids::{
-    BridgeNo, LanNo, Name, PortName, PortNo, PortNumber, Priority, Tree, Vid, VidSet, parse_vids,
-};
+use mst_ids::{BridgeNo, LanNo, Name, PortName, PortNo, PortNumber, Tree, Vid};
 use mst_lang::{Edit, Kind, LanState, Line, Power, parse_line};
+use mst_net::{Contents, Network, Refusal, TreeSettings, laws};
 use std::alloc::Global;
 use std::process::Abort;
 use std::test::Fail;
@@ -352,40 +345,53 @@ const RECORDS: [Change; 12] = [
     ("delport b 9", Asked::Port(1), Some(1), Some(1)),
 ];
 
-/// Sets what goes with a bridge or a port, takes both away, and adds them again.
-const FORGOTTEN: [Change; 13] = [
-    ("settreeprio b 7 1", Asked::Priority(7), Some(8), Some(1)),
-    ("setvid2mstid b 7 10", Asked::TreeOf(10), Some(0), Some(7)),
+/// Sets what goes with a bridge or a port in the first and the last tree, takes both away, and adds them again.
+const FORGOTTEN: [Change; 16] = [
+    ("settreeprio b 0 1", Asked::Priority(0), Some(8), Some(1)),
     (
-        "settreeportprio b 1 7 2",
-        Asked::PortPriority(7),
+        "settreeprio b 4094 2",
+        Asked::Priority(4094),
         Some(8),
         Some(2),
     ),
     (
-        "settreeportcost b 1 7 3",
-        Asked::InternalCost(7),
+        "settreeprio a 4094 3",
+        Asked::Priority(4094),
+        Some(2),
+        Some(2),
+    ),
+    ("setvid2mstid b 7 10", Asked::TreeOf(10), Some(0), Some(7)),
+    (
+        "settreeportprio b 1 4094 2",
+        Asked::PortPriority(4094),
+        Some(8),
+        Some(2),
+    ),
+    (
+        "settreeportcost b 1 0 3",
+        Asked::InternalCost(0),
         Some(0),
         Some(3),
     ),
     ("setportvlans b 1 none", Asked::InVlan(5), Some(1), Some(0)),
     ("unplug b 1", Asked::InVlan(5), Some(0), Some(0)),
     ("delport b 1", Asked::InVlan(5), Some(0), Some(1)),
-    ("delport b 2", Asked::InternalCost(7), Some(0), Some(0)),
-    ("delbridge b", Asked::Priority(7), Some(1), Some(8)),
+    ("delport b 2", Asked::InternalCost(0), Some(0), Some(0)),
+    ("delbridge b", Asked::Priority(0), Some(1), Some(8)),
     (
         "addbridge b 00:00:00:00:00:02",
         Asked::TreeOf(10),
         Some(0),
         Some(0),
     ),
-    ("addport b 1", Asked::PortPriority(7), Some(8), Some(8)),
+    ("addport b 1", Asked::PortPriority(4094), Some(8), Some(8)),
     (
         "addport b 2",
         Asked::ConfName("00:00:00:00:00:02"),
         Some(1),
         Some(1),
     ),
+    ("settreeprio b 7 8", Asked::Priority(4094), Some(8), Some(8)),
     ("dellan x", Asked::Up, Some(1), None),
 ];
 
@@ -811,143 +817,4 @@ fn laws_can_be_called(rt: HostRuntime) {
     Network::new(rt.alloc()).known();
     laws::networks();
     laws::standing();
-}
-
-fn number_under(rows: &Records<u32, u8>, key: u32) -> usize {
-    rows.get(&key).map_or(9, |row| row.number)
-}
-
-#[test]
-fn rows_are_removed_and_their_numbers_used_again(rt: HostRuntime) -> Result<(), Fail> {
-    let mut rows: Records<u32, u8> = Records::new(rt.alloc());
-    rows.reserve()?;
-    rows.add(70, 1);
-    rows.reserve()?;
-    rows.add(71, 2);
-    let first = number_under(&rows, 70);
-    let last = number_under(&rows, 71);
-    rows.remove(&70);
-    assert!(rt; rows.len() == 1 && rows.key(first).is_none());
-    assert!(rt; number_under(&rows, 71) == last && rows.next() == first);
-    Ok(())
-}
-
-#[test]
-fn records_are_counted_for_each_key(rt: HostRuntime) -> Result<(), Fail> {
-    let mut tally: Tally<u32> = Tally::new(rt.alloc());
-    tally.reserve()?;
-    tally.raise(5);
-    tally.reserve()?;
-    tally.raise(5);
-    assert!(rt; !tally.has(&6));
-    tally.lower(&5);
-    assert!(rt; tally.has(&5));
-    tally.lower(&5);
-    assert!(rt; !tally.has(&5));
-    Ok(())
-}
-
-/// VIDs, the tree that they are mapped to, how many trees there are then, and VIDs with their trees.
-type Mapped = (&'static str, u64, usize, [(u64, u16); 4]);
-
-const MAPPED: [Mapped; 4] = [
-    ("1", 0, 0, [(1, 0), (2, 0), (3, 0), (4094, 0)]),
-    (
-        "1-10,4094",
-        4094,
-        1,
-        [(1, 4094), (10, 4094), (11, 0), (4094, 4094)],
-    ),
-    ("2,3", 7, 2, [(1, 4094), (3, 7), (4, 4094), (4094, 4094)]),
-    ("1-4094", 0, 0, [(1, 0), (3, 0), (11, 0), (4094, 0)]),
-];
-
-/// Whether the table has so many trees and these VIDs in theirs, once the VIDs are mapped.
-fn maps(table: &mut Table, mapped: &Mapped) -> Option<bool> {
-    let (vids, tree, count, trees) = mapped;
-    table.map(&parse_vids(vids.as_bytes()).ok()?, Tree::new(*tree)?);
-    for (vid, wanted) in trees {
-        if table.tree(Vid::new(*vid)?).value() != *wanted {
-            return Some(false);
-        }
-    }
-    Some(table.tree_count() == *count && table.is_default() == (*count == 0))
-}
-
-#[test]
-fn vids_are_mapped_to_trees(rt: HostRuntime) {
-    let mut table = Table::new();
-    for mapped in &MAPPED {
-        assert!(rt;
-            maps(&mut table, mapped) == Some(true),
-            "after {}",
-            mapped.0
-        );
-    }
-}
-
-/// A bridge or its port 1, a tree, and whether it is kept once what is set for bridge a or its port is forgotten.
-const KEPT: [(&str, u64, bool); 4] = [
-    ("a", 0, false),
-    ("a", 4094, false),
-    ("b", 0, true),
-    ("b", 4094, true),
-];
-
-fn bridge_in_tree(bridge: &str, tree: u64) -> Option<BridgeInTree> {
-    Some(BridgeInTree {
-        bridge: name(bridge)?,
-        tree: Tree::new(tree)?,
-    })
-}
-
-fn port_in_tree(bridge: &str, tree: u64) -> Option<PortInTree> {
-    Some(PortInTree {
-        port: port(bridge, 1)?,
-        tree: Tree::new(tree)?,
-    })
-}
-
-fn priorities(alloc: Global) -> Option<IndexMap<BridgeInTree, Priority>> {
-    let mut priorities = IndexMap::new(alloc);
-    for (bridge, tree, _) in KEPT {
-        let key = bridge_in_tree(bridge, tree)?;
-        priorities.insert(key, Priority::standard()).ok()?;
-    }
-    Some(priorities)
-}
-
-#[test]
-fn priorities_of_a_bridge_are_forgotten(rt: HostRuntime) -> Result<(), Fail> {
-    let a = name("a").ok_or("no name")?;
-    let mut priorities = priorities(rt.alloc()).ok_or("no priorities")?;
-    forget_bridge(&mut priorities, &a);
-    for (bridge, tree, is_kept) in KEPT {
-        let is_found = bridge_in_tree(bridge, tree).is_some_and(|key| priorities.contains_key(
-            &key,
-        ));
-        assert_eq!(rt; is_found, is_kept);
-    }
-    Ok(())
-}
-
-fn costs(alloc: Global) -> Option<IndexMap<PortInTree, u8>> {
-    let mut costs = IndexMap::new(alloc);
-    for (bridge, tree, _) in KEPT {
-        let key = port_in_tree(bridge, tree)?;
-        costs.insert(key, 1).ok()?;
-    }
-    Some(costs)
-}
-
-#[test]
-fn costs_of_a_port_are_forgotten(rt: HostRuntime) -> Result<(), Fail> {
-    let a = port("a", 1).ok_or("no port")?;
-    let mut costs = costs(rt.alloc()).ok_or("no costs")?;
-    forget_port(&mut costs, &a);
-    for (bridge, tree, is_kept) in KEPT {
-        let is_found = port_in_tree(bridge, tree).is_some_and(|key| costs.contains_key(&key));
-        assert_eq!(rt; is_found, is_kept);
-    }
-    Ok(())
 }
