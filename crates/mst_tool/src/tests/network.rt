@@ -346,7 +346,8 @@ const RECORDS: [Change; 12] = [
 ];
 
 /// Sets what goes with a bridge or a port in the first and the last tree, takes both away, and adds them again.
-const FORGOTTEN: [Change; 16] = [
+/// What is set of another bridge or port stays.
+const FORGOTTEN: [Change; 17] = [
     ("settreeprio b 0 1", Asked::Priority(0), Some(8), Some(1)),
     (
         "settreeprio b 4094 2",
@@ -360,6 +361,7 @@ const FORGOTTEN: [Change; 16] = [
         Some(2),
         Some(2),
     ),
+    ("delbridge a", Asked::Priority(4094), Some(2), Some(2)),
     ("setvid2mstid b 7 10", Asked::TreeOf(10), Some(0), Some(7)),
     (
         "settreeportprio b 1 4094 2",
@@ -375,8 +377,8 @@ const FORGOTTEN: [Change; 16] = [
     ),
     ("setportvlans b 1 none", Asked::InVlan(5), Some(1), Some(0)),
     ("unplug b 1", Asked::InVlan(5), Some(0), Some(0)),
+    ("delport b 2", Asked::InternalCost(0), Some(3), Some(3)),
     ("delport b 1", Asked::InVlan(5), Some(0), Some(1)),
-    ("delport b 2", Asked::InternalCost(0), Some(0), Some(0)),
     ("delbridge b", Asked::Priority(0), Some(1), Some(8)),
     (
         "addbridge b 00:00:00:00:00:02",
