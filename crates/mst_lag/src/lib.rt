@@ -16,6 +16,3 @@ mod viewed;
 pub use in_view::{BridgeInView, LanInView, MemberLan, MemberPort, PortInView, View};
 pub use lag::{LagEnd, LagId, lag_text};
 pub use viewed::view;
-
-#[cfg(test)]
-mod tests;

@@ -12,6 +12,3 @@ mod view;
 pub use lags::show_lag;
 pub use queries::show_tree;
 pub use role::Role;
-
-#[cfg(test)]
-mod tests;

@@ -1,7 +1,9 @@
+mod links;
 mod network;
 mod rows;
 
 use crate::{Outcome, RunFault, laws, run, status};
+use mst_report::laws as outcomes;
 use std::alloc::Global;
 use std::io;
 use std::io::{ErrorKind, Read, Write};
@@ -245,4 +247,7 @@ fn statuses(rt: HostRuntime) {
 fn laws_can_be_called() {
     laws::one_run();
     laws::network_alone();
+    outcomes::has_outcome();
+    outcomes::one_outcome();
+    outcomes::one_answer();
 }

@@ -7,7 +7,7 @@ use std::alloc::Global;
 use std::process::Abort;
 use std::test::Fail;
 
-fn name(text: &str) -> Option<Name> {
+pub(super) fn name(text: &str) -> Option<Name> {
     Name::parse(text.as_bytes()).ok()
 }
 
@@ -37,7 +37,7 @@ fn apply(network: &mut Network, edit: &Edit) -> Result<(), Refusal> {
 }
 
 /// The number of the fault or of the refusal that a line meets, or nothing.
-fn code_of(network: &mut Network, line: &str) -> &'static str {
+pub(super) fn code_of(network: &mut Network, line: &str) -> &'static str {
     match parse_line(line.as_bytes()) {
         Err(fault) => fault.code(),
         Ok(Line::Edit(edit)) => match apply(network, &edit) {
