@@ -10,7 +10,7 @@ use std::marker::Model;
 const GREATEST: u64 = 200_000_000;
 
 /// A port's path cost, 1 to 200,000,000.
-#[derive(Clone, Copy, Debug, PartialEq, Eq, PartialOrd, Ord, Hash)]
+#[derive(Clone, Copy, PartialEq, Eq)]
 pub struct Cost {
     value: u32,
 }

@@ -10,7 +10,7 @@ use std::marker::Model;
 
 /// A Bridge Identifier (802.1Q-2022, 13.26.2): 4 bits of priority, the 12-bit system ID extension,
 /// which is the tree's number, and the MAC address. The lower number is the better.
-#[derive(Clone, Copy, Debug, PartialEq, Eq, PartialOrd, Ord, Hash)]
+#[derive(Clone, Copy, Debug, PartialEq, Eq, PartialOrd, Ord)]
 pub struct BridgeId {
     number: u64,
 }
@@ -75,7 +75,7 @@ fn digits_of(number: u64) -> [u8; 22]
 
 /// A Port Identifier (802.1Q-2022, 13.27.46): 4 bits of priority and the 12-bit port number. The
 /// lower number is the better.
-#[derive(Clone, Copy, Debug, PartialEq, Eq, PartialOrd, Ord, Hash)]
+#[derive(Clone, Copy, Debug, PartialEq, Eq, PartialOrd, Ord)]
 pub struct PortId {
     number: u16,
 }

@@ -6,7 +6,7 @@ use std::alloc::AllocError;
 use std::marker::Model;
 
 /// A priority as a script writes it, in steps from 0, the best, to 15 (802.1Q-2022, 13.26 and 13.27).
-#[derive(Clone, Copy, Debug, PartialEq, Eq, PartialOrd, Ord, Hash)]
+#[derive(Clone, Copy, PartialEq, Eq)]
 pub struct Priority {
     step: u8,
 }
@@ -56,7 +56,7 @@ impl Priority {
 }
 
 /// The number of a port on its bridge, 1 to 4095.
-#[derive(Clone, Copy, Debug, PartialEq, Eq, PartialOrd, Ord, Hash)]
+#[derive(Clone, Copy, PartialEq, Eq, PartialOrd, Ord, Hash)]
 pub struct PortNumber {
     number: u16,
 }
@@ -105,7 +105,7 @@ impl PortNumber {
 }
 
 /// A spanning tree: 0 is the CIST, and 1 to 4094 are MSTIs by their MSTIDs.
-#[derive(Clone, Copy, Debug, PartialEq, Eq, PartialOrd, Ord, Hash)]
+#[derive(Clone, Copy, PartialEq, Eq, Hash)]
 pub struct Tree {
     number: u16,
 }
@@ -160,7 +160,7 @@ impl Tree {
 }
 
 /// A VLAN's identifier, 1 to 4094 (802.1Q-2022, 9.6).
-#[derive(Clone, Copy, Debug, PartialEq, Eq, PartialOrd, Ord, Hash)]
+#[derive(Clone, Copy, PartialEq, Eq)]
 pub struct Vid {
     number: u16,
 }
@@ -208,7 +208,7 @@ impl Vid {
 }
 
 /// The speed of a LAN, 1 to 9,999,999,999 kb/s.
-#[derive(Clone, Copy, Debug, PartialEq, Eq, PartialOrd, Ord, Hash)]
+#[derive(Clone, Copy, PartialEq, Eq)]
 pub struct Speed {
     kbps: u64,
 }
@@ -254,7 +254,7 @@ impl Speed {
 
 /// How far from its root a spanning tree may reach, 6 to 40: the hops of a region, or the age of
 /// what is received, in seconds.
-#[derive(Clone, Copy, Debug, PartialEq, Eq, PartialOrd, Ord, Hash)]
+#[derive(Clone, Copy, PartialEq, Eq)]
 pub struct Limit {
     value: u8,
 }

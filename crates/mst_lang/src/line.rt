@@ -4,7 +4,7 @@ ghost use Rattle.mst_lang.specs.Faults.{code_of, text_of};
 use mst_ids::{ConfName, Cost, Limit, Mac, Name, PortName, Priority, Speed, Tree, Vid, VidSet};
 
 /// Which protocol a bridge runs.
-#[derive(Clone, Copy, Debug, PartialEq, Eq)]
+#[derive(Clone, Copy, PartialEq, Eq)]
 pub enum Kind {
     /// Multiple spanning trees.
     Mstp,
@@ -13,14 +13,14 @@ pub enum Kind {
 }
 
 /// Whether a bridge is switched on.
-#[derive(Clone, Copy, Debug, PartialEq, Eq)]
+#[derive(Clone, Copy, PartialEq, Eq)]
 pub enum Power {
     On,
     Off,
 }
 
 /// Whether a LAN works.
-#[derive(Clone, Copy, Debug, PartialEq, Eq)]
+#[derive(Clone, Copy, PartialEq, Eq)]
 pub enum LanState {
     Up,
     Down,

@@ -7,7 +7,7 @@ use mst_ids::PortName;
 use mst_vector::CistVector;
 
 /// The role of a logical port in the CIST (802.1Q-2022, 13.12).
-#[derive(Clone, Copy, Debug, PartialEq, Eq)]
+#[derive(Clone, Copy, PartialEq, Eq)]
 pub enum Role {
     /// It gave its bridge's root priority vector.
     Root,

@@ -71,7 +71,7 @@ fn settles_a_pair(rt: HostRuntime) -> Result<(), Fail> {
     let vector = settler.vector(BridgeNo(0)).ok_or("no vector")?;
     assert_eq!(rt; vector.root, second.id);
     assert_eq!(rt; vector.external, 20_000);
-    assert_eq!(rt; settler.designated(LanNo(0)), Some(PortNo(1)));
+    assert!(rt; settler.designated(LanNo(0)) == Some(PortNo(1)));
     assert_eq!(rt; settler.settlings(), 2);
     assert!(rt; settler.vector(BridgeNo(2)).is_none());
     Ok(())
@@ -183,7 +183,7 @@ fn better_port_comes_last(rt: HostRuntime) -> Result<(), Fail> {
     let found = topology.bridge(BridgeNo(0)).ok_or("no bridge")?;
     assert_eq!(rt; found.id, bridges[0].id);
     let settler = settled(rt.alloc(), &topology)?;
-    assert_eq!(rt; settler.designated(LanNo(0)), Some(PortNo(1)));
+    assert!(rt; settler.designated(LanNo(0)) == Some(PortNo(1)));
     Ok(())
 }
 

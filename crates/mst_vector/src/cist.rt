@@ -7,7 +7,7 @@ use std::cmp::Ordering;
 
 /// A priority vector of the CIST (802.1Q-2022, 13.10). Vectors are compared by their components in
 /// this order, and the lower one is better.
-#[derive(Clone, Copy, PartialEq, Eq, PartialOrd, Ord, Debug)]
+#[derive(Clone, Copy, PartialEq, Eq, PartialOrd, Ord)]
 pub struct CistVector {
     /// The root's identifier.
     pub root: BridgeId,
@@ -26,7 +26,7 @@ pub struct CistVector {
 }
 
 /// What the CIST has to know of a bridge.
-#[derive(Clone, Copy, Debug)]
+#[derive(Clone, Copy)]
 pub struct CistBridge {
     /// The bridge's identifier.
     pub id: BridgeId,
@@ -38,7 +38,7 @@ pub struct CistBridge {
 }
 
 /// What the CIST has to know of a port.
-#[derive(Clone, Copy, Debug)]
+#[derive(Clone, Copy)]
 pub struct CistPort {
     /// The port's identifier.
     pub id: PortId,

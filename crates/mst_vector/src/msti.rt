@@ -7,7 +7,7 @@ use std::cmp::Ordering;
 
 /// A priority vector of an MSTI (802.1Q-2022, 13.11). Vectors are compared by their components in
 /// this order, and the lower one is better.
-#[derive(Clone, Copy, PartialEq, Eq, PartialOrd, Ord, Debug)]
+#[derive(Clone, Copy, PartialEq, Eq, PartialOrd, Ord)]
 pub struct MstiVector {
     /// The regional root's identifier.
     pub regional: BridgeId,
@@ -22,14 +22,14 @@ pub struct MstiVector {
 }
 
 /// What an MSTI has to know of a bridge.
-#[derive(Clone, Copy, Debug)]
+#[derive(Clone, Copy)]
 pub struct MstiBridge {
     /// The bridge's identifier in this tree.
     pub id: BridgeId,
 }
 
 /// What an MSTI has to know of a port.
-#[derive(Clone, Copy, Debug)]
+#[derive(Clone, Copy)]
 pub struct MstiPort {
     /// The port's identifier in this tree.
     pub id: PortId,
