@@ -2,6 +2,10 @@
 //! standard input.
 #![tactic(auto)]
 
+ghost use Rattle.std.specs.Prelude.{◌≡◌, [], IfOk, OnErr};
+ghost use Rattle.std.specs.Io.Buffered.{writer_buffer, writer_contents, writer_inner};
+ghost use Rattle.mst_tool.specs.Run.{Prints, PrintsFront};
+
 mod faults;
 mod words;
 
@@ -18,8 +22,31 @@ use words::{Stop, given_words, named_file};
 /// The exit status where a script isn't run to its end, or not in full.
 const FAILED: u8 = 3;
 
-/// Runs a script, and writes what it prints in large parts. After a fault of the writer it isn't
-/// called again.
+/// Runs a script into an empty buffer, and writes what is left there at the end. After a fault of the
+/// writer it isn't called again.
+fn run_into<R: Read + Drop, W: Write + Drop>(
+    alloc: Global,
+    reader: R,
+    buffered: &mut BufWriter<W>,
+) -> Result<Outcome, RunFault>
+    requires { writer_buffer buffered.old ≡ [] }
+    ensures ok { IfOk result (Prints (R.remaining reader) (W.contents (writer_inner buffered.old)) (W.contents (writer_inner buffered.new))) }
+    ensures fault { OnErr result (PrintsFront (R.remaining reader) (W.contents (writer_inner buffered.old)) (writer_contents W.contents buffered.new)) }
+{
+    match run(alloc, reader, buffered) {
+        Err(RunFault::Write) => Err(RunFault::Write),
+        Err(fault) => {
+            let _ = buffered.flush();
+            Err(fault)
+        }
+        Ok(outcome) => match buffered.flush() {
+            Ok(()) => Ok(outcome),
+            Err(_) => Err(RunFault::Write),
+        },
+    }
+}
+
+/// Runs a script, and writes what it prints in large parts.
 fn run_buffered<R: Read + Drop, W: Write + Drop>(
     alloc: Global,
     reader: R,
@@ -28,17 +55,9 @@ fn run_buffered<R: Read + Drop, W: Write + Drop>(
     let Ok(mut buffered) = BufWriter::new(alloc, writer) else {
         return Err(RunFault::Memory);
     };
-    let ran = run(alloc, reader, &mut buffered);
-    let written = if ran == Err(RunFault::Write) {
-        Ok(())
-    } else {
-        buffered.flush()
-    };
+    let ran = run_into(alloc, reader, &mut buffered);
     let (_, _) = buffered.into_parts();
-    match written {
-        Ok(()) => ran,
-        Err(_) => ran.and(Err(RunFault::Write)),
-    }
+    ran
 }
 
 /// Runs the script in a file, or on standard input where the name is `-`, and gives the exit status.

@@ -1,5 +1,7 @@
 use crate::faults::{fault_of, message};
+use crate::run_into;
 use mst_tool::{Outcome, RunFault};
+use std::io::{self, BufWriter};
 
 fn counts(refused: u64, memory: u64) -> Result<Outcome, RunFault> {
     Ok(Outcome {
@@ -32,4 +34,14 @@ fn faults_have_lines(rt: HostRuntime) {
     ] {
         assert_eq!(rt; message(fault), line);
     }
+}
+
+#[test]
+fn what_is_buffered_is_written(rt: HostRuntime) -> Result<(), io::Error> {
+    let script: &[u8] = b"no\nshowtree 0\n";
+    let mut buffered = BufWriter::new(rt.alloc(), Vec::new(rt.alloc()))?;
+    assert_eq!(rt; run_into(rt.alloc(), script, &mut buffered), counts(1, 0));
+    let written: &[u8] = b"line 1 E01 no such command\ntree 0\n";
+    assert_eq!(rt; buffered.get_ref().as_slice(), written);
+    Ok(())
 }
