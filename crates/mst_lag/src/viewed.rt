@@ -147,12 +147,23 @@ fn member_ports(
 
 /// What a view is made of: the plugged ports, their classes, the LANs, and what the members of each logical
 /// LAN give together.
-#[derive(Drop)]
 struct Parts {
     plugs: Vec<PlugSeen>,
     classes: Classes,
     members: Vec<LanSeen>,
     totals: IndexMap<Name, Total>,
+}
+
+// By hand, as a view's.
+impl Drop for Parts {
+    fn drop(self) {
+        let Parts {
+            plugs: _,
+            classes: _,
+            members: _,
+            totals: _,
+        } = self;
+    }
 }
 
 /// The view of a network, or of one as it will be once an edit is made.

@@ -7,9 +7,15 @@ use std::hash::Hash;
 use std::marker::Model;
 
 /// How many records there are for each key.
-#[derive(Drop)]
 pub(crate) struct Tally<K: Eq + Hash> {
     counts: IndexMap<K, usize>,
+}
+
+// By hand, as that of records.
+impl<K: Eq + Hash + Drop> Drop for Tally<K> {
+    fn drop(self) {
+        let Tally { counts: _ } = self;
+    }
 }
 
 impl<K: Eq + Hash> Model for Tally<K> {
