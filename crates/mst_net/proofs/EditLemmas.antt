@@ -1,7 +1,6 @@
 -- What changes of the kept tables make of the network.
-use Rattle.std.proofs.Common.{◌≡◌, ◌+◌, ◌-◌, ℕ, ◌<◌, ◌≤◌, ◌^◌, Bool, true, false, cond, ◌||◌, inl, inr, List, Option, Some, None, is_some, nat_eq, IsSome, refl, sym, ap, subst, ◌∙◌, arith, true≢false}
-use Rattle.std.specs.Prelude.{IsTrue}
-use Rattle.std.specs.Option.{option_map_or, ForSome}
+use Rattle.std.proofs.Common.{◌≡◌, ◌+◌, ◌-◌, ℕ, ◌<◌, ◌≤◌, ◌^◌, Bool, true, false, cond, ◌||◌, List, Option, Some, None, is_some, nat_eq, IsSome, refl, sym, ap, subst, ◌∙◌, arith, true≢false}
+use Rattle.std.specs.Option.{option_map_or}
 use Rattle.std.specs.List.{list_any}
 use Rattle.std.specs.FinMap as fin
 use Rattle.std.specs.FinMap.{FinMap}
@@ -9,16 +8,16 @@ use Rattle.std.specs.HashSet as set
 use Rattle.std.specs.Cmp.{unsigned_Decides, both_ways}
 use Rattle.std.specs.Map.{lookup}
 use Rattle.mst_ids.specs.Names.{name_cmp}
-use Rattle.mst_ids.specs.Texts.{is_conf_name}
 use Rattle.mst_ids.specs.declared.name.PortName.{PortName}
 use Rattle.mst_lang.specs.declared.line.Edit.{Edit}
 use Rattle.mst_lang.specs.declared.line.Edit.TheVariants.{AddBridge, DelBridge, AddPort, DelPort, AddLan, DelLan, Plug, Unplug}
-use Rattle.mst_net.specs.Tables.{Net, IsNetwork, IsLimit, IsPathCost, BridgeRow, PortRow, LanRow, port_eq}
-use Rattle.mst_net.specs.After.{mac_taken, is_of_bridge, is_in_lan, effect, new_bridge, new_port, new_lan, in_lan, change}
+use Rattle.mst_net.specs.Tables.{Net, IsNetwork, BridgeRow, PortRow, LanRow, port_eq}
+use Rattle.mst_net.specs.After.{has_bridge, has_port, has_lan, mac_taken, is_of_bridge, is_in_lan, effect, new_bridge, new_port, new_lan, in_lan, change}
 use Rattle.mst_net.specs.Contents.{CanCommit, Makes}
 use Rattle.mst_net.specs.Counting.{count_where}
 use Rattle.mst_net.specs.Rows.{IsNumberedBy}
 use Rattle.mst_net.specs.ByTree.{with_by_tree}
+use Rattle.mst_net.specs.OfOneRecord.{SetsBridge, SetsPort, SetsLan, bridge_set, port_set, lan_set}
 use Rattle.mst_net.specs.SettingsAfter.{set_after, IsSetByTree}
 use Rattle.mst_net.specs.Tally.{count_in}
 use Rattle.mst_net.specs.NetworkKept.{contents_of, IsSound}
@@ -29,7 +28,8 @@ use Rattle.mst_net.proofs.Keys.{name_eq, names, ports}
 use Rattle.mst_net.proofs.Changed.{itself, changed_is, any_changed, left_of, other_left, value_found}
 use Rattle.mst_net.proofs.SettingsLemmas.{set_alone, not_renumbered}
 use Rattle.mst_net.proofs.Counting.{count_added, count_removed, count_set, count_le}
-use Rattle.mst_net.proofs.AfterLemmas.{bridge_changed, port_changed, lan_changed, effect_is_network, bridge_addable, bridge_deletable, port_addable, port_deletable, port_pluggable, lan_addable, lan_deletable}
+use Rattle.mst_net.proofs.OfOneRecord.{of_bridge, of_port, of_lan}
+use Rattle.mst_net.proofs.AfterLemmas.{effect_is_network, bridge_addable, bridge_deletable, port_addable, port_deletable, port_pluggable, lan_addable, lan_deletable}
 
 pub absent : {X : Type 0} (o : Option X) → is_some o ≡ false → o ≡ None
 absent None e = refl
@@ -280,40 +280,75 @@ module _ (a b : Inside) where
     pub net_with_ports : (contents_of b).net ≡ record old_net { ports = fin.insert old_net.ports port row }
     net_with_ports i = record (contents_of (others i)).net { ports = set_keyed ports a.ports.rows b.ports.rows port row rows i }
 
-  -- other settings of a bridge
-  pub bridge_set : IsSound a → (bridge : List ℕ) (old new : BridgeRow) → fin.get old_net.bridges bridge ≡ Some old → old.mac ≡ new.mac → IsTrue (is_conf_name new.conf_name) → IsLimit new.max_hops × IsLimit new.max_age
-      → record b { bridges = a.bridges } ≡ a → ((q : List ℕ) → lookup (name_eq q) b.bridges.rows ≡ cond (name_eq bridge q) (Some new) (lookup (name_eq q) a.bridges.rows)) → IsNumberedBy name_eq b.bridges → IsSound b
-  bridge_set s bridge old new there mac name limits others rows numbers =
-      let is = changed_is names old_net.bridges bridge (λ _. new) old there in
-      let network : IsNetwork (record old_net { bridges = change old_net.bridges bridge (λ _. new) }) =
-      bridge_changed old_net s.network bridge (λ _. new) (λ row at. record { mac = sym mac ∙ ap (λ (r : BridgeRow). r.mac) (some_is old row (sym there ∙ at)); name = λ _. name; limits = λ _. limits }) in
-      let net = net_with_bridges others bridge new rows in
-      sound_with_bridges a b s (subst IsNetwork (ap (λ m. record old_net { bridges = m }) is ∙ sym net) network) (λ i. record (others i) { bridges = a.bridges; macs = a.macs; settings = a.settings }) numbers
-      (λ q. ap (λ (x : Inside). set.contains nat_eq x.macs q) others ∙ mac_same old new there mac q ∙ ap (λ (n : Net). mac_taken q n) (sym net))
-    where
-      mac_same : (old new : BridgeRow) → fin.get old_net.bridges bridge ≡ Some old → old.mac ≡ new.mac → (q : ℕ) → set.contains nat_eq a.macs q ≡ mac_taken q (record old_net { bridges = fin.insert old_net.bridges bridge new })
-      mac_same old new there mac q = s.macs q ∙ sym (any_set names (λ b. nat_eq b.mac q) old_net.bridges bridge new old there (ap (λ n. nat_eq n q) (sym mac)))
+  -- an edit that sets something of a bridge
+  module _ (edit : Edit) (can : CanCommit edit (contents_of a)) where
+    module _ (bridge : List ℕ) (sets : SetsBridge edit bridge) where
+      pub bridge_to_set : has_bridge bridge old_net ≡ true
+      bridge_to_set = (of_bridge edit bridge sets).there old_net can.accepted
 
-  -- of a LAN
-  pub lan_set : IsSound a → (lan : List ℕ) (old new : LanRow) → fin.get old_net.lans lan ≡ Some old → (1 ≤ new.speed) × (new.speed ≤ 9_999_999_999)
-      → record b { lans = a.lans } ≡ a → ((q : List ℕ) → lookup (name_eq q) b.lans.rows ≡ cond (name_eq lan q) (Some new) (lookup (name_eq q) a.lans.rows)) → IsNumberedBy name_eq b.lans → IsSound b
-  lan_set s lan old new there fits others rows numbers =
-      let is = changed_is names old_net.lans lan (λ _. new) old there in
-      let network : IsNetwork (record old_net { lans = change old_net.lans lan (λ _. new) }) = lan_changed old_net s.network lan (λ _. new) (λ row _ _. fits) in
-      sound_with_lans a b s (subst IsNetwork (ap (λ m. record old_net { lans = m }) is ∙ sym (net_with_lans others lan new rows)) network) others numbers
+      module _ (others : record b { bridges = a.bridges } ≡ a) (old : BridgeRow) (there : fin.get old_net.bridges bridge ≡ Some old)
+          (rows : (q : List ℕ) → lookup (name_eq q) b.bridges.rows ≡ cond (name_eq bridge q) (Some (bridge_set edit old)) (lookup (name_eq q) a.bridges.rows)) where
+        new_bridges : (contents_of b).net ≡ record old_net { bridges = fin.insert old_net.bridges bridge (bridge_set edit old) }
+        new_bridges = net_with_bridges others bridge (bridge_set edit old) rows
 
-  -- of a port
-  pub port_set : IsSound a → (port : PortName) (old new : PortRow) → fin.get old_net.ports port ≡ Some old → old.lan ≡ new.lan → ForSome new.external IsPathCost
-      → record b { ports = a.ports } ≡ a → ((q : PortName) → lookup (port_eq q) b.ports.rows ≡ cond (port_eq port q) (Some new) (lookup (port_eq q) a.ports.rows)) → IsNumberedBy port_eq b.ports → IsSound b
-  port_set s port old new there lan cost others rows numbers =
-      let is = changed_is ports old_net.ports port (λ _. new) old there in
-      let network : IsNetwork (record old_net { ports = change old_net.ports port (λ _. new) }) =
-      port_changed old_net s.network port (λ _. new) (λ row at. record { lan = λ l e. inl (ap (λ (r : PortRow). r.lan) (some_is row old (sym at ∙ there)) ∙ lan ∙ e); cost = λ c e. inr (cost c e) }) in
-      let table : fin.from_entries b.ports.rows ≡ fin.insert old_net.ports port new = set_keyed ports a.ports.rows b.ports.rows port new rows in
-      sound_with_ports a b s (subst IsNetwork (ap (λ m. record old_net { ports = m }) is ∙ sym (net_with_ports others port new rows)) network)
-      (λ i. record (others i) { ports = a.ports; port_counts = a.port_counts; plug_counts = a.plug_counts; settings = a.settings }) numbers
-      (λ q. ap (λ (x : Inside). count_in name_eq x.port_counts q) others ∙ of_bridge_kept a s port new old there q ∙ ap (count_where (is_of_bridge q)) (sym table))
-      (λ q. ap (λ (x : Inside). count_in name_eq x.plug_counts q) others ∙ in_lan_kept a s port new old there (sym lan) q ∙ ap (count_where (is_in_lan q)) (sym table))
+        net_with_bridge_set : (contents_of b).net ≡ effect edit old_net
+        net_with_bridge_set = new_bridges ∙ ap (λ m. record old_net { bridges = m }) (sym (changed_is names old_net.bridges bridge (bridge_set edit) old there)) ∙ sym ((of_bridge edit bridge sets).made old_net)
+
+        pub bridge_set_made : b.bridges.numbers ≡ a.bridges.numbers → Makes edit (contents_of a) (contents_of b)
+        bridge_set_made numbers = record {
+          net = net_with_bridge_set;
+          numbers = (λ i. record (contents_of (others i)).numbers { bridges = fin.from_entries (numbers i) }) ∙ sym ((of_bridge edit bridge sets).numbers (contents_of a).next (contents_of a).numbers);
+        }
+
+        pub bridge_set_sound : IsSound a → IsNumberedBy name_eq b.bridges → IsSound b
+        bridge_set_sound s numbers =
+            sound_with_bridges a b s (made_network a b s edit can net_with_bridge_set) (λ i. record (others i) { bridges = a.bridges; macs = a.macs; settings = a.settings }) numbers
+            (λ q. ap (λ (x : Inside). set.contains nat_eq x.macs q) others ∙ s.macs q
+            ∙ sym (any_set names (λ b. nat_eq b.mac q) old_net.bridges bridge (bridge_set edit old) old there (ap (λ n. nat_eq n q) ((of_bridge edit bridge sets).mac old))) ∙ ap (λ (n : Net). mac_taken q n) (sym new_bridges))
+
+    -- of a port
+    module _ (port : PortName) (sets : SetsPort edit port) where
+      pub port_to_set : has_port port old_net ≡ true
+      port_to_set = (of_port edit port sets).there old_net can.accepted
+
+      module _ (others : record b { ports = a.ports } ≡ a) (old : PortRow) (there : fin.get old_net.ports port ≡ Some old)
+          (rows : (q : PortName) → lookup (port_eq q) b.ports.rows ≡ cond (port_eq port q) (Some (port_set edit old)) (lookup (port_eq q) a.ports.rows)) where
+        net_with_port_set : (contents_of b).net ≡ effect edit old_net
+        net_with_port_set =
+            net_with_ports others port (port_set edit old) rows ∙ ap (λ m. record old_net { ports = m }) (sym (changed_is ports old_net.ports port (port_set edit) old there)) ∙ sym ((of_port edit port sets).made old_net)
+
+        pub port_set_made : b.ports.numbers ≡ a.ports.numbers → Makes edit (contents_of a) (contents_of b)
+        port_set_made numbers = record {
+          net = net_with_port_set;
+          numbers = (λ i. record (contents_of (others i)).numbers { ports = fin.from_entries (numbers i) }) ∙ sym ((of_port edit port sets).numbers (contents_of a).next (contents_of a).numbers);
+        }
+
+        pub port_set_sound : IsSound a → IsNumberedBy port_eq b.ports → IsSound b
+        port_set_sound s numbers =
+            let table : fin.from_entries b.ports.rows ≡ fin.insert old_net.ports port (port_set edit old) = set_keyed ports a.ports.rows b.ports.rows port (port_set edit old) rows in
+            sound_with_ports a b s (made_network a b s edit can net_with_port_set) (λ i. record (others i) { ports = a.ports; port_counts = a.port_counts; plug_counts = a.plug_counts; settings = a.settings }) numbers
+            (λ q. ap (λ (x : Inside). count_in name_eq x.port_counts q) others ∙ of_bridge_kept a s port (port_set edit old) old there q ∙ ap (count_where (is_of_bridge q)) (sym table))
+            (λ q. ap (λ (x : Inside). count_in name_eq x.plug_counts q) others ∙ in_lan_kept a s port (port_set edit old) old there ((of_port edit port sets).lan old) q ∙ ap (count_where (is_in_lan q)) (sym table))
+
+    -- of a LAN
+    module _ (lan : List ℕ) (sets : SetsLan edit lan) where
+      pub lan_to_set : has_lan lan old_net ≡ true
+      lan_to_set = (of_lan edit lan sets).there old_net can.accepted
+
+      module _ (others : record b { lans = a.lans } ≡ a) (old : LanRow) (there : fin.get old_net.lans lan ≡ Some old)
+          (rows : (q : List ℕ) → lookup (name_eq q) b.lans.rows ≡ cond (name_eq lan q) (Some (lan_set edit old)) (lookup (name_eq q) a.lans.rows)) where
+        net_with_lan_set : (contents_of b).net ≡ effect edit old_net
+        net_with_lan_set =
+            net_with_lans others lan (lan_set edit old) rows ∙ ap (λ m. record old_net { lans = m }) (sym (changed_is names old_net.lans lan (lan_set edit) old there)) ∙ sym ((of_lan edit lan sets).made old_net)
+
+        pub lan_set_made : b.lans.numbers ≡ a.lans.numbers → Makes edit (contents_of a) (contents_of b)
+        lan_set_made numbers = record {
+          net = net_with_lan_set;
+          numbers = (λ i. record (contents_of (others i)).numbers { lans = fin.from_entries (numbers i) }) ∙ sym ((of_lan edit lan sets).numbers (contents_of a).next (contents_of a).numbers);
+        }
+
+        pub lan_set_sound : IsSound a → IsNumberedBy name_eq b.lans → IsSound b
+        lan_set_sound s numbers = sound_with_lans a b s (made_network a b s edit can net_with_lan_set) others numbers
 
 -- ---- each edit that writes more than settings
 module _ (a b : Inside) where

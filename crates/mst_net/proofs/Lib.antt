@@ -7,6 +7,7 @@ pub mod TableLemmas
 pub mod TableFits
 pub mod SetByTree
 pub mod AfterLemmas
+pub mod OfOneRecord
 pub mod StandingLemmas
 pub mod SoundLemmas
 pub mod SettingsLemmas

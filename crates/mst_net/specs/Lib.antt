@@ -6,6 +6,7 @@ pub mod ByTree
 pub mod After
 pub mod Contents
 pub mod SettingsAfter
+pub mod OfOneRecord
 pub mod Standing
 pub mod Rows
 pub mod Kept

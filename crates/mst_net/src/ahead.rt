@@ -1,19 +1,17 @@
 ghost use Rattle.std.specs.Prelude.{◌≡◌};
 ghost use Rattle.std.specs.Option.{option_map};
-ghost use Rattle.mst_net.specs.After.{with_kind as kind_set, with_power as power_set, with_system_priority as system_priority_set, with_configuration as configuration_set, with_max_hops, with_max_age, in_lan, with_key as key_set, with_external, with_speed, with_state as state_set};
-ghost use Rattle.mst_net.specs.Seen.{bridge_row, port_row, lan_row};
+ghost use Rattle.mst_net.specs.OfOneRecord.{bridge_set, port_set, lan_set};
 ghost use Rattle.mst_net.specs.Foreseen.{bridge_row_after, port_row_after, lan_row_after, bridge_number_after, port_number_after, lan_number_after, bridge_name_after, port_name_after, lan_name_after, priority_after, port_priority_after, port_cost_after, table_after, vlans_after};
 
-use crate::contents::{Bridge, Contents, Lan, Port, seen_bridge, seen_lan, seen_port};
+use crate::contents::{Bridge, Contents, Lan, Port};
 use crate::names::{with_name, without_name};
-use crate::network::{Network, Ready};
+use crate::network::{Network, Ready, kept_bridge, kept_lan, kept_port};
+use crate::records::Record;
 use crate::settings::{BridgeSettings, LanSettings, PortSettings};
 use crate::table::Table;
 use crate::tree_settings::TreeSettings;
-use mst_ids::{
-    BridgeNo, ConfName, Cost, LanNo, Limit, Name, PortName, PortNo, Priority, Speed, Tree, VidSet,
-};
-use mst_lang::{Edit, Kind, LanState, Power};
+use mst_ids::{BridgeNo, Cost, LanNo, Name, PortName, PortNo, Priority, Tree, VidSet};
+use mst_lang::Edit;
 use std::alloc::{AllocError, Global};
 use std::marker::Model;
 
@@ -49,30 +47,30 @@ impl Contents for Ahead<'_> {
     }
 
     fn bridge(&self, name: &Name) -> Option<Bridge> {
-        bridge_after(
+        kept_bridge(bridge_after(
             &self.ready.edit,
-            BridgeNo(self.network.next_bridge()),
+            self.network.next_bridge(),
             name,
-            self.network.bridge(name),
-        )
+            self.network.bridge_record(name),
+        ))
     }
 
     fn port(&self, name: &PortName) -> Option<Port> {
-        port_after(
+        kept_port(port_after(
             &self.ready.edit,
-            PortNo(self.network.next_port()),
+            self.network.next_port(),
             name,
-            self.network.port(name),
-        )
+            self.network.port_record(name),
+        ))
     }
 
     fn lan(&self, name: &Name) -> Option<Lan> {
-        lan_after(
+        kept_lan(lan_after(
             &self.ready.edit,
-            LanNo(self.network.next_lan()),
+            self.network.next_lan(),
             name,
-            self.network.lan(name),
-        )
+            self.network.lan_record(name),
+        ))
     }
 
     fn bridge_name(&self, number: BridgeNo) -> Option<Name> {
@@ -176,177 +174,115 @@ impl Contents for Ahead<'_> {
     }
 }
 
-/// What the edit makes of the bridge of this name.
-fn bridge_after(edit: &Edit, next: BridgeNo, name: &Name, there: Option<Bridge>) -> Option<Bridge>
-    ensures row { option_map bridge_row result ≡ bridge_row_after edit.now name.now (option_map bridge_row there) }
-    ensures number { option_map (λ bridge. bridge.number) result ≡ bridge_number_after edit.now next name.now (option_map (λ bridge. bridge.number) there) }
+/// What the edit makes of the record of the bridge of this name.
+fn bridge_after(
+    edit: &Edit,
+    next: usize,
+    name: &Name,
+    there: Option<Record<BridgeSettings>>,
+) -> Option<Record<BridgeSettings>>
+    ensures row { option_map (λ found. found.row) result ≡ bridge_row_after edit.now name.now (option_map (λ found. found.row) there) }
+    ensures number { option_map (λ found. found.number) result ≡ bridge_number_after edit.now next name.now (option_map (λ found. found.number) there) }
 {
     match *edit {
-        Edit::AddBridge { bridge, mac } if bridge == *name => {
-            Some(seen_bridge(next, BridgeSettings::new(mac)))
-        }
+        Edit::AddBridge { bridge, mac } if bridge == *name => Some(Record {
+            number: next,
+            row: BridgeSettings::new(mac),
+        }),
         Edit::DelBridge { bridge } if bridge == *name => None,
-        Edit::SetPower { bridge, power } if bridge == *name => with_power(there, power),
-        Edit::SetKind { bridge, kind } if bridge == *name => with_kind(there, kind),
-        Edit::SetSystemPriority { bridge, priority } if bridge == *name => {
-            with_system_priority(there, priority)
-        }
-        Edit::SetConfiguration {
-            bridge,
-            revision,
-            name: conf_name,
-        } if bridge == *name => with_configuration(there, revision, conf_name),
-        Edit::SetMaxHops { bridge, limit } if bridge == *name => with_hops(there, limit),
-        Edit::SetMaxAge { bridge, limit } if bridge == *name => with_age(there, limit),
+        Edit::SetPower { bridge, .. } if bridge == *name => with_bridge_set(there, edit),
+        Edit::SetKind { bridge, .. } if bridge == *name => with_bridge_set(there, edit),
+        Edit::SetSystemPriority { bridge, .. } if bridge == *name => with_bridge_set(there, edit),
+        Edit::SetConfiguration { bridge, .. } if bridge == *name => with_bridge_set(there, edit),
+        Edit::SetMaxHops { bridge, .. } if bridge == *name => with_bridge_set(there, edit),
+        Edit::SetMaxAge { bridge, .. } if bridge == *name => with_bridge_set(there, edit),
         _ => there,
     }
 }
 
-fn with_power(there: Option<Bridge>, power: Power) -> Option<Bridge>
-    ensures row { option_map bridge_row result ≡ option_map (power_set power) (option_map bridge_row there) }
-    ensures number { option_map (λ bridge. bridge.number) result ≡ option_map (λ bridge. bridge.number) there }
+/// The record of a bridge, if it is there, with what the edit sets of a bridge.
+fn with_bridge_set(
+    there: Option<Record<BridgeSettings>>,
+    edit: &Edit,
+) -> Option<Record<BridgeSettings>>
+    ensures row { option_map (λ found. found.row) result ≡ option_map (bridge_set edit.now) (option_map (λ found. found.row) there) }
+    ensures number { option_map (λ found. found.number) result ≡ option_map (λ found. found.number) there }
 {
-    match there {
-        Some(bridge) => Some(Bridge { power, ..bridge }),
-        None => None,
-    }
+    let Record { number, row } = there?;
+    Some(Record {
+        number,
+        row: row.after(edit),
+    })
 }
 
-fn with_kind(there: Option<Bridge>, kind: Kind) -> Option<Bridge>
-    ensures row { option_map bridge_row result ≡ option_map (kind_set kind) (option_map bridge_row there) }
-    ensures number { option_map (λ bridge. bridge.number) result ≡ option_map (λ bridge. bridge.number) there }
-{
-    match there {
-        Some(bridge) => Some(Bridge { kind, ..bridge }),
-        None => None,
-    }
-}
-
-fn with_system_priority(there: Option<Bridge>, system_priority: u16) -> Option<Bridge>
-    ensures row { option_map bridge_row result ≡ option_map (system_priority_set system_priority) (option_map bridge_row there) }
-    ensures number { option_map (λ bridge. bridge.number) result ≡ option_map (λ bridge. bridge.number) there }
-{
-    match there {
-        Some(bridge) => Some(Bridge {
-            system_priority,
-            ..bridge
-        }),
-        None => None,
-    }
-}
-
-fn with_configuration(there: Option<Bridge>, revision: u16, conf_name: ConfName) -> Option<Bridge>
-    ensures row { option_map bridge_row result ≡ option_map (configuration_set revision conf_name) (option_map bridge_row there) }
-    ensures number { option_map (λ bridge. bridge.number) result ≡ option_map (λ bridge. bridge.number) there }
-{
-    match there {
-        Some(bridge) => Some(Bridge {
-            revision,
-            conf_name,
-            ..bridge
-        }),
-        None => None,
-    }
-}
-
-fn with_hops(there: Option<Bridge>, max_hops: Limit) -> Option<Bridge>
-    ensures row { option_map bridge_row result ≡ option_map (with_max_hops max_hops) (option_map bridge_row there) }
-    ensures number { option_map (λ bridge. bridge.number) result ≡ option_map (λ bridge. bridge.number) there }
-{
-    match there {
-        Some(bridge) => Some(Bridge { max_hops, ..bridge }),
-        None => None,
-    }
-}
-
-fn with_age(there: Option<Bridge>, max_age: Limit) -> Option<Bridge>
-    ensures row { option_map bridge_row result ≡ option_map (with_max_age max_age) (option_map bridge_row there) }
-    ensures number { option_map (λ bridge. bridge.number) result ≡ option_map (λ bridge. bridge.number) there }
-{
-    match there {
-        Some(bridge) => Some(Bridge { max_age, ..bridge }),
-        None => None,
-    }
-}
-
-/// What the edit makes of the port of this name.
-fn port_after(edit: &Edit, next: PortNo, name: &PortName, there: Option<Port>) -> Option<Port>
-    ensures row { option_map port_row result ≡ port_row_after edit.now name.now (option_map port_row there) }
-    ensures number { option_map (λ port. port.number) result ≡ port_number_after edit.now next name.now (option_map (λ port. port.number) there) }
+/// What the edit makes of the record of the port of this name.
+fn port_after(
+    edit: &Edit,
+    next: usize,
+    name: &PortName,
+    there: Option<Record<PortSettings>>,
+) -> Option<Record<PortSettings>>
+    ensures row { option_map (λ found. found.row) result ≡ port_row_after edit.now name.now (option_map (λ found. found.row) there) }
+    ensures number { option_map (λ found. found.number) result ≡ port_number_after edit.now next name.now (option_map (λ found. found.number) there) }
 {
     match *edit {
-        Edit::AddPort { port } if port == *name => Some(seen_port(next, PortSettings::new())),
+        Edit::AddPort { port } if port == *name => Some(Record {
+            number: next,
+            row: PortSettings::new(),
+        }),
         Edit::DelPort { port } if port == *name => None,
-        Edit::Plug { port, lan } if port == *name => with_lan(there, Some(lan)),
-        Edit::Unplug { port } if port == *name => with_lan(there, None),
-        Edit::SetKey { port, key } if port == *name => with_key(there, key),
-        Edit::SetPortPathCost { port, cost } if port == *name => with_cost(there, cost),
+        Edit::Plug { port, .. } if port == *name => with_port_set(there, edit),
+        Edit::Unplug { port } if port == *name => with_port_set(there, edit),
+        Edit::SetKey { port, .. } if port == *name => with_port_set(there, edit),
+        Edit::SetPortPathCost { port, .. } if port == *name => with_port_set(there, edit),
         _ => there,
     }
 }
 
-fn with_lan(there: Option<Port>, lan: Option<Name>) -> Option<Port>
-    ensures row { option_map port_row result ≡ option_map (in_lan lan) (option_map port_row there) }
-    ensures number { option_map (λ port. port.number) result ≡ option_map (λ port. port.number) there }
+/// The record of a port, if it is there, with what the edit sets of a port.
+fn with_port_set(there: Option<Record<PortSettings>>, edit: &Edit) -> Option<Record<PortSettings>>
+    ensures row { option_map (λ found. found.row) result ≡ option_map (port_set edit.now) (option_map (λ found. found.row) there) }
+    ensures number { option_map (λ found. found.number) result ≡ option_map (λ found. found.number) there }
 {
-    match there {
-        Some(port) => Some(Port { lan, ..port }),
-        None => None,
-    }
+    let Record { number, row } = there?;
+    Some(Record {
+        number,
+        row: row.after(edit),
+    })
 }
 
-fn with_key(there: Option<Port>, key: u16) -> Option<Port>
-    ensures row { option_map port_row result ≡ option_map (key_set key) (option_map port_row there) }
-    ensures number { option_map (λ port. port.number) result ≡ option_map (λ port. port.number) there }
-{
-    match there {
-        Some(port) => Some(Port { key, ..port }),
-        None => None,
-    }
-}
-
-fn with_cost(there: Option<Port>, external: Option<Cost>) -> Option<Port>
-    ensures row { option_map port_row result ≡ option_map (with_external external) (option_map port_row there) }
-    ensures number { option_map (λ port. port.number) result ≡ option_map (λ port. port.number) there }
-{
-    match there {
-        Some(port) => Some(Port { external, ..port }),
-        None => None,
-    }
-}
-
-/// What the edit makes of the LAN of this name.
-fn lan_after(edit: &Edit, next: LanNo, name: &Name, there: Option<Lan>) -> Option<Lan>
-    ensures row { option_map lan_row result ≡ lan_row_after edit.now name.now (option_map lan_row there) }
-    ensures number { option_map (λ lan. lan.number) result ≡ lan_number_after edit.now next name.now (option_map (λ lan. lan.number) there) }
+/// What the edit makes of the record of the LAN of this name.
+fn lan_after(
+    edit: &Edit,
+    next: usize,
+    name: &Name,
+    there: Option<Record<LanSettings>>,
+) -> Option<Record<LanSettings>>
+    ensures row { option_map (λ found. found.row) result ≡ lan_row_after edit.now name.now (option_map (λ found. found.row) there) }
+    ensures number { option_map (λ found. found.number) result ≡ lan_number_after edit.now next name.now (option_map (λ found. found.number) there) }
 {
     match *edit {
-        Edit::AddLan { lan } if lan == *name => Some(seen_lan(next, LanSettings::new())),
+        Edit::AddLan { lan } if lan == *name => Some(Record {
+            number: next,
+            row: LanSettings::new(),
+        }),
         Edit::DelLan { lan } if lan == *name => None,
-        Edit::SetLanState { lan, state } if lan == *name => with_state(there, state),
-        Edit::SetSpeed { lan, speed } if lan == *name => with_kbps(there, speed),
+        Edit::SetLanState { lan, .. } if lan == *name => with_lan_set(there, edit),
+        Edit::SetSpeed { lan, .. } if lan == *name => with_lan_set(there, edit),
         _ => there,
     }
 }
 
-fn with_state(there: Option<Lan>, state: LanState) -> Option<Lan>
-    ensures row { option_map lan_row result ≡ option_map (state_set state) (option_map lan_row there) }
-    ensures number { option_map (λ lan. lan.number) result ≡ option_map (λ lan. lan.number) there }
+/// The record of a LAN, if it is there, with what the edit sets of a LAN.
+fn with_lan_set(there: Option<Record<LanSettings>>, edit: &Edit) -> Option<Record<LanSettings>>
+    ensures row { option_map (λ found. found.row) result ≡ option_map (lan_set edit.now) (option_map (λ found. found.row) there) }
+    ensures number { option_map (λ found. found.number) result ≡ option_map (λ found. found.number) there }
 {
-    match there {
-        Some(lan) => Some(Lan { state, ..lan }),
-        None => None,
-    }
-}
-
-fn with_kbps(there: Option<Lan>, speed: Speed) -> Option<Lan>
-    ensures row { option_map lan_row result ≡ option_map (with_speed speed) (option_map lan_row there) }
-    ensures number { option_map (λ lan. lan.number) result ≡ option_map (λ lan. lan.number) there }
-{
-    match there {
-        Some(lan) => Some(Lan { speed, ..lan }),
-        None => None,
-    }
+    let Record { number, row } = there?;
+    Some(Record {
+        number,
+        row: row.after(edit),
+    })
 }
 
 /// What the edit makes of the name of the bridge that has a number.

@@ -142,7 +142,7 @@ impl Network {
         ensures { Commits ready.edit self.old self.new }
     {
         let Ready { edit } = ready;
-        self.make(edit);
+        self.make(&edit);
     }
 
     /// Gives up an edit, and leaves the network as it is.
@@ -236,22 +236,43 @@ impl Network {
         self.lans.len()
     }
 
+    pub(crate) fn bridge_record(&self, bridge: &Name) -> Option<Record<BridgeSettings>>
+        ensures row { option_map (λ found. found.row) result ≡ fin.get self.now.net.bridges bridge.now }
+        ensures number { option_map (λ found. found.number) result ≡ fin.get self.now.numbers.bridges bridge.now }
+    {
+        self.bridges.get(bridge)
+    }
+
     pub(crate) fn bridge_settings(&self, bridge: &Name) -> Option<BridgeSettings>
         ensures { result ≡ fin.get self.now.net.bridges bridge.now }
     {
-        self.bridges.row(bridge)
+        Some(self.bridge_record(bridge)?.row)
+    }
+
+    pub(crate) fn lan_record(&self, lan: &Name) -> Option<Record<LanSettings>>
+        ensures row { option_map (λ found. found.row) result ≡ fin.get self.now.net.lans lan.now }
+        ensures number { option_map (λ found. found.number) result ≡ fin.get self.now.numbers.lans lan.now }
+    {
+        self.lans.get(lan)
     }
 
     pub(crate) fn lan_settings(&self, lan: &Name) -> Option<LanSettings>
         ensures { result ≡ fin.get self.now.net.lans lan.now }
     {
-        self.lans.row(lan)
+        Some(self.lan_record(lan)?.row)
+    }
+
+    pub(crate) fn port_record(&self, port: &PortName) -> Option<Record<PortSettings>>
+        ensures row { option_map (λ found. found.row) result ≡ fin.get self.now.net.ports port.now }
+        ensures number { option_map (λ found. found.number) result ≡ fin.get self.now.numbers.ports port.now }
+    {
+        self.ports.get(port)
     }
 
     pub(crate) fn port_settings(&self, port: &PortName) -> Option<PortSettings>
         ensures { result ≡ fin.get self.now.net.ports port.now }
     {
-        self.ports.row(port)
+        Some(self.port_record(port)?.row)
     }
 }
 
@@ -265,15 +286,15 @@ impl Contents for Network {
     }
 
     fn bridge(&self, name: &Name) -> Option<Bridge> {
-        kept_bridge(self.bridges.get(name))
+        kept_bridge(self.bridge_record(name))
     }
 
     fn port(&self, name: &PortName) -> Option<Port> {
-        kept_port(self.ports.get(name))
+        kept_port(self.port_record(name))
     }
 
     fn lan(&self, name: &Name) -> Option<Lan> {
-        kept_lan(self.lans.get(name))
+        kept_lan(self.lan_record(name))
     }
 
     fn bridge_name(&self, number: BridgeNo) -> Option<Name> {
@@ -331,7 +352,7 @@ impl Contents for Network {
     }
 }
 
-fn kept_bridge(kept: Option<Record<BridgeSettings>>) -> Option<Bridge>
+pub(crate) fn kept_bridge(kept: Option<Record<BridgeSettings>>) -> Option<Bridge>
     ensures row { option_map bridge_row result ≡ option_map (λ found. found.row) kept }
     ensures number { option_map (λ bridge. bridge.number) result ≡ option_map (λ found. found.number) kept }
 {
@@ -339,7 +360,7 @@ fn kept_bridge(kept: Option<Record<BridgeSettings>>) -> Option<Bridge>
     Some(seen_bridge(BridgeNo(number), row))
 }
 
-fn kept_port(kept: Option<Record<PortSettings>>) -> Option<Port>
+pub(crate) fn kept_port(kept: Option<Record<PortSettings>>) -> Option<Port>
     ensures row { option_map port_row result ≡ option_map (λ found. found.row) kept }
     ensures number { option_map (λ port. port.number) result ≡ option_map (λ found. found.number) kept }
 {
@@ -347,7 +368,7 @@ fn kept_port(kept: Option<Record<PortSettings>>) -> Option<Port>
     Some(seen_port(PortNo(number), row))
 }
 
-fn kept_lan(kept: Option<Record<LanSettings>>) -> Option<Lan>
+pub(crate) fn kept_lan(kept: Option<Record<LanSettings>>) -> Option<Lan>
     ensures row { option_map lan_row result ≡ option_map (λ found. found.row) kept }
     ensures number { option_map (λ lan. lan.number) result ≡ option_map (λ found. found.number) kept }
 {

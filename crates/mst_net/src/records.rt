@@ -84,16 +84,6 @@ impl<K: Copy + Eq + Hash, R: Copy> Records<K, R> {
         self.records.get(key).copied()
     }
 
-    /// The row under the key.
-    pub(crate) fn row(&self, key: &K) -> Option<R>
-        ensures { result ≡ lookup (K.eq key.now) self.now.rows }
-    {
-        match self.get(key) {
-            Some(record) => Some(record.row),
-            None => None,
-        }
-    }
-
     /// The key of the row that has the number.
     pub(crate) fn key(&self, number: usize) -> Option<K>
         ensures found { ForSome result (λ key. lookup (K.eq key) self.now.numbers ≡ Some number) }

@@ -1,14 +1,14 @@
-ghost use Rattle.std.specs.Prelude.{◌≡◌, ◌<◌, cond, None, IsTrue};
+ghost use Rattle.std.specs.Prelude.{◌≡◌, ◌<◌, cond, None};
 ghost use Rattle.std.specs.Map.{lookup};
 ghost use Rattle.indexmap.specs.IndexMap.{spare};
-ghost use Rattle.mst_ids.specs.Texts.{is_conf_name};
 ghost use Rattle.mst_net.specs.After.{new_bridge, new_port, new_lan};
-ghost use Rattle.mst_net.specs.Tables.{IsLimit, BridgeTree, PortTree, bridge_tree_eq, port_tree_eq};
+ghost use Rattle.mst_net.specs.OfOneRecord.{bridge_set, port_set, lan_set};
+ghost use Rattle.mst_net.specs.Tables.{BridgeTree, PortTree, bridge_tree_eq, port_tree_eq};
 ghost use Rattle.mst_net.specs.SetByTree.{in_trees_of_bridge, in_trees_of_port};
 
 use indexmap::IndexMap;
 use mst_ids::{ConfName, Cost, Limit, Mac, Name, PortName, Priority, Speed, Tree};
-use mst_lang::{Kind, LanState, Power};
+use mst_lang::{Edit, Kind, LanState, Power};
 use std::hash::Hash;
 use std::marker::Model;
 
@@ -59,14 +59,32 @@ impl BridgeSettings {
         }
     }
 
-    /// What holds of the settings of every bridge.
-    pub(crate) fn known(&self)
-        ensures name { IsTrue (is_conf_name self.now.conf_name) }
-        ensures limits { IsLimit self.now.max_hops × IsLimit self.now.max_age }
+    /// These settings with what the edit sets of a bridge.
+    pub(crate) fn after(self, edit: &Edit) -> BridgeSettings
+        ensures { result ≡ bridge_set edit.now self }
     {
-        let _name = self.conf_name.as_bytes();
-        prove!((6..=40).contains(&self.max_hops.value()));
-        prove!((6..=40).contains(&self.max_age.value()));
+        match *edit {
+            Edit::SetPower { power, .. } => BridgeSettings { power, ..self },
+            Edit::SetKind { kind, .. } => BridgeSettings { kind, ..self },
+            Edit::SetSystemPriority { priority, .. } => BridgeSettings {
+                system_priority: priority,
+                ..self
+            },
+            Edit::SetConfiguration { revision, name, .. } => BridgeSettings {
+                revision,
+                conf_name: name,
+                ..self
+            },
+            Edit::SetMaxHops { limit, .. } => BridgeSettings {
+                max_hops: limit,
+                ..self
+            },
+            Edit::SetMaxAge { limit, .. } => BridgeSettings {
+                max_age: limit,
+                ..self
+            },
+            _ => self,
+        }
     }
 }
 
@@ -100,6 +118,25 @@ impl PortSettings {
             lan: None,
             key: 0,
             external: None,
+        }
+    }
+
+    /// These settings with what the edit sets of a port.
+    pub(crate) fn after(self, edit: &Edit) -> PortSettings
+        ensures { result ≡ port_set edit.now self }
+    {
+        match *edit {
+            Edit::Plug { lan, .. } => PortSettings {
+                lan: Some(lan),
+                ..self
+            },
+            Edit::Unplug { .. } => PortSettings { lan: None, ..self },
+            Edit::SetKey { key, .. } => PortSettings { key, ..self },
+            Edit::SetPortPathCost { cost, .. } => PortSettings {
+                external: cost,
+                ..self
+            },
+            _ => self,
         }
     }
 }
@@ -136,6 +173,17 @@ impl LanSettings {
         LanSettings {
             speed: Speed::standard(),
             state: LanState::Up,
+        }
+    }
+
+    /// These settings with what the edit sets of a LAN.
+    pub(crate) fn after(self, edit: &Edit) -> LanSettings
+        ensures { result ≡ lan_set edit.now self }
+    {
+        match *edit {
+            Edit::SetLanState { state, .. } => LanSettings { state, ..self },
+            Edit::SetSpeed { speed, .. } => LanSettings { speed, ..self },
+            _ => self,
         }
     }
 }

@@ -10,7 +10,7 @@ returns-clause-row c =
     let old = c.self.inside.network.now in
     let edit = c.self.inside.ready.now.edit in
     let name = c.args.name.now in
-    c.port_after.ensures.row ∙ ap (port_row_after edit name) c.port.ensures.row
+    c.kept_port.ensures.row ∙ c.port_after.ensures.row ∙ ap (port_row_after edit name) c.port_record.ensures.row
     ∙ sym (foreseen_port edit old.net name) ∙ ap (λ t. fin.get t.net.ports name) c.self.view_is
 
 pub returns-clause-number : goal.returns-clause-number
@@ -18,6 +18,6 @@ returns-clause-number c =
     let old = c.self.inside.network.now in
     let edit = c.self.inside.ready.now.edit in
     let name = c.args.name.now in
-    c.port_after.ensures.number ∙ ap (λ (n : ℕ). port_number_after edit n name (option_map (λ r. r.number) c.port.result)) c.next_port.ensures.next
-    ∙ ap (port_number_after edit old.next.port name) c.port.ensures.number
+    c.kept_port.ensures.number ∙ c.port_after.ensures.number ∙ ap (λ (n : ℕ). port_number_after edit n name (option_map (λ r. r.number) c.port_record.result)) c.next_port.ensures.next
+    ∙ ap (port_number_after edit old.next.port name) c.port_record.ensures.number
     ∙ sym (foreseen_port_number edit old.next old.numbers name) ∙ ap (λ t. fin.get t.numbers.ports name) c.self.view_is

@@ -1,25 +1,45 @@
-use Rattle.std.proofs.Common.{is_some, ap, sym, ◌∙◌, refl}
+use Rattle.std.proofs.Common.{Some, cond, is_some, ap, sym, subst, refl, ◌∙◌}
 use Rattle.std.specs.FinMap as fin
+use Rattle.std.specs.Map.{lookup}
+use Rattle.mst_net.specs.Contents.{Contents, CanCommit, Makes}
+use Rattle.mst_net.specs.NetworkKept.{contents_of}
 use Rattle.mst_net.specs.declared.network.Network.TheInside.{Inside}
-use Rattle.mst_net.proofs.EditLemmas.{net_with_bridges, bridge_set}
-use Rattle.mst_net.proofs.Keyed.{get_keyed}
-use Rattle.mst_net.proofs.Keys.{names}
+use Rattle.mst_net.proofs.EditLemmas.{bridge_to_set, bridge_set_made, bridge_set_sound}
+use Rattle.mst_net.proofs.Keyed.{contains_keyed}
+use Rattle.mst_net.proofs.Keys.{name_eq, names}
 use Rattle.mst_net.proofs.network.Network.set_bridge.Goals as goal
+
+pub unwrap-settings-requires : goal.unwrap-settings-requires
+unwrap-settings-requires c =
+    let a = c.self.inside in
+    let edit = c.args.edit.now in
+    let bridge = c.args.bridge.now in
+    ap is_some (c.bridge_settings.ensures ∙ ap (λ n. fin.get n.net.bridges bridge) (sym c.self.view_is)) ∙ bridge_to_set a a edit (subst (CanCommit edit) (sym c.self.view_is) c.requires.can) bridge c.requires.sets
 
 pub set-requires : goal.set-requires
 set-requires c =
-    let name = c.args.bridge.now in
-    ap is_some (sym (get_keyed names c.self.inside.bridges.rows name) ∙ ap (λ n. fin.get n.net.bridges name) c.self.view_is ∙ c.requires.1)
+    let a = c.self.inside in
+    let edit = c.args.edit.now in
+    let bridge = c.args.bridge.now in
+    sym (contains_keyed names a.bridges.rows bridge) ∙ bridge_to_set a a edit (subst (CanCommit edit) (sym c.self.view_is) c.requires.can) bridge c.requires.sets
 
 pub invariant_of-self : goal.invariant_of-self
 invariant_of-self c =
     let a = c.self.inside in
     let b : Inside = record a { bridges = c.set.new.self } in
-    bridge_set a b c.self.invariant c.args.bridge.now c.requires.0 c.args.settings (ap (λ n. fin.get n.net.bridges c.args.bridge.now) c.self.view_is ∙ c.requires.1) c.requires.2
-    c.known.ensures.name c.known.ensures.limits refl c.set.ensures.rows c.set.ensures.numbered
+    let edit = c.args.edit.now in
+    let bridge = c.args.bridge.now in
+    bridge_set_sound a b edit (subst (CanCommit edit) (sym c.self.view_is) c.requires.can) bridge c.requires.sets refl c.unwrap-settings.result
+    (ap (λ n. fin.get n.net.bridges bridge) c.self.view_is ∙ sym c.bridge_settings.ensures ∙ c.unwrap-settings.ensures)
+    (λ q. c.set.ensures.rows q ∙ ap (λ r. cond (name_eq bridge q) (Some r) (lookup (name_eq q) a.bridges.rows)) c.after.ensures) c.self.invariant c.set.ensures.numbered
 
-pub returns-clause-net : goal.returns-clause-net
-returns-clause-net c =
+pub returns : goal.returns
+returns c =
     let a = c.self.inside in
     let b : Inside = record a { bridges = c.set.new.self } in
-    net_with_bridges a b refl c.args.bridge.now c.args.settings c.set.ensures.rows ∙ ap (λ n. record n.net { bridges = fin.insert n.net.bridges c.args.bridge.now c.args.settings }) c.self.view_is
+    let edit = c.args.edit.now in
+    let bridge = c.args.bridge.now in
+    subst (λ (old : Contents). CanCommit edit old → Makes edit old (contents_of b)) c.self.view_is
+    (λ can. bridge_set_made a b edit can bridge c.requires.sets refl c.unwrap-settings.result (ap (λ n. fin.get n.net.bridges bridge) c.self.view_is ∙ sym c.bridge_settings.ensures ∙ c.unwrap-settings.ensures)
+    (λ q. c.set.ensures.rows q ∙ ap (λ r. cond (name_eq bridge q) (Some r) (lookup (name_eq q) a.bridges.rows)) c.after.ensures) c.set.ensures.numbers)
+    c.requires.can

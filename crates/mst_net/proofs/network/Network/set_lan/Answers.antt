@@ -1,28 +1,45 @@
-use Rattle.std.proofs.Common.{IsSome, ◌≤◌, ap, sym, ◌∙◌, refl, subst}
+use Rattle.std.proofs.Common.{Some, cond, is_some, ap, sym, subst, refl, ◌∙◌}
 use Rattle.std.specs.FinMap as fin
-use Rattle.mst_net.specs.Tables.{LanRow}
+use Rattle.std.specs.Map.{lookup}
+use Rattle.mst_net.specs.Contents.{Contents, CanCommit, Makes}
+use Rattle.mst_net.specs.NetworkKept.{contents_of}
 use Rattle.mst_net.specs.declared.network.Network.TheInside.{Inside}
-use Rattle.mst_net.proofs.EditLemmas.{net_with_lans, lan_set, value_of}
-use Rattle.mst_net.proofs.Keyed.{get_keyed}
-use Rattle.mst_net.proofs.Keys.{names}
+use Rattle.mst_net.proofs.EditLemmas.{lan_to_set, lan_set_made, lan_set_sound}
+use Rattle.mst_net.proofs.Keyed.{contains_keyed}
+use Rattle.mst_net.proofs.Keys.{name_eq, names}
 use Rattle.mst_net.proofs.network.Network.set_lan.Goals as goal
+
+pub unwrap-settings-requires : goal.unwrap-settings-requires
+unwrap-settings-requires c =
+    let a = c.self.inside in
+    let edit = c.args.edit.now in
+    let lan = c.args.lan.now in
+    ap is_some (c.lan_settings.ensures ∙ ap (λ n. fin.get n.net.lans lan) (sym c.self.view_is)) ∙ lan_to_set a a edit (subst (CanCommit edit) (sym c.self.view_is) c.requires.can) lan c.requires.sets
 
 pub set-requires : goal.set-requires
 set-requires c =
+    let a = c.self.inside in
+    let edit = c.args.edit.now in
     let lan = c.args.lan.now in
-    subst IsSome (sym (sym (get_keyed names c.self.inside.lans.rows lan) ∙ ap (λ n. fin.get n.net.lans lan) c.self.view_is)) c.requires
+    sym (contains_keyed names a.lans.rows lan) ∙ lan_to_set a a edit (subst (CanCommit edit) (sym c.self.view_is) c.requires.can) lan c.requires.sets
 
 pub invariant_of-self : goal.invariant_of-self
 invariant_of-self c =
     let a = c.self.inside in
     let b : Inside = record a { lans = c.set.new.self } in
+    let edit = c.args.edit.now in
     let lan = c.args.lan.now in
-    let old = value_of (fin.get c.args.self.now.net.lans lan) c.requires in
-    let speed = ap (λ (r : LanRow). r.speed) c.settings.view_is in
-    lan_set a b c.self.invariant lan old.0 c.args.settings (ap (λ n. fin.get n.net.lans lan) c.self.view_is ∙ old.1) (subst (λ n. (1 ≤ n) × (n ≤ 9_999_999_999)) speed c.known_speed.ensures) refl c.set.ensures.rows c.set.ensures.numbered
+    lan_set_sound a b edit (subst (CanCommit edit) (sym c.self.view_is) c.requires.can) lan c.requires.sets refl c.unwrap-settings.result
+    (ap (λ n. fin.get n.net.lans lan) c.self.view_is ∙ sym c.lan_settings.ensures ∙ c.unwrap-settings.ensures)
+    (λ q. c.set.ensures.rows q ∙ ap (λ r. cond (name_eq lan q) (Some r) (lookup (name_eq q) a.lans.rows)) c.after.ensures) c.self.invariant c.set.ensures.numbered
 
-pub returns-clause-net : goal.returns-clause-net
-returns-clause-net c =
+pub returns : goal.returns
+returns c =
     let a = c.self.inside in
     let b : Inside = record a { lans = c.set.new.self } in
-    net_with_lans a b refl c.args.lan.now c.args.settings c.set.ensures.rows ∙ ap (λ n. record n.net { lans = fin.insert n.net.lans c.args.lan.now c.args.settings }) c.self.view_is
+    let edit = c.args.edit.now in
+    let lan = c.args.lan.now in
+    subst (λ (old : Contents). CanCommit edit old → Makes edit old (contents_of b)) c.self.view_is
+    (λ can. lan_set_made a b edit can lan c.requires.sets refl c.unwrap-settings.result (ap (λ n. fin.get n.net.lans lan) c.self.view_is ∙ sym c.lan_settings.ensures ∙ c.unwrap-settings.ensures)
+    (λ q. c.set.ensures.rows q ∙ ap (λ r. cond (name_eq lan q) (Some r) (lookup (name_eq q) a.lans.rows)) c.after.ensures) c.set.ensures.numbers)
+    c.requires.can

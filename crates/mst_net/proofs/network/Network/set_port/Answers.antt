@@ -1,27 +1,46 @@
-use Rattle.std.proofs.Common.{is_some, ap, sym, ◌∙◌, refl}
+use Rattle.std.proofs.Common.{Some, cond, is_some, ap, sym, subst, refl, ◌∙◌}
 use Rattle.std.specs.FinMap as fin
-use Rattle.mst_net.specs.Tables.{PortRow}
+use Rattle.std.specs.Map.{lookup}
+use Rattle.mst_net.specs.Tables.{port_eq}
+use Rattle.mst_net.specs.Contents.{Contents, CanCommit, Makes}
+use Rattle.mst_net.specs.NetworkKept.{contents_of}
 use Rattle.mst_net.specs.declared.network.Network.TheInside.{Inside}
-use Rattle.mst_net.proofs.EditLemmas.{net_with_ports, port_set}
-use Rattle.mst_net.proofs.Keyed.{get_keyed}
+use Rattle.mst_net.proofs.EditLemmas.{port_to_set, port_set_made, port_set_sound}
+use Rattle.mst_net.proofs.Keyed.{contains_keyed}
 use Rattle.mst_net.proofs.Keys.{ports}
 use Rattle.mst_net.proofs.network.Network.set_port.Goals as goal
 
+pub unwrap-settings-requires : goal.unwrap-settings-requires
+unwrap-settings-requires c =
+    let a = c.self.inside in
+    let edit = c.args.edit.now in
+    let port = c.args.port.now in
+    ap is_some (c.port_settings.ensures ∙ ap (λ n. fin.get n.net.ports port) (sym c.self.view_is)) ∙ port_to_set a a edit (subst (CanCommit edit) (sym c.self.view_is) c.requires.can) port c.requires.sets
+
 pub set-requires : goal.set-requires
 set-requires c =
+    let a = c.self.inside in
+    let edit = c.args.edit.now in
     let port = c.args.port.now in
-    ap is_some (sym (get_keyed ports c.self.inside.ports.rows port) ∙ ap (λ n. fin.get n.net.ports port) c.self.view_is ∙ c.requires.1)
+    sym (contains_keyed ports a.ports.rows port) ∙ port_to_set a a edit (subst (CanCommit edit) (sym c.self.view_is) c.requires.can) port c.requires.sets
 
 pub invariant_of-self : goal.invariant_of-self
 invariant_of-self c =
     let a = c.self.inside in
     let b : Inside = record a { ports = c.set.new.self } in
+    let edit = c.args.edit.now in
     let port = c.args.port.now in
-    port_set a b c.self.invariant port c.requires.0 c.args.settings (ap (λ n. fin.get n.net.ports port) c.self.view_is ∙ c.requires.1) c.requires.2
-    (λ cost e. c.known_cost.ensures cost (ap (λ (r : PortRow). r.external) c.settings.view_is ∙ e)) refl c.set.ensures.rows c.set.ensures.numbered
+    port_set_sound a b edit (subst (CanCommit edit) (sym c.self.view_is) c.requires.can) port c.requires.sets refl c.unwrap-settings.result
+    (ap (λ n. fin.get n.net.ports port) c.self.view_is ∙ sym c.port_settings.ensures ∙ c.unwrap-settings.ensures)
+    (λ q. c.set.ensures.rows q ∙ ap (λ r. cond (port_eq port q) (Some r) (lookup (port_eq q) a.ports.rows)) c.after.ensures) c.self.invariant c.set.ensures.numbered
 
-pub returns-clause-net : goal.returns-clause-net
-returns-clause-net c =
+pub returns : goal.returns
+returns c =
     let a = c.self.inside in
     let b : Inside = record a { ports = c.set.new.self } in
-    net_with_ports a b refl c.args.port.now c.args.settings c.set.ensures.rows ∙ ap (λ n. record n.net { ports = fin.insert n.net.ports c.args.port.now c.args.settings }) c.self.view_is
+    let edit = c.args.edit.now in
+    let port = c.args.port.now in
+    subst (λ (old : Contents). CanCommit edit old → Makes edit old (contents_of b)) c.self.view_is
+    (λ can. port_set_made a b edit can port c.requires.sets refl c.unwrap-settings.result (ap (λ n. fin.get n.net.ports port) c.self.view_is ∙ sym c.port_settings.ensures ∙ c.unwrap-settings.ensures)
+    (λ q. c.set.ensures.rows q ∙ ap (λ r. cond (port_eq port q) (Some r) (lookup (port_eq q) a.ports.rows)) c.after.ensures) c.set.ensures.numbers)
+    c.requires.can

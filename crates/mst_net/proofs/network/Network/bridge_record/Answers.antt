@@ -1,0 +1,11 @@
+use Rattle.std.proofs.Common.{ap, sym, ◌∙◌}
+use Rattle.std.specs.FinMap as fin
+use Rattle.mst_net.proofs.Keyed.{get_keyed}
+use Rattle.mst_net.proofs.Keys.{names}
+use Rattle.mst_net.proofs.network.Network.bridge_record.Goals as goal
+
+pub returns-clause-row : goal.returns-clause-row
+returns-clause-row c = c.get.ensures.row ∙ sym (get_keyed names c.self.inside.bridges.rows c.args.bridge.now) ∙ ap (λ n. fin.get n.net.bridges c.args.bridge.now) c.self.view_is
+
+pub returns-clause-number : goal.returns-clause-number
+returns-clause-number c = c.get.ensures.number ∙ sym (get_keyed names c.self.inside.bridges.numbers c.args.bridge.now) ∙ ap (λ n. fin.get n.numbers.bridges c.args.bridge.now) c.self.view_is
