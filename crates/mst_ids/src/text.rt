@@ -3,9 +3,11 @@ ghost use Rattle.mst_ids.specs.Texts.{hex_digit as digit_of, hex_pair as pair_of
 
 use itoa::Buffer;
 use std::alloc::AllocError;
+use thiserror::Error;
 
 /// The text stands for no value.
-#[derive(Clone, Copy, Debug, PartialEq, Eq)]
+#[derive(Clone, Copy, Debug, Error, PartialEq, Eq)]
+#[error("the text stands for no value")]
 pub struct BadText;
 
 /// Appends a number in decimal, without leading zeros, or changes nothing.

@@ -2,6 +2,7 @@ ghost use Rattle.std.specs.Prelude.{◌≡◌};
 ghost use Rattle.mst_lang.specs.Faults.{code_of, text_of};
 
 use mst_ids::{ConfName, Cost, Limit, Mac, Name, PortName, Priority, Speed, Tree, Vid, VidSet};
+use thiserror::Error;
 
 /// Which protocol a bridge runs.
 #[derive(Clone, Copy, PartialEq, Eq)]
@@ -214,8 +215,9 @@ pub enum Command {
     Changes,
 }
 
-/// Why a line isn't read.
-#[derive(Clone, Copy, Debug, PartialEq, Eq)]
+/// Why a line isn't read. It is displayed as its [`text`](Fault::text).
+#[derive(Clone, Copy, Debug, Error, PartialEq, Eq)]
+#[error("{}", self.text())]
 pub enum Fault {
     /// The line is too long, holds a byte that no line may hold, or isn't a command with its number of
     /// words.

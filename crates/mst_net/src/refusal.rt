@@ -1,8 +1,12 @@
 ghost use Rattle.std.specs.Prelude.{◌≡◌};
 ghost use Rattle.mst_net.specs.Refusals.{code_of, text_of};
 
-/// Why an edit is refused. Where several apply, the one with the least number is answered.
-#[derive(Clone, Copy, Debug, PartialEq, Eq)]
+use thiserror::Error;
+
+/// Why an edit is refused. Where several apply, the one with the least number is answered. It is
+/// displayed as its [`text`](Refusal::text).
+#[derive(Clone, Copy, Debug, Error, PartialEq, Eq)]
+#[error("{}", self.text())]
 pub enum Refusal {
     /// There is no bridge of that name.
     E04,

@@ -8,6 +8,7 @@ use crate::held_line::HeldLine;
 use crate::laws::one_run;
 use std::alloc::Global;
 use std::io::{Read, Write};
+use thiserror::Error;
 
 /// What a run that came to the script's end has counted, in lines. A line counts once at most.
 #[derive(Clone, Copy, Debug, PartialEq, Eq)]
@@ -24,16 +25,19 @@ pub struct Outcome {
 
 /// Why a run stopped before the script's end. The lines before were served, and a front of what the
 /// script prints went out: no byte of another text, and none twice.
-#[derive(Clone, Copy, Debug, PartialEq, Eq)]
+#[derive(Clone, Copy, Debug, Error, PartialEq, Eq)]
 pub enum RunFault {
     /// The reader failed, or gave no end in 2^32 calls. A call that was interrupted has failed, too,
     /// and isn't made again.
+    #[error("read fault")]
     Read,
     /// The writer failed, or took no byte of some that it was given. A call that was interrupted has
     /// failed, too, and isn't made again.
+    #[error("write fault")]
     Write,
     /// The run itself wanted memory and was refused. A run takes none of its own today, so it doesn't
     /// answer this: a line that wants memory is refused, and counted in [`Outcome::memory`].
+    #[error("out of memory")]
     Memory,
 }
 

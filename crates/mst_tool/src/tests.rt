@@ -3,6 +3,9 @@ mod network;
 mod rows;
 
 use crate::{Outcome, RunFault, laws, run, status};
+use mst_ids::BadText;
+use mst_lang::Fault;
+use mst_net::Refusal;
 use mst_report::laws as outcomes;
 use std::alloc::Global;
 use std::io;
@@ -241,6 +244,25 @@ fn statuses(rt: HostRuntime) {
     ] {
         assert_eq!(rt; status(&ran), expected, "{ran:?}");
     }
+}
+
+#[test]
+fn errors_are_displayed(rt: HostRuntime) -> Result<(), Fail> {
+    let alloc = rt.alloc();
+    for (shown, expected) in [
+        (
+            format!(in alloc; "{BadText}")?,
+            "the text stands for no value",
+        ),
+        (format!(in alloc; "{}", Fault::E03)?, "bad VID or tree"),
+        (format!(in alloc; "{}", Refusal::E13)?, "LAN has plugs"),
+        (format!(in alloc; "{}", RunFault::Read)?, "read fault"),
+        (format!(in alloc; "{}", RunFault::Write)?, "write fault"),
+        (format!(in alloc; "{}", RunFault::Memory)?, "out of memory"),
+    ] {
+        assert_eq!(rt; shown.as_str(), expected);
+    }
+    Ok(())
 }
 
 #[test]

@@ -1,6 +1,7 @@
 use crate::faults::{fault_of, message};
 use crate::run_into;
 use mst_tool::{Outcome, RunFault};
+use std::alloc::AllocError;
 use std::io::{self, BufWriter};
 
 fn counts(refused: u64, memory: u64) -> Result<Outcome, RunFault> {
@@ -26,14 +27,17 @@ fn faults_are_told(rt: HostRuntime) {
 }
 
 #[test]
-fn faults_have_lines(rt: HostRuntime) {
+fn faults_have_lines(rt: HostRuntime) -> Result<(), AllocError> {
     for (fault, line) in [
         (RunFault::Read, "mstplan: read fault"),
         (RunFault::Write, "mstplan: write fault"),
         (RunFault::Memory, "mstplan: out of memory"),
     ] {
         assert_eq!(rt; message(fault), line);
+        let shown = format!(in rt.alloc(); "mstplan: {fault}")?;
+        assert_eq!(rt; shown.as_str(), line);
     }
+    Ok(())
 }
 
 #[test]
