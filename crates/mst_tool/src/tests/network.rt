@@ -3,7 +3,7 @@
 use mst_ids::{BridgeNo, LanNo, Name, PortName, PortNo, PortNumber, Tree, Vid};
 use mst_lang::{Edit, Kind, LanState, Line, Power, parse_line};
 use mst_net::{Contents, Network, Refusal, TreeSettings, laws};
-use std::alloc::Global;
+use std::alloc::{AllocError, Global};
 use std::process::Abort;
 use std::test::Fail;
 
@@ -501,25 +501,25 @@ enum Limited {
     Lans,
 }
 
-/// The line that adds the bridge, port or LAN of this number: ports come in bridges of 4,000.
-fn numbered(alloc: Global, limited: Limited, n: u32) -> Option<String> {
+/// Writes the line that adds the bridge, port or LAN of this number, in place of what the text has:
+/// ports come in bridges of 4,000.
+fn write_line(line: &mut String, limited: Limited, n: u32) -> Result<(), AllocError> {
+    line.clear();
     match limited {
-        Limited::Bridges => {
-            format!(in alloc;
-                "addbridge b{n} 00:00:00:00:{:02x}:{:02x}",
-                n / 256,
-                n % 256
-            )
-            .ok()
-        }
-        Limited::Ports => format!(in alloc; "addport b{} {}", n / 4000, n % 4000 + 1).ok(),
-        Limited::Lans => format!(in alloc; "addlan x{n}").ok(),
+        Limited::Bridges => write!(
+            line,
+            "addbridge b{n} 00:00:00:00:{:02x}:{:02x}",
+            n / 256,
+            n % 256
+        ),
+        Limited::Ports => write!(line, "addport b{} {}", n / 4000, n % 4000 + 1),
+        Limited::Lans => write!(line, "addlan x{n}"),
     }
 }
 
 /// Adds the one of this number, and tells the number of the refusal.
-fn add(alloc: Global, network: &mut Network, limited: Limited, n: u32) -> Option<&'static str> {
-    let line = numbered(alloc, limited, n)?;
+fn add(line: &mut String, network: &mut Network, limited: Limited, n: u32) -> Option<&'static str> {
+    write_line(line, limited, n).ok()?;
     Some(code_of(network, line.as_str()))
 }
 
@@ -530,12 +530,13 @@ fn fill(
     limited: Limited,
     count: u32,
 ) -> Option<&'static str> {
+    let mut line = String::new(alloc);
     for n in 0..count {
-        if add(alloc, network, limited, n) != Some("") {
+        if add(&mut line, network, limited, n) != Some("") {
             return None;
         }
     }
-    add(alloc, network, limited, count)
+    add(&mut line, network, limited, count)
 }
 
 #[test]
