@@ -4,6 +4,7 @@ pub mod Keys
 pub mod Counting
 pub mod Changed
 pub mod TableLemmas
+pub mod Rising
 pub mod TableFits
 pub mod SetByTree
 pub mod AfterLemmas

@@ -1,11 +1,12 @@
-ghost use Rattle.std.specs.Prelude.{◌≡◌, ◌==◌, ℕ, ◌<◌, ◌↔◌, List, Some, false, length, count_by, slice_index_or, IsTrue};
+ghost use Rattle.std.specs.Prelude.{◌≡◌, ◌==◌, ℕ, ◌<◌, ◌↔◌, List, Some, false, length, count_by, slice_index_or, IsTrue, IfOk};
 ghost use Rattle.std.specs.FinMap as fin;
 ghost use Rattle.std.specs.List.{list_all};
 ghost use Rattle.mst_net.specs.After.{table_of};
-ghost use Rattle.mst_net.specs.Table.{no_table, tree_in, mapped, has_tree, tree_count};
+ghost use Rattle.mst_net.specs.Table.{no_table, tree_in, mapped, has_tree, mstis_in, tree_count};
 
 use crate::contents::Contents;
 use mst_ids::{BridgeNo, Tree, Vid, VidSet};
+use std::alloc::{AllocError, Global};
 use std::marker::Model;
 
 /// The tree of each VID from 1 to 4094 in rising order, as its MSTID, of which 0 is the CIST. It is of fixed
@@ -95,8 +96,35 @@ impl Table {
         self.all_in_cist()
     }
 
-    /// A flag for each tree, 0 to 4094: whether some VID is mapped to it.
-    fn trees_seen(&self) -> [bool; 4095]
+    /// Whether some VID is mapped to the tree, so that the bridge has it. It takes no memory, and looks at each
+    /// VID.
+    pub fn has(&self, tree: Tree) -> bool
+        ensures { result ≡ has_tree self.now tree }
+    {
+        self.trees
+            .iter()
+            .any(|mapped| mapped.value() == tree.value())
+    }
+
+    /// The trees beside the CIST that some VID is mapped to, in rising order of their MSTIDs, 1 to 4094: the
+    /// MSTIs of a bridge that has this table (802.1Q-2022, 13). It goes once over the VIDs and once over the
+    /// trees. An `Err` is want of memory.
+    pub fn mstis(&self, alloc: Global) -> Result<Vec<Tree>, AllocError>
+        ensures { IfOk result (λ trees. trees.items ≡ mstis_in self.now) }
+    {
+        let seen = self.trees_seen();
+        let mut trees = Vec::new(alloc);
+        for index in 0..4094u16 {
+            let number = index + 1;
+            if seen[usize::from(number)] {
+                trees.push(Tree::new(u64::from(number)).unwrap())?;
+            }
+        }
+        Ok(trees)
+    }
+
+    /// A flag for each tree, 0 to 4094: whether some VID is mapped to it. It takes no memory.
+    pub fn trees_seen(&self) -> [bool; 4095]
         ensures long { length result ≡ 4095 }
         ensures seen { (tree : ℕ) → tree < 4095 → slice_index_or result tree false ≡ has_tree self.now tree }
     {
