@@ -178,29 +178,29 @@ mark_fits (word ∷ words) = tt
 
 -- ---- each command
 says_fits : (command : Command) (words : List (List ℕ)) → Fits (says command words)
-says_fits AddBridge words = two_fit _ name_gives mac_gives (λ b p m q. q) words
-says_fits DelBridge words = one_fits _ name_gives (λ b p. tt) words
-says_fits Bridge words = two_fit _ name_gives power_gives (λ b p o q. tt) words
-says_fits KindOf words = two_fit _ name_gives kind_gives (λ b p k q. tt) words
-says_fits AddPort words = two_fit _ name_gives port_number_gives (λ b p n q. q) words
-says_fits DelPort words = two_fit _ name_gives port_number_gives (λ b p n q. tt) words
-says_fits AddLan words = one_fits _ name_gives (λ l p. tt) words
-says_fits DelLan words = one_fits _ name_gives (λ l p. tt) words
-says_fits Lan words = two_fit _ name_gives lan_state_gives (λ l p u q. tt) words
-says_fits SpeedOf words = two_fit _ name_gives speed_gives (λ l p k q. q) words
-says_fits Plug words = three_fit _ name_gives port_number_gives name_gives (λ b p n q l r. tt) words
-says_fits Unplug words = two_fit _ name_gives port_number_gives (λ b p n q. tt) words
-says_fits SetKey words = three_fit _ name_gives port_number_gives sixteen_bits_give (λ b p n q k r. omega (arith, r.1)) words
-says_fits SetSysPri words = two_fit _ name_gives sixteen_bits_give (λ b p s q. omega (arith, q.1)) words
-says_fits SetTreePrio words = three_fit _ name_gives tree_gives priority_gives (λ b p t q s r. (q.1, r.1)) words
-says_fits SetTreePortPrio words = four_fit _ name_gives port_number_gives tree_gives priority_gives (λ b p n q t r s i. (r.1, i.1)) words
-says_fits SetPortPathCost words = three_fit _ name_gives port_number_gives cost_gives (λ b p n q c r. r) words
-says_fits SetTreePortCost words = four_fit _ name_gives port_number_gives tree_gives cost_gives (λ b p n q t r c i. (r.1, i)) words
-says_fits SetMstConfId words = three_fit _ name_gives sixteen_bits_give conf_name_gives (λ b p v q n r. (omega (arith, q.1), r)) words
-says_fits SetVidToMstId words = three_fit _ name_gives tree_gives vids_give (λ b p t q v r. (q.1, r)) words
-says_fits SetMaxHops words = two_fit _ name_gives limit_gives (λ b p l q. q) words
-says_fits SetMaxAge words = two_fit _ name_gives limit_gives (λ b p l q. q) words
-says_fits SetPortVlans words = three_fit _ name_gives port_number_gives members_give (λ b p n q v r. r) words
+says_fits AddBridge words = two_fit _ name_gives mac_gives (λ b p m q. record { names = p; values = q }) words
+says_fits DelBridge words = one_fits _ name_gives (λ b p. record { names = p; values = tt }) words
+says_fits Bridge words = two_fit _ name_gives power_gives (λ b p o q. record { names = p; values = tt }) words
+says_fits KindOf words = two_fit _ name_gives kind_gives (λ b p k q. record { names = p; values = tt }) words
+says_fits AddPort words = two_fit _ name_gives port_number_gives (λ b p n q. record { names = (p, q.0, q.1); values = tt }) words
+says_fits DelPort words = two_fit _ name_gives port_number_gives (λ b p n q. record { names = (p, q.0, q.1); values = tt }) words
+says_fits AddLan words = one_fits _ name_gives (λ l p. record { names = p; values = tt }) words
+says_fits DelLan words = one_fits _ name_gives (λ l p. record { names = p; values = tt }) words
+says_fits Lan words = two_fit _ name_gives lan_state_gives (λ l p u q. record { names = p; values = tt }) words
+says_fits SpeedOf words = two_fit _ name_gives speed_gives (λ l p k q. record { names = p; values = q }) words
+says_fits Plug words = three_fit _ name_gives port_number_gives name_gives (λ b p n q l r. record { names = ((p, q.0, q.1), r); values = tt }) words
+says_fits Unplug words = two_fit _ name_gives port_number_gives (λ b p n q. record { names = (p, q.0, q.1); values = tt }) words
+says_fits SetKey words = three_fit _ name_gives port_number_gives sixteen_bits_give (λ b p n q k r. record { names = (p, q.0, q.1); values = omega (arith, r.1) }) words
+says_fits SetSysPri words = two_fit _ name_gives sixteen_bits_give (λ b p s q. record { names = p; values = omega (arith, q.1) }) words
+says_fits SetTreePrio words = three_fit _ name_gives tree_gives priority_gives (λ b p t q s r. record { names = p; values = (q.1, r.1) }) words
+says_fits SetTreePortPrio words = four_fit _ name_gives port_number_gives tree_gives priority_gives (λ b p n q t r s i. record { names = (p, q.0, q.1); values = (r.1, i.1) }) words
+says_fits SetPortPathCost words = three_fit _ name_gives port_number_gives cost_gives (λ b p n q c r. record { names = (p, q.0, q.1); values = r }) words
+says_fits SetTreePortCost words = four_fit _ name_gives port_number_gives tree_gives cost_gives (λ b p n q t r c i. record { names = (p, q.0, q.1); values = (r.1, i) }) words
+says_fits SetMstConfId words = three_fit _ name_gives sixteen_bits_give conf_name_gives (λ b p v q n r. record { names = p; values = (omega (arith, q.1), r) }) words
+says_fits SetVidToMstId words = three_fit _ name_gives tree_gives vids_give (λ b p t q v r. record { names = p; values = (q.1, r) }) words
+says_fits SetMaxHops words = two_fit _ name_gives limit_gives (λ b p l q. record { names = p; values = q }) words
+says_fits SetMaxAge words = two_fit _ name_gives limit_gives (λ b p l q. record { names = p; values = q }) words
+says_fits SetPortVlans words = three_fit _ name_gives port_number_gives members_give (λ b p n q v r. record { names = (p, q.0, q.1); values = r }) words
 says_fits ShowPlan words = query_fits _
 says_fits ShowLag words = query_fits _
 says_fits ShowRegions words = query_fits _

@@ -1,6 +1,6 @@
 -- An edit that nothing refuses makes a network of a network.
 use Rattle.std.proofs.Common.{◌≡◌, ℕ, ◌<◌, ◌≤◌, ◌^◌, Bool, true, false, not, ◌⊎◌, inl, inr, List, Option, Some, None, is_some, nat_eq, refl, sym, ap, subst, ◌∙◌, arith, true≢false}
-use Rattle.std.specs.Prelude.{Result, Ok, Err, IsTrue, ◌==◌, if◌then◌else◌}
+use Rattle.std.specs.Prelude.{⊤, Result, Ok, Err, IsTrue, ◌==◌, if◌then◌else◌}
 use Rattle.std.specs.Option.{option_map_or, unwrap_or, ForSome}
 use Rattle.std.specs.Bool.{beq}
 use Rattle.std.specs.List.{list_all, AllByRecursion}
@@ -16,7 +16,7 @@ use Rattle.mst_ids.proofs.ConfNameLemmas.{is_conf_name-mac_text}
 use Rattle.mst_ids.specs.declared.name.PortName.{PortName}
 use Rattle.mst_lang.specs.declared.line.Edit.{Edit}
 use Rattle.mst_lang.specs.declared.line.Edit.TheVariants.{AddBridge, DelBridge, SetPower, SetKind, AddPort, DelPort, AddLan, DelLan, SetLanState, SetSpeed, Plug, Unplug, SetKey, SetSystemPriority, SetTreePriority, SetTreePortPriority, SetPortPathCost, SetTreePortCost, SetConfiguration, MapVids, SetMaxHops, SetMaxAge, SetPortVlans}
-use Rattle.mst_lang.specs.Ranges.{InRange}
+use Rattle.mst_lang.specs.Ranges.{InRange, IsName}
 use Rattle.mst_net.specs.Table.{no_table, mapped, tree_count}
 use Rattle.mst_net.specs.Tables.{Net, IsNetwork, AreBridges, AreLans, ArePorts, IsLimit, IsPathCost, IsOwnPriority, IsTable, BridgeRow, PortRow, LanRow, BridgeTree, PortTree, bridge_tree_cmp, port_tree_cmp, port_eq, empty_net}
 use Rattle.mst_net.specs.After.{has_bridge, has_port, has_lan, mac_taken, is_plugged, is_of_bridge, is_in_lan, some_port, all_vids, table_of, refusal_of, effect, after, new_bridge, new_port, new_lan, in_lan, with_kind, with_power, with_system_priority, with_configuration, with_max_hops, with_max_age, with_state, with_speed, with_key, with_external, change, change_bridge, change_port, change_lan, keep, own_priority, own_table, own_vlans}
@@ -94,19 +94,23 @@ module _ (net : Net) where
 pub no_network : IsNetwork empty_net
 no_network = record {
   bridges = record {
+    named = λ a x h. absurd (no_some x (sym (get-empty name_cmp a) ∙ h));
     macs_differ = λ a b x y h i same. absurd (no_some x (sym (get-empty name_cmp a) ∙ h));
     mac_fits = λ a x h. absurd (no_some x (sym (get-empty name_cmp a) ∙ h));
     names_fit = λ a x h. absurd (no_some x (sym (get-empty name_cmp a) ∙ h));
+    sixteen_bits = λ a x h. absurd (no_some x (sym (get-empty name_cmp a) ∙ h));
     limits_fit = λ a x h. absurd (no_some x (sym (get-empty name_cmp a) ∙ h));
     few = omega (arith, len-empty name_cmp BridgeRow);
   };
   lans = record {
+    named = λ l x h. absurd (no_some x (sym (get-empty name_cmp l) ∙ h));
     speed_fits = λ l x h. absurd (no_some x (sym (get-empty name_cmp l) ∙ h));
     few = omega (arith, len-empty name_cmp LanRow);
   };
   ports = record {
     has_bridge = λ p x h. absurd (no_some x (sym (get-empty port_cmp p) ∙ h));
     number_fits = λ p x h. absurd (no_some x (sym (get-empty port_cmp p) ∙ h));
+    key_fits = λ p x h. absurd (no_some x (sym (get-empty port_cmp p) ∙ h));
     has_lan = λ p x lan h i. absurd (no_some x (sym (get-empty port_cmp p) ∙ h));
     cost_fits = λ p x cost h i. absurd (no_some x (sym (get-empty port_cmp p) ∙ h));
     few = omega (arith, len-empty port_cmp PortRow);
@@ -151,18 +155,21 @@ none_passes test net none p x there = by (test p x) refl
 pub record Kept (new old : BridgeRow) : Type 0 where
   pub mac : new.mac ≡ old.mac
   pub name : IsTrue (is_conf_name old.conf_name) → IsTrue (is_conf_name new.conf_name)
+  pub sixteen_bits : (old.system_priority < 2 ^ 16) × (old.revision < 2 ^ 16) → (new.system_priority < 2 ^ 16) × (new.revision < 2 ^ 16)
   pub limits : IsLimit old.max_hops × IsLimit old.max_age → IsLimit new.max_hops × IsLimit new.max_age
 
 unchanged : (row : BridgeRow) → Kept row row
-unchanged row = record { mac = refl; name = λ h. h; limits = λ h. h }
+unchanged row = record { mac = refl; name = λ h. h; sixteen_bits = λ h. h; limits = λ h. h }
 
 bridges_changed : (bridges : FinMap name_cmp BridgeRow) (bridge : List ℕ) (f : BridgeRow → BridgeRow) → ((row : BridgeRow) → fin.get bridges bridge ≡ Some row → Kept (f row) row) → AreBridges bridges → AreBridges (change bridges bridge f)
 bridges_changed bridges bridge f kept are =
     let from = changed_from names Kept unchanged bridges bridge f kept in
     record {
+      named = λ a x h. let p = from a x h in are.named a p.0 p.1;
       macs_differ = λ a b x y h i same. let p = from a x h in let q = from b y i in are.macs_differ a b p.0 q.0 p.1 q.1 (sym p.2.mac ∙ same ∙ q.2.mac);
       mac_fits = λ a x h. let p = from a x h in subst (λ n. n < 2 ^ 48) (sym p.2.mac) (are.mac_fits a p.0 p.1);
       names_fit = λ a x h. let p = from a x h in p.2.name (are.names_fit a p.0 p.1);
+      sixteen_bits = λ a x h. let p = from a x h in p.2.sixteen_bits (are.sixteen_bits a p.0 p.1);
       limits_fit = λ a x h. let p = from a x h in p.2.limits (are.limits_fit a p.0 p.1);
       few = omega (arith, len_changed names bridges bridge f, are.few);
     }
@@ -171,18 +178,21 @@ bridges_left : (bridges : FinMap name_cmp BridgeRow) (bridge : List ℕ) → Are
 bridges_left bridges bridge are =
     let from : (a : List ℕ) (x : BridgeRow) → fin.get (fin.remove bridges bridge) a ≡ Some x → fin.get bridges a ≡ Some x = λ a x h. (left_of names bridges bridge a x h).1 in
     record {
+      named = λ a x h. are.named a x (from a x h);
       macs_differ = λ a b x y h i. are.macs_differ a b x y (from a x h) (from b y i);
       mac_fits = λ a x h. are.mac_fits a x (from a x h);
       names_fit = λ a x h. are.names_fit a x (from a x h);
+      sixteen_bits = λ a x h. are.sixteen_bits a x (from a x h);
       limits_fit = λ a x h. are.limits_fit a x (from a x h);
       few = omega (arith, len_removed names bridges bridge, are.few);
     }
 
-bridges_added : (bridges : FinMap name_cmp BridgeRow) (bridge : List ℕ) (mac : ℕ) → mac < 2 ^ 48 → ((a : List ℕ) (x : BridgeRow) → fin.get bridges a ≡ Some x → x.mac ≡ mac → ⊥) → fin.contains_key bridges bridge ≡ false
+bridges_added : (bridges : FinMap name_cmp BridgeRow) (bridge : List ℕ) (mac : ℕ) → IsName bridge → mac < 2 ^ 48 → ((a : List ℕ) (x : BridgeRow) → fin.get bridges a ≡ Some x → x.mac ≡ mac → ⊥) → fin.contains_key bridges bridge ≡ false
     → fin.len bridges < 1024 → AreBridges bridges → AreBridges (fin.insert bridges bridge (new_bridge mac))
-bridges_added bridges bridge mac fits free absent room are =
+bridges_added bridges bridge mac named fits free absent room are =
     let was = after_insert names bridges bridge (new_bridge mac) in
     record {
+      named = λ a x h. elim (was a x h) [ inl p ↦ subst IsName p.0 named | inr p ↦ are.named a x p ];
       macs_differ = λ a b x y h i same. elim (was a x h) [
         | inl p ↦ elim (was b y i) [
           | inl q ↦ sym p.0 ∙ q.0
@@ -201,6 +211,10 @@ bridges_added bridges bridge mac fits free absent room are =
         | inl p ↦ subst (λ (r : BridgeRow). IsTrue (is_conf_name r.conf_name)) p.1 (is_conf_name-mac_text mac fits)
         | inr p ↦ are.names_fit a x p
       ];
+      sixteen_bits = λ a x h. elim (was a x h) [
+        | inl p ↦ subst (λ (r : BridgeRow). (r.system_priority < 2 ^ 16) × (r.revision < 2 ^ 16)) p.1 (omega arith, omega arith)
+        | inr p ↦ are.sixteen_bits a x p
+      ];
       limits_fit = λ a x h. elim (was a x h) [
         | inl p ↦ subst (λ (r : BridgeRow). IsLimit r.max_hops × IsLimit r.max_age) p.1 ((omega arith, omega arith), (omega arith, omega arith))
         | inr p ↦ are.limits_fit a x p
@@ -210,6 +224,7 @@ bridges_added bridges bridge mac fits free absent room are =
 
 lans_changed : (lans : FinMap name_cmp LanRow) (lan : List ℕ) (f : LanRow → LanRow) → ((row : LanRow) → fin.get lans lan ≡ Some row → (1 ≤ row.speed) × (row.speed ≤ 9_999_999_999) → (1 ≤ (f row).speed) × ((f row).speed ≤ 9_999_999_999)) → AreLans lans → AreLans (change lans lan f)
 lans_changed lans lan f fits are = record {
+  named = λ l x h. let p = changed_from names (λ (new old : LanRow). ⊤) (λ _. tt) lans lan f (λ _ _. tt) l x h in are.named l p.0 p.1;
   speed_fits = λ l x h.
       let p = changed_from names (λ (new old : LanRow). (1 ≤ old.speed) × (old.speed ≤ 9_999_999_999) → (1 ≤ new.speed) × (new.speed ≤ 9_999_999_999)) (λ row h. h) lans lan f fits l x h in
       p.2 (are.speed_fits l p.0 p.1);
@@ -217,10 +232,15 @@ lans_changed lans lan f fits are = record {
 }
 
 lans_left : (lans : FinMap name_cmp LanRow) (lan : List ℕ) → AreLans lans → AreLans (fin.remove lans lan)
-lans_left lans lan are = record { speed_fits = λ l x h. are.speed_fits l x (left_of names lans lan l x h).1; few = omega (arith, len_removed names lans lan, are.few) }
+lans_left lans lan are = record {
+  named = λ l x h. are.named l x (left_of names lans lan l x h).1;
+  speed_fits = λ l x h. are.speed_fits l x (left_of names lans lan l x h).1;
+  few = omega (arith, len_removed names lans lan, are.few);
+}
 
-lans_added : (lans : FinMap name_cmp LanRow) (lan : List ℕ) → fin.contains_key lans lan ≡ false → fin.len lans < 8192 → AreLans lans → AreLans (fin.insert lans lan new_lan)
-lans_added lans lan absent room are = record {
+lans_added : (lans : FinMap name_cmp LanRow) (lan : List ℕ) → IsName lan → fin.contains_key lans lan ≡ false → fin.len lans < 8192 → AreLans lans → AreLans (fin.insert lans lan new_lan)
+lans_added lans lan named absent room are = record {
+  named = λ l x h. elim (after_insert names lans lan new_lan l x h) [ inl q ↦ subst IsName q.0 named | inr q ↦ are.named l x q ];
   speed_fits = λ l x h. elim (after_insert names lans lan new_lan l x h) [
     | inl q ↦ subst (λ (r : LanRow). (1 ≤ r.speed) × (r.speed ≤ 9_999_999_999)) q.1 (omega arith, omega arith)
     | inr q ↦ are.speed_fits l x q
@@ -231,15 +251,17 @@ lans_added lans lan absent room are = record {
 module _ (bridges : FinMap name_cmp BridgeRow) (lans : FinMap name_cmp LanRow) where
   -- what changes leave of a port's settings: it is in a LAN that is there, or where it was
   pub record PortKept (new old : PortRow) : Type 0 where
+    pub key : old.key < 2 ^ 16 → new.key < 2 ^ 16
     pub lan : (l : List ℕ) → new.lan ≡ Some l → (old.lan ≡ Some l) ⊎ (fin.contains_key lans l ≡ true)
     pub cost : (c : ℕ) → new.external ≡ Some c → (old.external ≡ Some c) ⊎ IsPathCost c
 
   ports_changed : (table : FinMap port_cmp PortRow) (port : PortName) (f : PortRow → PortRow) → ((row : PortRow) → fin.get table port ≡ Some row → PortKept (f row) row) → ArePorts bridges lans table → ArePorts bridges lans (change table port f)
   ports_changed table port f kept are =
-      let from = changed_from ports PortKept (λ row. record { lan = λ l h. inl h; cost = λ c h. inl h }) table port f kept in
+      let from = changed_from ports PortKept (λ row. record { key = λ h. h; lan = λ l h. inl h; cost = λ c h. inl h }) table port f kept in
       record {
         has_bridge = λ p x h. let q = from p x h in are.has_bridge p q.0 q.1;
         number_fits = λ p x h. let q = from p x h in are.number_fits p q.0 q.1;
+        key_fits = λ p x h. let q = from p x h in q.2.key (are.key_fits p q.0 q.1);
         has_lan = λ p x l h i. let q = from p x h in elim (q.2.lan l i) [ inl was ↦ are.has_lan p q.0 l q.1 was | inr there ↦ there ];
         cost_fits = λ p x c h i. let q = from p x h in elim (q.2.cost c i) [ inl was ↦ are.cost_fits p q.0 c q.1 was | inr fits ↦ fits ];
         few = omega (arith, len_changed ports table port f, are.few);
@@ -251,6 +273,7 @@ module _ (bridges : FinMap name_cmp BridgeRow) (lans : FinMap name_cmp LanRow) w
       record {
         has_bridge = λ p x h. are.has_bridge p x (from p x h);
         number_fits = λ p x h. are.number_fits p x (from p x h);
+        key_fits = λ p x h. are.key_fits p x (from p x h);
         has_lan = λ p x l h. are.has_lan p x l (from p x h);
         cost_fits = λ p x c h. are.cost_fits p x c (from p x h);
         few = omega (arith, len_removed ports table port, are.few);
@@ -268,6 +291,10 @@ module _ (bridges : FinMap name_cmp BridgeRow) (lans : FinMap name_cmp LanRow) w
         number_fits = λ p x h. elim (was p x h) [
           | inl q ↦ subst (λ (p : PortName). (1 ≤ p.number) × (p.number ≤ 4095)) q.0 fits
           | inr q ↦ are.number_fits p x q
+        ];
+        key_fits = λ p x h. elim (was p x h) [
+          | inl q ↦ subst (λ (r : PortRow). r.key < 2 ^ 16) q.1 (omega arith)
+          | inr q ↦ are.key_fits p x q
         ];
         has_lan = λ p x l h i. elim (was p x h) [
           | inl q ↦ absurd (no_some l (ap (λ (r : PortRow). r.lan) q.1 ∙ i))
@@ -289,6 +316,7 @@ module _ (net : Net) (is : IsNetwork net) where
     ports = record {
       has_bridge = λ p x h. still p.bridge (is.ports.has_bridge p x h);
       number_fits = is.ports.number_fits;
+      key_fits = is.ports.key_fits;
       has_lan = is.ports.has_lan;
       cost_fits = is.ports.cost_fits;
       few = is.ports.few;
@@ -316,7 +344,7 @@ module _ (net : Net) (is : IsNetwork net) where
   with_lans lans there are = record {
     bridges = is.bridges;
     lans = are;
-    ports = record { has_bridge = is.ports.has_bridge; number_fits = is.ports.number_fits; has_lan = there; cost_fits = is.ports.cost_fits; few = is.ports.few };
+    ports = record { has_bridge = is.ports.has_bridge; number_fits = is.ports.number_fits; key_fits = is.ports.key_fits; has_lan = there; cost_fits = is.ports.cost_fits; few = is.ports.few };
     priorities = is.priorities;
     port_priorities = is.port_priorities;
     port_costs = is.port_costs;
@@ -344,6 +372,7 @@ module _ (net : Net) (is : IsNetwork net) where
         ports = record {
           has_bridge = λ p x h. still p.bridge (none_passes (is_of_bridge bridge) net none p x h) (is.ports.has_bridge p x h);
           number_fits = is.ports.number_fits;
+          key_fits = is.ports.key_fits;
           has_lan = is.ports.has_lan;
           cost_fits = is.ports.cost_fits;
           few = is.ports.few;
@@ -461,39 +490,40 @@ module _ (net : Net) (is : IsNetwork net) where
   pub effect_is_network : (edit : Edit) → InRange edit → refusal_of edit net ≡ None → IsNetwork (effect edit net)
   effect_is_network (AddBridge bridge mac) fits h =
       let ok = bridge_addable net bridge mac h in
-      with_bridges (fin.insert net.bridges bridge (new_bridge mac)) (still_there names net.bridges bridge (new_bridge mac)) (bridges_added net.bridges bridge mac fits (free mac ok.1) ok.0 ok.2 is.bridges)
+      with_bridges (fin.insert net.bridges bridge (new_bridge mac)) (still_there names net.bridges bridge (new_bridge mac)) (bridges_added net.bridges bridge mac fits.names fits.values (free mac ok.1) ok.0 ok.2 is.bridges)
   effect_is_network (DelBridge bridge) fits h = bridge_left bridge (bridge_deletable net bridge h).1
-  effect_is_network (SetPower bridge power) fits h = bridge_changed bridge (with_power power) (λ row _. record { mac = refl; name = λ h. h; limits = λ h. h })
-  effect_is_network (SetKind bridge kind) fits h = bridge_changed bridge (with_kind kind) (λ row _. record { mac = refl; name = λ h. h; limits = λ h. h })
+  effect_is_network (SetPower bridge power) fits h = bridge_changed bridge (with_power power) (λ row _. record { mac = refl; name = λ h. h; sixteen_bits = λ h. h; limits = λ h. h })
+  effect_is_network (SetKind bridge kind) fits h = bridge_changed bridge (with_kind kind) (λ row _. record { mac = refl; name = λ h. h; sixteen_bits = λ h. h; limits = λ h. h })
   effect_is_network (AddPort port) fits h =
       let ok = port_addable net port h in
-      with_ports (fin.insert net.ports port new_port) (still_there ports net.ports port new_port) (ports_added net.bridges net.lans net.ports port fits ok.0 ok.1 ok.2 is.ports)
+      with_ports (fin.insert net.ports port new_port) (still_there ports net.ports port new_port) (ports_added net.bridges net.lans net.ports port (fits.names.1, fits.names.2) ok.0 ok.1 ok.2 is.ports)
   effect_is_network (DelPort port) fits h = port_left port
   effect_is_network (AddLan lan) fits h =
       let ok = lan_addable net lan h in
-      with_lans (fin.insert net.lans lan new_lan) (λ p x l there in_it. still_there names net.lans lan new_lan l (is.ports.has_lan p x l there in_it)) (lans_added net.lans lan ok.0 ok.1 is.lans)
+      with_lans (fin.insert net.lans lan new_lan) (λ p x l there in_it. still_there names net.lans lan new_lan l (is.ports.has_lan p x l there in_it)) (lans_added net.lans lan fits.names ok.0 ok.1 is.lans)
   effect_is_network (DelLan lan) fits h = lan_left lan (lan_deletable net lan h).1
   effect_is_network (SetLanState lan state) fits h = lan_changed lan (with_state state) (λ row _ h. h)
-  effect_is_network (SetSpeed lan speed) fits h = lan_changed lan (with_speed speed) (λ row _ _. fits)
+  effect_is_network (SetSpeed lan speed) fits h = lan_changed lan (with_speed speed) (λ row _ _. fits.values)
   effect_is_network (Plug port lan) fits h = port_changed port (in_lan (Some lan)) (λ row _. record {
+    key = λ h. h;
     lan = λ l e. inr (subst (λ (l : List ℕ). has_lan l net ≡ true) (some_is lan l e) (port_pluggable net port lan h).1);
     cost = λ c e. inl e;
   })
-  effect_is_network (Unplug port) fits h = port_changed port (in_lan None) (λ row _. record { lan = λ l e. absurd (no_some l e); cost = λ c e. inl e })
-  effect_is_network (SetKey port key) fits h = port_changed port (with_key key) (λ row _. record { lan = λ l e. inl e; cost = λ c e. inl e })
-  effect_is_network (SetSystemPriority bridge priority) fits h = bridge_changed bridge (with_system_priority priority) (λ row _. record { mac = refl; name = λ h. h; limits = λ h. h })
-  effect_is_network (SetTreePriority bridge tree priority) fits h = priority_set (record { bridge = bridge; tree = tree }) priority fits (bridge_there net bridge None h).0
-  effect_is_network (SetTreePortPriority port tree priority) fits h = port_priority_set (record { port = port; tree = tree }) priority fits (port_there net port None h).0
-  effect_is_network (SetPortPathCost port cost) fits h = port_changed port (with_external cost) (λ row _. record { lan = λ l e. inl e; cost = λ c e. inr (fits c e) })
-  effect_is_network (SetTreePortCost port tree cost) fits h = port_cost_set (record { port = port; tree = tree }) cost fits (port_there net port None h).0
-  effect_is_network (SetConfiguration bridge revision name) fits h = bridge_changed bridge (with_configuration revision name) (λ row _. record { mac = refl; name = λ _. fits.1; limits = λ h. h })
+  effect_is_network (Unplug port) fits h = port_changed port (in_lan None) (λ row _. record { key = λ h. h; lan = λ l e. absurd (no_some l e); cost = λ c e. inl e })
+  effect_is_network (SetKey port key) fits h = port_changed port (with_key key) (λ row _. record { key = λ _. fits.values; lan = λ l e. inl e; cost = λ c e. inl e })
+  effect_is_network (SetSystemPriority bridge priority) fits h = bridge_changed bridge (with_system_priority priority) (λ row _. record { mac = refl; name = λ h. h; sixteen_bits = λ h. (fits.values, h.1); limits = λ h. h })
+  effect_is_network (SetTreePriority bridge tree priority) fits h = priority_set (record { bridge = bridge; tree = tree }) priority fits.values (bridge_there net bridge None h).0
+  effect_is_network (SetTreePortPriority port tree priority) fits h = port_priority_set (record { port = port; tree = tree }) priority fits.values (port_there net port None h).0
+  effect_is_network (SetPortPathCost port cost) fits h = port_changed port (with_external cost) (λ row _. record { key = λ h. h; lan = λ l e. inl e; cost = λ c e. inr (fits.values c e) })
+  effect_is_network (SetTreePortCost port tree cost) fits h = port_cost_set (record { port = port; tree = tree }) cost fits.values (port_there net port None h).0
+  effect_is_network (SetConfiguration bridge revision name) fits h = bridge_changed bridge (with_configuration revision name) (λ row _. record { mac = refl; name = λ _. fits.values.1; sixteen_bits = λ h. (h.0, fits.values.0); limits = λ h. h })
   effect_is_network (MapVids bridge tree vids) fits h =
       let ok = vids_mappable net bridge tree vids h in
-      let new = mapped_fits vids tree (table_of net bridge) fits.0 (table_fits (fin.get net.tables bridge) (λ t there. (is.tables bridge t there).1.1)) in
+      let new = mapped_fits vids tree (table_of net bridge) fits.values.0 (table_fits (fin.get net.tables bridge) (λ t there. (is.tables bridge t there).1.1)) in
       table_set bridge (mapped vids tree (table_of net bridge)) (new.0, new.1, ok.1) ok.0
-  effect_is_network (SetMaxHops bridge limit) fits h = bridge_changed bridge (with_max_hops limit) (λ row _. record { mac = refl; name = λ h. h; limits = λ h. (fits, h.1) })
-  effect_is_network (SetMaxAge bridge limit) fits h = bridge_changed bridge (with_max_age limit) (λ row _. record { mac = refl; name = λ h. h; limits = λ h. (h.0, fits) })
-  effect_is_network (SetPortVlans port vids) fits h = vlans_set port vids fits (port_there net port None h).0
+  effect_is_network (SetMaxHops bridge limit) fits h = bridge_changed bridge (with_max_hops limit) (λ row _. record { mac = refl; name = λ h. h; sixteen_bits = λ h. h; limits = λ h. (fits.values, h.1) })
+  effect_is_network (SetMaxAge bridge limit) fits h = bridge_changed bridge (with_max_age limit) (λ row _. record { mac = refl; name = λ h. h; sixteen_bits = λ h. h; limits = λ h. (h.0, fits.values) })
+  effect_is_network (SetPortVlans port vids) fits h = vlans_set port vids fits.values (port_there net port None h).0
 
 -- ---- edits that are accepted
 pub after_accepted : (edit : Edit) (net : Net) → refusal_of edit net ≡ None → after edit net ≡ Ok (effect edit net)

@@ -11,6 +11,7 @@ use Rattle.std.specs.FinMap as fin
 use Rattle.mst_ids.specs.Names.{name_cmp, port_cmp, coded_port}
 use Rattle.mst_ids.specs.Texts.{is_conf_name}
 use Rattle.mst_ids.specs.Vids.{set_where, is_vid, IsVidSet}
+use Rattle.mst_lang.specs.Ranges.{IsName}
 use Rattle.mst_net.specs.Table.{tree_count}
 use Rattle.mst_ids.specs.declared.name.PortName.{PortName}
 
@@ -114,22 +115,27 @@ IsOwnPriority n = (n ≤ 15) × (n ≢ 8)
 abbrev pub IsTable : List ℕ → Type 0
 IsTable table = (length table ≡ 4094) × AllByRecursion (λ tree. tree ≤ 4094) table × (tree_count table ≤ 64)
 
--- the MACs of bridges differ
+-- the MACs of bridges differ, names are in form, and system priorities and revisions have 16 bits
 pub record AreBridges (bridges : fin.FinMap name_cmp BridgeRow) : Type 0 where
+  pub named : (a : List ℕ) (x : BridgeRow) → fin.get bridges a ≡ Some x → IsName a
   pub macs_differ : (a b : List ℕ) (x y : BridgeRow) → fin.get bridges a ≡ Some x → fin.get bridges b ≡ Some y → x.mac ≡ y.mac → a ≡ b
   pub mac_fits : (a : List ℕ) (x : BridgeRow) → fin.get bridges a ≡ Some x → x.mac < 2 ^ 48
   pub names_fit : (a : List ℕ) (x : BridgeRow) → fin.get bridges a ≡ Some x → IsTrue (is_conf_name x.conf_name)
+  pub sixteen_bits : (a : List ℕ) (x : BridgeRow) → fin.get bridges a ≡ Some x → (x.system_priority < 2 ^ 16) × (x.revision < 2 ^ 16)
   pub limits_fit : (a : List ℕ) (x : BridgeRow) → fin.get bridges a ≡ Some x → IsLimit x.max_hops × IsLimit x.max_age
   pub few : fin.len bridges ≤ 1024
 
+-- the names of LANs are in form
 pub record AreLans (lans : fin.FinMap name_cmp LanRow) : Type 0 where
+  pub named : (l : List ℕ) (x : LanRow) → fin.get lans l ≡ Some x → IsName l
   pub speed_fits : (l : List ℕ) (x : LanRow) → fin.get lans l ≡ Some x → (1 ≤ x.speed) × (x.speed ≤ 9_999_999_999)
   pub few : fin.len lans ≤ 8192
 
--- each port's bridge and each plug's LAN is there
+-- each port's bridge and each plug's LAN is there, and keys have 16 bits
 pub record ArePorts (bridges : fin.FinMap name_cmp BridgeRow) (lans : fin.FinMap name_cmp LanRow) (ports : fin.FinMap port_cmp PortRow) : Type 0 where
   pub has_bridge : (p : PortName) (x : PortRow) → fin.get ports p ≡ Some x → IsTrue (fin.contains_key bridges p.bridge)
   pub number_fits : (p : PortName) (x : PortRow) → fin.get ports p ≡ Some x → (1 ≤ p.number) × (p.number ≤ 4095)
+  pub key_fits : (p : PortName) (x : PortRow) → fin.get ports p ≡ Some x → x.key < 2 ^ 16
   pub has_lan : (p : PortName) (x : PortRow) (lan : List ℕ) → fin.get ports p ≡ Some x → x.lan ≡ Some lan → IsTrue (fin.contains_key lans lan)
   pub cost_fits : (p : PortName) (x : PortRow) (cost : ℕ) → fin.get ports p ≡ Some x → x.external ≡ Some cost → IsPathCost cost
   pub few : fin.len ports ≤ 16384
