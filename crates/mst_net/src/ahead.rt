@@ -5,7 +5,7 @@ ghost use Rattle.mst_net.specs.Foreseen.{bridge_row_after, port_row_after, lan_r
 
 use crate::contents::{Bridge, Contents, Lan, Port};
 use crate::names::{with_name, without_name};
-use crate::network::{Network, Ready, kept_bridge, kept_lan, kept_port};
+use crate::network::{Network, kept_bridge, kept_lan, kept_port};
 use crate::records::Record;
 use crate::settings::{BridgeSettings, LanSettings, PortSettings};
 use crate::table::Table;
@@ -19,7 +19,7 @@ use std::marker::Model;
 #[derive(Drop)]
 pub struct Ahead<'a> {
     pub(crate) network: &'a Network,
-    pub(crate) ready: &'a Ready,
+    pub(crate) edit: &'a Edit,
 }
 
 impl<'a> Model for Ahead<'a> {
@@ -29,9 +29,9 @@ impl<'a> Model for Ahead<'a> {
 
     ghost coded = { tables_code };
 
-    ghost view = { λ a. ahead_of a.network.now a.ready.now.edit };
+    ghost view = { λ a. ahead_of a.network.now a.edit.now };
 
-    ghost invariant = { λ a. CanCommit a.ready.now.edit a.network.now };
+    ghost invariant = { λ a. CanCommit a.edit.now a.network.now };
 }
 
 impl Contents for Ahead<'_> {
@@ -48,7 +48,7 @@ impl Contents for Ahead<'_> {
 
     fn bridge(&self, name: &Name) -> Option<Bridge> {
         kept_bridge(bridge_after(
-            &self.ready.edit,
+            self.edit,
             self.network.next_bridge(),
             name,
             self.network.bridge_record(name),
@@ -57,7 +57,7 @@ impl Contents for Ahead<'_> {
 
     fn port(&self, name: &PortName) -> Option<Port> {
         kept_port(port_after(
-            &self.ready.edit,
+            self.edit,
             self.network.next_port(),
             name,
             self.network.port_record(name),
@@ -66,7 +66,7 @@ impl Contents for Ahead<'_> {
 
     fn lan(&self, name: &Name) -> Option<Lan> {
         kept_lan(lan_after(
-            &self.ready.edit,
+            self.edit,
             self.network.next_lan(),
             name,
             self.network.lan_record(name),
@@ -76,7 +76,7 @@ impl Contents for Ahead<'_> {
     fn bridge_name(&self, number: BridgeNo) -> Option<Name> {
         self.network.known();
         bridge_name_ahead(
-            &self.ready.edit,
+            self.edit,
             BridgeNo(self.network.next_bridge()),
             number,
             self.network.bridge_name(number),
@@ -86,7 +86,7 @@ impl Contents for Ahead<'_> {
     fn port_name(&self, number: PortNo) -> Option<PortName> {
         self.network.known();
         port_name_ahead(
-            &self.ready.edit,
+            self.edit,
             PortNo(self.network.next_port()),
             number,
             self.network.port_name(number),
@@ -96,7 +96,7 @@ impl Contents for Ahead<'_> {
     fn lan_name(&self, number: LanNo) -> Option<Name> {
         self.network.known();
         lan_name_ahead(
-            &self.ready.edit,
+            self.edit,
             LanNo(self.network.next_lan()),
             number,
             self.network.lan_name(number),
@@ -105,7 +105,7 @@ impl Contents for Ahead<'_> {
 
     fn bridge_names(&self, alloc: Global) -> Result<Vec<Name>, AllocError> {
         let names = self.network.bridge_names(alloc)?;
-        match self.ready.edit {
+        match *self.edit {
             Edit::AddBridge { bridge, .. } => with_name(names, bridge),
             Edit::DelBridge { bridge } => Ok(without_name(names, bridge)),
             _ => Ok(names),
@@ -114,7 +114,7 @@ impl Contents for Ahead<'_> {
 
     fn port_names(&self, alloc: Global) -> Result<Vec<PortName>, AllocError> {
         let names = self.network.port_names(alloc)?;
-        match self.ready.edit {
+        match *self.edit {
             Edit::AddPort { port } => with_name(names, port),
             Edit::DelPort { port } => Ok(without_name(names, port)),
             _ => Ok(names),
@@ -123,7 +123,7 @@ impl Contents for Ahead<'_> {
 
     fn lan_names(&self, alloc: Global) -> Result<Vec<Name>, AllocError> {
         let names = self.network.lan_names(alloc)?;
-        match self.ready.edit {
+        match *self.edit {
             Edit::AddLan { lan } => with_name(names, lan),
             Edit::DelLan { lan } => Ok(without_name(names, lan)),
             _ => Ok(names),
@@ -132,7 +132,7 @@ impl Contents for Ahead<'_> {
 
     fn tree_priority(&self, bridge: &Name, tree: Tree) -> Priority {
         tree_priority_ahead(
-            &self.ready.edit,
+            self.edit,
             bridge,
             tree,
             self.network.tree_priority(bridge, tree),
@@ -141,7 +141,7 @@ impl Contents for Ahead<'_> {
 
     fn port_priority(&self, port: &PortName, tree: Tree) -> Priority {
         port_priority_ahead(
-            &self.ready.edit,
+            self.edit,
             port,
             tree,
             self.network.port_priority(port, tree),
@@ -149,27 +149,22 @@ impl Contents for Ahead<'_> {
     }
 
     fn port_cost(&self, port: &PortName, tree: Tree) -> Option<Cost> {
-        port_cost_ahead(
-            &self.ready.edit,
-            port,
-            tree,
-            self.network.port_cost(port, tree),
-        )
+        port_cost_ahead(self.edit, port, tree, self.network.port_cost(port, tree))
     }
 
     fn table(&self, bridge: &Name) -> Table {
-        table_ahead(&self.ready.edit, bridge, self.network.table(bridge))
+        table_ahead(self.edit, bridge, self.network.table(bridge))
     }
 
     fn port_vlans(&self, port: &PortName) -> VidSet {
-        port_vlans_ahead(&self.ready.edit, port, self.network.port_vlans(port))
+        port_vlans_ahead(self.edit, port, self.network.port_vlans(port))
     }
 
     fn settings(&self) -> Result<TreeSettings, AllocError> {
         self.network.known();
         let mut settings = self.network.settings()?;
-        settings.reserve(&self.ready.edit)?;
-        settings.make(&self.ready.edit);
+        settings.reserve(self.edit)?;
+        settings.make(self.edit);
         Ok(settings)
     }
 }

@@ -1,4 +1,4 @@
-ghost use Rattle.std.specs.Prelude.{◌≡◌, ◌≢◌, ◌<◌, List, ℕ, Some, Ok, Err, IfOk, IfErr, OnOk, IsOk};
+ghost use Rattle.std.specs.Prelude.{◌≡◌, ◌≢◌, ◌<◌, List, ℕ, Some, Ok, Err, IfOk, IfErr, OnOk, OnErr, IsOk};
 ghost use Rattle.std.specs.FinMap as fin;
 ghost use Rattle.std.specs.Option.{option_map};
 ghost use Rattle.mst_ids.specs.declared.name.PortName.{PortName};
@@ -66,7 +66,24 @@ impl Model for Network {
 /// An edit that can be made with no memory. One that is let go leaves the network as it is.
 #[derive(Drop)]
 pub struct Ready {
-    pub(crate) edit: Edit,
+    edit: Edit,
+}
+
+impl Model for Ready {
+    ghost use Rattle.mst_lang.specs.declared.line.Edit.{Edit};
+
+    ghost Value = { Edit };
+
+    ghost view = { λ a. a.edit };
+}
+
+impl Ready {
+    /// The edit.
+    pub(crate) fn edit(&self) -> &Edit
+        ensures { result.now ≡ self.now }
+    {
+        &self.edit
+    }
 }
 
 impl Network {
@@ -112,12 +129,12 @@ impl Network {
 
     /// The contents as they will be once the edit is made.
     pub fn ahead<'a>(&'a self, ready: &'a Ready) -> Ahead<'a>
-        requires { CanCommit ready.now.edit self.now }
-        ensures { result ≡ ahead_of self.now ready.now.edit }
+        requires { CanCommit ready.now self.now }
+        ensures { result ≡ ahead_of self.now ready.now }
     {
         Ahead {
             network: self,
-            ready,
+            edit: ready.edit(),
         }
     }
 
@@ -126,9 +143,10 @@ impl Network {
     /// The refusal is the least that applies, and E99 where none does and memory was refused.
     pub fn prepare(&mut self, edit: &Edit) -> Result<Ready, Refusal>
         ensures same { SameContents self.old self.new }
-        ensures ready { IfOk result (λ ready. (ready.edit ≡ edit.now) × CanCommit edit.now self.new) }
+        ensures ready { IfOk result (λ ready. (ready ≡ edit.now) × CanCommit edit.now self.new) }
         ensures refused { IfErr result (λ refusal. refusal ≢ Refusal.E99 → after edit.now self.old.net ≡ Err refusal) }
         ensures memory { result ≡ Err Refusal.E99 → IsOk (after edit.now self.old.net) }
+        ensures no_room { result ≡ Err Refusal.E99 → room_for edit.now self.old.room ≡ 0 }
     {
         laws::values_in_range(edit);
         self.check(edit)?;
@@ -138,8 +156,8 @@ impl Network {
 
     /// Makes the edit. Each record that stays keeps its number. It takes no memory.
     pub fn commit(&mut self, ready: Ready)
-        requires { CanCommit ready.edit self.old }
-        ensures { Commits ready.edit self.old self.new }
+        requires { CanCommit ready self.old }
+        ensures { Commits ready self.old self.new }
     {
         let Ready { edit } = ready;
         self.make(&edit);
@@ -147,7 +165,7 @@ impl Network {
 
     /// Gives up an edit, and leaves the network as it is.
     pub fn abandon(&mut self, ready: Ready)
-        requires { CanCommit ready.edit self.old }
+        requires { CanCommit ready self.old }
         ensures { SameContents self.old self.new }
     {
         let Ready { edit: _ } = ready;
@@ -156,6 +174,7 @@ impl Network {
     fn make_room(&mut self, edit: &Edit) -> Result<(), AllocError>
         ensures same { SameContents self.old self.new }
         ensures room { OnOk result (0 < room_for edit.now self.new.room) }
+        ensures no_room { OnErr result (room_for edit.now self.old.room ≡ 0) }
     {
         match edit {
             Edit::AddBridge { .. } => self.make_room_for_bridge(),
@@ -169,6 +188,7 @@ impl Network {
     fn make_room_for_bridge(&mut self) -> Result<(), AllocError>
         ensures same { SameContents self.old self.new }
         ensures room { OnOk result (0 < self.new.room.bridge) }
+        ensures no_room { OnErr result (self.old.room.bridge ≡ 0) }
     {
         self.macs.reserve(1)?;
         self.bridges.reserve()
@@ -177,6 +197,7 @@ impl Network {
     fn make_room_for_port(&mut self) -> Result<(), AllocError>
         ensures same { SameContents self.old self.new }
         ensures room { OnOk result (0 < self.new.room.port) }
+        ensures no_room { OnErr result (self.old.room.port ≡ 0) }
     {
         self.port_counts.reserve()?;
         self.ports.reserve()

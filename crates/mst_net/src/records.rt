@@ -1,4 +1,4 @@
-ghost use Rattle.std.specs.Prelude.{◌≡◌, ℕ, ◌<◌, List, [], length, cond, Some, None, is_some, IsSome, OnOk, IfOk};
+ghost use Rattle.std.specs.Prelude.{◌≡◌, ℕ, ◌<◌, List, [], length, cond, Some, None, is_some, IsSome, OnOk, OnErr, IfOk};
 ghost use Rattle.std.specs.Option.{option_map, ForSome};
 ghost use Rattle.std.specs.List.{IsDistinct};
 ghost use Rattle.std.specs.Map.{lookup, keys_of};
@@ -120,6 +120,7 @@ impl<K: Copy + Eq + Hash, R: Copy> Records<K, R> {
         ensures numbers { self.new.numbers ≡ self.old.numbers }
         ensures next { self.new.next ≡ self.old.next }
         ensures room { OnOk result (0 < self.new.room) }
+        ensures no_room { OnErr result (self.old.room ≡ 0) }
     {
         self.records.reserve(1)?;
         self.keys.reserve(1)

@@ -1,4 +1,4 @@
-ghost use Rattle.std.specs.Prelude.{◌≡◌, ℕ, ◌+◌, ◌-◌, ◌^◌, ◌<◌, ◌≤◌, [], cond, nat_lt, OnOk};
+ghost use Rattle.std.specs.Prelude.{◌≡◌, ℕ, ◌+◌, ◌-◌, ◌^◌, ◌<◌, ◌≤◌, [], cond, nat_lt, OnOk, OnErr};
 ghost use Rattle.mst_net.specs.Tally.{count_in};
 
 use indexmap::IndexMap;
@@ -60,6 +60,7 @@ impl<K: Copy + Eq + Hash> Tally<K> {
     pub(crate) fn reserve(&mut self) -> Result<(), AllocError>
         ensures counts { self.new.counts ≡ self.old.counts }
         ensures room { OnOk result (0 < self.new.room) }
+        ensures no_room { OnErr result (self.old.room ≡ 0) }
     {
         self.counts.reserve(1)
     }

@@ -1,4 +1,4 @@
-ghost use Rattle.std.specs.Prelude.{◌≡◌, ◌<◌, OnOk, IfOk};
+ghost use Rattle.std.specs.Prelude.{◌≡◌, ◌<◌, OnOk, OnErr, IfOk};
 ghost use Rattle.mst_lang.specs.declared.line.Edit.TheVariants.{DelBridge, DelPort, SetTreePriority, SetTreePortPriority, SetTreePortCost, MapVids, SetPortVlans};
 ghost use Rattle.mst_net.specs.After.{own_priority as own, own_table as kept_table, own_vlans as kept_vlans};
 ghost use Rattle.mst_net.specs.ByTree.{AreInTrees, nothing_set, priority_in, port_priority_in, port_cost_in, table_in, vlans_in};
@@ -148,6 +148,7 @@ impl TreeSettings {
     pub(crate) fn reserve(&mut self, edit: &Edit) -> Result<(), AllocError>
         ensures same { self.new.set ≡ self.old.set }
         ensures room { OnOk result (0 < room_to_set edit.now self.new.room) }
+        ensures no_room { OnErr result (room_to_set edit.now self.old.room ≡ 0) }
     {
         match edit {
             Edit::SetTreePriority { .. } => self.priorities.reserve(1),

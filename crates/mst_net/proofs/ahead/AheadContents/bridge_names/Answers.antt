@@ -29,4 +29,4 @@ returns-in-DelBridge c =
 pub returns-in_default : goal.returns-in_default
 returns-in_default c =
     let old = c.self.inside.network.now in
-    c.in_ok-names.ensures ∙ bridge_names_stay c.self.inside.ready.now.edit old.net c.in_default.not-AddBridge c.in_default.not-DelBridge ∙ ap (λ t. fin.keys t.net.bridges) c.self.view_is
+    c.in_ok-names.ensures ∙ bridge_names_stay c.self.inside.edit.now old.net c.in_default.not-AddBridge c.in_default.not-DelBridge ∙ ap (λ t. fin.keys t.net.bridges) c.self.view_is

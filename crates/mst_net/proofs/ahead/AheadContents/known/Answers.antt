@@ -9,7 +9,7 @@ pub returns-clause-network : goal.returns-clause-network
 returns-clause-network c =
     let old = c.self.inside.network.now in
     let can = c.self.invariant in
-    subst (λ t. IsNetwork t.net) c.self.view_is (effect_is_network old.net c.known.ensures.network c.self.inside.ready.now.edit can.in_range can.accepted)
+    subst (λ t. IsNetwork t.net) c.self.view_is (effect_is_network old.net c.known.ensures.network c.self.inside.edit.now can.in_range can.accepted)
 
 pub returns-clause-numbered : goal.returns-clause-numbered
 returns-clause-numbered c =
@@ -18,4 +18,4 @@ returns-clause-numbered c =
       bridge = λ q at. c.next_bridge.ensures.fresh q (at ∙ ap Some (sym c.next_bridge.ensures.next));
       port = λ q at. c.next_port.ensures.fresh q (at ∙ ap Some (sym c.next_port.ensures.next));
       lan = λ q at. c.next_lan.ensures.fresh q (at ∙ ap Some (sym c.next_lan.ensures.next));
-    }) c.self.inside.ready.now.edit)
+    }) c.self.inside.edit.now)

@@ -8,7 +8,7 @@ use Rattle.mst_net.proofs.ahead.AheadContents.port.Goals as goal
 pub returns-clause-row : goal.returns-clause-row
 returns-clause-row c =
     let old = c.self.inside.network.now in
-    let edit = c.self.inside.ready.now.edit in
+    let edit = c.self.inside.edit.now in
     let name = c.args.name.now in
     c.kept_port.ensures.row ∙ c.port_after.ensures.row ∙ ap (port_row_after edit name) c.port_record.ensures.row
     ∙ sym (foreseen_port edit old.net name) ∙ ap (λ t. fin.get t.net.ports name) c.self.view_is
@@ -16,7 +16,7 @@ returns-clause-row c =
 pub returns-clause-number : goal.returns-clause-number
 returns-clause-number c =
     let old = c.self.inside.network.now in
-    let edit = c.self.inside.ready.now.edit in
+    let edit = c.self.inside.edit.now in
     let name = c.args.name.now in
     c.kept_port.ensures.number ∙ c.port_after.ensures.number ∙ ap (λ (n : ℕ). port_number_after edit n name (option_map (λ r. r.number) c.port_record.result)) c.next_port.ensures.next
     ∙ ap (port_number_after edit old.next.port name) c.port_record.ensures.number

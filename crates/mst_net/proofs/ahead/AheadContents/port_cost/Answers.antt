@@ -7,6 +7,6 @@ use Rattle.mst_net.proofs.ahead.AheadContents.port_cost.Goals as goal
 pub returns : goal.returns
 returns c =
     let old = c.self.inside.network.now in
-    let edit = c.self.inside.ready.now.edit in
+    let edit = c.self.inside.edit.now in
     c.port_cost_ahead.ensures ∙ ap (port_cost_after edit c.args.port.now c.args.tree) c.port_cost.ensures
     ∙ sym (foreseen_port_cost edit old.net c.args.port.now c.args.tree) ∙ ap (λ t. port_cost_of t.net c.args.port.now c.args.tree) c.self.view_is

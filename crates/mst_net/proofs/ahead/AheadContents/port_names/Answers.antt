@@ -30,4 +30,4 @@ returns-in-DelPort c =
 pub returns-in_default : goal.returns-in_default
 returns-in_default c =
     let old = c.self.inside.network.now in
-    c.in_ok-names.ensures ∙ port_names_stay c.self.inside.ready.now.edit old.net c.in_default.not-AddPort c.in_default.not-DelPort ∙ ap (λ t. fin.keys t.net.ports) c.self.view_is
+    c.in_ok-names.ensures ∙ port_names_stay c.self.inside.edit.now old.net c.in_default.not-AddPort c.in_default.not-DelPort ∙ ap (λ t. fin.keys t.net.ports) c.self.view_is

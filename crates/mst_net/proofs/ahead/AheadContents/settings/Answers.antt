@@ -9,5 +9,5 @@ make-requires-clause-trees c = subst AreInTrees (sym (c.reserve.ensures.same ∙
 
 pub returns : goal.returns
 returns c =
-    let edit = c.self.inside.ready.now.edit in
+    let edit = c.self.inside.edit.now in
     c.make.ensures ∙ ap (set_after edit) (c.reserve.ensures.same ∙ c.in_ok-settings.ensures) ∙ set_in_network edit c.self.inside.network.now.net ∙ ap (λ t. by_tree t.net) c.self.view_is
