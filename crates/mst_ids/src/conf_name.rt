@@ -1,17 +1,19 @@
-ghost use Rattle.std.specs.Prelude.{◌≡◌, ℕ, ◌-◌, ◌<◌, ◌≤◌, List, ◌++◌, length, replicate, IsTrue, OnOk, OnErr, nat_eq};
+ghost use Rattle.std.specs.Prelude.{◌≡◌, ℕ, ◌-◌, ◌<◌, ◌≤◌, List, ◌++◌, length, replicate, IsTrue, Some, OnOk, OnErr, nat_eq, refl};
 ghost use Rattle.std.specs.Result.{OkIff};
 ghost use Rattle.std.specs.List.{list_all};
 ghost use Rattle.std.specs.Cmp.{partial_equiv_from_equiv};
-ghost use Rattle.std.specs.Cmp.Lexicographic.{pointwise, nat_list_eq_equiv};
+ghost use Rattle.std.specs.Cmp.Lexicographic.{pointwise, nat_list_eq_equiv, slice_cmp, nat_list_cmp_total, texts_po, texts_ties};
+ghost use Rattle.std.specs.Ordering.{nat_cmp};
 ghost use Rattle.mst_ids.specs.Texts.{is_conf_name as conf_name_text, is_conf_name_byte as conf_name_byte, mac_text};
 
 use crate::mac::{Mac, digits_of};
 use crate::text::{BadText, padded, push_bytes};
 use std::alloc::AllocError;
+use std::cmp::Ordering;
 use std::marker::Model;
 
 /// The name of an MST configuration (802.1Q-2022, 13.8): 1 to 32 bytes, each of 21 to 7E
-/// hexadecimal.
+/// hexadecimal. Names are ordered by their bytes.
 #[derive(Clone, Copy)]
 pub struct ConfName {
     bytes: [u8; 32],
@@ -95,6 +97,30 @@ impl PartialEq for ConfName {
 
 impl Eq for ConfName {
     ghost laws = { nat_list_eq_equiv };
+}
+
+impl PartialOrd for ConfName {
+    ghost partial_cmp = { λ a b. Some (slice_cmp nat_cmp a b) };
+
+    ghost laws = { texts_po };
+
+    fn partial_cmp(&self, other: &Self) -> Option<Ordering> {
+        Some(self.cmp(other))
+    }
+}
+
+impl Ord for ConfName {
+    ghost cmp = { slice_cmp nat_cmp };
+
+    ghost total = { nat_list_cmp_total };
+
+    ghost matches_partial_cmp = { λ a b. refl };
+
+    ghost matches_eq = { texts_ties };
+
+    fn cmp(&self, other: &Self) -> Ordering {
+        self.as_bytes().cmp(other.as_bytes())
+    }
 }
 
 fn is_conf_name(text: &[u8]) -> bool

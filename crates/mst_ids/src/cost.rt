@@ -9,8 +9,8 @@ use std::marker::Model;
 /// The greatest path cost of a port (802.1Q-2022, 13.27.25 and table 13-4).
 const GREATEST: u64 = 200_000_000;
 
-/// A port's path cost, 1 to 200,000,000.
-#[derive(Clone, Copy, PartialEq, Eq)]
+/// A port's path cost, 1 to 200,000,000. Costs are ordered by their values.
+#[derive(Clone, Copy, PartialEq, Eq, PartialOrd, Ord)]
 pub struct Cost {
     value: u32,
 }

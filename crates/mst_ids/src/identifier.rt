@@ -1,5 +1,6 @@
-ghost use Rattle.std.specs.Prelude.{◌≡◌, ℕ, ◌+◌, ◌*◌, ◌^◌, ◌<◌, ◌++◌, OnOk, OnErr};
-ghost use Rattle.mst_ids.specs.Identifiers.{bridge_id, port_id};
+ghost use Rattle.std.specs.Prelude.{◌≡◌, ℕ, ◌+◌, ◌*◌, ◌/◌, ◌%◌, ◌^◌, ◌<◌, ◌≤◌, ◌++◌, OnOk, OnErr};
+ghost use Rattle.std.specs.Option.{SomeIff};
+ghost use Rattle.mst_ids.specs.Identifiers.{bridge_id, port_id, priority_of, system_id_of, mac_of, port_priority_of, port_number_of};
 ghost use Rattle.mst_ids.specs.Texts.{bridge_id_text, port_id_text};
 
 use crate::mac::{Mac, digits_of as mac_digits_of};
@@ -34,6 +35,44 @@ impl BridgeId {
         BridgeId {
             number: first * 0x1_0000_0000_0000 + mac.number(),
         }
+    }
+
+    /// The identifier of this number. Each number of 64 bits is one: a received identifier may have any.
+    pub fn from_number(number: u64) -> BridgeId
+        ensures { result ≡ number }
+    {
+        BridgeId { number }
+    }
+
+    /// The identifier that stands for a region: priority 0, system ID extension 0 and the MAC address of
+    /// one of its bridges.
+    pub fn of_region(mac: Mac) -> BridgeId
+        ensures { result ≡ bridge_id 0 0 mac }
+    {
+        BridgeId {
+            number: mac.number(),
+        }
+    }
+
+    /// The priority, 0 to 15.
+    pub fn priority(self) -> Priority
+        ensures { result ≡ priority_of self }
+    {
+        Priority::of_top_bits((self.number / 0x1000_0000_0000_0000) as u8)
+    }
+
+    /// The system ID extension of 12 bits: the number of a tree, or 4095, which no tree has.
+    pub fn system_id(self) -> u16
+        ensures { result ≡ system_id_of self }
+    {
+        (self.number / 0x1_0000_0000_0000 % 4096) as u16
+    }
+
+    /// The MAC address.
+    pub fn mac(self) -> Mac
+        ensures { result ≡ mac_of self }
+    {
+        Mac::from_number(self.number % 0x1_0000_0000_0000)
     }
 
     /// The identifier as a number of 64 bits.
@@ -98,6 +137,27 @@ impl PortId {
         PortId {
             number: u16::from(priority.step()) * 4096 + port.value(),
         }
+    }
+
+    /// The identifier of this number. Each number of 16 bits is one: a received identifier may have any.
+    pub fn from_number(number: u16) -> PortId
+        ensures { result ≡ number }
+    {
+        PortId { number }
+    }
+
+    /// The priority, 0 to 15.
+    pub fn priority(self) -> Priority
+        ensures { result ≡ port_priority_of self }
+    {
+        Priority::of_top_bits((self.number / 4096) as u8)
+    }
+
+    /// The port number, or nothing for 0, which no port has.
+    pub fn port(self) -> Option<PortNumber>
+        ensures { SomeIff result (1 ≤ port_number_of self) (port_number_of self) }
+    {
+        PortNumber::new(u64::from(self.number % 4096))
     }
 
     /// The number 0, which stands in a vector where no port does.

@@ -22,6 +22,3 @@ pub use record::{BridgeNo, LanNo, PortNo};
 pub use text::{BadText, push_bytes, push_decimal, push_hex_four};
 pub use vid_list::parse_vids;
 pub use vid_set::VidSet;
-
-#[cfg(test)]
-mod tests;

@@ -1,5 +1,6 @@
 ghost use Rattle.std.specs.Prelude.{◌≡◌, ℕ, ◌+◌, ◌-◌, ◌*◌, ◌^◌, ◌<◌, ◌≤◌, List, [], ◌∷◌, ◌++◌, length, slice_index, OnOk, OnErr, IfSome};
 ghost use Rattle.std.specs.List.{list_all};
+ghost use Rattle.std.specs.Option.{SomeIff};
 ghost use Rattle.std.specs.Result.{result_ok};
 ghost use Rattle.mst_ids.specs.Texts.{hex_value as value_of_digit, octet_at, is_separator as is_separator_byte, mac_value, mac_text};
 
@@ -7,8 +8,8 @@ use crate::text::{BadText, hex_pair, push_bytes};
 use std::alloc::AllocError;
 use std::marker::Model;
 
-/// A MAC address, as a number of 48 bits.
-#[derive(Clone, Copy, PartialEq, Eq, Hash)]
+/// A MAC address, as a number of 48 bits. Addresses are ordered by their numbers.
+#[derive(Clone, Copy, PartialEq, Eq, PartialOrd, Ord, Hash)]
 pub struct Mac {
     number: u64,
 }
@@ -26,6 +27,24 @@ impl Model for Mac {
 }
 
 impl Mac {
+    /// The address of this number, or nothing from 2^48 on.
+    pub fn new(number: u64) -> Option<Mac>
+        ensures { SomeIff result (number < 2 ^ 48) number }
+    {
+        if number >= 0x1_0000_0000_0000 {
+            return None;
+        }
+        Some(Mac { number })
+    }
+
+    /// The address of this number of 48 bits.
+    pub(crate) fn from_number(number: u64) -> Mac
+        requires { number < 2 ^ 48 }
+        ensures { result ≡ number }
+    {
+        Mac { number }
+    }
+
     /// The number of 48 bits.
     pub fn number(self) -> u64
         ensures value { result ≡ self }

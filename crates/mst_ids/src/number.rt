@@ -46,6 +46,14 @@ impl Priority {
         Some(Priority { step: step as u8 })
     }
 
+    /// The priority of the top 4 bits of an identifier.
+    pub(crate) fn of_top_bits(step: u8) -> Priority
+        requires { step ≤ 15 }
+        ensures { result ≡ step }
+    {
+        Priority { step }
+    }
+
     /// The steps, 0 to 15.
     pub fn step(self) -> u8
         ensures value { result ≡ self }

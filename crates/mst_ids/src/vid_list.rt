@@ -19,7 +19,7 @@ pub fn parse_vids(text: &[u8]) -> Result<VidSet, BadText>
         let Some((first, last)) = range(item) else {
             return Err(BadText);
         };
-        vids.insert(first, last);
+        vids.insert_all(first, last);
     }
     Ok(vids)
 }

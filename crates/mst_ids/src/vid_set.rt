@@ -5,6 +5,7 @@ ghost use Rattle.std.specs.Cmp.Lexicographic.{pointwise, lists_equiv};
 ghost use Rattle.mst_ids.specs.Vids.{is_vid, set_where, has, IsVidSet, is_within, runs_from, run_text, vids_text};
 ghost use Rattle.mst_ids.specs.VidBits.{bit_of};
 
+use crate::number::Vid;
 use crate::text::{push_bytes, push_decimal};
 use std::alloc::AllocError;
 use std::marker::Model;
@@ -47,7 +48,7 @@ impl VidSet {
         ensures { result ≡ set_where is_vid }
     {
         let mut vids = VidSet::none();
-        vids.insert(1, 4094);
+        vids.insert_all(1, 4094);
         vids
     }
 
@@ -131,8 +132,15 @@ impl VidSet {
         4096
     }
 
+    /// Adds a VID.
+    pub fn insert(&mut self, vid: Vid)
+        ensures { self.new ≡ set_where (λ n. has self.old n || is_within (vid, vid) n) }
+    {
+        self.insert_all(vid.value(), vid.value());
+    }
+
     /// Adds the VIDs from the first to the last.
-    pub(crate) fn insert(&mut self, first: u16, last: u16)
+    pub(crate) fn insert_all(&mut self, first: u16, last: u16)
         requires least { 1 ≤ first }
         requires order { first ≤ last }
         requires greatest { last ≤ 4094 }

@@ -22,8 +22,8 @@ loop-item-preserved c =
     let turn = YieldsList-turn (YieldsList-from_slice_split _ (λ b. b == 44) c.args.text.now (cc) (cc) (cc) (λ x b q k. search (rules, tests))) c.loop-item.yielded _ c.loop-item.yielded_by _ _ c.in-Some.item c.in-Some.is c.next.ensures.steps in
     let named : range_of c.in-Some.item.now ≡ Some (c.in-Some-range.first, c.in-Some-range.last) = sym c.range.ensures.value ∙ c.in-Some-range.is in
     record {
-      kept = kept_from _ _ c.insert.ensures;
-      whole = good_item c.loop-item.vids _ c.args.text.now c.in-Some.item.now (c.in-Some-range.first, c.in-Some-range.last) (length c.loop-item.yielded) _ (length_push c.loop-item.yielded c.in-Some.item) turn named c.insert.ensures c.loop-item.invariant.whole;
+      kept = kept_from _ _ c.insert_all.ensures;
+      whole = good_item c.loop-item.vids _ c.args.text.now c.in-Some.item.now (c.in-Some-range.first, c.in-Some-range.last) (length c.loop-item.yielded) _ (length_push c.loop-item.yielded c.in-Some.item) turn named c.insert_all.ensures c.loop-item.invariant.whole;
     }
 
 pub returns : goal.returns

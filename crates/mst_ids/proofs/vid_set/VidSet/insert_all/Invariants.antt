@@ -1,6 +1,6 @@
 use Rattle.std.proofs.Common.{◌≡◌, ℕ, ◌^◌, ◌<◌, length, get_or}
 use Rattle.mst_ids.proofs.VidSetLemmas.{HasAlso}
-use Rattle.mst_ids.proofs.vid_set.VidSet.insert.Given as goal
+use Rattle.mst_ids.proofs.vid_set.VidSet.insert_all.Given as goal
 
 -- the words keep their form, and the bits from the first on and below the next are set too
 abbrev pub invariant-loop-vid : goal.invariant-loop-vid

@@ -1,6 +1,6 @@
 use Rattle.std.proofs.Common.{◌≡◌, ◌+◌, subst, arith}
 use Rattle.mst_ids.proofs.VidSetLemmas.{HasAlso, HasAlso-more, IsKeptSet-also, set_of_also}
-use Rattle.mst_ids.proofs.vid_set.VidSet.insert.Goals as goal
+use Rattle.mst_ids.proofs.vid_set.VidSet.insert_all.Goals as goal
 
 pub invariant_of-self : goal.invariant_of-self
 invariant_of-self c =
