@@ -13,6 +13,3 @@ mod words;
 
 pub use line::{Edit, Fault, Kind, LanState, Line, Power, Query};
 pub use read::parse_line;
-
-#[cfg(test)]
-mod tests;
