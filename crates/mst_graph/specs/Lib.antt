@@ -1,0 +1,12 @@
+pub mod Adding
+pub mod TreesInParts
+pub mod Groups
+pub mod Islands
+pub mod Joined
+pub mod Labelling
+pub mod Labels
+pub mod Numbers
+pub mod Order
+pub mod Renaming
+pub mod Split
+pub mod Walks

@@ -1,0 +1,24 @@
+//! Graphs: the islands of bridges and LANs that links join, groups of the things that have equal keys, and
+//! when trees in parts join a graph and make no loop.
+#![tactic(auto)]
+
+mod bodies;
+mod grouping;
+mod island;
+mod joining;
+mod keys;
+mod labelling;
+mod labels;
+pub mod laws;
+mod node;
+mod places;
+
+pub use bodies::groups_by_body;
+pub use grouping::groups;
+pub use island::Island;
+pub use joining::islands;
+pub use keys::{Numbering, numbered};
+pub use node::Link;
+
+#[cfg(test)]
+mod tests;
