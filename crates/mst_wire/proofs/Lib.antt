@@ -1,0 +1,5 @@
+pub mod FrontLemmas
+pub mod MessageLemmas
+pub mod CompareLemmas
+pub mod TrimLemmas
+pub mod ReadingLemmas
