@@ -2,14 +2,19 @@
 //! best vector that it can take, and each LAN the designated port that says the best.
 #![tactic(auto)]
 
+mod best;
 mod heard;
 pub mod laws;
+mod link;
+mod looking;
+mod queue;
+mod repairing;
+mod room;
 mod settler;
 mod settling;
+mod slots;
 mod topology;
+mod touched;
 
 pub use settler::Settler;
 pub use topology::{Plug, Topology};
-
-#[cfg(test)]
-mod tests;
