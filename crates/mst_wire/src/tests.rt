@@ -30,24 +30,24 @@ fn bridge(tree: u64, last: u64) -> BridgeId {
     BridgeId::from_number(0x8000_0200_0000_0000 | tree << 48 | last)
 }
 
-/// What the plan of the example has for the port.
-fn planned(alloc: Global, trees: &[Tree]) -> Result<Planned, AllocError> {
-    let cist = PlannedCist {
-        role: RoleCode::Designated,
-        forwards: true,
-        root: bridge(0, 1),
-        external_cost: 0,
-        regional_root: bridge(0, 1),
-        internal_cost: 20_000,
-        bridge: bridge(0, 2),
-        port: PortId::from_number(0x8002),
-    };
+/// The configuration of the example: the name area, revision 1 and the digest of a table that maps all to the CIST.
+fn configuration() -> ConfigurationId {
     let mut name = [0; 32];
     name[..4].copy_from_slice(b"area");
     let digest = [
         0xac, 0x36, 0x17, 0x7f, 0x50, 0x28, 0x3c, 0xd4, 0xb8, 0x38, 0x21, 0xd8, 0xab, 0x26, 0xde,
         0x62,
     ];
+    ConfigurationId {
+        selector: 0,
+        name,
+        revision: 1,
+        digest,
+    }
+}
+
+/// What the plan of the example has for the port.
+fn planned(alloc: Global, trees: &[Tree]) -> Result<Planned, AllocError> {
     let mut mstis = PlannedMstis::new(alloc);
     for tree in trees {
         mstis.push(PlannedMsti {
@@ -60,15 +60,19 @@ fn planned(alloc: Global, trees: &[Tree]) -> Result<Planned, AllocError> {
             port_priority: Priority::standard(),
         })?;
     }
-    let configuration = ConfigurationId {
-        selector: 0,
-        name,
-        revision: 1,
-        digest,
+    let cist = PlannedCist {
+        role: RoleCode::Designated,
+        forwards: true,
+        root: bridge(0, 1),
+        external_cost: 0,
+        regional_root: bridge(0, 1),
+        internal_cost: 20_000,
+        bridge: bridge(0, 2),
+        port: PortId::from_number(0x8002),
     };
     Ok(Planned {
         cist,
-        configuration,
+        configuration: configuration(),
         mstis,
     })
 }
@@ -90,48 +94,52 @@ fn printed(alloc: Global, plan: &Planned, line: &[u8]) -> Result<Vec<u8>, Fail> 
     Ok(out)
 }
 
+/// A message of tree 1 behind the remaining hops.
+const UNPLANNED: &str = "13 7c 8001020000000001 00004e20 80 80 13";
+
+/// Parts of captures, and what is printed of each.
+const EXAMPLES: [([&str; 4], &str); 11] = [
+    (["0000 03", "00 0040", "00004e20", "13"], "B:2 agrees"),
+    (["0000 03", "00 0040", "00004e20", ""], "B02 too short"),
+    (
+        ["0000 03", "00 0041", "00004e20", "13"],
+        "B06 version 3 length",
+    ),
+    (
+        ["0000 03", "00 0050", "00004e20", "13"],
+        "B06 version 3 length",
+    ),
+    (["0000 03", "00 0040", "00004e20", "13 ff"], "B:2 agrees"),
+    (
+        ["0000 03", "00 0040", "00004e21", "13"],
+        "B:2 int plan 20000 capture 20001",
+    ),
+    (
+        ["0000 03", "00 0050", "00004e20", UNPLANNED],
+        "B:2 msti 1 unplanned",
+    ),
+    (
+        ["0000 04", "00 0040", "00004e20", "13"],
+        "B04 version or type",
+    ),
+    (
+        ["0001 03", "00 0040", "00004e20", "13"],
+        "B03 protocol identifier",
+    ),
+    (
+        ["0000 03", "01 0040", "00004e20", "13"],
+        "B05 version 1 length",
+    ),
+    (
+        ["0000 03", "00 0040", "00004e20", "1"],
+        "B01 not hexadecimal",
+    ),
+];
+
 #[test]
 fn mst_bpdus(rt: HostRuntime) -> Result<(), Fail> {
-    let unplanned = "13 7c 8001020000000001 00004e20 80 80 13";
-    let examples = [
-        (["0000 03", "00 0040", "00004e20", "13"], "B:2 agrees"),
-        (["0000 03", "00 0040", "00004e20", ""], "B02 too short"),
-        (
-            ["0000 03", "00 0041", "00004e20", "13"],
-            "B06 version 3 length",
-        ),
-        (
-            ["0000 03", "00 0050", "00004e20", "13"],
-            "B06 version 3 length",
-        ),
-        (["0000 03", "00 0040", "00004e20", "13 ff"], "B:2 agrees"),
-        (
-            ["0000 03", "00 0040", "00004e21", "13"],
-            "B:2 int plan 20000 capture 20001",
-        ),
-        (
-            ["0000 03", "00 0050", "00004e20", unplanned],
-            "B:2 msti 1 unplanned",
-        ),
-        (
-            ["0000 04", "00 0040", "00004e20", "13"],
-            "B04 version or type",
-        ),
-        (
-            ["0001 03", "00 0040", "00004e20", "13"],
-            "B03 protocol identifier",
-        ),
-        (
-            ["0000 03", "01 0040", "00004e20", "13"],
-            "B05 version 1 length",
-        ),
-        (
-            ["0000 03", "00 0040", "00004e20", "1"],
-            "B01 not hexadecimal",
-        ),
-    ];
     let plan = planned(rt.alloc(), &[])?;
-    for (parts, expected) in examples {
+    for (parts, expected) in EXAMPLES {
         let line = capture(rt.alloc(), parts)?;
         let frame = format!(in rt.alloc(); "{HEADER}{line}")?;
         let expected = format!(in rt.alloc(); "capture 1 {expected}\n")?;
