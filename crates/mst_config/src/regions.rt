@@ -1,21 +1,26 @@
 ghost use Rattle.std.specs.Prelude.{◌≡◌, IfOk, nat_eq};
 ghost use Rattle.std.specs.Map.{lookup};
+ghost use Rattle.std.specs.FinMap as fin;
+ghost use Rattle.mst_ids.specs.Identifiers.{bridge_id};
+ghost use Rattle.mst_net.specs.Tables.{IsNetwork};
+ghost use Rattle.mst_net.specs.Contents.{IsNumbered};
 ghost use Rattle.mst_config.specs.Classes.{AreRegions, same_in};
 ghost use Rattle.mst_config.specs.Configured.{configured};
+ghost use Rattle.mst_config.specs.Places.{ArePlaces, GivesRegion};
 
 use crate::configuration::{Configuration, note};
 use indexmap::{IndexMap, IndexSet};
-use mst_ids::{BridgeNo, Name};
+use mst_ids::{BridgeId, BridgeNo, Mac, Name};
 use mst_lang::Kind;
 use mst_net::Contents;
 use std::alloc::{AllocError, Global};
 use std::marker::Model;
 
-/// Which bridges share a region, by their numbers.
+/// Which bridges share a region, and the identifiers of regions, by the numbers of bridges.
 #[derive(Drop)]
 pub struct Classes {
-    // Of each bridge of kind mstp, the place of its configuration among those that differ.
-    places: IndexMap<BridgeNo, usize>,
+    // The identifier of each bridge's region.
+    regions: IndexMap<BridgeNo, BridgeId>,
 }
 
 impl Model for Classes {
@@ -23,7 +28,7 @@ impl Model for Classes {
 
     ghost Value = { List (ℕ × ℕ) };
 
-    ghost view = { λ c. c.places.entries };
+    ghost view = { λ c. c.regions.entries };
 }
 
 impl Classes {
@@ -35,17 +40,27 @@ impl Classes {
         if a == b {
             return true;
         }
-        match (self.place(a), self.place(b)) {
-            (Some(place), Some(other)) => place == other,
+        match (self.region(a), self.region(b)) {
+            (Some(region), Some(other)) => region == other,
             _ => false,
         }
     }
 
-    /// The place of a bridge's configuration, if the bridge is of kind mstp.
-    fn place(&self, bridge: BridgeNo) -> Option<usize>
+    /// The identifier of the region that the bridge of this number is in: bridges of one region, and no
+    /// others, have the same. It takes no memory.
+    pub fn region(&self, bridge: BridgeNo) -> Option<BridgeId>
         ensures { result ≡ lookup (nat_eq bridge) self.now }
     {
-        self.places.get(&bridge).copied()
+        self.regions.get(&bridge).copied()
+    }
+
+    /// A copy. `AllocError`: memory was wanted and refused.
+    pub fn copy(&self) -> Result<Classes, AllocError>
+        ensures { IfOk result (λ copy. copy ≡ self.now) }
+    {
+        Ok(Classes {
+            regions: self.regions.clone()?,
+        })
     }
 }
 
@@ -57,14 +72,29 @@ pub fn region_classes<C: Contents>(alloc: Global, contents: &C) -> Result<Classe
 {
     contents.known();
     let names = contents.bridge_names(alloc)?;
+    let places = places(alloc, contents, names.as_slice())?;
+    let regions = identifiers(alloc, contents, names.as_slice(), &places)?;
+    Ok(Classes { regions })
+}
+
+/// Of each of these bridges that is of kind mstp, the place of its configuration among those that differ.
+fn places<C: Contents>(
+    alloc: Global,
+    contents: &C,
+    names: &[Name],
+) -> Result<IndexMap<BridgeNo, usize>, AllocError>
+    requires numbered { IsNumbered (C.tables contents.now).net (C.tables contents.now).numbers }
+    requires names { names.now ≡ fin.keys (C.tables contents.now).net.bridges }
+    ensures { IfOk result (λ places. ArePlaces (C.tables contents.now).net (C.tables contents.now).numbers places.entries) }
+{
     let mut configurations = IndexSet::new(alloc);
     let mut places = IndexMap::new(alloc);
-    for name in names.iter() {
+    for name in names {
         if let Some(met) = configuration(contents, name) {
             note(&mut configurations, &mut places, met.0, met.1)?;
         }
     }
-    Ok(Classes { places })
+    Ok(places)
 }
 
 /// The number and the MST configuration of a bridge of kind mstp.
@@ -83,4 +113,49 @@ fn configuration<C: Contents>(contents: &C, name: &Name) -> Option<(BridgeNo, Co
             },
         )),
     }
+}
+
+/// The identifier of the region of each of these bridges, by its number. A region's first bridge gives it.
+fn identifiers<C: Contents>(
+    alloc: Global,
+    contents: &C,
+    names: &[Name],
+    places: &IndexMap<BridgeNo, usize>,
+) -> Result<IndexMap<BridgeNo, BridgeId>, AllocError>
+    requires network { IsNetwork (C.tables contents.now).net }
+    requires numbered { IsNumbered (C.tables contents.now).net (C.tables contents.now).numbers }
+    requires names { names.now ≡ fin.keys (C.tables contents.now).net.bridges }
+    requires places { ArePlaces (C.tables contents.now).net (C.tables contents.now).numbers places.now.entries }
+    ensures { IfOk result (λ regions. AreRegions (C.tables contents.now).net (C.tables contents.now).numbers regions.entries) }
+{
+    let mut firsts = IndexMap::new(alloc);
+    let mut regions = IndexMap::new(alloc);
+    for name in names {
+        if let Some(bridge) = contents.bridge(name) {
+            let place = places.get(&bridge.number).copied();
+            let region = region_at(&mut firsts, place, bridge.mac)?;
+            regions.insert(bridge.number, region)?;
+        }
+    }
+    Ok(regions)
+}
+
+/// The identifier of the region of a bridge with this MAC: that of the first bridge that was met with its
+/// place, if it has one, and else its own.
+fn region_at(
+    firsts: &mut IndexMap<usize, BridgeId>,
+    place: Option<usize>,
+    mac: Mac,
+) -> Result<BridgeId, AllocError>
+    ensures { IfOk result (λ region. GivesRegion place (bridge_id 0 0 mac) firsts.old.entries region firsts.new.entries) }
+{
+    let own = BridgeId::of_region(mac);
+    let Some(place) = place else {
+        return Ok(own);
+    };
+    if let Some(first) = firsts.get(&place) {
+        return Ok(*first);
+    }
+    firsts.insert(place, own)?;
+    Ok(own)
 }
