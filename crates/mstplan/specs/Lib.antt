@@ -1,1 +1,3 @@
-pub mod Faults
+pub mod Endings
+pub mod Buffered
+pub mod Named

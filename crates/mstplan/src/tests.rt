@@ -1,51 +1,97 @@
-use crate::faults::{fault_of, message};
-use crate::run_into;
+use crate::buffered::run_buffered;
 use mst_tool::{Outcome, RunFault};
-use std::alloc::AllocError;
-use std::io::{self, BufWriter};
+use std::io::{Error, ErrorKind, Read, Result, Write};
 
-fn counts(refused: u64, memory: u64) -> Result<Outcome, RunFault> {
-    Ok(Outcome {
-        refused,
-        memory,
-        differing: 0,
-    })
+/// Takes this many bytes, then fails once, and counts the calls after it.
+#[derive(Drop)]
+struct Failing {
+    room: usize,
+    has_failed: bool,
+    called_again: u32,
 }
 
-#[test]
-fn faults_are_told(rt: HostRuntime) {
-    for (ran, fault) in [
-        (counts(0, 0), None),
-        (counts(3, 0), None),
-        (counts(0, 1), Some(RunFault::Memory)),
-        (Err(RunFault::Read), Some(RunFault::Read)),
-        (Err(RunFault::Write), Some(RunFault::Write)),
-        (Err(RunFault::Memory), Some(RunFault::Memory)),
-    ] {
-        assert_eq!(rt; fault_of(&ran), fault, "{ran:?}");
+impl Write for Failing {
+    fn write(&mut self, buf: &[u8]) -> Result<usize> {
+        if self.has_failed {
+            self.called_again = self.called_again.saturating_add(1);
+        }
+        if buf.len() <= self.room {
+            self.room -= buf.len();
+            return Ok(buf.len());
+        }
+        self.has_failed = true;
+        Err(Error::from(ErrorKind::Other))
+    }
+
+    fn flush(&mut self) -> Result<()> {
+        if self.has_failed {
+            self.called_again = self.called_again.saturating_add(1);
+        }
+        Ok(())
+    }
+}
+
+/// Gives a line and then fails.
+#[derive(Drop)]
+struct Cut {
+    is_given: bool,
+}
+
+impl Read for Cut {
+    fn read(&mut self, buf: &mut [u8]) -> Result<usize> {
+        if self.is_given {
+            return Err(Error::from(ErrorKind::Other));
+        }
+        self.is_given = true;
+        let mut line: &[u8] = b"no\nshowtree 0\n";
+        line.read(buf)
     }
 }
 
 #[test]
-fn faults_have_lines(rt: HostRuntime) -> Result<(), AllocError> {
-    for (fault, line) in [
-        (RunFault::Read, "mstplan: read fault"),
-        (RunFault::Write, "mstplan: write fault"),
-        (RunFault::Memory, "mstplan: out of memory"),
-    ] {
-        assert_eq!(rt; message(fault), line);
-        let shown = format!(in rt.alloc(); "mstplan: {fault}")?;
-        assert_eq!(rt; shown.as_str(), line);
-    }
+fn what_was_served_before_a_read_fault_is_written(rt: HostRuntime) -> Result<()> {
+    let Some(ran) = run_buffered(rt.alloc(), Cut { is_given: false }, Vec::new(rt.alloc())) else {
+        return Err(Error::from(ErrorKind::OutOfMemory));
+    };
+    assert_eq!(rt; ran.ended, Err(RunFault::Read));
+    let written: &[u8] = b"line 1 E01 no such command\ntree 0\n";
+    assert_eq!(rt; ran.writer.as_slice(), written);
     Ok(())
 }
 
 #[test]
-fn what_is_buffered_is_written(rt: HostRuntime) -> Result<(), io::Error> {
+fn no_device_is_called_after_a_write_fault(rt: HostRuntime) -> Result<()> {
+    let mut script = Vec::new(rt.alloc());
+    for _ in 0..2000 {
+        script.write_all(b"no\n")?;
+    }
+    let full = Failing {
+        room: 0,
+        has_failed: false,
+        called_again: 0,
+    };
+    let Some(ran) = run_buffered(rt.alloc(), script.as_slice(), full) else {
+        return Err(Error::from(ErrorKind::OutOfMemory));
+    };
+    assert_eq!(rt; ran.ended, Err(RunFault::Write));
+    assert!(rt; ran.writer.has_failed);
+    assert_eq!(rt; ran.writer.called_again, 0);
+    Ok(())
+}
+
+#[test]
+fn a_run_to_the_end_is_written(rt: HostRuntime) -> Result<()> {
     let script: &[u8] = b"no\nshowtree 0\n";
-    let mut buffered = BufWriter::new(rt.alloc(), Vec::new(rt.alloc()))?;
-    assert_eq!(rt; run_into(rt.alloc(), script, &mut buffered), counts(1, 0));
+    let Some(ran) = run_buffered(rt.alloc(), script, Vec::new(rt.alloc())) else {
+        return Err(Error::from(ErrorKind::OutOfMemory));
+    };
+    let counted = Outcome {
+        refused: 1,
+        memory: 0,
+        differing: 0,
+    };
+    assert_eq!(rt; ran.ended, Ok(counted));
     let written: &[u8] = b"line 1 E01 no such command\ntree 0\n";
-    assert_eq!(rt; buffered.get_ref().as_slice(), written);
+    assert_eq!(rt; ran.writer.as_slice(), written);
     Ok(())
 }

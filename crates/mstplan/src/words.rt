@@ -1,6 +1,6 @@
 ghost use Rattle.std.specs.Prelude.{◌≡◌};
-ghost use Rattle.mst_tool.specs.declared.runs.RunFault as run_fault;
 
+use crate::endings::Stop;
 use clap::error::ErrorKind;
 use clap::{Arg, ArgMatches, Command};
 use mst_tool::RunFault;
@@ -8,24 +8,17 @@ use std::alloc::{AllocError, Global};
 use std::env::{self, Env};
 use std::io;
 
-/// Why no script is run.
-#[derive(Drop)]
-pub(crate) enum Stop {
-    /// The words ask for help or are at fault. That was told, and this is the exit status.
-    Told(u8),
-    /// A fault that is still to be told.
-    Fault(RunFault),
-}
-
 /// What stops the program where memory was refused.
-fn starved(_refused: AllocError) -> Stop
+fn starved(_refused: AllocError) -> Stop<'static>
     ensures { result ≡ Stop.Fault RunFault.Memory }
 {
     Stop::Fault(RunFault::Memory)
 }
 
 /// The words that the program was called with, its name first.
-pub(crate) fn given_words<R: Env + Eprint + AllocGlobal>(rt: &R) -> Result<Vec<String>, Stop> {
+pub(crate) fn given_words<R: Env + Eprint + AllocGlobal>(
+    rt: &R,
+) -> Result<Vec<String>, Stop<'static>> {
     match env::args(rt) {
         Ok(words) => words.collect(rt.alloc()).map_err(starved),
         Err(error) if error.kind() == io::ErrorKind::OutOfMemory => {
@@ -42,7 +35,7 @@ pub(crate) fn given_words<R: Env + Eprint + AllocGlobal>(rt: &R) -> Result<Vec<S
 pub(crate) fn named_file<'a, R: Print + Eprint + AllocGlobal>(
     rt: &R,
     words: &'a [String],
-) -> Result<&'a str, Stop> {
+) -> Result<&'a str, Stop<'a>> {
     match command(rt.alloc())
         .map_err(starved)?
         .try_get_matches_from(words)

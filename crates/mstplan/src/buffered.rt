@@ -1,0 +1,52 @@
+ghost use Rattle.std.specs.Prelude.{◌≡◌, [], IfSome};
+ghost use Rattle.std.specs.Io.Buffered.{writer_buffer, writer_inner};
+ghost use Rattle.mstplan.specs.Buffered.{Ends};
+
+use mst_tool::{Outcome, RunFault, run};
+use std::alloc::Global;
+use std::io::{BufWriter, Read, Write};
+
+/// How a run ended, and the writer that it printed to.
+#[derive(Drop)]
+pub(crate) struct Ran<W: Drop> {
+    pub(crate) ended: Result<Outcome, RunFault>,
+    pub(crate) writer: W,
+}
+
+/// Runs a script into an empty buffer, and writes what is left there at the end and after a fault of
+/// the reader. After a fault of the writer it isn't called again.
+pub(crate) fn run_into<R: Read + Drop, W: Write + Drop>(
+    alloc: Global,
+    reader: R,
+    buffered: &mut BufWriter<W>,
+) -> Result<Outcome, RunFault>
+    requires { writer_buffer buffered.old ≡ [] }
+    ensures { Ends (R.remaining reader) (W.contents (writer_inner buffered.old)) (W.contents (writer_inner buffered.new)) result }
+{
+    match run(alloc, reader, buffered) {
+        Err(RunFault::Write) => Err(RunFault::Write),
+        ran => match buffered.flush() {
+            Ok(()) => ran,
+            Err(_) => Err(RunFault::Write),
+        },
+    }
+}
+
+/// Runs a script, and writes what it prints in large parts. `None`: there was no memory for the
+/// buffer, and neither device was called.
+pub(crate) fn run_buffered<R: Read + Drop, W: Write + Drop>(
+    alloc: Global,
+    reader: R,
+    writer: W,
+) -> Option<Ran<W>>
+    ensures { IfSome result (λ ran. Ends (R.remaining reader) (W.contents writer) (W.contents ran.writer) ran.ended) }
+{
+    match BufWriter::new(alloc, writer) {
+        Err(_) => None,
+        Ok(mut buffered) => {
+            let ended = run_into(alloc, reader, &mut buffered);
+            let (writer, _) = buffered.into_parts();
+            Some(Ran { ended, writer })
+        }
+    }
+}

@@ -1,0 +1,52 @@
+ghost use Rattle.std.specs.Prelude.{ℕ, List, Option, IfOk, ⊤};
+
+use std::fs::File;
+use std::io::Read;
+use std::rt::Files;
+
+/// A file that can't be opened.
+#[derive(Drop)]
+pub(crate) struct Unopened;
+
+/// Where scripts are read from.
+pub(crate) trait Sources {
+    type Given: Read + Drop;
+
+    type Opened: Read + Drop;
+
+    /// What standard input gives, as far as it tells.
+    ghost is_given: { Self → Option (List ℕ) → Type 0 };
+
+    /// What the file of a name has, as far as it tells.
+    ghost is_file: { Self → List ℕ → Option (List ℕ) → Type 0 };
+
+    /// Standard input.
+    fn given(&self) -> Self::Given
+        ensures { is_given self.now (Self.Given.remaining result) };
+
+    /// The file of a name, from its start.
+    fn open(&self, name: &str) -> Result<Self::Opened, Unopened>
+        ensures { IfOk result (λ file. is_file self.now name.now (Self.Opened.remaining file)) };
+}
+
+/// The system's. No clause can say what they hold.
+impl<R: Files + Input> Sources for R {
+    type Given = R::Reader;
+
+    type Opened = R::File;
+
+    ghost is_given = { λ _ _. ⊤ };
+
+    ghost is_file = { λ _ _ _. ⊤ };
+
+    fn given(&self) -> R::Reader {
+        self.reader()
+    }
+
+    fn open(&self, name: &str) -> Result<R::File, Unopened> {
+        match File::open(self, name) {
+            Ok(file) => Ok(file),
+            Err(_) => Err(Unopened),
+        }
+    }
+}
