@@ -5,3 +5,4 @@ pub mod Sides
 pub mod Known
 pub mod Viewing
 pub mod Steps
+pub mod Placing
