@@ -1,5 +1,5 @@
 -- The settled outcome of a network, under names and under the numbers of records.
-use Rattle.std.proofs.Common.{◌≡◌, ◌≢◌, ℕ, List, map, Option, Some, None, IsTrue, refl, sym, ap, subst, ◌∙◌, ◌⊎◌, inl, inr, nat_eq, MatchOption}
+use Rattle.std.proofs.Common.{◌≡◌, ◌≢◌, ℕ, List, map, Option, Some, None, IsTrue, Result, Ok, refl, sym, ap, subst, ◌∙◌, ◌⊎◌, inl, inr, nat_eq, MatchOption, true≢false}
 use Rattle.std.specs.List.{Contains}
 use Rattle.std.specs.FinMap as fin
 use Rattle.std.specs.Cmp.Lexicographic.{pointwise, bytes_decides}
@@ -22,7 +22,10 @@ use Rattle.mst_report.proofs.Lists.{all_mapped, all_contained, all_there, apart_
 use Rattle.mst_report.proofs.Seen.{bridges_differ, ports_differ, bridges_numbered, ports_numbered, ports_have_bridge, ports_in_range, few_on, cist_bridges_named, cist_ports_named}
 use Rattle.mst_lang.specs.declared.line.Query.{Query}
 use Rattle.mst_lang.specs.declared.line.Query.TheVariants.{ShowPlan, ShowLag, ShowRegions, ShowNotes, ShowTree, ShowVlan, ShowConfiguration, Changes}
-use Rattle.mst_report.specs.Answers.{Answers}
+use Rattle.mst_net.specs.declared.refusal.Refusal.{Refusal}
+use Rattle.mst_report.specs.Answers.{Answers, is_answered}
+use Rattle.mst_report.specs.LagText.{lags_text}
+use Rattle.mst_report.specs.State.{State}
 use Rattle.mst_report.specs.TreeText.{tree_text}
 use Rattle.mst_report.proofs.Cists.{cist_topology}
 use Rattle.mst_report.proofs.Naming.{IsSeenBy, naming, is_renamed, port_found, bridges_found, lans_found}
@@ -80,20 +83,32 @@ outcome_there net ok vectors ports =
       record { settled = v.1; designated = λ lan. (ports (cist_of net) v.0 (cist_topology net ok) name_tests lan).1 },
     )
 
+-- by the law that a network has an outcome, a query that is answered has an answer
+pub answer_there : ((net : Net) → IsNetwork net → (o : Outcome) × IsOutcome net o)
+    → (query : Query) (s : State) → IsTrue (is_answered query) → IsNetwork s.net → (answer : Result (List ℕ) Refusal) × Answers query s answer
+answer_there outcomes (ShowTree tree) s is ok = let o = outcomes s.net ok in (Ok (tree_text s.net o.0 tree), (o.0, o.1, refl))
+answer_there outcomes ShowPlan s is ok = absurd (true≢false (sym is))
+answer_there outcomes ShowLag s is ok = (Ok (lags_text s.net), refl)
+answer_there outcomes ShowRegions s is ok = absurd (true≢false (sym is))
+answer_there outcomes ShowNotes s is ok = absurd (true≢false (sym is))
+answer_there outcomes (ShowVlan vid) s is ok = absurd (true≢false (sym is))
+answer_there outcomes (ShowConfiguration bridge) s is ok = absurd (true≢false (sym is))
+answer_there outcomes Changes s is ok = absurd (true≢false (sym is))
+
 -- by the law that a network has one outcome, a query has one answer
 pub one_text : ((net : Net) (o p : Outcome) → IsNetwork net → IsOutcome net o → IsOutcome net p → (name : List ℕ) → o.vector name ≡ p.vector name)
     → ((net : Net) (o p : Outcome) → IsNetwork net → IsOutcome net o → IsOutcome net p → (lan : List ℕ) → o.designated lan ≡ p.designated lan)
-    → (query : Query) (net : Net) (a b : List ℕ) → IsNetwork net → Answers query net a → Answers query net b → a ≡ b
-one_text vectors ports (ShowTree tree) net a b ok x y =
-    let same : x.0 ≡ y.0 = λ i. record { vector = λ name. vectors net x.0 y.0 ok x.1 y.1 name i; designated = λ lan. ports net x.0 y.0 ok x.1 y.1 lan i } in
-    x.2 ∙ ap (λ o. tree_text net o tree) same ∙ sym y.2
-one_text vectors ports ShowPlan net a b ok x y = absurd x
-one_text vectors ports ShowLag net a b ok x y = x ∙ sym y
-one_text vectors ports ShowRegions net a b ok x y = absurd x
-one_text vectors ports ShowNotes net a b ok x y = absurd x
-one_text vectors ports (ShowVlan vid) net a b ok x y = absurd x
-one_text vectors ports (ShowConfiguration bridge) net a b ok x y = absurd x
-one_text vectors ports Changes net a b ok x y = absurd x
+    → (query : Query) (s : State) (a b : Result (List ℕ) Refusal) → IsNetwork s.net → Answers query s a → Answers query s b → a ≡ b
+one_text vectors ports (ShowTree tree) s a b ok x y =
+    let same : x.0 ≡ y.0 = λ i. record { vector = λ name. vectors s.net x.0 y.0 ok x.1 y.1 name i; designated = λ lan. ports s.net x.0 y.0 ok x.1 y.1 lan i } in
+    x.2 ∙ ap (λ o. Ok (tree_text s.net o tree)) same ∙ sym y.2
+one_text vectors ports ShowPlan s a b ok x y = absurd x
+one_text vectors ports ShowLag s a b ok x y = x ∙ sym y
+one_text vectors ports ShowRegions s a b ok x y = absurd x
+one_text vectors ports ShowNotes s a b ok x y = absurd x
+one_text vectors ports (ShowVlan vid) s a b ok x y = absurd x
+one_text vectors ports (ShowConfiguration bridge) s a b ok x y = absurd x
+one_text vectors ports Changes s a b ok x y = absurd x
 
 module _ (net : Net) (numbers : Numbers) (ok : IsNetwork net) (num : IsNumbered net numbers) (seen_bridges : List BridgeSeen) (seen_ports : List PortSeen) (shows : Shows net numbers seen_bridges seen_ports) where
   -- the bridges that are on, and the ports that are enabled

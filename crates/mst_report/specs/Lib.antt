@@ -6,4 +6,5 @@ pub mod Words
 pub mod TreeText
 pub mod LagText
 pub mod LagView
+pub mod State
 pub mod Answers

@@ -1,9 +1,10 @@
-ghost use Rattle.std.specs.Prelude.{◌≡◌, ◌++◌, List, ℕ, map, IfOk, OnOk};
+ghost use Rattle.std.specs.Prelude.{◌≡◌, ◌++◌, List, ℕ, map, Ok, IfOk, OnOk};
 ghost use Rattle.std.specs.List.{flat_map};
 ghost use Rattle.mst_lang.specs.declared.line.Query.TheVariants.{ShowLag};
 ghost use Rattle.mst_report.specs.Answers.{Answers};
 ghost use Rattle.mst_report.specs.LagText.{port_text};
 ghost use Rattle.mst_report.specs.LagView.{lans_in, up_of as up_members, ports_in, after_comma, lan_word, port_word, class_line, class_text, classes_text};
+ghost use Rattle.mst_report.specs.State.{state_of};
 ghost use Rattle.mst_report.specs.Words.{comma_list};
 
 use crate::text::push_line;
@@ -19,7 +20,7 @@ use std::alloc::{AllocError, Global};
 ///
 /// It fails only where there is no memory.
 pub fn show_lag(alloc: Global, network: &Network) -> Result<Vec<u8>, AllocError>
-    ensures { IfOk result (λ text. Answers ShowLag network.now.net text.items) }
+    ensures { IfOk result (λ text. Answers ShowLag (state_of network.now.net) (Ok text.items)) }
 {
     let view = view(alloc, network)?;
     let mut text = Vec::new(alloc);

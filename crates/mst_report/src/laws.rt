@@ -1,9 +1,11 @@
 //! Laws of answers. Their functions do nothing: a caller has their clauses.
-ghost use Rattle.std.specs.Prelude.{◌≡◌, ℕ, List};
+ghost use Rattle.std.specs.Prelude.{◌≡◌, ℕ, List, Result, IsTrue};
 ghost use Rattle.mst_lang.specs.declared.line.Query.{Query};
 ghost use Rattle.mst_net.specs.Tables.{Net, IsNetwork};
-ghost use Rattle.mst_report.specs.Answers.{Answers};
+ghost use Rattle.mst_net.specs.declared.refusal.Refusal.{Refusal};
+ghost use Rattle.mst_report.specs.Answers.{Answers, is_answered};
 ghost use Rattle.mst_report.specs.Cist.{Outcome, IsOutcome};
+ghost use Rattle.mst_report.specs.State.{State};
 
 use mst_ids::{Name, PortName};
 use mst_settle::laws;
@@ -25,9 +27,16 @@ pub fn one_outcome()
     laws::one_outcome::<CistMetric, Name, Name, PortName>();
 }
 
-/// A query has one answer: the text is a function of the network alone, whatever edits made it.
+/// Each query that is answered at all has an answer in each state, a text or a refusal.
+pub fn has_answer()
+    ensures { (query : Query) (s : State) → IsTrue (is_answered query) → IsNetwork s.net → (answer : Result (List ℕ) Refusal) × Answers query s answer }
+{
+    has_outcome();
+}
+
+/// A query has one answer: it is a function of the state alone, whatever edits made the network.
 pub fn one_answer()
-    ensures { (query : Query) (net : Net) (a b : List ℕ) → IsNetwork net → Answers query net a → Answers query net b → a ≡ b }
+    ensures { (query : Query) (s : State) (a b : Result (List ℕ) Refusal) → IsNetwork s.net → Answers query s a → Answers query s b → a ≡ b }
 {
     one_outcome();
 }

@@ -1,4 +1,4 @@
-ghost use Rattle.std.specs.Prelude.{◌≡◌, ◌++◌, [], Option, OnOk, IfOk, IsTrue, map, if◌then◌else◌};
+ghost use Rattle.std.specs.Prelude.{◌≡◌, ◌++◌, [], Option, Ok, OnOk, IfOk, IsTrue, map, if◌then◌else◌};
 ghost use Rattle.std.specs.List.{flat_map, Contains};
 ghost use Rattle.std.specs.Option.{option_map_or};
 ghost use Rattle.mst_ids.specs.declared.name.PortName.{PortName};
@@ -8,6 +8,7 @@ ghost use Rattle.mst_report.specs.Answers.{Answers};
 ghost use Rattle.mst_report.specs.Cist.{Outcome, IsOutcome, cist_bridges};
 ghost use Rattle.mst_report.specs.Kept.{Keeps};
 ghost use Rattle.mst_report.specs.Roles.{role_of};
+ghost use Rattle.mst_report.specs.State.{state_of};
 ghost use Rattle.mst_report.specs.TreeText.{port_text, bridge_text, bridge_line, off_line, tree_text};
 ghost use Rattle.mst_report.specs.View.{IsNameOf, viewed_bridge, viewed_port};
 
@@ -28,7 +29,7 @@ use std::alloc::{AllocError, Global};
 ///
 /// It fails only where there is no memory.
 pub fn show_tree(alloc: Global, network: &Network, tree: Tree) -> Result<Vec<u8>, AllocError>
-    ensures { IfOk result (λ text. Answers (ShowTree tree) network.now.net text.items) }
+    ensures { IfOk result (λ text. Answers (ShowTree tree) (state_of network.now.net) (Ok text.items)) }
 {
     let mut text = Vec::new(alloc);
     push_heading(tree, &mut text)?;

@@ -4,17 +4,18 @@ use Rattle.std.proofs.lemmas.Grind.{flat_map-append, common_steps}
 use Rattle.std.proofs.lemmas.List.Sums.{sum_by-cons, sum_by-append}
 use Rattle.std.specs.Io.KnownBytes.{Appends}
 use Rattle.std.proofs.KnownBytes.{Appends-trans}
-use Rattle.mst_tool.specs.Lines.{drop_cr}
+use Rattle.mst_net.specs.Tables.{IsNetwork}
+use Rattle.mst_tool.specs.Lines.{drop_cr, last_line}
 use Rattle.mst_tool.specs.Script.{Step, Serves, Runs, texts_of}
 use Rattle.mst_tool.specs.Written.{AppendsFront}
 use Rattle.mst_tool.specs.Engine.{Tally, tallied}
 use Rattle.mst_tool.specs.Feeding.{lines_held, Feeds, BreaksIn, Breaks}
 use Rattle.mst_tool.proofs.Known.{AppendsFront-after, AppendsFront-longer}
-use Rattle.mst_tool.proofs.Steps.{some_run, runs-first}
+use Rattle.mst_tool.proofs.Steps.{AlwaysRuns, runs-first}
 
 pub Feeds-nil : (t : Tally) (part : List ℕ) → Feeds [] t part [] t part
 Feeds-nil t part = record {
-  runs = λ rest more h. h;
+  runs = λ last rest more h. h;
   number = sym (add-zero t.number);
   few = omega arith;
   refused = sym (add-zero t.refused);
@@ -23,9 +24,9 @@ Feeds-nil t part = record {
 
 pub Feeds-join : (d e : List Step) (t u v : Tally) (p q r xs ys : List ℕ) → Feeds d t p xs u q → Feeds e u q ys v r → Feeds (d ++ e) t p (xs ++ ys) v r
 Feeds-join d e t u v p q r xs ys f g = record {
-  runs = λ rest more h.
-      subst (λ l. Runs t.number t.net (lines_held p l) ((d ++ e) ++ more)) (sym (append_assoc xs ys rest))
-      (subst (Runs t.number t.net (lines_held p (xs ++ (ys ++ rest)))) (sym (append_assoc d e more)) (f.runs (ys ++ rest) (e ++ more) (g.runs rest more h)));
+  runs = λ last rest more h.
+      subst (λ l. Runs t.number t.state (lines_held last p l) ((d ++ e) ++ more)) (sym (append_assoc xs ys rest))
+      (subst (Runs t.number t.state (lines_held last p (xs ++ (ys ++ rest)))) (sym (append_assoc d e more)) (f.runs last (ys ++ rest) (e ++ more) (g.runs last rest more h)));
   number = omega (arith, f.number, g.number, length-append d e);
   few = omega (arith, f.few, g.few, length-append d e, length-append xs ys);
   refused = omega (arith, f.refused, g.refused, sum_by-append (λ s. cond s.refused 1 0) d e);
@@ -35,7 +36,7 @@ Feeds-join d e t u v p q r xs ys f g = record {
 -- a byte that ends no line
 pub Feeds-byte : (t : Tally) (p : List ℕ) (b : ℕ) → b ≢ 10 → Feeds [] t p (b ∷ []) t (take 4098 (p ++ b ∷ []))
 Feeds-byte t p b other = record {
-  runs = λ rest more h. subst (λ c. Runs t.number t.net (cond c (drop_cr p ∷ lines_held [] rest) (lines_held (take 4098 (p ++ b ∷ [])) rest)) more) (sym (not_end b other)) h;
+  runs = λ last rest more h. subst (λ c. Runs t.number t.state (cond c (drop_cr p ∷ lines_held last [] rest) (lines_held last (take 4098 (p ++ b ∷ [])) rest)) more) (sym (not_end b other)) h;
   number = sym (add-zero t.number);
   few = omega arith;
   refused = sym (add-zero t.refused);
@@ -45,13 +46,13 @@ Feeds-byte t p b other = record {
     not_end : (b : ℕ) → b ≢ 10 → nat_eq b 10 ≡ false
     not_end b h = grind (arith, common_steps)
 
-line_first : (p rest : List ℕ) (b : ℕ) → b ≡ 10 → lines_held p (b ∷ rest) ≡ drop_cr p ∷ lines_held [] rest
-line_first p rest b e = ap (λ c. cond c (drop_cr p ∷ lines_held [] rest) (lines_held (take 4098 (p ++ b ∷ [])) rest)) (eq-eqb b 10 e)
+line_first : (last : List ℕ → List (List ℕ)) (p rest : List ℕ) (b : ℕ) → b ≡ 10 → lines_held last p (b ∷ rest) ≡ drop_cr p ∷ lines_held last [] rest
+line_first last p rest b e = ap (λ c. cond c (drop_cr p ∷ lines_held last [] rest) (lines_held last (take 4098 (p ++ b ∷ [])) rest)) (eq-eqb b 10 e)
 
 -- a byte that ends a line, which was served
-pub Feeds-line : (t u : Tally) (p : List ℕ) (b : ℕ) (made : Step) → b ≡ 10 → Serves t.number t.net (drop_cr p) made → u ≡ tallied t made → Feeds (made ∷ []) t p (b ∷ []) u []
+pub Feeds-line : (t u : Tally) (p : List ℕ) (b : ℕ) (made : Step) → b ≡ 10 → Serves t.number t.state (drop_cr p) made → u ≡ tallied t made → Feeds (made ∷ []) t p (b ∷ []) u []
 Feeds-line t u p b made e is after = subst (λ v. Feeds (made ∷ []) t p (b ∷ []) v []) (sym after) (record {
-  runs = λ rest more h. subst (λ l. Runs t.number t.net l (made ∷ more)) (sym (line_first p rest b e)) (runs-first t.number t.net (drop_cr p) (lines_held [] rest) made more is h);
+  runs = λ last rest more h. subst (λ l. Runs t.number t.state l (made ∷ more)) (sym (line_first last p rest b e)) (runs-first t.number t.state (drop_cr p) (lines_held last [] rest) made more is h);
   number = refl;
   few = omega arith;
   refused = sym (ap (λ n. t.refused + n) (sum_by-cons (λ s. cond s.refused 1 0) made [] ∙ add-zero _));
@@ -59,12 +60,12 @@ Feeds-line t u p b made e is after = subst (λ v. Feeds (made ∷ []) t p (b ∷
 })
 
 -- a byte that ends a line, of whose text a front went out
-pub Breaks-line : (a c : Option (List ℕ)) (t : Tally) (p : List ℕ) (b : ℕ) (made : Step) → b ≡ 10 → Serves t.number t.net (drop_cr p) made → AppendsFront a c made.text → Breaks a c t p (b ∷ [])
-Breaks-line a c t p b made e is front rest =
-    let more = some_run (t.number + 1) made.net (lines_held [] rest) in
+pub Breaks-line : AlwaysRuns → (a c : Option (List ℕ)) (t : Tally) (p : List ℕ) (b : ℕ) (made : Step) → b ≡ 10 → Serves t.number t.state (drop_cr p) made → IsNetwork made.state.net → AppendsFront a c made.text → Breaks a c t p (b ∷ [])
+Breaks-line always a c t p b made e is network front rest =
+    let more = always (t.number + 1) made.state (lines_held last_line [] rest) network in
     record {
       steps = made ∷ more.0;
-      runs = subst (λ l. Runs t.number t.net l (made ∷ more.0)) (sym (line_first p rest b e)) (runs-first t.number t.net (drop_cr p) (lines_held [] rest) made more.0 is more.1);
+      runs = subst (λ l. Runs t.number t.state l (made ∷ more.0)) (sym (line_first last_line p rest b e)) (runs-first t.number t.state (drop_cr p) (lines_held last_line [] rest) made more.0 is more.1);
       front = AppendsFront-longer a c made.text (texts_of more.0) front;
     }
 
@@ -73,12 +74,12 @@ Breaks-after a b c d t u p q xs ys f went breaks rest =
     let r = breaks rest in
     record {
       steps = d ++ r.steps;
-      runs = subst (λ l. Runs t.number t.net (lines_held p l) (d ++ r.steps)) (sym (append_assoc xs ys rest)) (f.runs (ys ++ rest) r.steps r.runs);
+      runs = subst (λ l. Runs t.number t.state (lines_held last_line p l) (d ++ r.steps)) (sym (append_assoc xs ys rest)) (f.runs last_line (ys ++ rest) r.steps r.runs);
       front = subst (AppendsFront a c) (sym (flat_map-append (λ s. s.text) d r.steps)) (AppendsFront-after a b c (texts_of d) (texts_of r.steps) went r.front);
     }
 
 pub Breaks-longer : (a c : Option (List ℕ)) (t : Tally) (p ys zs : List ℕ) → Breaks a c t p ys → Breaks a c t p (ys ++ zs)
-Breaks-longer a c t p ys zs breaks rest = subst (λ l. BreaksIn a c t (lines_held p l)) (sym (append_assoc ys zs rest)) (breaks (zs ++ rest))
+Breaks-longer a c t p ys zs breaks rest = subst (λ l. BreaksIn a c t (lines_held last_line p l)) (sym (append_assoc ys zs rest)) (breaks (zs ++ rest))
 
 pub texts_one : (a c : Option (List ℕ)) (made : Step) → Appends a c made.text → Appends a c (texts_of (made ∷ []))
 texts_one a c made h = subst (Appends a c) (sym (append-nil made.text)) h

@@ -4,8 +4,8 @@ use Rattle.std.proofs.lemmas.Bool.{cases_lt}
 use Rattle.mst_lang.proofs.ReadingLemmas.{reading-long}
 use Rattle.std.proofs.lemmas.List.{take_all, take-append-le}
 use Rattle.mst_lang.specs.Reading.{reading}
-use Rattle.mst_net.specs.Tables.{Net}
-use Rattle.mst_tool.specs.Lines.{drop_cr, lines_from}
+use Rattle.mst_report.specs.State.{State}
+use Rattle.mst_tool.specs.Lines.{drop_cr, last_line, no_line, lines_from}
 use Rattle.mst_tool.specs.Script.{Step, Runs}
 use Rattle.mst_tool.proofs.Steps.{runs_alike}
 use Rattle.mst_tool.specs.Feeding.{lines_held}
@@ -43,12 +43,27 @@ held_reading p = held_long 4098 p (omega arith)
 held_more : (p : List ℕ) (b : ℕ) → take 4098 (take 4098 p ++ b ∷ []) ≡ take 4098 (p ++ b ∷ [])
 held_more p b = held_more_by 4098 p b
 
-pub steps_held : (bytes part : List ℕ) (n : ℕ) (net : Net) (steps : List Step) → Runs n net (lines_held (take 4098 part) bytes) steps → Runs n net (lines_from part bytes) steps
-steps_held [] [] n net steps h = h
-steps_held [] (b ∷ bs) n net steps h = runs_alike n net (drop_cr (take 4098 (b ∷ bs))) (drop_cr (b ∷ bs)) [] [] steps (held_reading (b ∷ bs)) (λ n net steps h. h) h
-steps_held (b ∷ bs) part n net steps h =
-    elim (nat_eq b 10) as (λ t. Runs n net (cond t (drop_cr (take 4098 part) ∷ lines_held [] bs) (lines_held (take 4098 (take 4098 part ++ b ∷ [])) bs)) steps
-    → Runs n net (cond t (drop_cr part ∷ lines_from [] bs) (lines_from (part ++ b ∷ []) bs)) steps) [
-      | true ↦ λ h. runs_alike n net (drop_cr (take 4098 part)) (drop_cr part) (lines_held [] bs) (lines_from [] bs) steps (held_reading part) (λ n net steps h. steps_held bs [] n net steps h) h
-      | false ↦ λ h. steps_held bs (part ++ b ∷ []) n net steps (subst (λ p. Runs n net (lines_held p bs) steps) (held_more part b) h)
-    ] h
+-- the line that is left, and where none counts
+last_held : (part : List ℕ) (n : ℕ) (now : State) (steps : List Step) → Runs n now (last_line (take 4098 part)) steps → Runs n now (last_line part) steps
+last_held [] n now steps h = h
+last_held (b ∷ bs) n now steps h = runs_alike n now (drop_cr (take 4098 (b ∷ bs))) (drop_cr (b ∷ bs)) [] [] steps (held_reading (b ∷ bs)) (λ n now steps h. h) h
+
+none_held : (part : List ℕ) (n : ℕ) (now : State) (steps : List Step) → Runs n now (no_line (take 4098 part)) steps → Runs n now (no_line part) steps
+none_held part n now steps h = h
+
+module _ (last : List ℕ → List (List ℕ)) (left_held : (part : List ℕ) (n : ℕ) (now : State) (steps : List Step) → Runs n now (last (take 4098 part)) steps → Runs n now (last part) steps) where
+  steps_held : (bytes part : List ℕ) (n : ℕ) (now : State) (steps : List Step) → Runs n now (lines_held last (take 4098 part) bytes) steps → Runs n now (lines_from last part bytes) steps
+  steps_held [] part n now steps h = left_held part n now steps h
+  steps_held (b ∷ bs) part n now steps h =
+      elim (nat_eq b 10) as (λ t. Runs n now (cond t (drop_cr (take 4098 part) ∷ lines_held last [] bs) (lines_held last (take 4098 (take 4098 part ++ b ∷ [])) bs)) steps
+      → Runs n now (cond t (drop_cr part ∷ lines_from last [] bs) (lines_from last (part ++ b ∷ []) bs)) steps) [
+        | true ↦ λ h. runs_alike n now (drop_cr (take 4098 part)) (drop_cr part) (lines_held last [] bs) (lines_from last [] bs) steps (held_reading part) (λ n now steps h. steps_held bs [] n now steps h) h
+        | false ↦ λ h. steps_held bs (part ++ b ∷ []) n now steps (subst (λ p. Runs n now (lines_held last p bs) steps) (held_more part b) h)
+      ] h
+
+-- so the lines that are held do what those of the script do, and what those do that are complete so far
+pub script_held : (script : List ℕ) (n : ℕ) (now : State) (steps : List Step) → Runs n now (lines_held last_line [] script) steps → Runs n now (lines_from last_line [] script) steps
+script_held script n now steps h = steps_held last_line last_held script [] n now steps h
+
+pub ended_held : (read : List ℕ) (n : ℕ) (now : State) (steps : List Step) → Runs n now (lines_held no_line [] read) steps → Runs n now (lines_from no_line [] read) steps
+ended_held read n now steps h = steps_held no_line none_held read [] n now steps h

@@ -1,28 +1,28 @@
 -- What a run keeps from line to line.
 use Rattle.std.specs.Prelude.{ℕ, ◌+◌, Bool, true, false, List, [], if◌then◌else◌}
-use Rattle.mst_net.specs.Tables.{Net, empty_net}
+use Rattle.mst_report.specs.State.{State, state_of}
 use Rattle.mst_lang.specs.Faults as fault
 use Rattle.mst_net.specs.Refusals as refusal
 use Rattle.mst_net.specs.declared.refusal.Refusal.TheVariants.{E99}
-use Rattle.mst_tool.specs.Script.{Step, refusal_line}
+use Rattle.mst_tool.specs.Script.{Step, empty_state, refusal_line}
 use Rattle.mst_tool.specs.declared.runs.Outcome.{Outcome}
 use Rattle.mst_tool.specs.declared.engine.Engine.{Engine}
 use Rattle.mst_tool.specs.declared.engine.Reply.{Reply}
 use Rattle.mst_tool.specs.declared.engine.Reply.TheVariants.{Silent, Text, Unread, Refused, Starved}
 
--- the network, the number of the next line, and how many were refused
+-- the state, the number of the next line, and how many were refused
 pub record Tally : Type 0 where
-  pub net : Net
+  pub state : State
   pub number : ℕ
   pub refused : ℕ
   pub memory : ℕ
 
 abbrev pub tally_of : Engine → Tally
-tally_of e = record { net = e.network.net; number = e.number; refused = e.refused; memory = e.memory }
+tally_of e = record { state = state_of e.network.net; number = e.number; refused = e.refused; memory = e.memory }
 
 -- the state of a run that begins
 abbrev pub start : Tally
-start = record { net = empty_net; number = 1; refused = 0; memory = 0 }
+start = record { state = empty_state; number = 1; refused = 0; memory = 0 }
 
 -- what is counted of a whole run
 abbrev pub outcome_of : Tally → Outcome
@@ -31,7 +31,7 @@ outcome_of t = record { refused = t.refused; memory = t.memory; differing = 0 }
 -- after a step
 abbrev pub tallied : Tally → Step → Tally
 tallied t s = record {
-  net = s.net;
+  state = s.state;
   number = t.number + 1;
   refused = t.refused + (if s.refused then 1 else 0);
   memory = t.memory + (if s.lacking then 1 else 0);
@@ -59,6 +59,6 @@ is_starved (Unread f) = false
 is_starved (Refused r) = false
 is_starved Starved = true
 
--- the step that gives this network and this reply
-abbrev pub replied : ℕ → Net → Reply → Step
-replied number net reply = record { net = net; text = reply_text number reply; refused = is_refusal reply; lacking = is_starved reply }
+-- the step that gives this state and this reply
+abbrev pub replied : ℕ → State → Reply → Step
+replied number new reply = record { state = new; text = reply_text number reply; refused = is_refusal reply; lacking = is_starved reply }

@@ -1,5 +1,5 @@
 -- What a script prints.
-use Rattle.std.specs.Prelude.{◌≡◌, ℕ, ◌+◌, Bool, true, false, List, [], ◌∷◌, ◌++◌, ◌⊎◌, Result, Ok, Err, codes, decimal, count_by}
+use Rattle.std.specs.Prelude.{◌≡◌, ℕ, ◌+◌, Bool, true, false, List, [], ◌∷◌, ◌++◌, Result, Ok, Err, codes, decimal, count_by}
 use Rattle.std.specs.List.{flat_map}
 use Rattle.mst_lang.specs.declared.line.Line.{Line}
 use Rattle.mst_lang.specs.declared.line.Line.TheVariants.{Blank, Mark, Edit as edit, Query as query}
@@ -9,15 +9,20 @@ use Rattle.mst_lang.specs.Faults as fault
 use Rattle.mst_net.specs.declared.refusal.Refusal.{Refusal}
 use Rattle.mst_net.specs.declared.refusal.Refusal.TheVariants.{E99}
 use Rattle.mst_net.specs.Refusals as refusal
-use Rattle.mst_net.specs.Tables.{Net}
+use Rattle.mst_net.specs.Tables.{Net, empty_net}
 use Rattle.mst_net.specs.After.{after}
 use Rattle.mst_report.specs.Answers.{Answers}
+use Rattle.mst_report.specs.State.{State}
 use Rattle.mst_tool.specs.Served.{served}
 
--- what a line does: the network after it, the text that it prints, and whether it is refused, for want of
+-- the state in which a script begins
+abbrev pub empty_state : State
+empty_state = record { net = empty_net }
+
+-- what a line does: the state after it, the text that it prints, and whether it is refused, for want of
 -- memory or else
 pub record Step : Type 0 where
-  pub net : Net
+  pub state : State
   pub text : List ℕ
   pub refused : Bool
   pub lacking : Bool
@@ -27,50 +32,61 @@ abbrev pub refusal_line : ℕ → List ℕ → List ℕ → List ℕ
 refusal_line number code text = codes "line " ++ decimal number ++ codes " " ++ code ++ codes " " ++ text ++ codes "\n"
 
 -- a line that is refused changes nothing
-abbrev pub refused : ℕ → List ℕ → List ℕ → Net → Step
-refused number code text net = record { net = net; text = refusal_line number code text; refused = true; lacking = false }
+abbrev pub refused : ℕ → List ℕ → List ℕ → State → Step
+refused number code text now = record { state = now; text = refusal_line number code text; refused = true; lacking = false }
 
 -- nor does one that is refused for want of memory
-abbrev pub starved : ℕ → Net → Step
-starved number net = record { net = net; text = refusal_line number (refusal.code_of E99) (refusal.text_of E99); refused = false; lacking = true }
+abbrev pub starved : ℕ → State → Step
+starved number now = record { state = now; text = refusal_line number (refusal.code_of E99) (refusal.text_of E99); refused = false; lacking = true }
 
--- a line that prints nothing
-abbrev pub silent : Net → Step
-silent net = record { net = net; text = []; refused = false; lacking = false }
+-- a line that prints nothing and leaves this state
+abbrev pub silent : State → Step
+silent new = record { state = new; text = []; refused = false; lacking = false }
 
 -- a line that prints this text
-abbrev pub printed : Net → List ℕ → Step
-printed net text = record { net = net; text = text; refused = false; lacking = false }
+abbrev pub printed : State → List ℕ → Step
+printed now text = record { state = now; text = text; refused = false; lacking = false }
 
 -- an edit, by what it makes of the network. For want of memory it isn't made
-abbrev pub edited : Bool → ℕ → Net → Result Net Refusal → Step
-edited lacks number net (Err r) = refused number (refusal.code_of r) (refusal.text_of r) net
-edited true number net (Ok new) = starved number net
-edited false number net (Ok new) = silent new
+abbrev pub edited : Bool → ℕ → State → Result Net Refusal → Step
+edited lacks number now (Err r) = refused number (refusal.code_of r) (refusal.text_of r) now
+edited true number now (Ok new) = starved number now
+edited false number now (Ok new) = silent (record now { net = new })
 
--- what a line that is read in this way does to the network
-abbrev pub ServesRead : ℕ → Net → Result Line Fault → Step → Type 0
-ServesRead number net (Err f) s = s ≡ refused number (fault.code_of f) (fault.text_of f) net
-ServesRead number net (Ok Blank) s = s ≡ silent net
-ServesRead number net (Ok Mark) s = s ≡ silent net
-ServesRead number net (Ok (edit e)) s = s ≡ edited s.lacking number net (after e net)
-ServesRead number net (Ok (query q)) s = (s ≡ starved number net) ⊎ ((text : List ℕ) × Answers q net text × (s ≡ printed net text))
+-- a mark, which nothing refuses. For want of memory it isn't made
+abbrev pub marked : Bool → ℕ → State → Step
+marked true number now = starved number now
+marked false number now = silent now
 
--- what the line of this number does to the network
-abbrev pub Serves : ℕ → Net → List ℕ → Step → Type 0
-Serves number net line s = ServesRead number net (served (reading line)) s
+-- a query, by its answer. For want of memory no text is printed
+abbrev pub answered : Bool → ℕ → State → Result (List ℕ) Refusal → Step
+answered lacks number now (Err r) = refused number (refusal.code_of r) (refusal.text_of r) now
+answered true number now (Ok text) = starved number now
+answered false number now (Ok text) = printed now text
+
+-- what a line that is read in this way does in a state
+abbrev pub ServesRead : ℕ → State → Result Line Fault → Step → Type 0
+ServesRead number now (Err f) s = s ≡ refused number (fault.code_of f) (fault.text_of f) now
+ServesRead number now (Ok Blank) s = s ≡ silent now
+ServesRead number now (Ok Mark) s = s ≡ marked s.lacking number now
+ServesRead number now (Ok (edit e)) s = s ≡ edited s.lacking number now (after e now.net)
+ServesRead number now (Ok (query q)) s = (answer : Result (List ℕ) Refusal) × Answers q now answer × (s ≡ answered s.lacking number now answer)
+
+-- what the line of this number does in a state
+abbrev pub Serves : ℕ → State → List ℕ → Step → Type 0
+Serves number now line s = ServesRead number now (served (reading line)) s
 
 -- the lines, the first of this number, do these steps one after another
-unfoldable pub Runs : ℕ → Net → List (List ℕ) → List Step → Type 0
-Runs number net [] [] = Unit {0}
-Runs number net [] (s ∷ steps) = ⊥
-Runs number net (line ∷ lines) [] = ⊥
-Runs number net (line ∷ lines) (s ∷ steps) = Serves number net line s × Runs (number + 1) s.net lines steps
+unfoldable pub Runs : ℕ → State → List (List ℕ) → List Step → Type 0
+Runs number now [] [] = Unit {0}
+Runs number now [] (s ∷ steps) = ⊥
+Runs number now (line ∷ lines) [] = ⊥
+Runs number now (line ∷ lines) (s ∷ steps) = Serves number now line s × Runs (number + 1) s.state lines steps
 
--- the network that the steps leave
-abbrev pub left_by : Net → List Step → Net
-left_by net [] = net
-left_by net (s ∷ steps) = left_by s.net steps
+-- the state that the steps leave
+abbrev pub left_by : State → List Step → State
+left_by now [] = now
+left_by now (s ∷ steps) = left_by s.state steps
 
 -- what the steps print
 abbrev pub texts_of : List Step → List ℕ

@@ -4,10 +4,9 @@ use Rattle.mst_lang.specs.declared.line.Line.{Line}
 use Rattle.mst_lang.specs.declared.line.Line.TheVariants.{Mark, Edit as edit, Query as query}
 use Rattle.mst_lang.specs.declared.line.Edit.{Edit}
 use Rattle.mst_lang.specs.declared.line.Edit.TheVariants.{SetConfiguration, MapVids}
-use Rattle.mst_lang.specs.declared.line.Query.{Query}
-use Rattle.mst_lang.specs.declared.line.Query.TheVariants.{ShowTree, ShowLag}
 use Rattle.mst_lang.specs.declared.line.Fault.{Fault}
 use Rattle.mst_lang.specs.declared.line.Fault.TheVariants.{E01}
+use Rattle.mst_report.specs.Answers.{is_answered}
 
 -- all edits but of MST configurations
 abbrev pub is_served_edit : Edit → Bool
@@ -15,15 +14,10 @@ is_served_edit (SetConfiguration bridge revision name) = false
 is_served_edit (MapVids bridge tree vids) = false
 is_served_edit _ = true
 
--- of the queries those of a tree and of the classes of links
-abbrev pub is_served_query : Query → Bool
-is_served_query (ShowTree tree) = true
-is_served_query ShowLag = true
-is_served_query _ = false
-
+-- and of the queries those that are answered
 abbrev pub is_served : Line → Bool
 is_served (edit e) = is_served_edit e
-is_served (query q) = is_served_query q
+is_served (query q) = is_answered q
 is_served Mark = false
 is_served _ = true
 

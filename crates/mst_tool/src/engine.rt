@@ -1,6 +1,8 @@
 ghost use Rattle.std.specs.Prelude.{◌≡◌, ◌≢◌, ℕ, ◌+◌, ◌^◌, ◌<◌, Bool, Ok, Err, IsOk, IfOk, IfErr, OnOk, OnErr};
 ghost use Rattle.std.specs.Io.KnownBytes.{Appends};
 ghost use Rattle.mst_net.specs.After.{after};
+ghost use Rattle.mst_lang.specs.declared.line.Line.TheVariants.{Query as query};
+ghost use Rattle.mst_report.specs.State.{state_of};
 ghost use Rattle.mst_tool.specs.Written.{AppendsFront};
 ghost use Rattle.mst_tool.specs.Served.{is_served_edit, served};
 ghost use Rattle.mst_tool.specs.Script.{Serves, ServesRead, refusal_line};
@@ -11,7 +13,8 @@ use crate::print::{WriteFailed, put, put_parts};
 use crate::runs::Outcome;
 use itoa::Buffer;
 use mst_lang::{Edit, Fault, Line, Query, parse_line};
-use mst_net::{Network, Refusal};
+use mst_net::{Contents, Network, Refusal};
+use mst_report::laws::has_answer;
 use mst_report::{show_lag, show_tree};
 use std::alloc::{AllocError, Global};
 use std::io::Write;
@@ -74,8 +77,8 @@ impl Engine {
         requires numbered { self.old.number < 2 ^ 60 }
         requires refused { self.old.refused < 2 ^ 60 }
         requires memory { self.old.memory < 2 ^ 60 }
-        ensures served { Serves self.old.number self.old.network.net line.now (replied self.old.number self.new.network.net result) }
-        ensures counted { tally_of self.new ≡ tallied (tally_of self.old) (replied self.old.number self.new.network.net result) }
+        ensures served { Serves self.old.number (state_of self.old.network.net) line.now (replied self.old.number (state_of self.new.network.net) result) }
+        ensures counted { tally_of self.new ≡ tallied (tally_of self.old) (replied self.old.number (state_of self.new.network.net) result) }
     {
         let reply = reply_to(self.alloc, &mut self.network, self.number, line);
         self.number += 1;
@@ -90,7 +93,7 @@ impl Engine {
 
 /// Serves a line.
 fn reply_to(alloc: Global, network: &mut Network, number: u64, line: &[u8]) -> Reply
-    ensures { Serves number network.old.net line.now (replied number network.new.net result) }
+    ensures { Serves number (state_of network.old.net) line.now (replied number (state_of network.new.net) result) }
 {
     match parse_line(line) {
         Err(fault) => Reply::Unread(fault),
@@ -100,7 +103,7 @@ fn reply_to(alloc: Global, network: &mut Network, number: u64, line: &[u8]) -> R
 
 /// Serves a line that is read. A command that isn't served is refused as an unknown one.
 fn serve(alloc: Global, network: &mut Network, number: u64, line: &Line) -> Reply
-    ensures { ServesRead number network.old.net (served (Ok line.now)) (replied number network.new.net result) }
+    ensures { ServesRead number (state_of network.old.net) (served (Ok line.now)) (replied number (state_of network.new.net) result) }
 {
     match line {
         Line::Blank => Reply::Silent,
@@ -109,8 +112,20 @@ fn serve(alloc: Global, network: &mut Network, number: u64, line: &Line) -> Repl
             Err(Refusal::E99) => Reply::Starved,
             Err(refusal) => Reply::Refused(refusal),
         },
-        Line::Query(Query::ShowTree { tree }) => shown(show_tree(alloc, network, *tree)),
-        Line::Query(Query::ShowLag) => shown(show_lag(alloc, network)),
+        Line::Query(query) => answer(alloc, network, number, query),
+        _ => Reply::Unread(Fault::E01),
+    }
+}
+
+/// Answers a query. One that isn't served is refused as an unknown command.
+fn answer(alloc: Global, network: &Network, number: u64, asked: &Query) -> Reply
+    ensures { ServesRead number (state_of network.now.net) (served (Ok (query asked.now))) (replied number (state_of network.now.net) result) }
+{
+    network.known();
+    has_answer();
+    match asked {
+        Query::ShowTree { tree } => shown(show_tree(alloc, network, *tree)),
+        Query::ShowLag => shown(show_lag(alloc, network)),
         _ => Reply::Unread(Fault::E01),
     }
 }

@@ -1,5 +1,7 @@
 ghost use Rattle.std.specs.Prelude.{◌≡◌, ℕ, ◌+◌, ◌^◌, ◌<◌, Bool, List, [], ◌∷◌, length, OnOk, OnErr};
 ghost use Rattle.std.specs.Io.KnownBytes.{Appends};
+ghost use Rattle.mst_net.specs.Tables.{IsNetwork};
+ghost use Rattle.mst_report.specs.State.{state_of};
 ghost use Rattle.mst_tool.specs.Lines.{drop_cr};
 ghost use Rattle.mst_tool.specs.Script.{Step, Serves, texts_of};
 ghost use Rattle.mst_tool.specs.Written.{AppendsFront};
@@ -8,7 +10,9 @@ ghost use Rattle.mst_tool.specs.Feeding.{IsCounted, Feeds, Breaks, ending};
 
 use crate::engine::{Engine, print};
 use crate::held_line::HeldLine;
+use crate::laws::has_run;
 use crate::print::WriteFailed;
+use mst_net::Contents;
 use std::io::Write;
 
 /// Serves the line that has come, and begins the next.
@@ -20,15 +24,16 @@ pub(crate) fn end_line<W: Write>(
     requires few { engine.old.number < 2 ^ 60 }
     requires counted { IsCounted (tally_of engine.old) }
     ensures counted { IsCounted (tally_of engine.new) }
-    ensures ok { OnOk result ((made : Step) × Serves engine.old.number engine.old.network.net (drop_cr held.old) made
+    ensures ok { OnOk result ((made : Step) × Serves engine.old.number (state_of engine.old.network.net) (drop_cr held.old) made
         × (tally_of engine.new ≡ tallied (tally_of engine.old) made) × Appends (W.contents writer.old) (W.contents writer.new) made.text) }
-    ensures err { OnErr result ((made : Step) × Serves engine.old.number engine.old.network.net (drop_cr held.old) made
-        × AppendsFront (W.contents writer.old) (W.contents writer.new) made.text) }
+    ensures err { OnErr result ((made : Step) × Serves engine.old.number (state_of engine.old.network.net) (drop_cr held.old) made
+        × IsNetwork made.state.net × AppendsFront (W.contents writer.old) (W.contents writer.new) made.text) }
     ensures cleared { held.new ≡ [] }
 {
     let number = engine.number;
     let reply = engine.reply(held.line());
     held.clear();
+    engine.network.known();
     print(writer, number, &reply)
 }
 
@@ -47,6 +52,7 @@ pub(crate) fn take_byte<W: Write>(
     ensures err { OnErr result (Breaks (W.contents writer.old) (W.contents writer.new) (tally_of engine.old) held.old (byte ∷ [])) }
     ensures ended { byte ≡ 10 → held.new ≡ [] }
 {
+    has_run();
     if byte == b'\n' {
         return end_line(engine, held, writer);
     }

@@ -8,7 +8,7 @@ pub mod laws;
 mod print;
 mod runs;
 
-pub use runs::{Outcome, RunFault, run, status};
+pub use runs::{Outcome, RunFault, run, run_from, status};
 
 #[cfg(test)]
 mod tests;

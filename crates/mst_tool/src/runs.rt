@@ -1,11 +1,12 @@
-ghost use Rattle.std.specs.Prelude.{◌≡◌, IfOk, OnOk, OnErr};
+ghost use Rattle.std.specs.Prelude.{◌≡◌, ◌≢◌, ℕ, List, Option, Err, IfOk, OnOk, OnErr};
 ghost use Rattle.mst_tool.specs.Engine.{start, tally_of, outcome_of};
-ghost use Rattle.mst_tool.specs.Run.{Prints, PrintsFront, status_of};
+ghost use Rattle.mst_tool.specs.Run.{Prints, PrintsFront, PrintsEnded, status_of};
 
 use crate::engine::Engine;
 use crate::feed::{feed, finish};
 use crate::held_line::HeldLine;
-use crate::laws::one_run;
+use crate::laws::{has_run, one_run};
+use mst_net::Contents;
 use std::alloc::Global;
 use std::io::{Read, Write};
 use thiserror::Error;
@@ -41,8 +42,10 @@ pub enum RunFault {
     Memory,
 }
 
-/// How many calls of the reader a run makes.
+/// How many calls of the reader a run makes at most.
 const TURNS: u64 = 1 << 32;
+
+const _: () = prove!(TURNS == 4_294_967_296);
 
 /// Runs the script that the reader gives, from the empty network on, and writes what each line prints
 /// before it reads on. Where no line meets want of memory, what is written is a function of the script.
@@ -53,13 +56,34 @@ const TURNS: u64 = 1 << 32;
 /// The reader is called with a buffer of 4,096 bytes, up to 2^32 times, and its first answer of 0
 /// bytes is the script's end. The writer is called again where it took some bytes and not all, and not
 /// flushed. After a fault the run calls neither again.
+///
+/// After [`RunFault::Read`] all that the complete lines print has gone out, of what was read: a line
+/// that no LF had ended prints nothing then. After [`RunFault::Write`] a front of what the script
+/// prints has.
 pub fn run<R: Read + Drop, W: Write>(
     alloc: Global,
-    reader: R,
+    mut reader: R,
     writer: &mut W,
 ) -> Result<Outcome, RunFault>
     ensures ok { IfOk result (Prints (R.remaining reader) (W.contents writer.old) (W.contents writer.new)) }
     ensures fault { OnErr result (PrintsFront (R.remaining reader) (W.contents writer.old) (W.contents writer.new)) }
+    ensures read { result ≡ Err RunFault.Read → (left : Option (List ℕ)) × PrintsEnded (R.remaining reader) left (W.contents writer.old) (W.contents writer.new) }
+    ensures memory { result ≢ Err RunFault.Memory }
+{
+    run_from(alloc, &mut reader, writer)
+}
+
+/// The same as [`run`], for a reader that the caller keeps: so its contract says how far the reader was
+/// read, which is what the complete lines are told by after [`RunFault::Read`].
+pub fn run_from<R: Read, W: Write>(
+    alloc: Global,
+    reader: &mut R,
+    writer: &mut W,
+) -> Result<Outcome, RunFault>
+    ensures ok { IfOk result (Prints (R.remaining reader.old) (W.contents writer.old) (W.contents writer.new)) }
+    ensures fault { OnErr result (PrintsFront (R.remaining reader.old) (W.contents writer.old) (W.contents writer.new)) }
+    ensures read { result ≡ Err RunFault.Read → PrintsEnded (R.remaining reader.old) (R.remaining reader.new) (W.contents writer.old) (W.contents writer.new) }
+    ensures memory { result ≢ Err RunFault.Memory }
 {
     let mut engine = Engine::new(alloc);
     serve_script(&mut engine, reader, writer)?;
@@ -67,19 +91,23 @@ pub fn run<R: Read + Drop, W: Write>(
 }
 
 /// Serves all of a script's lines.
-fn serve_script<R: Read + Drop, W: Write>(
+fn serve_script<R: Read, W: Write>(
     engine: &mut Engine,
-    mut reader: R,
+    reader: &mut R,
     writer: &mut W,
 ) -> Result<(), RunFault>
     requires { tally_of engine.old ≡ start }
-    ensures ok { OnOk result (Prints (R.remaining reader) (W.contents writer.old) (W.contents writer.new) (outcome_of (tally_of engine.new))) }
-    ensures fault { OnErr result (PrintsFront (R.remaining reader) (W.contents writer.old) (W.contents writer.new)) }
+    ensures ok { OnOk result (Prints (R.remaining reader.old) (W.contents writer.old) (W.contents writer.new) (outcome_of (tally_of engine.new))) }
+    ensures fault { OnErr result (PrintsFront (R.remaining reader.old) (W.contents writer.old) (W.contents writer.new)) }
+    ensures read { result ≡ Err RunFault.Read → PrintsEnded (R.remaining reader.old) (R.remaining reader.new) (W.contents writer.old) (W.contents writer.new) }
+    ensures memory { result ≢ Err RunFault.Memory }
 {
     one_run();
+    has_run();
     let mut held = HeldLine::new();
     let mut chunk = [0; 4096];
     'turns: for turn in 0..TURNS {
+        engine.network.known();
         let count = match reader.read(&mut chunk) {
             Err(_) => return Err(RunFault::Read),
             Ok(count) => count,
@@ -95,6 +123,7 @@ fn serve_script<R: Read + Drop, W: Write>(
             Ok(()) => {}
         }
     }
+    engine.network.known();
     Err(RunFault::Read)
 }
 

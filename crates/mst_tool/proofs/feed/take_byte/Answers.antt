@@ -18,4 +18,4 @@ returns-then-byte-eq10-clause-ok g c =
 
 pub returns-then-byte-eq10-clause-err : goal.returns-then-byte-eq10-clause-err
 returns-then-byte-eq10-clause-err g c =
-    on_err_weaker c.end_line.result (λ h. Breaks-line _ _ (tally_of c.args.engine.now) c.args.held.now c.args.byte h.0 c.if-byte-eq10.true h.1 h.2) c.end_line.ensures.err
+    on_err_weaker c.end_line.result (λ h. Breaks-line c.has_run.ensures.lines _ _ (tally_of c.args.engine.now) c.args.held.now c.args.byte h.0 c.if-byte-eq10.true h.1 h.2 h.3) c.end_line.ensures.err

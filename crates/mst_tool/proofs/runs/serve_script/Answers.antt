@@ -2,7 +2,7 @@ use Rattle.std.proofs.Common.{◌++◌, [], arith, refl, take}
 use Rattle.std.proofs.KnownBytes.{Consumes-nil, Appends-nil, Consumes-trans}
 use Rattle.mst_tool.specs.Engine.{tally_of, start}
 use Rattle.mst_tool.proofs.Feeds.{Feeds-join, Breaks-after, texts_join}
-use Rattle.mst_tool.proofs.WholeRun.{run_prints, run_broken, run_broken_last, run_cut, begins, begins_counted, few_more, Consumes-none}
+use Rattle.mst_tool.proofs.WholeRun.{run_prints, run_broken, run_broken_last, run_cut, begins, begins_counted, few_more, run_ended, Consumes-kept, Consumes-none}
 use Rattle.mst_tool.proofs.runs.serve_script.Goals as goal
 
 pub turns-init : goal.turns-init
@@ -34,12 +34,22 @@ turns-preserved g c =
 pub returns-clause-fault : goal.returns-clause-fault
 returns-clause-fault g c =
     let was = c.turns.invariant in
-    run_cut _ _ _ _ was.done (tally_of c.turns.engine) was.read c.turns.held was.consumed was.feeds was.written
+    run_cut c.has_run.ensures.lines _ _ _ _ was.done (tally_of c.turns.engine) was.read c.turns.held c.known-2.ensures.network was.consumed was.feeds was.written
+
+pub returns-clause-read : goal.returns-clause-read
+returns-clause-read g c is =
+    let was = c.turns.invariant in
+    run_ended _ _ _ _ was.done (tally_of c.turns.engine) was.read c.turns.held was.consumed was.feeds was.written
 
 pub returns-in-Err-clause-fault : goal.returns-in-Err-clause-fault
 returns-in-Err-clause-fault g c =
     let was = c.turns.invariant in
-    run_cut _ _ _ _ was.done (tally_of c.turns.engine) was.read c.turns.held was.consumed was.feeds was.written
+    run_cut c.has_run.ensures.lines _ _ _ _ was.done (tally_of c.turns.engine) was.read c.turns.held c.known.ensures.network was.consumed was.feeds was.written
+
+pub returns-in-Err-clause-read : goal.returns-in-Err-clause-read
+returns-in-Err-clause-read g c is =
+    let was = c.turns.invariant in
+    run_ended _ _ _ _ was.done (tally_of c.turns.engine) was.read c.turns.held (Consumes-kept _ _ _ was.read was.consumed c.in-Err.ensures.bytes) was.feeds was.written
 
 pub returns-in-Err-feed-clause-fault : goal.returns-in-Err-feed-clause-fault
 returns-in-Err-feed-clause-fault g c =

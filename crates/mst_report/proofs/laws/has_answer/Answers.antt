@@ -1,0 +1,5 @@
+use Rattle.mst_report.proofs.Outcomes.{answer_there}
+use Rattle.mst_report.proofs.laws.has_answer.Goals as goal
+
+pub returns : goal.returns
+returns c = answer_there c.has_outcome.ensures
