@@ -1,85 +1,17 @@
+mod edits;
+mod faults;
 mod links;
 mod network;
 mod rows;
 
 use crate::{Outcome, RunFault, laws, run, status};
+use faults::{Sink, Source};
 use mst_ids::BadText;
 use mst_lang::Fault;
 use mst_net::Refusal;
 use mst_report::laws as outcomes;
 use std::alloc::Global;
-use std::io;
-use std::io::{ErrorKind, Read, Write};
 use std::test::Fail;
-
-/// Gives at most `step` bytes a call. At its end it fails, if it is to.
-#[derive(Drop)]
-struct Source<'a> {
-    left: &'a [u8],
-    step: usize,
-    fails: bool,
-}
-
-impl<'a> Source<'a> {
-    fn new(script: &'a [u8], step: usize) -> Source<'a> {
-        Source {
-            left: script,
-            step,
-            fails: false,
-        }
-    }
-}
-
-impl<'a> Read for Source<'a> {
-    fn read(&mut self, buf: &mut [u8]) -> io::Result<usize> {
-        if self.left.is_empty() && self.fails {
-            return Err(io::Error::from(ErrorKind::Interrupted));
-        }
-        let most = buf.len().min(self.step);
-        self.left.read(&mut buf[..most])
-    }
-}
-
-/// Takes at most `step` bytes a call, and `room` in all. Of more it takes none, or fails, if it is to.
-#[derive(Drop)]
-struct Sink {
-    taken: Vec<u8>,
-    step: usize,
-    room: usize,
-    fails: bool,
-    calls_when_full: u32,
-}
-
-impl Write for Sink {
-    fn write(&mut self, buf: &[u8]) -> io::Result<usize> {
-        if self.room == 0 {
-            self.calls_when_full = self.calls_when_full.saturating_add(1);
-            if self.fails {
-                return Err(io::Error::from(ErrorKind::Interrupted));
-            }
-        }
-        let count = buf.len().min(self.step).min(self.room);
-        self.taken.extend_from_slice(&buf[..count])?;
-        self.room -= count;
-        Ok(count)
-    }
-
-    fn flush(&mut self) -> io::Result<()> {
-        Ok(())
-    }
-}
-
-impl Sink {
-    fn new(alloc: Global, room: usize) -> Sink {
-        Sink {
-            taken: Vec::new(alloc),
-            step: 1,
-            room,
-            fails: false,
-            calls_when_full: 0,
-        }
-    }
-}
 
 fn counts(refused: u64, memory: u64) -> Outcome {
     Outcome {
@@ -161,14 +93,6 @@ fn prints_refusals(rt: HostRuntime) -> Result<(), Fail> {
 }
 
 #[test]
-fn always_read_fault(rt: HostRuntime) {
-    let mut written = Vec::new(rt.alloc());
-    let empty: &[u8] = b"";
-    assert_eq!(rt; run(rt.alloc(), empty, &mut written), Ok(counts(0, 0)));
-    assert!(rt; written.is_empty());
-}
-
-#[test]
 fn always_out_of_memory(rt: HostRuntime) {
     let mut written = Vec::new(rt.alloc());
     let script: &[u8] = b"addbridge A 02:00:00:00:00:01\nkind A rstp\naddport A 1\naddlan X\n\
@@ -196,33 +120,6 @@ fn too_long_comments(rt: HostRuntime) -> Result<(), Fail> {
         }
     }
     Ok(())
-}
-
-#[test]
-fn reader_fails(rt: HostRuntime) {
-    for step in [1, 7, 4096] {
-        let mut reader = Source::new(b"one\ntwo\nthree", step);
-        reader.fails = true;
-        let mut written = Vec::new(rt.alloc());
-        assert_eq!(rt; run(rt.alloc(), reader, &mut written), Err(RunFault::Read));
-        let expected: &[u8] = b"line 1 E01 no such command\nline 2 E01 no such command\n";
-        assert_eq!(rt; written.as_slice(), expected, "{step}");
-    }
-}
-
-#[test]
-fn writer_fails(rt: HostRuntime) {
-    let expected: &[u8] = b"line 1 E01 no such command\nline 2 E01 no such command\n";
-    for fails in [false, true] {
-        for room in 0..expected.len() {
-            let mut writer = Sink::new(rt.alloc(), room);
-            writer.fails = fails;
-            let ran = run(rt.alloc(), Source::new(b"one\ntwo\nthree", 7), &mut writer);
-            assert_eq!(rt; ran, Err(RunFault::Write), "{room}");
-            assert_eq!(rt; writer.taken.as_slice(), &expected[..room], "{room}");
-            assert_eq!(rt; writer.calls_when_full, 1, "{room}");
-        }
-    }
 }
 
 #[test]
@@ -267,8 +164,10 @@ fn errors_are_displayed(rt: HostRuntime) -> Result<(), Fail> {
 
 #[test]
 fn laws_can_be_called() {
+    laws::has_run();
     laws::one_run();
     laws::network_alone();
+    outcomes::has_answer();
     outcomes::has_outcome();
     outcomes::one_outcome();
     outcomes::one_answer();

@@ -3,15 +3,15 @@ use std::test::Fail;
 
 /// A script, how many of its lines are refused, and what it prints, or the end of that.
 #[derive(Clone, Copy)]
-struct Row {
+pub(super) struct Row {
     name: &'static str,
-    script: &'static [u8],
+    pub(super) script: &'static [u8],
     expected: &'static [u8],
     refused: u64,
     is_whole: bool,
 }
 
-const ROWS: [Row; 18] = [
+pub(super) const ROWS: [Row; 18] = [
     Row {
         name: "triangle",
         script: b"\
