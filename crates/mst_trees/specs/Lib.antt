@@ -1,0 +1,10 @@
+pub mod Sight
+pub mod Cist
+pub mod Msti
+pub mod Outcome
+pub mod Apart
+pub mod Numbered
+pub mod Seen
+pub mod Agrees
+pub mod Mstis
+pub mod Forest

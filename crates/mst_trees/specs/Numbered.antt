@@ -1,0 +1,36 @@
+-- One tree under the numbers of records: what the settling of its bridges and ports needs and gives.
+use Rattle.std.specs.Prelude.{◌≡◌, ◌≢◌, ℕ, ◌≤◌, true, List, IsTrue, length}
+use Rattle.std.specs.List.{AllByRecursion, Contains}
+use Rattle.mst_vector.specs.Rules.{Rules}
+use Rattle.mst_settle.specs.Topology.{Plug, Topology}
+use Rattle.mst_settle.specs.Assignment.{Assignment, vector_of, IsSettledFor}
+use Rattle.mst_settle.specs.Repair.{CountsVectors}
+use Rattle.mst_trees.specs.Apart.{Apart}
+
+-- these bridges and ports
+abbrev pub numbered : {B P : Type 0} → List (ℕ × B) → List (Plug ℕ ℕ ℕ P) → Topology ℕ ℕ ℕ B P
+numbered bridges ports = record { bridges = bridges; ports = ports }
+
+-- two bridges differ in number and identifier
+pub record BridgesDiffer {B P V : Type 0} (m : Rules B P V) (a b : ℕ × B) : Type 0 where
+  pub numbers : a.0 ≢ b.0
+  pub identifiers : m.bridge_id a.1 ≢ m.bridge_id b.1
+
+-- two ports differ in number, and on one bridge in identifier
+pub record PortsDiffer {B P V : Type 0} (m : Rules B P V) (p q : Plug ℕ ℕ ℕ P) : Type 0 where
+  pub numbers : p.number ≢ q.number
+  pub identifiers : p.bridge ≡ q.bridge → m.port_id p.settings ≢ m.port_id q.settings
+
+-- no two are the same, each port takes part, its bridge is among these, and its costs are in range
+pub record CanSettle {B P V : Type 0} (m : Rules B P V) (bridges : List (ℕ × B)) (ports : List (Plug ℕ ℕ ℕ P)) : Type 0 where
+  pub bridges_differ : Apart (BridgesDiffer m) bridges
+  pub ports_differ : Apart (PortsDiffer m) ports
+  pub take_part : AllByRecursion (λ p. p.is_part ≡ true) ports
+  pub have_bridge : AllByRecursion (λ p. (b : B) × Contains bridges (p.bridge, b)) ports
+  pub in_range : AllByRecursion (λ p. IsTrue (m.in_range p.settings)) ports
+  pub few : length bridges ≤ 1024
+
+-- the settled outcome of a topology, for which each bridge was settled once
+pub record IsSettledBy {B P V : Type 0} (m : Rules B P V) (t : Topology ℕ ℕ ℕ B P) (a : Assignment V) : Type 0 where
+  pub outcome : IsSettledFor m t a
+  pub once : CountsVectors (vector_of a) a.settlings
