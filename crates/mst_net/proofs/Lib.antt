@@ -7,6 +7,7 @@ pub mod TableLemmas
 pub mod Rising
 pub mod TableFits
 pub mod SetByTree
+pub mod MarkedLemmas
 pub mod AfterLemmas
 pub mod OfOneRecord
 pub mod StandingLemmas

@@ -15,7 +15,7 @@ pub same_flags : (xs ys : List Bool) → pointwise beq xs ys ≡ true → xs ≡
 same_flags xs ys h = (pointwise_decides booleans_Decides xs ys).0 h
 
 -- ---- the tree of a VID
-at_any : (n i x : ℕ) → get_or (replicate n x) i x ≡ x
+pub at_any : {X : Type 0} (n i : ℕ) (x : X) → get_or (replicate n x) i x ≡ x
 at_any zero i x = refl
 at_any (suc n) zero x = refl
 at_any (suc n) (suc i) x = at_any n i x

@@ -2,6 +2,7 @@
 #![tactic(auto)]
 
 mod ahead;
+mod blocks;
 mod changes;
 mod checks;
 mod contents;

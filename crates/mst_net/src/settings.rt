@@ -1,4 +1,4 @@
-ghost use Rattle.std.specs.Prelude.{◌≡◌, ◌<◌, cond, None};
+ghost use Rattle.std.specs.Prelude.{◌≡◌, ℕ, ◌<◌, ◌≤◌, ◌/◌, cond, None};
 ghost use Rattle.std.specs.Map.{lookup};
 ghost use Rattle.indexmap.specs.IndexMap.{spare};
 ghost use Rattle.mst_net.specs.After.{new_bridge, new_port, new_lan};
@@ -6,6 +6,7 @@ ghost use Rattle.mst_net.specs.OfOneRecord.{bridge_set, port_set, lan_set};
 ghost use Rattle.mst_net.specs.Tables.{BridgeTree, PortTree, bridge_tree_eq, port_tree_eq};
 ghost use Rattle.mst_net.specs.SetByTree.{in_trees_of_bridge, in_trees_of_port};
 
+use crate::blocks::Blocks;
 use indexmap::IndexMap;
 use mst_ids::{ConfName, Cost, Limit, Mac, Name, PortName, Priority, Speed, Tree};
 use mst_lang::{Edit, Kind, LanState, Power};
@@ -247,33 +248,57 @@ pub(crate) fn keep<K: Copy + Eq + Hash, V: Copy>(
     }
 }
 
-/// Takes away what is set for the bridge, in every tree.
-pub(crate) fn forget_bridge(table: &mut IndexMap<BridgeInTree, Priority>, bridge: &Name)
-    ensures { (q : BridgeTree) → lookup (bridge_tree_eq q) table.new.entries ≡ cond (in_trees_of_bridge bridge.now q) None (lookup (bridge_tree_eq q) table.old.entries) }
+/// Takes away what is set for the bridge, in every tree of these blocks. It passes by the others.
+pub(crate) fn forget_bridge(
+    table: &mut IndexMap<BridgeInTree, Priority>,
+    bridge: &Name,
+    blocks: &Blocks,
+)
+    ensures { (q : BridgeTree) → lookup (bridge_tree_eq q) table.new.entries ≡ cond (in_trees_of_bridge bridge.now blocks.now q) None (lookup (bridge_tree_eq q) table.old.entries) }
 {
-    if table.is_empty() {
-        return;
-    }
-    for number in 0..4095 {
-        let tree = Tree::new(number).unwrap();
-        let key = BridgeInTree {
-            bridge: *bridge,
-            tree,
-        };
-        let _ = table.swap_remove(&key);
+    let mut number = 0;
+    while number < 4095 {
+        if blocks.has(number) {
+            let tree = Tree::new(number).unwrap();
+            let key = BridgeInTree {
+                bridge: *bridge,
+                tree,
+            };
+            let _ = table.swap_remove(&key);
+            number += 1;
+        } else {
+            number = next_block(number);
+        }
     }
 }
 
-/// Takes away what is set for the port, in every tree.
-pub(crate) fn forget_port<V: Copy>(table: &mut IndexMap<PortInTree, V>, port: &PortName)
-    ensures { (q : PortTree) → lookup (port_tree_eq q) table.new.entries ≡ cond (in_trees_of_port port.now q) None (lookup (port_tree_eq q) table.old.entries) }
+/// Takes away what is set for the port, in every tree of these blocks. It passes by the others.
+pub(crate) fn forget_port<V: Copy>(
+    table: &mut IndexMap<PortInTree, V>,
+    port: &PortName,
+    blocks: &Blocks,
+)
+    ensures { (q : PortTree) → lookup (port_tree_eq q) table.new.entries ≡ cond (in_trees_of_port port.now blocks.now q) None (lookup (port_tree_eq q) table.old.entries) }
 {
-    if table.is_empty() {
-        return;
+    let mut number = 0;
+    while number < 4095 {
+        if blocks.has(number) {
+            let tree = Tree::new(number).unwrap();
+            let key = PortInTree { port: *port, tree };
+            let _ = table.swap_remove(&key);
+            number += 1;
+        } else {
+            number = next_block(number);
+        }
     }
-    for number in 0..4095 {
-        let tree = Tree::new(number).unwrap();
-        let key = PortInTree { port: *port, tree };
-        let _ = table.swap_remove(&key);
-    }
+}
+
+/// The first tree of the next block, or 4095 after the last.
+fn next_block(tree: u64) -> u64
+    requires { tree < 4095 }
+    ensures above { tree < result }
+    ensures within { result ≤ 4095 }
+    ensures same { (other : ℕ) → tree ≤ other → other < result → other / 64 ≡ tree / 64 }
+{
+    (tree / 64 * 64 + 64).min(4095)
 }

@@ -1,16 +1,19 @@
-ghost use Rattle.std.specs.Prelude.{◌≡◌, ◌<◌, OnOk, OnErr, IfOk};
+ghost use Rattle.std.specs.Prelude.{◌≡◌, ◌<◌, min, OnOk, OnErr, IfOk};
+ghost use Rattle.indexmap.specs.IndexMap.{spare};
 ghost use Rattle.mst_lang.specs.declared.line.Edit.TheVariants.{DelBridge, DelPort, SetTreePriority, SetTreePortPriority, SetTreePortCost, MapVids, SetPortVlans};
 ghost use Rattle.mst_net.specs.After.{own_priority as own, own_table as kept_table, own_vlans as kept_vlans};
 ghost use Rattle.mst_net.specs.ByTree.{AreInTrees, nothing_set, priority_in, port_priority_in, port_cost_in, table_in, vlans_in};
 ghost use Rattle.mst_net.specs.SettingsAfter.{set_after, room_to_set};
 ghost use Rattle.mst_net.specs.Table.{mapped};
 
+use crate::blocks::{Blocks, mark, take};
 use crate::settings::{BridgeInTree, PortInTree, forget_bridge, forget_port, keep};
 use crate::table::Table;
 use indexmap::IndexMap;
 use mst_ids::{Cost, Name, PortName, Priority, Tree, VidSet};
 use mst_lang::Edit;
 use std::alloc::{AllocError, Global};
+use std::hash::Hash;
 use std::marker::Model;
 
 /// What is set by tree or VID, but for defaults: the priorities of bridges and of ports, the internal path
@@ -21,6 +24,9 @@ pub struct TreeSettings {
     port_costs: IndexMap<PortInTree, Cost>,
     tables: IndexMap<Name, Table>,
     vlans: IndexMap<PortName, VidSet>,
+    // The blocks of trees in which something may be set for a bridge, and for a port.
+    bridge_blocks: IndexMap<Name, Blocks>,
+    port_blocks: IndexMap<PortName, Blocks>,
 }
 
 // By hand, as a network's.
@@ -32,6 +38,8 @@ impl Drop for TreeSettings {
             port_costs: _,
             tables: _,
             vlans: _,
+            bridge_blocks: _,
+            port_blocks: _,
         } = self;
     }
 }
@@ -43,9 +51,11 @@ impl Model for TreeSettings {
 
     ghost coded = { settings_code };
 
-    ghost use Rattle.mst_net.specs.SettingsKept.{settings_of};
+    ghost use Rattle.mst_net.specs.SettingsKept.{settings_of, AreMarked};
 
     ghost view = { settings_of };
+
+    ghost invariant = { AreMarked };
 }
 
 impl TreeSettings {
@@ -59,6 +69,8 @@ impl TreeSettings {
             port_costs: IndexMap::new(alloc),
             tables: IndexMap::new(alloc),
             vlans: IndexMap::new(alloc),
+            bridge_blocks: IndexMap::new(alloc),
+            port_blocks: IndexMap::new(alloc),
         }
     }
 
@@ -66,18 +78,21 @@ impl TreeSettings {
     pub(crate) fn copy(&self) -> Result<TreeSettings, AllocError>
         ensures { IfOk result (λ copy. copy.set ≡ self.now.set) }
     {
-        let priorities = self.priorities.clone()?;
+        let (priorities, bridge_blocks) = copies_of_bridges(&self.priorities, &self.bridge_blocks)?;
         let (port_priorities, port_costs) = copies_by_tree(
             &self.port_priorities,
             &self.port_costs,
         )?;
         let (tables, vlans) = copies_by_vid(&self.tables, &self.vlans)?;
+        let port_blocks = copy_of_blocks(&self.port_blocks)?;
         Ok(TreeSettings {
             priorities,
             port_priorities,
             port_costs,
             tables,
             vlans,
+            bridge_blocks,
+            port_blocks,
         })
     }
 
@@ -151,9 +166,15 @@ impl TreeSettings {
         ensures no_room { OnErr result (room_to_set edit.now self.old.room ≡ 0) }
     {
         match edit {
-            Edit::SetTreePriority { .. } => self.priorities.reserve(1),
-            Edit::SetTreePortPriority { .. } => self.port_priorities.reserve(1),
-            Edit::SetTreePortCost { .. } => self.port_costs.reserve(1),
+            Edit::SetTreePriority { .. } => {
+                reserve_by_tree(&mut self.priorities, &mut self.bridge_blocks)
+            }
+            Edit::SetTreePortPriority { .. } => {
+                reserve_by_tree(&mut self.port_priorities, &mut self.port_blocks)
+            }
+            Edit::SetTreePortCost { .. } => {
+                reserve_by_tree(&mut self.port_costs, &mut self.port_blocks)
+            }
             Edit::MapVids { .. } => self.tables.reserve(1),
             Edit::SetPortVlans { .. } => self.vlans.reserve(1),
             _ => Ok(()),
@@ -174,13 +195,13 @@ impl TreeSettings {
                 bridge,
                 tree,
                 priority,
-            } => self.set_priority(bridge, tree, priority),
+            } => self.set_priority(&bridge, tree, priority),
             Edit::SetTreePortPriority {
                 port,
                 tree,
                 priority,
-            } => self.set_port_priority(port, tree, priority),
-            Edit::SetTreePortCost { port, tree, cost } => self.set_port_cost(port, tree, cost),
+            } => self.set_port_priority(&port, tree, priority),
+            Edit::SetTreePortCost { port, tree, cost } => self.set_port_cost(&port, tree, cost),
             Edit::MapVids { bridge, tree, vids } => self.map_vids(bridge, tree, &vids),
             Edit::SetPortVlans { port, vids } => self.set_port_vlans(port, vids),
             _ => {}
@@ -192,7 +213,8 @@ impl TreeSettings {
         requires { AreInTrees self.old.set }
         ensures { self.new.set ≡ set_after (DelBridge bridge.now) self.old.set }
     {
-        forget_bridge(&mut self.priorities, bridge);
+        let blocks = take(&mut self.bridge_blocks, bridge);
+        forget_bridge(&mut self.priorities, bridge, &blocks);
         let _ = self.tables.swap_remove(bridge);
     }
 
@@ -201,32 +223,39 @@ impl TreeSettings {
         requires { AreInTrees self.old.set }
         ensures { self.new.set ≡ set_after (DelPort port.now) self.old.set }
     {
-        forget_port(&mut self.port_priorities, port);
-        forget_port(&mut self.port_costs, port);
+        let blocks = take(&mut self.port_blocks, port);
+        forget_port(&mut self.port_priorities, port, &blocks);
+        forget_port(&mut self.port_costs, port, &blocks);
         let _ = self.vlans.swap_remove(port);
     }
 
-    fn set_priority(&mut self, bridge: Name, tree: Tree, priority: Priority)
+    fn set_priority(&mut self, bridge: &Name, tree: Tree, priority: Priority)
         requires { 0 < self.old.room.priority }
-        ensures { self.new.set ≡ set_after (SetTreePriority bridge tree priority) self.old.set }
+        ensures { self.new.set ≡ set_after (SetTreePriority bridge.now tree priority) self.old.set }
     {
-        let key = BridgeInTree { bridge, tree };
+        let key = BridgeInTree {
+            bridge: *bridge,
+            tree,
+        };
+        mark(&mut self.bridge_blocks, bridge, tree);
         keep(&mut self.priorities, key, own_priority(priority));
     }
 
-    fn set_port_priority(&mut self, port: PortName, tree: Tree, priority: Priority)
+    fn set_port_priority(&mut self, port: &PortName, tree: Tree, priority: Priority)
         requires { 0 < self.old.room.port_priority }
-        ensures { self.new.set ≡ set_after (SetTreePortPriority port tree priority) self.old.set }
+        ensures { self.new.set ≡ set_after (SetTreePortPriority port.now tree priority) self.old.set }
     {
-        let key = PortInTree { port, tree };
+        let key = PortInTree { port: *port, tree };
+        mark(&mut self.port_blocks, port, tree);
         keep(&mut self.port_priorities, key, own_priority(priority));
     }
 
-    fn set_port_cost(&mut self, port: PortName, tree: Tree, cost: Option<Cost>)
+    fn set_port_cost(&mut self, port: &PortName, tree: Tree, cost: Option<Cost>)
         requires { 0 < self.old.room.port_cost }
-        ensures { self.new.set ≡ set_after (SetTreePortCost port tree cost) self.old.set }
+        ensures { self.new.set ≡ set_after (SetTreePortCost port.now tree cost) self.old.set }
     {
-        let key = PortInTree { port, tree };
+        let key = PortInTree { port: *port, tree };
+        mark(&mut self.port_blocks, port, tree);
         keep(&mut self.port_costs, key, cost);
     }
 
@@ -279,8 +308,34 @@ fn own_vlans(vids: VidSet) -> Option<VidSet>
     }
 }
 
-/// Copies of what is set for ports by tree. In two functions with `copies_by_vid`, since each way out of one
-/// has to drop all that is copied so far.
+/// Makes room for one more setting by tree, and for the blocks of one more record.
+fn reserve_by_tree<K: Eq + Hash, V, R: Eq + Hash>(
+    table: &mut IndexMap<K, V>,
+    blocks: &mut IndexMap<R, Blocks>,
+) -> Result<(), AllocError>
+    ensures table { table.new.entries ≡ table.old.entries }
+    ensures blocks { blocks.new.entries ≡ blocks.old.entries }
+    ensures room { OnOk result (0 < min (spare table.new) (spare blocks.new)) }
+    ensures no_room { OnErr result (min (spare table.old) (spare blocks.old) ≡ 0) }
+{
+    table.reserve(1)?;
+    blocks.reserve(1)
+}
+
+/// Copies of what is set for bridges by tree, and of its blocks. In functions of their own, since each way out of
+/// one has to drop all that is copied so far.
+fn copies_of_bridges(
+    priorities: &IndexMap<BridgeInTree, Priority>,
+    blocks: &IndexMap<Name, Blocks>,
+) -> Result<(IndexMap<BridgeInTree, Priority>, IndexMap<Name, Blocks>), AllocError>
+    ensures { IfOk result (λ copies. (copies.0.entries ≡ priorities.now.entries) × (copies.1.entries ≡ blocks.now.entries)) }
+{
+    let priorities = priorities.clone()?;
+    let blocks = blocks.clone()?;
+    Ok((priorities, blocks))
+}
+
+/// Copies of what is set for ports by tree.
 fn copies_by_tree(
     priorities: &IndexMap<PortInTree, Priority>,
     costs: &IndexMap<PortInTree, Cost>,
@@ -292,7 +347,7 @@ fn copies_by_tree(
     Ok((priorities, costs))
 }
 
-/// Copies of what is set by VID: the tables of bridges and the VLANs of ports.
+/// Copies of what is set by VID, the tables of bridges and the VLANs of ports.
 fn copies_by_vid(
     tables: &IndexMap<Name, Table>,
     vlans: &IndexMap<PortName, VidSet>,
@@ -302,4 +357,13 @@ fn copies_by_vid(
     let tables = tables.clone()?;
     let vlans = vlans.clone()?;
     Ok((tables, vlans))
+}
+
+/// A copy of the blocks of ports.
+fn copy_of_blocks(
+    blocks: &IndexMap<PortName, Blocks>,
+) -> Result<IndexMap<PortName, Blocks>, AllocError>
+    ensures { IfOk result (λ copy. copy.entries ≡ blocks.now.entries) }
+{
+    blocks.clone()
 }
