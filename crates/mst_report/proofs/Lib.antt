@@ -8,3 +8,4 @@ pub mod Building
 pub mod Outcomes
 pub mod Printing
 pub mod Classes
+pub mod ByLan

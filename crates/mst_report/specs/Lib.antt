@@ -6,5 +6,7 @@ pub mod Words
 pub mod TreeText
 pub mod LagText
 pub mod LagView
+pub mod KeptWords
+pub mod WordsByLan
 pub mod State
 pub mod Answers

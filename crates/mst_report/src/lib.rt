@@ -1,6 +1,7 @@
 //! The texts that answer queries about a network.
 #![tactic(auto)]
 
+mod by_lan;
 mod cist;
 mod lags;
 pub mod laws;
