@@ -1,0 +1,28 @@
+//! Laws of roles. Their functions do nothing: a caller has their clauses.
+ghost use Rattle.std.specs.Prelude.{◌≡◌, ◌↔◌, ℕ, true, Some};
+ghost use Rattle.std.specs.List.{Contains};
+ghost use Rattle.mst_net.specs.Tables.{Net, IsNetwork};
+ghost use Rattle.mst_net.specs.ByTree.{by_tree};
+ghost use Rattle.mst_lag.specs.View.{LogicalPort, view_ports};
+ghost use Rattle.mst_nested.specs.Roles.{Forwards};
+ghost use Rattle.mst_trees.specs.Sight.{tree_port};
+ghost use Rattle.mst_trees.specs.Cist.{cist_port};
+ghost use Rattle.mst_trees.specs.Outcome.{Outcome, IsOutcome, trees_of};
+ghost use Rattle.mst_roles.specs.Roles.{role_in, forwards};
+ghost use Rattle.mst_roles.specs.declared.kind.Role.{Role as RoleOf};
+
+use mst_ids::{Name, PortName};
+use mst_nested::laws::designated_by_key;
+use mst_settle::laws::one_outcome;
+use mst_vector::{CistMetric, MstiMetric};
+
+/// The enabled ports whose roles are Root, Designated or Master are those that forward in the nested trees of the
+/// outcome. So what is proved of these there holds of roles.
+pub fn forwarding()
+    ensures { (net : Net) (o : Outcome) → IsNetwork net → IsOutcome net o → (p : LogicalPort) → Contains (view_ports net) p → p.is_enabled ≡ true
+        → (tree : ℕ) (role : RoleOf) → role_in net o tree p ≡ Some role → forwards role ≡ true ↔ Forwards (trees_of net o) tree (tree_port p (cist_port (by_tree net) p)) }
+{
+    one_outcome::<CistMetric, Name, Name, PortName>();
+    designated_by_key::<CistMetric, Name, Name, PortName>();
+    designated_by_key::<MstiMetric, Name, Name, PortName>();
+}

@@ -1,0 +1,9 @@
+//! The roles of logical ports in the trees of a network (802.1Q-2022, 13.12).
+#![tactic(auto)]
+
+mod kind;
+pub mod laws;
+mod roles;
+
+pub use kind::Role;
+pub use roles::role;
