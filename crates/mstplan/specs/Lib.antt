@@ -1,3 +1,4 @@
 pub mod Endings
 pub mod Buffered
 pub mod Named
+pub mod Words

@@ -1,4 +1,6 @@
-ghost use Rattle.std.specs.Prelude.{◌≡◌};
+ghost use Rattle.std.specs.Prelude.{◌≡◌, codes, option_map, unwrap_or};
+ghost use Rattle.clap.specs.Words.{first_value, found_of, subcommand_rows_of};
+ghost use Rattle.mstplan.specs.Words.{file_in};
 
 use crate::endings::Stop;
 use clap::error::ErrorKind;
@@ -65,9 +67,21 @@ fn command<'a>(alloc: Global) -> Result<Command<'a>, AllocError> {
 }
 
 /// The file of a command, `-` where there is none.
-fn file_of<'a>(matches: &ArgMatches<'a>) -> &'a str {
+fn file_of<'a>(matches: &ArgMatches<'a>) -> &'a str
+    ensures { result.now ≡ file_in (option_map (λ found. found.1) (subcommand_rows_of matches.now)) }
+{
     match matches.subcommand() {
-        Some((_, found)) => found.get_str("FILE").unwrap_or("-"),
+        Some((_, found)) => value_in(found),
+        None => "-",
+    }
+}
+
+/// The value of FILE, `-` where there is none.
+fn value_in<'a>(found: &ArgMatches<'a>) -> &'a str
+    ensures { result.now ≡ unwrap_or (first_value (found_of found.now) (codes "FILE")) (codes "-") }
+{
+    match found.get_str("FILE") {
+        Some(file) => file,
         None => "-",
     }
 }
