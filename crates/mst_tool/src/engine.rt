@@ -1,6 +1,7 @@
 ghost use Rattle.std.specs.Prelude.{◌≡◌, ◌≢◌, ℕ, ◌+◌, ◌^◌, ◌<◌, Bool, Ok, Err, IsOk, IfOk, IfErr, OnOk, OnErr};
 ghost use Rattle.std.specs.Io.KnownBytes.{Appends};
 ghost use Rattle.mst_net.specs.After.{after};
+ghost use Rattle.mst_net.specs.Contents.{room_for};
 ghost use Rattle.mst_lang.specs.declared.line.Line.TheVariants.{Query as query};
 ghost use Rattle.mst_report.specs.State.{state_of};
 ghost use Rattle.mst_tool.specs.Written.{AppendsFront};
@@ -152,12 +153,13 @@ fn is_served(edit: &Edit) -> bool
     }
 }
 
-/// Makes an edit, or leaves the network.
+/// Makes an edit, or leaves the network. Want of memory is told only where there was no room for the edit.
 fn apply(network: &mut Network, edit: &Edit) -> Result<(), Refusal>
     ensures ok { OnOk result (after edit.now network.old.net ≡ Ok network.new.net) }
     ensures err { OnErr result (network.new.net ≡ network.old.net) }
     ensures refused { IfErr result (λ refusal. refusal ≢ Refusal.E99 → after edit.now network.old.net ≡ Err refusal) }
     ensures memory { result ≡ Err Refusal.E99 → IsOk (after edit.now network.old.net) }
+    ensures no_room { result ≡ Err Refusal.E99 → room_for edit.now network.old.room ≡ 0 }
 {
     match network.prepare(edit) {
         Ok(ready) => {
