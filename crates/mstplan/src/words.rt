@@ -1,10 +1,10 @@
-ghost use Rattle.std.specs.Prelude.{◌≡◌, codes, option_map, unwrap_or};
-ghost use Rattle.clap.specs.Words.{first_value, found_of, subcommand_rows_of};
+ghost use Rattle.std.specs.Prelude.{◌≡◌, ◌≢◌, ◌⊎◌, codes, option_map, unwrap_or};
+ghost use Rattle.clap.specs.Words.{first_value, found_of, kind_of, subcommand_rows_of};
 ghost use Rattle.mstplan.specs.Words.{file_in};
 
 use crate::endings::Stop;
 use clap::error::ErrorKind;
-use clap::{Arg, ArgMatches, Command};
+use clap::{Arg, ArgMatches, Command, Error};
 use mst_tool::RunFault;
 use std::alloc::{AllocError, Global};
 use std::env::{self, Env};
@@ -43,13 +43,26 @@ pub(crate) fn named_file<'a, R: Print + Eprint + AllocGlobal>(
         .try_get_matches_from(words)
     {
         Ok(matches) => Ok(file_of(&matches)),
-        Err(error) if error.kind() == ErrorKind::OutOfMemory => {
-            Err(Stop::Fault(RunFault::Memory))
-        }
-        Err(error) => match error.print(rt) {
-            Err(_) if !error.use_stderr() => Err(Stop::Fault(RunFault::Write)),
-            _ => Err(Stop::Told(error.exit_code() as u8)),
+        Err(error) => Err(tell_words(rt, &error)),
+    }
+}
+
+/// Tells what the words ask for, on standard output, or what is wrong with them, on standard error.
+fn tell_words<R: Print + Eprint>(rt: &R, error: &Error) -> Stop<'static>
+    ensures memory { kind_of error.now ≡ ErrorKind.OutOfMemory → result ≡ Stop.Fault RunFault.Memory }
+    ensures asked { kind_of error.now ≡ ErrorKind.DisplayHelp → (result ≡ Stop.Told 0) ⊎ (result ≡ Stop.Fault RunFault.Write) }
+    ensures wrong { kind_of error.now ≢ ErrorKind.OutOfMemory → kind_of error.now ≢ ErrorKind.DisplayHelp → result ≡ Stop.Told 2 }
+{
+    match error.kind() {
+        ErrorKind::OutOfMemory => Stop::Fault(RunFault::Memory),
+        ErrorKind::DisplayHelp => match error.print(rt) {
+            Ok(()) => Stop::Told(0),
+            Err(_) => Stop::Fault(RunFault::Write),
         },
+        _ => {
+            let _ = error.print(rt);
+            Stop::Told(2)
+        }
     }
 }
 
