@@ -4,13 +4,13 @@ ghost use Rattle.mst_lang.specs.declared.line.Edit.TheVariants.{DelBridge, DelPo
 ghost use Rattle.mst_net.specs.After.{own_priority as own, own_table as kept_table, own_vlans as kept_vlans};
 ghost use Rattle.mst_net.specs.ByTree.{AreInTrees, nothing_set, priority_in, port_priority_in, port_cost_in, table_in, vlans_in};
 ghost use Rattle.mst_net.specs.SettingsAfter.{set_after, room_to_set};
-ghost use Rattle.mst_net.specs.Table.{mapped};
+ghost use Rattle.mst_net.specs.Table.{mapped, tree_in};
 
 use crate::blocks::{Blocks, mark, take};
 use crate::settings::{BridgeInTree, PortInTree, forget_bridge, forget_port, keep};
 use crate::table::Table;
 use indexmap::IndexMap;
-use mst_ids::{Cost, Name, PortName, Priority, Tree, VidSet};
+use mst_ids::{Cost, Name, PortName, Priority, Tree, Vid, VidSet};
 use mst_lang::Edit;
 use std::alloc::{AllocError, Global};
 use std::hash::Hash;
@@ -147,6 +147,16 @@ impl TreeSettings {
         match self.tables.get(bridge) {
             Some(table) => *table,
             None => Table::new(),
+        }
+    }
+
+    /// The tree that a bridge's table maps a VID to. It copies no table.
+    pub fn tree_of(&self, bridge: &Name, vid: Vid) -> Tree
+        ensures { result ≡ tree_in (table_in self.now.set.tables bridge.now) vid }
+    {
+        match self.tables.get(bridge) {
+            Some(table) => table.tree(vid),
+            None => Tree::cist(),
         }
     }
 
