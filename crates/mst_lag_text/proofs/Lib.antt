@@ -1,0 +1,2 @@
+pub mod ByLan
+pub mod Classes

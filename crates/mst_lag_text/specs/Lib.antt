@@ -1,0 +1,4 @@
+pub mod LagText
+pub mod LagView
+pub mod KeptWords
+pub mod WordsByLan
