@@ -1,7 +1,7 @@
 -- Whether a logical port forwards for a VID, under its number and under its name.
-use Rattle.std.proofs.Common.{◌≡◌, ℕ, ◌==◌, true, false, Bool, List, Option, Some, None, is_some, refl, sym, ap, ◌∙◌, true≢false, eq-eqb}
+use Rattle.std.proofs.Common.{◌≡◌, ℕ, ◌==◌, false, List, Option, Some, None, is_some, refl, sym, ap, ◌∙◌, true≢false, eq-eqb}
 use Rattle.std.specs.Prelude.{if◌then◌else◌}
-use Rattle.std.specs.List.{AllByRecursion, find}
+use Rattle.std.specs.List.{find}
 use Rattle.std.specs.Option.{option_map, option_map_or}
 use Rattle.std.specs.FinMap as fin
 use Rattle.std.proofs.lemmas.Bool.{eqb-true}
@@ -11,16 +11,16 @@ use Rattle.mst_net.specs.ByTree.{table_in}
 use Rattle.mst_net.specs.Seen.{bridge_row}
 use Rattle.mst_net.specs.Table.{tree_in}
 use Rattle.mst_net.specs.After.{table_of}
-use Rattle.mst_lag.specs.View.{LogicalPort, view_ports}
+use Rattle.mst_lag.specs.View.{view_ports}
 use Rattle.mst_lag.specs.Viewed.{Viewed, named_port}
 use Rattle.mst_lag.specs.declared.in_view.BridgeInView.{BridgeInView}
 use Rattle.mst_lag.specs.declared.in_view.PortInView.{PortInView}
 use Rattle.mst_trees.specs.Agrees.{AreOf}
 use Rattle.mst_trees.specs.Forest.{IsForest}
 use Rattle.mst_trees.specs.declared.forest.Forest.{Forest}
-use Rattle.mst_trees.proofs.Lists.{some_is, all_there}
-use Rattle.mst_trees.proofs.Looking.{IsFirst, first_found}
-use Rattle.mst_trees.proofs.Seen.{SeenPort, SeenBridge, bridge_there, bridge_seen, port_seen}
+use Rattle.mst_trees.proofs.Lists.{some_is}
+use Rattle.mst_trees.proofs.Looking.{first_found}
+use Rattle.mst_trees.proofs.Seen.{SeenPort, bridge_there, bridge_seen, port_seen}
 use Rattle.mst_roles.specs.Roles.{forwards, tree_of_vid, forwards_for}
 use Rattle.mst_roles.specs.Seen.{seen_role, seen_tree, seen_forwards}
 use Rattle.mst_roles.proofs.Named.{each_same, port_listed, found_in}

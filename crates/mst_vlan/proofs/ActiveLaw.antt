@@ -41,6 +41,7 @@ use Rattle.mst_roles.specs.declared.kind.Role.TheVariants.{Disabled}
 use Rattle.mst_vlan.specs.Active.{active_ports, port_ends, IsEnabled, JoinWithoutLoop}
 use Rattle.mst_vlan.proofs.Carried.{HasEnds, carried}
 use Rattle.mst_vlan.proofs.Names.{tests}
+use Rattle.mst_vlan.proofs.Plugs.{plug, enabled_plug}
 use Rattle.mst_vlan.proofs.VidTrees.{has_its_tree, one_tree}
 
 -- the laws that it rests on, at names
@@ -118,9 +119,6 @@ module _ (net : Net) (ok : IsNetwork net) (o : Outcome) (settled : IsSettled (tr
   abbrev tree : List ℕ → ℕ
   tree name = tree_of_vid net name vid
 
-  abbrev plug : LogicalPort → Plug (List ℕ) (List ℕ) PortName CistPort
-  plug p = tree_port p (cist_port (by_tree net) p)
-
   -- ---- the trees of the VID
   -- a bridge of the CIST is on, and has its region
   record InCist (n : List ℕ) (b : CistBridge) : Type 0 where
@@ -162,31 +160,26 @@ module _ (net : Net) (ok : IsNetwork net) (o : Outcome) (settled : IsSettled (tr
   of_vid = record { has_tree = λ n b h. has_tree n b h (tree n) refl; one_tree = shared }
 
   -- ---- ports and plugs
-  -- an enabled port is a plug of the CIST
-  enabled_plug : (p : LogicalPort) → IsEnabled net p → IsEnabledPlug f (plug p)
-  enabled_plug p h =
-      (port_in net ok cist_rules (cist_sight net) (cist_is_sight net ok) p (cist_port (by_tree net) p) h.0 (ap (λ (t : Bool). if t then Some (cist_port (by_tree net) p) else None) h.1), refl)
-
-  active_plug : (p : LogicalPort) → Contains (active_ports net o vid) p → IsActive f tree (plug p)
+  active_plug : (p : LogicalPort) → Contains (active_ports net o vid) p → IsActive f tree (plug net p)
   active_plug p h =
       let x = from_filter (forwards_for net o vid) (view_ports net) p h in
       let enabled = active_enabled net o vid p x.1 in
       let r = forwards_by (role_in net o (tree p.name.bridge) p) x.1 in
-      record { is_enabled = enabled_plug p (x.0, enabled); forwards = (law p x.0 enabled (tree p.name.bridge) r.0 r.1).0 r.2 }
+      record { is_enabled = enabled_plug net ok p (x.0, enabled); forwards = (law p x.0 enabled (tree p.name.bridge) r.0 r.1).0 r.2 }
 
   -- and an active plug is that of an active port
   record IsOfActive (e : Plug (List ℕ) (List ℕ) PortName CistPort) : Type 0 where
     port : LogicalPort
     is_active : Contains (active_ports net o vid) port
-    is : plug port ≡ e
+    is : plug net port ≡ e
 
   of_active : (e : Plug (List ℕ) (List ℕ) PortName CistPort) → IsActive f tree e → IsOfActive e
   of_active e a =
       let x = port_from net ok cist_rules (cist_sight net) (cist_is_sight net ok) e a.is_enabled.0 in
       let g = given x.port.is_enabled (cist_port (by_tree net) x.port) x.settings x.seen in
-      let same : plug x.port ≡ e = ap (tree_port x.port) g.1 ∙ x.is in
-      let active : IsActive f tree (plug x.port) = subst (IsActive f tree) (sym same) a in
-      let own = settled.cist.topology.has_bridge (plug x.port) active.is_enabled.0 in
+      let same : plug net x.port ≡ e = ap (tree_port x.port) g.1 ∙ x.is in
+      let active : IsActive f tree (plug net x.port) = subst (IsActive f tree) (sym same) a in
+      let own = settled.cist.topology.has_bridge (plug net x.port) active.is_enabled.0 in
       let on = in_cist x.port.name.bridge own.0 own.1 in
       let r = role_there net o (tree x.port.name.bridge) x.port (λ i k. has_its_tree net ok x.port.name.bridge on.row vid i on.has_row k) in
       let forwards_so : forwards_for net o vid x.port ≡ true = ap (λ (q : Option Role). option_map_or forwards q false) r.1 ∙ (law x.port x.there g.0 (tree x.port.name.bridge) r.0 r.1).1 active.forwards in
@@ -196,13 +189,13 @@ module _ (net : Net) (ok : IsNetwork net) (o : Outcome) (settled : IsSettled (tr
   pub joined_without_loop : Joined → NoLoop → JoinWithoutLoop net (active_ports net o vid)
   joined_without_loop joined no_loop = record {
     joined = λ p h. carried plug_ends port_ends (λ e a. let x = of_active e a in record { edge = x.port; kind = x.is_active; from = ap plug_ends.from x.is; to = ap plug_ends.to x.is })
-        (joined f tree tests settled free of_vid (plug p) (enabled_plug p h));
-    no_loop = λ p h walk. no_loop f tree tests settled free of_vid (plug p) (active_plug p h) (carried port_ends plug_ends (others p h) walk);
+        (joined f tree tests settled free of_vid (plug net p) (enabled_plug net ok p h));
+    no_loop = λ p h walk. no_loop f tree tests settled free of_vid (plug net p) (active_plug p h) (carried port_ends plug_ends (others p h) walk);
   }
     where
-      others : (p : LogicalPort) → Contains (active_ports net o vid) p → (q : LogicalPort) → Other (Contains (active_ports net o vid)) p q → HasEnds port_ends plug_ends (Other (IsActive f tree) (plug p)) q
+      others : (p : LogicalPort) → Contains (active_ports net o vid) p → (q : LogicalPort) → Other (Contains (active_ports net o vid)) p q → HasEnds port_ends plug_ends (Other (IsActive f tree) (plug net p)) q
       others p h q other = record {
-        edge = plug q;
+        edge = plug net q;
         kind = (active_plug q other.0, λ same. other.1 (one_port net o vid q p (from_filter (forwards_for net o vid) (view_ports net) q other.0).0 (from_filter (forwards_for net o vid) (view_ports net) p h).0
             (ap (λ (r : Plug (List ℕ) (List ℕ) PortName CistPort). r.number) same)));
         from = refl;

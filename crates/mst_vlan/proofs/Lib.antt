@@ -1,5 +1,6 @@
 pub mod Names
 pub mod Carried
+pub mod Plugs
 pub mod VidTrees
 pub mod ActiveLaw
 pub mod LogicalLans
