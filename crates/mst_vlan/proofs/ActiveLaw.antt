@@ -1,10 +1,10 @@
 -- The active ports of a VID join what is enabled, without a loop.
-use Rattle.std.proofs.Common.{◌≡◌, ◌≢◌, ℕ, zero, suc, ◌==◌, ◌&&◌, Bool, true, false, List, Option, Some, None, refl, sym, ap, subst, ◌∙◌, inl, inr, true≢false, eq-eqb, Less, arith}
+use Rattle.std.proofs.Common.{◌≡◌, ℕ, zero, suc, ◌==◌, ◌&&◌, Bool, true, false, List, Option, Some, None, refl, sym, ap, subst, ◌∙◌, inl, inr, true≢false, eq-eqb, Less, arith}
 use Rattle.std.specs.Prelude.{if◌then◌else◌, ◌↔◌}
 use Rattle.std.specs.List.{Contains}
 use Rattle.std.specs.Option.{option_map_or}
 use Rattle.std.specs.FinMap as fin
-use Rattle.std.proofs.lemmas.Bool.{eqb-true, and_parts}
+use Rattle.std.proofs.lemmas.Bool.{eqb-true}
 use Rattle.mst_ids.specs.Names.{port_cmp}
 use Rattle.mst_ids.specs.declared.name.PortName.{PortName}
 use Rattle.mst_vector.specs.Cist.{cist_rules}
@@ -13,10 +13,8 @@ use Rattle.mst_vector.specs.declared.cist.CistBridge.{CistBridge}
 use Rattle.mst_vector.specs.declared.cist.CistPort.{CistPort}
 use Rattle.mst_vector.specs.declared.msti.MstiBridge.{MstiBridge}
 use Rattle.mst_settle.specs.Topology.{Plug, HasBridge, KeyTests}
-use Rattle.mst_graph.specs.Walks.{Node, Walk}
 use Rattle.mst_graph.specs.Joined.{IsJoined, HasNoLoop, Other}
 use Rattle.mst_graph.proofs.Members.{in_filter, from_filter}
-use Rattle.mst_graph.proofs.Walks.{replaced}
 use Rattle.mst_nested.specs.Ports.{port_ends as plug_ends}
 use Rattle.mst_nested.specs.Trees.{Trees, IsSettled, IsFree, IsEnabled as IsEnabledPlug, HasTree, SameRegion}
 use Rattle.mst_nested.specs.Roles.{Forwards}
@@ -28,17 +26,17 @@ use Rattle.mst_config.specs.Regions.{same_region, region_of}
 use Rattle.mst_config.proofs.SameRegion.{told}
 use Rattle.mst_trees.specs.Sight.{tree_port}
 use Rattle.mst_trees.specs.Cist.{cist_bridge, cist_port, cist_sight, cist_of}
-use Rattle.mst_trees.specs.Msti.{msti_bridge, msti_sight, msti_of, has_msti}
-use Rattle.mst_trees.specs.Outcome.{Outcome, IsOutcome, trees_of}
+use Rattle.mst_trees.specs.Msti.{msti_bridge, msti_sight, has_msti}
+use Rattle.mst_trees.specs.Outcome.{Outcome, trees_of}
 use Rattle.mst_trees.proofs.CistTopology.{given, cist_is_sight}
 use Rattle.mst_trees.proofs.MstiTopology.{msti_is_sight}
 use Rattle.mst_trees.proofs.Lists.{apart_cases}
-use Rattle.mst_trees.proofs.Sights.{bridge_from, bridge_in, port_from, port_in}
+use Rattle.mst_trees.proofs.Sights.{bridge_from, bridge_in, port_from}
 use Rattle.mst_trees.proofs.Views.{ports_rise, port_names_differ}
 use Rattle.mst_roles.specs.Roles.{cist_role, msti_role, role_in, forwards, tree_of_vid, forwards_for}
 use Rattle.mst_roles.specs.declared.kind.Role.{Role}
 use Rattle.mst_roles.specs.declared.kind.Role.TheVariants.{Disabled}
-use Rattle.mst_vlan.specs.Active.{active_ports, port_ends, IsEnabled, JoinWithoutLoop}
+use Rattle.mst_vlan.specs.Active.{active_ports, port_ends, JoinWithoutLoop}
 use Rattle.mst_vlan.proofs.Carried.{HasEnds, carried}
 use Rattle.mst_vlan.proofs.Names.{tests}
 use Rattle.mst_vlan.proofs.Plugs.{plug, enabled_plug}
@@ -109,7 +107,7 @@ module _ (net : Net) (o : Outcome) (vid : ℕ) where
   role_there (suc i) p has = (
     msti_role net o (suc i) p,
     ap (λ b. if b then Some (cist_role net o p) else (if has_msti net (suc i) p.name.bridge then Some (msti_role net o (suc i) p) else None)) (not_zero i)
-    ∙ ap (λ b. if b then Some (msti_role net o (suc i) p) else None) (has i refl),
+        ∙ ap (λ b. if b then Some (msti_role net o (suc i) p) else None) (has i refl),
   )
 
 module _ (net : Net) (ok : IsNetwork net) (o : Outcome) (settled : IsSettled (trees_of net o)) (free : IsFree (trees_of net o)) (law : Forwarding net o) (vid : ℕ) where
@@ -181,7 +179,7 @@ module _ (net : Net) (ok : IsNetwork net) (o : Outcome) (settled : IsSettled (tr
       let active : IsActive f tree (plug net x.port) = subst (IsActive f tree) (sym same) a in
       let own = settled.cist.topology.has_bridge (plug net x.port) active.is_enabled.0 in
       let on = in_cist x.port.name.bridge own.0 own.1 in
-      let r = role_there net o (tree x.port.name.bridge) x.port (λ i k. has_its_tree net ok x.port.name.bridge on.row vid i on.has_row k) in
+      let r = role_there net o vid (tree x.port.name.bridge) x.port (λ i k. has_its_tree net ok x.port.name.bridge on.row vid i on.has_row k) in
       let forwards_so : forwards_for net o vid x.port ≡ true = ap (λ (q : Option Role). option_map_or forwards q false) r.1 ∙ (law x.port x.there g.0 (tree x.port.name.bridge) r.0 r.1).1 active.forwards in
       record { port = x.port; is_active = in_filter (forwards_for net o vid) (view_ports net) x.port x.there forwards_so; is = same }
 
@@ -196,8 +194,11 @@ module _ (net : Net) (ok : IsNetwork net) (o : Outcome) (settled : IsSettled (tr
       others : (p : LogicalPort) → Contains (active_ports net o vid) p → (q : LogicalPort) → Other (Contains (active_ports net o vid)) p q → HasEnds port_ends plug_ends (Other (IsActive f tree) (plug net p)) q
       others p h q other = record {
         edge = plug net q;
-        kind = (active_plug q other.0, λ same. other.1 (one_port net o vid q p (from_filter (forwards_for net o vid) (view_ports net) q other.0).0 (from_filter (forwards_for net o vid) (view_ports net) p h).0
-            (ap (λ (r : Plug (List ℕ) (List ℕ) PortName CistPort). r.number) same)));
+        kind = (
+          active_plug q other.0,
+          λ same. other.1 (one_port net o vid q p (from_filter (forwards_for net o vid) (view_ports net) q other.0).0 (from_filter (forwards_for net o vid) (view_ports net) p h).0
+              (ap (λ (r : Plug (List ℕ) (List ℕ) PortName CistPort). r.number) same)),
+        );
         from = refl;
         to = refl;
       }

@@ -1,5 +1,5 @@
 -- The two ends of an enabled port are a bridge that is on and a logical LAN that is up.
-use Rattle.std.proofs.Common.{◌≡◌, ℕ, true, ◌&&◌, List, Option, Some, None, refl, sym, ap, subst, ◌∙◌, is_some}
+use Rattle.std.proofs.Common.{◌≡◌, ℕ, true, List, Option, Some, None, refl, sym, ap, subst, ◌∙◌}
 use Rattle.std.specs.List.{Contains, filter}
 use Rattle.std.specs.Option.{option_map}
 use Rattle.std.specs.Ordering.{eq_by_cmp}
@@ -52,5 +52,5 @@ module _ (net : Net) (ok : IsNetwork net) where
       let both = and_parts (is_on net (q.0).port.bridge) (is_up net (logical_lan net (q.0).lan)) (ap (λ (x : LogicalPort). x.is_enabled) q.2 ∙ enabled) in (
         subst (λ (x : LogicalPort). Contains (bridges_on net) x.name.bridge) q.2 (bridge_on (q.0).port.bridge both.0),
         subst (λ (x : LogicalPort). Contains (lans_up net) x.lan) q.2
-        (up_there net (logical_lan net (q.0).lan) (is_logical net (q.0).lan (plug_lan_there q.0 plugged.0)) both.1),
+            (up_there net (logical_lan net (q.0).lan) (is_logical net (q.0).lan (plug_lan_there q.0 plugged.0)) both.1),
       )

@@ -1,5 +1,5 @@
 -- A network has one list of islands of a VID.
-use Rattle.std.proofs.Common.{◌≡◌, ◌≢◌, ℕ, suc, zero, Bool, true, false, get_or, List, [], ◌∷◌, map, filter, refl, sym, ap, ◌∙◌, ◌⊎◌, inl, inr, true≢false, Less}
+use Rattle.std.proofs.Common.{◌≡◌, ℕ, suc, Bool, true, false, get_or, List, [], ◌∷◌, map, filter, refl, sym, ap, ◌∙◌, ◌⊎◌, inl, inr, true≢false, Less}
 use Rattle.std.specs.Prelude.{if◌then◌else◌}
 use Rattle.std.specs.List.{Contains}
 use Rattle.std.specs.Cmp.Lexicographic.{nat_list_cmp_total, nat_list_eq_equiv}
@@ -7,7 +7,7 @@ use Rattle.std.specs.FinMap as fin
 use Rattle.mst_ids.specs.Names.{name_cmp}
 use Rattle.mst_graph.specs.Groups.{StandOnce}
 use Rattle.mst_graph.specs.Islands.{Island}
-use Rattle.mst_graph.specs.Renaming.{KeepApart, link_by, island_by}
+use Rattle.mst_graph.specs.Renaming.{KeepApart, link_by}
 use Rattle.mst_graph.proofs.HasList.{has_islands}
 use Rattle.mst_graph.proofs.Members.{in_none, cases}
 use Rattle.mst_graph.proofs.OneList.{one_islands}

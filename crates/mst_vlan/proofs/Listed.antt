@@ -1,7 +1,7 @@
 -- What is listed by number is what is listed by name.
-use Rattle.std.proofs.Common.{◌≡◌, ℕ, ◌==◌, Bool, true, false, List, map, filter, Option, Some, None, refl, sym, ap, subst, ◌∙◌, true≢false, unwrap_or}
+use Rattle.std.proofs.Common.{◌≡◌, ℕ, ◌==◌, Bool, true, false, List, map, filter, Some, None, refl, sym, ap, subst, ◌∙◌, true≢false, unwrap_or}
 use Rattle.std.specs.Prelude.{if◌then◌else◌}
-use Rattle.std.specs.List.{AllByRecursion, Contains}
+use Rattle.std.specs.List.{Contains}
 use Rattle.std.specs.Option.{option_map_or}
 use Rattle.std.specs.FinMap as fin
 use Rattle.mst_ids.specs.Vids.{has}
@@ -10,10 +10,10 @@ use Rattle.mst_graph.specs.Renaming.{KeepApart, link_by}
 use Rattle.mst_graph.proofs.Members.{in_map, from_map, from_filter}
 use Rattle.mst_graph.proofs.Splits.{kept_each, map_of_map}
 use Rattle.mst_net.specs.Tables.{Net, Numbers, BridgeRow}
-use Rattle.mst_net.specs.ByTree.{by_tree, vlans_in}
+use Rattle.mst_net.specs.ByTree.{vlans_in}
 use Rattle.mst_net.specs.Seen.{bridge_row}
 use Rattle.mst_lag.specs.Trees.{is_among}
-use Rattle.mst_lag.specs.View.{LogicalPort, LogicalLan, view_ports, view_lans}
+use Rattle.mst_lag.specs.View.{LogicalPort, LogicalLan}
 use Rattle.mst_lag.specs.Viewed.{Viewed, named_bridge, named_port, named_lan}
 use Rattle.mst_lag.specs.declared.in_view.BridgeInView.{BridgeInView}
 use Rattle.mst_lag.specs.declared.in_view.PortInView.{PortInView}
@@ -23,12 +23,11 @@ use Rattle.mst_trees.specs.Forest.{IsForest}
 use Rattle.mst_trees.specs.Seen.{trees_at}
 use Rattle.mst_trees.specs.declared.forest.Forest.{Forest}
 use Rattle.mst_trees.proofs.Entries.{all_weaker}
-use Rattle.mst_trees.proofs.Lists.{some_is, all_contained, filter_mapped}
+use Rattle.mst_trees.proofs.Lists.{all_contained, filter_mapped}
 use Rattle.mst_trees.proofs.Looking.{filter_alike}
 use Rattle.mst_trees.proofs.Seen.{SeenPort, bridge_seen, ports_seen, port_seen, port_of_net}
 use Rattle.mst_roles.specs.Roles.{forwards, forwards_for}
-use Rattle.mst_roles.specs.Seen.{seen_cist_role, seen_msti_role, seen_role, seen_tree, seen_forwards}
-use Rattle.mst_roles.specs.declared.kind.Role.{Role}
+use Rattle.mst_roles.specs.Seen.{seen_cist_role, seen_msti_role, seen_tree, seen_forwards}
 use Rattle.mst_roles.specs.declared.kind.Role.TheVariants.{Disabled}
 use Rattle.mst_roles.proofs.Forwarded.{each_forwards}
 use Rattle.mst_vlan.specs.Active.{active_ports}
@@ -107,13 +106,13 @@ module _ (net : Net) (numbers : Numbers) (v : Viewed) (f : Forest) (of : AreOf n
   -- each has a number, and no two have one
   pub bridge_has : (a : List ℕ) → Contains (bridges_on net) a → fin.get numbers.bridges a ≡ Some (bridge_no numbers a)
   bridge_has a h =
-      let b = from_map (λ (b : BridgeInView). b.name) on a (subst (λ as. Contains as a) bridges_named h) in
+      let b = from_map (λ (b : BridgeInView). b.name) on a (subst (λ names. Contains names a) bridges_named h) in
       let e = bridge_numbered b.0 b.1 in
       subst (λ a. fin.get numbers.bridges a ≡ Some (bridge_no numbers a)) b.2 (e ∙ ap Some (sym (ap (λ o. unwrap_or o 0) e)))
 
   pub lan_has : (a : List ℕ) → Contains (lans_up net) a → fin.get numbers.lans a ≡ Some (lan_no numbers a)
   lan_has a h =
-      let l = from_map (λ (l : LanInView). l.name) up a (subst (λ as. Contains as a) lans_named h) in
+      let l = from_map (λ (l : LanInView). l.name) up a (subst (λ names. Contains names a) lans_named h) in
       let e = lan_numbered l.0 l.1 in
       subst (λ a. fin.get numbers.lans a ≡ Some (lan_no numbers a)) l.2 (e ∙ ap Some (sym (ap (λ o. unwrap_or o 0) e)))
 
@@ -133,9 +132,9 @@ module _ (net : Net) (numbers : Numbers) (v : Viewed) (f : Forest) (of : AreOf n
       let own = (port_seen net numbers v of.view p.0 active.0).has_numbers in
       let ends = enabled_ends net of.network (named_port p.0) (port_of_net net numbers v of.view p.0 active.0) (seen_enabled v f vid p.0 active.1) in (
         subst (λ ns. Contains ns k.bridge) bridges_are
-        (subst (Contains (map (bridge_no numbers) (bridges_on net))) (ap (λ o. unwrap_or o 0) own.bridge ∙ ap (λ (k : Link ℕ ℕ). k.bridge) p.2) (in_map (bridge_no numbers) (bridges_on net) (p.0).name.bridge ends.0)),
+            (subst (Contains (map (bridge_no numbers) (bridges_on net))) (ap (λ o. unwrap_or o 0) own.bridge ∙ ap (λ (k : Link ℕ ℕ). k.bridge) p.2) (in_map (bridge_no numbers) (bridges_on net) (p.0).name.bridge ends.0)),
         subst (λ ns. Contains ns k.lan) lans_are
-        (subst (Contains (map (lan_no numbers) (lans_up net))) (ap (λ o. unwrap_or o 0) own.lan ∙ ap (λ (k : Link ℕ ℕ). k.lan) p.2) (in_map (lan_no numbers) (lans_up net) (p.0).lan ends.1)),
+            (subst (Contains (map (lan_no numbers) (lans_up net))) (ap (λ o. unwrap_or o 0) own.lan ∙ ap (λ (k : Link ℕ ℕ). k.lan) p.2) (in_map (lan_no numbers) (lans_up net) (p.0).lan ends.1)),
       ))
 
   -- ---- active ports

@@ -1,5 +1,5 @@
 -- The islands of a VID under numbers are those under names.
-use Rattle.std.proofs.Common.{◌≡◌, ℕ, List, [], map, filter, Option, Some, sym, ap, subst, ◌∙◌}
+use Rattle.std.proofs.Common.{◌≡◌, ℕ, List, [], map, filter, Some, sym, ap, subst, ◌∙◌}
 use Rattle.std.specs.List.{Contains}
 use Rattle.std.specs.FinMap as fin
 use Rattle.mst_graph.specs.Islands.{Link, Island, AreIslands, HaveEnds}
@@ -15,7 +15,7 @@ use Rattle.mst_trees.specs.Forest.{IsForest}
 use Rattle.mst_trees.specs.declared.forest.Forest.{Forest}
 use Rattle.mst_roles.specs.Roles.{forwards_for}
 use Rattle.mst_vlan.specs.Active.{active_ports}
-use Rattle.mst_vlan.specs.Reach.{bridges_on, lans_up, is_member, link_of, vid_links, AreIslandsOf, AreReached}
+use Rattle.mst_vlan.specs.Reach.{bridges_on, lans_up, is_member, link_of, vid_links, AreReached}
 use Rattle.mst_vlan.specs.Seen.{seen_bridges, seen_lans, seen_links, as_island}
 use Rattle.mst_vlan.specs.declared.island.Island.{Island as IslandNos}
 use Rattle.mst_vlan.proofs.ActiveLaw.{active_enabled}

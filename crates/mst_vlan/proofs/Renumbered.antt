@@ -1,16 +1,15 @@
 -- The islands by numbers are the islands by keys.
-use Rattle.std.proofs.Common.{◌≡◌, ℕ, ◌==◌, List, [], ◌∷◌, ◌++◌, map, Option, Some, refl, sym, ap, subst, ◌∙◌, inl, inr, eq-eqb, unwrap_or}
+use Rattle.std.proofs.Common.{◌≡◌, ℕ, ◌==◌, List, [], ◌∷◌, map, refl, sym, ap, subst, ◌∙◌, inl, inr, eq-eqb, unwrap_or}
 use Rattle.std.specs.List.{All, Contains, find}
 use Rattle.std.proofs.lemmas.Bool.{eqb-true}
 use Rattle.std.proofs.lemmas.List.Elements.{All-contains, All-contains_itself, All-weaker, Contains-append_cases, Contains-append_left, Contains-append_right}
-use Rattle.mst_graph.specs.Groups.{StandOnce, AreGroups}
 use Rattle.mst_graph.specs.Walks.{Node, bridge_at, lan_at}
 use Rattle.mst_graph.specs.Islands.{Link, Island, nodes, members, AreIslands, HaveEnds}
 use Rattle.mst_graph.specs.Renaming.{KeepApart, link_by, island_by}
 use Rattle.mst_graph.proofs.ByKeys.{by_keys}
 use Rattle.mst_graph.proofs.Members.{in_map, from_map, in_whole}
 use Rattle.mst_graph.proofs.Splits.{kept_each, map_of_map}
-use Rattle.mst_trees.proofs.Looking.{IsFirst, first_found}
+use Rattle.mst_trees.proofs.Looking.{first_found}
 
 unchanged : {A : Type 0} (xs : List A) → map (λ x. x) xs ≡ xs
 unchanged [] = refl
@@ -44,10 +43,10 @@ module _ {A : Type 0} (number : A → ℕ) (none : A) (things : List A) (apart :
 
 module _ {N L : Type 0} (bridge_no : N → ℕ) (lan_no : L → ℕ) (no_bridge : N) (no_lan : L) (bridges : List N) (lans : List L) (bridges_apart : KeepApart bridge_no bridges) (lans_apart : KeepApart lan_no lans)
     (links : List (Link N L)) (have : HaveEnds bridges lans links) where
-  abbrev bridge_of : ℕ → N
+  abbrev pub bridge_of : ℕ → N
   bridge_of = thing_of bridge_no no_bridge bridges bridges_apart
 
-  abbrev lan_of : ℕ → L
+  abbrev pub lan_of : ℕ → L
   lan_of = thing_of lan_no no_lan lans lans_apart
 
   ends : (k : Link N L) → Contains links k → Contains bridges k.bridge × Contains lans k.lan

@@ -1,5 +1,5 @@
 -- The trees that bridges have a VID in.
-use Rattle.std.proofs.Common.{◌≡◌, ℕ, zero, suc, ◌+◌, ◌<◌, ◌≤◌, ◌==◌, ◌&&◌, ◌||◌, Bool, true, false, not, nat_eq, List, [], ◌∷◌, length, get_or, Option, Some, None, refl, sym, ap, subst, ◌∙◌, inl, inr, true≢false, eq-eqb, arith, unwrap_or}
+use Rattle.std.proofs.Common.{◌≡◌, ℕ, zero, suc, ◌+◌, ◌<◌, ◌≤◌, ◌==◌, ◌&&◌, ◌||◌, Bool, true, false, not, nat_eq, List, [], ◌∷◌, get_or, Option, Some, None, refl, sym, ap, subst, ◌∙◌, inl, inr, true≢false, eq-eqb, arith, unwrap_or}
 use Rattle.std.specs.Prelude.{if◌then◌else◌}
 use Rattle.std.specs.List.{AllByRecursion, Contains, list_any, range_with_len}
 use Rattle.std.specs.Option.{option_map_or}
@@ -7,7 +7,7 @@ use Rattle.std.specs.Cmp.Lexicographic.{pointwise, bytes_decides}
 use Rattle.std.specs.FinMap as fin
 use Rattle.std.proofs.lemmas.Bool.{and_parts}
 use Rattle.std.proofs.lemmas.List.FromFn.{length-range_with_len, get_or-range_with_len}
-use Rattle.mst_graph.proofs.Members.{in_none, here, there, cases, in_filter}
+use Rattle.mst_graph.proofs.Members.{in_none, cases, in_filter}
 use Rattle.mst_net.specs.Table.{tree_in, has_tree, mstis_in, no_table}
 use Rattle.mst_net.specs.Tables.{Net, BridgeRow, IsNetwork}
 use Rattle.mst_net.specs.After.{table_of}
@@ -15,7 +15,6 @@ use Rattle.mst_net.proofs.TableFits.{tree_in-no_table}
 use Rattle.mst_lag.specs.Trees.{mstis_of, is_among}
 use Rattle.mst_config.specs.Regions.{same_region, same_configuration}
 use Rattle.mst_trees.specs.Msti.{has_msti}
-use Rattle.mst_trees.proofs.Lists.{some_is}
 use Rattle.mst_roles.specs.Roles.{tree_of_vid}
 
 or_right : (a b : Bool) → b ≡ true → (a || b) ≡ true

@@ -1,11 +1,11 @@
 //! The active topology of a VID, and which bridges and LANs its frames reach (802.1Q-2022, 8.8 and 13.12).
 #![tactic(auto)]
 
-mod active;
 mod island;
 pub mod laws;
-mod reach;
+mod reaching;
+mod topology;
 
-pub use active::active;
 pub use island::{BridgeList, Island, LanList};
-pub use reach::reach;
+pub use reaching::reach;
+pub use topology::active;

@@ -1,8 +1,7 @@
-use Rattle.std.proofs.Common.{◌≡◌, List, map, Option, Some, ap, ◌∙◌}
-use Rattle.std.specs.FinMap as fin
+use Rattle.std.proofs.Common.{map, Some, ap, ◌∙◌}
 use Rattle.std.proofs.lemmas.Result.{IfOk-weaker}
 use Rattle.mst_vlan.proofs.Listed.{active_numbers}
-use Rattle.mst_vlan.proofs.active.active.Goals as goal
+use Rattle.mst_vlan.proofs.topology.active.Goals as goal
 
 pub returns-clause-named : goal.returns-clause-named
 returns-clause-named c =

@@ -56,12 +56,7 @@ fn is_member(view: &View, port: &PortInView, vid: Vid) -> bool
 }
 
 /// The links of the active ports that are members of the VLAN.
-fn links(
-    alloc: Global,
-    view: &View,
-    forest: &Forest,
-    vid: Vid,
-) -> Result<Vec<Link>, AllocError>
+fn links(alloc: Global, view: &View, forest: &Forest, vid: Vid) -> Result<Vec<Link>, AllocError>
     ensures { IfOk result (λ links. links.items ≡ seen_links view.now forest.now vid) }
 {
     view.ports()
