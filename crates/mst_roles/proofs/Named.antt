@@ -15,7 +15,7 @@ use Rattle.mst_net.specs.Tables.{Net, Numbers, port_eq}
 use Rattle.mst_net.specs.ByTree.{by_tree}
 use Rattle.mst_lag.specs.Aggregation.{same_name}
 use Rattle.mst_lag.specs.Trees.{is_among}
-use Rattle.mst_lag.specs.View.{LogicalPort}
+use Rattle.mst_lag.specs.View.{LogicalPort, view_ports}
 use Rattle.mst_lag.specs.Viewed.{Viewed, named_port}
 use Rattle.mst_lag.specs.declared.in_view.PortInView.{PortInView}
 use Rattle.mst_trees.specs.Sight.{Sight, tree_of}
@@ -78,6 +78,9 @@ found_there {A} test ys (y ∷ xs) x h e = go (test y) e (found_there test ys xs
     go true f rest = subst (Contains ys) (some_is y x f) h.0
     go false f rest = rest f
 
+pub found_in : {A : Type 0} (test : A → Bool) (xs : List A) (x : A) → find test xs ≡ Some x → Contains xs x
+found_in test xs x = found_there test xs xs x (all_there xs)
+
 module _ (net : Net) (numbers : Numbers) (v : Viewed) (classes : List (ℕ × ℕ)) (of : AreOf net numbers v classes) where
   -- a port and a bridge are told by their numbers
   port_told : (p : PortInView) → SeenPort net numbers p → (q : PortName) (k : ℕ) → fin.get numbers.ports q ≡ Some k → (k == p.number) ≡ port_eq q p.name
@@ -91,6 +94,19 @@ module _ (net : Net) (numbers : Numbers) (v : Viewed) (classes : List (ℕ × �
       alike (n == k) (same_name a b)
       (λ same. (bytes_decides a b).1 (of.numbered.bridges_differ a b k (e ∙ ap Some (eqb-true n k same)) f))
       (λ same. eq-eqb n k (some_is n k (sym e ∙ ap (fin.get numbers.bridges) ((bytes_decides a b).0 same) ∙ f)))
+
+  -- what is found by number is what is found by name
+  pub port_listed : (name : PortName) (k : ℕ) → fin.get numbers.ports name ≡ Some k → find (λ p. port_eq p.name name) (view_ports net) ≡ option_map named_port (find (λ p. k == p.number) v.ports)
+  port_listed name k e =
+      ap (find (λ (p : LogicalPort). port_eq p.name name)) (sym of.view.ports)
+      ∙ find_changed (λ (p : LogicalPort). port_eq p.name name) named_port v.ports
+      ∙ ap (option_map named_port) (find_alike (λ (p : PortInView). port_eq p.name name) (λ p. k == p.number) v.ports tests)
+    where
+      tests : AllByRecursion (λ (p : PortInView). port_eq p.name name ≡ (k == p.number)) v.ports
+      tests = all_weaker (SeenPort net numbers) _ (λ p seen. alike (port_eq p.name name) (k == p.number)
+          (λ same. eq-eqb k p.number (some_is k p.number (sym e ∙ ap (fin.get numbers.ports) (sym (port_is p.name name same)) ∙ seen.has_numbers.port)))
+          (λ same. port_same p.name name (of.numbered.ports_differ p.name name k (seen.has_numbers.port ∙ ap Some (sym (eqb-true k p.number same))) e)))
+          v.ports (ports_seen net numbers v of.view)
 
   module _ {B P V : Type 0} (m : Rules B P V) (s : Sight B P) (sight : IsSight net m s) (o : TreeOutcome V) (is : IsTreeOutcome m (tree_of net s) o)
       (vector : ℕ → Option V) (designated : ℕ → Option ℕ) (agrees : Agrees numbers o vector designated) (receiver : V → ℕ) (id : ℕ) (p : PortInView) (seen : SeenPort net numbers p) where
@@ -147,7 +163,7 @@ module _ (net : Net) (numbers : Numbers) (v : Viewed) (f : Forest) (of : AreOf n
       go false e = refl
       go true e = λ i. if inner_of_enabled p seen e i then inside i else outside (cist_same p seen i)
 
-  each_same : (tree : ℕ) (p : PortInView) → SeenPort net numbers p → seen_role v f tree p ≡ role_in net o tree (named_port p)
+  pub each_same : (tree : ℕ) (p : PortInView) → SeenPort net numbers p → seen_role v f tree p ≡ role_in net o tree (named_port p)
   each_same tree p seen = go (tree == 0) refl
     where
       go : (b : Bool) → (tree == 0) ≡ b → (if b then Some (seen_cist_role v f p) else (if is_among (trees_at v p.bridge) tree then Some (seen_msti_role v f tree p) else None))
@@ -157,23 +173,10 @@ module _ (net : Net) (numbers : Numbers) (v : Viewed) (f : Forest) (of : AreOf n
 
   pub named : (tree : ℕ) (name : PortName) (k : ℕ) → fin.get numbers.ports name ≡ Some k
       → option_and_then (seen_role v f tree) (find (λ p. k == p.number) v.ports) ≡ role_of net o tree name
-  named tree name k e = go (find (λ p. k == p.number) v.ports) refl ∙ sym listed
+  named tree name k e = go (find (λ p. k == p.number) v.ports) refl ∙ sym (ap (option_and_then (role_in net o tree)) (port_listed net numbers v f.regions of name k e))
     where
-      tests : AllByRecursion (λ (p : PortInView). port_eq p.name name ≡ (k == p.number)) v.ports
-      tests = all_weaker (SeenPort net numbers) _ (λ p seen. alike (port_eq p.name name) (k == p.number)
-          (λ same. eq-eqb k p.number (some_is k p.number (sym e ∙ ap (fin.get numbers.ports) (sym (port_is p.name name same)) ∙ seen.has_numbers.port)))
-          (λ same. port_same p.name name (of.numbered.ports_differ p.name name k (seen.has_numbers.port ∙ ap Some (sym (eqb-true k p.number same))) e)))
-          v.ports (ports_seen net numbers v of.view)
-
-      listed : role_of net o tree name ≡ option_and_then (role_in net o tree) (option_map named_port (find (λ p. k == p.number) v.ports))
-      listed =
-          ap (λ (ps : List LogicalPort). option_and_then (role_in net o tree) (find (λ p. port_eq p.name name) ps)) (sym of.view.ports)
-          ∙ ap (option_and_then (role_in net o tree)) (find_changed (λ (p : LogicalPort). port_eq p.name name) named_port v.ports
-          ∙ ap (option_map named_port) (find_alike (λ (p : PortInView). port_eq p.name name) (λ p. k == p.number) v.ports tests))
-
       go : (x : Option PortInView) → find (λ p. k == p.number) v.ports ≡ x → option_and_then (seen_role v f tree) (find (λ p. k == p.number) v.ports) ≡ option_and_then (role_in net o tree) (option_map named_port (find (λ p. k == p.number) v.ports))
       go None h = ap (option_and_then (seen_role v f tree)) h ∙ sym (ap (λ y. option_and_then (role_in net o tree) (option_map named_port y)) h)
       go (Some p) h =
-          let there = found_there (λ (p : PortInView). k == p.number) v.ports v.ports p (all_there v.ports) h in
-          ap (option_and_then (seen_role v f tree)) h ∙ each_same tree p (port_seen net numbers v of.view p there)
+          ap (option_and_then (seen_role v f tree)) h ∙ each_same tree p (port_seen net numbers v of.view p (found_in (λ (p : PortInView). k == p.number) v.ports p h))
           ∙ sym (ap (λ y. option_and_then (role_in net o tree) (option_map named_port y)) h)

@@ -1,8 +1,11 @@
 -- The roles of logical ports, by name (802.1Q-2022, 13.12).
-use Rattle.std.specs.Prelude.{ℕ, ◌==◌, Bool, true, false, Option, Some, None, if◌then◌else◌}
+use Rattle.std.specs.Prelude.{ℕ, ◌==◌, Bool, true, false, List, Option, Some, None, if◌then◌else◌}
 use Rattle.std.specs.List.{find}
 use Rattle.std.specs.Option.{option_map, option_map_or, option_and_then}
+use Rattle.std.specs.FinMap as fin
 use Rattle.mst_ids.specs.declared.name.PortName.{PortName}
+use Rattle.mst_net.specs.Table.{tree_in}
+use Rattle.mst_net.specs.After.{table_of}
 use Rattle.mst_net.specs.Tables.{Net, port_eq}
 use Rattle.mst_net.specs.ByTree.{by_tree}
 use Rattle.mst_lag.specs.Aggregation.{same_name}
@@ -56,3 +59,11 @@ forwards Root = true
 forwards Designated = true
 forwards Master = true
 forwards _ = false
+
+-- the tree that a bridge has a VID in: the one that its table maps the VID to, and the CIST where it is of kind rstp
+abbrev pub tree_of_vid : Net → List ℕ → ℕ → ℕ
+tree_of_vid net name vid = option_map_or (λ row. if row.is_rstp then 0 else tree_in (table_of net name) vid) (fin.get net.bridges name) 0
+
+-- a logical port forwards for a VID: it does in its own bridge's tree of the VID
+abbrev pub forwards_for : Net → Outcome → ℕ → LogicalPort → Bool
+forwards_for net o vid p = option_map_or forwards (role_in net o (tree_of_vid net p.name.bridge vid) p) false

@@ -1,8 +1,11 @@
 -- The roles of logical ports, under the numbers of records.
-use Rattle.std.specs.Prelude.{ℕ, ◌==◌, false, Option, Some, None, if◌then◌else◌}
+use Rattle.std.specs.Prelude.{ℕ, ◌==◌, Bool, false, Option, Some, None, if◌then◌else◌}
 use Rattle.std.specs.List.{find}
 use Rattle.std.specs.Option.{option_map, option_map_or}
 use Rattle.mst_settle.specs.Assignment.{vector_of, designated_of}
+use Rattle.mst_net.specs.ByTree.{table_in}
+use Rattle.mst_net.specs.Seen.{bridge_row}
+use Rattle.mst_net.specs.Table.{tree_in}
 use Rattle.mst_lag.specs.Trees.{is_among}
 use Rattle.mst_lag.specs.Viewed.{Viewed, named_port}
 use Rattle.mst_lag.specs.declared.in_view.PortInView.{PortInView}
@@ -11,7 +14,7 @@ use Rattle.mst_trees.specs.Msti.{msti_port}
 use Rattle.mst_trees.specs.Seen.{trees_at, seen_inner}
 use Rattle.mst_trees.specs.Forest.{msti_vector, designated_in}
 use Rattle.mst_trees.specs.declared.forest.Forest.{Forest}
-use Rattle.mst_roles.specs.Roles.{outside}
+use Rattle.mst_roles.specs.Roles.{outside, forwards}
 use Rattle.mst_roles.specs.declared.kind.Role.{Role}
 use Rattle.mst_roles.specs.declared.kind.Role.TheVariants.{Root, Designated, Alternate, Backup, Disabled}
 
@@ -39,3 +42,11 @@ seen_msti_role v f tree p =
 
 abbrev pub seen_role : Viewed → Forest → ℕ → PortInView → Option Role
 seen_role v f tree p = if tree == 0 then Some (seen_cist_role v f p) else (if is_among (trees_at v p.bridge) tree then Some (seen_msti_role v f tree p) else None)
+
+-- the tree that the bridge of this number has a VID in
+abbrev pub seen_tree : Viewed → ℕ → ℕ → ℕ
+seen_tree v bridge vid = option_map_or (λ b. if (bridge_row b.bridge).is_rstp then 0 else tree_in (table_in v.settings.tables b.name) vid) (find (λ b. bridge == b.bridge.number) v.bridges) 0
+
+-- a logical port forwards in its bridge's tree of the VID
+abbrev pub seen_forwards : Viewed → Forest → ℕ → PortInView → Bool
+seen_forwards v f vid p = option_map_or forwards (seen_role v f (seen_tree v p.bridge vid) p) false

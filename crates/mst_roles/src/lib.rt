@@ -1,9 +1,11 @@
 //! The roles of logical ports in the trees of a network (802.1Q-2022, 13.12).
 #![tactic(auto)]
 
+mod for_vid;
 mod kind;
 pub mod laws;
 mod roles;
 
+pub use for_vid::{forwards, port_forwards};
 pub use kind::Role;
 pub use roles::role;

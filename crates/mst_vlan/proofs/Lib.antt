@@ -1,0 +1,11 @@
+pub mod Names
+pub mod Carried
+pub mod Plugs
+pub mod VidTrees
+pub mod ActiveLaw
+pub mod LogicalLans
+pub mod EnabledEnds
+pub mod Renumbered
+pub mod Listed
+pub mod Reached
+pub mod IslandLaw

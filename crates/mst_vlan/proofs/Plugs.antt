@@ -1,0 +1,25 @@
+-- The enabled ports of a network are the plugs of its CIST.
+use Rattle.std.proofs.Common.{ℕ, Bool, List, Some, None, refl, ap}
+use Rattle.std.specs.Prelude.{if◌then◌else◌}
+use Rattle.mst_ids.specs.declared.name.PortName.{PortName}
+use Rattle.mst_vector.specs.Cist.{cist_rules}
+use Rattle.mst_vector.specs.declared.cist.CistPort.{CistPort}
+use Rattle.mst_settle.specs.Topology.{Plug}
+use Rattle.mst_nested.specs.Trees.{TakesPart}
+use Rattle.mst_net.specs.Tables.{Net, IsNetwork}
+use Rattle.mst_net.specs.ByTree.{by_tree}
+use Rattle.mst_lag.specs.View.{LogicalPort}
+use Rattle.mst_trees.specs.Sight.{tree_port}
+use Rattle.mst_trees.specs.Cist.{cist_port, cist_sight, cist_of}
+use Rattle.mst_trees.proofs.CistTopology.{cist_is_sight}
+use Rattle.mst_trees.proofs.Sights.{port_in}
+use Rattle.mst_vlan.specs.Active.{IsEnabled}
+
+abbrev pub plug : Net → LogicalPort → Plug (List ℕ) (List ℕ) PortName CistPort
+plug net p = tree_port p (cist_port (by_tree net) p)
+
+pub enabled_plug : (net : Net) → IsNetwork net → (p : LogicalPort) → IsEnabled net p → TakesPart (cist_of net) (plug net p)
+enabled_plug net ok p h = (
+  port_in net ok cist_rules (cist_sight net) (cist_is_sight net ok) p (cist_port (by_tree net) p) h.0 (ap (λ (t : Bool). if t then Some (cist_port (by_tree net) p) else None) h.1),
+  refl,
+)

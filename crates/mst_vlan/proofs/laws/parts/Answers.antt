@@ -1,0 +1,16 @@
+use Rattle.mst_trees.specs.Outcome.{trees_of}
+use Rattle.mst_vlan.proofs.Names.{tests}
+use Rattle.mst_vlan.proofs.Plugs.{plug, enabled_plug}
+use Rattle.mst_vlan.proofs.laws.parts.Goals as goal
+
+pub returns-clause-one : goal.returns-clause-one
+returns-clause-one c net o x y z v w = c.parts.ensures.one (trees_of net o) x y z v w
+
+pub returns-clause-lans : goal.returns-clause-lans
+returns-clause-lans c net o ok is p enabled = c.parts.ensures.lans (trees_of net o) tests (c.nested.ensures.settled net o ok is) (plug net p) (enabled_plug net ok p enabled)
+
+pub returns-clause-values : goal.returns-clause-values
+returns-clause-values c net o ok is n k x y e f part = c.parts.ensures.values (trees_of net o) tests (c.nested.ensures.settled net o ok is) (c.nested.ensures.free net o ok is) n k x y e f part
+
+pub returns-clause-regional : goal.returns-clause-regional
+returns-clause-regional c net o ok is n x e = c.roots.ensures.regional (trees_of net o) tests (c.nested.ensures.settled net o ok is) (c.nested.ensures.free net o ok is) n x e

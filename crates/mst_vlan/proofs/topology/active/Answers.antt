@@ -1,0 +1,8 @@
+use Rattle.std.proofs.Common.{map, Some, ap, ◌∙◌}
+use Rattle.std.proofs.lemmas.Result.{IfOk-weaker}
+use Rattle.mst_vlan.proofs.Listed.{active_numbers}
+use Rattle.mst_vlan.proofs.topology.active.Goals as goal
+
+pub returns-clause-named : goal.returns-clause-named
+returns-clause-named c =
+    IfOk-weaker c.active_in_view.result _ _ (λ ports e net numbers is of. ap (map Some) e ∙ active_numbers net numbers c.args.view.now c.args.forest.now of is c.args.vid) c.active_in_view.ensures

@@ -1,0 +1,3 @@
+pub mod Active
+pub mod Reach
+pub mod Seen

@@ -1,0 +1,36 @@
+-- The active ports of a VID and what they link, under the numbers of records.
+use Rattle.std.specs.Prelude.{ℕ, Bool, List, map, filter}
+use Rattle.mst_ids.specs.Vids.{has}
+use Rattle.mst_graph.specs.Islands.{Link, Island}
+use Rattle.mst_net.specs.ByTree.{vlans_in}
+use Rattle.mst_net.specs.Seen.{bridge_row}
+use Rattle.mst_lag.specs.Viewed.{Viewed}
+use Rattle.mst_lag.specs.declared.in_view.PortInView.{PortInView}
+use Rattle.mst_trees.specs.declared.forest.Forest.{Forest}
+use Rattle.mst_roles.specs.Seen.{seen_forwards}
+use Rattle.mst_vlan.specs.declared.island.Island.{Island as IslandNos}
+
+-- the bridges that are on, and the logical LANs that are up
+abbrev pub seen_bridges : Viewed → List ℕ
+seen_bridges v = map (λ b. b.bridge.number) (filter (λ b. (bridge_row b.bridge).is_on) v.bridges)
+
+abbrev pub seen_lans : Viewed → List ℕ
+seen_lans v = map (λ l. l.number) (filter (λ l. l.is_up) v.lans)
+
+-- the logical port is a member of the VLAN
+abbrev pub seen_member : Viewed → ℕ → PortInView → Bool
+seen_member v vid p = has (vlans_in v.settings.vlans p.name) vid
+
+-- the active ports, and the links of those that are members
+abbrev pub seen_active : Viewed → Forest → ℕ → List PortInView
+seen_active v f vid = filter (seen_forwards v f vid) v.ports
+
+abbrev pub seen_link : PortInView → Link ℕ ℕ
+seen_link p = record { bridge = p.bridge; lan = p.lan_number }
+
+abbrev pub seen_links : Viewed → Forest → ℕ → List (Link ℕ ℕ)
+seen_links v f vid = map seen_link (filter (seen_member v vid) (seen_active v f vid))
+
+-- an island by its lists
+abbrev pub as_island : IslandNos → Island ℕ ℕ
+as_island i = record { bridges = i.bridges; lans = i.lans }

@@ -1,0 +1,83 @@
+//! Laws of the active topology of a VID, of its islands and of the parts of regions, at names. Their functions do
+//! nothing: a caller has their clauses.
+ghost use Rattle.std.specs.Prelude.{◌≡◌, ◌⊎◌, ℕ, List, Some};
+ghost use Rattle.std.specs.List.{Contains};
+ghost use Rattle.mst_ids.specs.declared.name.PortName.{PortName as PortKey};
+ghost use Rattle.mst_vector.specs.declared.cist.CistBridge.{CistBridge};
+ghost use Rattle.mst_vector.specs.declared.cist.CistPort.{CistPort};
+ghost use Rattle.mst_vector.specs.declared.cist.CistVector.{CistVector};
+ghost use Rattle.mst_settle.specs.Topology.{Plug, HasBridge};
+ghost use Rattle.mst_graph.specs.Islands.{Island};
+ghost use Rattle.mst_graph.specs.Joined.{HasNoLoop};
+ghost use Rattle.mst_graph.specs.Walks.{Node, Walk, bridge_at, lan_at};
+ghost use Rattle.mst_nested.specs.Exits.{IsCrossing, IsExit, HoldsRoot, HasOneExit};
+ghost use Rattle.mst_nested.specs.Parts.{SameRoots, HasRegionalRoot};
+ghost use Rattle.mst_nested.specs.Ports.{port_ends as plug_ends};
+ghost use Rattle.mst_nested.specs.Roles.{Forwards, ForwardsInside};
+ghost use Rattle.mst_nested.specs.Trees.{SamePart, HasTree};
+ghost use Rattle.mst_net.specs.Tables.{Net, IsNetwork};
+ghost use Rattle.mst_lag.specs.View.{LogicalPort};
+ghost use Rattle.mst_trees.specs.Cist.{cist_of};
+ghost use Rattle.mst_trees.specs.Outcome.{Outcome, IsOutcome, trees_of};
+ghost use Rattle.mst_vlan.specs.Active.{active_ports, port_ends, IsEnabled, JoinWithoutLoop};
+ghost use Rattle.mst_vlan.specs.Reach.{AreIslandsOf};
+
+use mst_ids::{Name, PortName};
+use mst_nested::laws;
+use mst_roles::laws::forwarding;
+use mst_trees::laws::nested;
+
+/// The active ports of a VID join what is enabled and make no loop, whatever trees the regions map the VID to: a
+/// walk of active ports links the two ends of every enabled port, and so whatever enabled ports link, and no walk of
+/// the other active ports links the two ends of an active one.
+pub fn joined_without_loop()
+    ensures active { (net : Net) (o : Outcome) (vid : ℕ) → IsNetwork net → IsOutcome net o → JoinWithoutLoop net (active_ports net o vid) }
+    ensures sets { (net : Net) (o : Outcome) (vid : ℕ) → IsNetwork net → IsOutcome net o → (x y : Node (List ℕ) (List ℕ)) → Walk port_ends (IsEnabled net) x y → Walk port_ends (Contains (active_ports net o vid)) x y }
+{
+    nested();
+    forwarding();
+    laws::active::<Name, Name, PortName>();
+}
+
+/// A network has a list of the islands of a VID, one only.
+pub fn islands_of_vid()
+    ensures some { (net : Net) (o : Outcome) (vid : ℕ) → IsNetwork net → (islands : List (Island (List ℕ) (List ℕ))) × AreIslandsOf net o vid islands }
+    ensures one { (net : Net) (o : Outcome) (vid : ℕ) (islands others : List (Island (List ℕ) (List ℕ))) → AreIslandsOf net o vid islands → AreIslandsOf net o vid others → islands ≡ others }
+{}
+
+/// The parts of regions in the CIST of a network: a bridge or LAN is in one, the LAN of an enabled port is in that of
+/// a bridge, the bridges of one name one root, external root path cost and regional root, and the regional root is
+/// in the part, with internal root path costs that are those of cheapest walks from it.
+pub fn parts()
+    ensures one { (net : Net) (o : Outcome) (x y z : Node (List ℕ) (List ℕ)) → SamePart (trees_of net o) x y → SamePart (trees_of net o) x z → SamePart (trees_of net o) y z }
+    ensures lans { (net : Net) (o : Outcome) → IsNetwork net → IsOutcome net o → (p : LogicalPort) → IsEnabled net p → (n : List ℕ) × (b : CistBridge) × HasBridge (cist_of net) n b × SamePart (trees_of net o) (lan_at p.lan) (bridge_at n) }
+    ensures values { (net : Net) (o : Outcome) → IsNetwork net → IsOutcome net o → (n k : List ℕ) (x y : CistVector) → o.cist.vector n ≡ Some x → o.cist.vector k ≡ Some y → SamePart (trees_of net o) (bridge_at n) (bridge_at k) → SameRoots x y }
+    ensures regional { (net : Net) (o : Outcome) → IsNetwork net → IsOutcome net o → (n : List ℕ) (x : CistVector) → o.cist.vector n ≡ Some x → HasRegionalRoot (trees_of net o) n x }
+{
+    nested();
+    laws::parts::<Name, Name, PortName>();
+    laws::roots::<Name, Name, PortName>();
+}
+
+/// A port whose ends are in different parts forwards in every tree of its bridge or in none: it does exactly where
+/// it is the exit of its bridge's part. A part that holds the root of the CIST has no exit, each other part has one,
+/// to a part of lower external root path cost.
+pub fn exits()
+    ensures only { (net : Net) (o : Outcome) → IsNetwork net → IsOutcome net o → (p : Plug (List ℕ) (List ℕ) PortKey CistPort) (tree : ℕ) → IsCrossing (trees_of net o) p → Forwards (trees_of net o) tree p → IsExit (trees_of net o) p }
+    ensures all { (net : Net) (o : Outcome) → IsNetwork net → IsOutcome net o → (p : Plug (List ℕ) (List ℕ) PortKey CistPort) (tree : ℕ) → IsExit (trees_of net o) p → HasTree (trees_of net o) tree p.bridge → Forwards (trees_of net o) tree p }
+    ensures top { (net : Net) (o : Outcome) → IsNetwork net → IsOutcome net o → (n : List ℕ) (x : CistVector) → o.cist.vector n ≡ Some x → HoldsRoot (trees_of net o) n x → (p : Plug (List ℕ) (List ℕ) PortKey CistPort) → IsExit (trees_of net o) p → SamePart (trees_of net o) (bridge_at n) (bridge_at p.bridge) → ⊥ }
+    ensures one { (net : Net) (o : Outcome) → IsNetwork net → IsOutcome net o → (n : List ℕ) (x : CistVector) → o.cist.vector n ≡ Some x → HoldsRoot (trees_of net o) n x ⊎ HasOneExit (trees_of net o) n x }
+{
+    nested();
+    laws::exits::<Name, Name, PortName>();
+}
+
+/// In each tree that the bridges of a part have, the ports that forward inside it join all its bridges and LANs
+/// without a loop.
+pub fn inside()
+    ensures joined { (net : Net) (o : Outcome) → IsNetwork net → IsOutcome net o → (tree : ℕ) (n : List ℕ) (y : Node (List ℕ) (List ℕ)) → HasTree (trees_of net o) tree n → SamePart (trees_of net o) (bridge_at n) y → Walk plug_ends (ForwardsInside (trees_of net o) tree) (bridge_at n) y }
+    ensures no_loop { (net : Net) (o : Outcome) → IsNetwork net → IsOutcome net o → (tree : ℕ) → HasNoLoop plug_ends (ForwardsInside (trees_of net o) tree) }
+{
+    nested();
+    laws::inside::<Name, Name, PortName>();
+}

@@ -1,0 +1,11 @@
+//! The active topology of a VID, and which bridges and LANs its frames reach (802.1Q-2022, 8.8 and 13.12).
+#![tactic(auto)]
+
+mod island;
+pub mod laws;
+mod reaching;
+mod topology;
+
+pub use island::{BridgeList, Island, LanList};
+pub use reaching::reach;
+pub use topology::active;

@@ -1,0 +1,117 @@
+ghost use Rattle.std.specs.Prelude.{◌≡◌, IfOk, map};
+ghost use Rattle.mst_graph.specs.Islands.{AreIslands};
+ghost use Rattle.mst_ids.specs.Vids.{has};
+ghost use Rattle.mst_net.specs.After.{is_on as power_is_on};
+ghost use Rattle.mst_net.specs.Tables.{Net, Numbers};
+ghost use Rattle.mst_trees.specs.Agrees.{AreOf, Known};
+ghost use Rattle.mst_trees.specs.Forest.{IsForest};
+ghost use Rattle.mst_vlan.specs.Reach.{AreReached};
+ghost use Rattle.mst_vlan.specs.Seen.{seen_bridges, seen_lans, seen_member, seen_links, as_island};
+
+use crate::island::{BridgeList, Island, LanList};
+use mst_graph::{Link, islands};
+use mst_ids::{BridgeNo, LanNo, Vid};
+use mst_lag::{PortInView, View};
+use mst_lang::Power;
+use mst_roles::port_forwards;
+use mst_trees::Forest;
+use std::alloc::{AllocError, Global};
+
+fn is_on(power: Power) -> bool
+    ensures { result ≡ power_is_on power }
+{
+    match power {
+        Power::On => true,
+        Power::Off => false,
+    }
+}
+
+/// The bridges that are on.
+fn bridges_on(alloc: Global, view: &View) -> Result<Vec<BridgeNo>, AllocError>
+    ensures { IfOk result (λ bridges. bridges.items ≡ seen_bridges view.now) }
+{
+    view.bridges()
+        .iter()
+        .filter(|bridge| is_on(bridge.bridge.power))
+        .map(|bridge| bridge.bridge.number)
+        .collect(alloc)
+}
+
+/// The logical LANs that are up.
+fn lans_up(alloc: Global, view: &View) -> Result<Vec<LanNo>, AllocError>
+    ensures { IfOk result (λ lans. lans.items ≡ seen_lans view.now) }
+{
+    view.lans()
+        .iter()
+        .filter(|lan| lan.is_up)
+        .map(|lan| lan.number)
+        .collect(alloc)
+}
+
+/// Whether a logical port is a member of a VLAN.
+fn is_member(view: &View, port: &PortInView, vid: Vid) -> bool
+    ensures { result ≡ seen_member view.now vid port.now }
+{
+    view.settings().port_vlans(&port.name).contains(vid.value())
+}
+
+/// The links of the active ports that are members of the VLAN.
+fn links(alloc: Global, view: &View, forest: &Forest, vid: Vid) -> Result<Vec<Link>, AllocError>
+    ensures { IfOk result (λ links. links.items ≡ seen_links view.now forest.now vid) }
+{
+    view.ports()
+        .iter()
+        .filter(|port| port_forwards(view, forest, port, vid))
+        .filter(|port| is_member(view, port, vid))
+        .map(|port| Link {
+            bridge: port.bridge,
+            lan: port.lan_number,
+        })
+        .collect(alloc)
+}
+
+/// What the links join.
+fn joined(
+    alloc: Global,
+    view: &View,
+    forest: &Forest,
+    vid: Vid,
+) -> Result<Vec<mst_graph::Island>, AllocError>
+    requires { Known view.now forest.now.regions }
+    ensures { IfOk result (λ joined. AreIslands (seen_bridges view.now) (seen_lans view.now) (seen_links view.now forest.now vid) joined.items) }
+{
+    let bridges = bridges_on(alloc, view)?;
+    let lans = lans_up(alloc, view)?;
+    let links = links(alloc, view, forest, vid)?;
+    islands(alloc, bridges.as_slice(), lans.as_slice(), links.as_slice())
+}
+
+/// The same islands, each list of a type of its own.
+fn listed(alloc: Global, joined: &[mst_graph::Island]) -> Result<Vec<Island>, AllocError>
+    ensures { IfOk result (λ islands. map as_island islands.items ≡ joined.now) }
+{
+    let mut islands = Vec::new(alloc);
+    for island in joined {
+        let bridges = BridgeList::of(alloc, island.bridges())?;
+        let lans = LanList::of(alloc, island.lans())?;
+        islands.push(Island { bridges, lans })?;
+    }
+    Ok(islands)
+}
+
+/// The islands of a VID: two of the bridges that are on and the logical LANs that are up are in one just where
+/// active ports that are members of the VLAN link them. Each is in just one. Those with a bridge come first, by
+/// their first bridges, and then the others by their LANs. For n ports it takes about n log n steps. `AllocError`:
+/// memory was wanted and refused.
+pub fn reach(
+    alloc: Global,
+    view: &View,
+    forest: &Forest,
+    vid: Vid,
+) -> Result<Vec<Island>, AllocError>
+    requires { Known view.now forest.now.regions }
+    ensures { IfOk result (λ islands. (net : Net) (numbers : Numbers) (is : IsForest net numbers forest.now) → AreOf net numbers view.now forest.now.regions → AreReached net numbers is.outcome vid islands.items) }
+{
+    let joined = joined(alloc, view, forest, vid)?;
+    listed(alloc, joined.as_slice())
+}

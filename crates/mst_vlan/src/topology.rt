@@ -1,0 +1,43 @@
+ghost use Rattle.std.specs.Prelude.{◌≡◌, Some, IfOk, map};
+ghost use Rattle.std.specs.FinMap as fin;
+ghost use Rattle.mst_net.specs.Tables.{Net, Numbers};
+ghost use Rattle.mst_trees.specs.Agrees.{AreOf};
+ghost use Rattle.mst_trees.specs.Forest.{IsForest};
+ghost use Rattle.mst_vlan.specs.Active.{active_ports};
+ghost use Rattle.mst_vlan.specs.Seen.{seen_active};
+
+use mst_ids::{PortNo, Vid};
+use mst_lag::View;
+use mst_roles::port_forwards;
+use mst_trees::Forest;
+use std::alloc::{AllocError, Global};
+
+fn active_in_view(
+    alloc: Global,
+    view: &View,
+    forest: &Forest,
+    vid: Vid,
+) -> Result<Vec<PortNo>, AllocError>
+    ensures { IfOk result (λ ports. ports.items ≡ map (λ p. p.number) (seen_active view.now forest.now vid)) }
+{
+    view.ports()
+        .iter()
+        .filter(|port| port_forwards(view, forest, port, vid))
+        .map(|port| port.number)
+        .collect(alloc)
+}
+
+/// The active topology of a VID: the logical ports that forward in their own bridge's tree of it, in the order of
+/// the view. For n ports it takes n steps. `AllocError`: memory was wanted and refused.
+pub fn active(
+    alloc: Global,
+    view: &View,
+    forest: &Forest,
+    vid: Vid,
+) -> Result<Vec<PortNo>, AllocError>
+    ensures seen { IfOk result (λ ports. ports.items ≡ map (λ p. p.number) (seen_active view.now forest.now vid)) }
+    ensures named { IfOk result (λ ports. (net : Net) (numbers : Numbers) (is : IsForest net numbers forest.now) → AreOf net numbers view.now forest.now.regions
+        → map Some ports.items ≡ map (λ p. fin.get numbers.ports p.name) (active_ports net is.outcome vid)) }
+{
+    active_in_view(alloc, view, forest, vid)
+}
