@@ -1,11 +1,1 @@
-pub mod Entries
-pub mod Lists
-pub mod Views
-pub mod Seen
-pub mod Cists
-pub mod Naming
-pub mod Building
-pub mod Outcomes
-pub mod Printing
-pub mod Classes
-pub mod ByLan
+pub mod Answering

@@ -1,17 +1,19 @@
--- The settled CIST of a network, as it is kept.
-use Rattle.mst_settle.specs.Assignment.{vector_of, designated_of}
+-- What a planner keeps of its network.
+use Rattle.std.specs.Prelude.{Bool, true, false, Option, Some, None}
 use Rattle.mst_net.specs.Tables.{Net, Numbers}
-use Rattle.mst_report.specs.Cist.{Outcome, IsOutcome}
-use Rattle.mst_report.specs.View.{Agrees, Shows}
-use Rattle.mst_report.specs.declared.cist.Cist.{Cist}
+use Rattle.mst_config.specs.Classes.{AreRegions}
+use Rattle.mst_trees.specs.Agrees.{AreOf}
+use Rattle.mst_trees.specs.Forest.{IsForest}
+use Rattle.mst_report.specs.declared.plan.Plan.{Plan}
 
--- what is kept shows the network, with this outcome
-pub record Keeps (net : Net) (numbers : Numbers) (c : Cist) (o : Outcome) : Type 0 where
-  pub shows : Shows net numbers c.bridges.items c.ports.items
-  pub agrees : Agrees numbers c.bridges.items c.ports.items o (vector_of c.settler) (designated_of c.settler)
+-- the view, the regions and the settled trees are those of the network
+pub record IsPlan (net : Net) (numbers : Numbers) (p : Plan) : Type 0 where
+  pub of : AreOf net numbers p.view p.forest.regions
+  pub regions : AreRegions net numbers p.classes
+  pub forest : IsForest net numbers p.forest
 
--- the outcome that is kept is a settled one
-pub record IsCistOf (net : Net) (numbers : Numbers) (c : Cist) : Type 0 where
-  pub outcome : Outcome
-  pub is_outcome : IsOutcome net outcome
-  pub keeps : Keeps net numbers c outcome
+-- a plan that is settled is there, and of the network
+abbrev pub HasPlan : Net → Numbers → Bool → Option Plan → Type 0
+HasPlan net numbers false plan = Unit {0}
+HasPlan net numbers true None = ⊥
+HasPlan net numbers true (Some p) = IsPlan net numbers p

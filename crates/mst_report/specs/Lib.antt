@@ -1,12 +1,5 @@
-pub mod Cist
-pub mod View
-pub mod Kept
-pub mod Roles
-pub mod Words
-pub mod TreeText
-pub mod LagText
-pub mod LagView
-pub mod KeptWords
-pub mod WordsByLan
 pub mod State
 pub mod Answers
+pub mod Refusing
+pub mod Planned
+pub mod Kept

@@ -1,15 +1,10 @@
-//! The texts that answer queries about a network.
+//! The planner: a network, its settled trees, and the texts that answer queries about them.
 #![tactic(auto)]
 
-mod by_lan;
-mod cist;
-mod lags;
+mod answers;
 pub mod laws;
-mod queries;
-mod role;
-mod text;
-mod view;
+mod plan;
+mod planner;
 
-pub use lags::show_lag;
-pub use queries::show_tree;
-pub use role::Role;
+pub use answers::is_answered;
+pub use planner::Planner;

@@ -1,6 +1,7 @@
 -- What a run keeps from line to line.
 use Rattle.std.specs.Prelude.{ℕ, ◌+◌, Bool, true, false, List, [], if◌then◌else◌}
-use Rattle.mst_report.specs.State.{State, state_of}
+use Rattle.mst_report.specs.State.{State}
+use Rattle.mst_report.specs.Planned.{planned_state}
 use Rattle.mst_lang.specs.Faults as fault
 use Rattle.mst_net.specs.Refusals as refusal
 use Rattle.mst_net.specs.declared.refusal.Refusal.TheVariants.{E99}
@@ -18,7 +19,7 @@ pub record Tally : Type 0 where
   pub memory : ℕ
 
 abbrev pub tally_of : Engine → Tally
-tally_of e = record { state = state_of e.network.net; number = e.number; refused = e.refused; memory = e.memory }
+tally_of e = record { state = planned_state e.planner; number = e.number; refused = e.refused; memory = e.memory }
 
 -- the state of a run that begins
 abbrev pub start : Tally

@@ -1,30 +1,27 @@
-ghost use Rattle.std.specs.Prelude.{◌≡◌, ◌≢◌, ℕ, ◌+◌, ◌^◌, ◌<◌, Bool, Ok, Err, IsOk, IfOk, IfErr, OnOk, OnErr};
+ghost use Rattle.std.specs.Prelude.{◌≡◌, ℕ, ◌+◌, ◌^◌, ◌<◌, Bool, Ok, Err, IsTrue, OnOk, OnErr};
 ghost use Rattle.std.specs.Io.KnownBytes.{Appends};
-ghost use Rattle.mst_net.specs.After.{after};
-ghost use Rattle.mst_net.specs.Contents.{room_for};
 ghost use Rattle.mst_lang.specs.declared.line.Line.TheVariants.{Query as query};
-ghost use Rattle.mst_report.specs.State.{state_of};
+ghost use Rattle.mst_report.specs.Answers.{is_answered as is_answered_query};
+ghost use Rattle.mst_report.specs.Planned.{planned_state};
+ghost use Rattle.mst_report.specs.Refusing.{HasText};
 ghost use Rattle.mst_tool.specs.Written.{AppendsFront};
-ghost use Rattle.mst_tool.specs.Served.{is_served_edit, served};
+ghost use Rattle.mst_tool.specs.Served.{served};
 ghost use Rattle.mst_tool.specs.Script.{Serves, ServesRead, refusal_line};
-ghost use Rattle.mst_tool.specs.declared.engine.Reply.TheVariants.{Text, Starved};
 ghost use Rattle.mst_tool.specs.Engine.{start, tally_of, tallied, outcome_of, reply_text, replied};
 
 use crate::print::{WriteFailed, put, put_parts};
 use crate::runs::Outcome;
 use itoa::Buffer;
-use mst_lang::{Edit, Fault, Line, Query, parse_line};
-use mst_net::{Contents, Network, Refusal};
-use mst_report::laws::has_answer;
-use mst_report::{show_lag, show_tree};
-use std::alloc::{AllocError, Global};
+use mst_lang::{Fault, Line, Query, parse_line};
+use mst_net::Refusal;
+use mst_report::{Planner, is_answered};
+use std::alloc::Global;
 use std::io::Write;
 
 /// What a run keeps from line to line.
 #[derive(Drop)]
 pub(crate) struct Engine {
-    pub(crate) alloc: Global,
-    pub(crate) network: Network,
+    pub(crate) planner: Planner,
     /// The number of the next line, from 1.
     pub(crate) number: u64,
     /// How many lines were refused, but for want of memory.
@@ -54,8 +51,7 @@ impl Engine {
         ensures { tally_of result ≡ start }
     {
         Engine {
-            alloc,
-            network: Network::new(alloc),
+            planner: Planner::new(alloc),
             number: 1,
             refused: 0,
             memory: 0,
@@ -78,10 +74,10 @@ impl Engine {
         requires numbered { self.old.number < 2 ^ 60 }
         requires refused { self.old.refused < 2 ^ 60 }
         requires memory { self.old.memory < 2 ^ 60 }
-        ensures served { Serves self.old.number (state_of self.old.network.net) line.now (replied self.old.number (state_of self.new.network.net) result) }
-        ensures counted { tally_of self.new ≡ tallied (tally_of self.old) (replied self.old.number (state_of self.new.network.net) result) }
+        ensures served { Serves self.old.number (planned_state self.old.planner) line.now (replied self.old.number (planned_state self.new.planner) result) }
+        ensures counted { tally_of self.new ≡ tallied (tally_of self.old) (replied self.old.number (planned_state self.new.planner) result) }
     {
-        let reply = reply_to(self.alloc, &mut self.network, self.number, line);
+        let reply = reply_to(&mut self.planner, self.number, line);
         self.number += 1;
         match reply {
             Reply::Unread(_) | Reply::Refused(_) => self.refused += 1,
@@ -93,80 +89,57 @@ impl Engine {
 }
 
 /// Serves a line.
-fn reply_to(alloc: Global, network: &mut Network, number: u64, line: &[u8]) -> Reply
-    ensures { Serves number (state_of network.old.net) line.now (replied number (state_of network.new.net) result) }
+fn reply_to(planner: &mut Planner, number: u64, line: &[u8]) -> Reply
+    ensures { Serves number (planned_state planner.old) line.now (replied number (planned_state planner.new) result) }
 {
     match parse_line(line) {
         Err(fault) => Reply::Unread(fault),
-        Ok(line) => serve(alloc, network, number, &line),
+        Ok(line) => serve(planner, number, &line),
     }
 }
 
 /// Serves a line that is read. A command that isn't served is refused as an unknown one.
-fn serve(alloc: Global, network: &mut Network, number: u64, line: &Line) -> Reply
-    ensures { ServesRead number (state_of network.old.net) (served (Ok line.now)) (replied number (state_of network.new.net) result) }
+fn serve(planner: &mut Planner, number: u64, line: &Line) -> Reply
+    ensures { ServesRead number (planned_state planner.old) (served (Ok line.now)) (replied number (planned_state planner.new) result) }
 {
     match line {
         Line::Blank => Reply::Silent,
-        Line::Edit(edit) if is_served(edit) => match apply(network, edit) {
+        Line::Edit(edit) => match planner.stage(edit) {
             Ok(()) => Reply::Silent,
             Err(Refusal::E99) => Reply::Starved,
             Err(refusal) => Reply::Refused(refusal),
         },
-        Line::Query(query) => answer(alloc, network, number, query),
-        _ => Reply::Unread(Fault::E01),
+        Line::Query(query) => answer(planner, number, query),
+        Line::Mark => Reply::Unread(Fault::E01),
     }
 }
 
 /// Answers a query. One that isn't served is refused as an unknown command.
-fn answer(alloc: Global, network: &Network, number: u64, asked: &Query) -> Reply
-    ensures { ServesRead number (state_of network.now.net) (served (Ok (query asked.now))) (replied number (state_of network.now.net) result) }
+fn answer(planner: &mut Planner, number: u64, asked: &Query) -> Reply
+    ensures { ServesRead number (planned_state planner.old) (served (Ok (query asked.now))) (replied number (planned_state planner.new) result) }
 {
-    network.known();
-    has_answer();
-    match asked {
-        Query::ShowTree { tree } => shown(show_tree(alloc, network, *tree)),
-        Query::ShowLag => shown(show_lag(alloc, network)),
-        _ => Reply::Unread(Fault::E01),
+    if !is_answered(asked) {
+        return Reply::Unread(Fault::E01);
+    }
+    match planner.refusal(asked) {
+        Some(refusal) => Reply::Refused(refusal),
+        None => shown(planner, number, asked),
     }
 }
 
-/// What a query is answered by: its text, or that memory was wanted for it.
-fn shown(text: Result<Vec<u8>, AllocError>) -> Reply
-    ensures text { IfOk text (λ t. result ≡ Text t) }
-    ensures starved { OnErr text (result ≡ Starved) }
+/// What a query that a text answers is answered by: its text, once the plan is settled, or that memory was wanted
+/// for it.
+fn shown(planner: &mut Planner, number: u64, asked: &Query) -> Reply
+    requires answered { IsTrue (is_answered_query asked.now) }
+    requires text { HasText asked.now (planned_state planner.old) }
+    ensures { ServesRead number (planned_state planner.old) (Ok (query asked.now)) (replied number (planned_state planner.new) result) }
 {
-    match text {
-        Ok(text) => Reply::Text(text),
+    match planner.settle() {
         Err(_) => Reply::Starved,
-    }
-}
-
-/// Whether an edit is served: all are but those of MST configurations.
-fn is_served(edit: &Edit) -> bool
-    ensures { result ≡ is_served_edit edit.now }
-{
-    match edit {
-        Edit::SetConfiguration { .. } => false,
-        Edit::MapVids { .. } => false,
-        _ => true,
-    }
-}
-
-/// Makes an edit, or leaves the network. Want of memory is told only where there was no room for the edit.
-fn apply(network: &mut Network, edit: &Edit) -> Result<(), Refusal>
-    ensures ok { OnOk result (after edit.now network.old.net ≡ Ok network.new.net) }
-    ensures err { OnErr result (network.new.net ≡ network.old.net) }
-    ensures refused { IfErr result (λ refusal. refusal ≢ Refusal.E99 → after edit.now network.old.net ≡ Err refusal) }
-    ensures memory { result ≡ Err Refusal.E99 → IsOk (after edit.now network.old.net) }
-    ensures no_room { result ≡ Err Refusal.E99 → room_for edit.now network.old.room ≡ 0 }
-{
-    match network.prepare(edit) {
-        Ok(ready) => {
-            network.commit(ready);
-            Ok(())
-        }
-        Err(refusal) => Err(refusal),
+        Ok(()) => match planner.answer(asked) {
+            Ok(text) => Reply::Text(text),
+            Err(_) => Reply::Starved,
+        },
     }
 }
 

@@ -1,7 +1,7 @@
 ghost use Rattle.std.specs.Prelude.{◌≡◌, ℕ, ◌+◌, ◌^◌, ◌<◌, Bool, List, [], ◌∷◌, length, OnOk, OnErr};
 ghost use Rattle.std.specs.Io.KnownBytes.{Appends};
 ghost use Rattle.mst_net.specs.Tables.{IsNetwork};
-ghost use Rattle.mst_report.specs.State.{state_of};
+ghost use Rattle.mst_report.specs.Planned.{planned_state};
 ghost use Rattle.mst_tool.specs.Lines.{drop_cr};
 ghost use Rattle.mst_tool.specs.Script.{Step, Serves, texts_of};
 ghost use Rattle.mst_tool.specs.Written.{AppendsFront};
@@ -12,7 +12,6 @@ use crate::engine::{Engine, print};
 use crate::held_line::HeldLine;
 use crate::laws::has_run;
 use crate::print::WriteFailed;
-use mst_net::Contents;
 use std::io::Write;
 
 /// Serves the line that has come, and begins the next.
@@ -24,16 +23,16 @@ pub(crate) fn end_line<W: Write>(
     requires few { engine.old.number < 2 ^ 60 }
     requires counted { IsCounted (tally_of engine.old) }
     ensures counted { IsCounted (tally_of engine.new) }
-    ensures ok { OnOk result ((made : Step) × Serves engine.old.number (state_of engine.old.network.net) (drop_cr held.old) made
+    ensures ok { OnOk result ((made : Step) × Serves engine.old.number (planned_state engine.old.planner) (drop_cr held.old) made
         × (tally_of engine.new ≡ tallied (tally_of engine.old) made) × Appends (W.contents writer.old) (W.contents writer.new) made.text) }
-    ensures err { OnErr result ((made : Step) × Serves engine.old.number (state_of engine.old.network.net) (drop_cr held.old) made
+    ensures err { OnErr result ((made : Step) × Serves engine.old.number (planned_state engine.old.planner) (drop_cr held.old) made
         × IsNetwork made.state.net × AppendsFront (W.contents writer.old) (W.contents writer.new) made.text) }
     ensures cleared { held.new ≡ [] }
 {
     let number = engine.number;
     let reply = engine.reply(held.line());
     held.clear();
-    engine.network.known();
+    engine.planner.known();
     print(writer, number, &reply)
 }
 

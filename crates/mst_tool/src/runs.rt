@@ -6,7 +6,6 @@ use crate::engine::Engine;
 use crate::feed::{feed, finish};
 use crate::held_line::HeldLine;
 use crate::laws::{has_run, one_run};
-use mst_net::Contents;
 use std::alloc::Global;
 use std::io::{Read, Write};
 use thiserror::Error;
@@ -107,7 +106,7 @@ fn serve_script<R: Read, W: Write>(
     let mut held = HeldLine::new();
     let mut chunk = [0; 4096];
     'turns: for turn in 0..TURNS {
-        engine.network.known();
+        engine.planner.known();
         let count = match reader.read(&mut chunk) {
             Err(_) => return Err(RunFault::Read),
             Ok(count) => count,
@@ -123,7 +122,7 @@ fn serve_script<R: Read, W: Write>(
             Ok(()) => {}
         }
     }
-    engine.network.known();
+    engine.planner.known();
     Err(RunFault::Read)
 }
 

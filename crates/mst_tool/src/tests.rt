@@ -9,7 +9,8 @@ use faults::{Sink, Source};
 use mst_ids::BadText;
 use mst_lang::Fault;
 use mst_net::Refusal;
-use mst_report::laws as outcomes;
+use mst_report::laws as answers;
+use mst_trees::laws as outcomes;
 use std::alloc::Global;
 use std::test::Fail;
 
@@ -167,8 +168,9 @@ fn laws_can_be_called() {
     laws::has_run();
     laws::one_run();
     laws::network_alone();
-    outcomes::has_answer();
+    answers::has_answer();
+    answers::one_answer();
     outcomes::has_outcome();
     outcomes::one_outcome();
-    outcomes::one_answer();
+    outcomes::nested();
 }

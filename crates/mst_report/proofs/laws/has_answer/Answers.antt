@@ -1,4 +1,4 @@
-use Rattle.mst_report.proofs.Outcomes.{answer_there}
+use Rattle.mst_report.proofs.Answering.{answer_there}
 use Rattle.mst_report.proofs.laws.has_answer.Goals as goal
 
 pub returns : goal.returns

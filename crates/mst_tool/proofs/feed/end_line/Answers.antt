@@ -1,6 +1,6 @@
 use Rattle.std.proofs.Common.{subst}
 use Rattle.std.proofs.lemmas.Result.{on_ok_weaker, on_err_weaker}
-use Rattle.mst_report.specs.State.{state_of}
+use Rattle.mst_report.specs.Planned.{planned_state}
 use Rattle.mst_tool.specs.Script.{Serves}
 use Rattle.mst_tool.specs.Engine.{replied}
 use Rattle.mst_tool.proofs.feed.end_line.Goals as goal
@@ -9,10 +9,10 @@ pub returns-clause-ok : goal.returns-clause-ok
 returns-clause-ok g c =
     let r = c.reply-reply in
     let e = c.args.engine.now in
-    let made = replied e.number (state_of r.new.self.network.net) r.result in
+    let made = replied e.number (planned_state r.new.self.planner) r.result in
     on_ok_weaker c.print.result (λ written. (
       made,
-      subst (λ line. Serves e.number (state_of e.network.net) line made) c.line.ensures r.ensures.served,
+      subst (λ line. Serves e.number (planned_state e.planner) line made) c.line.ensures r.ensures.served,
       r.ensures.counted,
       written,
     )) c.print.ensures.ok
@@ -21,10 +21,10 @@ pub returns-clause-err : goal.returns-clause-err
 returns-clause-err g c =
     let r = c.reply-reply in
     let e = c.args.engine.now in
-    let made = replied e.number (state_of r.new.self.network.net) r.result in
+    let made = replied e.number (planned_state r.new.self.planner) r.result in
     on_err_weaker c.print.result (λ front. (
       made,
-      subst (λ line. Serves e.number (state_of e.network.net) line made) c.line.ensures r.ensures.served,
+      subst (λ line. Serves e.number (planned_state e.planner) line made) c.line.ensures r.ensures.served,
       c.known.ensures.network,
       front,
     )) c.print.ensures.err

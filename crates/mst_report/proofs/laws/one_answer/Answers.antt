@@ -1,5 +1,0 @@
-use Rattle.mst_report.proofs.Outcomes.{one_text}
-use Rattle.mst_report.proofs.laws.one_answer.Goals as goal
-
-pub returns : goal.returns
-returns c = one_text c.one_outcome.ensures.vectors c.one_outcome.ensures.ports

@@ -1,0 +1,13 @@
+use Rattle.std.proofs.Common.{ap, ◌∙◌, ◌++◌, Ok}
+use Rattle.mst_tree_text.specs.TreeText.{tree_text}
+use Rattle.mst_report.proofs.planner.Planner.tree.Goals as goal
+
+pub returns : goal.returns
+returns c =
+    let now = c.args.self.now.contents in
+    let plan = c.plan-plan.ensures in
+    (
+      plan.forest.outcome,
+      plan.forest.is_outcome,
+      ap Ok (c.in_ok-push_tree.ensures now.net now.numbers plan.forest plan.of ∙ ap (λ l. l ++ tree_text now.net plan.forest.outcome c.args.tree) c.new-text.ensures.items),
+    )

@@ -1,0 +1,180 @@
+ghost use Rattle.std.specs.Prelude.{◌≡◌, ◌≢◌, true, false, Ok, Err, IsOk, IfOk, IfErr, OnOk, OnErr, IsTrue};
+ghost use Rattle.mst_net.specs.After.{after};
+ghost use Rattle.mst_net.specs.Contents.{room_for};
+ghost use Rattle.mst_net.specs.Tables.{IsNetwork, empty_net};
+ghost use Rattle.mst_trees.specs.Agrees.{AreOf};
+ghost use Rattle.mst_trees.specs.Forest.{IsForest};
+ghost use Rattle.mst_lag.specs.Viewed.{IsView};
+
+use crate::plan::{Plan, plan_of};
+use mst_lag::View;
+use mst_lang::Edit;
+use mst_net::{Contents, Network, Refusal};
+use mst_trees::Forest;
+use std::alloc::{AllocError, Global};
+use std::marker::Model;
+
+/// A network and what follows from it: its view, its regions, and its trees, settled (802.1Q-2022, 13).
+///
+/// `apply` makes an edit and settles at once. A long script is loaded faster by `stage`, which makes an edit in
+/// the network alone, and one `settle` before the plan is asked.
+pub struct Planner {
+    alloc: Global,
+    network: Network,
+    // None until it is settled for the first time.
+    plan: Option<Plan>,
+    // The plan is that of the network as it is now.
+    is_settled: bool,
+}
+
+// By hand, as a network's.
+impl Drop for Planner {
+    fn drop(self) {
+        let Planner {
+            alloc: _,
+            network: _,
+            plan: _,
+            is_settled: _,
+        } = self;
+    }
+}
+
+impl Model for Planner {
+    ghost use Rattle.mst_report.specs.Planned.{Planned, planned_code};
+
+    ghost Value = { Planned };
+
+    ghost coded = { planned_code };
+
+    ghost use Rattle.mst_report.specs.Kept.{HasPlan};
+
+    ghost view = { λ p. record { contents = p.network; is_settled = p.is_settled } };
+
+    ghost invariant = { λ p. HasPlan p.network.net p.network.numbers p.is_settled p.plan };
+}
+
+impl Planner {
+    ghost use Rattle.mst_report.specs.Kept.{IsPlan};
+
+    /// The planner of the network with no records, which isn't settled yet: so it takes no memory.
+    pub fn new(alloc: Global) -> Planner
+        ensures { result.contents.net ≡ empty_net }
+    {
+        Planner {
+            alloc,
+            network: Network::new(alloc),
+            plan: None,
+            is_settled: false,
+        }
+    }
+
+    /// Does nothing: its clause says that the network is one.
+    pub fn known(&self)
+        ensures network { IsNetwork self.now.contents.net }
+    {
+        self.network.known();
+    }
+
+    /// The network.
+    pub fn network(&self) -> &Network
+        ensures { result.now ≡ self.now.contents }
+    {
+        &self.network
+    }
+
+    /// Whether the plan is that of the network as it is now: no edit was staged since it was settled.
+    pub fn is_settled(&self) -> bool
+        ensures { result ≡ self.now.is_settled }
+    {
+        self.is_settled
+    }
+
+    /// The network's view.
+    pub fn view(&self) -> &View
+        requires { self.now.is_settled ≡ true }
+        ensures { IsView self.now.contents.net self.now.contents.numbers result.now }
+    {
+        &self.plan().view
+    }
+
+    /// The network's trees, settled.
+    pub fn forest(&self) -> &Forest
+        requires { self.now.is_settled ≡ true }
+        ensures { IsForest self.now.contents.net self.now.contents.numbers result.now }
+    {
+        &self.plan().forest
+    }
+
+    /// Makes an edit in the network and leaves the plan for later. An edit is refused with the least number that
+    /// applies, and with E99 only where none does and there was no room for it; the planner is then as it was.
+    pub fn stage(&mut self, edit: &Edit) -> Result<(), Refusal>
+        ensures ok { OnOk result (after edit.now self.old.contents.net ≡ Ok self.new.contents.net) }
+        ensures same { OnErr result (self.new.contents.net ≡ self.old.contents.net) }
+        ensures settled { OnErr result (self.new.is_settled ≡ self.old.is_settled) }
+        ensures refused { IfErr result (λ refusal. refusal ≢ Refusal.E99 → after edit.now self.old.contents.net ≡ Err refusal) }
+        ensures memory { result ≡ Err Refusal.E99 → IsOk (after edit.now self.old.contents.net) }
+        ensures no_room { result ≡ Err Refusal.E99 → room_for edit.now self.old.contents.room ≡ 0 }
+    {
+        match self.network.prepare(edit) {
+            Ok(ready) => {
+                self.network.commit(ready);
+                self.is_settled = false;
+                Ok(())
+            }
+            Err(refusal) => Err(refusal),
+        }
+    }
+
+    /// Brings the plan up to the network. `AllocError`: memory was wanted and refused, and the planner is as it was.
+    pub fn settle(&mut self) -> Result<(), AllocError>
+        ensures same { self.new.contents ≡ self.old.contents }
+        ensures settled { OnOk result (self.new.is_settled ≡ true) }
+        ensures as_it_was { OnErr result (self.new ≡ self.old) }
+    {
+        if self.is_settled {
+            return Ok(());
+        }
+        let plan = plan_of(self.alloc, &self.network)?;
+        self.plan = Some(plan);
+        self.is_settled = true;
+        Ok(())
+    }
+
+    /// Makes an edit and settles the network that it makes. An edit is refused with the least number that applies,
+    /// and with E99 only where none does and memory was wanted and refused; the planner is then as it was.
+    pub fn apply(&mut self, edit: &Edit) -> Result<(), Refusal>
+        ensures ok { OnOk result (after edit.now self.old.contents.net ≡ Ok self.new.contents.net) }
+        ensures settled { OnOk result (self.new.is_settled ≡ true) }
+        ensures same { OnErr result (self.new.contents.net ≡ self.old.contents.net) }
+        ensures as_it_was { OnErr result (self.new.is_settled ≡ self.old.is_settled) }
+        ensures refused { IfErr result (λ refusal. refusal ≢ Refusal.E99 → after edit.now self.old.contents.net ≡ Err refusal) }
+        ensures memory { result ≡ Err Refusal.E99 → IsOk (after edit.now self.old.contents.net) }
+    {
+        let ready = self.network.prepare(edit)?;
+        match plan_of(self.alloc, &self.network.ahead(&ready)) {
+            Ok(plan) => {
+                self.network.commit(ready);
+                self.plan = Some(plan);
+                self.is_settled = true;
+                Ok(())
+            }
+            Err(_) => {
+                self.network.abandon(ready);
+                Err(Refusal::E99)
+            }
+        }
+    }
+
+    /// What the texts take memory from.
+    pub(crate) fn alloc(&self) -> Global {
+        self.alloc
+    }
+
+    /// The plan, for the texts.
+    pub(crate) fn plan(&self) -> &Plan
+        requires { self.now.is_settled ≡ true }
+        ensures { IsPlan self.now.contents.net self.now.contents.numbers result.now }
+    {
+        self.plan.as_ref().unwrap()
+    }
+}
