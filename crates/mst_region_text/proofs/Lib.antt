@@ -1,0 +1,5 @@
+mod Flat
+mod Keeping
+mod RegionsSeen
+mod Shown
+mod VidsOf

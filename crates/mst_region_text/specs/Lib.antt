@@ -1,0 +1,3 @@
+pub mod ConfigurationText
+pub mod Members
+pub mod RegionsText
