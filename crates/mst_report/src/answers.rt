@@ -1,17 +1,18 @@
 ghost use Rattle.std.specs.Prelude.{◌≡◌, ◌≢◌, ◌++◌, true, ℕ, List, IsTrue, Ok, Err, IfOk, IfErr, OnOk};
-ghost use Rattle.mst_lang.specs.declared.line.Query.TheVariants.{ShowTree, ShowLag, ShowRegions, ShowConfiguration};
+ghost use Rattle.mst_lang.specs.declared.line.Query.TheVariants.{ShowTree, ShowVlan, ShowLag, ShowRegions, ShowConfiguration};
 ghost use Rattle.mst_report.specs.Answers.{Answers, is_answered as is_answered_query};
 ghost use Rattle.mst_report.specs.Planned.{planned_state};
 ghost use Rattle.mst_report.specs.Refusing.{HasText, IsRefusal};
 
 use crate::laws::has_answer;
 use crate::planner::Planner;
-use mst_ids::{Name, Tree};
+use mst_ids::{Name, Tree, Vid};
 use mst_lag_text::push_lags;
 use mst_lang::Query;
 use mst_net::{Contents, Refusal};
 use mst_region_text::{push_configuration, push_regions};
 use mst_tree_text::push_tree;
+use mst_vlan_text::push_vlan;
 use std::alloc::AllocError;
 
 /// Whether a query is answered.
@@ -20,6 +21,7 @@ pub fn is_answered(query: &Query) -> bool
 {
     match query {
         Query::ShowTree { .. }
+        | Query::ShowVlan { .. }
         | Query::ShowLag
         | Query::ShowRegions
         | Query::ShowConfiguration { .. } => true,
@@ -77,6 +79,7 @@ impl Planner {
     {
         match query {
             Query::ShowTree { tree } => self.tree(*tree),
+            Query::ShowVlan { vid } => self.vlan(*vid),
             Query::ShowLag => self.lags(),
             Query::ShowRegions => self.regions(),
             Query::ShowConfiguration { bridge } => self.configuration(bridge),
@@ -89,10 +92,20 @@ impl Planner {
         requires { self.now.is_settled ≡ true }
         ensures { IfOk result (λ text. Answers (ShowTree tree) (planned_state self.now) (Ok text.items)) }
     {
-        self.known();
         let plan = self.plan();
         let mut text = Vec::new(self.alloc());
         push_tree(&plan.view, &plan.forest, tree, &mut text)?;
+        Ok(text)
+    }
+
+    /// The text of a VID.
+    fn vlan(&self, vid: Vid) -> Result<Vec<u8>, AllocError>
+        requires { self.now.is_settled ≡ true }
+        ensures { IfOk result (λ text. Answers (ShowVlan vid) (planned_state self.now) (Ok text.items)) }
+    {
+        let plan = self.plan();
+        let mut text = Vec::new(self.alloc());
+        push_vlan(self.alloc(), &plan.view, &plan.forest, vid, &mut text)?;
         Ok(text)
     }
 
@@ -101,7 +114,6 @@ impl Planner {
         requires { self.now.is_settled ≡ true }
         ensures { IfOk result (λ text. Answers ShowLag (planned_state self.now) (Ok text.items)) }
     {
-        self.known();
         let mut text = Vec::new(self.alloc());
         push_lags(self.alloc(), &self.plan().view, &mut text)?;
         Ok(text)
@@ -112,7 +124,6 @@ impl Planner {
         requires { self.now.is_settled ≡ true }
         ensures { IfOk result (λ text. Answers ShowRegions (planned_state self.now) (Ok text.items)) }
     {
-        self.known();
         let plan = self.plan();
         let mut text = Vec::new(self.alloc());
         push_regions(self.alloc(), &plan.view, &plan.classes, &mut text)?;

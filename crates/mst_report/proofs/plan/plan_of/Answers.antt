@@ -14,8 +14,8 @@ returns g c =
     let tables = g.C.Contents.tables c.args.contents.now in
     let regions = c.in_ok-classes.ensures in
     let forest =
-        c.in_ok-forest.ensures.outcome tables.net tables.numbers
-        (record { network = c.known.ensures.network; numbered = c.known.ensures.numbered; view = c.in_ok-view.ensures; regions = regions }) in
+    c.in_ok-forest.ensures.outcome tables.net tables.numbers
+    (record { network = c.known.ensures.network; numbered = c.known.ensures.numbered; view = c.in_ok-view.ensures; regions = regions }) in
     record {
       of = record { network = c.known.ensures.network; numbered = c.known.ensures.numbered; view = c.in_ok-view.ensures; regions = forest.regions };
       regions = regions;

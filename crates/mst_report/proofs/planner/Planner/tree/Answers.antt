@@ -5,8 +5,7 @@ use Rattle.mst_report.proofs.planner.Planner.tree.Goals as goal
 pub returns : goal.returns
 returns c =
     let now = c.args.self.now.contents in
-    let plan = c.plan-plan.ensures in
-    (
+    let plan = c.plan-plan.ensures in (
       plan.forest.outcome,
       plan.forest.is_outcome,
       ap Ok (c.in_ok-push_tree.ensures now.net now.numbers plan.forest plan.of ∙ ap (λ l. l ++ tree_text now.net plan.forest.outcome c.args.tree) c.new-text.ensures.items),
