@@ -1,0 +1,32 @@
+-- The rows of a view, under the numbers of records.
+use Rattle.std.specs.Prelude.{◌≡◌, ℕ, ◌==◌, true, Bool, List, Option, Some, None, nat_eq, if◌then◌else◌, filter_map}
+use Rattle.std.specs.List.{AllByRecursion, find, list_any}
+use Rattle.std.specs.Option.{option_map, option_and_then}
+use Rattle.mst_settle.specs.Assignment.{vector_of}
+use Rattle.mst_lag.specs.Trees.{is_among}
+use Rattle.mst_lag.specs.Viewed.{Viewed}
+use Rattle.mst_lag.specs.declared.in_view.BridgeInView.{BridgeInView}
+use Rattle.mst_lag.specs.declared.in_view.PortInView.{PortInView}
+use Rattle.mst_trees.specs.Seen.{trees_at}
+use Rattle.mst_trees.specs.Forest.{msti_vector}
+use Rattle.mst_trees.specs.declared.forest.Forest.{Forest}
+use Rattle.mst_roles.specs.Seen.{seen_role}
+use Rattle.mst_changes.specs.declared.state.State.{State}
+use Rattle.mst_changes.specs.declared.state.State.TheVariants.{InCist, InMsti, HasRole}
+use Rattle.mst_changes.specs.declared.rows.Row.{Row}
+use Rattle.mst_changes.specs.Places.{bridge_in, port_in}
+
+abbrev pub seen_vector : Viewed → Forest → ℕ → ℕ → Option State
+seen_vector v f tree bridge =
+    if tree == 0 then option_map InCist (vector_of f.cist bridge) else (if is_among (trees_at v bridge) tree then option_map InMsti (msti_vector f tree bridge) else None)
+
+abbrev pub seen_bridge_row : Viewed → Forest → ℕ → BridgeInView → Option Row
+seen_bridge_row v f tree b = option_map (λ state. record { place = bridge_in tree b.name; state = state }) (seen_vector v f tree b.bridge.number)
+
+abbrev pub seen_port_row : Viewed → Forest → ℕ → PortInView → Option Row
+seen_port_row v f tree p =
+    option_map (λ role. record { place = port_in tree p.name; state = HasRole role }) (option_and_then (seen_role v f tree) (find (λ q. p.number == q.number) v.ports))
+
+-- these are all trees that some bridge has beside the CIST, and maybe more
+abbrev pub AreInUse : Viewed → List BridgeInView → List ℕ → Type 0
+AreInUse v bridges trees = AllByRecursion (λ b. (tree : ℕ) → is_among (trees_at v b.bridge.number) tree ≡ true → list_any (nat_eq tree) trees ≡ true) bridges
