@@ -1,6 +1,6 @@
 -- The rows of a view, under the numbers of records.
-use Rattle.std.specs.Prelude.{◌≡◌, ℕ, ◌==◌, true, Bool, List, Option, Some, None, nat_eq, if◌then◌else◌, filter_map}
-use Rattle.std.specs.List.{AllByRecursion, find, list_any}
+use Rattle.std.specs.Prelude.{◌≡◌, ℕ, ◌==◌, Bool, List, Option, Some, None, nat_eq, if◌then◌else◌}
+use Rattle.std.specs.List.{find, list_any}
 use Rattle.std.specs.Option.{option_map, option_and_then}
 use Rattle.mst_settle.specs.Assignment.{vector_of}
 use Rattle.mst_lag.specs.Trees.{is_among}
@@ -27,6 +27,9 @@ abbrev pub seen_port_row : Viewed → Forest → ℕ → PortInView → Option R
 seen_port_row v f tree p =
     option_map (λ role. record { place = port_in tree p.name; state = HasRole role }) (option_and_then (seen_role v f tree) (find (λ q. p.number == q.number) v.ports))
 
--- these are all trees that some bridge has beside the CIST, and maybe more
-abbrev pub AreInUse : Viewed → List BridgeInView → List ℕ → Type 0
-AreInUse v bridges trees = AllByRecursion (λ b. (tree : ℕ) → is_among (trees_at v b.bridge.number) tree ≡ true → list_any (nat_eq tree) trees ≡ true) bridges
+-- some bridge has the tree beside the CIST
+abbrev pub is_in_use : Viewed → ℕ → Bool
+is_in_use v tree = list_any (λ b. is_among (trees_at v b.bridge.number) tree) v.bridges
+
+abbrev pub AreInUse : Viewed → List ℕ → Type 0
+AreInUse v trees = (tree : ℕ) → list_any (nat_eq tree) trees ≡ is_in_use v tree

@@ -1,4 +1,4 @@
-ghost use Rattle.std.specs.Prelude.{◌≡◌, ◌++◌, ℕ, true, IfOk, OnOk, nat_eq, filter_map};
+ghost use Rattle.std.specs.Prelude.{◌≡◌, ◌++◌, ◌||◌, ℕ, IfOk, OnOk, nat_eq, filter_map};
 ghost use Rattle.std.specs.List.{list_any};
 ghost use Rattle.mst_net.specs.Tables.{Net, Numbers};
 ghost use Rattle.mst_lag.specs.Trees.{is_among};
@@ -40,8 +40,7 @@ impl Drop for Rows {
 
 /// Adds these trees to those in use.
 fn add_trees(trees: &[Tree], used: &mut IndexSet<Tree>) -> Result<(), AllocError>
-    ensures kept { OnOk result ((tree : ℕ) → list_any (nat_eq tree) used.old.keys ≡ true → list_any (nat_eq tree) used.new.keys ≡ true) }
-    ensures added { OnOk result ((tree : ℕ) → is_among trees.now tree ≡ true → list_any (nat_eq tree) used.new.keys ≡ true) }
+    ensures { OnOk result ((tree : ℕ) → list_any (nat_eq tree) used.new.keys ≡ (list_any (nat_eq tree) used.old.keys || is_among trees.now tree)) }
 {
     for tree in trees {
         used.insert(*tree)?;
@@ -51,7 +50,7 @@ fn add_trees(trees: &[Tree], used: &mut IndexSet<Tree>) -> Result<(), AllocError
 
 /// The trees that some bridge has beside the CIST.
 fn trees_in_use(alloc: Global, view: &View) -> Result<IndexSet<Tree>, AllocError>
-    ensures { IfOk result (λ used. AreInUse view.now view.now.bridges used.keys) }
+    ensures { IfOk result (λ used. AreInUse view.now used.keys) }
 {
     let mut used = IndexSet::new(alloc);
     for bridge in view.bridges() {
@@ -101,25 +100,38 @@ fn port_row(view: &View, forest: &Forest, tree: Tree, port: &PortInView) -> Opti
     })
 }
 
-/// Appends the rows of the bridges and logical ports of a view in a tree.
-fn push_all(
+/// Appends the rows of the bridges of a view in a tree.
+fn push_bridges(
     view: &View,
     forest: &Forest,
     tree: Tree,
     rows: &mut Vec<Row>,
 ) -> Result<(), AllocError>
-    ensures { OnOk result (rows.new.items ≡ rows.old.items ++ (filter_map (seen_bridge_row view.now forest.now tree) view.now.bridges ++ filter_map (seen_port_row view.now forest.now tree) view.now.ports)) }
+    ensures { OnOk result (rows.new.items ≡ rows.old.items ++ filter_map (seen_bridge_row view.now forest.now tree) view.now.bridges) }
 {
-    rows.extend(
-        view.bridges()
-            .iter()
-            .filter_map(|bridge| bridge_row(view, forest, tree, bridge)),
-    )?;
-    rows.extend(
-        view.ports()
-            .iter()
-            .filter_map(|port| port_row(view, forest, tree, port)),
-    )
+    for bridge in view.bridges() {
+        if let Some(row) = bridge_row(view, forest, tree, bridge) {
+            rows.push(row)?;
+        }
+    }
+    Ok(())
+}
+
+/// Appends the rows of the logical ports of a view in a tree.
+fn push_ports(
+    view: &View,
+    forest: &Forest,
+    tree: Tree,
+    rows: &mut Vec<Row>,
+) -> Result<(), AllocError>
+    ensures { OnOk result (rows.new.items ≡ rows.old.items ++ filter_map (seen_port_row view.now forest.now tree) view.now.ports) }
+{
+    for port in view.ports() {
+        if let Some(row) = port_row(view, forest, tree, port) {
+            rows.push(row)?;
+        }
+    }
+    Ok(())
 }
 
 /// Appends the rows of a tree: none where no bridge has it.
@@ -130,14 +142,15 @@ fn push_tree(
     tree: Tree,
     rows: &mut Vec<Row>,
 ) -> Result<(), AllocError>
-    requires { AreInUse view.now view.now.bridges used.now.keys }
+    requires { AreInUse view.now used.now.keys }
     ensures { OnOk result ((net : Net) (numbers : Numbers) (is : IsForest net numbers forest.now) → AreOf net numbers view.now forest.now.regions
         → rows.new.items ≡ rows.old.items ++ rows_at (state_at net is.outcome) (places_in (bridge_names net) (port_names net) tree)) }
 {
     if tree.value() != 0 && !used.contains(&tree) {
         return Ok(());
     }
-    push_all(view, forest, tree, rows)
+    push_bridges(view, forest, tree, rows)?;
+    push_ports(view, forest, tree, rows)
 }
 
 impl Rows {
