@@ -20,10 +20,11 @@ use Rattle.mst_trees.specs.Outcome.{Outcome}
 use Rattle.mst_trees.proofs.Lists.{apart_mapped}
 use Rattle.mst_trees.proofs.Views.{bridges_rise, ports_rise}
 use Rattle.mst_roles.specs.Roles.{role_in, role_of}
+use Rattle.mst_changes.specs.declared.place.Item.TheVariants.{Bridge, Port}
 use Rattle.mst_changes.specs.declared.place.Place.{Place}
 use Rattle.mst_changes.specs.declared.state.State.{State}
 use Rattle.mst_changes.specs.declared.state.State.TheVariants.{InCist, InMsti, HasRole}
-use Rattle.mst_changes.specs.declared.rows.Row.{Row}
+use Rattle.mst_changes.specs.declared.place.Row.{Row}
 use Rattle.mst_changes.specs.Places.{all_trees, bridge_in, port_in, places_in, places, bridge_names, port_names, names_of_either, places_of, places_of_either}
 use Rattle.mst_changes.specs.States.{vector_in, state_at}
 use Rattle.mst_changes.specs.Kept.{row_at, rows_at}
@@ -85,7 +86,7 @@ module _ (net : Net) (o : Outcome) where
   no_msti tree name e = ap (λ r. option_map_or (λ row. is_among (mstis_of net name row) tree) r false) (no_value (fin.get net.bridges name) e)
 
   no_bridge : (tree : ℕ) (name : List ℕ) → list_any (eq_by_cmp name_cmp name) (bridge_names net) ≡ false → bridge_at (state_at net o) tree name ≡ None
-  no_bridge tree name e = ap (option_map (λ state. record { place = bridge_in tree name; state = state })) (go (tree == 0))
+  no_bridge tree name e = ap (option_map (λ state. record { tree = tree; item = Bridge name; state = state })) (go (tree == 0))
     where
       go : (b : Bool) → (if b then (if fin.contains_key net.bridges name then option_map InCist (o.cist.vector name) else None) else (if has_msti net tree name then option_map InMsti ((o.msti tree).vector name) else None)) ≡ None
       go true = ap (λ (t : Bool). if t then option_map InCist (o.cist.vector name) else None) (absent name e)
@@ -102,7 +103,7 @@ module _ (net : Net) (o : Outcome) where
 
   no_port : (tree : ℕ) (name : PortName) → list_any (eq_by_cmp port_cmp name) (port_names net) ≡ false → port_at (state_at net o) tree name ≡ None
   no_port tree name e =
-      ap (λ (p : Option LogicalPort). option_map (λ state. record { place = port_in tree name; state = state }) (option_map HasRole (option_and_then (role_in net o tree) p))) (not_found name (view_ports net) e)
+      ap (λ (p : Option LogicalPort). option_map (λ state. record { tree = tree; item = Port name; state = state }) (option_map HasRole (option_and_then (role_in net o tree) p))) (not_found name (view_ports net) e)
 
   module _ (other : Net) where
     pub rows_left : rows_at (state_at net o) (places_of net) ≡ rows_at (state_at net o) (places_of_either net other)

@@ -1,10 +1,10 @@
 -- The rows of a view are those of its network.
-use Rattle.std.proofs.Common.{◌≡◌, ℕ, ◌+◌, ◌<◌, ◌==◌, Bool, true, false, List, [], ◌∷◌, ◌++◌, map, length, take, get_or, Option, Some, None, refl, sym, ap, ◌∙◌, append_assoc, is_some}
+use Rattle.std.proofs.Common.{◌≡◌, ℕ, zero, suc, ◌+◌, ◌<◌, ◌==◌, Bool, true, false, List, [], ◌∷◌, ◌++◌, map, length, take, get_or, Option, Some, None, refl, sym, ap, ◌∙◌, append_assoc, is_some, arith}
 use Rattle.std.specs.Prelude.{if◌then◌else◌}
 use Rattle.std.specs.List.{AllByRecursion, filter_map, flat_map, find, range_with_len, cons_option}
 use Rattle.std.specs.Option.{option_map, option_and_then}
 use Rattle.std.specs.FinMap as fin
-use Rattle.std.proofs.lemmas.List.{take_more}
+use Rattle.std.proofs.lemmas.List.{take_more, flat_map_more}
 use Rattle.std.proofs.lemmas.List.Elements.{filter_map-append}
 use Rattle.mst_ids.specs.declared.name.PortName.{PortName}
 use Rattle.mst_settle.specs.Assignment.{vector_of}
@@ -24,21 +24,23 @@ use Rattle.mst_trees.proofs.Lists.{kept_same}
 use Rattle.mst_trees.proofs.Entries.{all_weaker}
 use Rattle.mst_trees.proofs.Seen.{SeenBridge, SeenPort, bridges_seen, ports_seen}
 use Rattle.mst_trees.proofs.Looking.{has_tree_at}
-use Rattle.mst_roles.specs.Roles.{role_of, role_in}
+use Rattle.mst_roles.specs.Roles.{role_of, role_in, cist_role, msti_role}
 use Rattle.mst_roles.specs.Seen.{seen_role}
 use Rattle.mst_roles.specs.declared.kind.Role.{Role}
 use Rattle.mst_roles.proofs.Named.{named}
 use Rattle.mst_changes.specs.declared.place.Item.{Item}
+use Rattle.mst_changes.specs.declared.place.Item.TheVariants.{Bridge, Port}
 use Rattle.mst_changes.specs.declared.place.Place.{Place}
 use Rattle.mst_changes.specs.declared.state.State.{State}
 use Rattle.mst_changes.specs.declared.state.State.TheVariants.{InCist, InMsti, HasRole}
-use Rattle.mst_changes.specs.declared.rows.Row.{Row}
-use Rattle.mst_changes.specs.Places.{bridge_in, port_in, places_in, bridge_names, port_names}
+use Rattle.mst_changes.specs.declared.place.Row.{Row}
+use Rattle.mst_changes.specs.Places.{all_trees, bridge_in, port_in, places_in, bridge_names, port_names}
 use Rattle.mst_changes.specs.States.{vector_in, state_at}
 use Rattle.mst_changes.specs.Kept.{row_at, rows_at}
 use Rattle.mst_changes.specs.Seen.{seen_vector, seen_bridge_row, seen_port_row, is_in_use}
 use Rattle.mst_changes.proofs.Lists.{filter_map-map}
 use Rattle.mst_changes.proofs.Changed.{bridge_at, port_at, rows_in}
+use Rattle.mst_changes.proofs.Orders.{trees_are}
 use Rattle.mst_changes.proofs.InUse.{unused}
 
 -- what is kept of one more
@@ -51,9 +53,6 @@ kept_more h xs i x below here before now e =
 kept_none : {A B : Type 0} (h : A → Option B) → ((x : A) → h x ≡ None) → (xs : List A) → filter_map h xs ≡ []
 kept_none h none [] = refl
 kept_none h none (x ∷ xs) = ap (λ o. cons_option o (filter_map h xs)) (none x) ∙ kept_none h none xs
-
-role_row : ℕ → PortName → Role → Row
-role_row tree name role = record { place = port_in tree name; state = HasRole role }
 
 module _ (net : Net) (numbers : Numbers) (v : Viewed) (f : Forest) (of : AreOf net numbers v f.regions) (is : IsForest net numbers f) (tree : ℕ) where
   abbrev x : Place → Option State
@@ -77,12 +76,12 @@ module _ (net : Net) (numbers : Numbers) (v : Viewed) (f : Forest) (of : AreOf n
   bridges_same : filter_map (seen_bridge_row v f tree) v.bridges ≡ filter_map (bridge_at x tree) (bridge_names net)
   bridges_same =
       kept_same (seen_bridge_row v f tree) (λ (b : BridgeInView). bridge_at x tree b.name) v.bridges
-      (all_weaker (SeenBridge net numbers) _ (λ b seen. ap (option_map (λ state. record { place = bridge_in tree b.name; state = state })) (vector_same b seen)) v.bridges (bridges_seen net numbers v of.view))
+      (all_weaker (SeenBridge net numbers) _ (λ b seen. ap (option_map (λ state. record { tree = tree; item = Bridge b.name; state = state })) (vector_same b seen)) v.bridges (bridges_seen net numbers v of.view))
       ∙ sym (filter_map-map (λ (e : List ℕ × BridgeRow). bridge_at x tree e.0) named_bridge v.bridges)
       ∙ ap (filter_map (λ (e : List ℕ × BridgeRow). bridge_at x tree e.0)) of.view.bridges
       ∙ sym (filter_map-map (bridge_at x tree) (λ (e : List ℕ × BridgeRow). e.0) (fin.entries net.bridges))
 
-  role_twice : (name : PortName) (r : Option Role) → option_map (λ role. record { place = port_in tree name; state = HasRole role }) r ≡ option_map (λ state. record { place = port_in tree name; state = state }) (option_map HasRole r)
+  role_twice : (name : PortName) (r : Option Role) → option_map {U = Row} (λ role. record { tree = tree; item = Port name; state = HasRole role }) r ≡ option_map {U = Row} (λ state. record { tree = tree; item = Port name; state = state }) (option_map HasRole r)
   role_twice name None = refl
   role_twice name (Some r) = refl
 
@@ -90,7 +89,7 @@ module _ (net : Net) (numbers : Numbers) (v : Viewed) (f : Forest) (of : AreOf n
   ports_same =
       kept_same (seen_port_row v f tree) (λ (p : PortInView). port_at x tree p.name) v.ports
       (all_weaker (SeenPort net numbers) _ (λ p seen.
-      ap (option_map (λ role. record { place = port_in tree p.name; state = HasRole role })) (named net numbers v f of is tree p.name p.number seen.has_numbers.port)
+      ap (option_map (λ role. record { tree = tree; item = Port p.name; state = HasRole role })) (named net numbers v f of is tree p.name p.number seen.has_numbers.port)
       ∙ role_twice p.name (role_of net is.outcome tree p.name)) v.ports (ports_seen net numbers v of.view))
       ∙ sym (filter_map-map (λ (p : LogicalPort). port_at x tree p.name) named_port v.ports)
       ∙ ap (filter_map (λ (p : LogicalPort). port_at x tree p.name)) of.view.ports
@@ -112,17 +111,29 @@ module _ (net : Net) (numbers : Numbers) (v : Viewed) (f : Forest) (of : AreOf n
 
     no_role : (p : Option LogicalPort) → option_and_then (role_in net is.outcome tree) p ≡ None
     no_role None = refl
-    no_role (Some p) = go
-      where
-        go : role_in net is.outcome tree p ≡ None
-        go = ?
+    no_role (Some p) = λ i. if other i then Some (cist_role net is.outcome p) else (if no_tree p.name.bridge i then Some (msti_role net is.outcome tree p) else None)
 
     pub no_rows : rows_at x (places_in (bridge_names net) (port_names net) tree) ≡ []
     no_rows =
         rows_in x (bridge_names net) (port_names net) tree
-        ∙ (λ i. kept_none (bridge_at x tree) (λ name. ap (option_map (λ state. record { place = bridge_in tree name; state = state })) (no_vector name)) (bridge_names net) i
-        ++ kept_none (port_at x tree) (λ name. ap (λ (r : Option Role). option_map (λ state. record { place = port_in tree name; state = state }) (option_map HasRole r)) (no_role _)) (port_names net) i)
+        ∙ (λ i. kept_none (bridge_at x tree) (λ name. ap (option_map (λ state. record { tree = tree; item = Bridge name; state = state })) (no_vector name)) (bridge_names net) i
+        ++ kept_none (port_at x tree) (λ name. ap (λ (r : Option Role). option_map (λ state. record { tree = tree; item = Port name; state = state }) (option_map HasRole r)) (no_role _)) (port_names net) i)
 
--- one more tree
-range_up : (a n : ℕ) → range_with_len a (n + 1) ≡ range_with_len a n ++ (a + n) ∷ []
-range_up a n = ?
+-- ---- tree after tree
+range_up : (a n : ℕ) → range_with_len a (suc n) ≡ range_with_len a n ++ (a + n) ∷ []
+range_up a zero = ap (λ m. m ∷ []) (let e : a ≡ a + 0 = omega arith in e)
+range_up a (suc n) =
+    let same : (a + 1) + n ≡ a + suc n = omega arith in
+    ap (λ l. a ∷ l) (range_up (a + 1) n ∙ ap (λ m. range_with_len (a + 1) n ++ m ∷ []) same)
+
+range_more : (n : ℕ) → range_with_len 0 (n + 1) ≡ range_with_len 0 n ++ n ∷ []
+range_more n =
+    let up : n + 1 ≡ suc n = omega arith in
+    let same : 0 + n ≡ n = omega arith in
+    ap (range_with_len 0) up ∙ range_up 0 n ∙ ap (λ m. range_with_len 0 n ++ m ∷ []) same
+
+pub tree_more : (f : ℕ → List Row) (n : ℕ) (now new : List Row) → now ≡ flat_map f (range_with_len 0 n) → new ≡ now ++ f n → new ≡ flat_map f (range_with_len 0 (n + 1))
+tree_more f n now new before after = after ∙ ap (λ l. l ++ f n) before ∙ flat_map_more f [] (range_with_len 0 n) n ∙ ap (flat_map f) (sym (range_more n))
+
+pub trees_done : (f : ℕ → List Row) (n : ℕ) → n ≡ 4095 → flat_map f (range_with_len 0 n) ≡ flat_map f all_trees
+trees_done f n e = ap (flat_map f) (ap (range_with_len 0) e ∙ trees_are)

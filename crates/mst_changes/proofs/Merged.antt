@@ -7,37 +7,37 @@ use Rattle.std.specs.Ordering.{is_eq, is_gt}
 use Rattle.mst_trees.proofs.Lists.{some_is, no_some, all_kept}
 use Rattle.mst_changes.specs.declared.place.Place.{Place}
 use Rattle.mst_changes.specs.declared.state.State.{State}
-use Rattle.mst_changes.specs.declared.rows.Row.{Row}
-use Rattle.mst_changes.specs.Places.{place_cmp}
+use Rattle.mst_changes.specs.declared.place.Row.{Row}
+use Rattle.mst_changes.specs.Places.{place_of, place_cmp}
 use Rattle.mst_changes.specs.Kept.{row_at, rows_at}
 use Rattle.mst_changes.specs.Merging.{Rise, first_place, state_first, rows_past}
 use Rattle.mst_changes.specs.ChangesText.{change_text}
 use Rattle.mst_changes.proofs.Orders.{turned, itself}
 
 abbrev Below : Place → List Row → Type 0
-Below n = AllByRecursion (λ (r : Row). place_cmp n r.place ≡ Less)
+Below n = AllByRecursion (λ (r : Row). place_cmp n (place_of r) ≡ Less)
 
 -- rows of later places have nothing at this one
 later_rows : (n : Place) (rs : List Row) → Below n rs → (state_first n rs ≡ None) × (rows_past n rs ≡ rs)
 later_rows n [] h = (refl, refl)
 later_rows n (r ∷ rs) h =
-    let after = turned n r.place h.0 in
+    let after = turned n (place_of r) h.0 in
     (ap (λ o. if is_eq o then Some r.state else None) after, ap (λ o. if is_eq o then rs else r ∷ rs) after)
 
 module _ (x : Place → Option State) where
-  row_place : (n : Place) (r : Row) → row_at x n ≡ Some r → n ≡ r.place
+  row_place : (n : Place) (r : Row) → row_at x n ≡ Some r → n ≡ (place_of r)
   row_place n r e = go (x n) e
     where
-      go : (s : Option State) → option_map (λ state. record { place = n; state = state }) s ≡ Some r → n ≡ r.place
+      go : (s : Option State) → option_map (λ state. record { tree = n.tree; item = n.item; state = state }) s ≡ Some r → n ≡ (place_of r)
       go None k = absurd (no_some r k)
-      go (Some s) k = ap (λ (q : Row). q.place) (some_is (record { place = n; state = s }) r k)
+      go (Some s) k = ap (λ (q : Row). (place_of q)) (some_is (record { tree = n.tree; item = n.item; state = s }) r k)
 
   below : (n : Place) (ns : List Place) → AllByRecursion (λ m. place_cmp n m ≡ Less) ns → Below n (rows_at x ns)
-  below n ns h = all_kept (λ m. place_cmp n m ≡ Less) (λ (r : Row). place_cmp n r.place ≡ Less) (row_at x) (λ m r l e. subst (λ q. place_cmp n q ≡ Less) (row_place m r e) l) ns h
+  below n ns h = all_kept (λ m. place_cmp n m ≡ Less) (λ (r : Row). place_cmp n (place_of r) ≡ Less) (row_at x) (λ m r l e. subst (λ q. place_cmp n q ≡ Less) (row_place m r e) l) ns h
 
   -- the rows of a place with this state, and of later ones
   abbrev listed : Place → List Place → Option State → List Row
-  listed n ns s = cons_option (option_map (λ state. record { place = n; state = state }) s) (rows_at x ns)
+  listed n ns s = cons_option (option_map (λ state. record { tree = n.tree; item = n.item; state = state }) s) (rows_at x ns)
 
   -- at the first place
   at_first : (n : Place) (ns : List Place) → AllByRecursion (λ m. place_cmp n m ≡ Less) ns → (state_first n (rows_at x (n ∷ ns)) ≡ x n) × (rows_past n (rows_at x (n ∷ ns)) ≡ rows_at x ns)
@@ -47,24 +47,24 @@ module _ (x : Place → Option State) where
       go None = later_rows n (rows_at x ns) (below n ns h)
       go (Some s) = (
         ap (λ o. if is_eq o then Some s else None) (itself n),
-        ap (λ o. if is_eq o then rows_at x ns else record { place = n; state = s } ∷ rows_at x ns) (itself n),
+        ap (λ o. if is_eq o then rows_at x ns else record { tree = n.tree; item = n.item; state = s } ∷ rows_at x ns) (itself n),
       )
 
   passed_over : (n : Place) (ns : List Place) → x n ≡ None → rows_at x (n ∷ ns) ≡ rows_at x ns
-  passed_over n ns e = ap (λ o. cons_option (option_map (λ state. record { place = n; state = state }) o) (rows_at x ns)) e
+  passed_over n ns e = ap (λ o. cons_option (option_map (λ state. record { tree = n.tree; item = n.item; state = state }) o) (rows_at x ns)) e
 
-  has_row : (n : Place) (ns : List Place) (s : State) → x n ≡ Some s → rows_at x (n ∷ ns) ≡ record { place = n; state = s } ∷ rows_at x ns
-  has_row n ns s e = ap (λ o. cons_option (option_map (λ state. record { place = n; state = state }) o) (rows_at x ns)) e
+  has_row : (n : Place) (ns : List Place) (s : State) → x n ≡ Some s → rows_at x (n ∷ ns) ≡ record { tree = n.tree; item = n.item; state = s } ∷ rows_at x ns
+  has_row n ns s e = ap (λ o. cons_option (option_map (λ state. record { tree = n.tree; item = n.item; state = state }) o) (rows_at x ns)) e
 
-left_first : (r : Row) (rs ss : List Row) → Below r.place ss → first_place (r ∷ rs) ss ≡ Some r.place
+left_first : (r : Row) (rs ss : List Row) → Below (place_of r) ss → first_place (r ∷ rs) ss ≡ Some (place_of r)
 left_first r rs [] h = refl
-left_first r rs (s ∷ ss) h = ap (λ o. Some (if is_gt o then s.place else r.place)) h.0
+left_first r rs (s ∷ ss) h = ap (λ o. Some (if is_gt o then (place_of s) else (place_of r))) h.0
 
-right_first : (rs : List Row) (s : Row) (ss : List Row) → Below s.place rs → first_place rs (s ∷ ss) ≡ Some s.place
+right_first : (rs : List Row) (s : Row) (ss : List Row) → Below (place_of s) rs → first_place rs (s ∷ ss) ≡ Some (place_of s)
 right_first [] s ss h = refl
-right_first (r ∷ rs) s ss h = ap (λ o. Some (if is_gt o then s.place else r.place)) (turned s.place r.place h.0)
+right_first (r ∷ rs) s ss h = ap (λ o. Some (if is_gt o then (place_of s) else (place_of r))) (turned (place_of s) (place_of r) h.0)
 
-both_first : (n : Place) (s t : State) (rs ss : List Row) → first_place (record { place = n; state = s } ∷ rs) (record { place = n; state = t } ∷ ss) ≡ Some n
+both_first : (n : Place) (s t : State) (rs ss : List Row) → first_place (record { tree = n.tree; item = n.item; state = s } ∷ rs) (record { tree = n.tree; item = n.item; state = t } ∷ ss) ≡ Some n
 both_first n s t rs ss = ap (λ o. Some (if is_gt o then n else n)) (itself n)
 
 module _ (x y : Place → Option State) where
@@ -79,9 +79,9 @@ module _ (x y : Place → Option State) where
       go : (s t : Option State) → x n ≡ s → y n ≡ t → ((x n ≡ None) × (y n ≡ None)) ⊎ (first_place (rows_at x (n ∷ ns)) (rows_at y (n ∷ ns)) ≡ Some n)
       go None None e f = inl (e, f)
       go (Some s) None e f =
-          inr ((λ i. first_place (has_row x n ns s e i) (passed_over y n ns f i)) ∙ left_first (record { place = n; state = s }) (rows_at x ns) (rows_at y ns) (below y n ns h.0))
+          inr ((λ i. first_place (has_row x n ns s e i) (passed_over y n ns f i)) ∙ left_first (record { tree = n.tree; item = n.item; state = s }) (rows_at x ns) (rows_at y ns) (below y n ns h.0))
       go None (Some t) e f =
-          inr ((λ i. first_place (passed_over x n ns e i) (has_row y n ns t f i)) ∙ right_first (rows_at x ns) (record { place = n; state = t }) (rows_at y ns) (below x n ns h.0))
+          inr ((λ i. first_place (passed_over x n ns e i) (has_row y n ns t f i)) ∙ right_first (rows_at x ns) (record { tree = n.tree; item = n.item; state = t }) (rows_at y ns) (below x n ns h.0))
       go (Some s) (Some t) e f = inr ((λ i. first_place (has_row x n ns s e i) (has_row y n ns t f i)) ∙ both_first n s t (rows_at x ns) (rows_at y ns))
 
   -- what is left past a place
@@ -164,25 +164,25 @@ module _ (x y : Place → Option State) where
 -- past a place there are no more rows than before, and past a first one fewer
 fewer : (n : Place) (rs : List Row) → length (rows_past n rs) ≤ length rs
 fewer n [] = omega arith
-fewer n (r ∷ rs) = go (is_eq (place_cmp r.place n))
+fewer n (r ∷ rs) = go (is_eq (place_cmp (place_of r) n))
   where
     go : (b : Bool) → length (if b then rs else r ∷ rs) ≤ length (r ∷ rs)
     go true = omega arith
     go false = omega arith
 
-one_fewer : (r : Row) (rs : List Row) → length (rows_past r.place (r ∷ rs)) < length (r ∷ rs)
-one_fewer r rs = subst (λ o. length (if is_eq o then rs else r ∷ rs) < length (r ∷ rs)) (sym (itself r.place)) (omega arith)
+one_fewer : (r : Row) (rs : List Row) → length (rows_past (place_of r) (r ∷ rs)) < length (r ∷ rs)
+one_fewer r rs = subst (λ o. length (if is_eq o then rs else r ∷ rs) < length (r ∷ rs)) (sym (itself (place_of r))) (omega arith)
 
 pub shorter : (n : Place) (olds news : List Row) → first_place olds news ≡ Some n → length (rows_past n olds) + length (rows_past n news) < length olds + length news
 shorter n [] [] e = absurd (no_some n e)
-shorter n (r ∷ rs) [] e = subst (λ m. length (rows_past m (r ∷ rs)) + 0 < length (r ∷ rs) + 0) (some_is r.place n e) (let h = one_fewer r rs in omega arith)
-shorter n [] (s ∷ ss) e = subst (λ m. 0 + length (rows_past m (s ∷ ss)) < 0 + length (s ∷ ss)) (some_is s.place n e) (let h = one_fewer s ss in omega arith)
-shorter n (r ∷ rs) (s ∷ ss) e = go (is_gt (place_cmp r.place s.place)) e
+shorter n (r ∷ rs) [] e = subst (λ m. length (rows_past m (r ∷ rs)) + 0 < length (r ∷ rs) + 0) (some_is (place_of r) n e) (let h = one_fewer r rs in omega arith)
+shorter n [] (s ∷ ss) e = subst (λ m. 0 + length (rows_past m (s ∷ ss)) < 0 + length (s ∷ ss)) (some_is (place_of s) n e) (let h = one_fewer s ss in omega arith)
+shorter n (r ∷ rs) (s ∷ ss) e = go (is_gt (place_cmp (place_of r) (place_of s))) e
   where
-    go : (b : Bool) → Some (if b then s.place else r.place) ≡ Some n → length (rows_past n (r ∷ rs)) + length (rows_past n (s ∷ ss)) < length (r ∷ rs) + length (s ∷ ss)
+    go : (b : Bool) → Some (if b then (place_of s) else (place_of r)) ≡ Some n → length (rows_past n (r ∷ rs)) + length (rows_past n (s ∷ ss)) < length (r ∷ rs) + length (s ∷ ss)
     go true f =
-        subst (λ m. length (rows_past m (r ∷ rs)) + length (rows_past m (s ∷ ss)) < length (r ∷ rs) + length (s ∷ ss)) (some_is s.place n f)
-        (let h = one_fewer s ss in let k = fewer s.place (r ∷ rs) in omega arith)
+        subst (λ m. length (rows_past m (r ∷ rs)) + length (rows_past m (s ∷ ss)) < length (r ∷ rs) + length (s ∷ ss)) (some_is (place_of s) n f)
+        (let h = one_fewer s ss in let k = fewer (place_of s) (r ∷ rs) in omega arith)
     go false f =
-        subst (λ m. length (rows_past m (r ∷ rs)) + length (rows_past m (s ∷ ss)) < length (r ∷ rs) + length (s ∷ ss)) (some_is r.place n f)
-        (let h = one_fewer r rs in let k = fewer r.place (s ∷ ss) in omega arith)
+        subst (λ m. length (rows_past m (r ∷ rs)) + length (rows_past m (s ∷ ss)) < length (r ∷ rs) + length (s ∷ ss)) (some_is (place_of r) n f)
+        (let h = one_fewer r rs in let k = fewer (place_of r) (s ∷ ss) in omega arith)

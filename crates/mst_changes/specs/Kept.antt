@@ -5,14 +5,14 @@ use Rattle.mst_net.specs.Tables.{Net}
 use Rattle.mst_trees.specs.Outcome.{Outcome}
 use Rattle.mst_changes.specs.declared.place.Place.{Place}
 use Rattle.mst_changes.specs.declared.state.State.{State}
-use Rattle.mst_changes.specs.declared.rows.Row.{Row}
+use Rattle.mst_changes.specs.declared.place.Row.{Row}
 use Rattle.mst_changes.specs.declared.rows.Rows.{Rows}
 use Rattle.mst_changes.specs.Places.{places_of}
 use Rattle.mst_changes.specs.States.{state_at}
 
 -- what there is at these places, in their order
 abbrev pub row_at : (Place → Option State) → Place → Option Row
-row_at at place = option_map (λ state. record { place = place; state = state }) (at place)
+row_at at place = option_map (λ state. record { tree = place.tree; item = place.item; state = state }) (at place)
 
 abbrev pub rows_at : (Place → Option State) → List Place → List Row
 rows_at at = filter_map (row_at at)

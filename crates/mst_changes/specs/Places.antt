@@ -13,6 +13,7 @@ use Rattle.mst_lag.specs.View.{view_ports}
 use Rattle.mst_changes.specs.declared.place.Item.{Item}
 use Rattle.mst_changes.specs.declared.place.Item.TheVariants.{Bridge, Port}
 use Rattle.mst_changes.specs.declared.place.Place.{Place}
+use Rattle.mst_changes.specs.declared.place.Row.{Row}
 
 -- the trees 0 to 4094
 unfoldable pub all_trees : List ℕ
@@ -23,6 +24,10 @@ bridge_in tree name = record { tree = tree; item = Bridge name }
 
 abbrev pub port_in : ℕ → PortName → Place
 port_in tree name = record { tree = tree; item = Port name }
+
+-- the place of a row
+abbrev pub place_of : Row → Place
+place_of r = record { tree = r.tree; item = r.item }
 
 -- in one tree first these bridges and then these ports
 abbrev pub places_in : List (List ℕ) → List PortName → ℕ → List Place

@@ -8,8 +8,8 @@ ghost use Rattle.mst_changes.specs.Kept.{AreRows, rows_at};
 ghost use Rattle.mst_changes.specs.Merging.{Rise, first_place as place_first, state_first, rows_past};
 ghost use Rattle.mst_changes.specs.ChangesText.{change_text, changes_text};
 
-use crate::place::{Place, place_order};
-use crate::rows::{Row, Rows};
+use crate::place::{Place, Row, place_order};
+use crate::rows::Rows;
 use crate::state::State;
 use crate::text::push_change;
 use std::alloc::AllocError;
@@ -21,11 +21,11 @@ fn first_place(olds: &[Row], news: &[Row]) -> Option<Place>
 {
     match (olds, news) {
         ([], []) => None,
-        ([old, ..], []) => Some(old.place),
-        ([], [new, ..]) => Some(new.place),
-        ([old, ..], [new, ..]) => match place_order(&old.place, &new.place) {
-            Ordering::Greater => Some(new.place),
-            _ => Some(old.place),
+        ([old, ..], []) => Some(old.place()),
+        ([], [new, ..]) => Some(new.place()),
+        ([old, ..], [new, ..]) => match place_order(&old.place(), &new.place()) {
+            Ordering::Greater => Some(new.place()),
+            _ => Some(old.place()),
         },
     }
 }
@@ -36,7 +36,7 @@ fn split<'a>(place: &Place, rows: &'a [Row]) -> (Option<State>, &'a [Row])
     ensures rest { result.1.now ≡ rows_past place.now rows.now }
 {
     match rows {
-        [first, rest @ ..] if place_order(&first.place, place) == Ordering::Equal => {
+        [first, rest @ ..] if place_order(&first.place(), place) == Ordering::Equal => {
             (Some(first.state), rest)
         }
         _ => (None, rows),

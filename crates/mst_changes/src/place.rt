@@ -1,6 +1,7 @@
 ghost use Rattle.std.specs.Prelude.{◌≡◌};
-ghost use Rattle.mst_changes.specs.Places.{item_cmp, place_cmp};
+ghost use Rattle.mst_changes.specs.Places.{place_of, item_cmp, place_cmp};
 
+use crate::state::State;
 use mst_ids::{Name, PortName, Tree};
 use std::cmp::Ordering;
 
@@ -16,6 +17,26 @@ pub(crate) enum Item {
 pub(crate) struct Place {
     pub(crate) tree: Tree,
     pub(crate) item: Item,
+}
+
+/// What an outcome has at a place.
+#[derive(Clone, Copy)]
+pub(crate) struct Row {
+    pub(crate) tree: Tree,
+    pub(crate) item: Item,
+    pub(crate) state: State,
+}
+
+impl Row {
+    /// The place that the row is of.
+    pub(crate) fn place(&self) -> Place
+        ensures { result ≡ place_of self.now }
+    {
+        Place {
+            tree: self.tree,
+            item: self.item,
+        }
+    }
 }
 
 /// The order of bridges and ports: bridges before ports, by names.

@@ -1,5 +1,5 @@
-ghost use Rattle.std.specs.Prelude.{◌≡◌, ◌++◌, ◌||◌, ℕ, IfOk, OnOk, nat_eq, filter_map};
-ghost use Rattle.std.specs.List.{list_any};
+ghost use Rattle.std.specs.Prelude.{◌≡◌, ◌++◌, ◌||◌, [], ℕ, IfOk, OnOk, nat_eq, filter_map};
+ghost use Rattle.std.specs.List.{list_any, cons_option};
 ghost use Rattle.mst_net.specs.Tables.{Net, Numbers};
 ghost use Rattle.mst_lag.specs.Trees.{is_among};
 ghost use Rattle.mst_trees.specs.Agrees.{AreOf};
@@ -9,7 +9,7 @@ ghost use Rattle.mst_changes.specs.States.{state_at};
 ghost use Rattle.mst_changes.specs.Kept.{AreRows, rows_at};
 ghost use Rattle.mst_changes.specs.Seen.{AreInUse, seen_vector, seen_bridge_row, seen_port_row};
 
-use crate::place::{Item, Place};
+use crate::place::{Item, Row};
 use crate::state::State;
 use indexmap::IndexSet;
 use mst_ids::{BridgeNo, Tree};
@@ -17,13 +17,6 @@ use mst_lag::{BridgeInView, PortInView, View};
 use mst_roles::role;
 use mst_trees::Forest;
 use std::alloc::{AllocError, Global};
-
-/// What an outcome has at a place.
-#[derive(Clone, Copy)]
-pub(crate) struct Row {
-    pub(crate) place: Place,
-    pub(crate) state: State,
-}
 
 /// What is kept of a network's outcome, by names and in the order of the text: by trees, the root priority vectors
 /// of bridges before the roles of logical ports.
@@ -78,11 +71,11 @@ fn bridge_row(view: &View, forest: &Forest, tree: Tree, bridge: &BridgeInView) -
     ensures { result ≡ seen_bridge_row view.now forest.now tree bridge.now }
 {
     let state = vector(view, forest, tree, bridge.bridge.number)?;
-    let place = Place {
+    Some(Row {
         tree,
         item: Item::Bridge(bridge.name),
-    };
-    Some(Row { place, state })
+        state,
+    })
 }
 
 /// The row of a logical port in a tree.
@@ -90,14 +83,21 @@ fn port_row(view: &View, forest: &Forest, tree: Tree, port: &PortInView) -> Opti
     ensures { result ≡ seen_port_row view.now forest.now tree port.now }
 {
     let role = role(view, forest, port.number, tree)?;
-    let place = Place {
+    Some(Row {
         tree,
         item: Item::Port(port.name),
-    };
-    Some(Row {
-        place,
         state: State::HasRole(role),
     })
+}
+
+/// Appends a row, if there is one.
+fn push_row(row: Option<Row>, rows: &mut Vec<Row>) -> Result<(), AllocError>
+    ensures { OnOk result (rows.new.items ≡ rows.old.items ++ cons_option row []) }
+{
+    if let Some(row) = row {
+        rows.push(row)?;
+    }
+    Ok(())
 }
 
 /// Appends the rows of the bridges of a view in a tree.
@@ -110,9 +110,7 @@ fn push_bridges(
     ensures { OnOk result (rows.new.items ≡ rows.old.items ++ filter_map (seen_bridge_row view.now forest.now tree) view.now.bridges) }
 {
     for bridge in view.bridges() {
-        if let Some(row) = bridge_row(view, forest, tree, bridge) {
-            rows.push(row)?;
-        }
+        push_row(bridge_row(view, forest, tree, bridge), rows)?;
     }
     Ok(())
 }
@@ -127,9 +125,7 @@ fn push_ports(
     ensures { OnOk result (rows.new.items ≡ rows.old.items ++ filter_map (seen_port_row view.now forest.now tree) view.now.ports) }
 {
     for port in view.ports() {
-        if let Some(row) = port_row(view, forest, tree, port) {
-            rows.push(row)?;
-        }
+        push_row(port_row(view, forest, tree, port), rows)?;
     }
     Ok(())
 }
