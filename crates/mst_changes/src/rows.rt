@@ -90,16 +90,6 @@ fn port_row(view: &View, forest: &Forest, tree: Tree, port: &PortInView) -> Opti
     })
 }
 
-/// Appends a row, if there is one.
-fn push_row(row: Option<Row>, rows: &mut Vec<Row>) -> Result<(), AllocError>
-    ensures { OnOk result (rows.new.items ≡ rows.old.items ++ cons_option row []) }
-{
-    if let Some(row) = row {
-        rows.push(row)?;
-    }
-    Ok(())
-}
-
 /// Appends the rows of the bridges of a view in a tree.
 fn push_bridges(
     view: &View,
@@ -109,10 +99,8 @@ fn push_bridges(
 ) -> Result<(), AllocError>
     ensures { OnOk result (rows.new.items ≡ rows.old.items ++ filter_map (seen_bridge_row view.now forest.now tree) view.now.bridges) }
 {
-    for bridge in view.bridges() {
-        push_row(bridge_row(view, forest, tree, bridge), rows)?;
-    }
-    Ok(())
+    let bridges = view.bridges().iter();
+    rows.extend(bridges.filter_map(|bridge| bridge_row(view, forest, tree, bridge)))
 }
 
 /// Appends the rows of the logical ports of a view in a tree.
@@ -124,10 +112,8 @@ fn push_ports(
 ) -> Result<(), AllocError>
     ensures { OnOk result (rows.new.items ≡ rows.old.items ++ filter_map (seen_port_row view.now forest.now tree) view.now.ports) }
 {
-    for port in view.ports() {
-        push_row(port_row(view, forest, tree, port), rows)?;
-    }
-    Ok(())
+    let ports = view.ports().iter();
+    rows.extend(ports.filter_map(|port| port_row(view, forest, tree, port)))
 }
 
 /// Appends the rows of a tree: none where no bridge has it.
