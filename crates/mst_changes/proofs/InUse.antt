@@ -3,6 +3,7 @@ use Rattle.std.proofs.Common.{◌≡◌, ℕ, ◌+◌, ◌<◌, ◌==◌, ◌||�
 use Rattle.std.specs.List.{AllByRecursion, list_any}
 use Rattle.std.specs.Option.{option_map_or}
 use Rattle.std.specs.FinMap as fin
+use Rattle.std.proofs.lemmas.Bool.{eqb-true}
 use Rattle.std.proofs.lemmas.List.{take_more}
 use Rattle.std.proofs.lemmas.List.Folds.{list_any-append}
 use Rattle.mst_net.specs.Tables.{Net, Numbers, BridgeRow}
@@ -68,3 +69,10 @@ unused net numbers v classes of tree none name = go (fin.get net.bridges name) r
         let named : b.0.name ≡ name = ap (λ (q : List ℕ × BridgeRow). q.0) b.2 in
         let has = has_tree_at net numbers v classes of tree b.0.name b.0.bridge.number (bridge_seen net numbers v of.view b.0 b.1).has_number in
         ap (has_msti net tree) (sym named) ∙ sym has ∙ all_contained (λ (c : BridgeInView). is_among (trees_at v c.bridge.number) tree ≡ false) v.bridges b.0 (none_pass (λ (c : BridgeInView). is_among (trees_at v c.bridge.number) tree) v.bridges none) b.1
+
+pub not_zero : (n : ℕ) → (n ≡ 0 → ⊥) → (n == 0) ≡ false
+not_zero n h = go (n == 0) refl
+  where
+    go : (b : Bool) → (n == 0) ≡ b → (n == 0) ≡ false
+    go true e = absurd (h (eqb-true n 0 e))
+    go false e = e
