@@ -1,5 +1,5 @@
 -- The rows of a network are those of the places of either network.
-use Rattle.std.proofs.Common.{◌≡◌, ℕ, ◌==◌, Bool, true, false, cond, ◌||◌, List, [], ◌∷◌, ◌++◌, map, Option, Some, None, is_some, refl, sym, ap, subst, ◌∙◌, true≢false, Less}
+use Rattle.std.proofs.Common.{◌≡◌, ℕ, ◌==◌, Bool, true, false, cond, ◌||◌, List, [], ◌∷◌, ◌++◌, map, Option, Some, None, is_some, refl, sym, ap, ◌∙◌, true≢false, Less}
 use Rattle.std.specs.Prelude.{if◌then◌else◌}
 use Rattle.std.specs.List.{list_any, filter_map, flat_map, find}
 use Rattle.std.specs.Option.{option_map, option_map_or, option_and_then}
@@ -19,14 +19,14 @@ use Rattle.mst_trees.specs.Msti.{has_msti}
 use Rattle.mst_trees.specs.Outcome.{Outcome}
 use Rattle.mst_trees.proofs.Lists.{apart_mapped}
 use Rattle.mst_trees.proofs.Views.{bridges_rise, ports_rise}
-use Rattle.mst_roles.specs.Roles.{role_in, role_of}
+use Rattle.mst_roles.specs.Roles.{role_in}
 use Rattle.mst_changes.specs.declared.place.Item.TheVariants.{Bridge, Port}
 use Rattle.mst_changes.specs.declared.place.Place.{Place}
 use Rattle.mst_changes.specs.declared.state.State.{State}
 use Rattle.mst_changes.specs.declared.state.State.TheVariants.{InCist, InMsti, HasRole}
 use Rattle.mst_changes.specs.declared.place.Row.{Row}
 use Rattle.mst_changes.specs.Places.{all_trees, bridge_in, port_in, places_in, places, bridge_names, port_names, names_of_either, places_of, places_of_either}
-use Rattle.mst_changes.specs.States.{vector_in, state_at}
+use Rattle.mst_changes.specs.States.{state_at}
 use Rattle.mst_changes.specs.Kept.{row_at, rows_at}
 use Rattle.mst_changes.specs.Merging.{Rise}
 use Rattle.mst_changes.proofs.Lists.{filter_map-flat_map, filter_map-map}

@@ -1,7 +1,7 @@
 -- The rows of a view are those of its network.
-use Rattle.std.proofs.Common.{◌≡◌, ℕ, zero, suc, ◌+◌, ◌<◌, ◌==◌, Bool, true, false, List, [], ◌∷◌, ◌++◌, map, length, take, get_or, Option, Some, None, refl, sym, ap, ◌∙◌, append_assoc, is_some, arith}
+use Rattle.std.proofs.Common.{◌≡◌, ℕ, zero, suc, ◌+◌, ◌<◌, ◌==◌, Bool, true, false, List, [], ◌∷◌, ◌++◌, length, take, get_or, Option, Some, None, refl, sym, ap, ◌∙◌, append_assoc, is_some, arith}
 use Rattle.std.specs.Prelude.{if◌then◌else◌}
-use Rattle.std.specs.List.{AllByRecursion, filter_map, flat_map, find, range_with_len, cons_option}
+use Rattle.std.specs.List.{filter_map, flat_map, range_with_len, cons_option}
 use Rattle.std.specs.Option.{option_map, option_and_then}
 use Rattle.std.specs.FinMap as fin
 use Rattle.std.proofs.lemmas.List.{take_more, flat_map_more}
@@ -17,7 +17,6 @@ use Rattle.mst_lag.specs.declared.in_view.PortInView.{PortInView}
 use Rattle.mst_trees.specs.Agrees.{AreOf}
 use Rattle.mst_trees.specs.Forest.{IsForest, msti_vector}
 use Rattle.mst_trees.specs.Msti.{has_msti}
-use Rattle.mst_trees.specs.Outcome.{Outcome}
 use Rattle.mst_trees.specs.Seen.{trees_at}
 use Rattle.mst_trees.specs.declared.forest.Forest.{Forest}
 use Rattle.mst_trees.proofs.Lists.{kept_same}
@@ -25,18 +24,16 @@ use Rattle.mst_trees.proofs.Entries.{all_weaker}
 use Rattle.mst_trees.proofs.Seen.{SeenBridge, SeenPort, bridges_seen, ports_seen}
 use Rattle.mst_trees.proofs.Looking.{has_tree_at}
 use Rattle.mst_roles.specs.Roles.{role_of, role_in, cist_role, msti_role}
-use Rattle.mst_roles.specs.Seen.{seen_role}
 use Rattle.mst_roles.specs.declared.kind.Role.{Role}
 use Rattle.mst_roles.proofs.Named.{named}
-use Rattle.mst_changes.specs.declared.place.Item.{Item}
 use Rattle.mst_changes.specs.declared.place.Item.TheVariants.{Bridge, Port}
 use Rattle.mst_changes.specs.declared.place.Place.{Place}
 use Rattle.mst_changes.specs.declared.state.State.{State}
 use Rattle.mst_changes.specs.declared.state.State.TheVariants.{InCist, InMsti, HasRole}
 use Rattle.mst_changes.specs.declared.place.Row.{Row}
-use Rattle.mst_changes.specs.Places.{all_trees, bridge_in, port_in, places_in, bridge_names, port_names}
+use Rattle.mst_changes.specs.Places.{all_trees, places_in, bridge_names, port_names}
 use Rattle.mst_changes.specs.States.{vector_in, state_at}
-use Rattle.mst_changes.specs.Kept.{row_at, rows_at}
+use Rattle.mst_changes.specs.Kept.{rows_at}
 use Rattle.mst_changes.specs.Seen.{seen_vector, seen_bridge_row, seen_port_row, is_in_use}
 use Rattle.mst_changes.proofs.Lists.{filter_map-map}
 use Rattle.mst_changes.proofs.Changed.{bridge_at, port_at, rows_in}

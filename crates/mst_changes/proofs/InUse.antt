@@ -16,7 +16,7 @@ use Rattle.mst_trees.specs.Seen.{trees_at}
 use Rattle.mst_trees.proofs.Lists.{all_contained}
 use Rattle.mst_trees.proofs.Seen.{bridge_seen, bridge_there}
 use Rattle.mst_trees.proofs.Looking.{has_tree_at}
-use Rattle.mst_changes.specs.Seen.{is_in_use, AreInUse}
+use Rattle.mst_changes.specs.Seen.{is_in_use}
 
 or_false : (b : Bool) → (b || false) ≡ b
 or_false true = refl

@@ -1,7 +1,7 @@
 -- The names that stand in either of two lists.
 use Rattle.std.proofs.Common.{◌≡◌, Bool, true, false, cond, ◌||◌, ◌&&◌, List, [], ◌∷◌, ◌++◌, map, Option, Some, None, refl, sym, ap, subst, ◌∙◌, true≢false, Less, Equal, Greater}
 use Rattle.std.specs.Prelude.{T}
-use Rattle.std.specs.List.{AllByRecursion, list_any, filter, filter_map}
+use Rattle.std.specs.List.{AllByRecursion, list_any, filter_map}
 use Rattle.std.specs.Cmp.{IsTotalOrder}
 use Rattle.std.specs.declared.cmp.Ordering.{Ordering}
 use Rattle.std.specs.Ordering.{eq_by_cmp, is_eq, is_lt}

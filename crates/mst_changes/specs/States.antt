@@ -1,8 +1,7 @@
 -- What an outcome has at a place: the root priority vector of a bridge, or the role of a logical port.
-use Rattle.std.specs.Prelude.{ℕ, ◌==◌, ◌&&◌, Bool, false, List, Option, Some, None, if◌then◌else◌}
+use Rattle.std.specs.Prelude.{ℕ, ◌==◌, ◌&&◌, Bool, false, List, Option, None, if◌then◌else◌}
 use Rattle.std.specs.Option.{option_map, option_eq}
 use Rattle.std.specs.FinMap as fin
-use Rattle.mst_ids.specs.declared.name.PortName.{PortName}
 use Rattle.mst_vector.specs.declared.cist.CistVector.{CistVector}
 use Rattle.mst_vector.specs.declared.msti.MstiVector.{MstiVector}
 use Rattle.mst_net.specs.Tables.{Net}

@@ -17,5 +17,4 @@ pub fn one_text()
 /// The text of a network against itself is empty.
 pub fn no_change()
     ensures { (a : Net) (o : Outcome) → changes_text a o a o ≡ [] }
-{
-}
+{}

@@ -1,5 +1,4 @@
 use Rattle.std.proofs.Common.{◌≡◌}
-use Rattle.mst_trees.specs.Outcome.{Outcome}
 use Rattle.mst_changes.specs.ChangesText.{changes_text}
 use Rattle.mst_changes.proofs.laws.one_text.Goals as goal
 

@@ -1,4 +1,4 @@
-use Rattle.std.proofs.Common.{◌≡◌, ◌++◌, Some, None, sym, ◌∙◌}
+use Rattle.std.proofs.Common.{◌≡◌, ◌++◌, Some, sym, ◌∙◌}
 use Rattle.mst_changes.specs.Merging.{first_place, state_first}
 use Rattle.mst_changes.specs.ChangesText.{change_text}
 use Rattle.mst_changes.proofs.Merged.{at_start, one_more, at_end, shorter}
@@ -15,7 +15,7 @@ loop-place-preserved c = λ places x y rises e f.
     let news = l.news_left.now in
     let first : first_place olds news ≡ Some place = sym c.first_place.ensures ∙ c.in-Some.is in
     let more : c.push_change.new.out.items ≡ l.out.items ++ change_text place (state_first place olds) (state_first place news) =
-        c.in_ok-push_change.ensures {u = tt} ∙ (λ i. l.out.items ++ change_text place (c.split-old.ensures.state i) (c.split-new.ensures.state i)) in
+    c.in_ok-push_change.ensures {u = tt} ∙ (λ i. l.out.items ++ change_text place (c.split-old.ensures.state i) (c.split-new.ensures.state i)) in
     rw (c.split-old.ensures.rest, c.split-new.ensures.rest, more) (one_more x y places c.args.out.now.items olds news l.out.items place (l.invariant places x y rises e f) first)
 
 pub loop-place-smaller : goal.loop-place-smaller

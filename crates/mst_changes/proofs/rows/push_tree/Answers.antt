@@ -1,7 +1,7 @@
 use Rattle.std.proofs.Common.{◌≡◌, ◌==◌, ◌++◌, false, nat_eq, sym, ap, ◌∙◌, append_assoc, append-nil}
 use Rattle.std.specs.List.{filter_map, list_any}
 use Rattle.std.proofs.lemmas.Result.{on_ok_weaker}
-use Rattle.mst_changes.specs.Seen.{seen_bridge_row, seen_port_row, is_in_use}
+use Rattle.mst_changes.specs.Seen.{seen_bridge_row, seen_port_row}
 use Rattle.mst_changes.proofs.InUse.{not_zero}
 use Rattle.mst_changes.proofs.Gathered.{tree_rows, no_rows}
 use Rattle.mst_changes.proofs.rows.push_tree.Goals as goal

@@ -1,4 +1,4 @@
-use Rattle.std.proofs.Common.{◌≡◌, ◌++◌, [], ◌∷◌, ap, subst, ◌∙◌, codes, OnOk}
+use Rattle.std.proofs.Common.{codes}
 use Rattle.mst_changes.specs.ChangesText.{side_words}
 use Rattle.mst_changes.proofs.Lines.{line_of}
 use Rattle.mst_changes.proofs.text.push_line.Goals as goal
