@@ -1,4 +1,3 @@
--- Owner: read NOTE-FROM-OWNER.md at the top of this clone, then delete this line.
 -- The text of what changes from one network to another.
 use Rattle.std.specs.Prelude.{ℕ, List, [], ◌∷◌, ◌++◌, Option, Some, None, if◌then◌else◌, codes, decimal}
 use Rattle.std.specs.List.{flat_map}

@@ -1,4 +1,3 @@
--- Owner: read NOTE-FROM-OWNER.md at the top of this clone, then delete this line.
 -- Places: the bridges and the logical ports in each tree.
 use Rattle.std.specs.Prelude.{ℕ, List, map, ◌++◌}
 use Rattle.std.specs.List.{flat_map, range_with_len}

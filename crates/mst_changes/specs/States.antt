@@ -39,6 +39,7 @@ same_cist v w =
 abbrev pub same_msti : MstiVector → MstiVector → Bool
 same_msti v w = v.regional == w.regional && v.internal == w.internal && v.designated == w.designated && v.port == w.port && v.receiver == w.receiver
 
+-- which of the roles one is
 abbrev pub role_number : Role → ℕ
 role_number Root = 0
 role_number Designated = 1
