@@ -1,0 +1,119 @@
+-- The rows of a network are those of the places of either network.
+use Rattle.std.proofs.Common.{◌≡◌, ℕ, ◌==◌, Bool, true, false, cond, ◌||◌, List, [], ◌∷◌, ◌++◌, map, Option, Some, None, is_some, refl, sym, ap, ◌∙◌, true≢false, Less}
+use Rattle.std.specs.Prelude.{if◌then◌else◌}
+use Rattle.std.specs.List.{list_any, filter_map, flat_map, find}
+use Rattle.std.specs.Option.{option_map, option_map_or, option_and_then}
+use Rattle.std.specs.Ordering.{eq_by_cmp}
+use Rattle.std.specs.FinMap as fin
+use Rattle.std.specs.FinMap.{contains_key-keys}
+use Rattle.std.proofs.lemmas.List.Elements.{filter_map-append}
+use Rattle.mst_ids.specs.Names.{name_cmp, port_cmp}
+use Rattle.mst_ids.specs.declared.name.PortName.{PortName}
+use Rattle.mst_net.specs.Tables.{Net, BridgeRow, port_eq}
+use Rattle.mst_net.proofs.Keyed.{flipped}
+use Rattle.mst_net.proofs.Keys.{names, ports}
+use Rattle.mst_lag.specs.Trees.{mstis_of, is_among}
+use Rattle.mst_lag.specs.View.{LogicalPort, view_ports}
+use Rattle.mst_trees.specs.Apart.{Apart}
+use Rattle.mst_trees.specs.Msti.{has_msti}
+use Rattle.mst_trees.specs.Outcome.{Outcome}
+use Rattle.mst_trees.proofs.Lists.{apart_mapped}
+use Rattle.mst_trees.proofs.Views.{bridges_rise, ports_rise}
+use Rattle.mst_roles.specs.Roles.{role_in}
+use Rattle.mst_changes.specs.declared.place.Item.TheVariants.{Bridge, Port}
+use Rattle.mst_changes.specs.declared.place.Place.{Place}
+use Rattle.mst_changes.specs.declared.state.State.{State}
+use Rattle.mst_changes.specs.declared.state.State.TheVariants.{InCist, InMsti, HasRole}
+use Rattle.mst_changes.specs.declared.place.Row.{Row}
+use Rattle.mst_changes.specs.Places.{all_trees, bridge_in, port_in, places_in, places, bridge_names, port_names, names_of_either, places_of, places_of_either}
+use Rattle.mst_changes.specs.States.{state_at}
+use Rattle.mst_changes.specs.Kept.{row_at, rows_at}
+use Rattle.mst_changes.specs.Merging.{Rise}
+use Rattle.mst_changes.proofs.Lists.{filter_map-flat_map, filter_map-map}
+use Rattle.mst_changes.proofs.Orders.{places_rise}
+use Rattle.mst_changes.proofs.Names.{either_rise, kept_left, kept_right}
+
+abbrev pub NamesRise : List (List ℕ) → Type 0
+NamesRise = Apart (λ a b. name_cmp a b ≡ Less)
+
+abbrev pub PortsRise : List PortName → Type 0
+PortsRise = Apart (λ p q. port_cmp p q ≡ Less)
+
+names_rise : (net : Net) → NamesRise (bridge_names net)
+names_rise net = apart_mapped (λ (e f : List ℕ × BridgeRow). name_cmp e.0 f.0 ≡ Less) (λ a b. name_cmp a b ≡ Less) (λ (e : List ℕ × BridgeRow). e.0) (λ e f l. l) (fin.entries net.bridges) (bridges_rise net)
+
+port_names_rise : (net : Net) → PortsRise (port_names net)
+port_names_rise net = apart_mapped (λ (p q : LogicalPort). port_cmp p.name q.name ≡ Less) (λ p q. port_cmp p q ≡ Less) (λ (p : LogicalPort). p.name) (λ p q l. l) (view_ports net) (ports_rise net)
+
+pub either_places_rise : (a b : Net) → Rise (places_of_either a b)
+either_places_rise a b =
+    places_rise (names_of_either name_cmp (bridge_names a) (bridge_names b)) (names_of_either port_cmp (port_names a) (port_names b))
+    (either_rise names.total names.same (bridge_names a) (bridge_names b)) (either_rise ports.total ports.same (port_names a) (port_names b))
+
+-- ---- the rows of a tree, in two parts
+module _ (x : Place → Option State) where
+  abbrev pub bridge_at : ℕ → List ℕ → Option Row
+  bridge_at tree name = row_at x (bridge_in tree name)
+
+  abbrev pub port_at : ℕ → PortName → Option Row
+  port_at tree name = row_at x (port_in tree name)
+
+  pub rows_in : (bs : List (List ℕ)) (ps : List PortName) (tree : ℕ) → rows_at x (places_in bs ps tree) ≡ filter_map (bridge_at tree) bs ++ filter_map (port_at tree) ps
+  rows_in bs ps tree =
+      filter_map-append (row_at x) (map (bridge_in tree) bs) (map (port_in tree) ps)
+      ∙ (λ i. filter_map-map (row_at x) (bridge_in tree) bs i ++ filter_map-map (row_at x) (port_in tree) ps i)
+
+  pub rows_in_trees : (bs : List (List ℕ)) (ps : List PortName) → rows_at x (places bs ps) ≡ flat_map (λ tree. rows_at x (places_in bs ps tree)) all_trees
+  rows_in_trees bs ps = filter_map-flat_map (row_at x) (places_in bs ps) all_trees
+
+  same_rows : (bs cs : List (List ℕ)) (ps qs : List PortName) → ((tree : ℕ) → filter_map (bridge_at tree) bs ≡ filter_map (bridge_at tree) cs) → ((tree : ℕ) → filter_map (port_at tree) ps ≡ filter_map (port_at tree) qs)
+      → rows_at x (places bs ps) ≡ rows_at x (places cs qs)
+  same_rows bs cs ps qs f g =
+      rows_in_trees bs ps
+      ∙ (λ i. flat_map (λ tree. (rows_in bs ps tree ∙ (λ k. f tree k ++ g tree k) ∙ sym (rows_in cs qs tree)) i) all_trees)
+      ∙ sym (rows_in_trees cs qs)
+
+-- ---- what isn't in a network has no row
+no_value : {A : Type 0} (o : Option A) → is_some o ≡ false → o ≡ None
+no_value None e = refl
+no_value (Some y) e = absurd (true≢false e)
+
+module _ (net : Net) (o : Outcome) where
+  absent : (name : List ℕ) → list_any (eq_by_cmp name_cmp name) (bridge_names net) ≡ false → fin.contains_key net.bridges name ≡ false
+  absent name e = contains_key-keys net.bridges name ∙ e
+
+  no_msti : (tree : ℕ) (name : List ℕ) → fin.contains_key net.bridges name ≡ false → has_msti net tree name ≡ false
+  no_msti tree name e = ap (λ r. option_map_or (λ row. is_among (mstis_of net name row) tree) r false) (no_value (fin.get net.bridges name) e)
+
+  no_bridge : (tree : ℕ) (name : List ℕ) → list_any (eq_by_cmp name_cmp name) (bridge_names net) ≡ false → bridge_at (state_at net o) tree name ≡ None
+  no_bridge tree name e = ap (option_map (λ state. record { tree = tree; item = Bridge name; state = state })) (go (tree == 0))
+    where
+      go : (b : Bool) → (if b then (if fin.contains_key net.bridges name then option_map InCist (o.cist.vector name) else None) else (if has_msti net tree name then option_map InMsti ((o.msti tree).vector name) else None)) ≡ None
+      go true = ap (λ (t : Bool). if t then option_map InCist (o.cist.vector name) else None) (absent name e)
+      go false = ap (λ (t : Bool). if t then option_map InMsti ((o.msti tree).vector name) else None) (no_msti tree name (absent name e))
+
+  not_found : (name : PortName) (qs : List LogicalPort) → list_any (eq_by_cmp port_cmp name) (map (λ p. p.name) qs) ≡ false → find (λ p. port_eq p.name name) qs ≡ None
+  not_found name [] e = refl
+  not_found name (q ∷ qs) e = ap (λ b. cond b (Some q) (find (λ p. port_eq p.name name) qs)) (sym (flipped ports name q.name)) ∙ go (eq_by_cmp port_cmp name q.name) e (not_found name qs)
+    where
+      go : (b : Bool) → (b || list_any (eq_by_cmp port_cmp name) (map (λ p. p.name) qs)) ≡ false
+          → (list_any (eq_by_cmp port_cmp name) (map (λ p. p.name) qs) ≡ false → find (λ p. port_eq p.name name) qs ≡ None) → cond b (Some q) (find (λ p. port_eq p.name name) qs) ≡ None
+      go true f rest = absurd (true≢false f)
+      go false f rest = rest f
+
+  no_port : (tree : ℕ) (name : PortName) → list_any (eq_by_cmp port_cmp name) (port_names net) ≡ false → port_at (state_at net o) tree name ≡ None
+  no_port tree name e =
+      ap (λ (p : Option LogicalPort). option_map (λ state. record { tree = tree; item = Port name; state = state }) (option_map HasRole (option_and_then (role_in net o tree) p))) (not_found name (view_ports net) e)
+
+  module _ (other : Net) where
+    pub rows_left : rows_at (state_at net o) (places_of net) ≡ rows_at (state_at net o) (places_of_either net other)
+    rows_left =
+        sym (same_rows (state_at net o) (names_of_either name_cmp (bridge_names net) (bridge_names other)) (bridge_names net) (names_of_either port_cmp (port_names net) (port_names other)) (port_names net)
+        (λ tree. kept_left names.total names.same (bridge_names net) (bridge_names other) (bridge_at (state_at net o) tree) (names_rise net) (no_bridge tree))
+        (λ tree. kept_left ports.total ports.same (port_names net) (port_names other) (port_at (state_at net o) tree) (port_names_rise net) (no_port tree)))
+
+    pub rows_right : rows_at (state_at net o) (places_of net) ≡ rows_at (state_at net o) (places_of_either other net)
+    rows_right =
+        sym (same_rows (state_at net o) (names_of_either name_cmp (bridge_names other) (bridge_names net)) (bridge_names net) (names_of_either port_cmp (port_names other) (port_names net)) (port_names net)
+        (λ tree. kept_right names.total names.same (bridge_names other) (bridge_names net) (bridge_at (state_at net o) tree) (names_rise net) (no_bridge tree))
+        (λ tree. kept_right ports.total ports.same (port_names other) (port_names net) (port_at (state_at net o) tree) (port_names_rise net) (no_port tree)))

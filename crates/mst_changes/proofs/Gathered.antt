@@ -1,0 +1,136 @@
+-- The rows of a view are those of its network.
+use Rattle.std.proofs.Common.{◌≡◌, ℕ, zero, suc, ◌+◌, ◌<◌, ◌==◌, Bool, true, false, List, [], ◌∷◌, ◌++◌, length, take, get_or, Option, Some, None, refl, sym, ap, ◌∙◌, append_assoc, is_some, arith}
+use Rattle.std.specs.Prelude.{if◌then◌else◌}
+use Rattle.std.specs.List.{filter_map, flat_map, range_with_len, cons_option}
+use Rattle.std.specs.Option.{option_map, option_and_then}
+use Rattle.std.specs.FinMap as fin
+use Rattle.std.proofs.lemmas.List.{take_more, flat_map_more}
+use Rattle.std.proofs.lemmas.List.Elements.{filter_map-append}
+use Rattle.mst_ids.specs.declared.name.PortName.{PortName}
+use Rattle.mst_settle.specs.Assignment.{vector_of}
+use Rattle.mst_net.specs.Tables.{Net, Numbers, BridgeRow}
+use Rattle.mst_lag.specs.Trees.{is_among}
+use Rattle.mst_lag.specs.View.{LogicalPort, view_ports}
+use Rattle.mst_lag.specs.Viewed.{Viewed, named_bridge, named_port}
+use Rattle.mst_lag.specs.declared.in_view.BridgeInView.{BridgeInView}
+use Rattle.mst_lag.specs.declared.in_view.PortInView.{PortInView}
+use Rattle.mst_trees.specs.Agrees.{AreOf}
+use Rattle.mst_trees.specs.Forest.{IsForest, msti_vector}
+use Rattle.mst_trees.specs.Msti.{has_msti}
+use Rattle.mst_trees.specs.Seen.{trees_at}
+use Rattle.mst_trees.specs.declared.forest.Forest.{Forest}
+use Rattle.mst_trees.proofs.Lists.{kept_same}
+use Rattle.mst_trees.proofs.Entries.{all_weaker}
+use Rattle.mst_trees.proofs.Seen.{SeenBridge, SeenPort, bridges_seen, ports_seen}
+use Rattle.mst_trees.proofs.Looking.{has_tree_at}
+use Rattle.mst_roles.specs.Roles.{role_of, role_in, cist_role, msti_role}
+use Rattle.mst_roles.specs.declared.kind.Role.{Role}
+use Rattle.mst_roles.proofs.Named.{named}
+use Rattle.mst_changes.specs.declared.place.Item.TheVariants.{Bridge, Port}
+use Rattle.mst_changes.specs.declared.place.Place.{Place}
+use Rattle.mst_changes.specs.declared.state.State.{State}
+use Rattle.mst_changes.specs.declared.state.State.TheVariants.{InCist, InMsti, HasRole}
+use Rattle.mst_changes.specs.declared.place.Row.{Row}
+use Rattle.mst_changes.specs.Places.{all_trees, places_in, bridge_names, port_names}
+use Rattle.mst_changes.specs.States.{vector_in, state_at}
+use Rattle.mst_changes.specs.Kept.{rows_at}
+use Rattle.mst_changes.specs.Seen.{seen_vector, seen_bridge_row, seen_port_row, is_in_use}
+use Rattle.mst_changes.proofs.Lists.{filter_map-map}
+use Rattle.mst_changes.proofs.Changed.{bridge_at, port_at, rows_in}
+use Rattle.mst_changes.proofs.Orders.{trees_are}
+use Rattle.mst_changes.proofs.InUse.{unused}
+
+-- what is kept of one more
+pub kept_more : {A B : Type 0} (h : A → Option B) (xs : List A) (i : ℕ) (x : A) → i < length xs → x ≡ get_or xs i x → (before now : List B) → now ≡ before ++ filter_map h (take i xs)
+    → now ++ cons_option (h x) [] ≡ before ++ filter_map h (take (i + 1) xs)
+kept_more h xs i x below here before now e =
+    ap (λ l. l ++ cons_option (h x) []) e ∙ append_assoc before (filter_map h (take i xs)) (cons_option (h x) [])
+    ∙ ap (λ l. before ++ l) (sym (ap (filter_map h) (take_more xs i x below ∙ ap (λ y. take i xs ++ y ∷ []) (sym here)) ∙ filter_map-append h (take i xs) (x ∷ [])))
+
+kept_none : {A B : Type 0} (h : A → Option B) → ((x : A) → h x ≡ None) → (xs : List A) → filter_map h xs ≡ []
+kept_none h none [] = refl
+kept_none h none (x ∷ xs) = ap (λ o. cons_option o (filter_map h xs)) (none x) ∙ kept_none h none xs
+
+module _ (net : Net) (numbers : Numbers) (v : Viewed) (f : Forest) (of : AreOf net numbers v f.regions) (is : IsForest net numbers f) (tree : ℕ) where
+  abbrev x : Place → Option State
+  x = state_at net is.outcome
+
+  vector_same : (b : BridgeInView) → SeenBridge net numbers b → seen_vector v f tree b.bridge.number ≡ vector_in net is.outcome tree b.name
+  vector_same b seen = go (tree == 0)
+    where
+      there : fin.contains_key net.bridges b.name ≡ true
+      there = ap is_some seen.has_row
+
+      go : (t : Bool) → (if t then option_map InCist (vector_of f.cist b.bridge.number) else (if is_among (trees_at v b.bridge.number) tree then option_map InMsti (msti_vector f tree b.bridge.number) else None))
+          ≡ (if t then (if fin.contains_key net.bridges b.name then option_map InCist (is.outcome.cist.vector b.name) else None)
+          else (if has_msti net tree b.name then option_map InMsti ((is.outcome.msti tree).vector b.name) else None))
+      go true =
+          ap (option_map InCist) (is.cist.vectors b.name b.bridge.number seen.has_number)
+          ∙ sym (ap (λ (t : Bool). if t then option_map InCist (is.outcome.cist.vector b.name) else None) there)
+      go false = λ i.
+          if has_tree_at net numbers v f.regions of tree b.name b.bridge.number seen.has_number i then option_map InMsti ((is.mstis tree).vectors b.name b.bridge.number seen.has_number i) else None
+
+  bridges_same : filter_map (seen_bridge_row v f tree) v.bridges ≡ filter_map (bridge_at x tree) (bridge_names net)
+  bridges_same =
+      kept_same (seen_bridge_row v f tree) (λ (b : BridgeInView). bridge_at x tree b.name) v.bridges
+      (all_weaker (SeenBridge net numbers) _ (λ b seen. ap (option_map (λ state. record { tree = tree; item = Bridge b.name; state = state })) (vector_same b seen)) v.bridges (bridges_seen net numbers v of.view))
+      ∙ sym (filter_map-map (λ (e : List ℕ × BridgeRow). bridge_at x tree e.0) named_bridge v.bridges)
+      ∙ ap (filter_map (λ (e : List ℕ × BridgeRow). bridge_at x tree e.0)) of.view.bridges
+      ∙ sym (filter_map-map (bridge_at x tree) (λ (e : List ℕ × BridgeRow). e.0) (fin.entries net.bridges))
+
+  role_twice : (name : PortName) (r : Option Role) → option_map {U = Row} (λ role. record { tree = tree; item = Port name; state = HasRole role }) r ≡ option_map {U = Row} (λ state. record { tree = tree; item = Port name; state = state }) (option_map HasRole r)
+  role_twice name None = refl
+  role_twice name (Some r) = refl
+
+  ports_same : filter_map (seen_port_row v f tree) v.ports ≡ filter_map (port_at x tree) (port_names net)
+  ports_same =
+      kept_same (seen_port_row v f tree) (λ (p : PortInView). port_at x tree p.name) v.ports
+      (all_weaker (SeenPort net numbers) _ (λ p seen.
+      ap (option_map (λ role. record { tree = tree; item = Port p.name; state = HasRole role })) (named net numbers v f of is tree p.name p.number seen.has_numbers.port)
+      ∙ role_twice p.name (role_of net is.outcome tree p.name)) v.ports (ports_seen net numbers v of.view))
+      ∙ sym (filter_map-map (λ (p : LogicalPort). port_at x tree p.name) named_port v.ports)
+      ∙ ap (filter_map (λ (p : LogicalPort). port_at x tree p.name)) of.view.ports
+      ∙ sym (filter_map-map (port_at x tree) (λ (p : LogicalPort). p.name) (view_ports net))
+
+  -- the rows of a tree
+  pub tree_rows : filter_map (seen_bridge_row v f tree) v.bridges ++ filter_map (seen_port_row v f tree) v.ports ≡ rows_at x (places_in (bridge_names net) (port_names net) tree)
+  tree_rows = (λ i. bridges_same i ++ ports_same i) ∙ sym (rows_in x (bridge_names net) (port_names net) tree)
+
+  -- a tree that isn't in use has none
+  module _ (other : (tree == 0) ≡ false) (none : is_in_use v tree ≡ false) where
+    no_tree : (name : List ℕ) → has_msti net tree name ≡ false
+    no_tree = unused net numbers v f.regions of tree none
+
+    no_vector : (name : List ℕ) → vector_in net is.outcome tree name ≡ None
+    no_vector name =
+        (λ i. if other i then (if fin.contains_key net.bridges name then option_map InCist (is.outcome.cist.vector name) else None)
+        else (if no_tree name i then option_map InMsti ((is.outcome.msti tree).vector name) else None))
+
+    no_role : (p : Option LogicalPort) → option_and_then (role_in net is.outcome tree) p ≡ None
+    no_role None = refl
+    no_role (Some p) = λ i. if other i then Some (cist_role net is.outcome p) else (if no_tree p.name.bridge i then Some (msti_role net is.outcome tree p) else None)
+
+    pub no_rows : rows_at x (places_in (bridge_names net) (port_names net) tree) ≡ []
+    no_rows =
+        rows_in x (bridge_names net) (port_names net) tree
+        ∙ (λ i. kept_none (bridge_at x tree) (λ name. ap (option_map (λ state. record { tree = tree; item = Bridge name; state = state })) (no_vector name)) (bridge_names net) i
+        ++ kept_none (port_at x tree) (λ name. ap (λ (r : Option Role). option_map (λ state. record { tree = tree; item = Port name; state = state }) (option_map HasRole r)) (no_role _)) (port_names net) i)
+
+-- ---- tree after tree
+range_up : (a n : ℕ) → range_with_len a (suc n) ≡ range_with_len a n ++ (a + n) ∷ []
+range_up a zero = ap (λ m. m ∷ []) (let e : a ≡ a + 0 = omega arith in e)
+range_up a (suc n) =
+    let same : (a + 1) + n ≡ a + suc n = omega arith in
+    ap (λ l. a ∷ l) (range_up (a + 1) n ∙ ap (λ m. range_with_len (a + 1) n ++ m ∷ []) same)
+
+range_more : (n : ℕ) → range_with_len 0 (n + 1) ≡ range_with_len 0 n ++ n ∷ []
+range_more n =
+    let up : n + 1 ≡ suc n = omega arith in
+    let same : 0 + n ≡ n = omega arith in
+    ap (range_with_len 0) up ∙ range_up 0 n ∙ ap (λ m. range_with_len 0 n ++ m ∷ []) same
+
+pub tree_more : (f : ℕ → List Row) (n : ℕ) (now new : List Row) → now ≡ flat_map f (range_with_len 0 n) → new ≡ now ++ f n → new ≡ flat_map f (range_with_len 0 (n + 1))
+tree_more f n now new before after = after ∙ ap (λ l. l ++ f n) before ∙ flat_map_more f [] (range_with_len 0 n) n ∙ ap (flat_map f) (sym (range_more n))
+
+pub trees_done : (f : ℕ → List Row) (n : ℕ) → n ≡ 4095 → flat_map f (range_with_len 0 n) ≡ flat_map f all_trees
+trees_done f n e = ap (flat_map f) (ap (range_with_len 0) e ∙ trees_are)

@@ -1,0 +1,9 @@
+mod Lists
+mod Orders
+mod Names
+mod Merged
+mod Changed
+mod Same
+mod InUse
+mod Gathered
+mod Lines

@@ -1,0 +1,20 @@
+//! Laws of the text. Their functions do nothing: a caller has their clauses.
+ghost use Rattle.std.specs.Prelude.{◌≡◌, []};
+ghost use Rattle.mst_net.specs.Tables.{Net, IsNetwork};
+ghost use Rattle.mst_trees.specs.Outcome.{Outcome, IsOutcome};
+ghost use Rattle.mst_changes.specs.ChangesText.{changes_text};
+
+use mst_trees::laws::one_outcome;
+
+/// Two networks have one text, whichever settled outcomes it is made by.
+pub fn one_text()
+    ensures { (a b : Net) (o p q r : Outcome) → IsNetwork a → IsNetwork b → IsOutcome a o → IsOutcome a q → IsOutcome b p → IsOutcome b r
+        → changes_text a o b p ≡ changes_text a q b r }
+{
+    one_outcome();
+}
+
+/// The text of a network against itself is empty.
+pub fn no_change()
+    ensures { (a : Net) (o : Outcome) → changes_text a o a o ≡ [] }
+{}
