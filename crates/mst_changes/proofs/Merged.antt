@@ -1,5 +1,5 @@
 -- Two lists of rows, taken place by place, give the text of all places.
-use Rattle.std.proofs.Common.{◌≡◌, ℕ, ◌+◌, ◌<◌, ◌≤◌, List, [], ◌∷◌, ◌++◌, length, Option, Some, None, ◌⊎◌, inl, inr, refl, sym, ap, subst, ◌∙◌, arith, append_assoc, Less, Bool, true, false}
+use Rattle.std.proofs.Common.{◌≡◌, ℕ, suc, zero, ◌+◌, ◌<◌, ◌≤◌, List, [], ◌∷◌, ◌++◌, length, Option, Some, None, ◌⊎◌, inl, inr, refl, sym, ap, subst, ◌∙◌, arith, append_assoc, Less, Bool, true, false}
 use Rattle.std.specs.Prelude.{if◌then◌else◌}
 use Rattle.std.specs.List.{AllByRecursion, flat_map, cons_option}
 use Rattle.std.specs.Option.{option_map}
@@ -186,3 +186,34 @@ shorter n (r ∷ rs) (s ∷ ss) e = go (is_gt (place_cmp (place_of r) (place_of 
     go false f =
         subst (λ m. length (rows_past m (r ∷ rs)) + length (rows_past m (s ∷ ss)) < length (r ∷ rs) + length (s ∷ ss)) (some_is (place_of r) n f)
         (let h = one_fewer r rs in let k = fewer (place_of r) (s ∷ ss) in omega arith)
+
+-- equal rows give equal texts
+module _ (x y u v : Place → Option State) where
+  abbrev Same : ℕ → Type 0
+  Same k = (ns ms : List Place) → Rise ns → Rise ms → rows_at x ns ≡ rows_at u ms → rows_at y ns ≡ rows_at v ms → length (rows_at x ns) + length (rows_at y ns) < k → texts x y ns ≡ texts u v ms
+
+  same_step : (k : ℕ) → Same k → Same (suc k)
+  same_step k same ns ms h j e f few = go (first_place (rows_at x ns) (rows_at y ns)) refl
+    where
+      there : first_place (rows_at x ns) (rows_at y ns) ≡ first_place (rows_at u ms) (rows_at v ms)
+      there = λ i. first_place (e i) (f i)
+
+      go : (o : Option Place) → first_place (rows_at x ns) (rows_at y ns) ≡ o → texts x y ns ≡ texts u v ms
+      go None first = ended x y ns h first ∙ sym (ended u v ms j (sym there ∙ first))
+      go (Some n) first =
+          let a = past x y ns h n first in
+          let b = past u v ms j n (sym there ∙ first) in
+          let olds : rows_at x a.rest ≡ rows_at u b.rest = sym a.olds ∙ ap (rows_past n) e ∙ b.olds in
+          let news : rows_at y a.rest ≡ rows_at v b.rest = sym a.news ∙ ap (rows_past n) f ∙ b.news in
+          let less = shorter n (rows_at x ns) (rows_at y ns) first in
+          let left : length (rows_at x a.rest) + length (rows_at y a.rest) < length (rows_at x ns) + length (rows_at y ns) =
+              subst (λ (p : List Row × List Row). length p.0 + length p.1 < length (rows_at x ns) + length (rows_at y ns)) (λ i. (a.olds i, a.news i)) less in
+          let rest : texts x y a.rest ≡ texts u v b.rest = same a.rest b.rest a.rises b.rises olds news (omega (arith, left, few)) in
+          sym a.text ∙ (λ i. change_text n (state_first n (e i)) (state_first n (f i)) ++ rest i) ∙ b.text
+
+  same_within : (k : ℕ) → Same k
+  same_within zero ns ms h j e f few = absurd (omega (arith, few))
+  same_within (suc k) ns ms h j e f few = same_step k (same_within k) ns ms h j e f few
+
+  pub same_texts : (ns ms : List Place) → Rise ns → Rise ms → rows_at x ns ≡ rows_at u ms → rows_at y ns ≡ rows_at v ms → texts x y ns ≡ texts u v ms
+  same_texts ns ms h j e f = same_within (suc (length (rows_at x ns) + length (rows_at y ns))) ns ms h j e f (omega arith)

@@ -17,7 +17,10 @@ row_at at place = option_map (λ state. record { tree = place.tree; item = place
 abbrev pub rows_at : (Place → Option State) → List Place → List Row
 rows_at at = filter_map (row_at at)
 
--- they are those of the network with this outcome: by trees, rising, the vector of each bridge that has one, in
+-- the rows of a network with this outcome: by trees, rising, the vector of each bridge that has one, in
 -- byte order, and the role of each logical port whose bridge has the tree, by bridge and number
+abbrev pub rows_of : Net → Outcome → List Row
+rows_of net o = rows_at (state_at net o) (places_of net)
+
 abbrev pub AreRows : Net → Outcome → Rows → Type 0
-AreRows net o rows = rows.rows.items ≡ rows_at (state_at net o) (places_of net)
+AreRows net o rows = rows.rows.items ≡ rows_of net o

@@ -3,6 +3,7 @@ ghost use Rattle.std.specs.Prelude.{◌≡◌, []};
 ghost use Rattle.mst_net.specs.Tables.{Net, IsNetwork};
 ghost use Rattle.mst_trees.specs.Outcome.{Outcome, IsOutcome};
 ghost use Rattle.mst_changes.specs.ChangesText.{changes_text};
+ghost use Rattle.mst_changes.specs.Kept.{rows_of};
 
 use mst_trees::laws::one_outcome;
 
@@ -13,6 +14,11 @@ pub fn one_text()
 {
     one_outcome();
 }
+
+/// What is kept of two networks settles the text: networks of equal rows have the same text.
+pub fn rows_tell()
+    ensures { (a b c d : Net) (o p q r : Outcome) → rows_of a o ≡ rows_of c q → rows_of b p ≡ rows_of d r → changes_text a o b p ≡ changes_text c q d r }
+{}
 
 /// The text of a network against itself is empty.
 pub fn no_change()

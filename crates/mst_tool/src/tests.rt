@@ -2,6 +2,7 @@ mod edits;
 mod faults;
 mod links;
 mod network;
+mod regions;
 mod rows;
 
 use crate::{Outcome, RunFault, laws, run, status};
