@@ -38,21 +38,21 @@ abbrev pub internal_note : ℕ → List ℕ → ℕ → List ℕ
 internal_note tree name cost =
     if nat_lt greatest_cost cost then line (codes "note" ∷ codes "cost" ∷ decimal tree ∷ name ∷ codes "int" ∷ decimal cost ∷ []) else []
 
--- the Max Hops of the regional root in the tree, and the Max Age of the root
+-- by the Max Hops of the regional root in the tree, and by the Max Age of the root of the CIST
 abbrev pub hops_notes : Net → TreeDepths → ℕ → List ℕ → List ℕ
 hops_notes net d tree name = option_map_or (λ row. hops_note tree name (d.internal tree name) row.max_hops) (fin.get net.bridges (d.regional_root tree name)) []
 
 abbrev pub age_notes : Net → TreeDepths → List ℕ → List ℕ
 age_notes net d name = option_map_or (λ row. age_note name (d.external name) row.max_age) (fin.get net.bridges (d.root name)) []
 
--- on a bridge in the CIST and in an MSTI, by its root priority vector there
+-- the notes on a bridge in the CIST and in an MSTI, by its root priority vector there
 abbrev pub cist_notes : Net → TreeDepths → List ℕ → CistVector → List ℕ
 cist_notes net d name x = hops_notes net d 0 name ++ age_notes net d name ++ external_note 0 name x.external ++ internal_note 0 name x.internal
 
 abbrev pub msti_notes : Net → TreeDepths → ℕ → List ℕ → MstiVector → List ℕ
 msti_notes net d tree name x = hops_notes net d tree name ++ internal_note tree name x.internal
 
--- on a bridge in a tree. One that is off or hasn't the tree has no vector there
+-- on a bridge in any tree. One that is off or hasn't the tree has no vector there, and so no notes
 abbrev pub bridge_notes : Net → Outcome → TreeDepths → ℕ → List ℕ → List ℕ
 bridge_notes net o d tree name =
     if tree == 0 then option_map_or (cist_notes net d name) (o.cist.vector name) [] else option_map_or (msti_notes net d tree name) ((o.msti tree).vector name) []
