@@ -1,0 +1,13 @@
+mod Placing
+mod Flat
+mod Giving
+mod Heard
+mod TreeParents
+mod Listing
+mod InTrees
+mod Names
+mod Found
+mod Noting
+mod OneText
+mod Unhad
+mod Flags

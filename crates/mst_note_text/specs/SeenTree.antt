@@ -1,0 +1,64 @@
+-- What is seen of a tree, under the numbers of records: its bridges with their root priority vectors, and which of
+-- its ports give a parent.
+use Rattle.std.specs.Prelude.{ℕ, ◌==◌, ◌&&◌, Bool, not, false, List, [], filter_map, slice_get, Option, Some, None, nat_eq, if◌then◌else◌}
+use Rattle.std.specs.List.{find}
+use Rattle.std.specs.Option.{option_map, option_map_or, option_and_then}
+use Rattle.std.specs.Map.{lookup}
+use Rattle.mst_ids.specs.Identifiers.{port_id}
+use Rattle.mst_vector.specs.declared.cist.CistVector.{CistVector}
+use Rattle.mst_vector.specs.declared.msti.MstiVector.{MstiVector}
+use Rattle.mst_settle.specs.Assignment.{vector_of, designated_of}
+use Rattle.mst_net.specs.ByTree.{port_priority_in}
+use Rattle.mst_lag.specs.Viewed.{Viewed}
+use Rattle.mst_lag.specs.declared.in_view.BridgeInView.{BridgeInView}
+use Rattle.mst_lag.specs.declared.in_view.PortInView.{PortInView}
+use Rattle.mst_config.specs.Classes.{same_in}
+use Rattle.mst_trees.specs.Seen.{seen_inner}
+use Rattle.mst_trees.specs.Forest.{msti_vector, designated_in}
+use Rattle.mst_trees.specs.declared.forest.Forest.{Forest}
+use Rattle.mst_depths.specs.declared.parent.Parent.{Parent}
+use Rattle.mst_note_text.specs.declared.member.Member.{Member}
+
+-- a bridge with its vector
+abbrev pub cist_member : BridgeInView → CistVector → Member
+cist_member b x = record { name = b.name; number = b.bridge.number; regional = x.regional; internal = x.internal; root_path = Some (record { root = x.root; external = x.external }) }
+
+abbrev pub msti_member : BridgeInView → MstiVector → Member
+msti_member b x = record { name = b.name; number = b.bridge.number; regional = x.regional; internal = x.internal; root_path = None }
+
+abbrev pub seen_member : Forest → ℕ → BridgeInView → Option Member
+seen_member f tree b = if tree == 0 then option_map (cist_member b) (vector_of f.cist b.bridge.number) else option_map (msti_member b) (msti_vector f tree b.bridge.number)
+
+-- the bridges of the tree
+abbrev pub members_in : Viewed → Forest → ℕ → List Member
+members_in v f tree = filter_map (seen_member f tree) v.bridges
+
+-- the name of the bridge at a place
+abbrev pub name_at : List Member → ℕ → List ℕ
+name_at members place = option_map_or (λ m. m.name) (slice_get members place) []
+
+-- the port takes part in the tree
+abbrev pub takes_part : Viewed → Forest → ℕ → PortInView → Bool
+takes_part v f tree q = if tree == 0 then q.is_enabled else seen_inner v f.regions (designated_of f.cist) q
+
+-- the port that the vector of a bridge came by
+abbrev pub receiver_at : Forest → ℕ → ℕ → Option ℕ
+receiver_at f tree bridge = if tree == 0 then option_map (λ x. x.receiver) (vector_of f.cist bridge) else option_map (λ x. x.receiver) (msti_vector f tree bridge)
+
+-- the port is the root port of its bridge
+abbrev pub is_root_port : Viewed → Forest → ℕ → PortInView → Bool
+is_root_port v f tree q =
+    takes_part v f tree q && option_map_or (λ r. r == port_id (port_priority_in v.settings.port_priorities q.name tree) q.name.number) (receiver_at f tree q.bridge) false
+
+-- the port of the LAN's designated bridge
+abbrev pub designated_at : Viewed → Forest → ℕ → PortInView → Option PortInView
+designated_at v f tree q = option_and_then (λ k. find (λ r. k == r.number) v.ports) (designated_in f tree q.lan_number)
+
+-- by the places of bridges: the place of the port's bridge, and its parent
+abbrev pub parent_by : Forest → List (ℕ × ℕ) → PortInView → PortInView → Option (ℕ × Parent)
+parent_by f places q r =
+    option_and_then (λ place. option_map (λ parent. (place, record { place = parent; is_between = not (same_in f.regions q.bridge r.bridge) })) (lookup (nat_eq r.bridge) places)) (lookup (nat_eq q.bridge) places)
+
+-- what a port gives, if it is a root port
+abbrev pub given : Viewed → Forest → ℕ → List (ℕ × ℕ) → PortInView → Option (ℕ × Parent)
+given v f tree places q = if is_root_port v f tree q then option_and_then (parent_by f places q) (designated_at v f tree q) else None

@@ -1,0 +1,15 @@
+//! Laws of notes. Their functions do nothing: a caller has their clauses.
+ghost use Rattle.std.specs.Prelude.{◌≡◌, ℕ, List};
+ghost use Rattle.mst_net.specs.Tables.{Net, IsNetwork};
+ghost use Rattle.mst_trees.specs.Outcome.{Outcome, IsOutcome};
+ghost use Rattle.mst_note_text.specs.NotesText.{AreNotes};
+
+use mst_trees::laws::nested;
+
+/// The notes on a settled outcome of a network are one text: there is one, and no other.
+pub fn notes()
+    ensures some { (net : Net) (o : Outcome) → IsNetwork net → IsOutcome net o → (text : List ℕ) × AreNotes net o text }
+    ensures one { (net : Net) (o : Outcome) (text other : List ℕ) → IsNetwork net → IsOutcome net o → AreNotes net o text → AreNotes net o other → text ≡ other }
+{
+    nested();
+}

@@ -1,0 +1,14 @@
+//! The notes on a network: where limits of hops or age would bind, and which path costs no BPDU can hold.
+#![tactic(auto)]
+
+mod bridge;
+mod depths;
+pub mod laws;
+mod lines;
+mod member;
+mod notes;
+mod parents;
+mod places;
+mod tree;
+
+pub use notes::push_notes;

@@ -1,0 +1,117 @@
+ghost use Rattle.std.specs.Prelude.{◌≡◌, length, IfOk};
+ghost use Rattle.mst_ids.specs.Identifiers.{port_id as id_of};
+ghost use Rattle.mst_net.specs.ByTree.{port_priority_in};
+ghost use Rattle.mst_note_text.specs.declared.member.Member.{Member as MemberOf};
+ghost use Rattle.mst_note_text.specs.Parents.{AreGiven};
+ghost use Rattle.mst_note_text.specs.Placed.{ArePlaces};
+ghost use Rattle.mst_note_text.specs.SeenTree.{takes_part as takes_part_in, receiver_at, is_root_port as is_root_port_in, given as given_by, parent_by as parent_of_places};
+
+use crate::member::Member;
+use crate::places::Places;
+use mst_depths::Parent;
+use mst_ids::{BridgeNo, PortId, Tree};
+use mst_lag::{PortInView, View};
+use mst_trees::Forest;
+use std::alloc::{AllocError, Global};
+
+/// The parents of the bridges of a tree, in one pass over the ports: a root port gives its bridge's.
+pub(crate) fn parents_of(
+    alloc: Global,
+    view: &View,
+    forest: &Forest,
+    tree: Tree,
+    members: &[Member],
+    places: &Places,
+) -> Result<Vec<Option<Parent>>, AllocError>
+    requires { ArePlaces (λ (m : MemberOf). m.number) members.now places.now.entries }
+    ensures { IfOk result (λ parents. AreGiven (given_by view.now forest.now tree places.now.entries) view.now.ports view.now.ports (length members.now) parents.items) }
+{
+    let mut parents = vec![in alloc; None; members.len()]?;
+    for port in view.ports() {
+        if let Some((place, parent)) = given(view, forest, tree, places, port) {
+            parents[place] = Some(parent);
+        }
+    }
+    Ok(parents)
+}
+
+/// Where a port is a root port: the place of its bridge, and that one's parent.
+fn given(
+    view: &View,
+    forest: &Forest,
+    tree: Tree,
+    places: &Places,
+    port: &PortInView,
+) -> Option<(usize, Parent)>
+    ensures { result ≡ given_by view.now forest.now tree places.now.entries port.now }
+{
+    if !is_root_port(view, forest, tree, port) {
+        return None;
+    }
+    let designated = view.port(forest.designated(tree, port.lan_number)?)?;
+    parent_by(forest, places, port, designated)
+}
+
+/// The place of a port's bridge, and its parent, the bridge of the designated port of the LAN.
+fn parent_by(
+    forest: &Forest,
+    places: &Places,
+    port: &PortInView,
+    designated: &PortInView,
+) -> Option<(usize, Parent)>
+    ensures { result ≡ parent_of_places forest.now places.now.entries port.now designated.now }
+{
+    let place = *places.get(&port.bridge)?;
+    let parent = *places.get(&designated.bridge)?;
+    let is_between = !forest.same(port.bridge, designated.bridge);
+    Some((
+        place,
+        Parent {
+            place: parent,
+            is_between,
+        },
+    ))
+}
+
+/// Whether a port is the root port of its bridge in a tree: the bridge's root priority vector came by it.
+fn is_root_port(view: &View, forest: &Forest, tree: Tree, port: &PortInView) -> bool
+    ensures { result ≡ is_root_port_in view.now forest.now tree port.now }
+{
+    if !takes_part(view, forest, tree, port) {
+        return false;
+    }
+    match receiver(forest, tree, port.bridge) {
+        Some(receiver) => receiver == port_id(view, tree, port),
+        None => false,
+    }
+}
+
+/// Whether a port takes part in a tree that its bridge has.
+fn takes_part(view: &View, forest: &Forest, tree: Tree, port: &PortInView) -> bool
+    ensures { result ≡ takes_part_in view.now forest.now tree port.now }
+{
+    if tree.value() == 0 {
+        port.is_enabled
+    } else {
+        forest.is_inner(view, port)
+    }
+}
+
+/// The port that the root priority vector of a bridge came by.
+fn receiver(forest: &Forest, tree: Tree, bridge: BridgeNo) -> Option<PortId>
+    ensures { result ≡ receiver_at forest.now tree bridge }
+{
+    if tree.value() == 0 {
+        Some(forest.cist(bridge)?.receiver)
+    } else {
+        Some(forest.msti(tree, bridge)?.receiver)
+    }
+}
+
+/// The identifier of a port in a tree.
+fn port_id(view: &View, tree: Tree, port: &PortInView) -> PortId
+    ensures { result ≡ id_of (port_priority_in view.now.settings.port_priorities port.now.name tree) port.now.name.number }
+{
+    let priority = view.settings().port_priority(&port.name, tree);
+    PortId::new(priority, port.name.number)
+}
