@@ -1,5 +1,5 @@
 -- What answers queries.
-use Rattle.std.proofs.Common.{◌≡◌, ◌≢◌, ℕ, List, Option, Some, Result, Ok, Err, IsTrue, refl, sym, ap, subst, ◌∙◌, true≢false, ◌++◌}
+use Rattle.std.proofs.Common.{◌≡◌, ◌≢◌, ℕ, List, Option, None, Some, Result, Ok, Err, MatchOption, refl, sym, ap, subst, ◌∙◌, ◌++◌}
 use Rattle.std.specs.FinMap as fin
 use Rattle.std.specs.Option.{option_map, option_map_or}
 use Rattle.mst_lang.specs.declared.line.Query.{Query}
@@ -7,41 +7,82 @@ use Rattle.mst_lang.specs.declared.line.Query.TheVariants.{ShowPlan, ShowLag, Sh
 use Rattle.mst_net.specs.After.{table_of}
 use Rattle.mst_net.specs.Tables.{Net, BridgeRow, IsNetwork}
 use Rattle.mst_net.specs.declared.refusal.Refusal.{Refusal}
-use Rattle.mst_net.specs.declared.refusal.Refusal.TheVariants.{E04}
+use Rattle.mst_net.specs.declared.refusal.Refusal.TheVariants.{E04, E16}
 use Rattle.mst_trees.specs.Outcome.{Outcome, IsOutcome}
+use Rattle.mst_changes.specs.ChangesText.{changes_text}
+use Rattle.mst_changes.specs.Kept.{rows_of}
+use Rattle.mst_changes.specs.declared.place.Row.{Row}
 use Rattle.mst_lag_text.specs.LagText.{lags_text}
+use Rattle.mst_note_text.specs.NotesText.{AreNotes}
+use Rattle.mst_plan_text.specs.PlanText.{IsPlanText}
 use Rattle.mst_region_text.specs.ConfigurationText.{configuration_text, configuration_line, mstis_text}
 use Rattle.mst_region_text.specs.RegionsText.{regions_text}
 use Rattle.mst_tree_text.specs.TreeText.{tree_text}
 use Rattle.mst_vlan_text.specs.VlanText.{IsVlanText}
-use Rattle.mst_report.specs.Answers.{Answers, is_answered}
+use Rattle.mst_report.specs.Answers.{Answers, TellsOutcome, TellsChanges}
 use Rattle.mst_report.specs.Refusing.{HasText}
-use Rattle.mst_report.specs.State.{State}
+use Rattle.mst_report.specs.State.{State, IsState, IsMark, IsMarkNow}
 
--- by the laws that a network has an outcome and a VID a text, a query that is answered has an answer
-pub answer_there : ((net : Net) → IsNetwork net → (o : Outcome) × IsOutcome net o)
-    → ((net : Net) (o : Outcome) (vid : ℕ) → IsNetwork net → (text : List ℕ) × IsVlanText net o vid text)
-    → (query : Query) (s : State) → IsTrue (is_answered query) → IsNetwork s.net → (answer : Result (List ℕ) Refusal) × Answers query s answer
-answer_there outcomes vids (ShowTree tree) s is ok = let o = outcomes s.net ok in (Ok (tree_text s.net o.0 tree), (o.0, o.1, refl))
-answer_there outcomes vids ShowPlan s is ok = absurd (true≢false (sym is))
-answer_there outcomes vids ShowLag s is ok = (Ok (lags_text s.net), refl)
-answer_there outcomes vids ShowRegions s is ok = (Ok (regions_text s.net), refl)
-answer_there outcomes vids ShowNotes s is ok = absurd (true≢false (sym is))
-answer_there outcomes vids (ShowVlan vid) s is ok = let o = outcomes s.net ok in let t = vids s.net o.0 vid ok in (Ok t.0, (o.0, o.1, t.0, t.1, refl))
-answer_there outcomes vids (ShowConfiguration bridge) s is ok = (option_map_or (λ text. Ok text) (configuration_text s.net bridge) (Err E04), refl)
-answer_there outcomes vids Changes s is ok = absurd (true≢false (sym is))
+-- by the laws that a network has an outcome, and an outcome its texts
+module _ (outcomes : (net : Net) → IsNetwork net → (o : Outcome) × IsOutcome net o)
+    (plans : (net : Net) (o : Outcome) → IsNetwork net → (text : List ℕ) × IsPlanText net o text)
+    (vids : (net : Net) (o : Outcome) (vid : ℕ) → IsNetwork net → (text : List ℕ) × IsVlanText net o vid text)
+    (notes : (net : Net) (o : Outcome) → IsNetwork net → IsOutcome net o → (text : List ℕ) × AreNotes net o text) where
+  -- what is said of every outcome is told
+  told : (net : Net) → IsNetwork net → (Says : Outcome → List ℕ → Type 0) → ((o : Outcome) → IsOutcome net o → (text : List ℕ) × Says o text) → (text : List ℕ) × TellsOutcome net Says (Ok text)
+  told net ok Says there = let o = outcomes net ok in let t = there o.0 o.1 in (t.0, (o.0, o.1, t.0, t.1, refl))
 
--- it is a text, but for the configuration of a bridge that isn't there
-pub text_there : ((q : Query) (s : State) → IsTrue (is_answered q) → IsNetwork s.net → (answer : Result (List ℕ) Refusal) × Answers q s answer)
-    → (query : Query) (s : State) → IsTrue (is_answered query) → IsNetwork s.net → ((bridge : List ℕ) → query ≢ ShowConfiguration bridge) → HasText query s
-text_there there (ShowTree tree) s is ok other = let h = (there (ShowTree tree) s is ok).1 in (tree_text s.net h.0 tree, (h.0, h.1, refl))
-text_there there ShowPlan s is ok other = absurd (true≢false (sym is))
-text_there there ShowLag s is ok other = (lags_text s.net, refl)
-text_there there ShowRegions s is ok other = (regions_text s.net, refl)
-text_there there ShowNotes s is ok other = absurd (true≢false (sym is))
-text_there there (ShowVlan vid) s is ok other = let h = (there (ShowVlan vid) s is ok).1 in (h.2, (h.0, h.1, h.2, h.3, refl))
-text_there there (ShowConfiguration bridge) s is ok other = absurd (other bridge refl)
-text_there there Changes s is ok other = absurd (true≢false (sym is))
+  -- what has changed since a mark
+  pub changes_told : (net : Net) → IsNetwork net → (rows : List Row) → IsMark rows → (text : List ℕ) × TellsChanges (Some rows) net (Ok text)
+  changes_told net ok rows was = let t = told net ok (λ o text. text ≡ changes_text was.net was.outcome net o) (λ o is. (changes_text was.net was.outcome net o, refl)) in (t.0, (was, t.1))
+
+  -- a text answers each query, but for those about an MST configuration or changes
+  pub text_there : (query : Query) (s : State) → IsState s → ((bridge : List ℕ) → query ≢ ShowConfiguration bridge) → query ≢ Changes → HasText query s
+  text_there ShowPlan s ok other since = told s.net ok.network (IsPlanText s.net) (λ o is. plans s.net o ok.network)
+  text_there (ShowTree tree) s ok other since = told s.net ok.network (λ o text. text ≡ tree_text s.net o tree) (λ o is. (tree_text s.net o tree, refl))
+  text_there (ShowVlan vid) s ok other since = told s.net ok.network (λ o. IsVlanText s.net o vid) (λ o is. vids s.net o vid ok.network)
+  text_there ShowNotes s ok other since = told s.net ok.network (AreNotes s.net) (λ o is. notes s.net o ok.network is)
+  text_there ShowLag s ok other since = (lags_text s.net, refl)
+  text_there ShowRegions s ok other since = (regions_text s.net, refl)
+  text_there (ShowConfiguration bridge) s ok other since = absurd (other bridge refl)
+  text_there Changes s ok other since = absurd (since refl)
+
+  changes_there : (net : Net) → IsNetwork net → (mark : Option (List Row)) → MatchOption mark (Unit {0}) IsMark → (answer : Result (List ℕ) Refusal) × TellsChanges mark net answer
+  changes_there net ok None is = (Err E16, refl)
+  changes_there net ok (Some rows) is = let t = changes_told net ok rows is in (Ok t.0, t.1)
+
+  -- each query has an answer
+  pub answer_there : (query : Query) (s : State) → IsState s → (answer : Result (List ℕ) Refusal) × Answers query s answer
+  answer_there ShowPlan s ok = let t = told s.net ok.network (IsPlanText s.net) (λ o is. plans s.net o ok.network) in (Ok t.0, t.1)
+  answer_there (ShowTree tree) s ok = let t = told s.net ok.network (λ o text. text ≡ tree_text s.net o tree) (λ o is. (tree_text s.net o tree, refl)) in (Ok t.0, t.1)
+  answer_there (ShowVlan vid) s ok = let t = told s.net ok.network (λ o. IsVlanText s.net o vid) (λ o is. vids s.net o vid ok.network) in (Ok t.0, t.1)
+  answer_there ShowNotes s ok = let t = told s.net ok.network (AreNotes s.net) (λ o is. notes s.net o ok.network is) in (Ok t.0, t.1)
+  answer_there ShowLag s ok = (Ok (lags_text s.net), refl)
+  answer_there ShowRegions s ok = (Ok (regions_text s.net), refl)
+  answer_there (ShowConfiguration bridge) s ok = (option_map_or (λ text. Ok text) (configuration_text s.net bridge) (Err E04), refl)
+  answer_there Changes s ok = changes_there s.net ok.network s.mark ok.mark
+
+-- a query that has an answer and can't be refused has a text
+pub has_text : ((query : Query) (s : State) → IsState s → (answer : Result (List ℕ) Refusal) × Answers query s answer)
+    → (query : Query) (s : State) → IsState s → ((bridge : List ℕ) → query ≢ ShowConfiguration bridge) → query ≢ Changes → HasText query s
+has_text there ShowPlan s ok other since = let h = (there ShowPlan s ok).1 in (h.2, (h.0, h.1, h.2, h.3, refl))
+has_text there (ShowTree tree) s ok other since = let h = (there (ShowTree tree) s ok).1 in (h.2, (h.0, h.1, h.2, h.3, refl))
+has_text there (ShowVlan vid) s ok other since = let h = (there (ShowVlan vid) s ok).1 in (h.2, (h.0, h.1, h.2, h.3, refl))
+has_text there ShowNotes s ok other since = let h = (there ShowNotes s ok).1 in (h.2, (h.0, h.1, h.2, h.3, refl))
+has_text there ShowLag s ok other since = (lags_text s.net, refl)
+has_text there ShowRegions s ok other since = (regions_text s.net, refl)
+has_text there (ShowConfiguration bridge) s ok other since = absurd (other bridge refl)
+has_text there Changes s ok other since = absurd (since refl)
+
+-- what tells of changes since a mark has a text
+told_text : (net : Net) (rows : List Row) (answer : Result (List ℕ) Refusal) → TellsChanges (Some rows) net answer → (text : List ℕ) × TellsChanges (Some rows) net (Ok text)
+told_text net rows answer t = (t.1.2, (t.0, (t.1.0, t.1.1, t.1.2, t.1.3, refl)))
+
+-- so has one about changes, once something is marked
+pub changes_have_text : (net : Net) (mark : Option (List Row)) (rows : List Row) → mark ≡ Some rows → (answer : Result (List ℕ) Refusal) × TellsChanges mark net answer → HasText Changes (record { net = net; mark = mark })
+changes_have_text net mark rows e there =
+    subst (λ m. HasText Changes (record { net = net; mark = m })) (sym e)
+    (let h = subst (λ m. (answer : Result (List ℕ) Refusal) × TellsChanges m net answer) e there in told_text net rows h.0 h.1)
 
 -- a bridge that is there has a configuration to show
 pub configuration_there : (s : State) (bridge : List ℕ) (row : BridgeRow) → Some row ≡ fin.get s.net.bridges bridge → HasText (ShowConfiguration bridge) s
@@ -50,17 +91,55 @@ configuration_there s bridge row e = (
   ap (λ o. option_map_or (λ text. Ok text) (option_map (λ row. configuration_line bridge row (table_of s.net bridge) ++ mstis_text (table_of s.net bridge)) o) (Err E04)) e,
 )
 
--- by the laws that a network has one outcome and a VID one text, a query has one answer
-pub one_text : ((net : Net) (o p : Outcome) → IsNetwork net → IsOutcome net o → IsOutcome net p → o ≡ p)
-    → ((net : Net) (o : Outcome) (vid : ℕ) (text other : List ℕ) → IsVlanText net o vid text → IsVlanText net o vid other → text ≡ other)
-    → (query : Query) (s : State) (a b : Result (List ℕ) Refusal) → IsNetwork s.net → Answers query s a → Answers query s b → a ≡ b
-one_text outcomes vids (ShowTree tree) s a b ok x y = x.2 ∙ ap (λ o. Ok (tree_text s.net o tree)) (outcomes s.net x.0 y.0 ok x.1 y.1) ∙ sym y.2
-one_text outcomes vids ShowPlan s a b ok x y = absurd x
-one_text outcomes vids ShowLag s a b ok x y = x ∙ sym y
-one_text outcomes vids ShowRegions s a b ok x y = x ∙ sym y
-one_text outcomes vids ShowNotes s a b ok x y = absurd x
-one_text outcomes vids (ShowVlan vid) s a b ok x y =
-    let same : x.0 ≡ y.0 = outcomes s.net x.0 y.0 ok x.1 y.1 in
-    x.4 ∙ ap Ok (vids s.net y.0 vid x.2 y.2 (subst (λ o. IsVlanText s.net o vid x.2) same x.3) y.3) ∙ sym y.4
-one_text outcomes vids (ShowConfiguration bridge) s a b ok x y = x ∙ sym y
-one_text outcomes vids Changes s a b ok x y = absurd x
+-- by the laws that a network has one outcome, and an outcome one of each text
+module _ (outcomes : (net : Net) (o p : Outcome) → IsNetwork net → IsOutcome net o → IsOutcome net p → o ≡ p)
+    (plans : (net : Net) (o : Outcome) (text other : List ℕ) → IsPlanText net o text → IsPlanText net o other → text ≡ other)
+    (vids : (net : Net) (o : Outcome) (vid : ℕ) (text other : List ℕ) → IsVlanText net o vid text → IsVlanText net o vid other → text ≡ other)
+    (notes : (net : Net) (o : Outcome) (text other : List ℕ) → IsNetwork net → IsOutcome net o → AreNotes net o text → AreNotes net o other → text ≡ other)
+    (rows_tell : (a b c d : Net) (o p q r : Outcome) → rows_of a o ≡ rows_of c q → rows_of b p ≡ rows_of d r → changes_text a o b p ≡ changes_text c q d r) where
+  one_told : (net : Net) → IsNetwork net → (Says : Outcome → List ℕ → Type 0) → ((o : Outcome) → IsOutcome net o → (text other : List ℕ) → Says o text → Says o other → text ≡ other)
+      → (a b : Result (List ℕ) Refusal) → TellsOutcome net Says a → TellsOutcome net Says b → a ≡ b
+  one_told net ok Says one a b x y =
+      let same : x.0 ≡ y.0 = outcomes net x.0 y.0 ok x.1 y.1 in
+      x.4 ∙ ap Ok (one y.0 y.1 x.2 y.2 (subst (λ o. Says o x.2) same x.3) y.3) ∙ sym y.4
+
+  one_change : (net : Net) → IsNetwork net → (mark : Option (List Row)) → (a b : Result (List ℕ) Refusal) → TellsChanges mark net a → TellsChanges mark net b → a ≡ b
+  one_change net ok None a b x y = x ∙ sym y
+  one_change net ok (Some rows) a b x y =
+      let u = x.1 in
+      let v = y.1 in
+      let same : u.0 ≡ v.0 = outcomes net u.0 v.0 ok u.1 v.1 in
+      u.4
+      ∙ ap Ok (u.3 ∙ rows_tell x.0.net net y.0.net net x.0.outcome u.0 y.0.outcome v.0 (sym x.0.are_rows ∙ y.0.are_rows) (ap (rows_of net) same) ∙ sym v.3)
+      ∙ sym v.4
+
+  -- a query has one answer
+  pub one_text : (query : Query) (s : State) (a b : Result (List ℕ) Refusal) → IsNetwork s.net → Answers query s a → Answers query s b → a ≡ b
+  one_text ShowPlan s a b ok x y = one_told s.net ok (IsPlanText s.net) (λ o is text other h k. plans s.net o text other h k) a b x y
+  one_text (ShowTree tree) s a b ok x y = one_told s.net ok (λ o text. text ≡ tree_text s.net o tree) (λ o is text other h k. h ∙ sym k) a b x y
+  one_text (ShowVlan vid) s a b ok x y = one_told s.net ok (λ o. IsVlanText s.net o vid) (λ o is text other h k. vids s.net o vid text other h k) a b x y
+  one_text ShowNotes s a b ok x y = one_told s.net ok (AreNotes s.net) (λ o is text other h k. notes s.net o text other ok is h k) a b x y
+  one_text ShowLag s a b ok x y = x ∙ sym y
+  one_text ShowRegions s a b ok x y = x ∙ sym y
+  one_text (ShowConfiguration bridge) s a b ok x y = x ∙ sym y
+  one_text Changes s a b ok x y = one_change s.net ok s.mark a b x y
+
+-- the mark of which changes have a text
+pub was_marked : (net : Net) (mark : Option (List Row)) (rows : List Row) → mark ≡ Some rows → HasText Changes (record { net = net; mark = mark }) → IsMark rows
+was_marked net mark rows e has = let t = subst (λ m. (text : List ℕ) × TellsChanges m net (Ok text)) e has in t.1.0
+
+-- without a mark they have none
+pub not_marked : (net : Net) (mark : Option (List Row)) → mark ≡ None → HasText Changes (record { net = net; mark = mark }) → ⊥
+not_marked net mark e has = let t = subst (λ m. (text : List ℕ) × TellsChanges m net (Ok text)) e has in no_error t.0 t.1
+  where
+    is_text : Result (List ℕ) Refusal → Type 0
+    is_text (Ok text) = Unit {0}
+    is_text (Err refusal) = ⊥
+
+    no_error : (text : List ℕ) → ◌≡◌ {A = Result (List ℕ) Refusal} (Ok text) (Err E16) → ⊥
+    no_error text e = subst is_text e tt
+
+-- the text from the marked network to the one now
+pub changes_are : (net : Net) (mark : Option (List Row)) (rows news : List Row) (text : List ℕ) → mark ≡ Some rows → (was : IsMark rows) → (now : IsMarkNow net news) → text ≡ changes_text was.net was.outcome net now.0
+    → TellsChanges mark net (Ok text)
+changes_are net mark rows news text e was now is = subst (λ m. TellsChanges m net (Ok text)) (sym e) (was, (now.0, now.1, text, is, refl))

@@ -1,9 +1,13 @@
 -- What a planner keeps of its network.
-use Rattle.std.specs.Prelude.{Bool, true, false, Option, Some, None}
+use Rattle.std.specs.Prelude.{Bool, true, false, List, Option, Some, None, MatchOption}
+use Rattle.std.specs.Option.{option_map}
 use Rattle.mst_net.specs.Tables.{Net, Numbers}
 use Rattle.mst_config.specs.Classes.{AreRegions}
 use Rattle.mst_trees.specs.Agrees.{AreOf}
 use Rattle.mst_trees.specs.Forest.{IsForest}
+use Rattle.mst_changes.specs.declared.place.Row.{Row}
+use Rattle.mst_changes.specs.declared.rows.Rows.{Rows}
+use Rattle.mst_report.specs.State.{IsMark}
 use Rattle.mst_report.specs.declared.plan.Plan.{Plan}
 
 -- the view, the regions and the settled trees are those of the network
@@ -17,3 +21,10 @@ abbrev pub HasPlan : Net → Numbers → Bool → Option Plan → Type 0
 HasPlan net numbers false plan = Unit {0}
 HasPlan net numbers true None = ⊥
 HasPlan net numbers true (Some p) = IsPlan net numbers p
+
+-- the rows that are kept of the mark, if there is one, are those of a network
+abbrev pub mark_rows : Option Rows → Option (List Row)
+mark_rows = option_map (λ rows. rows.rows.items)
+
+abbrev pub HasMark : Option Rows → Type 0
+HasMark mark = MatchOption (mark_rows mark) (Unit {0}) IsMark

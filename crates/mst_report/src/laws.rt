@@ -1,26 +1,46 @@
 //! Laws of answers. Their functions do nothing: a caller has their clauses.
-ghost use Rattle.std.specs.Prelude.{◌≡◌, ℕ, List, Result, IsTrue};
+ghost use Rattle.std.specs.Prelude.{◌≡◌, ℕ, List, Result};
 ghost use Rattle.mst_lang.specs.declared.line.Query.{Query};
-ghost use Rattle.mst_net.specs.Tables.{IsNetwork};
+ghost use Rattle.mst_net.specs.Tables.{Net, IsNetwork};
 ghost use Rattle.mst_net.specs.declared.refusal.Refusal.{Refusal};
-ghost use Rattle.mst_report.specs.Answers.{Answers, is_answered};
-ghost use Rattle.mst_report.specs.State.{State};
+ghost use Rattle.mst_report.specs.Answers.{Answers};
+ghost use Rattle.mst_report.specs.State.{State, IsState, IsMark, IsMarkNow};
+ghost use Rattle.mst_changes.specs.declared.place.Row.{Row};
 
-use mst_trees::laws;
+use mst_changes::laws::rows_tell;
+use mst_note_text::laws::notes;
+use mst_plan_text::laws::{has_plan, one_plan};
+use mst_trees::laws::{has_outcome, one_outcome};
 use mst_vlan_text::laws::{has_text, one_text};
 
-/// Each query that is answered at all has an answer in each state, a text or a refusal.
+/// Each query has an answer in each state, a text or a refusal.
 pub fn has_answer()
-    ensures { (query : Query) (s : State) → IsTrue (is_answered query) → IsNetwork s.net → (answer : Result (List ℕ) Refusal) × Answers query s answer }
+    ensures { (query : Query) (s : State) → IsState s → (answer : Result (List ℕ) Refusal) × Answers query s answer }
 {
-    laws::has_outcome();
+    has_outcome();
+    has_plan();
     has_text();
+    notes();
 }
 
-/// A query has one answer: it is a function of the state alone, whatever edits made the network.
+/// A query has one answer: it is a function of the state alone, whatever edits made the network and whatever made the
+/// marked one.
 pub fn one_answer()
     ensures { (query : Query) (s : State) (a b : Result (List ℕ) Refusal) → IsNetwork s.net → Answers query s a → Answers query s b → a ≡ b }
 {
-    laws::one_outcome();
+    one_outcome();
+    one_plan();
     one_text();
+    notes();
+    rows_tell();
+}
+
+/// A network has rows to mark, and one list of them.
+pub fn rows_of_network()
+    ensures some { (net : Net) → IsNetwork net → (rows : List Row) × IsMarkNow net rows }
+    ensures one { (net : Net) (rows others : List Row) → IsNetwork net → IsMarkNow net rows → IsMarkNow net others → rows ≡ others }
+    ensures mark { (net : Net) (rows : List Row) → IsNetwork net → IsMarkNow net rows → IsMark rows }
+{
+    has_outcome();
+    one_outcome();
 }

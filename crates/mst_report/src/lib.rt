@@ -5,6 +5,6 @@ mod answers;
 pub mod laws;
 mod plan;
 mod planner;
+mod texts;
 
-pub use answers::is_answered;
 pub use planner::Planner;

@@ -1,12 +1,14 @@
 ghost use Rattle.std.specs.Prelude.{◌≡◌, ◌≢◌, true, false, Ok, Err, IsOk, IfOk, IfErr, OnOk, OnErr, IsTrue};
 ghost use Rattle.mst_net.specs.After.{after};
 ghost use Rattle.mst_net.specs.Contents.{room_for};
-ghost use Rattle.mst_net.specs.Tables.{IsNetwork, empty_net};
+ghost use Rattle.std.specs.Option.{option_map};
 ghost use Rattle.mst_trees.specs.Agrees.{AreOf};
 ghost use Rattle.mst_trees.specs.Forest.{IsForest};
 ghost use Rattle.mst_lag.specs.Viewed.{IsView};
 
+use crate::laws::rows_of_network;
 use crate::plan::{Plan, plan_of};
+use mst_changes::Rows;
 use mst_lag::View;
 use mst_lang::Edit;
 use mst_net::{Contents, Network, Refusal};
@@ -25,6 +27,8 @@ pub struct Planner {
     plan: Option<Plan>,
     // The plan is that of the network as it is now.
     is_settled: bool,
+    // What is kept of the marked network, if one was marked.
+    mark: Option<Rows>,
 }
 
 // By hand, as a network's.
@@ -35,42 +39,49 @@ impl Drop for Planner {
             network: _,
             plan: _,
             is_settled: _,
+            mark: _,
         } = self;
     }
 }
 
 impl Model for Planner {
-    ghost use Rattle.mst_report.specs.Planned.{Planned, planned_code};
+    ghost use Rattle.mst_report.specs.Planned.{Planned};
 
     ghost Value = { Planned };
 
-    ghost coded = { planned_code };
+    ghost use Rattle.std.specs.Coded.{codes};
+    ghost use Rattle.mst_net.specs.Contents.{contents_code};
 
-    ghost use Rattle.mst_report.specs.Kept.{HasPlan};
+    ghost coded = { Prim.hlevel (codes, contents_code) };
 
-    ghost view = { λ p. record { contents = p.network; is_settled = p.is_settled } };
+    ghost use Rattle.mst_report.specs.Kept.{HasPlan, HasMark, mark_rows};
 
-    ghost invariant = { λ p. HasPlan p.network.net p.network.numbers p.is_settled p.plan };
+    ghost view = { λ p. record { contents = p.network; is_settled = p.is_settled; mark = mark_rows p.mark } };
+
+    ghost invariant = { λ p. HasPlan p.network.net p.network.numbers p.is_settled p.plan × HasMark p.mark };
 }
 
 impl Planner {
     ghost use Rattle.mst_report.specs.Kept.{IsPlan};
+    ghost use Rattle.mst_report.specs.Planned.{planned_state};
+    ghost use Rattle.mst_report.specs.State.{IsState, IsMarkNow, IsRowsNow, empty_state};
 
     /// The planner of the network with no records, which isn't settled yet: so it takes no memory.
     pub fn new(alloc: Global) -> Planner
-        ensures { result.contents.net ≡ empty_net }
+        ensures { planned_state result ≡ empty_state }
     {
         Planner {
             alloc,
             network: Network::new(alloc),
             plan: None,
             is_settled: false,
+            mark: None,
         }
     }
 
-    /// Does nothing: its clause says that the network is one.
+    /// Does nothing: its clause says that the network is one, and that the mark, if there is one, is of one.
     pub fn known(&self)
-        ensures network { IsNetwork self.now.contents.net }
+        ensures { IsState (planned_state self.now) }
     {
         self.network.known();
     }
@@ -111,6 +122,7 @@ impl Planner {
         ensures ok { OnOk result (after edit.now self.old.contents.net ≡ Ok self.new.contents.net) }
         ensures same { OnErr result (self.new.contents.net ≡ self.old.contents.net) }
         ensures settled { OnErr result (self.new.is_settled ≡ self.old.is_settled) }
+        ensures mark { self.new.mark ≡ self.old.mark }
         ensures refused { IfErr result (λ refusal. refusal ≢ Refusal.E99 → after edit.now self.old.contents.net ≡ Err refusal) }
         ensures memory { result ≡ Err Refusal.E99 → IsOk (after edit.now self.old.contents.net) }
         ensures no_room { result ≡ Err Refusal.E99 → room_for edit.now self.old.contents.room ≡ 0 }
@@ -128,6 +140,7 @@ impl Planner {
     /// Brings the plan up to the network. `AllocError`: memory was wanted and refused, and the planner is as it was.
     pub fn settle(&mut self) -> Result<(), AllocError>
         ensures same { self.new.contents ≡ self.old.contents }
+        ensures mark { self.new.mark ≡ self.old.mark }
         ensures settled { OnOk result (self.new.is_settled ≡ true) }
         ensures as_it_was { OnErr result (self.new ≡ self.old) }
     {
@@ -147,6 +160,7 @@ impl Planner {
         ensures settled { OnOk result (self.new.is_settled ≡ true) }
         ensures same { OnErr result (self.new.contents.net ≡ self.old.contents.net) }
         ensures as_it_was { OnErr result (self.new.is_settled ≡ self.old.is_settled) }
+        ensures mark { self.new.mark ≡ self.old.mark }
         ensures refused { IfErr result (λ refusal. refusal ≢ Refusal.E99 → after edit.now self.old.contents.net ≡ Err refusal) }
         ensures memory { result ≡ Err Refusal.E99 → IsOk (after edit.now self.old.contents.net) }
     {
@@ -168,6 +182,44 @@ impl Planner {
     /// What the texts take memory from.
     pub(crate) fn alloc(&self) -> Global {
         self.alloc
+    }
+
+    /// Marks the network as it is now, for what changes from it: its rows take the place of those of an earlier mark.
+    /// E99 alone refuses it, where memory was wanted and refused; the planner is then as it was.
+    pub fn mark(&mut self) -> Result<(), Refusal>
+        requires { self.old.is_settled ≡ true }
+        ensures same { self.new.contents ≡ self.old.contents }
+        ensures settled { self.new.is_settled ≡ true }
+        ensures marked { OnOk result (IsRowsNow self.old.contents.net self.new.mark) }
+        ensures as_it_was { OnErr result (self.new.mark ≡ self.old.mark) }
+        ensures refused { IfErr result (λ refusal. refusal ≡ Refusal.E99) }
+    {
+        self.known();
+        rows_of_network();
+        match self.rows() {
+            Ok(rows) => {
+                self.mark = Some(rows);
+                Ok(())
+            }
+            Err(_) => Err(Refusal::E99),
+        }
+    }
+
+    /// What is kept of the network as it is now.
+    pub(crate) fn rows(&self) -> Result<Rows, AllocError>
+        requires { self.now.is_settled ≡ true }
+        ensures { IfOk result (λ rows. IsMarkNow self.now.contents.net rows.rows.items) }
+    {
+        let plan = self.plan();
+        let rows = Rows::new(self.alloc, &plan.view, &plan.forest)?;
+        Ok(rows)
+    }
+
+    /// The rows of the mark, if there is one.
+    pub(crate) fn marked(&self) -> Option<&Rows>
+        ensures { option_map (λ rows. rows.now.rows.items) result ≡ self.now.mark }
+    {
+        self.mark.as_ref()
     }
 
     /// The plan, for the texts.

@@ -4,8 +4,8 @@ use Rattle.std.proofs.lemmas.Grind.{flat_map-append, common_steps}
 use Rattle.std.proofs.lemmas.List.Sums.{sum_by-cons, sum_by-append}
 use Rattle.std.specs.Io.KnownBytes.{Appends}
 use Rattle.std.proofs.KnownBytes.{Appends-trans}
-use Rattle.mst_net.specs.Tables.{IsNetwork}
 use Rattle.mst_tool.specs.Lines.{drop_cr, last_line}
+use Rattle.mst_report.specs.State.{IsState}
 use Rattle.mst_tool.specs.Script.{Step, Serves, Runs, texts_of}
 use Rattle.mst_tool.specs.Written.{AppendsFront}
 use Rattle.mst_tool.specs.Engine.{Tally, tallied}
@@ -60,7 +60,7 @@ Feeds-line t u p b made e is after = subst (λ v. Feeds (made ∷ []) t p (b ∷
 })
 
 -- a byte that ends a line, of whose text a front went out
-pub Breaks-line : AlwaysRuns → (a c : Option (List ℕ)) (t : Tally) (p : List ℕ) (b : ℕ) (made : Step) → b ≡ 10 → Serves t.number t.state (drop_cr p) made → IsNetwork made.state.net → AppendsFront a c made.text → Breaks a c t p (b ∷ [])
+pub Breaks-line : AlwaysRuns → (a c : Option (List ℕ)) (t : Tally) (p : List ℕ) (b : ℕ) (made : Step) → b ≡ 10 → Serves t.number t.state (drop_cr p) made → IsState made.state → AppendsFront a c made.text → Breaks a c t p (b ∷ [])
 Breaks-line always a c t p b made e is network front rest =
     let more = always (t.number + 1) made.state (lines_held last_line [] rest) network in
     record {

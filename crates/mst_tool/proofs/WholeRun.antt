@@ -4,9 +4,9 @@ use Rattle.std.specs.Option.{unwrap_or}
 use Rattle.std.proofs.lemmas.Grind.{flat_map-append}
 use Rattle.std.specs.Io.KnownBytes.{Appends, Consumes, Keeps, IsAtEnd}
 use Rattle.std.proofs.KnownBytes.{Consumes-trans}
-use Rattle.mst_net.specs.Tables.{IsNetwork}
 use Rattle.mst_tool.specs.Lines.{last_line, no_line, lines_of}
-use Rattle.mst_tool.specs.Script.{Step, empty_state, Runs, texts_of, lacks_of}
+use Rattle.mst_report.specs.State.{IsState, empty_state}
+use Rattle.mst_tool.specs.Script.{Step, Runs, texts_of, lacks_of}
 use Rattle.mst_tool.specs.Written.{AppendsFront}
 use Rattle.mst_tool.specs.Engine.{Tally, start}
 use Rattle.mst_tool.specs.Feeding.{lines_held, IsCounted, Feeds, Breaks, ending}
@@ -96,7 +96,7 @@ run_broken_last reads rest written mid now d t read p consumed at_end f went bre
     }
 
 -- a run that was stopped by the reader
-pub run_cut : AlwaysRuns → (reads rest written now : Option (List ℕ)) (d : List Step) (t : Tally) (read p : List ℕ) → IsNetwork t.state.net → Consumes reads rest read → Feeds d start [] read t p → Appends written now (texts_of d) → PrintsFront reads written now
+pub run_cut : AlwaysRuns → (reads rest written now : Option (List ℕ)) (d : List Step) (t : Tally) (read p : List ℕ) → IsState t.state → Consumes reads rest read → Feeds d start [] read t p → Appends written now (texts_of d) → PrintsFront reads written now
 run_cut always reads rest written now d t read p network consumed f went =
     let more = always t.number t.state (lines_held last_line p (unwrap_or rest [])) network in
     record {

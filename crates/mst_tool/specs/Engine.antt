@@ -1,11 +1,11 @@
 -- What a run keeps from line to line.
 use Rattle.std.specs.Prelude.{ℕ, ◌+◌, Bool, true, false, List, [], if◌then◌else◌}
-use Rattle.mst_report.specs.State.{State}
+use Rattle.mst_report.specs.State.{State, empty_state}
 use Rattle.mst_report.specs.Planned.{planned_state}
 use Rattle.mst_lang.specs.Faults as fault
 use Rattle.mst_net.specs.Refusals as refusal
 use Rattle.mst_net.specs.declared.refusal.Refusal.TheVariants.{E99}
-use Rattle.mst_tool.specs.Script.{Step, empty_state, refusal_line}
+use Rattle.mst_tool.specs.Script.{Step, refusal_line}
 use Rattle.mst_tool.specs.declared.runs.Outcome.{Outcome}
 use Rattle.mst_tool.specs.declared.engine.Engine.{Engine}
 use Rattle.mst_tool.specs.declared.engine.Reply.{Reply}

@@ -1,5 +1,4 @@
 pub mod Lines
-pub mod Served
 pub mod Script
 pub mod Written
 pub mod Engine

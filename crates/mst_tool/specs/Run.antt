@@ -2,7 +2,8 @@
 use Rattle.std.specs.Prelude.{◌≡◌, ℕ, List, Option, Some, None, Result, Ok, Err, ◌==◌, ◌&&◌, if◌then◌else◌}
 use Rattle.std.specs.Io.KnownBytes.{Appends, Consumes}
 use Rattle.mst_tool.specs.Lines.{lines_of, ended_lines}
-use Rattle.mst_tool.specs.Script.{Step, empty_state, Runs, texts_of, refusals_of, lacks_of}
+use Rattle.mst_report.specs.State.{empty_state}
+use Rattle.mst_tool.specs.Script.{Step, Runs, texts_of, refusals_of, lacks_of}
 use Rattle.mst_tool.specs.Written.{AppendsFront}
 use Rattle.mst_tool.specs.declared.runs.Outcome.{Outcome}
 use Rattle.mst_tool.specs.declared.runs.RunFault.{RunFault}

@@ -1,5 +1,5 @@
 -- What a script prints.
-use Rattle.std.specs.Prelude.{◌≡◌, ℕ, ◌+◌, Bool, true, false, List, [], ◌∷◌, ◌++◌, Result, Ok, Err, codes, decimal, count_by}
+use Rattle.std.specs.Prelude.{◌≡◌, ℕ, ◌+◌, Bool, true, false, List, [], ◌∷◌, ◌++◌, Some, Result, Ok, Err, codes, decimal, count_by}
 use Rattle.std.specs.List.{flat_map}
 use Rattle.mst_lang.specs.declared.line.Line.{Line}
 use Rattle.mst_lang.specs.declared.line.Line.TheVariants.{Blank, Mark, Edit as edit, Query as query}
@@ -9,15 +9,11 @@ use Rattle.mst_lang.specs.Faults as fault
 use Rattle.mst_net.specs.declared.refusal.Refusal.{Refusal}
 use Rattle.mst_net.specs.declared.refusal.Refusal.TheVariants.{E99}
 use Rattle.mst_net.specs.Refusals as refusal
-use Rattle.mst_net.specs.Tables.{Net, empty_net}
+use Rattle.mst_net.specs.Tables.{Net}
 use Rattle.mst_net.specs.After.{after}
+use Rattle.mst_changes.specs.declared.place.Row.{Row}
 use Rattle.mst_report.specs.Answers.{Answers}
-use Rattle.mst_report.specs.State.{State}
-use Rattle.mst_tool.specs.Served.{served}
-
--- the state in which a script begins
-abbrev pub empty_state : State
-empty_state = record { net = empty_net }
+use Rattle.mst_report.specs.State.{State, IsMarkNow}
 
 -- what a line does: the state after it, the text that it prints, and whether it is refused, for want of
 -- memory or else
@@ -53,10 +49,10 @@ edited lacks number now (Err r) = refused number (refusal.code_of r) (refusal.te
 edited true number now (Ok new) = starved number now
 edited false number now (Ok new) = silent (record now { net = new })
 
--- a mark, which nothing refuses. For want of memory it isn't made
-abbrev pub marked : Bool → ℕ → State → Step
-marked true number now = starved number now
-marked false number now = silent now
+-- a mark of these rows, which nothing refuses. For want of memory it isn't made
+abbrev pub marked : Bool → ℕ → State → List Row → Step
+marked true number now rows = starved number now
+marked false number now rows = silent (record now { mark = Some rows })
 
 -- a query, by its answer. For want of memory no text is printed
 abbrev pub answered : Bool → ℕ → State → Result (List ℕ) Refusal → Step
@@ -68,13 +64,13 @@ answered false number now (Ok text) = printed now text
 abbrev pub ServesRead : ℕ → State → Result Line Fault → Step → Type 0
 ServesRead number now (Err f) s = s ≡ refused number (fault.code_of f) (fault.text_of f) now
 ServesRead number now (Ok Blank) s = s ≡ silent now
-ServesRead number now (Ok Mark) s = s ≡ marked s.lacking number now
+ServesRead number now (Ok Mark) s = (rows : List Row) × IsMarkNow now.net rows × (s ≡ marked s.lacking number now rows)
 ServesRead number now (Ok (edit e)) s = s ≡ edited s.lacking number now (after e now.net)
 ServesRead number now (Ok (query q)) s = (answer : Result (List ℕ) Refusal) × Answers q now answer × (s ≡ answered s.lacking number now answer)
 
 -- what the line of this number does in a state
 abbrev pub Serves : ℕ → State → List ℕ → Step → Type 0
-Serves number now line s = ServesRead number now (served (reading line)) s
+Serves number now line s = ServesRead number now (reading line) s
 
 -- the lines, the first of this number, do these steps one after another
 unfoldable pub Runs : ℕ → State → List (List ℕ) → List Step → Type 0

@@ -1,11 +1,9 @@
-ghost use Rattle.std.specs.Prelude.{◌≡◌, ℕ, ◌+◌, ◌^◌, ◌<◌, Bool, Ok, Err, IsTrue, OnOk, OnErr};
+ghost use Rattle.std.specs.Prelude.{◌≡◌, ℕ, ◌+◌, ◌^◌, ◌<◌, Bool, Ok, Err, OnOk, OnErr};
 ghost use Rattle.std.specs.Io.KnownBytes.{Appends};
-ghost use Rattle.mst_lang.specs.declared.line.Line.TheVariants.{Query as query};
-ghost use Rattle.mst_report.specs.Answers.{is_answered as is_answered_query};
+ghost use Rattle.mst_lang.specs.declared.line.Line.TheVariants.{Mark, Query as query};
 ghost use Rattle.mst_report.specs.Planned.{planned_state};
 ghost use Rattle.mst_report.specs.Refusing.{HasText};
 ghost use Rattle.mst_tool.specs.Written.{AppendsFront};
-ghost use Rattle.mst_tool.specs.Served.{served};
 ghost use Rattle.mst_tool.specs.Script.{Serves, ServesRead, refusal_line};
 ghost use Rattle.mst_tool.specs.Engine.{start, tally_of, tallied, outcome_of, reply_text, replied};
 
@@ -14,7 +12,8 @@ use crate::runs::Outcome;
 use itoa::Buffer;
 use mst_lang::{Fault, Line, Query, parse_line};
 use mst_net::Refusal;
-use mst_report::{Planner, is_answered};
+use mst_report::Planner;
+use mst_report::laws::rows_of_network;
 use std::alloc::Global;
 use std::io::Write;
 
@@ -98,9 +97,9 @@ fn reply_to(planner: &mut Planner, number: u64, line: &[u8]) -> Reply
     }
 }
 
-/// Serves a line that is read. A command that isn't served is refused as an unknown one.
+/// Serves a line that is read.
 fn serve(planner: &mut Planner, number: u64, line: &Line) -> Reply
-    ensures { ServesRead number (planned_state planner.old) (served (Ok line.now)) (replied number (planned_state planner.new) result) }
+    ensures { ServesRead number (planned_state planner.old) (Ok line.now) (replied number (planned_state planner.new) result) }
 {
     match line {
         Line::Blank => Reply::Silent,
@@ -110,17 +109,29 @@ fn serve(planner: &mut Planner, number: u64, line: &Line) -> Reply
             Err(refusal) => Reply::Refused(refusal),
         },
         Line::Query(query) => answer(planner, number, query),
-        Line::Mark => Reply::Unread(Fault::E01),
+        Line::Mark => mark(planner, number),
     }
 }
 
-/// Answers a query. One that isn't served is refused as an unknown command.
-fn answer(planner: &mut Planner, number: u64, asked: &Query) -> Reply
-    ensures { ServesRead number (planned_state planner.old) (served (Ok (query asked.now))) (replied number (planned_state planner.new) result) }
+/// Marks the network, once the plan is settled.
+fn mark(planner: &mut Planner, number: u64) -> Reply
+    ensures { ServesRead number (planned_state planner.old) (Ok Mark) (replied number (planned_state planner.new) result) }
 {
-    if !is_answered(asked) {
-        return Reply::Unread(Fault::E01);
+    planner.known();
+    rows_of_network();
+    match planner.settle() {
+        Err(_) => Reply::Starved,
+        Ok(()) => match planner.mark() {
+            Ok(()) => Reply::Silent,
+            Err(_) => Reply::Starved,
+        },
     }
+}
+
+/// Answers a query.
+fn answer(planner: &mut Planner, number: u64, asked: &Query) -> Reply
+    ensures { ServesRead number (planned_state planner.old) (Ok (query asked.now)) (replied number (planned_state planner.new) result) }
+{
     match planner.refusal(asked) {
         Some(refusal) => Reply::Refused(refusal),
         None => shown(planner, number, asked),
@@ -130,8 +141,7 @@ fn answer(planner: &mut Planner, number: u64, asked: &Query) -> Reply
 /// What a query that a text answers is answered by: its text, once the plan is settled, or that memory was wanted
 /// for it.
 fn shown(planner: &mut Planner, number: u64, asked: &Query) -> Reply
-    requires answered { IsTrue (is_answered_query asked.now) }
-    requires text { HasText asked.now (planned_state planner.old) }
+    requires { HasText asked.now (planned_state planner.old) }
     ensures { ServesRead number (planned_state planner.old) (Ok (query asked.now)) (replied number (planned_state planner.new) result) }
 {
     match planner.settle() {

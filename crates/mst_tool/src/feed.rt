@@ -1,7 +1,7 @@
 ghost use Rattle.std.specs.Prelude.{◌≡◌, ℕ, ◌+◌, ◌^◌, ◌<◌, Bool, List, [], ◌∷◌, length, OnOk, OnErr};
 ghost use Rattle.std.specs.Io.KnownBytes.{Appends};
-ghost use Rattle.mst_net.specs.Tables.{IsNetwork};
 ghost use Rattle.mst_report.specs.Planned.{planned_state};
+ghost use Rattle.mst_report.specs.State.{IsState};
 ghost use Rattle.mst_tool.specs.Lines.{drop_cr};
 ghost use Rattle.mst_tool.specs.Script.{Step, Serves, texts_of};
 ghost use Rattle.mst_tool.specs.Written.{AppendsFront};
@@ -26,7 +26,7 @@ pub(crate) fn end_line<W: Write>(
     ensures ok { OnOk result ((made : Step) × Serves engine.old.number (planned_state engine.old.planner) (drop_cr held.old) made
         × (tally_of engine.new ≡ tallied (tally_of engine.old) made) × Appends (W.contents writer.old) (W.contents writer.new) made.text) }
     ensures err { OnErr result ((made : Step) × Serves engine.old.number (planned_state engine.old.planner) (drop_cr held.old) made
-        × IsNetwork made.state.net × AppendsFront (W.contents writer.old) (W.contents writer.new) made.text) }
+        × IsState made.state × AppendsFront (W.contents writer.old) (W.contents writer.new) made.text) }
     ensures cleared { held.new ≡ [] }
 {
     let number = engine.number;

@@ -171,6 +171,7 @@ fn laws_can_be_called() {
     laws::network_alone();
     answers::has_answer();
     answers::one_answer();
+    answers::rows_of_network();
     outcomes::has_outcome();
     outcomes::one_outcome();
     outcomes::nested();

@@ -25,6 +25,6 @@ returns-clause-err g c =
     on_err_weaker c.print.result (λ front. (
       made,
       subst (λ line. Serves e.number (planned_state e.planner) line made) c.line.ensures r.ensures.served,
-      c.known.ensures.network,
+      c.known.ensures,
       front,
     )) c.print.ensures.err

@@ -34,7 +34,7 @@ turns-preserved g c =
 pub returns-clause-fault : goal.returns-clause-fault
 returns-clause-fault g c =
     let was = c.turns.invariant in
-    run_cut c.has_run.ensures.lines _ _ _ _ was.done (tally_of c.turns.engine) was.read c.turns.held c.known-2.ensures.network was.consumed was.feeds was.written
+    run_cut c.has_run.ensures.lines _ _ _ _ was.done (tally_of c.turns.engine) was.read c.turns.held c.known-2.ensures was.consumed was.feeds was.written
 
 pub returns-clause-read : goal.returns-clause-read
 returns-clause-read g c is =
@@ -44,7 +44,7 @@ returns-clause-read g c is =
 pub returns-in-Err-clause-fault : goal.returns-in-Err-clause-fault
 returns-in-Err-clause-fault g c =
     let was = c.turns.invariant in
-    run_cut c.has_run.ensures.lines _ _ _ _ was.done (tally_of c.turns.engine) was.read c.turns.held c.known.ensures.network was.consumed was.feeds was.written
+    run_cut c.has_run.ensures.lines _ _ _ _ was.done (tally_of c.turns.engine) was.read c.turns.held c.known.ensures was.consumed was.feeds was.written
 
 pub returns-in-Err-clause-read : goal.returns-in-Err-clause-read
 returns-in-Err-clause-read g c is =

@@ -1,0 +1,12 @@
+use Rattle.std.proofs.Common.{ap, sym, ◌∙◌}
+use Rattle.std.specs.Option.{option_map}
+use Rattle.mst_lang.specs.declared.line.Query.TheVariants.{Changes}
+use Rattle.mst_report.specs.Planned.{planned_state}
+use Rattle.mst_report.proofs.Answering.{changes_have_text}
+use Rattle.mst_report.proofs.planner.Planner.no_mark.Goals as goal
+
+pub returns-in-Some : goal.returns-in-Some
+returns-in-Some c =
+    let now = planned_state c.args.self.now in
+    changes_have_text now.net now.mark c.in-Some.field-0.now.rows.items (sym c.marked.ensures ∙ ap (option_map (λ rows. rows.now.rows.items)) c.in-Some.is)
+    (c.has_answer.ensures Changes now c.known.ensures)

@@ -1,0 +1,137 @@
+ghost use Rattle.std.specs.Prelude.{◌≡◌, true, Ok, Some, IfOk};
+ghost use Rattle.mst_lang.specs.declared.line.Query.TheVariants.{ShowPlan, ShowTree, ShowVlan, ShowNotes, ShowLag, ShowRegions, ShowConfiguration, Changes};
+ghost use Rattle.mst_report.specs.Answers.{Answers};
+ghost use Rattle.mst_report.specs.Planned.{planned_state};
+ghost use Rattle.mst_report.specs.Refusing.{HasText};
+
+use crate::planner::Planner;
+use mst_changes::{Rows, push_changes};
+use mst_ids::{Name, Tree, Vid};
+use mst_lag_text::push_lags;
+use mst_lang::Query;
+use mst_note_text::push_notes;
+use mst_plan_text::push_plan;
+use mst_region_text::{push_configuration, push_regions};
+use mst_tree_text::push_tree;
+use mst_vlan_text::push_vlan;
+use std::alloc::AllocError;
+
+impl Planner {
+    /// The text that answers a query. `AllocError`: memory was wanted and refused.
+    pub(crate) fn text(&self, query: &Query) -> Result<Vec<u8>, AllocError>
+        requires settled { self.now.is_settled ≡ true }
+        requires text { HasText query.now (planned_state self.now) }
+        ensures { IfOk result (λ text. Answers query.now (planned_state self.now) (Ok text.items)) }
+    {
+        match query {
+            Query::ShowPlan => self.whole_plan(),
+            Query::ShowTree { tree } => self.tree(*tree),
+            Query::ShowVlan { vid } => self.vlan(*vid),
+            Query::ShowNotes => self.notes(),
+            Query::ShowLag => self.lags(),
+            Query::ShowRegions => self.regions(),
+            Query::ShowConfiguration { bridge } => self.configuration(bridge),
+            Query::Changes => self.changes(),
+        }
+    }
+
+    /// The text of the whole plan.
+    fn whole_plan(&self) -> Result<Vec<u8>, AllocError>
+        requires { self.now.is_settled ≡ true }
+        ensures { IfOk result (λ text. Answers ShowPlan (planned_state self.now) (Ok text.items)) }
+    {
+        let plan = self.plan();
+        let mut text = Vec::new(self.alloc());
+        push_plan(self.alloc(), &plan.view, &plan.forest, &mut text)?;
+        Ok(text)
+    }
+
+    /// The text of a tree.
+    fn tree(&self, tree: Tree) -> Result<Vec<u8>, AllocError>
+        requires { self.now.is_settled ≡ true }
+        ensures { IfOk result (λ text. Answers (ShowTree tree) (planned_state self.now) (Ok text.items)) }
+    {
+        let plan = self.plan();
+        let mut text = Vec::new(self.alloc());
+        push_tree(&plan.view, &plan.forest, tree, &mut text)?;
+        Ok(text)
+    }
+
+    /// The text of a VID.
+    fn vlan(&self, vid: Vid) -> Result<Vec<u8>, AllocError>
+        requires { self.now.is_settled ≡ true }
+        ensures { IfOk result (λ text. Answers (ShowVlan vid) (planned_state self.now) (Ok text.items)) }
+    {
+        let plan = self.plan();
+        let mut text = Vec::new(self.alloc());
+        push_vlan(self.alloc(), &plan.view, &plan.forest, vid, &mut text)?;
+        Ok(text)
+    }
+
+    /// The text of the notes.
+    fn notes(&self) -> Result<Vec<u8>, AllocError>
+        requires { self.now.is_settled ≡ true }
+        ensures { IfOk result (λ text. Answers ShowNotes (planned_state self.now) (Ok text.items)) }
+    {
+        let plan = self.plan();
+        let mut text = Vec::new(self.alloc());
+        push_notes(self.alloc(), &plan.view, &plan.forest, &mut text)?;
+        Ok(text)
+    }
+
+    /// The text of the classes of links.
+    fn lags(&self) -> Result<Vec<u8>, AllocError>
+        requires { self.now.is_settled ≡ true }
+        ensures { IfOk result (λ text. Answers ShowLag (planned_state self.now) (Ok text.items)) }
+    {
+        let mut text = Vec::new(self.alloc());
+        push_lags(self.alloc(), &self.plan().view, &mut text)?;
+        Ok(text)
+    }
+
+    /// The text of the regions.
+    fn regions(&self) -> Result<Vec<u8>, AllocError>
+        requires { self.now.is_settled ≡ true }
+        ensures { IfOk result (λ text. Answers ShowRegions (planned_state self.now) (Ok text.items)) }
+    {
+        let plan = self.plan();
+        let mut text = Vec::new(self.alloc());
+        push_regions(self.alloc(), &plan.view, &plan.classes, &mut text)?;
+        Ok(text)
+    }
+
+    /// The text of the MST configuration of a bridge that is there.
+    fn configuration(&self, bridge: &Name) -> Result<Vec<u8>, AllocError>
+        requires { HasText (ShowConfiguration bridge.now) (planned_state self.now) }
+        ensures { IfOk result (λ text. Answers (ShowConfiguration bridge.now) (planned_state self.now) (Ok text.items)) }
+    {
+        let mut text = Vec::new(self.alloc());
+        push_configuration(self.alloc(), self.network(), bridge, &mut text)?;
+        Ok(text)
+    }
+
+    /// The text of what has changed since the network was marked.
+    fn changes(&self) -> Result<Vec<u8>, AllocError>
+        requires settled { self.now.is_settled ≡ true }
+        requires text { HasText Changes (planned_state self.now) }
+        ensures { IfOk result (λ text. Answers Changes (planned_state self.now) (Ok text.items)) }
+    {
+        match self.marked() {
+            None => Ok(Vec::new(self.alloc())),
+            Some(mark) => self.changes_from(mark),
+        }
+    }
+
+    /// The text of what has changed since this mark.
+    fn changes_from(&self, mark: &Rows) -> Result<Vec<u8>, AllocError>
+        requires settled { self.now.is_settled ≡ true }
+        requires marked { self.now.mark ≡ Some mark.now.rows.items }
+        requires text { HasText Changes (planned_state self.now) }
+        ensures { IfOk result (λ text. Answers Changes (planned_state self.now) (Ok text.items)) }
+    {
+        let now = self.rows()?;
+        let mut text = Vec::new(self.alloc());
+        push_changes(mark, &now, &mut text)?;
+        Ok(text)
+    }
+}
