@@ -2,6 +2,7 @@ mod edits;
 mod faults;
 mod links;
 mod network;
+mod plans;
 mod regions;
 mod rows;
 
