@@ -55,7 +55,7 @@ Forwarding net o =
     (p : LogicalPort) → Contains (view_ports net) p → p.is_enabled ≡ true → (tree : ℕ) (role : Role) → role_in net o tree p ≡ Some role
     → forwards role ≡ true ↔ Forwards (trees_of net o) tree (tree_port p (cist_port (by_tree net) p))
 
-not_zero : (i : ℕ) → (suc i == 0) ≡ false
+pub not_zero : (i : ℕ) → (suc i == 0) ≡ false
 not_zero i = go (suc i == 0) refl
   where
     go : (b : Bool) → (suc i == 0) ≡ b → (suc i == 0) ≡ false

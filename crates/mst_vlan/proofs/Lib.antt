@@ -9,3 +9,4 @@ pub mod Renumbered
 pub mod Listed
 pub mod Reached
 pub mod IslandLaw
+pub mod Crossing

@@ -1,6 +1,6 @@
 //! Laws of the active topology of a VID, of its islands and of the parts of regions, at names. Their functions do
 //! nothing: a caller has their clauses.
-ghost use Rattle.std.specs.Prelude.{◌≡◌, ◌⊎◌, ℕ, List, Some};
+ghost use Rattle.std.specs.Prelude.{◌≡◌, ◌⊎◌, ◌↔◌, ℕ, true, List, Some};
 ghost use Rattle.std.specs.List.{Contains};
 ghost use Rattle.mst_ids.specs.declared.name.PortName.{PortName as PortKey};
 ghost use Rattle.mst_vector.specs.declared.cist.CistBridge.{CistBridge};
@@ -15,10 +15,18 @@ ghost use Rattle.mst_nested.specs.Parts.{SameRoots, HasRegionalRoot};
 ghost use Rattle.mst_nested.specs.Ports.{port_ends as plug_ends};
 ghost use Rattle.mst_nested.specs.Roles.{Forwards, ForwardsInside};
 ghost use Rattle.mst_nested.specs.Trees.{SamePart, HasTree};
-ghost use Rattle.mst_net.specs.Tables.{Net, IsNetwork};
+ghost use Rattle.mst_net.specs.Tables.{Net, Numbers, IsNetwork};
+ghost use Rattle.mst_net.specs.ByTree.{by_tree};
 ghost use Rattle.mst_lag.specs.View.{LogicalPort};
-ghost use Rattle.mst_trees.specs.Cist.{cist_of};
+ghost use Rattle.mst_lag.specs.Viewed.{Viewed};
+ghost use Rattle.mst_trees.specs.Agrees.{AreOf, Known};
+ghost use Rattle.mst_trees.specs.Cist.{cist_of, cist_port};
+ghost use Rattle.mst_trees.specs.Sight.{tree_port};
+ghost use Rattle.mst_trees.specs.Forest.{IsForest};
+ghost use Rattle.mst_trees.specs.declared.forest.Forest.{Forest as ForestOf};
 ghost use Rattle.mst_trees.specs.Outcome.{Outcome, IsOutcome, trees_of};
+ghost use Rattle.mst_roles.specs.Roles.{role_in, forwards};
+ghost use Rattle.mst_roles.specs.declared.kind.Role.{Role as RoleOf};
 ghost use Rattle.mst_vlan.specs.Active.{active_ports, port_ends, IsEnabled, JoinWithoutLoop};
 ghost use Rattle.mst_vlan.specs.Reach.{AreIslandsOf};
 
@@ -59,9 +67,9 @@ pub fn parts()
     laws::roots::<Name, Name, PortName>();
 }
 
-/// A port whose ends are in different parts forwards in every tree of its bridge or in none: it does exactly where
-/// it is the exit of its bridge's part. A part that holds the root of the CIST has no exit, each other part has one,
-/// to a part of lower external root path cost.
+/// The exits of parts. A port between parts that forwards in some tree is the exit of its bridge's part, and forwards
+/// in every tree of its bridge. A part that holds the root of the CIST has no exit, each other part has one, to a part
+/// of lower external root path cost.
 pub fn exits()
     ensures only { (net : Net) (o : Outcome) → IsNetwork net → IsOutcome net o → (p : Plug (List ℕ) (List ℕ) PortKey CistPort) (tree : ℕ) → IsCrossing (trees_of net o) p → Forwards (trees_of net o) tree p → IsExit (trees_of net o) p }
     ensures all { (net : Net) (o : Outcome) → IsNetwork net → IsOutcome net o → (p : Plug (List ℕ) (List ℕ) PortKey CistPort) (tree : ℕ) → IsExit (trees_of net o) p → HasTree (trees_of net o) tree p.bridge → Forwards (trees_of net o) tree p }
@@ -69,6 +77,17 @@ pub fn exits()
     ensures one { (net : Net) (o : Outcome) → IsNetwork net → IsOutcome net o → (n : List ℕ) (x : CistVector) → o.cist.vector n ≡ Some x → HoldsRoot (trees_of net o) n x ⊎ HasOneExit (trees_of net o) n x }
 {
     nested();
+    laws::exits::<Name, Name, PortName>();
+}
+
+/// A logical port whose ends are in different parts forwards in every tree of its bridge or in none, whatever its
+/// role in each: it does exactly where it is the exit of its bridge's part, the root port in the CIST of the part's
+/// regional root.
+pub fn crossing()
+    ensures { (net : Net) (o : Outcome) → IsNetwork net → IsOutcome net o → (p : LogicalPort) → IsEnabled net p → (SamePart (trees_of net o) (bridge_at p.name.bridge) (lan_at p.lan) → ⊥) → (tree : ℕ) (role : RoleOf) → role_in net o tree p ≡ Some role → forwards role ≡ true ↔ IsExit (trees_of net o) (tree_port p (cist_port (by_tree net) p)) }
+{
+    nested();
+    forwarding();
     laws::exits::<Name, Name, PortName>();
 }
 
@@ -81,3 +100,9 @@ pub fn inside()
     nested();
     laws::inside::<Name, Name, PortName>();
 }
+
+/// Where a view and classes are of one network, the view and the regions of a forest that is settled for them are:
+/// this is what `reach` asks.
+pub fn known_forest()
+    ensures { (v : Viewed) (classes : List (ℕ × ℕ)) (f : ForestOf) → Known v classes → ((net : Net) (numbers : Numbers) → AreOf net numbers v classes → IsForest net numbers f) → Known v f.regions }
+{}

@@ -1,0 +1,10 @@
+use Rattle.mst_trees.specs.Outcome.{trees_of}
+use Rattle.mst_vlan.proofs.Crossing.{exit_forwards}
+use Rattle.mst_vlan.proofs.Names.{tests}
+use Rattle.mst_vlan.proofs.laws.crossing.Goals as goal
+
+pub returns : goal.returns
+returns c net o ok is p enabled apart tree role e =
+    let settled = c.nested.ensures.settled net o ok is in
+    let free = c.nested.ensures.free net o ok is in
+    exit_forwards net o ok settled (c.forwarding.ensures net o ok is) (c.exits.ensures.only (trees_of net o) tests settled free) (c.exits.ensures.all (trees_of net o) tests settled free) p enabled apart tree role e
