@@ -1,0 +1,62 @@
+-- The body of a class of VIDs is that of each of its VIDs.
+use Rattle.std.proofs.Common.{◌≡◌, ℕ, ◌+◌, ◌<◌, nat_eq, Bool, true, List, [], length, get_or, sym, ap, subst, ◌∙◌, arith}
+use Rattle.std.specs.List.{AllByRecursion, Contains}
+use Rattle.std.proofs.lemmas.Bool.{eqb-true}
+use Rattle.std.proofs.lemmas.List.{get_or_default}
+use Rattle.mst_ids.specs.Vids.{has, is_vid}
+use Rattle.mst_graph.specs.Numbers.{AreNumbers}
+use Rattle.mst_net.specs.ByTree.{table_in, vlans_in}
+use Rattle.mst_net.specs.Table.{tree_in}
+use Rattle.mst_net.specs.Tables.{Net, Numbers}
+use Rattle.mst_lag.specs.Viewed.{Viewed}
+use Rattle.mst_trees.specs.Agrees.{AreOf}
+use Rattle.mst_trees.specs.Outcome.{Outcome}
+use Rattle.mst_trees.specs.declared.forest.Forest.{Forest}
+use Rattle.mst_trees.proofs.Entries.{all_weaker}
+use Rattle.mst_trees.proofs.Lists.{all_contained}
+use Rattle.mst_vlan_text.specs.VlanText.{IsBody}
+use Rattle.mst_plan_text.specs.Alike.{AreAlike, TellApart}
+use Rattle.mst_plan_text.specs.Bodies.{AreBodiesAt, NumberEach, body_at}
+use Rattle.mst_plan_text.proofs.Bodied.{zip_at}
+use Rattle.mst_plan_text.proofs.Grouped.{place_of_vid, at_vid}
+use Rattle.mst_plan_text.proofs.VidsAlike.{body_alike}
+
+-- each VID's number has a body, where each class has
+pub numbers_below : (told numbers firsts : List ℕ) (n : ℕ) → length told ≡ 4094 → AreNumbers nat_eq told numbers firsts → n ≡ length firsts → NumberEach numbers n
+numbers_below told numbers firsts n long are e = record {
+  as_long = are.as_long ∙ long;
+  below = λ i l. let below : get_or numbers i 0 < length firsts = are.below i (subst (λ k. i < k) (sym long) l) in omega arith;
+}
+
+pub each_below : (told numbers firsts : List ℕ) (n : ℕ) → AreNumbers nat_eq told numbers firsts → n ≡ length firsts → (ns : List ℕ) → ns ≡ numbers → (k d : ℕ) → k < length ns → get_or ns k d < n
+each_below told numbers firsts n are e ns is k d l =
+    let same : get_or ns k d ≡ get_or numbers k 0 = get_or_default ns k d 0 l ∙ ap (λ xs. get_or xs k 0) is in
+    let here : k < length numbers = subst (λ xs. k < length xs) is l in
+    let below : get_or numbers k 0 < length firsts = are.below k (subst (λ m. k < m) are.as_long here) in
+    omega arith
+
+module _ (net : Net) (numbers : Numbers) (v : Viewed) (f : Forest) (of : AreOf net numbers v f.regions) (o : Outcome) (tables : List (List ℕ)) (sets : List (List Bool))
+    (have_table : AllByRecursion (λ b. Contains tables (table_in v.settings.tables b.name)) v.bridges)
+    (have_set : AllByRecursion (λ p. Contains sets (vlans_in v.settings.vlans p.name)) v.ports)
+    (told classes firsts : List ℕ) (tell : TellApart tables sets told) (are : AreNumbers nat_eq told classes firsts) (bodies : List (List ℕ)) (at : AreBodiesAt net o firsts bodies) where
+  moved : (x y : ℕ) → AreAlike tables sets x y → (text : List ℕ) → IsBody net o x text → IsBody net o y text
+  moved x y a =
+      body_alike net numbers v f of o x y
+      (all_weaker _ _ (λ b there. all_contained (λ table. tree_in table x ≡ tree_in table y) tables (table_in v.settings.tables b.name) a.same_tree there) v.bridges have_table)
+      (all_weaker _ _ (λ p there. all_contained (λ set. has set x ≡ has set y) sets (vlans_in v.settings.vlans p.name) a.same_sets there) v.ports have_set)
+
+  body_there : (i : ℕ) → i < 4094 → IsBody net o (i + 1) (get_or bodies (get_or classes i 0) [])
+  body_there i l =
+      let n : ℕ = get_or classes i 0 in
+      let l_told : i < length told = subst (λ k. i < k) (sym tell.as_long) l in
+      let below : n < length firsts = are.below i l_told in
+      let first = are.first n below in
+      let k : ℕ = get_or firsts n 0 in
+      let k_below : k < 4094 = subst (λ m. k < m) tell.as_long first.0 in
+      let same : get_or told k 0 ≡ get_or told i 0 = eqb-true (get_or told k 0) (get_or told i 0) ((are.equal k i 0 first.0 l_told).0 first.1) in
+      moved (k + 1) (i + 1) (tell.alike k i k_below l same) (get_or bodies n []) (zip_at (λ place body. IsBody net o (place + 1) body) firsts bodies n 0 [] at below)
+
+  pub are_bodies : (vid : ℕ) → is_vid vid ≡ true → IsBody net o vid (body_at classes bodies vid)
+  are_bodies vid e =
+      let p = place_of_vid vid e in
+      subst (IsBody net o vid) (sym (at_vid classes bodies p.place vid p.is)) (subst (λ vid. IsBody net o vid (get_or bodies (get_or classes p.place 0) [])) p.is (body_there p.place p.below))

@@ -1,0 +1,10 @@
+pub mod Gathered
+pub mod Split
+pub mod Sets
+pub mod Texts
+pub mod SeenTrees
+pub mod Bodied
+pub mod VidsAlike
+pub mod Grouped
+pub mod Classes
+pub mod OnePlan

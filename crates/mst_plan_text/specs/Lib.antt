@@ -1,0 +1,4 @@
+pub mod PlanText
+pub mod Alike
+pub mod Bodies
+pub mod Seen

@@ -1,0 +1,12 @@
+//! The text of a whole plan: that of each tree, and what VLANs reach, with VIDs of equal bodies in one group.
+#![tactic(auto)]
+
+mod alike;
+mod bodies;
+mod distinct;
+mod groups;
+pub mod laws;
+mod plan;
+mod trees;
+
+pub use plan::push_plan;
