@@ -207,7 +207,7 @@ module _ (x y u v : Place → Option State) where
           let news : rows_at y a.rest ≡ rows_at v b.rest = sym a.news ∙ ap (rows_past n) f ∙ b.news in
           let less = shorter n (rows_at x ns) (rows_at y ns) first in
           let left : length (rows_at x a.rest) + length (rows_at y a.rest) < length (rows_at x ns) + length (rows_at y ns) =
-              subst (λ (p : List Row × List Row). length p.0 + length p.1 < length (rows_at x ns) + length (rows_at y ns)) (λ i. (a.olds i, a.news i)) less in
+          subst (λ (p : List Row × List Row). length p.0 + length p.1 < length (rows_at x ns) + length (rows_at y ns)) (λ i. (a.olds i, a.news i)) less in
           let rest : texts x y a.rest ≡ texts u v b.rest = same a.rest b.rest a.rises b.rises olds news (omega (arith, left, few)) in
           sym a.text ∙ (λ i. change_text n (state_first n (e i)) (state_first n (f i)) ++ rest i) ∙ b.text
 
