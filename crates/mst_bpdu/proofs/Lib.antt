@@ -1,0 +1,3 @@
+mod Found
+pub mod Sending
+pub mod Planning
