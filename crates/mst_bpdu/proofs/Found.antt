@@ -1,0 +1,24 @@
+-- What is found in a list.
+use Rattle.std.proofs.Common.{◌≡◌, Bool, true, false, cond, List, [], ◌∷◌, map, Option, Some, None, refl, sym, ap, subst, ◌∙◌}
+use Rattle.std.specs.List.{find}
+use Rattle.std.specs.Option.{option_map}
+use Rattle.mst_trees.proofs.Lists.{some_is, no_some}
+
+-- the first of a changed list
+pub find_changed : {A B : Type 0} (test : B → Bool) (f : A → B) (xs : List A) → find test (map f xs) ≡ option_map f (find (λ x. test (f x)) xs)
+find_changed test f [] = refl
+find_changed {A} {B} test f (x ∷ xs) = go (test (f x)) (find_changed test f xs)
+  where
+    go : (b : Bool) → find test (map f xs) ≡ option_map f (find (λ x. test (f x)) xs)
+        → cond b (Some (f x)) (find test (map f xs)) ≡ option_map f (cond b (Some x) (find (λ x. test (f x)) xs))
+    go true e = refl
+    go false e = e
+
+-- what is found passes the test
+pub found_passes : {A : Type 0} (test : A → Bool) (xs : List A) (x : A) → find test xs ≡ Some x → test x ≡ true
+found_passes test [] x e = absurd (no_some x e)
+found_passes {A} test (y ∷ ys) x e = go (test y) refl e (found_passes test ys x)
+  where
+    go : (b : Bool) → test y ≡ b → cond b (Some y) (find test ys) ≡ Some x → (find test ys ≡ Some x → test x ≡ true) → test x ≡ true
+    go true t f rest = ap test (sym (some_is y x f)) ∙ t
+    go false t f rest = rest f
