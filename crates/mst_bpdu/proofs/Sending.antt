@@ -100,3 +100,33 @@ module _ (v : Viewed) (bpdu : Bpdu) where
       by_bridge : (o : Option BridgeInView) → find (has_mac_seen bpdu) v.bridges ≡ o → option_and_then (seen_sender_at v bpdu) o ≡ Some s → IsSender v s
       by_bridge None f h = absurd (no_some s h)
       by_bridge (Some b) f h = by_kind b (found_in (has_mac_seen bpdu) v.bridges b f) (sends bpdu (bridge_row b.bridge).is_rstp) h
+
+-- ---- a sender by name
+-- an enabled logical port of the network
+pub record IsEnabledPort (net : Net) (port : PortName) : Type 0 where
+  pub logical : LogicalPort
+  pub there : Contains (view_ports net) logical
+  pub enabled : logical.is_enabled ≡ true
+  pub is_name : logical.name ≡ port
+
+pub is_enabled_port : (net : Net) (bpdu : Bpdu) (port : PortName) → sender_of net bpdu ≡ Some port → IsEnabledPort net port
+is_enabled_port net bpdu port e = by_bridge (find (has_mac bpdu) (fin.entries net.bridges)) e
+  where
+    by_port : (bridge : List ℕ) (o : Option LogicalPort) → find (is_port bridge (number_of bpdu)) (view_ports net) ≡ o → option_map (λ (p : LogicalPort). p.name) o ≡ Some port → IsEnabledPort net port
+    by_port bridge None f h = absurd (no_some port h)
+    by_port bridge (Some p) f h =
+        let passes = and_parts (p.is_enabled && p.name.number == number_of bpdu) (same_name p.name.bridge bridge) (found_passes (is_port bridge (number_of bpdu)) (view_ports net) p f) in
+        record {
+          logical = p;
+          there = found_in (is_port bridge (number_of bpdu)) (view_ports net) p f;
+          enabled = (and_parts p.is_enabled (p.name.number == number_of bpdu) passes.0).0;
+          is_name = some_is p.name port h;
+        }
+
+    by_kind : (bridge : List ℕ) (t : Bool) → (if t then option_map (λ (p : LogicalPort). p.name) (find (is_port bridge (number_of bpdu)) (view_ports net)) else None) ≡ Some port → IsEnabledPort net port
+    by_kind bridge true h = by_port bridge (find (is_port bridge (number_of bpdu)) (view_ports net)) refl h
+    by_kind bridge false h = absurd (no_some port h)
+
+    by_bridge : (o : Option (List ℕ × BridgeRow)) → option_and_then (sender_at net bpdu) o ≡ Some port → IsEnabledPort net port
+    by_bridge None h = absurd (no_some port h)
+    by_bridge (Some b) h = by_kind b.0 (sends bpdu b.1.is_rstp) h

@@ -1,5 +1,6 @@
 //! What the plan has for the BPDUs of a port.
-ghost use Rattle.std.specs.Prelude.{◌≡◌, ◌≤◌, length, filter_map, IfOk, IsSome, Some};
+ghost use Rattle.std.specs.Prelude.{◌≡◌, ◌≤◌, ◌++◌, [], length, filter_map, IfOk, OnOk, IsSome, Some};
+ghost use Rattle.std.specs.List.{cons_option};
 ghost use Rattle.mst_net.specs.ByTree.{table_in};
 ghost use Rattle.mst_net.specs.Seen.{bridge_row};
 ghost use Rattle.mst_trees.specs.Seen.{trees_at};
@@ -106,11 +107,25 @@ fn in_mstis(
 {
     let mut mstis = PlannedMstis::new(alloc);
     for tree in view.trees(port.bridge) {
-        if let Some(msti) = in_msti(view, forest, port, *tree) {
-            mstis.push(msti)?;
-        }
+        push_msti(view, forest, port, *tree, &mut mstis)?;
     }
     Ok(mstis)
+}
+
+/// Adds what the plan has for a port in an MSTI.
+fn push_msti(
+    view: &View,
+    forest: &Forest,
+    port: &PortInView,
+    tree: Tree,
+    mstis: &mut PlannedMstis,
+) -> Result<(), AllocError>
+    ensures { OnOk result (mstis.new ≡ mstis.old ++ cons_option (seen_msti view.now forest.now port.now tree) []) }
+{
+    match in_msti(view, forest, port, tree) {
+        None => Ok(()),
+        Some(msti) => mstis.push(msti),
+    }
 }
 
 /// What the plan has for a port in an MSTI: nothing where its bridge has no root priority vector there.
