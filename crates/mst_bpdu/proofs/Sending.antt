@@ -67,6 +67,12 @@ module _ (net : Net) (numbers : Numbers) (v : Viewed) (view : IsView net numbers
       go None = refl
       go (Some b) = named_at b
 
+  pub sent_by : (s : Sender) → seen_sender v bpdu ≡ Some s → sender_of net bpdu ≡ Some s.port.name
+  sent_by s e = sender_named ∙ ap (option_map name_of) e
+
+  pub sent_by_none : seen_sender v bpdu ≡ None → sender_of net bpdu ≡ None
+  sent_by_none e = sender_named ∙ ap (option_map name_of) e
+
 -- ---- what a sender is
 -- a bridge of the view, and an enabled logical port of it
 pub record IsSender (v : Viewed) (s : Sender) : Type 0 where

@@ -33,12 +33,12 @@ pub fn compare(
     planner.network().known();
     let view = planner.view();
     let forest = planner.forest();
-    let Some(sender) = sender_in(view, bpdu) else {
-        return Err(BpduFault::B07);
-    };
-    match from_plan(alloc, view, forest, &sender, bpdu) {
-        Ok(found) => Ok(found),
-        Err(_) => Err(BpduFault::B99),
+    match sender_in(view, bpdu) {
+        None => Err(BpduFault::B07),
+        Some(sender) => match from_plan(alloc, view, forest, &sender, bpdu) {
+            Ok(found) => Ok(found),
+            Err(_) => Err(BpduFault::B99),
+        },
     }
 }
 

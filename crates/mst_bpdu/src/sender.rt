@@ -1,6 +1,6 @@
 ghost use Rattle.std.specs.Prelude.{◌≡◌, ◌==◌, true};
 ghost use Rattle.std.specs.List.{find};
-ghost use Rattle.std.specs.Option.{option_copied};
+ghost use Rattle.std.specs.Option.{option_copied, option_map};
 ghost use Rattle.mst_ids.specs.Identifiers.{port_number_of};
 ghost use Rattle.mst_net.specs.After.{is_rstp};
 ghost use Rattle.mst_lag.specs.Viewed.{named_port};
@@ -30,8 +30,14 @@ pub fn sender(planner: &Planner, bpdu: &Bpdu) -> Option<PortName>
     requires { planner.now.is_settled ≡ true }
     ensures { result ≡ sender_of planner.now.contents.net bpdu.now }
 {
-    let sender = sender_in(planner.view(), bpdu)?;
-    Some(sender.port.name)
+    sender_name(planner.view(), bpdu)
+}
+
+/// The name of the port that sent a BPDU, by a view.
+fn sender_name(view: &View, bpdu: &Bpdu) -> Option<PortName>
+    ensures { result ≡ option_map (λ sender. sender.port.name) (seen_sender view.now bpdu.now) }
+{
+    sender_in(view, bpdu).map(|sender| sender.port.name)
 }
 
 /// The sender of a BPDU in a view.
