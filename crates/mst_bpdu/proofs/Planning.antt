@@ -1,5 +1,5 @@
 -- What a plan has for a sender, under the numbers of records, is what it has by name.
-use Rattle.std.proofs.Common.{◌≡◌, ℕ, ◌==◌, Bool, true, nat_eq, List, [], Option, Some, None, unwrap_or, refl, sym, ap, subst, ◌∙◌, eq-eqb}
+use Rattle.std.proofs.Common.{◌≡◌, ℕ, ◌==◌, Bool, true, nat_eq, List, [], Option, Some, None, is_some, IsSome, unwrap_or, refl, sym, ap, subst, ◌∙◌, eq-eqb}
 use Rattle.std.specs.Prelude.{if◌then◌else◌}
 use Rattle.std.specs.List.{Contains, find, filter_map}
 use Rattle.std.specs.Option.{option_map, option_and_then}
@@ -38,6 +38,7 @@ use Rattle.mst_wire.specs.declared.bpdu.Bpdu.{Bpdu}
 use Rattle.mst_wire.specs.declared.difference.Difference.{Difference}
 use Rattle.mst_wire.specs.declared.planned.Planned.{Planned}
 use Rattle.mst_wire.specs.declared.planned.PlannedCist.{PlannedCist}
+use Rattle.mst_bpdu.specs.Sender.{sender_of}
 use Rattle.mst_bpdu.specs.Plan.{planned_cist, planned_msti, with_both, cist_of, msti_of, plan_with, plan_at, planned_of}
 use Rattle.mst_bpdu.specs.Comparison.{AreDifferences}
 use Rattle.mst_bpdu.specs.Seen.{role_at, seen_cist, seen_msti, seen_planned}
@@ -163,3 +164,18 @@ module _ (net : Net) (numbers : Numbers) (v : Viewed) (f : Forest) (of : AreOf n
     has_cist_seen =
         let h = has_cist net o is.is_outcome (named_port s.port) (port_of_net net numbers v of.view s.port sent.port_there) sent.enabled in
         (h.cist, cist_same ∙ ap (cist_of net o port) (some_is row h.row (sym has_row ∙ h.is_row)) ∙ h.is_cist)
+
+    pub has_seen : IsSome (seen_cist v f row s.port)
+    has_seen = ap is_some has_cist_seen.1
+
+    -- what differs from its plan differs from the plan of the network
+    pub are_differences : (bpdu : Bpdu) (found : List Difference) (plan : Planned) → sender_of net bpdu ≡ Some port → seen_planned v f s ≡ Some plan → found ≡ differences_of plan bpdu → AreDifferences net bpdu found
+    are_differences bpdu found plan sender is_plan are = record {
+      port = port;
+      is_sender = sender;
+      outcome = o;
+      is_outcome = is.is_outcome;
+      plan = plan;
+      is_plan = sym plan_same ∙ is_plan;
+      are = are;
+    }
