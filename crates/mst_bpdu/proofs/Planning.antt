@@ -83,7 +83,7 @@ pub one_list_of : (net : Net) (bpdu : Bpdu) (found others : List Difference) (x 
 one_list_of net bpdu found others x y same =
     let port : x.port ≡ y.port = some_is x.port y.port (sym x.is_sender ∙ y.is_sender) in
     let plan : x.plan ≡ y.plan = some_is x.plan y.plan (sym x.is_plan ∙ (λ i. planned_of net (same i) (port i)) ∙ y.is_plan) in
-    x.are ∙ ap (λ p. differences_of p bpdu) plan ∙ sym y.are
+    x.are ∙ ap (λ (p : Planned). differences_of p bpdu) plan ∙ sym y.are
 
 -- ---- under the numbers of records
 -- what a planner shows is of one network
