@@ -1,7 +1,9 @@
 -- What is found in a list.
-use Rattle.std.proofs.Common.{◌≡◌, Bool, true, false, cond, List, [], ◌∷◌, map, Option, Some, None, refl, sym, ap, subst, ◌∙◌}
-use Rattle.std.specs.List.{find}
+use Rattle.std.proofs.Common.{◌≡◌, ℕ, ◌+◌, ◌<◌, Bool, true, false, cond, List, [], ◌∷◌, ◌++◌, map, length, take, get_or, Option, Some, None, refl, sym, ap, ◌∙◌}
+use Rattle.std.specs.List.{find, filter_map, cons_option}
 use Rattle.std.specs.Option.{option_map}
+use Rattle.std.proofs.lemmas.List.{take_more}
+use Rattle.std.proofs.lemmas.List.Elements.{filter_map-append}
 use Rattle.mst_trees.proofs.Lists.{some_is, no_some}
 
 -- the first of a changed list
@@ -22,3 +24,10 @@ found_passes {A} test (y ∷ ys) x e = go (test y) refl e (found_passes test ys 
     go : (b : Bool) → test y ≡ b → cond b (Some y) (find test ys) ≡ Some x → (find test ys ≡ Some x → test x ≡ true) → test x ≡ true
     go true t f rest = ap test (sym (some_is y x f)) ∙ t
     go false t f rest = rest f
+
+-- what is kept of one more element
+pub kept_more : {A B : Type 0} (h : A → Option B) (xs : List A) (i : ℕ) (x : A) → i < length xs → x ≡ get_or xs i x → (now new : List B) → now ≡ filter_map h (take i xs) → new ≡ now ++ cons_option (h x) []
+    → new ≡ filter_map h (take (i + 1) xs)
+kept_more h xs i x below here now new before after =
+    after ∙ ap (λ l. l ++ cons_option (h x) []) before
+    ∙ sym (ap (filter_map h) (take_more xs i x below ∙ ap (λ y. take i xs ++ y ∷ []) (sym here)) ∙ filter_map-append h (take i xs) (x ∷ []))

@@ -1,3 +1,3 @@
-mod Found
+pub mod Found
 pub mod Sending
 pub mod Planning
