@@ -42,7 +42,7 @@ use Rattle.mst_bpdu.specs.Sender.{sender_of}
 use Rattle.mst_bpdu.specs.Plan.{planned_cist, planned_msti, with_both, cist_of, msti_of, plan_with, plan_at, planned_of}
 use Rattle.mst_bpdu.specs.Comparison.{AreDifferences}
 use Rattle.mst_bpdu.specs.Seen.{role_at, seen_cist, seen_msti, seen_planned}
-use Rattle.mst_bpdu.specs.declared.sender.Sender.{Sender}
+use Rattle.mst_bpdu.specs.declared.senders.Origin.{Origin}
 use Rattle.mst_bpdu.proofs.Sending.{IsSender}
 
 -- ---- by name
@@ -120,7 +120,7 @@ module _ (net : Net) (numbers : Numbers) (v : Viewed) (f : Forest) (of : AreOf n
       rows : bridge_row first.it.bridge ≡ bridge_row b.bridge
       rows = some_is (bridge_row first.it.bridge) (bridge_row b.bridge) (sym other.has_row ∙ ap (fin.get net.bridges) names ∙ own.has_row)
 
-  module _ (is : IsForest net numbers f) (s : Sender) (sent : IsSender v s) where
+  module _ (is : IsForest net numbers f) (s : Origin) (sent : IsSender v s) where
     abbrev o : Outcome
     o = is.outcome
 

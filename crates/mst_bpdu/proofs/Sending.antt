@@ -21,7 +21,7 @@ use Rattle.mst_wire.specs.Sender.{bridge_of, port_of}
 use Rattle.mst_wire.specs.declared.bpdu.Bpdu.{Bpdu}
 use Rattle.mst_bpdu.specs.Sender.{sends, has_mac, is_port, sender_at, sender_of}
 use Rattle.mst_bpdu.specs.Seen.{sender_with, seen_sender_at, seen_sender}
-use Rattle.mst_bpdu.specs.declared.sender.Sender.{Sender}
+use Rattle.mst_bpdu.specs.declared.senders.Origin.{Origin}
 use Rattle.mst_bpdu.proofs.Found.{find_changed, found_passes}
 
 -- the tests of bridges and ports of a view
@@ -35,7 +35,7 @@ abbrev is_port_seen : Bpdu → BridgeInView → PortInView → Bool
 is_port_seen bpdu b p = is_port b.name (number_of bpdu) (named_port p)
 
 -- ---- under names
-abbrev pub name_of : Sender → PortName
+abbrev pub name_of : Origin → PortName
 name_of s = s.port.name
 
 module _ (net : Net) (numbers : Numbers) (v : Viewed) (view : IsView net numbers v) (bpdu : Bpdu) where
@@ -67,15 +67,25 @@ module _ (net : Net) (numbers : Numbers) (v : Viewed) (view : IsView net numbers
       go None = refl
       go (Some b) = named_at b
 
-  pub sent_by : (s : Sender) → seen_sender v bpdu ≡ Some s → sender_of net bpdu ≡ Some s.port.name
+  pub sent_by : (s : Origin) → seen_sender v bpdu ≡ Some s → sender_of net bpdu ≡ Some s.port.name
   sent_by s e = sender_named ∙ ap (option_map name_of) e
 
   pub sent_by_none : seen_sender v bpdu ≡ None → sender_of net bpdu ≡ None
   sent_by_none e = sender_named ∙ ap (option_map name_of) e
 
+-- the sender by its bridge and its port
+pub seen_here : (v : Viewed) (bpdu : Bpdu) (b : BridgeInView) (p : PortInView) (mac number : ℕ) (t : Bool) → mac ≡ mac_of (bridge_of bpdu) → number ≡ number_of bpdu
+    → Some b ≡ find (λ (x : BridgeInView). x.bridge.mac == mac) v.bridges → t ≡ true → t ≡ sends bpdu (bridge_row b.bridge).is_rstp
+    → Some p ≡ find (λ (x : PortInView). is_port b.name number (named_port x)) v.ports → Some (sender_with b p) ≡ seen_sender v bpdu
+seen_here v bpdu b p mac number t macs numbers bridge passes sent port =
+    ap (option_map (sender_with b)) port
+    ∙ ap (λ (n : ℕ). option_map (sender_with b) (find (λ (x : PortInView). is_port b.name n (named_port x)) v.ports)) numbers
+    ∙ sym (ap (λ (u : Bool). if u then option_map (sender_with b) (find (is_port_seen bpdu b) v.ports) else None) (sym sent ∙ passes))
+    ∙ ap (option_and_then (seen_sender_at v bpdu)) (bridge ∙ ap (λ (m : ℕ). find (λ (x : BridgeInView). x.bridge.mac == m) v.bridges) macs)
+
 -- ---- what a sender is
 -- a bridge of the view, and an enabled logical port of it
-pub record IsSender (v : Viewed) (s : Sender) : Type 0 where
+pub record IsSender (v : Viewed) (s : Origin) : Type 0 where
   pub bridge_there : Contains v.bridges s.bridge
   pub port_there : Contains v.ports s.port
   pub enabled : s.port.is_enabled ≡ true
@@ -92,7 +102,7 @@ module _ (v : Viewed) (bpdu : Bpdu) where
         owned = (bytes_decides p.name.bridge b.name).0 passes.1;
       }
 
-  pub is_sender : (s : Sender) → seen_sender v bpdu ≡ Some s → IsSender v s
+  pub is_sender : (s : Origin) → seen_sender v bpdu ≡ Some s → IsSender v s
   is_sender s e = by_bridge (find (has_mac_seen bpdu) v.bridges) refl e
     where
       by_port : (b : BridgeInView) → Contains v.bridges b → (o : Option PortInView) → find (is_port_seen bpdu b) v.ports ≡ o → option_map (sender_with b) o ≡ Some s → IsSender v s

@@ -22,17 +22,17 @@ use Rattle.mst_wire.specs.declared.planned.PlannedCist.{PlannedCist}
 use Rattle.mst_wire.specs.declared.planned.PlannedMsti.{PlannedMsti}
 use Rattle.mst_bpdu.specs.Sender.{sends, is_port}
 use Rattle.mst_bpdu.specs.Plan.{planned_cist, planned_msti, with_both, plan_with}
-use Rattle.mst_bpdu.specs.declared.sender.Sender.{Sender}
+use Rattle.mst_bpdu.specs.declared.senders.Origin.{Origin}
 
 -- ---- the sender
-abbrev pub sender_with : BridgeInView → PortInView → Sender
+abbrev pub sender_with : BridgeInView → PortInView → Origin
 sender_with b p = record { bridge = b; port = p }
 
-abbrev pub seen_sender_at : Viewed → Bpdu → BridgeInView → Option Sender
+abbrev pub seen_sender_at : Viewed → Bpdu → BridgeInView → Option Origin
 seen_sender_at v bpdu b =
     if sends bpdu (bridge_row b.bridge).is_rstp then option_map (sender_with b) (find (λ p. is_port b.name (port_number_of (port_of bpdu)) (named_port p)) v.ports) else None
 
-abbrev pub seen_sender : Viewed → Bpdu → Option Sender
+abbrev pub seen_sender : Viewed → Bpdu → Option Origin
 seen_sender v bpdu = option_and_then (seen_sender_at v bpdu) (find (λ b. b.bridge.mac == mac_of (bridge_of bpdu)) v.bridges)
 
 -- ---- the plan
@@ -46,7 +46,7 @@ seen_cist v f row p = with_both (planned_cist v.settings p.name row) (vector_of 
 abbrev pub seen_msti : Viewed → Forest → PortInView → ℕ → Option PlannedMsti
 seen_msti v f p tree = with_both (planned_msti v.settings p.name tree) (msti_vector f tree p.bridge) (role_at v f tree p)
 
-abbrev pub seen_planned : Viewed → Forest → Sender → Option Planned
+abbrev pub seen_planned : Viewed → Forest → Origin → Option Planned
 seen_planned v f s =
     let row = bridge_row s.bridge.bridge in
     option_map (plan_with row (table_in v.settings.tables s.port.name.bridge) (filter_map (seen_msti v f s.port) (trees_at v s.port.bridge))) (seen_cist v f row s.port)

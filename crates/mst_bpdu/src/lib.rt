@@ -5,13 +5,13 @@
 //! differences, and [`push_comparison`] and [`push_fault`] append the lines that tell of them.
 #![tactic(auto)]
 
-mod compare;
+mod differing;
 pub mod laws;
 mod planned;
-mod sender;
+mod senders;
 
-pub use compare::compare;
+pub use differing::compare;
 pub use mst_wire::{
     Bpdu, BpduFault, Difference, Field, Value, push_comparison, push_fault, read_line,
 };
-pub use sender::sender;
+pub use senders::sender;

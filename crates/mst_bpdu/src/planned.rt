@@ -1,13 +1,13 @@
 //! What the plan has for the BPDUs of a port.
-ghost use Rattle.std.specs.Prelude.{◌≡◌, ◌≤◌, ◌++◌, [], length, filter_map, IfOk, OnOk, IsSome, Some};
+ghost use Rattle.std.specs.Prelude.{◌≡◌, ◌-◌, ◌≤◌, ◌++◌, [], length, replicate, filter_map, IfOk, OnOk, IsSome, Some};
 ghost use Rattle.std.specs.List.{cons_option};
 ghost use Rattle.mst_net.specs.ByTree.{table_in};
 ghost use Rattle.mst_net.specs.Seen.{bridge_row};
 ghost use Rattle.mst_trees.specs.Seen.{trees_at};
-ghost use Rattle.mst_bpdu.specs.Plan.{code_of, padded as padded_octets, configuration_of, planned_cist, planned_msti};
+ghost use Rattle.mst_bpdu.specs.Plan.{code_of, configuration_of, planned_cist, planned_msti};
 ghost use Rattle.mst_bpdu.specs.Seen.{seen_cist, seen_msti, seen_planned};
 
-use crate::sender::Sender;
+use crate::senders::Origin;
 use mst_config::digest;
 use mst_ids::{BridgeId, PortId, PortName, Tree};
 use mst_lag::{PortInView, View};
@@ -24,7 +24,7 @@ pub(crate) fn planned(
     alloc: Global,
     view: &View,
     forest: &Forest,
-    sender: &Sender,
+    sender: &Origin,
 ) -> Result<Planned, AllocError>
     requires { IsSome (seen_cist view.now forest.now (bridge_row sender.now.bridge.bridge) sender.now.port) }
     ensures { IfOk result (λ plan. seen_planned view.now forest.now sender.now ≡ Some plan) }
@@ -165,25 +165,25 @@ fn msti_with(
 }
 
 /// The MST Configuration Identifier of a sender's bridge (802.1Q-2022, 13.8).
-fn configuration(settings: &TreeSettings, sender: &Sender) -> ConfigurationId
+fn configuration(settings: &TreeSettings, sender: &Origin) -> ConfigurationId
     ensures { result ≡ configuration_of (bridge_row sender.now.bridge.bridge) (table_in settings.now.set.tables sender.now.port.name.bridge) }
 {
     let bridge = &sender.bridge.bridge;
     let table = settings.table(&sender.port.name.bridge);
     ConfigurationId {
         selector: 0,
-        name: padded(bridge.conf_name.as_bytes()),
+        name: padded::<32>(bridge.conf_name.as_bytes()),
         revision: bridge.revision,
         digest: digest(&table),
     }
 }
 
-/// The octets of a name, and zeros after them.
-fn padded(octets: &[u8]) -> [u8; 32]
-    requires { length octets.now ≤ 32 }
-    ensures { result ≡ padded_octets octets.now }
+/// The octets, and zeros after them.
+fn padded<const N: usize>(octets: &[u8]) -> [u8; N]
+    requires { length octets.now ≤ N }
+    ensures { result ≡ octets.now ++ replicate (N - length octets.now) 0 }
 {
-    let mut block = [0; 32];
+    let mut block = [0; N];
     block[..octets.len()].copy_from_slice(octets);
     block
 }

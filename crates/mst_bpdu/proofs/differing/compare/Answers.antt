@@ -2,12 +2,12 @@ use Rattle.std.proofs.Common.{sym, ap, ◌∙◌}
 use Rattle.mst_bpdu.specs.Comparison.{fault_of}
 use Rattle.mst_bpdu.proofs.Sending.{sent_by, sent_by_none, is_sender}
 use Rattle.mst_bpdu.proofs.Planning.{of_contents, has_seen, are_differences}
-use Rattle.mst_bpdu.proofs.compare.compare.Goals as goal
+use Rattle.mst_bpdu.proofs.differing.compare.Goals as goal
 
 pub returns-in-None : goal.returns-in-None
 returns-in-None c =
     let now = c.args.planner.now.contents in
-    sym (ap fault_of (sent_by_none now.net now.numbers c.view-view.result.now c.view-view.ensures c.args.bpdu.now (sym c.sender_in.ensures ∙ c.in-None.is)))
+    record { found = tt; fault = sym (ap fault_of (sent_by_none now.net now.numbers c.view-view.result.now c.view-view.ensures c.args.bpdu.now (sym c.sender_in.ensures ∙ c.in-None.is))) }
 
 pub from_plan-requires : goal.from_plan-requires
 from_plan-requires c =
@@ -18,8 +18,8 @@ from_plan-requires c =
     let s = c.in-Some.sender in
     has_seen now.net now.numbers v f of c.forest-forest.ensures s (is_sender v c.args.bpdu.now s (sym c.sender_in.ensures ∙ c.in-Some.is))
 
-pub returns-in-Some-in-Ok : goal.returns-in-Some-in-Ok
-returns-in-Some-in-Ok c =
+pub returns-in-Ok : goal.returns-in-Ok
+returns-in-Ok c =
     let now = c.args.planner.now.contents in
     let bpdu = c.args.bpdu.now in
     let v = c.view-view.result.now in
@@ -28,9 +28,12 @@ returns-in-Some-in-Ok c =
     let s = c.in-Some.sender in
     let seen = sym c.sender_in.ensures ∙ c.in-Some.is in
     let h = c.in-Ok.ensures in
-    are_differences now.net now.numbers v f of c.forest-forest.ensures s (is_sender v bpdu s seen) bpdu c.in-Ok.found.items h.0 (sent_by now.net now.numbers v c.view-view.ensures bpdu s seen) h.1 h.2
+    record {
+      found = are_differences now.net now.numbers v f of c.forest-forest.ensures s (is_sender v bpdu s seen) bpdu c.in-Ok.found.items h.0 (sent_by now.net now.numbers v c.view-view.ensures bpdu s seen) h.1 h.2;
+      fault = tt;
+    }
 
-pub returns-in-Some-in-Err : goal.returns-in-Some-in-Err
-returns-in-Some-in-Err c =
+pub returns-in-Err : goal.returns-in-Err
+returns-in-Err c =
     let now = c.args.planner.now.contents in
-    sym (ap fault_of (sent_by now.net now.numbers c.view-view.result.now c.view-view.ensures c.args.bpdu.now c.in-Some.sender (sym c.sender_in.ensures ∙ c.in-Some.is)))
+    record { found = tt; fault = sym (ap fault_of (sent_by now.net now.numbers c.view-view.result.now c.view-view.ensures c.args.bpdu.now c.in-Some.sender (sym c.sender_in.ensures ∙ c.in-Some.is))) }

@@ -7,7 +7,7 @@ ghost use Rattle.mst_bpdu.specs.Comparison.{AreDifferences, fault_of};
 ghost use Rattle.mst_bpdu.specs.Seen.{seen_cist, seen_planned};
 
 use crate::planned::planned;
-use crate::sender::{Sender, sender_in};
+use crate::senders::{Origin, sender_in};
 use mst_lag::View;
 use mst_net::Contents;
 use mst_report::Planner;
@@ -47,7 +47,7 @@ fn from_plan(
     alloc: Global,
     view: &View,
     forest: &Forest,
-    sender: &Sender,
+    sender: &Origin,
     bpdu: &Bpdu,
 ) -> Result<Vec<Difference>, AllocError>
     requires { IsSome (seen_cist view.now forest.now (bridge_row sender.now.bridge.bridge) sender.now.port) }

@@ -16,7 +16,7 @@ use mst_wire::Bpdu;
 
 /// Who sent a BPDU: a bridge of the view, and a logical port of that bridge.
 #[derive(Clone, Copy)]
-pub(crate) struct Sender {
+pub(crate) struct Origin {
     pub(crate) bridge: BridgeInView,
     pub(crate) port: PortInView,
 }
@@ -37,11 +37,12 @@ pub fn sender(planner: &Planner, bpdu: &Bpdu) -> Option<PortName>
 fn sender_name(view: &View, bpdu: &Bpdu) -> Option<PortName>
     ensures { result ≡ option_map (λ sender. sender.port.name) (seen_sender view.now bpdu.now) }
 {
-    sender_in(view, bpdu).map(|sender| sender.port.name)
+    let sender = sender_in(view, bpdu)?;
+    Some(sender.port.name)
 }
 
 /// The sender of a BPDU in a view.
-pub(crate) fn sender_in(view: &View, bpdu: &Bpdu) -> Option<Sender>
+pub(crate) fn sender_in(view: &View, bpdu: &Bpdu) -> Option<Origin>
     ensures { result ≡ seen_sender view.now bpdu.now }
 {
     let bridge = bridge_with(view, bpdu.bridge().mac())?;
@@ -49,7 +50,7 @@ pub(crate) fn sender_in(view: &View, bpdu: &Bpdu) -> Option<Sender>
         return None;
     }
     let port = enabled_port(view, &bridge.name, port_number(bpdu))?;
-    Some(Sender {
+    Some(Origin {
         bridge: *bridge,
         port: *port,
     })

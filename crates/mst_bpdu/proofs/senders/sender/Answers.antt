@@ -1,6 +1,6 @@
 use Rattle.std.proofs.Common.{sym, ◌∙◌}
 use Rattle.mst_bpdu.proofs.Sending.{sender_named}
-use Rattle.mst_bpdu.proofs.sender.sender.Goals as goal
+use Rattle.mst_bpdu.proofs.senders.sender.Goals as goal
 
 pub returns : goal.returns
 returns c =
