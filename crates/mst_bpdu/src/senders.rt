@@ -37,8 +37,17 @@ pub fn sender(planner: &Planner, bpdu: &Bpdu) -> Option<PortName>
 fn sender_name(view: &View, bpdu: &Bpdu) -> Option<PortName>
     ensures { result ≡ option_map (λ sender. sender.port.name) (seen_sender view.now bpdu.now) }
 {
-    let sender = sender_in(view, bpdu)?;
-    Some(sender.port.name)
+    match sender_in(view, bpdu) {
+        None => None,
+        Some(sender) => Some(port_name(&sender)),
+    }
+}
+
+/// The name of a sender's port.
+fn port_name(sender: &Origin) -> PortName
+    ensures { result ≡ sender.now.port.name }
+{
+    sender.port.name
 }
 
 /// The sender of a BPDU in a view.
