@@ -60,8 +60,8 @@ has_cist net o is p there enabled =
     let on : IsOn net p.name.bridge = row_on net p.name.bridge (own.bridge_on enabled) in
     let bridge : CistBridge = cist_bridge (by_tree net) (region_of net p.name.bridge) p.name.bridge on.row in
     let has_bridge =
-        kept_in (bridge_in_sight (cist_sight net)) (fin.entries net.bridges) (p.name.bridge, on.row) (p.name.bridge, bridge) (entry_there net p.name.bridge on.row on.is_row)
-        (ap (λ (t : Bool). option_map (λ (b : CistBridge). (p.name.bridge, b)) (if t then Some bridge else None)) on.is_power) in
+    kept_in (bridge_in_sight (cist_sight net)) (fin.entries net.bridges) (p.name.bridge, on.row) (p.name.bridge, bridge) (entry_there net p.name.bridge on.row on.is_row)
+    (ap (λ (t : Bool). option_map (λ (b : CistBridge). (p.name.bridge, b)) (if t then Some bridge else None)) on.is_power) in
     let x = is.cist.settled.has_vector p.name.bridge bridge has_bridge in
     let first : IsFirst (λ (q : LogicalPort). port_eq q.name p.name) (view_ports net) = first_found (λ (q : LogicalPort). port_eq q.name p.name) (view_ports net) p there (port_same p.name p.name refl) in
     record {

@@ -21,11 +21,7 @@ use std::alloc::{AllocError, Global};
 ///
 /// B07: the BPDU has no sender, as [`sender`](crate::sender) tells. B99: it has one, and memory was wanted and
 /// refused. There is no other fault.
-pub fn compare(
-    alloc: Global,
-    planner: &Planner,
-    bpdu: &Bpdu,
-) -> Result<Vec<Difference>, BpduFault>
+pub fn compare(alloc: Global, planner: &Planner, bpdu: &Bpdu) -> Result<Vec<Difference>, BpduFault>
     requires { planner.now.is_settled ≡ true }
     ensures found { IfOk result (λ found. AreDifferences planner.now.contents.net bpdu.now found.items) }
     ensures fault { IfErr result (λ fault. fault ≡ fault_of (sender_of planner.now.contents.net bpdu.now)) }

@@ -40,23 +40,12 @@ pub(crate) fn planned(
 
 /// What the plan has for a port in the CIST, by the settings of its bridge: nothing where the bridge has no root
 /// priority vector there.
-fn in_cist(
-    view: &View,
-    forest: &Forest,
-    bridge: &Bridge,
-    port: &PortInView,
-) -> Option<PlannedCist>
+fn in_cist(view: &View, forest: &Forest, bridge: &Bridge, port: &PortInView) -> Option<PlannedCist>
     ensures { result ≡ seen_cist view.now forest.now (bridge_row bridge.now) port.now }
 {
     let vector = forest.cist(port.bridge)?;
     let role = role(view, forest, port.number, Tree::cist())?;
-    Some(cist_with(
-        view.settings(),
-        bridge,
-        &port.name,
-        &vector,
-        role,
-    ))
+    Some(cist_with(view.settings(), bridge, &port.name, &vector, role))
 }
 
 /// What the plan has for a port of this role in the CIST, where its bridge has this root priority vector.
@@ -134,13 +123,7 @@ fn in_msti(view: &View, forest: &Forest, port: &PortInView, tree: Tree) -> Optio
 {
     let vector = forest.msti(tree, port.bridge)?;
     let role = role(view, forest, port.number, tree)?;
-    Some(msti_with(
-        view.settings(),
-        &port.name,
-        tree,
-        &vector,
-        role,
-    ))
+    Some(msti_with(view.settings(), &port.name, tree, &vector, role))
 }
 
 /// What the plan has for a port of this role in an MSTI, where its bridge has this root priority vector.

@@ -69,7 +69,9 @@ pub(crate) fn sender_in(view: &View, bpdu: &Bpdu) -> Option<Origin>
 fn bridge_with(view: &View, mac: Mac) -> Option<&BridgeInView>
     ensures { option_copied result ≡ find (λ bridge. bridge.bridge.mac == mac) view.now.bridges }
 {
-    view.bridges().iter().find(|bridge| bridge.bridge.mac == mac)
+    view.bridges()
+        .iter()
+        .find(|bridge| bridge.bridge.mac == mac)
 }
 
 /// Whether bridges of this kind send such BPDUs.
@@ -93,7 +95,9 @@ fn port_number(bpdu: &Bpdu) -> u16
 fn enabled_port<'a>(view: &'a View, bridge: &Name, number: u16) -> Option<&'a PortInView>
     ensures { option_copied result ≡ find (λ port. is_port bridge.now number (named_port port)) view.now.ports }
 {
-    view.ports().iter().find(|port| is_enabled_port(port, bridge, number))
+    view.ports()
+        .iter()
+        .find(|port| is_enabled_port(port, bridge, number))
 }
 
 /// Whether a port is enabled, has this number and is of this bridge.
