@@ -1,7 +1,7 @@
 -- What a plan has for a sender, under the numbers of records, is what it has by name.
-use Rattle.std.proofs.Common.{◌≡◌, ℕ, ◌==◌, Bool, true, nat_eq, List, [], Option, Some, None, is_some, IsSome, unwrap_or, refl, sym, ap, subst, ◌∙◌, eq-eqb}
+use Rattle.std.proofs.Common.{◌≡◌, ℕ, Bool, true, nat_eq, List, [], Some, None, is_some, IsSome, unwrap_or, refl, sym, ap, subst, ◌∙◌, eq-eqb}
 use Rattle.std.specs.Prelude.{if◌then◌else◌}
-use Rattle.std.specs.List.{Contains, find, filter_map}
+use Rattle.std.specs.List.{Contains, filter_map}
 use Rattle.std.specs.Option.{option_map, option_and_then}
 use Rattle.std.specs.Map.{lookup}
 use Rattle.std.specs.FinMap as fin
@@ -17,7 +17,6 @@ use Rattle.mst_lag.specs.Trees.{mstis_of}
 use Rattle.mst_lag.specs.View.{LogicalPort, view_ports}
 use Rattle.mst_lag.specs.Viewed.{Viewed, IsView, named_port}
 use Rattle.mst_lag.specs.declared.in_view.BridgeInView.{BridgeInView}
-use Rattle.mst_lag.specs.declared.in_view.PortInView.{PortInView}
 use Rattle.mst_lag.proofs.Placing.{pair_found}
 use Rattle.mst_config.specs.Regions.{region_of}
 use Rattle.mst_trees.specs.Sight.{named_bridge as bridge_in_sight}

@@ -1,5 +1,5 @@
 -- A sender and what a plan has for it, by a view and a forest.
-use Rattle.std.specs.Prelude.{ℕ, ◌==◌, List, Option, None, filter_map, if◌then◌else◌}
+use Rattle.std.specs.Prelude.{ℕ, ◌==◌, Option, None, filter_map, if◌then◌else◌}
 use Rattle.std.specs.List.{find}
 use Rattle.std.specs.Option.{option_map, option_and_then}
 use Rattle.mst_ids.specs.Identifiers.{mac_of, port_number_of}
