@@ -1,0 +1,25 @@
+//! Laws of comparisons. Their functions do nothing: a caller has their clauses.
+ghost use Rattle.std.specs.Prelude.{◌≡◌, List, Some};
+ghost use Rattle.mst_ids.specs.declared.name.PortName.{PortName as PortOf};
+ghost use Rattle.mst_net.specs.Tables.{Net, IsNetwork};
+ghost use Rattle.mst_wire.specs.declared.bpdu.Bpdu.{Bpdu};
+ghost use Rattle.mst_wire.specs.declared.difference.Difference.{Difference};
+ghost use Rattle.mst_bpdu.specs.Sender.{sender_of};
+ghost use Rattle.mst_bpdu.specs.Comparison.{AreDifferences};
+
+use mst_trees::laws::{has_outcome, one_outcome};
+
+/// A BPDU that has a sender has a list of differences from the plan of a network: the network has an outcome, and each
+/// bridge that is on has a root priority vector in its CIST.
+pub fn has_list()
+    ensures { (net : Net) (bpdu : Bpdu) (port : PortOf) → IsNetwork net → sender_of net bpdu ≡ Some port → (found : List Difference) × AreDifferences net bpdu found }
+{
+    has_outcome();
+}
+
+/// A BPDU has one list of differences from the plan of a network, since a network has one outcome.
+pub fn one_list()
+    ensures { (net : Net) (bpdu : Bpdu) (found others : List Difference) → IsNetwork net → AreDifferences net bpdu found → AreDifferences net bpdu others → found ≡ others }
+{
+    one_outcome();
+}
