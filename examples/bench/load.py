@@ -14,6 +14,11 @@ def load(count):
         yield f"addbridge B{i:04} 02:00:00:00:{i // 256:02x}:{i % 256:02x}"
         for port in range(1, PORTS_EACH + 1):
             yield f"addport B{i:04} {port}"
+    yield from cables(count)
+
+
+def cables(count):
+    """A LAN between each bridge and each of those that follow it."""
     for i in range(count):
         for k in range(LANS_EACH):
             following = (i + k + 1) % count
@@ -29,4 +34,5 @@ def main():
     print("\n".join(load(BRIDGES // part)))
 
 
-main()
+if __name__ == "__main__":
+    main()

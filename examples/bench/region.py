@@ -8,7 +8,9 @@ For example: region.py 4 "showtree 0" "showvlan 10"
 
 import sys
 
-BRIDGES, PORTS_EACH, LANS_EACH, TREES = 1024, 16, 8, 64
+from load import BRIDGES, PORTS_EACH, cables
+
+TREES = 64
 
 
 def bridge(i):
@@ -24,12 +26,7 @@ def bridge(i):
 def mesh(count):
     for i in range(count):
         yield from bridge(i)
-    for i in range(count):
-        for k in range(LANS_EACH):
-            following = (i + k + 1) % count
-            yield f"addlan L{i:04}-{k}"
-            yield f"plug B{i:04} {2 * k + 1} L{i:04}-{k}"
-            yield f"plug B{following:04} {2 * k + 2} L{i:04}-{k}"
+    yield from cables(count)
     for tree in range(1, TREES + 1):
         yield f"settreeprio B{(tree * 37) % count:04} {tree} 0"
         for i in range(tree % 7, count, 29):
