@@ -40,7 +40,8 @@ impl TellsApart for MstiMetric {
 
 /// Whether two ports are the same in all that a topology has of them.
 fn same_plug<M: TellsApart>(a: &Plug<M::Port>, b: &Plug<M::Port>) -> bool
-    ensures { IsTrue result → a.now ≡ b.now }
+    ensures yes { IsTrue result → a.now ≡ b.now }
+    ensures no { a.now ≡ b.now → IsTrue result }
 {
     a.number == b.number
         && a.bridge == b.bridge
@@ -56,8 +57,10 @@ pub fn has_bridge<M: TellsApart>(
     number: BridgeNo,
     bridge: &M::Bridge,
 ) -> bool
-    ensures { IsTrue result → HasBridge topology.now number bridge.now }
+    ensures yes { IsTrue result → HasBridge topology.now number bridge.now }
+    ensures no { HasBridge topology.now number bridge.now → IsTrue result }
 {
+    topology.known();
     match topology.bridge(number) {
         None => false,
         Some(there) => M::same_bridge(there, bridge),
@@ -66,8 +69,10 @@ pub fn has_bridge<M: TellsApart>(
 
 /// Whether the topology has this port.
 fn has_port<M: TellsApart>(topology: &Topology<M>, port: &Plug<M::Port>) -> bool
-    ensures { IsTrue result → HasPort topology.now port.now }
+    ensures yes { IsTrue result → HasPort topology.now port.now }
+    ensures no { HasPort topology.now port.now → IsTrue result }
 {
+    topology.known();
     match topology.port(port.number) {
         None => false,
         Some(there) => same_plug::<M>(there, port),
@@ -76,7 +81,8 @@ fn has_port<M: TellsApart>(topology: &Topology<M>, port: &Plug<M::Port>) -> bool
 
 /// Whether the second topology has the bridge that the first has under this number, if any.
 fn keeps_bridge<M: TellsApart>(here: &Topology<M>, there: &Topology<M>, number: BridgeNo) -> bool
-    ensures { IsTrue result → (b : M.Bridge) → HasBridge here.now number b → HasBridge there.now number b }
+    ensures yes { IsTrue result → (b : M.Bridge) → HasBridge here.now number b → HasBridge there.now number b }
+    ensures no { ((b : M.Bridge) → HasBridge here.now number b → HasBridge there.now number b) → IsTrue result }
 {
     here.known();
     match here.bridge(number) {
@@ -93,6 +99,7 @@ pub fn keeps_port<M: TellsApart>(
 ) -> bool
     ensures port { IsTrue result → HasPort there.now port.now }
     ensures bridge { IsTrue result → (b : M.Bridge) → HasBridge here.now port.now.bridge b → HasBridge there.now port.now.bridge b }
+    ensures no { HasPort there.now port.now → ((b : M.Bridge) → HasBridge here.now port.now.bridge b → HasBridge there.now port.now.bridge b) → IsTrue result }
 {
     has_port::<M>(there, port) && keeps_bridge::<M>(here, there, port.bridge)
 }
