@@ -1,0 +1,3 @@
+pub mod Marked
+pub mod Touched
+pub mod SameParts
