@@ -3,13 +3,13 @@
 #![tactic(auto)]
 
 mod best;
+mod by_number;
 mod heard;
 pub mod laws;
 mod link;
 mod looking;
 mod queue;
 mod repairing;
-mod room;
 mod settler;
 mod settling;
 mod slots;
