@@ -1,10 +1,9 @@
-//! One spanning tree that stays settled while its topology changes: it keeps its topology beside the
-//! settled outcome, and finds where the next one differs.
+//! One spanning tree, from which the tree of another topology is repaired: it keeps its topology beside the
+//! settled outcome, and finds where the other one differs.
 #![tactic(auto)]
 
 mod comparing;
 mod differences;
-pub mod laws;
 mod spanning_tree;
 
 pub use comparing::TellsApart;

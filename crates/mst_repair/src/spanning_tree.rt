@@ -1,7 +1,5 @@
-ghost use Rattle.std.specs.Prelude.{◌≡◌, ◌≢◌, ℕ, ◌≤◌, OnOk, length, None};
-ghost use Rattle.std.specs.List.{Contains};
-ghost use Rattle.mst_settle.specs.Assignment.{vector_of, designated_of, IsSettledFor, HasSpaceFor, KeepsSpace, KeepsOutcome};
-ghost use Rattle.mst_settle.specs.Chains.{IsAt};
+ghost use Rattle.std.specs.Prelude.{◌≡◌, ℕ, ◌≤◌, IfOk, length, None};
+ghost use Rattle.mst_settle.specs.Assignment.{vector_of, designated_of, IsSettledFor};
 ghost use Rattle.mst_settle.specs.Repair.{WithinBounds};
 
 use crate::comparing::TellsApart;
@@ -44,22 +42,6 @@ impl<M: Metric> SpanningTree<M> {
         }
     }
 
-    /// Makes the space that a move to this topology needs, whatever its ports' marks are. It fails where
-    /// there is no memory, and then the outcome stays.
-    pub fn reserve(&mut self, next: &Topology<M>) -> Result<(), AllocError>
-        ensures keeps { KeepsOutcome self.old self.new }
-        ensures ok { OnOk result (HasSpaceFor next.now self.new) }
-    {
-        self.settler.reserve(next)
-    }
-
-    /// The LANs whose designated port the last move changed.
-    pub fn changed(&self) -> &[LanNo]
-        ensures { result.now ≡ self.now.changed }
-    {
-        self.settler.changed()
-    }
-
     /// The settled vector of the bridge of that number, or nothing where there is no such bridge.
     pub fn vector(&self, bridge: BridgeNo) -> Option<M::Vector>
         ensures { result ≡ vector_of self.now bridge }
@@ -74,7 +56,7 @@ impl<M: Metric> SpanningTree<M> {
         self.settler.designated(lan)
     }
 
-    /// How often a vector was written by the last move.
+    /// How often a vector was written by the repair that made the tree.
     pub fn settlings(&self) -> u64
         ensures { result ≡ self.now.settlings }
     {
@@ -83,22 +65,23 @@ impl<M: Metric> SpanningTree<M> {
 }
 
 impl<M: TellsApart> SpanningTree<M> {
-    /// Makes this topology the tree's, and repairs the outcome: each bridge whose vector changes is
-    /// settled once or twice, and no other is. It takes no memory.
-    pub fn move_to(&mut self, next: Topology<M>)
-        requires size { length next.bridges ≤ 1024 }
-        requires space { HasSpaceFor next self.old }
-        ensures settled { IsSettledFor M.rules next self.new }
-        ensures bounds { WithinBounds (vector_of self.old) (vector_of self.new) self.new.settlings }
-        ensures changed { (lan : ℕ) → designated_of self.new lan ≢ designated_of self.old lan → Contains self.new.changed lan }
-        ensures once { (i j lan : ℕ) → IsAt self.new.changed i lan → IsAt self.new.changed j lan → i ≡ j }
-        ensures space { KeepsSpace self.old self.new }
+    /// The tree of another topology. A copy of this one's outcome is repaired: each bridge whose vector
+    /// changes is settled once or twice, and no other is. `AllocError`: memory was wanted and refused.
+    pub fn repaired(&self, alloc: Global, next: Topology<M>) -> Result<Self, AllocError>
+        requires { length next.bridges ≤ 1024 }
+        ensures settled { IfOk result (λ tree. IsSettledFor M.rules next tree) }
+        ensures bounds { IfOk result (λ tree. WithinBounds (vector_of self.now) (vector_of tree) tree.settlings) }
     {
         self.topology.known();
         next.known();
-        touch_missing::<M>(&mut self.settler, &self.topology, &next);
-        touch_missing::<M>(&mut self.settler, &next, &self.topology);
-        self.settler.repair(&next);
-        self.topology = next;
+        let mut settler = self.settler.copy(alloc)?;
+        settler.reserve(&next)?;
+        touch_missing::<M>(&mut settler, &self.topology, &next);
+        touch_missing::<M>(&mut settler, &next, &self.topology);
+        settler.repair(&next);
+        Ok(SpanningTree {
+            topology: next,
+            settler,
+        })
     }
 }
