@@ -1,4 +1,4 @@
-ghost use Rattle.std.specs.Prelude.{◌≡◌, IfOk, nat_eq};
+ghost use Rattle.std.specs.Prelude.{◌≡◌, IfOk, [], nat_eq};
 ghost use Rattle.std.specs.Map.{lookup};
 ghost use Rattle.std.specs.FinMap as fin;
 ghost use Rattle.mst_ids.specs.Identifiers.{bridge_id};
@@ -32,6 +32,15 @@ impl Model for Classes {
 }
 
 impl Classes {
+    /// The regions of no bridges. It takes no memory.
+    pub fn none(alloc: Global) -> Classes
+        ensures { result ≡ [] }
+    {
+        Classes {
+            regions: IndexMap::new(alloc),
+        }
+    }
+
     /// Whether the bridges of two numbers are in one region. A number that no bridge has is in a region of
     /// its own. It takes no memory.
     pub fn same(&self, a: BridgeNo, b: BridgeNo) -> bool
