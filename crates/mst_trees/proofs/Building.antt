@@ -1,14 +1,13 @@
 -- A topology that is built of bridges and ports, one after another.
-use Rattle.std.proofs.Common.{◌≡◌, ℕ, ◌+◌, ◌<◌, true, List, [], ◌∷◌, ◌++◌, length, take, get_or, IsTrue, Result, Ok, Err, IfOk, refl, sym, ap, subst, ◌∙◌}
+use Rattle.std.proofs.Common.{◌≡◌, ℕ, ◌+◌, ◌<◌, true, List, [], ◌∷◌, ◌++◌, length, take, get_or, Option, IsTrue, Result, Ok, Err, IfOk, refl, sym, ap, subst, ◌∙◌}
 use Rattle.std.specs.List.{Contains}
 use Rattle.std.specs.declared.alloc.AllocError.{AllocError}
 use Rattle.std.proofs.lemmas.List.{take_more}
 use Rattle.mst_vector.specs.Rules.{Rules}
 use Rattle.mst_settle.specs.Topology.{Plug, Topology, HasBridge, HasPort}
 use Rattle.mst_settle.specs.Grows.{CanAddBridge, CanAddPort, tree_port}
-use Rattle.mst_settle.specs.Settled.{Settled, IsDesignated}
-use Rattle.mst_settle.specs.Assignment.{Assignment, vector_of, designated_of}
-use Rattle.mst_settle.specs.Repair.{CountsVectors}
+use Rattle.mst_settle.specs.Assignment.{Assignment, vector_of, IsSettledFor}
+use Rattle.mst_settle.specs.Repair.{WithinBounds}
 use Rattle.mst_trees.specs.Numbered.{BridgesDiffer, PortsDiffer, CanSettle, IsSettledBy}
 use Rattle.mst_trees.proofs.Lists.{all_contained, all_at, apart_at}
 
@@ -49,9 +48,8 @@ module _ {B P V : Type 0} (m : Rules B P V) (bs : List (ℕ × B)) (ps : List (P
           all_contained (λ q. PortsDiffer m q (get_or ps i d)) (take i ps) q (apart_at (PortsDiffer m) ps i d l can.ports_differ)
           (subst (λ ports. Contains ports q) at h)
 
--- what the settler says of a topology, taken together
-pub settled_by : {B P V : Type 0} (m : Rules B P V) (t : Topology ℕ ℕ ℕ B P) (r : Result (Assignment V) AllocError)
-    → IfOk r (λ a. Settled m t (vector_of a)) → IfOk r (λ a. (lan : ℕ) → IsDesignated m t (vector_of a) lan (designated_of a lan)) → IfOk r (λ a. CountsVectors (vector_of a) a.settlings)
-    → IfOk r (IsSettledBy m t)
-settled_by m t (Ok a) v d c = record { outcome = record { vectors = v; designated = d }; once = c }
-settled_by m t (Err e) v d c = tt
+-- what the repair says of a topology, taken together
+pub settled_by : {B P V : Type 0} (m : Rules B P V) (t : Topology ℕ ℕ ℕ B P) (before : ℕ → Option V) (r : Result (Assignment V) AllocError)
+    → IfOk r (IsSettledFor m t) → IfOk r (λ a. WithinBounds before (vector_of a) a.settlings) → IfOk r (IsSettledBy m t before)
+settled_by m t before (Ok a) s b = record { outcome = s; bounds = b }
+settled_by m t before (Err e) s b = tt

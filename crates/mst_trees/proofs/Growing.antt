@@ -1,6 +1,6 @@
 -- A forest answers by the outcome of its network.
-use Rattle.std.proofs.Common.{◌≡◌, ℕ, ◌&&◌, true, nat_eq, List, [], Option, Some, None, is_some, refl, sym, ap, subst, ◌∙◌, true≢false, arith}
-use Rattle.std.specs.Option.{option_and_then, option_map_or}
+use Rattle.std.proofs.Common.{◌≡◌, ℕ, ◌&&◌, true, nat_eq, List, Option, Some, None, is_some, refl, sym, ap, subst, ◌∙◌, true≢false}
+use Rattle.std.specs.Option.{option_and_then}
 use Rattle.std.specs.Map.{lookup}
 use Rattle.std.specs.FinMap as fin
 use Rattle.std.proofs.lemmas.Bool.{and_parts}
@@ -13,7 +13,6 @@ use Rattle.mst_vector.specs.declared.msti.MstiBridge.{MstiBridge}
 use Rattle.mst_settle.specs.Topology.{HasBridge}
 use Rattle.mst_settle.specs.Settled.{IsDesignated}
 use Rattle.mst_settle.specs.Assignment.{Assignment, vector_of, designated_of, IsSettledFor}
-use Rattle.mst_settle.specs.Repair.{CountsVectors}
 use Rattle.mst_net.specs.Tables.{Net, Numbers, BridgeRow}
 use Rattle.mst_net.specs.ByTree.{by_tree}
 use Rattle.mst_lag.specs.Viewed.{Viewed}
@@ -24,11 +23,10 @@ use Rattle.mst_config.specs.Classes.{AreRegions}
 use Rattle.mst_trees.specs.Cist.{cist_sight, cist_of}
 use Rattle.mst_trees.specs.Msti.{msti_bridge, has_msti, msti_sight, msti_of}
 use Rattle.mst_trees.specs.Outcome.{TreeOutcome, IsTreeOutcome, Outcome, IsOutcome}
-use Rattle.mst_trees.specs.Numbered.{IsSettledBy}
 use Rattle.mst_trees.specs.Seen.{cist_seen, inner_seen, trees_at}
 use Rattle.mst_trees.specs.Agrees.{Agrees, AreOf, inner_of}
 use Rattle.mst_trees.specs.Mstis.{AreMstis}
-use Rattle.mst_trees.specs.Forest.{IsForest, IsSettledOnce}
+use Rattle.mst_trees.specs.Forest.{IsForest}
 use Rattle.mst_trees.specs.declared.forest.Forest.{Forest}
 use Rattle.mst_trees.proofs.Lists.{all_contained}
 use Rattle.mst_trees.proofs.CistTopology.{given, cist_is_sight}
@@ -53,7 +51,7 @@ module _ (net : Net) (numbers : Numbers) (v : Viewed) (classes : List (ℕ × �
       inner_is_seen net numbers v classes of o is (vector_of a) (designated_of a) (cist_agrees vectors ports o is a settled)
 
   module _ (tree : ℕ) (designated : List ℕ → Option PortName) (inner : List PortInView) (inner_is : inner ≡ inner_of net designated v)
-      (mstis : List (ℕ × Assignment MstiVector)) (are : AreMstis v inner mstis) (o : TreeOutcome MstiVector) (is : IsTreeOutcome msti_rules (msti_of net tree designated) o) where
+      (former mstis : List (ℕ × Assignment MstiVector)) (are : AreMstis v inner former mstis) (o : TreeOutcome MstiVector) (is : IsTreeOutcome msti_rules (msti_of net tree designated) o) where
     -- a tree that isn't there has no bridge
     pub no_bridge : lookup (nat_eq tree) mstis ≡ None → (n : List ℕ) (b : MstiBridge) → HasBridge (msti_of net tree designated) n b → ⊥
     no_bridge none n b h =
@@ -105,32 +103,12 @@ module _ (net : Net) (numbers : Numbers) (v : Viewed) (classes : List (ℕ × �
 
   pub is_forest : RenamedVectors cist_rules → RenamedPorts cist_rules → RenamedVectors msti_rules → RenamedPorts msti_rules
       → (o : Outcome) → IsOutcome net o → (f : Forest) → f.regions ≡ classes → IsSettledFor cist_rules (cist_seen v classes) f.cist
-      → (inner : List PortInView) → inner ≡ inner_seen v classes (designated_of f.cist) → AreMstis v inner f.mstis.entries → IsForest net numbers f
-  is_forest vectors ports msti_vectors msti_ports o is f regions settled inner inner_is are = record {
+      → (inner : List PortInView) → inner ≡ inner_seen v classes (designated_of f.cist) → (former : List (ℕ × Assignment MstiVector)) → AreMstis v inner former f.mstis.entries → IsForest net numbers f
+  is_forest vectors ports msti_vectors msti_ports o is f regions settled inner inner_is former are = record {
     outcome = o;
     is_outcome = is;
     cist = cist_agrees vectors ports o.cist is.cist f.cist settled;
     mstis = λ tree.
-        msti_agrees tree o.cist.designated inner (inner_is ∙ inner_agrees vectors ports o.cist is.cist f.cist settled) f.mstis.entries are (o.msti tree) (is.mstis tree) msti_vectors msti_ports;
+        msti_agrees tree o.cist.designated inner (inner_is ∙ inner_agrees vectors ports o.cist is.cist f.cist settled) former f.mstis.entries are (o.msti tree) (is.mstis tree) msti_vectors msti_ports;
     regions = subst (AreRegions net numbers) (sym regions) of.regions;
   }
-
--- no vector is counted where there is none
-none_counted : {V : Type 0} → CountsVectors {V = V} (λ n. None) 0
-none_counted = record {
-  numbers = [];
-  ascending = λ k l. absurd (omega arith);
-  exactly = λ n. (λ c. let l = c.1 in absurd (omega arith), λ h. absurd (h refl));
-  counted = refl;
-}
-
-pub is_settled_once : (v : Viewed) (classes : List (ℕ × ℕ)) (f : Forest) → IsSettledBy cist_rules (cist_seen v classes) f.cist
-    → (inner : List PortInView) → AreMstis v inner f.mstis.entries → IsSettledOnce f
-is_settled_once v classes f settled inner are = record { cist = settled.once; mstis = λ tree. go tree (lookup (nat_eq tree) f.mstis.entries) refl }
-  where
-    go : (tree : ℕ) (x : Option (Assignment MstiVector)) → lookup (nat_eq tree) f.mstis.entries ≡ x
-        → CountsVectors (λ n. option_and_then (λ a. vector_of a n) (lookup (nat_eq tree) f.mstis.entries)) (option_map_or (λ a. a.settlings) (lookup (nat_eq tree) f.mstis.entries) 0)
-    go tree None e =
-        subst (λ (y : Option (Assignment MstiVector)). CountsVectors (λ n. option_and_then (λ a. vector_of a n) y) (option_map_or (λ a. a.settlings) y 0)) (sym e) none_counted
-    go tree (Some a) e =
-        subst (λ (y : Option (Assignment MstiVector)). CountsVectors (λ n. option_and_then (λ a. vector_of a n) y) (option_map_or (λ a. a.settlings) y 0)) (sym e) (are.settled tree a e).once

@@ -49,7 +49,7 @@ settled_renamed {B} {P} m law r t u v w tree h settled = record {
 module _ (net : Net) (numbers : Numbers) (v : Viewed) (f : Forest) (of : AreOf net numbers v f.regions)
     (vectors : RenamedVectors cist_rules) (ports : RenamedPorts cist_rules) (topologies : RenamedTopology cist_rules) (msti_topologies : RenamedTopology msti_rules)
     (o : Outcome) (is : IsOutcome net o) (named : IsSettled (trees_of net o))
-    (cist : IsSettledFor cist_rules (cist_seen v f.regions) f.cist) (mstis : AreMstis v (inner_seen v f.regions (designated_of f.cist)) f.mstis.entries) where
+    (cist : IsSettledFor cist_rules (cist_seen v f.regions) f.cist) (former : List (ℕ × Assignment MstiVector)) (mstis : AreMstis v (inner_seen v f.regions (designated_of f.cist)) former f.mstis.entries) where
   abbrev r : Renaming (List ℕ) (List ℕ) PortName ℕ ℕ ℕ
   r = numbering numbers
 
@@ -94,7 +94,7 @@ module _ (net : Net) (numbers : Numbers) (v : Viewed) (f : Forest) (of : AreOf n
           → Settled msti_rules (msti_seen v inner tree) (λ n. option_and_then (λ a. vector_of a n) (lookup (nat_eq tree) f.mstis.entries))
       go (Some a) e = to (Some a) e (mstis.settled tree a e).outcome.vectors
       go None e = to None e (record {
-        has_vector = λ n b h. let x = (msti_renamed tree).from_bridge n b h in absurd (no_bridge net numbers v f.regions of tree o.cist.designated inner inner_is f.mstis.entries mstis (o.msti tree) (is.mstis tree) e x.0 b x.1);
+        has_vector = λ n b h. let x = (msti_renamed tree).from_bridge n b h in absurd (no_bridge net numbers v f.regions of tree o.cist.designated inner inner_is former f.mstis.entries mstis (o.msti tree) (is.mstis tree) e x.0 b x.1);
         is_bridge = λ n x h. absurd (no_some x h);
         bridges = λ n b x h k. absurd (no_some x k);
       })

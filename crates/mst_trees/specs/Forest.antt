@@ -11,6 +11,7 @@ use Rattle.mst_config.specs.Classes.{AreRegions}
 use Rattle.mst_trees.specs.Outcome.{Outcome, IsOutcome}
 use Rattle.mst_trees.specs.Agrees.{Agrees}
 use Rattle.mst_trees.specs.Seen.{cist_seen, inner_seen, msti_seen}
+use Rattle.mst_trees.specs.Bound.{KeepsBound}
 use Rattle.mst_nested.specs.Trees.{Trees}
 use Rattle.mst_trees.specs.declared.forest.Forest.{Forest}
 
@@ -48,6 +49,12 @@ pub record IsForest (net : Net) (numbers : Numbers) (f : Forest) : Type 0 where
 pub record IsSettledOnce (f : Forest) : Type 0 where
   pub cist : CountsVectors (vector_of f.cist) f.cist.settlings
   pub mstis : (tree : ℕ) → CountsVectors (msti_vector f tree) (msti_settlings f tree)
+
+-- in each tree bridges were settled within the bound, from the vectors of the old forest. A tree that a forest
+-- doesn't have has no vectors and no settlings in it
+pub record KeepsBounds (old new : Forest) : Type 0 where
+  pub cist : KeepsBound (vector_of old.cist) (vector_of new.cist) new.cist.settlings
+  pub mstis : (tree : ℕ) → KeepsBound (msti_vector old tree) (msti_vector new tree) (msti_settlings new tree)
 
 -- the trees of a view under the numbers of records, with the vectors of a forest
 abbrev pub trees_seen : Viewed → Forest → Trees ℕ ℕ ℕ

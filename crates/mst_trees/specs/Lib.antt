@@ -7,4 +7,5 @@ pub mod Numbered
 pub mod Seen
 pub mod Agrees
 pub mod Mstis
+pub mod Bound
 pub mod Forest

@@ -1,10 +1,10 @@
 -- One tree under the numbers of records: what the settling of its bridges and ports needs and gives.
-use Rattle.std.specs.Prelude.{◌≡◌, ◌≢◌, ℕ, ◌≤◌, true, List, IsTrue, length}
+use Rattle.std.specs.Prelude.{◌≡◌, ◌≢◌, ℕ, ◌≤◌, true, List, Option, IsTrue, length}
 use Rattle.std.specs.List.{AllByRecursion, Contains}
 use Rattle.mst_vector.specs.Rules.{Rules}
 use Rattle.mst_settle.specs.Topology.{Plug, Topology}
 use Rattle.mst_settle.specs.Assignment.{Assignment, vector_of, IsSettledFor}
-use Rattle.mst_settle.specs.Repair.{CountsVectors}
+use Rattle.mst_settle.specs.Repair.{WithinBounds}
 use Rattle.mst_trees.specs.Apart.{Apart}
 
 -- these bridges and ports
@@ -30,7 +30,7 @@ pub record CanSettle {B P V : Type 0} (m : Rules B P V) (bridges : List (ℕ × 
   pub in_range : AllByRecursion (λ p. IsTrue (m.in_range p.settings)) ports
   pub few : length bridges ≤ 1024
 
--- the settled outcome of a topology, for which each bridge was settled once
-pub record IsSettledBy {B P V : Type 0} (m : Rules B P V) (t : Topology ℕ ℕ ℕ B P) (a : Assignment V) : Type 0 where
+-- the settled outcome of a topology, within the bound from the vectors before
+pub record IsSettledBy {B P V : Type 0} (m : Rules B P V) (t : Topology ℕ ℕ ℕ B P) (before : ℕ → Option V) (a : Assignment V) : Type 0 where
   pub outcome : IsSettledFor m t a
-  pub once : CountsVectors (vector_of a) a.settlings
+  pub bounds : WithinBounds before (vector_of a) a.settlings

@@ -1,21 +1,21 @@
-ghost use Rattle.std.specs.Prelude.{◌≡◌, IfOk};
+ghost use Rattle.std.specs.Prelude.{◌≡◌, ℕ, IfOk, None};
 ghost use Rattle.mst_settle.specs.Assignment.{vector_of, designated_of};
 ghost use Rattle.mst_net.specs.Tables.{Net, Numbers};
 ghost use Rattle.mst_config.specs.Classes.{same_in};
 ghost use Rattle.mst_trees.specs.Agrees.{AreOf, Known};
-ghost use Rattle.mst_trees.specs.Forest.{IsForest, IsSettledOnce, msti_vector, designated_in, settlings_in, trees_seen};
+ghost use Rattle.mst_trees.specs.Forest.{IsForest, IsSettledOnce, KeepsBounds, msti_vector, designated_in, settlings_in, trees_seen};
 ghost use Rattle.mst_trees.specs.Seen.{seen_inner};
 ghost use Rattle.mst_nested.specs.Trees.{IsSettled};
 
-use crate::cist::settled_cist;
+use crate::cist::repaired_cist;
 use crate::laws::{has_outcome, nested};
 use crate::msti::{inner_ports, is_inner};
-use crate::mstis::settled_mstis;
+use crate::mstis::repaired_mstis;
 use indexmap::IndexMap;
 use mst_config::Classes;
 use mst_ids::{BridgeNo, LanNo, Name, PortName, PortNo, Tree};
 use mst_lag::{PortInView, View};
-use mst_settle::Settler;
+use mst_repair::SpanningTree;
 use mst_settle::laws::renamed;
 use mst_vector::{CistMetric, CistVector, MstiMetric, MstiVector};
 use std::alloc::{AllocError, Global};
@@ -23,8 +23,8 @@ use std::alloc::{AllocError, Global};
 /// The trees of a network, settled: the CIST, and each MSTI that some bridge has.
 pub struct Forest {
     pub(crate) regions: Classes,
-    pub(crate) cist: Settler<CistMetric>,
-    pub(crate) mstis: IndexMap<Tree, Settler<MstiMetric>>,
+    pub(crate) cist: SpanningTree<CistMetric>,
+    pub(crate) mstis: IndexMap<Tree, SpanningTree<MstiMetric>>,
 }
 
 // By hand, as a view's.
@@ -39,6 +39,18 @@ impl Drop for Forest {
 }
 
 impl Forest {
+    /// The forest of no bridges. It takes no memory.
+    pub fn empty(alloc: Global) -> Forest
+        ensures cist { (n : ℕ) → vector_of result.cist n ≡ None }
+        ensures mstis { (tree n : ℕ) → msti_vector result tree n ≡ None }
+    {
+        Forest {
+            regions: Classes::none(alloc),
+            cist: SpanningTree::new(alloc),
+            mstis: IndexMap::new(alloc),
+        }
+    }
+
     /// Settles the trees of a network, by its view and its regions. `AllocError`: memory was wanted and refused.
     pub fn new(alloc: Global, view: &View, classes: &Classes) -> Result<Forest, AllocError>
         requires { Known view.now classes.now }
@@ -46,11 +58,28 @@ impl Forest {
         ensures nested { IfOk result (λ forest. IsSettled (trees_seen view.now forest)) }
         ensures once { IfOk result IsSettledOnce }
     {
-        let cist = settled_cist(alloc, view, classes)?;
+        let nothing = Forest::empty(alloc);
+        nothing.repaired(alloc, view, classes)
+    }
+
+    /// The trees of another network, each repaired from the one that stands: a copy is repaired, and this forest
+    /// stays. `AllocError`: memory was wanted and refused.
+    pub fn repaired(
+        &self,
+        alloc: Global,
+        view: &View,
+        classes: &Classes,
+    ) -> Result<Forest, AllocError>
+        requires { Known view.now classes.now }
+        ensures outcome { IfOk result (λ forest. (net : Net) (numbers : Numbers) → AreOf net numbers view.now classes.now → IsForest net numbers forest) }
+        ensures nested { IfOk result (λ forest. IsSettled (trees_seen view.now forest)) }
+        ensures bounds { IfOk result (KeepsBounds self.now) }
+    {
+        let cist = repaired_cist(alloc, &self.cist, view, classes)?;
         has_outcome();
         renamed::<CistMetric, Name, Name, PortName, BridgeNo, LanNo, PortNo>();
         let inner = inner_ports(alloc, view, classes, &cist)?;
-        let mstis = settled_mstis(alloc, view, inner.as_slice())?;
+        let mstis = repaired_mstis(alloc, &self.mstis, view, inner.as_slice())?;
         renamed::<MstiMetric, Name, Name, PortName, BridgeNo, LanNo, PortNo>();
         nested();
         Ok(Forest {
@@ -99,7 +128,7 @@ impl Forest {
         is_inner(view, &self.regions, &self.cist, port)
     }
 
-    /// How often a bridge was settled in a tree.
+    /// How often a bridge was settled in a tree, when this forest was made.
     pub fn settlings(&self, tree: Tree) -> u64
         ensures { result ≡ settlings_in self.now tree }
     {
@@ -108,7 +137,7 @@ impl Forest {
         }
         match self.mstis.get(&tree) {
             None => 0,
-            Some(settler) => settler.settlings(),
+            Some(msti) => msti.settlings(),
         }
     }
 }

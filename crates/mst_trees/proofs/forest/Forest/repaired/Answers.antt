@@ -5,12 +5,13 @@ use Rattle.mst_lag.specs.declared.in_view.PortInView.{PortInView}
 use Rattle.mst_trees.specs.Seen.{inner_seen, cist_seen}
 use Rattle.mst_trees.specs.Agrees.{AreOf}
 use Rattle.mst_trees.specs.Mstis.{AreMstis}
-use Rattle.mst_trees.proofs.Growing.{inner_agrees, is_forest, is_settled_once}
+use Rattle.mst_trees.proofs.Growing.{inner_agrees, is_forest}
+use Rattle.mst_trees.proofs.Keeping.{keeps_bounds}
 use Rattle.mst_trees.proofs.SettledTrees.{is_settled_seen}
-use Rattle.mst_trees.proofs.forest.Forest.new.Goals as goal
+use Rattle.mst_trees.proofs.forest.Forest.repaired.Goals as goal
 
-pub settled_mstis-requires : goal.settled_mstis-requires
-settled_mstis-requires c =
+pub repaired_mstis-requires : goal.repaired_mstis-requires
+repaired_mstis-requires c =
     let v = c.args.view.now in
     let classes = c.args.classes.now in
     let k = c.requires in
@@ -31,7 +32,7 @@ returns-clause-outcome c = λ net numbers of.
     let classes = c.args.classes.now in
     let o = c.has_outcome.ensures net of.network in
     is_forest net numbers v classes of c.renamed.ensures.vectors c.renamed.ensures.ports c.renamed-2.ensures.vectors c.renamed-2.ensures.ports o.0 o.1
-    _ c.in_ok-copy.ensures c.in_ok-cist.ensures.outcome c.as_slice.result.now (c.as_slice.ensures.value ∙ c.in_ok-inner.ensures) c.in_ok-mstis.ensures
+    _ c.in_ok-copy.ensures c.in_ok-cist.ensures.outcome c.as_slice.result.now (c.as_slice.ensures.value ∙ c.in_ok-inner.ensures) c.args.self.now.mstis.entries c.in_ok-mstis.ensures
 
 pub returns-clause-nested : goal.returns-clause-nested
 returns-clause-nested c =
@@ -42,9 +43,11 @@ returns-clause-nested c =
     let regions = sym c.in_ok-copy.ensures in
     is_settled_seen k.net k.numbers v (record { regions = c.in_ok-copy.field-0; cist = cist; mstis = c.in_ok-mstis.mstis }) (subst (AreOf k.net k.numbers v) regions k.of)
     c.renamed.ensures.vectors c.renamed.ensures.ports c.renamed.ensures.topology c.renamed-2.ensures.topology o.0 o.1 (c.nested.ensures.settled k.net o.0 k.of.network o.1)
-    (subst (λ classes. IsSettledFor cist_rules (cist_seen v classes) cist) regions c.in_ok-cist.ensures.outcome)
-    (subst (λ classes. AreMstis v (inner_seen v classes (designated_of cist)) c.in_ok-mstis.mstis.entries) regions
-    (subst (λ (inner : List PortInView). AreMstis v inner c.in_ok-mstis.mstis.entries) (c.as_slice.ensures.value ∙ c.in_ok-inner.ensures) c.in_ok-mstis.ensures))
+    (subst (λ classes. IsSettledFor cist_rules (cist_seen v classes) cist) regions c.in_ok-cist.ensures.outcome) c.args.self.now.mstis.entries
+    (subst (λ classes. AreMstis v (inner_seen v classes (designated_of cist)) c.args.self.now.mstis.entries c.in_ok-mstis.mstis.entries) regions
+    (subst (λ (inner : List PortInView). AreMstis v inner c.args.self.now.mstis.entries c.in_ok-mstis.mstis.entries) (c.as_slice.ensures.value ∙ c.in_ok-inner.ensures) c.in_ok-mstis.ensures))
 
-pub returns-clause-once : goal.returns-clause-once
-returns-clause-once c = is_settled_once c.args.view.now c.args.classes.now (record { regions = c.in_ok-copy.field-0; cist = c.in_ok-cist.cist; mstis = c.in_ok-mstis.mstis }) c.in_ok-cist.ensures c.as_slice.result.now c.in_ok-mstis.ensures
+pub returns-clause-bounds : goal.returns-clause-bounds
+returns-clause-bounds c =
+    keeps_bounds c.args.self.now (record { regions = c.in_ok-copy.field-0; cist = c.in_ok-cist.cist; mstis = c.in_ok-mstis.mstis }) c.args.view.now c.args.classes.now c.in_ok-cist.ensures
+    c.as_slice.result.now c.in_ok-mstis.ensures
