@@ -46,6 +46,10 @@ settled_renamed {B} {P} m law r t u v w tree h settled = record {
   port_ids = λ p there. let x = h.from_port p there in subst (λ (q : Plug ℕ ℕ ℕ P). m.port_id q.settings ≢ 0) x.2 (tree.port_ids x.0 x.1);
 }
 
+-- the settled MSTIs over these inner ports are those over equal ones
+pub same_inner : {v : Viewed} {inner other : List PortInView} {former mstis : List (ℕ × Assignment MstiVector)} → inner ≡ other → AreMstis v inner former mstis → AreMstis v other former mstis
+same_inner {v} {inner} {other} {former} {mstis} e = subst (λ i. AreMstis v i former mstis) e
+
 module _ (net : Net) (numbers : Numbers) (v : Viewed) (f : Forest) (of : AreOf net numbers v f.regions)
     (vectors : RenamedVectors cist_rules) (ports : RenamedPorts cist_rules) (topologies : RenamedTopology cist_rules) (msti_topologies : RenamedTopology msti_rules)
     (o : Outcome) (is : IsOutcome net o) (named : IsSettled (trees_of net o))

@@ -1,13 +1,11 @@
-use Rattle.std.proofs.Common.{List, sym, subst, ◌∙◌}
+use Rattle.std.proofs.Common.{sym, subst, ◌∙◌}
 use Rattle.mst_vector.specs.Cist.{cist_rules}
 use Rattle.mst_settle.specs.Assignment.{designated_of, IsSettledFor}
-use Rattle.mst_lag.specs.declared.in_view.PortInView.{PortInView}
 use Rattle.mst_trees.specs.Seen.{inner_seen, cist_seen}
 use Rattle.mst_trees.specs.Agrees.{AreOf}
-use Rattle.mst_trees.specs.Mstis.{AreMstis}
 use Rattle.mst_trees.proofs.Growing.{inner_agrees, is_forest}
 use Rattle.mst_trees.proofs.Keeping.{keeps_bounds}
-use Rattle.mst_trees.proofs.SettledTrees.{is_settled_seen}
+use Rattle.mst_trees.proofs.SettledTrees.{same_inner, is_settled_seen}
 use Rattle.mst_trees.proofs.forest.Forest.repaired.Goals as goal
 
 pub repaired_mstis-requires : goal.repaired_mstis-requires
@@ -32,7 +30,7 @@ returns-clause-outcome c = λ net numbers of.
     let classes = c.args.classes.now in
     let o = c.has_outcome.ensures net of.network in
     is_forest net numbers v classes of c.renamed.ensures.vectors c.renamed.ensures.ports c.renamed-2.ensures.vectors c.renamed-2.ensures.ports o.0 o.1
-    _ c.in_ok-copy.ensures c.in_ok-cist.ensures.outcome c.as_slice.result.now (c.as_slice.ensures.value ∙ c.in_ok-inner.ensures) c.args.self.now.mstis.entries c.in_ok-mstis.ensures
+    _ c.in_ok-copy.ensures c.in_ok-cist.ensures.outcome c.as_slice.result.now (c.as_slice.ensures.value ∙ c.in_ok-inner.ensures) _ c.in_ok-mstis.ensures
 
 pub returns-clause-nested : goal.returns-clause-nested
 returns-clause-nested c =
@@ -43,9 +41,8 @@ returns-clause-nested c =
     let regions = sym c.in_ok-copy.ensures in
     is_settled_seen k.net k.numbers v (record { regions = c.in_ok-copy.field-0; cist = cist; mstis = c.in_ok-mstis.mstis }) (subst (AreOf k.net k.numbers v) regions k.of)
     c.renamed.ensures.vectors c.renamed.ensures.ports c.renamed.ensures.topology c.renamed-2.ensures.topology o.0 o.1 (c.nested.ensures.settled k.net o.0 k.of.network o.1)
-    (subst (λ classes. IsSettledFor cist_rules (cist_seen v classes) cist) regions c.in_ok-cist.ensures.outcome) c.args.self.now.mstis.entries
-    (subst (λ classes. AreMstis v (inner_seen v classes (designated_of cist)) c.args.self.now.mstis.entries c.in_ok-mstis.mstis.entries) regions
-    (subst (λ (inner : List PortInView). AreMstis v inner c.args.self.now.mstis.entries c.in_ok-mstis.mstis.entries) (c.as_slice.ensures.value ∙ c.in_ok-inner.ensures) c.in_ok-mstis.ensures))
+    (subst (λ classes. IsSettledFor cist_rules (cist_seen v classes) cist) regions c.in_ok-cist.ensures.outcome) _
+    (same_inner (c.as_slice.ensures.value ∙ c.in_ok-inner.ensures ∙ (λ i. inner_seen v (regions i) (designated_of cist))) c.in_ok-mstis.ensures)
 
 pub returns-clause-bounds : goal.returns-clause-bounds
 returns-clause-bounds c =
