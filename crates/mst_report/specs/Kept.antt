@@ -8,6 +8,7 @@ use Rattle.mst_trees.specs.Forest.{IsForest}
 use Rattle.mst_changes.specs.declared.place.Row.{Row}
 use Rattle.mst_changes.specs.declared.rows.Rows.{Rows}
 use Rattle.mst_report.specs.State.{IsMark}
+use Rattle.mst_report.specs.Standing.{Standing, nothing, standing_of}
 use Rattle.mst_report.specs.declared.plan.Plan.{Plan}
 
 -- the view, the regions and the settled trees are those of the network
@@ -21,6 +22,11 @@ abbrev pub HasPlan : Net → Numbers → Bool → Option Plan → Type 0
 HasPlan net numbers false plan = Unit {0}
 HasPlan net numbers true None = ⊥
 HasPlan net numbers true (Some p) = IsPlan net numbers p
+
+-- the trees that stand
+abbrev pub standing_in : Option Plan → Standing
+standing_in None = nothing
+standing_in (Some p) = standing_of p.forest
 
 -- the rows that are kept of the mark, if there is one, are those of a network
 abbrev pub mark_rows : Option Rows → Option (List Row)

@@ -3,11 +3,14 @@ use Rattle.std.specs.Prelude.{Bool, List, Option}
 use Rattle.mst_net.specs.Contents.{Contents}
 use Rattle.mst_changes.specs.declared.place.Row.{Row}
 use Rattle.mst_report.specs.State.{State}
+use Rattle.mst_report.specs.Standing.{Standing}
 
--- its network, whether the plan is that of the network as it is now, and the rows of the mark, if there is one
+-- its network, whether the plan is that of the network as it is now, the trees that stand, and the rows of the mark,
+-- if there is one
 pub record Planned : Type 0 where
   pub contents : Contents
   pub is_settled : Bool
+  pub standing : Standing
   pub mark : Option (List Row)
 
 -- the state of the plan

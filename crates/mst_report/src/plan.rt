@@ -1,5 +1,6 @@
 ghost use Rattle.std.specs.Prelude.{IfOk};
-ghost use Rattle.mst_report.specs.Kept.{IsPlan};
+ghost use Rattle.mst_report.specs.Kept.{IsPlan, standing_in};
+ghost use Rattle.mst_report.specs.Standing.{standing_of, KeepsBounds};
 
 use mst_config::{Classes, region_classes};
 use mst_lag::{View, view};
@@ -25,15 +26,35 @@ impl Drop for Plan {
     }
 }
 
-/// The plan of a network, or of one as it will be once an edit is made. `AllocError`: memory was wanted and
-/// refused.
-pub(crate) fn plan_of<C: Contents>(alloc: Global, contents: &C) -> Result<Plan, AllocError>
-    ensures { IfOk result (IsPlan (C.tables contents.now).net (C.tables contents.now).numbers) }
+/// The plan of a network, or of one as it will be once an edit is made: its trees are repaired from those of the plan
+/// that stands, if one does. `AllocError`: memory was wanted and refused.
+pub(crate) fn next_plan<C: Contents>(
+    alloc: Global,
+    contents: &C,
+    standing: &Option<Plan>,
+) -> Result<Plan, AllocError>
+    ensures plan { IfOk result (IsPlan (C.tables contents.now).net (C.tables contents.now).numbers) }
+    ensures bounds { IfOk result (λ plan. KeepsBounds (standing_in standing.now) (standing_of plan.forest)) }
+{
+    match standing {
+        None => plan_from(alloc, contents, &Forest::empty(alloc)),
+        Some(plan) => plan_from(alloc, contents, &plan.forest),
+    }
+}
+
+/// The plan of a network, its trees repaired from these.
+fn plan_from<C: Contents>(
+    alloc: Global,
+    contents: &C,
+    standing: &Forest,
+) -> Result<Plan, AllocError>
+    ensures plan { IfOk result (IsPlan (C.tables contents.now).net (C.tables contents.now).numbers) }
+    ensures bounds { IfOk result (λ plan. KeepsBounds (standing_of standing.now) (standing_of plan.forest)) }
 {
     contents.known();
     let view = view(alloc, contents)?;
     let classes = region_classes(alloc, contents)?;
-    let forest = Forest::new(alloc, &view, &classes)?;
+    let forest = standing.repaired(alloc, &view, &classes)?;
     Ok(Plan {
         view,
         classes,

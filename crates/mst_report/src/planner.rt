@@ -7,8 +7,9 @@ ghost use Rattle.mst_trees.specs.Forest.{IsForest};
 ghost use Rattle.mst_lag.specs.Viewed.{IsView};
 
 use crate::laws::rows_of_network;
-use crate::plan::{Plan, plan_of};
+use crate::plan::{Plan, next_plan};
 use mst_changes::Rows;
+use mst_ids::Tree;
 use mst_lag::View;
 use mst_lang::Edit;
 use mst_net::{Contents, Network, Refusal};
@@ -54,9 +55,9 @@ impl Model for Planner {
 
     ghost coded = { Prim.hlevel (codes, contents_code) };
 
-    ghost use Rattle.mst_report.specs.Kept.{HasPlan, HasMark, mark_rows};
+    ghost use Rattle.mst_report.specs.Kept.{HasPlan, HasMark, mark_rows, standing_in};
 
-    ghost view = { λ p. record { contents = p.network; is_settled = p.is_settled; mark = mark_rows p.mark } };
+    ghost view = { λ p. record { contents = p.network; is_settled = p.is_settled; standing = standing_in p.plan; mark = mark_rows p.mark } };
 
     ghost invariant = { λ p. HasPlan p.network.net p.network.numbers p.is_settled p.plan × HasMark p.mark };
 }
@@ -64,11 +65,13 @@ impl Model for Planner {
 impl Planner {
     ghost use Rattle.mst_report.specs.Kept.{IsPlan};
     ghost use Rattle.mst_report.specs.Planned.{planned_state};
+    ghost use Rattle.mst_report.specs.Standing.{Standing, nothing, standing_of, settlings_of, KeepsBounds};
     ghost use Rattle.mst_report.specs.State.{IsState, IsMarkNow, IsRowsNow, empty_state};
 
     /// The planner of the network with no records, which isn't settled yet: so it takes no memory.
     pub fn new(alloc: Global) -> Planner
-        ensures { planned_state result ≡ empty_state }
+        ensures state { planned_state result ≡ empty_state }
+        ensures standing { result.standing ≡ nothing }
     {
         Planner {
             alloc,
@@ -111,9 +114,22 @@ impl Planner {
     /// The network's trees, settled.
     pub fn forest(&self) -> &Forest
         requires { self.now.is_settled ≡ true }
-        ensures { IsForest self.now.contents.net self.now.contents.numbers result.now }
+        ensures of { IsForest self.now.contents.net self.now.contents.numbers result.now }
+        ensures standing { standing_of result.now ≡ self.now.standing }
     {
         &self.plan().forest
+    }
+
+    /// How often a bridge was settled in a tree when the plan was brought up to the network last, and 0 where it never
+    /// was or no bridge had the tree. It is at least the number of bridges whose vector in the tree was another one
+    /// afterwards, and at most twice the number of those whose vector was another one or none.
+    pub fn settlings(&self, tree: Tree) -> u64
+        ensures { result ≡ settlings_of self.now.standing tree }
+    {
+        match &self.plan {
+            None => 0,
+            Some(plan) => plan.forest.settlings(tree),
+        }
     }
 
     /// Makes an edit in the network and leaves the plan for later. An edit is refused with the least number that
@@ -122,6 +138,7 @@ impl Planner {
         ensures ok { OnOk result (after edit.now self.old.contents.net ≡ Ok self.new.contents.net) }
         ensures same { OnErr result (self.new.contents.net ≡ self.old.contents.net) }
         ensures settled { OnErr result (self.new.is_settled ≡ self.old.is_settled) }
+        ensures standing { self.new.standing ≡ self.old.standing }
         ensures mark { self.new.mark ≡ self.old.mark }
         ensures refused { IfErr result (λ refusal. refusal ≢ Refusal.E99 → after edit.now self.old.contents.net ≡ Err refusal) }
         ensures memory { result ≡ Err Refusal.E99 → IsOk (after edit.now self.old.contents.net) }
@@ -137,35 +154,40 @@ impl Planner {
         }
     }
 
-    /// Brings the plan up to the network. `AllocError`: memory was wanted and refused, and the planner is as it was.
+    /// Brings the plan up to the network, whatever edits were staged since: each tree is repaired from the one that
+    /// stands. `AllocError`: memory was wanted and refused, and the planner is as it was.
     pub fn settle(&mut self) -> Result<(), AllocError>
         ensures same { self.new.contents ≡ self.old.contents }
         ensures mark { self.new.mark ≡ self.old.mark }
         ensures settled { OnOk result (self.new.is_settled ≡ true) }
+        ensures idle { self.old.is_settled ≡ true → self.new ≡ self.old }
+        ensures bounds { OnOk result (self.old.is_settled ≡ false → KeepsBounds self.old.standing self.new.standing) }
         ensures as_it_was { OnErr result (self.new ≡ self.old) }
     {
         if self.is_settled {
             return Ok(());
         }
-        let plan = plan_of(self.alloc, &self.network)?;
+        let plan = next_plan(self.alloc, &self.network, &self.plan)?;
         self.plan = Some(plan);
         self.is_settled = true;
         Ok(())
     }
 
-    /// Makes an edit and settles the network that it makes. An edit is refused with the least number that applies,
+    /// Makes an edit and settles the network that it makes: each tree is repaired from the one that stands. An edit is refused with the least number that applies,
     /// and with E99 only where none does and memory was wanted and refused; the planner is then as it was.
     pub fn apply(&mut self, edit: &Edit) -> Result<(), Refusal>
         ensures ok { OnOk result (after edit.now self.old.contents.net ≡ Ok self.new.contents.net) }
         ensures settled { OnOk result (self.new.is_settled ≡ true) }
+        ensures bounds { OnOk result (KeepsBounds self.old.standing self.new.standing) }
         ensures same { OnErr result (self.new.contents.net ≡ self.old.contents.net) }
         ensures as_it_was { OnErr result (self.new.is_settled ≡ self.old.is_settled) }
+        ensures standing { OnErr result (self.new.standing ≡ self.old.standing) }
         ensures mark { self.new.mark ≡ self.old.mark }
         ensures refused { IfErr result (λ refusal. refusal ≢ Refusal.E99 → after edit.now self.old.contents.net ≡ Err refusal) }
         ensures memory { result ≡ Err Refusal.E99 → IsOk (after edit.now self.old.contents.net) }
     {
         let ready = self.network.prepare(edit)?;
-        match plan_of(self.alloc, &self.network.ahead(&ready)) {
+        match next_plan(self.alloc, &self.network.ahead(&ready), &self.plan) {
             Ok(plan) => {
                 self.network.commit(ready);
                 self.plan = Some(plan);
@@ -190,6 +212,7 @@ impl Planner {
         requires { self.old.is_settled ≡ true }
         ensures same { self.new.contents ≡ self.old.contents }
         ensures settled { self.new.is_settled ≡ true }
+        ensures standing { self.new.standing ≡ self.old.standing }
         ensures marked { OnOk result (IsRowsNow self.old.contents.net self.new.mark) }
         ensures as_it_was { OnErr result (self.new.mark ≡ self.old.mark) }
         ensures refused { IfErr result (λ refusal. refusal ≡ Refusal.E99) }
@@ -225,7 +248,8 @@ impl Planner {
     /// The plan, for the texts.
     pub(crate) fn plan(&self) -> &Plan
         requires { self.now.is_settled ≡ true }
-        ensures { IsPlan self.now.contents.net self.now.contents.numbers result.now }
+        ensures of { IsPlan self.now.contents.net self.now.contents.numbers result.now }
+        ensures standing { standing_of result.now.forest ≡ self.now.standing }
     {
         self.plan.as_ref().unwrap()
     }

@@ -14,9 +14,9 @@ from_plan-requires c =
     let now = c.args.planner.now.contents in
     let v = c.view-view.result.now in
     let f = c.forest-forest.result.now in
-    let of = of_contents now c.network.result.now v f c.network.ensures c.known.ensures.network c.known.ensures.numbered c.view-view.ensures c.forest-forest.ensures in
+    let of = of_contents now c.network.result.now v f c.network.ensures c.known.ensures.network c.known.ensures.numbered c.view-view.ensures c.forest-forest.ensures.of in
     let s = c.in-Some.sender in
-    has_seen now.net now.numbers v f of c.forest-forest.ensures s (is_sender v c.args.bpdu.now s (sym c.sender_in.ensures ∙ c.in-Some.is))
+    has_seen now.net now.numbers v f of c.forest-forest.ensures.of s (is_sender v c.args.bpdu.now s (sym c.sender_in.ensures ∙ c.in-Some.is))
 
 pub returns-in-Ok : goal.returns-in-Ok
 returns-in-Ok c =
@@ -24,12 +24,12 @@ returns-in-Ok c =
     let bpdu = c.args.bpdu.now in
     let v = c.view-view.result.now in
     let f = c.forest-forest.result.now in
-    let of = of_contents now c.network.result.now v f c.network.ensures c.known.ensures.network c.known.ensures.numbered c.view-view.ensures c.forest-forest.ensures in
+    let of = of_contents now c.network.result.now v f c.network.ensures c.known.ensures.network c.known.ensures.numbered c.view-view.ensures c.forest-forest.ensures.of in
     let s = c.in-Some.sender in
     let seen = sym c.sender_in.ensures ∙ c.in-Some.is in
     let h = c.in-Ok.ensures in
     record {
-      found = are_differences now.net now.numbers v f of c.forest-forest.ensures s (is_sender v bpdu s seen) bpdu c.in-Ok.found.items h.0 (sent_by now.net now.numbers v c.view-view.ensures bpdu s seen) h.1 h.2;
+      found = are_differences now.net now.numbers v f of c.forest-forest.ensures.of s (is_sender v bpdu s seen) bpdu c.in-Ok.found.items h.0 (sent_by now.net now.numbers v c.view-view.ensures bpdu s seen) h.1 h.2;
       fault = tt;
     }
 

@@ -5,4 +5,4 @@ use Rattle.mst_report.proofs.planner.Planner.lags.Goals as goal
 pub returns : goal.returns
 returns c =
     let now = c.args.self.now.contents in
-    ap Ok (c.in_ok-push_lags.ensures now.net now.numbers c.plan.ensures.of.view ∙ ap (λ l. l ++ lags_text now.net) c.new-text.ensures.items)
+    ap Ok (c.in_ok-push_lags.ensures now.net now.numbers c.plan.ensures.of.of.view ∙ ap (λ l. l ++ lags_text now.net) c.new-text.ensures.items)

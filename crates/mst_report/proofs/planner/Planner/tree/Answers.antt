@@ -5,7 +5,7 @@ use Rattle.mst_report.proofs.planner.Planner.tree.Goals as goal
 pub returns : goal.returns
 returns c =
     let now = c.args.self.now.contents in
-    let plan = c.plan-plan.ensures in
+    let plan = c.plan-plan.ensures.of in
     let text = tree_text now.net plan.forest.outcome c.args.tree in (
       plan.forest.outcome,
       plan.forest.is_outcome,

@@ -1,7 +1,7 @@
-use Rattle.mst_report.proofs.plan.plan_of.Goals as goal
+use Rattle.mst_report.proofs.plan.plan_from.Goals as goal
 
-pub new-requires : goal.new-requires
-new-requires g c =
+pub repaired-requires : goal.repaired-requires
+repaired-requires g c =
     let tables = g.C.Contents.tables c.args.contents.now in
     record {
       net = tables.net;
@@ -9,8 +9,8 @@ new-requires g c =
       of = record { network = c.known.ensures.network; numbered = c.known.ensures.numbered; view = c.in_ok-view.ensures; regions = c.in_ok-classes.ensures };
     }
 
-pub returns : goal.returns
-returns g c =
+pub returns-clause-plan : goal.returns-clause-plan
+returns-clause-plan g c =
     let tables = g.C.Contents.tables c.args.contents.now in
     let regions = c.in_ok-classes.ensures in
     let forest =
@@ -21,3 +21,6 @@ returns g c =
       regions = regions;
       forest = forest;
     }
+
+pub returns-clause-bounds : goal.returns-clause-bounds
+returns-clause-bounds g c = record { cist = c.in_ok-forest.ensures.bounds.cist; mstis = c.in_ok-forest.ensures.bounds.mstis }
