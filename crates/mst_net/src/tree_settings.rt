@@ -1,5 +1,6 @@
 ghost use Rattle.std.specs.Prelude.{◌≡◌, ◌<◌, min, OnOk, OnErr, IfOk};
 ghost use Rattle.indexmap.specs.IndexMap.{spare};
+ghost use Rattle.mst_ids.specs.Vids.{has};
 ghost use Rattle.mst_lang.specs.declared.line.Edit.TheVariants.{DelBridge, DelPort, SetTreePriority, SetTreePortPriority, SetTreePortCost, MapVids, SetPortVlans};
 ghost use Rattle.mst_net.specs.After.{own_priority as own, own_table as kept_table, own_vlans as kept_vlans};
 ghost use Rattle.mst_net.specs.ByTree.{AreInTrees, nothing_set, priority_in, port_priority_in, port_cost_in, table_in, vlans_in};
@@ -128,6 +129,17 @@ impl TreeSettings {
         self.port_costs
             .get(&PortInTree { port: *port, tree })
             .copied()
+    }
+
+    /// Whether a port is a member of a VLAN: of each where none were set. No set is made for that.
+    pub fn is_member(&self, port: &PortName, vid: Vid) -> bool
+        ensures { result ≡ has (vlans_in self.now.set.vlans port.now) vid }
+    {
+        let number = vid.value();
+        match self.vlans.get(port) {
+            Some(vids) => vids.contains(number),
+            None => true,
+        }
     }
 
     /// The VLANs that a port is a member of, all where none were set.
