@@ -52,7 +52,7 @@ fn lans_up(alloc: Global, view: &View) -> Result<Vec<LanNo>, AllocError>
 fn is_member(view: &View, port: &PortInView, vid: Vid) -> bool
     ensures { result ≡ seen_member view.now vid port.now }
 {
-    view.settings().port_vlans(&port.name).contains(vid.value())
+    view.settings().is_member(&port.name, vid)
 }
 
 /// The links of the active ports that are members of the VLAN.

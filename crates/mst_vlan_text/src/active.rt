@@ -57,7 +57,7 @@ fn push_active_port(
 fn is_member(view: &View, port: &PortInView, vid: Vid) -> bool
     ensures { result ≡ seen_member view.now vid port.now }
 {
-    view.settings().port_vlans(&port.name).contains(vid.value())
+    view.settings().is_member(&port.name, vid)
 }
 
 /// Appends the name of a port, in brackets where it isn't a member.
