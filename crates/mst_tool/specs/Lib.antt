@@ -1,6 +1,11 @@
 pub mod Lines
+pub mod Held
+pub mod Steps
 pub mod Script
+pub mod Captures
 pub mod Written
 pub mod Engine
 pub mod Feeding
+pub mod Served
 pub mod Run
+pub mod Check

@@ -1,15 +1,20 @@
-ghost use Rattle.std.specs.Prelude.{◌≡◌, ℕ, ◌+◌, ◌^◌, ◌<◌, Bool, Ok, Err, OnOk, OnErr};
+ghost use Rattle.std.specs.Prelude.{◌≡◌, ℕ, ◌+◌, ◌^◌, ◌<◌, Bool, true, Ok, Err, OnOk, OnErr};
 ghost use Rattle.std.specs.Io.KnownBytes.{Appends};
 ghost use Rattle.mst_lang.specs.declared.line.Line.TheVariants.{Mark, Query as query};
 ghost use Rattle.mst_report.specs.Planned.{planned_state};
 ghost use Rattle.mst_report.specs.Refusing.{HasText};
+ghost use Rattle.mst_report.specs.State.{empty_state};
+ghost use Rattle.mst_net.specs.Refusals.{code_of as refusal_code, text_of as refusal_text};
+ghost use Rattle.mst_wire.specs.CaptureText.{fault_line};
 ghost use Rattle.mst_tool.specs.Written.{AppendsFront};
-ghost use Rattle.mst_tool.specs.Script.{Serves, ServesRead, refusal_line};
-ghost use Rattle.mst_tool.specs.Engine.{start, tally_of, tallied, outcome_of, reply_text, replied};
+ghost use Rattle.mst_tool.specs.Script.{ServesRead, Serves, code_line, refusal_line};
+ghost use Rattle.mst_tool.specs.Engine.{IsReady, does, begun, tally_of, tallied, outcome_of, reply_text, replied};
 
+use crate::captures::compare_line;
 use crate::print::{WriteFailed, put, put_parts};
 use crate::runs::Outcome;
 use itoa::Buffer;
+use mst_bpdu::BpduFault;
 use mst_lang::{Fault, Line, Query, parse_line};
 use mst_net::Refusal;
 use mst_report::Planner;
@@ -17,16 +22,28 @@ use mst_report::laws::rows_of_network;
 use std::alloc::Global;
 use std::io::Write;
 
-/// What a run keeps from line to line.
+/// What lines come from, by which they are served.
+#[derive(Clone, Copy)]
+pub(crate) enum Input {
+    /// A script: edits of the network, and queries.
+    Script,
+    /// Captured messages, which are compared with the plan.
+    Captures,
+}
+
+/// What is kept from line to line.
 #[derive(Drop)]
 pub(crate) struct Engine {
+    pub(crate) alloc: Global,
     pub(crate) planner: Planner,
-    /// The number of the next line, from 1.
+    /// The number of the next line of the input, from 1.
     pub(crate) number: u64,
-    /// How many lines were refused, but for want of memory.
+    /// How many lines of the input were refused, but for want of memory.
     pub(crate) refused: u64,
-    /// How many lines were refused for want of memory.
+    /// How many lines of the input were refused for want of memory.
     pub(crate) memory: u64,
+    /// How many captured messages of the input differ from the planned ones.
+    pub(crate) differing: u64,
 }
 
 /// What a line is answered by.
@@ -42,45 +59,69 @@ pub(crate) enum Reply {
     Refused(Refusal),
     /// Memory was wanted and refused.
     Starved,
+    /// The captured message differs from the planned one: its differences.
+    Differing(Vec<u8>),
+    /// The captured message isn't read, or has no sender.
+    Faulty(BpduFault),
+    /// Memory was wanted and refused, to compare the captured message.
+    Uncompared,
 }
 
 impl Engine {
     /// The empty network, before the first line.
     pub(crate) fn new(alloc: Global) -> Engine
-        ensures { tally_of result ≡ start }
+        ensures begins { tally_of result ≡ begun (planned_state result.planner) }
+        ensures empty { planned_state result.planner ≡ empty_state }
     {
         Engine {
+            alloc,
             planner: Planner::new(alloc),
             number: 1,
             refused: 0,
             memory: 0,
+            differing: 0,
         }
     }
 
-    /// What was counted.
+    /// What was counted of the input.
     pub(crate) fn outcome(&self) -> Outcome
         ensures { result ≡ outcome_of (tally_of self.now) }
     {
         Outcome {
             refused: self.refused,
             memory: self.memory,
-            differing: 0,
+            differing: self.differing,
         }
     }
 
+    /// Begins the next input, of which nothing is counted yet.
+    pub(crate) fn restart(&mut self)
+        ensures begins { tally_of self.new ≡ begun (planned_state self.new.planner) }
+        ensures planner { self.new.planner ≡ self.old.planner }
+    {
+        self.number = 1;
+        self.refused = 0;
+        self.memory = 0;
+        self.differing = 0;
+    }
+
     /// Serves a line, and counts it.
-    pub(crate) fn reply(&mut self, line: &[u8]) -> Reply
+    pub(crate) fn reply(&mut self, input: Input, line: &[u8]) -> Reply
+        requires ready { IsReady input self.old }
         requires numbered { self.old.number < 2 ^ 60 }
         requires refused { self.old.refused < 2 ^ 60 }
         requires memory { self.old.memory < 2 ^ 60 }
-        ensures served { Serves self.old.number (planned_state self.old.planner) line.now (replied self.old.number (planned_state self.new.planner) result) }
+        requires differing { self.old.differing < 2 ^ 60 }
+        ensures ready { IsReady input self.new }
+        ensures served { does input self.old.number (planned_state self.old.planner) line.now (replied self.old.number (planned_state self.new.planner) result) }
         ensures counted { tally_of self.new ≡ tallied (tally_of self.old) (replied self.old.number (planned_state self.new.planner) result) }
     {
-        let reply = reply_to(&mut self.planner, self.number, line);
+        let reply = reply_to(input, self.alloc, &mut self.planner, self.number, line);
         self.number += 1;
         match reply {
-            Reply::Unread(_) | Reply::Refused(_) => self.refused += 1,
-            Reply::Starved => self.memory += 1,
+            Reply::Unread(_) | Reply::Refused(_) | Reply::Faulty(_) => self.refused += 1,
+            Reply::Starved | Reply::Uncompared => self.memory += 1,
+            Reply::Differing(_) => self.differing += 1,
             Reply::Silent | Reply::Text(_) => {}
         }
         reply
@@ -88,7 +129,19 @@ impl Engine {
 }
 
 /// Serves a line.
-fn reply_to(planner: &mut Planner, number: u64, line: &[u8]) -> Reply
+fn reply_to(input: Input, alloc: Global, planner: &mut Planner, number: u64, line: &[u8]) -> Reply
+    requires { input ≡ Input.Captures → planner.old.is_settled ≡ true }
+    ensures served { does input number (planned_state planner.old) line.now (replied number (planned_state planner.new) result) }
+    ensures ready { input ≡ Input.Captures → planner.new.is_settled ≡ true }
+{
+    match input {
+        Input::Script => serve_line(planner, number, line),
+        Input::Captures => compare_line(alloc, planner, number, line),
+    }
+}
+
+/// Serves a line of a script.
+fn serve_line(planner: &mut Planner, number: u64, line: &[u8]) -> Reply
     ensures { Serves number (planned_state planner.old) line.now (replied number (planned_state planner.new) result) }
 {
     match parse_line(line) {
@@ -160,27 +213,46 @@ pub(crate) fn print<W: Write>(writer: &mut W, number: u64, reply: &Reply) -> Res
 {
     match reply {
         Reply::Silent => Ok(()),
-        Reply::Text(text) => put(writer, text.as_slice()),
-        Reply::Unread(fault) => put_refusal(writer, number, fault.code(), fault.text()),
-        Reply::Refused(refusal) => put_refusal(writer, number, refusal.code(), refusal.text()),
-        Reply::Starved => put_refusal(writer, number, Refusal::E99.code(), Refusal::E99.text()),
+        Reply::Text(text) | Reply::Differing(text) => put(writer, text.as_slice()),
+        Reply::Unread(fault) => put_code(writer, "line ", number, fault.code(), fault.text()),
+        Reply::Refused(refusal) => put_refusal(writer, number, *refusal),
+        Reply::Starved => put_refusal(writer, number, Refusal::E99),
+        Reply::Faulty(fault) => put_fault(writer, number, *fault),
+        Reply::Uncompared => put_fault(writer, number, BpduFault::B99),
     }
 }
 
-/// Writes `line N CODE TEXT`.
-fn put_refusal<W: Write>(
+/// Writes that a line of a script is refused.
+fn put_refusal<W: Write>(writer: &mut W, number: u64, refusal: Refusal) -> Result<(), WriteFailed>
+    ensures ok { OnOk result (Appends (W.contents writer.old) (W.contents writer.new) (refusal_line number (refusal_code refusal) (refusal_text refusal))) }
+    ensures err { OnErr result (AppendsFront (W.contents writer.old) (W.contents writer.new) (refusal_line number (refusal_code refusal) (refusal_text refusal))) }
+{
+    put_code(writer, "line ", number, refusal.code(), refusal.text())
+}
+
+/// Writes that a captured message isn't compared.
+fn put_fault<W: Write>(writer: &mut W, number: u64, fault: BpduFault) -> Result<(), WriteFailed>
+    ensures ok { OnOk result (Appends (W.contents writer.old) (W.contents writer.new) (fault_line number fault)) }
+    ensures err { OnErr result (AppendsFront (W.contents writer.old) (W.contents writer.new) (fault_line number fault)) }
+{
+    put_code(writer, "capture ", number, fault.code(), fault.text())
+}
+
+/// Writes the first word, `N CODE TEXT` and the end of the line.
+fn put_code<'a, W: Write>(
     writer: &mut W,
+    first: &'a str,
     number: u64,
-    code: &str,
-    text: &str,
+    code: &'a str,
+    text: &'a str,
 ) -> Result<(), WriteFailed>
-    ensures ok { OnOk result (Appends (W.contents writer.old) (W.contents writer.new) (refusal_line number code.now text.now)) }
-    ensures err { OnErr result (AppendsFront (W.contents writer.old) (W.contents writer.new) (refusal_line number code.now text.now)) }
+    ensures ok { OnOk result (Appends (W.contents writer.old) (W.contents writer.new) (code_line first.now number code.now text.now)) }
+    ensures err { OnErr result (AppendsFront (W.contents writer.old) (W.contents writer.new) (code_line first.now number code.now text.now)) }
 {
     let mut buffer = Buffer::new();
     let digits = buffer.format(number).as_bytes();
     let parts: [&[u8]; 7] = [
-        b"line ",
+        first.as_bytes(),
         digits,
         b" ",
         code.as_bytes(),

@@ -1,16 +1,19 @@
 ghost use Rattle.std.specs.Prelude.{◌≡◌, ◌≢◌, ℕ, List, Option, Err, IfOk, OnOk, OnErr};
-ghost use Rattle.mst_tool.specs.Engine.{start, tally_of, outcome_of};
+ghost use Rattle.mst_report.specs.Planned.{planned_state};
+ghost use Rattle.mst_tool.specs.Engine.{IsReady, begun, tally_of, outcome_of};
 ghost use Rattle.mst_tool.specs.Run.{Prints, PrintsFront, PrintsEnded, status_of};
+ghost use Rattle.mst_tool.specs.Served.{Served, ServedFront, ServedEnded, IsFew};
 
-use crate::engine::Engine;
+use crate::engine::{Engine, Input};
 use crate::feed::{feed, finish};
 use crate::held_line::HeldLine;
-use crate::laws::{has_run, one_run};
+use crate::laws::{has_steps, one_run};
 use std::alloc::Global;
 use std::io::{Read, Write};
 use thiserror::Error;
 
-/// What a run that came to the script's end has counted, in lines. A line counts once at most.
+/// What a run has counted that came to the end of the script, or a check that came to the end of the captures, in
+/// lines. A line counts once at most.
 #[derive(Clone, Copy, Debug, PartialEq, Eq)]
 pub struct Outcome {
     /// Lines that were refused, but for want of memory.
@@ -18,13 +21,12 @@ pub struct Outcome {
     /// Lines that were refused for want of memory. Each prints so and changes nothing, and the lines
     /// after it were served.
     pub memory: u64,
-    /// Captured messages that differ from the planned ones. No line reads captures yet, so there are
-    /// none.
+    /// Captured messages that differ from the planned ones, in one field or more. A script has none.
     pub differing: u64,
 }
 
-/// Why a run stopped before the script's end. The lines before were served, and a front of what the
-/// script prints went out: no byte of another text, and none twice.
+/// Why a run or a check stopped before the end. The lines before were served, and a front of what the
+/// lines print went out: no byte of another text, and none twice.
 #[derive(Clone, Copy, Debug, Error, PartialEq, Eq)]
 pub enum RunFault {
     /// The reader failed, or gave no end in 2^32 calls. A call that was interrupted has failed, too,
@@ -35,13 +37,13 @@ pub enum RunFault {
     /// failed, too, and isn't made again.
     #[error("write fault")]
     Write,
-    /// The run itself wanted memory and was refused. A run takes none of its own today, so it doesn't
-    /// answer this: a line that wants memory is refused, and counted in [`Outcome::memory`].
+    /// Memory was wanted and refused for the plan that captures are compared with. A run doesn't answer
+    /// this: a line that wants memory is refused, and counted in [`Outcome::memory`].
     #[error("out of memory")]
     Memory,
 }
 
-/// How many calls of the reader a run makes at most.
+/// How many calls of a reader are made at most.
 const TURNS: u64 = 1 << 32;
 
 const _: () = prove!(TURNS == 4_294_967_296);
@@ -84,25 +86,28 @@ pub fn run_from<R: Read, W: Write>(
     ensures read { result ≡ Err RunFault.Read → PrintsEnded (R.remaining reader.old) (R.remaining reader.new) (W.contents writer.old) (W.contents writer.new) }
     ensures memory { result ≢ Err RunFault.Memory }
 {
+    one_run();
     let mut engine = Engine::new(alloc);
-    serve_script(&mut engine, reader, writer)?;
+    serve_input(Input::Script, &mut engine, reader, writer)?;
     Ok(engine.outcome())
 }
 
-/// Serves all of a script's lines.
-fn serve_script<R: Read, W: Write>(
+/// Serves all lines of an input, of which nothing is counted yet.
+pub(crate) fn serve_input<R: Read, W: Write>(
+    input: Input,
     engine: &mut Engine,
     reader: &mut R,
     writer: &mut W,
 ) -> Result<(), RunFault>
-    requires { tally_of engine.old ≡ start }
-    ensures ok { OnOk result (Prints (R.remaining reader.old) (W.contents writer.old) (W.contents writer.new) (outcome_of (tally_of engine.new))) }
-    ensures fault { OnErr result (PrintsFront (R.remaining reader.old) (W.contents writer.old) (W.contents writer.new)) }
-    ensures read { result ≡ Err RunFault.Read → PrintsEnded (R.remaining reader.old) (R.remaining reader.new) (W.contents writer.old) (W.contents writer.new) }
+    requires ready { IsReady input engine.old }
+    requires begins { tally_of engine.old ≡ begun (planned_state engine.old.planner) }
+    ensures ok { OnOk result (Served input (planned_state engine.old.planner) (R.remaining reader.old) (W.contents writer.old) (W.contents writer.new) (tally_of engine.new)) }
+    ensures few { OnOk result (IsFew (outcome_of (tally_of engine.new))) }
+    ensures fault { OnErr result (ServedFront input (planned_state engine.old.planner) (R.remaining reader.old) (W.contents writer.old) (W.contents writer.new)) }
+    ensures read { result ≡ Err RunFault.Read → ServedEnded input (planned_state engine.old.planner) (R.remaining reader.old) (R.remaining reader.new) (W.contents writer.old) (W.contents writer.new) }
     ensures memory { result ≢ Err RunFault.Memory }
 {
-    one_run();
-    has_run();
+    has_steps();
     let mut held = HeldLine::new();
     let mut chunk = [0; 4096];
     'turns: for turn in 0..TURNS {
@@ -112,12 +117,12 @@ fn serve_script<R: Read, W: Write>(
             Ok(count) => count,
         };
         if count == 0 {
-            match finish(engine, &mut held, writer) {
+            match finish(input, engine, &mut held, writer) {
                 Err(_) => return Err(RunFault::Write),
                 Ok(()) => return Ok(()),
             }
         }
-        match feed(engine, &mut held, writer, &chunk[..count]) {
+        match feed(input, engine, &mut held, writer, &chunk[..count]) {
             Err(_) => return Err(RunFault::Write),
             Ok(()) => {}
         }
@@ -126,7 +131,7 @@ fn serve_script<R: Read, W: Write>(
     Err(RunFault::Read)
 }
 
-/// The exit status of a run: 3 for a fault or where a line was refused for want of memory, else 1
+/// The exit status of a run or a check: 3 for a fault or where a line was refused for want of memory, else 1
 /// where a line was refused or something differs, else 0.
 pub fn status(ran: &Result<Outcome, RunFault>) -> u8
     ensures { result ≡ status_of ran.now }

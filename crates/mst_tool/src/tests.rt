@@ -1,9 +1,11 @@
+mod captures;
 mod edits;
 mod faults;
 mod links;
 mod network;
 mod plans;
 mod regions;
+mod repairs;
 mod rows;
 
 use crate::{Outcome, RunFault, laws, run, status};
@@ -170,6 +172,8 @@ fn laws_can_be_called() {
     laws::has_run();
     laws::one_run();
     laws::network_alone();
+    laws::has_comparison();
+    laws::one_comparison();
     answers::has_answer();
     answers::one_answer();
     answers::rows_of_network();

@@ -12,8 +12,8 @@ use std::test::Fail;
 pub(super) struct Source<'a> {
     left: &'a [u8],
     step: usize,
-    fails: bool,
-    calls: u32,
+    pub(super) fails: bool,
+    pub(super) calls: u32,
 }
 
 impl<'a> Source<'a> {

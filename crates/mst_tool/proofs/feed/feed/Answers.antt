@@ -16,10 +16,11 @@ loop-byte-preserved g c =
     let now = tally_of c.take_byte.new.engine in
     let left = c.take_byte.new.held in
     record {
+      ready = c.take_byte.ensures.ready;
       counted = c.take_byte.ensures.counted;
       done = was.done ++ new.0;
-      feeds = subst (λ l. Feeds (was.done ++ new.0) old c.args.held.now l now left) (sym (take_more bytes i 0 (omega arith)))
-          (Feeds-join was.done new.0 old (tally_of c.loop-byte.engine) now c.args.held.now c.loop-byte.held left (take i bytes) (get_or bytes i 0 ∷ []) was.feeds new.1);
+      feeds = subst (λ l. Feeds c.args.input (was.done ++ new.0) old c.args.held.now l now left) (sym (take_more bytes i 0 (omega arith)))
+          (Feeds-join c.args.input was.done new.0 old (tally_of c.loop-byte.engine) now c.args.held.now c.loop-byte.held left (take i bytes) (get_or bytes i 0 ∷ []) was.feeds new.1);
       written = texts_join _ _ _ was.done new.0 was.written new.2;
     }
 
@@ -34,6 +35,6 @@ returns-in_err-take_byte-clause-err g c =
     let i = c.loop-byte.byte-index in
     let old = tally_of c.args.engine.now in
     let held = c.args.held.now in
-    rw p.1 (subst (Breaks _ _ old held) (cut_at bytes i (omega arith))
-    (Breaks-longer _ _ old held (take i bytes ++ get_or bytes i 0 ∷ []) (drop (i + 1) bytes)
-    (Breaks-after _ _ _ was.done old (tally_of c.loop-byte.engine) held c.loop-byte.held (take i bytes) (get_or bytes i 0 ∷ []) was.feeds was.written c.in_err-take_byte.ensures.err)))
+    rw p.1 (subst (Breaks c.args.input _ _ old held) (cut_at bytes i (omega arith))
+    (Breaks-longer c.args.input _ _ old held (take i bytes ++ get_or bytes i 0 ∷ []) (drop (i + 1) bytes)
+    (Breaks-after c.args.input _ _ _ was.done old (tally_of c.loop-byte.engine) held c.loop-byte.held (take i bytes) (get_or bytes i 0 ∷ []) was.feeds was.written c.in_err-take_byte.ensures.err)))

@@ -1,14 +1,15 @@
 use Rattle.std.proofs.Common.{List, take}
 use Rattle.std.specs.Io.KnownBytes.{Appends}
-use Rattle.mst_tool.specs.Script.{Step, texts_of}
-use Rattle.mst_tool.specs.Engine.{tally_of}
+use Rattle.mst_tool.specs.Steps.{Step, texts_of}
+use Rattle.mst_tool.specs.Engine.{IsReady, tally_of}
 use Rattle.mst_tool.specs.Feeding.{IsCounted, Feeds}
 use Rattle.mst_tool.proofs.feed.feed.Given as goal
 
 abbrev pub invariant-loop-byte : goal.invariant-loop-byte
 invariant-loop-byte g l = record {
+  ready : IsReady l.fn.input l.engine;
   counted : IsCounted (tally_of l.engine);
   done : List Step;
-  feeds : Feeds done (tally_of l.fn.engine) l.fn.held (take l.byte-index l.bytes) (tally_of l.engine) l.held;
+  feeds : Feeds l.fn.input done (tally_of l.fn.engine) l.fn.held (take l.byte-index l.bytes) (tally_of l.engine) l.held;
   written : Appends (g.W.Write.contents l.fn.writer) (g.W.Write.contents l.writer) (texts_of done);
 }
