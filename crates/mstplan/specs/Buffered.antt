@@ -1,6 +1,7 @@
--- What a run through the program's buffer promises of the writer behind it.
-use Rattle.std.specs.Prelude.{ℕ, List, Option, Result, Ok, Err}
+-- What a run or a check through the program's buffer promises of the writer behind it.
+use Rattle.std.specs.Prelude.{ℕ, Bool, true, false, List, Option, Result, Ok, Err}
 use Rattle.std.specs.Io.KnownBytes.{append_known}
+use Rattle.mst_tool.specs.Check.{Checks, ChecksFront, ChecksEnded, ChecksScript}
 use Rattle.mst_tool.specs.Run.{Prints, PrintsFront, PrintsEnded}
 use Rattle.mst_tool.specs.declared.runs.Outcome.{Outcome}
 use Rattle.mst_tool.specs.declared.runs.RunFault.{RunFault}
@@ -20,3 +21,26 @@ Ends reads written now (Ok outcome) = Prints reads written now outcome
 Ends reads written now (Err Read) = PrintsRead reads written now
 Ends reads written now (Err Write) = FallsShort reads written now
 Ends reads written now (Err Memory) = ⊥
+
+-- ---- a check
+-- what the writer has, with some bytes that never came to it, is a front of what the script and the captures print
+abbrev pub FallsShortOfCheck : Option (List ℕ) → Option (List ℕ) → Option (List ℕ) → Option (List ℕ) → Type 0
+FallsShortOfCheck scripts captures written now = (missing : List ℕ) × ChecksFront scripts captures written (append_known now missing)
+
+-- the complete lines of what was read were served, and the whole of what they print has come to the writer
+abbrev pub ChecksRead : Option (List ℕ) → Option (List ℕ) → Option (List ℕ) → Option (List ℕ) → Type 0
+ChecksRead scripts captures written now = (scripts_left captures_left : Option (List ℕ)) × ChecksEnded scripts scripts_left captures captures_left written now
+
+-- How a check ends, and what has come to the writer then: where there is no memory for the plan, all that the script prints
+abbrev pub EndsCheck : Option (List ℕ) → Option (List ℕ) → Option (List ℕ) → Option (List ℕ) → Result Outcome RunFault → Type 0
+EndsCheck scripts captures written now (Ok outcome) = Checks scripts captures written now outcome
+EndsCheck scripts captures written now (Err Read) = ChecksRead scripts captures written now
+EndsCheck scripts captures written now (Err Write) = FallsShortOfCheck scripts captures written now
+EndsCheck scripts captures written now (Err Memory) = ChecksScript scripts written now
+
+-- the writer stopped it
+abbrev pub is_broken : Result Outcome RunFault → Bool
+is_broken (Ok outcome) = false
+is_broken (Err Read) = false
+is_broken (Err Write) = true
+is_broken (Err Memory) = false

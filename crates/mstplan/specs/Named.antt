@@ -1,5 +1,5 @@
--- Which script is run.
-use Rattle.std.specs.Prelude.{◌≡◌, ◌≢◌, ℕ, List, Option, codes}
+-- Which script is run, and which captures are compared with its plan.
+use Rattle.std.specs.Prelude.{◌≡◌, ◌≢◌, ◌⊎◌, ℕ, List, [], Option, Some, codes}
 use Rattle.std.specs.Borrow.{Bor}
 use Rattle.mst_tool.specs.declared.runs.RunFault.TheVariants.{Memory}
 use Rattle.mstplan.specs.declared.endings.Stop.{Stop}
@@ -15,3 +15,15 @@ abbrev pub IsWhyNot : Bor (List ℕ) → Stop → Type 0
 IsWhyNot name (Told status) = ⊥
 IsWhyNot name (Unopened file) = (file ≡ name) × (name.now ≢ codes "-")
 IsWhyNot name (Fault fault) = fault ≡ Memory
+
+-- the same of a script and of captures. Where both names are `-` the script takes all of standard input, and there is no
+-- capture
+pub record AreNamed (IsGiven : Option (List ℕ) → Type 0) (IsFile : List ℕ → Option (List ℕ) → Type 0) (script captures : List ℕ) (scripts captured : Option (List ℕ)) : Type 0 where
+  pub script_named : IsNamed IsGiven IsFile script scripts
+  pub captures_file : captures ≢ codes "-" → IsFile captures captured
+  pub captures_given : captures ≡ codes "-" → script ≢ codes "-" → IsGiven captured
+  pub no_captures : captures ≡ codes "-" → script ≡ codes "-" → captured ≡ Some []
+
+-- why the two aren't run: one of the files can't be opened, or there is no memory
+abbrev pub IsWhyNeither : Bor (List ℕ) → Bor (List ℕ) → Stop → Type 0
+IsWhyNeither script captures stop = IsWhyNot script stop ⊎ IsWhyNot captures stop

@@ -1,5 +1,5 @@
 //! Plans Ethernet networks with rapid and multiple spanning trees: runs a script from a file or from
-//! standard input.
+//! standard input, and compares captured messages with its plan.
 #![tactic(auto)]
 
 mod buffered;
@@ -9,19 +9,23 @@ mod sources;
 mod words;
 
 use endings::{Ending, after_stop, ending_of, tell};
-use named::run_named;
+use named::{check_named, run_named};
 use std::io;
 use std::process::ExitCode;
 use std::rt::Files;
-use words::{given_words, named_file};
+use words::{asked_for, given_words};
 
-/// Runs the script that the words name.
+/// Runs the script that the words name, or checks the captures that they name against its plan.
 fn run_words<'a, R: Files + Input + Print + Eprint + AllocGlobal>(
     rt: &R,
     words: &'a [String],
 ) -> Ending<'a> {
-    match named_file(rt, words) {
-        Ok(name) => ending_of(run_named(rt.alloc(), rt, name, io::writer(rt))),
+    let alloc = rt.alloc();
+    match asked_for(rt, words) {
+        Ok(asked) => ending_of(match asked.captures {
+            None => run_named(alloc, rt, asked.script, io::writer(rt)),
+            Some(captures) => check_named(alloc, rt, asked.script, captures, io::writer(rt)),
+        }),
         Err(stop) => after_stop(stop),
     }
 }

@@ -1,4 +1,4 @@
-use crate::buffered::run_buffered;
+use crate::buffered::{check_buffered, run_buffered};
 use mst_tool::{Outcome, RunFault};
 use std::io::{Error, ErrorKind, Read, Result, Write};
 
@@ -92,6 +92,24 @@ fn a_run_to_the_end_is_written(rt: HostRuntime) -> Result<()> {
     };
     assert_eq!(rt; ran.ended, Ok(counted));
     let written: &[u8] = b"line 1 E01 no such command\ntree 0\n";
+    assert_eq!(rt; ran.writer.as_slice(), written);
+    Ok(())
+}
+
+#[test]
+fn a_check_to_the_end_is_written(rt: HostRuntime) -> Result<()> {
+    let script: &[u8] = b"showtree 0\n";
+    let captures: &[u8] = b"# none\n00\n";
+    let Some(ran) = check_buffered(rt.alloc(), script, captures, Vec::new(rt.alloc())) else {
+        return Err(Error::from(ErrorKind::OutOfMemory));
+    };
+    let counted = Outcome {
+        refused: 1,
+        memory: 0,
+        differing: 0,
+    };
+    assert_eq!(rt; ran.ended, Ok(counted));
+    let written: &[u8] = b"tree 0\ncapture 2 B02 too short\n";
     assert_eq!(rt; ran.writer.as_slice(), written);
     Ok(())
 }

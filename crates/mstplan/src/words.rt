@@ -1,6 +1,6 @@
 ghost use Rattle.std.specs.Prelude.{◌≡◌, ◌≢◌, ◌⊎◌, codes, option_map, unwrap_or};
 ghost use Rattle.clap.specs.Words.{first_value, found_of, kind_of, subcommand_rows_of};
-ghost use Rattle.mstplan.specs.Words.{file_in};
+ghost use Rattle.mstplan.specs.Words.{words_of, asked_of};
 
 use crate::endings::Stop;
 use clap::error::ErrorKind;
@@ -9,6 +9,14 @@ use mst_tool::RunFault;
 use std::alloc::{AllocError, Global};
 use std::env::{self, Env};
 use std::io;
+
+/// What the words ask for: to run the script of this name, and, where captures are named, to compare these with its
+/// plan. The name `-` is that of standard input.
+#[derive(Clone, Copy)]
+pub(crate) struct Asked<'a> {
+    pub(crate) script: &'a str,
+    pub(crate) captures: Option<&'a str>,
+}
 
 /// What stops the program where memory was refused.
 fn starved(_refused: AllocError) -> Stop<'static>
@@ -33,16 +41,16 @@ pub(crate) fn given_words<R: Env + Eprint + AllocGlobal>(
     }
 }
 
-/// The file that the words name, `-` for standard input.
-pub(crate) fn named_file<'a, R: Print + Eprint + AllocGlobal>(
+/// What the words ask for.
+pub(crate) fn asked_for<'a, R: Print + Eprint + AllocGlobal>(
     rt: &R,
     words: &'a [String],
-) -> Result<&'a str, Stop<'a>> {
+) -> Result<Asked<'a>, Stop<'a>> {
     match command(rt.alloc())
         .map_err(starved)?
         .try_get_matches_from(words)
     {
-        Ok(matches) => Ok(file_of(&matches)),
+        Ok(matches) => Ok(asked_in(&matches)),
         Err(error) => Err(tell_words(rt, &error)),
     }
 }
@@ -67,30 +75,50 @@ fn tell_words<R: Print + Eprint>(rt: &R, error: &Error) -> Stop<'static>
 }
 
 fn command<'a>(alloc: Global) -> Result<Command<'a>, AllocError> {
-    let file = Arg::new(alloc, "FILE")
-        .help("The script, or - for standard input")
+    let run = Command::new(alloc, "run")
+        .about("Runs a script")
+        .arg(script_word(alloc))?;
+    let captures = Arg::new(alloc, "CAPTURES")
+        .help("The captured messages, one a line, or - for standard input")
         .required(true);
-    let run = Command::new(alloc, "run").about("Runs a script").arg(file)?;
+    let check = Command::new(alloc, "check")
+        .about("Runs a script, and compares captured messages with the plan at its end")
+        .arg(script_word(alloc))?
+        .arg(captures)?;
     Command::new(alloc, "mstplan")
         .about(
             "Plans networks of spanning trees. With no command it reads a script on standard input",
         )
         .disable_help_subcommand(true)
-        .subcommand(run)
+        .subcommand(run)?
+        .subcommand(check)
 }
 
-/// The file of a command, `-` where there is none.
-fn file_of<'a>(matches: &ArgMatches<'a>) -> &'a str
-    ensures { result.now ≡ file_in (option_map (λ found. found.1) (subcommand_rows_of matches.now)) }
+/// The word of a command that names a script.
+fn script_word<'a>(alloc: Global) -> Arg<'a> {
+    Arg::new(alloc, "FILE")
+        .help("The script, or - for standard input")
+        .required(true)
+}
+
+/// What a command asks for: to run standard input where there is none.
+fn asked_in<'a>(matches: &ArgMatches<'a>) -> Asked<'a>
+    ensures { words_of result ≡ asked_of (option_map (λ found. found.1) (subcommand_rows_of matches.now)) }
 {
     match matches.subcommand() {
-        Some((_, found)) => value_in(found),
-        None => "-",
+        Some((_, found)) => Asked {
+            script: script_in(found),
+            captures: found.get_str("CAPTURES"),
+        },
+        None => Asked {
+            script: "-",
+            captures: None,
+        },
     }
 }
 
 /// The value of FILE, `-` where there is none.
-fn value_in<'a>(found: &ArgMatches<'a>) -> &'a str
+fn script_in<'a>(found: &ArgMatches<'a>) -> &'a str
     ensures { result.now ≡ unwrap_or (first_value (found_of found.now) (codes "FILE")) (codes "-") }
 {
     match found.get_str("FILE") {
