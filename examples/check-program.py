@@ -13,6 +13,8 @@ import tempfile
 USAGE = object()
 TREE = b"tree 0\n"
 REFUSED = b"line 1 E01 no such command\n"
+SHORT = b"# none\n00\n"
+TOO_SHORT = b"capture 2 B02 too short\n"
 
 
 def cases(folder):
@@ -24,6 +26,9 @@ def cases(folder):
     with open(refused, "wb") as file:
         file.write(b"no\n" * 5000)
     lines = b"".join(b"line %d E01 no such command\n" % number for number in range(1, 5001))
+    captures = os.path.join(folder, "captures")
+    with open(captures, "wb") as file:
+        file.write(SHORT)
     absent = os.path.join(folder, "absent")
     cannot = b"mstplan: cannot open " + absent.encode() + b"\n"
     return [
@@ -39,7 +44,17 @@ def cases(folder):
         ("run with no file", ["run"], b"", 2, b"", USAGE),
         ("two files", ["run", script, script], b"", 2, b"", USAGE),
         ("an unknown word", ["walk"], b"", 2, b"", USAGE),
-        ("check", ["check", script], b"", 2, b"", USAGE),
+        ("check FILE CAPTURES", ["check", script, captures], b"no\n", 1, TREE + TOO_SHORT, b""),
+        ("check - CAPTURES", ["check", "-", captures], b"no\n", 1, REFUSED + TOO_SHORT, b""),
+        ("check FILE -", ["check", script, "-"], SHORT, 1, TREE + TOO_SHORT, b""),
+        ("check - -", ["check", "-", "-"], b"showtree 0\n00\n", 1, TREE + b"line 2 E01 no such command\n", b""),
+        ("check with nothing to compare", ["check", script, "-"], b"# none\n \n", 0, TREE, b""),
+        ("captures that aren't there", ["check", script, absent], b"", 3, b"", cannot),
+        ("captures that aren't there, of standard input's script", ["check", "-", absent], b"no\n", 3, b"", cannot),
+        ("a script that isn't there", ["check", absent, captures], b"", 3, b"", cannot),
+        ("captures in a folder", ["check", script, folder], b"", 3, TREE, b"mstplan: read fault\n"),
+        ("check with no captures", ["check", script], b"", 2, b"", USAGE),
+        ("run with captures", ["run", script, captures], b"", 2, b"", USAGE),
         ("an unknown option", ["--fast"], b"", 2, b"", USAGE),
     ]
 
@@ -78,6 +93,7 @@ def main():
         passed = [check(program, *case) for case in cases(folder)]
         passed += [
             check_full(program, [], b"showtree 0\n"),
+            check_full(program, ["check", "-", os.devnull], b"showtree 0\n"),
             check_full(program, ["--help"], b""),
         ]
     print(f"{sum(passed)} passed, {len(passed) - sum(passed)} failed")

@@ -1,0 +1,49 @@
+#!/usr/bin/env python3
+"""Prints a script: the mesh of region.py, and then some times one edit of a kind and one `showvlan 60`.
+
+usage: edits.py KIND [TIMES] [PART]    (KIND: cost, priority, lan or vid; 200 times if left out)
+
+For example: edits.py lan 200 | mstplan run -
+
+What an edit and a query cost is the time of this script less that of `edits.py KIND 1`, over TIMES - 1.
+"""
+
+import sys
+
+from load import BRIDGES
+from region import mesh
+
+
+def cost(i, count):
+    return f"setportpathcost B{37 * i % count:04} {1 + i % 16} {15_000 + i}"
+
+
+def priority(i, count):
+    return f"settreeprio B{37 * i % count:04} {i % 65} {i % 16}"
+
+
+def lan(i, count):
+    return f"lan L{37 * (i // 2) % count:04}-{i // 2 % 8} {'up' if i % 2 else 'down'}"
+
+
+def vid(i, count):
+    return f"setvid2mstid B{37 * i % count:04} {1 + i % 64} {4000 + i % 90}"
+
+
+KINDS = {"cost": cost, "priority": priority, "lan": lan, "vid": vid}
+
+
+def main():
+    words = sys.argv[1:]
+    if not 1 <= len(words) <= 3 or words[0] not in KINDS:
+        sys.exit(__doc__)
+    times = int(words[1]) if len(words) > 1 else 200
+    count = BRIDGES // (int(words[2]) if len(words) > 2 else 1)
+    print("\n".join(mesh(count)))
+    for i in range(times):
+        print(KINDS[words[0]](i, count))
+        print("showvlan 60")
+
+
+if __name__ == "__main__":
+    main()
