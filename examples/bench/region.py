@@ -41,4 +41,5 @@ def main():
     print("\n".join([*mesh(BRIDGES // part), *words[1:]]))
 
 
-main()
+if __name__ == "__main__":
+    main()
