@@ -1,9 +1,9 @@
 -- How a check ends that goes through a buffer.
-use Rattle.std.proofs.Common.{◌≡◌, ℕ, List, [], ◌++◌, Option, Some, None, Result, Ok, Err, Bool, true, false, refl, sym, ap, ◌∙◌, append-nil, inl, inr, ◌⊎◌}
+use Rattle.std.proofs.Common.{◌≡◌, ℕ, List, [], ◌++◌, Option, Some, None, Result, Ok, Err, true, false, refl, sym, ap, ◌∙◌, append-nil, inl, inr}
 use Rattle.std.specs.Prelude.{IfOk, OnErr}
 use Rattle.std.specs.Io.KnownBytes.{Keeps, append_known}
 use Rattle.std.proofs.KnownBytes.{Appends-kept}
-use Rattle.mst_tool.specs.Check.{Checks, ChecksFront, ChecksEnded, ComparesEnded, ChecksScript}
+use Rattle.mst_tool.specs.Check.{Checks, ChecksFront, ComparesEnded, ChecksScript}
 use Rattle.mst_tool.specs.Run.{PrintsEnded}
 use Rattle.mst_tool.specs.Steps.{texts_of}
 use Rattle.mst_tool.specs.Written.{AppendsFront}

@@ -1,6 +1,6 @@
-use Rattle.std.proofs.Common.{sym, subst, ap, ◌∙◌}
+use Rattle.std.proofs.Common.{sym, subst, ◌∙◌}
 use Rattle.std.specs.Io.Buffered.{writer_buffer, writer_inner, writer_contents}
-use Rattle.std.specs.Io.KnownBytes.{Keeps, append_known}
+use Rattle.std.specs.Io.KnownBytes.{Keeps}
 use Rattle.mstplan.proofs.Checked.{Told, append_known-nothing, ends_broken, ends_written, ends_lost}
 use Rattle.mstplan.proofs.buffered.check_into.Goals as goal
 

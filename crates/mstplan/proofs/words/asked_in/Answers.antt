@@ -1,5 +1,5 @@
-use Rattle.std.proofs.Common.{◌≡◌, ap, ◌∙◌, codes, Some, unwrap_or, ℕ, List, Option}
-use Rattle.clap.specs.Words.{found_of, rows_of}
+use Rattle.std.proofs.Common.{◌≡◌, ap, ◌∙◌, codes, unwrap_or, ℕ, List, Option}
+use Rattle.clap.specs.Words.{found_of}
 use Rattle.clap.proofs.WalkLemmas.{first_value-rows}
 use Rattle.mstplan.specs.Words.{Names, asked_of}
 use Rattle.mstplan.proofs.words.asked_in.Goals as goal
