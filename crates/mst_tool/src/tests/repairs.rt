@@ -117,20 +117,28 @@ fn cases() -> [Case; 6] {
     ]
 }
 
-/// Stages the edits that these lines say, if none is refused.
-fn stage_lines(planner: &mut Planner, lines: &str) -> Option<()> {
-    for line in lines.lines() {
-        planner.stage(&edit_of(line)?).ok()?;
+/// Whether the line says an edit, which isn't refused. It is staged then.
+fn is_staged(planner: &mut Planner, line: &str) -> bool {
+    match edit_of(line) {
+        Some(edit) => planner.stage(&edit).is_ok(),
+        None => false,
     }
-    Some(())
+}
+
+/// A planner of the network that these lines make, if none is refused.
+fn planner_of(alloc: Global, lines: &str) -> Option<Planner> {
+    let mut planner = Planner::new(alloc);
+    for line in lines.lines() {
+        if !is_staged(&mut planner, line) {
+            return None;
+        }
+    }
+    Some(planner)
 }
 
 /// How often bridges are settled in the CIST and in tree 1 for an edit of the network that these lines make.
-fn settlings_for(alloc: Global, made_by: &[&str], edit: &str) -> Option<(u64, u64)> {
-    let mut planner = Planner::new(alloc);
-    for lines in made_by {
-        stage_lines(&mut planner, *lines)?;
-    }
+fn settlings_for(alloc: Global, lines: &str, edit: &str) -> Option<(u64, u64)> {
+    let mut planner = planner_of(alloc, lines)?;
     planner.settle().ok()?;
     planner.apply(&edit_of(edit)?).ok()?;
     Some((
@@ -147,7 +155,9 @@ fn is_within(number: u64, bounds: (u64, u64)) -> bool {
 fn settlings_keep_the_bound(rt: HostRuntime) -> Result<(), Fail> {
     let cases = cases();
     for case in &cases {
-        let Some((cist, msti)) = settlings_for(rt.alloc(), &case.made_by, case.edit) else {
+        let mut lines = String::from_str(rt.alloc(), case.made_by[0])?;
+        lines.push_str(case.made_by[1])?;
+        let Some((cist, msti)) = settlings_for(rt.alloc(), lines.as_str(), case.edit) else {
             assert!(rt; false, "refused: {}", case.edit);
             return Ok(());
         };
@@ -180,7 +190,7 @@ fn a_leaf_of_a_star_is_settled_alone(rt: HostRuntime) -> Result<(), Fail> {
         let lines = leaf_lines(rt.alloc(), leaf)?;
         star.push_str(lines.as_str())?;
     }
-    let ran = settlings_for(rt.alloc(), &[star.as_str()], "setportpathcost L50 1 30000");
+    let ran = settlings_for(rt.alloc(), star.as_str(), "setportpathcost L50 1 30000");
     let Some((cist, _)) = ran else {
         assert!(rt; false, "refused");
         return Ok(());
@@ -265,43 +275,53 @@ fn drawn_line(alloc: Global, draws: &mut Draws) -> Result<String, AllocError> {
     }
 }
 
-/// The texts of the trees and of a VLAN, once the planner is settled.
-fn plan_text(alloc: Global, planner: &mut Planner) -> Option<Vec<u8>> {
+/// What answers a query, once the planner is settled.
+fn text_of(planner: &mut Planner, query: &Query) -> Option<Vec<u8>> {
     planner.settle().ok()?;
-    let mut texts = Vec::new(alloc);
-    for query in [
-        Query::ShowTree { tree: Tree::cist() },
-        Query::ShowTree {
+    planner.answer(query).ok()
+}
+
+/// The texts of the trees and of a VLAN, one after another.
+fn plan_text(planner: &mut Planner) -> Option<Vec<u8>> {
+    let mut texts = text_of(planner, &Query::ShowTree { tree: Tree::cist() })?;
+    let first = text_of(
+        planner,
+        &Query::ShowTree {
             tree: Tree::new(1)?,
         },
-        Query::ShowTree {
+    )?;
+    texts.extend_from_slice(first.as_slice()).ok()?;
+    let second = text_of(
+        planner,
+        &Query::ShowTree {
             tree: Tree::new(2)?,
         },
-        Query::ShowVlan { vid: Vid::new(10)? },
-    ] {
-        planner.settle().ok()?;
-        let text = planner.answer(&query).ok()?;
-        texts.extend_from_slice(text.as_slice()).ok()?;
-    }
+    )?;
+    texts.extend_from_slice(second.as_slice()).ok()?;
+    let vlan = text_of(planner, &Query::ShowVlan { vid: Vid::new(10)? })?;
+    texts.extend_from_slice(vlan.as_slice()).ok()?;
     Some(texts)
 }
 
 /// The texts of a planner that is made anew by these edits.
 fn text_made_anew(alloc: Global, edits: &[Edit]) -> Option<Vec<u8>> {
-    let mut planner = Planner::new(alloc);
-    stage_lines(&mut planner, DRAWN)?;
+    let mut planner = planner_of(alloc, DRAWN)?;
     for edit in edits {
-        planner.stage(edit).ok()?;
+        if planner.stage(edit).is_err() {
+            return None;
+        }
     }
-    plan_text(alloc, &mut planner)
+    plan_text(&mut planner)
 }
 
 #[test]
 fn a_repaired_plan_is_the_one_made_anew(rt: HostRuntime) -> Result<(), Fail> {
     let mut draws = Draws { state: 2026 };
     let mut edits = Vec::new(rt.alloc());
-    let mut planner = Planner::new(rt.alloc());
-    assert!(rt; stage_lines(&mut planner, DRAWN).is_some());
+    let Some(mut planner) = planner_of(rt.alloc(), DRAWN) else {
+        assert!(rt; false, "refused");
+        return Ok(());
+    };
     for _ in 0..60 {
         let line = drawn_line(rt.alloc(), &mut draws)?;
         let Some(edit) = edit_of(line.as_str()) else {
@@ -311,7 +331,7 @@ fn a_repaired_plan_is_the_one_made_anew(rt: HostRuntime) -> Result<(), Fail> {
         if planner.apply(&edit).is_ok() {
             edits.push(edit)?;
         }
-        let repaired = plan_text(rt.alloc(), &mut planner);
+        let repaired = plan_text(&mut planner);
         assert!(rt; repaired.is_some());
         assert!(rt;
             repaired == text_made_anew(rt.alloc(), edits.as_slice()),
