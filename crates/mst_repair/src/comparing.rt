@@ -39,7 +39,7 @@ impl TellsApart for MstiMetric {
 }
 
 /// Whether two ports are the same in all that a topology has of them.
-fn same_plug<M: TellsApart>(a: &Plug<M::Port>, b: &Plug<M::Port>) -> bool
+pub fn same_plug<M: TellsApart>(a: &Plug<M::Port>, b: &Plug<M::Port>) -> bool
     ensures yes { IsTrue result → a.now ≡ b.now }
     ensures no { a.now ≡ b.now → IsTrue result }
 {

@@ -4,7 +4,9 @@
 
 mod comparing;
 mod differences;
+mod shared_tree;
 mod spanning_tree;
 
-pub use comparing::TellsApart;
+pub use comparing::{TellsApart, same_plug};
+pub use shared_tree::SharedTree;
 pub use spanning_tree::SpanningTree;
