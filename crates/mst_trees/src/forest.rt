@@ -15,7 +15,7 @@ use indexmap::IndexMap;
 use mst_config::Classes;
 use mst_ids::{BridgeNo, LanNo, Name, PortName, PortNo, Tree};
 use mst_lag::{PortInView, View};
-use mst_repair::SpanningTree;
+use mst_repair::{SharedTree, SpanningTree};
 use mst_settle::laws::renamed;
 use mst_vector::{CistMetric, CistVector, MstiMetric, MstiVector};
 use std::alloc::{AllocError, Global};
@@ -24,7 +24,7 @@ use std::alloc::{AllocError, Global};
 pub struct Forest {
     pub(crate) regions: Classes,
     pub(crate) cist: SpanningTree<CistMetric>,
-    pub(crate) mstis: IndexMap<Tree, SpanningTree<MstiMetric>>,
+    pub(crate) mstis: IndexMap<Tree, SharedTree<MstiMetric>>,
 }
 
 // By hand, as a view's.
@@ -63,7 +63,7 @@ impl Forest {
     }
 
     /// The trees of another network, each repaired from the one that stands: a copy is repaired, and this forest
-    /// stays. `AllocError`: memory was wanted and refused.
+    /// stays. An MSTI whose topology stays the same is shared. `AllocError`: memory was wanted and refused.
     pub fn repaired(
         &self,
         alloc: Global,
