@@ -7,6 +7,6 @@ mod differences;
 mod shared_tree;
 mod spanning_tree;
 
-pub use comparing::{TellsApart, same_plug};
+pub use comparing::{TellsApart, is_made_of};
 pub use shared_tree::SharedTree;
 pub use spanning_tree::SpanningTree;

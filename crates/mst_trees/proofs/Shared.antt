@@ -1,35 +1,13 @@
--- An MSTI whose topology stays the same: how it is told, and that its outcome is settled without a settling.
-use Rattle.std.proofs.Common.{◌≡◌, ℕ, ◌+◌, ◌<◌, ◌≤◌, List, [], ◌∷◌, ◌++◌, length, take, get_or, Option, Some, None, Result, Ok, Err, IfOk, refl, sym, ap, subst, ◌∙◌, arith}
-use Rattle.std.specs.List.{filter_map, cons_option}
+-- A tree whose topology stays the same: its outcome is settled without a settling.
+use Rattle.std.proofs.Common.{◌≡◌, ℕ, [], Option, Result, Ok, Err, IfOk, refl, sym, ap, subst, arith}
 use Rattle.std.specs.declared.alloc.AllocError.{AllocError}
-use Rattle.std.proofs.lemmas.List.{append-nil, take_more, take_all}
-use Rattle.std.proofs.lemmas.List.Elements.{filter_map-append}
 use Rattle.mst_vector.specs.Rules.{Rules}
 use Rattle.mst_settle.specs.Topology.{Topology}
-use Rattle.mst_settle.specs.Chains.{IsAt}
 use Rattle.mst_settle.specs.Assignment.{Assignment, vector_of, IsSettledFor}
 use Rattle.mst_settle.specs.Repair.{WithinBounds}
 use Rattle.mst_repair.specs.Shared.{settled_so_often}
 use Rattle.mst_trees.specs.Numbered.{IsSettledBy}
 
--- ---- what is taken of a list, compared place by place with another
-module _ {A B : Type 0} (h : A → Option B) (xs : List A) (i : ℕ) (ys : List B) (place : ℕ) (same : take place ys ≡ filter_map h (take i xs)) where
-  module _ (x : A) (below : i < length xs) (here : x ≡ get_or xs i x) where
-    one_more : filter_map h (take (i + 1) xs) ≡ filter_map h (take i xs) ++ cons_option (h x) []
-    one_more = ap (filter_map h) (take_more xs i x below ∙ ap (λ z. take i xs ++ z ∷ []) (sym here)) ∙ filter_map-append h (take i xs) (x ∷ [])
-
-    pub none_taken : h x ≡ None → take place ys ≡ filter_map h (take (i + 1) xs)
-    none_taken none = same ∙ sym (one_more ∙ ap (λ o. filter_map h (take i xs) ++ cons_option o []) none ∙ append-nil (filter_map h (take i xs)))
-
-    pub one_taken : (y : B) → h x ≡ Some y → IsAt ys place y → take (place + 1) ys ≡ filter_map h (take (i + 1) xs)
-    one_taken y is at =
-        take_more ys place y at.0 ∙ ap (λ z. take place ys ++ z ∷ []) at.1 ∙ ap (λ zs. zs ++ y ∷ []) same
-        ∙ sym (one_more ∙ ap (λ o. filter_map h (take i xs) ++ cons_option o []) is)
-
-  pub all_taken : length xs ≤ i → place ≡ length ys → ys ≡ filter_map h xs
-  all_taken end whole = sym (take_all place ys (omega arith)) ∙ same ∙ ap (filter_map h) (take_all i xs end)
-
--- ---- a tree that is settled so already
 pub nothing_changed : {V : Type 0} (v : ℕ → Option V) → WithinBounds v v 0
 nothing_changed v = record {
   changed = [];
