@@ -10,6 +10,7 @@ mod link;
 mod looking;
 mod queue;
 mod repairing;
+mod seen;
 mod settler;
 mod settling;
 mod slots;
