@@ -1,23 +1,24 @@
 -- The values of an edit that a line says are in their ranges.
-use Rattle.std.proofs.Common.{◌≡◌, ℕ, ◌<◌, ◌≤◌, ◌^◌, Bool, true, false, List, [], ◌∷◌, length, Option, Some, None, Ok, Err, refl, arith}
+use Rattle.std.proofs.Common.{◌≡◌, ℕ, ◌/◌, ◌%◌, ◌<◌, ◌≤◌, ◌^◌, Bool, true, false, List, [], ◌∷◌, length, Option, Some, None, Ok, Err, refl, arith}
 use Rattle.std.specs.Prelude.{Result, ◌==◌, ◌&&◌, nat_lt, nat_le, codes, IfOk, IfSome, if◌then◌else◌, ⊤}
 use Rattle.std.specs.Option.{ForSome, option_map_or, ok_or}
 use Rattle.std.specs.List.{list_all}
-use Rattle.std.proofs.lemmas.Bool.{eqb-false}
+use Rattle.std.proofs.lemmas.Bool.{eqb-false, and_parts, leb-true}
 use Rattle.std.proofs.lemmas.Result.{IfOk-at_ok}
 use Rattle.mst_ids.specs.Texts.{is_name, is_conf_name, mac_value}
 use Rattle.mst_ids.specs.Vids.{IsVidSet, is_vid, set_where, vids_value}
 use Rattle.mst_ids.proofs.VidRangeLemmas.{is_vid_set, vids_value-IsVidSet}
 use Rattle.mst_lang.specs.Words.{words, is_plain, one_of, two_of, three_of, four_of}
-use Rattle.mst_lang.specs.Arguments.{is_text, text_of, choice_of, number_value, number_of, with, name, mac, port_number, priority, cost_of, cost, sixteen_bits, limit, speed, conf_name, power, kind, lan_state, tree, vids, members, none_of, one, two, three, four}
+use Rattle.mst_lang.specs.Arguments.{is_text, text_of, choice_of, number_value, number_of, with, name, mac, port_number, priority, bridge_step, port_step, cost_of, cost, sixteen_bits, limit, speed, conf_name, power, kind, lan_state, yes_or_no, tree, vids, members, none_of, one, two, three, four}
 use Rattle.mst_lang.specs.Ranges.{InRange}
-use Rattle.mst_lang.specs.Reading.{command_of, edit as said, query, says, is_comment, worded, reading}
+use Rattle.mst_lang.specs.Reading.{command_of, edit as said, query, says, says_as, is_comment, worded, reading_as}
+use Rattle.mst_lang.specs.declared.line.Version.{Version}
 use Rattle.mst_lang.specs.declared.line.Edit.{Edit}
 use Rattle.mst_lang.specs.declared.line.Query.{Query}
 use Rattle.mst_lang.specs.declared.line.Line.{Line}
 use Rattle.mst_lang.specs.declared.line.Line.TheVariants.{Edit as edit, Mark as marked}
 use Rattle.mst_lang.specs.declared.line.Command.{Command}
-use Rattle.mst_lang.specs.declared.line.Command.TheVariants.{AddBridge, DelBridge, Bridge, Kind as KindOf, AddPort, DelPort, AddLan, DelLan, Lan, Speed as SpeedOf, Plug, Unplug, SetKey, SetSysPri, SetTreePrio, SetTreePortPrio, SetPortPathCost, SetTreePortCost, SetMstConfId, SetVidToMstId, SetMaxHops, SetMaxAge, SetPortVlans, ShowPlan, ShowLag, ShowRegions, ShowNotes, ShowTree, ShowVlan, ShowMstConfId, Mark, Changes}
+use Rattle.mst_lang.specs.declared.line.Command.TheVariants.{AddBridge, DelBridge, Bridge, Kind as KindOf, AddPort, DelPort, AddLan, DelLan, Lan, Speed as SpeedOf, Plug, Unplug, SetKey, SetSysPri, SetTreePrio, SetTreePortPrio, SetPortPathCost, SetPortRestrRole, SetTreePortCost, SetMstConfId, SetVidToMstId, SetMaxHops, SetMaxAge, SetPortVlans, ShowPlan, ShowLag, ShowRegions, ShowNotes, ShowTree, ShowVlan, ShowMstConfId, Mark, Changes, Save}
 use Rattle.mst_lang.specs.declared.line.Fault.{Fault}
 use Rattle.mst_lang.specs.declared.line.Fault.TheVariants.{E01, E02, E03}
 use Rattle.mst_lang.proofs.MacLemmas.{between, mac_fits}
@@ -84,8 +85,13 @@ mac_gives = record { each = λ word. value_or (λ mac. mac < 2 ^ 48) (mac_value 
 port_number_gives : Gives port_number (λ n. (1 ≤ n) × (n ≤ 4095))
 port_number_gives = number_gives 1 4095 E02
 
-priority_gives : Gives priority (λ n. (0 ≤ n) × (n ≤ 15))
-priority_gives = number_gives 0 15 E02
+-- a priority of so many steps
+priority_gives : (step : ℕ) → Gives (priority step) (λ n. (0 ≤ n) × (n ≤ 15))
+priority_gives step = record {
+  each = λ word.
+      made_of (λ n. (0 ≤ n) × (n ≤ 15)) _ (number_value word) E02 (λ n. if_passed (λ n. (0 ≤ n) × (n ≤ 15)) (n % step == 0 && nat_le (n / step) 15) (Ok (n / step)) E02 (λ passed.
+      let few = leb-true (n / step) 15 (and_parts (n % step == 0) (nat_le (n / step) 15) passed).1 in (omega arith, few)));
+}
 
 -- no value is some value
 no_some : {X : Type 0} (x : X) → None ≡ Some x → ⊥
@@ -130,6 +136,9 @@ kind_gives = choice_gives _ _ E02
 
 lan_state_gives : Gives lan_state (λ _. ⊤)
 lan_state_gives = choice_gives _ _ E02
+
+yes_or_no_gives : Gives yes_or_no (λ _. ⊤)
+yes_or_no_gives = choice_gives _ _ E02
 
 tree_gives : Gives tree (λ n. (0 ≤ n) × (n ≤ 4094))
 tree_gives = number_gives 0 4094 E03
@@ -192,9 +201,10 @@ says_fits Plug words = three_fit _ name_gives port_number_gives name_gives (λ b
 says_fits Unplug words = two_fit _ name_gives port_number_gives (λ b p n q. record { names = (p, q.0, q.1); values = tt }) words
 says_fits SetKey words = three_fit _ name_gives port_number_gives sixteen_bits_give (λ b p n q k r. record { names = (p, q.0, q.1); values = omega (arith, r.1) }) words
 says_fits SetSysPri words = two_fit _ name_gives sixteen_bits_give (λ b p s q. record { names = p; values = omega (arith, q.1) }) words
-says_fits SetTreePrio words = three_fit _ name_gives tree_gives priority_gives (λ b p t q s r. record { names = p; values = (q.1, r.1) }) words
-says_fits SetTreePortPrio words = four_fit _ name_gives port_number_gives tree_gives priority_gives (λ b p n q t r s i. record { names = (p, q.0, q.1); values = (r.1, i.1) }) words
+says_fits SetTreePrio words = three_fit _ name_gives tree_gives (priority_gives 1) (λ b p t q s r. record { names = p; values = (q.1, r.1) }) words
+says_fits SetTreePortPrio words = four_fit _ name_gives port_number_gives tree_gives (priority_gives 1) (λ b p n q t r s i. record { names = (p, q.0, q.1); values = (r.1, i.1) }) words
 says_fits SetPortPathCost words = three_fit _ name_gives port_number_gives cost_gives (λ b p n q c r. record { names = (p, q.0, q.1); values = r }) words
+says_fits SetPortRestrRole words = three_fit _ name_gives port_number_gives yes_or_no_gives (λ b p n q y r. record { names = (p, q.0, q.1); values = tt }) words
 says_fits SetTreePortCost words = four_fit _ name_gives port_number_gives tree_gives cost_gives (λ b p n q t r c i. record { names = (p, q.0, q.1); values = (r.1, i) }) words
 says_fits SetMstConfId words = three_fit _ name_gives sixteen_bits_give conf_name_gives (λ b p v q n r. record { names = p; values = (omega (arith, q.1), r) }) words
 says_fits SetVidToMstId words = three_fit _ name_gives tree_gives vids_give (λ b p t q v r. record { names = p; values = (q.1, r) }) words
@@ -210,14 +220,21 @@ says_fits ShowVlan words = query_fits _
 says_fits ShowMstConfId words = query_fits _
 says_fits Mark words = mark_fits words
 says_fits Changes words = query_fits _
+says_fits Save words = query_fits _
+
+-- in each version
+says_as_fits : (version : Version) (command : Command) (words : List (List ℕ)) → Fits (says_as version command words)
+says_as_fits version SetTreePrio words = three_fit _ name_gives tree_gives (priority_gives (bridge_step version)) (λ b p t q s r. record { names = p; values = (q.1, r.1) }) words
+says_as_fits version SetTreePortPrio words = four_fit _ name_gives port_number_gives tree_gives (priority_gives (port_step version)) (λ b p n q t r s i. record { names = (p, q.0, q.1); values = (r.1, i.1) }) words
+says_as_fits version command words = says_fits command words
 
 -- ---- each line
-words_fit : (plain : Bool) (line : List (List ℕ)) → Fits (worded plain line)
-words_fit plain [] = if_passed HasRanges plain _ E01 (λ _. tt)
-words_fit plain (word ∷ arguments) = either HasRanges (is_comment word) _ _ tt
-    (if_passed HasRanges plain _ E01 (λ _. made_of HasRanges _ (command_of word) E01 (λ command. says_fits command arguments)))
+words_fit : (version : Version) (plain : Bool) (line : List (List ℕ)) → Fits (worded version plain line)
+words_fit version plain [] = if_passed HasRanges plain _ E01 (λ _. tt)
+words_fit version plain (word ∷ arguments) = either HasRanges (is_comment word) _ _ tt
+    (if_passed HasRanges plain _ E01 (λ _. made_of HasRanges _ (command_of word) E01 (λ command. says_as_fits version command arguments)))
 
 -- whatever edit a line says
-pub edit_in_range : (line : List ℕ) (e : Edit) → reading line ≡ Ok (edit e) → InRange e
-edit_in_range line e is = IfOk-at_ok HasRanges is
-    (either HasRanges (nat_lt 4096 (length line)) (Err E01) (worded (list_all is_plain line) (words line)) tt (words_fit (list_all is_plain line) (words line)))
+pub edit_in_range : (version : Version) (line : List ℕ) (e : Edit) → reading_as version line ≡ Ok (edit e) → InRange e
+edit_in_range version line e is = IfOk-at_ok HasRanges is
+    (either HasRanges (nat_lt 4096 (length line)) (Err E01) (worded version (list_all is_plain line) (words line)) tt (words_fit version (list_all is_plain line) (words line)))

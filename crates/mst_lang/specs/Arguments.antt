@@ -1,10 +1,12 @@
 -- The arguments of commands: what a word of each form stands for, or the fault of another word.
-use Rattle.std.specs.Prelude.{ℕ, Bool, ◌&&◌, ◌==◌, false, List, [], nat_le, nat_eq, Result, Ok, Err, Option, Some, None, if◌then◌else◌, codes}
+use Rattle.std.specs.Prelude.{ℕ, ◌/◌, ◌%◌, Bool, ◌&&◌, ◌==◌, true, false, List, [], nat_le, nat_eq, Result, Ok, Err, Option, Some, None, if◌then◌else◌, codes}
 use Rattle.std.specs.Option.{option_map_or, ok_or}
 use Rattle.std.specs.Cmp.Lexicographic.{pointwise}
 use Rattle.mst_ids.specs.Texts.{is_name, is_conf_name, mac_value}
 use Rattle.mst_ids.specs.Vids.{decimal_value, is_numeral, is_vid, set_where, vids_value}
 use Rattle.mst_lang.specs.Words.{one_of, two_of, three_of, four_of}
+use Rattle.mst_lang.specs.declared.line.Version.{Version}
+use Rattle.mst_lang.specs.declared.line.Version.TheVariants.{V1, V2}
 use Rattle.mst_lang.specs.declared.line.Kind.{Kind}
 use Rattle.mst_lang.specs.declared.line.Kind.TheVariants.{Mstp, Rstp}
 use Rattle.mst_lang.specs.declared.line.Power.{Power}
@@ -60,9 +62,25 @@ mac word = ok_or (mac_value word) E02
 abbrev pub port_number : List ℕ → Result ℕ Fault
 port_number = number_of 1 4095 E02
 
--- PRIO: a priority
-abbrev pub priority : List ℕ → Result ℕ Fault
-priority = number_of 0 15 E02
+-- PRIO: a priority of 0 to 15 steps, each written as so much
+abbrev pub priority : ℕ → List ℕ → Result ℕ Fault
+priority step word = option_map_or (λ n. if n % step == 0 && nat_le (n / step) 15 then Ok (n / step) else Err E02) (number_value word) (Err E02)
+
+-- a step of a bridge's priority is written as 1 in version 1, as 4096 in version 2
+abbrev pub bridge_step : Version → ℕ
+bridge_step V1 = 1
+bridge_step V2 = 4096
+
+-- and one of a port's as 1 and as 16
+abbrev pub port_step : Version → ℕ
+port_step V1 = 1
+port_step V2 = 16
+
+abbrev pub bridge_priority : Version → List ℕ → Result ℕ Fault
+bridge_priority version = priority (bridge_step version)
+
+abbrev pub port_priority : Version → List ℕ → Result ℕ Fault
+port_priority version = priority (port_step version)
 
 -- COST: a path cost, or 0 for the automatic one
 abbrev pub cost_of : ℕ → Option ℕ
@@ -96,6 +114,10 @@ kind = choice_of (codes "mstp", Mstp) (codes "rstp", Rstp) E02
 
 abbrev pub lan_state : List ℕ → Result LanState Fault
 lan_state = choice_of (codes "up", Up) (codes "down", Down) E02
+
+-- `yes` or `no`
+abbrev pub yes_or_no : List ℕ → Result Bool Fault
+yes_or_no = choice_of (codes "yes", true) (codes "no", false) E02
 
 -- ---- arguments whose fault is E03
 -- TREE: a tree

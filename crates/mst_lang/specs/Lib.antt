@@ -3,3 +3,4 @@ pub mod Words
 pub mod Arguments
 pub mod Reading
 pub mod Ranges
+pub mod Lines

@@ -1,11 +1,11 @@
-ghost use Rattle.std.specs.Prelude.{◌≡◌, ◌≤◌, length, true};
+ghost use Rattle.std.specs.Prelude.{◌≡◌, ◌<◌, ◌≤◌, length, true};
 ghost use Rattle.std.specs.List.{list_all};
 ghost use Rattle.std.specs.Char.{is_ascii_digit as digit};
 ghost use Rattle.mst_ids.specs.Vids.{decimal_value};
 ghost use Rattle.mst_lang.specs.Arguments.{number_value};
 ghost use Rattle.mst_lang.specs.Arguments as forms;
 
-use crate::line::{Fault, Kind, LanState, Power};
+use crate::line::{Fault, Kind, LanState, Power, Version};
 use mst_ids::{
     ConfName, Cost, Limit, Mac, Name, PortNumber, Priority, Speed, Tree, Vid, VidSet, parse_mac,
     parse_vids,
@@ -64,6 +64,17 @@ pub(crate) fn lan_state(word: &[u8]) -> Result<LanState, Fault>
     }
 }
 
+/// `yes` or `no`.
+pub(crate) fn yes_or_no(word: &[u8]) -> Result<bool, Fault>
+    ensures { result ≡ forms.yes_or_no word.now }
+{
+    match word {
+        b"yes" => Ok(true),
+        b"no" => Ok(false),
+        _ => Err(Fault::E02),
+    }
+}
+
 /// The number of a port.
 pub(crate) fn port_number(word: &[u8]) -> Result<PortNumber, Fault>
     ensures { result ≡ forms.port_number word.now }
@@ -72,12 +83,36 @@ pub(crate) fn port_number(word: &[u8]) -> Result<PortNumber, Fault>
     PortNumber::new(number).ok_or(Fault::E02)
 }
 
-/// A priority in steps.
-pub(crate) fn priority(word: &[u8]) -> Result<Priority, Fault>
-    ensures { result ≡ forms.priority word.now }
+/// The priority of a bridge, in steps of the version.
+pub(crate) fn bridge_priority(version: Version, word: &[u8]) -> Result<Priority, Fault>
+    ensures { result ≡ forms.bridge_priority version word.now }
+{
+    match version {
+        Version::V1 => priority(1, word),
+        Version::V2 => priority(4096, word),
+    }
+}
+
+/// The priority of a port, in steps of the version.
+pub(crate) fn port_priority(version: Version, word: &[u8]) -> Result<Priority, Fault>
+    ensures { result ≡ forms.port_priority version word.now }
+{
+    match version {
+        Version::V1 => priority(1, word),
+        Version::V2 => priority(16, word),
+    }
+}
+
+/// A priority that is written as a multiple of a step.
+fn priority(step: u64, word: &[u8]) -> Result<Priority, Fault>
+    requires { 0 < step }
+    ensures { result ≡ forms.priority step word.now }
 {
     let number = number(word).ok_or(Fault::E02)?;
-    Priority::new(number).ok_or(Fault::E02)
+    if number % step != 0 {
+        return Err(Fault::E02);
+    }
+    Priority::new(number / step).ok_or(Fault::E02)
 }
 
 /// A path cost, or none for the automatic one, which is written 0.

@@ -3,6 +3,9 @@
 //! A line is words with spaces and tabs between. The first word is a command, and those that follow are its
 //! arguments: each command has a number of them, and each argument a form and a range. [`parse_line`] gives
 //! the edit, the query or the mark that a line says, or the least [`Fault`] of it, and takes no memory.
+//!
+//! The language has two versions, which differ in how priorities are written. A script is of version 2 where its
+//! first line [says so](is_version_2).
 #![tactic(auto)]
 
 mod arguments;
@@ -11,5 +14,8 @@ mod line;
 mod read;
 mod words;
 
-pub use line::{Edit, Fault, Kind, LanState, Line, Power, Query};
-pub use read::parse_line;
+pub use line::{
+    BridgeChange, Edit, Fault, Kind, LanChange, LanState, Line, PortChange, Power, Query,
+    TreeChange, Version,
+};
+pub use read::{is_version_2, parse_line, parse_line_as};

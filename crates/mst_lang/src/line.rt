@@ -4,6 +4,16 @@ ghost use Rattle.mst_lang.specs.Faults.{code_of, text_of};
 use mst_ids::{ConfName, Cost, Limit, Mac, Name, PortName, Priority, Speed, Tree, Vid, VidSet};
 use thiserror::Error;
 
+/// The version of the language that a script is in. They differ in how priorities are written.
+#[derive(Clone, Copy)]
+pub enum Version {
+    /// Priorities are written in steps, 0 to 15.
+    V1,
+    /// Priorities are written as 802.1Q has them: a bridge's in multiples of 4096, 0 to 61440, a port's in
+    /// multiples of 16, 0 to 240.
+    V2,
+}
+
 /// Which protocol a bridge runs.
 #[derive(Clone, Copy, PartialEq, Eq)]
 pub enum Kind {
@@ -14,140 +24,121 @@ pub enum Kind {
 }
 
 /// Whether a bridge is switched on.
-#[derive(Clone, Copy, PartialEq, Eq)]
+#[derive(Clone, Copy)]
 pub enum Power {
     On,
     Off,
 }
 
 /// Whether a LAN works.
-#[derive(Clone, Copy, PartialEq, Eq)]
+#[derive(Clone, Copy)]
 pub enum LanState {
     Up,
     Down,
 }
 
-/// A change of the network.
-#[derive(Clone, Copy, PartialEq, Eq)]
-pub enum Edit {
-    /// A new bridge: on, of kind mstp, with priority 8 in every tree.
-    AddBridge {
-        bridge: Name,
-        mac: Mac,
-    },
-    /// Takes a bridge away, with what is set for it.
-    DelBridge {
-        bridge: Name,
-    },
-    /// Switches a bridge on or off.
-    SetPower {
-        bridge: Name,
-        power: Power,
-    },
-    /// The kind of a bridge.
-    SetKind {
-        bridge: Name,
-        kind: Kind,
-    },
-    /// A new port, which is in no LAN, has key 0 and automatic costs, and is a member of all VLANs.
-    AddPort {
-        port: PortName,
-    },
-    /// Takes a port away, with what is set for it.
-    DelPort {
-        port: PortName,
-    },
-    /// A new LAN, which is up and of 1,000,000 kb/s.
-    AddLan {
-        lan: Name,
-    },
-    /// Takes a LAN away.
-    DelLan {
-        lan: Name,
-    },
-    /// The state of a LAN.
-    SetLanState {
-        lan: Name,
-        state: LanState,
-    },
-    /// The speed of a LAN.
-    SetSpeed {
-        lan: Name,
-        speed: Speed,
-    },
-    /// Joins a port to a LAN.
-    Plug {
-        port: PortName,
-        lan: Name,
-    },
-    /// Takes a port out of its LAN.
-    Unplug {
-        port: PortName,
-    },
-    /// The aggregation key of a port. Ports of key 0 aren't aggregated.
-    SetKey {
-        port: PortName,
-        key: u16,
-    },
-    /// The system priority of a bridge in the identifiers of its link aggregation groups.
-    SetSystemPriority {
-        bridge: Name,
-        priority: u16,
-    },
+/// What is set of a bridge.
+#[derive(Clone, Copy)]
+pub enum BridgeChange {
+    /// Whether it is on.
+    Power(Power),
+    /// Its kind.
+    Kind(Kind),
+    /// Its priority in the identifiers of its link aggregation groups.
+    SystemPriority(u16),
+    /// The revision and the name of its MST configuration.
+    Configuration { revision: u16, name: ConfName },
+    /// Over how many bridges what it says inside its region may go.
+    MaxHops(Limit),
+    /// Over how many bridges what it says outside its region may go.
+    MaxAge(Limit),
+}
+
+/// What is set of a port, but for the LAN that it is in.
+#[derive(Clone, Copy)]
+pub enum PortChange {
+    /// Its aggregation key. Ports of key 0 aren't aggregated.
+    Key(u16),
+    /// Its external path cost, or none for the automatic one.
+    PathCost(Option<Cost>),
+    /// Whether its role is restricted: it is then never a root port.
+    RestrictedRole(bool),
+}
+
+/// What is set of a LAN.
+#[derive(Clone, Copy)]
+pub enum LanChange {
+    /// Its state.
+    State(LanState),
+    /// Its speed.
+    Speed(Speed),
+}
+
+/// What is set by tree or VID.
+#[derive(Clone, Copy)]
+pub enum TreeChange {
     /// The priority of a bridge in a tree.
-    SetTreePriority {
+    Priority {
         bridge: Name,
         tree: Tree,
         priority: Priority,
     },
     /// The priority of a port in a tree.
-    SetTreePortPriority {
+    PortPriority {
         port: PortName,
         tree: Tree,
         priority: Priority,
     },
-    /// The external path cost of a port, or none for the automatic one.
-    SetPortPathCost {
-        port: PortName,
-        cost: Option<Cost>,
-    },
     /// The internal path cost of a port in a tree, or none for the automatic one.
-    SetTreePortCost {
+    PortCost {
         port: PortName,
         tree: Tree,
         cost: Option<Cost>,
     },
-    /// The revision and the name of a bridge's MST configuration.
-    SetConfiguration {
-        bridge: Name,
-        revision: u16,
-        name: ConfName,
-    },
     /// Maps VIDs to a tree in a bridge's MST configuration.
-    MapVids {
+    Table {
         bridge: Name,
         tree: Tree,
         vids: VidSet,
     },
-    /// Over how many bridges what a bridge says inside its region may go.
-    SetMaxHops {
-        bridge: Name,
-        limit: Limit,
-    },
-    /// Over how many bridges what a bridge says outside its region may go.
-    SetMaxAge {
-        bridge: Name,
-        limit: Limit,
-    },
     /// The VLANs that a port is a member of.
-    SetPortVlans {
+    Vlans {
         port: PortName,
         vids: VidSet,
     },
 }
 
+/// A change of the network.
+#[derive(Clone, Copy)]
+pub enum Edit {
+    /// A new bridge: on, of kind mstp, with priority 8 in every tree.
+    AddBridge { bridge: Name, mac: Mac },
+    /// Takes a bridge away, with what is set for it.
+    DelBridge { bridge: Name },
+    /// Sets something of a bridge.
+    SetBridge { bridge: Name, change: BridgeChange },
+    /// A new port, which is in no LAN, has key 0 and automatic costs, and is a member of all VLANs.
+    AddPort { port: PortName },
+    /// Takes a port away, with what is set for it.
+    DelPort { port: PortName },
+    /// Sets something of a port.
+    SetPort { port: PortName, change: PortChange },
+    /// A new LAN, which is up and of 1,000,000 kb/s.
+    AddLan { lan: Name },
+    /// Takes a LAN away.
+    DelLan { lan: Name },
+    /// Sets something of a LAN.
+    SetLan { lan: Name, change: LanChange },
+    /// Joins a port to a LAN.
+    Plug { port: PortName, lan: Name },
+    /// Takes a port out of its LAN.
+    Unplug { port: PortName },
+    /// Sets something by tree or VID.
+    SetByTree(TreeChange),
+}
+
 /// A question about the network.
-#[derive(Clone, Copy, PartialEq, Eq)]
+#[derive(Clone, Copy)]
 pub enum Query {
     /// Every tree, and how far each VLAN reaches.
     ShowPlan,
@@ -165,10 +156,12 @@ pub enum Query {
     ShowConfiguration { bridge: Name },
     /// How the network differs from the marked one.
     Changes,
+    /// A script of version 2 that makes the network.
+    Save,
 }
 
 /// What a line says.
-#[derive(Clone, Copy, PartialEq, Eq)]
+#[derive(Clone, Copy)]
 pub enum Line {
     Edit(Edit),
     Query(Query),
@@ -198,6 +191,7 @@ pub enum Command {
     SetTreePrio,
     SetTreePortPrio,
     SetPortPathCost,
+    SetPortRestrRole,
     SetTreePortCost,
     SetMstConfId,
     SetVidToMstId,
@@ -213,6 +207,7 @@ pub enum Command {
     ShowMstConfId,
     Mark,
     Changes,
+    Save,
 }
 
 /// Why a line isn't read. It is displayed as its [`text`](Fault::text).

@@ -2,22 +2,52 @@
 
 ghost use Rattle.std.specs.Prelude.{◌≡◌, find};
 ghost use Rattle.std.specs.Option.{option_map};
-ghost use Rattle.mst_lang.specs.Reading.{reading, says, command_of};
+ghost use Rattle.mst_lang.specs.Reading.{reading, reading_as, says, says_as, says_version_2, command_of};
 ghost use Rattle.mst_lang.specs.Arguments.{none_of, is_text};
 ghost use Rattle.mst_lang.specs.Words.{words};
 
 use crate::arguments;
-use crate::line::{Command, Edit, Fault, Line, Query};
+use crate::line::{
+    BridgeChange, Command, Edit, Fault, LanChange, Line, PortChange, Query, TreeChange, Version,
+};
 use crate::words::{are_plain, four_words, next_word, one_word, three_words, two_words};
 use mst_ids::PortName;
 
 /// The most bytes that a line may have.
 const LONGEST: usize = 4096;
 
-/// What a line of a script says, or the least fault of it. The line comes without its end, and no
+/// What a line of a script of version 1 says, or the least fault of it. The line comes without its end, and no
 /// memory is taken.
 pub fn parse_line(line: &[u8]) -> Result<Line, Fault>
     ensures { result ≡ reading line.now }
+{
+    parse_line_as(Version::V1, line)
+}
+
+/// Whether a script with this first line is of version 2: it has just the words `mstplan` and `2`, and 4,096
+/// bytes at most. The line comes without its end, and no memory is taken.
+pub fn is_version_2(line: &[u8]) -> bool
+    ensures { result ≡ says_version_2 line.now }
+{
+    if line.len() > LONGEST {
+        return false;
+    }
+    match two_words(line) {
+        Some((first, second)) => is_word(first, b"mstplan") && is_word(second, b"2"),
+        None => false,
+    }
+}
+
+fn is_word(word: &[u8], text: &[u8]) -> bool
+    ensures { result ≡ is_text word.now text.now }
+{
+    word == text
+}
+
+/// What a line of a script of this version says, or the least fault of it. The line comes without its end, and no
+/// memory is taken.
+pub fn parse_line_as(version: Version, line: &[u8]) -> Result<Line, Fault>
+    ensures { result ≡ reading_as version line.now }
 {
     if line.len() > LONGEST {
         return Err(Fault::E01);
@@ -35,7 +65,7 @@ pub fn parse_line(line: &[u8]) -> Result<Line, Fault>
         Some((word, arguments)) => {
             if plain {
                 let command = command(word).ok_or(Fault::E01)?;
-                read_arguments(command, arguments)
+                read_arguments(version, command, arguments)
             } else {
                 Err(Fault::E01)
             }
@@ -44,7 +74,7 @@ pub fn parse_line(line: &[u8]) -> Result<Line, Fault>
 }
 
 /// The words that are commands.
-const COMMANDS: [(&[u8], Command); 32] = [
+const COMMANDS: [(&[u8], Command); 34] = [
     (b"addbridge", Command::AddBridge),
     (b"delbridge", Command::DelBridge),
     (b"bridge", Command::Bridge),
@@ -62,6 +92,7 @@ const COMMANDS: [(&[u8], Command); 32] = [
     (b"settreeprio", Command::SetTreePrio),
     (b"settreeportprio", Command::SetTreePortPrio),
     (b"setportpathcost", Command::SetPortPathCost),
+    (b"setportrestrrole", Command::SetPortRestrRole),
     (b"settreeportcost", Command::SetTreePortCost),
     (b"setmstconfid", Command::SetMstConfId),
     (b"setvid2mstid", Command::SetVidToMstId),
@@ -77,6 +108,7 @@ const COMMANDS: [(&[u8], Command); 32] = [
     (b"showmstconfid", Command::ShowMstConfId),
     (b"mark", Command::Mark),
     (b"changes", Command::Changes),
+    (b"save", Command::Save),
 ];
 
 /// The command of this word.
@@ -96,8 +128,8 @@ fn command_in(commands: &[(&[u8], Command)], word: &[u8]) -> Option<Command>
 }
 
 /// What the command makes of its arguments.
-fn read_arguments(command: Command, arguments: &[u8]) -> Result<Line, Fault>
-    ensures { result ≡ says command (words arguments.now) }
+fn read_arguments(version: Version, command: Command, arguments: &[u8]) -> Result<Line, Fault>
+    ensures { result ≡ says_as version command (words arguments.now) }
 {
     match command {
         Command::AddBridge => add_bridge(arguments),
@@ -114,9 +146,10 @@ fn read_arguments(command: Command, arguments: &[u8]) -> Result<Line, Fault>
         Command::Unplug => unplug(arguments),
         Command::SetKey => set_key(arguments),
         Command::SetSysPri => set_system_priority(arguments),
-        Command::SetTreePrio => set_tree_priority(arguments),
-        Command::SetTreePortPrio => set_tree_port_priority(arguments),
+        Command::SetTreePrio => set_tree_priority(version, arguments),
+        Command::SetTreePortPrio => set_tree_port_priority(version, arguments),
         Command::SetPortPathCost => set_port_path_cost(arguments),
+        Command::SetPortRestrRole => set_port_restricted_role(arguments),
         Command::SetTreePortCost => set_tree_port_cost(arguments),
         Command::SetMstConfId => set_configuration(arguments),
         Command::SetVidToMstId => map_vids(arguments),
@@ -132,6 +165,7 @@ fn read_arguments(command: Command, arguments: &[u8]) -> Result<Line, Fault>
         Command::ShowMstConfId => show_configuration(arguments),
         Command::Mark => without_arguments(Line::Mark, arguments),
         Command::Changes => without_arguments(Line::Query(Query::Changes), arguments),
+        Command::Save => without_arguments(Line::Query(Query::Save), arguments),
     }
 }
 
@@ -168,7 +202,8 @@ fn set_power(arguments: &[u8]) -> Result<Line, Fault>
     let (bridge, power) = two_words(arguments).ok_or(Fault::E01)?;
     let bridge = arguments::name(bridge)?;
     let power = arguments::power(power)?;
-    Ok(Line::Edit(Edit::SetPower { bridge, power }))
+    let change = BridgeChange::Power(power);
+    Ok(Line::Edit(Edit::SetBridge { bridge, change }))
 }
 
 fn set_kind(arguments: &[u8]) -> Result<Line, Fault>
@@ -177,7 +212,8 @@ fn set_kind(arguments: &[u8]) -> Result<Line, Fault>
     let (bridge, kind) = two_words(arguments).ok_or(Fault::E01)?;
     let bridge = arguments::name(bridge)?;
     let kind = arguments::kind(kind)?;
-    Ok(Line::Edit(Edit::SetKind { bridge, kind }))
+    let change = BridgeChange::Kind(kind);
+    Ok(Line::Edit(Edit::SetBridge { bridge, change }))
 }
 
 fn add_port(arguments: &[u8]) -> Result<Line, Fault>
@@ -222,7 +258,8 @@ fn set_lan_state(arguments: &[u8]) -> Result<Line, Fault>
     let (lan, state) = two_words(arguments).ok_or(Fault::E01)?;
     let lan = arguments::name(lan)?;
     let state = arguments::lan_state(state)?;
-    Ok(Line::Edit(Edit::SetLanState { lan, state }))
+    let change = LanChange::State(state);
+    Ok(Line::Edit(Edit::SetLan { lan, change }))
 }
 
 fn set_speed(arguments: &[u8]) -> Result<Line, Fault>
@@ -231,7 +268,8 @@ fn set_speed(arguments: &[u8]) -> Result<Line, Fault>
     let (lan, speed) = two_words(arguments).ok_or(Fault::E01)?;
     let lan = arguments::name(lan)?;
     let speed = arguments::speed(speed)?;
-    Ok(Line::Edit(Edit::SetSpeed { lan, speed }))
+    let change = LanChange::Speed(speed);
+    Ok(Line::Edit(Edit::SetLan { lan, change }))
 }
 
 fn plug(arguments: &[u8]) -> Result<Line, Fault>
@@ -263,7 +301,8 @@ fn set_key(arguments: &[u8]) -> Result<Line, Fault>
     let number = arguments::port_number(number)?;
     let key = arguments::sixteen_bits(key)?;
     let port = PortName { bridge, number };
-    Ok(Line::Edit(Edit::SetKey { port, key }))
+    let change = PortChange::Key(key);
+    Ok(Line::Edit(Edit::SetPort { port, change }))
 }
 
 fn set_system_priority(arguments: &[u8]) -> Result<Line, Fault>
@@ -272,37 +311,40 @@ fn set_system_priority(arguments: &[u8]) -> Result<Line, Fault>
     let (bridge, priority) = two_words(arguments).ok_or(Fault::E01)?;
     let bridge = arguments::name(bridge)?;
     let priority = arguments::sixteen_bits(priority)?;
-    Ok(Line::Edit(Edit::SetSystemPriority { bridge, priority }))
+    let change = BridgeChange::SystemPriority(priority);
+    Ok(Line::Edit(Edit::SetBridge { bridge, change }))
 }
 
-fn set_tree_priority(arguments: &[u8]) -> Result<Line, Fault>
-    ensures { result ≡ says Command.SetTreePrio (words arguments.now) }
+fn set_tree_priority(version: Version, arguments: &[u8]) -> Result<Line, Fault>
+    ensures { result ≡ says_as version Command.SetTreePrio (words arguments.now) }
 {
     let (bridge, tree, priority) = three_words(arguments).ok_or(Fault::E01)?;
     let bridge = arguments::name(bridge)?;
-    let priority = arguments::priority(priority)?;
+    let priority = arguments::bridge_priority(version, priority)?;
     let tree = arguments::tree(tree)?;
-    Ok(Line::Edit(Edit::SetTreePriority {
+    let change = TreeChange::Priority {
         bridge,
         tree,
         priority,
-    }))
+    };
+    Ok(Line::Edit(Edit::SetByTree(change)))
 }
 
-fn set_tree_port_priority(arguments: &[u8]) -> Result<Line, Fault>
-    ensures { result ≡ says Command.SetTreePortPrio (words arguments.now) }
+fn set_tree_port_priority(version: Version, arguments: &[u8]) -> Result<Line, Fault>
+    ensures { result ≡ says_as version Command.SetTreePortPrio (words arguments.now) }
 {
     let (bridge, number, tree, priority) = four_words(arguments).ok_or(Fault::E01)?;
     let bridge = arguments::name(bridge)?;
     let number = arguments::port_number(number)?;
-    let priority = arguments::priority(priority)?;
+    let priority = arguments::port_priority(version, priority)?;
     let tree = arguments::tree(tree)?;
     let port = PortName { bridge, number };
-    Ok(Line::Edit(Edit::SetTreePortPriority {
+    let change = TreeChange::PortPriority {
         port,
         tree,
         priority,
-    }))
+    };
+    Ok(Line::Edit(Edit::SetByTree(change)))
 }
 
 fn set_port_path_cost(arguments: &[u8]) -> Result<Line, Fault>
@@ -313,7 +355,20 @@ fn set_port_path_cost(arguments: &[u8]) -> Result<Line, Fault>
     let number = arguments::port_number(number)?;
     let cost = arguments::cost(cost)?;
     let port = PortName { bridge, number };
-    Ok(Line::Edit(Edit::SetPortPathCost { port, cost }))
+    let change = PortChange::PathCost(cost);
+    Ok(Line::Edit(Edit::SetPort { port, change }))
+}
+
+fn set_port_restricted_role(arguments: &[u8]) -> Result<Line, Fault>
+    ensures { result ≡ says Command.SetPortRestrRole (words arguments.now) }
+{
+    let (bridge, number, yes) = three_words(arguments).ok_or(Fault::E01)?;
+    let bridge = arguments::name(bridge)?;
+    let number = arguments::port_number(number)?;
+    let yes = arguments::yes_or_no(yes)?;
+    let port = PortName { bridge, number };
+    let change = PortChange::RestrictedRole(yes);
+    Ok(Line::Edit(Edit::SetPort { port, change }))
 }
 
 fn set_tree_port_cost(arguments: &[u8]) -> Result<Line, Fault>
@@ -325,7 +380,8 @@ fn set_tree_port_cost(arguments: &[u8]) -> Result<Line, Fault>
     let cost = arguments::cost(cost)?;
     let tree = arguments::tree(tree)?;
     let port = PortName { bridge, number };
-    Ok(Line::Edit(Edit::SetTreePortCost { port, tree, cost }))
+    let change = TreeChange::PortCost { port, tree, cost };
+    Ok(Line::Edit(Edit::SetByTree(change)))
 }
 
 fn set_configuration(arguments: &[u8]) -> Result<Line, Fault>
@@ -335,11 +391,8 @@ fn set_configuration(arguments: &[u8]) -> Result<Line, Fault>
     let bridge = arguments::name(bridge)?;
     let revision = arguments::sixteen_bits(revision)?;
     let name = arguments::conf_name(name_word)?;
-    Ok(Line::Edit(Edit::SetConfiguration {
-        bridge,
-        revision,
-        name,
-    }))
+    let change = BridgeChange::Configuration { revision, name };
+    Ok(Line::Edit(Edit::SetBridge { bridge, change }))
 }
 
 fn map_vids(arguments: &[u8]) -> Result<Line, Fault>
@@ -349,7 +402,8 @@ fn map_vids(arguments: &[u8]) -> Result<Line, Fault>
     let bridge = arguments::name(bridge)?;
     let tree = arguments::tree(tree)?;
     let vids = arguments::vids(vids)?;
-    Ok(Line::Edit(Edit::MapVids { bridge, tree, vids }))
+    let change = TreeChange::Table { bridge, tree, vids };
+    Ok(Line::Edit(Edit::SetByTree(change)))
 }
 
 fn set_max_hops(arguments: &[u8]) -> Result<Line, Fault>
@@ -358,7 +412,8 @@ fn set_max_hops(arguments: &[u8]) -> Result<Line, Fault>
     let (bridge, limit) = two_words(arguments).ok_or(Fault::E01)?;
     let bridge = arguments::name(bridge)?;
     let limit = arguments::limit(limit)?;
-    Ok(Line::Edit(Edit::SetMaxHops { bridge, limit }))
+    let change = BridgeChange::MaxHops(limit);
+    Ok(Line::Edit(Edit::SetBridge { bridge, change }))
 }
 
 fn set_max_age(arguments: &[u8]) -> Result<Line, Fault>
@@ -367,7 +422,8 @@ fn set_max_age(arguments: &[u8]) -> Result<Line, Fault>
     let (bridge, limit) = two_words(arguments).ok_or(Fault::E01)?;
     let bridge = arguments::name(bridge)?;
     let limit = arguments::limit(limit)?;
-    Ok(Line::Edit(Edit::SetMaxAge { bridge, limit }))
+    let change = BridgeChange::MaxAge(limit);
+    Ok(Line::Edit(Edit::SetBridge { bridge, change }))
 }
 
 fn set_port_vlans(arguments: &[u8]) -> Result<Line, Fault>
@@ -378,7 +434,8 @@ fn set_port_vlans(arguments: &[u8]) -> Result<Line, Fault>
     let number = arguments::port_number(number)?;
     let vids = arguments::members(vids)?;
     let port = PortName { bridge, number };
-    Ok(Line::Edit(Edit::SetPortVlans { port, vids }))
+    let change = TreeChange::Vlans { port, vids };
+    Ok(Line::Edit(Edit::SetByTree(change)))
 }
 
 fn show_tree(arguments: &[u8]) -> Result<Line, Fault>

@@ -25,10 +25,11 @@ same_placed {tree = tree} e a = record { bridge = a.bridge; has_bridge = subst (
 module _ {N L K B P V : Type 0} (tree : SettledTree N L K B P V) where
   open tree use {rules as m, lawful as law, topology as t, vector as v, is_tree.{topology as ok, settled, port_ids}, tests, within as w, is_within as within}
 
-  -- the bridge's vector is a step along this port
+  -- the bridge's vector is a step along this port, whose role isn't restricted
   pub record Took (n : N) (a : Placed tree n) : Type 0 where
     pub port : Plug N L K P
     pub part : TakesPart t port
+    pub is_free : port.is_restricted ≡ false
     pub on_bridge : port.bridge ≡ n
     pub heard : Heard tree port.lan
     pub from_other : heard.port.bridge ≢ n
@@ -47,6 +48,7 @@ module _ {N L K B P V : Type 0} (tree : SettledTree N L K B P V) where
           record {
             port = s.port;
             part = (s.has_port, s.is_part);
+            is_free = s.is_free;
             on_bridge = s.on_bridge;
             heard = record { port = s.from; message = s.message; designates = s.designates };
             from_other = s.from_other;

@@ -33,6 +33,16 @@ module _ {N L K B P V : Type 0} (tree : SettledTree N L K B P V) where
           let same : h.port ≡ q = one_designated m law t ok v k.0.port.lan h.port q h.message x h.designates (subst (λ (l : L). Designates m t v l q x) lan d) in
           k.0.from_other (ap (λ (c : Plug N L K P). c.bridge) same ∙ e)
 
+  -- a root port's role isn't restricted
+  pub root_is_free : (p : Plug N L K P) → IsRootPort m t v w.receiver p → p.is_restricted ≡ false
+  root_is_free p r = go (took_along tree p r.part.0 at r.came_by)
+    where
+      at : Placed tree p.bridge
+      at = let b = ok.has_bridge p r.part.0 in record { bridge = b.0; has_bridge = b.1; vector = r.vector; is_vector = r.is_vector }
+
+      go : (k : Took tree p.bridge at) × (k.port ≡ p) → p.is_restricted ≡ false
+      go k = subst (λ (c : Plug N L K P). c.is_restricted ≡ false) k.1 k.0.is_free
+
   one_designated_on : (p q r : Plug N L K P) (x y : V) → Designates m t v p.lan q x → Designates m t v p.lan r y → q ≡ r
   one_designated_on p q r x y d e = one_designated m law t ok v p.lan q r x y d e
 

@@ -1,7 +1,7 @@
 //! Laws of the settled trees of a network, of the roles of ports and of the active topology of a VID. Their
 //! functions do nothing: a caller has their clauses. Bridges, LANs and ports go by keys of any types N, L and
 //! K, as names or numbers.
-ghost use Rattle.std.specs.Prelude.{◌≡◌, ◌≢◌, ℕ, suc, Option, Some, ◌⊎◌};
+ghost use Rattle.std.specs.Prelude.{◌≡◌, ◌≢◌, false, ℕ, suc, Option, Some, ◌⊎◌};
 ghost use Rattle.mst_vector.specs.declared.cist.CistVector.{CistVector};
 ghost use Rattle.mst_vector.specs.declared.cist.CistBridge.{CistBridge};
 ghost use Rattle.mst_vector.specs.declared.cist.CistPort.{CistPort};
@@ -16,7 +16,7 @@ ghost use Rattle.mst_nested.specs.Trees.{Trees, IsNested, IsMarked, IsSettled, I
 ghost use Rattle.mst_nested.specs.Outcome.{MstiSettings, CanNest, IsOutcome};
 ghost use Rattle.mst_nested.specs.Parts.{SameRoots, HasRoot, HasRegionalRoot, HasMstiRoot};
 ghost use Rattle.mst_vector.specs.declared.msti.MstiPort.{MstiPort};
-ghost use Rattle.mst_nested.specs.Roles.{IsDesignatedPort, HasOneRole, IsCistRoot, IsCistAlternate, Forwards, ForwardsInside};
+ghost use Rattle.mst_nested.specs.Roles.{IsDesignatedPort, HasOneRole, IsCistRoot, IsCistAlternate, IsMstiRoot, Forwards, ForwardsInside};
 ghost use Rattle.mst_nested.specs.Active.{IsTreeOfVid, IsActive};
 ghost use Rattle.mst_nested.specs.Exits.{IsCrossing, IsExit, HoldsRoot, HasOneExit};
 ghost use Rattle.mst_graph.specs.Joined.{IsJoined, HasNoLoop};
@@ -63,6 +63,12 @@ pub fn roles<N, L, K>()
     ensures cist { (f : Trees N L K) → KeyTests N L → IsSettled f → (p : Plug N L K CistPort) → IsEnabled f p → HasOneRole cist_rules f.cist f.cist_vector (λ x. x.receiver) p }
     ensures msti { (f : Trees N L K) → KeyTests N L → IsSettled f → (i : ℕ) (q : Plug N L K MstiPort) → TakesPart (f.msti (suc i)) q → HasOneRole msti_rules (f.msti (suc i)) (f.msti_vector (suc i)) (λ x. x.receiver) q }
     ensures boundary { (f : Trees N L K) → KeyTests N L → IsSettled f → (p : Plug N L K CistPort) → IsBoundary f p → IsCistRoot f p ⊎ IsCistAlternate f p }
+{}
+
+/// A port whose role is restricted is never the root port, in the CIST and in an MSTI.
+pub fn restricted<N, L, K>()
+    ensures cist { (f : Trees N L K) → KeyTests N L → IsSettled f → (p : Plug N L K CistPort) → IsCistRoot f p → p.is_restricted ≡ false }
+    ensures msti { (f : Trees N L K) → KeyTests N L → IsSettled f → (i : ℕ) (q : Plug N L K MstiPort) → IsMstiRoot f (suc i) q → q.is_restricted ≡ false }
 {}
 
 /// A port is the designated port where its LAN's designated port has its key.

@@ -15,11 +15,19 @@ use Rattle.mst_ids.specs.Vids.{IsVidSet}
 use Rattle.mst_ids.proofs.ConfNameLemmas.{is_conf_name-mac_text}
 use Rattle.mst_ids.specs.declared.name.PortName.{PortName}
 use Rattle.mst_lang.specs.declared.line.Edit.{Edit}
-use Rattle.mst_lang.specs.declared.line.Edit.TheVariants.{AddBridge, DelBridge, SetPower, SetKind, AddPort, DelPort, AddLan, DelLan, SetLanState, SetSpeed, Plug, Unplug, SetKey, SetSystemPriority, SetTreePriority, SetTreePortPriority, SetPortPathCost, SetTreePortCost, SetConfiguration, MapVids, SetMaxHops, SetMaxAge, SetPortVlans}
-use Rattle.mst_lang.specs.Ranges.{InRange, IsName}
+use Rattle.mst_lang.specs.declared.line.Edit.TheVariants.{AddBridge, DelBridge, SetBridge, AddPort, DelPort, SetPort, AddLan, DelLan, SetLan, Plug, Unplug, SetByTree}
+use Rattle.mst_lang.specs.declared.line.BridgeChange.{BridgeChange}
+use Rattle.mst_lang.specs.declared.line.BridgeChange.TheVariants.{Power, Kind, SystemPriority, Configuration, MaxHops, MaxAge}
+use Rattle.mst_lang.specs.declared.line.PortChange.{PortChange}
+use Rattle.mst_lang.specs.declared.line.PortChange.TheVariants.{Key, PathCost, RestrictedRole}
+use Rattle.mst_lang.specs.declared.line.LanChange.{LanChange}
+use Rattle.mst_lang.specs.declared.line.LanChange.TheVariants.{State, Speed}
+use Rattle.mst_lang.specs.declared.line.TreeChange.TheVariants.{Priority, PortPriority, PortCost, Table, Vlans}
+use Rattle.mst_lang.specs.Ranges.{InRange, BridgeFits, PortFits, LanFits, IsName}
 use Rattle.mst_net.specs.Table.{no_table, mapped, tree_count}
 use Rattle.mst_net.specs.Tables.{Net, IsNetwork, AreBridges, AreLans, ArePorts, IsLimit, IsPathCost, IsOwnPriority, IsTable, BridgeRow, PortRow, LanRow, BridgeTree, PortTree, bridge_tree_cmp, port_tree_cmp, port_eq, empty_net}
-use Rattle.mst_net.specs.After.{has_bridge, has_port, has_lan, mac_taken, is_plugged, is_of_bridge, is_in_lan, some_port, all_vids, table_of, refusal_of, effect, after, new_bridge, new_port, new_lan, in_lan, with_kind, with_power, with_system_priority, with_configuration, with_max_hops, with_max_age, with_state, with_speed, with_key, with_external, change, change_bridge, change_port, change_lan, keep, own_priority, own_table, own_vlans}
+use Rattle.mst_net.specs.After.{has_bridge, has_port, has_lan, mac_taken, is_plugged, is_of_bridge, is_in_lan, some_port, all_vids, table_of, refusal_of, effect, after, new_bridge, new_port, new_lan, in_lan, bridge_with, settings_with, port_with, lan_with, change, change_bridge, change_port, change_lan, keep, own_priority, own_table, own_vlans}
+use Rattle.mst_net.specs.declared.settings.PortSettings.{PortSettings}
 use Rattle.mst_net.specs.declared.refusal.Refusal.{Refusal}
 use Rattle.mst_net.specs.declared.refusal.Refusal.TheVariants.{E04, E05, E06}
 use Rattle.mst_net.proofs.KeptLemmas.{some_is, no_some}
@@ -85,7 +93,7 @@ module _ (net : Net) where
   pub port_unpluggable : (port : PortName) → refusal_of (Unplug port) net ≡ None → (row : PortRow) × (fin.get net.ports port ≡ Some row) × (is_some row.lan ≡ true)
   port_unpluggable port h = let a = port_there port _ h in let b = passed _ _ _ a.1 in plugged_row (λ row. is_some row.lan) (fin.get net.ports port) b.0
 
-  pub vids_mappable : (bridge : List ℕ) (tree : ℕ) (vids : List Bool) → refusal_of (MapVids bridge tree vids) net ≡ None → (has_bridge bridge net ≡ true) × (tree_count (mapped vids tree (table_of net bridge)) ≤ 64)
+  pub vids_mappable : (bridge : List ℕ) (tree : ℕ) (vids : List Bool) → refusal_of (SetByTree (Table bridge tree vids)) net ≡ None → (has_bridge bridge net ≡ true) × (tree_count (mapped vids tree (table_of net bridge)) ≤ 64)
   vids_mappable bridge tree vids h =
       let a = bridge_there bridge _ h in let b = passed _ _ _ a.1 in
       let few = ltb-false 64 (tree_count (mapped vids tree (table_of net bridge))) b.0 in
@@ -160,6 +168,15 @@ pub record Kept (new old : BridgeRow) : Type 0 where
 
 unchanged : (row : BridgeRow) → Kept row row
 unchanged row = record { mac = refl; name = λ h. h; sixteen_bits = λ h. h; limits = λ h. h }
+
+-- of each change of a bridge
+pub bridge_kept : (change : BridgeChange) → BridgeFits change → (row : BridgeRow) → Kept (bridge_with change row) row
+bridge_kept (Power power) fits row = record { mac = refl; name = λ h. h; sixteen_bits = λ h. h; limits = λ h. h }
+bridge_kept (Kind kind) fits row = record { mac = refl; name = λ h. h; sixteen_bits = λ h. h; limits = λ h. h }
+bridge_kept (SystemPriority priority) fits row = record { mac = refl; name = λ h. h; sixteen_bits = λ h. (fits, h.1); limits = λ h. h }
+bridge_kept (Configuration revision name) fits row = record { mac = refl; name = λ _. fits.1; sixteen_bits = λ h. (h.0, fits.0); limits = λ h. h }
+bridge_kept (MaxHops limit) fits row = record { mac = refl; name = λ h. h; sixteen_bits = λ h. h; limits = λ h. (fits, h.1) }
+bridge_kept (MaxAge limit) fits row = record { mac = refl; name = λ h. h; sixteen_bits = λ h. h; limits = λ h. (h.0, fits) }
 
 bridges_changed : (bridges : FinMap name_cmp BridgeRow) (bridge : List ℕ) (f : BridgeRow → BridgeRow) → ((row : BridgeRow) → fin.get bridges bridge ≡ Some row → Kept (f row) row) → AreBridges bridges → AreBridges (change bridges bridge f)
 bridges_changed bridges bridge f kept are =
@@ -248,22 +265,36 @@ lans_added lans lan named absent room are = record {
   few = omega (arith, len_added names lans lan new_lan absent, room);
 }
 
+-- a speed that a change of a LAN leaves or sets
+speed_kept : (change : LanChange) → LanFits change → (row : LanRow) → (1 ≤ row.speed) × (row.speed ≤ 9_999_999_999) → (1 ≤ (lan_with change row).speed) × ((lan_with change row).speed ≤ 9_999_999_999)
+speed_kept (State state) fits row h = h
+speed_kept (Speed speed) fits row h = fits
+
+-- what a change of a port leaves of its settings
+pub record SettingsKept (new old : PortSettings) : Type 0 where
+  pub key : old.key < 2 ^ 16 → new.key < 2 ^ 16
+  pub cost : (c : ℕ) → new.external ≡ Some c → (old.external ≡ Some c) ⊎ IsPathCost c
+
+settings_kept : (change : PortChange) → PortFits change → (s : PortSettings) → SettingsKept (settings_with change s) s
+settings_kept (Key key) fits s = record { key = λ _. fits; cost = λ c e. inl e }
+settings_kept (PathCost cost) fits s = record { key = λ h. h; cost = λ c e. inr (fits c e) }
+settings_kept (RestrictedRole restricted) fits s = record { key = λ h. h; cost = λ c e. inl e }
+
 module _ (bridges : FinMap name_cmp BridgeRow) (lans : FinMap name_cmp LanRow) where
   -- what changes leave of a port's settings: it is in a LAN that is there, or where it was
   pub record PortKept (new old : PortRow) : Type 0 where
-    pub key : old.key < 2 ^ 16 → new.key < 2 ^ 16
+    pub settings : SettingsKept new.settings old.settings
     pub lan : (l : List ℕ) → new.lan ≡ Some l → (old.lan ≡ Some l) ⊎ (fin.contains_key lans l ≡ true)
-    pub cost : (c : ℕ) → new.external ≡ Some c → (old.external ≡ Some c) ⊎ IsPathCost c
 
   ports_changed : (table : FinMap port_cmp PortRow) (port : PortName) (f : PortRow → PortRow) → ((row : PortRow) → fin.get table port ≡ Some row → PortKept (f row) row) → ArePorts bridges lans table → ArePorts bridges lans (change table port f)
   ports_changed table port f kept are =
-      let from = changed_from ports PortKept (λ row. record { key = λ h. h; lan = λ l h. inl h; cost = λ c h. inl h }) table port f kept in
+      let from = changed_from ports PortKept (λ row. record { settings = record { key = λ h. h; cost = λ c h. inl h }; lan = λ l h. inl h }) table port f kept in
       record {
         has_bridge = λ p x h. let q = from p x h in are.has_bridge p q.0 q.1;
         number_fits = λ p x h. let q = from p x h in are.number_fits p q.0 q.1;
-        key_fits = λ p x h. let q = from p x h in q.2.key (are.key_fits p q.0 q.1);
+        key_fits = λ p x h. let q = from p x h in q.2.settings.key (are.key_fits p q.0 q.1);
         has_lan = λ p x l h i. let q = from p x h in elim (q.2.lan l i) [ inl was ↦ are.has_lan p q.0 l q.1 was | inr there ↦ there ];
-        cost_fits = λ p x c h i. let q = from p x h in elim (q.2.cost c i) [ inl was ↦ are.cost_fits p q.0 c q.1 was | inr fits ↦ fits ];
+        cost_fits = λ p x c h i. let q = from p x h in elim (q.2.settings.cost c i) [ inl was ↦ are.cost_fits p q.0 c q.1 was | inr fits ↦ fits ];
         few = omega (arith, len_changed ports table port f, are.few);
       }
 
@@ -293,7 +324,7 @@ module _ (bridges : FinMap name_cmp BridgeRow) (lans : FinMap name_cmp LanRow) w
           | inr q ↦ are.number_fits p x q
         ];
         key_fits = λ p x h. elim (was p x h) [
-          | inl q ↦ subst (λ (r : PortRow). r.key < 2 ^ 16) q.1 (omega arith)
+          | inl q ↦ subst (λ (r : PortRow). r.settings.key < 2 ^ 16) q.1 (omega arith)
           | inr q ↦ are.key_fits p x q
         ];
         has_lan = λ p x l h i. elim (was p x h) [
@@ -301,7 +332,7 @@ module _ (bridges : FinMap name_cmp BridgeRow) (lans : FinMap name_cmp LanRow) w
           | inr q ↦ are.has_lan p x l q i
         ];
         cost_fits = λ p x c h i. elim (was p x h) [
-          | inl q ↦ absurd (no_some c (ap (λ (r : PortRow). r.external) q.1 ∙ i))
+          | inl q ↦ absurd (no_some c (ap (λ (r : PortRow). r.settings.external) q.1 ∙ i))
           | inr q ↦ are.cost_fits p x c q i
         ];
         few = omega (arith, len_added ports table port new_port absent, room);
@@ -492,8 +523,7 @@ module _ (net : Net) (is : IsNetwork net) where
       let ok = bridge_addable net bridge mac h in
       with_bridges (fin.insert net.bridges bridge (new_bridge mac)) (still_there names net.bridges bridge (new_bridge mac)) (bridges_added net.bridges bridge mac fits.names fits.values (free mac ok.1) ok.0 ok.2 is.bridges)
   effect_is_network (DelBridge bridge) fits h = bridge_left bridge (bridge_deletable net bridge h).1
-  effect_is_network (SetPower bridge power) fits h = bridge_changed bridge (with_power power) (λ row _. record { mac = refl; name = λ h. h; sixteen_bits = λ h. h; limits = λ h. h })
-  effect_is_network (SetKind bridge kind) fits h = bridge_changed bridge (with_kind kind) (λ row _. record { mac = refl; name = λ h. h; sixteen_bits = λ h. h; limits = λ h. h })
+  effect_is_network (SetBridge bridge change) fits h = bridge_changed bridge (bridge_with change) (λ row _. bridge_kept change fits.values row)
   effect_is_network (AddPort port) fits h =
       let ok = port_addable net port h in
       with_ports (fin.insert net.ports port new_port) (still_there ports net.ports port new_port) (ports_added net.bridges net.lans net.ports port (fits.names.1, fits.names.2) ok.0 ok.1 ok.2 is.ports)
@@ -502,28 +532,21 @@ module _ (net : Net) (is : IsNetwork net) where
       let ok = lan_addable net lan h in
       with_lans (fin.insert net.lans lan new_lan) (λ p x l there in_it. still_there names net.lans lan new_lan l (is.ports.has_lan p x l there in_it)) (lans_added net.lans lan fits.names ok.0 ok.1 is.lans)
   effect_is_network (DelLan lan) fits h = lan_left lan (lan_deletable net lan h).1
-  effect_is_network (SetLanState lan state) fits h = lan_changed lan (with_state state) (λ row _ h. h)
-  effect_is_network (SetSpeed lan speed) fits h = lan_changed lan (with_speed speed) (λ row _ _. fits.values)
+  effect_is_network (SetLan lan change) fits h = lan_changed lan (lan_with change) (λ row _. speed_kept change fits.values row)
   effect_is_network (Plug port lan) fits h = port_changed port (in_lan (Some lan)) (λ row _. record {
-    key = λ h. h;
+    settings = record { key = λ h. h; cost = λ c e. inl e };
     lan = λ l e. inr (subst (λ (l : List ℕ). has_lan l net ≡ true) (some_is lan l e) (port_pluggable net port lan h).1);
-    cost = λ c e. inl e;
   })
-  effect_is_network (Unplug port) fits h = port_changed port (in_lan None) (λ row _. record { key = λ h. h; lan = λ l e. absurd (no_some l e); cost = λ c e. inl e })
-  effect_is_network (SetKey port key) fits h = port_changed port (with_key key) (λ row _. record { key = λ _. fits.values; lan = λ l e. inl e; cost = λ c e. inl e })
-  effect_is_network (SetSystemPriority bridge priority) fits h = bridge_changed bridge (with_system_priority priority) (λ row _. record { mac = refl; name = λ h. h; sixteen_bits = λ h. (fits.values, h.1); limits = λ h. h })
-  effect_is_network (SetTreePriority bridge tree priority) fits h = priority_set (record { bridge = bridge; tree = tree }) priority fits.values (bridge_there net bridge None h).0
-  effect_is_network (SetTreePortPriority port tree priority) fits h = port_priority_set (record { port = port; tree = tree }) priority fits.values (port_there net port None h).0
-  effect_is_network (SetPortPathCost port cost) fits h = port_changed port (with_external cost) (λ row _. record { key = λ h. h; lan = λ l e. inl e; cost = λ c e. inr (fits.values c e) })
-  effect_is_network (SetTreePortCost port tree cost) fits h = port_cost_set (record { port = port; tree = tree }) cost fits.values (port_there net port None h).0
-  effect_is_network (SetConfiguration bridge revision name) fits h = bridge_changed bridge (with_configuration revision name) (λ row _. record { mac = refl; name = λ _. fits.values.1; sixteen_bits = λ h. (h.0, fits.values.0); limits = λ h. h })
-  effect_is_network (MapVids bridge tree vids) fits h =
+  effect_is_network (Unplug port) fits h = port_changed port (in_lan None) (λ row _. record { settings = record { key = λ h. h; cost = λ c e. inl e }; lan = λ l e. absurd (no_some l e) })
+  effect_is_network (SetPort port change) fits h = port_changed port (port_with change) (λ row _. record { settings = settings_kept change fits.values row.settings; lan = λ l e. inl e })
+  effect_is_network (SetByTree (Priority bridge tree priority)) fits h = priority_set (record { bridge = bridge; tree = tree }) priority fits.values (bridge_there net bridge None h).0
+  effect_is_network (SetByTree (PortPriority port tree priority)) fits h = port_priority_set (record { port = port; tree = tree }) priority fits.values (port_there net port None h).0
+  effect_is_network (SetByTree (PortCost port tree cost)) fits h = port_cost_set (record { port = port; tree = tree }) cost fits.values (port_there net port None h).0
+  effect_is_network (SetByTree (Table bridge tree vids)) fits h =
       let ok = vids_mappable net bridge tree vids h in
       let new = mapped_fits vids tree (table_of net bridge) fits.values.0 (table_fits (fin.get net.tables bridge) (λ t there. (is.tables bridge t there).1.1)) in
       table_set bridge (mapped vids tree (table_of net bridge)) (new.0, new.1, ok.1) ok.0
-  effect_is_network (SetMaxHops bridge limit) fits h = bridge_changed bridge (with_max_hops limit) (λ row _. record { mac = refl; name = λ h. h; sixteen_bits = λ h. h; limits = λ h. (fits.values, h.1) })
-  effect_is_network (SetMaxAge bridge limit) fits h = bridge_changed bridge (with_max_age limit) (λ row _. record { mac = refl; name = λ h. h; sixteen_bits = λ h. h; limits = λ h. (h.0, fits.values) })
-  effect_is_network (SetPortVlans port vids) fits h = vlans_set port vids fits.values (port_there net port None h).0
+  effect_is_network (SetByTree (Vlans port vids)) fits h = vlans_set port vids fits.values (port_there net port None h).0
 
 -- ---- edits that are accepted
 pub after_accepted : (edit : Edit) (net : Net) → refusal_of edit net ≡ None → after edit net ≡ Ok (effect edit net)

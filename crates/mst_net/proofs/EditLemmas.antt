@@ -10,15 +10,18 @@ use Rattle.std.specs.Map.{lookup}
 use Rattle.mst_ids.specs.Names.{name_cmp}
 use Rattle.mst_ids.specs.declared.name.PortName.{PortName}
 use Rattle.mst_lang.specs.declared.line.Edit.{Edit}
-use Rattle.mst_lang.specs.declared.line.Edit.TheVariants.{AddBridge, DelBridge, AddPort, DelPort, AddLan, DelLan, Plug, Unplug}
+use Rattle.mst_lang.specs.declared.line.Edit.TheVariants.{AddBridge, DelBridge, SetBridge, AddPort, DelPort, SetPort, AddLan, DelLan, SetLan, Plug, Unplug, SetByTree}
+use Rattle.mst_lang.specs.declared.line.BridgeChange.{BridgeChange}
+use Rattle.mst_lang.specs.declared.line.PortChange.{PortChange}
+use Rattle.mst_lang.specs.declared.line.LanChange.{LanChange}
+use Rattle.mst_lang.specs.declared.line.TreeChange.{TreeChange}
 use Rattle.mst_net.specs.Tables.{Net, IsNetwork, BridgeRow, PortRow, LanRow, port_eq}
-use Rattle.mst_net.specs.After.{has_bridge, has_port, has_lan, mac_taken, is_of_bridge, is_in_lan, effect, new_bridge, new_port, new_lan, in_lan, change}
+use Rattle.mst_net.specs.After.{has_bridge, has_port, has_lan, mac_taken, is_of_bridge, is_in_lan, effect, new_bridge, new_port, new_lan, bridge_with, port_with, lan_with, in_lan, change}
 use Rattle.mst_net.specs.Contents.{CanCommit, Makes}
 use Rattle.mst_net.specs.Counting.{count_where}
 use Rattle.mst_net.specs.Rows.{IsNumberedBy}
 use Rattle.mst_net.specs.ByTree.{with_by_tree}
-use Rattle.mst_net.specs.OfOneRecord.{SetsBridge, SetsPort, SetsLan, bridge_set, port_set, lan_set}
-use Rattle.mst_net.specs.SettingsAfter.{set_after, IsSetByTree}
+use Rattle.mst_net.specs.SettingsAfter.{set_after}
 use Rattle.mst_net.specs.Tally.{count_in}
 use Rattle.mst_net.specs.NetworkKept.{contents_of, IsSound}
 use Rattle.mst_net.specs.declared.network.Network.TheInside.{Inside}
@@ -26,10 +29,8 @@ use Rattle.mst_net.proofs.KeptLemmas.{some_is}
 use Rattle.mst_net.proofs.Keyed.{same_keys, flipped, contains_keyed, set_keyed, removed_keyed, any_added, any_set, any_value}
 use Rattle.mst_net.proofs.Keys.{name_eq, names, ports}
 use Rattle.mst_net.proofs.Changed.{itself, changed_is, any_changed, left_of, other_left, value_found}
-use Rattle.mst_net.proofs.SettingsLemmas.{set_alone, not_renumbered}
 use Rattle.mst_net.proofs.Counting.{count_added, count_removed, count_set, count_le}
-use Rattle.mst_net.proofs.OfOneRecord.{of_bridge, of_port, of_lan}
-use Rattle.mst_net.proofs.AfterLemmas.{effect_is_network, bridge_addable, bridge_deletable, port_addable, port_deletable, port_pluggable, lan_addable, lan_deletable}
+use Rattle.mst_net.proofs.AfterLemmas.{effect_is_network, bridge_kept, bridge_there, port_there, lan_there, bridge_addable, bridge_deletable, port_addable, port_deletable, port_pluggable, lan_addable, lan_deletable}
 
 pub absent : {X : Type 0} (o : Option X) → is_some o ≡ false → o ≡ None
 absent None e = refl
@@ -280,75 +281,65 @@ module _ (a b : Inside) where
     pub net_with_ports : (contents_of b).net ≡ record old_net { ports = fin.insert old_net.ports port row }
     net_with_ports i = record (contents_of (others i)).net { ports = set_keyed ports a.ports.rows b.ports.rows port row rows i }
 
-  -- an edit that sets something of a bridge
-  module _ (edit : Edit) (can : CanCommit edit (contents_of a)) where
-    module _ (bridge : List ℕ) (sets : SetsBridge edit bridge) where
-      pub bridge_to_set : has_bridge bridge old_net ≡ true
-      bridge_to_set = (of_bridge edit bridge sets).there old_net can.accepted
+  -- a change of a bridge
+  module _ (bridge : List ℕ) (change : BridgeChange) (can : CanCommit (SetBridge bridge change) (contents_of a)) where
+    pub bridge_to_set : has_bridge bridge old_net ≡ true
+    bridge_to_set = (bridge_there old_net bridge None can.accepted).0
 
-      module _ (others : record b { bridges = a.bridges } ≡ a) (old : BridgeRow) (there : fin.get old_net.bridges bridge ≡ Some old)
-          (rows : (q : List ℕ) → lookup (name_eq q) b.bridges.rows ≡ cond (name_eq bridge q) (Some (bridge_set edit old)) (lookup (name_eq q) a.bridges.rows)) where
-        new_bridges : (contents_of b).net ≡ record old_net { bridges = fin.insert old_net.bridges bridge (bridge_set edit old) }
-        new_bridges = net_with_bridges others bridge (bridge_set edit old) rows
+    module _ (others : record b { bridges = a.bridges } ≡ a) (old : BridgeRow) (there : fin.get old_net.bridges bridge ≡ Some old)
+        (rows : (q : List ℕ) → lookup (name_eq q) b.bridges.rows ≡ cond (name_eq bridge q) (Some (bridge_with change old)) (lookup (name_eq q) a.bridges.rows)) where
+      new_bridges : (contents_of b).net ≡ record old_net { bridges = fin.insert old_net.bridges bridge (bridge_with change old) }
+      new_bridges = net_with_bridges others bridge (bridge_with change old) rows
 
-        net_with_bridge_set : (contents_of b).net ≡ effect edit old_net
-        net_with_bridge_set = new_bridges ∙ ap (λ m. record old_net { bridges = m }) (sym (changed_is names old_net.bridges bridge (bridge_set edit) old there)) ∙ sym ((of_bridge edit bridge sets).made old_net)
+      net_with_bridge_set : (contents_of b).net ≡ effect (SetBridge bridge change) old_net
+      net_with_bridge_set = new_bridges ∙ ap (λ m. record old_net { bridges = m }) (sym (changed_is names old_net.bridges bridge (bridge_with change) old there))
 
-        pub bridge_set_made : b.bridges.numbers ≡ a.bridges.numbers → Makes edit (contents_of a) (contents_of b)
-        bridge_set_made numbers = record {
-          net = net_with_bridge_set;
-          numbers = (λ i. record (contents_of (others i)).numbers { bridges = fin.from_entries (numbers i) }) ∙ sym ((of_bridge edit bridge sets).numbers (contents_of a).next (contents_of a).numbers);
-        }
+      pub bridge_set_made : b.bridges.numbers ≡ a.bridges.numbers → Makes (SetBridge bridge change) (contents_of a) (contents_of b)
+      bridge_set_made numbers = record { net = net_with_bridge_set; numbers = λ i. record (contents_of (others i)).numbers { bridges = fin.from_entries (numbers i) } }
 
-        pub bridge_set_sound : IsSound a → IsNumberedBy name_eq b.bridges → IsSound b
-        bridge_set_sound s numbers =
-            sound_with_bridges a b s (made_network a b s edit can net_with_bridge_set) (λ i. record (others i) { bridges = a.bridges; macs = a.macs; settings = a.settings }) numbers
-            (λ q. ap (λ (x : Inside). set.contains nat_eq x.macs q) others ∙ s.macs q
-            ∙ sym (any_set names (λ b. nat_eq b.mac q) old_net.bridges bridge (bridge_set edit old) old there (ap (λ n. nat_eq n q) ((of_bridge edit bridge sets).mac old))) ∙ ap (λ (n : Net). mac_taken q n) (sym new_bridges))
+      pub bridge_set_sound : IsSound a → IsNumberedBy name_eq b.bridges → IsSound b
+      bridge_set_sound s numbers =
+          sound_with_bridges a b s (made_network a b s (SetBridge bridge change) can net_with_bridge_set) (λ i. record (others i) { bridges = a.bridges; macs = a.macs; settings = a.settings }) numbers
+          (λ q. ap (λ (x : Inside). set.contains nat_eq x.macs q) others ∙ s.macs q
+          ∙ sym (any_set names (λ b. nat_eq b.mac q) old_net.bridges bridge (bridge_with change old) old there (ap (λ n. nat_eq n q) (bridge_kept change can.in_range.values old).mac)) ∙ ap (λ (n : Net). mac_taken q n) (sym new_bridges))
 
-    -- of a port
-    module _ (port : PortName) (sets : SetsPort edit port) where
-      pub port_to_set : has_port port old_net ≡ true
-      port_to_set = (of_port edit port sets).there old_net can.accepted
+  -- of a port
+  module _ (port : PortName) (change : PortChange) (can : CanCommit (SetPort port change) (contents_of a)) where
+    pub port_to_set : has_port port old_net ≡ true
+    port_to_set = (port_there old_net port None can.accepted).0
 
-      module _ (others : record b { ports = a.ports } ≡ a) (old : PortRow) (there : fin.get old_net.ports port ≡ Some old)
-          (rows : (q : PortName) → lookup (port_eq q) b.ports.rows ≡ cond (port_eq port q) (Some (port_set edit old)) (lookup (port_eq q) a.ports.rows)) where
-        net_with_port_set : (contents_of b).net ≡ effect edit old_net
-        net_with_port_set =
-            net_with_ports others port (port_set edit old) rows ∙ ap (λ m. record old_net { ports = m }) (sym (changed_is ports old_net.ports port (port_set edit) old there)) ∙ sym ((of_port edit port sets).made old_net)
+    module _ (others : record b { ports = a.ports } ≡ a) (old : PortRow) (there : fin.get old_net.ports port ≡ Some old)
+        (rows : (q : PortName) → lookup (port_eq q) b.ports.rows ≡ cond (port_eq port q) (Some (port_with change old)) (lookup (port_eq q) a.ports.rows)) where
+      net_with_port_set : (contents_of b).net ≡ effect (SetPort port change) old_net
+      net_with_port_set =
+          net_with_ports others port (port_with change old) rows ∙ ap (λ m. record old_net { ports = m }) (sym (changed_is ports old_net.ports port (port_with change) old there))
 
-        pub port_set_made : b.ports.numbers ≡ a.ports.numbers → Makes edit (contents_of a) (contents_of b)
-        port_set_made numbers = record {
-          net = net_with_port_set;
-          numbers = (λ i. record (contents_of (others i)).numbers { ports = fin.from_entries (numbers i) }) ∙ sym ((of_port edit port sets).numbers (contents_of a).next (contents_of a).numbers);
-        }
+      pub port_set_made : b.ports.numbers ≡ a.ports.numbers → Makes (SetPort port change) (contents_of a) (contents_of b)
+      port_set_made numbers = record { net = net_with_port_set; numbers = λ i. record (contents_of (others i)).numbers { ports = fin.from_entries (numbers i) } }
 
-        pub port_set_sound : IsSound a → IsNumberedBy port_eq b.ports → IsSound b
-        port_set_sound s numbers =
-            let table : fin.from_entries b.ports.rows ≡ fin.insert old_net.ports port (port_set edit old) = set_keyed ports a.ports.rows b.ports.rows port (port_set edit old) rows in
-            sound_with_ports a b s (made_network a b s edit can net_with_port_set) (λ i. record (others i) { ports = a.ports; port_counts = a.port_counts; plug_counts = a.plug_counts; settings = a.settings }) numbers
-            (λ q. ap (λ (x : Inside). count_in name_eq x.port_counts q) others ∙ of_bridge_kept a s port (port_set edit old) old there q ∙ ap (count_where (is_of_bridge q)) (sym table))
-            (λ q. ap (λ (x : Inside). count_in name_eq x.plug_counts q) others ∙ in_lan_kept a s port (port_set edit old) old there ((of_port edit port sets).lan old) q ∙ ap (count_where (is_in_lan q)) (sym table))
+      pub port_set_sound : IsSound a → IsNumberedBy port_eq b.ports → IsSound b
+      port_set_sound s numbers =
+          let table : fin.from_entries b.ports.rows ≡ fin.insert old_net.ports port (port_with change old) = set_keyed ports a.ports.rows b.ports.rows port (port_with change old) rows in
+          sound_with_ports a b s (made_network a b s (SetPort port change) can net_with_port_set) (λ i. record (others i) { ports = a.ports; port_counts = a.port_counts; plug_counts = a.plug_counts; settings = a.settings }) numbers
+          (λ q. ap (λ (x : Inside). count_in name_eq x.port_counts q) others ∙ of_bridge_kept a s port (port_with change old) old there q ∙ ap (count_where (is_of_bridge q)) (sym table))
+          (λ q. ap (λ (x : Inside). count_in name_eq x.plug_counts q) others ∙ in_lan_kept a s port (port_with change old) old there refl q ∙ ap (count_where (is_in_lan q)) (sym table))
 
-    -- of a LAN
-    module _ (lan : List ℕ) (sets : SetsLan edit lan) where
-      pub lan_to_set : has_lan lan old_net ≡ true
-      lan_to_set = (of_lan edit lan sets).there old_net can.accepted
+  -- of a LAN
+  module _ (lan : List ℕ) (change : LanChange) (can : CanCommit (SetLan lan change) (contents_of a)) where
+    pub lan_to_set : has_lan lan old_net ≡ true
+    lan_to_set = (lan_there old_net lan None can.accepted).0
 
-      module _ (others : record b { lans = a.lans } ≡ a) (old : LanRow) (there : fin.get old_net.lans lan ≡ Some old)
-          (rows : (q : List ℕ) → lookup (name_eq q) b.lans.rows ≡ cond (name_eq lan q) (Some (lan_set edit old)) (lookup (name_eq q) a.lans.rows)) where
-        net_with_lan_set : (contents_of b).net ≡ effect edit old_net
-        net_with_lan_set =
-            net_with_lans others lan (lan_set edit old) rows ∙ ap (λ m. record old_net { lans = m }) (sym (changed_is names old_net.lans lan (lan_set edit) old there)) ∙ sym ((of_lan edit lan sets).made old_net)
+    module _ (others : record b { lans = a.lans } ≡ a) (old : LanRow) (there : fin.get old_net.lans lan ≡ Some old)
+        (rows : (q : List ℕ) → lookup (name_eq q) b.lans.rows ≡ cond (name_eq lan q) (Some (lan_with change old)) (lookup (name_eq q) a.lans.rows)) where
+      net_with_lan_set : (contents_of b).net ≡ effect (SetLan lan change) old_net
+      net_with_lan_set =
+          net_with_lans others lan (lan_with change old) rows ∙ ap (λ m. record old_net { lans = m }) (sym (changed_is names old_net.lans lan (lan_with change) old there))
 
-        pub lan_set_made : b.lans.numbers ≡ a.lans.numbers → Makes edit (contents_of a) (contents_of b)
-        lan_set_made numbers = record {
-          net = net_with_lan_set;
-          numbers = (λ i. record (contents_of (others i)).numbers { lans = fin.from_entries (numbers i) }) ∙ sym ((of_lan edit lan sets).numbers (contents_of a).next (contents_of a).numbers);
-        }
+      pub lan_set_made : b.lans.numbers ≡ a.lans.numbers → Makes (SetLan lan change) (contents_of a) (contents_of b)
+      lan_set_made numbers = record { net = net_with_lan_set; numbers = λ i. record (contents_of (others i)).numbers { lans = fin.from_entries (numbers i) } }
 
-        pub lan_set_sound : IsSound a → IsNumberedBy name_eq b.lans → IsSound b
-        lan_set_sound s numbers = sound_with_lans a b s (made_network a b s edit can net_with_lan_set) others numbers
+      pub lan_set_sound : IsSound a → IsNumberedBy name_eq b.lans → IsSound b
+      lan_set_sound s numbers = sound_with_lans a b s (made_network a b s (SetLan lan change) can net_with_lan_set) others numbers
 
 -- ---- each edit that writes more than settings
 module _ (a b : Inside) where
@@ -533,12 +524,12 @@ module _ (a b : Inside) where
       lan_left_sound s numbers = sound_with_lans a b s (made_network a b s (DelLan lan) can lan_net_left) others numbers
 
   -- what is set by tree or VID
-  module _ (edit : Edit) (is : IsSetByTree edit) (can : CanCommit edit (contents_of a)) (others : record b { settings = a.settings } ≡ a) (sets : b.settings.set ≡ set_after edit a.settings.set) where
-    net_set : (contents_of b).net ≡ effect edit before
-    net_set = (λ i. with_by_tree (contents_of (others i)).net (sets i)) ∙ set_alone edit is before
+  module _ (change : TreeChange) (can : CanCommit (SetByTree change) (contents_of a)) (others : record b { settings = a.settings } ≡ a) (sets : b.settings.set ≡ set_after (SetByTree change) a.settings.set) where
+    net_set : (contents_of b).net ≡ effect (SetByTree change) before
+    net_set i = with_by_tree (contents_of (others i)).net (sets i)
 
-    pub setting_made : Makes edit (contents_of a) (contents_of b)
-    setting_made = record { net = net_set; numbers = (λ i. (contents_of (others i)).numbers) ∙ sym (not_renumbered edit is (contents_of a).next (contents_of a).numbers) }
+    pub setting_made : Makes (SetByTree change) (contents_of a) (contents_of b)
+    setting_made = record { net = net_set; numbers = λ i. (contents_of (others i)).numbers }
 
     pub setting_sound : IsSound a → IsSound b
-    setting_sound s = sound_with_settings a b s (made_network a b s edit can net_set) others
+    setting_sound s = sound_with_settings a b s (made_network a b s (SetByTree change) can net_set) others

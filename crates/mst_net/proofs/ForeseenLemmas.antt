@@ -10,10 +10,11 @@ use Rattle.std.specs.Cmp.Lexicographic.{pointwise}
 use Rattle.std.specs.FinMap as fin
 use Rattle.mst_ids.specs.declared.name.PortName.{PortName}
 use Rattle.mst_lang.specs.declared.line.Edit.{Edit}
-use Rattle.mst_lang.specs.declared.line.Edit.TheVariants.{AddBridge, DelBridge, SetPower, SetKind, AddPort, DelPort, AddLan, DelLan, SetLanState, SetSpeed, Plug, Unplug, SetKey, SetSystemPriority, SetTreePriority, SetTreePortPriority, SetPortPathCost, SetTreePortCost, SetConfiguration, MapVids, SetMaxHops, SetMaxAge, SetPortVlans}
+use Rattle.mst_lang.specs.declared.line.Edit.TheVariants.{AddBridge, DelBridge, SetBridge, AddPort, DelPort, SetPort, AddLan, DelLan, SetLan, Plug, Unplug, SetByTree}
+use Rattle.mst_lang.specs.declared.line.TreeChange.TheVariants.{Priority, PortPriority, PortCost, Table, Vlans}
 use Rattle.mst_net.specs.Table.{no_table, mapped}
 use Rattle.mst_net.specs.Tables.{Net, Numbers, port_eq, bridge_tree_eq, port_tree_eq}
-use Rattle.mst_net.specs.After.{effect, refusal_of, own_priority, own_table, own_vlans, all_vids, table_of, vlans_of, new_bridge, new_port, new_lan, with_kind, with_power, with_system_priority, with_configuration, with_max_hops, with_max_age, with_state, with_speed, with_key, with_external, in_lan}
+use Rattle.mst_net.specs.After.{effect, refusal_of, own_priority, own_table, own_vlans, all_vids, table_of, vlans_of, new_bridge, new_port, new_lan, bridge_with, port_with, lan_with, in_lan}
 use Rattle.mst_net.specs.Contents.{PerKind, IsNumbered, numbers_after, priority_of, port_priority_of, port_cost_of}
 use Rattle.mst_net.specs.Foreseen.{bridge_row_after, port_row_after, lan_row_after, bridge_number_after, port_number_after, lan_number_after, priority_after, port_priority_after, port_cost_after, table_after, vlans_after, without, bridge_name_after, port_name_after, lan_name_after}
 use Rattle.mst_net.proofs.KeptLemmas.{some_is, no_some}
@@ -64,279 +65,178 @@ mapped_seen vids tree net bridge q = by (name_eq bridge q) refl
 pub foreseen_bridge : (e : Edit) (net : Net) (q : List ℕ) → fin.get (effect e net).bridges q ≡ bridge_row_after e q (fin.get net.bridges q)
 foreseen_bridge (AddBridge bridge mac) net q = get_inserted names net.bridges bridge (new_bridge mac) q
 foreseen_bridge (DelBridge bridge) net q = get_removed names net.bridges bridge q
-foreseen_bridge (SetPower bridge power) net q = get_changed names net.bridges bridge (with_power power) q
-foreseen_bridge (SetKind bridge kind) net q = get_changed names net.bridges bridge (with_kind kind) q
+foreseen_bridge (SetBridge bridge change) net q = get_changed names net.bridges bridge (bridge_with change) q
 foreseen_bridge (AddPort port) net q = refl
 foreseen_bridge (DelPort port) net q = refl
 foreseen_bridge (AddLan lan) net q = refl
 foreseen_bridge (DelLan lan) net q = refl
-foreseen_bridge (SetLanState lan state) net q = refl
-foreseen_bridge (SetSpeed lan speed) net q = refl
+foreseen_bridge (SetLan lan change) net q = refl
 foreseen_bridge (Plug port lan) net q = refl
 foreseen_bridge (Unplug port) net q = refl
-foreseen_bridge (SetKey port key) net q = refl
-foreseen_bridge (SetSystemPriority bridge priority) net q = get_changed names net.bridges bridge (with_system_priority priority) q
-foreseen_bridge (SetTreePriority bridge tree priority) net q = refl
-foreseen_bridge (SetTreePortPriority port tree priority) net q = refl
-foreseen_bridge (SetPortPathCost port cost) net q = refl
-foreseen_bridge (SetTreePortCost port tree cost) net q = refl
-foreseen_bridge (SetConfiguration bridge revision name) net q = get_changed names net.bridges bridge (with_configuration revision name) q
-foreseen_bridge (MapVids bridge tree vids) net q = refl
-foreseen_bridge (SetMaxHops bridge limit) net q = get_changed names net.bridges bridge (with_max_hops limit) q
-foreseen_bridge (SetMaxAge bridge limit) net q = get_changed names net.bridges bridge (with_max_age limit) q
-foreseen_bridge (SetPortVlans port vids) net q = refl
+foreseen_bridge (SetPort port change) net q = refl
+foreseen_bridge (SetByTree change) net q = refl
 
 pub foreseen_port : (e : Edit) (net : Net) (q : PortName) → fin.get (effect e net).ports q ≡ port_row_after e q (fin.get net.ports q)
 foreseen_port (AddBridge bridge mac) net q = refl
 foreseen_port (DelBridge bridge) net q = refl
-foreseen_port (SetPower bridge power) net q = refl
-foreseen_port (SetKind bridge kind) net q = refl
+foreseen_port (SetBridge bridge change) net q = refl
 foreseen_port (AddPort port) net q = get_inserted ports net.ports port new_port q
 foreseen_port (DelPort port) net q = get_removed ports net.ports port q
 foreseen_port (AddLan lan) net q = refl
 foreseen_port (DelLan lan) net q = refl
-foreseen_port (SetLanState lan state) net q = refl
-foreseen_port (SetSpeed lan speed) net q = refl
+foreseen_port (SetLan lan change) net q = refl
 foreseen_port (Plug port lan) net q = get_changed ports net.ports port (in_lan (Some lan)) q
 foreseen_port (Unplug port) net q = get_changed ports net.ports port (in_lan None) q
-foreseen_port (SetKey port key) net q = get_changed ports net.ports port (with_key key) q
-foreseen_port (SetSystemPriority bridge priority) net q = refl
-foreseen_port (SetTreePriority bridge tree priority) net q = refl
-foreseen_port (SetTreePortPriority port tree priority) net q = refl
-foreseen_port (SetPortPathCost port cost) net q = get_changed ports net.ports port (with_external cost) q
-foreseen_port (SetTreePortCost port tree cost) net q = refl
-foreseen_port (SetConfiguration bridge revision name) net q = refl
-foreseen_port (MapVids bridge tree vids) net q = refl
-foreseen_port (SetMaxHops bridge limit) net q = refl
-foreseen_port (SetMaxAge bridge limit) net q = refl
-foreseen_port (SetPortVlans port vids) net q = refl
+foreseen_port (SetPort port change) net q = get_changed ports net.ports port (port_with change) q
+foreseen_port (SetByTree change) net q = refl
 
 pub foreseen_lan : (e : Edit) (net : Net) (q : List ℕ) → fin.get (effect e net).lans q ≡ lan_row_after e q (fin.get net.lans q)
 foreseen_lan (AddBridge bridge mac) net q = refl
 foreseen_lan (DelBridge bridge) net q = refl
-foreseen_lan (SetPower bridge power) net q = refl
-foreseen_lan (SetKind bridge kind) net q = refl
+foreseen_lan (SetBridge bridge change) net q = refl
 foreseen_lan (AddPort port) net q = refl
 foreseen_lan (DelPort port) net q = refl
 foreseen_lan (AddLan lan) net q = get_inserted names net.lans lan new_lan q
 foreseen_lan (DelLan lan) net q = get_removed names net.lans lan q
-foreseen_lan (SetLanState lan state) net q = get_changed names net.lans lan (with_state state) q
-foreseen_lan (SetSpeed lan speed) net q = get_changed names net.lans lan (with_speed speed) q
+foreseen_lan (SetLan lan change) net q = get_changed names net.lans lan (lan_with change) q
 foreseen_lan (Plug port lan) net q = refl
 foreseen_lan (Unplug port) net q = refl
-foreseen_lan (SetKey port key) net q = refl
-foreseen_lan (SetSystemPriority bridge priority) net q = refl
-foreseen_lan (SetTreePriority bridge tree priority) net q = refl
-foreseen_lan (SetTreePortPriority port tree priority) net q = refl
-foreseen_lan (SetPortPathCost port cost) net q = refl
-foreseen_lan (SetTreePortCost port tree cost) net q = refl
-foreseen_lan (SetConfiguration bridge revision name) net q = refl
-foreseen_lan (MapVids bridge tree vids) net q = refl
-foreseen_lan (SetMaxHops bridge limit) net q = refl
-foreseen_lan (SetMaxAge bridge limit) net q = refl
-foreseen_lan (SetPortVlans port vids) net q = refl
+foreseen_lan (SetPort port change) net q = refl
+foreseen_lan (SetByTree change) net q = refl
 
 -- ---- what is set by tree or VID
 pub foreseen_priority : (e : Edit) (net : Net) (q : List ℕ) (t : ℕ) → priority_of (effect e net) q t ≡ priority_after e q t (priority_of net q t)
 foreseen_priority (AddBridge bridge mac) net q t = refl
 foreseen_priority (DelBridge bridge) net q t = ap (λ o. unwrap_or o 8) (get_without bridge_trees net.priorities (λ k. name_eq bridge k.bridge) (record { bridge = q; tree = t })) ∙ gone_seen (name_eq bridge q) (fin.get net.priorities (record { bridge = q; tree = t })) 8
-foreseen_priority (SetPower bridge power) net q t = refl
-foreseen_priority (SetKind bridge kind) net q t = refl
+foreseen_priority (SetBridge bridge change) net q t = refl
 foreseen_priority (AddPort port) net q t = refl
 foreseen_priority (DelPort port) net q t = refl
 foreseen_priority (AddLan lan) net q t = refl
 foreseen_priority (DelLan lan) net q t = refl
-foreseen_priority (SetLanState lan state) net q t = refl
-foreseen_priority (SetSpeed lan speed) net q t = refl
+foreseen_priority (SetLan lan change) net q t = refl
 foreseen_priority (Plug port lan) net q t = refl
 foreseen_priority (Unplug port) net q t = refl
-foreseen_priority (SetKey port key) net q t = refl
-foreseen_priority (SetSystemPriority bridge priority) net q t = refl
-foreseen_priority (SetTreePriority bridge tree priority) net q t = ap (λ o. unwrap_or o 8) (get_kept bridge_trees net.priorities (record { bridge = bridge; tree = tree }) (own_priority priority) (record { bridge = q; tree = t })) ∙ own_seen priority (bridge_tree_eq (record { bridge = bridge; tree = tree }) (record { bridge = q; tree = t })) (fin.get net.priorities (record { bridge = q; tree = t }))
-foreseen_priority (SetTreePortPriority port tree priority) net q t = refl
-foreseen_priority (SetPortPathCost port cost) net q t = refl
-foreseen_priority (SetTreePortCost port tree cost) net q t = refl
-foreseen_priority (SetConfiguration bridge revision name) net q t = refl
-foreseen_priority (MapVids bridge tree vids) net q t = refl
-foreseen_priority (SetMaxHops bridge limit) net q t = refl
-foreseen_priority (SetMaxAge bridge limit) net q t = refl
-foreseen_priority (SetPortVlans port vids) net q t = refl
+foreseen_priority (SetPort port change) net q t = refl
+foreseen_priority (SetByTree (Priority bridge tree priority)) net q t = ap (λ o. unwrap_or o 8) (get_kept bridge_trees net.priorities (record { bridge = bridge; tree = tree }) (own_priority priority) (record { bridge = q; tree = t })) ∙ own_seen priority (bridge_tree_eq (record { bridge = bridge; tree = tree }) (record { bridge = q; tree = t })) (fin.get net.priorities (record { bridge = q; tree = t }))
+foreseen_priority (SetByTree (PortPriority port tree priority)) net q t = refl
+foreseen_priority (SetByTree (PortCost port tree cost)) net q t = refl
+foreseen_priority (SetByTree (Table bridge tree vids)) net q t = refl
+foreseen_priority (SetByTree (Vlans port vids)) net q t = refl
 
 pub foreseen_port_priority : (e : Edit) (net : Net) (q : PortName) (t : ℕ) → port_priority_of (effect e net) q t ≡ port_priority_after e q t (port_priority_of net q t)
 foreseen_port_priority (AddBridge bridge mac) net q t = refl
 foreseen_port_priority (DelBridge bridge) net q t = refl
-foreseen_port_priority (SetPower bridge power) net q t = refl
-foreseen_port_priority (SetKind bridge kind) net q t = refl
+foreseen_port_priority (SetBridge bridge change) net q t = refl
 foreseen_port_priority (AddPort port) net q t = refl
 foreseen_port_priority (DelPort port) net q t = ap (λ o. unwrap_or o 8) (get_without port_trees net.port_priorities (λ k. port_eq port k.port) (record { port = q; tree = t })) ∙ gone_seen (port_eq port q) (fin.get net.port_priorities (record { port = q; tree = t })) 8
 foreseen_port_priority (AddLan lan) net q t = refl
 foreseen_port_priority (DelLan lan) net q t = refl
-foreseen_port_priority (SetLanState lan state) net q t = refl
-foreseen_port_priority (SetSpeed lan speed) net q t = refl
+foreseen_port_priority (SetLan lan change) net q t = refl
 foreseen_port_priority (Plug port lan) net q t = refl
 foreseen_port_priority (Unplug port) net q t = refl
-foreseen_port_priority (SetKey port key) net q t = refl
-foreseen_port_priority (SetSystemPriority bridge priority) net q t = refl
-foreseen_port_priority (SetTreePriority bridge tree priority) net q t = refl
-foreseen_port_priority (SetTreePortPriority port tree priority) net q t = ap (λ o. unwrap_or o 8) (get_kept port_trees net.port_priorities (record { port = port; tree = tree }) (own_priority priority) (record { port = q; tree = t })) ∙ own_seen priority (port_tree_eq (record { port = port; tree = tree }) (record { port = q; tree = t })) (fin.get net.port_priorities (record { port = q; tree = t }))
-foreseen_port_priority (SetPortPathCost port cost) net q t = refl
-foreseen_port_priority (SetTreePortCost port tree cost) net q t = refl
-foreseen_port_priority (SetConfiguration bridge revision name) net q t = refl
-foreseen_port_priority (MapVids bridge tree vids) net q t = refl
-foreseen_port_priority (SetMaxHops bridge limit) net q t = refl
-foreseen_port_priority (SetMaxAge bridge limit) net q t = refl
-foreseen_port_priority (SetPortVlans port vids) net q t = refl
+foreseen_port_priority (SetPort port change) net q t = refl
+foreseen_port_priority (SetByTree (Priority bridge tree priority)) net q t = refl
+foreseen_port_priority (SetByTree (PortPriority port tree priority)) net q t = ap (λ o. unwrap_or o 8) (get_kept port_trees net.port_priorities (record { port = port; tree = tree }) (own_priority priority) (record { port = q; tree = t })) ∙ own_seen priority (port_tree_eq (record { port = port; tree = tree }) (record { port = q; tree = t })) (fin.get net.port_priorities (record { port = q; tree = t }))
+foreseen_port_priority (SetByTree (PortCost port tree cost)) net q t = refl
+foreseen_port_priority (SetByTree (Table bridge tree vids)) net q t = refl
+foreseen_port_priority (SetByTree (Vlans port vids)) net q t = refl
 
 pub foreseen_port_cost : (e : Edit) (net : Net) (q : PortName) (t : ℕ) → port_cost_of (effect e net) q t ≡ port_cost_after e q t (port_cost_of net q t)
 foreseen_port_cost (AddBridge bridge mac) net q t = refl
 foreseen_port_cost (DelBridge bridge) net q t = refl
-foreseen_port_cost (SetPower bridge power) net q t = refl
-foreseen_port_cost (SetKind bridge kind) net q t = refl
+foreseen_port_cost (SetBridge bridge change) net q t = refl
 foreseen_port_cost (AddPort port) net q t = refl
 foreseen_port_cost (DelPort port) net q t = get_without port_trees net.port_costs (λ k. port_eq port k.port) (record { port = q; tree = t })
 foreseen_port_cost (AddLan lan) net q t = refl
 foreseen_port_cost (DelLan lan) net q t = refl
-foreseen_port_cost (SetLanState lan state) net q t = refl
-foreseen_port_cost (SetSpeed lan speed) net q t = refl
+foreseen_port_cost (SetLan lan change) net q t = refl
 foreseen_port_cost (Plug port lan) net q t = refl
 foreseen_port_cost (Unplug port) net q t = refl
-foreseen_port_cost (SetKey port key) net q t = refl
-foreseen_port_cost (SetSystemPriority bridge priority) net q t = refl
-foreseen_port_cost (SetTreePriority bridge tree priority) net q t = refl
-foreseen_port_cost (SetTreePortPriority port tree priority) net q t = refl
-foreseen_port_cost (SetPortPathCost port cost) net q t = refl
-foreseen_port_cost (SetTreePortCost port tree cost) net q t = get_kept port_trees net.port_costs (record { port = port; tree = tree }) cost (record { port = q; tree = t })
-foreseen_port_cost (SetConfiguration bridge revision name) net q t = refl
-foreseen_port_cost (MapVids bridge tree vids) net q t = refl
-foreseen_port_cost (SetMaxHops bridge limit) net q t = refl
-foreseen_port_cost (SetMaxAge bridge limit) net q t = refl
-foreseen_port_cost (SetPortVlans port vids) net q t = refl
+foreseen_port_cost (SetPort port change) net q t = refl
+foreseen_port_cost (SetByTree (Priority bridge tree priority)) net q t = refl
+foreseen_port_cost (SetByTree (PortPriority port tree priority)) net q t = refl
+foreseen_port_cost (SetByTree (PortCost port tree cost)) net q t = get_kept port_trees net.port_costs (record { port = port; tree = tree }) cost (record { port = q; tree = t })
+foreseen_port_cost (SetByTree (Table bridge tree vids)) net q t = refl
+foreseen_port_cost (SetByTree (Vlans port vids)) net q t = refl
 
 pub foreseen_table : (e : Edit) (net : Net) (q : List ℕ) → table_of (effect e net) q ≡ table_after e q (table_of net q)
 foreseen_table (AddBridge bridge mac) net q = refl
 foreseen_table (DelBridge bridge) net q = ap (λ o. unwrap_or o no_table) (get_removed names net.tables bridge q) ∙ gone_seen (name_eq bridge q) (fin.get net.tables q) no_table
-foreseen_table (SetPower bridge power) net q = refl
-foreseen_table (SetKind bridge kind) net q = refl
+foreseen_table (SetBridge bridge change) net q = refl
 foreseen_table (AddPort port) net q = refl
 foreseen_table (DelPort port) net q = refl
 foreseen_table (AddLan lan) net q = refl
 foreseen_table (DelLan lan) net q = refl
-foreseen_table (SetLanState lan state) net q = refl
-foreseen_table (SetSpeed lan speed) net q = refl
+foreseen_table (SetLan lan change) net q = refl
 foreseen_table (Plug port lan) net q = refl
 foreseen_table (Unplug port) net q = refl
-foreseen_table (SetKey port key) net q = refl
-foreseen_table (SetSystemPriority bridge priority) net q = refl
-foreseen_table (SetTreePriority bridge tree priority) net q = refl
-foreseen_table (SetTreePortPriority port tree priority) net q = refl
-foreseen_table (SetPortPathCost port cost) net q = refl
-foreseen_table (SetTreePortCost port tree cost) net q = refl
-foreseen_table (SetConfiguration bridge revision name) net q = refl
-foreseen_table (MapVids bridge tree vids) net q = ap (λ o. unwrap_or o no_table) (get_kept names net.tables bridge (own_table (mapped vids tree (table_of net bridge))) q) ∙ own_table_seen vids tree (table_of net bridge) (name_eq bridge q) (fin.get net.tables q) ∙ mapped_seen vids tree net bridge q
-foreseen_table (SetMaxHops bridge limit) net q = refl
-foreseen_table (SetMaxAge bridge limit) net q = refl
-foreseen_table (SetPortVlans port vids) net q = refl
+foreseen_table (SetPort port change) net q = refl
+foreseen_table (SetByTree (Priority bridge tree priority)) net q = refl
+foreseen_table (SetByTree (PortPriority port tree priority)) net q = refl
+foreseen_table (SetByTree (PortCost port tree cost)) net q = refl
+foreseen_table (SetByTree (Table bridge tree vids)) net q = ap (λ o. unwrap_or o no_table) (get_kept names net.tables bridge (own_table (mapped vids tree (table_of net bridge))) q) ∙ own_table_seen vids tree (table_of net bridge) (name_eq bridge q) (fin.get net.tables q) ∙ mapped_seen vids tree net bridge q
+foreseen_table (SetByTree (Vlans port vids)) net q = refl
 
 pub foreseen_vlans : (e : Edit) (net : Net) (q : PortName) → vlans_of (effect e net) q ≡ vlans_after e q (vlans_of net q)
 foreseen_vlans (AddBridge bridge mac) net q = refl
 foreseen_vlans (DelBridge bridge) net q = refl
-foreseen_vlans (SetPower bridge power) net q = refl
-foreseen_vlans (SetKind bridge kind) net q = refl
+foreseen_vlans (SetBridge bridge change) net q = refl
 foreseen_vlans (AddPort port) net q = refl
 foreseen_vlans (DelPort port) net q = ap (λ o. unwrap_or o all_vids) (get_removed ports net.vlans port q) ∙ gone_seen (port_eq port q) (fin.get net.vlans q) all_vids
 foreseen_vlans (AddLan lan) net q = refl
 foreseen_vlans (DelLan lan) net q = refl
-foreseen_vlans (SetLanState lan state) net q = refl
-foreseen_vlans (SetSpeed lan speed) net q = refl
+foreseen_vlans (SetLan lan change) net q = refl
 foreseen_vlans (Plug port lan) net q = refl
 foreseen_vlans (Unplug port) net q = refl
-foreseen_vlans (SetKey port key) net q = refl
-foreseen_vlans (SetSystemPriority bridge priority) net q = refl
-foreseen_vlans (SetTreePriority bridge tree priority) net q = refl
-foreseen_vlans (SetTreePortPriority port tree priority) net q = refl
-foreseen_vlans (SetPortPathCost port cost) net q = refl
-foreseen_vlans (SetTreePortCost port tree cost) net q = refl
-foreseen_vlans (SetConfiguration bridge revision name) net q = refl
-foreseen_vlans (MapVids bridge tree vids) net q = refl
-foreseen_vlans (SetMaxHops bridge limit) net q = refl
-foreseen_vlans (SetMaxAge bridge limit) net q = refl
-foreseen_vlans (SetPortVlans port vids) net q = ap (λ o. unwrap_or o all_vids) (get_kept ports net.vlans port (own_vlans vids) q) ∙ own_vlans_seen vids (port_eq port q) (fin.get net.vlans q)
+foreseen_vlans (SetPort port change) net q = refl
+foreseen_vlans (SetByTree (Priority bridge tree priority)) net q = refl
+foreseen_vlans (SetByTree (PortPriority port tree priority)) net q = refl
+foreseen_vlans (SetByTree (PortCost port tree cost)) net q = refl
+foreseen_vlans (SetByTree (Table bridge tree vids)) net q = refl
+foreseen_vlans (SetByTree (Vlans port vids)) net q = ap (λ o. unwrap_or o all_vids) (get_kept ports net.vlans port (own_vlans vids) q) ∙ own_vlans_seen vids (port_eq port q) (fin.get net.vlans q)
 
 -- ---- the numbers of the records
 pub foreseen_bridge_number : (e : Edit) (next : PerKind) (numbers : Numbers) (q : List ℕ) → fin.get (numbers_after e next numbers).bridges q ≡ bridge_number_after e next.bridge q (fin.get numbers.bridges q)
 foreseen_bridge_number (AddBridge bridge mac) next numbers q = get_inserted names numbers.bridges bridge next.bridge q
 foreseen_bridge_number (DelBridge bridge) next numbers q = get_removed names numbers.bridges bridge q
-foreseen_bridge_number (SetPower bridge power) next numbers q = refl
-foreseen_bridge_number (SetKind bridge kind) next numbers q = refl
+foreseen_bridge_number (SetBridge bridge change) next numbers q = refl
 foreseen_bridge_number (AddPort port) next numbers q = refl
 foreseen_bridge_number (DelPort port) next numbers q = refl
 foreseen_bridge_number (AddLan lan) next numbers q = refl
 foreseen_bridge_number (DelLan lan) next numbers q = refl
-foreseen_bridge_number (SetLanState lan state) next numbers q = refl
-foreseen_bridge_number (SetSpeed lan speed) next numbers q = refl
+foreseen_bridge_number (SetLan lan change) next numbers q = refl
 foreseen_bridge_number (Plug port lan) next numbers q = refl
 foreseen_bridge_number (Unplug port) next numbers q = refl
-foreseen_bridge_number (SetKey port key) next numbers q = refl
-foreseen_bridge_number (SetSystemPriority bridge priority) next numbers q = refl
-foreseen_bridge_number (SetTreePriority bridge tree priority) next numbers q = refl
-foreseen_bridge_number (SetTreePortPriority port tree priority) next numbers q = refl
-foreseen_bridge_number (SetPortPathCost port cost) next numbers q = refl
-foreseen_bridge_number (SetTreePortCost port tree cost) next numbers q = refl
-foreseen_bridge_number (SetConfiguration bridge revision name) next numbers q = refl
-foreseen_bridge_number (MapVids bridge tree vids) next numbers q = refl
-foreseen_bridge_number (SetMaxHops bridge limit) next numbers q = refl
-foreseen_bridge_number (SetMaxAge bridge limit) next numbers q = refl
-foreseen_bridge_number (SetPortVlans port vids) next numbers q = refl
+foreseen_bridge_number (SetPort port change) next numbers q = refl
+foreseen_bridge_number (SetByTree change) next numbers q = refl
 
 pub foreseen_port_number : (e : Edit) (next : PerKind) (numbers : Numbers) (q : PortName) → fin.get (numbers_after e next numbers).ports q ≡ port_number_after e next.port q (fin.get numbers.ports q)
 foreseen_port_number (AddBridge bridge mac) next numbers q = refl
 foreseen_port_number (DelBridge bridge) next numbers q = refl
-foreseen_port_number (SetPower bridge power) next numbers q = refl
-foreseen_port_number (SetKind bridge kind) next numbers q = refl
+foreseen_port_number (SetBridge bridge change) next numbers q = refl
 foreseen_port_number (AddPort port) next numbers q = get_inserted ports numbers.ports port next.port q
 foreseen_port_number (DelPort port) next numbers q = get_removed ports numbers.ports port q
 foreseen_port_number (AddLan lan) next numbers q = refl
 foreseen_port_number (DelLan lan) next numbers q = refl
-foreseen_port_number (SetLanState lan state) next numbers q = refl
-foreseen_port_number (SetSpeed lan speed) next numbers q = refl
+foreseen_port_number (SetLan lan change) next numbers q = refl
 foreseen_port_number (Plug port lan) next numbers q = refl
 foreseen_port_number (Unplug port) next numbers q = refl
-foreseen_port_number (SetKey port key) next numbers q = refl
-foreseen_port_number (SetSystemPriority bridge priority) next numbers q = refl
-foreseen_port_number (SetTreePriority bridge tree priority) next numbers q = refl
-foreseen_port_number (SetTreePortPriority port tree priority) next numbers q = refl
-foreseen_port_number (SetPortPathCost port cost) next numbers q = refl
-foreseen_port_number (SetTreePortCost port tree cost) next numbers q = refl
-foreseen_port_number (SetConfiguration bridge revision name) next numbers q = refl
-foreseen_port_number (MapVids bridge tree vids) next numbers q = refl
-foreseen_port_number (SetMaxHops bridge limit) next numbers q = refl
-foreseen_port_number (SetMaxAge bridge limit) next numbers q = refl
-foreseen_port_number (SetPortVlans port vids) next numbers q = refl
+foreseen_port_number (SetPort port change) next numbers q = refl
+foreseen_port_number (SetByTree change) next numbers q = refl
 
 pub foreseen_lan_number : (e : Edit) (next : PerKind) (numbers : Numbers) (q : List ℕ) → fin.get (numbers_after e next numbers).lans q ≡ lan_number_after e next.lan q (fin.get numbers.lans q)
 foreseen_lan_number (AddBridge bridge mac) next numbers q = refl
 foreseen_lan_number (DelBridge bridge) next numbers q = refl
-foreseen_lan_number (SetPower bridge power) next numbers q = refl
-foreseen_lan_number (SetKind bridge kind) next numbers q = refl
+foreseen_lan_number (SetBridge bridge change) next numbers q = refl
 foreseen_lan_number (AddPort port) next numbers q = refl
 foreseen_lan_number (DelPort port) next numbers q = refl
 foreseen_lan_number (AddLan lan) next numbers q = get_inserted names numbers.lans lan next.lan q
 foreseen_lan_number (DelLan lan) next numbers q = get_removed names numbers.lans lan q
-foreseen_lan_number (SetLanState lan state) next numbers q = refl
-foreseen_lan_number (SetSpeed lan speed) next numbers q = refl
+foreseen_lan_number (SetLan lan change) next numbers q = refl
 foreseen_lan_number (Plug port lan) next numbers q = refl
 foreseen_lan_number (Unplug port) next numbers q = refl
-foreseen_lan_number (SetKey port key) next numbers q = refl
-foreseen_lan_number (SetSystemPriority bridge priority) next numbers q = refl
-foreseen_lan_number (SetTreePriority bridge tree priority) next numbers q = refl
-foreseen_lan_number (SetTreePortPriority port tree priority) next numbers q = refl
-foreseen_lan_number (SetPortPathCost port cost) next numbers q = refl
-foreseen_lan_number (SetTreePortCost port tree cost) next numbers q = refl
-foreseen_lan_number (SetConfiguration bridge revision name) next numbers q = refl
-foreseen_lan_number (MapVids bridge tree vids) next numbers q = refl
-foreseen_lan_number (SetMaxHops bridge limit) next numbers q = refl
-foreseen_lan_number (SetMaxAge bridge limit) next numbers q = refl
-foreseen_lan_number (SetPortVlans port vids) next numbers q = refl
+foreseen_lan_number (SetPort port change) next numbers q = refl
+foreseen_lan_number (SetByTree change) next numbers q = refl
 
 -- ---- the names by number
 -- the name that has a number, if some name has it
@@ -393,76 +293,43 @@ pub foreseen_bridge_name : (e : Edit) (net : Net) (next : PerKind) (numbers : Nu
     → IsNamed numbers.bridges number o → IsNamed (numbers_after e next numbers).bridges number (bridge_name_after e next.bridge number o)
 foreseen_bridge_name (AddBridge bridge mac) net next numbers is can fresh number o was = name_added names numbers.bridges number o was bridge next.bridge (is.bridges bridge ∙ (bridge_addable net bridge mac can).0) fresh
 foreseen_bridge_name (DelBridge bridge) net next numbers is can fresh number o was = name_removed names numbers.bridges number o was bridge is.bridges_differ
-foreseen_bridge_name (SetPower bridge power) net next numbers is can fresh number o was = was
-foreseen_bridge_name (SetKind bridge kind) net next numbers is can fresh number o was = was
+foreseen_bridge_name (SetBridge bridge change) net next numbers is can fresh number o was = was
 foreseen_bridge_name (AddPort port) net next numbers is can fresh number o was = was
 foreseen_bridge_name (DelPort port) net next numbers is can fresh number o was = was
 foreseen_bridge_name (AddLan lan) net next numbers is can fresh number o was = was
 foreseen_bridge_name (DelLan lan) net next numbers is can fresh number o was = was
-foreseen_bridge_name (SetLanState lan state) net next numbers is can fresh number o was = was
-foreseen_bridge_name (SetSpeed lan speed) net next numbers is can fresh number o was = was
+foreseen_bridge_name (SetLan lan change) net next numbers is can fresh number o was = was
 foreseen_bridge_name (Plug port lan) net next numbers is can fresh number o was = was
 foreseen_bridge_name (Unplug port) net next numbers is can fresh number o was = was
-foreseen_bridge_name (SetKey port key) net next numbers is can fresh number o was = was
-foreseen_bridge_name (SetSystemPriority bridge priority) net next numbers is can fresh number o was = was
-foreseen_bridge_name (SetTreePriority bridge tree priority) net next numbers is can fresh number o was = was
-foreseen_bridge_name (SetTreePortPriority port tree priority) net next numbers is can fresh number o was = was
-foreseen_bridge_name (SetPortPathCost port cost) net next numbers is can fresh number o was = was
-foreseen_bridge_name (SetTreePortCost port tree cost) net next numbers is can fresh number o was = was
-foreseen_bridge_name (SetConfiguration bridge revision name) net next numbers is can fresh number o was = was
-foreseen_bridge_name (MapVids bridge tree vids) net next numbers is can fresh number o was = was
-foreseen_bridge_name (SetMaxHops bridge limit) net next numbers is can fresh number o was = was
-foreseen_bridge_name (SetMaxAge bridge limit) net next numbers is can fresh number o was = was
-foreseen_bridge_name (SetPortVlans port vids) net next numbers is can fresh number o was = was
+foreseen_bridge_name (SetPort port change) net next numbers is can fresh number o was = was
+foreseen_bridge_name (SetByTree change) net next numbers is can fresh number o was = was
 
 pub foreseen_port_name : (e : Edit) (net : Net) (next : PerKind) (numbers : Numbers) → IsNumbered net numbers → refusal_of e net ≡ None → ((q : PortName) → fin.get numbers.ports q ≡ Some next.port → ⊥) → (number : ℕ) (o : Option (PortName))
     → IsNamed numbers.ports number o → IsNamed (numbers_after e next numbers).ports number (port_name_after e next.port number o)
 foreseen_port_name (AddBridge bridge mac) net next numbers is can fresh number o was = was
 foreseen_port_name (DelBridge bridge) net next numbers is can fresh number o was = was
-foreseen_port_name (SetPower bridge power) net next numbers is can fresh number o was = was
-foreseen_port_name (SetKind bridge kind) net next numbers is can fresh number o was = was
+foreseen_port_name (SetBridge bridge change) net next numbers is can fresh number o was = was
 foreseen_port_name (AddPort port) net next numbers is can fresh number o was = name_added ports numbers.ports number o was port next.port (is.ports port ∙ (port_addable net port can).1) fresh
 foreseen_port_name (DelPort port) net next numbers is can fresh number o was = name_removed ports numbers.ports number o was port is.ports_differ
 foreseen_port_name (AddLan lan) net next numbers is can fresh number o was = was
 foreseen_port_name (DelLan lan) net next numbers is can fresh number o was = was
-foreseen_port_name (SetLanState lan state) net next numbers is can fresh number o was = was
-foreseen_port_name (SetSpeed lan speed) net next numbers is can fresh number o was = was
+foreseen_port_name (SetLan lan change) net next numbers is can fresh number o was = was
 foreseen_port_name (Plug port lan) net next numbers is can fresh number o was = was
 foreseen_port_name (Unplug port) net next numbers is can fresh number o was = was
-foreseen_port_name (SetKey port key) net next numbers is can fresh number o was = was
-foreseen_port_name (SetSystemPriority bridge priority) net next numbers is can fresh number o was = was
-foreseen_port_name (SetTreePriority bridge tree priority) net next numbers is can fresh number o was = was
-foreseen_port_name (SetTreePortPriority port tree priority) net next numbers is can fresh number o was = was
-foreseen_port_name (SetPortPathCost port cost) net next numbers is can fresh number o was = was
-foreseen_port_name (SetTreePortCost port tree cost) net next numbers is can fresh number o was = was
-foreseen_port_name (SetConfiguration bridge revision name) net next numbers is can fresh number o was = was
-foreseen_port_name (MapVids bridge tree vids) net next numbers is can fresh number o was = was
-foreseen_port_name (SetMaxHops bridge limit) net next numbers is can fresh number o was = was
-foreseen_port_name (SetMaxAge bridge limit) net next numbers is can fresh number o was = was
-foreseen_port_name (SetPortVlans port vids) net next numbers is can fresh number o was = was
+foreseen_port_name (SetPort port change) net next numbers is can fresh number o was = was
+foreseen_port_name (SetByTree change) net next numbers is can fresh number o was = was
 
 pub foreseen_lan_name : (e : Edit) (net : Net) (next : PerKind) (numbers : Numbers) → IsNumbered net numbers → refusal_of e net ≡ None → ((q : List ℕ) → fin.get numbers.lans q ≡ Some next.lan → ⊥) → (number : ℕ) (o : Option (List ℕ))
     → IsNamed numbers.lans number o → IsNamed (numbers_after e next numbers).lans number (lan_name_after e next.lan number o)
 foreseen_lan_name (AddBridge bridge mac) net next numbers is can fresh number o was = was
 foreseen_lan_name (DelBridge bridge) net next numbers is can fresh number o was = was
-foreseen_lan_name (SetPower bridge power) net next numbers is can fresh number o was = was
-foreseen_lan_name (SetKind bridge kind) net next numbers is can fresh number o was = was
+foreseen_lan_name (SetBridge bridge change) net next numbers is can fresh number o was = was
 foreseen_lan_name (AddPort port) net next numbers is can fresh number o was = was
 foreseen_lan_name (DelPort port) net next numbers is can fresh number o was = was
 foreseen_lan_name (AddLan lan) net next numbers is can fresh number o was = name_added names numbers.lans number o was lan next.lan (is.lans lan ∙ (lan_addable net lan can).0) fresh
 foreseen_lan_name (DelLan lan) net next numbers is can fresh number o was = name_removed names numbers.lans number o was lan is.lans_differ
-foreseen_lan_name (SetLanState lan state) net next numbers is can fresh number o was = was
-foreseen_lan_name (SetSpeed lan speed) net next numbers is can fresh number o was = was
+foreseen_lan_name (SetLan lan change) net next numbers is can fresh number o was = was
 foreseen_lan_name (Plug port lan) net next numbers is can fresh number o was = was
 foreseen_lan_name (Unplug port) net next numbers is can fresh number o was = was
-foreseen_lan_name (SetKey port key) net next numbers is can fresh number o was = was
-foreseen_lan_name (SetSystemPriority bridge priority) net next numbers is can fresh number o was = was
-foreseen_lan_name (SetTreePriority bridge tree priority) net next numbers is can fresh number o was = was
-foreseen_lan_name (SetTreePortPriority port tree priority) net next numbers is can fresh number o was = was
-foreseen_lan_name (SetPortPathCost port cost) net next numbers is can fresh number o was = was
-foreseen_lan_name (SetTreePortCost port tree cost) net next numbers is can fresh number o was = was
-foreseen_lan_name (SetConfiguration bridge revision name) net next numbers is can fresh number o was = was
-foreseen_lan_name (MapVids bridge tree vids) net next numbers is can fresh number o was = was
-foreseen_lan_name (SetMaxHops bridge limit) net next numbers is can fresh number o was = was
-foreseen_lan_name (SetMaxAge bridge limit) net next numbers is can fresh number o was = was
-foreseen_lan_name (SetPortVlans port vids) net next numbers is can fresh number o was = was
+foreseen_lan_name (SetPort port change) net next numbers is can fresh number o was = was
+foreseen_lan_name (SetByTree change) net next numbers is can fresh number o was = was

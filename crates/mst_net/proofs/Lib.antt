@@ -9,7 +9,6 @@ pub mod TableFits
 pub mod SetByTree
 pub mod MarkedLemmas
 pub mod AfterLemmas
-pub mod OfOneRecord
 pub mod StandingLemmas
 pub mod SoundLemmas
 pub mod SettingsLemmas
@@ -18,3 +17,4 @@ pub mod ForeseenLemmas
 pub mod NamesInOrder
 pub mod NumbersAfter
 pub mod NamesAfter
+pub mod TreesListed

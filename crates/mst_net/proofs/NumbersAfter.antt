@@ -6,9 +6,9 @@ use Rattle.std.specs.declared.cmp.Ordering.{Ordering}
 use Rattle.mst_ids.specs.Names.{name_cmp, port_cmp}
 use Rattle.mst_ids.specs.declared.name.PortName.{PortName}
 use Rattle.mst_lang.specs.declared.line.Edit.{Edit}
-use Rattle.mst_lang.specs.declared.line.Edit.TheVariants.{AddBridge, DelBridge, SetPower, SetKind, AddPort, DelPort, AddLan, DelLan, SetLanState, SetSpeed, Plug, Unplug, SetKey, SetSystemPriority, SetTreePriority, SetTreePortPriority, SetPortPathCost, SetTreePortCost, SetConfiguration, MapVids, SetMaxHops, SetMaxAge, SetPortVlans}
+use Rattle.mst_lang.specs.declared.line.Edit.TheVariants.{AddBridge, DelBridge, SetBridge, AddPort, DelPort, SetPort, AddLan, DelLan, SetLan, Plug, Unplug, SetByTree}
 use Rattle.mst_net.specs.Tables.{Net, Numbers}
-use Rattle.mst_net.specs.After.{effect, new_bridge, new_port, new_lan, with_kind, with_power, with_system_priority, with_configuration, with_max_hops, with_max_age, with_state, with_speed, in_lan, with_key, with_external}
+use Rattle.mst_net.specs.After.{effect, new_bridge, new_port, new_lan, bridge_with, port_with, lan_with, in_lan}
 use Rattle.mst_net.specs.Contents.{PerKind, IsNumbered, numbers_after}
 use Rattle.mst_net.proofs.Keyed.{IsKeyed, get_inserted, get_removed, after_insert}
 use Rattle.mst_net.proofs.Keys.{names, ports}
@@ -109,20 +109,9 @@ module _ (net : Net) (next : PerKind) (numbers : Numbers) (is : IsNumbered net n
       (differ_added names numbers.lans is.lans_differ lan next.lan fresh.lan)
   numbered_after (DelLan lan) =
       of_lans net (effect (DelLan lan) net) numbers is refl refl (fin.remove numbers.lans lan) (λ l. both_removed names numbers.lans net.lans lan l (is.lans l)) (differ_removed names numbers.lans is.lans_differ lan)
-  numbered_after (SetPower bridge power) = of_bridges net (effect (SetPower bridge power) net) numbers is refl refl numbers.bridges (λ a. is.bridges a ∙ sym (contains_changed names net.bridges bridge (with_power power) a)) is.bridges_differ
-  numbered_after (SetKind bridge kind) = of_bridges net (effect (SetKind bridge kind) net) numbers is refl refl numbers.bridges (λ a. is.bridges a ∙ sym (contains_changed names net.bridges bridge (with_kind kind) a)) is.bridges_differ
-  numbered_after (SetSystemPriority bridge priority) = of_bridges net (effect (SetSystemPriority bridge priority) net) numbers is refl refl numbers.bridges (λ a. is.bridges a ∙ sym (contains_changed names net.bridges bridge (with_system_priority priority) a)) is.bridges_differ
-  numbered_after (SetConfiguration bridge revision name) = of_bridges net (effect (SetConfiguration bridge revision name) net) numbers is refl refl numbers.bridges (λ a. is.bridges a ∙ sym (contains_changed names net.bridges bridge (with_configuration revision name) a)) is.bridges_differ
-  numbered_after (SetMaxHops bridge limit) = of_bridges net (effect (SetMaxHops bridge limit) net) numbers is refl refl numbers.bridges (λ a. is.bridges a ∙ sym (contains_changed names net.bridges bridge (with_max_hops limit) a)) is.bridges_differ
-  numbered_after (SetMaxAge bridge limit) = of_bridges net (effect (SetMaxAge bridge limit) net) numbers is refl refl numbers.bridges (λ a. is.bridges a ∙ sym (contains_changed names net.bridges bridge (with_max_age limit) a)) is.bridges_differ
+  numbered_after (SetBridge bridge change) = of_bridges net (effect (SetBridge bridge change) net) numbers is refl refl numbers.bridges (λ a. is.bridges a ∙ sym (contains_changed names net.bridges bridge (bridge_with change) a)) is.bridges_differ
   numbered_after (Plug port lan) = of_ports net (effect (Plug port lan) net) numbers is refl refl numbers.ports (λ p. is.ports p ∙ sym (contains_changed ports net.ports port (in_lan (Some lan)) p)) is.ports_differ
   numbered_after (Unplug port) = of_ports net (effect (Unplug port) net) numbers is refl refl numbers.ports (λ p. is.ports p ∙ sym (contains_changed ports net.ports port (in_lan None) p)) is.ports_differ
-  numbered_after (SetKey port key) = of_ports net (effect (SetKey port key) net) numbers is refl refl numbers.ports (λ p. is.ports p ∙ sym (contains_changed ports net.ports port (with_key key) p)) is.ports_differ
-  numbered_after (SetPortPathCost port cost) = of_ports net (effect (SetPortPathCost port cost) net) numbers is refl refl numbers.ports (λ p. is.ports p ∙ sym (contains_changed ports net.ports port (with_external cost) p)) is.ports_differ
-  numbered_after (SetLanState lan state) = of_lans net (effect (SetLanState lan state) net) numbers is refl refl numbers.lans (λ l. is.lans l ∙ sym (contains_changed names net.lans lan (with_state state) l)) is.lans_differ
-  numbered_after (SetSpeed lan speed) = of_lans net (effect (SetSpeed lan speed) net) numbers is refl refl numbers.lans (λ l. is.lans l ∙ sym (contains_changed names net.lans lan (with_speed speed) l)) is.lans_differ
-  numbered_after (SetTreePriority bridge tree priority) = of_none net (effect (SetTreePriority bridge tree priority) net) numbers is refl refl refl
-  numbered_after (SetTreePortPriority port tree priority) = of_none net (effect (SetTreePortPriority port tree priority) net) numbers is refl refl refl
-  numbered_after (SetTreePortCost port tree cost) = of_none net (effect (SetTreePortCost port tree cost) net) numbers is refl refl refl
-  numbered_after (MapVids bridge tree vids) = of_none net (effect (MapVids bridge tree vids) net) numbers is refl refl refl
-  numbered_after (SetPortVlans port vids) = of_none net (effect (SetPortVlans port vids) net) numbers is refl refl refl
+  numbered_after (SetPort port change) = of_ports net (effect (SetPort port change) net) numbers is refl refl numbers.ports (λ p. is.ports p ∙ sym (contains_changed ports net.ports port (port_with change) p)) is.ports_differ
+  numbered_after (SetLan lan change) = of_lans net (effect (SetLan lan change) net) numbers is refl refl numbers.lans (λ l. is.lans l ∙ sym (contains_changed names net.lans lan (lan_with change) l)) is.lans_differ
+  numbered_after (SetByTree change) = of_none net (effect (SetByTree change) net) numbers is refl refl refl

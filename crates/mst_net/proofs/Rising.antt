@@ -12,7 +12,7 @@ range_up a (suc n) =
     let same : a + 1 + n ≡ a + suc n = omega arith in
     ap (λ l. a ∷ l) (range_up (a + 1) n ∙ ap (λ x. range_with_len (a + 1) n ++ x ∷ []) same)
 
-range_more : (a n : ℕ) → range_with_len a (n + 1) ≡ range_with_len a n ++ (a + n) ∷ []
+pub range_more : (a n : ℕ) → range_with_len a (n + 1) ≡ range_with_len a n ++ (a + n) ∷ []
 range_more a n = let same : n + 1 ≡ suc n = omega arith in ap (range_with_len a) same ∙ range_up a n
 
 passing_more : (test : ℕ → Bool) (n : ℕ) → filter test (range_with_len 1 (n + 1)) ≡ filter test (range_with_len 1 n) ++ cond (test (1 + n)) ((1 + n) ∷ []) []

@@ -7,14 +7,16 @@ use Rattle.std.specs.Map.{lookup}
 use Rattle.std.specs.declared.cmp.Ordering.{Ordering}
 use Rattle.mst_ids.specs.declared.name.PortName.{PortName}
 use Rattle.mst_lang.specs.declared.line.Edit.{Edit}
-use Rattle.mst_lang.specs.declared.line.Edit.TheVariants.{AddBridge, DelBridge, SetPower, SetKind, AddPort, DelPort, AddLan, DelLan, SetLanState, SetSpeed, Plug, Unplug, SetKey, SetSystemPriority, SetTreePriority, SetTreePortPriority, SetPortPathCost, SetTreePortCost, SetConfiguration, MapVids, SetMaxHops, SetMaxAge, SetPortVlans}
+use Rattle.mst_lang.specs.declared.line.Edit.TheVariants.{AddBridge, DelBridge, SetBridge, AddPort, DelPort, SetPort, AddLan, DelLan, SetLan, Plug, Unplug, SetByTree}
+use Rattle.mst_lang.specs.declared.line.TreeChange.{TreeChange}
+use Rattle.mst_lang.specs.declared.line.TreeChange.TheVariants.{Priority, PortPriority, PortCost, Table, Vlans}
 use Rattle.mst_net.specs.Table.{mapped}
-use Rattle.mst_net.specs.Tables.{Net, Numbers, IsNetwork, BridgeTree, PortTree, port_eq, bridge_tree_eq, port_tree_eq}
-use Rattle.mst_net.specs.ByTree.{ByTree, AreInTrees, RoomByTree, by_tree, with_by_tree, table_in}
+use Rattle.mst_net.specs.Tables.{Net, IsNetwork, BridgeTree, PortTree, port_eq, bridge_tree_eq, port_tree_eq}
+use Rattle.mst_net.specs.ByTree.{ByTree, AreInTrees, RoomByTree, by_tree, table_in}
 use Rattle.mst_net.specs.After.{effect, keep, own_priority, own_table, own_vlans}
-use Rattle.mst_net.specs.Contents.{PerKind, Room, numbers_after, room_for}
+use Rattle.mst_net.specs.Contents.{Room, room_for}
 use Rattle.mst_net.specs.SetByTree.{in_block, is_marked, in_trees, in_trees_of_bridge, in_trees_of_port}
-use Rattle.mst_net.specs.SettingsAfter.{set_after, room_to_set, IsSetByTree}
+use Rattle.mst_net.specs.SettingsAfter.{set_after, room_to_set}
 use Rattle.mst_net.specs.SettingsKept.{settings_of, AreMarked}
 use Rattle.mst_net.specs.declared.tree_settings.TreeSettings.TheInside.{Inside}
 use Rattle.mst_net.proofs.Keyed.{IsKeyed, get_keyed, removed_keyed, keep_keyed}
@@ -42,7 +44,7 @@ module _ (a b : Inside) where
 
   pub priority_kept : (bridge : List ℕ) (tree priority : ℕ) → record b { priorities = a.priorities; bridge_blocks = a.bridge_blocks } ≡ a → (given : Option ℕ) → given ≡ own_priority priority
       → ((q : BridgeTree) → lookup (bridge_tree_eq q) b.priorities.entries ≡ cond (bridge_tree_eq (record { bridge = bridge; tree = tree }) q) given (lookup (bridge_tree_eq q) a.priorities.entries))
-      → (settings_of b).set ≡ set_after (SetTreePriority bridge tree priority) was
+      → (settings_of b).set ≡ set_after (SetByTree (Priority bridge tree priority)) was
   priority_kept bridge tree priority others given is entries =
       let key : BridgeTree = record { bridge = bridge; tree = tree } in
       let table = keep_keyed bridge_trees a.priorities.entries b.priorities.entries key given entries ∙ ap (keep was.priorities key) is in
@@ -50,7 +52,7 @@ module _ (a b : Inside) where
 
   pub port_priority_kept : (port : PortName) (tree priority : ℕ) → record b { port_priorities = a.port_priorities; port_blocks = a.port_blocks } ≡ a → (given : Option ℕ) → given ≡ own_priority priority
       → ((q : PortTree) → lookup (port_tree_eq q) b.port_priorities.entries ≡ cond (port_tree_eq (record { port = port; tree = tree }) q) given (lookup (port_tree_eq q) a.port_priorities.entries))
-      → (settings_of b).set ≡ set_after (SetTreePortPriority port tree priority) was
+      → (settings_of b).set ≡ set_after (SetByTree (PortPriority port tree priority)) was
   port_priority_kept port tree priority others given is entries =
       let key : PortTree = record { port = port; tree = tree } in
       let table = keep_keyed port_trees a.port_priorities.entries b.port_priorities.entries key given entries ∙ ap (keep was.port_priorities key) is in
@@ -58,21 +60,21 @@ module _ (a b : Inside) where
 
   pub port_cost_kept : (port : PortName) (tree : ℕ) (cost : Option ℕ) → record b { port_costs = a.port_costs; port_blocks = a.port_blocks } ≡ a
       → ((q : PortTree) → lookup (port_tree_eq q) b.port_costs.entries ≡ cond (port_tree_eq (record { port = port; tree = tree }) q) cost (lookup (port_tree_eq q) a.port_costs.entries))
-      → (settings_of b).set ≡ set_after (SetTreePortCost port tree cost) was
+      → (settings_of b).set ≡ set_after (SetByTree (PortCost port tree cost)) was
   port_cost_kept port tree cost others entries =
       let table = keep_keyed port_trees a.port_costs.entries b.port_costs.entries (record { port = port; tree = tree }) cost entries in
       λ i. record (settings_of (others i)).set { port_costs = table i }
 
   pub table_kept : (bridge : List ℕ) (tree : ℕ) (vids : List Bool) → record b { tables = a.tables } ≡ a → (given : Option (List ℕ)) → given ≡ own_table (mapped vids tree (table_in was.tables bridge))
       → ((q : List ℕ) → lookup (name_eq q) b.tables.entries ≡ cond (name_eq bridge q) given (lookup (name_eq q) a.tables.entries))
-      → (settings_of b).set ≡ set_after (MapVids bridge tree vids) was
+      → (settings_of b).set ≡ set_after (SetByTree (Table bridge tree vids)) was
   table_kept bridge tree vids others given is entries =
       let table = keep_keyed names a.tables.entries b.tables.entries bridge given entries ∙ ap (keep was.tables bridge) is in
       λ i. record (settings_of (others i)).set { tables = table i }
 
   pub vlans_kept : (port : PortName) (vids : List Bool) → record b { vlans = a.vlans } ≡ a → (given : Option (List Bool)) → given ≡ own_vlans vids
       → ((q : PortName) → lookup (port_eq q) b.vlans.entries ≡ cond (port_eq port q) given (lookup (port_eq q) a.vlans.entries))
-      → (settings_of b).set ≡ set_after (SetPortVlans port vids) was
+      → (settings_of b).set ≡ set_after (SetByTree (Vlans port vids)) was
   vlans_kept port vids others given is entries =
       let table = keep_keyed ports a.vlans.entries b.vlans.entries port given entries ∙ ap (keep was.vlans port) is in
       λ i. record (settings_of (others i)).set { vlans = table i }
@@ -133,103 +135,23 @@ network_in_trees net is = record {
 pub set_in_network : (edit : Edit) (net : Net) → set_after edit (by_tree net) ≡ by_tree (effect edit net)
 set_in_network (AddBridge bridge mac) net = refl
 set_in_network (DelBridge bridge) net = refl
-set_in_network (SetPower bridge power) net = refl
-set_in_network (SetKind bridge kind) net = refl
+set_in_network (SetBridge bridge change) net = refl
 set_in_network (AddPort port) net = refl
 set_in_network (DelPort port) net = refl
 set_in_network (AddLan lan) net = refl
 set_in_network (DelLan lan) net = refl
-set_in_network (SetLanState lan state) net = refl
-set_in_network (SetSpeed lan speed) net = refl
+set_in_network (SetLan lan change) net = refl
 set_in_network (Plug port lan) net = refl
 set_in_network (Unplug port) net = refl
-set_in_network (SetKey port key) net = refl
-set_in_network (SetSystemPriority bridge priority) net = refl
-set_in_network (SetTreePriority bridge tree priority) net = refl
-set_in_network (SetTreePortPriority port tree priority) net = refl
-set_in_network (SetPortPathCost port cost) net = refl
-set_in_network (SetTreePortCost port tree cost) net = refl
-set_in_network (SetConfiguration bridge revision name) net = refl
-set_in_network (MapVids bridge tree vids) net = refl
-set_in_network (SetMaxHops bridge limit) net = refl
-set_in_network (SetMaxAge bridge limit) net = refl
-set_in_network (SetPortVlans port vids) net = refl
-
--- and one that sets something by tree or VID changes nothing else
-pub set_alone : (edit : Edit) → IsSetByTree edit → (net : Net) → with_by_tree net (set_after edit (by_tree net)) ≡ effect edit net
-set_alone (AddBridge bridge mac) is net = absurd is
-set_alone (DelBridge bridge) is net = absurd is
-set_alone (SetPower bridge power) is net = absurd is
-set_alone (SetKind bridge kind) is net = absurd is
-set_alone (AddPort port) is net = absurd is
-set_alone (DelPort port) is net = absurd is
-set_alone (AddLan lan) is net = absurd is
-set_alone (DelLan lan) is net = absurd is
-set_alone (SetLanState lan state) is net = absurd is
-set_alone (SetSpeed lan speed) is net = absurd is
-set_alone (Plug port lan) is net = absurd is
-set_alone (Unplug port) is net = absurd is
-set_alone (SetKey port key) is net = absurd is
-set_alone (SetSystemPriority bridge priority) is net = absurd is
-set_alone (SetTreePriority bridge tree priority) is net = refl
-set_alone (SetTreePortPriority port tree priority) is net = refl
-set_alone (SetPortPathCost port cost) is net = absurd is
-set_alone (SetTreePortCost port tree cost) is net = refl
-set_alone (SetConfiguration bridge revision name) is net = absurd is
-set_alone (MapVids bridge tree vids) is net = refl
-set_alone (SetMaxHops bridge limit) is net = absurd is
-set_alone (SetMaxAge bridge limit) is net = absurd is
-set_alone (SetPortVlans port vids) is net = refl
-
-pub not_renumbered : (edit : Edit) → IsSetByTree edit → (next : PerKind) (numbers : Numbers) → numbers_after edit next numbers ≡ numbers
-not_renumbered (AddBridge bridge mac) is next numbers = absurd is
-not_renumbered (DelBridge bridge) is next numbers = absurd is
-not_renumbered (SetPower bridge power) is next numbers = absurd is
-not_renumbered (SetKind bridge kind) is next numbers = absurd is
-not_renumbered (AddPort port) is next numbers = absurd is
-not_renumbered (DelPort port) is next numbers = absurd is
-not_renumbered (AddLan lan) is next numbers = absurd is
-not_renumbered (DelLan lan) is next numbers = absurd is
-not_renumbered (SetLanState lan state) is next numbers = absurd is
-not_renumbered (SetSpeed lan speed) is next numbers = absurd is
-not_renumbered (Plug port lan) is next numbers = absurd is
-not_renumbered (Unplug port) is next numbers = absurd is
-not_renumbered (SetKey port key) is next numbers = absurd is
-not_renumbered (SetSystemPriority bridge priority) is next numbers = absurd is
-not_renumbered (SetTreePriority bridge tree priority) is next numbers = refl
-not_renumbered (SetTreePortPriority port tree priority) is next numbers = refl
-not_renumbered (SetPortPathCost port cost) is next numbers = absurd is
-not_renumbered (SetTreePortCost port tree cost) is next numbers = refl
-not_renumbered (SetConfiguration bridge revision name) is next numbers = absurd is
-not_renumbered (MapVids bridge tree vids) is next numbers = refl
-not_renumbered (SetMaxHops bridge limit) is next numbers = absurd is
-not_renumbered (SetMaxAge bridge limit) is next numbers = absurd is
-not_renumbered (SetPortVlans port vids) is next numbers = refl
+set_in_network (SetPort port change) net = refl
+set_in_network (SetByTree change) net = refl
 
 abbrev room_by_tree : Room → RoomByTree
 room_by_tree room = record { priority = room.priority; port_priority = room.port_priority; port_cost = room.port_cost; table = room.table; vlans = room.vlans }
 
-pub has_room : (edit : Edit) → IsSetByTree edit → (room : Room) → 0 < room_for edit room → 0 < room_to_set edit (room_by_tree room)
-has_room (AddBridge bridge mac) is room h = absurd is
-has_room (DelBridge bridge) is room h = absurd is
-has_room (SetPower bridge power) is room h = absurd is
-has_room (SetKind bridge kind) is room h = absurd is
-has_room (AddPort port) is room h = absurd is
-has_room (DelPort port) is room h = absurd is
-has_room (AddLan lan) is room h = absurd is
-has_room (DelLan lan) is room h = absurd is
-has_room (SetLanState lan state) is room h = absurd is
-has_room (SetSpeed lan speed) is room h = absurd is
-has_room (Plug port lan) is room h = absurd is
-has_room (Unplug port) is room h = absurd is
-has_room (SetKey port key) is room h = absurd is
-has_room (SetSystemPriority bridge priority) is room h = absurd is
-has_room (SetTreePriority bridge tree priority) is room h = h
-has_room (SetTreePortPriority port tree priority) is room h = h
-has_room (SetPortPathCost port cost) is room h = absurd is
-has_room (SetTreePortCost port tree cost) is room h = h
-has_room (SetConfiguration bridge revision name) is room h = absurd is
-has_room (MapVids bridge tree vids) is room h = h
-has_room (SetMaxHops bridge limit) is room h = absurd is
-has_room (SetMaxAge bridge limit) is room h = absurd is
-has_room (SetPortVlans port vids) is room h = h
+pub has_room : (change : TreeChange) (room : Room) → 0 < room_for (SetByTree change) room → 0 < room_to_set (SetByTree change) (room_by_tree room)
+has_room (Priority bridge tree priority) room h = h
+has_room (PortPriority port tree priority) room h = h
+has_room (PortCost port tree cost) room h = h
+has_room (Table bridge tree vids) room h = h
+has_room (Vlans port vids) room h = h

@@ -11,10 +11,11 @@ use Rattle.std.specs.Cmp.Lexicographic.{pointwise, pointwise_decides}
 use Rattle.std.specs.declared.cmp.Ordering.{Ordering}
 use Rattle.mst_ids.specs.declared.name.PortName.{PortName}
 use Rattle.mst_lang.specs.declared.line.Edit.{Edit}
-use Rattle.mst_lang.specs.declared.line.Edit.TheVariants.{AddBridge, DelBridge, SetPower, SetKind, AddPort, DelPort, AddLan, DelLan, SetLanState, SetSpeed, Plug, Unplug, SetKey, SetSystemPriority, SetTreePriority, SetTreePortPriority, SetPortPathCost, SetTreePortCost, SetConfiguration, MapVids, SetMaxHops, SetMaxAge, SetPortVlans}
+use Rattle.mst_lang.specs.declared.line.Edit.TheVariants.{AddBridge, DelBridge, SetBridge, AddPort, DelPort, SetPort, AddLan, DelLan, SetLan, Plug, Unplug, SetByTree}
+use Rattle.mst_lang.specs.declared.line.TreeChange.TheVariants.{Priority, PortPriority, PortCost, Table, Vlans}
 use Rattle.mst_net.specs.Table.{no_table, mapped}
 use Rattle.mst_net.specs.Tables.{Net, IsNetwork, BridgeRow, PortRow, LanRow, BridgeTree, PortTree}
-use Rattle.mst_net.specs.After.{effect, all_vids, table_of, change, change_bridge, change_port, change_lan, keep, own_priority, own_table, own_vlans, with_kind, with_power, with_system_priority, with_configuration, with_max_hops, with_max_age, with_state, with_speed, with_key, with_external}
+use Rattle.mst_net.specs.After.{effect, all_vids, table_of, change, change_bridge, change_port, change_lan, keep, own_priority, own_table, own_vlans, bridge_with, port_with, lan_with}
 use Rattle.mst_net.specs.Standing.{Stands}
 use Rattle.mst_net.proofs.Keyed.{IsKeyed, same_keys, get_kept}
 use Rattle.mst_net.proofs.Keys.{names, ports, bridge_trees, port_trees}
@@ -93,27 +94,20 @@ module _ (net : Net) where
     effect_same : (edit : Edit) → Stands edit net → effect edit net ≡ net
     effect_same (AddBridge bridge mac) stands = absurd stands
     effect_same (DelBridge bridge) stands = absurd stands
-    effect_same (SetPower bridge power) stands = bridge_same bridge (with_power power) stands
-    effect_same (SetKind bridge kind) stands = bridge_same bridge (with_kind kind) stands
+    effect_same (SetBridge bridge change) stands = bridge_same bridge (bridge_with change) stands
     effect_same (AddPort port) stands = absurd stands
     effect_same (DelPort port) stands = absurd stands
     effect_same (AddLan lan) stands = absurd stands
     effect_same (DelLan lan) stands = absurd stands
-    effect_same (SetLanState lan state) stands = lan_same lan (with_state state) stands
-    effect_same (SetSpeed lan speed) stands = lan_same lan (with_speed speed) stands
+    effect_same (SetLan lan change) stands = lan_same lan (lan_with change) stands
     effect_same (Plug port lan) stands = absurd stands
     effect_same (Unplug port) stands = absurd stands
-    effect_same (SetKey port key) stands = port_same port (with_key key) stands
-    effect_same (SetSystemPriority bridge priority) stands = bridge_same bridge (with_system_priority priority) stands
-    effect_same (SetTreePriority bridge tree priority) stands = ap (λ m. record net { priorities = m }) (priority_same (record { bridge = bridge; tree = tree }) priority stands)
-    effect_same (SetTreePortPriority port tree priority) stands = ap (λ m. record net { port_priorities = m }) (port_priority_same (record { port = port; tree = tree }) priority stands)
-    effect_same (SetPortPathCost port cost) stands = port_same port (with_external cost) stands
-    effect_same (SetTreePortCost port tree cost) stands = ap (λ m. record net { port_costs = m }) (keep_same port_trees net.port_costs (record { port = port; tree = tree }) cost stands)
-    effect_same (SetConfiguration bridge revision name) stands = bridge_same bridge (with_configuration revision name) stands
-    effect_same (MapVids bridge tree vids) stands = ap (λ m. record net { tables = m }) (table_same bridge (mapped vids tree (table_of net bridge)) stands)
-    effect_same (SetMaxHops bridge limit) stands = bridge_same bridge (with_max_hops limit) stands
-    effect_same (SetMaxAge bridge limit) stands = bridge_same bridge (with_max_age limit) stands
-    effect_same (SetPortVlans port vids) stands = ap (λ m. record net { vlans = m }) (vlans_same port vids stands)
+    effect_same (SetPort port change) stands = port_same port (port_with change) stands
+    effect_same (SetByTree (Priority bridge tree priority)) stands = ap (λ m. record net { priorities = m }) (priority_same (record { bridge = bridge; tree = tree }) priority stands)
+    effect_same (SetByTree (PortPriority port tree priority)) stands = ap (λ m. record net { port_priorities = m }) (port_priority_same (record { port = port; tree = tree }) priority stands)
+    effect_same (SetByTree (PortCost port tree cost)) stands = ap (λ m. record net { port_costs = m }) (keep_same port_trees net.port_costs (record { port = port; tree = tree }) cost stands)
+    effect_same (SetByTree (Table bridge tree vids)) stands = ap (λ m. record net { tables = m }) (table_same bridge (mapped vids tree (table_of net bridge)) stands)
+    effect_same (SetByTree (Vlans port vids)) stands = ap (λ m. record net { vlans = m }) (vlans_same port vids stands)
 
 pub standing_same : (edit : Edit) (net : Net) → IsNetwork net → Stands edit net → effect edit net ≡ net
 standing_same edit net is stands = effect_same net is edit stands

@@ -10,17 +10,26 @@ use Rattle.mst_ids.specs.Texts.{mac_text}
 use Rattle.mst_ids.specs.Vids.{set_where, is_vid}
 use Rattle.mst_ids.specs.declared.name.PortName.{PortName}
 use Rattle.mst_lang.specs.declared.line.Edit.{Edit}
-use Rattle.mst_lang.specs.declared.line.Edit.TheVariants.{AddBridge, DelBridge, SetPower, SetKind, AddPort, DelPort, AddLan, DelLan, SetLanState, SetSpeed, Plug, Unplug, SetKey, SetSystemPriority, SetTreePriority, SetTreePortPriority, SetPortPathCost, SetTreePortCost, SetConfiguration, MapVids, SetMaxHops, SetMaxAge, SetPortVlans}
+use Rattle.mst_lang.specs.declared.line.Edit.TheVariants.{AddBridge, DelBridge, SetBridge, AddPort, DelPort, SetPort, AddLan, DelLan, SetLan, Plug, Unplug, SetByTree}
+use Rattle.mst_lang.specs.declared.line.BridgeChange.{BridgeChange}
+use Rattle.mst_lang.specs.declared.line.BridgeChange.TheVariants.{Power as PowerOf, Kind as KindOf, SystemPriority, Configuration, MaxHops, MaxAge}
+use Rattle.mst_lang.specs.declared.line.PortChange.{PortChange}
+use Rattle.mst_lang.specs.declared.line.PortChange.TheVariants.{Key, PathCost, RestrictedRole}
+use Rattle.mst_lang.specs.declared.line.LanChange.{LanChange}
+use Rattle.mst_lang.specs.declared.line.LanChange.TheVariants.{State, Speed}
+use Rattle.mst_lang.specs.declared.line.TreeChange.{TreeChange}
+use Rattle.mst_lang.specs.declared.line.TreeChange.TheVariants.{Priority, PortPriority, PortCost, Table, Vlans}
 use Rattle.mst_lang.specs.declared.line.Kind.{Kind}
 use Rattle.mst_lang.specs.declared.line.Kind.TheVariants.{Mstp, Rstp}
 use Rattle.mst_lang.specs.declared.line.Power.{Power}
 use Rattle.mst_lang.specs.declared.line.Power.TheVariants.{On, Off}
 use Rattle.mst_lang.specs.declared.line.LanState.{LanState}
 use Rattle.mst_lang.specs.declared.line.LanState.TheVariants.{Up, Down}
+use Rattle.mst_net.specs.declared.settings.PortSettings.{PortSettings}
 use Rattle.mst_net.specs.declared.refusal.Refusal.{Refusal}
 use Rattle.mst_net.specs.declared.refusal.Refusal.TheVariants.{E04, E05, E06, E07, E08, E09, E10, E11, E12, E13, E14, E15}
 use Rattle.mst_net.specs.Table.{mapped, tree_count}
-use Rattle.mst_net.specs.ByTree.{table_in, vlans_in}
+use Rattle.mst_net.specs.ByTree.{ByTree, by_tree, with_by_tree, table_in, vlans_in}
 use Rattle.mst_net.specs.Tables.{Net, BridgeRow, PortRow, LanRow, port_eq}
 
 -- ---- what is asked of a network
@@ -87,31 +96,28 @@ of_port port net = no_bridge port.bridge net ∷ no_port port net ∷ []
 abbrev pub of_lan : List ℕ → Net → List (Bool × Refusal)
 of_lan lan net = no_lan lan net ∷ []
 
+-- the refusals of what is set by tree or VID
+abbrev pub refusals_by_tree : TreeChange → Net → List (Bool × Refusal)
+refusals_by_tree (Priority bridge tree priority) net = of_bridge bridge net
+refusals_by_tree (PortPriority port tree priority) net = of_port port net
+refusals_by_tree (PortCost port tree cost) net = of_port port net
+refusals_by_tree (Table bridge tree vids) net = no_bridge bridge net ∷ (nat_lt 64 (tree_count (mapped vids tree (table_of net bridge))), E15) ∷ []
+refusals_by_tree (Vlans port vids) net = of_port port net
+
 -- the refusals of each edit, from the least number on
 abbrev pub refusals : Edit → Net → List (Bool × Refusal)
 refusals (AddBridge bridge mac) net = (has_bridge bridge net, E07) ∷ (mac_taken mac net, E08) ∷ (nat_le 1024 (fin.len net.bridges), E14) ∷ []
 refusals (DelBridge bridge) net = no_bridge bridge net ∷ (some_port (is_of_bridge bridge) net, E12) ∷ []
-refusals (SetPower bridge power) net = of_bridge bridge net
-refusals (SetKind bridge kind) net = of_bridge bridge net
+refusals (SetBridge bridge change) net = of_bridge bridge net
 refusals (AddPort port) net = no_bridge port.bridge net ∷ (has_port port net, E09) ∷ (nat_le 16384 (fin.len net.ports), E14) ∷ []
 refusals (DelPort port) net = no_bridge port.bridge net ∷ no_port port net ∷ (is_plugged port net, E10) ∷ []
+refusals (SetPort port change) net = of_port port net
 refusals (AddLan lan) net = (has_lan lan net, E07) ∷ (nat_le 8192 (fin.len net.lans), E14) ∷ []
 refusals (DelLan lan) net = no_lan lan net ∷ (some_port (is_in_lan lan) net, E13) ∷ []
-refusals (SetLanState lan state) net = of_lan lan net
-refusals (SetSpeed lan speed) net = of_lan lan net
+refusals (SetLan lan change) net = of_lan lan net
 refusals (Plug port lan) net = no_bridge port.bridge net ∷ no_port port net ∷ no_lan lan net ∷ (is_plugged port net, E10) ∷ []
 refusals (Unplug port) net = no_bridge port.bridge net ∷ no_port port net ∷ (not (is_plugged port net), E11) ∷ []
-refusals (SetKey port key) net = of_port port net
-refusals (SetSystemPriority bridge priority) net = of_bridge bridge net
-refusals (SetTreePriority bridge tree priority) net = of_bridge bridge net
-refusals (SetTreePortPriority port tree priority) net = of_port port net
-refusals (SetPortPathCost port cost) net = of_port port net
-refusals (SetTreePortCost port tree cost) net = of_port port net
-refusals (SetConfiguration bridge revision name) net = of_bridge bridge net
-refusals (MapVids bridge tree vids) net = no_bridge bridge net ∷ (nat_lt 64 (tree_count (mapped vids tree (table_of net bridge))), E15) ∷ []
-refusals (SetMaxHops bridge limit) net = of_bridge bridge net
-refusals (SetMaxAge bridge limit) net = of_bridge bridge net
-refusals (SetPortVlans port vids) net = of_port port net
+refusals (SetByTree change) net = refusals_by_tree change net
 
 -- why an edit is refused, if it is
 abbrev pub refusal_of : Edit → Net → Option Refusal
@@ -135,47 +141,41 @@ is_up Down = false
 abbrev pub new_bridge : ℕ → BridgeRow
 new_bridge mac = record { mac = mac; is_rstp = false; is_on = true; system_priority = 32_768; revision = 0; conf_name = mac_text mac; max_hops = 20; max_age = 20 }
 
--- a new port is in no LAN, has key 0, and its cost is automatic
+-- a new port has key 0, its cost is automatic, its role isn't restricted, and it is in no LAN
+abbrev pub new_settings : PortSettings
+new_settings = record { key = 0; external = None; is_restricted = false }
+
 abbrev pub new_port : PortRow
-new_port = record { lan = None; key = 0; external = None }
+new_port = record { lan = None; settings = new_settings }
 
 -- a new LAN is up and has 1,000,000 kb/s
 abbrev pub new_lan : LanRow
 new_lan = record { speed = 1_000_000; is_up = true }
 
--- other settings of a bridge, a LAN or a port
-abbrev pub with_kind : Kind → BridgeRow → BridgeRow
-with_kind kind row = record row { is_rstp = is_rstp kind }
+-- the settings of a bridge with a change, those of a port, and those of a LAN
+abbrev pub bridge_with : BridgeChange → BridgeRow → BridgeRow
+bridge_with (PowerOf power) row = record row { is_on = is_on power }
+bridge_with (KindOf kind) row = record row { is_rstp = is_rstp kind }
+bridge_with (SystemPriority priority) row = record row { system_priority = priority }
+bridge_with (Configuration revision name) row = record row { revision = revision; conf_name = name }
+bridge_with (MaxHops limit) row = record row { max_hops = limit }
+bridge_with (MaxAge limit) row = record row { max_age = limit }
 
-abbrev pub with_power : Power → BridgeRow → BridgeRow
-with_power power row = record row { is_on = is_on power }
+abbrev pub settings_with : PortChange → PortSettings → PortSettings
+settings_with (Key key) s = record s { key = key }
+settings_with (PathCost cost) s = record s { external = cost }
+settings_with (RestrictedRole restricted) s = record s { is_restricted = restricted }
 
-abbrev pub with_system_priority : ℕ → BridgeRow → BridgeRow
-with_system_priority priority row = record row { system_priority = priority }
+abbrev pub port_with : PortChange → PortRow → PortRow
+port_with change row = record row { settings = settings_with change row.settings }
 
-abbrev pub with_configuration : ℕ → List ℕ → BridgeRow → BridgeRow
-with_configuration revision name row = record row { revision = revision; conf_name = name }
+abbrev pub lan_with : LanChange → LanRow → LanRow
+lan_with (State state) row = record row { is_up = is_up state }
+lan_with (Speed speed) row = record row { speed = speed }
 
-abbrev pub with_max_hops : ℕ → BridgeRow → BridgeRow
-with_max_hops limit row = record row { max_hops = limit }
-
-abbrev pub with_max_age : ℕ → BridgeRow → BridgeRow
-with_max_age limit row = record row { max_age = limit }
-
-abbrev pub with_speed : ℕ → LanRow → LanRow
-with_speed speed row = record row { speed = speed }
-
-abbrev pub with_state : LanState → LanRow → LanRow
-with_state state row = record row { is_up = is_up state }
-
+-- those of a port that is in a LAN, or in none
 abbrev pub in_lan : Option (List ℕ) → PortRow → PortRow
 in_lan lan row = record row { lan = lan }
-
-abbrev pub with_key : ℕ → PortRow → PortRow
-with_key key row = record row { key = key }
-
-abbrev pub with_external : Option ℕ → PortRow → PortRow
-with_external cost row = record row { external = cost }
 
 -- a table with what stands under a key changed, if there is something
 abbrev pub change : {K X : Type 0} {R : K → K → Ordering} → fin.FinMap R X → K → (X → X) → fin.FinMap R X
@@ -222,31 +222,28 @@ without_port port net = record net {
   vlans = fin.remove net.vlans port;
 }
 
+-- what is set by tree or VID, with a change
+abbrev pub set_with : TreeChange → ByTree → ByTree
+set_with (Priority bridge tree priority) set = record set { priorities = keep set.priorities (record { bridge = bridge; tree = tree }) (own_priority priority) }
+set_with (PortPriority port tree priority) set = record set { port_priorities = keep set.port_priorities (record { port = port; tree = tree }) (own_priority priority) }
+set_with (PortCost port tree cost) set = record set { port_costs = keep set.port_costs (record { port = port; tree = tree }) cost }
+set_with (Table bridge tree vids) set = record set { tables = keep set.tables bridge (own_table (mapped vids tree (table_in set.tables bridge))) }
+set_with (Vlans port vids) set = record set { vlans = keep set.vlans port (own_vlans vids) }
+
 -- what each edit makes of a network in which nothing refuses it
 abbrev pub effect : Edit → Net → Net
 effect (AddBridge bridge mac) net = record net { bridges = fin.insert net.bridges bridge (new_bridge mac) }
 effect (DelBridge bridge) net = without_bridge bridge net
-effect (SetPower bridge power) net = change_bridge bridge (with_power power) net
-effect (SetKind bridge kind) net = change_bridge bridge (with_kind kind) net
+effect (SetBridge bridge change) net = change_bridge bridge (bridge_with change) net
 effect (AddPort port) net = record net { ports = fin.insert net.ports port new_port }
 effect (DelPort port) net = without_port port net
+effect (SetPort port change) net = change_port port (port_with change) net
 effect (AddLan lan) net = record net { lans = fin.insert net.lans lan new_lan }
 effect (DelLan lan) net = record net { lans = fin.remove net.lans lan }
-effect (SetLanState lan state) net = change_lan lan (with_state state) net
-effect (SetSpeed lan speed) net = change_lan lan (with_speed speed) net
+effect (SetLan lan change) net = change_lan lan (lan_with change) net
 effect (Plug port lan) net = change_port port (in_lan (Some lan)) net
 effect (Unplug port) net = change_port port (in_lan None) net
-effect (SetKey port key) net = change_port port (with_key key) net
-effect (SetSystemPriority bridge priority) net = change_bridge bridge (with_system_priority priority) net
-effect (SetTreePriority bridge tree priority) net = record net { priorities = keep net.priorities (record { bridge = bridge; tree = tree }) (own_priority priority) }
-effect (SetTreePortPriority port tree priority) net = record net { port_priorities = keep net.port_priorities (record { port = port; tree = tree }) (own_priority priority) }
-effect (SetPortPathCost port cost) net = change_port port (with_external cost) net
-effect (SetTreePortCost port tree cost) net = record net { port_costs = keep net.port_costs (record { port = port; tree = tree }) cost }
-effect (SetConfiguration bridge revision name) net = change_bridge bridge (with_configuration revision name) net
-effect (MapVids bridge tree vids) net = record net { tables = keep net.tables bridge (own_table (mapped vids tree (table_of net bridge))) }
-effect (SetMaxHops bridge limit) net = change_bridge bridge (with_max_hops limit) net
-effect (SetMaxAge bridge limit) net = change_bridge bridge (with_max_age limit) net
-effect (SetPortVlans port vids) net = record net { vlans = keep net.vlans port (own_vlans vids) }
+effect (SetByTree change) net = with_by_tree net (set_with change (by_tree net))
 
 -- the network after the edit, or why it is refused
 abbrev pub after : Edit → Net → Result Net Refusal

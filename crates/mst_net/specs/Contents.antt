@@ -6,7 +6,8 @@ use Rattle.mst_ids.specs.Names.{coded_port}
 use Rattle.mst_ids.specs.declared.name.PortName.{PortName}
 use Rattle.mst_lang.specs.Ranges.{InRange}
 use Rattle.mst_lang.specs.declared.line.Edit.{Edit}
-use Rattle.mst_lang.specs.declared.line.Edit.TheVariants.{AddBridge, DelBridge, AddPort, DelPort, AddLan, DelLan, Plug, SetTreePriority, SetTreePortPriority, SetTreePortCost, MapVids, SetPortVlans}
+use Rattle.mst_lang.specs.declared.line.Edit.TheVariants.{AddBridge, DelBridge, AddPort, DelPort, AddLan, DelLan, Plug, SetByTree}
+use Rattle.mst_lang.specs.declared.line.TreeChange.TheVariants.{Priority, PortPriority, PortCost, Table, Vlans}
 use Rattle.mst_net.specs.Tables.{Net, Numbers, bridge_row_code, port_row_code, lan_row_code, bridge_tree_code, port_tree_code}
 use Rattle.mst_net.specs.ByTree.{priority_in, port_priority_in, port_cost_in}
 use Rattle.mst_net.specs.After.{after, effect, refusal_of}
@@ -66,11 +67,11 @@ room_for (AddBridge bridge mac) room = room.bridge
 room_for (AddPort port) room = room.port
 room_for (AddLan lan) room = room.lan
 room_for (Plug port lan) room = room.plug
-room_for (SetTreePriority bridge tree priority) room = room.priority
-room_for (SetTreePortPriority port tree priority) room = room.port_priority
-room_for (SetTreePortCost port tree cost) room = room.port_cost
-room_for (MapVids bridge tree vids) room = room.table
-room_for (SetPortVlans port vids) room = room.vlans
+room_for (SetByTree (Priority bridge tree priority)) room = room.priority
+room_for (SetByTree (PortPriority port tree priority)) room = room.port_priority
+room_for (SetByTree (PortCost port tree cost)) room = room.port_cost
+room_for (SetByTree (Table bridge tree vids)) room = room.table
+room_for (SetByTree (Vlans port vids)) room = room.vlans
 room_for _ room = 1
 
 -- the edit's values are in their ranges, nothing refuses it, and there is room for what it may add

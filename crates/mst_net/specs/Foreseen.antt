@@ -4,21 +4,17 @@ use Rattle.std.specs.Option.{option_map, option_and_then}
 use Rattle.std.specs.Cmp.Lexicographic.{pointwise}
 use Rattle.mst_ids.specs.declared.name.PortName.{PortName}
 use Rattle.mst_lang.specs.declared.line.Edit.{Edit}
-use Rattle.mst_lang.specs.declared.line.Edit.TheVariants.{AddBridge, DelBridge, SetPower, SetKind, AddPort, DelPort, AddLan, DelLan, SetLanState, SetSpeed, Plug, Unplug, SetKey, SetSystemPriority, SetTreePriority, SetTreePortPriority, SetPortPathCost, SetTreePortCost, SetConfiguration, MapVids, SetMaxHops, SetMaxAge, SetPortVlans}
+use Rattle.mst_lang.specs.declared.line.Edit.TheVariants.{AddBridge, DelBridge, SetBridge, AddPort, DelPort, SetPort, AddLan, DelLan, SetLan, Plug, Unplug, SetByTree}
+use Rattle.mst_lang.specs.declared.line.TreeChange.TheVariants.{Priority, PortPriority, PortCost, Table, Vlans}
 use Rattle.mst_net.specs.Table.{no_table, mapped}
 use Rattle.mst_net.specs.Tables.{BridgeRow, PortRow, LanRow, port_eq}
-use Rattle.mst_net.specs.After.{new_bridge, new_port, new_lan, with_kind, with_power, with_system_priority, with_configuration, with_max_hops, with_max_age, with_state, with_speed, in_lan, with_key, with_external, all_vids}
+use Rattle.mst_net.specs.After.{new_bridge, new_port, new_lan, bridge_with, port_with, lan_with, in_lan, all_vids}
 
 -- what the edit makes of the settings of a bridge, where it is there
 abbrev pub bridge_row_after : Edit → List ℕ → Option BridgeRow → Option BridgeRow
 bridge_row_after (AddBridge bridge mac) name there = if pointwise nat_eq bridge name then Some (new_bridge mac) else there
 bridge_row_after (DelBridge bridge) name there = if pointwise nat_eq bridge name then None else there
-bridge_row_after (SetPower bridge power) name there = if pointwise nat_eq bridge name then option_map (with_power power) there else there
-bridge_row_after (SetKind bridge kind) name there = if pointwise nat_eq bridge name then option_map (with_kind kind) there else there
-bridge_row_after (SetSystemPriority bridge priority) name there = if pointwise nat_eq bridge name then option_map (with_system_priority priority) there else there
-bridge_row_after (SetConfiguration bridge revision conf_name) name there = if pointwise nat_eq bridge name then option_map (with_configuration revision conf_name) there else there
-bridge_row_after (SetMaxHops bridge limit) name there = if pointwise nat_eq bridge name then option_map (with_max_hops limit) there else there
-bridge_row_after (SetMaxAge bridge limit) name there = if pointwise nat_eq bridge name then option_map (with_max_age limit) there else there
+bridge_row_after (SetBridge bridge change) name there = if pointwise nat_eq bridge name then option_map (bridge_with change) there else there
 bridge_row_after _ name there = there
 
 abbrev pub port_row_after : Edit → PortName → Option PortRow → Option PortRow
@@ -26,15 +22,13 @@ port_row_after (AddPort port) name there = if port_eq port name then Some new_po
 port_row_after (DelPort port) name there = if port_eq port name then None else there
 port_row_after (Plug port lan) name there = if port_eq port name then option_map (in_lan (Some lan)) there else there
 port_row_after (Unplug port) name there = if port_eq port name then option_map (in_lan None) there else there
-port_row_after (SetKey port key) name there = if port_eq port name then option_map (with_key key) there else there
-port_row_after (SetPortPathCost port cost) name there = if port_eq port name then option_map (with_external cost) there else there
+port_row_after (SetPort port change) name there = if port_eq port name then option_map (port_with change) there else there
 port_row_after _ name there = there
 
 abbrev pub lan_row_after : Edit → List ℕ → Option LanRow → Option LanRow
 lan_row_after (AddLan lan) name there = if pointwise nat_eq lan name then Some new_lan else there
 lan_row_after (DelLan lan) name there = if pointwise nat_eq lan name then None else there
-lan_row_after (SetLanState lan state) name there = if pointwise nat_eq lan name then option_map (with_state state) there else there
-lan_row_after (SetSpeed lan speed) name there = if pointwise nat_eq lan name then option_map (with_speed speed) there else there
+lan_row_after (SetLan lan change) name there = if pointwise nat_eq lan name then option_map (lan_with change) there else there
 lan_row_after _ name there = there
 
 -- what it makes of the number of a record
@@ -75,25 +69,25 @@ lan_name_after _ next number there = there
 -- what it makes of what is set by tree or VID
 abbrev pub priority_after : Edit → List ℕ → ℕ → ℕ → ℕ
 priority_after (DelBridge bridge) name other there = if pointwise nat_eq bridge name then 8 else there
-priority_after (SetTreePriority bridge tree priority) name other there = if pointwise nat_eq bridge name && nat_eq tree other then priority else there
+priority_after (SetByTree (Priority bridge tree priority)) name other there = if pointwise nat_eq bridge name && nat_eq tree other then priority else there
 priority_after _ name other there = there
 
 abbrev pub port_priority_after : Edit → PortName → ℕ → ℕ → ℕ
 port_priority_after (DelPort port) name other there = if port_eq port name then 8 else there
-port_priority_after (SetTreePortPriority port tree priority) name other there = if port_eq port name && nat_eq tree other then priority else there
+port_priority_after (SetByTree (PortPriority port tree priority)) name other there = if port_eq port name && nat_eq tree other then priority else there
 port_priority_after _ name other there = there
 
 abbrev pub port_cost_after : Edit → PortName → ℕ → Option ℕ → Option ℕ
 port_cost_after (DelPort port) name other there = if port_eq port name then None else there
-port_cost_after (SetTreePortCost port tree cost) name other there = if port_eq port name && nat_eq tree other then cost else there
+port_cost_after (SetByTree (PortCost port tree cost)) name other there = if port_eq port name && nat_eq tree other then cost else there
 port_cost_after _ name other there = there
 
 abbrev pub table_after : Edit → List ℕ → List ℕ → List ℕ
 table_after (DelBridge bridge) name there = if pointwise nat_eq bridge name then no_table else there
-table_after (MapVids bridge tree vids) name there = if pointwise nat_eq bridge name then mapped vids tree there else there
+table_after (SetByTree (Table bridge tree vids)) name there = if pointwise nat_eq bridge name then mapped vids tree there else there
 table_after _ name there = there
 
 abbrev pub vlans_after : Edit → PortName → List Bool → List Bool
 vlans_after (DelPort port) name there = if port_eq port name then all_vids else there
-vlans_after (SetPortVlans port vids) name there = if port_eq port name then vids else there
+vlans_after (SetByTree (Vlans port vids)) name there = if port_eq port name then vids else there
 vlans_after _ name there = there

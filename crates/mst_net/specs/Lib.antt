@@ -6,7 +6,6 @@ pub mod ByTree
 pub mod After
 pub mod Contents
 pub mod SettingsAfter
-pub mod OfOneRecord
 pub mod Standing
 pub mod Rows
 pub mod Kept
@@ -18,3 +17,4 @@ pub mod SettingsKept
 pub mod NetworkKept
 pub mod Seen
 pub mod Foreseen
+pub mod TreesSet

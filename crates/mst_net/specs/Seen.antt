@@ -9,7 +9,7 @@ abbrev pub bridge_row : Bridge → BridgeRow
 bridge_row b = record { mac = b.mac; is_rstp = is_rstp b.kind; is_on = is_on b.power; system_priority = b.system_priority; revision = b.revision; conf_name = b.conf_name; max_hops = b.max_hops; max_age = b.max_age }
 
 abbrev pub port_row : Port → PortRow
-port_row p = record { lan = p.lan; key = p.key; external = p.external }
+port_row p = record { lan = p.lan; settings = p.settings }
 
 abbrev pub lan_row : Lan → LanRow
 lan_row l = record { speed = l.speed; is_up = is_up l.state }

@@ -1,7 +1,6 @@
 -- What an edit makes of what is set by tree or VID.
-use Rattle.std.specs.Prelude.{ℕ, ⊤}
+use Rattle.std.specs.Prelude.{ℕ}
 use Rattle.mst_lang.specs.declared.line.Edit.{Edit}
-use Rattle.mst_lang.specs.declared.line.Edit.TheVariants.{SetTreePriority, SetTreePortPriority, SetTreePortCost, MapVids, SetPortVlans}
 use Rattle.mst_net.specs.Tables.{empty_net}
 use Rattle.mst_net.specs.ByTree.{ByTree, RoomByTree, by_tree, with_by_tree}
 use Rattle.mst_net.specs.After.{effect}
@@ -15,12 +14,3 @@ set_after edit set = by_tree (effect edit (with_by_tree empty_net set))
 abbrev pub room_to_set : Edit → RoomByTree → ℕ
 room_to_set edit room =
     room_for edit (record { bridge = 1; port = 1; lan = 1; plug = 1; priority = room.priority; port_priority = room.port_priority; port_cost = room.port_cost; table = room.table; vlans = room.vlans })
-
--- the edit sets something by tree or VID
-abbrev pub IsSetByTree : Edit → Type 0
-IsSetByTree (SetTreePriority bridge tree priority) = ⊤
-IsSetByTree (SetTreePortPriority port tree priority) = ⊤
-IsSetByTree (SetTreePortCost port tree cost) = ⊤
-IsSetByTree (MapVids bridge tree vids) = ⊤
-IsSetByTree (SetPortVlans port vids) = ⊤
-IsSetByTree _ = ⊥

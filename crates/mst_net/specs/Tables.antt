@@ -14,6 +14,7 @@ use Rattle.mst_ids.specs.Vids.{set_where, is_vid, IsVidSet}
 use Rattle.mst_lang.specs.Ranges.{IsName}
 use Rattle.mst_net.specs.Table.{tree_count}
 use Rattle.mst_ids.specs.declared.name.PortName.{PortName}
+use Rattle.mst_net.specs.declared.settings.PortSettings.{PortSettings}
 
 -- a bridge's settings: its MAC, its kind, whether it is on, its system priority in the identifiers of link
 -- aggregation groups, the revision and the name of its MST configuration, and how far what it says may go
@@ -27,12 +28,11 @@ pub record BridgeRow : Type 0 where
   pub max_hops : ℕ
   pub max_age : ℕ
 
--- a port's settings: the LAN that it is plugged into, if there is one, its aggregation key, of which 0 is
--- none, and its external path cost, or none where it is automatic
+-- a port: the LAN that it is plugged into, if there is one, and its settings, which are its aggregation key, of
+-- which 0 is none, its external path cost, or none where it is automatic, and whether its role is restricted
 pub record PortRow : Type 0 where
   pub lan : Option (List ℕ)
-  pub key : ℕ
-  pub external : Option ℕ
+  pub settings : PortSettings
 
 -- a LAN's settings: its speed in kb/s, and whether it is up
 pub record LanRow : Type 0 where
@@ -135,9 +135,9 @@ pub record AreLans (lans : fin.FinMap name_cmp LanRow) : Type 0 where
 pub record ArePorts (bridges : fin.FinMap name_cmp BridgeRow) (lans : fin.FinMap name_cmp LanRow) (ports : fin.FinMap port_cmp PortRow) : Type 0 where
   pub has_bridge : (p : PortName) (x : PortRow) → fin.get ports p ≡ Some x → IsTrue (fin.contains_key bridges p.bridge)
   pub number_fits : (p : PortName) (x : PortRow) → fin.get ports p ≡ Some x → (1 ≤ p.number) × (p.number ≤ 4095)
-  pub key_fits : (p : PortName) (x : PortRow) → fin.get ports p ≡ Some x → x.key < 2 ^ 16
+  pub key_fits : (p : PortName) (x : PortRow) → fin.get ports p ≡ Some x → x.settings.key < 2 ^ 16
   pub has_lan : (p : PortName) (x : PortRow) (lan : List ℕ) → fin.get ports p ≡ Some x → x.lan ≡ Some lan → IsTrue (fin.contains_key lans lan)
-  pub cost_fits : (p : PortName) (x : PortRow) (cost : ℕ) → fin.get ports p ≡ Some x → x.external ≡ Some cost → IsPathCost cost
+  pub cost_fits : (p : PortName) (x : PortRow) (cost : ℕ) → fin.get ports p ≡ Some x → x.settings.external ≡ Some cost → IsPathCost cost
   pub few : fin.len ports ≤ 16384
 
 -- What is true of every network: its records fit together, what is set by tree or VID is set for a bridge
@@ -170,10 +170,13 @@ bridge_row_code =
       max_age = p.1.1.1.1.1.1.1;
     }) (λ _. refl)
 
+abbrev pub port_settings_code : Coded PortSettings
+port_settings_code =
+    code_by (ℕ × (Option ℕ × Bool)) (coded× coded_ℕ (coded× (coded_option coded_ℕ) coded_bool)) (λ s. (s.key, (s.external, s.is_restricted)))
+    (λ p. record { key = p.0; external = p.1.0; is_restricted = p.1.1 }) (λ _. refl)
+
 abbrev pub port_row_code : Coded PortRow
-port_row_code =
-    code_by (Option (List ℕ) × (ℕ × Option ℕ)) (coded× (coded_option (coded_list coded_ℕ)) (coded× coded_ℕ (coded_option coded_ℕ))) (λ p. (p.lan, (p.key, p.external)))
-    (λ p. record { lan = p.0; key = p.1.0; external = p.1.1 }) (λ _. refl)
+port_row_code = code_by (Option (List ℕ) × PortSettings) (coded× (coded_option (coded_list coded_ℕ)) port_settings_code) (λ p. (p.lan, p.settings)) (λ p. record { lan = p.0; settings = p.1 }) (λ _. refl)
 
 abbrev pub lan_row_code : Coded LanRow
 lan_row_code = code_by (ℕ × Bool) (coded× coded_ℕ coded_bool) (λ l. (l.speed, l.is_up)) (λ p. record { speed = p.0; is_up = p.1 }) (λ _. refl)

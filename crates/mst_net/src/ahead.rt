@@ -1,17 +1,20 @@
-ghost use Rattle.std.specs.Prelude.{◌≡◌};
+ghost use Rattle.std.specs.Prelude.{◌≡◌, ◌==◌, not, is_some, IfOk};
+ghost use Rattle.std.specs.List.{filter};
+ghost use Rattle.mst_net.specs.Contents.{priority_of, port_priority_of, port_cost_of};
 ghost use Rattle.std.specs.Option.{option_map};
-ghost use Rattle.mst_net.specs.OfOneRecord.{bridge_set, port_set, lan_set};
+ghost use Rattle.mst_net.specs.After.{bridge_with, port_with, lan_with, in_lan};
 ghost use Rattle.mst_net.specs.Foreseen.{bridge_row_after, port_row_after, lan_row_after, bridge_number_after, port_number_after, lan_number_after, bridge_name_after, port_name_after, lan_name_after, priority_after, port_priority_after, port_cost_after, table_after, vlans_after};
 
 use crate::contents::{Bridge, Contents, Lan, Port};
 use crate::names::{with_name, without_name};
 use crate::network::{Network, kept_bridge, kept_lan, kept_port};
 use crate::records::Record;
-use crate::settings::{BridgeSettings, LanSettings, PortSettings};
+use crate::settings::{BridgeSettings, KeptPort, LanSettings};
 use crate::table::Table;
 use crate::tree_settings::TreeSettings;
+use crate::trees::every_tree;
 use mst_ids::{BridgeNo, Cost, LanNo, Name, PortName, PortNo, Priority, Tree, VidSet};
-use mst_lang::Edit;
+use mst_lang::{BridgeChange, Edit, LanChange, PortChange, TreeChange};
 use std::alloc::{AllocError, Global};
 use std::marker::Model;
 
@@ -152,6 +155,27 @@ impl Contents for Ahead<'_> {
         port_cost_ahead(self.edit, port, tree, self.network.port_cost(port, tree))
     }
 
+    // Each tree is looked at: a network that is yet to be is asked once, if ever.
+    fn priority_trees(&self, bridge: &Name, alloc: Global) -> Result<Vec<Tree>, AllocError> {
+        let trees = every_tree(alloc)?;
+        with_priority(self, bridge, &trees, alloc)
+    }
+
+    fn port_priority_trees(&self, port: &PortName, alloc: Global) -> Result<Vec<Tree>, AllocError> {
+        let trees = every_tree(alloc)?;
+        with_port_priority(self, port, &trees, alloc)
+    }
+
+    fn port_cost_trees(&self, port: &PortName, alloc: Global) -> Result<Vec<Tree>, AllocError> {
+        let trees = every_tree(alloc)?;
+        with_port_cost(self, port, &trees, alloc)
+    }
+
+    fn mstis(&self, bridge: &Name, alloc: Global) -> Result<Vec<Tree>, AllocError> {
+        let table = self.table(bridge);
+        table.mstis(alloc)
+    }
+
     fn table(&self, bridge: &Name) -> Table {
         table_ahead(self.edit, bridge, self.network.table(bridge))
     }
@@ -167,6 +191,54 @@ impl Contents for Ahead<'_> {
         settings.make(self.edit);
         Ok(settings)
     }
+}
+
+/// Those of the trees in which a bridge has another priority than 8.
+fn with_priority(
+    ahead: &Ahead<'_>,
+    bridge: &Name,
+    trees: &[Tree],
+    alloc: Global,
+) -> Result<Vec<Tree>, AllocError>
+    ensures { IfOk result (λ kept. kept.items ≡ filter (λ tree. not (priority_of ahead.now.net bridge.now tree == 8)) trees.now) }
+{
+    trees
+        .iter()
+        .copied()
+        .filter(|tree| ahead.tree_priority(bridge, *tree).step() != Priority::DEFAULT)
+        .collect(alloc)
+}
+
+/// Those of the trees in which a port has another priority than 8.
+fn with_port_priority(
+    ahead: &Ahead<'_>,
+    port: &PortName,
+    trees: &[Tree],
+    alloc: Global,
+) -> Result<Vec<Tree>, AllocError>
+    ensures { IfOk result (λ kept. kept.items ≡ filter (λ tree. not (port_priority_of ahead.now.net port.now tree == 8)) trees.now) }
+{
+    trees
+        .iter()
+        .copied()
+        .filter(|tree| ahead.port_priority(port, *tree).step() != Priority::DEFAULT)
+        .collect(alloc)
+}
+
+/// Those of the trees in which the internal path cost of a port isn't automatic.
+fn with_port_cost(
+    ahead: &Ahead<'_>,
+    port: &PortName,
+    trees: &[Tree],
+    alloc: Global,
+) -> Result<Vec<Tree>, AllocError>
+    ensures { IfOk result (λ kept. kept.items ≡ filter (λ tree. is_some (port_cost_of ahead.now.net port.now tree)) trees.now) }
+{
+    trees
+        .iter()
+        .copied()
+        .filter(|tree| ahead.port_cost(port, *tree).is_some())
+        .collect(alloc)
 }
 
 /// What the edit makes of the record of the bridge of this name.
@@ -185,28 +257,23 @@ fn bridge_after(
             row: BridgeSettings::new(mac),
         }),
         Edit::DelBridge { bridge } if bridge == *name => None,
-        Edit::SetPower { bridge, .. } if bridge == *name => with_bridge_set(there, edit),
-        Edit::SetKind { bridge, .. } if bridge == *name => with_bridge_set(there, edit),
-        Edit::SetSystemPriority { bridge, .. } if bridge == *name => with_bridge_set(there, edit),
-        Edit::SetConfiguration { bridge, .. } if bridge == *name => with_bridge_set(there, edit),
-        Edit::SetMaxHops { bridge, .. } if bridge == *name => with_bridge_set(there, edit),
-        Edit::SetMaxAge { bridge, .. } if bridge == *name => with_bridge_set(there, edit),
+        Edit::SetBridge { bridge, change } if bridge == *name => with_bridge_set(there, &change),
         _ => there,
     }
 }
 
-/// The record of a bridge, if it is there, with what the edit sets of a bridge.
+/// The record of a bridge, if it is there, with a change.
 fn with_bridge_set(
     there: Option<Record<BridgeSettings>>,
-    edit: &Edit,
+    change: &BridgeChange,
 ) -> Option<Record<BridgeSettings>>
-    ensures row { option_map (λ found. found.row) result ≡ option_map (bridge_set edit.now) (option_map (λ found. found.row) there) }
+    ensures row { option_map (λ found. found.row) result ≡ option_map (bridge_with change.now) (option_map (λ found. found.row) there) }
     ensures number { option_map (λ found. found.number) result ≡ option_map (λ found. found.number) there }
 {
     let Record { number, row } = there?;
     Some(Record {
         number,
-        row: row.after(edit),
+        row: row.with(change),
     })
 }
 
@@ -215,34 +282,45 @@ fn port_after(
     edit: &Edit,
     next: usize,
     name: &PortName,
-    there: Option<Record<PortSettings>>,
-) -> Option<Record<PortSettings>>
+    there: Option<Record<KeptPort>>,
+) -> Option<Record<KeptPort>>
     ensures row { option_map (λ found. found.row) result ≡ port_row_after edit.now name.now (option_map (λ found. found.row) there) }
     ensures number { option_map (λ found. found.number) result ≡ port_number_after edit.now next name.now (option_map (λ found. found.number) there) }
 {
     match *edit {
         Edit::AddPort { port } if port == *name => Some(Record {
             number: next,
-            row: PortSettings::new(),
+            row: KeptPort::new(),
         }),
         Edit::DelPort { port } if port == *name => None,
-        Edit::Plug { port, .. } if port == *name => with_port_set(there, edit),
-        Edit::Unplug { port } if port == *name => with_port_set(there, edit),
-        Edit::SetKey { port, .. } if port == *name => with_port_set(there, edit),
-        Edit::SetPortPathCost { port, .. } if port == *name => with_port_set(there, edit),
+        Edit::Plug { port, lan } if port == *name => in_other_lan(there, Some(lan)),
+        Edit::Unplug { port } if port == *name => in_other_lan(there, None),
+        Edit::SetPort { port, change } if port == *name => with_port_set(there, &change),
         _ => there,
     }
 }
 
-/// The record of a port, if it is there, with what the edit sets of a port.
-fn with_port_set(there: Option<Record<PortSettings>>, edit: &Edit) -> Option<Record<PortSettings>>
-    ensures row { option_map (λ found. found.row) result ≡ option_map (port_set edit.now) (option_map (λ found. found.row) there) }
+/// The record of a port, if it is there, with a change.
+fn with_port_set(there: Option<Record<KeptPort>>, change: &PortChange) -> Option<Record<KeptPort>>
+    ensures row { option_map (λ found. found.row) result ≡ option_map (port_with change.now) (option_map (λ found. found.row) there) }
     ensures number { option_map (λ found. found.number) result ≡ option_map (λ found. found.number) there }
 {
     let Record { number, row } = there?;
     Some(Record {
         number,
-        row: row.after(edit),
+        row: row.with(change),
+    })
+}
+
+/// The record of a port, if it is there, in a LAN or in none.
+fn in_other_lan(there: Option<Record<KeptPort>>, lan: Option<Name>) -> Option<Record<KeptPort>>
+    ensures row { option_map (λ found. found.row) result ≡ option_map (in_lan lan) (option_map (λ found. found.row) there) }
+    ensures number { option_map (λ found. found.number) result ≡ option_map (λ found. found.number) there }
+{
+    let Record { number, row } = there?;
+    Some(Record {
+        number,
+        row: row.in_lan(lan),
     })
 }
 
@@ -262,21 +340,23 @@ fn lan_after(
             row: LanSettings::new(),
         }),
         Edit::DelLan { lan } if lan == *name => None,
-        Edit::SetLanState { lan, .. } if lan == *name => with_lan_set(there, edit),
-        Edit::SetSpeed { lan, .. } if lan == *name => with_lan_set(there, edit),
+        Edit::SetLan { lan, change } if lan == *name => with_lan_set(there, &change),
         _ => there,
     }
 }
 
-/// The record of a LAN, if it is there, with what the edit sets of a LAN.
-fn with_lan_set(there: Option<Record<LanSettings>>, edit: &Edit) -> Option<Record<LanSettings>>
-    ensures row { option_map (λ found. found.row) result ≡ option_map (lan_set edit.now) (option_map (λ found. found.row) there) }
+/// The record of a LAN, if it is there, with a change.
+fn with_lan_set(
+    there: Option<Record<LanSettings>>,
+    change: &LanChange,
+) -> Option<Record<LanSettings>>
+    ensures row { option_map (λ found. found.row) result ≡ option_map (lan_with change.now) (option_map (λ found. found.row) there) }
     ensures number { option_map (λ found. found.number) result ≡ option_map (λ found. found.number) there }
 {
     let Record { number, row } = there?;
     Some(Record {
         number,
-        row: row.after(edit),
+        row: row.with(change),
     })
 }
 
@@ -329,11 +409,13 @@ fn tree_priority_ahead(edit: &Edit, name: &Name, other: Tree, there: Priority) -
 {
     match *edit {
         Edit::DelBridge { bridge } if bridge == *name => Priority::standard(),
-        Edit::SetTreePriority {
-            bridge,
-            tree,
-            priority,
-        } if bridge == *name && tree == other => priority,
+        Edit::SetByTree(
+            TreeChange::Priority {
+                bridge,
+                tree,
+                priority,
+            },
+        ) if bridge == *name && tree == other => priority,
         _ => there,
     }
 }
@@ -344,11 +426,13 @@ fn port_priority_ahead(edit: &Edit, name: &PortName, other: Tree, there: Priorit
 {
     match *edit {
         Edit::DelPort { port } if port == *name => Priority::standard(),
-        Edit::SetTreePortPriority {
-            port,
-            tree,
-            priority,
-        } if port == *name && tree == other => priority,
+        Edit::SetByTree(
+            TreeChange::PortPriority {
+                port,
+                tree,
+                priority,
+            },
+        ) if port == *name && tree == other => priority,
         _ => there,
     }
 }
@@ -359,7 +443,8 @@ fn port_cost_ahead(edit: &Edit, name: &PortName, other: Tree, there: Option<Cost
 {
     match *edit {
         Edit::DelPort { port } if port == *name => None,
-        Edit::SetTreePortCost { port, tree, cost } if port == *name && tree == other => cost,
+        Edit::SetByTree(TreeChange::PortCost { port, tree, cost })
+            if port == *name && tree == other => { cost }
         _ => there,
     }
 }
@@ -370,7 +455,7 @@ fn table_ahead(edit: &Edit, name: &Name, there: Table) -> Table
 {
     match *edit {
         Edit::DelBridge { bridge } if bridge == *name => Table::new(),
-        Edit::MapVids { bridge, tree, vids } if bridge == *name => {
+        Edit::SetByTree(TreeChange::Table { bridge, tree, vids }) if bridge == *name => {
             let mut table = there;
             table.map(&vids, tree);
             table
@@ -385,7 +470,7 @@ fn port_vlans_ahead(edit: &Edit, name: &PortName, there: VidSet) -> VidSet
 {
     match *edit {
         Edit::DelPort { port } if port == *name => VidSet::all(),
-        Edit::SetPortVlans { port, vids } if port == *name => vids,
+        Edit::SetByTree(TreeChange::Vlans { port, vids }) if port == *name => vids,
         _ => there,
     }
 }

@@ -73,3 +73,10 @@ pub(crate) fn take<K: Copy + Eq + Hash>(marks: &mut IndexMap<K, Blocks>, key: &K
 {
     marks.swap_remove(key).unwrap_or(Blocks::none())
 }
+
+/// The blocks that are marked for the key.
+pub(crate) fn blocks_of<K: Copy + Eq + Hash>(marks: &IndexMap<K, Blocks>, key: &K) -> Blocks
+    ensures { (tree : ℕ) → in_block result tree ≡ is_marked K.eq marks.now.entries key.now tree }
+{
+    marks.get(key).copied().unwrap_or(Blocks::none())
+}

@@ -1,12 +1,10 @@
-ghost use Rattle.mst_lang.specs.declared.line.Edit.TheVariants.{AddBridge, DelBridge, AddPort, DelPort, AddLan, DelLan, Plug, Unplug};
+ghost use Rattle.mst_lang.specs.declared.line.Edit.TheVariants.{AddBridge, DelBridge, SetBridge, AddPort, DelPort, SetPort, AddLan, DelLan, SetLan, Plug, Unplug, SetByTree};
 ghost use Rattle.mst_net.specs.Contents.{CanCommit, Makes};
-ghost use Rattle.mst_net.specs.OfOneRecord.{SetsBridge, SetsPort, SetsLan};
-ghost use Rattle.mst_net.specs.SettingsAfter.{IsSetByTree};
 
 use crate::network::Network;
-use crate::settings::{BridgeSettings, LanSettings, PortSettings};
+use crate::settings::{BridgeSettings, KeptPort, LanSettings};
 use mst_ids::{Mac, Name, PortName};
-use mst_lang::Edit;
+use mst_lang::{BridgeChange, Edit, LanChange, PortChange, TreeChange};
 
 // What edits make of the records.
 impl Network {
@@ -18,27 +16,16 @@ impl Network {
         match *edit {
             Edit::AddBridge { bridge, mac } => self.add_bridge(bridge, mac),
             Edit::DelBridge { bridge } => self.del_bridge(&bridge),
+            Edit::SetBridge { bridge, change } => self.set_bridge(&bridge, &change),
             Edit::AddPort { port } => self.add_port(port),
             Edit::DelPort { port } => self.del_port(&port),
+            Edit::SetPort { port, change } => self.set_port(&port, &change),
             Edit::AddLan { lan } => self.add_lan(lan),
             Edit::DelLan { lan } => self.del_lan(&lan),
+            Edit::SetLan { lan, change } => self.set_lan(&lan, &change),
             Edit::Plug { port, lan } => self.plug(&port, lan),
             Edit::Unplug { port } => self.unplug(&port),
-            Edit::SetPower { bridge, .. } => self.set_bridge(edit, &bridge),
-            Edit::SetKind { bridge, .. } => self.set_bridge(edit, &bridge),
-            Edit::SetLanState { lan, .. } => self.set_lan(edit, &lan),
-            Edit::SetSpeed { lan, .. } => self.set_lan(edit, &lan),
-            Edit::SetKey { port, .. } => self.set_port(edit, &port),
-            Edit::SetSystemPriority { bridge, .. } => self.set_bridge(edit, &bridge),
-            Edit::SetTreePriority { .. } => self.set_by_tree(edit),
-            Edit::SetTreePortPriority { .. } => self.set_by_tree(edit),
-            Edit::SetPortPathCost { port, .. } => self.set_port(edit, &port),
-            Edit::SetTreePortCost { .. } => self.set_by_tree(edit),
-            Edit::SetConfiguration { bridge, .. } => self.set_bridge(edit, &bridge),
-            Edit::MapVids { .. } => self.set_by_tree(edit),
-            Edit::SetMaxHops { bridge, .. } => self.set_bridge(edit, &bridge),
-            Edit::SetMaxAge { bridge, .. } => self.set_bridge(edit, &bridge),
-            Edit::SetPortVlans { .. } => self.set_by_tree(edit),
+            Edit::SetByTree(change) => self.set_by_tree(&change),
         }
     }
 
@@ -61,13 +48,12 @@ impl Network {
     }
 
     /// Sets something of the bridge of this name.
-    fn set_bridge(&mut self, edit: &Edit, bridge: &Name)
-        requires can { CanCommit edit.now self.old }
-        requires sets { SetsBridge edit.now bridge.now }
-        ensures { Makes edit.now self.old self.new }
+    fn set_bridge(&mut self, bridge: &Name, change: &BridgeChange)
+        requires { CanCommit (SetBridge bridge.now change.now) self.old }
+        ensures { Makes (SetBridge bridge.now change.now) self.old self.new }
     {
         let settings = self.bridge_settings(bridge).unwrap();
-        self.bridges.set(bridge, settings.after(edit));
+        self.bridges.set(bridge, settings.with(change));
     }
 
     fn add_port(&mut self, port: PortName)
@@ -75,7 +61,7 @@ impl Network {
         ensures { Makes (AddPort port) self.old self.new }
     {
         let bridge = port.bridge;
-        self.ports.add(port, PortSettings::new());
+        self.ports.add(port, KeptPort::new());
         self.port_counts.raise(bridge);
     }
 
@@ -89,13 +75,12 @@ impl Network {
     }
 
     /// Sets something of the port of this name, but for the LAN that it is in.
-    fn set_port(&mut self, edit: &Edit, port: &PortName)
-        requires can { CanCommit edit.now self.old }
-        requires sets { SetsPort edit.now port.now }
-        ensures { Makes edit.now self.old self.new }
+    fn set_port(&mut self, port: &PortName, change: &PortChange)
+        requires { CanCommit (SetPort port.now change.now) self.old }
+        ensures { Makes (SetPort port.now change.now) self.old self.new }
     {
         let settings = self.port_settings(port).unwrap();
-        self.ports.set(port, settings.after(edit));
+        self.ports.set(port, settings.with(change));
     }
 
     fn plug(&mut self, port: &PortName, lan: Name)
@@ -103,8 +88,7 @@ impl Network {
         ensures { Makes (Plug port.now lan) self.old self.new }
     {
         let settings = self.port_settings(port).unwrap();
-        let plug = Edit::Plug { port: *port, lan };
-        self.ports.set(port, settings.after(&plug));
+        self.ports.set(port, settings.in_lan(Some(lan)));
         self.plug_counts.raise(lan);
     }
 
@@ -114,8 +98,7 @@ impl Network {
     {
         let settings = self.port_settings(port).unwrap();
         let lan = settings.lan.unwrap();
-        let unplug = Edit::Unplug { port: *port };
-        self.ports.set(port, settings.after(&unplug));
+        self.ports.set(port, settings.in_lan(None));
         self.plug_counts.lower(&lan);
     }
 
@@ -134,21 +117,19 @@ impl Network {
     }
 
     /// Sets something of the LAN of this name.
-    fn set_lan(&mut self, edit: &Edit, lan: &Name)
-        requires can { CanCommit edit.now self.old }
-        requires sets { SetsLan edit.now lan.now }
-        ensures { Makes edit.now self.old self.new }
+    fn set_lan(&mut self, lan: &Name, change: &LanChange)
+        requires { CanCommit (SetLan lan.now change.now) self.old }
+        ensures { Makes (SetLan lan.now change.now) self.old self.new }
     {
         let settings = self.lan_settings(lan).unwrap();
-        self.lans.set(lan, settings.after(edit));
+        self.lans.set(lan, settings.with(change));
     }
 
     /// Sets something by tree or VID.
-    fn set_by_tree(&mut self, edit: &Edit)
-        requires can { CanCommit edit.now self.old }
-        requires by_tree { IsSetByTree edit.now }
-        ensures { Makes edit.now self.old self.new }
+    fn set_by_tree(&mut self, change: &TreeChange)
+        requires { CanCommit (SetByTree change.now) self.old }
+        ensures { Makes (SetByTree change.now) self.old self.new }
     {
-        self.settings.make(edit);
+        self.settings.set(change);
     }
 }

@@ -1,14 +1,15 @@
 ghost use Rattle.std.specs.Prelude.{◌≡◌, Err, ok_or, if◌then◌else◌};
 ghost use Rattle.std.specs.FinMap as fin;
-ghost use Rattle.mst_lang.specs.declared.line.Edit.TheVariants.{AddBridge, DelBridge, AddPort, DelPort, AddLan, DelLan, Plug, Unplug, MapVids};
+ghost use Rattle.mst_lang.specs.declared.line.Edit.TheVariants.{AddBridge, DelBridge, AddPort, DelPort, AddLan, DelLan, Plug, Unplug, SetByTree};
+ghost use Rattle.mst_lang.specs.declared.line.TreeChange.TheVariants.{Table};
 ghost use Rattle.mst_net.specs.After.{first_of, of_bridge, of_port, of_lan, refusal_of};
 ghost use Rattle.mst_net.specs.Checks.{answer_of};
 
 use crate::Refusal;
 use crate::network::Network;
-use crate::settings::PortSettings;
+use crate::settings::KeptPort;
 use mst_ids::{Mac, Name, PortName, Tree, VidSet};
-use mst_lang::Edit;
+use mst_lang::{Edit, TreeChange};
 
 const BRIDGE_LIMIT: usize = 1024;
 
@@ -27,27 +28,28 @@ impl Network {
         match *edit {
             Edit::AddBridge { bridge, mac } => self.check_add_bridge(&bridge, mac),
             Edit::DelBridge { bridge } => self.check_del_bridge(&bridge),
-            Edit::SetPower { bridge, .. } => self.check_bridge(&bridge),
-            Edit::SetKind { bridge, .. } => self.check_bridge(&bridge),
+            Edit::SetBridge { bridge, .. } => self.check_bridge(&bridge),
             Edit::AddPort { port } => self.check_add_port(&port),
             Edit::DelPort { port } => self.check_del_port(&port),
+            Edit::SetPort { port, .. } => self.check_port(&port),
             Edit::AddLan { lan } => self.check_add_lan(&lan),
             Edit::DelLan { lan } => self.check_del_lan(&lan),
-            Edit::SetLanState { lan, .. } => self.check_lan(&lan),
-            Edit::SetSpeed { lan, .. } => self.check_lan(&lan),
+            Edit::SetLan { lan, .. } => self.check_lan(&lan),
             Edit::Plug { port, lan } => self.check_plug(&port, &lan),
             Edit::Unplug { port } => self.check_unplug(&port),
-            Edit::SetKey { port, .. } => self.check_port(&port),
-            Edit::SetSystemPriority { bridge, .. } => self.check_bridge(&bridge),
-            Edit::SetTreePriority { bridge, .. } => self.check_bridge(&bridge),
-            Edit::SetTreePortPriority { port, .. } => self.check_port(&port),
-            Edit::SetPortPathCost { port, .. } => self.check_port(&port),
-            Edit::SetTreePortCost { port, .. } => self.check_port(&port),
-            Edit::SetConfiguration { bridge, .. } => self.check_bridge(&bridge),
-            Edit::MapVids { bridge, tree, vids } => self.check_map_vids(&bridge, tree, &vids),
-            Edit::SetMaxHops { bridge, .. } => self.check_bridge(&bridge),
-            Edit::SetMaxAge { bridge, .. } => self.check_bridge(&bridge),
-            Edit::SetPortVlans { port, .. } => self.check_port(&port),
+            Edit::SetByTree(change) => self.check_by_tree(&change),
+        }
+    }
+
+    fn check_by_tree(&self, change: &TreeChange) -> Result<(), Refusal>
+        ensures { result ≡ answer_of (refusal_of (SetByTree change.now) self.now.net) }
+    {
+        match *change {
+            TreeChange::Priority { bridge, .. } => self.check_bridge(&bridge),
+            TreeChange::PortPriority { port, .. } => self.check_port(&port),
+            TreeChange::PortCost { port, .. } => self.check_port(&port),
+            TreeChange::Table { bridge, tree, vids } => self.check_table(&bridge, tree, &vids),
+            TreeChange::Vlans { port, .. } => self.check_port(&port),
         }
     }
 
@@ -143,7 +145,7 @@ impl Network {
     }
 
     /// The settings of a port, or why there are none.
-    fn known_port(&self, port: &PortName) -> Result<PortSettings, Refusal>
+    fn known_port(&self, port: &PortName) -> Result<KeptPort, Refusal>
         ensures { result ≡ (if fin.contains_key self.now.net.bridges port.now.bridge then ok_or (fin.get self.now.net.ports port.now) Refusal.E05 else Err Refusal.E04) }
     {
         if !self.has_bridge(&port.bridge) {
@@ -183,8 +185,8 @@ impl Network {
         }
     }
 
-    fn check_map_vids(&self, bridge: &Name, tree: Tree, vids: &VidSet) -> Result<(), Refusal>
-        ensures { result ≡ answer_of (refusal_of (MapVids bridge.now tree vids.now) self.now.net) }
+    fn check_table(&self, bridge: &Name, tree: Tree, vids: &VidSet) -> Result<(), Refusal>
+        ensures { result ≡ answer_of (refusal_of (SetByTree (Table bridge.now tree vids.now)) self.now.net) }
     {
         self.check_bridge(bridge)?;
         let table = self.settings.table_with(bridge, tree, vids);

@@ -6,9 +6,11 @@ ghost use Rattle.mst_net.specs.Tables.{IsNetwork};
 ghost use Rattle.mst_net.specs.Contents.{Tables, IsNumbered, priority_of, port_priority_of, port_cost_of};
 ghost use Rattle.mst_ids.specs.declared.name.PortName.{PortName};
 ghost use Rattle.mst_net.specs.After.{table_of, vlans_of};
+ghost use Rattle.mst_net.specs.Table.{mstis_in};
+ghost use Rattle.mst_net.specs.TreesSet.{priority_trees, port_priority_trees, port_cost_trees};
 ghost use Rattle.mst_net.specs.Seen.{bridge_row, port_row, lan_row};
 
-use crate::settings::{BridgeSettings, LanSettings, PortSettings};
+use crate::settings::{BridgeSettings, KeptPort, LanSettings, PortSettings};
 use crate::table::Table;
 use crate::tree_settings::TreeSettings;
 use mst_ids::{
@@ -35,14 +37,12 @@ pub struct Bridge {
     pub max_age: Limit,
 }
 
-/// A port's number, the LAN that it is plugged into, if there is one, its aggregation key, of which 0 is none,
-/// and its external path cost, or none where it is automatic.
+/// A port's number, the LAN that it is plugged into, if there is one, and its settings.
 #[derive(Clone, Copy)]
 pub struct Port {
     pub number: PortNo,
     pub lan: Option<Name>,
-    pub key: u16,
-    pub external: Option<Cost>,
+    pub settings: PortSettings,
 }
 
 /// A LAN's number, its speed and its state.
@@ -118,6 +118,23 @@ pub trait Contents {
     fn port_cost(&self, port: &PortName, tree: Tree) -> Option<Cost>
         ensures { result ≡ port_cost_of (tables self.now).net port.now tree };
 
+    /// The trees in which a bridge has another priority than 8, in rising order. It takes memory.
+    fn priority_trees(&self, bridge: &Name, alloc: Global) -> Result<Vec<Tree>, AllocError>
+        ensures { IfOk result (λ trees. trees.items ≡ priority_trees (tables self.now).net bridge.now) };
+
+    /// The trees in which a port has another priority than 8, in rising order. It takes memory.
+    fn port_priority_trees(&self, port: &PortName, alloc: Global) -> Result<Vec<Tree>, AllocError>
+        ensures { IfOk result (λ trees. trees.items ≡ port_priority_trees (tables self.now).net port.now) };
+
+    /// The trees in which the internal path cost of a port isn't automatic, in rising order. It takes memory.
+    fn port_cost_trees(&self, port: &PortName, alloc: Global) -> Result<Vec<Tree>, AllocError>
+        ensures { IfOk result (λ trees. trees.items ≡ port_cost_trees (tables self.now).net port.now) };
+
+    /// The MSTIs of the table of a bridge, in rising order, none where it maps all VIDs to the CIST. It takes
+    /// memory.
+    fn mstis(&self, bridge: &Name, alloc: Global) -> Result<Vec<Tree>, AllocError>
+        ensures { IfOk result (λ trees. trees.items ≡ mstis_in (table_of (tables self.now).net bridge.now)) };
+
     /// The table of a bridge, with all VIDs in the CIST where it maps none to another tree.
     fn table(&self, bridge: &Name) -> Table
         ensures { result ≡ table_of (tables self.now).net bridge.now };
@@ -150,15 +167,14 @@ pub(crate) fn seen_bridge(number: BridgeNo, row: BridgeSettings) -> Bridge
 }
 
 /// A port of this number with these settings.
-pub(crate) fn seen_port(number: PortNo, row: PortSettings) -> Port
+pub(crate) fn seen_port(number: PortNo, row: KeptPort) -> Port
     ensures row { port_row result ≡ row }
     ensures number { result.number ≡ number }
 {
     Port {
         number,
         lan: row.lan,
-        key: row.key,
-        external: row.external,
+        settings: row.settings,
     }
 }
 

@@ -15,10 +15,12 @@ mod settings;
 mod table;
 mod tally;
 mod tree_settings;
+mod trees;
 
 pub use ahead::Ahead;
 pub use contents::{Bridge, Contents, Lan, Port};
 pub use network::{Network, Ready};
 pub use refusal::Refusal;
+pub use settings::PortSettings;
 pub use table::Table;
 pub use tree_settings::TreeSettings;

@@ -11,7 +11,7 @@ use crate::Refusal;
 use crate::ahead::Ahead;
 use crate::contents::{Bridge, Contents, Lan, Port, seen_bridge, seen_lan, seen_port};
 use crate::records::{Record, Records};
-use crate::settings::{BridgeSettings, LanSettings, PortSettings};
+use crate::settings::{BridgeSettings, KeptPort, LanSettings};
 use crate::table::Table;
 use crate::tally::Tally;
 use crate::tree_settings::TreeSettings;
@@ -24,7 +24,7 @@ use std::marker::Model;
 /// The network's records, each under a number that it keeps.
 pub struct Network {
     pub(crate) bridges: Records<Name, BridgeSettings>,
-    pub(crate) ports: Records<PortName, PortSettings>,
+    pub(crate) ports: Records<PortName, KeptPort>,
     pub(crate) lans: Records<Name, LanSettings>,
     // The MACs of the bridges.
     pub(crate) macs: IndexSet<Mac>,
@@ -283,14 +283,14 @@ impl Network {
         Some(self.lan_record(lan)?.row)
     }
 
-    pub(crate) fn port_record(&self, port: &PortName) -> Option<Record<PortSettings>>
+    pub(crate) fn port_record(&self, port: &PortName) -> Option<Record<KeptPort>>
         ensures row { option_map (λ found. found.row) result ≡ fin.get self.now.net.ports port.now }
         ensures number { option_map (λ found. found.number) result ≡ fin.get self.now.numbers.ports port.now }
     {
         self.ports.get(port)
     }
 
-    pub(crate) fn port_settings(&self, port: &PortName) -> Option<PortSettings>
+    pub(crate) fn port_settings(&self, port: &PortName) -> Option<KeptPort>
         ensures { result ≡ fin.get self.now.net.ports port.now }
     {
         Some(self.port_record(port)?.row)
@@ -360,6 +360,22 @@ impl Contents for Network {
         self.settings.port_cost(port, tree)
     }
 
+    fn priority_trees(&self, bridge: &Name, alloc: Global) -> Result<Vec<Tree>, AllocError> {
+        self.settings.priority_trees(bridge, alloc)
+    }
+
+    fn port_priority_trees(&self, port: &PortName, alloc: Global) -> Result<Vec<Tree>, AllocError> {
+        self.settings.port_priority_trees(port, alloc)
+    }
+
+    fn port_cost_trees(&self, port: &PortName, alloc: Global) -> Result<Vec<Tree>, AllocError> {
+        self.settings.port_cost_trees(port, alloc)
+    }
+
+    fn mstis(&self, bridge: &Name, alloc: Global) -> Result<Vec<Tree>, AllocError> {
+        self.settings.mstis(bridge, alloc)
+    }
+
     fn table(&self, bridge: &Name) -> Table {
         self.settings.table(bridge)
     }
@@ -381,7 +397,7 @@ pub(crate) fn kept_bridge(kept: Option<Record<BridgeSettings>>) -> Option<Bridge
     Some(seen_bridge(BridgeNo(number), row))
 }
 
-pub(crate) fn kept_port(kept: Option<Record<PortSettings>>) -> Option<Port>
+pub(crate) fn kept_port(kept: Option<Record<KeptPort>>) -> Option<Port>
     ensures row { option_map port_row result ≡ option_map (λ found. found.row) kept }
     ensures number { option_map (λ port. port.number) result ≡ option_map (λ found. found.number) kept }
 {

@@ -1,15 +1,14 @@
 ghost use Rattle.std.specs.Prelude.{◌≡◌, ℕ, ◌<◌, ◌≤◌, ◌/◌, cond, None};
 ghost use Rattle.std.specs.Map.{lookup};
 ghost use Rattle.indexmap.specs.IndexMap.{spare};
-ghost use Rattle.mst_net.specs.After.{new_bridge, new_port, new_lan};
-ghost use Rattle.mst_net.specs.OfOneRecord.{bridge_set, port_set, lan_set};
+ghost use Rattle.mst_net.specs.After.{new_bridge, new_settings, new_port, new_lan, bridge_with, settings_with, port_with, lan_with, in_lan as put_in_lan};
 ghost use Rattle.mst_net.specs.Tables.{BridgeTree, PortTree, bridge_tree_eq, port_tree_eq};
 ghost use Rattle.mst_net.specs.SetByTree.{in_trees_of_bridge, in_trees_of_port};
 
 use crate::blocks::Blocks;
 use indexmap::IndexMap;
 use mst_ids::{ConfName, Cost, Limit, Mac, Name, PortName, Priority, Speed, Tree};
-use mst_lang::{Edit, Kind, LanState, Power};
+use mst_lang::{BridgeChange, Kind, LanChange, LanState, PortChange, Power};
 use std::hash::Hash;
 use std::marker::Model;
 
@@ -60,85 +59,118 @@ impl BridgeSettings {
         }
     }
 
-    /// These settings with what the edit sets of a bridge.
-    pub(crate) fn after(self, edit: &Edit) -> BridgeSettings
-        ensures { result ≡ bridge_set edit.now self }
+    /// These settings with a change.
+    pub(crate) fn with(self, change: &BridgeChange) -> BridgeSettings
+        ensures { result ≡ bridge_with change.now self }
     {
-        match *edit {
-            Edit::SetPower { power, .. } => BridgeSettings { power, ..self },
-            Edit::SetKind { kind, .. } => BridgeSettings { kind, ..self },
-            Edit::SetSystemPriority { priority, .. } => BridgeSettings {
+        match *change {
+            BridgeChange::Power(power) => BridgeSettings { power, ..self },
+            BridgeChange::Kind(kind) => BridgeSettings { kind, ..self },
+            BridgeChange::SystemPriority(priority) => BridgeSettings {
                 system_priority: priority,
                 ..self
             },
-            Edit::SetConfiguration { revision, name, .. } => BridgeSettings {
+            BridgeChange::Configuration { revision, name } => BridgeSettings {
                 revision,
                 conf_name: name,
                 ..self
             },
-            Edit::SetMaxHops { limit, .. } => BridgeSettings {
+            BridgeChange::MaxHops(limit) => BridgeSettings {
                 max_hops: limit,
                 ..self
             },
-            Edit::SetMaxAge { limit, .. } => BridgeSettings {
+            BridgeChange::MaxAge(limit) => BridgeSettings {
                 max_age: limit,
                 ..self
             },
-            _ => self,
         }
     }
 }
 
-/// A port's settings: the LAN that it is plugged into, if there is one, its aggregation key, and its external
-/// path cost, or none where it is automatic.
+/// A port's settings: its aggregation key, of which 0 is none, its external path cost, or none where it is
+/// automatic, and whether its role is restricted.
 #[derive(Clone, Copy)]
-pub(crate) struct PortSettings {
-    pub(crate) lan: Option<Name>,
-    pub(crate) key: u16,
-    pub(crate) external: Option<Cost>,
+pub struct PortSettings {
+    pub key: u16,
+    pub external: Option<Cost>,
+    pub is_restricted: bool,
 }
 
-impl Model for PortSettings {
+impl PortSettings {
+    /// The settings of a new port.
+    pub(crate) fn new() -> PortSettings
+        ensures { result ≡ new_settings }
+    {
+        PortSettings {
+            key: 0,
+            external: None,
+            is_restricted: false,
+        }
+    }
+
+    /// These settings with a change.
+    pub(crate) fn with(self, change: &PortChange) -> PortSettings
+        ensures { result ≡ settings_with change.now self }
+    {
+        match *change {
+            PortChange::Key(key) => PortSettings { key, ..self },
+            PortChange::PathCost(cost) => PortSettings {
+                external: cost,
+                ..self
+            },
+            PortChange::RestrictedRole(yes) => PortSettings {
+                is_restricted: yes,
+                ..self
+            },
+        }
+    }
+}
+
+/// What is kept of a port: the LAN that it is plugged into, if there is one, and its settings.
+#[derive(Clone, Copy)]
+pub(crate) struct KeptPort {
+    pub(crate) lan: Option<Name>,
+    pub(crate) settings: PortSettings,
+}
+
+impl Model for KeptPort {
     ghost use Rattle.mst_net.specs.Tables.{PortRow, port_row_code};
 
     ghost Value = { PortRow };
 
     ghost coded = { port_row_code };
 
-    ghost view = { λ a. record { lan = a.lan; key = a.key; external = a.external } };
+    ghost view = { λ a. record { lan = a.lan; settings = a.settings } };
 
-    ghost inverse = { λ r. record { lan = r.lan; key = r.key; external = r.external } };
+    ghost inverse = { λ r. record { lan = r.lan; settings = r.settings } };
 }
 
-impl PortSettings {
-    /// The settings of a new port.
-    pub(crate) fn new() -> PortSettings
+impl KeptPort {
+    /// A new port.
+    pub(crate) fn new() -> KeptPort
         ensures { result ≡ new_port }
     {
-        PortSettings {
+        KeptPort {
             lan: None,
-            key: 0,
-            external: None,
+            settings: PortSettings::new(),
         }
     }
 
-    /// These settings with what the edit sets of a port.
-    pub(crate) fn after(self, edit: &Edit) -> PortSettings
-        ensures { result ≡ port_set edit.now self }
+    /// This port with a change of its settings.
+    pub(crate) fn with(self, change: &PortChange) -> KeptPort
+        ensures { result ≡ port_with change.now self }
     {
-        match *edit {
-            Edit::Plug { lan, .. } => PortSettings {
-                lan: Some(lan),
-                ..self
-            },
-            Edit::Unplug { .. } => PortSettings { lan: None, ..self },
-            Edit::SetKey { key, .. } => PortSettings { key, ..self },
-            Edit::SetPortPathCost { cost, .. } => PortSettings {
-                external: cost,
-                ..self
-            },
-            _ => self,
+        KeptPort {
+            settings: self.settings.with(change),
+            ..self
         }
+    }
+
+    /// This port in a LAN, or in none.
+    pub(crate) fn in_lan(self, lan: Option<Name>) -> KeptPort
+        ensures { result ≡ put_in_lan lan self }
+    {
+        KeptPort { lan, ..self }
     }
 }
 
@@ -177,14 +209,13 @@ impl LanSettings {
         }
     }
 
-    /// These settings with what the edit sets of a LAN.
-    pub(crate) fn after(self, edit: &Edit) -> LanSettings
-        ensures { result ≡ lan_set edit.now self }
+    /// These settings with a change.
+    pub(crate) fn with(self, change: &LanChange) -> LanSettings
+        ensures { result ≡ lan_with change.now self }
     {
-        match *edit {
-            Edit::SetLanState { state, .. } => LanSettings { state, ..self },
-            Edit::SetSpeed { speed, .. } => LanSettings { speed, ..self },
-            _ => self,
+        match *change {
+            LanChange::State(state) => LanSettings { state, ..self },
+            LanChange::Speed(speed) => LanSettings { speed, ..self },
         }
     }
 }
@@ -294,7 +325,7 @@ pub(crate) fn forget_port<V: Copy>(
 }
 
 /// The first tree of the next block, or 4095 after the last.
-fn next_block(tree: u64) -> u64
+pub(crate) fn next_block(tree: u64) -> u64
     requires { tree < 4095 }
     ensures above { tree < result }
     ensures within { result ≤ 4095 }

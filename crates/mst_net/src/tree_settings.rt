@@ -1,18 +1,22 @@
-ghost use Rattle.std.specs.Prelude.{◌≡◌, ◌<◌, min, OnOk, OnErr, IfOk};
+ghost use Rattle.std.specs.Prelude.{◌≡◌, ◌==◌, ◌<◌, not, is_some, min, OnOk, OnErr, IfOk};
 ghost use Rattle.indexmap.specs.IndexMap.{spare};
 ghost use Rattle.mst_ids.specs.Vids.{has};
-ghost use Rattle.mst_lang.specs.declared.line.Edit.TheVariants.{DelBridge, DelPort, SetTreePriority, SetTreePortPriority, SetTreePortCost, MapVids, SetPortVlans};
+ghost use Rattle.mst_lang.specs.declared.line.Edit.TheVariants.{DelBridge, DelPort, SetByTree};
+ghost use Rattle.mst_lang.specs.declared.line.TreeChange.TheVariants.{Priority as SetPriority, PortPriority, PortCost, Table as MapVids, Vlans};
 ghost use Rattle.mst_net.specs.After.{own_priority as own, own_table as kept_table, own_vlans as kept_vlans};
 ghost use Rattle.mst_net.specs.ByTree.{AreInTrees, nothing_set, priority_in, port_priority_in, port_cost_in, table_in, vlans_in};
 ghost use Rattle.mst_net.specs.SettingsAfter.{set_after, room_to_set};
-ghost use Rattle.mst_net.specs.Table.{mapped, tree_in};
+ghost use Rattle.std.specs.List.{filter};
+ghost use Rattle.mst_net.specs.Table.{mapped, tree_in, mstis_in};
+ghost use Rattle.mst_net.specs.TreesSet.{trees_where};
 
-use crate::blocks::{Blocks, mark, take};
+use crate::blocks::{Blocks, blocks_of, mark, take};
 use crate::settings::{BridgeInTree, PortInTree, forget_bridge, forget_port, keep};
 use crate::table::Table;
+use crate::trees::trees_of;
 use indexmap::IndexMap;
 use mst_ids::{Cost, Name, PortName, Priority, Tree, Vid, VidSet};
-use mst_lang::Edit;
+use mst_lang::{Edit, TreeChange};
 use std::alloc::{AllocError, Global};
 use std::hash::Hash;
 use std::marker::Model;
@@ -131,6 +135,95 @@ impl TreeSettings {
             .copied()
     }
 
+    /// The trees in which a bridge has another priority than 8, in rising order. It takes memory.
+    pub fn priority_trees(&self, bridge: &Name, alloc: Global) -> Result<Vec<Tree>, AllocError>
+        ensures { IfOk result (λ trees. trees.items ≡ trees_where (λ tree. not (priority_in self.now.set.priorities bridge.now tree == 8))) }
+    {
+        let blocks = blocks_of(&self.bridge_blocks, bridge);
+        let trees = trees_of(&blocks, alloc)?;
+        self.with_priority(bridge, &trees, alloc)
+    }
+
+    /// Those of the trees in which a bridge has another priority than 8.
+    fn with_priority(
+        &self,
+        bridge: &Name,
+        trees: &[Tree],
+        alloc: Global,
+    ) -> Result<Vec<Tree>, AllocError>
+        ensures { IfOk result (λ kept. kept.items ≡ filter (λ tree. not (priority_in self.now.set.priorities bridge.now tree == 8)) trees.now) }
+    {
+        trees
+            .iter()
+            .copied()
+            .filter(|tree| self.tree_priority(bridge, *tree).step() != Priority::DEFAULT)
+            .collect(alloc)
+    }
+
+    /// The trees in which a port has another priority than 8, in rising order. It takes memory.
+    pub fn port_priority_trees(
+        &self,
+        port: &PortName,
+        alloc: Global,
+    ) -> Result<Vec<Tree>, AllocError>
+        ensures { IfOk result (λ trees. trees.items ≡ trees_where (λ tree. not (port_priority_in self.now.set.port_priorities port.now tree == 8))) }
+    {
+        let blocks = blocks_of(&self.port_blocks, port);
+        let trees = trees_of(&blocks, alloc)?;
+        self.with_port_priority(port, &trees, alloc)
+    }
+
+    /// Those of the trees in which a port has another priority than 8.
+    fn with_port_priority(
+        &self,
+        port: &PortName,
+        trees: &[Tree],
+        alloc: Global,
+    ) -> Result<Vec<Tree>, AllocError>
+        ensures { IfOk result (λ kept. kept.items ≡ filter (λ tree. not (port_priority_in self.now.set.port_priorities port.now tree == 8)) trees.now) }
+    {
+        trees
+            .iter()
+            .copied()
+            .filter(|tree| self.port_priority(port, *tree).step() != Priority::DEFAULT)
+            .collect(alloc)
+    }
+
+    /// The trees in which the internal path cost of a port isn't automatic, in rising order. It takes memory.
+    pub fn port_cost_trees(&self, port: &PortName, alloc: Global) -> Result<Vec<Tree>, AllocError>
+        ensures { IfOk result (λ trees. trees.items ≡ trees_where (λ tree. is_some (port_cost_in self.now.set.port_costs port.now tree))) }
+    {
+        let blocks = blocks_of(&self.port_blocks, port);
+        let trees = trees_of(&blocks, alloc)?;
+        self.with_port_cost(port, &trees, alloc)
+    }
+
+    /// Those of the trees in which the internal path cost of a port isn't automatic.
+    fn with_port_cost(
+        &self,
+        port: &PortName,
+        trees: &[Tree],
+        alloc: Global,
+    ) -> Result<Vec<Tree>, AllocError>
+        ensures { IfOk result (λ kept. kept.items ≡ filter (λ tree. is_some (port_cost_in self.now.set.port_costs port.now tree)) trees.now) }
+    {
+        trees
+            .iter()
+            .copied()
+            .filter(|tree| self.port_cost(port, *tree).is_some())
+            .collect(alloc)
+    }
+
+    /// The MSTIs of the table of a bridge, in rising order. It copies no table, and takes memory.
+    pub fn mstis(&self, bridge: &Name, alloc: Global) -> Result<Vec<Tree>, AllocError>
+        ensures { IfOk result (λ trees. trees.items ≡ mstis_in (table_in self.now.set.tables bridge.now)) }
+    {
+        match self.tables.get(bridge) {
+            Some(table) => table.mstis(alloc),
+            None => Ok(Vec::new(alloc)),
+        }
+    }
+
     /// Whether a port is a member of a VLAN: of each where none were set. No set is made for that.
     pub fn is_member(&self, port: &PortName, vid: Vid) -> bool
         ensures { result ≡ has (vlans_in self.now.set.vlans port.now) vid }
@@ -188,17 +281,17 @@ impl TreeSettings {
         ensures no_room { OnErr result (room_to_set edit.now self.old.room ≡ 0) }
     {
         match edit {
-            Edit::SetTreePriority { .. } => {
+            Edit::SetByTree(TreeChange::Priority { .. }) => {
                 reserve_by_tree(&mut self.priorities, &mut self.bridge_blocks)
             }
-            Edit::SetTreePortPriority { .. } => {
+            Edit::SetByTree(TreeChange::PortPriority { .. }) => {
                 reserve_by_tree(&mut self.port_priorities, &mut self.port_blocks)
             }
-            Edit::SetTreePortCost { .. } => {
+            Edit::SetByTree(TreeChange::PortCost { .. }) => {
                 reserve_by_tree(&mut self.port_costs, &mut self.port_blocks)
             }
-            Edit::MapVids { .. } => self.tables.reserve(1),
-            Edit::SetPortVlans { .. } => self.vlans.reserve(1),
+            Edit::SetByTree(TreeChange::Table { .. }) => self.tables.reserve(1),
+            Edit::SetByTree(TreeChange::Vlans { .. }) => self.vlans.reserve(1),
             _ => Ok(()),
         }
     }
@@ -213,20 +306,30 @@ impl TreeSettings {
         match *edit {
             Edit::DelBridge { bridge } => self.forget_bridge(&bridge),
             Edit::DelPort { port } => self.forget_port(&port),
-            Edit::SetTreePriority {
+            Edit::SetByTree(change) => self.set(&change),
+            _ => {}
+        }
+    }
+
+    /// Makes a change. It takes no memory.
+    pub(crate) fn set(&mut self, change: &TreeChange)
+        requires { 0 < room_to_set (SetByTree change.now) self.old.room }
+        ensures { self.new.set ≡ set_after (SetByTree change.now) self.old.set }
+    {
+        match *change {
+            TreeChange::Priority {
                 bridge,
                 tree,
                 priority,
             } => self.set_priority(&bridge, tree, priority),
-            Edit::SetTreePortPriority {
+            TreeChange::PortPriority {
                 port,
                 tree,
                 priority,
             } => self.set_port_priority(&port, tree, priority),
-            Edit::SetTreePortCost { port, tree, cost } => self.set_port_cost(&port, tree, cost),
-            Edit::MapVids { bridge, tree, vids } => self.map_vids(bridge, tree, &vids),
-            Edit::SetPortVlans { port, vids } => self.set_port_vlans(port, vids),
-            _ => {}
+            TreeChange::PortCost { port, tree, cost } => self.set_port_cost(&port, tree, cost),
+            TreeChange::Table { bridge, tree, vids } => self.map_vids(bridge, tree, &vids),
+            TreeChange::Vlans { port, vids } => self.set_port_vlans(port, vids),
         }
     }
 
@@ -253,7 +356,7 @@ impl TreeSettings {
 
     fn set_priority(&mut self, bridge: &Name, tree: Tree, priority: Priority)
         requires { 0 < self.old.room.priority }
-        ensures { self.new.set ≡ set_after (SetTreePriority bridge.now tree priority) self.old.set }
+        ensures { self.new.set ≡ set_after (SetByTree (SetPriority bridge.now tree priority)) self.old.set }
     {
         let key = BridgeInTree {
             bridge: *bridge,
@@ -265,7 +368,7 @@ impl TreeSettings {
 
     fn set_port_priority(&mut self, port: &PortName, tree: Tree, priority: Priority)
         requires { 0 < self.old.room.port_priority }
-        ensures { self.new.set ≡ set_after (SetTreePortPriority port.now tree priority) self.old.set }
+        ensures { self.new.set ≡ set_after (SetByTree (PortPriority port.now tree priority)) self.old.set }
     {
         let key = PortInTree { port: *port, tree };
         mark(&mut self.port_blocks, port, tree);
@@ -274,7 +377,7 @@ impl TreeSettings {
 
     fn set_port_cost(&mut self, port: &PortName, tree: Tree, cost: Option<Cost>)
         requires { 0 < self.old.room.port_cost }
-        ensures { self.new.set ≡ set_after (SetTreePortCost port.now tree cost) self.old.set }
+        ensures { self.new.set ≡ set_after (SetByTree (PortCost port.now tree cost)) self.old.set }
     {
         let key = PortInTree { port: *port, tree };
         mark(&mut self.port_blocks, port, tree);
@@ -283,7 +386,7 @@ impl TreeSettings {
 
     fn map_vids(&mut self, bridge: Name, tree: Tree, vids: &VidSet)
         requires { 0 < self.old.room.table }
-        ensures { self.new.set ≡ set_after (MapVids bridge tree vids.now) self.old.set }
+        ensures { self.new.set ≡ set_after (SetByTree (MapVids bridge tree vids.now)) self.old.set }
     {
         let table = self.table_with(&bridge, tree, vids);
         keep(&mut self.tables, bridge, own_table(table));
@@ -291,7 +394,7 @@ impl TreeSettings {
 
     fn set_port_vlans(&mut self, port: PortName, vids: VidSet)
         requires { 0 < self.old.room.vlans }
-        ensures { self.new.set ≡ set_after (SetPortVlans port vids) self.old.set }
+        ensures { self.new.set ≡ set_after (SetByTree (Vlans port vids)) self.old.set }
     {
         keep(&mut self.vlans, port, own_vlans(vids));
     }

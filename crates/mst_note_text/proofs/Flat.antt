@@ -54,3 +54,8 @@ of_changed g f h (x ∷ xs) a = λ i. a.0 i ++ of_changed g f h xs a.1 i
 pub all_empty : {A B : Type 0} (f : A → List B) (xs : List A) → ((x : A) → f x ≡ []) → flat_map f xs ≡ []
 all_empty f [] none = refl
 all_empty f (x ∷ xs) none = (λ i. none x i ++ all_empty f xs none i)
+
+-- texts of changed things, each by what it is changed to
+pub of_mapped : {A B C : Type 0} (g : B → List C) (f : A → B) (xs : List A) → flat_map (λ x. g (f x)) xs ≡ flat_map g (map f xs)
+of_mapped g f [] = refl
+of_mapped g f (x ∷ xs) = ap (λ t. g (f x) ++ t) (of_mapped g f xs)

@@ -1,5 +1,5 @@
 -- There is one text of the notes.
-use Rattle.std.proofs.Common.{◌≡◌, ℕ, zero, suc, ◌==◌, List, [], ◌∷◌, ◌++◌, Option, Some, None, refl, sym, ◌∙◌, ◌⊎◌, inl, inr}
+use Rattle.std.proofs.Common.{◌≡◌, ℕ, zero, suc, ◌==◌, List, [], ◌∷◌, ◌++◌, Option, Some, None, refl, sym, ap, ◌∙◌, ◌⊎◌, inl, inr}
 use Rattle.std.specs.Prelude.{if◌then◌else◌}
 use Rattle.std.specs.List.{flat_map, range_with_len}
 use Rattle.std.specs.Option.{option_map_or}
@@ -17,7 +17,7 @@ use Rattle.mst_depths.proofs.Regions.{one_within, cist_sides}
 use Rattle.mst_depths.proofs.Tops.{internal_depth, external_depth}
 use Rattle.mst_trees.proofs.Lists.{no_some}
 use Rattle.mst_note_text.specs.AreDepths.{TreeDepths, AreDepths}
-use Rattle.mst_note_text.specs.NotesText.{hops_note, age_note, external_note, internal_note, hops_notes, age_notes, cist_notes, msti_notes, bridge_notes, tree_notes, notes_text, AreNotes}
+use Rattle.mst_note_text.specs.NotesText.{hops_note, age_note, external_note, internal_note, hops_notes, age_notes, cist_notes, msti_notes, bridge_notes, tree_notes, trees_notes, restricted_notes, notes_text, AreNotes}
 use Rattle.mst_note_text.proofs.Names.{name_tests}
 
 same_texts : {A B : Type 0} (f g : A → List B) (xs : List A) → ((x : A) → f x ≡ g x) → flat_map f xs ≡ flat_map g xs
@@ -118,9 +118,12 @@ module _ (net : Net) (o : Outcome) (settled : IsSettled (trees_of net o)) where
     texts_same : (count : ℕ) → flat_map (tree_notes net o d) (range_with_len 0 count) ≡ flat_map (tree_notes net o e) (range_with_len 0 count)
     texts_same count = same_texts (tree_notes net o d) (tree_notes net o e) (range_with_len 0 count) tree_same
 
+    all_same : trees_notes net o d ≡ trees_notes net o e
+    unfolding trees_notes
+    all_same = texts_same 4095
+
     text_same : notes_text net o d ≡ notes_text net o e
-    unfolding notes_text
-    text_same = texts_same 4095
+    text_same = ap (λ t. t ++ restricted_notes net) all_same
 
   pub one_notes : (text other : List ℕ) → AreNotes net o text → AreNotes net o other → text ≡ other
   one_notes text other a b = a.is_text ∙ text_same a.depths b.depths a.are_depths b.are_depths ∙ sym b.is_text

@@ -18,7 +18,7 @@ use Rattle.mst_trees.proofs.Seen.{bridge_seen}
 use Rattle.mst_trees.proofs.Looking.{has_tree_at}
 use Rattle.mst_nested.specs.Trees.{IsSettled}
 use Rattle.mst_note_text.specs.AreDepths.{TreeDepths}
-use Rattle.mst_note_text.specs.NotesText.{cist_notes, msti_notes, bridge_notes, tree_notes, notes_text}
+use Rattle.mst_note_text.specs.NotesText.{cist_notes, msti_notes, bridge_notes, tree_notes, trees_notes}
 use Rattle.mst_note_text.specs.SeenNotes.{is_had}
 use Rattle.mst_note_text.proofs.Flat.{all_empty}
 use Rattle.mst_note_text.proofs.InTrees.{in_tree, had, not_zero}
@@ -67,6 +67,6 @@ module _ (net : Net) (numbers : Numbers) (v : Viewed) (f : Forest) (of : AreOf n
   no_notes zero none = absurd (true≢false none)
   no_notes (suc i) none = unhad i (neither (suc i == 0) (some_has (suc i)) none)
 
-pub all_trees : (net : Net) (o : Outcome) (d : TreeDepths) (number : ℕ) (first now : List ℕ) → number ≡ 4095 → now ≡ first ++ flat_map (tree_notes net o d) (range_with_len 0 number) → now ≡ first ++ notes_text net o d
-unfolding notes_text
+pub all_trees : (net : Net) (o : Outcome) (d : TreeDepths) (number : ℕ) (first now : List ℕ) → number ≡ 4095 → now ≡ first ++ flat_map (tree_notes net o d) (range_with_len 0 number) → now ≡ first ++ trees_notes net o d
+unfolding trees_notes
 all_trees net o d number first now is e = e ∙ ap (λ n. first ++ flat_map (tree_notes net o d) (range_with_len 0 n)) is

@@ -1,12 +1,15 @@
--- The notes on a network: where limits of hops or age would bind, and which path costs no BPDU can hold.
+-- The notes on a network: where limits of hops or age would bind, which path costs no BPDU can hold, and which ports
+-- have a restricted role.
 use Rattle.std.specs.Prelude.{◌≡◌, ℕ, ◌==◌, List, [], ◌∷◌, ◌++◌, nat_le, nat_lt, codes, decimal, if◌then◌else◌}
 use Rattle.std.specs.List.{flat_map, range_with_len}
 use Rattle.std.specs.Option.{option_map_or}
 use Rattle.std.specs.FinMap as fin
+use Rattle.mst_ids.specs.declared.name.PortName.{PortName}
 use Rattle.mst_words.specs.Words.{line}
 use Rattle.mst_vector.specs.declared.cist.CistVector.{CistVector}
 use Rattle.mst_vector.specs.declared.msti.MstiVector.{MstiVector}
 use Rattle.mst_net.specs.Tables.{Net}
+use Rattle.mst_lag.specs.View.{LogicalPort, view_ports}
 use Rattle.mst_trees.specs.Outcome.{Outcome, trees_of}
 use Rattle.mst_note_text.specs.AreDepths.{TreeDepths, AreDepths}
 
@@ -62,8 +65,23 @@ abbrev pub tree_notes : Net → Outcome → TreeDepths → ℕ → List ℕ
 tree_notes net o d tree = flat_map (bridge_notes net o d tree) (fin.keys net.bridges)
 
 -- on all trees from the CIST to MSTI 4094
-unfoldable pub notes_text : Net → Outcome → TreeDepths → List ℕ
-notes_text net o d = flat_map (tree_notes net o d) (range_with_len 0 4095)
+unfoldable pub trees_notes : Net → Outcome → TreeDepths → List ℕ
+trees_notes net o d = flat_map (tree_notes net o d) (range_with_len 0 4095)
+
+-- `note restricted B P`: the role of a logical port is restricted, whether it is enabled or not
+abbrev pub restricted_line : PortName → List ℕ
+restricted_line port = line (codes "note" ∷ codes "restricted" ∷ port.bridge ∷ decimal port.number ∷ [])
+
+abbrev pub restricted_note : LogicalPort → List ℕ
+restricted_note p = if p.settings.is_restricted then restricted_line p.name else []
+
+-- on the logical ports, by bridge and number
+abbrev pub restricted_notes : Net → List ℕ
+restricted_notes net = flat_map restricted_note (view_ports net)
+
+-- on the trees, and after these on the ports
+abbrev pub notes_text : Net → Outcome → TreeDepths → List ℕ
+notes_text net o d = trees_notes net o d ++ restricted_notes net
 
 -- the text of the notes, by the depths of the bridges
 pub record AreNotes (net : Net) (o : Outcome) (text : List ℕ) : Type 0 where

@@ -1,4 +1,5 @@
-//! The notes on a network: where limits of hops or age would bind, and which path costs no BPDU can hold.
+//! The notes on a network: where limits of hops or age would bind, which path costs no BPDU can hold, and which ports
+//! have a restricted role.
 #![tactic(auto)]
 
 mod bridge;

@@ -1,8 +1,10 @@
 ghost use Rattle.std.specs.Prelude.{◌≡◌, ◌++◌, OnOk};
-ghost use Rattle.mst_note_text.specs.NotesText.{hops_note, age_note, external_note, internal_note};
+ghost use Rattle.mst_lag.specs.Viewed.{named_port};
+ghost use Rattle.mst_note_text.specs.NotesText.{hops_note, age_note, external_note, internal_note, restricted_line, restricted_note};
 
 use itoa::Buffer;
-use mst_ids::{Limit, Name, Tree};
+use mst_ids::{Limit, Name, PortName, Tree};
+use mst_lag::PortInView;
 use mst_words::push_line;
 use std::alloc::AllocError;
 
@@ -110,6 +112,31 @@ pub(crate) fn push_internal(
         name.as_bytes(),
         b"int",
         digits.format(cost).as_bytes(),
+    ];
+    push_line(&words, out)
+}
+
+/// Appends a note of a logical port, where its role is restricted.
+pub(crate) fn push_restricted(port: &PortInView, out: &mut Vec<u8>) -> Result<(), AllocError>
+    ensures { OnOk result (out.new.items ≡ out.old.items ++ restricted_note (named_port port.now)) }
+{
+    if port.settings.is_restricted {
+        push_restricted_name(&port.name, out)
+    } else {
+        Ok(())
+    }
+}
+
+/// Appends a note of a port whose role is restricted.
+fn push_restricted_name(port: &PortName, out: &mut Vec<u8>) -> Result<(), AllocError>
+    ensures { OnOk result (out.new.items ≡ out.old.items ++ restricted_line port.now) }
+{
+    let mut number = Buffer::new();
+    let words: [&[u8]; 4] = [
+        b"note",
+        b"restricted",
+        port.bridge.as_bytes(),
+        number.format(port.number.value()).as_bytes(),
     ];
     push_line(&words, out)
 }

@@ -1,28 +1,31 @@
+ghost use Rattle.std.specs.List.{flat_map};
 ghost use Rattle.std.specs.Prelude.{◌≡◌, ◌<◌, ◌++◌, ◌||◌, ℕ, List, false, length, OnOk, slice_index_or};
 ghost use Rattle.mst_lag.specs.declared.in_view.BridgeInView.{BridgeInView as BridgeOf};
 ghost use Rattle.mst_lag.specs.Trees.{is_among};
+ghost use Rattle.mst_lag.specs.Viewed.{named_port};
 ghost use Rattle.mst_net.specs.Tables.{Net, Numbers};
 ghost use Rattle.mst_trees.specs.Agrees.{AreOf};
 ghost use Rattle.mst_trees.specs.Forest.{IsForest};
 ghost use Rattle.mst_trees.specs.Outcome.{trees_of};
 ghost use Rattle.mst_note_text.specs.AreDepths.{TreeDepths, AreDepths};
 ghost use Rattle.mst_note_text.specs.Known.{KnownForest};
-ghost use Rattle.mst_note_text.specs.NotesText.{notes_text, AreNotes};
+ghost use Rattle.mst_note_text.specs.NotesText.{trees_notes, restricted_note, AreNotes};
 ghost use Rattle.mst_note_text.specs.Placed.{ArePlaces};
 ghost use Rattle.mst_note_text.specs.SeenNotes.{is_had};
 
 use crate::laws::notes;
+use crate::lines::push_restricted;
 use crate::places::{Macs, macs_of};
 use crate::tree::push_tree;
 use mst_ids::Tree;
-use mst_lag::View;
+use mst_lag::{PortInView, View};
 use mst_trees::Forest;
 use mst_trees::laws::nested;
 use std::alloc::{AllocError, Global};
 
 /// Appends the notes on a network, by its view and its settled trees: for each tree in rising order, and each
 /// bridge that is on and has it, in byte order of names, where hops bind, where age binds, and the external and
-/// internal path costs that 32 bits don't hold. The view and the trees are to be of one network.
+/// internal path costs that 32 bits don't hold; then each logical port whose role is restricted. The view and the trees are to be of one network.
 ///
 /// `AllocError`: memory was wanted and refused; part of the notes may have been appended. For each tree that some
 /// bridge has it goes once over the bridges and once over the ports.
@@ -38,7 +41,18 @@ pub fn push_notes(
 {
     notes();
     let macs = macs_of(alloc, view.bridges())?;
-    push_trees(alloc, view, forest, &macs, &trees_of_view(view), out)
+    push_trees(alloc, view, forest, &macs, &trees_of_view(view), out)?;
+    push_ports(view.ports(), out)
+}
+
+/// Appends the notes on the logical ports.
+fn push_ports(ports: &[PortInView], out: &mut Vec<u8>) -> Result<(), AllocError>
+    ensures { OnOk result (out.new.items ≡ out.old.items ++ flat_map (λ p. restricted_note (named_port p)) ports.now) }
+{
+    for port in ports {
+        push_restricted(port, out)?;
+    }
+    Ok(())
 }
 
 /// Appends the notes on each tree that has a flag.
@@ -55,7 +69,7 @@ fn push_trees(
     requires long { length had.now ≡ 4095 }
     requires had { (tree : ℕ) → tree < 4095 → slice_index_or had.now tree false ≡ is_had view.now tree view.now.bridges }
     ensures { (net : Net) (numbers : Numbers) (is : IsForest net numbers forest.now) → AreOf net numbers view.now forest.now.regions
-        → (d : TreeDepths) → AreDepths (trees_of net is.outcome) d → OnOk result (out.new.items ≡ out.old.items ++ notes_text net is.outcome d) }
+        → (d : TreeDepths) → AreDepths (trees_of net is.outcome) d → OnOk result (out.new.items ≡ out.old.items ++ trees_notes net is.outcome d) }
 {
     nested();
     for number in 0..4095 {

@@ -3,7 +3,7 @@ use Rattle.std.proofs.Common.{◌≡◌, ◌≢◌, ℕ, List, Option, None, Som
 use Rattle.std.specs.FinMap as fin
 use Rattle.std.specs.Option.{option_map, option_map_or}
 use Rattle.mst_lang.specs.declared.line.Query.{Query}
-use Rattle.mst_lang.specs.declared.line.Query.TheVariants.{ShowPlan, ShowLag, ShowRegions, ShowNotes, ShowTree, ShowVlan, ShowConfiguration, Changes}
+use Rattle.mst_lang.specs.declared.line.Query.TheVariants.{ShowPlan, ShowLag, ShowRegions, ShowNotes, ShowTree, ShowVlan, ShowConfiguration, Changes, Save}
 use Rattle.mst_net.specs.After.{table_of}
 use Rattle.mst_net.specs.Tables.{Net, BridgeRow, IsNetwork}
 use Rattle.mst_net.specs.declared.refusal.Refusal.{Refusal}
@@ -17,6 +17,7 @@ use Rattle.mst_note_text.specs.NotesText.{AreNotes}
 use Rattle.mst_plan_text.specs.PlanText.{IsPlanText}
 use Rattle.mst_region_text.specs.ConfigurationText.{configuration_text, configuration_line, mstis_text}
 use Rattle.mst_region_text.specs.RegionsText.{regions_text}
+use Rattle.mst_save.specs.SaveText.{save_text}
 use Rattle.mst_tree_text.specs.TreeText.{tree_text}
 use Rattle.mst_vlan_text.specs.VlanText.{IsVlanText}
 use Rattle.mst_report.specs.Answers.{Answers, TellsOutcome, TellsChanges}
@@ -36,17 +37,6 @@ module _ (outcomes : (net : Net) → IsNetwork net → (o : Outcome) × IsOutcom
   pub changes_told : (net : Net) → IsNetwork net → (rows : List Row) → IsMark rows → (text : List ℕ) × TellsChanges (Some rows) net (Ok text)
   changes_told net ok rows was = let t = told net ok (λ o text. text ≡ changes_text was.net was.outcome net o) (λ o is. (changes_text was.net was.outcome net o, refl)) in (t.0, (was, t.1))
 
-  -- a text answers each query, but for those about an MST configuration or changes
-  pub text_there : (query : Query) (s : State) → IsState s → ((bridge : List ℕ) → query ≢ ShowConfiguration bridge) → query ≢ Changes → HasText query s
-  text_there ShowPlan s ok other since = told s.net ok.network (IsPlanText s.net) (λ o is. plans s.net o ok.network)
-  text_there (ShowTree tree) s ok other since = told s.net ok.network (λ o text. text ≡ tree_text s.net o tree) (λ o is. (tree_text s.net o tree, refl))
-  text_there (ShowVlan vid) s ok other since = told s.net ok.network (λ o. IsVlanText s.net o vid) (λ o is. vids s.net o vid ok.network)
-  text_there ShowNotes s ok other since = told s.net ok.network (AreNotes s.net) (λ o is. notes s.net o ok.network is)
-  text_there ShowLag s ok other since = (lags_text s.net, refl)
-  text_there ShowRegions s ok other since = (regions_text s.net, refl)
-  text_there (ShowConfiguration bridge) s ok other since = absurd (other bridge refl)
-  text_there Changes s ok other since = absurd (since refl)
-
   changes_there : (net : Net) → IsNetwork net → (mark : Option (List Row)) → MatchOption mark (Unit {0}) IsMark → (answer : Result (List ℕ) Refusal) × TellsChanges mark net answer
   changes_there net ok None is = (Err E16, refl)
   changes_there net ok (Some rows) is = let t = changes_told net ok rows is in (Ok t.0, t.1)
@@ -61,6 +51,7 @@ module _ (outcomes : (net : Net) → IsNetwork net → (o : Outcome) × IsOutcom
   answer_there ShowRegions s ok = (Ok (regions_text s.net), refl)
   answer_there (ShowConfiguration bridge) s ok = (option_map_or (λ text. Ok text) (configuration_text s.net bridge) (Err E04), refl)
   answer_there Changes s ok = changes_there s.net ok.network s.mark ok.mark
+  answer_there Save s ok = (Ok (save_text s.net), refl)
 
 -- a query that has an answer and can't be refused has a text
 pub has_text : ((query : Query) (s : State) → IsState s → (answer : Result (List ℕ) Refusal) × Answers query s answer)
@@ -73,6 +64,7 @@ has_text there ShowLag s ok other since = (lags_text s.net, refl)
 has_text there ShowRegions s ok other since = (regions_text s.net, refl)
 has_text there (ShowConfiguration bridge) s ok other since = absurd (other bridge refl)
 has_text there Changes s ok other since = absurd (since refl)
+has_text there Save s ok other since = (save_text s.net, refl)
 
 -- what tells of changes since a mark has a text
 told_text : (net : Net) (rows : List Row) (answer : Result (List ℕ) Refusal) → TellsChanges (Some rows) net answer → (text : List ℕ) × TellsChanges (Some rows) net (Ok text)
@@ -123,6 +115,7 @@ module _ (outcomes : (net : Net) (o p : Outcome) → IsNetwork net → IsOutcome
   one_text ShowRegions s a b ok x y = x ∙ sym y
   one_text (ShowConfiguration bridge) s a b ok x y = x ∙ sym y
   one_text Changes s a b ok x y = one_change s.net ok s.mark a b x y
+  one_text Save s a b ok x y = x ∙ sym y
 
 -- the mark of which changes have a text
 pub was_marked : (net : Net) (mark : Option (List Row)) (rows : List Row) → mark ≡ Some rows → HasText Changes (record { net = net; mark = mark }) → IsMark rows

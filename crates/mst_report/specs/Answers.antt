@@ -1,8 +1,8 @@
 -- What answers a query.
-use Rattle.std.specs.Prelude.{◌≡◌, ℕ, List, Option, None, Some, Result, Ok, Err}
+use Rattle.std.specs.Prelude.{◌≡◌, ℕ, Bool, true, false, List, Option, None, Some, Result, Ok, Err}
 use Rattle.std.specs.Option.{option_map_or}
 use Rattle.mst_lang.specs.declared.line.Query.{Query}
-use Rattle.mst_lang.specs.declared.line.Query.TheVariants.{ShowPlan, ShowLag, ShowRegions, ShowNotes, ShowTree, ShowVlan, ShowConfiguration, Changes}
+use Rattle.mst_lang.specs.declared.line.Query.TheVariants.{ShowPlan, ShowLag, ShowRegions, ShowNotes, ShowTree, ShowVlan, ShowConfiguration, Changes, Save}
 use Rattle.mst_net.specs.Tables.{Net}
 use Rattle.mst_net.specs.declared.refusal.Refusal.{Refusal}
 use Rattle.mst_net.specs.declared.refusal.Refusal.TheVariants.{E04, E16}
@@ -14,6 +14,7 @@ use Rattle.mst_note_text.specs.NotesText.{AreNotes}
 use Rattle.mst_plan_text.specs.PlanText.{IsPlanText}
 use Rattle.mst_region_text.specs.ConfigurationText.{configuration_text}
 use Rattle.mst_region_text.specs.RegionsText.{regions_text}
+use Rattle.mst_save.specs.SaveText.{save_text}
 use Rattle.mst_tree_text.specs.TreeText.{tree_text}
 use Rattle.mst_vlan_text.specs.VlanText.{IsVlanText}
 use Rattle.mst_report.specs.State.{State, IsMark}
@@ -30,7 +31,8 @@ TellsChanges (Some rows) net answer = (was : IsMark rows) × TellsOutcome net (�
 
 -- in a state a query has this answer, a text or a refusal. The texts of a tree, of a VID, of the whole plan and of the
 -- notes are those of the network's settled outcome; those of the classes of links, of the regions and of an MST
--- configuration go by the network itself, and a bridge that isn't there has no configuration
+-- configuration go by the network itself, and a bridge that isn't there has no configuration. What saves the network
+-- goes by it alone, too
 abbrev pub Answers : Query → State → Result (List ℕ) Refusal → Type 0
 Answers ShowPlan s answer = TellsOutcome s.net (IsPlanText s.net) answer
 Answers (ShowTree tree) s answer = TellsOutcome s.net (λ o text. text ≡ tree_text s.net o tree) answer
@@ -40,3 +42,9 @@ Answers ShowLag s answer = answer ≡ Ok (lags_text s.net)
 Answers ShowRegions s answer = answer ≡ Ok (regions_text s.net)
 Answers (ShowConfiguration bridge) s answer = answer ≡ option_map_or (λ text. Ok text) (configuration_text s.net bridge) (Err E04)
 Answers Changes s answer = TellsChanges s.mark s.net answer
+Answers Save s answer = answer ≡ Ok (save_text s.net)
+
+-- whether a query is asked of a settled plan. What saves the network is not: the tables alone settle it
+abbrev pub asks_plan : Query → Bool
+asks_plan Save = false
+asks_plan _ = true

@@ -1,6 +1,6 @@
 ghost use Rattle.std.specs.Prelude.{◌≡◌, ◌≢◌, true, Ok, Err, IfOk, IfErr};
 ghost use Rattle.mst_lang.specs.declared.line.Query.TheVariants.{ShowConfiguration, Changes};
-ghost use Rattle.mst_report.specs.Answers.{Answers};
+ghost use Rattle.mst_report.specs.Answers.{Answers, asks_plan as is_of_plan};
 ghost use Rattle.mst_report.specs.Planned.{planned_state};
 ghost use Rattle.mst_report.specs.Refusing.{HasText, IsRefusal};
 
@@ -10,12 +10,19 @@ use mst_ids::Name;
 use mst_lang::Query;
 use mst_net::{Contents, Refusal};
 
+/// Whether a query is asked of a settled plan: all are but `save`, whose text goes by the records of the network.
+pub fn asks_plan(query: &Query) -> bool
+    ensures { result ≡ is_of_plan query.now }
+{
+    !matches!(query, Query::Save)
+}
+
 impl Planner {
     /// The answer to a query: its text, which the state of the plan alone settles. A query about a bridge that isn't
     /// there is refused with E04, one about changes from a mark that isn't there with E16, and any that has a text
     /// with E99 where memory was wanted and refused.
     pub fn answer(&self, query: &Query) -> Result<Vec<u8>, Refusal>
-        requires { self.now.is_settled ≡ true }
+        requires { is_of_plan query.now ≡ true → self.now.is_settled ≡ true }
         ensures text { IfOk result (λ text. Answers query.now (planned_state self.now) (Ok text.items)) }
         ensures refused { IfErr result (λ refusal. refusal ≢ Refusal.E99 → Answers query.now (planned_state self.now) (Err refusal)) }
         ensures memory { result ≡ Err Refusal.E99 → HasText query.now (planned_state self.now) }

@@ -7,4 +7,5 @@ mod plan;
 mod planner;
 mod texts;
 
+pub use answers::asks_plan;
 pub use planner::Planner;

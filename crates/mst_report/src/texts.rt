@@ -1,6 +1,6 @@
 ghost use Rattle.std.specs.Prelude.{◌≡◌, true, Ok, Some, IfOk};
-ghost use Rattle.mst_lang.specs.declared.line.Query.TheVariants.{ShowPlan, ShowTree, ShowVlan, ShowNotes, ShowLag, ShowRegions, ShowConfiguration, Changes};
-ghost use Rattle.mst_report.specs.Answers.{Answers};
+ghost use Rattle.mst_lang.specs.declared.line.Query.TheVariants.{ShowPlan, ShowTree, ShowVlan, ShowNotes, ShowLag, ShowRegions, ShowConfiguration, Changes, Save};
+ghost use Rattle.mst_report.specs.Answers.{Answers, asks_plan as is_of_plan};
 ghost use Rattle.mst_report.specs.Planned.{planned_state};
 ghost use Rattle.mst_report.specs.Refusing.{HasText};
 
@@ -12,6 +12,7 @@ use mst_lang::Query;
 use mst_note_text::push_notes;
 use mst_plan_text::push_plan;
 use mst_region_text::{push_configuration, push_regions};
+use mst_save::save_text;
 use mst_tree_text::push_tree;
 use mst_vlan_text::push_vlan;
 use std::alloc::AllocError;
@@ -19,7 +20,7 @@ use std::alloc::AllocError;
 impl Planner {
     /// The text that answers a query. `AllocError`: memory was wanted and refused.
     pub(crate) fn text(&self, query: &Query) -> Result<Vec<u8>, AllocError>
-        requires settled { self.now.is_settled ≡ true }
+        requires settled { is_of_plan query.now ≡ true → self.now.is_settled ≡ true }
         requires text { HasText query.now (planned_state self.now) }
         ensures { IfOk result (λ text. Answers query.now (planned_state self.now) (Ok text.items)) }
     {
@@ -32,6 +33,7 @@ impl Planner {
             Query::ShowRegions => self.regions(),
             Query::ShowConfiguration { bridge } => self.configuration(bridge),
             Query::Changes => self.changes(),
+            Query::Save => self.saved(),
         }
     }
 
@@ -120,6 +122,13 @@ impl Planner {
             None => Ok(Vec::new(self.alloc())),
             Some(mark) => self.changes_from(mark),
         }
+    }
+
+    /// The text that saves the network.
+    fn saved(&self) -> Result<Vec<u8>, AllocError>
+        ensures { IfOk result (λ text. Answers Save (planned_state self.now) (Ok text.items)) }
+    {
+        save_text(self.alloc(), self.network())
     }
 
     /// The text of what has changed since this mark.

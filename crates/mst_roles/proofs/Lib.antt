@@ -1,3 +1,4 @@
 pub mod Named
 pub mod Forwarding
 pub mod Forwarded
+pub mod Restricted

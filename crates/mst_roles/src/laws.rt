@@ -1,5 +1,5 @@
 //! Laws of roles. Their functions do nothing: a caller has their clauses.
-ghost use Rattle.std.specs.Prelude.{◌≡◌, ◌↔◌, ℕ, true, Some};
+ghost use Rattle.std.specs.Prelude.{◌≡◌, ◌≢◌, ◌↔◌, ℕ, true, Some};
 ghost use Rattle.std.specs.List.{Contains};
 ghost use Rattle.mst_net.specs.Tables.{Net, IsNetwork};
 ghost use Rattle.mst_net.specs.ByTree.{by_tree};
@@ -10,10 +10,12 @@ ghost use Rattle.mst_trees.specs.Cist.{cist_port};
 ghost use Rattle.mst_trees.specs.Outcome.{Outcome, IsOutcome, trees_of};
 ghost use Rattle.mst_roles.specs.Roles.{role_in, forwards};
 ghost use Rattle.mst_roles.specs.declared.kind.Role.{Role as RoleOf};
+ghost use Rattle.mst_roles.specs.declared.kind.Role.TheVariants.{Root, Master};
 
 use mst_ids::{Name, PortName};
-use mst_nested::laws::designated_by_key;
+use mst_nested::laws::{designated_by_key, restricted as none_restricted};
 use mst_settle::laws::one_outcome;
+use mst_trees::laws::nested;
 use mst_vector::{CistMetric, MstiMetric};
 
 /// The enabled ports whose roles are Root, Designated or Master are those that forward in the nested trees of the
@@ -25,4 +27,13 @@ pub fn forwarding()
     one_outcome::<CistMetric, Name, Name, PortName>();
     designated_by_key::<CistMetric, Name, Name, PortName>();
     designated_by_key::<MstiMetric, Name, Name, PortName>();
+}
+
+/// A logical port whose role is restricted is never Root or Master, in whatever tree.
+pub fn restricted()
+    ensures { (net : Net) (o : Outcome) → IsNetwork net → IsOutcome net o → (p : LogicalPort) → Contains (view_ports net) p → p.settings.is_restricted ≡ true
+        → (tree : ℕ) (role : RoleOf) → role_in net o tree p ≡ Some role → (role ≢ Root) × (role ≢ Master) }
+{
+    nested();
+    none_restricted::<Name, Name, PortName>();
 }

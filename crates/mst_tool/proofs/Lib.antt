@@ -1,3 +1,4 @@
+pub mod Calls
 pub mod Cuts
 pub mod Starts
 pub mod Known
@@ -9,3 +10,4 @@ pub mod WholeRun
 pub mod WholeCheck
 pub mod OneRun
 pub mod OneComparison
+pub mod Saved

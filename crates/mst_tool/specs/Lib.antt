@@ -1,4 +1,4 @@
-pub mod Lines
+pub mod Devices
 pub mod Held
 pub mod Steps
 pub mod Script

@@ -1,13 +1,16 @@
-ghost use Rattle.std.specs.Prelude.{◌≡◌, ◌+◌, ◌^◌, ◌<◌, ℕ, List, Option, Ok, Err, IfOk, OnOk, OnErr};
+ghost use Rattle.std.specs.Prelude.{◌≡◌, ◌+◌, ◌^◌, ◌<◌, ◌≤◌, ◌↔◌, ◌⊎◌, ℕ, false, List, Option, Ok, Err, IfOk, IsOk, OnOk, OnErr};
 ghost use Rattle.mst_report.specs.Planned.{planned_state};
 ghost use Rattle.mst_tool.specs.Check.{Checks, ChecksFront, ChecksEnded, ChecksScript};
+ghost use Rattle.mst_tool.specs.Devices.{Works, IsBroken, IsCut, IsRead, IsCalled, Stops, StopsAtZero, stopped_by};
 ghost use Rattle.mst_tool.specs.Engine.{tally_of, outcome_of};
 ghost use Rattle.mst_tool.specs.Served.{Served, ServedFront, ServedEnded, IsFew, both};
 ghost use Rattle.mst_tool.specs.declared.engine.Input.TheVariants.{Captures};
 
+use crate::devices::{Sink, Source};
 use crate::engine::{Engine, Input};
 use crate::laws::{has_steps, one_comparison, one_run, states};
-use crate::runs::{Outcome, RunFault, serve_input};
+use crate::lent::{FromRead, ToWrite};
+use crate::runs::{Outcome, RunFault, TURNS, serve_input};
 use std::alloc::Global;
 use std::io::{Read, Write};
 
@@ -49,28 +52,87 @@ pub fn check_from<S: Read, C: Read, W: Write>(
     ensures read { result ≡ Err RunFault.Read → ChecksEnded (S.remaining script.old) (S.remaining script.new) (C.remaining captures.old) (C.remaining captures.new) (W.contents writer.old) (W.contents writer.new) }
     ensures memory { result ≡ Err RunFault.Memory → ChecksScript (S.remaining script.old) (W.contents writer.old) (W.contents writer.new) }
 {
+    let mut script_source = FromRead::new(script);
+    let mut captures_source = FromRead::new(captures);
+    let mut sink = ToWrite::new(writer);
+    check_within(
+        alloc,
+        &mut script_source,
+        &mut captures_source,
+        &mut sink,
+        TURNS,
+    )
+}
+
+/// Runs the script that the first source gives in so many turns, and compares the captures that the second one gives in
+/// so many, as [`check`] does: it is that with 2^32 of them. A turn is one call of a source, the one that finds the end
+/// included.
+///
+/// [`RunFault::Read`] is answered just where the sink works and a source has failed, or all turns of it were used and
+/// none found the end; [`RunFault::Write`] just where the sink has failed, or took nothing of a part that had a byte.
+pub fn check_within<S: Source, C: Source, K: Sink>(
+    alloc: Global,
+    script: &mut S,
+    captures: &mut C,
+    sink: &mut K,
+    turns: u64,
+) -> Result<Outcome, RunFault>
+    requires script { (S.told script.old).failed ≡ false }
+    requires captures { (C.told captures.old).failed ≡ false }
+    requires sink { (K.told sink.old).failed ≡ false }
+    requires turns { turns ≤ 2 ^ 32 }
+    ensures ok { IfOk result (Checks (S.remaining script.old) (C.remaining captures.old) (K.contents sink.old) (K.contents sink.new)) }
+    ensures fault { OnErr result (ChecksFront (S.remaining script.old) (C.remaining captures.old) (K.contents sink.old) (K.contents sink.new)) }
+    ensures read { result ≡ Err RunFault.Read → ChecksEnded (S.remaining script.old) (S.remaining script.new) (C.remaining captures.old) (C.remaining captures.new) (K.contents sink.old) (K.contents sink.new) }
+    ensures memory { result ≡ Err RunFault.Memory → ChecksScript (S.remaining script.old) (K.contents sink.old) (K.contents sink.new) }
+    ensures ended_script { IsOk result → IsRead (S.told script.old) (S.told script.new) }
+    ensures ended_captures { IsOk result → IsRead (C.told captures.old) (C.told captures.new) }
+    ensures read_fault { result ≡ Err RunFault.Read ↔ (IsCut turns (S.told script.old) (S.told script.new) ⊎ IsCut turns (C.told captures.old) (C.told captures.new)) × Works (K.told sink.old) (K.told sink.new) }
+    ensures write_fault { result ≡ Err RunFault.Write ↔ IsBroken (K.told sink.old) (K.told sink.new) }
+    ensures script_calls { IsCalled turns (S.told script.old) (S.told script.new) }
+    ensures captures_calls { IsCalled turns (C.told captures.old) (C.told captures.new) }
+    ensures sink_calls { StopsAtZero (K.told sink.old) (K.told sink.new) }
+    ensures lent_script { S.lent script.new ≡ S.lent script.old }
+    ensures lent_captures { C.lent captures.new ≡ C.lent captures.old }
+    ensures lent_sink { K.lent sink.new ≡ K.lent sink.old }
+{
     has_steps();
     states();
     one_run();
     one_comparison();
     let mut engine = Engine::new(alloc);
-    serve_input(Input::Script, &mut engine, script, writer)?;
-    let served = engine.outcome();
-    serve_captures(&mut engine, captures, writer)?;
-    Ok(sum_of(&served, &engine.outcome()))
+    match serve_input(Input::Script, &mut engine, script, sink, turns) {
+        Err(fault) => Err(fault),
+        Ok(()) => {
+            let served = engine.outcome();
+            match serve_captures(&mut engine, captures, sink, turns) {
+                Err(fault) => Err(fault),
+                Ok(()) => Ok(sum_of(&served, &engine.outcome())),
+            }
+        }
+    }
 }
 
 /// Compares all captured messages with the plan of the network as it stands.
-fn serve_captures<C: Read, W: Write>(
+fn serve_captures<C: Source, K: Sink>(
     engine: &mut Engine,
     captures: &mut C,
-    writer: &mut W,
+    sink: &mut K,
+    turns: u64,
 ) -> Result<(), RunFault>
-    ensures ok { OnOk result (Served Captures (planned_state engine.old.planner) (C.remaining captures.old) (W.contents writer.old) (W.contents writer.new) (tally_of engine.new)) }
+    requires captures { (C.told captures.old).failed ≡ false }
+    requires sink { (K.told sink.old).failed ≡ false }
+    requires turns { turns ≤ 2 ^ 32 }
+    ensures ok { OnOk result (Served Captures (planned_state engine.old.planner) (C.remaining captures.old) (K.contents sink.old) (K.contents sink.new) (tally_of engine.new)) }
     ensures few { OnOk result (IsFew (outcome_of (tally_of engine.new))) }
-    ensures fault { OnErr result (ServedFront Captures (planned_state engine.old.planner) (C.remaining captures.old) (W.contents writer.old) (W.contents writer.new)) }
-    ensures read { result ≡ Err RunFault.Read → ServedEnded Captures (planned_state engine.old.planner) (C.remaining captures.old) (C.remaining captures.new) (W.contents writer.old) (W.contents writer.new) }
-    ensures memory { result ≡ Err RunFault.Memory → W.contents writer.new ≡ W.contents writer.old }
+    ensures fault { OnErr result (ServedFront Captures (planned_state engine.old.planner) (C.remaining captures.old) (K.contents sink.old) (K.contents sink.new)) }
+    ensures read { result ≡ Err RunFault.Read → ServedEnded Captures (planned_state engine.old.planner) (C.remaining captures.old) (C.remaining captures.new) (K.contents sink.old) (K.contents sink.new) }
+    ensures memory { result ≡ Err RunFault.Memory → K.contents sink.new ≡ K.contents sink.old }
+    ensures stops { Stops turns (C.told captures.old) (C.told captures.new) (K.told sink.old) (K.told sink.new) (stopped_by result) }
+    ensures captures_calls { IsCalled turns (C.told captures.old) (C.told captures.new) }
+    ensures sink_calls { StopsAtZero (K.told sink.old) (K.told sink.new) }
+    ensures lent_captures { C.lent captures.new ≡ C.lent captures.old }
+    ensures lent_sink { K.lent sink.new ≡ K.lent sink.old }
 {
     has_steps();
     engine.planner.known();
@@ -78,7 +140,7 @@ fn serve_captures<C: Read, W: Write>(
         return Err(RunFault::Memory);
     }
     engine.restart();
-    serve_input(Input::Captures, engine, captures, writer)
+    serve_input(Input::Captures, engine, captures, sink, turns)
 }
 
 /// What two inputs have counted.

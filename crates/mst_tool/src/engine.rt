@@ -1,4 +1,4 @@
-ghost use Rattle.std.specs.Prelude.{◌≡◌, ℕ, ◌+◌, ◌^◌, ◌<◌, Bool, true, Ok, Err, OnOk, OnErr};
+ghost use Rattle.std.specs.Prelude.{◌≡◌, ℕ, ◌+◌, ◌^◌, ◌<◌, Bool, true, false, List, [], ◌∷◌, Ok, Err, OnOk, OnErr};
 ghost use Rattle.std.specs.Io.KnownBytes.{Appends};
 ghost use Rattle.mst_lang.specs.declared.line.Line.TheVariants.{Mark, Query as query};
 ghost use Rattle.mst_report.specs.Planned.{planned_state};
@@ -6,21 +6,22 @@ ghost use Rattle.mst_report.specs.Refusing.{HasText};
 ghost use Rattle.mst_report.specs.State.{empty_state};
 ghost use Rattle.mst_net.specs.Refusals.{code_of as refusal_code, text_of as refusal_text};
 ghost use Rattle.mst_wire.specs.CaptureText.{fault_line};
+ghost use Rattle.mst_tool.specs.Devices.{Works, IsStopped};
 ghost use Rattle.mst_tool.specs.Written.{AppendsFront};
-ghost use Rattle.mst_tool.specs.Script.{ServesRead, Serves, code_line, refusal_line};
-ghost use Rattle.mst_tool.specs.Engine.{IsReady, does, begun, tally_of, tallied, outcome_of, reply_text, replied};
+ghost use Rattle.mst_tool.specs.Script.{ServesRead, Serves, reading_at, version_said as said, code_line, refusal_line};
+ghost use Rattle.mst_tool.specs.Engine.{IsReady, version_from, known_after, does, begun, tally_of, tallied, outcome_of, reply_text, replied};
 
 use crate::captures::compare_line;
+use crate::devices::Sink;
 use crate::print::{WriteFailed, put, put_parts};
 use crate::runs::Outcome;
 use itoa::Buffer;
 use mst_bpdu::BpduFault;
-use mst_lang::{Fault, Line, Query, parse_line};
+use mst_lang::{Fault, Line, Query, Version, is_version_2, parse_line_as};
 use mst_net::Refusal;
-use mst_report::Planner;
 use mst_report::laws::rows_of_network;
+use mst_report::{Planner, asks_plan};
 use std::alloc::Global;
-use std::io::Write;
 
 /// What lines come from, by which they are served.
 #[derive(Clone, Copy)]
@@ -36,6 +37,8 @@ pub(crate) enum Input {
 pub(crate) struct Engine {
     pub(crate) alloc: Global,
     pub(crate) planner: Planner,
+    /// The version of the script, once its first line has ended.
+    pub(crate) version: Option<Version>,
     /// The number of the next line of the input, from 1.
     pub(crate) number: u64,
     /// How many lines of the input were refused, but for want of memory.
@@ -76,6 +79,7 @@ impl Engine {
         Engine {
             alloc,
             planner: Planner::new(alloc),
+            version: None,
             number: 1,
             refused: 0,
             memory: 0,
@@ -99,6 +103,7 @@ impl Engine {
         ensures begins { tally_of self.new ≡ begun (planned_state self.new.planner) }
         ensures planner { self.new.planner ≡ self.old.planner }
     {
+        self.version = None;
         self.number = 1;
         self.refused = 0;
         self.memory = 0;
@@ -113,10 +118,17 @@ impl Engine {
         requires memory { self.old.memory < 2 ^ 60 }
         requires differing { self.old.differing < 2 ^ 60 }
         ensures ready { IsReady input self.new }
-        ensures served { does input self.old.number (planned_state self.old.planner) line.now (replied self.old.number (planned_state self.new.planner) result) }
-        ensures counted { tally_of self.new ≡ tallied (tally_of self.old) (replied self.old.number (planned_state self.new.planner) result) }
+        ensures served { does input self.old.version self.old.number (planned_state self.old.planner) line.now (replied self.old.number (planned_state self.new.planner) result) }
+        ensures counted { tally_of self.new ≡ tallied input (tally_of self.old) line.now (replied self.old.number (planned_state self.new.planner) result) }
     {
-        let reply = reply_to(input, self.alloc, &mut self.planner, self.number, line);
+        let reply = match input {
+            Input::Script => {
+                let version = version_at(self.version, line);
+                self.version = Some(version);
+                serve_line(&mut self.planner, version, self.number, line)
+            }
+            Input::Captures => compare_line(self.alloc, &self.planner, self.number, line),
+        };
         self.number += 1;
         match reply {
             Reply::Unread(_) | Reply::Refused(_) | Reply::Faulty(_) => self.refused += 1,
@@ -128,25 +140,50 @@ impl Engine {
     }
 }
 
-/// Serves a line.
-fn reply_to(input: Input, alloc: Global, planner: &mut Planner, number: u64, line: &[u8]) -> Reply
-    requires { input ≡ Input.Captures → planner.old.is_settled ≡ true }
-    ensures served { does input number (planned_state planner.old) line.now (replied number (planned_state planner.new) result) }
-    ensures ready { input ≡ Input.Captures → planner.new.is_settled ≡ true }
+/// The version of a script at its next line: it is known already, or this line, the first one, says it.
+fn version_at(known: Option<Version>, line: &[u8]) -> Version
+    ensures { result ≡ version_from known (line.now ∷ []) }
 {
-    match input {
-        Input::Script => serve_line(planner, number, line),
-        Input::Captures => compare_line(alloc, planner, number, line),
+    match known {
+        Some(version) => version,
+        None => version_said(line),
+    }
+}
+
+/// The version that the first line of a script says.
+fn version_said(line: &[u8]) -> Version
+    ensures { result ≡ said line.now }
+{
+    if is_version_2(line) {
+        Version::V2
+    } else {
+        Version::V1
     }
 }
 
 /// Serves a line of a script.
-fn serve_line(planner: &mut Planner, number: u64, line: &[u8]) -> Reply
-    ensures { Serves number (planned_state planner.old) line.now (replied number (planned_state planner.new) result) }
+fn serve_line(planner: &mut Planner, version: Version, number: u64, line: &[u8]) -> Reply
+    ensures { Serves version number (planned_state planner.old) line.now (replied number (planned_state planner.new) result) }
 {
-    match parse_line(line) {
+    match read_line(version, number, line) {
         Err(fault) => Reply::Unread(fault),
         Ok(line) => serve(planner, number, &line),
+    }
+}
+
+/// What a line of a script says. The first one of version 2 says so, and nothing else.
+fn read_line(version: Version, number: u64, line: &[u8]) -> Result<Line, Fault>
+    ensures { result ≡ reading_at version number line.now }
+{
+    match version {
+        Version::V1 => parse_line_as(Version::V1, line),
+        Version::V2 => {
+            if number == 1 {
+                Ok(Line::Blank)
+            } else {
+                parse_line_as(Version::V2, line)
+            }
+        }
     }
 }
 
@@ -191,63 +228,79 @@ fn answer(planner: &mut Planner, number: u64, asked: &Query) -> Reply
     }
 }
 
-/// What a query that a text answers is answered by: its text, once the plan is settled, or that memory was wanted
-/// for it.
+/// What a query that a text answers is answered by: its text, once the plan is settled where it is asked of the plan,
+/// or that memory was wanted for it.
 fn shown(planner: &mut Planner, number: u64, asked: &Query) -> Reply
     requires { HasText asked.now (planned_state planner.old) }
     ensures { ServesRead number (planned_state planner.old) (Ok (query asked.now)) (replied number (planned_state planner.new) result) }
 {
-    match planner.settle() {
+    if asks_plan(asked) && planner.settle().is_err() {
+        return Reply::Starved;
+    }
+    match planner.answer(asked) {
+        Ok(text) => Reply::Text(text),
         Err(_) => Reply::Starved,
-        Ok(()) => match planner.answer(asked) {
-            Ok(text) => Reply::Text(text),
-            Err(_) => Reply::Starved,
-        },
     }
 }
 
 /// Writes a reply.
-pub(crate) fn print<W: Write>(writer: &mut W, number: u64, reply: &Reply) -> Result<(), WriteFailed>
-    ensures ok { OnOk result (Appends (W.contents writer.old) (W.contents writer.new) (reply_text number reply.now)) }
-    ensures err { OnErr result (AppendsFront (W.contents writer.old) (W.contents writer.new) (reply_text number reply.now)) }
+pub(crate) fn print<K: Sink>(sink: &mut K, number: u64, reply: &Reply) -> Result<(), WriteFailed>
+    requires working { (K.told sink.old).failed ≡ false }
+    ensures ok { OnOk result (Appends (K.contents sink.old) (K.contents sink.new) (reply_text number reply.now)) }
+    ensures err { OnErr result (AppendsFront (K.contents sink.old) (K.contents sink.new) (reply_text number reply.now)) }
+    ensures works { OnOk result (Works (K.told sink.old) (K.told sink.new)) }
+    ensures broken { OnErr result (IsStopped (K.told sink.old) (K.told sink.new)) }
+    ensures lent { K.lent sink.new ≡ K.lent sink.old }
 {
     match reply {
         Reply::Silent => Ok(()),
-        Reply::Text(text) | Reply::Differing(text) => put(writer, text.as_slice()),
-        Reply::Unread(fault) => put_code(writer, "line ", number, fault.code(), fault.text()),
-        Reply::Refused(refusal) => put_refusal(writer, number, *refusal),
-        Reply::Starved => put_refusal(writer, number, Refusal::E99),
-        Reply::Faulty(fault) => put_fault(writer, number, *fault),
-        Reply::Uncompared => put_fault(writer, number, BpduFault::B99),
+        Reply::Text(text) | Reply::Differing(text) => put(sink, text.as_slice()),
+        Reply::Unread(fault) => put_code(sink, "line ", number, fault.code(), fault.text()),
+        Reply::Refused(refusal) => put_refusal(sink, number, *refusal),
+        Reply::Starved => put_refusal(sink, number, Refusal::E99),
+        Reply::Faulty(fault) => put_fault(sink, number, *fault),
+        Reply::Uncompared => put_fault(sink, number, BpduFault::B99),
     }
 }
 
 /// Writes that a line of a script is refused.
-fn put_refusal<W: Write>(writer: &mut W, number: u64, refusal: Refusal) -> Result<(), WriteFailed>
-    ensures ok { OnOk result (Appends (W.contents writer.old) (W.contents writer.new) (refusal_line number (refusal_code refusal) (refusal_text refusal))) }
-    ensures err { OnErr result (AppendsFront (W.contents writer.old) (W.contents writer.new) (refusal_line number (refusal_code refusal) (refusal_text refusal))) }
+fn put_refusal<K: Sink>(sink: &mut K, number: u64, refusal: Refusal) -> Result<(), WriteFailed>
+    requires working { (K.told sink.old).failed ≡ false }
+    ensures ok { OnOk result (Appends (K.contents sink.old) (K.contents sink.new) (refusal_line number (refusal_code refusal) (refusal_text refusal))) }
+    ensures err { OnErr result (AppendsFront (K.contents sink.old) (K.contents sink.new) (refusal_line number (refusal_code refusal) (refusal_text refusal))) }
+    ensures works { OnOk result (Works (K.told sink.old) (K.told sink.new)) }
+    ensures broken { OnErr result (IsStopped (K.told sink.old) (K.told sink.new)) }
+    ensures lent { K.lent sink.new ≡ K.lent sink.old }
 {
-    put_code(writer, "line ", number, refusal.code(), refusal.text())
+    put_code(sink, "line ", number, refusal.code(), refusal.text())
 }
 
 /// Writes that a captured message isn't compared.
-fn put_fault<W: Write>(writer: &mut W, number: u64, fault: BpduFault) -> Result<(), WriteFailed>
-    ensures ok { OnOk result (Appends (W.contents writer.old) (W.contents writer.new) (fault_line number fault)) }
-    ensures err { OnErr result (AppendsFront (W.contents writer.old) (W.contents writer.new) (fault_line number fault)) }
+fn put_fault<K: Sink>(sink: &mut K, number: u64, fault: BpduFault) -> Result<(), WriteFailed>
+    requires working { (K.told sink.old).failed ≡ false }
+    ensures ok { OnOk result (Appends (K.contents sink.old) (K.contents sink.new) (fault_line number fault)) }
+    ensures err { OnErr result (AppendsFront (K.contents sink.old) (K.contents sink.new) (fault_line number fault)) }
+    ensures works { OnOk result (Works (K.told sink.old) (K.told sink.new)) }
+    ensures broken { OnErr result (IsStopped (K.told sink.old) (K.told sink.new)) }
+    ensures lent { K.lent sink.new ≡ K.lent sink.old }
 {
-    put_code(writer, "capture ", number, fault.code(), fault.text())
+    put_code(sink, "capture ", number, fault.code(), fault.text())
 }
 
 /// Writes the first word, `N CODE TEXT` and the end of the line.
-fn put_code<'a, W: Write>(
-    writer: &mut W,
+fn put_code<'a, K: Sink>(
+    sink: &mut K,
     first: &'a str,
     number: u64,
     code: &'a str,
     text: &'a str,
 ) -> Result<(), WriteFailed>
-    ensures ok { OnOk result (Appends (W.contents writer.old) (W.contents writer.new) (code_line first.now number code.now text.now)) }
-    ensures err { OnErr result (AppendsFront (W.contents writer.old) (W.contents writer.new) (code_line first.now number code.now text.now)) }
+    requires working { (K.told sink.old).failed ≡ false }
+    ensures ok { OnOk result (Appends (K.contents sink.old) (K.contents sink.new) (code_line first.now number code.now text.now)) }
+    ensures err { OnErr result (AppendsFront (K.contents sink.old) (K.contents sink.new) (code_line first.now number code.now text.now)) }
+    ensures works { OnOk result (Works (K.told sink.old) (K.told sink.new)) }
+    ensures broken { OnErr result (IsStopped (K.told sink.old) (K.told sink.new)) }
+    ensures lent { K.lent sink.new ≡ K.lent sink.old }
 {
     let mut buffer = Buffer::new();
     let digits = buffer.format(number).as_bytes();
@@ -260,5 +313,5 @@ fn put_code<'a, W: Write>(
         text.as_bytes(),
         b"\n",
     ];
-    put_parts(writer, &parts)
+    put_parts(sink, &parts)
 }

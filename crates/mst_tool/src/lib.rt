@@ -4,15 +4,19 @@
 
 mod captures;
 mod checks;
+mod devices;
 mod engine;
 mod feed;
 mod held_line;
 pub mod laws;
+mod lent;
 mod print;
 mod runs;
 
-pub use checks::{check, check_from};
-pub use runs::{Outcome, RunFault, run, run_from, status};
+pub use checks::{check, check_from, check_within};
+pub use devices::{Failed, Sink, Source};
+pub use lent::{FromRead, ToWrite};
+pub use runs::{Outcome, RunFault, TURNS, run, run_from, run_within, status};
 
 #[cfg(test)]
 mod tests;

@@ -1,22 +1,27 @@
-ghost use Rattle.std.specs.Prelude.{OnOk, OnErr};
+ghost use Rattle.std.specs.Prelude.{◌≡◌, false, OnOk, OnErr};
 ghost use Rattle.std.specs.List.{flat_map};
 ghost use Rattle.std.specs.Io.KnownBytes.{Appends};
+ghost use Rattle.mst_tool.specs.Devices.{Works, IsStopped};
 ghost use Rattle.mst_tool.specs.Written.{AppendsFront};
 
-use std::io::Write;
+use crate::devices::Sink;
 
-/// The writer failed, or took nothing.
+/// The sink failed, or took nothing.
 #[derive(Drop)]
 pub(crate) struct WriteFailed;
 
 /// Writes all the bytes. After a failure a front of them went out.
-pub(crate) fn put<W: Write>(writer: &mut W, bytes: &[u8]) -> Result<(), WriteFailed>
-    ensures ok { OnOk result (Appends (W.contents writer.old) (W.contents writer.new) bytes.now) }
-    ensures err { OnErr result (AppendsFront (W.contents writer.old) (W.contents writer.new) bytes.now) }
+pub(crate) fn put<K: Sink>(sink: &mut K, bytes: &[u8]) -> Result<(), WriteFailed>
+    requires working { (K.told sink.old).failed ≡ false }
+    ensures ok { OnOk result (Appends (K.contents sink.old) (K.contents sink.new) bytes.now) }
+    ensures err { OnErr result (AppendsFront (K.contents sink.old) (K.contents sink.new) bytes.now) }
+    ensures works { OnOk result (Works (K.told sink.old) (K.told sink.new)) }
+    ensures broken { OnErr result (IsStopped (K.told sink.old) (K.told sink.new)) }
+    ensures lent { K.lent sink.new ≡ K.lent sink.old }
 {
     let mut rest = bytes;
     while !rest.is_empty() {
-        match writer.write(rest) {
+        match sink.put(rest) {
             Err(_) => return Err(WriteFailed),
             Ok(count) => {
                 if count == 0 {
@@ -31,12 +36,16 @@ pub(crate) fn put<W: Write>(writer: &mut W, bytes: &[u8]) -> Result<(), WriteFai
 }
 
 /// Writes the parts in turn. After a failure a front of them went out.
-pub(crate) fn put_parts<W: Write>(writer: &mut W, parts: &[&[u8]]) -> Result<(), WriteFailed>
-    ensures ok { OnOk result (Appends (W.contents writer.old) (W.contents writer.new) (flat_map (λ part. part.now) parts.now)) }
-    ensures err { OnErr result (AppendsFront (W.contents writer.old) (W.contents writer.new) (flat_map (λ part. part.now) parts.now)) }
+pub(crate) fn put_parts<K: Sink>(sink: &mut K, parts: &[&[u8]]) -> Result<(), WriteFailed>
+    requires working { (K.told sink.old).failed ≡ false }
+    ensures ok { OnOk result (Appends (K.contents sink.old) (K.contents sink.new) (flat_map (λ part. part.now) parts.now)) }
+    ensures err { OnErr result (AppendsFront (K.contents sink.old) (K.contents sink.new) (flat_map (λ part. part.now) parts.now)) }
+    ensures works { OnOk result (Works (K.told sink.old) (K.told sink.new)) }
+    ensures broken { OnErr result (IsStopped (K.told sink.old) (K.told sink.new)) }
+    ensures lent { K.lent sink.new ≡ K.lent sink.old }
 {
     for part in parts {
-        put(writer, *part)?;
+        put(sink, *part)?;
     }
     Ok(())
 }

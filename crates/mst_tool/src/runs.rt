@@ -1,13 +1,16 @@
-ghost use Rattle.std.specs.Prelude.{◌≡◌, ◌≢◌, ℕ, List, Option, Err, IfOk, OnOk, OnErr};
+ghost use Rattle.std.specs.Prelude.{◌≡◌, ◌≢◌, ◌↔◌, ◌≤◌, ◌^◌, ℕ, false, List, Option, Err, IfOk, IsOk, OnOk, OnErr};
 ghost use Rattle.mst_report.specs.Planned.{planned_state};
+ghost use Rattle.mst_tool.specs.Devices.{Works, IsBroken, IsCut, IsRead, IsCalled, Stops, StopsAtZero, stopped_by};
 ghost use Rattle.mst_tool.specs.Engine.{IsReady, begun, tally_of, outcome_of};
 ghost use Rattle.mst_tool.specs.Run.{Prints, PrintsFront, PrintsEnded, status_of};
 ghost use Rattle.mst_tool.specs.Served.{Served, ServedFront, ServedEnded, IsFew};
 
+use crate::devices::{Sink, Source};
 use crate::engine::{Engine, Input};
 use crate::feed::{feed, finish};
 use crate::held_line::HeldLine;
 use crate::laws::{has_steps, one_run};
+use crate::lent::{FromRead, ToWrite};
 use std::alloc::Global;
 use std::io::{Read, Write};
 use thiserror::Error;
@@ -43,8 +46,8 @@ pub enum RunFault {
     Memory,
 }
 
-/// How many calls of a reader are made at most.
-const TURNS: u64 = 1 << 32;
+/// How many calls of a reader [`run`] makes at most, and of each reader [`check`](crate::check).
+pub const TURNS: u64 = 1 << 32;
 
 const _: () = prove!(TURNS == 4_294_967_296);
 
@@ -52,7 +55,9 @@ const _: () = prove!(TURNS == 4_294_967_296);
 /// before it reads on. Where no line meets want of memory, what is written is a function of the script.
 ///
 /// A line ends in LF or CR LF, and the last one may end with the script. Lines count from 1. One that
-/// is refused prints `line N CODE TEXT`, and the run goes on.
+/// is refused prints `line N CODE TEXT`, and the run goes on. A script whose first line has just the words
+/// `mstplan` and `2`, and 4,096 bytes at most, is of version 2, and that line prints nothing. Any other is of
+/// version 1.
 ///
 /// The reader is called with a buffer of 4,096 bytes, up to 2^32 times, and its first answer of 0
 /// bytes is the script's end. The writer is called again where it took some bytes and not all, and not
@@ -86,43 +91,85 @@ pub fn run_from<R: Read, W: Write>(
     ensures read { result ≡ Err RunFault.Read → PrintsEnded (R.remaining reader.old) (R.remaining reader.new) (W.contents writer.old) (W.contents writer.new) }
     ensures memory { result ≢ Err RunFault.Memory }
 {
+    let mut source = FromRead::new(reader);
+    let mut sink = ToWrite::new(writer);
+    run_within(alloc, &mut source, &mut sink, TURNS)
+}
+
+/// Runs the script that the source gives in so many turns, as [`run`] does: it is that with 2^32 of them. A turn is one
+/// call of the source, the one that finds the end included.
+///
+/// [`RunFault::Read`] is answered just where the sink works and the source has failed, or all turns were used and none
+/// found the end; [`RunFault::Write`] just where the sink has failed, or took nothing of a part that had a byte.
+pub fn run_within<S: Source, K: Sink>(
+    alloc: Global,
+    source: &mut S,
+    sink: &mut K,
+    turns: u64,
+) -> Result<Outcome, RunFault>
+    requires source { (S.told source.old).failed ≡ false }
+    requires sink { (K.told sink.old).failed ≡ false }
+    requires turns { turns ≤ 2 ^ 32 }
+    ensures ok { IfOk result (Prints (S.remaining source.old) (K.contents sink.old) (K.contents sink.new)) }
+    ensures fault { OnErr result (PrintsFront (S.remaining source.old) (K.contents sink.old) (K.contents sink.new)) }
+    ensures read { result ≡ Err RunFault.Read → PrintsEnded (S.remaining source.old) (S.remaining source.new) (K.contents sink.old) (K.contents sink.new) }
+    ensures memory { result ≢ Err RunFault.Memory }
+    ensures ended { IsOk result → IsRead (S.told source.old) (S.told source.new) }
+    ensures read_fault { result ≡ Err RunFault.Read ↔ IsCut turns (S.told source.old) (S.told source.new) × Works (K.told sink.old) (K.told sink.new) }
+    ensures write_fault { result ≡ Err RunFault.Write ↔ IsBroken (K.told sink.old) (K.told sink.new) }
+    ensures source_calls { IsCalled turns (S.told source.old) (S.told source.new) }
+    ensures sink_calls { StopsAtZero (K.told sink.old) (K.told sink.new) }
+    ensures lent_source { S.lent source.new ≡ S.lent source.old }
+    ensures lent_sink { K.lent sink.new ≡ K.lent sink.old }
+{
     one_run();
     let mut engine = Engine::new(alloc);
-    serve_input(Input::Script, &mut engine, reader, writer)?;
-    Ok(engine.outcome())
+    match serve_input(Input::Script, &mut engine, source, sink, turns) {
+        Err(fault) => Err(fault),
+        Ok(()) => Ok(engine.outcome()),
+    }
 }
 
 /// Serves all lines of an input, of which nothing is counted yet.
-pub(crate) fn serve_input<R: Read, W: Write>(
+pub(crate) fn serve_input<S: Source, K: Sink>(
     input: Input,
     engine: &mut Engine,
-    reader: &mut R,
-    writer: &mut W,
+    source: &mut S,
+    sink: &mut K,
+    turns: u64,
 ) -> Result<(), RunFault>
     requires ready { IsReady input engine.old }
     requires begins { tally_of engine.old ≡ begun (planned_state engine.old.planner) }
-    ensures ok { OnOk result (Served input (planned_state engine.old.planner) (R.remaining reader.old) (W.contents writer.old) (W.contents writer.new) (tally_of engine.new)) }
+    requires source { (S.told source.old).failed ≡ false }
+    requires sink { (K.told sink.old).failed ≡ false }
+    requires turns { turns ≤ 2 ^ 32 }
+    ensures ok { OnOk result (Served input (planned_state engine.old.planner) (S.remaining source.old) (K.contents sink.old) (K.contents sink.new) (tally_of engine.new)) }
     ensures few { OnOk result (IsFew (outcome_of (tally_of engine.new))) }
-    ensures fault { OnErr result (ServedFront input (planned_state engine.old.planner) (R.remaining reader.old) (W.contents writer.old) (W.contents writer.new)) }
-    ensures read { result ≡ Err RunFault.Read → ServedEnded input (planned_state engine.old.planner) (R.remaining reader.old) (R.remaining reader.new) (W.contents writer.old) (W.contents writer.new) }
+    ensures fault { OnErr result (ServedFront input (planned_state engine.old.planner) (S.remaining source.old) (K.contents sink.old) (K.contents sink.new)) }
+    ensures read { result ≡ Err RunFault.Read → ServedEnded input (planned_state engine.old.planner) (S.remaining source.old) (S.remaining source.new) (K.contents sink.old) (K.contents sink.new) }
     ensures memory { result ≢ Err RunFault.Memory }
+    ensures stops { Stops turns (S.told source.old) (S.told source.new) (K.told sink.old) (K.told sink.new) (stopped_by result) }
+    ensures source_calls { IsCalled turns (S.told source.old) (S.told source.new) }
+    ensures sink_calls { StopsAtZero (K.told sink.old) (K.told sink.new) }
+    ensures lent_source { S.lent source.new ≡ S.lent source.old }
+    ensures lent_sink { K.lent sink.new ≡ K.lent sink.old }
 {
     has_steps();
     let mut held = HeldLine::new();
     let mut chunk = [0; 4096];
-    'turns: for turn in 0..TURNS {
+    'turns: for turn in 0..turns {
         engine.planner.known();
-        let count = match reader.read(&mut chunk) {
+        let count = match source.fill(&mut chunk) {
             Err(_) => return Err(RunFault::Read),
             Ok(count) => count,
         };
         if count == 0 {
-            match finish(input, engine, &mut held, writer) {
+            match finish(input, engine, &mut held, sink) {
                 Err(_) => return Err(RunFault::Write),
                 Ok(()) => return Ok(()),
             }
         }
-        match feed(input, engine, &mut held, writer, &chunk[..count]) {
+        match feed(input, engine, &mut held, sink, &chunk[..count]) {
             Err(_) => return Err(RunFault::Write),
             Ok(()) => {}
         }

@@ -1,12 +1,17 @@
 mod captures;
+mod devices;
 mod edits;
 mod faults;
 mod links;
 mod network;
 mod plans;
+mod records;
+mod refused;
 mod regions;
 mod repairs;
+mod restricted;
 mod rows;
+mod version;
 
 use crate::{Outcome, RunFault, laws, run, status};
 use faults::{Sink, Source};
@@ -172,6 +177,7 @@ fn laws_can_be_called() {
     laws::has_run();
     laws::one_run();
     laws::network_alone();
+    laws::saved_again();
     laws::has_comparison();
     laws::one_comparison();
     answers::has_answer();

@@ -63,7 +63,7 @@ fn cist_port(settings: &TreeSettings, port: &PortInView) -> CistPort
     let internal = settings.port_cost(&port.name, Tree::cist());
     CistPort {
         id: PortId::new(priority, port.name.number),
-        external: port.external.unwrap_or(automatic),
+        external: port.settings.external.unwrap_or(automatic),
         internal: internal.unwrap_or(automatic),
     }
 }

@@ -18,7 +18,7 @@ use Rattle.mst_settle.specs.Settled.{IsDesignated}
 use Rattle.mst_net.specs.Tables.{Net, BridgeRow, IsNetwork}
 use Rattle.mst_net.specs.After.{table_of}
 use Rattle.mst_net.specs.ByTree.{by_tree}
-use Rattle.mst_lag.specs.View.{LogicalPort, view_ports}
+use Rattle.mst_lag.specs.View.{LogicalPort, view_ports, IsUnrestricted}
 use Rattle.mst_net.specs.Table.{mstis_in}
 use Rattle.mst_lag.specs.Trees.{mstis_of, is_among}
 use Rattle.mst_config.specs.Regions.{same_region, same_configuration, region_of}
@@ -226,11 +226,13 @@ module _ (net : Net) (ok : IsNetwork net) (one_ports : OnePorts cist_rules) (o :
     };
   }
 
-  -- no port's role is restricted
-  pub is_free : IsFree (trees_of net o)
-  is_free = record {
-    cist = λ p h. sym (ap (λ (r : Plug (List ℕ) (List ℕ) PortName CistPort). r.is_restricted) (cist_port_from p h).is);
+  -- where no logical port's role is restricted, none is in any tree
+  pub is_free : IsUnrestricted net → IsFree (trees_of net o)
+  is_free free = record {
+    cist = λ p h.
+        let y = cist_port_from p h in
+        sym (ap (λ (r : Plug (List ℕ) (List ℕ) PortName CistPort). r.is_restricted) y.is) ∙ free y.port y.there;
     msti = λ i p h.
         let y = port_from net ok msti_rules (msti_sight net (suc i) d) (msti_is_sight net ok (suc i) d) p h in
-        sym (ap (λ (r : Plug (List ℕ) (List ℕ) PortName MstiPort). r.is_restricted) y.is);
+        sym (ap (λ (r : Plug (List ℕ) (List ℕ) PortName MstiPort). r.is_restricted) y.is) ∙ free y.port y.there;
   }

@@ -1,6 +1,7 @@
 //! Laws of outcomes. Their functions do nothing: a caller has their clauses.
 ghost use Rattle.std.specs.Prelude.{◌≡◌};
 ghost use Rattle.mst_net.specs.Tables.{Net, IsNetwork};
+ghost use Rattle.mst_lag.specs.View.{IsUnrestricted};
 ghost use Rattle.mst_trees.specs.Outcome.{Outcome, IsOutcome, trees_of};
 ghost use Rattle.mst_nested.specs.Trees.{IsSettled, IsFree};
 
@@ -24,10 +25,11 @@ pub fn one_outcome()
     laws::one_outcome::<MstiMetric, Name, Name, PortName>();
 }
 
-/// The trees of an outcome are settled and nested: an MSTI is that of regions of the CIST. No role is restricted.
+/// The trees of an outcome are settled and nested: an MSTI is that of regions of the CIST. Where no logical port's role
+/// is restricted, none is in any tree.
 pub fn nested()
     ensures settled { (net : Net) (o : Outcome) → IsNetwork net → IsOutcome net o → IsSettled (trees_of net o) }
-    ensures free { (net : Net) (o : Outcome) → IsNetwork net → IsOutcome net o → IsFree (trees_of net o) }
+    ensures free { (net : Net) (o : Outcome) → IsNetwork net → IsOutcome net o → IsUnrestricted net → IsFree (trees_of net o) }
 {
     laws::one_outcome::<CistMetric, Name, Name, PortName>();
 }

@@ -23,9 +23,9 @@ use Rattle.mst_vlan.proofs.LogicalLans.{is_logical, up_there}
 plug_lan : (e : PortName × PortRow) (p : Plug) → plug_of e ≡ Some p → e.1.lan ≡ Some p.lan
 plug_lan e p h = go e.1.lan refl h
   where
-    go : (o : Option (List ℕ)) → e.1.lan ≡ o → option_map (λ lan. record { port = e.0; lan = lan; key = e.1.key; external = e.1.external }) o ≡ Some p → e.1.lan ≡ Some p.lan
+    go : (o : Option (List ℕ)) → e.1.lan ≡ o → option_map (λ lan. record { port = e.0; lan = lan; settings = e.1.settings }) o ≡ Some p → e.1.lan ≡ Some p.lan
     go None f k = absurd (no_some p k)
-    go (Some lan) f k = f ∙ ap Some (ap (λ (x : Plug). x.lan) (some_is (record { port = e.0; lan = lan; key = e.1.key; external = e.1.external }) p k))
+    go (Some lan) f k = f ∙ ap Some (ap (λ (x : Plug). x.lan) (some_is (record { port = e.0; lan = lan; settings = e.1.settings }) p k))
 
 module _ (net : Net) (ok : IsNetwork net) where
   lan_there : (lan : List ℕ) → fin.contains_key net.lans lan ≡ true → Contains (fin.keys net.lans) lan

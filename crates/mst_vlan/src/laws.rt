@@ -1,5 +1,6 @@
 //! Laws of the active topology of a VID, of its islands and of the parts of regions, at names. Their functions do
-//! nothing: a caller has their clauses.
+//! nothing: a caller has their clauses. With a port whose role is restricted the active ports may leave apart what is
+//! enabled, and may make a loop; the laws that need it ask that there is none (`IsUnrestricted`).
 ghost use Rattle.std.specs.Prelude.{◌≡◌, ◌⊎◌, ◌↔◌, ℕ, true, List, Some};
 ghost use Rattle.std.specs.List.{Contains};
 ghost use Rattle.mst_ids.specs.declared.name.PortName.{PortName as PortKey};
@@ -17,7 +18,7 @@ ghost use Rattle.mst_nested.specs.Roles.{Forwards, ForwardsInside};
 ghost use Rattle.mst_nested.specs.Trees.{SamePart, HasTree};
 ghost use Rattle.mst_net.specs.Tables.{Net, Numbers, IsNetwork};
 ghost use Rattle.mst_net.specs.ByTree.{by_tree};
-ghost use Rattle.mst_lag.specs.View.{LogicalPort};
+ghost use Rattle.mst_lag.specs.View.{LogicalPort, IsUnrestricted};
 ghost use Rattle.mst_lag.specs.Viewed.{Viewed};
 ghost use Rattle.mst_trees.specs.Agrees.{AreOf, Known};
 ghost use Rattle.mst_trees.specs.Cist.{cist_of, cist_port};
@@ -35,12 +36,13 @@ use mst_nested::laws;
 use mst_roles::laws::forwarding;
 use mst_trees::laws::nested;
 
-/// The active ports of a VID join what is enabled and make no loop, whatever trees the regions map the VID to: a
+/// Where no logical port's role is restricted, the active ports of a VID join what is enabled and make no loop, whatever
+/// trees the regions map the VID to: a
 /// walk of active ports links the two ends of every enabled port, and so whatever enabled ports link, and no walk of
 /// the other active ports links the two ends of an active one.
 pub fn joined_without_loop()
-    ensures active { (net : Net) (o : Outcome) (vid : ℕ) → IsNetwork net → IsOutcome net o → JoinWithoutLoop net (active_ports net o vid) }
-    ensures sets { (net : Net) (o : Outcome) (vid : ℕ) → IsNetwork net → IsOutcome net o → (x y : Node (List ℕ) (List ℕ)) → Walk port_ends (IsEnabled net) x y → Walk port_ends (Contains (active_ports net o vid)) x y }
+    ensures active { (net : Net) (o : Outcome) (vid : ℕ) → IsNetwork net → IsOutcome net o → IsUnrestricted net → JoinWithoutLoop net (active_ports net o vid) }
+    ensures sets { (net : Net) (o : Outcome) (vid : ℕ) → IsNetwork net → IsOutcome net o → IsUnrestricted net → (x y : Node (List ℕ) (List ℕ)) → Walk port_ends (IsEnabled net) x y → Walk port_ends (Contains (active_ports net o vid)) x y }
 {
     nested();
     forwarding();
@@ -59,8 +61,8 @@ pub fn islands_of_vid()
 pub fn parts()
     ensures one { (net : Net) (o : Outcome) (x y z : Node (List ℕ) (List ℕ)) → SamePart (trees_of net o) x y → SamePart (trees_of net o) x z → SamePart (trees_of net o) y z }
     ensures lans { (net : Net) (o : Outcome) → IsNetwork net → IsOutcome net o → (p : LogicalPort) → IsEnabled net p → (n : List ℕ) × (b : CistBridge) × HasBridge (cist_of net) n b × SamePart (trees_of net o) (lan_at p.lan) (bridge_at n) }
-    ensures values { (net : Net) (o : Outcome) → IsNetwork net → IsOutcome net o → (n k : List ℕ) (x y : CistVector) → o.cist.vector n ≡ Some x → o.cist.vector k ≡ Some y → SamePart (trees_of net o) (bridge_at n) (bridge_at k) → SameRoots x y }
-    ensures regional { (net : Net) (o : Outcome) → IsNetwork net → IsOutcome net o → (n : List ℕ) (x : CistVector) → o.cist.vector n ≡ Some x → HasRegionalRoot (trees_of net o) n x }
+    ensures values { (net : Net) (o : Outcome) → IsNetwork net → IsOutcome net o → IsUnrestricted net → (n k : List ℕ) (x y : CistVector) → o.cist.vector n ≡ Some x → o.cist.vector k ≡ Some y → SamePart (trees_of net o) (bridge_at n) (bridge_at k) → SameRoots x y }
+    ensures regional { (net : Net) (o : Outcome) → IsNetwork net → IsOutcome net o → IsUnrestricted net → (n : List ℕ) (x : CistVector) → o.cist.vector n ≡ Some x → HasRegionalRoot (trees_of net o) n x }
 {
     nested();
     laws::parts::<Name, Name, PortName>();
@@ -71,10 +73,10 @@ pub fn parts()
 /// in every tree of its bridge. A part that holds the root of the CIST has no exit, each other part has one, to a part
 /// of lower external root path cost.
 pub fn exits()
-    ensures only { (net : Net) (o : Outcome) → IsNetwork net → IsOutcome net o → (p : Plug (List ℕ) (List ℕ) PortKey CistPort) (tree : ℕ) → IsCrossing (trees_of net o) p → Forwards (trees_of net o) tree p → IsExit (trees_of net o) p }
-    ensures all { (net : Net) (o : Outcome) → IsNetwork net → IsOutcome net o → (p : Plug (List ℕ) (List ℕ) PortKey CistPort) (tree : ℕ) → IsExit (trees_of net o) p → HasTree (trees_of net o) tree p.bridge → Forwards (trees_of net o) tree p }
-    ensures top { (net : Net) (o : Outcome) → IsNetwork net → IsOutcome net o → (n : List ℕ) (x : CistVector) → o.cist.vector n ≡ Some x → HoldsRoot (trees_of net o) n x → (p : Plug (List ℕ) (List ℕ) PortKey CistPort) → IsExit (trees_of net o) p → SamePart (trees_of net o) (bridge_at n) (bridge_at p.bridge) → ⊥ }
-    ensures one { (net : Net) (o : Outcome) → IsNetwork net → IsOutcome net o → (n : List ℕ) (x : CistVector) → o.cist.vector n ≡ Some x → HoldsRoot (trees_of net o) n x ⊎ HasOneExit (trees_of net o) n x }
+    ensures only { (net : Net) (o : Outcome) → IsNetwork net → IsOutcome net o → IsUnrestricted net → (p : Plug (List ℕ) (List ℕ) PortKey CistPort) (tree : ℕ) → IsCrossing (trees_of net o) p → Forwards (trees_of net o) tree p → IsExit (trees_of net o) p }
+    ensures all { (net : Net) (o : Outcome) → IsNetwork net → IsOutcome net o → IsUnrestricted net → (p : Plug (List ℕ) (List ℕ) PortKey CistPort) (tree : ℕ) → IsExit (trees_of net o) p → HasTree (trees_of net o) tree p.bridge → Forwards (trees_of net o) tree p }
+    ensures top { (net : Net) (o : Outcome) → IsNetwork net → IsOutcome net o → IsUnrestricted net → (n : List ℕ) (x : CistVector) → o.cist.vector n ≡ Some x → HoldsRoot (trees_of net o) n x → (p : Plug (List ℕ) (List ℕ) PortKey CistPort) → IsExit (trees_of net o) p → SamePart (trees_of net o) (bridge_at n) (bridge_at p.bridge) → ⊥ }
+    ensures one { (net : Net) (o : Outcome) → IsNetwork net → IsOutcome net o → IsUnrestricted net → (n : List ℕ) (x : CistVector) → o.cist.vector n ≡ Some x → HoldsRoot (trees_of net o) n x ⊎ HasOneExit (trees_of net o) n x }
 {
     nested();
     laws::exits::<Name, Name, PortName>();
@@ -84,7 +86,7 @@ pub fn exits()
 /// role in each: it does exactly where it is the exit of its bridge's part, the root port in the CIST of the part's
 /// regional root.
 pub fn crossing()
-    ensures { (net : Net) (o : Outcome) → IsNetwork net → IsOutcome net o → (p : LogicalPort) → IsEnabled net p → (SamePart (trees_of net o) (bridge_at p.name.bridge) (lan_at p.lan) → ⊥) → (tree : ℕ) (role : RoleOf) → role_in net o tree p ≡ Some role → forwards role ≡ true ↔ IsExit (trees_of net o) (tree_port p (cist_port (by_tree net) p)) }
+    ensures { (net : Net) (o : Outcome) → IsNetwork net → IsOutcome net o → IsUnrestricted net → (p : LogicalPort) → IsEnabled net p → (SamePart (trees_of net o) (bridge_at p.name.bridge) (lan_at p.lan) → ⊥) → (tree : ℕ) (role : RoleOf) → role_in net o tree p ≡ Some role → forwards role ≡ true ↔ IsExit (trees_of net o) (tree_port p (cist_port (by_tree net) p)) }
 {
     nested();
     forwarding();
@@ -94,8 +96,8 @@ pub fn crossing()
 /// In each tree that the bridges of a part have, the ports that forward inside it join all its bridges and LANs
 /// without a loop.
 pub fn inside()
-    ensures joined { (net : Net) (o : Outcome) → IsNetwork net → IsOutcome net o → (tree : ℕ) (n : List ℕ) (y : Node (List ℕ) (List ℕ)) → HasTree (trees_of net o) tree n → SamePart (trees_of net o) (bridge_at n) y → Walk plug_ends (ForwardsInside (trees_of net o) tree) (bridge_at n) y }
-    ensures no_loop { (net : Net) (o : Outcome) → IsNetwork net → IsOutcome net o → (tree : ℕ) → HasNoLoop plug_ends (ForwardsInside (trees_of net o) tree) }
+    ensures joined { (net : Net) (o : Outcome) → IsNetwork net → IsOutcome net o → IsUnrestricted net → (tree : ℕ) (n : List ℕ) (y : Node (List ℕ) (List ℕ)) → HasTree (trees_of net o) tree n → SamePart (trees_of net o) (bridge_at n) y → Walk plug_ends (ForwardsInside (trees_of net o) tree) (bridge_at n) y }
+    ensures no_loop { (net : Net) (o : Outcome) → IsNetwork net → IsOutcome net o → IsUnrestricted net → (tree : ℕ) → HasNoLoop plug_ends (ForwardsInside (trees_of net o) tree) }
 {
     nested();
     laws::inside::<Name, Name, PortName>();

@@ -73,7 +73,7 @@ struct Case {
     msti: (u64, u64),
 }
 
-fn cases() -> [Case; 6] {
+fn cases() -> [Case; 7] {
     [
         Case {
             made_by: [TRIANGLE, EACH_ITS_OWN_REGION],
@@ -114,6 +114,12 @@ fn cases() -> [Case; 6] {
             cist: (3, 6),
             msti: (1, 2),
         },
+        Case {
+            made_by: [TRIANGLE, EACH_ITS_OWN_REGION],
+            edit: "setportrestrrole B 1 yes",
+            cist: (1, 2),
+            msti: (0, 0),
+        },
     ]
 }
 
@@ -136,11 +142,21 @@ fn planner_of(alloc: Global, lines: &str) -> Option<Planner> {
     Some(planner)
 }
 
+/// Whether the line says an edit, which isn't refused. It is applied then.
+fn is_applied(planner: &mut Planner, line: &str) -> bool {
+    match edit_of(line) {
+        Some(edit) => planner.apply(&edit).is_ok(),
+        None => false,
+    }
+}
+
 /// How often bridges are settled in the CIST and in tree 1 for an edit of the network that these lines make.
 fn settlings_for(alloc: Global, lines: &str, edit: &str) -> Option<(u64, u64)> {
     let mut planner = planner_of(alloc, lines)?;
     planner.settle().ok()?;
-    planner.apply(&edit_of(edit)?).ok()?;
+    if !is_applied(&mut planner, edit) {
+        return None;
+    }
     Some((
         planner.settlings(Tree::cist()),
         planner.settlings(Tree::new(1)?),
@@ -239,12 +255,12 @@ plug A 2 S
 
 /// Numbers drawn one after another, the same in each run.
 #[derive(Drop)]
-struct Draws {
-    state: u64,
+pub(super) struct Draws {
+    pub(super) state: u64,
 }
 
 impl Draws {
-    fn draw(&mut self) -> usize {
+    pub(super) fn draw(&mut self) -> usize {
         self.state = self
             .state
             .wrapping_mul(6_364_136_223_846_793_005)
@@ -261,7 +277,7 @@ fn drawn_line(alloc: Global, draws: &mut Draws) -> Result<String, AllocError> {
     let tree = draws.draw() % 3;
     let step = draws.draw() % 16;
     let is_first = draws.draw() % 2 == 0;
-    match draws.draw() % 10 {
+    match draws.draw() % 11 {
         0 => format!(in alloc; "bridge {bridge} {}", if is_first { "on" } else { "off" }),
         1 => format!(in alloc; "lan {lan} {}", if is_first { "up" } else { "down" }),
         2 => format!(in alloc; "kind {bridge} {}", if is_first { "mstp" } else { "rstp" }),
@@ -270,7 +286,11 @@ fn drawn_line(alloc: Global, draws: &mut Draws) -> Result<String, AllocError> {
         5 => format!(in alloc; "setportpathcost {bridge} {port} {step}000"),
         6 => format!(in alloc; "settreeportcost {bridge} {port} {tree} {step}000"),
         7 => format!(in alloc; "settreeprio {bridge} {tree} {step}"),
-        8 => format!(in alloc; "settreeportprio {bridge} {port} {tree} {step}"),
+        8 => format!(in alloc;
+            "setportrestrrole {bridge} {port} {}",
+            if is_first { "yes" } else { "no" }
+        ),
+        9 => format!(in alloc; "settreeportprio {bridge} {port} {tree} {step}"),
         _ => format!(in alloc; "setvid2mstid {bridge} {tree} 10-{}", step + 10),
     }
 }

@@ -1,7 +1,8 @@
-use Rattle.std.proofs.Common.{List, take}
+use Rattle.std.proofs.Common.{◌≡◌, List, take}
 use Rattle.std.specs.Io.KnownBytes.{Appends}
 use Rattle.mst_tool.specs.Steps.{Step, texts_of}
 use Rattle.mst_tool.specs.Engine.{IsReady, tally_of}
+use Rattle.mst_tool.specs.Devices.{Works}
 use Rattle.mst_tool.specs.Feeding.{IsCounted, Feeds}
 use Rattle.mst_tool.proofs.feed.feed.Given as goal
 
@@ -11,5 +12,7 @@ invariant-loop-byte g l = record {
   counted : IsCounted (tally_of l.engine);
   done : List Step;
   feeds : Feeds l.fn.input done (tally_of l.fn.engine) l.fn.held (take l.byte-index l.bytes) (tally_of l.engine) l.held;
-  written : Appends (g.W.Write.contents l.fn.writer) (g.W.Write.contents l.writer) (texts_of done);
+  written : Appends (g.K.Sink.contents l.fn.sink) (g.K.Sink.contents l.sink) (texts_of done);
+  works : Works (g.K.Sink.told l.fn.sink) (g.K.Sink.told l.sink);
+  lent : g.K.Sink.lent l.sink ≡ g.K.Sink.lent l.fn.sink;
 }

@@ -1,7 +1,8 @@
-use Rattle.std.proofs.Common.{ℕ, List, [], length, ◌≤◌, ◌*◌}
+use Rattle.std.proofs.Common.{◌≡◌, ℕ, ◌+◌, List, [], length, ◌≤◌, ◌*◌}
 use Rattle.std.specs.Io.KnownBytes.{Appends, Consumes}
 use Rattle.mst_report.specs.Planned.{planned_state}
 use Rattle.mst_tool.specs.Steps.{Step, texts_of}
+use Rattle.mst_tool.specs.Devices.{Works}
 use Rattle.mst_tool.specs.Engine.{IsReady, begun, tally_of}
 use Rattle.mst_tool.specs.Feeding.{IsCounted, Feeds}
 use Rattle.mst_tool.proofs.runs.serve_input.Given as goal
@@ -12,8 +13,13 @@ invariant-turns g l = record {
   counted : IsCounted (tally_of l.engine);
   read : List ℕ;
   done : List Step;
-  consumed : Consumes (g.R.Read.remaining l.fn.reader) (g.R.Read.remaining l.reader) read;
+  consumed : Consumes (g.S.Source.remaining l.fn.source) (g.S.Source.remaining l.source) read;
   feeds : Feeds l.fn.input done (begun (planned_state l.fn.engine.planner)) [] read (tally_of l.engine) l.held;
-  written : Appends (g.W.Write.contents l.fn.writer) (g.W.Write.contents l.writer) (texts_of done);
+  reading : Works (g.S.Source.told l.fn.source) (g.S.Source.told l.source);
+  calls : (g.S.Source.told l.source).calls ≡ (g.S.Source.told l.fn.source).calls + l.turn;
+  works : Works (g.K.Sink.told l.fn.sink) (g.K.Sink.told l.sink);
+  lent_source : g.S.Source.lent l.source ≡ g.S.Source.lent l.fn.source;
+  lent_sink : g.K.Sink.lent l.sink ≡ g.K.Sink.lent l.fn.sink;
+  written : Appends (g.K.Sink.contents l.fn.sink) (g.K.Sink.contents l.sink) (texts_of done);
   few : length read ≤ 4096 * l.turn;
 }

@@ -4,10 +4,10 @@ use Rattle.mst_vlan.proofs.ActiveLaw.{joined_without_loop}
 use Rattle.mst_vlan.proofs.laws.joined_without_loop.Goals as goal
 
 pub returns-clause-active : goal.returns-clause-active
-returns-clause-active c net o vid ok is =
-    joined_without_loop net ok o (c.nested.ensures.settled net o ok is) (c.nested.ensures.free net o ok is) (c.forwarding.ensures net o ok is) vid c.active.ensures.joined c.active.ensures.no_loop
+returns-clause-active c net o vid ok is free =
+    joined_without_loop net ok o (c.nested.ensures.settled net o ok is) (c.nested.ensures.free net o ok is free) (c.forwarding.ensures net o ok is) vid c.active.ensures.joined c.active.ensures.no_loop
 
 pub returns-clause-sets : goal.returns-clause-sets
-returns-clause-sets c net o vid ok is x y walk =
+returns-clause-sets c net o vid ok is free x y walk =
     replaced port_ends
-    (joined_without_loop net ok o (c.nested.ensures.settled net o ok is) (c.nested.ensures.free net o ok is) (c.forwarding.ensures net o ok is) vid c.active.ensures.joined c.active.ensures.no_loop).joined walk
+    (joined_without_loop net ok o (c.nested.ensures.settled net o ok is) (c.nested.ensures.free net o ok is free) (c.forwarding.ensures net o ok is) vid c.active.ensures.joined c.active.ensures.no_loop).joined walk

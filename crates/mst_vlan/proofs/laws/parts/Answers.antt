@@ -10,7 +10,7 @@ pub returns-clause-lans : goal.returns-clause-lans
 returns-clause-lans c net o ok is p enabled = c.parts.ensures.lans (trees_of net o) tests (c.nested.ensures.settled net o ok is) (plug net p) (enabled_plug net ok p enabled)
 
 pub returns-clause-values : goal.returns-clause-values
-returns-clause-values c net o ok is n k x y e f part = c.parts.ensures.values (trees_of net o) tests (c.nested.ensures.settled net o ok is) (c.nested.ensures.free net o ok is) n k x y e f part
+returns-clause-values c net o ok is free n k x y e f part = c.parts.ensures.values (trees_of net o) tests (c.nested.ensures.settled net o ok is) (c.nested.ensures.free net o ok is free) n k x y e f part
 
 pub returns-clause-regional : goal.returns-clause-regional
-returns-clause-regional c net o ok is n x e = c.roots.ensures.regional (trees_of net o) tests (c.nested.ensures.settled net o ok is) (c.nested.ensures.free net o ok is) n x e
+returns-clause-regional c net o ok is free n x e = c.roots.ensures.regional (trees_of net o) tests (c.nested.ensures.settled net o ok is) (c.nested.ensures.free net o ok is free) n x e

@@ -4,42 +4,42 @@ use Rattle.std.specs.Io.KnownBytes.{Keeps}
 use Rattle.mstplan.proofs.Checked.{Told, append_known-nothing, ends_broken, ends_written, ends_lost}
 use Rattle.mstplan.proofs.buffered.check_into.Goals as goal
 
-pub returns-then-is_write_fault : goal.returns-then-is_write_fault
-returns-then-is_write_fault g c =
-    let scripts = g.S.Read.remaining c.args.script in
-    let captures = g.C.Read.remaining c.args.captures in
+pub returns-then-is_write_fault-clause-ends : goal.returns-then-is_write_fault-clause-ends
+returns-then-is_write_fault-clause-ends g c =
+    let scripts = g.S.Source.remaining c.args.script.now in
+    let captures = g.C.Source.remaining c.args.captures.now in
     let old = c.args.buffered.now in
-    let new = c.check-ended.new.writer in
-    let ended = c.check-ended.result in
-    let h = c.check-ended.ensures in
-    let told : Told scripts captures (writer_contents g.W.Write.contents old) (writer_contents g.W.Write.contents new) ended = record { ok = h.ok; fault = h.fault; read = h.read; memory = h.memory } in
+    let new = c.check_to-ended.new.writer in
+    let ended = c.check_to-ended.result in
+    let h = c.check_to-ended.ensures in
+    let told : Told scripts captures (writer_contents g.W.Write.contents old) (writer_contents g.W.Write.contents new) ended = record { ok = h.ok; fault = h.fault; read = λ e. (g.S.Source.remaining c.check_to-ended.new.script, g.C.Source.remaining c.check_to-ended.new.captures, h.read e); memory = h.memory } in
     ends_broken scripts captures (g.W.Write.contents (writer_inner old)) (g.W.Write.contents (writer_inner new)) (writer_buffer new) ended (sym c.is_write_fault.ensures ∙ c.if-is_write_fault.true)
-    (subst (λ written. Told scripts captures written (writer_contents g.W.Write.contents new) ended) (append_known-nothing (g.W.Write.contents (writer_inner old)) (writer_buffer old) c.requires) told)
+    (subst (λ written. Told scripts captures written (writer_contents g.W.Write.contents new) ended) (append_known-nothing (g.W.Write.contents (writer_inner old)) (writer_buffer old) c.requires.empty) told)
 
-pub returns-in-Ok : goal.returns-in-Ok
-returns-in-Ok g c =
-    let scripts = g.S.Read.remaining c.args.script in
-    let captures = g.C.Read.remaining c.args.captures in
+pub returns-in-Ok-clause-ends : goal.returns-in-Ok-clause-ends
+returns-in-Ok-clause-ends g c =
+    let scripts = g.S.Source.remaining c.args.script.now in
+    let captures = g.C.Source.remaining c.args.captures.now in
     let old = c.args.buffered.now in
-    let mid = c.check-ended.new.writer in
+    let mid = c.check_to-ended.new.writer in
     let new = c.flush.new.self in
-    let ended = c.check-ended.result in
-    let h = c.check-ended.ensures in
-    let told : Told scripts captures (writer_contents g.W.Write.contents old) (writer_contents g.W.Write.contents mid) ended = record { ok = h.ok; fault = h.fault; read = h.read; memory = h.memory } in
+    let ended = c.check_to-ended.result in
+    let h = c.check_to-ended.ensures in
+    let told : Told scripts captures (writer_contents g.W.Write.contents old) (writer_contents g.W.Write.contents mid) ended = record { ok = h.ok; fault = h.fault; read = λ e. (g.S.Source.remaining c.check_to-ended.new.script, g.C.Source.remaining c.check_to-ended.new.captures, h.read e); memory = h.memory } in
     ends_written scripts captures (g.W.Write.contents (writer_inner old)) (writer_contents g.W.Write.contents mid) (g.W.Write.contents (writer_inner new)) ended (sym c.is_write_fault.ensures ∙ c.if-is_write_fault.false)
-    (subst (λ written. Told scripts captures written (writer_contents g.W.Write.contents mid) ended) (append_known-nothing (g.W.Write.contents (writer_inner old)) (writer_buffer old) c.requires) told)
+    (subst (λ written. Told scripts captures written (writer_contents g.W.Write.contents mid) ended) (append_known-nothing (g.W.Write.contents (writer_inner old)) (writer_buffer old) c.requires.empty) told)
     (subst (Keeps (writer_contents g.W.Write.contents mid)) (append_known-nothing (g.W.Write.contents (writer_inner new)) (writer_buffer new) c.in-Ok.ensures.ok) c.in-Ok.ensures.bytes)
 
-pub returns-in-Err : goal.returns-in-Err
-returns-in-Err g c =
-    let scripts = g.S.Read.remaining c.args.script in
-    let captures = g.C.Read.remaining c.args.captures in
+pub returns-in-Err-clause-ends : goal.returns-in-Err-clause-ends
+returns-in-Err-clause-ends g c =
+    let scripts = g.S.Source.remaining c.args.script.now in
+    let captures = g.C.Source.remaining c.args.captures.now in
     let old = c.args.buffered.now in
-    let mid = c.check-ended.new.writer in
+    let mid = c.check_to-ended.new.writer in
     let new = c.flush.new.self in
-    let ended = c.check-ended.result in
-    let h = c.check-ended.ensures in
-    let told : Told scripts captures (writer_contents g.W.Write.contents old) (writer_contents g.W.Write.contents mid) ended = record { ok = h.ok; fault = h.fault; read = h.read; memory = h.memory } in
+    let ended = c.check_to-ended.result in
+    let h = c.check_to-ended.ensures in
+    let told : Told scripts captures (writer_contents g.W.Write.contents old) (writer_contents g.W.Write.contents mid) ended = record { ok = h.ok; fault = h.fault; read = λ e. (g.S.Source.remaining c.check_to-ended.new.script, g.C.Source.remaining c.check_to-ended.new.captures, h.read e); memory = h.memory } in
     ends_lost scripts captures (g.W.Write.contents (writer_inner old)) (writer_contents g.W.Write.contents mid) (g.W.Write.contents (writer_inner new)) (writer_buffer new) ended
-    (subst (λ written. Told scripts captures written (writer_contents g.W.Write.contents mid) ended) (append_known-nothing (g.W.Write.contents (writer_inner old)) (writer_buffer old) c.requires) told)
+    (subst (λ written. Told scripts captures written (writer_contents g.W.Write.contents mid) ended) (append_known-nothing (g.W.Write.contents (writer_inner old)) (writer_buffer old) c.requires.empty) told)
     c.in-Err.ensures.bytes

@@ -22,11 +22,11 @@ invariant_of-self c =
     let a = c.self.inside in
     let b : Inside = record a { ports = c.set.new.self; plug_counts = c.raise.new.self } in
     plugged_sound a b refl c.args.port.now c.unwrap-settings.result _ (ap (λ n. fin.get n.net.ports c.args.port.now) c.self.view_is ∙ sym c.port_settings.ensures ∙ c.unwrap-settings.ensures) c.set.ensures.rows
-    c.args.lan (subst (CanCommit (Plug c.args.port.now c.args.lan)) (sym c.self.view_is) c.requires) c.self.invariant (sym c.after.ensures) c.set.ensures.numbered c.raise.ensures
+    c.args.lan (subst (CanCommit (Plug c.args.port.now c.args.lan)) (sym c.self.view_is) c.requires) c.self.invariant (sym c.in_lan.ensures) c.set.ensures.numbered c.raise.ensures
 
 pub returns : goal.returns
 returns c =
     let a = c.self.inside in
     let b : Inside = record a { ports = c.set.new.self; plug_counts = c.raise.new.self } in
     subst (λ (old : Contents). Makes (Plug c.args.port.now c.args.lan) old (contents_of b)) c.self.view_is
-    (plugged_made a b refl c.args.port.now c.unwrap-settings.result _ (ap (λ n. fin.get n.net.ports c.args.port.now) c.self.view_is ∙ sym c.port_settings.ensures ∙ c.unwrap-settings.ensures) c.set.ensures.rows c.args.lan (sym c.after.ensures) c.set.ensures.numbers)
+    (plugged_made a b refl c.args.port.now c.unwrap-settings.result _ (ap (λ n. fin.get n.net.ports c.args.port.now) c.self.view_is ∙ sym c.port_settings.ensures ∙ c.unwrap-settings.ensures) c.set.ensures.rows c.args.lan (sym c.in_lan.ensures) c.set.ensures.numbers)

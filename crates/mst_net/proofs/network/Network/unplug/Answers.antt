@@ -24,11 +24,11 @@ invariant_of-self c =
     let a = c.self.inside in
     let b : Inside = record a { ports = c.set.new.self; plug_counts = c.lower.new.self } in
     unplugged_sound a b refl c.args.port.now c.unwrap-settings.result _ (ap (λ n. fin.get n.net.ports c.args.port.now) c.self.view_is ∙ sym c.port_settings.ensures ∙ c.unwrap-settings.ensures) c.set.ensures.rows
-    c.unwrap-lan.result (subst (CanCommit (Unplug c.args.port.now)) (sym c.self.view_is) c.requires) c.self.invariant (ap (λ r. r.lan) (sym c.settings.view_is) ∙ c.unwrap-lan.ensures) (sym c.after.ensures) c.set.ensures.numbered c.lower.ensures
+    c.unwrap-lan.result (subst (CanCommit (Unplug c.args.port.now)) (sym c.self.view_is) c.requires) c.self.invariant (ap (λ r. r.lan) (sym c.settings.view_is) ∙ c.unwrap-lan.ensures) (sym c.in_lan.ensures) c.set.ensures.numbered c.lower.ensures
 
 pub returns : goal.returns
 returns c =
     let a = c.self.inside in
     let b : Inside = record a { ports = c.set.new.self; plug_counts = c.lower.new.self } in
     subst (λ (old : Contents). Makes (Unplug c.args.port.now) old (contents_of b)) c.self.view_is
-    (unplugged_made a b refl c.args.port.now c.unwrap-settings.result _ (ap (λ n. fin.get n.net.ports c.args.port.now) c.self.view_is ∙ sym c.port_settings.ensures ∙ c.unwrap-settings.ensures) c.set.ensures.rows (sym c.after.ensures) c.set.ensures.numbers)
+    (unplugged_made a b refl c.args.port.now c.unwrap-settings.result _ (ap (λ n. fin.get n.net.ports c.args.port.now) c.self.view_is ∙ sym c.port_settings.ensures ∙ c.unwrap-settings.ensures) c.set.ensures.rows (sym c.in_lan.ensures) c.set.ensures.numbers)

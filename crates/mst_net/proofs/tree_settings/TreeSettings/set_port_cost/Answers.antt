@@ -1,5 +1,6 @@
 use Rattle.std.proofs.Common.{◌∙◌, ap, refl}
-use Rattle.mst_lang.specs.declared.line.Edit.TheVariants.{SetTreePortCost}
+use Rattle.mst_lang.specs.declared.line.Edit.TheVariants.{SetByTree}
+use Rattle.mst_lang.specs.declared.line.TreeChange.TheVariants.{PortCost}
 use Rattle.mst_net.specs.SettingsAfter.{set_after}
 use Rattle.mst_net.specs.declared.tree_settings.TreeSettings.TheInside.{Inside}
 use Rattle.mst_net.proofs.Keys.{ports, port_trees}
@@ -20,4 +21,4 @@ pub returns : goal.returns
 returns c =
     let a = c.self.inside in
     let b : Inside = record a { port_costs = c.keep.new.table; port_blocks = c.mark.new.marks } in
-    port_cost_kept a b c.args.port.now c.args.tree c.args.cost refl c.keep.ensures ∙ ap (λ s. set_after (SetTreePortCost c.args.port.now c.args.tree c.args.cost) s.set) c.self.view_is
+    port_cost_kept a b c.args.port.now c.args.tree c.args.cost refl c.keep.ensures ∙ ap (λ s. set_after (SetByTree (PortCost c.args.port.now c.args.tree c.args.cost)) s.set) c.self.view_is

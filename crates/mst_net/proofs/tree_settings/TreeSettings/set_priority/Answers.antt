@@ -1,5 +1,6 @@
 use Rattle.std.proofs.Common.{◌∙◌, ap, refl}
-use Rattle.mst_lang.specs.declared.line.Edit.TheVariants.{SetTreePriority}
+use Rattle.mst_lang.specs.declared.line.Edit.TheVariants.{SetByTree}
+use Rattle.mst_lang.specs.declared.line.TreeChange.TheVariants.{Priority}
 use Rattle.mst_net.specs.SettingsAfter.{set_after}
 use Rattle.mst_net.specs.declared.tree_settings.TreeSettings.TheInside.{Inside}
 use Rattle.mst_net.proofs.Keys.{names, bridge_trees}
@@ -20,4 +21,4 @@ pub returns : goal.returns
 returns c =
     let a = c.self.inside in
     let b : Inside = record a { priorities = c.keep.new.table; bridge_blocks = c.mark.new.marks } in
-    priority_kept a b c.args.bridge.now c.args.tree c.args.priority refl _ c.own_priority.ensures c.keep.ensures ∙ ap (λ s. set_after (SetTreePriority c.args.bridge.now c.args.tree c.args.priority) s.set) c.self.view_is
+    priority_kept a b c.args.bridge.now c.args.tree c.args.priority refl _ c.own_priority.ensures c.keep.ensures ∙ ap (λ s. set_after (SetByTree (Priority c.args.bridge.now c.args.tree c.args.priority)) s.set) c.self.view_is

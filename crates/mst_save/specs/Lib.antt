@@ -1,0 +1,6 @@
+pub mod EditLine
+pub mod Runs
+pub mod Saved
+pub mod SaveText
+pub mod Making
+pub mod Homes
