@@ -25,7 +25,7 @@ use Rattle.mst_trees.specs.Outcome.{Outcome, IsOutcome}
 use Rattle.mst_trees.specs.Agrees.{AreOf}
 use Rattle.mst_trees.specs.Seen.{trees_at}
 use Rattle.mst_trees.specs.Forest.{IsForest}
-use Rattle.mst_trees.specs.declared.forest.Forest.{Forest}
+use Rattle.mst_trees.specs.Forest.{Forest}
 use Rattle.mst_trees.proofs.Lists.{some_is, kept_in, all_contained}
 use Rattle.mst_trees.proofs.Views.{IsPort, IsOn, ports_are, row_on, entry_there}
 use Rattle.mst_trees.proofs.Seen.{SeenBridge, SeenPort, bridge_seen, port_seen, port_of_net}

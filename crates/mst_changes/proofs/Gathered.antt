@@ -18,7 +18,7 @@ use Rattle.mst_trees.specs.Agrees.{AreOf}
 use Rattle.mst_trees.specs.Forest.{IsForest, msti_vector}
 use Rattle.mst_trees.specs.Msti.{has_msti}
 use Rattle.mst_trees.specs.Seen.{trees_at}
-use Rattle.mst_trees.specs.declared.forest.Forest.{Forest}
+use Rattle.mst_trees.specs.Forest.{Forest}
 use Rattle.mst_trees.proofs.Lists.{kept_same}
 use Rattle.mst_trees.proofs.Entries.{all_weaker}
 use Rattle.mst_trees.proofs.Seen.{SeenBridge, SeenPort, bridges_seen, ports_seen}

@@ -9,7 +9,7 @@ use Rattle.mst_lag.specs.declared.in_view.BridgeInView.{BridgeInView}
 use Rattle.mst_lag.specs.declared.in_view.PortInView.{PortInView}
 use Rattle.mst_trees.specs.Seen.{trees_at}
 use Rattle.mst_trees.specs.Forest.{msti_vector}
-use Rattle.mst_trees.specs.declared.forest.Forest.{Forest}
+use Rattle.mst_trees.specs.Forest.{Forest}
 use Rattle.mst_roles.specs.Seen.{seen_role}
 use Rattle.mst_changes.specs.declared.place.Item.TheVariants.{Bridge, Port}
 use Rattle.mst_changes.specs.declared.state.State.{State}

@@ -21,7 +21,7 @@ module _ {N L K B P V : Type 0} (tree : SettledTree N L K B P V) where
   pub one_parent : (n k j : N) → Parent n k → Parent n j → k ≡ j
   one_parent n k j p q =
       let vectors : p.is_root.vector ≡ q.is_root.vector = some_is (sym (parent_vector p) ∙ (parent_vector q)) in
-      let ports : p.port ≡ q.port = ok.port_ids p.port q.port p.is_root.part.0 q.is_root.part.0 (p.on_bridge ∙ sym q.on_bridge) (sym p.is_root.came_by ∙ (ap w.receiver vectors ∙ q.is_root.came_by)) in
+      let ports : p.port ≡ q.port = ok.port_ids p.port q.port p.is_root.part.0 p.is_root.part.1 q.is_root.part.0 q.is_root.part.1 (p.on_bridge ∙ sym q.on_bridge) (sym p.is_root.came_by ∙ (ap w.receiver vectors ∙ q.is_root.came_by)) in
       let heard : Heard tree p.port.lan = record { port = p.from; message = p.message; designates = p.designates } in
       let d : Heard tree q.port.lan = on_same_lan (ap (λ (r : Plug N L K P). r.lan) ports) heard in
       let from = one_designated m law t ok v q.port.lan d.port q.from d.message q.message d.designates q.designates in

@@ -87,7 +87,7 @@ module _ {N L K : Type 0} (f : Trees N L K) (tests : KeyTests N L) (ok : IsSettl
     where
       in_tree : ForwardsInRegion f (suc j) p → HasTree f (suc j) p.bridge
       in_tree r = elim r.role [
-        | inl h ↦ (let b = (ok.msti j).topology.has_bridge r.port h.part.0 in (b.0, subst (λ n. HasBridge (f.msti (suc j)) n b.0) r.same.bridge b.1))
+        | inl h ↦ (let b = (ok.msti j).topology.has_bridge r.port h.part.0 h.part.1 in (b.0, subst (λ n. HasBridge (f.msti (suc j)) n b.0) r.same.bridge b.1))
         | inr h ↦ (let s = h.designates.says in (s.bridge, subst (λ n. HasBridge (f.msti (suc j)) n s.bridge) r.same.bridge s.has_bridge))
       ]
   forwards_tree (suc j) p (i, inr m) = m.has_tree

@@ -10,7 +10,7 @@ module _ {N L K : Type 0} (f : Trees N L K) (i : ℕ) (ok : IsTopology msti_rule
   from_ports : (q : Plug N L K MstiPort) → TakesPart (f.msti (suc i)) q → (p : Plug N L K CistPort) × IsInner f p × IsSamePort q p
   from_ports q on =
       let p = marked.from_ports q on.0 in
-      let b = ok.has_bridge q on.0 in
+      let b = ok.has_bridge q on.0 on.1 in
       let has : HasTree f (suc i) p.0.bridge = (b.0, subst (λ n. HasBridge (f.msti (suc i)) n b.0) p.2.bridge b.1) in
       let r = marked.ports p.0 p.1 has in
       let same : q ≡ r.0 = ok.one_port q r.0 on.0 r.1 (p.2.number ∙ sym r.2.number) in

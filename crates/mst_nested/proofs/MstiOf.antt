@@ -37,10 +37,10 @@ module _ {N L K : Type 0} (t : Topology N L K CistBridge CistPort) (tests : KeyT
       topology = record {
         one_bridge = λ n a b h k. absurd (contains-among [] (n, a) h);
         one_port = λ p q h k e. absurd (contains-among [] p h);
-        has_bridge = λ p h. absurd (contains-among [] p h);
+        has_bridge = λ p h o. absurd (contains-among [] p h);
         in_range = λ p h. absurd (contains-among [] p h);
         bridge_ids = λ n k a b h g e. absurd (contains-among [] (n, a) h);
-        port_ids = λ p q h k e g. absurd (contains-among [] p h);
+        port_ids = λ p q h o k u e g. absurd (contains-among [] p h);
       };
       settled = record {
         has_vector = λ n b h. absurd (contains-among [] (n, b) h);

@@ -32,7 +32,7 @@ module _ {N L K : Type 0} (f : Trees N L K) (tests : KeyTests N L) (ok : IsSettl
   HeardIn lan = Heard (msti_tree f tests ok j) lan
 
   pub at_tree_port : (q : Plug N L K MstiPort) → TakesPart (f.msti (suc j)) q → InTree q.bridge
-  at_tree_port q on = placed (msti_tree f tests ok j) q on.0
+  at_tree_port q on = placed (msti_tree f tests ok j) q on
 
   pub heard_in : (q : Plug N L K MstiPort) → TakesPart (f.msti (suc j)) q → HeardIn q.lan
   heard_in q on = heard (msti_tree f tests ok j) q on

@@ -47,7 +47,7 @@ module _ {N L K : Type 0} (t : Topology N L K CistBridge CistPort) (s : MstiSett
     ports_too i q on =
         let p = (a.settled.nested i).from_ports q on in
         let inner = inner_too p.0 p.1 in
-        let x = (a.settled.msti i).topology.has_bridge q on.0 in
+        let x = (a.settled.msti i).topology.has_bridge q on.0 on.1 in
         let has : HasTree g (suc i) p.0.bridge = (x.0, subst (λ n. HasBridge (g.msti (suc i)) n x.0) p.2.bridge (bridges_too i q.bridge x.0 x.1)) in
         let r = (b.settled.nested i).ports p.0 inner has in
         let number : q.number ≡ r.0.number = p.2.number ∙ sym r.2.number in

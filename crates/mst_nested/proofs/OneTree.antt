@@ -14,7 +14,7 @@ module _ {N L K B P V : Type 0} (tree : SettledTree N L K B P V) where
   pub one_root_port : (p q : Plug N L K P) → IsRootPort m t v w.receiver p → IsRootPort m t v w.receiver q → p.bridge ≡ q.bridge → p ≡ q
   one_root_port p q r s e =
       let same : r.vector ≡ s.vector = some_is (sym r.is_vector ∙ (ap v e ∙ s.is_vector)) in
-      ok.port_ids p q r.part.0 s.part.0 e (sym r.came_by ∙ (ap w.receiver same ∙ s.came_by))
+      ok.port_ids p q r.part.0 r.part.1 s.part.0 s.part.1 e (sym r.came_by ∙ (ap w.receiver same ∙ s.came_by))
 
   -- a step comes by a root port
   pub took_root : (n : N) (a : Placed tree n) (k : Took tree n a) → IsRootPort m t v w.receiver k.port
@@ -38,10 +38,10 @@ module _ {N L K B P V : Type 0} (tree : SettledTree N L K B P V) where
 
   -- it rises along a root port within a region
   pub root_cost : (p : Plug N L K P) → IsRootPort m t v w.receiver p → ((a : Placed tree p.bridge) (d : Heard tree p.lan) → IsTrue (w.is_near d.designates.says.bridge a.bridge)) → cost_at (lan_at p.lan) < cost_at (bridge_at p.bridge)
-  root_cost p r near = go (took_along tree p r.part.0 at r.came_by)
+  root_cost p r near = go (took_along tree p r.part at r.came_by)
     where
       at : Placed tree p.bridge
-      at = let b = ok.has_bridge p r.part.0 in record { bridge = b.0; has_bridge = b.1; vector = r.vector; is_vector = r.is_vector }
+      at = let b = ok.has_bridge p r.part.0 r.part.1 in record { bridge = b.0; has_bridge = b.1; vector = r.vector; is_vector = r.is_vector }
 
       go : (k : Took tree p.bridge at) × (k.port ≡ p) → cost_at (lan_at p.lan) < cost_at (bridge_at p.bridge)
       go k =

@@ -1,6 +1,6 @@
 -- Where the vectors of a region's bridges come from in one settled tree, and what walks from there cost.
 use Rattle.std.proofs.Common.{◌≡◌, ◌≢◌, ◌⊎◌, inl, inr, refl, sym, ◌∙◌, ap, subst, ℕ, zero, suc, ◌+◌, ◌<◌, ◌≤◌, Bool, true, false, IsTrue, arith}
-use Rattle.mst_settle.specs.Topology.{Plug, HasBridge, HasPort}
+use Rattle.mst_settle.specs.Topology.{Plug, HasBridge}
 use Rattle.mst_settle.specs.Settled.{Steps}
 use Rattle.mst_nested.specs.Trees.{TakesPart, IsUnrestricted}
 use Rattle.mst_nested.specs.Costs.{CostWalk, at_start, enter}
@@ -60,10 +60,10 @@ module _ {N L K B P V : Type 0} (tree : SettledTree N L K B P V) where
   names_port n a k = ap w.receiver k.is_step ∙ within.step_receiver k.heard.message k.heard.designates.says.bridge a.bridge k.port.settings
 
   -- and a vector that names a port so is a step along it
-  pub took_along : (p : Plug N L K P) → HasPort t p → (a : Placed tree p.bridge) → w.receiver a.vector ≡ m.port_id p.settings → (k : Took p.bridge a) × (k.port ≡ p)
-  took_along p has a by = elim (took p.bridge a) [
-    | inl e ↦ absurd (port_ids p has (sym by ∙ (ap w.receiver e ∙ within.own_receiver a.bridge)))
-    | inr k ↦ (k, ok.port_ids k.port p k.part.0 has k.on_bridge (sym (names_port p.bridge a k) ∙ by))
+  pub took_along : (p : Plug N L K P) → TakesPart t p → (a : Placed tree p.bridge) → w.receiver a.vector ≡ m.port_id p.settings → (k : Took p.bridge a) × (k.port ≡ p)
+  took_along p part a by = elim (took p.bridge a) [
+    | inl e ↦ absurd (port_ids p part.0 (sym by ∙ (ap w.receiver e ∙ within.own_receiver a.bridge)))
+    | inr k ↦ (k, ok.port_ids k.port p k.part.0 k.part.1 part.0 part.1 k.on_bridge (sym (names_port p.bridge a k) ∙ by))
   ]
 
   -- a step from a bridge of the region
@@ -143,7 +143,7 @@ module _ {N L K B P V : Type 0} (tree : SettledTree N L K B P V) where
     pub reached : IsUnrestricted t → {start n : N} {c : ℕ} → CostWalk IsPort w.cost start n c → (s : Placed tree start) (a : Placed tree n) → Reached s.vector a.vector c
     reached free at_start s a = let e : a.vector ≡ s.vector = some_is (sym a.is_vector ∙ s.is_vector) in record { same = ap w.shared e; cheap = (let i = ap w.internal e in omega arith) }
     reached free (enter {n = n} {c = c} walk out into is_out is_into on lan) s a =
-        let at_out = placed tree out (are.part out is_out).0 in
+        let at_out = placed tree out (are.part out is_out) in
         let rest = reached free walk s (same_placed on at_out) in
         let d = heard tree out (are.part out is_out) in
         let f = on_same_lan (sym lan) d in

@@ -31,7 +31,7 @@ module _ {N L K : Type 0} (f : Trees N L K) (tests : KeyTests N L) (ok : IsSettl
   HeardOn lan = Heard (cist_tree f tests ok) lan
 
   pub at_port : (p : Plug N L K CistPort) → IsEnabled f p → At p.bridge
-  at_port p on = placed (cist_tree f tests ok) p on.0
+  at_port p on = placed (cist_tree f tests ok) p on
 
   pub heard_at : (p : Plug N L K CistPort) → IsEnabled f p → HeardOn p.lan
   heard_at p on = heard (cist_tree f tests ok) p on

@@ -21,10 +21,10 @@ module _ {N L K B P V : Type 0} (tree : SettledTree N L K B P V) where
 
   -- of a root port's LAN another bridge's port is the designated one
   root_hears_other : (p : Plug N L K P) → IsRootPort m t v w.receiver p → (q : Plug N L K P) (x : V) → Designates m t v p.lan q x → q.bridge ≢ p.bridge
-  root_hears_other p r q x d e = go (took_along tree p r.part.0 at r.came_by)
+  root_hears_other p r q x d e = go (took_along tree p r.part at r.came_by)
     where
       at : Placed tree p.bridge
-      at = let b = ok.has_bridge p r.part.0 in record { bridge = b.0; has_bridge = b.1; vector = r.vector; is_vector = r.is_vector }
+      at = let b = ok.has_bridge p r.part.0 r.part.1 in record { bridge = b.0; has_bridge = b.1; vector = r.vector; is_vector = r.is_vector }
 
       go : (k : Took tree p.bridge at) × (k.port ≡ p) → ⊥
       go k =
@@ -35,10 +35,10 @@ module _ {N L K B P V : Type 0} (tree : SettledTree N L K B P V) where
 
   -- a root port's role isn't restricted
   pub root_is_free : (p : Plug N L K P) → IsRootPort m t v w.receiver p → p.is_restricted ≡ false
-  root_is_free p r = go (took_along tree p r.part.0 at r.came_by)
+  root_is_free p r = go (took_along tree p r.part at r.came_by)
     where
       at : Placed tree p.bridge
-      at = let b = ok.has_bridge p r.part.0 in record { bridge = b.0; has_bridge = b.1; vector = r.vector; is_vector = r.is_vector }
+      at = let b = ok.has_bridge p r.part.0 r.part.1 in record { bridge = b.0; has_bridge = b.1; vector = r.vector; is_vector = r.is_vector }
 
       go : (k : Took tree p.bridge at) × (k.port ≡ p) → p.is_restricted ≡ false
       go k = subst (λ (c : Plug N L K P). c.is_restricted ≡ false) k.1 k.0.is_free
@@ -48,7 +48,7 @@ module _ {N L K B P V : Type 0} (tree : SettledTree N L K B P V) where
 
   -- the root port, or not
   root_or_not : (p : Plug N L K P) → TakesPart t p → IsRootPort m t v w.receiver p ⊎ (IsRootPort m t v w.receiver p → ⊥)
-  root_or_not p on = go (placed tree p on.0)
+  root_or_not p on = go (placed tree p on)
     where
       go : Placed tree p.bridge → IsRootPort m t v w.receiver p ⊎ (IsRootPort m t v w.receiver p → ⊥)
       go a = elim (same_or_not (w.receiver a.vector) (m.port_id p.settings)) [
@@ -79,7 +79,7 @@ module _ {N L K B P V : Type 0} (tree : SettledTree N L K B P V) where
       go true e =
           let same : d.port.bridge ≡ p.bridge = tests.bridges.alone d.port.bridge p.bridge e in
           elim (same_or_not (m.port_id d.port.settings) (m.port_id p.settings)) [
-            | inl i ↦ inr (inl (record { message = d.message; designates = subst (λ (c : Plug N L K P). Designates m t v p.lan c d.message) (ok.port_ids d.port p d.designates.says.has_port on.0 same i) d.designates }))
+            | inl i ↦ inr (inl (record { message = d.message; designates = subst (λ (c : Plug N L K P). Designates m t v p.lan c d.message) (ok.port_ids d.port p d.designates.says.has_port d.designates.says.is_part on.0 on.1 same i) d.designates }))
             | inr n ↦ inr (inr (inl (record { part = on; port = d.port; message = d.message; designates = d.designates; is_other = λ h. n (ap (λ (c : Plug N L K P). m.port_id c.settings) h); same_bridge = same })))
           ]
 

@@ -2,7 +2,7 @@
 use Rattle.std.proofs.Common.{◌≡◌, ◌⊎◌, inl, inr, refl, sym, ◌∙◌, ap, ℕ, ◌+◌, [], ◌∷◌, ◌++◌, Option, Some, None, Bool, true, false, IsTrue, arith}
 use Rattle.std.specs.Ordering.{is_gt}
 use Rattle.std.proofs.lemmas.Cmp.{nat_list_cmp_total}
-use Rattle.mst_settle.specs.Topology.{Plug, HasBridge, HasPort}
+use Rattle.mst_settle.specs.Topology.{Plug, HasBridge}
 use Rattle.mst_settle.specs.Settled.{Says, Designates, Steps, IsSilent}
 use Rattle.mst_settle.proofs.Orders.{first_part}
 use Rattle.mst_settle.proofs.KeyTests.{fails}
@@ -32,9 +32,9 @@ module _ {N L K B P V : Type 0} (tree : SettledTree N L K B P V) where
     pub message : V
     pub designates : Designates m t v lan port message
 
-  pub placed : (p : Plug N L K P) → HasPort t p → Placed p.bridge
-  placed p has =
-      let b = ok.has_bridge p has in
+  pub placed : (p : Plug N L K P) → TakesPart t p → Placed p.bridge
+  placed p part =
+      let b = ok.has_bridge p part.0 part.1 in
       let x = settled.has_vector p.bridge b.0 b.1 in
       record { bridge = b.0; has_bridge = b.1; vector = x.0; is_vector = x.1 }
 
@@ -48,7 +48,7 @@ module _ {N L K B P V : Type 0} (tree : SettledTree N L K B P V) where
     where
       go : ((q : Plug N L K P) × (x : V) × Designates m t v p.lan q x) ⊎ IsSilent m t v p.lan → Heard p.lan
       go (inl d) = record { port = d.0; message = d.1; designates = d.2 }
-      go (inr s) = (let a = placed p part.0 in absurd (s p (m.designated a.vector a.bridge p.settings) refl (says p part a)))
+      go (inr s) = (let a = placed p part in absurd (s p (m.designated a.vector a.bridge p.settings) refl (says p part a)))
 
   abbrev pub sender : {lan : L} → (d : Heard lan) → Placed d.port.bridge
   sender d = let s = d.designates.says in record { bridge = s.bridge; has_bridge = s.has_bridge; vector = s.root; is_vector = s.is_root }

@@ -123,7 +123,7 @@ module _ {N L K : Type 0} (f : Trees N L K) (tests : KeyTests N L) (ok : IsSettl
 
   -- it is that of a regional root, and the external root path cost falls along it
   pub leads_out : (p : Plug N L K CistPort) (o : IsOuter f tests ok p) → IsEnabled f p → o.at.vector.receiver ≡ p.settings.id → LeadsOut p o
-  leads_out p o on by = go (took_along (cist_tree f tests ok) p on.0 o.at by)
+  leads_out p o on by = go (took_along (cist_tree f tests ok) p on o.at by)
     where
       go : (k : Took (cist_tree f tests ok) p.bridge o.at) × (k.port ≡ p) → LeadsOut p o
       go k =

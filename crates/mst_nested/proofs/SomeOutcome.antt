@@ -70,10 +70,10 @@ module _ {N L K : Type 0} (t : Topology N L K CistBridge CistPort) (tests : KeyT
   topology i = record {
     one_bridge = λ n a b h k. some_is (sym (settings_of i n a h) ∙ settings_of i n b k);
     one_port = λ p q h k e. (let f = source i p h in let g = source i q k in one_source i p q (from_port i p h) (from_port i q k) (ok.one_port f.port g.port f.has_port g.has_port (sym f.same.number ∙ (e ∙ g.same.number))));
-    has_bridge = λ q h. (let f = from_port i q h in let b = ok.has_bridge f.from f.is_inner.is_enabled.0 in (f.settings, subst (λ n. HasBridge (msti i) n f.settings) (ap (λ (r : Plug N L K MstiPort). r.bridge) f.is_port) (is_bridge t tests vector cist (s.bridge i) (s.port i) f.from.bridge b.0 f.settings b.1 f.has_tree)));
+    has_bridge = λ q h o. (let f = from_port i q h in let b = ok.has_bridge f.from f.is_inner.is_enabled.0 f.is_inner.is_enabled.1 in (f.settings, subst (λ n. HasBridge (msti i) n f.settings) (ap (λ (r : Plug N L K MstiPort). r.bridge) f.is_port) (is_bridge t tests vector cist (s.bridge i) (s.port i) f.from.bridge b.0 f.settings b.1 f.has_tree)));
     in_range = λ q h. (let f = source i q h in subst (λ (x : MstiPort). IsTrue (msti_rules.in_range x)) (sym f.settings) (can.in_range i f.port f.has_port));
     bridge_ids = λ n k a b h g e. can.bridge_ids i n k (in_cist i n a h).0 (in_cist i k b g).0 a b (in_cist i n a h).1 (in_cist i k b g).1 (settings_of i n a h) (settings_of i k b g) e;
-    port_ids = λ p q h k e g. (let a = source i p h in let b = source i q k in one_source i p q (from_port i p h) (from_port i q k) (can.port_ids i a.port b.port a.has_port b.has_port (sym a.same.bridge ∙ (e ∙ b.same.bridge)) (ap (λ (x : MstiPort). x.id) (sym a.settings) ∙ (g ∙ ap (λ (x : MstiPort). x.id) b.settings))));
+    port_ids = λ p q h o k u e g. (let a = source i p h in let b = source i q k in one_source i p q (from_port i p h) (from_port i q k) (can.port_ids i a.port b.port a.has_port b.has_port (sym a.same.bridge ∙ (e ∙ b.same.bridge)) (ap (λ (x : MstiPort). x.id) (sym a.settings) ∙ (g ∙ ap (λ (x : MstiPort). x.id) b.settings))));
   }
 
   abbrev msti_vector : ℕ → N → Option MstiVector

@@ -6,7 +6,7 @@ use Rattle.mst_net.specs.Tables.{Net, Numbers}
 use Rattle.mst_lag.specs.Viewed.{Viewed}
 use Rattle.mst_trees.specs.Agrees.{AreOf}
 use Rattle.mst_trees.specs.Forest.{IsForest}
-use Rattle.mst_trees.specs.declared.forest.Forest.{Forest}
+use Rattle.mst_trees.specs.Forest.{Forest}
 use Rattle.mst_trees.specs.Outcome.{trees_of}
 use Rattle.mst_nested.specs.Trees.{IsSettled}
 use Rattle.mst_depths.specs.Depths.{InternalDepth, ExternalDepth}

@@ -27,7 +27,7 @@ use Rattle.mst_trees.specs.Seen.{seen_inner}
 use Rattle.mst_trees.specs.Outcome.{TreeOutcome, IsTreeOutcome, Outcome, trees_of}
 use Rattle.mst_trees.specs.Agrees.{Agrees, AreOf}
 use Rattle.mst_trees.specs.Forest.{IsForest, msti_vector, msti_designated, designated_in}
-use Rattle.mst_trees.specs.declared.forest.Forest.{Forest}
+use Rattle.mst_trees.specs.Forest.{Forest}
 use Rattle.mst_trees.proofs.Seen.{bridge_seen, port_seen, bridge_there}
 use Rattle.mst_trees.proofs.Sights.{IsSight, bridge_from}
 use Rattle.mst_trees.proofs.Looking.{inner_same}

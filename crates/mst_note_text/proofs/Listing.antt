@@ -24,7 +24,7 @@ use Rattle.mst_trees.specs.Apart.{Apart}
 use Rattle.mst_trees.specs.Cist.{cist_sight, cist_of, cist_bridge}
 use Rattle.mst_trees.specs.Agrees.{AreOf}
 use Rattle.mst_trees.specs.Forest.{designated_in}
-use Rattle.mst_trees.specs.declared.forest.Forest.{Forest}
+use Rattle.mst_trees.specs.Forest.{Forest}
 use Rattle.mst_trees.specs.Outcome.{Outcome, trees_of}
 use Rattle.mst_trees.proofs.Lists.{some_is, all_contained, apart_kept, kept_from, kept_in}
 use Rattle.mst_trees.proofs.Seen.{BridgesRise, bridge_seen, port_seen, bridges_apart}

@@ -27,7 +27,7 @@ use Rattle.mst_trees.specs.Cist.{cist_bridge, cist_sight}
 use Rattle.mst_trees.specs.Msti.{msti_bridge, msti_sight, has_msti}
 use Rattle.mst_trees.specs.Agrees.{AreOf}
 use Rattle.mst_trees.specs.Forest.{IsForest, msti_vector}
-use Rattle.mst_trees.specs.declared.forest.Forest.{Forest}
+use Rattle.mst_trees.specs.Forest.{Forest}
 use Rattle.mst_trees.specs.Outcome.{Outcome, trees_of}
 use Rattle.mst_trees.proofs.Lists.{some_is, all_contained, all_there, kept_from}
 use Rattle.mst_trees.proofs.Entries.{all_weaker}

@@ -11,7 +11,7 @@ use Rattle.mst_lag.specs.declared.in_view.PortInView.{PortInView}
 use Rattle.mst_config.specs.Classes.{same_in}
 use Rattle.mst_trees.specs.Apart.{Apart}
 use Rattle.mst_trees.specs.Forest.{designated_in}
-use Rattle.mst_trees.specs.declared.forest.Forest.{Forest}
+use Rattle.mst_trees.specs.Forest.{Forest}
 use Rattle.mst_trees.proofs.Lists.{some_is, no_some, all_at}
 use Rattle.mst_trees.proofs.Views.{names_differ}
 use Rattle.mst_depths.specs.declared.parent.Parent.{Parent}

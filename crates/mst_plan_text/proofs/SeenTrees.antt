@@ -9,7 +9,7 @@ use Rattle.mst_net.specs.Tables.{Net, Numbers, BridgeRow}
 use Rattle.mst_trees.specs.Agrees.{AreOf}
 use Rattle.mst_trees.specs.Msti.{has_msti}
 use Rattle.mst_trees.specs.Seen.{trees_at}
-use Rattle.mst_trees.specs.declared.forest.Forest.{Forest}
+use Rattle.mst_trees.specs.Forest.{Forest}
 use Rattle.mst_trees.proofs.Entries.{all_weaker}
 use Rattle.mst_trees.proofs.Looking.{has_tree_at}
 use Rattle.mst_trees.proofs.Seen.{SeenBridge, bridges_seen}

@@ -18,7 +18,7 @@ use Rattle.mst_lag.specs.declared.in_view.BridgeInView.{BridgeInView}
 use Rattle.mst_lag.specs.declared.in_view.PortInView.{PortInView}
 use Rattle.mst_trees.specs.Agrees.{AreOf}
 use Rattle.mst_trees.specs.Outcome.{Outcome}
-use Rattle.mst_trees.specs.declared.forest.Forest.{Forest}
+use Rattle.mst_trees.specs.Forest.{Forest}
 use Rattle.mst_trees.proofs.Entries.{all_weaker}
 use Rattle.mst_trees.proofs.Lists.{all_contained, all_there}
 use Rattle.mst_trees.proofs.Looking.{filter_alike}

@@ -1,12 +1,12 @@
-//! One spanning tree, from which the tree of another topology is repaired: it keeps its topology beside the
-//! settled outcome, and finds where the other one differs.
+//! One spanning tree on a wiring that trees share, from which the tree of the network after an edit is repaired: where
+//! the two wirings differ is found once for all trees.
 #![tactic(auto)]
 
 mod comparing;
 mod differences;
-mod shared_tree;
+mod rewiring;
 mod spanning_tree;
 
-pub use comparing::{TellsApart, is_made_of};
-pub use shared_tree::SharedTree;
+pub use comparing::TellsApart;
+pub use rewiring::Rewiring;
 pub use spanning_tree::SpanningTree;

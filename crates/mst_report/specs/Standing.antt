@@ -6,7 +6,7 @@ use Rattle.mst_vector.specs.declared.cist.CistVector.{CistVector}
 use Rattle.mst_vector.specs.declared.msti.MstiVector.{MstiVector}
 use Rattle.mst_settle.specs.Assignment.{Assignment, vector_of}
 use Rattle.mst_trees.specs.Bound.{KeepsBound}
-use Rattle.mst_trees.specs.declared.forest.Forest.{Forest}
+use Rattle.mst_trees.specs.Forest.{Forest}
 
 -- the CIST and the MSTIs, under the numbers of records
 pub record Standing : Type 0 where
@@ -22,7 +22,7 @@ nothing = record {
 
 -- those of a forest
 abbrev pub standing_of : Forest → Standing
-standing_of f = record { cist = f.cist; mstis = f.mstis.entries }
+standing_of f = record { cist = f.cist; mstis = f.mstis }
 
 -- an MSTI, if some bridge has it
 abbrev pub msti_in : Standing → ℕ → Option (Assignment MstiVector)

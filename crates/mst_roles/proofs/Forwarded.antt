@@ -17,7 +17,7 @@ use Rattle.mst_lag.specs.declared.in_view.BridgeInView.{BridgeInView}
 use Rattle.mst_lag.specs.declared.in_view.PortInView.{PortInView}
 use Rattle.mst_trees.specs.Agrees.{AreOf}
 use Rattle.mst_trees.specs.Forest.{IsForest}
-use Rattle.mst_trees.specs.declared.forest.Forest.{Forest}
+use Rattle.mst_trees.specs.Forest.{Forest}
 use Rattle.mst_trees.proofs.Lists.{some_is}
 use Rattle.mst_trees.proofs.Looking.{first_found}
 use Rattle.mst_trees.proofs.Seen.{SeenPort, bridge_there, bridge_seen, port_seen}

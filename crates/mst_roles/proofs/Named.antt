@@ -25,7 +25,7 @@ use Rattle.mst_trees.specs.Outcome.{TreeOutcome, IsTreeOutcome, Outcome}
 use Rattle.mst_trees.specs.Seen.{seen_inner, trees_at}
 use Rattle.mst_trees.specs.Agrees.{Agrees, IsNameOf, AreOf}
 use Rattle.mst_trees.specs.Forest.{IsForest, msti_vector, msti_designated, designated_in}
-use Rattle.mst_trees.specs.declared.forest.Forest.{Forest}
+use Rattle.mst_trees.specs.Forest.{Forest}
 use Rattle.mst_trees.proofs.Lists.{some_is, no_some, all_there}
 use Rattle.mst_trees.proofs.Entries.{all_weaker}
 use Rattle.mst_trees.proofs.CistTopology.{cist_is_sight}

@@ -13,7 +13,7 @@ use Rattle.mst_trees.specs.Cist.{cist_port}
 use Rattle.mst_trees.specs.Msti.{msti_port}
 use Rattle.mst_trees.specs.Seen.{trees_at, seen_inner}
 use Rattle.mst_trees.specs.Forest.{msti_vector, designated_in}
-use Rattle.mst_trees.specs.declared.forest.Forest.{Forest}
+use Rattle.mst_trees.specs.Forest.{Forest}
 use Rattle.mst_roles.specs.Roles.{outside, forwards}
 use Rattle.mst_roles.specs.declared.kind.Role.{Role}
 use Rattle.mst_roles.specs.declared.kind.Role.TheVariants.{Root, Designated, Alternate, Backup, Disabled}

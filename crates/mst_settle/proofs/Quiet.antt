@@ -58,10 +58,10 @@ module _ {B P V : Type 0} (m : Rules B P V) (law : IsMetric m) (t : Topology ℕ
       | inl e ↦ absurd ((quiet p d.says.has_port e d.on_lan).now x (subst (λ z. Designates m t w z p x) (sym d.on_lan) d))
       | inr other ↦ record {
         on_lan = d.on_lan;
-        says = says_back m t ok v w n same p x other d.says;
+        says = says_back m t v w n same p x other d.says;
         upto = λ q y on s. elim (same_or_other q.bridge n) [
           | inl e ↦ (quiet q s.has_port e on).order y x p (spoke q y e s) (subst (λ z. Designates m t w z p x) (sym on) d)
-          | inr o ↦ d.upto q y on (says_other m t ok v w n same q y o s)
+          | inr o ↦ d.upto q y on (says_other m t v w n same q y o s)
         ];
       }
     ]
@@ -76,7 +76,7 @@ module _ {B P V : Type 0} (m : Rules B P V) (law : IsMetric m) (t : Topology ℕ
           subst (λ z. Designates m t w lan p z) message (subst (λ z. Designates m t w lan z c.1) port c.2))
       | inr silent ↦ absurd (elim (same_or_other p.bridge n) [
         | inl e ↦ (quiet p d.says.has_port e d.on_lan).before x (spoke p x e d.says) (subst (λ z. IsSilent m t w z) (sym d.on_lan) silent)
-        | inr o ↦ silent p x d.on_lan (says_other m t ok v w n same p x o d.says)
+        | inr o ↦ silent p x d.on_lan (says_other m t v w n same p x o d.says)
       ])
     ]
 

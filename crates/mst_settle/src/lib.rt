@@ -3,6 +3,7 @@
 #![tactic(auto)]
 
 mod best;
+mod bridges;
 mod by_number;
 mod heard;
 pub mod laws;
@@ -16,6 +17,9 @@ mod settling;
 mod slots;
 mod topology;
 mod touched;
+mod wiring;
 
+pub use bridges::Bridges;
 pub use settler::Settler;
-pub use topology::{Plug, Topology};
+pub use topology::Topology;
+pub use wiring::{Plug, Wiring};

@@ -79,7 +79,7 @@ module _ {N L K O M J : Type 0} (r : Renaming N L K O M J) (f : Trees N L K) (g 
 
   inner_from : (p : Plug N L K CistPort) → HasPort f.cist p → IsInner g (renamed r p) → IsInner f p
   inner_from p hp inner =
-      let b = are.topology.has_bridge p hp in
+      let b = are.topology.has_bridge p hp inner.is_enabled.1 in
       let y = are.cist.from_bridge (r.bridge p.bridge) inner.bridge inner.has_bridge in
       let one : y.0 ≡ p.bridge = are.cist.one_bridge y.0 p.bridge inner.bridge b.0 y.1 b.1 y.2 in
       record {
@@ -125,7 +125,7 @@ module _ {N L K O M J : Type 0} (r : Renaming N L K O M J) (f : Trees N L K) (g 
       ports = λ p inner h.
           let x = are.cist.from_port p inner.is_enabled.0 in
           let inside = inner_from x.0 x.1 (subst (IsInner g) (sym x.2) inner) in
-          let b = are.topology.has_bridge x.0 x.1 in
+          let b = are.topology.has_bridge x.0 x.1 inside.is_enabled.1 in
           let on : r.bridge x.0.bridge ≡ p.bridge = ap (λ (c : Plug O M J CistPort). c.bridge) x.2 in
           let q = nested.ports x.0 inside (has_former x.0.bridge b.0 b.1 (subst (HasTree g (suc i)) (sym on) h)) in (
             renamed r q.0,

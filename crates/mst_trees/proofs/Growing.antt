@@ -25,9 +25,9 @@ use Rattle.mst_trees.specs.Msti.{msti_bridge, has_msti, msti_sight, msti_of}
 use Rattle.mst_trees.specs.Outcome.{TreeOutcome, IsTreeOutcome, Outcome, IsOutcome}
 use Rattle.mst_trees.specs.Seen.{cist_seen, inner_seen, trees_at}
 use Rattle.mst_trees.specs.Agrees.{Agrees, AreOf, inner_of}
-use Rattle.mst_trees.specs.Mstis.{AreMstis}
+use Rattle.mst_trees.specs.Mstis.{AreOutcomes}
 use Rattle.mst_trees.specs.Forest.{IsForest}
-use Rattle.mst_trees.specs.declared.forest.Forest.{Forest}
+use Rattle.mst_trees.specs.Forest.{Forest}
 use Rattle.mst_trees.proofs.Lists.{all_contained}
 use Rattle.mst_trees.proofs.CistTopology.{given, cist_is_sight}
 use Rattle.mst_trees.proofs.MstiTopology.{msti_is_sight, msti_topology}
@@ -51,7 +51,7 @@ module _ (net : Net) (numbers : Numbers) (v : Viewed) (classes : List (ℕ × �
       inner_is_seen net numbers v classes of o is (vector_of a) (designated_of a) (cist_agrees vectors ports o is a settled)
 
   module _ (tree : ℕ) (designated : List ℕ → Option PortName) (inner : List PortInView) (inner_is : inner ≡ inner_of net designated v)
-      (former mstis : List (ℕ × Assignment MstiVector)) (are : AreMstis v inner former mstis) (o : TreeOutcome MstiVector) (is : IsTreeOutcome msti_rules (msti_of net tree designated) o) where
+      (former mstis : List (ℕ × Assignment MstiVector)) (are : AreOutcomes v inner former mstis) (o : TreeOutcome MstiVector) (is : IsTreeOutcome msti_rules (msti_of net tree designated) o) where
     -- a tree that isn't there has no bridge
     pub no_bridge : lookup (nat_eq tree) mstis ≡ None → (n : List ℕ) (b : MstiBridge) → HasBridge (msti_of net tree designated) n b → ⊥
     no_bridge none n b h =
@@ -86,7 +86,7 @@ module _ (net : Net) (numbers : Numbers) (v : Viewed) (classes : List (ℕ × �
             go None e = e
             go (Some q) e =
                 let d = subst (λ x. IsDesignated msti_rules (msti_of net tree designated) o.vector l x) e (is.designated l) in
-                let b = (msti_topology net of.network tree designated).has_bridge d.0 d.3.says.has_port in
+                let b = (msti_topology net of.network tree designated).has_bridge d.0 d.3.says.has_port d.3.says.is_part in
                 absurd (no_bridge none d.0.bridge b.0 b.1)
 
     pub msti_agrees : RenamedVectors msti_rules → RenamedPorts msti_rules
@@ -103,12 +103,12 @@ module _ (net : Net) (numbers : Numbers) (v : Viewed) (classes : List (ℕ × �
 
   pub is_forest : RenamedVectors cist_rules → RenamedPorts cist_rules → RenamedVectors msti_rules → RenamedPorts msti_rules
       → (o : Outcome) → IsOutcome net o → (f : Forest) → f.regions ≡ classes → IsSettledFor cist_rules (cist_seen v classes) f.cist
-      → (inner : List PortInView) → inner ≡ inner_seen v classes (designated_of f.cist) → (former : List (ℕ × Assignment MstiVector)) → AreMstis v inner former f.mstis.entries → IsForest net numbers f
+      → (inner : List PortInView) → inner ≡ inner_seen v classes (designated_of f.cist) → (former : List (ℕ × Assignment MstiVector)) → AreOutcomes v inner former f.mstis → IsForest net numbers f
   is_forest vectors ports msti_vectors msti_ports o is f regions settled inner inner_is former are = record {
     outcome = o;
     is_outcome = is;
     cist = cist_agrees vectors ports o.cist is.cist f.cist settled;
     mstis = λ tree.
-        msti_agrees tree o.cist.designated inner (inner_is ∙ inner_agrees vectors ports o.cist is.cist f.cist settled) former f.mstis.entries are (o.msti tree) (is.mstis tree) msti_vectors msti_ports;
+        msti_agrees tree o.cist.designated inner (inner_is ∙ inner_agrees vectors ports o.cist is.cist f.cist settled) former f.mstis are (o.msti tree) (is.mstis tree) msti_vectors msti_ports;
     regions = subst (AreRegions net numbers) (sym regions) of.regions;
   }

@@ -22,10 +22,10 @@ use Rattle.mst_lag.specs.Viewed.{Viewed}
 use Rattle.mst_lag.specs.declared.in_view.PortInView.{PortInView}
 use Rattle.mst_trees.specs.Numbered.{IsSettledBy}
 use Rattle.mst_trees.specs.Seen.{cist_seen}
-use Rattle.mst_trees.specs.Mstis.{AreMstis}
+use Rattle.mst_trees.specs.Mstis.{AreOutcomes}
 use Rattle.mst_trees.specs.Bound.{KeepsBound}
 use Rattle.mst_trees.specs.Forest.{IsSettledOnce, KeepsBounds, msti_vector, msti_settlings}
-use Rattle.mst_trees.specs.declared.forest.Forest.{Forest}
+use Rattle.mst_trees.specs.Forest.{Forest}
 use Rattle.mst_trees.proofs.Lists.{no_some, all_there, all_contained, all_passing, length_filtered, contains_filtered}
 
 -- what passes is an element, and passes
@@ -113,18 +113,18 @@ gone (Some a) = none_after (vector_of a) (above a.bridges) (vector_below a)
 
 -- ---- the trees of a forest
 pub keeps_bounds : (old new : Forest) (v : Viewed) (classes : List (ℕ × ℕ)) → IsSettledBy cist_rules (cist_seen v classes) (vector_of old.cist) new.cist
-    → (inner : List PortInView) → AreMstis v inner old.mstis.entries new.mstis.entries → KeepsBounds old new
+    → (inner : List PortInView) → AreOutcomes v inner old.mstis new.mstis → KeepsBounds old new
 keeps_bounds old new v classes settled inner are = record {
   cist = keeps_bound (vector_of old.cist) (vector_of new.cist) new.cist.settlings settled.bounds;
-  mstis = λ tree. go tree (lookup (nat_eq tree) new.mstis.entries) refl;
+  mstis = λ tree. go tree (lookup (nat_eq tree) new.mstis) refl;
 }
   where
-    to : (tree : ℕ) (x : Option (Assignment MstiVector)) → lookup (nat_eq tree) new.mstis.entries ≡ x
+    to : (tree : ℕ) (x : Option (Assignment MstiVector)) → lookup (nat_eq tree) new.mstis ≡ x
         → KeepsBound (msti_vector old tree) (λ n. option_and_then (λ a. vector_of a n) x) (option_map_or (λ a. a.settlings) x 0) → KeepsBound (msti_vector old tree) (msti_vector new tree) (msti_settlings new tree)
     to tree x e = subst (λ (y : Option (Assignment MstiVector)). KeepsBound (msti_vector old tree) (λ n. option_and_then (λ a. vector_of a n) y) (option_map_or (λ a. a.settlings) y 0)) (sym e)
 
-    go : (tree : ℕ) (x : Option (Assignment MstiVector)) → lookup (nat_eq tree) new.mstis.entries ≡ x → KeepsBound (msti_vector old tree) (msti_vector new tree) (msti_settlings new tree)
-    go tree None e = to tree None e (gone (lookup (nat_eq tree) old.mstis.entries))
+    go : (tree : ℕ) (x : Option (Assignment MstiVector)) → lookup (nat_eq tree) new.mstis ≡ x → KeepsBound (msti_vector old tree) (msti_vector new tree) (msti_settlings new tree)
+    go tree None e = to tree None e (gone (lookup (nat_eq tree) old.mstis))
     go tree (Some a) e = to tree (Some a) e (keeps_bound (msti_vector old tree) (vector_of a) a.settlings (are.settled tree a e).bounds)
 
 -- ---- from nothing

@@ -20,9 +20,9 @@ use Rattle.mst_trees.specs.Outcome.{Outcome, IsOutcome, trees_of}
 use Rattle.mst_nested.specs.Trees.{IsTree, IsSettled}
 use Rattle.mst_trees.specs.Seen.{cist_seen, inner_seen, msti_seen}
 use Rattle.mst_trees.specs.Agrees.{AreOf, inner_of}
-use Rattle.mst_trees.specs.Mstis.{AreMstis}
+use Rattle.mst_trees.specs.Mstis.{AreOutcomes}
 use Rattle.mst_trees.specs.Forest.{trees_seen}
-use Rattle.mst_trees.specs.declared.forest.Forest.{Forest}
+use Rattle.mst_trees.specs.Forest.{Forest}
 use Rattle.mst_trees.proofs.Lists.{no_some}
 use Rattle.mst_trees.proofs.CistTopology.{cist_is_sight}
 use Rattle.mst_trees.proofs.MstiTopology.{msti_is_sight}
@@ -47,13 +47,13 @@ settled_renamed {B} {P} m law r t u v w tree h settled = record {
 }
 
 -- the settled MSTIs over these inner ports are those over equal ones
-pub same_inner : {v : Viewed} {inner other : List PortInView} {former mstis : List (ℕ × Assignment MstiVector)} → inner ≡ other → AreMstis v inner former mstis → AreMstis v other former mstis
-same_inner {v} {inner} {other} {former} {mstis} e = subst (λ i. AreMstis v i former mstis) e
+pub same_inner : {v : Viewed} {inner other : List PortInView} {former mstis : List (ℕ × Assignment MstiVector)} → inner ≡ other → AreOutcomes v inner former mstis → AreOutcomes v other former mstis
+same_inner {v} {inner} {other} {former} {mstis} e = subst (λ i. AreOutcomes v i former mstis) e
 
 module _ (net : Net) (numbers : Numbers) (v : Viewed) (f : Forest) (of : AreOf net numbers v f.regions)
     (vectors : RenamedVectors cist_rules) (ports : RenamedPorts cist_rules) (topologies : RenamedTopology cist_rules) (msti_topologies : RenamedTopology msti_rules)
     (o : Outcome) (is : IsOutcome net o) (named : IsSettled (trees_of net o))
-    (cist : IsSettledFor cist_rules (cist_seen v f.regions) f.cist) (former : List (ℕ × Assignment MstiVector)) (mstis : AreMstis v (inner_seen v f.regions (designated_of f.cist)) former f.mstis.entries) where
+    (cist : IsSettledFor cist_rules (cist_seen v f.regions) f.cist) (former : List (ℕ × Assignment MstiVector)) (mstis : AreOutcomes v (inner_seen v f.regions (designated_of f.cist)) former f.mstis) where
   abbrev r : Renaming (List ℕ) (List ℕ) PortName ℕ ℕ ℕ
   r = numbering numbers
 
@@ -87,18 +87,18 @@ module _ (net : Net) (numbers : Numbers) (v : Viewed) (f : Forest) (of : AreOf n
   }
 
   -- an MSTI that no bridge has is settled with no vector
-  msti_settled : (tree : ℕ) → Settled msti_rules (msti_seen v inner tree) (λ n. option_and_then (λ a. vector_of a n) (lookup (nat_eq tree) f.mstis.entries))
-  msti_settled tree = go (lookup (nat_eq tree) f.mstis.entries) refl
+  msti_settled : (tree : ℕ) → Settled msti_rules (msti_seen v inner tree) (λ n. option_and_then (λ a. vector_of a n) (lookup (nat_eq tree) f.mstis))
+  msti_settled tree = go (lookup (nat_eq tree) f.mstis) refl
     where
-      to : (x : Option (Assignment MstiVector)) → lookup (nat_eq tree) f.mstis.entries ≡ x → Settled msti_rules (msti_seen v inner tree) (λ n. option_and_then (λ a. vector_of a n) x)
-          → Settled msti_rules (msti_seen v inner tree) (λ n. option_and_then (λ a. vector_of a n) (lookup (nat_eq tree) f.mstis.entries))
+      to : (x : Option (Assignment MstiVector)) → lookup (nat_eq tree) f.mstis ≡ x → Settled msti_rules (msti_seen v inner tree) (λ n. option_and_then (λ a. vector_of a n) x)
+          → Settled msti_rules (msti_seen v inner tree) (λ n. option_and_then (λ a. vector_of a n) (lookup (nat_eq tree) f.mstis))
       to x e = subst (λ (y : Option (Assignment MstiVector)). Settled msti_rules (msti_seen v inner tree) (λ n. option_and_then (λ a. vector_of a n) y)) (sym e)
 
-      go : (x : Option (Assignment MstiVector)) → lookup (nat_eq tree) f.mstis.entries ≡ x
-          → Settled msti_rules (msti_seen v inner tree) (λ n. option_and_then (λ a. vector_of a n) (lookup (nat_eq tree) f.mstis.entries))
+      go : (x : Option (Assignment MstiVector)) → lookup (nat_eq tree) f.mstis ≡ x
+          → Settled msti_rules (msti_seen v inner tree) (λ n. option_and_then (λ a. vector_of a n) (lookup (nat_eq tree) f.mstis))
       go (Some a) e = to (Some a) e (mstis.settled tree a e).outcome.vectors
       go None e = to None e (record {
-        has_vector = λ n b h. let x = (msti_renamed tree).from_bridge n b h in absurd (no_bridge net numbers v f.regions of tree o.cist.designated inner inner_is former f.mstis.entries mstis (o.msti tree) (is.mstis tree) e x.0 b x.1);
+        has_vector = λ n b h. let x = (msti_renamed tree).from_bridge n b h in absurd (no_bridge net numbers v f.regions of tree o.cist.designated inner inner_is former f.mstis mstis (o.msti tree) (is.mstis tree) e x.0 b x.1);
         is_bridge = λ n x h. absurd (no_some x h);
         bridges = λ n b x h k. absurd (no_some x k);
       })
@@ -108,6 +108,6 @@ module _ (net : Net) (numbers : Numbers) (v : Viewed) (f : Forest) (of : AreOf n
     cist = settled_renamed cist_rules topologies r (cist_of net) (cist_seen v f.regions) o.cist.vector (vector_of f.cist) named.cist cist_renamed cist.vectors;
     msti = λ i.
         settled_renamed msti_rules msti_topologies r (msti_of net (suc i) o.cist.designated) (msti_seen v inner (suc i)) (o.msti (suc i)).vector
-        (λ n. option_and_then (λ a. vector_of a n) (lookup (nat_eq (suc i)) f.mstis.entries)) (named.msti i) (msti_renamed (suc i)) (msti_settled (suc i));
+        (λ n. option_and_then (λ a. vector_of a n) (lookup (nat_eq (suc i)) f.mstis)) (named.msti i) (msti_renamed (suc i)) (msti_settled (suc i));
     nested = λ i. nested_renamed r (trees_of net o) (trees_seen v f) are_renamed i (named.nested i);
   }

@@ -1,5 +1,5 @@
 -- What a forest answers, under the numbers of records.
-use Rattle.std.specs.Prelude.{ℕ, ◌==◌, Option, nat_eq, if◌then◌else◌}
+use Rattle.std.specs.Prelude.{ℕ, ◌==◌, List, Option, nat_eq, if◌then◌else◌}
 use Rattle.std.specs.Option.{option_and_then, option_map_or}
 use Rattle.std.specs.Map.{lookup}
 use Rattle.mst_vector.specs.declared.msti.MstiVector.{MstiVector}
@@ -13,11 +13,17 @@ use Rattle.mst_trees.specs.Agrees.{Agrees}
 use Rattle.mst_trees.specs.Seen.{cist_seen, inner_seen, msti_seen}
 use Rattle.mst_trees.specs.Bound.{KeepsBound}
 use Rattle.mst_nested.specs.Trees.{Trees}
-use Rattle.mst_trees.specs.declared.forest.Forest.{Forest}
+use Rattle.mst_vector.specs.declared.cist.CistVector.{CistVector}
+
+-- what is seen of a forest: the region of each bridge, and the outcomes of the CIST and of the MSTIs that some bridge has
+pub record Forest : Type 0 where
+  pub regions : List (ℕ × ℕ)
+  pub cist : Assignment CistVector
+  pub mstis : List (ℕ × Assignment MstiVector)
 
 -- an MSTI, if some bridge has it
 abbrev pub msti_in : Forest → ℕ → Option (Assignment MstiVector)
-msti_in f tree = lookup (nat_eq tree) f.mstis.entries
+msti_in f tree = lookup (nat_eq tree) f.mstis
 
 -- the vector of a bridge in it, and the designated port of a LAN
 abbrev pub msti_vector : Forest → ℕ → ℕ → Option MstiVector

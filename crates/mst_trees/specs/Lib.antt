@@ -5,7 +5,10 @@ pub mod Outcome
 pub mod Apart
 pub mod Numbered
 pub mod Seen
+pub mod Wirings
+pub mod Own
 pub mod Agrees
+pub mod Ground
 pub mod Mstis
 pub mod Bound
 pub mod Forest

@@ -1,30 +1,41 @@
 ghost use Rattle.std.specs.Prelude.{◌≡◌, ℕ, IfOk, None};
+ghost use Rattle.mst_vector.specs.Cist.{cist_rules};
 ghost use Rattle.mst_settle.specs.Assignment.{vector_of, designated_of};
+ghost use Rattle.mst_repair.specs.Held.{IsHeld};
 ghost use Rattle.mst_net.specs.Tables.{Net, Numbers};
 ghost use Rattle.mst_config.specs.Classes.{same_in};
-ghost use Rattle.mst_trees.specs.Agrees.{AreOf, Known};
+ghost use Rattle.mst_trees.specs.Agrees.{AreOf, Known, KnownInner};
 ghost use Rattle.mst_trees.specs.Forest.{IsForest, IsSettledOnce, KeepsBounds, msti_vector, designated_in, settlings_in, trees_seen};
-ghost use Rattle.mst_trees.specs.Seen.{seen_inner};
+ghost use Rattle.mst_trees.specs.Mstis.{AreHeld, AreOutcomes, outcomes};
+ghost use Rattle.mst_trees.specs.Numbered.{IsSettledBy};
+ghost use Rattle.mst_trees.specs.Seen.{cist_seen, seen_inner};
+ghost use Rattle.mst_trees.specs.Wirings.{msti_wires};
 ghost use Rattle.mst_nested.specs.Trees.{IsSettled};
 
-use crate::cist::repaired_cist;
+use crate::cist::{cist_wiring, repaired_cist};
 use crate::laws::{has_outcome, nested};
-use crate::msti::{inner_ports, is_inner};
-use crate::mstis::repaired_mstis;
+use crate::msti::{inner_ports, is_inner, msti_wiring};
+use crate::mstis::{Mstis, repaired_mstis};
 use indexmap::IndexMap;
 use mst_config::Classes;
 use mst_ids::{BridgeNo, LanNo, Name, PortName, PortNo, Tree};
 use mst_lag::{PortInView, View};
-use mst_repair::{SharedTree, SpanningTree};
+use mst_repair::SpanningTree;
+use mst_settle::Wiring;
 use mst_settle::laws::renamed;
-use mst_vector::{CistMetric, CistVector, MstiMetric, MstiVector};
+use mst_vector::{CistMetric, CistPort, CistVector, MstiMetric, MstiPort, MstiVector};
 use std::alloc::{AllocError, Global};
+use std::marker::Model;
 
-/// The trees of a network, settled: the CIST, and each MSTI that some bridge has.
+/// The trees of a network, settled: the CIST, and each MSTI that some bridge has. They go by two wirings of its logical
+/// ports: the CIST by that of the enabled ones, and the MSTIs by that of those whose LAN belongs to the region of their
+/// bridge.
 pub struct Forest {
-    pub(crate) regions: Classes,
-    pub(crate) cist: SpanningTree<CistMetric>,
-    pub(crate) mstis: IndexMap<Tree, SharedTree<MstiMetric>>,
+    regions: Classes,
+    cist_wiring: Wiring<CistPort>,
+    cist: SpanningTree<CistMetric>,
+    msti_wiring: Wiring<MstiPort>,
+    mstis: Mstis,
 }
 
 // By hand, as a view's.
@@ -32,10 +43,25 @@ impl Drop for Forest {
     fn drop(self) {
         let Forest {
             regions: _,
+            cist_wiring: _,
             cist: _,
+            msti_wiring: _,
             mstis: _,
         } = self;
     }
+}
+
+impl Model for Forest {
+    ghost use Rattle.mst_vector.specs.Cist.{cist_rules};
+    ghost use Rattle.mst_repair.specs.Held.{IsHeld};
+    ghost use Rattle.mst_trees.specs.Forest.{Forest as ForestSeen};
+    ghost use Rattle.mst_trees.specs.Mstis.{outcomes, AreHeld};
+
+    ghost Value = { ForestSeen };
+
+    ghost view = { λ f. record { regions = f.regions; cist = f.cist.outcome; mstis = outcomes f.mstis.entries } };
+
+    ghost invariant = { λ f. IsHeld cist_rules f.cist_wiring f.cist × AreHeld f.msti_wiring f.mstis.entries };
 }
 
 impl Forest {
@@ -46,7 +72,9 @@ impl Forest {
     {
         Forest {
             regions: Classes::none(alloc),
+            cist_wiring: Wiring::new(alloc),
             cist: SpanningTree::new(alloc),
+            msti_wiring: Wiring::new(alloc),
             mstis: IndexMap::new(alloc),
         }
     }
@@ -63,7 +91,7 @@ impl Forest {
     }
 
     /// The trees of another network, each repaired from the one that stands: a copy is repaired, and this forest
-    /// stays. An MSTI whose topology stays the same is shared. `AllocError`: memory was wanted and refused.
+    /// stays. What is settled for a tree that stays the same is shared. `AllocError`: memory was wanted and refused.
     pub fn repaired(
         &self,
         alloc: Global,
@@ -75,18 +103,63 @@ impl Forest {
         ensures nested { IfOk result (λ forest. IsSettled (trees_seen view.now forest)) }
         ensures bounds { IfOk result (KeepsBounds self.now) }
     {
-        let cist = repaired_cist(alloc, &self.cist, view, classes)?;
         has_outcome();
-        renamed::<CistMetric, Name, Name, PortName, BridgeNo, LanNo, PortNo>();
-        let inner = inner_ports(alloc, view, classes, &cist)?;
-        let mstis = repaired_mstis(alloc, &self.mstis, view, inner.as_slice())?;
-        renamed::<MstiMetric, Name, Name, PortName, BridgeNo, LanNo, PortNo>();
         nested();
+        renamed::<CistMetric, Name, Name, PortName, BridgeNo, LanNo, PortNo>();
+        renamed::<MstiMetric, Name, Name, PortName, BridgeNo, LanNo, PortNo>();
+        let (cist_wiring, cist) = self.next_cist(alloc, view, classes)?;
+        let inner = inner_ports(alloc, view, classes, &cist)?;
+        let msti_wiring = msti_wiring(alloc, inner.as_slice())?;
+        let mstis = self.next_mstis(alloc, view, inner.as_slice(), &msti_wiring)?;
         Ok(Forest {
             regions: classes.copy()?,
+            cist_wiring,
             cist,
+            msti_wiring,
             mstis,
         })
+    }
+
+    /// The CIST of another network, repaired from the one that stands, on its wiring.
+    fn next_cist(
+        &self,
+        alloc: Global,
+        view: &View,
+        classes: &Classes,
+    ) -> Result<(Wiring<CistPort>, SpanningTree<CistMetric>), AllocError>
+        requires { Known view.now classes.now }
+        ensures settled { IfOk result (λ r. IsSettledBy cist_rules (cist_seen view.now classes.now) (vector_of self.now.cist) r.1.outcome) }
+        ensures held { IfOk result (λ r. IsHeld cist_rules r.0 r.1) }
+    {
+        let wiring = cist_wiring(alloc, view)?;
+        let cist = repaired_cist(alloc, &self.cist, &self.cist_wiring, &wiring, view, classes)?;
+        Ok((wiring, cist))
+    }
+
+    /// The MSTIs of another network of whose view these are the inner ports, on their wiring: each is repaired from
+    /// the one that stands, if there is one.
+    fn next_mstis(
+        &self,
+        alloc: Global,
+        view: &View,
+        inner: &[PortInView],
+        wiring: &Wiring<MstiPort>,
+    ) -> Result<Mstis, AllocError>
+        requires known { KnownInner view.now inner.now }
+        requires wiring { wiring.now ≡ msti_wires inner.now }
+        ensures settled { IfOk result (λ mstis. AreOutcomes view.now inner.now self.now.mstis (outcomes mstis.entries)) }
+        ensures held { IfOk result (λ mstis. AreHeld wiring.now mstis.entries) }
+    {
+        let nothing = Wiring::new(alloc);
+        repaired_mstis(
+            alloc,
+            &self.mstis,
+            view,
+            inner,
+            &nothing,
+            &self.msti_wiring,
+            wiring,
+        )
     }
 
     /// The root priority vector of a bridge in the CIST, or nothing where the bridge is off or isn't there.
@@ -100,7 +173,10 @@ impl Forest {
     pub fn msti(&self, tree: Tree, bridge: BridgeNo) -> Option<MstiVector>
         ensures { result ≡ msti_vector self.now tree bridge }
     {
-        self.mstis.get(&tree)?.vector(bridge)
+        match self.mstis.get(&tree) {
+            None => None,
+            Some(msti) => msti.vector(bridge),
+        }
     }
 
     /// The designated port of a LAN in a tree, or nothing where no port of the tree is on the LAN.
@@ -110,7 +186,10 @@ impl Forest {
         if tree.value() == 0 {
             return self.cist.designated(lan);
         }
-        self.mstis.get(&tree)?.designated(lan)
+        match self.mstis.get(&tree) {
+            None => None,
+            Some(msti) => msti.designated(lan),
+        }
     }
 
     /// Whether two bridges are in one region, by the regions for which the trees are settled.

@@ -177,7 +177,7 @@ module _ (net : Net) (ok : IsNetwork net) (o : Outcome) (settled : IsSettled (tr
       let g = given x.port.is_enabled (cist_port (by_tree net) x.port) x.settings x.seen in
       let same : plug net x.port ≡ e = ap (tree_port x.port) g.1 ∙ x.is in
       let active : IsActive f tree (plug net x.port) = subst (IsActive f tree) (sym same) a in
-      let own = settled.cist.topology.has_bridge (plug net x.port) active.is_enabled.0 in
+      let own = settled.cist.topology.has_bridge (plug net x.port) active.is_enabled.0 active.is_enabled.1 in
       let on = in_cist x.port.name.bridge own.0 own.1 in
       let r = role_there net o vid (tree x.port.name.bridge) x.port (λ i k. has_its_tree net ok x.port.name.bridge on.row vid i on.has_row k) in
       let forwards_so : forwards_for net o vid x.port ≡ true = ap (λ (q : Option Role). option_map_or forwards q false) r.1 ∙ (law x.port x.there g.0 (tree x.port.name.bridge) r.0 r.1).1 active.forwards in

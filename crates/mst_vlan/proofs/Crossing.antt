@@ -26,7 +26,7 @@ use Rattle.mst_vlan.proofs.Plugs.{plug, enabled_plug}
 
 -- a port has a role in the trees of its bridge alone
 has_tree : (net : Net) (o : Outcome) → IsNetwork net → IsSettled (trees_of net o) → (p : LogicalPort) → IsEnabled net p → (tree : ℕ) (role : Role) → role_in net o tree p ≡ Some role → HasTree (trees_of net o) tree p.name.bridge
-has_tree net o ok settled p enabled zero role e = settled.cist.topology.has_bridge (plug net p) (enabled_plug net ok p enabled).0
+has_tree net o ok settled p enabled zero role e = let on = enabled_plug net ok p enabled in settled.cist.topology.has_bridge (plug net p) on.0 on.1
 has_tree net o ok settled p enabled (suc i) role e = go (has_msti net (suc i) p.name.bridge) refl (sym (ap by_number (not_zero i)) ∙ e)
   where
     by_number : Bool → Option Role

@@ -21,7 +21,7 @@ use Rattle.mst_lag.specs.declared.in_view.LanInView.{LanInView}
 use Rattle.mst_trees.specs.Agrees.{AreOf}
 use Rattle.mst_trees.specs.Forest.{IsForest}
 use Rattle.mst_trees.specs.Seen.{trees_at}
-use Rattle.mst_trees.specs.declared.forest.Forest.{Forest}
+use Rattle.mst_trees.specs.Forest.{Forest}
 use Rattle.mst_trees.proofs.Entries.{all_weaker}
 use Rattle.mst_trees.proofs.Lists.{all_contained, filter_mapped}
 use Rattle.mst_trees.proofs.Looking.{filter_alike}

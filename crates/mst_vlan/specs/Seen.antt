@@ -6,7 +6,7 @@ use Rattle.mst_net.specs.ByTree.{vlans_in}
 use Rattle.mst_net.specs.Seen.{bridge_row}
 use Rattle.mst_lag.specs.Viewed.{Viewed}
 use Rattle.mst_lag.specs.declared.in_view.PortInView.{PortInView}
-use Rattle.mst_trees.specs.declared.forest.Forest.{Forest}
+use Rattle.mst_trees.specs.Forest.{Forest}
 use Rattle.mst_roles.specs.Seen.{seen_forwards}
 use Rattle.mst_vlan.specs.declared.island.Island.{Island as IslandNos}
 

@@ -24,7 +24,7 @@ ghost use Rattle.mst_trees.specs.Agrees.{AreOf, Known};
 ghost use Rattle.mst_trees.specs.Cist.{cist_of, cist_port};
 ghost use Rattle.mst_trees.specs.Sight.{tree_port};
 ghost use Rattle.mst_trees.specs.Forest.{IsForest};
-ghost use Rattle.mst_trees.specs.declared.forest.Forest.{Forest as ForestOf};
+ghost use Rattle.mst_trees.specs.Forest.{Forest as ForestOf};
 ghost use Rattle.mst_trees.specs.Outcome.{Outcome, IsOutcome, trees_of};
 ghost use Rattle.mst_roles.specs.Roles.{role_in, forwards};
 ghost use Rattle.mst_roles.specs.declared.kind.Role.{Role as RoleOf};

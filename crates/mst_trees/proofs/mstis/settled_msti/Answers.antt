@@ -1,18 +1,37 @@
-use Rattle.std.proofs.Common.{Option, IfOk, subst}
-use Rattle.std.specs.Option.{option_and_then}
+use Rattle.std.proofs.Common.{IfOk, sym, subst, ap}
 use Rattle.mst_vector.specs.Msti.{msti_rules}
-use Rattle.mst_vector.specs.declared.msti.MstiVector.{MstiVector}
-use Rattle.mst_settle.specs.Assignment.{Assignment, vector_of}
-use Rattle.mst_trees.specs.Numbered.{IsSettledBy}
-use Rattle.mst_trees.specs.Seen.{msti_seen}
+use Rattle.mst_settle.specs.Assignment.{vector_of}
+use Rattle.mst_repair.specs.Held.{IsHeld}
+use Rattle.mst_trees.specs.Ground.{Ground}
+use Rattle.mst_trees.specs.Mstis.{IsSettledFrom}
+use Rattle.mst_trees.specs.Wirings.{AreOwn}
+use Rattle.mst_trees.proofs.Gathering.{among_some, among_none, settled_from}
 use Rattle.mst_trees.proofs.mstis.settled_msti.Goals as goal
+
+pub repaired_msti-requires-clause-held : goal.repaired_msti-requires-clause-held
+repaired_msti-requires-clause-held c =
+    subst (λ wires. IsHeld msti_rules wires c.in-Some.msti.now) (sym (ap (λ (g : Ground). g.from) c.ground.view_is))
+    (c.requires c.args.tree c.in-Some.msti.now (sym c.in-Some.ensures.value))
+
+pub repaired_msti-requires-clause-own : goal.repaired_msti-requires-clause-own
+repaired_msti-requires-clause-own c = subst (AreOwn c.ground.inside.view.now c.ground.inside.inner.now c.args.tree) (sym c.in_ok-own.ensures) (c.ground.invariant.own c.args.tree)
+
+pub repaired_msti-requires-in-None-clause-own : goal.repaired_msti-requires-in-None-clause-own
+repaired_msti-requires-in-None-clause-own c =
+    subst (AreOwn c.ground.inside.view.now c.ground.inside.inner.now c.args.tree) (sym c.in_ok-own.ensures) (c.ground.invariant.own c.args.tree)
 
 pub returns-in-Some : goal.returns-in-Some
 returns-in-Some c =
-    let t = msti_seen c.args.view.now c.args.inner.now c.args.tree in
-    subst (λ (x : Option (Assignment MstiVector)). IfOk c.repaired_msti.result (IsSettledBy msti_rules t (λ n. option_and_then (λ a. vector_of a n) x))) c.in-Some.ensures.value c.repaired_msti.ensures
+    let former = c.args.former.now.entries in
+    let g : Ground = record { view = c.ground.inside.view.now; inner = c.ground.inside.inner.now; from = c.ground.inside.rewiring.now.from } in
+    subst (λ g. IfOk c.repaired_msti.result (IsSettledFrom g former c.args.tree)) c.ground.view_is
+    (settled_from g former c.args.tree (vector_of c.in-Some.msti.now.outcome) (among_some former c.args.tree c.in-Some.msti.now c.in-Some.ensures.value)
+    c.ground.inside.rewiring.now.to c.ground.invariant.to c.repaired_msti.result c.repaired_msti.ensures.settled c.repaired_msti.ensures.held)
 
 pub returns-in-None : goal.returns-in-None
 returns-in-None c =
-    let t = msti_seen c.args.view.now c.args.inner.now c.args.tree in
-    subst (λ (x : Option (Assignment MstiVector)). IfOk c.settled_anew.result (IsSettledBy msti_rules t (λ n. option_and_then (λ a. vector_of a n) x))) c.in-None.ensures.value c.settled_anew.ensures
+    let former = c.args.former.now.entries in
+    let g : Ground = record { view = c.ground.inside.view.now; inner = c.ground.inside.inner.now; from = c.ground.inside.rewiring.now.from } in
+    subst (λ g. IfOk c.repaired_msti-in-None.result (IsSettledFrom g former c.args.tree)) c.ground.view_is
+    (settled_from g former c.args.tree (vector_of c.new-nothing.result.outcome) (among_none former c.args.tree c.new-nothing.result.outcome c.new-nothing.ensures.vectors c.in-None.ensures.value)
+    c.ground.inside.anew.now.to c.ground.invariant.anew_to c.repaired_msti-in-None.result c.repaired_msti-in-None.ensures.settled c.repaired_msti-in-None.ensures.held)

@@ -2,6 +2,7 @@ use Rattle.std.proofs.Common.{rules, refl, sym, ◌∙◌, ap, subst, ◌≡◌,
 use Rattle.mst_settle.specs.Places.{option_at}
 use Rattle.mst_settle.specs.Settled.{Says, Designates, IsDesignated}
 use Rattle.mst_settle.proofs.Below.{one_message}
+use Rattle.mst_settle.proofs.Parts.{port_of_number}
 use Rattle.mst_settle.proofs.Search.{some_is}
 use Rattle.mst_settle.proofs.settling.Settling.best_on.Goals as goal
 
@@ -20,16 +21,14 @@ pub returns-in_err-message-clause-none : goal.returns-in_err-message-clause-none
 returns-in_err-message-clause-none g c = λ e p x on s.
     let stored : option_at c.args.self.now.lans c.args.lan ≡ Some c.in_ok-designated.designated = search rules in
     let d : IsDesignated g.M.Metric.rules c.args.topology.now (option_at c.args.self.now.vectors) c.args.lan (Some c.in_ok-designated.designated) = rw stored at (c.requires.designated c.args.lan) in
-    let there = c.in_ok-from.ensures.some c.in_ok-from.from refl in
-    let same : d.0 ≡ c.in_ok-from.from.now = c.requires.topology.one_port d.0 c.in_ok-from.from.now d.3.says.has_port there.0 (d.2 ∙ sym there.1) in
+    let same : d.0 ≡ c.in_ok-from.from = port_of_number g.M.Metric.rules g.met.M.Metric.lawful c.args.topology.now c.requires.topology (option_at c.args.self.now.vectors) c.in_ok-designated.designated d.0 c.in_ok-from.from d.3.says.has_port d.2 (c.in_ok-from.ensures.some c.in_ok-from.from refl) in
     absurd (c.in_err-message.ensures.none refl d.1 (subst (λ z. Says g.M.Metric.rules c.args.topology.now (option_at c.args.self.now.vectors) z d.1) same d.3.says))
 
 pub returns-clause-some : goal.returns-clause-some
 returns-clause-some g c = λ h e.
     let stored : option_at c.args.self.now.lans c.args.lan ≡ Some c.in_ok-designated.designated = search rules in
     let d : IsDesignated g.M.Metric.rules c.args.topology.now (option_at c.args.self.now.vectors) c.args.lan (Some c.in_ok-designated.designated) = rw stored at (c.requires.designated c.args.lan) in
-    let there = c.in_ok-from.ensures.some c.in_ok-from.from refl in
-    let same : d.0 ≡ c.in_ok-from.from.now = c.requires.topology.one_port d.0 c.in_ok-from.from.now d.3.says.has_port there.0 (d.2 ∙ sym there.1) in
+    let same : d.0 ≡ c.in_ok-from.from = port_of_number g.M.Metric.rules g.met.M.Metric.lawful c.args.topology.now c.requires.topology (option_at c.args.self.now.vectors) c.in_ok-designated.designated d.0 c.in_ok-from.from d.3.says.has_port d.2 (c.in_ok-from.ensures.some c.in_ok-from.from refl) in
     let says : Says g.M.Metric.rules c.args.topology.now (option_at c.args.self.now.vectors) d.0 c.in_ok-message.message = subst (λ z. Says g.M.Metric.rules c.args.topology.now (option_at c.args.self.now.vectors) z c.in_ok-message.message) (sym same) (c.in_ok-message.ensures.some c.in_ok-message.message refl) in
     let message : d.1 ≡ c.in_ok-message.message = one_message g.M.Metric.rules g.met.M.Metric.lawful c.args.topology.now c.requires.topology (option_at c.args.self.now.vectors) d.0 d.1 c.in_ok-message.message d.3.says says in
     let heard = some_is (record { port = c.in_ok-designated.designated; message = c.in_ok-message.message }) h e in

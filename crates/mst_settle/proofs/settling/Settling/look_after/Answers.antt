@@ -1,10 +1,9 @@
-use Rattle.std.proofs.Common.{refl, ◌∙◌, inl, inr, ◌≡◌, ◌+◌, ◌<◌, length, arith}
+use Rattle.std.proofs.Common.{refl, ◌∙◌, inl, inr, ◌≡◌, ◌+◌, ◌<◌, length}
 use Rattle.mst_settle.specs.Places.{option_at}
 use Rattle.mst_settle.specs.Chains.{IsLast, upto_place}
 use Rattle.mst_settle.specs.Effects.{LooksAnew, IsBridgeOn, IsUnconcerned}
 use Rattle.mst_settle.proofs.Lowest.{next_step, walk_falls, walk_port}
 use Rattle.mst_settle.proofs.Effects.{Passed, passed_none, passed_more, passed_all, looks_none, looks_more}
-use Rattle.mst_settle.specs.Topology.{HasPort}
 use Rattle.mst_settle.proofs.settling.Settling.look_after.Goals as goal
 
 pub loop-next-init : goal.loop-next-init
@@ -20,23 +19,15 @@ loop-next-init g c = record {
   lans_seen = λ lan s n on. absurd (c.clear.ensures lan s);
 }
 
-pub offset_bounds-ports-place : goal.offset_bounds-ports-place
-offset_bounds-ports-place g c =
-    let l = (c.loop-next.invariant.next c.in-Some.place c.in-Some.is).1.0 in
-    rw c.ports.ensures (omega arith)
-
-pub bounds-ports-place : goal.bounds-ports-place
-bounds-ports-place g c =
-    let l = (c.loop-next.invariant.next c.in-Some.place c.in-Some.is).1.0 in
-    rw c.ports.ensures l
+pub at-port-requires : goal.at-port-requires
+at-port-requires g c = (c.loop-next.invariant.next c.in-Some.place c.in-Some.is).1.0
 
 pub before_of-next-requires : goal.before_of-next-requires
 before_of-next-requires g c = (c.loop-next.invariant.next c.in-Some.place c.in-Some.is).1.0
 
 pub loop-next-smaller : goal.loop-next-smaller
 loop-next-smaller g c =
-    let there = walk_port c.args.topology.now.ports (λ p. p.bridge ≡ c.args.bridge) c.loop-next.next c.loop-next.invariant.next c.in-Some.place c.in-Some.is c.index-ports-place.result (rw c.ports.ensures at c.index-ports-place.is) in
-    let falls : upto_place c.before_of-next.result < c.in-Some.place + 1 = walk_falls c.args.topology.now.ports (λ q. q.bridge ≡ c.index-ports-place.result.bridge) c.in-Some.place c.before_of-next.result (c.before_of-next.ensures c.index-ports-place.result there.0) in
+    let falls : upto_place c.before_of-next.result < c.in-Some.place + 1 = walk_falls c.args.topology.now.ports (λ q. q.bridge ≡ c.at-port.result.bridge) c.in-Some.place c.before_of-next.result (c.before_of-next.ensures c.at-port.result c.at-port.ensures) in
     rw c.in-Some.is falls
 
 pub look_along-requires-clause-costs : goal.look_along-requires-clause-costs
@@ -47,8 +38,7 @@ look_along-requires-clause-designated g c = rw (c.loop-next.invariant.vectors, c
 
 pub look_along-requires-clause-port : goal.look_along-requires-clause-port
 look_along-requires-clause-port g c =
-    let there = walk_port c.args.topology.now.ports (λ p. p.bridge ≡ c.args.bridge) c.loop-next.next c.loop-next.invariant.next c.in-Some.place c.in-Some.is c.index-ports-place.result (rw c.ports.ensures at c.index-ports-place.is) in
-    (c.in-Some.place, there.0.0, there.0.1)
+    (c.in-Some.place, c.at-port.ensures.0, c.at-port.ensures.1)
 
 pub look_along-requires-clause-seen : goal.look_along-requires-clause-seen
 look_along-requires-clause-seen g c = rw c.loop-next.invariant.vectors c.loop-next.invariant.seen
@@ -61,17 +51,16 @@ look_along-requires-clause-rooms g c = λ p h. c.loop-next.invariant.looked.room
 
 pub loop-next-preserved : goal.loop-next-preserved
 loop-next-preserved g c =
-    let there = walk_port c.args.topology.now.ports (λ p. p.bridge ≡ c.args.bridge) c.loop-next.next c.loop-next.invariant.next c.in-Some.place c.in-Some.is c.index-ports-place.result (rw c.ports.ensures at c.index-ports-place.is) in
-    let has : HasPort c.args.topology.now c.index-ports-place.result = (c.in-Some.place, there.0.0, there.0.1) in
-    let last : IsLast c.args.topology.now.ports (λ q. q.bridge ≡ c.args.bridge) c.in-Some.place c.before_of-next.result = rw there.1 at (c.before_of-next.ensures c.index-ports-place.result there.0) in
+    let there = walk_port c.args.topology.now.ports (λ p. p.bridge ≡ c.args.bridge) c.loop-next.next c.loop-next.invariant.next c.in-Some.place c.in-Some.is c.at-port.result c.at-port.ensures in
+    let last : IsLast c.args.topology.now.ports (λ q. q.bridge ≡ c.args.bridge) c.in-Some.place c.before_of-next.result = rw there at (c.before_of-next.ensures c.at-port.result c.at-port.ensures) in
     let before = c.loop-next.invariant in
-    let looked : LooksAnew g.M.Metric.rules c.args.topology.now (option_at c.args.self.now.vectors) c.loop-next.self.queue c.look_along.new.self.queue (λ n. IsBridgeOn c.args.topology.now c.index-ports-place.result.lan n × (IsUnconcerned g.M.Metric.rules c.args.topology.now (option_at c.args.self.now.vectors) c.args.stored c.index-ports-place.result → ⊥)) = rw before.vectors at c.look_along.ensures.looked in
+    let looked : LooksAnew g.M.Metric.rules c.args.topology.now (option_at c.args.self.now.vectors) c.loop-next.self.queue c.look_along.new.self.queue (λ n. IsBridgeOn c.args.topology.now c.at-port.result.lan n × (IsUnconcerned g.M.Metric.rules c.args.topology.now (option_at c.args.self.now.vectors) c.args.stored c.at-port.result → ⊥)) = rw before.vectors at c.look_along.ensures.looked in
     record {
       next = next_step c.args.topology.now.ports (λ p. p.bridge ≡ c.args.bridge) c.in-Some.place c.before_of-next.result last;
       looked = looks_more g.M.Metric.rules c.args.topology.now (option_at c.args.self.now.vectors) c.args.self.now.queue c.loop-next.self.queue c.look_along.new.self.queue
-          (Passed c.args.topology.now.ports (λ p n. (p.bridge ≡ c.args.bridge) × IsBridgeOn c.args.topology.now p.lan n × (IsUnconcerned g.M.Metric.rules c.args.topology.now (option_at c.args.self.now.vectors) c.args.stored p → ⊥)) c.loop-next.next) (λ n. IsBridgeOn c.args.topology.now c.index-ports-place.result.lan n × (IsUnconcerned g.M.Metric.rules c.args.topology.now (option_at c.args.self.now.vectors) c.args.stored c.index-ports-place.result → ⊥)) (Passed c.args.topology.now.ports (λ p n. (p.bridge ≡ c.args.bridge) × IsBridgeOn c.args.topology.now p.lan n × (IsUnconcerned g.M.Metric.rules c.args.topology.now (option_at c.args.self.now.vectors) c.args.stored p → ⊥)) c.before_of-next.result)
+          (Passed c.args.topology.now.ports (λ p n. (p.bridge ≡ c.args.bridge) × IsBridgeOn c.args.topology.now p.lan n × (IsUnconcerned g.M.Metric.rules c.args.topology.now (option_at c.args.self.now.vectors) c.args.stored p → ⊥)) c.loop-next.next) (λ n. IsBridgeOn c.args.topology.now c.at-port.result.lan n × (IsUnconcerned g.M.Metric.rules c.args.topology.now (option_at c.args.self.now.vectors) c.args.stored c.at-port.result → ⊥)) (Passed c.args.topology.now.ports (λ p n. (p.bridge ≡ c.args.bridge) × IsBridgeOn c.args.topology.now p.lan n × (IsUnconcerned g.M.Metric.rules c.args.topology.now (option_at c.args.self.now.vectors) c.args.stored p → ⊥)) c.before_of-next.result)
           before.looked looked
-          (λ k h. elim (passed_more c.args.topology.now.ports (λ p. p.bridge ≡ c.args.bridge) (λ p n. (p.bridge ≡ c.args.bridge) × IsBridgeOn c.args.topology.now p.lan n × (IsUnconcerned g.M.Metric.rules c.args.topology.now (option_at c.args.self.now.vectors) c.args.stored p → ⊥)) (λ p l i. i.0) c.in-Some.place c.index-ports-place.result there.0 c.before_of-next.result last k h) [ inl i ↦ inl (rw c.in-Some.is i) | inr i ↦ inr (i.1, i.2) ]);
+          (λ k h. elim (passed_more c.args.topology.now.ports (λ p. p.bridge ≡ c.args.bridge) (λ p n. (p.bridge ≡ c.args.bridge) × IsBridgeOn c.args.topology.now p.lan n × (IsUnconcerned g.M.Metric.rules c.args.topology.now (option_at c.args.self.now.vectors) c.args.stored p → ⊥)) (λ p l i. i.0) c.in-Some.place c.at-port.result c.at-port.ensures c.before_of-next.result last k h) [ inl i ↦ inl (rw c.in-Some.is i) | inr i ↦ inr (i.1, i.2) ]);
       vectors = c.look_along.ensures.vectors ∙ before.vectors;
       lans = c.look_along.ensures.lans ∙ before.lans;
       moved = c.look_along.ensures.moved ∙ before.moved;

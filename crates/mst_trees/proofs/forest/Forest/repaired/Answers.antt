@@ -1,27 +1,50 @@
-use Rattle.std.proofs.Common.{sym, subst, ◌∙◌}
+use Rattle.std.proofs.Common.{◌≡◌, sym, subst, ap, ◌∙◌}
 use Rattle.mst_vector.specs.Cist.{cist_rules}
 use Rattle.mst_settle.specs.Assignment.{designated_of, IsSettledFor}
 use Rattle.mst_trees.specs.Seen.{inner_seen, cist_seen}
 use Rattle.mst_trees.specs.Agrees.{AreOf}
+use Rattle.mst_trees.specs.Forest.{Forest, KeepsBounds}
+use Rattle.mst_trees.specs.Mstis.{AreOutcomes, outcomes}
+use Rattle.mst_trees.specs.Wirings.{msti_wires}
 use Rattle.mst_trees.proofs.Growing.{inner_agrees, is_forest}
 use Rattle.mst_trees.proofs.Keeping.{keeps_bounds}
+use Rattle.mst_trees.proofs.OnWiring.{inner_numbers}
 use Rattle.mst_trees.proofs.SettledTrees.{same_inner, is_settled_seen}
 use Rattle.mst_trees.proofs.forest.Forest.repaired.Goals as goal
 
-pub repaired_mstis-requires : goal.repaired_mstis-requires
-repaired_mstis-requires c =
+pub msti_wiring-requires : goal.msti_wiring-requires
+msti_wiring-requires c =
     let v = c.args.view.now in
     let classes = c.args.classes.now in
     let k = c.requires in
     let o = c.has_outcome.ensures k.net k.of.network in
-    record {
+    inner_numbers v c.as_slice.result.now (record {
       net = k.net;
       numbers = k.numbers;
       classes = classes;
       of = k.of;
       designated = o.0.cist.designated;
       is = c.as_slice.ensures.value ∙ c.in_ok-inner.ensures
-          ∙ inner_agrees k.net k.numbers v classes k.of c.renamed.ensures.vectors c.renamed.ensures.ports o.0.cist o.1.cist c.in_ok-cist.cist c.in_ok-cist.ensures.outcome;
+          ∙ inner_agrees k.net k.numbers v classes k.of c.renamed.ensures.vectors c.renamed.ensures.ports o.0.cist o.1.cist c.in_ok-cist_wiring.cist.outcome c.in_ok-cist_wiring.ensures.settled.outcome;
+    })
+
+pub next_mstis-requires : goal.next_mstis-requires
+next_mstis-requires c =
+    let v = c.args.view.now in
+    let classes = c.args.classes.now in
+    let k = c.requires in
+    let o = c.has_outcome.ensures k.net k.of.network in
+    record {
+      known = record {
+        net = k.net;
+        numbers = k.numbers;
+        classes = classes;
+        of = k.of;
+        designated = o.0.cist.designated;
+        is = c.as_slice-2.ensures.value ∙ c.in_ok-inner.ensures
+            ∙ inner_agrees k.net k.numbers v classes k.of c.renamed.ensures.vectors c.renamed.ensures.ports o.0.cist o.1.cist c.in_ok-cist_wiring.cist.outcome c.in_ok-cist_wiring.ensures.settled.outcome;
+      };
+      wiring = c.in_ok-msti_wiring.ensures ∙ ap msti_wires (c.as_slice.ensures.value ∙ sym c.as_slice-2.ensures.value);
     }
 
 pub returns-clause-outcome : goal.returns-clause-outcome
@@ -29,22 +52,24 @@ returns-clause-outcome c = λ net numbers of.
     let v = c.args.view.now in
     let classes = c.args.classes.now in
     let o = c.has_outcome.ensures net of.network in
+    let f : Forest = record { regions = c.in_ok-copy.field-0; cist = c.in_ok-cist_wiring.cist.outcome; mstis = outcomes c.in_ok-mstis.mstis.entries } in
     is_forest net numbers v classes of c.renamed.ensures.vectors c.renamed.ensures.ports c.renamed-2.ensures.vectors c.renamed-2.ensures.ports o.0 o.1
-    _ c.in_ok-copy.ensures c.in_ok-cist.ensures.outcome c.as_slice.result.now (c.as_slice.ensures.value ∙ c.in_ok-inner.ensures) _ c.in_ok-mstis.ensures
+    f c.in_ok-copy.ensures c.in_ok-cist_wiring.ensures.settled.outcome c.as_slice-2.result.now (c.as_slice-2.ensures.value ∙ c.in_ok-inner.ensures) c.args.self.now.mstis c.in_ok-mstis.ensures.settled
 
 pub returns-clause-nested : goal.returns-clause-nested
 returns-clause-nested c =
     let v = c.args.view.now in
     let k = c.requires in
     let o = c.has_outcome.ensures k.net k.of.network in
-    let cist = c.in_ok-cist.cist in
+    let cist = c.in_ok-cist_wiring.cist.outcome in
     let regions = sym c.in_ok-copy.ensures in
-    is_settled_seen k.net k.numbers v (record { regions = c.in_ok-copy.field-0; cist = cist; mstis = c.in_ok-mstis.mstis }) (subst (AreOf k.net k.numbers v) regions k.of)
+    let f : Forest = record { regions = c.in_ok-copy.field-0; cist = cist; mstis = outcomes c.in_ok-mstis.mstis.entries } in
+    is_settled_seen k.net k.numbers v f (subst (AreOf k.net k.numbers v) regions k.of)
     c.renamed.ensures.vectors c.renamed.ensures.ports c.renamed.ensures.topology c.renamed-2.ensures.topology o.0 o.1 (c.nested.ensures.settled k.net o.0 k.of.network o.1)
-    (subst (λ classes. IsSettledFor cist_rules (cist_seen v classes) cist) regions c.in_ok-cist.ensures.outcome) _
-    (same_inner (c.as_slice.ensures.value ∙ c.in_ok-inner.ensures ∙ (λ i. inner_seen v (regions i) (designated_of cist))) c.in_ok-mstis.ensures)
+    (subst (λ classes. IsSettledFor cist_rules (cist_seen v classes) cist) regions c.in_ok-cist_wiring.ensures.settled.outcome) c.args.self.now.mstis
+    (same_inner (c.as_slice-2.ensures.value ∙ c.in_ok-inner.ensures ∙ (λ i. inner_seen v (regions i) (designated_of cist))) c.in_ok-mstis.ensures.settled)
 
 pub returns-clause-bounds : goal.returns-clause-bounds
 returns-clause-bounds c =
-    keeps_bounds c.args.self.now (record { regions = c.in_ok-copy.field-0; cist = c.in_ok-cist.cist; mstis = c.in_ok-mstis.mstis }) c.args.view.now c.args.classes.now c.in_ok-cist.ensures
-    c.as_slice.result.now c.in_ok-mstis.ensures
+    let f : Forest = record { regions = c.in_ok-copy.field-0; cist = c.in_ok-cist_wiring.cist.outcome; mstis = outcomes c.in_ok-mstis.mstis.entries } in
+    keeps_bounds c.args.self.now f c.args.view.now c.args.classes.now c.in_ok-cist_wiring.ensures.settled c.as_slice-2.result.now c.in_ok-mstis.ensures.settled

@@ -1,0 +1,123 @@
+-- The settings that ports have in one tree alone are noted where something is set.
+use Rattle.std.proofs.Common.{◌≡◌, ◌≢◌, ℕ, zero, suc, ◌+◌, ◌<◌, ◌≤◌, ◌==◌, ◌&&◌, ◌||◌, Bool, true, false, cond, if◌then◌else◌, not, max, List, [], ◌∷◌, Option, Some, None, is_some, refl, sym, ap, subst, ◌∙◌, arith, true≢false}
+use Rattle.std.specs.List.{AllByRecursion, filter, fold, range_with_len}
+use Rattle.std.specs.Option.{unwrap_or}
+use Rattle.std.specs.BTreeMap.{BTreeMap}
+use Rattle.std.proofs.lemmas.Bool.{eqb-true, eqb-false, eq-eqb, ne_eqb, or_parts, not-false, and_right}
+use Rattle.mst_ids.specs.Identifiers.{port_id}
+use Rattle.mst_ids.specs.Costs.{automatic_cost}
+use Rattle.mst_ids.specs.declared.name.PortName.{PortName}
+use Rattle.mst_vector.specs.declared.msti.MstiPort.{MstiPort}
+use Rattle.mst_settle.specs.Places.{in_map}
+use Rattle.mst_net.specs.ByTree.{ByTree, AreInTrees, port_priority_in, port_cost_in}
+use Rattle.mst_net.specs.TreesSet.{trees_where}
+use Rattle.mst_net.proofs.SettingsLemmas.{network_in_trees}
+use Rattle.mst_net.proofs.TreesListed.{all_listed, priority_told, cost_told}
+use Rattle.mst_lag.specs.Trees.{is_among}
+use Rattle.mst_lag.specs.Viewed.{Viewed, named_port}
+use Rattle.mst_lag.specs.declared.in_view.PortInView.{PortInView}
+use Rattle.mst_trees.specs.Agrees.{KnownInner}
+use Rattle.mst_trees.specs.Apart.{Apart}
+use Rattle.mst_trees.specs.Msti.{msti_port}
+use Rattle.mst_trees.specs.Own.{is_set, noted_at, IsNoted}
+use Rattle.mst_trees.specs.Wirings.{AreOwn, HaveNumbers, own_in, base_port, base_plug, msti_wires}
+use Rattle.mst_trees.proofs.Entries.{all_weaker, all_both}
+use Rattle.mst_trees.proofs.Lists.{apart_unmapped}
+
+-- ---- the trees that pass a test
+among_kept : (kept first passes x y : Bool) → (first ≡ true → passes ≡ kept) → x ≡ (y && passes) → cond kept (first || x) x ≡ ((first || y) && passes)
+among_kept true true passes x y same e = sym (same refl)
+among_kept true false passes x y same e = e
+among_kept false true passes x y same e = e ∙ and_right y passes (same refl) ∙ sym (same refl)
+among_kept false false passes x y same e = e
+
+among_filtered : (test : ℕ → Bool) (tree : ℕ) (ts : List ℕ) → is_among (filter test ts) tree ≡ (is_among ts tree && test tree)
+among_filtered test tree [] = refl
+among_filtered test tree (t ∷ ts) = by (test t) refl (among_filtered test tree ts)
+  where
+    by : (kept : Bool) → test t ≡ kept → is_among (filter test ts) tree ≡ (is_among ts tree && test tree) → is_among (cond kept (t ∷ filter test ts) (filter test ts)) tree ≡ ((t == tree || is_among ts tree) && test tree)
+    by true e rest = among_kept true (t == tree) (test tree) (is_among (filter test ts) tree) (is_among ts tree) (λ f. ap test (sym (eqb-true t tree f)) ∙ e) rest
+    by false e rest = among_kept false (t == tree) (test tree) (is_among (filter test ts) tree) (is_among ts tree) (λ f. ap test (sym (eqb-true t tree f)) ∙ e) rest
+
+among_range : (tree a n : ℕ) → a ≤ tree → tree < a + n → is_among (range_with_len a n) tree ≡ true
+among_range tree a zero l h = absurd (omega arith)
+among_range tree a (suc n) l h = by (a == tree) refl (λ later. among_range tree (a + 1) n later (omega arith))
+  where
+    by : (b : Bool) → (a == tree) ≡ b → (a + 1 ≤ tree → is_among (range_with_len (a + 1) n) tree ≡ true) → (b || is_among (range_with_len (a + 1) n) tree) ≡ true
+    by true e rest = refl
+    by false e rest = rest (let other = eqb-false a tree e in omega arith)
+
+among_where : (test : ℕ → Bool) (tree : ℕ) → (test tree ≡ true → tree ≤ 4094) → is_among (trees_where test) tree ≡ test tree
+among_where test tree small = by 4095 refl (test tree) refl
+  where
+    by : (n : ℕ) → n ≡ 4095 → (b : Bool) → test tree ≡ b → is_among (trees_where test) tree ≡ b
+    by n is true e =
+        let l = small e in
+        ap (λ ts. is_among ts tree) (sym (all_listed test n is)) ∙ among_filtered test tree (range_with_len 0 n) ∙ ap (λ b. b && test tree) (among_range tree 0 n (omega arith) (omega arith)) ∙ e
+    by n is false e = ap (λ ts. is_among ts tree) (sym (all_listed test n is)) ∙ among_filtered test tree (range_with_len 0 n) ∙ and_right _ _ e
+
+-- ---- one port
+pub set_among : (set : ByTree) (port : PortName) → AreInTrees set → (tree : ℕ)
+    → (is_among (trees_where (λ t. not (port_priority_in set.port_priorities port t == 8))) tree || is_among (trees_where (λ t. is_some (port_cost_in set.port_costs port t))) tree) ≡ is_set set port tree
+set_among set port small tree = λ i.
+    among_where (λ t. not (port_priority_in set.port_priorities port t == 8)) tree (λ e. let n = priority_told _ e in small.port_priorities port tree n.0 n.1) i
+    || among_where (λ t. is_some (port_cost_in set.port_costs port t)) tree (λ e. let n = cost_told _ e in small.port_costs port tree n.0 n.1) i
+
+pub noted_in_both : (a b test : ℕ → Bool) (v : Viewed) (p : PortInView) (old now new : List (ℕ × BTreeMap ℕ MstiPort)) → ((tree : ℕ) → (a tree || b tree) ≡ test tree)
+    → IsNoted a v p old now → IsNoted b v p now new → IsNoted test v p old new
+noted_in_both a b test v p old now new same before after tree k =
+    after tree k ∙ ap (noted_at b v p tree k) (before tree k) ∙ by (k == p.number) (a tree) (b tree) (Some (msti_port v.settings tree (named_port p))) _
+    ∙ ap (λ s. if k == p.number && s then Some (msti_port v.settings tree (named_port p)) else in_map (own_in old tree) k) (same tree)
+  where
+    by : (at x y : Bool) (s o : Option MstiPort) → (if at && y then s else (if at && x then s else o)) ≡ (if at && (x || y) then s else o)
+    by false x y s o = refl
+    by true true true s o = refl
+    by true true false s o = refl
+    by true false y s o = refl
+
+-- ---- one port after another
+module _ (v : Viewed) (tree : ℕ) where
+  -- what the tree has under a number once these ports are noted, where it had this before
+  abbrev pub noted_from : Option MstiPort → List PortInView → ℕ → Option MstiPort
+  noted_from had ports k = fold (λ had p. noted_at (is_set v.settings p.name) v p tree k had) had ports
+
+  -- and where it had nothing
+  abbrev pub noted_of : List PortInView → ℕ → Option MstiPort
+  noted_of ports k = noted_from None ports k
+
+  passed_by : (k : ℕ) (had : Option MstiPort) (p : PortInView) → k ≢ p.number → noted_at (is_set v.settings p.name) v p tree k had ≡ had
+  passed_by k had p other = ap (λ b. if b && is_set v.settings p.name tree then Some (msti_port v.settings tree (named_port p)) else had) (ne_eqb k p.number other)
+
+  all_passed_by : (k : ℕ) (had : Option MstiPort) (ps : List PortInView) → AllByRecursion (λ p. k ≢ p.number) ps → noted_from had ps k ≡ had
+  all_passed_by k had [] h = refl
+  all_passed_by k had (p ∷ ps) h = ap (λ o. noted_from o ps k) (passed_by k had p h.0) ∙ all_passed_by k had ps h.1
+
+  -- where nothing is set the port has the settings that ports have then
+  one_noted : (p : PortInView) → unwrap_or (noted_at (is_set v.settings p.name) v p tree p.number None) (base_port p) ≡ msti_port v.settings tree (named_port p)
+  one_noted p = ap (λ b. unwrap_or (if b && is_set v.settings p.name tree then Some (msti_port v.settings tree (named_port p)) else None) (base_port p)) (eq-eqb p.number p.number refl) ∙ by (is_set v.settings p.name tree) refl
+    where
+      no_cost : (o : Option ℕ) → is_some o ≡ false → o ≡ None
+      no_cost None e = refl
+      no_cost (Some n) e = absurd (true≢false e)
+
+      by : (b : Bool) → is_set v.settings p.name tree ≡ b → unwrap_or (if b then Some (msti_port v.settings tree (named_port p)) else None) (base_port p) ≡ msti_port v.settings tree (named_port p)
+      by true e = refl
+      by false e =
+          let none = or_parts (not (port_priority_in v.settings.port_priorities p.name tree == 8)) (is_some (port_cost_in v.settings.port_costs p.name tree)) e in
+          let priority = eqb-true (port_priority_in v.settings.port_priorities p.name tree) 8 (not-false _ none.0) in
+          λ i. record { id = port_id (sym priority i) p.name.number; internal = unwrap_or (sym (no_cost (port_cost_in v.settings.port_costs p.name tree) none.1) i) (automatic_cost (max 1 p.speed)) }
+
+  all_noted : (ps : List PortInView) → Apart (λ p q. p.number ≢ q.number) ps → AllByRecursion (λ p. unwrap_or (noted_of ps p.number) (base_port p) ≡ msti_port v.settings tree (named_port p)) ps
+  all_noted [] h = tt
+  all_noted (p ∷ ps) h = (
+    ap (λ o. unwrap_or o (base_port p)) (all_passed_by p.number (noted_at (is_set v.settings p.name) v p tree p.number None) ps h.0) ∙ one_noted p,
+    all_both (λ q. p.number ≢ q.number) _ _ (λ q other noted. ap (λ o. unwrap_or (noted_from o ps q.number) (base_port q)) (passed_by q.number None p (λ e. other (sym e))) ∙ noted) ps h.0 (all_noted ps h.1),
+  )
+
+  pub are_own : (inner : List PortInView) (own : List (ℕ × MstiPort)) → HaveNumbers (msti_wires inner) → ((k : ℕ) → in_map own k ≡ noted_of inner k) → AreOwn v inner tree own
+  are_own inner own numbers noted =
+      all_weaker _ _ (λ p right. ap (λ o. unwrap_or o (base_port p)) (noted p.number) ∙ right) inner
+      (all_noted inner (apart_unmapped (λ p q. p.number ≢ q.number) base_plug inner numbers))
+
+pub known_in_trees : (v : Viewed) (inner : List PortInView) → KnownInner v inner → AreInTrees v.settings
+known_in_trees v inner known = subst AreInTrees (sym known.of.view.settings) (network_in_trees known.net known.of.network)

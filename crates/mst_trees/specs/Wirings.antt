@@ -1,0 +1,51 @@
+-- The wirings that the trees of a view share.
+use Rattle.std.specs.Prelude.{◌≡◌, ◌≢◌, ℕ, List, [], map, max, filter_map, nat_eq}
+use Rattle.std.specs.Option.{option_map_or}
+use Rattle.std.specs.List.{AllByRecursion}
+use Rattle.std.specs.Map.{lookup}
+use Rattle.std.specs.BTreeMap.{BTreeMap}
+use Rattle.mst_ids.specs.Identifiers.{port_id}
+use Rattle.mst_ids.specs.Costs.{automatic_cost}
+use Rattle.mst_vector.specs.declared.cist.CistBridge.{CistBridge}
+use Rattle.mst_vector.specs.declared.cist.CistPort.{CistPort}
+use Rattle.mst_vector.specs.declared.msti.MstiBridge.{MstiBridge}
+use Rattle.mst_vector.specs.declared.msti.MstiPort.{MstiPort}
+use Rattle.mst_settle.specs.Topology.{Plug}
+use Rattle.mst_settle.specs.Wiring.{settings_in}
+use Rattle.mst_lag.specs.Viewed.{Viewed, named_port}
+use Rattle.mst_lag.specs.declared.in_view.PortInView.{PortInView}
+use Rattle.mst_trees.specs.Apart.{Apart}
+use Rattle.mst_trees.specs.Msti.{msti_port}
+use Rattle.mst_trees.specs.Seen.{plug_of, seen_cist_bridge, seen_cist_port, seen_msti_bridge}
+
+-- no two ports have one number
+abbrev pub HaveNumbers : {P : Type 0} → List (Plug ℕ ℕ ℕ P) → Type 0
+HaveNumbers ports = Apart (λ p q. p.number ≢ q.number) ports
+
+-- that of the CIST: the enabled ports
+abbrev pub cist_wires : Viewed → List (Plug ℕ ℕ ℕ CistPort)
+cist_wires v = filter_map (seen_cist_port v.settings) v.ports
+
+abbrev pub cist_bridges_seen : Viewed → List (ℕ × ℕ) → List (ℕ × CistBridge)
+cist_bridges_seen v classes = filter_map (seen_cist_bridge v.settings classes) v.bridges
+
+-- that of the MSTIs: the inner ports, with the settings that they have in a tree for which none were set
+abbrev pub base_port : PortInView → MstiPort
+base_port p = record { id = port_id 8 p.name.number; internal = automatic_cost (max 1 p.speed) }
+
+abbrev pub base_plug : PortInView → Plug ℕ ℕ ℕ MstiPort
+base_plug p = plug_of p (base_port p)
+
+abbrev pub msti_wires : List PortInView → List (Plug ℕ ℕ ℕ MstiPort)
+msti_wires inner = map base_plug inner
+
+abbrev pub msti_bridges_seen : Viewed → ℕ → List (ℕ × MstiBridge)
+msti_bridges_seen v tree = filter_map (seen_msti_bridge v tree) v.bridges
+
+-- with these settings of its own in a tree each of the inner ports has the settings that it has there
+abbrev pub AreOwn : Viewed → List PortInView → ℕ → List (ℕ × MstiPort) → Type 0
+AreOwn v inner tree own = AllByRecursion (λ p. settings_in own (base_plug p) ≡ msti_port v.settings tree (named_port p)) inner
+
+-- those of a tree, of those of all trees
+abbrev pub own_in : List (ℕ × BTreeMap ℕ MstiPort) → ℕ → List (ℕ × MstiPort)
+own_in own tree = option_map_or (λ m. m.entries) (lookup (nat_eq tree) own) []

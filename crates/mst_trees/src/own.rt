@@ -1,0 +1,84 @@
+ghost use Rattle.std.specs.Prelude.{ℕ, ◌==◌, IfOk, OnOk};
+ghost use Rattle.mst_net.specs.ByTree.{AreInTrees};
+ghost use Rattle.mst_lag.specs.Trees.{is_among};
+ghost use Rattle.mst_trees.specs.Agrees.{KnownInner};
+ghost use Rattle.mst_trees.specs.Own.{is_set, IsNoted};
+ghost use Rattle.mst_trees.specs.Wirings.{HaveNumbers, AreOwn, own_in, msti_wires};
+
+use crate::msti::settings_in;
+use indexmap::IndexMap;
+use mst_ids::Tree;
+use mst_lag::{PortInView, View};
+use mst_vector::MstiPort;
+use std::alloc::{AllocError, Global};
+use std::collections::BTreeMap;
+
+/// The settings that ports have in one tree alone, by the ports' numbers, for each tree in which there are such.
+pub(crate) type OwnSettings = IndexMap<Tree, BTreeMap<usize, MstiPort>>;
+
+/// Notes the settings of a port in a tree.
+fn note_in(
+    alloc: Global,
+    view: &View,
+    port: &PortInView,
+    tree: Tree,
+    own: &mut OwnSettings,
+) -> Result<(), AllocError>
+    ensures { OnOk result (IsNoted (λ t. tree == t) view.now port.now own.old.entries own.new.entries) }
+{
+    let settings = settings_in(view, tree, port);
+    own.entry(tree)?
+        .or_insert(BTreeMap::new(alloc))
+        .insert(port.number.0, settings)?;
+    Ok(())
+}
+
+/// Notes the settings of a port in these trees.
+fn note_in_each(
+    alloc: Global,
+    view: &View,
+    port: &PortInView,
+    trees: &[Tree],
+    own: &mut OwnSettings,
+) -> Result<(), AllocError>
+    ensures { OnOk result (IsNoted (is_among trees.now) view.now port.now own.old.entries own.new.entries) }
+{
+    for tree in trees {
+        note_in(alloc, view, port, *tree, own)?;
+    }
+    Ok(())
+}
+
+/// Notes the settings of a port in the trees in which something is set for it.
+fn note_port(
+    alloc: Global,
+    view: &View,
+    port: &PortInView,
+    own: &mut OwnSettings,
+) -> Result<(), AllocError>
+    requires { AreInTrees view.now.settings }
+    ensures { OnOk result (IsNoted (is_set view.now.settings port.now.name) view.now port.now own.old.entries own.new.entries) }
+{
+    let settings = view.settings();
+    let priorities = settings.port_priority_trees(&port.name, alloc)?;
+    note_in_each(alloc, view, port, priorities.as_slice(), own)?;
+    let costs = settings.port_cost_trees(&port.name, alloc)?;
+    note_in_each(alloc, view, port, costs.as_slice(), own)
+}
+
+/// The settings that the inner ports of a view have in one MSTI alone.
+pub(crate) fn own_settings(
+    alloc: Global,
+    view: &View,
+    inner: &[PortInView],
+) -> Result<OwnSettings, AllocError>
+    requires known { KnownInner view.now inner.now }
+    requires numbers { HaveNumbers (msti_wires inner.now) }
+    ensures { IfOk result (λ own. (tree : ℕ) → AreOwn view.now inner.now tree (own_in own.entries tree)) }
+{
+    let mut own = IndexMap::new(alloc);
+    for port in inner {
+        note_port(alloc, view, port, &mut own)?;
+    }
+    Ok(own)
+}
