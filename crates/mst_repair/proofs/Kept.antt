@@ -7,7 +7,7 @@ use Rattle.mst_settle.specs.Assignment.{Assignment, KeepsOutcome}
 use Rattle.mst_settle.proofs.Chains.{one_there}
 use Rattle.mst_settle.proofs.Lowest.{before_here_after}
 use Rattle.mst_settle.proofs.Roomy.{keeps_trans}
-use Rattle.mst_repair.specs.Differences.{IsTouched, NumberIsTouched, BridgeIsDone}
+use Rattle.mst_repair.specs.Differences.{IsTouched, PortIsDone, NumberIsDone, BridgeIsDone}
 
 -- three steps, and four
 pub keeps_three : {V : Type 0} {a b c d : Assignment V} → KeepsOutcome a b → KeepsOutcome b c → KeepsOutcome c d → KeepsOutcome a d
@@ -20,12 +20,15 @@ pub touched_kept : {P V : Type 0} (a b : Assignment V) → KeepsOutcome a b → 
 touched_kept a b k p h = (k.touched_bridges p.bridge h.0, k.touched_lans p.lan h.1)
 
 module _ {B P V : Type 0} (t u : Topology ℕ ℕ ℕ B P) (a b : Assignment V) (k : KeepsOutcome a b) where
-  pub number_kept : (n : ℕ) → NumberIsTouched t u a n → NumberIsTouched t u b n
-  number_kept n h p i e = touched_kept a b k p (h p i e)
+  pub port_kept : (p : Plug ℕ ℕ ℕ P) → PortIsDone t u a p → PortIsDone t u b p
+  port_kept p h = elim h [ inl same ↦ inl same | inr i ↦ inr (touched_kept a b k p i) ]
+
+  pub number_kept : (n : ℕ) → NumberIsDone t u a n → NumberIsDone t u b n
+  number_kept n h p i e = port_kept p (h p i e)
 
   -- what is touched in one topology first, and then in the other
-  pub number_touched : (n : ℕ) → ((p : Plug ℕ ℕ ℕ P) → HasPort t p → p.number ≡ n → IsTouched a p) → ((p : Plug ℕ ℕ ℕ P) → HasPort u p → p.number ≡ n → IsTouched b p) → NumberIsTouched t u b n
-  number_touched n first then p i e = elim i [ inl h ↦ touched_kept a b k p (first p h e) | inr h ↦ then p h e ]
+  pub number_touched : (n : ℕ) → ((p : Plug ℕ ℕ ℕ P) → HasPort t p → p.number ≡ n → IsTouched a p) → ((p : Plug ℕ ℕ ℕ P) → HasPort u p → p.number ≡ n → IsTouched b p) → NumberIsDone t u b n
+  number_touched n first then p i e = inr (elim i [ inl h ↦ touched_kept a b k p (first p h e) | inr h ↦ then p h e ])
 
   pub done_kept : (n : ℕ) (c : B) → BridgeIsDone t u a n c → BridgeIsDone t u b n c
   done_kept n c h = elim h [

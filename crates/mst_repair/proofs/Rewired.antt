@@ -13,8 +13,8 @@ use Rattle.mst_settle.specs.Places.{in_map}
 use Rattle.mst_settle.specs.Assignment.{Assignment, KeepsOutcome}
 use Rattle.mst_settle.proofs.Mapped.{at_from}
 use Rattle.mst_settle.proofs.Roomy.{keeps_trans}
-use Rattle.mst_repair.specs.Differences.{CoversDifferences, IsTouched, BridgeIsDone, TouchesMissing}
-use Rattle.mst_repair.proofs.Kept.{touched_kept, done_kept}
+use Rattle.mst_repair.specs.Differences.{CoversDifferences, IsTouched, PortIsDone, BridgeIsDone, TouchesMissing}
+use Rattle.mst_repair.proofs.Kept.{port_kept, done_kept}
 
 in_mapped : {A B : Type 0} (f : A → B) (xs : List A) (x : A) → Contains xs x → Contains (map f xs) (f x)
 in_mapped f xs x h = (h.0, rw length-map h.1, get_or-map f xs h.0 x (f x) h.1 ∙ ap f h.2)
@@ -45,14 +45,26 @@ module _ {B : Type 0} (bridges : List (ℕ × B)) (n : ℕ) where
   is_there : (b : B) → Contains bridges (n, b) → has bridges n ≡ true
   is_there b c = IsSome-lookup_from_Contains nat_eq_equiv n bridges (in_mapped (λ (e : ℕ × B). e.0) bridges (n, b) c)
 
+-- a port is in that topology, or is touched
+abbrev IsThereOrTouched : {B P V : Type 0} → Topology ℕ ℕ ℕ B P → Assignment V → Plug ℕ ℕ ℕ P → Type 0
+IsThereOrTouched u a p = HasPort u p ⊎ IsTouched a p
+
+-- where it is the same in both topologies or is touched, a port of the one is in the other or is touched
+module _ {B P V : Type 0} (t u : Topology ℕ ℕ ℕ B P) (a : Assignment V) (p : Plug ℕ ℕ ℕ P) (done : PortIsDone t u a p) where
+  done_there : HasPort t p → IsThereOrTouched u a p
+  done_there h = elim done [ inl same ↦ inl (same.0 h) | inr i ↦ inr i ]
+
+  done_back : HasPort u p → IsThereOrTouched t a p
+  done_back h = elim done [ inl same ↦ inl (same.1 h) | inr i ↦ inr i ]
+
 module _ {B P : Type 0} (wires_t wires_u : List (Plug ℕ ℕ ℕ P)) (t u : Topology ℕ ℕ ℕ B P) (own_t own_u : List (ℕ × P))
     (is_t : t ≡ topology_of wires_t t.bridges own_t) (is_u : u ≡ topology_of wires_u u.bridges own_u) where
   -- a port of the one topology is a wire; it is a port of the other where it is a wire there too, has no settings of its
   -- own, and its bridge is in both or in neither
-  wired : (p : Plug ℕ ℕ ℕ P) → HasPort t p → (w : Plug ℕ ℕ ℕ P) × Contains wires_t w × (port_in t.bridges own_t w ≡ p)
+  pub wired : (p : Plug ℕ ℕ ℕ P) → HasPort t p → (w : Plug ℕ ℕ ℕ P) × Contains wires_t w × (port_in t.bridges own_t w ≡ p)
   wired p h = from_mapped (port_in t.bridges own_t) wires_t p (subst (λ z. Contains z p) (ap (λ (z : Topology ℕ ℕ ℕ B P). z.ports) is_t) h)
 
-  in_other : (w : Plug ℕ ℕ ℕ P) → Contains wires_u w → HasPort u (port_in u.bridges own_u w)
+  pub in_other : (w : Plug ℕ ℕ ℕ P) → Contains wires_u w → HasPort u (port_in u.bridges own_u w)
   in_other w c = subst (λ z. Contains z (port_in u.bridges own_u w)) (sym (ap (λ (z : Topology ℕ ℕ ℕ B P). z.ports) is_u)) (in_mapped (port_in u.bridges own_u) wires_u w c)
 
   same_port : (w : Plug ℕ ℕ ℕ P) → in_map own_t w.number ≡ None → in_map own_u w.number ≡ None → has t.bridges w.bridge ≡ has u.bridges w.bridge → port_in t.bridges own_t w ≡ port_in u.bridges own_u w
@@ -88,30 +100,30 @@ module _ {B P : Type 0} (wires_t wires_u : List (Plug ℕ ℕ ℕ P)) (t u : Top
 
   -- all that t has and u hasn't is touched
   pub touches_missing : {V : Type 0} (a : Assignment V) (numbers : List ℕ) → ((w : Plug ℕ ℕ ℕ P) → Contains wires_t w → Contains wires_u w ⊎ Contains numbers w.number)
-      → ((p : Plug ℕ ℕ ℕ P) → HasPort t p → Contains numbers p.number → IsTouched a p)
-      → ((p : Plug ℕ ℕ ℕ P) → HasPort t p → (in_map own_t p.number ≡ None) ⊎ IsTouched a p)
-      → ((p : Plug ℕ ℕ ℕ P) → HasPort t p → (in_map own_u p.number ≡ None) ⊎ IsTouched a p)
+      → ((p : Plug ℕ ℕ ℕ P) → HasPort t p → Contains numbers p.number → IsThereOrTouched u a p)
+      → ((p : Plug ℕ ℕ ℕ P) → HasPort t p → (in_map own_t p.number ≡ None) ⊎ IsThereOrTouched u a p)
+      → ((p : Plug ℕ ℕ ℕ P) → HasPort t p → (in_map own_u p.number ≡ None) ⊎ IsThereOrTouched u a p)
       → ((n : ℕ) (b : B) → HasBridge t n b → BridgeIsDone t u a n b)
       → ((n : ℕ) (b : B) → HasBridge u n b → BridgeIsDone u t a n b)
       → TouchesMissing t u a
   touches_missing a numbers gone differing own_there own_here there back = record {
     bridges = λ n b h. elim (there n b h) [ inl g ↦ inl g | inr d ↦ inr d.0 ];
     ports = λ p h. record {
-      port = port_or_not numbers gone p h (differing p h) (own_there p h) (own_here p h) (part p h);
+      port = elim (port_or_not numbers gone p h (differing p h) (own_there p h) (own_here p h) (part p h)) [ inl g ↦ inl g | inr q ↦ q ];
       bridge = λ b i. elim (there p.bridge b i) [ inl g ↦ inl g | inr d ↦ inr (d.1 p h refl) ];
     };
   }
     where
-      part : (p : Plug ℕ ℕ ℕ P) → HasPort t p → (has t.bridges p.bridge ≡ has u.bridges p.bridge) ⊎ IsTouched a p
+      part : (p : Plug ℕ ℕ ℕ P) → HasPort t p → (has t.bridges p.bridge ≡ has u.bridges p.bridge) ⊎ IsThereOrTouched u a p
       part p h = elim (bridge_or_none t.bridges p.bridge) [
         | inl b ↦ elim (there p.bridge b.0 b.1) [
           | inl g ↦ inl (is_there t.bridges p.bridge b.0 b.1 ∙ sym (is_there u.bridges p.bridge b.0 g))
-          | inr d ↦ inr (d.0, d.1 p h refl)
+          | inr d ↦ inr (inr (d.0, d.1 p h refl))
         ]
         | inr none ↦ elim (bridge_or_none u.bridges p.bridge) [
           | inl c ↦ elim (back p.bridge c.0 c.1) [
             | inl g ↦ absurd (true≢false (sym (is_there t.bridges p.bridge c.0 g) ∙ none))
-            | inr d ↦ inr (d.0, d.2 p h refl)
+            | inr d ↦ inr (inr (d.0, d.2 p h refl))
           ]
           | inr none_there ↦ inl (none ∙ sym none_there)
         ]
@@ -154,9 +166,9 @@ module _ {B P : Type 0} (wires_t wires_u : List (Plug ℕ ℕ ℕ P)) (t u : Top
   -- all that one of the two has and the other hasn't is touched at last, as differing numbers, numbers with settings of
   -- their own and bridges are touched one after the other
   module _ {V : Type 0} (a b c d e : Assignment V) (to_b : KeepsOutcome a b) (to_c : KeepsOutcome b c) (to_d : KeepsOutcome c d) (to_e : KeepsOutcome d e)
-      (differing : (p : Plug ℕ ℕ ℕ P) → HasPort t p ⊎ HasPort u p → Contains numbers p.number → IsTouched a p)
-      (own_there : (p : Plug ℕ ℕ ℕ P) → HasPort t p ⊎ HasPort u p → (in_map own_t p.number ≡ None) ⊎ IsTouched b p)
-      (own_here : (p : Plug ℕ ℕ ℕ P) → HasPort t p ⊎ HasPort u p → (in_map own_u p.number ≡ None) ⊎ IsTouched c p)
+      (differing : (p : Plug ℕ ℕ ℕ P) → HasPort t p ⊎ HasPort u p → Contains numbers p.number → PortIsDone t u a p)
+      (own_there : (p : Plug ℕ ℕ ℕ P) → HasPort t p ⊎ HasPort u p → (in_map own_t p.number ≡ None) ⊎ PortIsDone t u b p)
+      (own_here : (p : Plug ℕ ℕ ℕ P) → HasPort t p ⊎ HasPort u p → (in_map own_u p.number ≡ None) ⊎ PortIsDone t u c p)
       (there : (n : ℕ) (bridge : B) → HasBridge t n bridge → BridgeIsDone t u d n bridge)
       (back : (n : ℕ) (bridge : B) → HasBridge u n bridge → BridgeIsDone u t e n bridge) where
     from_c : KeepsOutcome c e
@@ -168,20 +180,28 @@ module _ {B P : Type 0} (wires_t wires_u : List (Plug ℕ ℕ ℕ P)) (t u : Top
     from_a : KeepsOutcome a e
     from_a = keeps_trans a b e to_b from_b
 
-    differing_last : (p : Plug ℕ ℕ ℕ P) → HasPort t p ⊎ HasPort u p → Contains numbers p.number → IsTouched e p
-    differing_last p h m = touched_kept a e from_a p (differing p h m)
+    differing_last : (p : Plug ℕ ℕ ℕ P) → HasPort t p ⊎ HasPort u p → Contains numbers p.number → PortIsDone t u e p
+    differing_last p h m = port_kept t u a e from_a p (differing p h m)
 
-    there_last : (p : Plug ℕ ℕ ℕ P) → HasPort t p ⊎ HasPort u p → (in_map own_t p.number ≡ None) ⊎ IsTouched e p
-    there_last p h = elim (own_there p h) [ inl none ↦ inl none | inr i ↦ inr (touched_kept b e from_b p i) ]
+    there_last : (p : Plug ℕ ℕ ℕ P) → HasPort t p ⊎ HasPort u p → (in_map own_t p.number ≡ None) ⊎ PortIsDone t u e p
+    there_last p h = elim (own_there p h) [ inl none ↦ inl none | inr i ↦ inr (port_kept t u b e from_b p i) ]
 
-    here_last : (p : Plug ℕ ℕ ℕ P) → HasPort t p ⊎ HasPort u p → (in_map own_u p.number ≡ None) ⊎ IsTouched e p
-    here_last p h = elim (own_here p h) [ inl none ↦ inl none | inr i ↦ inr (touched_kept c e from_c p i) ]
+    here_last : (p : Plug ℕ ℕ ℕ P) → HasPort t p ⊎ HasPort u p → (in_map own_u p.number ≡ None) ⊎ PortIsDone t u e p
+    here_last p h = elim (own_here p h) [ inl none ↦ inl none | inr i ↦ inr (port_kept t u c e from_c p i) ]
 
     done_last : (n : ℕ) (bridge : B) → HasBridge t n bridge → BridgeIsDone t u e n bridge
     done_last n bridge h = done_kept t u d e to_e n bridge (there n bridge h)
 
     pub touched_there : TouchesMissing t u e
-    touched_there = touches_missing wires_t wires_u t u own_t own_u is_t is_u e numbers covers.gone (λ p h. differing_last p (inl h)) (λ p h. there_last p (inl h)) (λ p h. here_last p (inl h)) done_last back
+    touched_there = touches_missing wires_t wires_u t u own_t own_u is_t is_u e numbers covers.gone
+        (λ p h m. done_there t u e p (differing_last p (inl h) m) h)
+        (λ p h. elim (there_last p (inl h)) [ inl none ↦ inl none | inr i ↦ inr (done_there t u e p i h) ])
+        (λ p h. elim (here_last p (inl h)) [ inl none ↦ inl none | inr i ↦ inr (done_there t u e p i h) ])
+        done_last back
 
     pub touched_back : TouchesMissing u t e
-    touched_back = touches_missing wires_u wires_t u t own_u own_t is_u is_t e numbers covers.come (λ p h. differing_last p (inr h)) (λ p h. here_last p (inr h)) (λ p h. there_last p (inr h)) back done_last
+    touched_back = touches_missing wires_u wires_t u t own_u own_t is_u is_t e numbers covers.come
+        (λ p h m. done_back t u e p (differing_last p (inr h) m) h)
+        (λ p h. elim (here_last p (inr h)) [ inl none ↦ inl none | inr i ↦ inr (done_back t u e p i h) ])
+        (λ p h. elim (there_last p (inr h)) [ inl none ↦ inl none | inr i ↦ inr (done_back t u e p i h) ])
+        back done_last

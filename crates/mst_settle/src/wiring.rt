@@ -116,13 +116,6 @@ impl<P: Copy> Wiring<P> {
         self.places.get(number.0)
     }
 
-    /// Does nothing: its clause says that the numbers of ports are distinct.
-    pub fn known(&self)
-        ensures { (p q : PlugOf ℕ ℕ ℕ P) → Contains self.now p → Contains self.now q → p.number ≡ q.number → p ≡ q }
-    {
-        let _ports = self.ports.len();
-    }
-
     /// The place of the last port on the LAN.
     pub fn last_on(&self, lan: LanNo) -> Option<usize>
         ensures { IsLast self.now (λ p. p.lan ≡ lan) (length self.now) result }

@@ -49,10 +49,10 @@ pub returns-clause-there : goal.returns-clause-there
 returns-clause-there g c = touched_there c.args.rewiring.now.from c.args.rewiring.now.to c.args.from.now c.args.to.now c.args.own_from.now.entries c.args.own_to.now.entries c.requires.from c.requires.to
     c.differing.result.now c.differing.ensures c.touch_numbers.new.settler c.touch_own.new.settler c.touch_own-2.new.settler c.touch_bridges.new.settler c.touch_bridges-2.new.settler
     c.touch_own.ensures.keeps c.touch_own-2.ensures.keeps c.touch_bridges.ensures.keeps c.touch_bridges-2.ensures.keeps
-    c.touch_numbers.ensures.touched c.touch_own.ensures.touched c.touch_own-2.ensures.touched c.touch_bridges.ensures.done c.touch_bridges-2.ensures.done
+    c.touch_numbers.ensures.done c.touch_own.ensures.done c.touch_own-2.ensures.done c.touch_bridges.ensures.done c.touch_bridges-2.ensures.done
 
 pub returns-clause-back : goal.returns-clause-back
 returns-clause-back g c = touched_back c.args.rewiring.now.from c.args.rewiring.now.to c.args.from.now c.args.to.now c.args.own_from.now.entries c.args.own_to.now.entries c.requires.from c.requires.to
     c.differing.result.now c.differing.ensures c.touch_numbers.new.settler c.touch_own.new.settler c.touch_own-2.new.settler c.touch_bridges.new.settler c.touch_bridges-2.new.settler
     c.touch_own.ensures.keeps c.touch_own-2.ensures.keeps c.touch_bridges.ensures.keeps c.touch_bridges-2.ensures.keeps
-    c.touch_numbers.ensures.touched c.touch_own.ensures.touched c.touch_own-2.ensures.touched c.touch_bridges.ensures.done c.touch_bridges-2.ensures.done
+    c.touch_numbers.ensures.done c.touch_own.ensures.done c.touch_own-2.ensures.done c.touch_bridges.ensures.done c.touch_bridges-2.ensures.done

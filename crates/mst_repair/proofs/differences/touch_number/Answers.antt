@@ -1,13 +1,14 @@
-use Rattle.mst_settle.proofs.Roomy.{keeps_trans}
+use Rattle.std.proofs.Common.{refl, inl}
 use Rattle.mst_settle.proofs.Scratch.{space_kept}
 use Rattle.mst_repair.proofs.Kept.{number_touched}
 use Rattle.mst_repair.proofs.differences.touch_number.Goals as goal
 
-pub touch_port-requires-2 : goal.touch_port-requires-2
-touch_port-requires-2 g c = space_kept c.args.to.now c.args.settler.now c.touch_port.new.settler c.requires.to c.touch_port.ensures.keeps.space
+pub touch_port-requires-then-not-same_at : goal.touch_port-requires-then-not-same_at
+touch_port-requires-then-not-same_at g c = space_kept c.args.to.now c.args.settler.now c.touch_port.new.settler c.requires.to c.touch_port.ensures.keeps.space
 
-pub returns-clause-keeps : goal.returns-clause-keeps
-returns-clause-keeps g c = keeps_trans c.args.settler.now c.touch_port.new.settler c.touch_port-2.new.settler c.touch_port.ensures.keeps c.touch_port-2.ensures.keeps
+pub returns-then-not-same_at-clause-done : goal.returns-then-not-same_at-clause-done
+returns-then-not-same_at-clause-done g c =
+    number_touched c.args.from.now c.args.to.now c.touch_port.new.settler c.touch_port-then-not-same_at.new.settler c.touch_port-then-not-same_at.ensures.keeps c.args.number c.touch_port.ensures.touched c.touch_port-then-not-same_at.ensures.touched
 
-pub returns-clause-touched : goal.returns-clause-touched
-returns-clause-touched g c = number_touched c.args.from.now c.args.to.now c.touch_port.new.settler c.touch_port-2.new.settler c.touch_port-2.ensures.keeps c.args.number c.touch_port.ensures.touched c.touch_port-2.ensures.touched
+pub returns-else-not-same_at-clause-done : goal.returns-else-not-same_at-clause-done
+returns-else-not-same_at-clause-done g c = λ p h number. inl (c.if-not-same_at.ensures refl p number)

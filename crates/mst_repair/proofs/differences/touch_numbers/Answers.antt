@@ -1,7 +1,7 @@
 use Rattle.mst_settle.proofs.Roomy.{keeps_trans}
 use Rattle.mst_settle.proofs.Scratch.{space_kept}
 use Rattle.std.proofs.Common.{refl}
-use Rattle.mst_repair.specs.Differences.{NumberIsTouched}
+use Rattle.mst_repair.specs.Differences.{NumberIsDone}
 use Rattle.mst_repair.proofs.Kept.{number_kept}
 use Rattle.mst_repair.proofs.Marked.{all_more, all_there}
 use Rattle.mst_repair.proofs.differences.touch_numbers.Goals as goal
@@ -18,9 +18,9 @@ loop-number-preserved g c =
     let keeps = c.touch_number.ensures.keeps in
     record {
       keeps = keeps_trans c.args.settler.now c.loop-number.settler c.touch_number.new.settler before.keeps keeps;
-      touched = all_more (NumberIsTouched c.args.from.now c.args.to.now c.loop-number.settler) (NumberIsTouched c.args.from.now c.args.to.now c.touch_number.new.settler) c.args.numbers.now c.loop-number.number-index c.number-item.result
-          c.loop-number-test.true c.number-item.is (number_kept c.args.from.now c.args.to.now c.loop-number.settler c.touch_number.new.settler keeps) before.touched c.touch_number.ensures.touched;
+      done = all_more (NumberIsDone c.args.from.now c.args.to.now c.loop-number.settler) (NumberIsDone c.args.from.now c.args.to.now c.touch_number.new.settler) c.args.numbers.now c.loop-number.number-index c.number-item.result
+          c.loop-number-test.true c.number-item.is (number_kept c.args.from.now c.args.to.now c.loop-number.settler c.touch_number.new.settler keeps) before.done c.touch_number.ensures.done;
     }
 
-pub returns-clause-touched : goal.returns-clause-touched
-returns-clause-touched g c = λ p h among. all_there (NumberIsTouched c.args.from.now c.args.to.now c.loop-number.settler) c.args.numbers.now c.loop-number.number-index p.number c.loop-number-test.false c.loop-number.invariant.touched among p h refl
+pub returns-clause-done : goal.returns-clause-done
+returns-clause-done g c = λ p h among. all_there (NumberIsDone c.args.from.now c.args.to.now c.loop-number.settler) c.args.numbers.now c.loop-number.number-index p.number c.loop-number-test.false c.loop-number.invariant.done among p h refl
