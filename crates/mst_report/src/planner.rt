@@ -1,6 +1,6 @@
-ghost use Rattle.std.specs.Prelude.{◌≡◌, ◌≢◌, true, false, Ok, Err, IsOk, IfOk, IfErr, OnOk, OnErr, IsTrue};
+ghost use Rattle.std.specs.Prelude.{◌≡◌, ◌≢◌, true, false, Err, IsOk, IfOk, IfErr, OnOk, OnErr, IsTrue};
 ghost use Rattle.mst_net.specs.After.{after};
-ghost use Rattle.mst_net.specs.Contents.{room_for};
+ghost use Rattle.mst_net.specs.Contents.{SameContents, CanCommit, Commits, room_for};
 ghost use Rattle.std.specs.Option.{option_map};
 ghost use Rattle.mst_trees.specs.Agrees.{AreOf};
 ghost use Rattle.mst_trees.specs.Forest.{IsForest};
@@ -132,11 +132,12 @@ impl Planner {
         }
     }
 
-    /// Makes an edit in the network and leaves the plan for later. An edit is refused with the least number that
-    /// applies, and with E99 only where none does and there was no room for it; the planner is then as it was.
+    /// Makes an edit in the network and leaves the plan for later. Each record that stays keeps its number. An edit is
+    /// refused with the least number that applies, and with E99 only where none does and there was no room for it; the
+    /// planner is then as it was, record numbers and all.
     pub fn stage(&mut self, edit: &Edit) -> Result<(), Refusal>
-        ensures ok { OnOk result (after edit.now self.old.contents.net ≡ Ok self.new.contents.net) }
-        ensures same { OnErr result (self.new.contents.net ≡ self.old.contents.net) }
+        ensures ok { OnOk result (Commits edit.now self.old.contents self.new.contents) }
+        ensures same { OnErr result (SameContents self.old.contents self.new.contents) }
         ensures settled { OnErr result (self.new.is_settled ≡ self.old.is_settled) }
         ensures standing { self.new.standing ≡ self.old.standing }
         ensures mark { self.new.mark ≡ self.old.mark }
@@ -173,18 +174,21 @@ impl Planner {
         Ok(())
     }
 
-    /// Makes an edit and settles the network that it makes: each tree is repaired from the one that stands. An edit is refused with the least number that applies,
-    /// and with E99 only where none does and memory was wanted and refused; the planner is then as it was.
+    /// Makes an edit and settles the network that it makes: each record that stays keeps its number, and each tree is
+    /// repaired from the one that stands. An edit is refused with the least number that applies, and with E99 only where
+    /// none does and memory was wanted and refused; the planner is then as it was, record numbers and all. Where there
+    /// was room for the edit, it was refused for the plan, and there is room for the edit still.
     pub fn apply(&mut self, edit: &Edit) -> Result<(), Refusal>
-        ensures ok { OnOk result (after edit.now self.old.contents.net ≡ Ok self.new.contents.net) }
+        ensures ok { OnOk result (Commits edit.now self.old.contents self.new.contents) }
         ensures settled { OnOk result (self.new.is_settled ≡ true) }
         ensures bounds { OnOk result (KeepsBounds self.old.standing self.new.standing) }
-        ensures same { OnErr result (self.new.contents.net ≡ self.old.contents.net) }
+        ensures same { OnErr result (SameContents self.old.contents self.new.contents) }
         ensures as_it_was { OnErr result (self.new.is_settled ≡ self.old.is_settled) }
         ensures standing { OnErr result (self.new.standing ≡ self.old.standing) }
         ensures mark { self.new.mark ≡ self.old.mark }
         ensures refused { IfErr result (λ refusal. refusal ≢ Refusal.E99 → after edit.now self.old.contents.net ≡ Err refusal) }
         ensures memory { result ≡ Err Refusal.E99 → IsOk (after edit.now self.old.contents.net) }
+        ensures no_room { result ≡ Err Refusal.E99 → room_for edit.now self.old.contents.room ≢ 0 → CanCommit edit.now self.new.contents }
     {
         let ready = self.network.prepare(edit)?;
         match next_plan(self.alloc, &self.network.ahead(&ready), &self.plan) {
