@@ -1,6 +1,6 @@
 -- What a planner keeps of its network.
-use Rattle.std.specs.Prelude.{Bool, true, false, List, Option, Some, None, MatchOption}
-use Rattle.std.specs.Option.{option_map}
+use Rattle.std.specs.Prelude.{◌≡◌, Bool, true, false, List, Option, Some, None, MatchOption}
+use Rattle.std.specs.Option.{option_map, ForSome}
 use Rattle.mst_net.specs.Tables.{Net, Numbers}
 use Rattle.mst_config.specs.Classes.{AreRegions}
 use Rattle.mst_trees.specs.Agrees.{AreOf}
@@ -22,6 +22,10 @@ abbrev pub HasPlan : Net → Numbers → Bool → Option Plan → Type 0
 HasPlan net numbers false plan = Unit {0}
 HasPlan net numbers true None = ⊥
 HasPlan net numbers true (Some p) = IsPlan net numbers p
+
+-- the regions of a plan that stand are those of the network, settled or not
+abbrev pub HasRegions : Net → Numbers → Bool → Option Plan → Type 0
+HasRegions net numbers stand plan = stand ≡ true → ForSome plan (λ p. AreRegions net numbers p.classes)
 
 -- the trees that stand
 abbrev pub standing_in : Option Plan → Standing

@@ -1,5 +1,6 @@
 ghost use Rattle.std.specs.Prelude.{IfOk};
-ghost use Rattle.mst_report.specs.Kept.{IsPlan, standing_in};
+ghost use Rattle.mst_config.specs.Classes.{AreRegions};
+ghost use Rattle.mst_report.specs.Kept.{IsPlan, HasRegions, standing_in};
 ghost use Rattle.mst_report.specs.Standing.{standing_of, KeepsBounds};
 
 use mst_config::{Classes, region_classes};
@@ -27,33 +28,54 @@ impl Drop for Plan {
 }
 
 /// The plan of a network, or of one as it will be once an edit is made: its trees are repaired from those of the plan
-/// that stands, if one does. `AllocError`: memory was wanted and refused.
+/// that stands, if one does, and its regions are that plan's where they stand. `AllocError`: memory was wanted and
+/// refused.
 pub(crate) fn next_plan<C: Contents>(
     alloc: Global,
     contents: &C,
     standing: &Option<Plan>,
+    regions_stand: bool,
 ) -> Result<Plan, AllocError>
+    requires { HasRegions (C.tables contents.now).net (C.tables contents.now).numbers regions_stand standing.now }
     ensures plan { IfOk result (IsPlan (C.tables contents.now).net (C.tables contents.now).numbers) }
     ensures bounds { IfOk result (λ plan. KeepsBounds (standing_in standing.now) (standing_of plan.forest)) }
 {
+    let classes = next_classes(alloc, contents, standing, regions_stand)?;
     match standing {
-        None => plan_from(alloc, contents, &Forest::empty(alloc)),
-        Some(plan) => plan_from(alloc, contents, &plan.forest),
+        None => plan_from(alloc, contents, classes, &Forest::empty(alloc)),
+        Some(plan) => plan_from(alloc, contents, classes, &plan.forest),
     }
 }
 
-/// The plan of a network, its trees repaired from these.
+/// The regions of a network: a copy of those of the plan that stands, where they stand, and else made anew.
+fn next_classes<C: Contents>(
+    alloc: Global,
+    contents: &C,
+    standing: &Option<Plan>,
+    regions_stand: bool,
+) -> Result<Classes, AllocError>
+    requires { HasRegions (C.tables contents.now).net (C.tables contents.now).numbers regions_stand standing.now }
+    ensures { IfOk result (AreRegions (C.tables contents.now).net (C.tables contents.now).numbers) }
+{
+    match standing {
+        Some(plan) if regions_stand => plan.classes.copy(),
+        _ => region_classes(alloc, contents),
+    }
+}
+
+/// The plan of a network with these regions, its trees repaired from these.
 fn plan_from<C: Contents>(
     alloc: Global,
     contents: &C,
+    classes: Classes,
     standing: &Forest,
 ) -> Result<Plan, AllocError>
+    requires { AreRegions (C.tables contents.now).net (C.tables contents.now).numbers classes }
     ensures plan { IfOk result (IsPlan (C.tables contents.now).net (C.tables contents.now).numbers) }
     ensures bounds { IfOk result (λ plan. KeepsBounds (standing_of standing.now) (standing_of plan.forest)) }
 {
     contents.known();
     let view = view(alloc, contents)?;
-    let classes = region_classes(alloc, contents)?;
     let forest = standing.repaired(alloc, &view, &classes)?;
     Ok(Plan {
         view,

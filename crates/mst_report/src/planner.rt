@@ -9,6 +9,8 @@ ghost use Rattle.mst_lag.specs.Viewed.{IsView};
 use crate::laws::rows_of_network;
 use crate::plan::{Plan, next_plan};
 use mst_changes::Rows;
+use mst_config::laws::regions_stay;
+use mst_config::touches_regions;
 use mst_ids::Tree;
 use mst_lag::View;
 use mst_lang::Edit;
@@ -28,6 +30,8 @@ pub struct Planner {
     plan: Option<Plan>,
     // The plan is that of the network as it is now.
     is_settled: bool,
+    // The plan's regions are, if there is a plan: no edit since has touched one.
+    regions_stand: bool,
     // What is kept of the marked network, if one was marked.
     mark: Option<Rows>,
 }
@@ -40,6 +44,7 @@ impl Drop for Planner {
             network: _,
             plan: _,
             is_settled: _,
+            regions_stand: _,
             mark: _,
         } = self;
     }
@@ -55,11 +60,11 @@ impl Model for Planner {
 
     ghost coded = { Prim.hlevel (codes, contents_code) };
 
-    ghost use Rattle.mst_report.specs.Kept.{HasPlan, HasMark, mark_rows, standing_in};
+    ghost use Rattle.mst_report.specs.Kept.{HasPlan, HasRegions, HasMark, mark_rows, standing_in};
 
     ghost view = { λ p. record { contents = p.network; is_settled = p.is_settled; standing = standing_in p.plan; mark = mark_rows p.mark } };
 
-    ghost invariant = { λ p. HasPlan p.network.net p.network.numbers p.is_settled p.plan × HasMark p.mark };
+    ghost invariant = { λ p. HasPlan p.network.net p.network.numbers p.is_settled p.plan × HasMark p.mark × HasRegions p.network.net p.network.numbers p.regions_stand p.plan };
 }
 
 impl Planner {
@@ -78,6 +83,7 @@ impl Planner {
             network: Network::new(alloc),
             plan: None,
             is_settled: false,
+            regions_stand: false,
             mark: None,
         }
     }
@@ -145,10 +151,13 @@ impl Planner {
         ensures memory { result ≡ Err Refusal.E99 → IsOk (after edit.now self.old.contents.net) }
         ensures no_room { result ≡ Err Refusal.E99 → room_for edit.now self.old.contents.room ≡ 0 }
     {
+        regions_stay();
+        let stand = self.regions_stand && !touches_regions(edit);
         match self.network.prepare(edit) {
             Ok(ready) => {
                 self.network.commit(ready);
                 self.is_settled = false;
+                self.regions_stand = stand;
                 Ok(())
             }
             Err(refusal) => Err(refusal),
@@ -168,9 +177,10 @@ impl Planner {
         if self.is_settled {
             return Ok(());
         }
-        let plan = next_plan(self.alloc, &self.network, &self.plan)?;
+        let plan = next_plan(self.alloc, &self.network, &self.plan, self.regions_stand)?;
         self.plan = Some(plan);
         self.is_settled = true;
+        self.regions_stand = true;
         Ok(())
     }
 
@@ -190,12 +200,15 @@ impl Planner {
         ensures memory { result ≡ Err Refusal.E99 → IsOk (after edit.now self.old.contents.net) }
         ensures no_room { result ≡ Err Refusal.E99 → room_for edit.now self.old.contents.room ≢ 0 → CanCommit edit.now self.new.contents }
     {
+        regions_stay();
+        let stand = self.regions_stand && !touches_regions(edit);
         let ready = self.network.prepare(edit)?;
-        match next_plan(self.alloc, &self.network.ahead(&ready), &self.plan) {
+        match next_plan(self.alloc, &self.network.ahead(&ready), &self.plan, stand) {
             Ok(plan) => {
                 self.network.commit(ready);
                 self.plan = Some(plan);
                 self.is_settled = true;
+                self.regions_stand = true;
                 Ok(())
             }
             Err(_) => {

@@ -6,13 +6,13 @@ repaired-requires g c =
     record {
       net = tables.net;
       numbers = tables.numbers;
-      of = record { network = c.known.ensures.network; numbered = c.known.ensures.numbered; view = c.in_ok-view.ensures; regions = c.in_ok-classes.ensures };
+      of = record { network = c.known.ensures.network; numbered = c.known.ensures.numbered; view = c.in_ok-view.ensures; regions = c.requires };
     }
 
 pub returns-clause-plan : goal.returns-clause-plan
 returns-clause-plan g c =
     let tables = g.C.Contents.tables c.args.contents.now in
-    let regions = c.in_ok-classes.ensures in
+    let regions = c.requires in
     let forest =
     c.in_ok-forest.ensures.outcome tables.net tables.numbers
     (record { network = c.known.ensures.network; numbered = c.known.ensures.numbered; view = c.in_ok-view.ensures; regions = regions }) in
