@@ -16,15 +16,11 @@ ghost use Rattle.mst_nested.specs.Parts.{SameRoots, HasRegionalRoot};
 ghost use Rattle.mst_nested.specs.Ports.{port_ends as plug_ends};
 ghost use Rattle.mst_nested.specs.Roles.{Forwards, ForwardsInside};
 ghost use Rattle.mst_nested.specs.Trees.{SamePart, HasTree};
-ghost use Rattle.mst_net.specs.Tables.{Net, Numbers, IsNetwork};
+ghost use Rattle.mst_net.specs.Tables.{Net, IsNetwork};
 ghost use Rattle.mst_net.specs.ByTree.{by_tree};
 ghost use Rattle.mst_lag.specs.View.{LogicalPort, IsUnrestricted};
-ghost use Rattle.mst_lag.specs.Viewed.{Viewed};
-ghost use Rattle.mst_trees.specs.Agrees.{AreOf, Known};
 ghost use Rattle.mst_trees.specs.Cist.{cist_of, cist_port};
 ghost use Rattle.mst_trees.specs.Sight.{tree_port};
-ghost use Rattle.mst_trees.specs.Forest.{IsForest};
-ghost use Rattle.mst_trees.specs.Forest.{Forest as ForestOf};
 ghost use Rattle.mst_trees.specs.Outcome.{Outcome, IsOutcome, trees_of};
 ghost use Rattle.mst_roles.specs.Roles.{role_in, forwards};
 ghost use Rattle.mst_roles.specs.declared.kind.Role.{Role as RoleOf};
@@ -102,9 +98,3 @@ pub fn inside()
     nested();
     laws::inside::<Name, Name, PortName>();
 }
-
-/// Where a view and classes are of one network, the view and the regions of a forest that is settled for them are:
-/// this is what `reach` asks.
-pub fn known_forest()
-    ensures { (v : Viewed) (classes : List (ℕ × ℕ)) (f : ForestOf) → Known v classes → ((net : Net) (numbers : Numbers) → AreOf net numbers v classes → IsForest net numbers f) → Known v f.regions }
-{}
