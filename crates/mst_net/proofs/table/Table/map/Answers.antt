@@ -17,7 +17,7 @@ loop-block-preserved c = elim c.if-not-misses.branch [
       let b = c.loop-block.block in
       let i = w.loop-index.index in
       rw w.self-inside-is (passed c.self.inside.trees w.loop-index.self-inside.trees c.args.vids.now c.args.tree i (64 * (b + 1) - 1) (let l = w.loop-index.auto.index-end (omega (arith, e, f, m, k, t)) in omega (arith, e, f, l)) (λ n high less small. absurd (omega (arith, e, f, past, high, less, small)))
-        (composed c.self.inside.trees c.loop-block.self-inside.trees w.loop-index.self-inside.trees c.args.vids.now c.args.tree (64 * b - 1) i (omega (arith, m, k, low)) c.loop-block.invariant w.loop-index.invariant)))
+      (composed c.self.inside.trees c.loop-block.self-inside.trees w.loop-index.self-inside.trees c.args.vids.now c.args.tree (64 * b - 1) i (omega (arith, m, k, low)) c.loop-block.invariant w.loop-index.invariant)))
   | else-not-misses w ↦ rw w.self-inside-is (passed c.self.inside.trees c.loop-block.self-inside.trees c.args.vids.now c.args.tree (64 * c.loop-block.block - 1) (64 * (c.loop-block.block + 1) - 1) (omega arith) (λ n high low small. c.misses.ensures w.if-not-misses.false (n + 1) (omega arith)) c.loop-block.invariant)
 ]
 
