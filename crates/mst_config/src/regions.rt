@@ -7,11 +7,12 @@ ghost use Rattle.mst_net.specs.Contents.{IsNumbered};
 ghost use Rattle.mst_config.specs.Classes.{AreRegions, same_in};
 ghost use Rattle.mst_config.specs.Configured.{configured};
 ghost use Rattle.mst_config.specs.Places.{ArePlaces, GivesRegion};
+ghost use Rattle.mst_config.specs.Touching.{touches_regions};
 
 use crate::configuration::{Configuration, note};
 use indexmap::{IndexMap, IndexSet};
 use mst_ids::{BridgeId, BridgeNo, Mac, Name};
-use mst_lang::Kind;
+use mst_lang::{BridgeChange, Edit, Kind, TreeChange};
 use mst_net::Contents;
 use std::alloc::{AllocError, Global};
 use std::marker::Model;
@@ -84,6 +85,22 @@ pub fn region_classes<C: Contents>(alloc: Global, contents: &C) -> Result<Classe
     let places = places(alloc, contents, names.as_slice())?;
     let regions = identifiers(alloc, contents, names.as_slice(), &places)?;
     Ok(Classes { regions })
+}
+
+/// Whether an edit may change which bridges share a region, or their numbers: it adds or takes away a bridge, or sets
+/// the kind, the configuration or the table of one. No other changes what `region_classes` answers.
+pub fn touches_regions(edit: &Edit) -> bool
+    ensures { result ≡ touches_regions edit.now }
+{
+    match edit {
+        Edit::AddBridge { .. } | Edit::DelBridge { .. } => true,
+        Edit::SetBridge { change, .. } => matches!(
+            change,
+            BridgeChange::Kind(_) | BridgeChange::Configuration { .. }
+        ),
+        Edit::SetByTree(change) => matches!(change, TreeChange::Table { .. }),
+        _ => false,
+    }
 }
 
 /// Of each of these bridges that is of kind mstp, the place of its configuration among those that differ.

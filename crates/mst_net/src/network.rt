@@ -163,10 +163,11 @@ impl Network {
         self.make(&edit);
     }
 
-    /// Gives up an edit, and leaves the network as it is.
+    /// Gives up an edit, and leaves the network as it is, the room for the edit too.
     pub fn abandon(&mut self, ready: Ready)
         requires { CanCommit ready self.old }
-        ensures { SameContents self.old self.new }
+        ensures same { SameContents self.old self.new }
+        ensures room { self.new.room ≡ self.old.room }
     {
         let Ready { edit: _ } = ready;
     }
