@@ -6,6 +6,5 @@ pub mod Known
 pub mod Viewing
 pub mod Steps
 pub mod Placing
-mod Rising
 pub mod Rising
 pub mod TreesOf
