@@ -14,6 +14,8 @@ import sys
 import tempfile
 
 HERE = os.path.dirname(os.path.abspath(__file__))
+# nothing is to be left beside the script that is imported
+sys.dont_write_bytecode = True
 sys.path.insert(0, os.path.join(HERE, "bench"))
 
 import load  # noqa: E402
