@@ -15,7 +15,8 @@ pub(crate) struct StandIns {
 impl StandIns {
     /// Opens the null device in the place of each standard device that is closed: else the next file that is opened would
     /// get its number, and be read or written in its place. To read from one that stands in for standard input fails, and
-    /// to write to one that stands in for an output, as it does where these are closed.
+    /// to write to one that stands in for an output, as it does where these are closed. `Err`: the null device can't be
+    /// opened, and nothing stands in.
     pub(crate) fn new(rt: &HostRuntime) -> io::Result<StandIns> {
         // the system gives what is opened the least number that is free: standard input has 0, the outputs 1 and 2
         let unread = OpenOptions::new().write(true).open(rt, NULL_DEVICE)?;
