@@ -6,12 +6,17 @@ usage: captures.py [FILE ...]
 It reads the files, or standard input where none is named: the text that one of these prints, where `stp` leaves
 only spanning tree frames and FILE.pcap may be `-i INTERFACE` instead:
 
+    tcpdump -x -nn -r FILE.pcap stp
     tcpdump -xx -nn -r FILE.pcap stp
     tshark -x -r FILE.pcap -Y stp
 
-Each BPDU becomes one line of hexadecimal digits, with the header of its frame where the text has it (`tcpdump -x`
-leaves it out). Other lines of the text, as tcpdump's line of a frame, go before it as comments. Frames that are no
-BPDUs are left out, and told on standard error.
+Each BPDU becomes one line of hexadecimal digits. `tcpdump -xx` and `tshark -x` print whole frames, and the line then
+has the header of the frame too. `tcpdump -x` leaves out that header and, from some version on, the LLC octets 42 42 03
+behind it, so that its text begins with the BPDU: this is one where tcpdump's own line of the frame says STP. `-X` and
+`-XX` are read as `-x` and `-xx` are. `triangle.tcpdump` is a sample of `tcpdump -x`.
+
+Other lines of the text, as tcpdump's line of a frame, go before it as comments. Frames that are no BPDUs are left out,
+and told on standard error.
 """
 
 import re
@@ -22,16 +27,22 @@ TCPDUMP = re.compile(r"^\s+0x([0-9a-f]{4,}):\s+((?:[0-9a-f]{2}){1,2}(?: (?:[0-9a
 # tshark: an offset, then octets, then perhaps three spaces or more and text.
 TSHARK = re.compile(r"^([0-9a-f]{4,})  ([0-9a-f]{2}(?: {1,2}[0-9a-f]{2})*)(?:   .*)?$")
 
+# What tcpdump says of a frame that it reads as a BPDU.
+SAYS_STP = re.compile(r"\bSTP 802\.1")
+
 BRIDGE_GROUP_ADDRESS = "0180c2000000"
 LLC_HEADER = "424203"
+PROTOCOL_IDENTIFIER = "0000"
 
 
-def bpdu_line(digits):
-    """The capture line of a frame's octets, or nothing for another frame."""
+def bpdu_line(others, digits):
+    """The capture line of the octets that a text has of a frame, after these other lines, or nothing for another frame."""
     if digits.startswith(BRIDGE_GROUP_ADDRESS) and digits[28:34] == LLC_HEADER:
         return digits
     if digits.startswith(LLC_HEADER):
         return digits[len(LLC_HEADER):]
+    if digits.startswith(PROTOCOL_IDENTIFIER) and any(SAYS_STP.search(other) for other in others):
+        return digits
     return None
 
 
@@ -61,7 +72,7 @@ def main():
             lines += [line.rstrip("\r\n") for line in file]
     left_out = 0
     for others, digits in frames(lines):
-        line = bpdu_line(digits)
+        line = bpdu_line(others, digits)
         if line is None:
             left_out += 1
             continue

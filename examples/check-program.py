@@ -1,13 +1,24 @@
 #!/usr/bin/env python3
-"""Runs the built program on a table of cases, and compares the exit status and both outputs of each.
+"""Runs the built program on a table of cases, and compares the exit status and both outputs of each; and then on one
+script that is large in each way: 74,756 lines, a network as large as one may be, and an answer of a megabyte.
 
 usage: check-program.py PROGRAM
+
+The gate runs it on the program that it has built (.ci/run).
 """
 
+import heapq
 import os
 import subprocess
 import sys
 import tempfile
+
+HERE = os.path.dirname(os.path.abspath(__file__))
+# nothing is to be left beside the script that is imported
+sys.dont_write_bytecode = True
+sys.path.insert(0, os.path.join(HERE, "bench"))
+
+import load  # noqa: E402
 
 # Any text that has a usage line.
 USAGE = object()
@@ -29,8 +40,13 @@ def cases(folder):
     captures = os.path.join(folder, "captures")
     with open(captures, "wb") as file:
         file.write(SHORT)
+    blank = os.path.join(folder, "script ")
+    with open(blank, "wb") as file:
+        file.write(b"no\n")
     absent = os.path.join(folder, "absent")
     cannot = b"mstplan: cannot open " + absent.encode() + b"\n"
+    blank_absent = absent + " "
+    other = b"mstplan: cannot open " + blank_absent.encode() + b"\n"
     return [
         ("no words", [], b"showtree 0\n", 0, TREE, b""),
         ("no words and nothing to read", [], b"", 0, b"", b""),
@@ -55,6 +71,16 @@ def cases(folder):
         ("captures in a folder", ["check", script, folder], b"", 3, TREE, b"mstplan: read fault\n"),
         ("check with no captures", ["check", script], b"", 2, b"", USAGE),
         ("run with captures", ["run", script, captures], b"", 2, b"", USAGE),
+        ("check with a third file", ["check", script, captures, captures], b"", 2, b"", USAGE),
+        ("two files that aren't there", ["check", absent, blank_absent], b"", 3, b"", cannot),
+        ("the two the other way round", ["check", blank_absent, absent], b"", 3, b"", other),
+        ("check FILE CAPTURES, the other way round", ["check", captures, script], b"", 1,
+         b"line 2 E01 no such command\ncapture 1 B01 not hexadecimal\n", b""),
+        ("a file whose name ends in a blank", ["run", blank], b"", 1, REFUSED, b""),
+        ("an empty word", ["run", ""], b"", 3, b"", b"mstplan: cannot open \n"),
+        ("an empty command", [""], b"", 2, b"", USAGE),
+        ("a command with a blank", ["run ", script], b"", 2, b"", USAGE),
+        ("help is no command", ["help"], b"", 2, b"", USAGE),
         ("an unknown option", ["--fast"], b"", 2, b"", USAGE),
     ]
 
@@ -63,8 +89,8 @@ def fits(text, expected):
     return b"Usage: " in text if expected is USAGE else text == expected
 
 
-def run(program, words, given, out=subprocess.PIPE):
-    return subprocess.run([program] + words, input=given, stdout=out, stderr=subprocess.PIPE, timeout=60)
+def run(program, words, given, out=subprocess.PIPE, seconds=60):
+    return subprocess.run([program] + words, input=given, stdout=out, stderr=subprocess.PIPE, timeout=seconds)
 
 
 def check(program, name, words, given, status, out, err):
@@ -85,6 +111,93 @@ def check_full(program, words, given):
     return False
 
 
+def check_closed(program, folder, words, closed, status, out, err):
+    """Standard devices that are closed when the program is started. `closed` is what a shell writes for that."""
+    words = [os.path.join(folder, word) if word in ("script", "captures") else word for word in words]
+    shell = ["sh", "-c", 'exec "$0" "$@" ' + closed, program] + words
+    ran = subprocess.run(shell, stdin=subprocess.DEVNULL, stdout=subprocess.PIPE, stderr=subprocess.PIPE, timeout=60)
+    if (ran.returncode, ran.stdout, ran.stderr) == (status, out, err):
+        return True
+    print(f"FAILED {words} {closed}: status {ran.returncode}, {ran.stdout[:200]!r}, {ran.stderr[:200]!r}")
+    return False
+
+
+def closed_cases():
+    read = b"mstplan: read fault\n"
+    write = b"mstplan: write fault\n"
+    return [
+        (["check", "-", "captures"], "<&-", 3, b"", read),
+        (["check", "script", "-"], "<&-", 3, TREE, read),
+        (["run", "-"], "<&-", 3, b"", read),
+        (["run", "script"], "<&-", 0, TREE, b""),
+        (["run", "script"], ">&-", 3, b"", write),
+        (["run", "script"], "<&- >&-", 3, b"", write),
+        (["--help"], ">&-", 3, b"", write),
+        (["run", "script"], "2>&-", 0, TREE, b""),
+    ]
+
+
+def check_sample(program):
+    """What captures.py makes of a sample of tcpdump, compared with the plan of its network."""
+    maker = [sys.executable, os.path.join(HERE, "captures.py"), os.path.join(HERE, "triangle.tcpdump")]
+    made = subprocess.run(maker, stdout=subprocess.PIPE, stderr=subprocess.DEVNULL, timeout=60, check=True).stdout
+    ran = run(program, ["check", os.path.join(HERE, "triangle.script"), "-"], made)
+    told = ran.stdout.splitlines()[-2:]
+    if ran.returncode == 1 and told == [b"capture 2 A:2 agrees", b"capture 4 A:2 role plan 3 capture 2"]:
+        return True
+    print(f"FAILED a sample of tcpdump: status {ran.returncode}, {told}")
+    return False
+
+
+COST = 20001
+
+
+def large_script():
+    """A network with as many bridges, ports and LANs as there may be, then edits, one more of each, and a tree."""
+    yield from load.load(load.BRIDGES)
+    for cost in (1, COST):
+        for i in range(load.BRIDGES):
+            for port in range(1, load.PORTS_EACH + 1):
+                yield f"setportpathcost B{i:04} {port} {cost}"
+    yield from ("addbridge X 02:00:00:00:ff:ff", "addport B0000 17", "addlan X", "showtree 0")
+
+
+def distances():
+    """What a path from the least bridge costs each bridge, where each port costs the same."""
+    near = [set() for _ in range(load.BRIDGES)]
+    for i in range(load.BRIDGES):
+        for k in range(1, load.LANS_EACH + 1):
+            near[i].add((i + k) % load.BRIDGES)
+            near[(i + k) % load.BRIDGES].add(i)
+    costs, queue = {0: 0}, [(0, 0)]
+    while queue:
+        cost, i = heapq.heappop(queue)
+        for k in near[i]:
+            if k not in costs:
+                costs[k] = cost + COST
+                heapq.heappush(queue, (costs[k], k))
+    return costs
+
+
+def check_large(program):
+    """No line is refused but those beyond the limits, and each bridge has the root and the cost that a plain search finds."""
+    lines = list(large_script())
+    ran = run(program, ["run", "-"], "".join(line + "\n" for line in lines).encode(), seconds=600)
+    told = ran.stdout.decode().splitlines()
+    first = len(lines) - 3
+    expected = [f"line {first + i} E14 limit" for i in range(3)] + ["tree 0"]
+    costs = distances()
+    bridges = [line.split() for line in told if line.startswith("bridge ")]
+    ports = sum(line.startswith("port ") for line in told)
+    named = [(words[1], words[4], int(words[6])) for words in bridges]
+    wanted = [(f"B{i:04}", "8000.02:00:00:00:00:00", costs[i]) for i in range(load.BRIDGES)]
+    is_whole = len(told) == 4 + load.BRIDGES * (1 + load.PORTS_EACH) and ports == load.BRIDGES * load.PORTS_EACH
+    if ran.returncode == 1 and ran.stderr == b"" and told[:4] == expected and is_whole and named == wanted:
+        return True
+    print(f"FAILED a large script: status {ran.returncode}, {len(told)} lines, {told[:6]}, {ran.stderr[:200]!r}")
+    return False
+
+
 def main():
     if len(sys.argv) != 2:
         sys.exit(__doc__)
@@ -95,7 +208,10 @@ def main():
             check_full(program, [], b"showtree 0\n"),
             check_full(program, ["check", "-", os.devnull], b"showtree 0\n"),
             check_full(program, ["--help"], b""),
+            check_sample(program),
+            check_large(program),
         ]
+        passed += [check_closed(program, folder, *case) for case in closed_cases()]
     print(f"{sum(passed)} passed, {len(passed) - sum(passed)} failed")
     sys.exit(0 if all(passed) else 1)
 

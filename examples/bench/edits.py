@@ -1,7 +1,10 @@
 #!/usr/bin/env python3
 """Prints a script: the mesh of region.py, and then some times one edit of a kind and one `showvlan 60`.
 
-usage: edits.py KIND [TIMES] [PART]    (KIND: cost, priority, lan or vid; 200 times if left out)
+usage: edits.py KIND [TIMES] [PART]    (200 times if left out; PART of the bridges as in region.py)
+
+KIND: cost (of a port), priority (of a bridge in a tree), lan (down and up), vid (mapped to another tree), bridge (off and
+on), plug (out of its LAN and back) or key (of a port's links, set and back).
 
 For example: edits.py lan 200 | mstplan run -
 
@@ -30,7 +33,25 @@ def vid(i, count):
     return f"setvid2mstid B{37 * i % count:04} {1 + i % 64} {4000 + i % 90}"
 
 
-KINDS = {"cost": cost, "priority": priority, "lan": lan, "vid": vid}
+def bridge(i, count):
+    return f"bridge B{37 * (i // 2) % count:04} {'on' if i % 2 else 'off'}"
+
+
+def plug(i, count):
+    number, lan = 37 * (i // 2) % count, i // 2 % 8
+    port = f"B{number:04} {2 * lan + 1}"
+    return f"plug {port} L{number:04}-{lan}" if i % 2 else f"unplug {port}"
+
+
+def key(i, count):
+    return f"setkey B{37 * (i // 2) % count:04} {1 + i // 2 % 16} {0 if i % 2 else 7}"
+
+
+KINDS = {"cost": cost, "priority": priority, "lan": lan, "vid": vid, "bridge": bridge, "plug": plug, "key": key}
+
+
+def edits(kind, times, count):
+    return [KINDS[kind](i, count) for i in range(times)]
 
 
 def main():
@@ -40,8 +61,8 @@ def main():
     times = int(words[1]) if len(words) > 1 else 200
     count = BRIDGES // (int(words[2]) if len(words) > 2 else 1)
     print("\n".join(mesh(count)))
-    for i in range(times):
-        print(KINDS[words[0]](i, count))
+    for edit in edits(words[0], times, count):
+        print(edit)
         print("showvlan 60")
 
 

@@ -1,7 +1,8 @@
 -- What a plan has for the BPDUs of a port.
-use Rattle.std.specs.Prelude.{ℕ, ◌-◌, List, ◌++◌, length, replicate, filter_map, Option}
+use Rattle.std.specs.Prelude.{ℕ, ◌-◌, List, ◌∷◌, ◌++◌, length, replicate, filter_map, Option}
 use Rattle.std.specs.Option.{option_map, option_and_then}
 use Rattle.std.specs.FinMap as fin
+use Rattle.byteorder.specs.Endian.{big_bytes}
 use Rattle.mst_ids.specs.Identifiers.{bridge_id, port_id}
 use Rattle.mst_ids.specs.declared.name.PortName.{PortName}
 use Rattle.mst_vector.specs.declared.cist.CistVector.{CistVector}
@@ -39,6 +40,10 @@ padded name = name ++ replicate (32 - length name) 0
 -- the MST Configuration Identifier of a bridge with this table (802.1Q-2022, 13.8)
 abbrev pub configuration_of : BridgeRow → List ℕ → ConfigurationId
 configuration_of row table = record { selector = 0; name = padded row.conf_name; revision = row.revision; digest = digest_of table }
+
+-- an identifier's 51 octets, one field after another
+abbrev pub octets_of : ConfigurationId → List ℕ
+octets_of c = c.selector ∷ c.name ++ big_bytes 2 c.revision ++ c.digest
 
 -- ---- the designated priority vectors
 -- in the CIST, of a port of this role: its bridge's root priority vector, with the identifiers of the bridge and of

@@ -59,7 +59,7 @@ fn vector(view: &View, forest: &Forest, tree: Tree, bridge: BridgeNo) -> Option<
     if tree.value() == 0 {
         return forest.cist(bridge).map(State::InCist);
     }
-    if view.trees(bridge).contains(&tree) {
+    if view.has_tree(bridge, tree) {
         forest.msti(tree, bridge).map(State::InMsti)
     } else {
         None

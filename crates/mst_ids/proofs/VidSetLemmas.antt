@@ -165,3 +165,9 @@ same_test x y a b h k p q =
   where
     same_words : x ≡ y → a.words ≡ b.words
     same_words e = sym (words_of-set_where a.words h.long h.fits) ∙ ap words_of (p ∙ e ∙ sym q) ∙ words_of-set_where b.words k.long k.fits
+
+-- ---- a word of zeros
+-- a word with no bit has none of its numbers
+pub misses_word : (vids : List Bool) (words : List ℕ) (block n : ℕ) → set_where (bit_of words) ≡ vids → block < 64 → get_or words block 0 ≡ 0 → n / 64 ≡ block → has vids n ≡ false
+misses_word vids words block n is small zeros at =
+    has_is vids words n is (omega arith) ∙ ap (λ (b : ℕ). bit_at (get_or words b 0) (n % 64) == 1) at ∙ ap (λ (word : ℕ). bit_at word (n % 64) == 1) zeros ∙ ap (λ b. b == 1) (bit_at-zero (n % 64))

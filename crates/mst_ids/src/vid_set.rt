@@ -1,4 +1,4 @@
-ghost use Rattle.std.specs.Prelude.{◌≡◌, ℕ, ◌<◌, ◌≤◌, ◌^◌, ◌+◌, ◌++◌, [], ◌∷◌, not, length, take, drop, OnOk, OnErr, IfSome, MatchOption, Bool, false, slice_index, ◌||◌, ◌==◌, ◌↔◌, IsTrue};
+ghost use Rattle.std.specs.Prelude.{◌≡◌, ℕ, ◌<◌, ◌≤◌, ◌^◌, ◌+◌, ◌/◌, ◌++◌, [], ◌∷◌, not, length, take, drop, OnOk, OnErr, IfSome, MatchOption, Bool, false, slice_index, ◌||◌, ◌==◌, ◌↔◌, IsTrue};
 ghost use Rattle.std.specs.Bool.{beq};
 ghost use Rattle.std.specs.Cmp.{bool_eq_equiv, partial_equiv_from_equiv};
 ghost use Rattle.std.specs.Cmp.Lexicographic.{pointwise, lists_equiv};
@@ -58,6 +58,15 @@ impl VidSet {
         ensures set { IsVidSet self.now }
     {
         vid < 4096 && is_set(&self.words, vid)
+    }
+
+    /// Whether a block of 64 numbers, from 64 times its own number on, is seen to have no VID of the set: then none of
+    /// them has to be looked at.
+    pub fn misses(&self, block: u16) -> bool
+        requires { block < 64 }
+        ensures { IsTrue result → (n : ℕ) → n / 64 ≡ block → has self.now n ≡ false }
+    {
+        self.words[usize::from(block)] == 0
     }
 
     /// Whether there is no VID in the set.

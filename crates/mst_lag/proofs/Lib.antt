@@ -6,3 +6,5 @@ pub mod Known
 pub mod Viewing
 pub mod Steps
 pub mod Placing
+pub mod Rising
+pub mod TreesOf

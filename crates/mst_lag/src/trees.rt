@@ -1,6 +1,7 @@
 ghost use Rattle.std.specs.Prelude.{◌≡◌, IfOk, map};
+ghost use Rattle.std.specs.List.Sorted.{IsNonDecreasingBy};
 ghost use Rattle.mst_net.specs.Seen.{bridge_row};
-ghost use Rattle.mst_lag.specs.Trees.{mstis_of};
+ghost use Rattle.mst_lag.specs.Trees.{mstis_of, is_among};
 ghost use Rattle.mst_lag.specs.Viewed.{bridge_trees};
 
 use crate::in_view::BridgeInView;
@@ -8,12 +9,57 @@ use mst_ids::{BridgeNo, Tree};
 use mst_lang::Kind;
 use mst_net::Contents;
 use std::alloc::{AllocError, Global};
+use std::marker::Model;
 
-/// A bridge's number, and the trees that it has beside the CIST, in rising order.
+/// Trees in rising order.
+#[derive(Drop)]
+pub(crate) struct RisingTrees {
+    trees: Vec<Tree>,
+}
+
+impl Model for RisingTrees {
+    ghost use Rattle.std.specs.Prelude.{ℕ, List};
+    ghost use Rattle.std.specs.List.Sorted.{IsNonDecreasingBy};
+
+    ghost Value = { List ℕ };
+
+    ghost view = { λ r. r.trees.items };
+
+    ghost invariant = { λ r. IsNonDecreasingBy (λ t. t) r.trees.items };
+}
+
+impl RisingTrees {
+    /// These trees.
+    fn new(trees: Vec<Tree>) -> Self
+        requires { IsNonDecreasingBy (λ t. t) trees.items }
+        ensures { result ≡ trees.items }
+    {
+        RisingTrees { trees }
+    }
+
+    /// The trees, in their order.
+    pub(crate) fn as_slice(&self) -> &[Tree]
+        ensures { result.now ≡ self.now }
+    {
+        self.trees.as_slice()
+    }
+
+    /// Whether a tree is one of these, found by halves.
+    pub(crate) fn has(&self, tree: Tree) -> bool
+        ensures { result ≡ is_among self.now tree }
+    {
+        self.trees
+            .as_slice()
+            .binary_search_by_key(&tree.value(), |it| it.value())
+            .is_ok()
+    }
+}
+
+/// A bridge's number, and the trees that it has beside the CIST.
 #[derive(Drop)]
 pub(crate) struct TreesInView {
     pub(crate) bridge: BridgeNo,
-    pub(crate) trees: Vec<Tree>,
+    pub(crate) trees: RisingTrees,
 }
 
 /// The trees of each of these bridges.
@@ -22,14 +68,14 @@ pub(crate) fn trees_in_view<C: Contents>(
     contents: &C,
     bridges: &[BridgeInView],
 ) -> Result<Vec<TreesInView>, AllocError>
-    ensures { IfOk result (λ v. map (λ t. (t.bridge, t.trees.items)) v.items ≡ map (bridge_trees (C.tables contents.now).net) bridges.now) }
+    ensures { IfOk result (λ v. map (λ t. (t.bridge, t.trees)) v.items ≡ map (bridge_trees (C.tables contents.now).net) bridges.now) }
 {
     let mut all = Vec::new(alloc);
     for bridge in bridges {
         let trees = trees_of_bridge(alloc, contents, bridge)?;
         all.push(TreesInView {
             bridge: bridge.bridge.number,
-            trees,
+            trees: RisingTrees::new(trees),
         })?;
     }
     Ok(all)

@@ -13,7 +13,6 @@ pub mod SamePorts
 pub mod OneOutcome
 pub mod MstiOf
 pub mod SomeOutcome
-pub mod Marks
 pub mod Places
 pub mod RoleForest
 pub mod RoleJoins

@@ -87,14 +87,6 @@ module _ {N L K : Type 0} (f : Trees N L K) where
     pub ports : (p : Plug N L K CistPort) → IsInner p → HasTree i p.bridge → (q : Plug N L K MstiPort) × TakesPart (f.msti i) q × IsSamePort q p
     pub from_ports : (q : Plug N L K MstiPort) → TakesPart (f.msti i) q → (p : Plug N L K CistPort) × IsInner p × IsSamePort q p
 
-  -- the same by marks: its ports are the enabled ports of its bridges, and the inner ones are marked as taking
-  -- part
-  pub record IsMarked (i : ℕ) : Type 0 where
-    pub bridges : (n : N) → HasTree i n → (b : CistBridge) × HasBridge f.cist n b
-    pub regions : (n k : N) → SameRegion n k → HasTree i n → HasTree i k
-    pub ports : (p : Plug N L K CistPort) → IsEnabled p → HasTree i p.bridge → (q : Plug N L K MstiPort) × HasPort (f.msti i) q × IsSamePort q p × (IsTrue q.is_part → IsInner p) × (IsInner p → IsTrue q.is_part)
-    pub from_ports : (q : Plug N L K MstiPort) → HasPort (f.msti i) q → (p : Plug N L K CistPort) × IsEnabled p × IsSamePort q p
-
   -- each tree is settled, and the MSTIs are nested in the CIST. MSTIs are numbered from 1 on
   pub record IsSettled : Type 0 where
     pub cist : IsTree cist_rules f.cist f.cist_vector

@@ -12,7 +12,7 @@ ghost use Rattle.mst_vector.specs.Msti.{msti_rules};
 ghost use Rattle.mst_settle.specs.Settled.{IsDesignated};
 ghost use Rattle.mst_graph.specs.Walks.{Node, bridge_at, lan_at, Walk};
 ghost use Rattle.mst_nested.specs.Ports.{port_ends};
-ghost use Rattle.mst_nested.specs.Trees.{Trees, IsNested, IsMarked, IsSettled, IsFree, IsEnabled, SameRegion, SamePart, TakesPart, IsBoundary, HasTree};
+ghost use Rattle.mst_nested.specs.Trees.{Trees, IsSettled, IsFree, IsEnabled, SameRegion, SamePart, TakesPart, IsBoundary, HasTree};
 ghost use Rattle.mst_nested.specs.Outcome.{MstiSettings, CanNest, IsOutcome};
 ghost use Rattle.mst_nested.specs.Parts.{SameRoots, HasRoot, HasRegionalRoot, HasMstiRoot};
 ghost use Rattle.mst_vector.specs.declared.msti.MstiPort.{MstiPort};
@@ -31,11 +31,6 @@ pub fn outcome<N, L, K>()
     ensures one_msti { (t : Topology N L K CistBridge CistPort) (s : MstiSettings N K) (f g : Trees N L K) → IsOutcome t s f → IsOutcome t s g → (i : ℕ) (n : N) → f.msti_vector (suc i) n ≡ g.msti_vector (suc i) n }
     ensures one_cist_port { (t : Topology N L K CistBridge CistPort) (s : MstiSettings N K) (f g : Trees N L K) → IsOutcome t s f → IsOutcome t s g → (lan : L) (o u : Option K) → IsDesignated cist_rules f.cist f.cist_vector lan o → IsDesignated cist_rules g.cist g.cist_vector lan u → o ≡ u }
     ensures one_msti_port { (t : Topology N L K CistBridge CistPort) (s : MstiSettings N K) (f g : Trees N L K) → IsOutcome t s f → IsOutcome t s g → (i : ℕ) (lan : L) (o u : Option K) → IsDesignated msti_rules (f.msti (suc i)) (f.msti_vector (suc i)) lan o → IsDesignated msti_rules (g.msti (suc i)) (g.msti_vector (suc i)) lan u → o ≡ u }
-{}
-
-/// An MSTI is nested in the CIST where the ports that take part are marked so.
-pub fn marks<N, L, K>()
-    ensures { (f : Trees N L K) (i : ℕ) → IsTopology msti_rules (f.msti (suc i)) → IsMarked f (suc i) → IsNested f (suc i) }
 {}
 
 /// Parts of regions in the CIST: a node is in one part; the LAN of an enabled port is in the part of a

@@ -81,7 +81,33 @@ module _ (old now : List ℕ) (vids : List Bool) (tree index : ℕ) (fits : inde
       by n small (inr other) =
           maps.entries n small ∙ ap (λ b. cond (b && has vids (n + 1)) tree (get_or old n 0)) (later n index other)
 
-pub all_mapped : (old now : List ℕ) (vids : List Bool) (tree index : ℕ) → index ≡ 4094 → MapsBelow old now vids tree index → now ≡ mapped vids tree old
+-- none of the set is among those that are passed
+pub passed : (old now : List ℕ) (vids : List Bool) (tree i j : ℕ) → i ≤ j → ((n : ℕ) → i ≤ n → n < j → n < 4094 → has vids (n + 1) ≡ false) → MapsBelow old now vids tree i → MapsBelow old now vids tree j
+passed old now vids tree i j order none maps = record { long = maps.long; entries = λ n small. by n small (cases_lt n i) (cases_lt n j) }
+  where
+    by : (n : ℕ) → n < 4094 → (n < i) ⊎ (i ≤ n) → (n < j) ⊎ (j ≤ n) → get_or now n 0 ≡ cond (nat_lt n j && has vids (n + 1)) tree (get_or old n 0)
+    by n small (inl low) other = maps.entries n small ∙ ap (λ b. cond (b && has vids (n + 1)) tree (get_or old n 0)) (lt-ltb n i low ∙ sym (lt-ltb n j (omega arith)))
+    by n small (inr high) (inl low) =
+        let out = none n high low small in
+        maps.entries n small ∙ ap (λ b. cond b tree (get_or old n 0)) (neither (nat_lt n i) (has vids (n + 1)) out ∙ sym (neither (nat_lt n j) (has vids (n + 1)) out))
+    by n small (inr high) (inr past) = maps.entries n small ∙ ap (λ b. cond (b && has vids (n + 1)) tree (get_or old n 0)) (le-ltb n i high ∙ sym (le-ltb n j past))
+
+-- VIDs that are mapped below a place, and then those below another
+pub composed : (old mid now : List ℕ) (vids : List Bool) (tree i index : ℕ) → i ≤ index → MapsBelow old mid vids tree i → MapsBelow mid now vids tree index → MapsBelow old now vids tree index
+composed old mid now vids tree i index order before maps = record {
+  long = maps.long;
+  entries = λ n small. maps.entries n small ∙ ap (cond (nat_lt n index && has vids (n + 1)) tree) (before.entries n small) ∙ twice n (has vids (n + 1)) (cases_lt n i);
+}
+  where
+    same : (b : Bool) (x : ℕ) → cond b tree (cond b tree x) ≡ cond b tree x
+    same true x = refl
+    same false x = refl
+
+    twice : (n : ℕ) (b : Bool) → (n < i) ⊎ (i ≤ n) → cond (nat_lt n index && b) tree (cond (nat_lt n i && b) tree (get_or old n 0)) ≡ cond (nat_lt n index && b) tree (get_or old n 0)
+    twice n b (inl low) = rw (lt-ltb n i low, lt-ltb n index (omega arith)) (same b (get_or old n 0))
+    twice n b (inr high) = rw (le-ltb n i high) refl
+
+pub all_mapped : (old now : List ℕ) (vids : List Bool) (tree index : ℕ) → 4094 ≤ index → MapsBelow old now vids tree index → now ≡ mapped vids tree old
 unfolding mapped
 all_mapped old now vids tree index end maps =
     let test : ℕ → ℕ = λ vid. cond (has vids vid) tree (tree_in old vid) in

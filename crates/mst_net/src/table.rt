@@ -69,13 +69,20 @@ impl Table {
         &self.trees
     }
 
-    /// Maps the VIDs of the set to the tree; the other VIDs stay where they are.
+    /// Maps the VIDs of the set to the tree; the other VIDs stay where they are. It looks at the VIDs of those blocks
+    /// of 64 alone of which some are in the set.
     pub(crate) fn map(&mut self, vids: &VidSet, tree: Tree)
         ensures { self.new ≡ mapped vids.now tree self.old }
     {
-        for index in 0..4094 {
-            if vids.contains(index as u16 + 1) {
-                self.trees[index] = tree;
+        for block in 0..64u16 {
+            if !vids.misses(block) {
+                let first = usize::from(block * 64).max(1) - 1;
+                let end = usize::from(block * 64 + 63).min(4094);
+                for index in first..end {
+                    if vids.contains(index as u16 + 1) {
+                        self.trees[index] = tree;
+                    }
+                }
             }
         }
     }

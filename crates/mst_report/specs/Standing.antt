@@ -16,7 +16,7 @@ pub record Standing : Type 0 where
 -- before anything is settled, no bridge has a vector
 abbrev pub nothing : Standing
 nothing = record {
-  cist = record { bridges = []; lans = []; touched_bridges = []; touched_lans = []; changed = []; settlings = 0 };
+  cist = record { bridges = []; lans = []; touched_bridges = []; touched_lans = []; settlings = 0 };
   mstis = [];
 }
 

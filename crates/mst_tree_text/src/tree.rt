@@ -95,7 +95,7 @@ fn push_bridge(
 fn has_tree(view: &View, bridge: BridgeNo, tree: Tree) -> bool
     ensures { result ≡ seen_has view.now tree bridge }
 {
-    tree.value() == 0 || view.trees(bridge).contains(&tree)
+    tree.value() == 0 || view.has_tree(bridge, tree)
 }
 
 /// Appends the lines of these ports.

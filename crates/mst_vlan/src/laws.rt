@@ -1,30 +1,27 @@
 //! Laws of the active topology of a VID, of its islands and of the parts of regions, at names. Their functions do
 //! nothing: a caller has their clauses. With a port whose role is restricted the active ports may leave apart what is
 //! enabled, and may make a loop; the laws that need it ask that there is none (`IsUnrestricted`).
-ghost use Rattle.std.specs.Prelude.{◌≡◌, ◌⊎◌, ◌↔◌, ℕ, true, List, Some};
+ghost use Rattle.std.specs.Prelude.{◌≡◌, ◌⊎◌, ◌↔◌, ℕ, suc, true, List, Some};
 ghost use Rattle.std.specs.List.{Contains};
 ghost use Rattle.mst_ids.specs.declared.name.PortName.{PortName as PortKey};
 ghost use Rattle.mst_vector.specs.declared.cist.CistBridge.{CistBridge};
 ghost use Rattle.mst_vector.specs.declared.cist.CistPort.{CistPort};
 ghost use Rattle.mst_vector.specs.declared.cist.CistVector.{CistVector};
+ghost use Rattle.mst_vector.specs.declared.msti.MstiVector.{MstiVector};
 ghost use Rattle.mst_settle.specs.Topology.{Plug, HasBridge};
 ghost use Rattle.mst_graph.specs.Islands.{Island};
 ghost use Rattle.mst_graph.specs.Joined.{HasNoLoop};
 ghost use Rattle.mst_graph.specs.Walks.{Node, Walk, bridge_at, lan_at};
 ghost use Rattle.mst_nested.specs.Exits.{IsCrossing, IsExit, HoldsRoot, HasOneExit};
-ghost use Rattle.mst_nested.specs.Parts.{SameRoots, HasRegionalRoot};
+ghost use Rattle.mst_nested.specs.Parts.{SameRoots, HasRoot, HasRegionalRoot, HasMstiRoot};
 ghost use Rattle.mst_nested.specs.Ports.{port_ends as plug_ends};
 ghost use Rattle.mst_nested.specs.Roles.{Forwards, ForwardsInside};
-ghost use Rattle.mst_nested.specs.Trees.{SamePart, HasTree};
-ghost use Rattle.mst_net.specs.Tables.{Net, Numbers, IsNetwork};
+ghost use Rattle.mst_nested.specs.Trees.{SamePart, SameRegion, HasTree};
+ghost use Rattle.mst_net.specs.Tables.{Net, IsNetwork};
 ghost use Rattle.mst_net.specs.ByTree.{by_tree};
 ghost use Rattle.mst_lag.specs.View.{LogicalPort, IsUnrestricted};
-ghost use Rattle.mst_lag.specs.Viewed.{Viewed};
-ghost use Rattle.mst_trees.specs.Agrees.{AreOf, Known};
 ghost use Rattle.mst_trees.specs.Cist.{cist_of, cist_port};
 ghost use Rattle.mst_trees.specs.Sight.{tree_port};
-ghost use Rattle.mst_trees.specs.Forest.{IsForest};
-ghost use Rattle.mst_trees.specs.Forest.{Forest as ForestOf};
 ghost use Rattle.mst_trees.specs.Outcome.{Outcome, IsOutcome, trees_of};
 ghost use Rattle.mst_roles.specs.Roles.{role_in, forwards};
 ghost use Rattle.mst_roles.specs.declared.kind.Role.{Role as RoleOf};
@@ -56,16 +53,28 @@ pub fn islands_of_vid()
 {}
 
 /// The parts of regions in the CIST of a network: a bridge or LAN is in one, the LAN of an enabled port is in that of
-/// a bridge, the bridges of one name one root, external root path cost and regional root, and the regional root is
-/// in the part, with internal root path costs that are those of cheapest walks from it.
+/// a bridge, the bridges of one are of one region and name one root, external root path cost and regional root, and the
+/// regional root is in the part, with internal root path costs that are those of cheapest walks from it.
 pub fn parts()
     ensures one { (net : Net) (o : Outcome) (x y z : Node (List ℕ) (List ℕ)) → SamePart (trees_of net o) x y → SamePart (trees_of net o) x z → SamePart (trees_of net o) y z }
     ensures lans { (net : Net) (o : Outcome) → IsNetwork net → IsOutcome net o → (p : LogicalPort) → IsEnabled net p → (n : List ℕ) × (b : CistBridge) × HasBridge (cist_of net) n b × SamePart (trees_of net o) (lan_at p.lan) (bridge_at n) }
+    ensures regions { (net : Net) (o : Outcome) → IsNetwork net → IsOutcome net o → (n k : List ℕ) (b : CistBridge) → HasBridge (cist_of net) n b → SamePart (trees_of net o) (bridge_at n) (bridge_at k) → SameRegion (trees_of net o) n k }
     ensures values { (net : Net) (o : Outcome) → IsNetwork net → IsOutcome net o → IsUnrestricted net → (n k : List ℕ) (x y : CistVector) → o.cist.vector n ≡ Some x → o.cist.vector k ≡ Some y → SamePart (trees_of net o) (bridge_at n) (bridge_at k) → SameRoots x y }
     ensures regional { (net : Net) (o : Outcome) → IsNetwork net → IsOutcome net o → IsUnrestricted net → (n : List ℕ) (x : CistVector) → o.cist.vector n ≡ Some x → HasRegionalRoot (trees_of net o) n x }
 {
     nested();
     laws::parts::<Name, Name, PortName>();
+    laws::roots::<Name, Name, PortName>();
+}
+
+/// The roots that a network's settled outcome names, where no logical port's role is restricted: the root of the CIST has
+/// the least identifier of all bridges that enabled ports link to the one that names it; the regional root in an MSTI has
+/// the least in that tree of the part's bridges, and internal root path costs are those of cheapest walks from it.
+pub fn roots()
+    ensures cist { (net : Net) (o : Outcome) → IsNetwork net → IsOutcome net o → IsUnrestricted net → (n : List ℕ) (x : CistVector) → o.cist.vector n ≡ Some x → HasRoot (trees_of net o) n x }
+    ensures msti { (net : Net) (o : Outcome) → IsNetwork net → IsOutcome net o → IsUnrestricted net → (tree : ℕ) (n : List ℕ) (x : MstiVector) → (o.msti (suc tree)).vector n ≡ Some x → HasMstiRoot (trees_of net o) n (suc tree) x }
+{
+    nested();
     laws::roots::<Name, Name, PortName>();
 }
 
@@ -102,9 +111,3 @@ pub fn inside()
     nested();
     laws::inside::<Name, Name, PortName>();
 }
-
-/// Where a view and classes are of one network, the view and the regions of a forest that is settled for them are:
-/// this is what `reach` asks.
-pub fn known_forest()
-    ensures { (v : Viewed) (classes : List (ℕ × ℕ)) (f : ForestOf) → Known v classes → ((net : Net) (numbers : Numbers) → AreOf net numbers v classes → IsForest net numbers f) → Known v f.regions }
-{}

@@ -1,11 +1,13 @@
 ghost use Rattle.std.specs.Prelude.{◌≡◌, Some, IfOk, map};
 ghost use Rattle.std.specs.FinMap as fin;
 ghost use Rattle.mst_net.specs.Tables.{Net, Numbers};
+ghost use Rattle.mst_lag.specs.View.{IsUnrestricted};
 ghost use Rattle.mst_trees.specs.Agrees.{AreOf};
 ghost use Rattle.mst_trees.specs.Forest.{IsForest};
-ghost use Rattle.mst_vlan.specs.Active.{active_ports};
+ghost use Rattle.mst_vlan.specs.Active.{active_ports, JoinWithoutLoop};
 ghost use Rattle.mst_vlan.specs.Seen.{seen_active};
 
+use crate::laws::joined_without_loop;
 use mst_ids::{PortNo, Vid};
 use mst_lag::View;
 use mst_roles::port_forwards;
@@ -28,7 +30,8 @@ fn active_in_view(
 }
 
 /// The active topology of a VID: the logical ports that forward in their own bridge's tree of it, in the order of
-/// the view. For n ports it takes n steps. `AllocError`: memory was wanted and refused.
+/// the view. Where no port's role is restricted they join what is enabled, without a loop (802.1Q-2022, 8.4).
+/// For n ports it takes n steps. `AllocError`: memory was wanted and refused.
 pub fn active(
     alloc: Global,
     view: &View,
@@ -38,6 +41,9 @@ pub fn active(
     ensures seen { IfOk result (λ ports. ports.items ≡ map (λ p. p.number) (seen_active view.now forest.now vid)) }
     ensures named { IfOk result (λ ports. (net : Net) (numbers : Numbers) (is : IsForest net numbers forest.now) → AreOf net numbers view.now forest.now.regions
         → map Some ports.items ≡ map (λ p. fin.get numbers.ports p.name) (active_ports net is.outcome vid)) }
+    ensures joined { IfOk result (λ _. (net : Net) (numbers : Numbers) (is : IsForest net numbers forest.now) → AreOf net numbers view.now forest.now.regions
+        → IsUnrestricted net → JoinWithoutLoop net (active_ports net is.outcome vid)) }
 {
+    joined_without_loop();
     active_in_view(alloc, view, forest, vid)
 }

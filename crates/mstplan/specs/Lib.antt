@@ -2,3 +2,4 @@ pub mod Endings
 pub mod Buffered
 pub mod Named
 pub mod Words
+pub mod Program

@@ -10,11 +10,11 @@ pub record IsNamed (IsGiven : Option (List ℕ) → Type 0) (IsFile : List ℕ �
   pub given : name ≡ codes "-" → IsGiven script
   pub file : name ≢ codes "-" → IsFile name script
 
--- why the script of this name isn't run: the file can't be opened, or there is no memory
-abbrev pub IsWhyNot : Bor (List ℕ) → Stop → Type 0
-IsWhyNot name (Told status) = ⊥
-IsWhyNot name (Unopened file) = (file ≡ name) × (name.now ≢ codes "-")
-IsWhyNot name (Fault fault) = fault ≡ Memory
+-- why the script of this name isn't run: its file, and no other, couldn't be opened, or there is no memory
+abbrev pub IsWhyNot : (List ℕ → Type 0) → Bor (List ℕ) → Stop → Type 0
+IsWhyNot IsUnopened name (Told status) = ⊥
+IsWhyNot IsUnopened name (Unopened file) = (file ≡ name) × (name.now ≢ codes "-") × IsUnopened name.now
+IsWhyNot IsUnopened name (Fault fault) = fault ≡ Memory
 
 -- the same of a script and of captures. Where both names are `-` the script takes all of standard input, and there is no
 -- capture
@@ -24,6 +24,6 @@ pub record AreNamed (IsGiven : Option (List ℕ) → Type 0) (IsFile : List ℕ 
   pub captures_given : captures ≡ codes "-" → script ≢ codes "-" → IsGiven captured
   pub no_captures : captures ≡ codes "-" → script ≡ codes "-" → captured ≡ Some []
 
--- why the two aren't run: one of the files can't be opened, or there is no memory
-abbrev pub IsWhyNeither : Bor (List ℕ) → Bor (List ℕ) → Stop → Type 0
-IsWhyNeither script captures stop = IsWhyNot script stop ⊎ IsWhyNot captures stop
+-- why the two aren't run: the file that is told, one of the two, couldn't be opened, or there is no memory
+abbrev pub IsWhyNeither : (List ℕ → Type 0) → Bor (List ℕ) → Bor (List ℕ) → Stop → Type 0
+IsWhyNeither IsUnopened script captures stop = IsWhyNot IsUnopened script stop ⊎ IsWhyNot IsUnopened captures stop

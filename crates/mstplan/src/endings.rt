@@ -27,7 +27,7 @@ pub(crate) struct Ending<'a> {
 
 /// The fault that is told after a run: the one that stopped it, or want of memory where it refused a
 /// line.
-pub(crate) fn fault_of(ran: &Result<Outcome, RunFault>) -> Option<RunFault>
+fn fault_of(ran: &Result<Outcome, RunFault>) -> Option<RunFault>
     ensures { result ≡ told_fault ran.now }
 {
     match ran {
@@ -53,7 +53,7 @@ fn status_of_stop(stop: Stop<'_>) -> u8
 }
 
 /// How the program ends after a run.
-pub(crate) fn after_run<'a>(ran: &Result<Outcome, RunFault>) -> Ending<'a>
+fn after_run<'a>(ran: &Result<Outcome, RunFault>) -> Ending<'a>
     ensures status { result.status ≡ status_of ran.now }
     ensures told { result.told ≡ told_of ran.now }
 {
@@ -67,7 +67,7 @@ pub(crate) fn after_run<'a>(ran: &Result<Outcome, RunFault>) -> Ending<'a>
 }
 
 /// How the program ends where no script was run.
-pub(crate) fn after_stop(stop: Stop<'_>) -> Ending<'_>
+fn after_stop(stop: Stop<'_>) -> Ending<'_>
     ensures status { result.status ≡ status_of_stop stop.entry }
     ensures told { result.told ≡ Some stop.entry }
 {
@@ -78,18 +78,18 @@ pub(crate) fn after_stop(stop: Stop<'_>) -> Ending<'_>
 }
 
 /// How the program ends.
-pub(crate) fn ending_of<'a, W: Drop>(ran: Result<Ran<W>, Stop<'a>>) -> Ending<'a>
-    ensures ran { IfOk ran.entry (λ ran. (result.status ≡ status_of ran.ended) × (result.told ≡ told_of ran.ended)) }
-    ensures stopped { IfErr ran.entry (λ stop. (result.status ≡ status_of_stop stop) × (result.told ≡ Some stop)) }
+pub(crate) fn ending_of<'a, W: Drop>(ran: &Result<Ran<W>, Stop<'a>>) -> Ending<'a>
+    ensures ran { IfOk ran.now (λ ran. (result.status ≡ status_of ran.ended) × (result.told ≡ told_of ran.ended)) }
+    ensures stopped { IfErr ran.now (λ stop. (result.status ≡ status_of_stop stop) × (result.told ≡ Some stop)) }
 {
     match ran {
         Ok(ran) => after_run(&ran.ended),
-        Err(stop) => after_stop(stop),
+        Err(stop) => after_stop(*stop),
     }
 }
 
 /// The line that tells a fault.
-pub(crate) fn message(fault: RunFault) -> &'static str
+fn message(fault: RunFault) -> &'static str
     ensures { result.now ≡ message_of fault }
 {
     match fault {

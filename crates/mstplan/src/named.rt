@@ -17,7 +17,7 @@ pub(crate) fn run_named<'a, S: Sources, W: Write + Drop>(
     writer: W,
 ) -> Result<Ran<W>, Stop<'a>>
     ensures ran { IfOk result (λ ran. (script : Option (List ℕ)) × IsNamed (S.is_given sources.now) (S.is_file sources.now) name.entry.now script × Ends script (W.contents writer) (W.contents ran.writer) ran.ended) }
-    ensures stopped { IfErr result (IsWhyNot name.entry) }
+    ensures stopped { IfErr result (IsWhyNot (S.is_unopened sources.now) name.entry) }
 {
     let ran = if name == "-" {
         run_buffered(alloc, sources.given(), writer)
@@ -44,7 +44,7 @@ pub(crate) fn check_named<'a, S: Sources, W: Write + Drop>(
 ) -> Result<Ran<W>, Stop<'a>>
     ensures ran { IfOk result (λ ran. (scripts captured : Option (List ℕ)) × AreNamed (S.is_given sources.now) (S.is_file sources.now) script.entry.now captures.entry.now scripts captured
         × EndsCheck scripts captured (W.contents writer) (W.contents ran.writer) ran.ended) }
-    ensures stopped { IfErr result (IsWhyNeither script.entry captures.entry) }
+    ensures stopped { IfErr result (IsWhyNeither (S.is_unopened sources.now) script.entry captures.entry) }
 {
     if script == "-" {
         return check_given(alloc, sources, captures, writer);
@@ -64,7 +64,7 @@ fn check_given<'a, S: Sources, W: Write + Drop>(
 ) -> Result<Ran<W>, Stop<'a>>
     ensures ran { IfOk result (λ ran. (scripts captured : Option (List ℕ)) × AreNamed (S.is_given sources.now) (S.is_file sources.now) (codes "-") captures.entry.now scripts captured
         × EndsCheck scripts captured (W.contents writer) (W.contents ran.writer) ran.ended) }
-    ensures stopped { IfErr result (IsWhyNot captures.entry) }
+    ensures stopped { IfErr result (IsWhyNot (S.is_unopened sources.now) captures.entry) }
 {
     let script = sources.given();
     let ran = if captures == "-" {
@@ -92,7 +92,7 @@ fn check_file<'a, S: Sources, R: Read + Drop, W: Write + Drop>(
 ) -> Result<Ran<W>, Stop<'a>>
     ensures ran { IfOk result (λ ran. (captured : Option (List ℕ)) × IsNamed (S.is_given sources.now) (S.is_file sources.now) captures.entry.now captured
         × EndsCheck (R.remaining script) captured (W.contents writer) (W.contents ran.writer) ran.ended) }
-    ensures stopped { IfErr result (IsWhyNot captures.entry) }
+    ensures stopped { IfErr result (IsWhyNot (S.is_unopened sources.now) captures.entry) }
 {
     let ran = if captures == "-" {
         check_buffered(alloc, script, sources.given(), writer)

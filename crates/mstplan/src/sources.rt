@@ -1,4 +1,4 @@
-ghost use Rattle.std.specs.Prelude.{ℕ, List, Option, IfOk, ⊤};
+ghost use Rattle.std.specs.Prelude.{ℕ, List, Option, IfOk, IfErr, ⊤};
 
 use std::fs::File;
 use std::io::Read;
@@ -20,13 +20,17 @@ pub(crate) trait Sources {
     /// What the file of a name has, as far as it tells.
     ghost is_file: { Self → List ℕ → Option (List ℕ) → Type 0 };
 
+    /// Whether the file of a name couldn't be opened.
+    ghost is_unopened: { Self → List ℕ → Type 0 };
+
     /// Standard input.
     fn given(&self) -> Self::Given
         ensures { is_given self.now (Self.Given.remaining result) };
 
-    /// The file of a name, from its start.
+    /// The file of a name, from its start. `Unopened`: it is the file of this very name that can't be opened.
     fn open(&self, name: &str) -> Result<Self::Opened, Unopened>
-        ensures { IfOk result (λ file. is_file self.now name.now (Self.Opened.remaining file)) };
+        ensures opened { IfOk result (λ file. is_file self.now name.now (Self.Opened.remaining file)) }
+        ensures unopened { IfErr result (λ _. is_unopened self.now name.now) };
 }
 
 /// The system's. No clause can say what they hold.
@@ -38,6 +42,8 @@ impl<R: Files + Input> Sources for R {
     ghost is_given = { λ _ _. ⊤ };
 
     ghost is_file = { λ _ _ _. ⊤ };
+
+    ghost is_unopened = { λ _ _. ⊤ };
 
     fn given(&self) -> R::Reader {
         self.reader()

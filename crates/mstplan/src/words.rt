@@ -1,6 +1,6 @@
-ghost use Rattle.std.specs.Prelude.{◌≡◌, ◌≢◌, ◌⊎◌, codes, option_map, unwrap_or};
-ghost use Rattle.clap.specs.Words.{first_value, found_of, kind_of, subcommand_rows_of};
-ghost use Rattle.mstplan.specs.Words.{words_of, asked_of};
+ghost use Rattle.std.specs.Prelude.{◌≡◌, ◌≢◌, ◌⊎◌, true, Some, codes, option_map, unwrap_or, IfOk, IfErr};
+ghost use Rattle.clap.specs.Words.{app_of, first_value, found_of, kind_of, subcommand_rows_of};
+ghost use Rattle.mstplan.specs.Words.{words_of, asked_of, asked_by, are_plain, behind_name, IsRefusal, program};
 
 use crate::endings::Stop;
 use clap::error::ErrorKind;
@@ -17,6 +17,9 @@ pub(crate) struct Asked<'a> {
     pub(crate) script: &'a str,
     pub(crate) captures: Option<&'a str>,
 }
+
+/// What is said of the word that names a script.
+const SCRIPT: &str = "The script, or - for standard input";
 
 /// What stops the program where memory was refused.
 fn starved(_refused: AllocError) -> Stop<'static>
@@ -41,17 +44,21 @@ pub(crate) fn given_words<R: Env + Eprint + AllocGlobal>(
     }
 }
 
-/// What the words ask for.
+/// What the words ask for, of which the first is the program's name. Where none of the others is an option, an `Err`
+/// comes just where they ask for nothing, or for want of memory.
 pub(crate) fn asked_for<'a, R: Print + Eprint + AllocGlobal>(
     rt: &R,
     words: &'a [String],
-) -> Result<Asked<'a>, Stop<'a>> {
-    match command(rt.alloc())
-        .map_err(starved)?
-        .try_get_matches_from(words)
-    {
-        Ok(matches) => Ok(asked_in(&matches)),
-        Err(error) => Err(tell_words(rt, &error)),
+) -> Result<Asked<'a>, Stop<'a>>
+    ensures asked { are_plain (behind_name words.now) ≡ true → IfOk result (λ asked. asked_by (behind_name words.now) ≡ Some (words_of asked)) }
+    ensures refused { are_plain (behind_name words.now) ≡ true → IfErr result (IsRefusal (asked_by (behind_name words.now))) }
+{
+    match command(rt.alloc()) {
+        Err(refused) => Err(starved(refused)),
+        Ok(command) => match command.try_get_matches_from(words) {
+            Ok(matches) => Ok(asked_in(&matches)),
+            Err(error) => Err(tell_words(rt, &error)),
+        },
     }
 }
 
@@ -60,6 +67,7 @@ fn tell_words<R: Print + Eprint>(rt: &R, error: &Error) -> Stop<'static>
     ensures memory { kind_of error.now ≡ ErrorKind.OutOfMemory → result ≡ Stop.Fault RunFault.Memory }
     ensures asked { kind_of error.now ≡ ErrorKind.DisplayHelp → (result ≡ Stop.Told 0) ⊎ (result ≡ Stop.Fault RunFault.Write) }
     ensures wrong { kind_of error.now ≢ ErrorKind.OutOfMemory → kind_of error.now ≢ ErrorKind.DisplayHelp → result ≡ Stop.Told 2 }
+    ensures refused { kind_of error.now ≢ ErrorKind.DisplayHelp → (result ≡ Stop.Told 2) ⊎ (result ≡ Stop.Fault RunFault.Memory) }
 {
     match error.kind() {
         ErrorKind::OutOfMemory => Stop::Fault(RunFault::Memory),
@@ -74,16 +82,21 @@ fn tell_words<R: Print + Eprint>(rt: &R, error: &Error) -> Stop<'static>
     }
 }
 
-fn command<'a>(alloc: Global) -> Result<Command<'a>, AllocError> {
+/// The program's command line.
+fn command<'a>(alloc: Global) -> Result<Command<'a>, AllocError>
+    ensures { IfOk result (λ command. app_of command ≡ program) }
+{
+    let script = Arg::new(alloc, "FILE").help(SCRIPT).required(true);
     let run = Command::new(alloc, "run")
         .about("Runs a script")
-        .arg(script_word(alloc))?;
+        .arg(script)?;
+    let script = Arg::new(alloc, "FILE").help(SCRIPT).required(true);
     let captures = Arg::new(alloc, "CAPTURES")
         .help("The captured messages, one a line, or - for standard input")
         .required(true);
     let check = Command::new(alloc, "check")
         .about("Runs a script, and compares captured messages with the plan at its end")
-        .arg(script_word(alloc))?
+        .arg(script)?
         .arg(captures)?;
     Command::new(alloc, "mstplan")
         .about(
@@ -92,13 +105,6 @@ fn command<'a>(alloc: Global) -> Result<Command<'a>, AllocError> {
         .disable_help_subcommand(true)
         .subcommand(run)?
         .subcommand(check)
-}
-
-/// The word of a command that names a script.
-fn script_word<'a>(alloc: Global) -> Arg<'a> {
-    Arg::new(alloc, "FILE")
-        .help("The script, or - for standard input")
-        .required(true)
 }
 
 /// What a command asks for: to run standard input where there is none.

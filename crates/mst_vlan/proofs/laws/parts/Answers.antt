@@ -14,3 +14,6 @@ returns-clause-values c net o ok is free n k x y e f part = c.parts.ensures.valu
 
 pub returns-clause-regional : goal.returns-clause-regional
 returns-clause-regional c net o ok is free n x e = c.roots.ensures.regional (trees_of net o) tests (c.nested.ensures.settled net o ok is) (c.nested.ensures.free net o ok is free) n x e
+
+pub returns-clause-regions : goal.returns-clause-regions
+returns-clause-regions c net o ok is n k b has part = c.parts.ensures.regions (trees_of net o) tests (c.nested.ensures.settled net o ok is) n k b has part

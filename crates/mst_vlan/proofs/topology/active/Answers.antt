@@ -6,3 +6,7 @@ use Rattle.mst_vlan.proofs.topology.active.Goals as goal
 pub returns-clause-named : goal.returns-clause-named
 returns-clause-named c =
     IfOk-weaker c.active_in_view.result _ _ (λ ports e net numbers is of. ap (map Some) e ∙ active_numbers net numbers c.args.view.now c.args.forest.now of is c.args.vid) c.active_in_view.ensures
+
+pub returns-clause-joined : goal.returns-clause-joined
+returns-clause-joined c =
+    IfOk-weaker c.active_in_view.result _ _ (λ ports e net numbers is of free. c.joined_without_loop.ensures.active net is.outcome c.args.vid of.network is.is_outcome free) c.active_in_view.ensures

@@ -22,7 +22,7 @@ returns-in-Some-clause-ran g c =
         g.S.Opened.Read.remaining w.in-Ok.file,
         record {
           script_named = record { given = λ _. c.given-script.ensures; file = λ n. absurd (n refl) };
-          captures_file = λ _. w.in-Ok.ensures;
+          captures_file = λ _. w.in-Ok.ensures.opened;
           captures_given = λ _ n. absurd (n refl);
           no_captures = λ e _. absurd (names_differ c.args.captures.now (codes "-") c.eq.result c.eq.ensures w.if-eq.false e);
         },

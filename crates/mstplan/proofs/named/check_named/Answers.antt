@@ -19,7 +19,7 @@ returns-in-Ok-clause-ran g c =
       g.S.Opened.Read.remaining c.in-Ok.file,
       h.0,
       record {
-        script_named = record { given = λ e. absurd (names_differ c.args.script.now (codes "-") c.eq.result c.eq.ensures c.if-eq.false e); file = λ _. c.in-Ok.ensures };
+        script_named = record { given = λ e. absurd (names_differ c.args.script.now (codes "-") c.eq.result c.eq.ensures c.if-eq.false e); file = λ _. c.in-Ok.ensures.opened };
         captures_file = h.1.file;
         captures_given = λ e _. h.1.given e;
         no_captures = λ _ e. absurd (names_differ c.args.script.now (codes "-") c.eq.result c.eq.ensures c.if-eq.false e);

@@ -13,7 +13,6 @@ loop-next-init g c = record {
       (passed_none c.args.topology.now.ports (λ p. p.bridge ≡ c.args.bridge) (λ p n. (p.bridge ≡ c.args.bridge) × IsBridgeOn c.args.topology.now p.lan n × (IsUnconcerned g.M.Metric.rules c.args.topology.now (option_at c.args.self.now.vectors) c.args.stored p → ⊥)) (λ p n h. h.0) c.last_of-next.result c.last_of-next.ensures);
   vectors = refl;
   lans = refl;
-  moved = refl;
   settlings = refl;
   seen = λ n s. absurd (c.clear-2.ensures n s);
   lans_seen = λ lan s n on. absurd (c.clear.ensures lan s);
@@ -63,7 +62,6 @@ loop-next-preserved g c =
           (λ k h. elim (passed_more c.args.topology.now.ports (λ p. p.bridge ≡ c.args.bridge) (λ p n. (p.bridge ≡ c.args.bridge) × IsBridgeOn c.args.topology.now p.lan n × (IsUnconcerned g.M.Metric.rules c.args.topology.now (option_at c.args.self.now.vectors) c.args.stored p → ⊥)) (λ p l i. i.0) c.in-Some.place c.at-port.result c.at-port.ensures c.before_of-next.result last k h) [ inl i ↦ inl (rw c.in-Some.is i) | inr i ↦ inr (i.1, i.2) ]);
       vectors = c.look_along.ensures.vectors ∙ before.vectors;
       lans = c.look_along.ensures.lans ∙ before.lans;
-      moved = c.look_along.ensures.moved ∙ before.moved;
       settlings = c.look_along.ensures.settlings ∙ before.settlings;
       seen = rw before.vectors at c.look_along.ensures.seen;
       lans_seen = rw before.vectors at c.look_along.ensures.lans_seen;

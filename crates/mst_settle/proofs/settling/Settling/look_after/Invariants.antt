@@ -12,7 +12,6 @@ invariant-loop-next g l = record {
   looked : LooksAnew g.M.Metric.rules l.topology (option_at l.fn.self.vectors) l.fn.self.queue l.self.queue (Passed l.topology.ports (λ p n. (p.bridge ≡ l.fn.bridge) × IsBridgeOn l.topology p.lan n × (IsUnconcerned g.M.Metric.rules l.topology (option_at l.fn.self.vectors) l.fn.stored p → ⊥)) l.next);
   vectors : l.self.vectors ≡ l.fn.self.vectors;
   lans : l.self.lans ≡ l.fn.self.lans;
-  moved : l.self.moved ≡ l.fn.self.moved;
   settlings : l.self.settlings ≡ l.fn.self.settlings;
   seen : KeysAreRight g.M.Metric.rules l.topology (option_at l.fn.self.vectors) l.self.looked l.self.queue;
   lans_seen : LansKeysAreRight g.M.Metric.rules l.topology (option_at l.fn.self.vectors) l.self.heard l.self.queue;

@@ -1,0 +1,24 @@
+use Rattle.std.proofs.Common.{ap, map, string_bytes, sym, subst, ◌∙◌, Some, option_map}
+use Rattle.clap.specs.Words.{fault_of, is_simple, is_simple_and_free, subcommand_of}
+use Rattle.clap.specs.Kinds.{HasKind}
+use Rattle.mstplan.specs.Words.{IsRefusal, asked_by, asked_of, behind_name}
+use Rattle.mstplan.proofs.CommandLine.{all_fit, fits_asks, free, memory_refuses, simple, told_refuses}
+use Rattle.mstplan.proofs.words.asked_for.Goals as goal
+
+pub returns-in-Err-clause-refused : goal.returns-in-Err-clause-refused
+returns-in-Err-clause-refused g c = λ plain. subst (IsRefusal (asked_by (behind_name c.args.words.now))) (sym c.starved.ensures) (memory_refuses (asked_by (behind_name c.args.words.now)))
+
+pub returns-in-Ok-try_get_matches_from-clause-asked : goal.returns-in-Ok-try_get_matches_from-clause-asked
+returns-in-Ok-try_get_matches_from-clause-asked g c = λ plain.
+    let words = map string_bytes c.args.words.now in
+    let app_is = c.in-Ok.ensures in
+    let parse = c.in-Ok-try_get_matches_from.ensures in
+    let no_fault = sym (ap (λ a. fault_of a words) app_is) ∙ parse.kinds (ap is_simple_and_free app_is ∙ free) in
+    let found = (parse.matches (ap is_simple app_is ∙ simple)).1 ∙ ap (λ a. subcommand_of a words) app_is in
+    fits_asks _ _ _ (all_fit words plain) no_fault ∙ ap Some (sym (c.asked_in.ensures ∙ ap (λ p. asked_of (option_map (λ f. f.1) p)) found))
+
+pub returns-in-Err-try_get_matches_from-clause-refused : goal.returns-in-Err-try_get_matches_from-clause-refused
+returns-in-Err-try_get_matches_from-clause-refused g c = λ plain.
+    let words = map string_bytes c.args.words.now in
+    let app_is = c.in-Ok.ensures in
+    told_refuses _ _ _ _ _ (all_fit words plain) (subst (λ a. HasKind (fault_of a words) c.in-Err-try_get_matches_from.error) app_is (c.in-Err-try_get_matches_from.ensures.kinds (ap is_simple_and_free app_is ∙ free))) c.tell_words.ensures.memory c.tell_words.ensures.refused
