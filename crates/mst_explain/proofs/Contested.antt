@@ -1,6 +1,6 @@
 -- The reason of an enabled port of a tree, under the numbers of records, tells what the tree has under names.
-use Rattle.std.proofs.Common.{◌≡◌, ℕ, ◌==◌, ◌*◌, ◌-◌, ◌≤◌, ◌^◌, Bool, true, false, List, [], ◌∷◌, ◌++◌, length, Option, Some, None, inl, inr, ◌⊎◌, IsTrue, refl, sym, ap, subst, ◌∙◌, true≢false, eq-eqb, arith}
-use Rattle.std.specs.Prelude.{◌≢◌, MatchOption, if◌then◌else◌, filter_map, codes}
+use Rattle.std.proofs.Common.{◌≡◌, ℕ, ◌==◌, ◌*◌, ◌-◌, ◌≤◌, ◌^◌, Bool, false, List, [], ◌∷◌, length, Option, Some, None, inl, inr, ◌⊎◌, refl, sym, ap, subst, ◌∙◌, eq-eqb, arith}
+use Rattle.std.specs.Prelude.{◌≢◌, if◌then◌else◌, filter_map, codes}
 use Rattle.std.specs.List.{Contains, cons_option}
 use Rattle.std.specs.Ordering.{is_gt}
 use Rattle.std.specs.FinMap as fin
@@ -8,16 +8,16 @@ use Rattle.std.specs.FinMap.{len-entries}
 use Rattle.mst_ids.specs.declared.name.PortName.{PortName}
 use Rattle.mst_vector.specs.Rules.{Rules, IsMetric}
 use Rattle.mst_settle.specs.Topology.{Plug, Topology, IsTopology, HasBridge, HasPort}
-use Rattle.mst_settle.specs.Settled.{Says, Designates, Steps, Settled, IsDesignated}
+use Rattle.mst_settle.specs.Settled.{Says, Settled, IsDesignated}
 use Rattle.mst_settle.proofs.Below.{one_speaker}
 use Rattle.mst_settle.proofs.Orders.{both}
-use Rattle.mst_net.specs.Tables.{Net, Numbers, IsNetwork}
+use Rattle.mst_net.specs.Tables.{Net, Numbers}
 use Rattle.mst_lag.specs.Viewed.{Viewed, named_port}
 use Rattle.mst_lag.specs.declared.in_view.PortInView.{PortInView}
 use Rattle.mst_trees.specs.Sight.{Sight, tree_port, tree_of, named_bridge}
 use Rattle.mst_trees.specs.Outcome.{TreeOutcome, IsTreeOutcome}
 use Rattle.mst_trees.specs.Agrees.{AreOf}
-use Rattle.mst_trees.proofs.Lists.{some_is, no_some}
+use Rattle.mst_trees.proofs.Lists.{no_some}
 use Rattle.mst_trees.proofs.Sights.{IsSight, bridge_in, port_in, port_from}
 use Rattle.mst_trees.proofs.Seen.{port_seen, port_of_net}
 use Rattle.mst_explain.specs.Contest.{IsFirst, IsAlone, SaysOn, Gives}
@@ -28,7 +28,7 @@ use Rattle.mst_explain.specs.Claims.{told_text}
 use Rattle.mst_explain.specs.Seen.{TreeSeen, CanStep, designated_on, lan_claims, bridge_claims, root_text, second_text, contest_text}
 use Rattle.mst_explain.proofs.Firsts.{IsTold, told_is}
 use Rattle.mst_explain.proofs.SeenTrees.{IsSeenTree, numbers_differ, bridge_is, bridge_number, topology, lan_hold, vector_at}
-use Rattle.mst_explain.proofs.Givers.{FoundPort, designated_found, bridge_hold}
+use Rattle.mst_explain.proofs.Givers.{designated_found, bridge_hold}
 
 length_kept : {A B : Type 0} (h : A → Option B) (xs : List A) → length (filter_map h xs) ≤ length xs
 length_kept h [] = omega arith

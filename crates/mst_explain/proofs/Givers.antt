@@ -1,6 +1,6 @@
 -- The steps that ports give their bridge, under the numbers of records and under names.
-use Rattle.std.proofs.Common.{◌≡◌, ℕ, ◌==◌, Bool, true, false, List, [], ◌∷◌, Option, Some, None, inl, inr, refl, sym, ap, subst, ◌∙◌, true≢false, eq-eqb}
-use Rattle.std.specs.Prelude.{◌≢◌, MatchOption, if◌then◌else◌, filter_map}
+use Rattle.std.proofs.Common.{◌≡◌, ℕ, ◌==◌, Bool, false, List, [], ◌∷◌, Option, Some, None, inl, inr, refl, sym, ap, subst, ◌∙◌, true≢false, eq-eqb}
+use Rattle.std.specs.Prelude.{◌≢◌, if◌then◌else◌, filter_map}
 use Rattle.std.specs.List.{Contains, find}
 use Rattle.std.specs.Option.{option_map, option_map_or, option_and_then}
 use Rattle.std.specs.FinMap as fin
@@ -9,8 +9,8 @@ use Rattle.std.proofs.lemmas.List.Elements.{Contains-append_left, Contains-appen
 use Rattle.mst_ids.specs.declared.name.PortName.{PortName}
 use Rattle.mst_vector.specs.Rules.{Rules, IsMetric}
 use Rattle.mst_settle.specs.Topology.{Plug, Topology, IsTopology, HasBridge, HasPort}
-use Rattle.mst_settle.specs.Settled.{Says, Designates, Steps, IsDesignated}
-use Rattle.mst_settle.proofs.Below.{one_message, one_designated}
+use Rattle.mst_settle.specs.Settled.{Designates, Steps, IsDesignated}
+use Rattle.mst_settle.proofs.Below.{one_designated}
 use Rattle.mst_net.specs.Tables.{Net, Numbers}
 use Rattle.mst_lag.specs.Viewed.{Viewed, named_port}
 use Rattle.mst_lag.specs.declared.in_view.PortInView.{PortInView}
@@ -19,14 +19,13 @@ use Rattle.mst_trees.specs.Outcome.{TreeOutcome, IsTreeOutcome}
 use Rattle.mst_trees.specs.Agrees.{IsNameOf, AreOf}
 use Rattle.mst_trees.proofs.Lists.{some_is, no_some, kept_in, kept_from, there_first}
 use Rattle.mst_trees.proofs.Sights.{IsSight, changed_from, port_in}
-use Rattle.mst_trees.proofs.Seen.{port_seen, port_of_net, port_there}
+use Rattle.mst_trees.proofs.Seen.{port_seen, port_of_net}
 use Rattle.mst_trees.proofs.Looking.{first_found}
-use Rattle.mst_roles.proofs.Named.{found_in}
 use Rattle.mst_explain.specs.declared.claims.Claim.{Claim}
-use Rattle.mst_explain.specs.Contest.{SaysOn, Gives}
+use Rattle.mst_explain.specs.Contest.{Gives}
 use Rattle.mst_explain.specs.Seen.{TreeSeen, said, designated_on, step_from, heard, given, claim_of, own_claims, bridge_claim, bridge_claims}
 use Rattle.mst_explain.proofs.Firsts.{Hold, keyed}
-use Rattle.mst_explain.proofs.SeenTrees.{IsSeenTree, SeenAs, then_from, unless_some, where_some, found_passes, numbers_differ, only_one, one_seen, bridge_is, bridge_number, topology, bridge_to, bridge_back, says_to, seen_as, says_back}
+use Rattle.mst_explain.proofs.SeenTrees.{IsSeenTree, SeenAs, then_from, unless_some, where_some, numbers_differ, only_one, one_seen, bridge_is, bridge_number, topology, bridge_to, bridge_back, seen_as, says_back}
 
 module _ (net : Net) (numbers : Numbers) (v : Viewed) (classes : List (ℕ × ℕ)) (of : AreOf net numbers v classes)
     {B P V : Type 0} (m : Rules B P V) (law : IsMetric m) (s : Sight B P) (sight : IsSight net m s) (o : TreeOutcome V) (is : IsTreeOutcome m (tree_of net s) o)

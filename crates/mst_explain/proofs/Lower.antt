@@ -1,11 +1,9 @@
 -- The component that decides is lower in the lower vector, and the first of an explanation has the lower vector.
-use Rattle.std.proofs.Common.{◌≡◌, ◌==◌, ℕ, ◌<◌, List, [], ◌∷◌, Bool, true, false, cond, map, length, inl, inr, refl, Less, Equal, Greater, arith}
+use Rattle.std.proofs.Common.{◌≡◌, ◌==◌, ℕ, ◌<◌, List, [], ◌∷◌, Bool, true, false, cond, map, length, inl, inr, Option, refl, sym, ap, subst, ◌∙◌, true≢false, Less, Equal, Greater, arith}
 use Rattle.std.specs.declared.cmp.Ordering.{Ordering}
-use Rattle.std.specs.Ordering.{nat_cmp, ordering_then, MatchOrdering}
+use Rattle.std.specs.Ordering.{nat_cmp, is_gt, ordering_then, MatchOrdering}
 use Rattle.std.specs.Cmp.Lexicographic.{slice_cmp}
 use Rattle.std.proofs.lemmas.Cmp.{ranked}
-use Rattle.std.proofs.Common.{Option, sym, ap, subst, ◌∙◌, true≢false}
-use Rattle.std.specs.Ordering.{is_gt}
 use Rattle.mst_ids.specs.declared.name.PortName.{PortName}
 use Rattle.mst_vector.specs.Rules.{Rules, IsMetric}
 use Rattle.mst_vector.specs.Cist.{cist_rules}

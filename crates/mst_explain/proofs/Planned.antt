@@ -1,41 +1,30 @@
 -- The explanation of a port under the numbers of records is one under names.
-use Rattle.std.proofs.Common.{◌≡◌, ℕ, ◌==◌, ◌&&◌, Bool, true, false, nat_eq, List, [], ◌∷◌, ◌++◌, map, Option, Some, None, inl, inr, IsTrue, refl, sym, ap, subst, ◌∙◌, true≢false, eq-eqb}
-use Rattle.std.specs.Prelude.{◌≢◌, if◌then◌else◌}
-use Rattle.std.specs.List.{Contains, find, filter}
-use Rattle.std.specs.Option.{option_map, option_map_or, option_and_then}
-use Rattle.std.specs.Map.{lookup}
+use Rattle.std.proofs.Common.{◌≡◌, ℕ, ◌==◌, ◌&&◌, Bool, true, false, List, Option, Some, None, refl, sym, ap, subst, ◌∙◌}
+use Rattle.std.specs.Prelude.{if◌then◌else◌}
+use Rattle.std.specs.List.{Contains}
+use Rattle.std.specs.Option.{option_map, option_and_then}
 use Rattle.std.specs.FinMap as fin
-use Rattle.std.proofs.lemmas.Bool.{eqb-true}
-use Rattle.mst_ids.specs.declared.name.PortName.{PortName}
-use Rattle.mst_vector.specs.Rules.{Rules, IsMetric}
 use Rattle.mst_vector.specs.Cist.{cist_rules}
 use Rattle.mst_vector.specs.Msti.{msti_rules}
 use Rattle.mst_vector.specs.CistLaws.{cist_lawful}
 use Rattle.mst_vector.specs.MstiLaws.{msti_lawful}
 use Rattle.mst_vector.specs.declared.cist.CistBridge.{CistBridge}
-use Rattle.mst_vector.specs.declared.cist.CistPort.{CistPort}
-use Rattle.mst_vector.specs.declared.cist.CistVector.{CistVector}
 use Rattle.mst_vector.specs.declared.msti.MstiBridge.{MstiBridge}
 use Rattle.mst_vector.specs.declared.msti.MstiPort.{MstiPort}
 use Rattle.mst_vector.specs.declared.msti.MstiVector.{MstiVector}
 use Rattle.mst_settle.specs.Assignment.{vector_of, designated_of}
-use Rattle.mst_settle.specs.Settled.{IsDesignated}
 use Rattle.mst_net.specs.Tables.{Net, Numbers, BridgeRow}
 use Rattle.mst_net.specs.ByTree.{by_tree}
 use Rattle.mst_net.specs.Seen.{bridge_row}
-use Rattle.mst_lag.specs.Trees.{is_among}
 use Rattle.mst_lag.specs.Viewed.{Viewed, named_port}
 use Rattle.mst_lag.specs.declared.in_view.BridgeInView.{BridgeInView}
 use Rattle.mst_lag.specs.declared.in_view.PortInView.{PortInView}
-use Rattle.mst_config.specs.Regions.{region_of}
-use Rattle.mst_trees.specs.Sight.{Sight, tree_of}
 use Rattle.mst_trees.specs.Cist.{cist_bridge, cist_port, cist_sight, cist_of}
 use Rattle.mst_trees.specs.Msti.{msti_bridge, msti_port, msti_sight, msti_of, has_msti, is_inner}
 use Rattle.mst_trees.specs.Outcome.{Outcome}
 use Rattle.mst_trees.specs.Agrees.{Agrees, AreOf}
-use Rattle.mst_trees.specs.Seen.{trees_at, seen_inner}
-use Rattle.mst_trees.specs.Forest.{Forest, msti_vector, msti_designated, designated_in}
-use Rattle.mst_trees.proofs.Lists.{some_is, no_some}
+use Rattle.mst_trees.specs.Seen.{seen_inner}
+use Rattle.mst_trees.specs.Forest.{Forest, msti_vector, msti_designated}
 use Rattle.mst_trees.proofs.CistTopology.{cist_is_sight}
 use Rattle.mst_trees.proofs.MstiTopology.{msti_is_sight}
 use Rattle.mst_trees.proofs.Seen.{SeenBridge, SeenPort, bridge_seen, port_seen}
@@ -45,7 +34,7 @@ use Rattle.mst_explain.specs.Explained.{TellsContest}
 use Rattle.mst_explain.specs.Planned.{IsPlanOf}
 use Rattle.mst_explain.specs.Seen.{TreeSeen, CanStep, contest_text}
 use Rattle.mst_explain.specs.TreesSeen.{bridge_found, cist_bridge_in, cist_port_in, cist_seen, msti_bridge_in, msti_port_in, msti_seen}
-use Rattle.mst_explain.proofs.SeenTrees.{FoundBridge, bridge_found_at, IsSeenTree}
+use Rattle.mst_explain.proofs.SeenTrees.{bridge_found_at, IsSeenTree}
 use Rattle.mst_explain.proofs.Contested.{CostsBounded, can_step, tells_contest}
 
 module _ (net : Net) (numbers : Numbers) (v : Viewed) (classes : List (ℕ × ℕ)) (f : Forest) (is : IsPlanOf net numbers v classes f) where

@@ -1,36 +1,32 @@
 -- What is seen of a tree under the numbers of records is what the tree has under names.
-use Rattle.std.proofs.Common.{◌≡◌, ℕ, ◌==◌, ◌+◌, ◌*◌, ◌-◌, ◌<◌, ◌≤◌, ◌^◌, zero, suc, get_or, Bool, true, false, cond, List, [], ◌∷◌, ◌++◌, length, Option, Some, None, ◌⊎◌, inl, inr, IsTrue, refl, sym, ap, subst, ◌∙◌, true≢false, eq-eqb, is_some, arith}
-use Rattle.std.specs.Prelude.{◌≢◌, MatchOption, if◌then◌else◌, filter_map}
-use Rattle.std.specs.List.{Contains, find, cons_option}
-use Rattle.std.specs.Option.{option_map, option_map_or, option_and_then}
+use Rattle.std.proofs.Common.{◌≡◌, ℕ, ◌==◌, ◌-◌, ◌<◌, zero, suc, get_or, Bool, true, false, List, [], ◌∷◌, length, Option, Some, None, inl, inr, refl, sym, ap, subst, ◌∙◌, true≢false, eq-eqb, is_some, arith}
+use Rattle.std.specs.Prelude.{◌≢◌, if◌then◌else◌}
+use Rattle.std.specs.List.{Contains, find}
+use Rattle.std.specs.Option.{option_map, option_and_then}
 use Rattle.std.specs.FinMap as fin
-use Rattle.std.specs.FinMap.{len-entries}
 use Rattle.std.proofs.lemmas.Bool.{eqb-true}
-use Rattle.std.proofs.lemmas.List.Elements.{Contains-append_left, Contains-append_right, Contains-append_cases}
-use Rattle.mst_ids.specs.Names.{port_cmp}
 use Rattle.mst_ids.specs.declared.name.PortName.{PortName}
 use Rattle.mst_vector.specs.Rules.{Rules, IsMetric}
 use Rattle.mst_settle.specs.Topology.{Plug, Topology, IsTopology, HasBridge, HasPort}
-use Rattle.mst_settle.specs.Settled.{Says, Designates, Steps, Settled, IsDesignated}
-use Rattle.mst_settle.proofs.Below.{one_message, one_designated}
-use Rattle.mst_net.specs.Tables.{Net, Numbers, BridgeRow, IsNetwork}
+use Rattle.mst_settle.specs.Settled.{Says}
+use Rattle.mst_net.specs.Tables.{Net, Numbers, BridgeRow}
 use Rattle.mst_net.specs.Seen.{bridge_row}
-use Rattle.mst_lag.specs.View.{LogicalPort, view_ports}
+use Rattle.mst_lag.specs.View.{LogicalPort}
 use Rattle.mst_lag.specs.Viewed.{Viewed, named_port}
 use Rattle.mst_lag.specs.declared.in_view.BridgeInView.{BridgeInView}
 use Rattle.mst_lag.specs.declared.in_view.PortInView.{PortInView}
-use Rattle.mst_trees.specs.Sight.{Sight, tree_port, tree_of, named_bridge}
+use Rattle.mst_trees.specs.Sight.{Sight, tree_port, tree_of}
 use Rattle.mst_trees.specs.Outcome.{TreeOutcome, IsTreeOutcome}
-use Rattle.mst_trees.specs.Agrees.{Agrees, IsNameOf, AreOf}
-use Rattle.mst_trees.proofs.Lists.{some_is, no_some, apart_cases, kept_in, kept_from, there_first}
+use Rattle.mst_trees.specs.Agrees.{Agrees, AreOf}
+use Rattle.mst_trees.proofs.Lists.{some_is, no_some, apart_cases, kept_in, kept_from}
 use Rattle.mst_trees.proofs.Views.{port_names_differ}
-use Rattle.mst_trees.proofs.Sights.{IsSight, BridgeOf, PortOf, changed_from, bridge_from, bridge_in, port_from, port_in, is_topology}
-use Rattle.mst_trees.proofs.Seen.{SeenPort, PortsRise, bridge_seen, port_seen, ports_apart, bridge_there, port_there, port_of_net}
+use Rattle.mst_trees.proofs.Sights.{IsSight, changed_from, bridge_from, bridge_in, port_from, port_in, is_topology}
+use Rattle.mst_trees.proofs.Seen.{PortsRise, bridge_seen, port_seen, ports_apart, bridge_there, port_there, port_of_net}
 use Rattle.mst_trees.proofs.Looking.{first_found}
 use Rattle.mst_roles.proofs.Named.{found_in}
 use Rattle.mst_explain.specs.declared.claims.Claim.{Claim}
-use Rattle.mst_explain.specs.Contest.{SaysOn, Gives}
-use Rattle.mst_explain.specs.Seen.{TreeSeen, said, designated_on, step_from, heard, given, claim_of, lan_claim, lan_claims, own_claims, bridge_claim, bridge_claims}
+use Rattle.mst_explain.specs.Contest.{SaysOn}
+use Rattle.mst_explain.specs.Seen.{TreeSeen, said, designated_on, claim_of, lan_claim, lan_claims}
 use Rattle.mst_explain.proofs.Firsts.{Hold, keyed}
 
 -- what follows on a value that is there comes of one
@@ -47,15 +43,7 @@ pub where_some : {A : Type 0} (b : Bool) (o : Option A) (y : A) → (if b then o
 where_some true o y e = (refl, e)
 where_some false o y e = absurd (no_some y e)
 
--- what is found passes
-pub found_passes : {A : Type 0} (test : A → Bool) (xs : List A) (x : A) → find test xs ≡ Some x → test x ≡ true
-found_passes test [] x e = absurd (no_some x e)
-found_passes {A} test (y ∷ xs) x e = go (test y) refl e (found_passes test xs x)
-  where
-    go : (b : Bool) → test y ≡ b → cond b (Some y) (find test xs) ≡ Some x → (find test xs ≡ Some x → test x ≡ true) → test x ≡ true
-    go true f g rest = ap test (sym (some_is y x g)) ∙ f
-    go false f g rest = rest g
-
+-- a designated port that is found is in the view
 pub designated_there : {B P V : Type 0} (m : Rules B P V) (v : Viewed) (s : TreeSeen B P V) (lan : ℕ) (f : PortInView) → designated_on m v s lan ≡ Some f → Contains v.ports f
 designated_there m v s lan f e = let x = then_from (λ n. find (λ (q : PortInView). n == q.number) v.ports) (s.designated lan) f e in found_in (λ (q : PortInView). x.0 == q.number) v.ports f x.2
 

@@ -1,12 +1,10 @@
 -- The text of an explanation under the numbers of records is one under names.
-use Rattle.std.proofs.Common.{◌≡◌, ℕ, zero, suc, ◌<◌, ◌==◌, ◌&&◌, ◌||◌, Bool, true, false, cond, nat_eq, get_or, List, [], ◌∷◌, ◌++◌, length, map, Option, Some, None, inl, inr, refl, sym, ap, subst, ◌∙◌, append-nil, true≢false, eq-eqb, arith}
+use Rattle.std.proofs.Common.{◌≡◌, ℕ, zero, suc, ◌<◌, ◌==◌, ◌&&◌, ◌||◌, Bool, true, false, cond, nat_eq, get_or, List, [], ◌∷◌, ◌++◌, length, map, Option, Some, None, refl, sym, ap, subst, ◌∙◌, append-nil, true≢false, eq-eqb, arith}
 use Rattle.std.specs.Prelude.{◌≢◌, if◌then◌else◌}
 use Rattle.std.specs.List.{AllByRecursion, Contains, filter, flat_map, list_any}
 use Rattle.std.specs.Option.{option_map, option_map_or, option_and_then, unwrap_or}
 use Rattle.std.specs.Map.{lookup}
 use Rattle.std.specs.FinMap as fin
-use Rattle.std.proofs.lemmas.Bool.{eqb-true}
-use Rattle.mst_ids.specs.declared.name.PortName.{PortName}
 use Rattle.mst_vector.specs.Cist.{cist_rules}
 use Rattle.mst_vector.specs.Msti.{msti_rules}
 use Rattle.mst_vector.specs.CistLaws.{cist_lawful}
@@ -37,10 +35,10 @@ use Rattle.mst_roles.specs.declared.kind.Role.{Role}
 use Rattle.mst_roles.proofs.Named.{each_same}
 use Rattle.mst_explain.specs.Fields.{cist_fields, msti_fields}
 use Rattle.mst_explain.specs.Lines.{explain_line, boundary_line, disabled_lines}
-use Rattle.mst_explain.specs.Explained.{TellsContest, TellsBoundary, TellsInMsti, TellsEnabled, TellsReason, IsExplanation, AreExplanations, trees_of_bridge}
+use Rattle.mst_explain.specs.Explained.{TellsBoundary, TellsInMsti, TellsEnabled, TellsReason, IsExplanation, AreExplanations, trees_of_bridge}
 use Rattle.mst_explain.specs.Planned.{IsPlanOf}
 use Rattle.mst_explain.specs.Seen.{contest_text}
-use Rattle.mst_explain.specs.TreesSeen.{bridge_found, cist_seen, msti_seen}
+use Rattle.mst_explain.specs.TreesSeen.{cist_seen, msti_seen}
 use Rattle.mst_explain.specs.SeenText.{port_found, bridge_is_on, lan_is_up, off_text, role_at, outside_text, msti_text, enabled_text, reason_text, explanation_text}
 use Rattle.mst_explain.proofs.SeenTrees.{bridge_found_at, port_found_at}
 use Rattle.mst_explain.proofs.Givers.{designated_found}
@@ -125,8 +123,8 @@ module _ (net : Net) (numbers : Numbers) (v : Viewed) (classes : List (ℕ × �
         c.designated,
         c.is_designated,
         ap (λ (r : Option Role). option_map_or (λ role. port_line role (option_and_then (port_found v) (designated_in f 0 p.lan_number))) r []) (role_is 0)
-        ∙ ap (port_line (cist_role net o (named_port p))) d.found
-        ∙ ap (boundary_line (cist_role net o (named_port p))) d.name,
+            ∙ ap (port_line (cist_role net o (named_port p))) d.found
+            ∙ ap (boundary_line (cist_role net o (named_port p))) d.name,
       )
 
   -- ---- the reason

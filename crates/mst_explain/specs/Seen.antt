@@ -1,5 +1,5 @@
 -- What an explanation is made of, under the numbers of records.
-use Rattle.std.specs.Prelude.{◌≡◌, ℕ, ◌==◌, ◌≤◌, ◌^◌, Bool, List, [], ◌∷◌, ◌++◌, Option, Some, None, IsTrue, filter_map, codes, if◌then◌else◌}
+use Rattle.std.specs.Prelude.{◌≡◌, ℕ, ◌==◌, ◌≤◌, ◌^◌, List, [], ◌∷◌, ◌++◌, Option, Some, None, IsTrue, filter_map, codes, if◌then◌else◌}
 use Rattle.std.specs.List.{Contains, find}
 use Rattle.std.specs.Option.{option_map, option_map_or, option_and_then}
 use Rattle.mst_vector.specs.Rules.{Rules}

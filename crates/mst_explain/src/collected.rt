@@ -38,11 +38,7 @@ fn step_from<M: InTree>(
 }
 
 /// The step along a port of these settings from its LAN's designated port, where that is on another bridge.
-fn heard<M: InTree>(
-    plan: &TreePlan,
-    port: &PortInView,
-    settings: &M::Port,
-) -> Option<M::Vector>
+fn heard<M: InTree>(plan: &TreePlan, port: &PortInView, settings: &M::Port) -> Option<M::Vector>
     requires steps { CanStep M.rules plan.now.view.now (M.seen plan.now.view.now plan.now.classes.now plan.now.forest.now plan.now.tree) }
     requires port { Contains plan.now.view.now.ports port.now }
     requires settings { (M.seen plan.now.view.now plan.now.classes.now plan.now.forest.now plan.now.tree).port port.now ≡ Some settings.now }

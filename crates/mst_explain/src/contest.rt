@@ -1,4 +1,4 @@
-ghost use Rattle.std.specs.Prelude.{◌≡◌, ◌++◌, Some, OnOk, codes};
+ghost use Rattle.std.specs.Prelude.{◌≡◌, ◌++◌, Some, OnOk};
 ghost use Rattle.std.specs.Option.{option_copied};
 ghost use Rattle.mst_explain.specs.Claims.{line_of_first, told_text};
 ghost use Rattle.mst_explain.specs.Seen.{CanStep, root_text, second_text, contest_text};

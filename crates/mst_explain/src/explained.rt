@@ -226,5 +226,13 @@ pub fn push_explanations(
     costs_bounded::<MstiMetric, Name, Name, PortName>();
     let cist = [Tree::cist()];
     push_in_trees(alloc, view, classes, forest, &cist, port, out)?;
-    push_in_trees(alloc, view, classes, forest, view.trees(port.bridge), port, out)
+    push_in_trees(
+        alloc,
+        view,
+        classes,
+        forest,
+        view.trees(port.bridge),
+        port,
+        out,
+    )
 }

@@ -71,7 +71,8 @@ impl InTree for CistMetric {
     }
 
     fn designated_on<'a>(plan: &TreePlan<'a>, port: &PortInView) -> Option<&'a PortInView> {
-        plan.view.port(plan.forest.designated(plan.tree, port.lan_number)?)
+        plan.view
+            .port(plan.forest.designated(plan.tree, port.lan_number)?)
     }
 
     fn difference(x: &Self::Vector, y: &Self::Vector) -> Option<Difference> {
@@ -97,7 +98,8 @@ impl InTree for MstiMetric {
     }
 
     fn designated_on<'a>(plan: &TreePlan<'a>, port: &PortInView) -> Option<&'a PortInView> {
-        plan.view.port(plan.forest.designated(plan.tree, port.lan_number)?)
+        plan.view
+            .port(plan.forest.designated(plan.tree, port.lan_number)?)
     }
 
     fn difference(x: &Self::Vector, y: &Self::Vector) -> Option<Difference> {
