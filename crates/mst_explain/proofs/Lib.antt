@@ -1,0 +1,9 @@
+pub mod Lower
+pub mod Firsts
+pub mod SeenTrees
+pub mod Givers
+pub mod Contested
+pub mod Planned
+pub mod Texts
+pub mod OneText
+pub mod Roles

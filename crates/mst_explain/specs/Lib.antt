@@ -1,0 +1,11 @@
+pub mod Contest
+pub mod Fields
+pub mod Lines
+pub mod Explained
+pub mod AsTold
+pub mod Told
+pub mod Claims
+pub mod Seen
+pub mod TreesSeen
+pub mod SeenText
+pub mod Planned

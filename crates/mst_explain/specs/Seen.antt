@@ -1,0 +1,76 @@
+-- What an explanation is made of, under the numbers of records.
+use Rattle.std.specs.Prelude.{◌≡◌, ℕ, ◌==◌, ◌≤◌, ◌^◌, List, [], ◌∷◌, ◌++◌, Option, Some, None, IsTrue, filter_map, codes, if◌then◌else◌}
+use Rattle.std.specs.List.{Contains, find}
+use Rattle.std.specs.Option.{option_map, option_map_or, option_and_then}
+use Rattle.mst_vector.specs.Rules.{Rules}
+use Rattle.mst_lag.specs.Viewed.{Viewed}
+use Rattle.mst_lag.specs.declared.in_view.PortInView.{PortInView}
+use Rattle.mst_explain.specs.declared.claims.Claim.{Claim}
+use Rattle.mst_explain.specs.Claims.{told_text}
+use Rattle.mst_explain.specs.Fields.{Field}
+use Rattle.mst_explain.specs.Lines.{restricted_line}
+
+-- what is seen of a tree: the bridge of a number and its vector, and the settings of a port, where they are in the tree, and
+-- the number of a LAN's designated port
+pub record TreeSeen (B P V : Type 0) : Type 0 where
+  pub bridge : ℕ → Option B
+  pub vector : ℕ → Option V
+  pub port : PortInView → Option P
+  pub designated : ℕ → Option ℕ
+
+-- what a tree must keep for steps: costs are in range
+pub record CanStep {B P V : Type 0} (m : Rules B P V) (v : Viewed) (s : TreeSeen B P V) : Type 0 where
+  pub in_range : (p : PortInView) (c : P) → Contains v.ports p → s.port p ≡ Some c → IsTrue (m.in_range c)
+  pub costs : (p : PortInView) (x : V) → Contains v.ports p → s.vector p.bridge ≡ Some x → m.cost x ≤ 2 ^ 62
+
+module _ {B P V : Type 0} (m : Rules B P V) (v : Viewed) (s : TreeSeen B P V) where
+  -- what a port says on its LAN
+  abbrev pub said : PortInView → Option V
+  said q = option_and_then (λ c. option_and_then (λ b. option_map (λ x. m.designated x b c) (s.vector q.bridge)) (s.bridge q.bridge)) (s.port q)
+
+  -- the designated port of a LAN
+  abbrev pub designated_on : ℕ → Option PortInView
+  designated_on lan = option_and_then (λ n. find (λ q. n == q.number) v.ports) (s.designated lan)
+
+  -- the step along a port of these settings from another one
+  abbrev pub step_from : PortInView → P → PortInView → Option V
+  step_from p c from = option_and_then (λ x. option_and_then (λ sender. option_map (λ b. m.step x sender b c) (s.bridge p.bridge)) (s.bridge from.bridge)) (said from)
+
+  -- what a port gives its bridge, if its role isn't restricted: the step from its LAN's designated port, where that is on
+  -- another bridge
+  abbrev pub heard : PortInView → P → Option V
+  heard p c = option_and_then (λ from. if from.bridge == p.bridge then None else step_from p c from) (designated_on p.lan_number)
+
+  abbrev pub given : PortInView → Option V
+  given p = if p.settings.is_restricted then None else option_and_then (heard p) (s.port p)
+
+  -- the claims on a LAN, and those at a bridge, its own vector first
+  abbrev pub claim_of : PortInView → V → Claim V
+  claim_of q x = record { port = Some q.name; vector = x }
+
+  abbrev pub lan_claim : ℕ → PortInView → Option (Claim V)
+  lan_claim lan q = if q.lan_number == lan then option_map (claim_of q) (said q) else None
+
+  abbrev pub lan_claims : ℕ → List (Claim V)
+  lan_claims lan = filter_map (lan_claim lan) v.ports
+
+  abbrev pub own_claims : ℕ → List (Claim V)
+  own_claims n = option_map_or (λ b. (record { port = None; vector = m.own b }) ∷ []) (s.bridge n) []
+
+  abbrev pub bridge_claim : ℕ → PortInView → Option (Claim V)
+  bridge_claim n q = if q.bridge == n then option_map (claim_of q) (given q) else None
+
+  abbrev pub bridge_claims : ℕ → List (Claim V)
+  bridge_claims n = own_claims n ++ filter_map (bridge_claim n) v.ports
+
+  -- the reason of an enabled port of the tree
+  module _ (fields : V → List Field) (p : PortInView) where
+    abbrev pub root_text : List ℕ
+    root_text = if p.settings.is_restricted then restricted_line else told_text m.order fields (codes "root") (Some p.name) (bridge_claims p.bridge)
+
+    abbrev pub second_text : Option PortInView → List ℕ
+    second_text None = []
+    second_text (Some q) = if q.bridge == p.bridge then [] else root_text
+
+    abbrev pub contest_text : List ℕ
+    contest_text = told_text m.order fields (codes "designated") (Some p.name) (lan_claims p.lan_number) ++ second_text (designated_on p.lan_number)

@@ -1,0 +1,55 @@
+-- The text of an explanation, under the numbers of records.
+use Rattle.std.specs.Prelude.{ℕ, ◌==◌, ◌&&◌, Bool, false, List, [], ◌++◌, Option, if◌then◌else◌}
+use Rattle.std.specs.List.{find, list_any}
+use Rattle.std.specs.Option.{option_map_or, option_and_then}
+use Rattle.mst_vector.specs.Cist.{cist_rules}
+use Rattle.mst_vector.specs.Msti.{msti_rules}
+use Rattle.mst_settle.specs.Assignment.{designated_of}
+use Rattle.mst_net.specs.Seen.{bridge_row}
+use Rattle.mst_lag.specs.Aggregation.{same_name}
+use Rattle.mst_lag.specs.Viewed.{Viewed}
+use Rattle.mst_lag.specs.declared.in_view.PortInView.{PortInView}
+use Rattle.mst_trees.specs.Seen.{seen_inner}
+use Rattle.mst_trees.specs.Forest.{Forest, designated_in}
+use Rattle.mst_roles.specs.Seen.{seen_role}
+use Rattle.mst_roles.specs.declared.kind.Role.{Role}
+use Rattle.mst_explain.specs.Fields.{cist_fields, msti_fields}
+use Rattle.mst_explain.specs.Lines.{explain_line, boundary_line, disabled_lines}
+use Rattle.mst_explain.specs.Seen.{contest_text}
+use Rattle.mst_explain.specs.TreesSeen.{bridge_found, cist_seen, msti_seen}
+
+abbrev pub port_found : Viewed → ℕ → Option PortInView
+port_found v n = find (λ p. n == p.number) v.ports
+
+-- of a port that isn't enabled
+abbrev pub bridge_is_on : Viewed → ℕ → Bool
+bridge_is_on v n = option_map_or (λ b. (bridge_row b.bridge).is_on) (bridge_found v n) false
+
+abbrev pub lan_is_up : Viewed → List ℕ → Bool
+lan_is_up v lan = list_any (λ m. same_name m.lan lan && m.is_up) v.member_lans
+
+abbrev pub off_text : Viewed → PortInView → List ℕ
+off_text v p = disabled_lines (bridge_is_on v p.bridge) p.name.bridge (lan_is_up v p.lan) p.lan
+
+-- a port's role in a tree
+abbrev pub role_at : Viewed → Forest → ℕ → PortInView → Option Role
+role_at v f tree p = option_and_then (seen_role v f tree) (port_found v p.number)
+
+-- of a port that has received external information
+abbrev pub outside_text : Viewed → Forest → PortInView → List ℕ
+outside_text v f p =
+    option_map_or (λ role. option_map_or (λ q. boundary_line role q.name) (option_and_then (port_found v) (designated_in f 0 p.lan_number)) []) (role_at v f 0 p) []
+
+-- of any port
+module _ (v : Viewed) (classes : List (ℕ × ℕ)) (f : Forest) (tree : ℕ) (p : PortInView) where
+  abbrev pub msti_text : List ℕ
+  msti_text = if seen_inner v f.regions (designated_of f.cist) p then contest_text msti_rules v (msti_seen v classes f tree) msti_fields p else outside_text v f p
+
+  abbrev pub enabled_text : List ℕ
+  enabled_text = if tree == 0 then contest_text cist_rules v (cist_seen v classes f tree) cist_fields p else msti_text
+
+  abbrev pub reason_text : List ℕ
+  reason_text = if p.is_enabled then enabled_text else off_text v p
+
+  abbrev pub explanation_text : List ℕ
+  explanation_text = option_map_or (λ role. explain_line tree p.name p.lan role ++ reason_text) (role_at v f tree p) []

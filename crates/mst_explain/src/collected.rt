@@ -1,0 +1,152 @@
+ghost use Rattle.std.specs.Prelude.{◌≡◌, IfOk};
+ghost use Rattle.std.specs.List.{Contains};
+ghost use Rattle.mst_explain.specs.Seen.{CanStep, said as seen_said, step_from as seen_step, heard as seen_heard, given as seen_given, lan_claim as seen_lan_claim, lan_claims as seen_lan_claims, own_claims as seen_own_claims, bridge_claim as seen_bridge_claim, bridge_claims as seen_bridge_claims};
+
+use crate::claims::Claim;
+use crate::in_tree::{InTree, TreePlan};
+use mst_ids::{BridgeNo, LanNo};
+use mst_lag::PortInView;
+use std::alloc::{AllocError, Global};
+
+/// What a port of the tree says on its LAN: its designated vector.
+fn said<M: InTree>(plan: &TreePlan, port: &PortInView) -> Option<M::Vector>
+    ensures { result ≡ seen_said M.rules plan.now.view.now (M.seen plan.now.view.now plan.now.classes.now plan.now.forest.now plan.now.tree) port.now }
+{
+    let settings = M::port(plan, port)?;
+    let bridge = M::bridge(plan, port.bridge)?;
+    let vector = M::vector(plan, port.bridge)?;
+    Some(M::designated(vector, &bridge, &settings))
+}
+
+/// The step along a port of these settings from another one.
+fn step_from<M: InTree>(
+    plan: &TreePlan,
+    port: &PortInView,
+    settings: &M::Port,
+    from: &PortInView,
+) -> Option<M::Vector>
+    requires steps { CanStep M.rules plan.now.view.now (M.seen plan.now.view.now plan.now.classes.now plan.now.forest.now plan.now.tree) }
+    requires port { Contains plan.now.view.now.ports port.now }
+    requires settings { (M.seen plan.now.view.now plan.now.classes.now plan.now.forest.now plan.now.tree).port port.now ≡ Some settings.now }
+    requires from { Contains plan.now.view.now.ports from.now }
+    ensures { result ≡ seen_step M.rules plan.now.view.now (M.seen plan.now.view.now plan.now.classes.now plan.now.forest.now plan.now.tree) port.now settings.now from.now }
+{
+    let message = said::<M>(plan, from)?;
+    let sender = M::bridge(plan, from.bridge)?;
+    let receiver = M::bridge(plan, port.bridge)?;
+    Some(M::step(message, &sender, &receiver, settings))
+}
+
+/// The step along a port of these settings from its LAN's designated port, where that is on another bridge.
+fn heard<M: InTree>(plan: &TreePlan, port: &PortInView, settings: &M::Port) -> Option<M::Vector>
+    requires steps { CanStep M.rules plan.now.view.now (M.seen plan.now.view.now plan.now.classes.now plan.now.forest.now plan.now.tree) }
+    requires port { Contains plan.now.view.now.ports port.now }
+    requires settings { (M.seen plan.now.view.now plan.now.classes.now plan.now.forest.now plan.now.tree).port port.now ≡ Some settings.now }
+    ensures { result ≡ seen_heard M.rules plan.now.view.now (M.seen plan.now.view.now plan.now.classes.now plan.now.forest.now plan.now.tree) port.now settings.now }
+{
+    let from = M::designated_on(plan, port)?;
+    if from.bridge == port.bridge {
+        return None;
+    }
+    step_from::<M>(plan, port, settings, from)
+}
+
+/// What a port of the tree may give its bridge: a step, if its role isn't restricted.
+fn given<M: InTree>(plan: &TreePlan, port: &PortInView) -> Option<M::Vector>
+    requires steps { CanStep M.rules plan.now.view.now (M.seen plan.now.view.now plan.now.classes.now plan.now.forest.now plan.now.tree) }
+    requires port { Contains plan.now.view.now.ports port.now }
+    ensures { result ≡ seen_given M.rules plan.now.view.now (M.seen plan.now.view.now plan.now.classes.now plan.now.forest.now plan.now.tree) port.now }
+{
+    if port.settings.is_restricted {
+        return None;
+    }
+    let settings = M::port(plan, port)?;
+    heard::<M>(plan, port, &settings)
+}
+
+/// What a port claims on this LAN, if it is on it.
+fn lan_claim<M: InTree>(plan: &TreePlan, lan: LanNo, port: &PortInView) -> Option<Claim<M::Vector>>
+    ensures { result ≡ seen_lan_claim M.rules plan.now.view.now (M.seen plan.now.view.now plan.now.classes.now plan.now.forest.now plan.now.tree) lan port.now }
+{
+    if port.lan_number != lan {
+        return None;
+    }
+    let vector = said::<M>(plan, port)?;
+    Some(Claim {
+        port: Some(port.name),
+        vector,
+    })
+}
+
+/// What the ports of the tree on a LAN say.
+pub(crate) fn lan_claims<M: InTree>(
+    alloc: Global,
+    plan: &TreePlan,
+    lan: LanNo,
+) -> Result<Vec<Claim<M::Vector>>, AllocError>
+    ensures { IfOk result (λ claims. claims.items ≡ seen_lan_claims M.rules plan.now.view.now (M.seen plan.now.view.now plan.now.classes.now plan.now.forest.now plan.now.tree) lan) }
+{
+    let mut claims = Vec::new(alloc);
+    for port in plan.view.ports() {
+        if let Some(claim) = lan_claim::<M>(plan, lan, port) {
+            claims.push(claim)?;
+        }
+    }
+    Ok(claims)
+}
+
+/// What a port claims at this bridge, if it is on it.
+fn bridge_claim<M: InTree>(
+    plan: &TreePlan,
+    bridge: BridgeNo,
+    port: &PortInView,
+) -> Option<Claim<M::Vector>>
+    requires steps { CanStep M.rules plan.now.view.now (M.seen plan.now.view.now plan.now.classes.now plan.now.forest.now plan.now.tree) }
+    requires port { Contains plan.now.view.now.ports port.now }
+    ensures { result ≡ seen_bridge_claim M.rules plan.now.view.now (M.seen plan.now.view.now plan.now.classes.now plan.now.forest.now plan.now.tree) bridge port.now }
+{
+    if port.bridge != bridge {
+        return None;
+    }
+    let vector = given::<M>(plan, port)?;
+    Some(Claim {
+        port: Some(port.name),
+        vector,
+    })
+}
+
+/// The bridge's own vector, which is of no port.
+fn own_claims<M: InTree>(
+    alloc: Global,
+    plan: &TreePlan,
+    bridge: BridgeNo,
+) -> Result<Vec<Claim<M::Vector>>, AllocError>
+    ensures { IfOk result (λ claims. claims.items ≡ seen_own_claims M.rules plan.now.view.now (M.seen plan.now.view.now plan.now.classes.now plan.now.forest.now plan.now.tree) bridge) }
+{
+    let mut claims = Vec::new(alloc);
+    if let Some(settings) = M::bridge(plan, bridge) {
+        claims.push(Claim {
+            port: None,
+            vector: M::own(&settings),
+        })?;
+    }
+    Ok(claims)
+}
+
+/// What may be the root priority vector of a bridge: its own vector, and what its ports give.
+pub(crate) fn bridge_claims<M: InTree>(
+    alloc: Global,
+    plan: &TreePlan,
+    bridge: BridgeNo,
+) -> Result<Vec<Claim<M::Vector>>, AllocError>
+    requires { CanStep M.rules plan.now.view.now (M.seen plan.now.view.now plan.now.classes.now plan.now.forest.now plan.now.tree) }
+    ensures { IfOk result (λ claims. claims.items ≡ seen_bridge_claims M.rules plan.now.view.now (M.seen plan.now.view.now plan.now.classes.now plan.now.forest.now plan.now.tree) bridge) }
+{
+    let mut claims = own_claims::<M>(alloc, plan, bridge)?;
+    for port in plan.view.ports() {
+        if let Some(claim) = bridge_claim::<M>(plan, bridge, port) {
+            claims.push(claim)?;
+        }
+    }
+    Ok(claims)
+}

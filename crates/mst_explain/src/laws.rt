@@ -1,0 +1,57 @@
+//! Laws of explanations. Their functions do nothing: a caller has their clauses.
+ghost use Rattle.std.specs.Prelude.{◌≡◌, ℕ, List, true};
+ghost use Rattle.std.specs.List.{Contains};
+ghost use Rattle.std.specs.declared.cmp.Ordering.TheVariants.{Less};
+ghost use Rattle.mst_vector.specs.Cist.{cist_rules};
+ghost use Rattle.mst_vector.specs.Msti.{msti_rules};
+ghost use Rattle.mst_vector.specs.declared.cist.CistVector.{CistVector as Cist};
+ghost use Rattle.mst_vector.specs.declared.cist.CistBridge.{CistBridge};
+ghost use Rattle.mst_vector.specs.declared.msti.MstiBridge.{MstiBridge};
+ghost use Rattle.mst_vector.specs.declared.msti.MstiVector.{MstiVector as Msti};
+ghost use Rattle.mst_net.specs.Tables.{Net, IsNetwork};
+ghost use Rattle.mst_lag.specs.View.{LogicalPort, view_ports};
+ghost use Rattle.mst_trees.specs.Outcome.{Outcome, IsOutcome};
+ghost use Rattle.mst_trees.specs.Cist.{cist_of};
+ghost use Rattle.mst_trees.specs.Msti.{msti_of, has_msti, is_inner};
+ghost use Rattle.mst_roles.specs.Roles.{cist_role, msti_role};
+ghost use Rattle.mst_explain.specs.AsTold.{IsAsTold, TellsLowerFirst};
+ghost use Rattle.mst_explain.specs.Contest.{SaysOn, Gives};
+ghost use Rattle.mst_explain.specs.Explained.{IsExplanation};
+ghost use Rattle.mst_explain.specs.Fields.{cist_fields, msti_fields, decided, TellsLower};
+
+use mst_trees::laws::one_outcome;
+
+/// A port has one explanation in a tree, whichever settled outcome it is made by.
+pub fn one_explanation()
+    ensures { (net : Net) (o q : Outcome) → IsNetwork net → IsOutcome net o → IsOutcome net q
+        → (p : LogicalPort) (tree : ℕ) (text other : List ℕ) → IsExplanation net o tree p text → IsExplanation net q tree p other → text ≡ other }
+{
+    one_outcome();
+}
+
+/// The words of a line name the first component at which two vectors differ: the values before are equal, and there the
+/// lower vector has the lower value.
+pub fn decided_lower()
+    ensures cist { (x y : Cist) → cist_rules.order x y ≡ Less → TellsLower (cist_fields x) (cist_fields y) (decided (cist_fields x) (cist_fields y)) }
+    ensures msti { (x y : Msti) → msti_rules.order x y ≡ Less → TellsLower (msti_fields x) (msti_fields y) (decided (msti_fields x) (msti_fields y)) }
+{}
+
+/// In an explanation the vector that is first is lower than the one that it is told against, so the words name the first
+/// component at which they differ, with the lower value first: on each LAN, and at each bridge.
+pub fn told_lower()
+    ensures cist_lan { (net : Net) (o : Outcome) → IsNetwork net → IsOutcome net o → (lan : List ℕ) → TellsLowerFirst cist_rules cist_fields (SaysOn cist_rules (cist_of net) o.cist.vector lan) }
+    ensures cist_bridge { (net : Net) (o : Outcome) → IsNetwork net → IsOutcome net o → (name : List ℕ) (b : CistBridge) → TellsLowerFirst cist_rules cist_fields (Gives cist_rules (cist_of net) o.cist.vector name b) }
+    ensures msti_lan { (net : Net) (o : Outcome) → IsNetwork net → IsOutcome net o → (tree : ℕ) (lan : List ℕ) → TellsLowerFirst msti_rules msti_fields (SaysOn msti_rules (msti_of net tree o.cist.designated) (o.msti tree).vector lan) }
+    ensures msti_bridge { (net : Net) (o : Outcome) → IsNetwork net → IsOutcome net o → (tree : ℕ) (name : List ℕ) (b : MstiBridge) → TellsLowerFirst msti_rules msti_fields (Gives msti_rules (msti_of net tree o.cist.designated) (o.msti tree).vector name b) }
+{}
+
+/// The role of an enabled port of a tree is the one that a reader finds in the explanation: Designated where it is the
+/// designated port, Backup where another port of its bridge is, Root where it gives its bridge's root priority vector,
+/// and else Alternate.
+pub fn roles_as_told()
+    ensures cist { (net : Net) (o : Outcome) → IsNetwork net → IsOutcome net o → (p : LogicalPort) → Contains (view_ports net) p → p.is_enabled ≡ true
+        → IsAsTold cist_rules (cist_of net) o.cist p (cist_role net o p) }
+    ensures msti { (net : Net) (o : Outcome) → IsNetwork net → IsOutcome net o → (p : LogicalPort) → Contains (view_ports net) p → p.is_enabled ≡ true
+        → (tree : ℕ) → has_msti net tree p.name.bridge ≡ true → is_inner net o.cist.designated p ≡ true
+        → IsAsTold msti_rules (msti_of net tree o.cist.designated) (o.msti tree) p (msti_role net o tree p) }
+{}
