@@ -4,3 +4,4 @@ pub mod Refusing
 pub mod Standing
 pub mod Planned
 pub mod Kept
+pub mod ByName

@@ -1,9 +1,15 @@
 //! Laws of answers. Their functions do nothing: a caller has their clauses.
 ghost use Rattle.std.specs.Prelude.{◌≡◌, ℕ, List, Result};
 ghost use Rattle.mst_lang.specs.declared.line.Query.{Query};
+ghost use Rattle.mst_lang.specs.declared.line.Edit.{Edit};
 ghost use Rattle.mst_net.specs.Tables.{Net, IsNetwork};
+ghost use Rattle.mst_net.specs.Contents.{Contents, IsNumbered, Commits};
 ghost use Rattle.mst_net.specs.declared.refusal.Refusal.{Refusal};
+ghost use Rattle.mst_trees.specs.Forest.{Forest as ForestOf, IsForest};
+ghost use Rattle.mst_trees.specs.Outcome.{Outcome, IsOutcome};
 ghost use Rattle.mst_report.specs.Answers.{Answers};
+ghost use Rattle.mst_report.specs.ByName.{KeepsBoundByName};
+ghost use Rattle.mst_report.specs.Standing.{KeepsBounds, standing_of, settlings_of, msti_settlings};
 ghost use Rattle.mst_report.specs.State.{State, IsState, IsMark, IsMarkNow};
 ghost use Rattle.mst_changes.specs.declared.place.Row.{Row};
 
@@ -42,5 +48,19 @@ pub fn rows_of_network()
     ensures mark { (net : Net) (rows : List Row) → IsNetwork net → IsMarkNow net rows → IsMark rows }
 {
     has_outcome();
+    one_outcome();
+}
+
+/// The bound on settlings by names of bridges: between the settled outcomes of a network before an edit and after it there
+/// are at most twice as many settlings in a tree as bridges whose vector differs, and at least as many as those of them that
+/// have one afterwards. What stands before and after is told by `Planner::standing`, so by `Planner::settlings`.
+pub fn bounded_by_name()
+    ensures cist { (edit : Edit) (old new : Contents) (f g : ForestOf) → IsNetwork old.net → IsNetwork new.net → IsNumbered old.net old.numbers → IsNumbered new.net new.numbers → Commits edit old new
+        → IsForest old.net old.numbers f → IsForest new.net new.numbers g → KeepsBounds (standing_of f) (standing_of g)
+        → (o q : Outcome) → IsOutcome old.net o → IsOutcome new.net q → KeepsBoundByName o.cist.vector q.cist.vector (settlings_of (standing_of g) 0) }
+    ensures mstis { (edit : Edit) (old new : Contents) (f g : ForestOf) → IsNetwork old.net → IsNetwork new.net → IsNumbered old.net old.numbers → IsNumbered new.net new.numbers → Commits edit old new
+        → IsForest old.net old.numbers f → IsForest new.net new.numbers g → KeepsBounds (standing_of f) (standing_of g)
+        → (o q : Outcome) → IsOutcome old.net o → IsOutcome new.net q → (tree : ℕ) → KeepsBoundByName (o.msti tree).vector (q.msti tree).vector (msti_settlings (standing_of g) tree) }
+{
     one_outcome();
 }
