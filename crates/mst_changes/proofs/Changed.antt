@@ -30,7 +30,7 @@ use Rattle.mst_changes.specs.States.{state_at}
 use Rattle.mst_changes.specs.Kept.{row_at, rows_at}
 use Rattle.mst_changes.specs.Merging.{Rise}
 use Rattle.mst_changes.proofs.Lists.{filter_map-flat_map, filter_map-map}
-use Rattle.mst_changes.proofs.Orders.{places_rise}
+use Rattle.mst_changes.proofs.Orders.{places_rise, tree_rises}
 use Rattle.mst_changes.proofs.Names.{either_rise, kept_left, kept_right}
 
 abbrev pub NamesRise : List (List ℕ) → Type 0
@@ -49,6 +49,10 @@ pub either_places_rise : (a b : Net) → Rise (places_of_either a b)
 either_places_rise a b =
     places_rise (names_of_either name_cmp (bridge_names a) (bridge_names b)) (names_of_either port_cmp (port_names a) (port_names b))
     (either_rise names.total names.same (bridge_names a) (bridge_names b)) (either_rise ports.total ports.same (port_names a) (port_names b))
+
+pub either_ports_rise : (a b : Net) (tree : ℕ) → Rise (map (port_in tree) (names_of_either port_cmp (port_names a) (port_names b)))
+either_ports_rise a b tree =
+    tree_rises [] (names_of_either port_cmp (port_names a) (port_names b)) tt (either_rise ports.total ports.same (port_names a) (port_names b)) tree
 
 -- ---- the rows of a tree, in two parts
 module _ (x : Place → Option State) where
@@ -117,3 +121,14 @@ module _ (net : Net) (o : Outcome) where
         sym (same_rows (state_at net o) (names_of_either name_cmp (bridge_names other) (bridge_names net)) (bridge_names net) (names_of_either port_cmp (port_names other) (port_names net)) (port_names net)
         (λ tree. kept_right names.total names.same (bridge_names other) (bridge_names net) (bridge_at (state_at net o) tree) (names_rise net) (no_bridge tree))
         (λ tree. kept_right ports.total ports.same (port_names other) (port_names net) (port_at (state_at net o) tree) (port_names_rise net) (no_port tree)))
+
+    -- the rows of ports in one tree
+    pub ports_left : (tree : ℕ) → filter_map (port_at (state_at net o) tree) (port_names net) ≡ rows_at (state_at net o) (map (port_in tree) (names_of_either port_cmp (port_names net) (port_names other)))
+    ports_left tree =
+        sym (filter_map-map (row_at (state_at net o)) (port_in tree) (names_of_either port_cmp (port_names net) (port_names other))
+        ∙ kept_left ports.total ports.same (port_names net) (port_names other) (port_at (state_at net o) tree) (port_names_rise net) (no_port tree))
+
+    pub ports_right : (tree : ℕ) → filter_map (port_at (state_at net o) tree) (port_names net) ≡ rows_at (state_at net o) (map (port_in tree) (names_of_either port_cmp (port_names other) (port_names net)))
+    ports_right tree =
+        sym (filter_map-map (row_at (state_at net o)) (port_in tree) (names_of_either port_cmp (port_names other) (port_names net))
+        ∙ kept_right ports.total ports.same (port_names other) (port_names net) (port_at (state_at net o) tree) (port_names_rise net) (no_port tree))

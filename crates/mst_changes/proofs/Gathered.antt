@@ -31,7 +31,7 @@ use Rattle.mst_changes.specs.declared.place.Place.{Place}
 use Rattle.mst_changes.specs.declared.state.State.{State}
 use Rattle.mst_changes.specs.declared.state.State.TheVariants.{InCist, InMsti, HasRole}
 use Rattle.mst_changes.specs.declared.place.Row.{Row}
-use Rattle.mst_changes.specs.Places.{all_trees, places_in, bridge_names, port_names}
+use Rattle.mst_changes.specs.Places.{all_trees, port_in, places_in, bridge_names, port_names}
 use Rattle.mst_changes.specs.States.{vector_in, state_at}
 use Rattle.mst_changes.specs.Kept.{rows_at}
 use Rattle.mst_changes.specs.Seen.{seen_vector, seen_bridge_row, seen_port_row, is_in_use}
@@ -82,7 +82,7 @@ module _ (net : Net) (numbers : Numbers) (v : Viewed) (f : Forest) (of : AreOf n
   role_twice name None = refl
   role_twice name (Some r) = refl
 
-  ports_same : filter_map (seen_port_row v f tree) v.ports ≡ filter_map (port_at x tree) (port_names net)
+  pub ports_same : filter_map (seen_port_row v f tree) v.ports ≡ filter_map (port_at x tree) (port_names net)
   ports_same =
       kept_same (seen_port_row v f tree) (λ (p : PortInView). port_at x tree p.name) v.ports
       (all_weaker (SeenPort net numbers) _ (λ p seen.
@@ -110,6 +110,9 @@ module _ (net : Net) (numbers : Numbers) (v : Viewed) (f : Forest) (of : AreOf n
     no_role None = refl
     no_role (Some p) = λ i. if other i then Some (cist_role net is.outcome p) else (if no_tree p.name.bridge i then Some (msti_role net is.outcome tree p) else None)
 
+    pub no_state : (name : PortName) → x (port_in tree name) ≡ None
+    no_state name = ap (λ (r : Option Role). option_map HasRole r) (no_role _)
+
     pub no_rows : rows_at x (places_in (bridge_names net) (port_names net) tree) ≡ []
     no_rows =
         rows_in x (bridge_names net) (port_names net) tree
@@ -129,8 +132,8 @@ range_more n =
     let same : 0 + n ≡ n = omega arith in
     ap (range_with_len 0) up ∙ range_up 0 n ∙ ap (λ m. range_with_len 0 n ++ m ∷ []) same
 
-pub tree_more : (f : ℕ → List Row) (n : ℕ) (now new : List Row) → now ≡ flat_map f (range_with_len 0 n) → new ≡ now ++ f n → new ≡ flat_map f (range_with_len 0 (n + 1))
+pub tree_more : {A : Type 0} (f : ℕ → List A) (n : ℕ) (now new : List A) → now ≡ flat_map f (range_with_len 0 n) → new ≡ now ++ f n → new ≡ flat_map f (range_with_len 0 (n + 1))
 tree_more f n now new before after = after ∙ ap (λ l. l ++ f n) before ∙ flat_map_more f [] (range_with_len 0 n) n ∙ ap (flat_map f) (sym (range_more n))
 
-pub trees_done : (f : ℕ → List Row) (n : ℕ) → n ≡ 4095 → flat_map f (range_with_len 0 n) ≡ flat_map f all_trees
+pub trees_done : {A : Type 0} (f : ℕ → List A) (n : ℕ) → n ≡ 4095 → flat_map f (range_with_len 0 n) ≡ flat_map f all_trees
 trees_done f n e = ap (flat_map f) (ap (range_with_len 0) e ∙ trees_are)

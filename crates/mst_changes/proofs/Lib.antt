@@ -1,9 +1,10 @@
-mod Lists
-mod Orders
-mod Names
-mod Merged
-mod Changed
-mod Same
-mod InUse
-mod Gathered
-mod Lines
+pub mod Lists
+pub mod Orders
+pub mod Names
+pub mod Merged
+pub mod Changed
+pub mod Same
+pub mod InUse
+pub mod Gathered
+pub mod Lines
+pub mod NoPorts

@@ -57,7 +57,7 @@ module _ (bridges : List (List ℕ)) (ports : List PortName) where
       every (x ∷ xs) = (refl, every xs)
 
   module _ (bridges_rise : Apart (λ a b. name_cmp a b ≡ Less) bridges) (ports_rise : Apart (λ p q. port_cmp p q ≡ Less) ports) where
-    tree_rises : (tree : ℕ) → Rise (places_in bridges ports tree)
+    pub tree_rises : (tree : ℕ) → Rise (places_in bridges ports tree)
     tree_rises tree =
         apart_append (λ a b. place_cmp a b ≡ Less) (map (bridge_in tree) bridges) (map (port_in tree) ports)
         (apart_mapped (λ a b. name_cmp a b ≡ Less) (λ a b. place_cmp a b ≡ Less) (bridge_in tree) (λ a b l. in_one tree (Bridge a) (Bridge b) l) bridges bridges_rise)

@@ -31,7 +31,7 @@ own_side : (s : Option State) → same_side s s ≡ true
 own_side None = refl
 own_side (Some s) = own_state s
 
-none_at : (x : Place → Option State) (places : List Place) → flat_map (λ place. change_text place (x place) (x place)) places ≡ []
+pub none_at : (x : Place → Option State) (places : List Place) → flat_map (λ place. change_text place (x place) (x place)) places ≡ []
 none_at x [] = refl
 none_at x (place ∷ places) = ap (λ (b : Bool). (if b then [] else change_line place (x place) (x place)) ++ flat_map (λ q. change_text q (x q) (x q)) places) (own_side (x place)) ∙ none_at x places
 

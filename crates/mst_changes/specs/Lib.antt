@@ -4,3 +4,4 @@ pub mod Kept
 pub mod Seen
 pub mod Merging
 pub mod ChangesText
+pub mod PortChanges

@@ -7,9 +7,11 @@
 pub mod laws;
 mod merge;
 mod place;
+mod ports;
 mod rows;
 mod state;
 mod text;
 
 pub use merge::push_changes;
-pub use rows::Rows;
+pub use ports::{Planned, push_port_changes};
+pub use rows::{Rows, trees_in_use};

@@ -45,7 +45,7 @@ fn split<'a>(place: &Place, rows: &'a [Row]) -> (Option<State>, &'a [Row])
 
 /// Appends the lines of the places at which two lists of rows differ, in the order of places. It takes the rows of
 /// one place after another from both lists.
-fn push_merged(olds: &[Row], news: &[Row], out: &mut Vec<u8>) -> Result<(), AllocError>
+pub(crate) fn push_merged(olds: &[Row], news: &[Row], out: &mut Vec<u8>) -> Result<(), AllocError>
     ensures { OnOk result ((places : List PlaceOf) (x y : PlaceOf → Option StateOf) → Rise places → olds.now ≡ rows_at x places → news.now ≡ rows_at y places
         → out.new.items ≡ out.old.items ++ flat_map (λ place. change_text place (x place) (y place)) places) }
 {

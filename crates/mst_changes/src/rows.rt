@@ -41,8 +41,8 @@ fn add_trees(trees: &[Tree], used: &mut IndexSet<Tree>) -> Result<(), AllocError
     Ok(())
 }
 
-/// The trees that some bridge has beside the CIST.
-fn trees_in_use(alloc: Global, view: &View) -> Result<IndexSet<Tree>, AllocError>
+/// The trees that some bridge has beside the CIST. `AllocError`: memory was wanted and refused.
+pub fn trees_in_use(alloc: Global, view: &View) -> Result<IndexSet<Tree>, AllocError>
     ensures { IfOk result (λ used. AreInUse view.now used.keys) }
 {
     let mut used = IndexSet::new(alloc);
@@ -104,7 +104,7 @@ fn push_bridges(
 }
 
 /// Appends the rows of the logical ports of a view in a tree.
-fn push_ports(
+pub(crate) fn push_ports(
     view: &View,
     forest: &Forest,
     tree: Tree,

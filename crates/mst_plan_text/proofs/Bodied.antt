@@ -2,10 +2,6 @@
 use Rattle.std.proofs.Common.{◌≡◌, ℕ, zero, suc, ◌+◌, ◌<◌, ◌≤◌, List, [], ◌∷◌, ◌++◌, length, take, get_or, sym, ap, subst, ◌∙◌, arith}
 use Rattle.std.proofs.lemmas.List.{take_all, take_more}
 use Rattle.std.specs.List.{AllZip}
-use Rattle.mst_net.specs.Tables.{Net}
-use Rattle.mst_trees.specs.Outcome.{Outcome}
-use Rattle.mst_vlan_text.specs.VlanText.{IsBody}
-use Rattle.mst_plan_text.specs.Bodies.{AreBodiesAt}
 
 -- one more of each
 zip_pushed : {A B : Type 0} (R : A → B → Type 0) (xs : List A) (ys : List B) (x : A) (y : B) → AllZip R xs ys → R x y → AllZip R (xs ++ x ∷ []) (ys ++ y ∷ [])
@@ -20,14 +16,18 @@ zip_at R (a ∷ xs) [] i d e h l = absurd h
 zip_at R (a ∷ xs) (b ∷ ys) zero d e h l = h.0
 zip_at R (a ∷ xs) (b ∷ ys) (suc i) d e h l = zip_at R xs ys i d e h.1 (omega arith)
 
-module _ (net : Net) (o : Outcome) where
+-- of any relation of VIDs and texts
+module _ (R : ℕ → List ℕ → Type 0) where
+  abbrev pub AtPlaces : List ℕ → List (List ℕ) → Type 0
+  AtPlaces = AllZip (λ place body. R (place + 1) body)
+
   -- one more body
-  pub bodies_more : (places : List ℕ) (i place vid : ℕ) → i < length places → place ≡ get_or places i 0 → vid ≡ place + 1 → (bodies : List (List ℕ)) (body : List ℕ) → AreBodiesAt net o (take i places) bodies
-      → IsBody net o vid body → AreBodiesAt net o (take (i + 1) places) (bodies ++ body ∷ [])
+  pub bodies_more : (places : List ℕ) (i place vid : ℕ) → i < length places → place ≡ get_or places i 0 → vid ≡ place + 1 → (bodies : List (List ℕ)) (body : List ℕ) → AtPlaces (take i places) bodies
+      → R vid body → AtPlaces (take (i + 1) places) (bodies ++ body ∷ [])
   bodies_more places i place vid l is vid_is bodies body are body_is =
-      subst (λ ps. AreBodiesAt net o ps (bodies ++ body ∷ [])) (sym (take_more places i 0 l))
-      (zip_pushed (λ place body. IsBody net o (place + 1) body) (take i places) bodies (get_or places i 0) body are (subst (λ vid. IsBody net o vid body) (vid_is ∙ ap (λ p. p + 1) is) body_is))
+      subst (λ ps. AtPlaces ps (bodies ++ body ∷ [])) (sym (take_more places i 0 l))
+      (zip_pushed (λ place body. R (place + 1) body) (take i places) bodies (get_or places i 0) body are (subst (λ vid. R vid body) (vid_is ∙ ap (λ p. p + 1) is) body_is))
 
   -- and all
-  pub bodies_all : (places : List ℕ) (i : ℕ) → length places ≤ i → (bodies : List (List ℕ)) → AreBodiesAt net o (take i places) bodies → AreBodiesAt net o places bodies
-  bodies_all places i l bodies are = subst (λ ps. AreBodiesAt net o ps bodies) (take_all i places l) are
+  pub bodies_all : (places : List ℕ) (i : ℕ) → length places ≤ i → (bodies : List (List ℕ)) → AtPlaces (take i places) bodies → AtPlaces places bodies
+  bodies_all places i l bodies are = subst (λ ps. AtPlaces ps bodies) (take_all i places l) are

@@ -14,12 +14,13 @@ use Rattle.mst_trees.specs.Outcome.{Outcome}
 use Rattle.mst_trees.specs.Forest.{Forest}
 use Rattle.mst_trees.proofs.Entries.{all_weaker}
 use Rattle.mst_trees.proofs.Lists.{all_contained}
+use Rattle.mst_vlan.specs.Reach.{vid_links}
 use Rattle.mst_vlan_text.specs.VlanText.{IsBody}
 use Rattle.mst_plan_text.specs.Alike.{AreAlike, TellApart}
 use Rattle.mst_plan_text.specs.Bodies.{AreBodiesAt, NumberEach, body_at}
-use Rattle.mst_plan_text.proofs.Bodied.{zip_at}
+use Rattle.mst_plan_text.proofs.Bodied.{AtPlaces, zip_at}
 use Rattle.mst_plan_text.proofs.Grouped.{place_of_vid, at_vid}
-use Rattle.mst_plan_text.proofs.VidsAlike.{body_alike}
+use Rattle.mst_plan_text.proofs.VidsAlike.{links_alike, body_alike}
 
 -- each VID's number has a body, where each class has
 pub numbers_below : (told numbers firsts : List ℕ) (n : ℕ) → length told ≡ 4094 → AreNumbers nat_eq told numbers firsts → n ≡ length firsts → NumberEach numbers n
@@ -35,17 +36,10 @@ each_below told numbers firsts n are e ns is k d l =
     let below : get_or numbers k 0 < length firsts = are.below k (subst (λ m. k < m) are.as_long here) in
     omega arith
 
-module _ (net : Net) (numbers : Numbers) (v : Viewed) (f : Forest) (of : AreOf net numbers v f.regions) (o : Outcome) (tables : List (List ℕ)) (sets : List (List Bool))
-    (have_table : AllByRecursion (λ b. Contains tables (table_in v.settings.tables b.name)) v.bridges)
-    (have_set : AllByRecursion (λ p. Contains sets (vlans_in v.settings.vlans p.name)) v.ports)
-    (told classes firsts : List ℕ) (tell : TellApart tables sets told) (are : AreNumbers nat_eq told classes firsts) (bodies : List (List ℕ)) (at : AreBodiesAt net o firsts bodies) where
-  moved : (x y : ℕ) → AreAlike tables sets x y → (text : List ℕ) → IsBody net o x text → IsBody net o y text
-  moved x y a =
-      body_alike net numbers v f of o x y
-      (all_weaker _ _ (λ b there. all_contained (λ table. tree_in table x ≡ tree_in table y) tables (table_in v.settings.tables b.name) a.same_tree there) v.bridges have_table)
-      (all_weaker _ _ (λ p there. all_contained (λ set. has set x ≡ has set y) sets (vlans_in v.settings.vlans p.name) a.same_sets there) v.ports have_set)
-
-  body_there : (i : ℕ) → i < 4094 → IsBody net o (i + 1) (get_or bodies (get_or classes i 0) [])
+-- of any relation of VIDs and texts that alike VIDs share
+module _ (R : ℕ → List ℕ → Type 0) (tables : List (List ℕ)) (sets : List (List Bool)) (moved : (x y : ℕ) → AreAlike tables sets x y → (text : List ℕ) → R x text → R y text)
+    (told classes firsts : List ℕ) (tell : TellApart tables sets told) (are : AreNumbers nat_eq told classes firsts) (bodies : List (List ℕ)) (at : AtPlaces R firsts bodies) where
+  body_there : (i : ℕ) → i < 4094 → R (i + 1) (get_or bodies (get_or classes i 0) [])
   body_there i l =
       let n : ℕ = get_or classes i 0 in
       let l_told : i < length told = subst (λ k. i < k) (sym tell.as_long) l in
@@ -54,9 +48,30 @@ module _ (net : Net) (numbers : Numbers) (v : Viewed) (f : Forest) (of : AreOf n
       let k : ℕ = get_or firsts n 0 in
       let k_below : k < 4094 = subst (λ m. k < m) tell.as_long first.0 in
       let same : get_or told k 0 ≡ get_or told i 0 = eqb-true (get_or told k 0) (get_or told i 0) ((are.equal k i 0 first.0 l_told).0 first.1) in
-      moved (k + 1) (i + 1) (tell.alike k i k_below l same) (get_or bodies n []) (zip_at (λ place body. IsBody net o (place + 1) body) firsts bodies n 0 [] at below)
+      moved (k + 1) (i + 1) (tell.alike k i k_below l same) (get_or bodies n []) (zip_at (λ place body. R (place + 1) body) firsts bodies n 0 [] at below)
 
-  pub are_bodies : (vid : ℕ) → is_vid vid ≡ true → IsBody net o vid (body_at classes bodies vid)
-  are_bodies vid e =
+  pub have_bodies : (vid : ℕ) → is_vid vid ≡ true → R vid (body_at classes bodies vid)
+  have_bodies vid e =
       let p = place_of_vid vid e in
-      subst (IsBody net o vid) (sym (at_vid classes bodies p.place vid p.is)) (subst (λ vid. IsBody net o vid (get_or bodies (get_or classes p.place 0) [])) p.is (body_there p.place p.below))
+      subst (R vid) (sym (at_vid classes bodies p.place vid p.is)) (subst (λ vid. R vid (get_or bodies (get_or classes p.place 0) [])) p.is (body_there p.place p.below))
+
+module _ (net : Net) (numbers : Numbers) (v : Viewed) (f : Forest) (of : AreOf net numbers v f.regions) (o : Outcome) (tables : List (List ℕ)) (sets : List (List Bool))
+    (have_table : AllByRecursion (λ b. Contains tables (table_in v.settings.tables b.name)) v.bridges)
+    (have_set : AllByRecursion (λ p. Contains sets (vlans_in v.settings.vlans p.name)) v.ports) where
+  module _ (x y : ℕ) (a : AreAlike tables sets x y) where
+    one_tree : AllByRecursion (λ b. tree_in (table_in v.settings.tables b.name) x ≡ tree_in (table_in v.settings.tables b.name) y) v.bridges
+    one_tree = all_weaker _ _ (λ b there. all_contained (λ table. tree_in table x ≡ tree_in table y) tables (table_in v.settings.tables b.name) a.same_tree there) v.bridges have_table
+
+    same_ports : AllByRecursion (λ p. has (vlans_in v.settings.vlans p.name) x ≡ has (vlans_in v.settings.vlans p.name) y) v.ports
+    same_ports = all_weaker _ _ (λ p there. all_contained (λ set. has set x ≡ has set y) sets (vlans_in v.settings.vlans p.name) a.same_sets there) v.ports have_set
+
+    -- alike VIDs have the same links
+    pub links_shared : vid_links net o x ≡ vid_links net o y
+    links_shared = links_alike net numbers v f of o x y one_tree same_ports
+
+    moved : (text : List ℕ) → IsBody net o x text → IsBody net o y text
+    moved = body_alike net numbers v f of o x y one_tree same_ports
+
+  pub are_bodies : (told classes firsts : List ℕ) → TellApart tables sets told → AreNumbers nat_eq told classes firsts → (bodies : List (List ℕ)) → AreBodiesAt net o firsts bodies
+      → (vid : ℕ) → is_vid vid ≡ true → IsBody net o vid (body_at classes bodies vid)
+  are_bodies told classes firsts tell are bodies at = have_bodies (IsBody net o) tables sets moved told classes firsts tell are bodies at

@@ -34,17 +34,17 @@ range_once a (suc n) = (not_behind a n, range_once (a + 1) n)
 once_to : (n : ℕ) → n ≡ 4094 → StandOnce all_vids
 once_to n e = subst StandOnce (vids_all n e) (range_once 1 n)
 
-vids_once : StandOnce all_vids
+pub vids_once : StandOnce all_vids
 vids_once = once_to 4094 refl
 
 vid_of_place : (i : ℕ) → i < 4094 → is_vid (i + 1) ≡ true
 vid_of_place i l = grind (arith, nat_tests)
 
-is_vid_there : (vid : ℕ) → Contains all_vids vid → is_vid vid ≡ true
+pub is_vid_there : (vid : ℕ) → Contains all_vids vid → is_vid vid ≡ true
 is_vid_there vid h = let p = vid_place vid h in subst (λ v. is_vid v ≡ true) p.is (vid_of_place p.place p.below)
 
 -- ---- texts
-each_text : (f g : List ℕ → List ℕ) (groups : List (List ℕ)) → ((group : List ℕ) → Contains groups group → f group ≡ g group) → flat_map f groups ≡ flat_map g groups
+pub each_text : (f g : List ℕ → List ℕ) (groups : List (List ℕ)) → ((group : List ℕ) → Contains groups group → f group ≡ g group) → flat_map f groups ≡ flat_map g groups
 each_text f g [] h = refl
 each_text f g (group ∷ groups) h = let first = h group (here group groups) in let rest = each_text f g groups (λ other k. h other (there group other groups k)) in λ i. first i ++ rest i
 

@@ -64,7 +64,7 @@ module _ (net : Net) (numbers : Numbers) (v : Viewed) (f : Forest) (of : AreOf n
       let q = port_there net numbers v of.view p (from_filter (forwards_for net o x) (view_ports net) p h).0 in
       subst (λ (p : LogicalPort). is_member net x p ≡ is_member net y p) q.2 (member_seen q.0 q.1)
 
-  links_alike : vid_links net o x ≡ vid_links net o y
+  pub links_alike : vid_links net o x ≡ vid_links net o y
   links_alike =
       ap (map link_of)
       (filter_alike (is_member net x) (is_member net y) (active_ports net o x) (all_weaker (Contains (active_ports net o x)) _ member_alike (active_ports net o x) (all_there (active_ports net o x)))

@@ -9,8 +9,8 @@ use mst_net::Table;
 use std::alloc::{AllocError, Global};
 
 /// A number for each of the VIDs 1 to 4094. Two of one number have one tree in each of these tables and are in the same
-/// of these sets.
-pub(crate) fn numbers_of_vids(
+/// of these sets. `AllocError`: memory was wanted and refused.
+pub fn numbers_of_vids(
     alloc: Global,
     tables: &[Table],
     sets: &[VidSet],

@@ -44,8 +44,8 @@ fn body(alloc: Global, view: &View, forest: &Forest, vid: Vid) -> Result<Vec<u8>
     Ok(body)
 }
 
-/// Copies of these bodies.
-pub(crate) fn copies(alloc: Global, bodies: &[Vec<u8>]) -> Result<Vec<Vec<u8>>, AllocError>
+/// Copies of these bodies. `AllocError`: memory was wanted and refused.
+pub fn copies(alloc: Global, bodies: &[Vec<u8>]) -> Result<Vec<Vec<u8>>, AllocError>
     ensures { IfOk result (λ copies. map (λ body. body.items) copies.items ≡ map (λ body. body.items) bodies.now) }
 {
     let mut copies = Vec::new(alloc);

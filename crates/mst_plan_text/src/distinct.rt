@@ -9,8 +9,8 @@ use mst_lag::View;
 use mst_net::Table;
 use std::alloc::{AllocError, Global};
 
-/// The tables of the bridges, each once.
-pub(crate) fn tables(alloc: Global, view: &View) -> Result<Vec<Table>, AllocError>
+/// The tables of the bridges, each once. `AllocError`: memory was wanted and refused.
+pub fn tables(alloc: Global, view: &View) -> Result<Vec<Table>, AllocError>
     ensures { IfOk result (λ tables. AllByRecursion (λ b. Contains tables.items (table_in view.now.settings.tables b.name)) view.now.bridges) }
 {
     let mut tables = Vec::new(alloc);
@@ -30,8 +30,8 @@ fn is_table_among(tables: &[Table], table: &Table) -> bool
     tables.iter().any(|other| other.trees() == table.trees())
 }
 
-/// The sets of VLANs of the logical ports, each once.
-pub(crate) fn vlan_sets(alloc: Global, view: &View) -> Result<Vec<VidSet>, AllocError>
+/// The sets of VLANs of the logical ports, each once. `AllocError`: memory was wanted and refused.
+pub fn vlan_sets(alloc: Global, view: &View) -> Result<Vec<VidSet>, AllocError>
     ensures { IfOk result (λ sets. AllByRecursion (λ p. Contains sets.items (vlans_in view.now.settings.vlans p.name)) view.now.ports) }
 {
     let mut sets = Vec::new(alloc);

@@ -9,8 +9,8 @@ use mst_ids::{Vid, VidSet, push_bytes};
 use mst_words::push_end;
 use std::alloc::{AllocError, Global};
 
-/// The VIDs 1 to 4094.
-pub(crate) fn vids(alloc: Global) -> Result<Vec<Vid>, AllocError>
+/// The VIDs 1 to 4094. `AllocError`: memory was wanted and refused.
+pub fn vids(alloc: Global) -> Result<Vec<Vid>, AllocError>
     ensures { IfOk result (λ vids. vids.items ≡ all_vids) }
 {
     let mut vids = Vec::new(alloc);
@@ -64,7 +64,7 @@ fn push_heading(group: &[Vid], out: &mut Vec<u8>) -> Result<(), AllocError>
 }
 
 /// The set of these VIDs.
-fn set_of(group: &[Vid]) -> VidSet
+pub fn set_of(group: &[Vid]) -> VidSet
     ensures { result ≡ set_where (is_among group.now) }
 {
     let mut set = VidSet::none();

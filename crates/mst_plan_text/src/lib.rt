@@ -9,4 +9,8 @@ pub mod laws;
 mod plan;
 mod trees;
 
+pub use alike::numbers_of_vids;
+pub use bodies::copies;
+pub use distinct::{tables, vlan_sets};
+pub use groups::{set_of, vids};
 pub use plan::push_plan;

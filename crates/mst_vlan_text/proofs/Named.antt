@@ -54,7 +54,7 @@ module _ (net : Net) (numbers : Numbers) (v : Viewed) (f : Forest) (of : AreOf n
       let l = contains_unmapped named_lan v.lans e.0 (subst (λ ls. Contains ls e.0) (sym of.view.lans) own) in
       (l.0, l.1, ap (λ (l : LogicalLan). l.name) l.2 ∙ e.2)
 
-  bridge_named : (a : List ℕ) → Contains (bridges_on net) a → (n : ℕ) → fin.get numbers.bridges a ≡ Some n → seen_bridge v n ≡ a
+  pub bridge_named : (a : List ℕ) → Contains (bridges_on net) a → (n : ℕ) → fin.get numbers.bridges a ≡ Some n → seen_bridge v n ≡ a
   bridge_named a h n e =
       let b = bridge_in_view a h in
       named_at (λ (b : BridgeInView). b.bridge.number) (λ b. b.name) (fin.get numbers.bridges) v.bridges of.view.bridge_numbers of.numbered.bridges_differ b.0 b.1 n (ap (fin.get numbers.bridges) b.2 ∙ e) ∙ b.2

@@ -47,8 +47,8 @@ fn push_bridges(view: &View, bridges: &[BridgeNo], out: &mut Vec<u8>) -> Result<
     Ok(())
 }
 
-/// The name of the bridge of this number.
-fn bridge_name(view: &View, bridge: BridgeNo) -> &[u8]
+/// The name of the bridge of this number: empty where no bridge of the view has it.
+pub fn bridge_name(view: &View, bridge: BridgeNo) -> &[u8]
     ensures { result.now ≡ seen_bridge view.now bridge }
 {
     match view.bridge(bridge) {

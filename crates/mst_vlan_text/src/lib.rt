@@ -6,4 +6,5 @@ mod islands;
 pub mod laws;
 mod text;
 
+pub use islands::bridge_name;
 pub use text::{push_body, push_vlan};
