@@ -1,0 +1,12 @@
+pub mod Lists
+pub mod Named
+pub mod Shared
+pub mod Lines
+pub mod Once
+pub mod TreeLines
+pub mod NamedSides
+pub mod Reached
+pub mod OneDiff
+pub mod Alike
+pub mod Turned
+pub mod LastLine

@@ -1,0 +1,345 @@
+-- The change back has the same lines with sides changed over, and so as many.
+use Rattle.std.proofs.Common.{◌≡◌, ℕ, ◌+◌, ◌==◌, ◌&&◌, Bool, true, false, cond, ◌||◌, not, List, [], ◌∷◌, ◌++◌, map, length, Option, Some, None, is_some, refl, sym, ap, subst, ◌∙◌, append-nil, fold, codes, decimal, arith, true≢false, Less, Equal, Greater}
+use Rattle.std.specs.Prelude.{if◌then◌else◌}
+use Rattle.std.specs.Cmp.{IsTotalOrder, nat_eq_equiv}
+use Rattle.std.specs.Cmp.Lexicographic.{nat_list_eq_equiv}
+use Rattle.std.specs.List.{Contains, filter, filter_map, flat_map, cons_option, list_any}
+use Rattle.std.specs.Option.{option_map, option_map_or, option_and_then}
+use Rattle.std.specs.Ordering.{eq_by_cmp, is_eq}
+use Rattle.std.specs.declared.cmp.Ordering.{Ordering}
+use Rattle.std.specs.FinMap as fin
+use Rattle.std.specs.FinMap.{IsAntisymmetric, find, from_entries, get-from_entries, same_map, contains_key-keys}
+use Rattle.std.proofs.Math.Bool.{and_comm, or_comm}
+use Rattle.std.proofs.lemmas.Grind.{flat_map-append}
+use Rattle.std.proofs.lemmas.List.{length-append, map-append}
+use Rattle.std.proofs.lemmas.List.Elements.{filter-append}
+use Rattle.std.proofs.lemmas.List.Folds.{flat_map-map, list_any-append}
+use Rattle.mst_ids.specs.Names.{name_cmp, port_cmp}
+use Rattle.mst_ids.specs.declared.name.PortName.{PortName}
+use Rattle.mst_words.specs.Words.{after_space, line, listed}
+use Rattle.mst_net.specs.Tables.{Net, BridgeRow}
+use Rattle.mst_net.proofs.Keys.{names, ports}
+use Rattle.mst_lag.specs.Aggregation.{same_name}
+use Rattle.mst_config.specs.Regions.{first_of_region}
+use Rattle.mst_trees.specs.Apart.{Apart}
+use Rattle.mst_trees.specs.Outcome.{Outcome}
+use Rattle.mst_trees.proofs.Entries.{all_weaker, entries_found}
+use Rattle.mst_trees.proofs.Lists.{apart_mapped}
+use Rattle.mst_trees.proofs.Views.{bridges_rise}
+use Rattle.mst_roles.specs.Roles.{role_of}
+use Rattle.mst_roles.specs.declared.kind.Role.{Role}
+use Rattle.mst_plan_text.specs.PlanText.{all_vids}
+use Rattle.mst_plan_text.proofs.OnePlan.{is_vid_there}
+use Rattle.mst_changes.specs.declared.state.State.TheVariants.{HasRole}
+use Rattle.mst_changes.specs.Places.{all_trees, bridge_names, port_in, port_names, names_of_either}
+use Rattle.mst_changes.specs.PortChanges.{port_changes}
+use Rattle.mst_changes.specs.States.{state_at, role_number, same_side}
+use Rattle.mst_changes.specs.ChangesText.{side_words, change_text}
+use Rattle.mst_changes.proofs.Names.{kept_left, kept_right}
+use Rattle.mst_diff.specs.declared.diff.Differing.{Differing}
+use Rattle.mst_diff.specs.declared.roots.RootPair.{RootPair}
+use Rattle.mst_diff.specs.Regions.{same_told, region_words, region_text, region_change, region_changes}
+use Rattle.mst_diff.specs.Roots.{root_name, paired, root_pair, same_pair, root_line, with_new, each_once, tree_roots, root_changes}
+use Rattle.mst_diff.specs.Ports.{ports_text}
+use Rattle.mst_diff.specs.Reach.{has_any, island_words, without, sides_text, AreSides, IsReachText}
+use Rattle.mst_diff.specs.DiffText.{lines_in, IsDiff}
+use Rattle.mst_diff.specs.Turned.{Sided, sided_line, turned_line, AreTurned, SidesTurned}
+use Rattle.mst_diff.proofs.Lists.{flat_map-filter_map, flat_map-same, list_any-map}
+use Rattle.mst_diff.proofs.Named.{no_root}
+use Rattle.mst_diff.proofs.OneDiff.{OneList, each_count}
+
+-- ---- the number of lines
+pub lines_append : (x y : List ℕ) → lines_in (x ++ y) ≡ lines_in x + lines_in y
+lines_append x y = ap length (filter-append (λ byte. byte == 10) x y) ∙ length-append (filter (λ byte. byte == 10) x) (filter (λ byte. byte == 10) y)
+
+lines_alike : {A : Type 0} (f g : A → List ℕ) (xs : List A) → ((x : A) → lines_in (f x) ≡ lines_in (g x)) → lines_in (flat_map f xs) ≡ lines_in (flat_map g xs)
+lines_alike f g [] e = refl
+lines_alike f g (x ∷ xs) e = lines_append (f x) (flat_map f xs) ∙ (λ i. e x i + lines_alike f g xs e i) ∙ sym (lines_append (g x) (flat_map g xs))
+
+words_append : (xs ys : List (List ℕ)) → lines_in (flat_map after_space (xs ++ ys)) ≡ lines_in (flat_map after_space xs) + lines_in (flat_map after_space ys)
+words_append xs ys = ap lines_in (flat_map-append after_space xs ys) ∙ lines_append (flat_map after_space xs) (flat_map after_space ys)
+
+pub in_line : (words : List (List ℕ)) → lines_in (line words) ≡ lines_in (flat_map after_space words) + lines_in (10 ∷ [])
+in_line [] = refl
+in_line (word ∷ words) = lines_append (word ++ flat_map after_space words) (10 ∷ [])
+
+changed_over : (h o a n : ℕ) → (h + o) + (a + n) ≡ (h + n) + (a + o)
+changed_over h o a n = omega arith
+
+module _ (head : List (List ℕ)) where
+  in_sides : (old new : List (List ℕ)) → lines_in (flat_map after_space (head ++ old ++ codes "->" ∷ new))
+      ≡ (lines_in (flat_map after_space head) + lines_in (flat_map after_space old)) + (lines_in (after_space (codes "->")) + lines_in (flat_map after_space new))
+  in_sides old new =
+      words_append (head ++ old) (codes "->" ∷ new)
+      ∙ (λ i. words_append head old i + lines_append (after_space (codes "->")) (flat_map after_space new) i)
+
+  sides_changed : (old new : List (List ℕ)) → lines_in (flat_map after_space (head ++ old ++ codes "->" ∷ new)) ≡ lines_in (flat_map after_space (head ++ new ++ codes "->" ∷ old))
+  sides_changed old new =
+      in_sides old new
+      ∙ changed_over (lines_in (flat_map after_space head)) (lines_in (flat_map after_space old)) (lines_in (after_space (codes "->"))) (lines_in (flat_map after_space new))
+      ∙ sym (in_sides new old)
+
+line_turned : (l : Sided) → lines_in (sided_line l) ≡ lines_in (turned_line l)
+line_turned l = in_line (l.head ++ l.old ++ codes "->" ∷ l.new) ∙ ap (λ n. n + lines_in (10 ∷ [])) (sides_changed l.head l.old l.new) ∙ sym (in_line (l.head ++ l.new ++ codes "->" ∷ l.old))
+
+-- texts whose lines are turned have equally many
+lines_turned : (text other : List ℕ) → AreTurned text other → lines_in text ≡ lines_in other
+lines_turned text other t = ap lines_in t.1 ∙ lines_alike sided_line turned_line t.0 line_turned ∙ ap lines_in (sym t.2)
+
+-- ---- texts whose lines are turned
+nothing_turned : AreTurned [] []
+nothing_turned = ([], refl, refl)
+
+turned_append : (x y z w : List ℕ) → AreTurned x y → AreTurned z w → AreTurned (x ++ z) (y ++ w)
+turned_append x y z w s t =
+    (s.0 ++ t.0, (λ i. s.1 i ++ t.1 i) ∙ sym (flat_map-append sided_line s.0 t.0), (λ i. s.2 i ++ t.2 i) ∙ sym (flat_map-append turned_line s.0 t.0))
+
+each_turned : {A : Type 0} (f g : A → List ℕ) (xs : List A) → ((x : A) → AreTurned (f x) (g x)) → AreTurned (flat_map f xs) (flat_map g xs)
+each_turned f g [] h = nothing_turned
+each_turned f g (x ∷ xs) h = turned_append (f x) (g x) (flat_map f xs) (flat_map g xs) (h x) (each_turned f g xs h)
+
+-- a line where two things differ
+unless_turned : (b c : Bool) → b ≡ c → (l : Sided) → AreTurned (if b then [] else sided_line l) (if c then [] else turned_line l)
+unless_turned b c e l = subst (λ c. AreTurned (if b then [] else sided_line l) (if c then [] else turned_line l)) e (go b)
+  where
+    go : (b : Bool) → AreTurned (if b then [] else sided_line l) (if b then [] else turned_line l)
+    go true = nothing_turned
+    go false = (l ∷ [], sym (append-nil (sided_line l)), sym (append-nil (turned_line l)))
+
+name_turned : (x y : List ℕ) → same_name x y ≡ same_name y x
+name_turned = nat_list_eq_equiv.symm
+
+-- ---- bridges that are in both networks
+no_value : {A : Type 0} (o : Option A) → is_some o ≡ false → o ≡ None
+no_value None e = refl
+no_value (Some y) e = absurd (true≢false e)
+
+names_rise : (net : Net) → Apart (λ a b. name_cmp a b ≡ Less) (bridge_names net)
+names_rise net = apart_mapped (λ (e f : List ℕ × BridgeRow). name_cmp e.0 f.0 ≡ Less) (λ a b. name_cmp a b ≡ Less) (λ (e : List ℕ × BridgeRow). e.0) (λ e f l. l) (fin.entries net.bridges) (bridges_rise net)
+
+absent : (net : Net) (name : List ℕ) → list_any (eq_by_cmp name_cmp name) (bridge_names net) ≡ false → fin.get net.bridges name ≡ None
+absent net name e = no_value (fin.get net.bridges name) (contains_key-keys net.bridges name ∙ e)
+
+-- what is kept of bridges of both is kept of those of either
+kept_of_both : {A : Type 0} (a b : Net) (g : List ℕ → Option A) → ((name : List ℕ) → fin.get a.bridges name ≡ None → g name ≡ None) → ((name : List ℕ) → fin.get b.bridges name ≡ None → g name ≡ None)
+    → filter_map g (bridge_names a) ≡ filter_map g (bridge_names b)
+kept_of_both a b g left right =
+    sym (kept_left names.total names.same (bridge_names a) (bridge_names b) g (names_rise a) (λ name e. left name (absent a name e)))
+    ∙ kept_right names.total names.same (bridge_names a) (bridge_names b) g (names_rise b) (λ name e. right name (absent b name e))
+
+-- ---- regions
+told_turned : (x y : BridgeRow) → same_told x y ≡ same_told y x
+told_turned x y = go x.is_rstp y.is_rstp
+  where
+    go : (p q : Bool) → (if p then q else not q && same_name x.conf_name y.conf_name && x.revision == y.revision) ≡ (if q then p else not p && same_name y.conf_name x.conf_name && y.revision == x.revision)
+    go true true = refl
+    go true false = refl
+    go false true = refl
+    go false false = λ i. name_turned x.conf_name y.conf_name i && nat_eq_equiv.symm x.revision y.revision i
+
+region_turned : (name : List ℕ) (x : BridgeRow) (first : List ℕ) (y : BridgeRow) (other : List ℕ) → AreTurned (region_text name x first y other) (region_text name y other x first)
+region_turned name x first y other =
+    unless_turned (same_told x y && same_name first other) (same_told y x && same_name other first) (λ i. told_turned x y i && name_turned first other i)
+    (record { head = codes "region" ∷ name ∷ []; old = region_words x first; new = region_words y other })
+
+none_then : {A B : Type 0} (f : A → Option B) → ((x : A) → f x ≡ None) → (o : Option A) → option_and_then f o ≡ None
+none_then f none None = refl
+none_then f none (Some x) = none x
+
+given : {A : Type 0} (f : A → List ℕ) (o : Option A) → option_map_or (λ t. t) (option_map f o) [] ≡ option_map_or f o []
+given f None = refl
+given f (Some x) = refl
+
+-- both orders of the networks
+module _ (a b : Net) where
+  -- the text of a bridge, if both have it
+  abbrev told_at : List ℕ → Option (List ℕ)
+  told_at name = option_and_then (λ x. option_map (λ y. region_text name x (first_of_region a name) y (first_of_region b name)) (fin.get b.bridges name)) (fin.get a.bridges name)
+
+  regions_at : flat_map (λ name. option_map_or (λ t. t) (told_at name) []) (bridge_names a) ≡ region_changes a b
+  regions_at =
+      flat_map-map (λ name. option_map_or (λ t. t) (told_at name) []) (λ (e : List ℕ × BridgeRow). e.0) (fin.entries a.bridges)
+      ∙ flat_map-same (λ (e : List ℕ × BridgeRow). option_map_or (λ t. t) (told_at e.0) []) (region_change a b) (fin.entries a.bridges)
+      (all_weaker _ _ (λ (e : List ℕ × BridgeRow) found.
+      ap (λ r. option_map_or (λ t. t) (option_and_then (λ x. option_map (λ y. region_text e.0 x (first_of_region a e.0) y (first_of_region b e.0)) (fin.get b.bridges e.0)) r) []) found
+      ∙ given (λ y. region_text e.0 e.1 (first_of_region a e.0) y (first_of_region b e.0)) (fin.get b.bridges e.0))
+      (fin.entries a.bridges) (entries_found names.total a.bridges))
+
+  no_left : (name : List ℕ) → fin.get a.bridges name ≡ None → told_at name ≡ None
+  no_left name e = ap (option_and_then (λ x. option_map (λ y. region_text name x (first_of_region a name) y (first_of_region b name)) (fin.get b.bridges name))) e
+
+  no_right : (name : List ℕ) → fin.get b.bridges name ≡ None → told_at name ≡ None
+  no_right name e = ap (λ r. option_and_then (λ x. option_map (λ y. region_text name x (first_of_region a name) y (first_of_region b name)) r) (fin.get a.bridges name)) e
+      ∙ none_then (λ x. option_map (λ y. region_text name x (first_of_region a name) y (first_of_region b name)) None) (λ x. refl) (fin.get a.bridges name)
+
+  -- of the bridges of the new network as of the old one
+  regions_by_new : flat_map (λ name. option_map_or (λ t. t) (told_at name) []) (bridge_names b) ≡ region_changes a b
+  regions_by_new =
+      sym (flat_map-filter_map (λ t. t) told_at (bridge_names b)) ∙ ap (flat_map (λ t. t)) (sym (kept_of_both a b told_at no_left no_right))
+      ∙ flat_map-filter_map (λ t. t) told_at (bridge_names a) ∙ regions_at
+
+pub regions_turned : (a b : Net) → AreTurned (region_changes a b) (region_changes b a)
+regions_turned a b =
+    subst (λ text. AreTurned text (region_changes b a)) (regions_by_new a b)
+    (subst (AreTurned (flat_map (λ name. option_map_or (λ t. t) (told_at a b name) []) (bridge_names b))) (regions_at b a)
+    (each_turned (λ name. option_map_or (λ t. t) (told_at a b name) []) (λ name. option_map_or (λ t. t) (told_at b a name) []) (bridge_names b) (λ name. go name (fin.get a.bridges name) (fin.get b.bridges name))))
+  where
+    go : (name : List ℕ) (x y : Option BridgeRow)
+        → AreTurned (option_map_or (λ t. t) (option_and_then (λ x. option_map (λ y. region_text name x (first_of_region a name) y (first_of_region b name)) y) x) [])
+        (option_map_or (λ t. t) (option_and_then (λ y. option_map (λ x. region_text name y (first_of_region b name) x (first_of_region a name)) x) y) [])
+    go name None None = nothing_turned
+    go name None (Some y) = nothing_turned
+    go name (Some x) None = nothing_turned
+    go name (Some x) (Some y) = region_turned name x (first_of_region a name) y (first_of_region b name)
+
+-- ---- roots
+abbrev pair_turned : RootPair → RootPair
+pair_turned p = record { old = p.new; new = p.old }
+
+paired_turned : (old new : Option (List ℕ)) → paired new old ≡ option_map pair_turned (paired old new)
+paired_turned None None = refl
+paired_turned None (Some y) = refl
+paired_turned (Some x) None = refl
+paired_turned (Some x) (Some y) = refl
+
+unpaired : (old : Option (List ℕ)) → paired old None ≡ None
+unpaired None = refl
+unpaired (Some x) = refl
+
+kept_changed : {A B C : Type 0} (f : B → C) (h : A → Option B) (xs : List A) → filter_map (λ x. option_map f (h x)) xs ≡ map f (filter_map h xs)
+kept_changed f h [] = refl
+kept_changed {A} {B} {C} f h (x ∷ xs) = go (h x) (kept_changed f h xs)
+  where
+    go : (o : Option B) → filter_map (λ x. option_map f (h x)) xs ≡ map f (filter_map h xs) → cons_option (option_map f o) (filter_map (λ x. option_map f (h x)) xs) ≡ map f (cons_option o (filter_map h xs))
+    go None rest = rest
+    go (Some y) rest = ap (λ l. f y ∷ l) rest
+
+-- pairs that are turned are kept once as they were
+new_turned : (kept : List RootPair) (x : RootPair) → with_new same_pair (map pair_turned kept) (pair_turned x) ≡ map pair_turned (with_new same_pair kept x)
+new_turned kept x = ap (λ b. if b then map pair_turned kept else map pair_turned kept ++ pair_turned x ∷ []) among ∙ go (list_any (λ y. same_pair y x) kept)
+  where
+    among : list_any (λ y. same_pair y (pair_turned x)) (map pair_turned kept) ≡ list_any (λ y. same_pair y x) kept
+    among = list_any-map (λ y. same_pair y (pair_turned x)) pair_turned kept ∙ (λ i. list_any (λ y. and_comm (same_name y.new x.new) (same_name y.old x.old) i) kept)
+
+    go : (b : Bool) → (if b then map pair_turned kept else map pair_turned kept ++ pair_turned x ∷ []) ≡ map pair_turned (if b then kept else kept ++ x ∷ [])
+    go true = refl
+    go false = sym (map-append pair_turned kept (x ∷ []))
+
+once_turned : (xs kept : List RootPair) → fold (with_new same_pair) (map pair_turned kept) (map pair_turned xs) ≡ map pair_turned (fold (with_new same_pair) kept xs)
+once_turned [] kept = refl
+once_turned (x ∷ xs) kept = ap (λ ks. fold (with_new same_pair) ks (map pair_turned xs)) (new_turned kept x) ∙ once_turned xs (with_new same_pair kept x)
+
+root_turned : (tree : ℕ) (pair : RootPair) → AreTurned (root_line tree pair) (root_line tree (pair_turned pair))
+root_turned tree pair =
+    unless_turned (same_name pair.old pair.new) (same_name pair.new pair.old) (name_turned pair.old pair.new) (record { head = codes "root" ∷ decimal tree ∷ []; old = pair.old ∷ []; new = pair.new ∷ [] })
+
+module _ (a b : Net) (o p : Outcome) where
+  pairs_turned : (tree : ℕ) → filter_map (root_pair b p a o tree) (bridge_names b) ≡ map pair_turned (filter_map (root_pair a o b p tree) (bridge_names a))
+  pairs_turned tree =
+      (λ i. filter_map (λ name. paired_turned (root_name a o tree name) (root_name b p tree name) i) (bridge_names b))
+      ∙ kept_changed pair_turned (root_pair a o b p tree) (bridge_names b)
+      ∙ ap (map pair_turned) (sym (kept_of_both a b (root_pair a o b p tree)
+      (λ name e. ap (λ old. paired old (root_name b p tree name)) (no_root a o tree name e))
+      (λ name e. ap (paired (root_name a o tree name)) (no_root b p tree name e) ∙ unpaired (root_name a o tree name))))
+
+  tree_turned : (tree : ℕ) → AreTurned (tree_roots a o b p tree) (tree_roots b p a o tree)
+  tree_turned tree =
+      let pairs : List RootPair = filter_map (root_pair a o b p tree) (bridge_names a) in
+      let kept : List RootPair = each_once same_pair pairs in
+      subst (AreTurned (flat_map (root_line tree) kept))
+      (sym (flat_map-map (root_line tree) pair_turned kept) ∙ ap (flat_map (root_line tree)) (sym (once_turned pairs []) ∙ ap (each_once same_pair) (sym (pairs_turned tree))))
+      (each_turned (root_line tree) (λ pair. root_line tree (pair_turned pair)) kept (root_turned tree))
+
+  pub roots_turned : AreTurned (root_changes a o b p) (root_changes b p a o)
+  roots_turned = each_turned (tree_roots a o b p) (tree_roots b p a o) all_trees tree_turned
+
+-- ---- ports
+tied : (o : Ordering) → is_eq o ≡ true → o ≡ Equal
+tied Less e = absurd (true≢false (sym e))
+tied Equal e = refl
+tied Greater e = absurd (true≢false (sym e))
+
+-- the names of either list, whichever of them comes first
+module _ {K : Type 0} {R : K → K → Ordering} (total : IsTotalOrder R) (same : IsAntisymmetric R) where
+  abbrev twice : List K → List (K × K)
+  twice ks = map (λ k. (k, k)) ks
+
+  found_twice : (q : K) (ks : List K) → find R q (twice ks) ≡ cond (list_any (eq_by_cmp R q) ks) (Some q) None
+  found_twice q [] = refl
+  found_twice q (k ∷ ks) = go (eq_by_cmp R q k) refl (found_twice q ks)
+    where
+      go : (b : Bool) → eq_by_cmp R q k ≡ b → find R q (twice ks) ≡ cond (list_any (eq_by_cmp R q) ks) (Some q) None
+          → cond b (Some k) (find R q (twice ks)) ≡ cond (b || list_any (eq_by_cmp R q) ks) (Some q) None
+      go true e rest = ap Some (sym (same q k (tied (R q k) e)))
+      go false e rest = rest
+
+  either_turned : (xs ys : List K) → names_of_either R xs ys ≡ names_of_either R ys xs
+  either_turned xs ys = ap fin.keys (same_map total same (from_entries {R = R} (twice (xs ++ ys))) (from_entries {R = R} (twice (ys ++ xs))) found)
+    where
+      found : (q : K) → fin.get (from_entries {R = R} (twice (xs ++ ys))) q ≡ fin.get (from_entries {R = R} (twice (ys ++ xs))) q
+      found q =
+          get-from_entries total (twice (xs ++ ys)) q ∙ found_twice q (xs ++ ys)
+          ∙ ap (λ b. cond b (Some q) None)
+          (list_any-append (eq_by_cmp R q) xs ys ∙ or_comm (list_any (eq_by_cmp R q) xs) (list_any (eq_by_cmp R q) ys) ∙ sym (list_any-append (eq_by_cmp R q) ys xs))
+          ∙ sym (get-from_entries total (twice (ys ++ xs)) q ∙ found_twice q (ys ++ xs))
+
+role_turned : (r s : Option Role) → same_side (option_map HasRole r) (option_map HasRole s) ≡ same_side (option_map HasRole s) (option_map HasRole r)
+role_turned None None = refl
+role_turned None (Some s) = refl
+role_turned (Some r) None = refl
+role_turned (Some r) (Some s) = nat_eq_equiv.symm (role_number r) (role_number s)
+
+port_turned : (tree : ℕ) (name : PortName) (r s : Option Role)
+    → AreTurned (change_text (port_in tree name) (option_map HasRole r) (option_map HasRole s)) (change_text (port_in tree name) (option_map HasRole s) (option_map HasRole r))
+port_turned tree name r s =
+    unless_turned (same_side (option_map HasRole r) (option_map HasRole s)) (same_side (option_map HasRole s) (option_map HasRole r)) (role_turned r s)
+    (record { head = codes "port" ∷ decimal tree ∷ name.bridge ∷ decimal name.number ∷ []; old = side_words (option_map HasRole r); new = side_words (option_map HasRole s) })
+
+module _ (a b : Net) (o p : Outcome) where
+  changes_turned : (tree : ℕ) → AreTurned (port_changes a o b p tree) (port_changes b p a o tree)
+  changes_turned tree =
+      let either : List PortName = names_of_either port_cmp (port_names a) (port_names b) in
+      subst (λ text. AreTurned text (port_changes b p a o tree)) (sym (flat_map-map (λ place. change_text place (state_at a o place) (state_at b p place)) (port_in tree) either))
+      (subst (AreTurned (flat_map (λ name. change_text (port_in tree name) (state_at a o (port_in tree name)) (state_at b p (port_in tree name))) either))
+      (sym (flat_map-map (λ place. change_text place (state_at b p place) (state_at a o place)) (port_in tree) either)
+      ∙ ap (λ names. flat_map (λ place. change_text place (state_at b p place) (state_at a o place)) (map (port_in tree) names)) (either_turned ports.total ports.same (port_names a) (port_names b)))
+      (each_turned (λ name. change_text (port_in tree name) (state_at a o (port_in tree name)) (state_at b p (port_in tree name))) (λ name. change_text (port_in tree name) (state_at b p (port_in tree name)) (state_at a o (port_in tree name)))
+      either (λ name. port_turned tree name (role_of a o tree name) (role_of b p tree name))))
+
+  pub ports_turned : AreTurned (ports_text a o b p) (ports_text b p a o)
+  ports_turned = each_turned (port_changes a o b p) (port_changes b p a o) all_trees changes_turned
+
+-- ---- islands
+any_turned : (u v : List (List ℕ)) → has_any (if has_any (u ++ v) then flat_map after_space (listed u ++ codes "->" ∷ listed v) else []) ≡ has_any (if has_any (v ++ u) then flat_map after_space (listed v ++ codes "->" ∷ listed u) else [])
+any_turned [] [] = refl
+any_turned [] (w ∷ ws) = refl
+any_turned (w ∷ ws) [] = refl
+any_turned (w ∷ ws) (x ∷ xs) = refl
+
+module _ (a b : Net) (o p : Outcome) (one : OneList) where
+  pub sides_turned : (vid : ℕ) (text other : List ℕ) → AreSides a o b p vid text → AreSides b p a o vid other → SidesTurned text other
+  sides_turned vid text other s t = (
+    island_words s.0,
+    island_words s.1,
+    s.4,
+    t.4 ∙ (λ i. sides_text (island_words (one b p vid t.0 s.1 t.2 s.3 i)) (island_words (one a o vid t.1 s.0 t.3 s.2 i))),
+  )
+
+  module _ (text other : List ℕ) (c d : ℕ) (x : IsReachText a o b p text c) (y : IsReachText b p a o other d) where
+    vid_turned : (vid : ℕ) → Contains all_vids vid → has_any (x.sides vid) ≡ has_any (y.sides vid)
+    vid_turned vid h =
+        let v = is_vid_there vid h in
+        let t = sides_turned vid (x.sides vid) (y.sides vid) (x.are_sides vid v) (y.are_sides vid v) in
+        ap has_any t.2 ∙ any_turned (without t.0 t.1) (without t.1 t.0) ∙ sym (ap has_any t.3)
+
+    vids_turned : c ≡ d
+    vids_turned = x.counted ∙ each_count (λ vid. has_any (x.sides vid)) (λ vid. has_any (y.sides vid)) all_vids vid_turned ∙ sym y.counted
+
+  -- the numbers of both
+  pub counts_turned : (c d : Differing) (text other : List ℕ) → IsDiff a o b p c text → IsDiff b p a o d other → c ≡ d
+  counts_turned c d text other x y = λ i. record {
+    regions = (x.regions ∙ lines_turned (region_changes a b) (region_changes b a) (regions_turned a b) ∙ sym y.regions) i;
+    roots = (x.roots ∙ lines_turned (root_changes a o b p) (root_changes b p a o) (roots_turned a b o p) ∙ sym y.roots) i;
+    ports = (x.ports ∙ lines_turned (ports_text a o b p) (ports_text b p a o) (ports_turned a b o p) ∙ sym y.ports) i;
+    vlans = vids_turned x.reach y.reach c.vlans d.vlans x.is_reach y.is_reach i;
+  }

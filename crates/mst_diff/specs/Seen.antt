@@ -1,0 +1,90 @@
+-- What differs between two views with their forests, under the numbers of records.
+use Rattle.std.specs.Prelude.{ℕ, ◌==◌, ◌||◌, List, [], ◌∷◌, ◌++◌, Option, None, Some, map, filter, filter_map, codes, if◌then◌else◌}
+use Rattle.std.specs.List.{find, flat_map, list_any}
+use Rattle.std.specs.Option.{option_map, option_and_then, unwrap_or}
+use Rattle.mst_words.specs.Words.{after_space, comma_list}
+use Rattle.mst_net.specs.Seen.{bridge_row}
+use Rattle.mst_settle.specs.Assignment.{vector_of}
+use Rattle.mst_lag.specs.Aggregation.{same_name}
+use Rattle.mst_lag.specs.Trees.{is_among}
+use Rattle.mst_lag.specs.Viewed.{Viewed}
+use Rattle.mst_lag.specs.declared.in_view.BridgeInView.{BridgeInView}
+use Rattle.mst_config.specs.Classes.{same_in}
+use Rattle.mst_trees.specs.Forest.{Forest, msti_vector}
+use Rattle.mst_trees.specs.Seen.{trees_at}
+use Rattle.mst_tree_text.specs.Lines.{id_in}
+use Rattle.mst_vlan.specs.declared.island.Island.{Island}
+use Rattle.mst_vlan_text.specs.Seen.{seen_bridge}
+use Rattle.mst_diff.specs.declared.both.Both.{Both}
+use Rattle.mst_diff.specs.declared.roots.Identified.{Identified}
+use Rattle.mst_diff.specs.declared.roots.RootPair.{RootPair}
+use Rattle.mst_diff.specs.Regions.{region_text}
+use Rattle.mst_diff.specs.Roots.{paired, same_pair, with_new, each_once, root_line}
+use Rattle.mst_diff.specs.Reach.{has_any}
+
+-- ---- bridges
+-- a bridge of one view, if one of that name is in the other, too
+abbrev pub seen_in_both : Viewed → BridgeInView → Option Both
+seen_in_both w x = option_map (λ y. record { old = x; new = y }) (find (λ y. same_name y.name x.name) w.bridges)
+
+abbrev pub seen_both : Viewed → Viewed → List Both
+seen_both v w = filter_map (seen_in_both w) v.bridges
+
+-- ---- regions
+-- the first bridge of a bridge's region
+abbrev pub seen_found : Viewed → List (ℕ × ℕ) → BridgeInView → Option (List ℕ)
+seen_found v classes b = option_map (λ c. c.name) (find (λ c. same_in classes b.bridge.number c.bridge.number) v.bridges)
+
+abbrev pub seen_first : Viewed → List (ℕ × ℕ) → BridgeInView → List ℕ
+seen_first v classes b = unwrap_or (seen_found v classes b) b.name
+
+abbrev pub seen_region : Viewed → Forest → Viewed → Forest → Both → List ℕ
+seen_region v f w g both =
+    region_text both.old.name (bridge_row both.old.bridge) (seen_first v f.regions both.old) (bridge_row both.new.bridge) (seen_first w g.regions both.new)
+
+-- ---- roots
+abbrev pub seen_root : Viewed → Forest → ℕ → ℕ → Option ℕ
+seen_root v f tree bridge =
+    if tree == 0 then option_map (λ v. v.root) (vector_of f.cist bridge) else (if is_among (trees_at v bridge) tree then option_map (λ v. v.regional) (msti_vector f tree bridge) else None)
+
+-- the bridges with their identifiers in a tree, and the name of one by its identifier
+abbrev pub seen_named : Viewed → ℕ → List Identified
+seen_named v tree = map (λ b. record { id = id_in v.settings tree b.name (bridge_row b.bridge); name = b.name }) v.bridges
+
+abbrev pub name_by : List Identified → ℕ → Option (List ℕ)
+name_by named id = option_map (λ n. n.name) (find (λ n. n.id == id) named)
+
+abbrev pub seen_root_name : Viewed → Forest → List Identified → ℕ → ℕ → Option (List ℕ)
+seen_root_name v f named tree bridge = option_and_then (name_by named) (seen_root v f tree bridge)
+
+abbrev pub seen_pair : Viewed → Forest → List Identified → Viewed → Forest → List Identified → ℕ → Both → Option RootPair
+seen_pair v f olds w g news tree both = paired (seen_root_name v f olds tree both.old.bridge.number) (seen_root_name w g news tree both.new.bridge.number)
+
+-- pairs with one more, if there is one
+abbrev pub with_pair : List RootPair → Option RootPair → List RootPair
+with_pair kept None = kept
+with_pair kept (Some pair) = with_new same_pair kept pair
+
+abbrev pub seen_roots : Viewed → Forest → Viewed → Forest → ℕ → List Both → List ℕ
+seen_roots v f w g tree both = flat_map (root_line tree) (each_once same_pair (filter_map (seen_pair v f (seen_named v tree) w g (seen_named w tree) tree) both))
+
+-- ---- islands
+abbrev pub seen_words : Viewed → List Island → List (List ℕ)
+seen_words v islands = map (λ i. comma_list (map (seen_bridge v) i.bridges)) (filter (λ i. has_any i.bridges) islands)
+
+-- the word of an island, if it has a bridge
+abbrev pub one_word : Viewed → Island → List (List ℕ)
+one_word v i = if has_any i.bridges then comma_list (map (seen_bridge v) i.bridges) ∷ [] else []
+
+-- a word after a space, unless it is among others
+abbrev pub apart_word : List (List ℕ) → List ℕ → List ℕ
+apart_word others word = if list_any (λ other. same_name other word) others then [] else after_space word
+
+-- a side: words, each after a space, or `-` where there is none
+abbrev pub side_text : List ℕ → List ℕ
+side_text [] = after_space (codes "-")
+side_text (byte ∷ bytes) = byte ∷ bytes
+
+-- both sides, or nothing where neither has a word
+abbrev pub joined_sides : List ℕ → List ℕ → List ℕ
+joined_sides gone come = if has_any gone || has_any come then side_text gone ++ after_space (codes "->") ++ side_text come else []

@@ -1,0 +1,27 @@
+-- The same lines with their sides changed over.
+use Rattle.std.specs.Prelude.{◌≡◌, ℕ, List, ◌∷◌, ◌++◌, codes}
+use Rattle.std.specs.List.{flat_map}
+use Rattle.mst_words.specs.Words.{line}
+use Rattle.mst_diff.specs.Reach.{sides_text}
+
+-- a line of two sides: its first words, and the words of each side
+pub record Sided : Type 0 where
+  pub head : List (List ℕ)
+  pub old : List (List ℕ)
+  pub new : List (List ℕ)
+
+-- `HEAD OLD -> NEW`
+abbrev pub sided_line : Sided → List ℕ
+sided_line l = line (l.head ++ l.old ++ codes "->" ∷ l.new)
+
+-- `HEAD NEW -> OLD`
+abbrev pub turned_line : Sided → List ℕ
+turned_line l = line (l.head ++ l.new ++ codes "->" ∷ l.old)
+
+-- two texts have the same lines, in the same order, with their sides changed over
+abbrev pub AreTurned : List ℕ → List ℕ → Type 0
+AreTurned text other = (lines : List Sided) × (text ≡ flat_map sided_line lines) × (other ≡ flat_map turned_line lines)
+
+-- two texts are the sides of a VID, and the same changed over
+abbrev pub SidesTurned : List ℕ → List ℕ → Type 0
+SidesTurned text other = (old new : List (List ℕ)) × (text ≡ sides_text old new) × (other ≡ sides_text new old)

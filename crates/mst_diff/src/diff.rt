@@ -1,0 +1,106 @@
+ghost use Rattle.std.specs.Prelude.{◌≡◌, ◌==◌, ◌&&◌, ◌++◌, ℕ, List, IfOk, OnOk};
+ghost use Rattle.mst_net.specs.Tables.{Net, Numbers};
+ghost use Rattle.mst_trees.specs.Agrees.{AreOf, Known};
+ghost use Rattle.mst_trees.specs.Forest.{IsForest};
+ghost use Rattle.mst_diff.specs.DiffText.{IsDiff, diff_line, lines_in as lines_of_text};
+
+use crate::all_roots::push_roots;
+use crate::both::bridges_of_both;
+use crate::ports::push_ports;
+use crate::reach::push_reach;
+use crate::regions::push_regions;
+use itoa::Buffer;
+use mst_changes::Planned;
+use mst_ids::push_bytes;
+use mst_words::push_line;
+use std::alloc::{AllocError, Global};
+
+/// How much differs: lines of regions, of roots and of ports, and VIDs.
+#[derive(Clone, Copy)]
+pub struct Differing {
+    pub regions: u64,
+    pub roots: u64,
+    pub ports: u64,
+    pub vlans: u64,
+}
+
+impl Differing {
+    /// Whether nothing differs.
+    pub fn is_nothing(&self) -> bool
+        ensures { result ≡ (self.now.regions == 0 && self.now.roots == 0 && self.now.ports == 0 && self.now.vlans == 0) }
+    {
+        self.regions == 0 && self.roots == 0 && self.ports == 0 && self.vlans == 0
+    }
+}
+
+/// How many lines a text has.
+fn lines_in(text: &[u8]) -> u64
+    ensures { result ≡ lines_of_text text.now }
+{
+    text.iter().filter(|byte| **byte == b'\n').count() as u64
+}
+
+/// Appends the line of how much differs.
+fn push_counts(differing: &Differing, out: &mut Vec<u8>) -> Result<(), AllocError>
+    ensures { OnOk result (out.new.items ≡ out.old.items ++ diff_line differing.now) }
+{
+    let mut regions = Buffer::new();
+    let mut roots = Buffer::new();
+    let mut ports = Buffer::new();
+    let mut vlans = Buffer::new();
+    let words: [&[u8]; 9] = [
+        b"diff",
+        b"regions",
+        regions.format(differing.regions).as_bytes(),
+        b"roots",
+        roots.format(differing.roots).as_bytes(),
+        b"ports",
+        ports.format(differing.ports).as_bytes(),
+        b"vlans",
+        vlans.format(differing.vlans).as_bytes(),
+    ];
+    push_line(&words, out)
+}
+
+/// Appends the text of what a change does, from one network to another: the bridges of both whose region is another one,
+/// the roots, the roles of logical ports and the islands of VIDs that are, and a last line of how much of each, which it
+/// answers, too. `AllocError`: memory was wanted and refused; part of the text may have been appended.
+///
+/// It goes over the bridges and the logical ports of both once in each tree, and makes islands once for VIDs that are
+/// alike in both.
+pub fn push_diff(
+    alloc: Global,
+    old: &Planned,
+    new: &Planned,
+    out: &mut Vec<u8>,
+) -> Result<Differing, AllocError>
+    requires old { Known old.now.view.now old.now.forest.now.regions }
+    requires new { Known new.now.view.now new.now.forest.now.regions }
+    ensures { IfOk result (λ differing. (a b : Net) (n k : Numbers) (is : IsForest a n old.now.forest.now) (are : IsForest b k new.now.forest.now) → AreOf a n old.now.view.now old.now.forest.now.regions → AreOf b k new.now.view.now new.now.forest.now.regions
+        → (text : List ℕ) × IsDiff a is.outcome b are.outcome differing text × (out.new.items ≡ out.old.items ++ text)) }
+{
+    let both = bridges_of_both(alloc, old.view, new.view)?;
+    let mut regions = Vec::new(alloc);
+    push_regions(old, new, both.as_slice(), &mut regions)?;
+    let mut roots = Vec::new(alloc);
+    push_roots(alloc, old, new, both.as_slice(), &mut roots)?;
+    let mut ports = Vec::new(alloc);
+    push_ports(alloc, old, new, &mut ports)?;
+    let mut reach = Vec::new(alloc);
+    let vlans = push_reach(alloc, old, new, &mut reach)?;
+    let region_lines = lines_in(regions.as_slice());
+    let root_lines = lines_in(roots.as_slice());
+    let port_lines = lines_in(ports.as_slice());
+    let differing = Differing {
+        regions: region_lines,
+        roots: root_lines,
+        ports: port_lines,
+        vlans,
+    };
+    push_bytes(regions.as_slice(), out)?;
+    push_bytes(roots.as_slice(), out)?;
+    push_bytes(ports.as_slice(), out)?;
+    push_bytes(reach.as_slice(), out)?;
+    push_counts(&differing, out)?;
+    Ok(differing)
+}

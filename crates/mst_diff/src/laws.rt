@@ -1,0 +1,53 @@
+//! Laws of the text of what a change does. Their functions do nothing: a caller has their clauses.
+ghost use Rattle.std.specs.Prelude.{◌≡◌, ◌↔◌, ℕ, List};
+ghost use Rattle.mst_net.specs.Tables.{Net, IsNetwork};
+ghost use Rattle.mst_trees.specs.Outcome.{Outcome, IsOutcome};
+ghost use Rattle.mst_diff.specs.DiffText.{IsDiff, diff_line};
+ghost use Rattle.mst_diff.specs.Ports.{ports_text};
+ghost use Rattle.mst_diff.specs.Reach.{AreSides};
+ghost use Rattle.mst_diff.specs.Regions.{region_changes};
+ghost use Rattle.mst_diff.specs.Roots.{root_changes};
+ghost use Rattle.mst_diff.specs.Turned.{AreTurned, SidesTurned};
+ghost use Rattle.mst_diff.specs.declared.diff.Differing.{Differing as Counts};
+
+use mst_graph::laws::group_lists;
+use mst_ids::Vid;
+use mst_trees::laws::one_outcome;
+use mst_vlan::laws::islands_of_vid;
+
+/// Two networks have one text and one count of what differs, whichever settled outcomes it is made by, and there is one.
+pub fn one_diff()
+    ensures one { (a b : Net) (o p q r : Outcome) → IsNetwork a → IsNetwork b → IsOutcome a o → IsOutcome b p → IsOutcome a q → IsOutcome b r
+        → (c d : Counts) (text other : List ℕ) → IsDiff a o b p c text → IsDiff a q b r d other → (text ≡ other) × (c ≡ d) }
+    ensures some { (a b : Net) (o p : Outcome) → IsNetwork a → IsNetwork b → (c : Counts) × (text : List ℕ) × IsDiff a o b p c text }
+{
+    one_outcome();
+    islands_of_vid();
+    group_lists::<Vid>();
+}
+
+/// A network differs from itself in nothing: the text is the last line alone.
+pub fn no_difference()
+    ensures { (a : Net) (o : Outcome) (c : Counts) (text : List ℕ) → IsDiff a o a o c text
+        → (text ≡ diff_line c) × (c ≡ record { regions = 0; roots = 0; ports = 0; vlans = 0 }) }
+{
+    islands_of_vid();
+}
+
+/// The change back has the same lines with their sides changed over, in the same order: of regions, of roots and of ports.
+/// The sides of each VID are changed over, too. So the numbers of what differs are the same.
+pub fn turned()
+    ensures regions { (a b : Net) → AreTurned (region_changes a b) (region_changes b a) }
+    ensures roots { (a b : Net) (o p : Outcome) → AreTurned (root_changes a o b p) (root_changes b p a o) }
+    ensures ports { (a b : Net) (o p : Outcome) → AreTurned (ports_text a o b p) (ports_text b p a o) }
+    ensures sides { (a b : Net) (o p : Outcome) (vid : ℕ) (text other : List ℕ) → AreSides a o b p vid text → AreSides b p a o vid other → SidesTurned text other }
+    ensures counts { (a b : Net) (o p : Outcome) (c d : Counts) (text other : List ℕ) → IsDiff a o b p c text → IsDiff b p a o d other → c ≡ d }
+{
+    islands_of_vid();
+}
+
+/// The last line stands alone exactly where nothing is counted: no line, and no VID whose islands have other bridges.
+pub fn last_line()
+    ensures { (a b : Net) (o p : Outcome) (c : Counts) (text : List ℕ) → IsDiff a o b p c text
+        → (c ≡ record { regions = 0; roots = 0; ports = 0; vlans = 0 }) ↔ (text ≡ diff_line c) }
+{}

@@ -1,0 +1,191 @@
+ghost use Rattle.std.specs.Prelude.{◌≡◌, ◌++◌, ℕ, List, IfOk, OnOk, map};
+ghost use Rattle.std.specs.List.{flat_map, list_any};
+ghost use Rattle.mst_words.specs.Words.{after_comma, comma_list};
+ghost use Rattle.mst_lag.specs.Aggregation.{same_name};
+ghost use Rattle.mst_graph.specs.Islands.{Island as NamedIsland};
+ghost use Rattle.mst_net.specs.Tables.{Net, Numbers};
+ghost use Rattle.mst_trees.specs.Agrees.{AreOf, Known};
+ghost use Rattle.mst_trees.specs.Forest.{IsForest};
+ghost use Rattle.mst_vlan.specs.Reach.{AreIslandsOf};
+ghost use Rattle.mst_vlan_text.specs.Seen.{seen_bridge};
+ghost use Rattle.mst_diff.specs.Reach.{has_any, island_words, AreSides};
+ghost use Rattle.mst_diff.specs.Seen.{seen_words, one_word, apart_word, joined_sides, side_text};
+
+use mst_changes::Planned;
+use mst_ids::{BridgeNo, Vid, push_bytes};
+use mst_lag::View;
+use mst_vlan::{Island, reach};
+use mst_vlan_text::bridge_name;
+use mst_words::push_word;
+use std::alloc::{AllocError, Global};
+
+/// Appends the names of these bridges, each after a `,`.
+fn push_others(view: &View, bridges: &[BridgeNo], out: &mut Vec<u8>) -> Result<(), AllocError>
+    ensures { OnOk result (out.new.items ≡ out.old.items ++ flat_map after_comma (map (seen_bridge view.now) bridges.now)) }
+{
+    for bridge in bridges {
+        push_after_comma(bridge_name(view, *bridge), out)?;
+    }
+    Ok(())
+}
+
+/// Appends a `,` and a word.
+fn push_after_comma(word: &[u8], out: &mut Vec<u8>) -> Result<(), AllocError>
+    ensures { OnOk result (out.new.items ≡ out.old.items ++ after_comma word.now) }
+{
+    push_bytes(b",", out)?;
+    push_bytes(word, out)
+}
+
+/// Appends the names of these bridges with `,` between two of them, or `-` where there is none.
+fn push_names(view: &View, bridges: &[BridgeNo], out: &mut Vec<u8>) -> Result<(), AllocError>
+    ensures { OnOk result (out.new.items ≡ out.old.items ++ comma_list (map (seen_bridge view.now) bridges.now)) }
+{
+    match bridges {
+        [] => push_bytes(b"-", out),
+        [first, others @ ..] => {
+            push_bytes(bridge_name(view, *first), out)?;
+            push_others(view, others, out)
+        }
+    }
+}
+
+/// The word of an island: the names of its bridges.
+fn word(alloc: Global, view: &View, island: &Island) -> Result<Vec<u8>, AllocError>
+    ensures { IfOk result (λ word. word.items ≡ comma_list (map (seen_bridge view.now) island.now.bridges)) }
+{
+    let mut word = Vec::new(alloc);
+    push_names(view, island.bridges.as_slice(), &mut word)?;
+    Ok(word)
+}
+
+/// Whether an island has a bridge.
+fn has_bridge(island: &Island) -> bool
+    ensures { result ≡ has_any island.now.bridges }
+{
+    match island.bridges.as_slice() {
+        [] => false,
+        [..] => true,
+    }
+}
+
+/// Puts the word of an island behind these, if it has a bridge.
+fn add_word(
+    alloc: Global,
+    view: &View,
+    island: &Island,
+    words: &mut Vec<Vec<u8>>,
+) -> Result<(), AllocError>
+    ensures { OnOk result (map (λ word. word.items) words.new.items ≡ map (λ word. word.items) words.old.items ++ one_word view.now island.now) }
+{
+    if !has_bridge(island) {
+        return Ok(());
+    }
+    let word = word(alloc, view, island)?;
+    words.push(word)?;
+    Ok(())
+}
+
+/// The words of those of these islands that have a bridge.
+fn words(alloc: Global, view: &View, islands: &[Island]) -> Result<Vec<Vec<u8>>, AllocError>
+    ensures { IfOk result (λ words. map (λ word. word.items) words.items ≡ seen_words view.now islands.now) }
+{
+    let mut words = Vec::new(alloc);
+    for island in islands {
+        add_word(alloc, view, island, &mut words)?;
+    }
+    Ok(words)
+}
+
+/// The words of the islands of a VID that have a bridge, by their first bridges.
+fn words_of(alloc: Global, plan: &Planned, vid: Vid) -> Result<Vec<Vec<u8>>, AllocError>
+    requires { Known plan.now.view.now plan.now.forest.now.regions }
+    ensures { IfOk result (λ words. (net : Net) (numbers : Numbers) (is : IsForest net numbers plan.now.forest.now) → AreOf net numbers plan.now.view.now plan.now.forest.now.regions
+        → (islands : List (NamedIsland (List ℕ) (List ℕ))) × AreIslandsOf net is.outcome vid islands × (map (λ word. word.items) words.items ≡ island_words islands)) }
+{
+    let islands = reach(alloc, plan.view, plan.forest, vid)?;
+    words(alloc, plan.view, islands.as_slice())
+}
+
+/// Whether one of these is a word.
+fn any_is(words: &[Vec<u8>], word: &[u8]) -> bool
+    ensures { result ≡ list_any (λ other. same_name other.items word.now) words.now }
+{
+    words.iter().any(|other| other.as_slice() == word)
+}
+
+/// Whether a word is among these.
+fn is_among(words: &[Vec<u8>], word: &[u8]) -> bool
+    ensures { result ≡ list_any (λ other. same_name other word.now) (map (λ word. word.items) words.now) }
+{
+    any_is(words, word)
+}
+
+/// Appends a word after a space, unless it is among these.
+fn push_unless(word: &[u8], others: &[Vec<u8>], out: &mut Vec<u8>) -> Result<(), AllocError>
+    ensures { OnOk result (out.new.items ≡ out.old.items ++ apart_word (map (λ word. word.items) others.now) word.now) }
+{
+    if is_among(others, word) {
+        return Ok(());
+    }
+    push_word(word, out)
+}
+
+/// Appends those of some words that aren't among others, each after a space.
+fn push_apart(words: &[Vec<u8>], others: &[Vec<u8>], out: &mut Vec<u8>) -> Result<(), AllocError>
+    ensures { OnOk result (out.new.items ≡ out.old.items ++ flat_map (apart_word (map (λ word. word.items) others.now)) (map (λ word. word.items) words.now)) }
+{
+    for word in words {
+        push_unless(word.as_slice(), others, out)?;
+    }
+    Ok(())
+}
+
+/// Appends a side: words, each after a space, or `-` where there is none.
+fn push_side(words: &[u8], out: &mut Vec<u8>) -> Result<(), AllocError>
+    ensures { OnOk result (out.new.items ≡ out.old.items ++ side_text words.now) }
+{
+    match words {
+        [] => push_word(b"-", out),
+        _ => push_bytes(words, out),
+    }
+}
+
+/// Appends both sides, or nothing where neither has a word.
+fn push_sides(gone: &[u8], come: &[u8], out: &mut Vec<u8>) -> Result<(), AllocError>
+    ensures { OnOk result (out.new.items ≡ out.old.items ++ joined_sides gone.now come.now) }
+{
+    if gone.is_empty() && come.is_empty() {
+        return Ok(());
+    }
+    push_side(gone, out)?;
+    push_word(b"->", out)?;
+    push_side(come, out)
+}
+
+/// Both sides of a VID: nothing where its islands have the same bridges before and after. `AllocError`: memory was
+/// wanted and refused.
+///
+/// It makes the islands of the VID in both networks, and looks for each word among all of the other side, of which there
+/// are at most 1,024.
+pub(crate) fn sides(
+    alloc: Global,
+    old: &Planned,
+    new: &Planned,
+    vid: Vid,
+) -> Result<Vec<u8>, AllocError>
+    requires old { Known old.now.view.now old.now.forest.now.regions }
+    requires new { Known new.now.view.now new.now.forest.now.regions }
+    ensures { IfOk result (λ text. (a b : Net) (n k : Numbers) (is : IsForest a n old.now.forest.now) (are : IsForest b k new.now.forest.now) → AreOf a n old.now.view.now old.now.forest.now.regions → AreOf b k new.now.view.now new.now.forest.now.regions
+        → AreSides a is.outcome b are.outcome vid text.items) }
+{
+    let olds = words_of(alloc, old, vid)?;
+    let news = words_of(alloc, new, vid)?;
+    let mut gone = Vec::new(alloc);
+    push_apart(olds.as_slice(), news.as_slice(), &mut gone)?;
+    let mut come = Vec::new(alloc);
+    push_apart(news.as_slice(), olds.as_slice(), &mut come)?;
+    let mut text = Vec::new(alloc);
+    push_sides(gone.as_slice(), come.as_slice(), &mut text)?;
+    Ok(text)
+}
