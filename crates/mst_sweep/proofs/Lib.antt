@@ -1,0 +1,12 @@
+pub mod HomesNamed
+pub mod AllFailures
+pub mod Failed
+pub mod FailedLine
+pub mod Moved
+pub mod OneSweep
+pub mod Placed
+pub mod Stay
+pub mod Positions
+pub mod Joined
+pub mod CutApart
+pub mod Unbroken

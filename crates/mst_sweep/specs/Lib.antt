@@ -1,0 +1,8 @@
+pub mod Failures
+pub mod Moved
+pub mod Parts
+pub mod Cuts
+pub mod SweepText
+pub mod Seen
+pub mod Standing
+pub mod Apart

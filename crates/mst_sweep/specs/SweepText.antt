@@ -1,0 +1,67 @@
+-- The text of what each single failure of a network does.
+use Rattle.std.specs.Prelude.{◌≡◌, ℕ, Bool, true, false, List, [], ◌∷◌, ◌++◌, map, codes, decimal, Ok}
+use Rattle.std.specs.List.{AllZip, count_by, flat_map}
+use Rattle.mst_ids.specs.Vids.{set_where, vids_text}
+use Rattle.mst_words.specs.Words.{comma_list, line}
+use Rattle.mst_net.specs.After.{after}
+use Rattle.mst_net.specs.Tables.{Net}
+use Rattle.mst_lag.specs.Trees.{is_among}
+use Rattle.mst_trees.specs.Outcome.{Outcome, IsOutcome}
+use Rattle.mst_diff.specs.Reach.{has_any}
+use Rattle.mst_sweep.specs.declared.failure.Failure.{Failure}
+use Rattle.mst_sweep.specs.declared.failure.Failure.TheVariants.{Lan, Bridge}
+use Rattle.mst_sweep.specs.Failures.{edit_of, failures}
+use Rattle.mst_sweep.specs.Moved.{moved_roots, moved_ports}
+use Rattle.mst_sweep.specs.Cuts.{AreCuts}
+
+-- `lan L` or `bridge B`
+abbrev pub failure_words : Failure → List (List ℕ)
+failure_words (Lan lan) = codes "lan" ∷ lan ∷ []
+failure_words (Bridge bridge) = codes "bridge" ∷ bridge ∷ []
+
+-- `lan L roots T,T ports N cut VIDS`
+abbrev pub failure_line : Failure → List ℕ → ℕ → List ℕ → List ℕ
+failure_line failure roots ports vids =
+    line (failure_words failure ++ codes "roots" ∷ comma_list (map decimal roots) ∷ codes "ports" ∷ decimal ports ∷ codes "cut" ∷ vids_text (set_where (is_among vids)) ∷ [])
+
+-- this is the text of a failure that makes the one network of the other, and whether it cuts some VID
+pub record IsFailureText (a : Net) (o : Outcome) (b : Net) (p : Outcome) (failure : Failure) (text : List ℕ) (cuts : Bool) : Type 0 where
+  pub vids : List ℕ
+  pub lines : List ℕ
+  pub are_cuts : AreCuts a o b p vids lines
+  pub some : cuts ≡ has_any vids
+  pub is : text ≡ failure_line failure (moved_roots a o b p) (moved_ports a o b p) vids ++ lines
+
+-- what is told of a failure: its text, and whether it cuts some VID
+pub record Told : Type 0 where
+  pub text : List ℕ
+  pub cuts : Bool
+
+-- what is told of a failure of a network with this outcome: the edit makes the network that failed
+pub record IsTold (net : Net) (o : Outcome) (failure : Failure) (told : Told) : Type 0 where
+  pub failed : Net
+  pub made : after (edit_of failure) net ≡ Ok failed
+  pub outcome : Outcome
+  pub is_outcome : IsOutcome failed outcome
+  pub is : IsFailureText net o failed outcome failure told.text told.cuts
+
+-- whether it is a LAN that fails, or a bridge
+abbrev pub is_lan : Failure → Bool
+is_lan (Lan lan) = true
+is_lan (Bridge bridge) = false
+
+abbrev pub is_bridge : Failure → Bool
+is_bridge (Lan lan) = false
+is_bridge (Bridge bridge) = true
+
+-- `sweep lans N bridges M cuts K`
+abbrev pub sweep_line : List Failure → ℕ → List ℕ
+sweep_line all cuts =
+    line (codes "sweep" ∷ codes "lans" ∷ decimal (count_by is_lan all) ∷ codes "bridges" ∷ decimal (count_by is_bridge all) ∷ codes "cuts" ∷ decimal cuts ∷ [])
+
+-- this is the text of all failures, one after another, and this the number of those that cut some VID
+pub record IsSweep (net : Net) (o : Outcome) (text : List ℕ) (cuts : ℕ) : Type 0 where
+  pub told : List Told
+  pub each : AllZip (IsTold net o) (failures net) told
+  pub counted : cuts ≡ count_by (λ t. t.cuts) told
+  pub is : text ≡ flat_map (λ t. t.text) told ++ sweep_line (failures net) cuts

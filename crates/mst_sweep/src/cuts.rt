@@ -1,0 +1,191 @@
+ghost use Rattle.std.specs.Prelude.{◌≡◌, ◌<◌, ◌+◌, ◌++◌, ℕ, List, Ok, IfOk, OnOk, length, map, filter, vec_len};
+ghost use Rattle.std.specs.List.{AllZip, flat_map};
+ghost use Rattle.mst_net.specs.After.{after};
+ghost use Rattle.mst_net.specs.Tables.{Net, Numbers};
+ghost use Rattle.mst_trees.specs.Agrees.{AreOf, Known};
+ghost use Rattle.mst_trees.specs.Forest.{IsForest};
+ghost use Rattle.mst_plan_text.specs.Bodies.{NumberEach, body_at};
+ghost use Rattle.mst_diff.specs.Reach.{has_any};
+ghost use Rattle.mst_diff.specs.Seen.{seen_both};
+ghost use Rattle.mst_sweep.specs.declared.failure.Failure.{Failure as FailureOf};
+ghost use Rattle.mst_sweep.specs.Failures.{edit_of};
+ghost use Rattle.mst_sweep.specs.Parts.{AreParts};
+ghost use Rattle.mst_sweep.specs.Cuts.{cut_line, group_line, group_text, AreCuts};
+ghost use Rattle.mst_sweep.specs.Standing.{AreHomes, IsStanding};
+
+use crate::homes::homes_of;
+use crate::parts::{push_parts, staying};
+use crate::standing::Standing;
+use indexmap::IndexMap;
+use mst_changes::Planned;
+use mst_diff::Both;
+use mst_graph::groups_by_body;
+use mst_ids::{BridgeNo, Vid, push_bytes};
+use mst_plan_text::{copies, set_of, vids};
+use mst_words::push_end;
+use std::alloc::{AllocError, Global};
+
+/// The parts of a VID, by the places of its islands before.
+fn parts(
+    alloc: Global,
+    old: &Planned,
+    new: &Planned,
+    homes: &IndexMap<BridgeNo, usize>,
+    both: &[Both],
+    vid: Vid,
+) -> Result<Vec<u8>, AllocError>
+    requires new { Known new.now.view.now new.now.forest.now.regions }
+    requires both { both.now ≡ seen_both old.now.view.now new.now.view.now }
+    ensures { IfOk result (λ text. (a b : Net) (n k : Numbers) (is : IsForest a n old.now.forest.now) (are : IsForest b k new.now.forest.now) → AreOf a n old.now.view.now old.now.forest.now.regions → AreOf b k new.now.view.now new.now.forest.now.regions
+        → AreHomes a n is.outcome vid homes.now.entries → AreParts a is.outcome b are.outcome vid text.items) }
+{
+    let news = homes_of(alloc, new, vid)?;
+    let all = staying(alloc, homes, &news, both)?;
+    let mut text = Vec::new(alloc);
+    push_parts(alloc, all.as_slice(), &mut text)?;
+    Ok(text)
+}
+
+/// The parts of the first VID of each class.
+fn parts_of_firsts(
+    alloc: Global,
+    old: &Planned,
+    new: &Planned,
+    standing: &Standing,
+    both: &[Both],
+) -> Result<Vec<Vec<u8>>, AllocError>
+    requires new { Known new.now.view.now new.now.forest.now.regions }
+    requires both { both.now ≡ seen_both old.now.view.now new.now.view.now }
+    requires standing { IsStanding old.now.view.now old.now.forest.now standing.now }
+    ensures as_long { IfOk result (λ texts. vec_len texts ≡ length standing.now.classes.firsts.items) }
+    ensures parts { IfOk result (λ texts. (a b : Net) (n k : Numbers) (is : IsForest a n old.now.forest.now) (are : IsForest b k new.now.forest.now) → AreOf a n old.now.view.now old.now.forest.now.regions → AreOf b k new.now.view.now new.now.forest.now.regions
+        → AllZip (λ place text. AreParts a is.outcome b are.outcome (place + 1) text) standing.now.classes.firsts.items (map (λ text. text.items) texts.items)) }
+{
+    let firsts = standing.classes.firsts.as_slice();
+    let homes = standing.homes.as_slice();
+    let mut texts = Vec::new(alloc);
+    for class in 0..firsts.len() {
+        let vid = Vid::new(firsts[class] as u64 + 1).unwrap();
+        texts.push(parts(alloc, old, new, &homes[class], both, vid)?)?;
+    }
+    Ok(texts)
+}
+
+/// Whether there are parts.
+fn is_any(parts: &[u8]) -> bool
+    ensures { result ≡ has_any parts.now }
+{
+    match parts {
+        [] => false,
+        [..] => true,
+    }
+}
+
+/// Appends the line of a group of VIDs, with these parts.
+fn push_cut(group: &[Vid], parts: &[u8], out: &mut Vec<u8>) -> Result<(), AllocError>
+    ensures { OnOk result (out.new.items ≡ out.old.items ++ cut_line group.now parts.now) }
+{
+    push_bytes(b"cut ", out)?;
+    set_of(group).push_text(out)?;
+    push_bytes(b" parts", out)?;
+    push_bytes(parts, out)?;
+    push_end(out)
+}
+
+/// Appends the line of a group of VIDs that have these parts, if there are any.
+fn push_if_cut(group: &[Vid], parts: &[u8], out: &mut Vec<u8>) -> Result<(), AllocError>
+    ensures { OnOk result (out.new.items ≡ out.old.items ++ group_line group.now parts.now) }
+{
+    if is_any(parts) {
+        return push_cut(group, parts, out);
+    }
+    Ok(())
+}
+
+/// Appends the line of a group, by the numbers of the VIDs and the parts of the numbers.
+fn push_group(
+    group: &[Vid],
+    numbers: &[usize],
+    texts: &[Vec<u8>],
+    out: &mut Vec<u8>,
+) -> Result<(), AllocError>
+    requires { NumberEach numbers.now (length texts.now) }
+    ensures { OnOk result (out.new.items ≡ out.old.items ++ group_text (body_at numbers.now (map (λ text. text.items) texts.now)) group.now) }
+{
+    let Some(vid) = group.first() else {
+        return Ok(());
+    };
+    let number = numbers[usize::from(vid.value()) - 1];
+    push_if_cut(group, texts[number].as_slice(), out)
+}
+
+/// Appends the lines of these groups.
+fn push_groups(
+    groups: &[Vec<Vid>],
+    numbers: &[usize],
+    texts: &[Vec<u8>],
+    out: &mut Vec<u8>,
+) -> Result<(), AllocError>
+    requires { NumberEach numbers.now (length texts.now) }
+    ensures { OnOk result (out.new.items ≡ out.old.items ++ flat_map (group_text (body_at numbers.now (map (λ text. text.items) texts.now))) (map (λ group. group.items) groups.now)) }
+{
+    for group in groups {
+        push_group(group.as_slice(), numbers, texts, out)?;
+    }
+    Ok(())
+}
+
+/// Whether a VID has parts.
+fn has_parts(vid: Vid, numbers: &[usize], texts: &[Vec<u8>]) -> bool
+    requires { NumberEach numbers.now (length texts.now) }
+    ensures { result ≡ has_any (body_at numbers.now (map (λ text. text.items) texts.now) vid) }
+{
+    let number = numbers[usize::from(vid.value()) - 1];
+    is_any(texts[number].as_slice())
+}
+
+/// Those of these VIDs that have parts.
+fn cut_of(
+    alloc: Global,
+    vids: &[Vid],
+    numbers: &[usize],
+    texts: &[Vec<u8>],
+) -> Result<Vec<Vid>, AllocError>
+    requires { NumberEach numbers.now (length texts.now) }
+    ensures { IfOk result (λ cut. cut.items ≡ filter (λ vid. has_any (body_at numbers.now (map (λ text. text.items) texts.now) vid)) vids.now) }
+{
+    let mut cut = Vec::new(alloc);
+    for vid in vids {
+        if has_parts(*vid, numbers, texts) {
+            cut.push(*vid)?;
+        }
+    }
+    Ok(cut)
+}
+
+/// Appends the lines of VIDs that a failure cuts, VIDs of equal parts in one line, and answers these VIDs. `AllocError`:
+/// memory was wanted and refused; part of them may have been appended.
+///
+/// Islands are made once for VIDs that no table and no set of VLANs tells apart. A failure leaves both.
+pub(crate) fn push_cuts(
+    alloc: Global,
+    old: &Planned,
+    new: &Planned,
+    standing: &Standing,
+    both: &[Both],
+    out: &mut Vec<u8>,
+) -> Result<Vec<Vid>, AllocError>
+    requires new { Known new.now.view.now new.now.forest.now.regions }
+    requires both { both.now ≡ seen_both old.now.view.now new.now.view.now }
+    requires standing { IsStanding old.now.view.now old.now.forest.now standing.now }
+    ensures { IfOk result (λ cut. (failure : FailureOf) (a b : Net) (n k : Numbers) (is : IsForest a n old.now.forest.now) (are : IsForest b k new.now.forest.now) → AreOf a n old.now.view.now old.now.forest.now.regions → AreOf b k new.now.view.now new.now.forest.now.regions
+        → after (edit_of failure) a ≡ Ok b → (text : List ℕ) × AreCuts a is.outcome b are.outcome cut.items text × (out.new.items ≡ out.old.items ++ text)) }
+{
+    let bodies = parts_of_firsts(alloc, old, new, standing, both)?;
+    let kept = copies(alloc, bodies.as_slice())?;
+    let vids = vids(alloc)?;
+    let numbers = standing.classes.numbers.as_slice();
+    let groups = groups_by_body(alloc, vids.as_slice(), numbers, bodies)?;
+    push_groups(groups.as_slice(), numbers, kept.as_slice(), out)?;
+    cut_of(alloc, vids.as_slice(), numbers, kept.as_slice())
+}

@@ -1,0 +1,49 @@
+//! Laws of the text of what each single failure does. Their functions do nothing: a caller has their clauses.
+ghost use Rattle.std.specs.Prelude.{◌≡◌, ◌↔◌, ℕ, Bool, true, List, Ok};
+ghost use Rattle.mst_net.specs.After.{after};
+ghost use Rattle.mst_net.specs.Tables.{Net, IsNetwork};
+ghost use Rattle.mst_lag.specs.View.{IsUnrestricted};
+ghost use Rattle.mst_trees.specs.Outcome.{Outcome, IsOutcome};
+ghost use Rattle.mst_diff.specs.Reach.{has_any};
+ghost use Rattle.mst_sweep.specs.Apart.{AllAreMembers, ComeApart};
+ghost use Rattle.mst_sweep.specs.Failures.{edit_of};
+ghost use Rattle.mst_sweep.specs.Parts.{AreParts};
+ghost use Rattle.mst_sweep.specs.declared.failure.Failure.{Failure as FailureOf};
+ghost use Rattle.mst_sweep.specs.SweepText.{IsFailureText, IsSweep};
+
+use mst_graph::laws::group_lists;
+use mst_ids::Vid;
+use mst_net::laws::networks;
+use mst_trees::laws::one_outcome;
+use mst_vlan::laws::{islands_of_vid, joined_without_loop};
+
+/// A failure has one text, whichever settled outcomes it is made by, and cuts some VID by each or by none; and there is one.
+pub fn one_failure()
+    ensures one { (a b : Net) (o p q r : Outcome) → IsNetwork a → IsNetwork b → IsOutcome a o → IsOutcome b p → IsOutcome a q → IsOutcome b r
+        → (failure : FailureOf) (text other : List ℕ) (c d : Bool) → IsFailureText a o b p failure text c → IsFailureText a q b r failure other d → (text ≡ other) × (c ≡ d) }
+    ensures some { (a b : Net) (o p : Outcome) → IsNetwork a → IsNetwork b → (failure : FailureOf) → (c : Bool) × (text : List ℕ) × IsFailureText a o b p failure text c }
+{
+    one_outcome();
+    islands_of_vid();
+    group_lists::<Vid>();
+}
+
+/// A network has one text of all its failures, and one number of those that cut some VID, whichever settled outcome it is
+/// made by.
+pub fn one_sweep()
+    ensures { (net : Net) (o p : Outcome) (text other : List ℕ) (c d : ℕ) → IsNetwork net → IsOutcome net o → IsOutcome net p → IsSweep net o text c → IsSweep net p other d → (text ≡ other) × (c ≡ d) }
+{
+    one_outcome();
+    islands_of_vid();
+    group_lists::<Vid>();
+    networks();
+}
+
+/// Where no logical port's role is restricted, a VID of which every logical port is a member is cut by a failure exactly
+/// where that takes apart two bridges that stay on: enabled ports linked them before, and don't afterwards.
+pub fn cut_where_apart()
+    ensures { (a b : Net) (o p : Outcome) (failure : FailureOf) (vid : ℕ) (parts : List ℕ) → IsNetwork a → IsNetwork b → IsOutcome a o → IsOutcome b p → after (edit_of failure) a ≡ Ok b
+        → IsUnrestricted a → AllAreMembers a vid → AreParts a o b p vid parts → (has_any parts ≡ true) ↔ ComeApart a b }
+{
+    joined_without_loop();
+}

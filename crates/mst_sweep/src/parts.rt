@@ -1,0 +1,162 @@
+ghost use Rattle.std.specs.Prelude.{◌≡◌, ◌++◌, IfOk, OnOk, filter_map};
+ghost use Rattle.std.specs.List.{find, flat_map, list_any};
+ghost use Rattle.mst_words.specs.Words.{after_comma, comma_list};
+ghost use Rattle.mst_diff.specs.Seen.{seen_both};
+ghost use Rattle.mst_sweep.specs.Parts.{are_together, came_apart as came_apart_from, part as names_of_part, first_of as first_of_part, leads as leads_part, part_word, parts_text};
+ghost use Rattle.mst_sweep.specs.Seen.{seen_stays};
+
+use crate::whole::is_whole;
+use indexmap::IndexMap;
+use mst_diff::Both;
+use mst_ids::{BridgeNo, Name, push_bytes};
+use std::alloc::{AllocError, Global};
+
+/// A bridge that is on before and afterwards, and the places of its islands.
+#[derive(Clone, Copy)]
+pub(crate) struct Stays {
+    pub(crate) name: Name,
+    pub(crate) before: usize,
+    pub(crate) after: usize,
+}
+
+/// A bridge with the places of its islands, if it has both.
+fn stays_of(
+    olds: &IndexMap<BridgeNo, usize>,
+    news: &IndexMap<BridgeNo, usize>,
+    bridge: &Both,
+) -> Option<Stays>
+    ensures { result ≡ seen_stays olds.now.entries news.now.entries bridge.now }
+{
+    let before = olds.get(&bridge.old.bridge.number)?;
+    let after = news.get(&bridge.new.bridge.number)?;
+    Some(Stays {
+        name: bridge.old.name,
+        before: *before,
+        after: *after,
+    })
+}
+
+/// Those of these bridges that stay.
+pub(crate) fn staying(
+    alloc: Global,
+    olds: &IndexMap<BridgeNo, usize>,
+    news: &IndexMap<BridgeNo, usize>,
+    both: &[Both],
+) -> Result<Vec<Stays>, AllocError>
+    ensures { IfOk result (λ all. all.items ≡ filter_map (seen_stays olds.now.entries news.now.entries) both.now) }
+{
+    both.iter()
+        .filter_map(|bridge| stays_of(olds, news, bridge))
+        .collect(alloc)
+}
+
+/// Whether a bridge was in an island with this one and is in another.
+fn is_apart(bridge: &Stays, other: &Stays) -> bool
+    ensures { result ≡ came_apart_from bridge.now other.now }
+{
+    other.before == bridge.before && other.after != bridge.after
+}
+
+/// Whether two bridges are in one island before and in one afterwards.
+fn is_together(bridge: &Stays, other: &Stays) -> bool
+    ensures { result ≡ are_together bridge.now other.now }
+{
+    other.before == bridge.before && other.after == bridge.after
+}
+
+/// Whether the island of a bridge came apart.
+fn came_apart(all: &[Stays], bridge: &Stays) -> bool
+    ensures { result ≡ list_any (came_apart_from bridge.now) all.now }
+{
+    all.iter().any(|other| is_apart(bridge, other))
+}
+
+/// The first of the part of a bridge.
+fn first_of(all: &[Stays], bridge: &Stays) -> Option<Name>
+    ensures { result ≡ first_of_part all.now bridge.now }
+{
+    let first = all.iter().find(|other| is_together(bridge, other))?;
+    Some(first.name)
+}
+
+/// Whether a bridge is the first of its part.
+fn leads(all: &[Stays], bridge: &Stays) -> bool
+    ensures { result ≡ leads_part all.now bridge.now }
+{
+    match first_of(all, bridge) {
+        None => false,
+        Some(first) => first == bridge.name,
+    }
+}
+
+/// The names of the part of a bridge.
+fn part(alloc: Global, all: &[Stays], bridge: &Stays) -> Result<Vec<Name>, AllocError>
+    ensures { IfOk result (λ names. names.items ≡ names_of_part all.now bridge.now) }
+{
+    all.iter()
+        .filter(|other| is_together(bridge, other))
+        .map(|other| other.name)
+        .collect(alloc)
+}
+
+/// Appends these names, each after a `,`.
+fn push_others(names: &[Name], out: &mut Vec<u8>) -> Result<(), AllocError>
+    ensures { OnOk result (out.new.items ≡ out.old.items ++ flat_map after_comma names.now) }
+{
+    for name in names {
+        push_bytes(b",", out)?;
+        push_bytes(name.as_bytes(), out)?;
+    }
+    Ok(())
+}
+
+/// Appends these names with `,` between two of them.
+fn push_names(names: &[Name], out: &mut Vec<u8>) -> Result<(), AllocError>
+    ensures { OnOk result (out.new.items ≡ out.old.items ++ comma_list names.now) }
+{
+    match names {
+        [] => push_bytes(b"-", out),
+        [first, others @ ..] => {
+            push_bytes(first.as_bytes(), out)?;
+            push_others(others, out)
+        }
+    }
+}
+
+/// Appends the part of a bridge that is its first after a space, if its island came apart.
+fn push_part(
+    alloc: Global,
+    all: &[Stays],
+    bridge: &Stays,
+    out: &mut Vec<u8>,
+) -> Result<(), AllocError>
+    ensures { OnOk result (out.new.items ≡ out.old.items ++ part_word all.now bridge.now) }
+{
+    if came_apart(all, bridge) && leads(all, bridge) {
+        let names = part(alloc, all, bridge)?;
+        push_bytes(b" ", out)?;
+        return push_names(names.as_slice(), out);
+    }
+    Ok(())
+}
+
+/// Appends the part of each bridge that is its first and whose island came apart.
+fn push_each(alloc: Global, all: &[Stays], out: &mut Vec<u8>) -> Result<(), AllocError>
+    ensures { OnOk result (out.new.items ≡ out.old.items ++ parts_text all.now) }
+{
+    for bridge in all {
+        push_part(alloc, all, bridge, out)?;
+    }
+    Ok(())
+}
+
+/// Appends the parts of the islands that came apart, each after a space. Where none did, it takes one pass over the
+/// bridges.
+pub(crate) fn push_parts(alloc: Global, all: &[Stays], out: &mut Vec<u8>) -> Result<(), AllocError>
+    ensures { OnOk result (out.new.items ≡ out.old.items ++ parts_text all.now) }
+{
+    if is_whole(alloc, all)? {
+        return Ok(());
+    }
+    push_each(alloc, all, out)
+}

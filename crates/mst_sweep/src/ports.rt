@@ -1,0 +1,115 @@
+ghost use Rattle.std.specs.Prelude.{◌≡◌, ◌≤◌, ◌<◌, Ok, IfOk, length, slice_index_or};
+ghost use Rattle.std.specs.List.{count_by};
+ghost use Rattle.mst_ids.specs.declared.name.PortName.{PortName};
+ghost use Rattle.mst_net.specs.After.{after};
+ghost use Rattle.mst_net.specs.Tables.{Net, Numbers};
+ghost use Rattle.mst_trees.specs.Agrees.{AreOf, Known};
+ghost use Rattle.mst_trees.specs.Forest.{IsForest};
+ghost use Rattle.mst_changes.specs.Places.{port_names};
+ghost use Rattle.mst_changes.specs.Seen.{AreInUse};
+ghost use Rattle.mst_changes.specs.States.{role_number};
+ghost use Rattle.mst_sweep.specs.declared.failure.Failure.{Failure as FailureOf};
+ghost use Rattle.mst_sweep.specs.Failures.{edit_of};
+ghost use Rattle.mst_sweep.specs.Moved.{takes_part as takes, is_other_role, port_moved as port_moved_in, moved_ports as all_moved_ports};
+ghost use Rattle.mst_sweep.specs.Seen.{seen_port_moved};
+
+use indexmap::IndexSet;
+use mst_changes::{Planned, trees_in_use};
+use mst_diff::is_had;
+use mst_ids::Tree;
+use mst_lag::PortInView;
+use mst_roles::{Role, role};
+use std::alloc::{AllocError, Global};
+
+/// Whether a role is other than Disabled.
+fn takes_part(role: Role) -> bool
+    ensures { result ≡ takes role }
+{
+    !matches!(role, Role::Disabled)
+}
+
+/// Whether there are two roles other than Disabled that aren't the same.
+fn is_other(old: Option<Role>, new: Option<Role>) -> bool
+    ensures { result ≡ is_other_role old new }
+{
+    match (old, new) {
+        (Some(old), Some(new)) => takes_part(old) && takes_part(new) && old != new,
+        _ => false,
+    }
+}
+
+/// Whether a port has another role in a tree afterwards, and neither is Disabled.
+fn port_moved(
+    old: &Planned,
+    new: &Planned,
+    tree: Tree,
+    before: &PortInView,
+    afterwards: &PortInView,
+) -> bool
+    ensures { result ≡ seen_port_moved old.now.view.now old.now.forest.now new.now.view.now new.now.forest.now tree before.now afterwards.now }
+{
+    let old_role = role(old.view, old.forest, before.number, tree);
+    let new_role = role(new.view, new.forest, afterwards.number, tree);
+    is_other(old_role, new_role)
+}
+
+/// Whether the port at a place has another role in a tree afterwards. A failure leaves all ports in their places.
+fn moved_at(old: &Planned, new: &Planned, tree: Tree, place: usize) -> bool
+    requires { place < length old.now.view.now.ports }
+    ensures { (failure : FailureOf) (a b : Net) (n k : Numbers) (is : IsForest a n old.now.forest.now) (are : IsForest b k new.now.forest.now) → AreOf a n old.now.view.now old.now.forest.now.regions → AreOf b k new.now.view.now new.now.forest.now.regions
+        → after (edit_of failure) a ≡ Ok b → (name : PortName) → slice_index_or (port_names a) place name ≡ name → result ≡ port_moved_in a is.outcome b are.outcome tree name }
+{
+    let Some(afterwards) = new.view.ports().get(place) else {
+        return false;
+    };
+    let before = &old.view.ports()[place];
+    port_moved(old, new, tree, before, afterwards)
+}
+
+/// How many logical ports have another role in a tree afterwards.
+fn moved_in(old: &Planned, new: &Planned, tree: Tree) -> u64
+    ensures few { result ≤ length old.now.view.now.ports }
+    ensures moved { (failure : FailureOf) (a b : Net) (n k : Numbers) (is : IsForest a n old.now.forest.now) (are : IsForest b k new.now.forest.now) → AreOf a n old.now.view.now old.now.forest.now.regions → AreOf b k new.now.view.now new.now.forest.now.regions
+        → after (edit_of failure) a ≡ Ok b → result ≡ count_by (port_moved_in a is.outcome b are.outcome tree) (port_names a) }
+{
+    let mut count = 0;
+    for place in 0..old.view.ports().len() {
+        if moved_at(old, new, tree, place) {
+            count += 1;
+        }
+    }
+    count
+}
+
+/// How many logical ports have another role in a tree afterwards: none where no bridge of the old network has it.
+fn moved_in_tree(old: &Planned, new: &Planned, used: &IndexSet<Tree>, tree: Tree) -> u64
+    requires known { Known old.now.view.now old.now.forest.now.regions }
+    requires used { AreInUse old.now.view.now used.now.keys }
+    ensures few { result ≤ 16384 }
+    ensures moved { (failure : FailureOf) (a b : Net) (n k : Numbers) (is : IsForest a n old.now.forest.now) (are : IsForest b k new.now.forest.now) → AreOf a n old.now.view.now old.now.forest.now.regions → AreOf b k new.now.view.now new.now.forest.now.regions
+        → after (edit_of failure) a ≡ Ok b → result ≡ count_by (port_moved_in a is.outcome b are.outcome tree) (port_names a) }
+{
+    if !is_had(used, tree) {
+        return 0;
+    }
+    moved_in(old, new, tree)
+}
+
+/// How many pairs of a tree and a logical port have another role after a failure, neither being Disabled. `AllocError`:
+/// memory was wanted and refused.
+///
+/// It goes over the logical ports once for each tree that the old network has.
+pub(crate) fn moved_ports(alloc: Global, old: &Planned, new: &Planned) -> Result<u64, AllocError>
+    requires known { Known old.now.view.now old.now.forest.now.regions }
+    ensures { IfOk result (λ count. (failure : FailureOf) (a b : Net) (n k : Numbers) (is : IsForest a n old.now.forest.now) (are : IsForest b k new.now.forest.now) → AreOf a n old.now.view.now old.now.forest.now.regions → AreOf b k new.now.view.now new.now.forest.now.regions
+        → after (edit_of failure) a ≡ Ok b → count ≡ all_moved_ports a is.outcome b are.outcome) }
+{
+    let used = trees_in_use(alloc, old.view)?;
+    let mut count = 0;
+    for number in 0..4095 {
+        if let Some(tree) = Tree::new(number) {
+            count += moved_in_tree(old, new, &used, tree);
+        }
+    }
+    Ok(count)
+}

@@ -1,0 +1,59 @@
+ghost use Rattle.std.specs.Prelude.{◌≡◌, ◌<◌, ◌+◌, IfOk, length, map, vec_len};
+ghost use Rattle.std.specs.List.{All, AllZip};
+ghost use Rattle.mst_net.specs.Tables.{Net, Numbers};
+ghost use Rattle.mst_trees.specs.Agrees.{AreOf, Known};
+ghost use Rattle.mst_trees.specs.Forest.{IsForest};
+ghost use Rattle.mst_sweep.specs.Standing.{AreHomes, IsStanding};
+
+use crate::homes::homes_of;
+use indexmap::IndexMap;
+use mst_changes::Planned;
+use mst_graph::{Numbering, numbered};
+use mst_ids::{BridgeNo, Vid};
+use mst_plan_text::{numbers_of_vids, tables, vlan_sets};
+use std::alloc::{AllocError, Global};
+
+/// What stays the same for all failures of a network: the classes of its VIDs, and which island each bridge is in before.
+#[derive(Drop)]
+pub struct Standing {
+    pub(crate) classes: Numbering,
+    // For the first VID of each class the places of islands, by the numbers of the bridges in them.
+    pub(crate) homes: Vec<IndexMap<BridgeNo, usize>>,
+}
+
+/// The places of islands of the VIDs at these places, which are counted from 0.
+fn homes_at(
+    alloc: Global,
+    plan: &Planned,
+    places: &[usize],
+) -> Result<Vec<IndexMap<BridgeNo, usize>>, AllocError>
+    requires known { Known plan.now.view.now plan.now.forest.now.regions }
+    requires vids { All (λ place. place < 4094) places.now }
+    ensures as_long { IfOk result (λ homes. vec_len homes ≡ length places.now) }
+    ensures homes { IfOk result (λ homes. (net : Net) (k : Numbers) (is : IsForest net k plan.now.forest.now) → AreOf net k plan.now.view.now plan.now.forest.now.regions
+        → AllZip (λ place homes. AreHomes net k is.outcome (place + 1) homes) places.now (map (λ h. h.entries) homes.items)) }
+{
+    let mut homes = Vec::new(alloc);
+    for place in places {
+        let vid = Vid::new(*place as u64 + 1).unwrap();
+        homes.push(homes_of(alloc, plan, vid)?)?;
+    }
+    Ok(homes)
+}
+
+impl Standing {
+    /// What stays the same for all failures of a network, by its plan. `AllocError`: memory was wanted and refused.
+    ///
+    /// Islands are made once for VIDs that no table and no set of VLANs tells apart.
+    pub fn new(alloc: Global, plan: &Planned) -> Result<Standing, AllocError>
+        requires { Known plan.now.view.now plan.now.forest.now.regions }
+        ensures { IfOk result (IsStanding plan.now.view.now plan.now.forest.now) }
+    {
+        let tables = tables(alloc, plan.view)?;
+        let sets = vlan_sets(alloc, plan.view)?;
+        let numbers = numbers_of_vids(alloc, tables.as_slice(), sets.as_slice())?;
+        let classes = numbered(alloc, numbers)?;
+        let homes = homes_at(alloc, plan, classes.firsts.as_slice())?;
+        Ok(Standing { classes, homes })
+    }
+}
