@@ -1,3 +1,6 @@
 pub mod Answering
 pub mod ByName
 pub mod EditNumbers
+pub mod Explained
+pub mod SweepThere
+pub mod Swept

@@ -5,3 +5,6 @@ pub mod Standing
 pub mod Planned
 pub mod Kept
 pub mod ByName
+pub mod Explaining
+pub mod Sweeping
+pub mod Differing

@@ -1,5 +1,6 @@
 //! Laws of answers. Their functions do nothing: a caller has their clauses.
-ghost use Rattle.std.specs.Prelude.{◌≡◌, ℕ, List, Result};
+ghost use Rattle.std.specs.Prelude.{◌≡◌, ◌↔◌, ℕ, List, Option, Result};
+ghost use Rattle.mst_ids.specs.declared.name.PortName.{PortName};
 ghost use Rattle.mst_lang.specs.declared.line.Query.{Query};
 ghost use Rattle.mst_lang.specs.declared.line.Edit.{Edit};
 ghost use Rattle.mst_net.specs.Tables.{Net, IsNetwork};
@@ -7,15 +8,23 @@ ghost use Rattle.mst_net.specs.Contents.{Contents, IsNumbered, Commits};
 ghost use Rattle.mst_net.specs.declared.refusal.Refusal.{Refusal};
 ghost use Rattle.mst_trees.specs.Forest.{Forest as ForestOf, IsForest};
 ghost use Rattle.mst_trees.specs.Outcome.{Outcome, IsOutcome};
+ghost use Rattle.mst_diff.specs.DiffText.{diff_line};
+ghost use Rattle.mst_diff.specs.declared.diff.Differing.{Differing as Counts};
 ghost use Rattle.mst_report.specs.Answers.{Answers};
 ghost use Rattle.mst_report.specs.ByName.{KeepsBoundByName};
 ghost use Rattle.mst_report.specs.Standing.{KeepsBounds, standing_of, settlings_of, msti_settlings};
+ghost use Rattle.mst_report.specs.Differing.{Differs};
+ghost use Rattle.mst_report.specs.Explaining.{Explains};
+ghost use Rattle.mst_report.specs.Sweeping.{Sweeps};
 ghost use Rattle.mst_report.specs.State.{State, IsState, IsMark, IsMarkNow};
 ghost use Rattle.mst_changes.specs.declared.place.Row.{Row};
 
 use mst_changes::laws::rows_tell;
+use mst_explain::laws;
+use mst_net::laws::networks;
 use mst_note_text::laws::notes;
 use mst_plan_text::laws::{has_plan, one_plan};
+use mst_sweep::laws::one_failure;
 use mst_trees::laws::{has_outcome, one_outcome};
 use mst_vlan_text::laws::{has_text, one_text};
 
@@ -63,4 +72,59 @@ pub fn bounded_by_name()
         → (o q : Outcome) → IsOutcome old.net o → IsOutcome new.net q → (tree : ℕ) → KeepsBoundByName (o.msti tree).vector (q.msti tree).vector (msti_settlings (standing_of g) tree) }
 {
     one_outcome();
+}
+
+/// A port has one text that explains it, in the tree that is asked or in each of its bridge: the network alone settles
+/// it.
+pub fn one_explanation()
+    ensures { (net : Net) (name : PortName) (tree : Option ℕ) (text other : List ℕ) → IsNetwork net → Explains net name tree text → Explains net name tree other → text ≡ other }
+{
+    laws::one_explanation();
+}
+
+/// Each network has a text of what each single failure does, and one text and one number of those that cut some VID.
+pub fn one_sweep()
+    ensures some { (net : Net) → IsNetwork net → (cuts : ℕ) × (text : List ℕ) × Sweeps net cuts text }
+    ensures one { (net : Net) (text other : List ℕ) (c d : ℕ) → IsNetwork net → Sweeps net c text → Sweeps net d other → (text ≡ other) × (c ≡ d) }
+{
+    has_outcome();
+    networks();
+    one_failure();
+    mst_sweep::laws::one_sweep();
+}
+
+/// What the change from one network to another does: there is one text and one count of what differs, which the networks
+/// alone settle.
+pub fn one_difference()
+    ensures one { (a b : Net) (c d : Counts) (text other : List ℕ) → IsNetwork a → IsNetwork b → Differs a b c text → Differs a b d other → (text ≡ other) × (c ≡ d) }
+    ensures some { (a b : Net) → IsNetwork a → IsNetwork b → (c : Counts) × (text : List ℕ) × Differs a b c text }
+{
+    has_outcome();
+    mst_diff::laws::one_diff();
+}
+
+/// A network differs from itself in nothing: the text is the last line alone.
+pub fn no_difference()
+    ensures { (a : Net) (c : Counts) (text : List ℕ) → IsNetwork a → Differs a a c text
+        → (text ≡ diff_line c) × (c ≡ record { regions = 0; roots = 0; ports = 0; vlans = 0 }) }
+{
+    one_outcome();
+    mst_diff::laws::no_difference();
+}
+
+/// The last line stands alone exactly where nothing is counted.
+pub fn last_line()
+    ensures { (a b : Net) (c : Counts) (text : List ℕ) → Differs a b c text
+        → (c ≡ record { regions = 0; roots = 0; ports = 0; vlans = 0 }) ↔ (text ≡ diff_line c) }
+{
+    mst_diff::laws::last_line();
+}
+
+/// The change back: as much differs. That the lines are the same with their sides changed over, [`mst_diff::laws::turned`]
+/// says of each part.
+pub fn turned()
+    ensures { (a b : Net) (c d : Counts) (text other : List ℕ) → IsNetwork a → IsNetwork b → Differs a b c text → Differs b a d other → c ≡ d }
+{
+    one_outcome();
+    mst_diff::laws::turned();
 }

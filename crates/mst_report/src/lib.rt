@@ -2,10 +2,17 @@
 #![tactic(auto)]
 
 mod answers;
+mod differing;
+mod explaining;
 pub mod laws;
 mod plan;
 mod planner;
+mod sweeping;
 mod texts;
 
 pub use answers::asks_plan;
+pub use differing::Difference;
+pub use explaining::Unexplained;
+pub use mst_diff::Differing;
 pub use planner::Planner;
+pub use sweeping::Sweep;

@@ -47,6 +47,20 @@ pub(crate) fn next_plan<C: Contents>(
     }
 }
 
+/// The plan of a network as it will be once an edit is made that leaves its regions: they are copied, and its trees are
+/// repaired from those of the plan that stands. `AllocError`: memory was wanted and refused.
+pub(crate) fn repaired_plan<C: Contents>(
+    alloc: Global,
+    contents: &C,
+    standing: &Plan,
+) -> Result<Plan, AllocError>
+    requires { AreRegions (C.tables contents.now).net (C.tables contents.now).numbers standing.now.classes }
+    ensures { IfOk result (IsPlan (C.tables contents.now).net (C.tables contents.now).numbers) }
+{
+    let classes = standing.classes.copy()?;
+    plan_from(alloc, contents, classes, &standing.forest)
+}
+
 /// The regions of a network: a copy of those of the plan that stands, where they stand, and else made anew.
 fn next_classes<C: Contents>(
     alloc: Global,

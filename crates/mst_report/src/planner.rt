@@ -5,9 +5,11 @@ ghost use Rattle.std.specs.Option.{option_map};
 ghost use Rattle.mst_trees.specs.Agrees.{AreOf};
 ghost use Rattle.mst_trees.specs.Forest.{IsForest};
 ghost use Rattle.mst_lag.specs.Viewed.{IsView};
+ghost use Rattle.mst_report.specs.Sweeping.{Sweeps};
 
 use crate::laws::rows_of_network;
 use crate::plan::{Plan, next_plan};
+use crate::sweeping::{Sweep, sweep_network};
 use mst_changes::Rows;
 use mst_config::laws::regions_stay;
 use mst_config::touches_regions;
@@ -216,6 +218,21 @@ impl Planner {
                 Err(Refusal::E99)
             }
         }
+    }
+
+    /// What each single failure does to the network: each LAN that is up goes down, and each bridge that is on goes off, one
+    /// at a time. Each is told of by one repair of the plan that stands, and isn't made. `AllocError`: memory was wanted and
+    /// refused. The planner is as it was in either case, but for room for edits.
+    pub fn sweep(&mut self) -> Result<Sweep, AllocError>
+        requires { self.old.is_settled ≡ true }
+        ensures told { IfOk result (λ told. Sweeps self.old.contents.net told.cuts told.text.items) }
+        ensures same { SameContents self.old.contents self.new.contents }
+        ensures settled { self.new.is_settled ≡ true }
+        ensures standing { self.new.standing ≡ self.old.standing }
+        ensures mark { self.new.mark ≡ self.old.mark }
+    {
+        let plan = self.plan.as_ref().unwrap();
+        sweep_network(self.alloc, &mut self.network, plan)
     }
 
     /// What the texts take memory from.

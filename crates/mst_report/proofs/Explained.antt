@@ -1,0 +1,181 @@
+-- What is asked about a port, under the numbers of records and by name.
+use Rattle.std.proofs.Common.{◌≡◌, ℕ, ◌==◌, ◌||◌, Bool, true, false, not, cond, List, [], ◌∷◌, ◌++◌, map, Option, Some, None, is_some, refl, sym, ap, subst, ◌∙◌, true≢false, append-nil}
+use Rattle.std.specs.Prelude.{◌≢◌, MatchOption, if◌then◌else◌}
+use Rattle.std.specs.List.{Contains, find}
+use Rattle.std.specs.Option.{option_map, option_map_or}
+use Rattle.std.specs.FinMap as fin
+use Rattle.std.proofs.lemmas.Bool.{eqb-true}
+use Rattle.mst_ids.specs.declared.name.PortName.{PortName}
+use Rattle.mst_net.specs.After.{has_bridge}
+use Rattle.mst_net.specs.Tables.{Net, Numbers, BridgeRow, IsNetwork, port_eq}
+use Rattle.mst_lag.specs.Trees.{mstis_of, is_among}
+use Rattle.mst_lag.specs.View.{LogicalPort}
+use Rattle.mst_lag.specs.Viewed.{named_port}
+use Rattle.mst_lag.specs.declared.in_view.PortInView.{PortInView}
+use Rattle.mst_trees.specs.Agrees.{AreOf}
+use Rattle.mst_trees.specs.Outcome.{Outcome, IsOutcome}
+use Rattle.mst_trees.specs.Seen.{trees_at}
+use Rattle.mst_trees.proofs.Lists.{some_is, no_some, passed, there_first, there_later}
+use Rattle.mst_trees.proofs.Seen.{port_seen}
+use Rattle.mst_trees.proofs.Looking.{has_tree_at}
+use Rattle.mst_roles.proofs.Named.{port_is, port_listed, found_in}
+use Rattle.mst_explain.specs.Explained.{IsExplanation, AreExplanations, trees_of_bridge}
+use Rattle.mst_explain.specs.Planned.{IsPlanOf}
+use Rattle.mst_explain.proofs.SeenTrees.{port_found_at}
+use Rattle.mst_report.specs.Explaining.{logical_port_of, has_tree, has_asked, unexplained_of, asked_trees, Explains}
+use Rattle.mst_report.specs.Kept.{IsPlan}
+use Rattle.mst_report.specs.declared.explaining.Unexplained.{Unexplained}
+use Rattle.mst_report.specs.declared.explaining.Unexplained.TheVariants.{NoBridge, NoPort, NoTree, Memory}
+use Rattle.mst_report.specs.declared.plan.Plan.{Plan}
+
+-- ---- what applies first
+abbrev first_of : Bool → Bool → Bool → Option Unexplained
+first_of bridge port tree = if not bridge then Some NoBridge else (if not port then Some NoPort else (if not tree then Some NoTree else None))
+
+module _ (net : Net) (name : PortName) (tree : Option ℕ) where
+  pub without_bridge : has_bridge name.bridge net ≡ false → unexplained_of net name tree ≡ Some NoBridge
+  without_bridge e = ap (λ b. first_of b (is_some (logical_port_of net name)) (has_asked net name.bridge tree)) e
+
+  pub without_port : has_bridge name.bridge net ≡ true → is_some (logical_port_of net name) ≡ false → unexplained_of net name tree ≡ Some NoPort
+  without_port e f = λ i. first_of (e i) (f i) (has_asked net name.bridge tree)
+
+  pub with_port : has_bridge name.bridge net ≡ true → is_some (logical_port_of net name) ≡ true → unexplained_of net name tree ≡ (if not (has_asked net name.bridge tree) then Some NoTree else None)
+  with_port e f = λ i. first_of (e i) (f i) (has_asked net name.bridge tree)
+
+  -- it is never want of memory
+  not_memory : unexplained_of net name tree ≡ Some Memory → ⊥
+  not_memory = go (has_bridge name.bridge net) (is_some (logical_port_of net name)) (has_asked net name.bridge tree)
+    where
+      is_memory : Option Unexplained → Bool
+      is_memory (Some Memory) = true
+      is_memory _ = false
+
+      go : (b p t : Bool) → first_of b p t ≡ Some Memory → ⊥
+      go false p t h = true≢false (sym (ap is_memory h))
+      go true false t h = true≢false (sym (ap is_memory h))
+      go true true false h = true≢false (sym (ap is_memory h))
+      go true true true h = true≢false (sym (ap is_memory h))
+
+  pub as_found : (found : Option Unexplained) → found ≡ unexplained_of net name tree → MatchOption found (unexplained_of net name tree ≡ None) (λ why. (why ≢ Memory) × (unexplained_of net name tree ≡ Some why))
+  as_found None e = sym e
+  as_found (Some why) e = (λ m. not_memory (sym e ∙ ap Some m), sym e)
+
+  -- what is there where nothing applies
+  pub record HasAll : Type 0 where
+    pub found : is_some (logical_port_of net name) ≡ true
+    pub asked : has_asked net name.bridge tree ≡ true
+
+  pub has_all : unexplained_of net name tree ≡ None → HasAll
+  has_all = go (has_bridge name.bridge net) (is_some (logical_port_of net name)) refl (has_asked net name.bridge tree) refl
+    where
+      go : (b p : Bool) → is_some (logical_port_of net name) ≡ p → (t : Bool) → has_asked net name.bridge tree ≡ t → first_of b p t ≡ None → HasAll
+      go false p e t f h = absurd (true≢false (ap is_some h))
+      go true false e t f h = absurd (true≢false (ap is_some h))
+      go true true e false f h = absurd (true≢false (ap is_some h))
+      go true true e true f h = record { found = e; asked = f }
+
+-- a tree that a bridge has is among its trees
+pub tree_there : (net : Net) (bridge : List ℕ) (tree : ℕ) → has_tree net bridge tree ≡ true → Contains (trees_of_bridge net bridge) tree
+tree_there net bridge tree = go (tree == 0) refl (fin.get net.bridges bridge)
+  where
+    own : Option BridgeRow → List ℕ
+    own row = option_map_or (mstis_of net bridge) row []
+
+    go : (b : Bool) → (tree == 0) ≡ b → (row : Option BridgeRow) → (b || option_map_or (λ row. is_among (mstis_of net bridge row) tree) row false) ≡ true → Contains (0 ∷ own row) tree
+    go true e row h = subst (Contains (0 ∷ own row)) (sym (eqb-true tree 0 e)) (there_first 0 (own row))
+    go false e None h = absurd (true≢false (sym h))
+    go false e (Some row) h =
+        let found = passed (λ t. t == tree) (mstis_of net bridge row) h in
+        there_later tree 0 (mstis_of net bridge row) (subst (Contains (mstis_of net bridge row)) (eqb-true found.0 tree found.2) found.1)
+
+-- what is found passes the test
+found_passes : {A : Type 0} (test : A → Bool) (xs : List A) (x : A) → find test xs ≡ Some x → test x ≡ true
+found_passes test [] x e = absurd (no_some x e)
+found_passes {A} test (y ∷ ys) x e = go (test y) refl e (found_passes test ys x)
+  where
+    go : (b : Bool) → test y ≡ b → cond b (Some y) (find test ys) ≡ Some x → (find test ys ≡ Some x → test x ≡ true) → test x ≡ true
+    go true f h rest = ap test (sym (some_is y x h)) ∙ f
+    go false f h rest = rest h
+
+-- so a port that is found by name has that name
+pub has_name : (name : PortName) (ps : List PortInView) (p : PortInView) → find (λ p. port_eq p.name name) ps ≡ Some p → p.name ≡ name
+has_name name ps p e = port_is p.name name (found_passes (λ (p : PortInView). port_eq p.name name) ps p e)
+
+-- the first of a changed list
+find_changed : {A B : Type 0} (test : B → Bool) (f : A → B) (xs : List A) → find test (map f xs) ≡ option_map f (find (λ x. test (f x)) xs)
+find_changed test f [] = refl
+find_changed {A} {B} test f (x ∷ xs) = go (test (f x)) (find_changed test f xs)
+  where
+    go : (b : Bool) → find test (map f xs) ≡ option_map f (find (λ x. test (f x)) xs)
+        → cond b (Some (f x)) (find test (map f xs)) ≡ option_map f (cond b (Some x) (find (λ x. test (f x)) xs))
+    go true e = refl
+    go false e = e
+
+module _ (net : Net) (numbers : Numbers) (plan : Plan) (is : IsPlan net numbers plan) where
+  of : AreOf net numbers plan.view plan.forest.regions
+  of = is.of
+
+  abbrev pub as_told : IsPlanOf net numbers plan.view plan.classes plan.forest
+  as_told = record { of = is.of; regions = is.regions; forest = is.forest }
+
+  -- ---- the logical port of a name
+  pub by_name : (name : PortName) → option_map named_port (find (λ p. port_eq p.name name) plan.view.ports) ≡ logical_port_of net name
+  by_name name = sym (find_changed (λ (p : LogicalPort). port_eq p.name name) named_port plan.view.ports) ∙ ap (find (λ (p : LogicalPort). port_eq p.name name)) of.view.ports
+
+  pub not_found : (name : PortName) → find (λ p. port_eq p.name name) plan.view.ports ≡ None → is_some (logical_port_of net name) ≡ false
+  not_found name e = ap is_some (sym (by_name name) ∙ ap (option_map named_port) e)
+
+  module _ (name : PortName) (p : PortInView) (e : find (λ p. port_eq p.name name) plan.view.ports ≡ Some p) where
+    pub is_found : is_some (logical_port_of net name) ≡ true
+    is_found = ap is_some (sym (by_name name) ∙ ap (option_map named_port) e)
+
+    pub found_there : Contains plan.view.ports p
+    found_there = found_in (λ (p : PortInView). port_eq p.name name) plan.view.ports p e
+
+  module _ (port : PortInView) (there : Contains plan.view.ports port) where
+    -- it is the logical port of its name
+    is_port : logical_port_of net port.name ≡ Some (named_port port)
+    is_port =
+        let own = (port_seen net numbers plan.view of.view port there).has_numbers in
+        port_listed net numbers plan.view plan.forest.regions of port.name port.number own.port ∙ ap (option_map named_port) (port_found_at net numbers plan.view plan.forest.regions of port there)
+
+    -- the trees of its bridge
+    pub has_tree_by_number : (tree : ℕ) → (tree == 0 || is_among (trees_at plan.view port.bridge) tree) ≡ has_tree net port.name.bridge tree
+    has_tree_by_number tree =
+        let own = (port_seen net numbers plan.view of.view port there).has_numbers in
+        ap (λ b. tree == 0 || b) (has_tree_at net numbers plan.view plan.forest.regions of tree port.name.bridge port.bridge own.bridge)
+
+    -- ---- its text
+    pub told_in_each : (text items : List ℕ) → AreExplanations net is.forest.outcome (named_port port) (trees_of_bridge net port.name.bridge) text → items ≡ text → Explains net port.name None items
+    told_in_each text items told e = record {
+      port = named_port port;
+      is_port = is_port;
+      outcome = is.forest.outcome;
+      is_outcome = is.forest.is_outcome;
+      told = subst (AreExplanations net is.forest.outcome (named_port port) (trees_of_bridge net port.name.bridge)) (sym e) told;
+    }
+
+    pub told_in : (tree : ℕ) (text items : List ℕ) → IsExplanation net is.forest.outcome tree (named_port port) text → items ≡ text → Explains net port.name (Some tree) items
+    told_in tree text items told e = record {
+      port = named_port port;
+      is_port = is_port;
+      outcome = is.forest.outcome;
+      is_outcome = is.forest.is_outcome;
+      told = (text, [], told, refl, e ∙ sym (append-nil text));
+    }
+
+-- ---- by the law that a port has one explanation in a tree
+module _ (one : (net : Net) (o q : Outcome) → IsNetwork net → IsOutcome net o → IsOutcome net q
+    → (p : LogicalPort) (tree : ℕ) (text other : List ℕ) → IsExplanation net o tree p text → IsExplanation net q tree p other → text ≡ other) where
+  one_in_each : (net : Net) (o q : Outcome) → IsNetwork net → IsOutcome net o → IsOutcome net q
+      → (p : LogicalPort) (trees : List ℕ) (text other : List ℕ) → AreExplanations net o p trees text → AreExplanations net q p trees other → text ≡ other
+  one_in_each net o q ok x y p [] text other a b = a ∙ sym b
+  one_in_each net o q ok x y p (tree ∷ trees) text other a b =
+      a.4 ∙ (λ i. one net o q ok x y p tree a.0 b.0 a.2 b.2 i ++ one_in_each net o q ok x y p trees a.1 b.1 a.3 b.3 i) ∙ sym b.4
+
+  -- a port that is explained has one text
+  pub one_text : (net : Net) (name : PortName) (tree : Option ℕ) (text other : List ℕ) → IsNetwork net → Explains net name tree text → Explains net name tree other → text ≡ other
+  one_text net name tree text other ok a b =
+      let trees = asked_trees net name.bridge tree in
+      let same : a.port ≡ b.port = some_is a.port b.port (sym a.is_port ∙ b.is_port) in
+      one_in_each net a.outcome b.outcome ok a.is_outcome b.is_outcome b.port trees text other (subst (λ p. AreExplanations net a.outcome p trees text) same a.told) b.told

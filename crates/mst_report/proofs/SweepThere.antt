@@ -1,0 +1,80 @@
+-- Each network has a text of what each single failure does.
+use Rattle.std.proofs.Common.{◌≡◌, ℕ, Bool, List, [], ◌∷◌, ◌++◌, map, not, is_some, Some, Ok, Err, refl, ap}
+use Rattle.std.specs.List.{AllByRecursion, AllZip, filter, flat_map, count_by}
+use Rattle.std.specs.Option.{option_map_or}
+use Rattle.std.specs.FinMap as fin
+use Rattle.mst_lang.specs.Ranges.{InRange}
+use Rattle.mst_lang.specs.declared.line.Edit.{Edit}
+use Rattle.mst_net.specs.After.{after, effect, first_of}
+use Rattle.mst_net.specs.Tables.{Net, BridgeRow, LanRow, IsNetwork}
+use Rattle.mst_net.specs.declared.refusal.Refusal.TheVariants.{E04, E06}
+use Rattle.mst_net.proofs.Keys.{names}
+use Rattle.mst_trees.specs.Outcome.{Outcome, IsOutcome}
+use Rattle.mst_trees.proofs.Entries.{entries_found}
+use Rattle.mst_trees.proofs.Lists.{all_mapped, all_passing}
+use Rattle.mst_vlan.specs.Reach.{bridges_on}
+use Rattle.mst_sweep.specs.declared.failure.Failure.{Failure}
+use Rattle.mst_sweep.specs.declared.failure.Failure.TheVariants.{Lan, Bridge}
+use Rattle.mst_sweep.specs.Failures.{edit_of, failures}
+use Rattle.mst_sweep.specs.SweepText.{IsFailureText, Told, IsTold, sweep_line}
+use Rattle.mst_report.specs.Sweeping.{Sweeps}
+
+all_joined : {A : Type 0} (P : A → Type 0) (xs ys : List A) → AllByRecursion P xs → AllByRecursion P ys → AllByRecursion P (xs ++ ys)
+all_joined P [] ys h k = k
+all_joined P (x ∷ xs) ys h k = (h.0, all_joined P xs ys h.1 k)
+
+-- the edit of a failure is in its ranges, and nothing refuses it
+record CanFail (net : Net) (f : Failure) : Type 0 where
+  in_range : InRange (edit_of f)
+  accepted : after (edit_of f) net ≡ Ok (effect (edit_of f) net)
+
+module _ (net : Net) (is : IsNetwork net) where
+  lan_can : (e : List ℕ × LanRow) → fin.get net.lans e.0 ≡ Some e.1 → CanFail net (Lan e.0)
+  lan_can e h = record {
+    in_range = record { names = is.lans.named e.0 e.1 h; values = tt };
+    accepted = ap (λ there. option_map_or Err (first_of ((not there, E06) ∷ [])) (Ok (effect (edit_of (Lan e.0)) net))) (ap is_some h);
+  }
+
+  bridge_can : (e : List ℕ × BridgeRow) → fin.get net.bridges e.0 ≡ Some e.1 → CanFail net (Bridge e.0)
+  bridge_can e h = record {
+    in_range = record { names = is.bridges.named e.0 e.1 h; values = tt };
+    accepted = ap (λ there. option_map_or Err (first_of ((not there, E04) ∷ [])) (Ok (effect (edit_of (Bridge e.0)) net))) (ap is_some h);
+  }
+
+  all_can : AllByRecursion (CanFail net) (failures net)
+  all_can =
+      all_joined (CanFail net) (map (λ (e : List ℕ × LanRow). Lan e.0) (filter (λ (e : List ℕ × LanRow). e.1.is_up) (fin.entries net.lans))) (map Bridge (bridges_on net))
+      (all_mapped (CanFail net) (λ (e : List ℕ × LanRow). Lan e.0) (filter (λ (e : List ℕ × LanRow). e.1.is_up) (fin.entries net.lans))
+      (all_passing (λ (e : List ℕ × LanRow). fin.get net.lans e.0 ≡ Some e.1) (λ (e : List ℕ × LanRow). CanFail net (Lan e.0)) (λ (e : List ℕ × LanRow). e.1.is_up) (λ e h _. lan_can e h) (fin.entries net.lans)
+      (entries_found names.total net.lans)))
+      (all_mapped (CanFail net) Bridge (bridges_on net)
+      (all_mapped (λ b. CanFail net (Bridge b)) (λ (e : List ℕ × BridgeRow). e.0) (filter (λ (e : List ℕ × BridgeRow). e.1.is_on) (fin.entries net.bridges))
+      (all_passing (λ (e : List ℕ × BridgeRow). fin.get net.bridges e.0 ≡ Some e.1) (λ (e : List ℕ × BridgeRow). CanFail net (Bridge e.0)) (λ (e : List ℕ × BridgeRow). e.1.is_on) (λ e h _. bridge_can e h) (fin.entries net.bridges)
+      (entries_found names.total net.bridges))))
+
+  module _ (outcomes : (net : Net) → IsNetwork net → (o : Outcome) × IsOutcome net o)
+      (networks : (edit : Edit) (net new : Net) → InRange edit → IsNetwork net → after edit net ≡ Ok new → IsNetwork new)
+      (some : (a b : Net) (o p : Outcome) → IsNetwork a → IsNetwork b → (failure : Failure) → (c : Bool) × (text : List ℕ) × IsFailureText a o b p failure text c) where
+    abbrev o : Outcome
+    o = (outcomes net is).0
+
+    has_told : (fs : List Failure) → AllByRecursion (CanFail net) fs → (told : List Told) × AllZip (IsTold net o) fs told
+    has_told [] h = ([], tt)
+    has_told (f ∷ fs) h =
+        let failed : Net = effect (edit_of f) net in
+        let ok : IsNetwork failed = networks (edit_of f) net failed h.0.in_range is h.0.accepted in
+        let after_it = outcomes failed ok in
+        let t = some net failed o after_it.0 is ok f in
+        let others = has_told fs h.1 in (
+          record { text = t.1; cuts = t.0 } ∷ others.0,
+          (record { failed = failed; made = h.0.accepted; outcome = after_it.0; is_outcome = after_it.1; is = t.2 }, others.1),
+        )
+
+    pub has_sweep : (cuts : ℕ) × (text : List ℕ) × Sweeps net cuts text
+    has_sweep =
+        let told = has_told (failures net) all_can in
+        let cuts : ℕ = count_by (λ (t : Told). t.cuts) told.0 in (
+          cuts,
+          flat_map (λ (t : Told). t.text) told.0 ++ sweep_line (failures net) cuts,
+          record { outcome = o; is_outcome = (outcomes net is).1; told = record { told = told.0; each = told.1; counted = refl; is = refl } },
+        )

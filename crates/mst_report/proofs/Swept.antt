@@ -1,0 +1,105 @@
+-- What failures one after another do.
+use Rattle.std.proofs.Common.{◌≡◌, ℕ, ◌+◌, ◌≤◌, Bool, true, false, cond, List, [], ◌∷◌, ◌++◌, None, Result, Ok, Err, IfOk, refl, sym, ap, subst, ◌∙◌, append-nil, arith}
+use Rattle.std.specs.List.{AllZip, count_by, flat_map}
+use Rattle.std.proofs.lemmas.Grind.{flat_map-append}
+use Rattle.std.proofs.lemmas.List.Sums.{sum_by-append}
+use Rattle.std.specs.Option.{option_map_or}
+use Rattle.mst_lang.specs.declared.line.Edit.{Edit}
+use Rattle.mst_net.specs.After.{after, effect, refusal_of}
+use Rattle.mst_net.specs.Tables.{Net, Numbers}
+use Rattle.mst_net.specs.Contents.{Contents, PerKind, Tables, SameContents, numbers_after}
+use Rattle.mst_config.specs.Classes.{AreRegions}
+use Rattle.mst_config.specs.Touching.{touches_regions}
+use Rattle.mst_trees.specs.Forest.{Forest, IsForest}
+use Rattle.mst_trees.specs.Outcome.{Outcome}
+use Rattle.mst_sweep.specs.declared.failure.Failure.{Failure}
+use Rattle.mst_sweep.specs.declared.failure.Failure.TheVariants.{Lan, Bridge}
+use Rattle.mst_sweep.specs.Failures.{edit_of, failures}
+use Rattle.mst_sweep.specs.SweepText.{Told, IsTold, IsSweep, sweep_line}
+use Rattle.mst_report.specs.Kept.{IsPlan}
+use Rattle.mst_report.specs.Sweeping.{AreTold, IsFailedPlan}
+use Rattle.mst_report.specs.declared.plan.Plan.{Plan}
+
+-- what is as it was stays so
+pub same_then : (a b c : Contents) → SameContents a b → SameContents b c → SameContents a c
+same_then a b c x y = record { net = y.net ∙ x.net; numbers = y.numbers ∙ x.numbers; next = y.next ∙ x.next }
+
+pub same_all : (a : Contents) → SameContents a a
+same_all a = record { net = refl; numbers = refl; next = refl }
+
+-- one more of each of two lists
+zip_more : {A B : Type 0} (R : A → B → Type 0) (xs : List A) (ys : List B) (x : A) (y : B) → AllZip R xs ys → R x y → AllZip R (xs ++ x ∷ []) (ys ++ y ∷ [])
+zip_more R [] [] x y h r = (r, tt)
+zip_more R [] (b ∷ ys) x y h r = absurd h
+zip_more R (a ∷ xs) [] x y h r = absurd h
+zip_more R (a ∷ xs) (b ∷ ys) x y h r = (h.0, zip_more R xs ys x y h.1 r)
+
+-- one more that is counted, or isn't
+abbrev pub counts : Bool → ℕ
+counts b = cond b 1 0
+
+pub counts_few : (b : Bool) → counts b ≤ 1
+counts_few true = omega arith
+counts_few false = omega arith
+
+count_more : (told : List Told) (t : Told) → count_by (λ t. t.cuts) (told ++ t ∷ []) ≡ count_by (λ t. t.cuts) told + counts t.cuts
+count_more told t =
+    let one : 0 + counts t.cuts ≡ counts t.cuts = omega arith in
+    sum_by-append (λ t. counts t.cuts) told (t ∷ []) ∙ ap (λ n. count_by (λ t. t.cuts) told + n) one
+
+module _ (net : Net) (o : Outcome) where
+  -- at first none is told of
+  pub none_told : AreTold net o [] 0 []
+  none_told = record { told = []; each = tt; counted = refl; is = refl }
+
+  -- one more
+  pub more_told : (fs : List Failure) (f : Failure) (cuts : ℕ) (text words : List ℕ) (b : Bool) → AreTold net o fs cuts text → IsTold net o f (record { text = words; cuts = b })
+      → (gs : List Failure) → gs ≡ fs ++ f ∷ [] → (n : ℕ) → n ≡ cuts + counts b → (whole : List ℕ) → whole ≡ text ++ words → AreTold net o gs n whole
+  more_told fs f cuts text words b are is gs gs_are n n_is whole whole_is =
+      let t : Told = record { text = words; cuts = b } in
+      record {
+        told = are.told ++ t ∷ [];
+        each = subst (λ l. AllZip (IsTold net o) l (are.told ++ t ∷ [])) (sym gs_are) (zip_more (IsTold net o) fs are.told f t are.each is);
+        counted = n_is ∙ ap (λ n. n + counts b) are.counted ∙ sym (count_more are.told t);
+        is = whole_is ∙ ap (λ l. l ++ words) are.is ∙ ap (λ l. flat_map (λ t. t.text) are.told ++ l) (sym (append-nil words)) ∙ sym (flat_map-append (λ t. t.text) are.told (t ∷ []));
+      }
+
+  -- and all, with the last line
+  pub swept : (fs : List Failure) → fs ≡ failures net → (cuts : ℕ) (text whole : List ℕ) → AreTold net o fs cuts text → whole ≡ text ++ sweep_line fs cuts → IsSweep net o whole cuts
+  swept fs e cuts text whole are is = record {
+    told = are.told;
+    each = subst (λ l. AllZip (IsTold net o) l are.told) e are.each;
+    counted = are.counted;
+    is = is ∙ (λ i. are.is i ++ sweep_line (e i) cuts);
+  }
+
+-- what follows of the value where there is one
+pub if_ok : {A E : Type 0} (r : Result A E) (P Q : A → Type 0) → ((a : A) → P a → Q a) → IfOk r P → IfOk r Q
+if_ok (Ok a) P Q f h = f a h
+if_ok (Err e) P Q f h = h
+
+-- what holds by the outcome of a forest of contents that are as they were
+pub as_before : (old now : Contents) → SameContents old now → (f : Forest) (Q : Net → Outcome → Type 0) → ((is : IsForest now.net now.numbers f) → Q now.net is.outcome) → (is : IsForest old.net old.numbers f) → Q old.net is.outcome
+as_before old now same f Q h = subst (λ (t : Tables). (is : IsForest t.net t.numbers f) → Q t.net is.outcome) (λ i. record { net = same.net i; numbers = same.numbers i }) h
+
+-- ---- the plan of a network that failed
+-- no failure touches a region
+untouched : (f : Failure) → touches_regions (edit_of f) ≡ false
+untouched (Lan lan) = refl
+untouched (Bridge bridge) = refl
+
+module _ (old now : Contents) (f : Failure) (same : SameContents old now) where
+  pub regions_ahead : ((edit : Edit) (net : Net) (numbers : Numbers) (next : PerKind) (classes : List (ℕ × ℕ)) → touches_regions edit ≡ false → AreRegions net numbers classes → AreRegions (effect edit net) (numbers_after edit next numbers) classes)
+      → (classes : List (ℕ × ℕ)) → AreRegions old.net old.numbers classes → AreRegions (effect (edit_of f) now.net) (numbers_after (edit_of f) now.next now.numbers) classes
+  regions_ahead stay classes are =
+      let net_is : old.net ≡ now.net = sym same.net in
+      let numbers_is : old.numbers ≡ now.numbers = sym same.numbers in
+      stay (edit_of f) now.net now.numbers now.next classes (untouched f) (subst (λ (t : Tables). AreRegions t.net t.numbers classes) (λ i. record { net = net_is i; numbers = numbers_is i }) are)
+
+  pub failed_is : refusal_of (edit_of f) now.net ≡ None → (plan : Plan) → IsPlan (effect (edit_of f) now.net) (numbers_after (edit_of f) now.next now.numbers) plan → IsFailedPlan old.net f plan
+  failed_is accepted plan is = record {
+    failed = effect (edit_of f) now.net;
+    numbers = numbers_after (edit_of f) now.next now.numbers;
+    made = ap (after (edit_of f)) (sym same.net) ∙ ap (λ r. option_map_or Err r (Ok (effect (edit_of f) now.net))) accepted;
+    is_plan = is;
+  }

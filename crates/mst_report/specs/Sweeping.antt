@@ -1,0 +1,32 @@
+-- What each single failure of a network does, and the plan of a network that failed.
+use Rattle.std.specs.Prelude.{◌≡◌, ℕ, List, Ok}
+use Rattle.std.specs.List.{AllZip, count_by, flat_map}
+use Rattle.mst_net.specs.After.{after}
+use Rattle.mst_net.specs.Tables.{Net, Numbers}
+use Rattle.mst_trees.specs.Outcome.{Outcome, IsOutcome}
+use Rattle.mst_sweep.specs.declared.failure.Failure.{Failure}
+use Rattle.mst_sweep.specs.Failures.{edit_of}
+use Rattle.mst_sweep.specs.SweepText.{Told, IsTold, IsSweep}
+use Rattle.mst_report.specs.Kept.{IsPlan}
+use Rattle.mst_report.specs.declared.plan.Plan.{Plan}
+
+-- this is the text of what each single failure does, and this the number of those that cut some VID, by a settled outcome
+-- of the network
+pub record Sweeps (net : Net) (cuts : ℕ) (text : List ℕ) : Type 0 where
+  pub outcome : Outcome
+  pub is_outcome : IsOutcome net outcome
+  pub told : IsSweep net outcome text cuts
+
+-- these failures have this text, one after another, and this many of them cut some VID
+pub record AreTold (net : Net) (o : Outcome) (failures : List Failure) (cuts : ℕ) (text : List ℕ) : Type 0 where
+  pub told : List Told
+  pub each : AllZip (IsTold net o) failures told
+  pub counted : cuts ≡ count_by (λ t. t.cuts) told
+  pub is : text ≡ flat_map (λ t. t.text) told
+
+-- the plan is that of the network that a failure makes
+pub record IsFailedPlan (net : Net) (failure : Failure) (p : Plan) : Type 0 where
+  pub failed : Net
+  pub numbers : Numbers
+  pub made : after (edit_of failure) net ≡ Ok failed
+  pub is_plan : IsPlan failed numbers p
