@@ -3,11 +3,13 @@ pub mod Cuts
 pub mod Starts
 pub mod Known
 pub mod Steps
-pub mod Replies
 pub mod Held
 pub mod Feeds
 pub mod WholeRun
 pub mod WholeCheck
 pub mod OneRun
+pub mod Loads
 pub mod OneComparison
 pub mod Saved
+pub mod WholeLoad
+pub mod WholeDiff

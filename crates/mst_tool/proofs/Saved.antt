@@ -10,7 +10,7 @@ use Rattle.mst_lang.specs.declared.line.Version.TheVariants.{V1, V2}
 use Rattle.mst_net.specs.Tables.{Net}
 use Rattle.mst_report.specs.State.{State, empty_state}
 use Rattle.mst_save.specs.SaveText.{Makes, Leave, Restores}
-use Rattle.mst_tool.specs.Script.{Serves, ServesRead, Runs, reading_at, version_said, edited}
+use Rattle.mst_tool.specs.Script.{line_word, Serves, ServesRead, Runs, reading_at, version_said, edited}
 use Rattle.mst_tool.specs.Steps.{Step, RunsBy, silent, left_by, texts_of, refusals_of, lacks_of}
 use Rattle.mst_tool.proofs.Steps.{runs-none, runs-first, no_more_lack}
 
@@ -40,12 +40,12 @@ reads_later number line later = ap (λ t. cond t (Ok Blank) (reading_as V2 line)
     not_first number later = grind (arith, common_steps)
 
 -- a line that makes a network prints nothing
-makes_step : (number : ℕ) (now : State) (r : Result Line Fault) (new : Net) → Makes now.net r new → ServesRead number now r (silent (record now { net = new }))
+makes_step : (number : ℕ) (now : State) (r : Result Line Fault) (new : Net) → Makes now.net r new → ServesRead line_word number now r (silent (record now { net = new }))
 makes_step number now (Err f) new h = absurd h
 makes_step number now (Ok Blank) new h = absurd h
 makes_step number now (Ok Mark) new h = absurd h
 makes_step number now (Ok (query q)) new h = absurd h
-makes_step number now (Ok (edit e)) new h = sym (ap (edited false number now) h)
+makes_step number now (Ok (edit e)) new h = sym (ap (edited line_word false number now) h)
 
 leave_run : (number : ℕ) (now : State) (lines : List (List ℕ)) (new : Net) → 1 < number → Leave now.net lines new → (steps : List Step) × RunsBy (Serves V2) number now lines steps × Quiet now steps new
 leave_run number now [] new later h =
@@ -53,7 +53,7 @@ leave_run number now [] new later h =
 leave_run number now (line ∷ lines) new later h =
     let next = record now { net = h.0 } in
     let rest = leave_run (number + 1) next lines new (omega arith) h.2 in
-    let made : ServesRead number now (reading_at V2 number line) (silent next) = subst (λ r. ServesRead number now r (silent next)) (sym (reads_later number line later)) (makes_step number now (reading_as V2 line) h.0 h.1) in
+    let made : ServesRead line_word number now (reading_at V2 number line) (silent next) = subst (λ r. ServesRead line_word number now r (silent next)) (sym (reads_later number line later)) (makes_step number now (reading_as V2 line) h.0 h.1) in
     (silent next ∷ rest.0, runs-first (Serves V2) number now line lines (silent next) rest.0 made rest.1, quiet_first now h.0 new rest.0 rest.2)
 
 -- a script that restores a network has these steps

@@ -9,3 +9,7 @@ pub mod Feeding
 pub mod Served
 pub mod Run
 pub mod Check
+pub mod Load
+pub mod Asked
+pub mod Ask
+pub mod Diff

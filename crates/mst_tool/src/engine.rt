@@ -8,8 +8,8 @@ ghost use Rattle.mst_net.specs.Refusals.{code_of as refusal_code, text_of as ref
 ghost use Rattle.mst_wire.specs.CaptureText.{fault_line};
 ghost use Rattle.mst_tool.specs.Devices.{Works, IsStopped};
 ghost use Rattle.mst_tool.specs.Written.{AppendsFront};
-ghost use Rattle.mst_tool.specs.Script.{ServesRead, Serves, reading_at, version_said as said, code_line, refusal_line};
-ghost use Rattle.mst_tool.specs.Engine.{IsReady, version_from, known_after, does, begun, tally_of, tallied, outcome_of, reply_text, replied};
+ghost use Rattle.mst_tool.specs.Script.{ServesRead, Serves, Loads, reading_at, version_said as said, code_line, line_word};
+ghost use Rattle.mst_tool.specs.Engine.{IsReady, word_of, version_from, known_after, does, begun, tally_of, tallied, outcome_of, reply_text, replied};
 
 use crate::captures::compare_line;
 use crate::devices::Sink;
@@ -28,8 +28,21 @@ use std::alloc::Global;
 pub(crate) enum Input {
     /// A script: edits of the network, and queries.
     Script,
+    /// A script of which the edits alone are served: its queries and marks do nothing.
+    Network(Side),
     /// Captured messages, which are compared with the plan.
     Captures,
+}
+
+/// Which script's network is loaded, as the lines of refusals tell.
+#[derive(Clone, Copy)]
+pub(crate) enum Side {
+    /// The only one.
+    Only,
+    /// Of two, the old one.
+    Old,
+    /// Of two, the new one.
+    New,
 }
 
 /// What is kept from line to line.
@@ -118,14 +131,19 @@ impl Engine {
         requires memory { self.old.memory < 2 ^ 60 }
         requires differing { self.old.differing < 2 ^ 60 }
         ensures ready { IsReady input self.new }
-        ensures served { does input self.old.version self.old.number (planned_state self.old.planner) line.now (replied self.old.number (planned_state self.new.planner) result) }
-        ensures counted { tally_of self.new ≡ tallied input (tally_of self.old) line.now (replied self.old.number (planned_state self.new.planner) result) }
+        ensures served { does input self.old.version self.old.number (planned_state self.old.planner) line.now (replied (word_of input) self.old.number (planned_state self.new.planner) result) }
+        ensures counted { tally_of self.new ≡ tallied input (tally_of self.old) line.now (replied (word_of input) self.old.number (planned_state self.new.planner) result) }
     {
         let reply = match input {
             Input::Script => {
                 let version = version_at(self.version, line);
                 self.version = Some(version);
                 serve_line(&mut self.planner, version, self.number, line)
+            }
+            Input::Network(_) => {
+                let version = version_at(self.version, line);
+                self.version = Some(version);
+                load_line(&mut self.planner, version, self.number, line)
             }
             Input::Captures => compare_line(self.alloc, &self.planner, self.number, line),
         };
@@ -163,10 +181,21 @@ fn version_said(line: &[u8]) -> Version
 
 /// Serves a line of a script.
 fn serve_line(planner: &mut Planner, version: Version, number: u64, line: &[u8]) -> Reply
-    ensures { Serves version number (planned_state planner.old) line.now (replied number (planned_state planner.new) result) }
+    ensures { Serves version number (planned_state planner.old) line.now (replied line_word number (planned_state planner.new) result) }
 {
     match read_line(version, number, line) {
         Err(fault) => Reply::Unread(fault),
+        Ok(line) => serve(planner, number, &line),
+    }
+}
+
+/// Serves a line of a script, if it is an edit or isn't read.
+fn load_line(planner: &mut Planner, version: Version, number: u64, line: &[u8]) -> Reply
+    ensures { (word : List ℕ) → Loads word version number (planned_state planner.old) line.now (replied word number (planned_state planner.new) result) }
+{
+    match read_line(version, number, line) {
+        Err(fault) => Reply::Unread(fault),
+        Ok(Line::Query(_) | Line::Mark) => Reply::Silent,
         Ok(line) => serve(planner, number, &line),
     }
 }
@@ -189,7 +218,7 @@ fn read_line(version: Version, number: u64, line: &[u8]) -> Result<Line, Fault>
 
 /// Serves a line that is read.
 fn serve(planner: &mut Planner, number: u64, line: &Line) -> Reply
-    ensures { ServesRead number (planned_state planner.old) (Ok line.now) (replied number (planned_state planner.new) result) }
+    ensures { (word : List ℕ) → ServesRead word number (planned_state planner.old) (Ok line.now) (replied word number (planned_state planner.new) result) }
 {
     match line {
         Line::Blank => Reply::Silent,
@@ -205,7 +234,7 @@ fn serve(planner: &mut Planner, number: u64, line: &Line) -> Reply
 
 /// Marks the network, once the plan is settled.
 fn mark(planner: &mut Planner, number: u64) -> Reply
-    ensures { ServesRead number (planned_state planner.old) (Ok Mark) (replied number (planned_state planner.new) result) }
+    ensures { (word : List ℕ) → ServesRead word number (planned_state planner.old) (Ok Mark) (replied word number (planned_state planner.new) result) }
 {
     planner.known();
     rows_of_network();
@@ -220,7 +249,7 @@ fn mark(planner: &mut Planner, number: u64) -> Reply
 
 /// Answers a query.
 fn answer(planner: &mut Planner, number: u64, asked: &Query) -> Reply
-    ensures { ServesRead number (planned_state planner.old) (Ok (query asked.now)) (replied number (planned_state planner.new) result) }
+    ensures { (word : List ℕ) → ServesRead word number (planned_state planner.old) (Ok (query asked.now)) (replied word number (planned_state planner.new) result) }
 {
     match planner.refusal(asked) {
         Some(refusal) => Reply::Refused(refusal),
@@ -232,7 +261,7 @@ fn answer(planner: &mut Planner, number: u64, asked: &Query) -> Reply
 /// or that memory was wanted for it.
 fn shown(planner: &mut Planner, number: u64, asked: &Query) -> Reply
     requires { HasText asked.now (planned_state planner.old) }
-    ensures { ServesRead number (planned_state planner.old) (Ok (query asked.now)) (replied number (planned_state planner.new) result) }
+    ensures { (word : List ℕ) → ServesRead word number (planned_state planner.old) (Ok (query asked.now)) (replied word number (planned_state planner.new) result) }
 {
     if asks_plan(asked) && planner.settle().is_err() {
         return Reply::Starved;
@@ -243,36 +272,59 @@ fn shown(planner: &mut Planner, number: u64, asked: &Query) -> Reply
     }
 }
 
+/// The word that the line of a refusal begins with.
+fn word(input: Input) -> &'static str
+    ensures { result.now ≡ word_of input }
+{
+    match input {
+        Input::Script | Input::Network(Side::Only) => "line ",
+        Input::Network(Side::Old) => "old line ",
+        Input::Network(Side::New) => "new line ",
+        Input::Captures => "capture ",
+    }
+}
+
 /// Writes a reply.
-pub(crate) fn print<K: Sink>(sink: &mut K, number: u64, reply: &Reply) -> Result<(), WriteFailed>
+pub(crate) fn print<K: Sink>(
+    sink: &mut K,
+    input: Input,
+    number: u64,
+    reply: &Reply,
+) -> Result<(), WriteFailed>
     requires working { (K.told sink.old).failed ≡ false }
-    ensures ok { OnOk result (Appends (K.contents sink.old) (K.contents sink.new) (reply_text number reply.now)) }
-    ensures err { OnErr result (AppendsFront (K.contents sink.old) (K.contents sink.new) (reply_text number reply.now)) }
+    ensures ok { OnOk result (Appends (K.contents sink.old) (K.contents sink.new) (reply_text (word_of input) number reply.now)) }
+    ensures err { OnErr result (AppendsFront (K.contents sink.old) (K.contents sink.new) (reply_text (word_of input) number reply.now)) }
     ensures works { OnOk result (Works (K.told sink.old) (K.told sink.new)) }
     ensures broken { OnErr result (IsStopped (K.told sink.old) (K.told sink.new)) }
     ensures lent { K.lent sink.new ≡ K.lent sink.old }
 {
+    let first = word(input);
     match reply {
         Reply::Silent => Ok(()),
         Reply::Text(text) | Reply::Differing(text) => put(sink, text.as_slice()),
-        Reply::Unread(fault) => put_code(sink, "line ", number, fault.code(), fault.text()),
-        Reply::Refused(refusal) => put_refusal(sink, number, *refusal),
-        Reply::Starved => put_refusal(sink, number, Refusal::E99),
+        Reply::Unread(fault) => put_code(sink, first, number, fault.code(), fault.text()),
+        Reply::Refused(refusal) => put_refusal(sink, first, number, *refusal),
+        Reply::Starved => put_refusal(sink, first, number, Refusal::E99),
         Reply::Faulty(fault) => put_fault(sink, number, *fault),
         Reply::Uncompared => put_fault(sink, number, BpduFault::B99),
     }
 }
 
 /// Writes that a line of a script is refused.
-fn put_refusal<K: Sink>(sink: &mut K, number: u64, refusal: Refusal) -> Result<(), WriteFailed>
+fn put_refusal<K: Sink>(
+    sink: &mut K,
+    first: &'static str,
+    number: u64,
+    refusal: Refusal,
+) -> Result<(), WriteFailed>
     requires working { (K.told sink.old).failed ≡ false }
-    ensures ok { OnOk result (Appends (K.contents sink.old) (K.contents sink.new) (refusal_line number (refusal_code refusal) (refusal_text refusal))) }
-    ensures err { OnErr result (AppendsFront (K.contents sink.old) (K.contents sink.new) (refusal_line number (refusal_code refusal) (refusal_text refusal))) }
+    ensures ok { OnOk result (Appends (K.contents sink.old) (K.contents sink.new) (code_line first.now number (refusal_code refusal) (refusal_text refusal))) }
+    ensures err { OnErr result (AppendsFront (K.contents sink.old) (K.contents sink.new) (code_line first.now number (refusal_code refusal) (refusal_text refusal))) }
     ensures works { OnOk result (Works (K.told sink.old) (K.told sink.new)) }
     ensures broken { OnErr result (IsStopped (K.told sink.old) (K.told sink.new)) }
     ensures lent { K.lent sink.new ≡ K.lent sink.old }
 {
-    put_code(sink, "line ", number, refusal.code(), refusal.text())
+    put_code(sink, first, number, refusal.code(), refusal.text())
 }
 
 /// Writes that a captured message isn't compared.

@@ -41,7 +41,7 @@ pub(crate) fn end_line<K: Sink>(
     let reply = engine.reply(input, held.line());
     held.clear();
     engine.planner.known();
-    print(sink, number, &reply)
+    print(sink, input, number, &reply)
 }
 
 /// Takes a byte of an input.

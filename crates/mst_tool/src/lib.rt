@@ -1,10 +1,14 @@
 //! Runs a script over any reader and writer: its lines are edits of a network and queries about it. And checks captured
-//! messages against the plan of the network that a script leaves.
+//! messages against the plan of the network that a script leaves, answers what is asked of that network, and tells the
+//! networks of two scripts apart.
 #![tactic(auto)]
 
+mod asked;
+mod asks;
 mod captures;
 mod checks;
 mod devices;
+mod diffs;
 mod engine;
 mod feed;
 mod held_line;
@@ -13,8 +17,11 @@ mod lent;
 mod print;
 mod runs;
 
+pub use asked::{Asked, Question};
+pub use asks::{ask, ask_from, ask_within};
 pub use checks::{check, check_from, check_within};
 pub use devices::{Failed, Sink, Source};
+pub use diffs::{diff, diff_from, diff_within};
 pub use lent::{FromRead, ToWrite};
 pub use runs::{Outcome, RunFault, TURNS, run, run_from, run_within, status};
 

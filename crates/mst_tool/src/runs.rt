@@ -15,21 +15,22 @@ use std::alloc::Global;
 use std::io::{Read, Write};
 use thiserror::Error;
 
-/// What a run has counted that came to the end of the script, or a check that came to the end of the captures, in
-/// lines. A line counts once at most.
+/// What was counted by what came to the end of its inputs: a run of the script's lines, a check of those of the script and
+/// of the captures, and so on. A line counts once at most.
 #[derive(Clone, Copy, Debug, PartialEq, Eq)]
 pub struct Outcome {
-    /// Lines that were refused, but for want of memory.
+    /// Lines that were refused, but for want of memory. What is asked of a network and can't be told counts as one.
     pub refused: u64,
     /// Lines that were refused for want of memory. Each prints so and changes nothing, and the lines
     /// after it were served.
     pub memory: u64,
-    /// Captured messages that differ from the planned ones, in one field or more. A script has none.
+    /// Captured messages that differ from the planned ones, in one field or more. A script has none. Two networks that
+    /// differ count as one, and so does a network of which some single failure cuts a VID.
     pub differing: u64,
 }
 
-/// Why a run or a check stopped before the end. The lines before were served, and a front of what the
-/// lines print went out: no byte of another text, and none twice.
+/// Why a run, a check, a question or a comparison of two networks stopped before the end. The lines before were served, and
+/// a front of what is printed went out: no byte of another text, and none twice.
 #[derive(Clone, Copy, Debug, Error, PartialEq, Eq)]
 pub enum RunFault {
     /// The reader failed, or gave no end in 2^32 calls. A call that was interrupted has failed, too,
@@ -40,8 +41,9 @@ pub enum RunFault {
     /// failed, too, and isn't made again.
     #[error("write fault")]
     Write,
-    /// Memory was wanted and refused for the plan that captures are compared with. A run doesn't answer
-    /// this: a line that wants memory is refused, and counted in [`Outcome::memory`].
+    /// Memory was wanted and refused for the plan that captures are compared with, for the answer to a question, or for
+    /// how two networks differ. A run doesn't answer this: a line that wants memory is refused, and counted in
+    /// [`Outcome::memory`].
     #[error("out of memory")]
     Memory,
 }
@@ -178,8 +180,8 @@ pub(crate) fn serve_input<S: Source, K: Sink>(
     Err(RunFault::Read)
 }
 
-/// The exit status of a run or a check: 3 for a fault or where a line was refused for want of memory, else 1
-/// where a line was refused or something differs, else 0.
+/// The exit status of a run, a check, a question or a comparison of two networks: 3 for a fault or where a line was refused
+/// for want of memory, else 1 where a line was refused or something differs, else 0.
 pub fn status(ran: &Result<Outcome, RunFault>) -> u8
     ensures { result ≡ status_of ran.now }
 {

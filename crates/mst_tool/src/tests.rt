@@ -1,5 +1,7 @@
+mod asks;
 mod captures;
 mod devices;
+mod diffs;
 mod edits;
 mod faults;
 mod links;
@@ -176,6 +178,9 @@ fn errors_are_displayed(rt: HostRuntime) -> Result<(), Fail> {
 fn laws_can_be_called() {
     laws::has_run();
     laws::one_run();
+    laws::has_load();
+    laws::one_load();
+    laws::loads_network();
     laws::network_alone();
     laws::saved_again();
     laws::has_comparison();

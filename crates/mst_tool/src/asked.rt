@@ -1,0 +1,129 @@
+ghost use Rattle.std.specs.Prelude.{◌≡◌, ◌≤◌, true, length};
+ghost use Rattle.std.specs.List.{list_all};
+ghost use Rattle.std.specs.Option.{option_map};
+ghost use Rattle.std.specs.Char.{is_ascii_digit as digit};
+ghost use Rattle.mst_ids.specs.Vids.{decimal_value};
+ghost use Rattle.mst_lang.specs.Arguments.{number_value};
+ghost use Rattle.mst_lang.specs.Arguments as forms;
+ghost use Rattle.mst_tool.specs.Ask.{explain_question};
+ghost use Rattle.mst_tool.specs.Asked.{asked_of, asked_tree};
+
+use mst_ids::{Name, PortName, PortNumber, Tree};
+use mst_lang::Fault;
+
+/// What is asked of the network that a script leaves.
+#[derive(Clone, Copy)]
+pub enum Question {
+    /// Why a port has its role, in a tree or in each that its bridge has.
+    Explain(Asked),
+    /// Words were to ask for a port and don't: this fault is told.
+    Unread(Fault),
+    /// What each single failure does: each LAN that is up going down, and each bridge that is on going off.
+    Sweep,
+}
+
+impl Question {
+    /// What the words B, P and, where there is one, TREE ask: why this port has its role. They have the forms that a script's
+    /// have, and a fault of them is a script's: [`Fault::E02`] where B or P isn't in its form, and else [`Fault::E03`] where
+    /// TREE isn't.
+    pub fn explain(bridge: &[u8], port: &[u8], tree: Option<&[u8]>) -> Question
+        ensures { result ≡ explain_question bridge.now port.now (option_map (λ word. word.now) tree.entry) }
+    {
+        match Asked::read(bridge, port, tree) {
+            Ok(asked) => Question::Explain(asked),
+            Err(fault) => Question::Unread(fault),
+        }
+    }
+}
+
+/// Which port is to be explained, and in which tree, or in each that its bridge has.
+#[derive(Clone, Copy)]
+pub struct Asked {
+    /// The port.
+    pub port: PortName,
+    /// The tree, if one is asked of.
+    pub tree: Option<Tree>,
+}
+
+impl Asked {
+    /// What the words B, P and, where there is one, TREE ask for, or their first fault.
+    fn read(bridge: &[u8], port: &[u8], tree: Option<&[u8]>) -> Result<Asked, Fault>
+        ensures { result ≡ asked_of bridge.now port.now (option_map (λ word. word.now) tree.entry) }
+    {
+        let bridge = name(bridge)?;
+        let number = port_number(port)?;
+        let tree = some_tree(tree)?;
+        Ok(Asked {
+            port: PortName { bridge, number },
+            tree,
+        })
+    }
+}
+
+/// The name of a bridge.
+fn name(word: &[u8]) -> Result<Name, Fault>
+    ensures { result ≡ forms.name word.now }
+{
+    match Name::parse(word) {
+        Ok(name) => Ok(name),
+        Err(_) => Err(Fault::E02),
+    }
+}
+
+/// The number of a port.
+fn port_number(word: &[u8]) -> Result<PortNumber, Fault>
+    ensures { result ≡ forms.port_number word.now }
+{
+    let number = number(word).ok_or(Fault::E02)?;
+    PortNumber::new(number).ok_or(Fault::E02)
+}
+
+/// A tree, if one is asked of.
+fn some_tree(word: Option<&[u8]>) -> Result<Option<Tree>, Fault>
+    ensures { result ≡ asked_tree (option_map (λ word. word.now) word.entry) }
+{
+    match word {
+        None => Ok(None),
+        Some(word) => match tree(word) {
+            Ok(tree) => Ok(Some(tree)),
+            Err(fault) => Err(fault),
+        },
+    }
+}
+
+/// A tree.
+fn tree(word: &[u8]) -> Result<Tree, Fault>
+    ensures { result ≡ forms.tree word.now }
+{
+    let number = number(word).ok_or(Fault::E03)?;
+    Tree::new(number).ok_or(Fault::E03)
+}
+
+/// A number of 1 to 10 decimal digits.
+fn number(word: &[u8]) -> Option<u64>
+    ensures { result ≡ number_value word.now }
+{
+    if word.is_empty() || word.len() > 10 || !are_digits(word) {
+        return None;
+    }
+    Some(digits(word))
+}
+
+fn are_digits(word: &[u8]) -> bool
+    ensures { result ≡ list_all digit word.now }
+{
+    word.iter().all(|byte| byte.is_ascii_digit())
+}
+
+/// The value of decimal digits.
+fn digits(word: &[u8]) -> u64
+    requires few { length word.now ≤ 10 }
+    requires digits { list_all digit word.now ≡ true }
+    ensures { result ≡ decimal_value word.now }
+{
+    let mut value = 0;
+    for byte in word {
+        value = value * 10 + u64::from(byte - b'0');
+    }
+    value
+}

@@ -1,0 +1,142 @@
+ghost use Rattle.std.specs.Prelude.{◌≡◌, ◌≤◌, ◌↔◌, ◌⊎◌, ◌^◌, ℕ, false, List, Option, Ok, Err, IfOk, IsOk, OnErr};
+ghost use Rattle.mst_report.specs.Differing.{Differs};
+ghost use Rattle.mst_report.specs.Planned.{planned_state};
+ghost use Rattle.mst_tool.specs.Devices.{Works, IsBroken, IsCut, IsRead, IsCalled, StopsAtZero};
+ghost use Rattle.mst_tool.specs.Diff.{Diffs, DiffsFront, DiffsEnded, DiffsScripts, counted_both};
+ghost use Rattle.mst_tool.specs.Served.{IsFew};
+
+use crate::devices::{Sink, Source};
+use crate::engine::{Engine, Input, Side};
+use crate::laws::{has_load, one_load, states};
+use crate::lent::{FromRead, ToWrite};
+use crate::print::put;
+use crate::runs::{Outcome, RunFault, TURNS, serve_input};
+use mst_report::laws::one_difference;
+use mst_report::{Difference, Differing, Planner};
+use std::alloc::{AllocError, Global};
+use std::io::{Read, Write};
+
+/// Loads the networks of two scripts, of the old one first, and writes how the new one's differs. Where nothing meets want of
+/// memory, what is written is a function of the two scripts.
+///
+/// The scripts are read as by [`run`](crate::run), but their queries and marks do nothing and print nothing, and none is
+/// refused. A line that is refused prints `old line N CODE TEXT` or `new line N CODE TEXT`. After the lines of both the
+/// difference is written, which counts as one that differs where it isn't its last line alone.
+///
+/// The readers and the writer are called as by [`run`](crate::run), and that of the new script once the old one has ended.
+/// After [`RunFault::Read`] all that the complete lines print has gone out, of what was read; after [`RunFault::Memory`] all
+/// that the lines of both scripts print, where there was no memory for the difference; after [`RunFault::Write`] a front of
+/// all.
+pub fn diff<O: Read + Drop, N: Read + Drop, W: Write>(
+    alloc: Global,
+    mut old: O,
+    mut new: N,
+    writer: &mut W,
+) -> Result<Outcome, RunFault>
+    ensures ok { IfOk result (Diffs (O.remaining old) (N.remaining new) (W.contents writer.old) (W.contents writer.new)) }
+    ensures fault { OnErr result (DiffsFront (O.remaining old) (N.remaining new) (W.contents writer.old) (W.contents writer.new)) }
+    ensures read { result ≡ Err RunFault.Read → (old_left new_left : Option (List ℕ)) × DiffsEnded (O.remaining old) old_left (N.remaining new) new_left (W.contents writer.old) (W.contents writer.new) }
+    ensures memory { result ≡ Err RunFault.Memory → DiffsScripts (O.remaining old) (N.remaining new) (W.contents writer.old) (W.contents writer.new) }
+{
+    diff_from(alloc, &mut old, &mut new, writer)
+}
+
+/// The same as [`diff`], for readers that the caller keeps: so its contract says how far they were read.
+pub fn diff_from<O: Read, N: Read, W: Write>(
+    alloc: Global,
+    old: &mut O,
+    new: &mut N,
+    writer: &mut W,
+) -> Result<Outcome, RunFault>
+    ensures ok { IfOk result (Diffs (O.remaining old.old) (N.remaining new.old) (W.contents writer.old) (W.contents writer.new)) }
+    ensures fault { OnErr result (DiffsFront (O.remaining old.old) (N.remaining new.old) (W.contents writer.old) (W.contents writer.new)) }
+    ensures read { result ≡ Err RunFault.Read → DiffsEnded (O.remaining old.old) (O.remaining old.new) (N.remaining new.old) (N.remaining new.new) (W.contents writer.old) (W.contents writer.new) }
+    ensures memory { result ≡ Err RunFault.Memory → DiffsScripts (O.remaining old.old) (N.remaining new.old) (W.contents writer.old) (W.contents writer.new) }
+{
+    let mut old_source = FromRead::new(old);
+    let mut new_source = FromRead::new(new);
+    let mut sink = ToWrite::new(writer);
+    diff_within(alloc, &mut old_source, &mut new_source, &mut sink, TURNS)
+}
+
+/// Tells apart the networks of the two scripts that the sources give in so many turns each, as [`diff`] does: it is that with
+/// 2^32 of them. A turn is one call of a source, the one that finds the end included.
+///
+/// [`RunFault::Read`] is answered just where the sink works and a source has failed, or all turns of it were used and
+/// none found the end; [`RunFault::Write`] just where the sink has failed, or took nothing of a part that had a byte.
+pub fn diff_within<O: Source, N: Source, K: Sink>(
+    alloc: Global,
+    old: &mut O,
+    new: &mut N,
+    sink: &mut K,
+    turns: u64,
+) -> Result<Outcome, RunFault>
+    requires old { (O.told old.old).failed ≡ false }
+    requires new { (N.told new.old).failed ≡ false }
+    requires sink { (K.told sink.old).failed ≡ false }
+    requires turns { turns ≤ 2 ^ 32 }
+    ensures ok { IfOk result (Diffs (O.remaining old.old) (N.remaining new.old) (K.contents sink.old) (K.contents sink.new)) }
+    ensures fault { OnErr result (DiffsFront (O.remaining old.old) (N.remaining new.old) (K.contents sink.old) (K.contents sink.new)) }
+    ensures read { result ≡ Err RunFault.Read → DiffsEnded (O.remaining old.old) (O.remaining old.new) (N.remaining new.old) (N.remaining new.new) (K.contents sink.old) (K.contents sink.new) }
+    ensures memory { result ≡ Err RunFault.Memory → DiffsScripts (O.remaining old.old) (N.remaining new.old) (K.contents sink.old) (K.contents sink.new) }
+    ensures ended_old { IsOk result → IsRead (O.told old.old) (O.told old.new) }
+    ensures ended_new { IsOk result → IsRead (N.told new.old) (N.told new.new) }
+    ensures read_fault { result ≡ Err RunFault.Read ↔ (IsCut turns (O.told old.old) (O.told old.new) ⊎ IsCut turns (N.told new.old) (N.told new.new)) × Works (K.told sink.old) (K.told sink.new) }
+    ensures write_fault { result ≡ Err RunFault.Write ↔ IsBroken (K.told sink.old) (K.told sink.new) }
+    ensures old_calls { IsCalled turns (O.told old.old) (O.told old.new) }
+    ensures new_calls { IsCalled turns (N.told new.old) (N.told new.new) }
+    ensures sink_calls { StopsAtZero (K.told sink.old) (K.told sink.new) }
+    ensures lent_old { O.lent old.new ≡ O.lent old.old }
+    ensures lent_new { N.lent new.new ≡ N.lent new.old }
+    ensures lent_sink { K.lent sink.new ≡ K.lent sink.old }
+{
+    has_load();
+    states();
+    one_load();
+    one_difference();
+    let mut before = Engine::new(alloc);
+    match serve_input(Input::Network(Side::Old), &mut before, old, sink, turns) {
+        Err(fault) => Err(fault),
+        Ok(()) => {
+            let mut after = Engine::new(alloc);
+            match serve_input(Input::Network(Side::New), &mut after, new, sink, turns) {
+                Err(fault) => Err(fault),
+                Ok(()) => match what_differs(&mut before.planner, &mut after.planner) {
+                    Err(_) => Err(RunFault::Memory),
+                    Ok(found) => match put(sink, found.text.as_slice()) {
+                        Err(_) => Err(RunFault::Write),
+                        Ok(()) => {
+                            let old_served = before.outcome();
+                            let new_served = after.outcome();
+                            Ok(with_difference(&old_served, &new_served, &found.counts))
+                        }
+                    },
+                },
+            }
+        }
+    }
+}
+
+/// How the network of the new planner differs from that of the old one, once both plans are settled. `AllocError`: memory was
+/// wanted and refused.
+fn what_differs(old: &mut Planner, new: &mut Planner) -> Result<Difference, AllocError>
+    ensures { IfOk result (λ found. Differs (planned_state old.old).net (planned_state new.old).net found.counts found.text.items) }
+{
+    if old.settle().is_err() || new.settle().is_err() {
+        return Err(AllocError);
+    }
+    old.difference(new)
+}
+
+/// What was counted of two scripts and of how their networks differ.
+fn with_difference(old: &Outcome, new: &Outcome, counts: &Differing) -> Outcome
+    requires old { IsFew old.now }
+    requires new { IsFew new.now }
+    ensures { result ≡ counted_both old.now new.now counts.now }
+{
+    Outcome {
+        refused: old.refused + new.refused,
+        memory: old.memory + new.memory,
+        differing: if counts.is_nothing() { 0 } else { 1 },
+    }
+}
