@@ -27,6 +27,354 @@ REFUSED = b"line 1 E01 no such command\n"
 SHORT = b"# none\n00\n"
 TOO_SHORT = b"capture 2 B02 too short\n"
 
+# Three bridges of a region in a triangle, and one of its own, which two of them are linked to. A is the root of the CIST,
+# and C that of tree 1. The first line is refused; the queries and the mark say nothing.
+EXPLAINED = b"""no
+addbridge A 02:00:00:00:00:01
+addbridge B 02:00:00:00:00:02
+addbridge C 02:00:00:00:00:03
+addbridge D 02:00:00:00:00:04
+setmstconfid A 1 area
+setmstconfid B 1 area
+setmstconfid C 1 area
+setvid2mstid A 1 10
+setvid2mstid B 1 10
+setvid2mstid C 1 10
+kind D rstp
+settreeprio C 1 4
+addlan ab
+addlan ac
+addlan bc
+addlan bd
+addlan cd
+addport A 1
+addport A 2
+addport A 5
+addport B 1
+addport B 2
+addport B 3
+addport C 1
+addport C 2
+addport C 3
+addport D 1
+addport D 2
+plug A 1 ab
+plug B 1 ab
+plug A 2 ac
+plug C 1 ac
+plug B 2 bc
+plug C 2 bc
+plug B 3 bd
+plug D 1 bd
+plug C 3 cd
+plug D 2 cd
+showtree 0
+changes
+mark
+save
+"""
+QUIET = EXPLAINED.removeprefix(b"no\n")
+
+# What is told of it, worked out by hand from the rules of docs/RULES.md, where each link costs 20000.
+OF_C_2 = b"""explain 0 C:2 bc Alternate
+designated B:2 over C:2 bridge 8000.02:00:00:00:00:02 8000.02:00:00:00:00:03
+root C:1 over C:2 int 20000 40000
+explain 1 C:2 bc Designated
+designated C:2 over B:2 int 0 20000
+"""
+OF_D_2 = b"""explain 0 D:2 cd Alternate
+designated C:3 over D:2 ext 0 20000
+root D:1 over D:2 receiver 8001 8002
+"""
+OF_B_3_ALONE = b"""explain 1 B:3 bd Designated
+designated B:3 alone
+"""
+# D is made the root of the CIST.
+OF_C_3_OUTSIDE = b"""explain 0 C:3 cd Alternate
+designated D:2 over C:3 ext 0 20000
+root C:2 over C:3 regional 8000.02:00:00:00:00:02 8000.02:00:00:00:00:03
+explain 1 C:3 cd Alternate
+boundary Alternate designated D:2
+"""
+OF_B_3_OUTSIDE = b"""explain 1 B:3 bd Master
+boundary Root designated D:1
+"""
+OF_D_2_RESTRICTED = b"""explain 0 D:2 cd Alternate
+designated C:3 over D:2 ext 0 20000
+restricted
+"""
+OF_A_1_OFF = b"""explain 0 A:1 ab Disabled
+off A
+down ab
+explain 1 A:1 ab Disabled
+off A
+down ab
+"""
+# Two links of one class count as one, of twice the speed: that one of a port's members stands for it.
+PAIR = b"""addbridge A 02:00:00:00:00:01
+addbridge B 02:00:00:00:00:02
+addlan x
+addlan y
+addport A 1
+addport A 2
+addport B 1
+addport B 2
+setkey A 1 1
+setkey A 2 1
+setkey B 1 1
+setkey B 2 1
+plug A 1 x
+plug B 1 x
+plug A 2 y
+plug B 2 y
+"""
+OF_PAIR = b"""explain 0 A:1 x Designated
+designated A:1 over B:1 ext 0 10000
+"""
+BAD = b"explain E02 bad argument\n"
+BAD_TREE = b"explain E03 bad VID or tree\n"
+NO_BRIDGE = b"explain E04 no such bridge\n"
+NO_PORT = b"explain E05 no such port\n"
+
+
+def explain_cases(folder):
+    """Each case: its name, the words, standard input, the status, standard output and standard error."""
+    script = os.path.join(folder, "explained")
+    with open(script, "wb") as file:
+        file.write(QUIET)
+    absent = os.path.join(folder, "absent")
+    cannot = b"mstplan: cannot open " + absent.encode() + b"\n"
+
+    def of(words):
+        return ["explain", "-"] + words.split()
+
+    return [
+        ("explain FILE B P", ["explain", script, "C", "2"], b"no\n", 0, OF_C_2, b""),
+        ("explain FILE B P TREE", ["explain", script, "C", "02", "0"], b"no\n", 0,
+         OF_C_2[: OF_C_2.index(b"explain 1")], b""),
+        ("explain, the other tree", of("C 2 1"), QUIET, 0, OF_C_2[OF_C_2.index(b"explain 1"):], b""),
+        ("explain, refused lines before", of("D 2"), EXPLAINED, 1, REFUSED + OF_D_2, b""),
+        ("explain, no other port of the tree", of("B 3 1"), QUIET, 0, OF_B_3_ALONE, b""),
+        ("explain, a port at the boundary", of("C 3"), QUIET + b"settreeprio D 0 0\n", 0, OF_C_3_OUTSIDE, b""),
+        ("explain, the Master port", of("B 3 1"), QUIET + b"settreeprio D 0 0", 0, OF_B_3_OUTSIDE, b""),
+        ("explain, a restricted role", of("D 2"), QUIET + b"setportrestrrole D 2 yes\n", 0, OF_D_2_RESTRICTED, b""),
+        ("explain, a Disabled port", of("A 1"), QUIET + b"bridge A off\nlan ab down\n", 0, OF_A_1_OFF, b""),
+        ("explain, links of a class", of("A 1"), PAIR, 0, OF_PAIR, b""),
+        ("explain, a member that a lower one stands for", of("A 2"), PAIR, 1, NO_PORT, b""),
+        ("explain, a bad bridge", of("a_name_of_more_than_16 1"), QUIET, 1, BAD, b""),
+        ("explain, a bad port", of("A x 4095"), QUIET, 1, BAD, b""),
+        ("explain, a port of no number", of("A 4096"), QUIET, 1, BAD, b""),
+        ("explain, a bad tree", of("Z 1 4095"), QUIET, 1, BAD_TREE, b""),
+        ("explain, an unknown bridge", of("Z 1"), QUIET, 1, NO_BRIDGE, b""),
+        ("explain, an unknown bridge's tree", of("Z 1 1"), EXPLAINED, 1, REFUSED + NO_BRIDGE, b""),
+        ("explain, a port that isn't there", of("A 9"), QUIET, 1, NO_PORT, b""),
+        ("explain, a port in no LAN", of("A 5 2"), QUIET, 1, NO_PORT, b""),
+        ("explain, a tree that the bridge hasn't", of("D 1 1"), QUIET, 1, BAD_TREE, b""),
+        ("explain, nothing to read", of("A 1"), b"", 1, NO_BRIDGE, b""),
+        ("explain with no port", ["explain", script, "A"], b"", 2, b"", USAGE),
+        ("explain with no bridge", ["explain", script], b"", 2, b"", USAGE),
+        ("explain with no file", ["explain"], b"", 2, b"", USAGE),
+        ("explain with one word more", ["explain", script, "A", "1", "0", "0"], b"", 2, b"", USAGE),
+        ("explain, a port with a hyphen", ["explain", script, "A", "-1"], b"", 2, b"", USAGE),
+        ("run with the words of explain", ["run", script, "A", "1"], b"", 2, b"", USAGE),
+        ("check with the words of explain", ["check", script, "A", "1", "0"], b"", 2, b"", USAGE),
+        ("explain, a file that isn't there", ["explain", absent, "A", "1"], QUIET, 3, b"", cannot),
+        ("explain, a folder", ["explain", folder, "A", "1"], QUIET, 3, b"", b"mstplan: read fault\n"),
+    ]
+
+
+# Two bridges on a LAN, of which A is the root, and what the others make of it.
+PAIRED = b"""addbridge A 02:00:00:00:00:01
+addbridge B 02:00:00:00:00:02
+addlan x
+addport A 1
+addport B 1
+plug A 1 x
+plug B 1 x
+"""
+OTHER_ROOT = PAIRED + b"settreeprio B 0 4\n"
+# The same in a region with a tree 1, and what leaves the region.
+REGION = PAIRED + b"""setmstconfid A 1 area
+setmstconfid B 1 area
+setvid2mstid A 1 10
+setvid2mstid B 1 10
+"""
+
+# How they differ, worked out by hand from the rules of docs/RULES.md.
+NO_DIFFERENCE = b"diff regions 0 roots 0 ports 0 vlans 0\n"
+TO_OTHER_ROOT = b"""root 0 A -> B
+port 0 A 1 Designated -> Root
+port 0 B 1 Root -> Designated
+diff regions 0 roots 1 ports 2 vlans 0
+"""
+FROM_OTHER_ROOT = b"""root 0 B -> A
+port 0 A 1 Root -> Designated
+port 0 B 1 Designated -> Root
+diff regions 0 roots 1 ports 2 vlans 0
+"""
+TO_OTHER_REGION = b"""region B area 1 A -> other 2 B
+root 1 A -> B
+port 1 B 1 Root -> Master
+diff regions 1 roots 1 ports 1 vlans 0
+"""
+TO_RSTP = b"""region B area 1 A -> rstp - B
+port 1 B 1 Root -> -
+diff regions 1 roots 0 ports 1 vlans 0
+"""
+TO_FEW_VLANS = b"""reach 1-9,11-19,21-4094 A,B -> A B
+diff regions 0 roots 0 ports 0 vlans 4092
+"""
+TO_NOTHING = b"""port 0 A 1 Designated -> -
+port 0 B 1 Root -> -
+reach 1-4094 A,B -> -
+diff regions 0 roots 0 ports 2 vlans 4094
+"""
+# A bridge that is off stays the first of its region.
+TO_A_OFF = b"""root 0 A -> B
+root 1 A -> B
+port 0 A 1 Designated -> Disabled
+port 0 B 1 Root -> Designated
+port 1 A 1 Designated -> Disabled
+port 1 B 1 Root -> Designated
+reach 1-4094 A,B -> B
+diff regions 0 roots 2 ports 4 vlans 4094
+"""
+
+
+def diff_cases(folder):
+    """Each case: its name, the words, standard input, the status, standard output and standard error."""
+    script = os.path.join(folder, "paired")
+    with open(script, "wb") as file:
+        file.write(PAIRED)
+    region = os.path.join(folder, "region")
+    with open(region, "wb") as file:
+        file.write(REGION)
+    refused = os.path.join(folder, "paired, with a refused line")
+    with open(refused, "wb") as file:
+        file.write(b"no\n" + PAIRED)
+    absent = os.path.join(folder, "absent")
+    cannot = b"mstplan: cannot open " + absent.encode() + b"\n"
+    other_absent = absent + " "
+    other = b"mstplan: cannot open " + other_absent.encode() + b"\n"
+    asks = b"changes\nshowtree 9\nmark\nsave\n"
+    return [
+        ("diff OLD NEW", ["diff", script, script], b"no\n", 0, NO_DIFFERENCE, b""),
+        ("diff OLD -", ["diff", script, "-"], OTHER_ROOT, 1, TO_OTHER_ROOT, b""),
+        ("diff - NEW", ["diff", "-", script], OTHER_ROOT, 1, FROM_OTHER_ROOT, b""),
+        ("diff - -", ["diff", "-", "-"], PAIRED, 1, TO_NOTHING, b""),
+        ("diff - - with nothing to read", ["diff", "-", "-"], b"", 0, NO_DIFFERENCE, b""),
+        ("diff, queries and marks", ["diff", script, "-"], asks + PAIRED + asks, 0, NO_DIFFERENCE, b""),
+        ("diff, refused lines of both", ["diff", refused, "-"], PAIRED + b"no\n", 1,
+         b"old line 1 E01 no such command\nnew line 8 E01 no such command\n" + NO_DIFFERENCE, b""),
+        ("diff, a refused line and differences", ["diff", refused, "-"], OTHER_ROOT, 1,
+         b"old line 1 E01 no such command\n" + TO_OTHER_ROOT, b""),
+        ("diff, another region", ["diff", region, "-"], REGION + b"setmstconfid B 2 other\n", 1, TO_OTHER_REGION, b""),
+        ("diff, another kind", ["diff", region, "-"], REGION + b"kind B rstp\n", 1, TO_RSTP, b""),
+        ("diff, fewer VLANs", ["diff", script, "-"], PAIRED + b"setportvlans B 1 10,20\n", 1, TO_FEW_VLANS, b""),
+        ("diff, a bridge that is off", ["diff", region, "-"], REGION + b"bridge A off\n", 1, TO_A_OFF, b""),
+        ("diff, another MAC", ["diff", region, "-"], REGION.replace(b"00:01", b"00:00"), 0, NO_DIFFERENCE, b""),
+        ("diff with one file", ["diff", script], b"", 2, b"", USAGE),
+        ("diff with no file", ["diff"], b"", 2, b"", USAGE),
+        ("diff with a third file", ["diff", script, script, script], b"", 2, b"", USAGE),
+        ("diff, a file that isn't there", ["diff", script, absent], b"", 3, b"", cannot),
+        ("diff, two files that aren't there", ["diff", other_absent, absent], b"", 3, b"", other),
+        ("diff, of standard input and no file", ["diff", "-", absent], b"no\n", 3, b"", cannot),
+        ("diff, an old script in a folder", ["diff", folder, script], b"", 3, b"", b"mstplan: read fault\n"),
+        ("diff, a new script in a folder", ["diff", refused, folder], b"", 3,
+         b"old line 1 E01 no such command\n", b"mstplan: read fault\n"),
+    ]
+
+
+# What each single failure does, worked out by hand.
+NO_FAILURE = b"sweep lans 0 bridges 0 cuts 0\n"
+OF_PAIRED = b"""lan x roots 0 ports 0 cut 1-4094
+cut 1-4094 parts A B
+bridge A roots 0 ports 1 cut -
+bridge B roots - ports 0 cut -
+sweep lans 1 bridges 2 cuts 1
+"""
+# Of the two links of a class each is a failure, which the other one makes good.
+OF_PAIR_SWEPT = b"""lan x roots - ports 0 cut -
+lan y roots - ports 0 cut -
+bridge A roots 0 ports 1 cut -
+bridge B roots - ports 0 cut -
+sweep lans 2 bridges 2 cuts 0
+"""
+# A triangle, of which A is the root and B has the designated port of the link that isn't A's.
+TRIANGLE = b"""addbridge A 02:00:00:00:00:01
+addbridge B 02:00:00:00:00:02
+addbridge C 02:00:00:00:00:03
+addlan ab
+addlan ac
+addlan bc
+addport A 1
+addport A 2
+addport B 1
+addport B 2
+addport C 1
+addport C 2
+plug A 1 ab
+plug B 1 ab
+plug A 2 ac
+plug C 1 ac
+plug B 2 bc
+plug C 2 bc
+"""
+OF_TRIANGLE = b"""lan ab roots - ports 2 cut -
+lan ac roots - ports 1 cut -
+lan bc roots - ports 0 cut -
+bridge A roots 0 ports 3 cut -
+bridge B roots - ports 1 cut -
+bridge C roots - ports 0 cut -
+sweep lans 3 bridges 3 cuts 0
+"""
+# VLANs 10 and 20 alone are on the link of B and C.
+FEW_ON_BC = TRIANGLE + b"setportvlans C 2 10,20\n"
+OF_FEW_ON_BC = b"""lan ab roots - ports 2 cut 1-9,11-19,21-4094
+cut 1-9,11-19,21-4094 parts A,C B
+lan ac roots - ports 1 cut 1-9,11-19,21-4094
+cut 1-9,11-19,21-4094 parts A,B C
+lan bc roots - ports 0 cut -
+bridge A roots 0 ports 3 cut 1-9,11-19,21-4094
+cut 1-9,11-19,21-4094 parts B C
+bridge B roots - ports 1 cut -
+bridge C roots - ports 0 cut -
+sweep lans 3 bridges 3 cuts 3
+"""
+# What is down or off is no failure any more.
+C_IS_OFF = TRIANGLE + b"bridge C off\nlan ac down\n"
+OF_C_IS_OFF = b"""lan ab roots 0 ports 0 cut 1-4094
+cut 1-4094 parts A B
+lan bc roots - ports 0 cut -
+bridge A roots 0 ports 1 cut -
+bridge B roots - ports 0 cut -
+sweep lans 2 bridges 2 cuts 1
+"""
+
+
+def sweep_cases(folder):
+    """Each case: its name, the words, standard input, the status, standard output and standard error."""
+    script = os.path.join(folder, "swept")
+    with open(script, "wb") as file:
+        file.write(TRIANGLE)
+    absent = os.path.join(folder, "absent")
+    cannot = b"mstplan: cannot open " + absent.encode() + b"\n"
+    asks = b"changes\nshowtree 9\nmark\nsave\n"
+    return [
+        ("sweep FILE", ["sweep", script], b"no\n", 0, OF_TRIANGLE, b""),
+        ("sweep -", ["sweep", "-"], PAIRED, 1, OF_PAIRED, b""),
+        ("sweep, nothing to read", ["sweep", "-"], b"", 0, NO_FAILURE, b""),
+        ("sweep, queries and marks", ["sweep", "-"], asks + TRIANGLE + asks, 0, OF_TRIANGLE, b""),
+        ("sweep, a refused line", ["sweep", "-"], b"no\n" + TRIANGLE, 1, REFUSED + OF_TRIANGLE, b""),
+        ("sweep, links of a class", ["sweep", "-"], PAIR, 0, OF_PAIR_SWEPT, b""),
+        ("sweep, fewer VLANs on a link", ["sweep", "-"], FEW_ON_BC, 1, OF_FEW_ON_BC, b""),
+        ("sweep, what is down and off", ["sweep", "-"], C_IS_OFF, 1, OF_C_IS_OFF, b""),
+        ("sweep with no file", ["sweep"], b"", 2, b"", USAGE),
+        ("sweep with a second file", ["sweep", script, script], b"", 2, b"", USAGE),
+        ("sweep, a file that isn't there", ["sweep", absent], b"", 3, b"", cannot),
+        ("sweep, a folder", ["sweep", folder], b"", 3, b"", b"mstplan: read fault\n"),
+    ]
+
 
 def cases(folder):
     """Each case: its name, the words, standard input, the status, standard output and standard error."""
@@ -85,6 +433,11 @@ def cases(folder):
     ]
 
 
+def asked_cases(folder):
+    """The cases of what is asked of a script's network."""
+    return explain_cases(folder) + diff_cases(folder) + sweep_cases(folder)
+
+
 def fits(text, expected):
     return b"Usage: " in text if expected is USAGE else text == expected
 
@@ -134,6 +487,11 @@ def closed_cases():
         (["run", "script"], "<&- >&-", 3, b"", write),
         (["--help"], ">&-", 3, b"", write),
         (["run", "script"], "2>&-", 0, TREE, b""),
+        (["explain", "-", "A", "1"], "<&-", 3, b"", read),
+        (["explain", "script", "A", "1"], ">&-", 3, b"", write),
+        (["sweep", "-"], "<&-", 3, b"", read),
+        (["diff", "script", "-"], "<&-", 3, b"", read),
+        (["diff", "script", "script"], ">&-", 3, b"", write),
     ]
 
 
@@ -203,10 +561,13 @@ def main():
         sys.exit(__doc__)
     program = os.path.abspath(sys.argv[1])
     with tempfile.TemporaryDirectory() as folder:
-        passed = [check(program, *case) for case in cases(folder)]
+        passed = [check(program, *case) for case in cases(folder) + asked_cases(folder)]
         passed += [
             check_full(program, [], b"showtree 0\n"),
             check_full(program, ["check", "-", os.devnull], b"showtree 0\n"),
+            check_full(program, ["explain", "-", "A", "1"], QUIET),
+            check_full(program, ["diff", "-", "-"], QUIET),
+            check_full(program, ["sweep", "-"], QUIET),
             check_full(program, ["--help"], b""),
             check_sample(program),
             check_large(program),

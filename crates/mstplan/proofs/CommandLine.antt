@@ -1,18 +1,16 @@
 -- What the program's words come to, by the rules of its command line.
-use Rattle.std.proofs.Common.{◌≡◌, ◌≢◌, ◌⊎◌, ◌==◌, ℕ, Bool, true, false, not, List, [], ◌∷◌, Option, Some, None, codes, refl, sym, ap, ap₂, ◌∙◌, subst, inl, inr, option_map}
-use Rattle.std.specs.Prelude.{◌&&◌, ◌||◌, if◌then◌else◌, option_and_then, is_some, drop, fold, slice_get, unwrap_or}
+use Rattle.std.proofs.Common.{◌≡◌, ◌≢◌, ◌⊎◌, Bool, true, false, List, [], ◌∷◌, Option, Some, None, codes, refl, sym, ap, ap₂, ◌∙◌, subst, inl, inr, option_map}
+use Rattle.std.specs.Prelude.{◌||◌, if◌then◌else◌, is_some, drop, fold, slice_get, unwrap_or}
 use Rattle.std.specs.List.{list_all}
-use Rattle.std.specs.Option.{option_map_or}
 use Rattle.std.specs.Str.{bytes_eq}
 use Rattle.std.proofs.lemmas.Bool.{false≢true}
 use Rattle.std.proofs.lemmas.Slice.Eq.{bytes_eq-Decides}
-use Rattle.clap.specs.Words.{Rule, Shape, Text, built, fault_of, is_simple, is_simple_and_free, subcommand_of}
-use Rattle.clap.specs.Faults.{bundle_fault, built_fault, check_fault, defaults_fault, entered_fault, flag_word_fault, level_fault, other_fault, settle_fault, step_fault, turn_fault, walk_fault, word_fault}
+use Rattle.clap.specs.Words.{Shape, Text, built, fault_of, is_simple, is_simple_and_free, subcommand_of}
+use Rattle.clap.specs.Faults.{built_fault, entered_fault, step_fault, turn_fault, walk_fault}
 use Rattle.clap.specs.Kinds.{Kinds, IsAmong, or_else}
 use Rattle.clap.specs.declared.error.kind.ErrorKind.{ErrorKind}
 use Rattle.clap.specs.declared.error.kind.ErrorKind.TheVariants.{DisplayHelp, OutOfMemory}
-use Rattle.clap.specs.Lexer.{long_of, long_of_rest, short_of, short_of_rest, strip_byte}
-use Rattle.clap.specs.Walk.{Held, Names as Labels, Step, Walk, after_step, finished, idle, long_or_other, nothing_held, rows_after, settled, short_or_plain, stop_after, subcommand_met, subcommand_or_other, trailing, value, walk, walk_from, walked, word_met}
+use Rattle.clap.specs.Walk.{Held, Names as Labels, Walk, finished, idle, nothing_held, stop_after, subcommand_met, value, walk, walk_from, walked}
 use Rattle.clap.specs.Simple.{entered, names_of}
 use Rattle.clap.proofs.FaultLemmas.{stopped_fault}
 use Rattle.clap.proofs.OnLiterals.{clap_on_literals}
@@ -20,218 +18,182 @@ use Rattle.clap.proofs.WalkLemmas.{walk_stopped}
 use Rattle.mst_tool.specs.declared.runs.RunFault.TheVariants.{Memory}
 use Rattle.mstplan.specs.declared.endings.Stop.{Stop}
 use Rattle.mstplan.specs.declared.endings.Stop.TheVariants.{Told, Fault}
-use Rattle.mstplan.specs.Words.{IsRefusal, Names, asked_by, asked_of, is_plain, program}
+use Rattle.mstplan.specs.Words.{IsRefusal, Request, asked_by, asked_of, by_one, by_port, by_two, check, diff, explain, is_plain, program, request_of, run, sweep}
+use Rattle.mstplan.proofs.Leaves.{TakesOne, TakesTwo, fits_one, fits_two}
+use Rattle.mstplan.proofs.PlainWords.{Fits, Passes, at, both_so, found_end, head_plain, is_no_help, leaf, leaf_end, leaf_found, leaf_stray, level, passes_next, passes_none, plain_turn, refuses, step}
 
--- ---- a plain word
+-- ---- run
 
-not_hyphen : (b : ℕ) → not (b == 45) ≡ true → (b == 45) ≡ false
-not_hyphen b h = go (b == 45) h
-  where
-    go : (x : Bool) → not x ≡ true → x ≡ false
-    go false e = refl
-    go true e = absurd (false≢true e)
-
-plain_dashes : (word : Text) → is_plain word ≡ true → bytes_eq word (45 ∷ 45 ∷ []) ≡ false
-plain_dashes [] h = refl
-plain_dashes (b ∷ []) h = go (b == 45)
-  where
-    go : (x : Bool) → (x && false) ≡ false
-    go false = refl
-    go true = refl
-plain_dashes (b ∷ c ∷ rest) h = ap (λ x. x && bytes_eq (c ∷ rest) (45 ∷ [])) (not_hyphen b h)
-
-plain_long : (word : Text) → is_plain word ≡ true → long_of word ≡ None
-plain_long [] h = refl
-plain_long (b ∷ []) h = go (b == 45)
-  where
-    go : (x : Bool) → option_and_then long_of_rest (option_and_then (strip_byte 45) (if x then Some [] else None)) ≡ None
-    go false = refl
-    go true = refl
-plain_long (b ∷ c ∷ rest) h = ap (λ x. option_and_then long_of_rest (option_and_then (strip_byte 45) (if x then Some (c ∷ rest) else None))) (not_hyphen b h)
-
-plain_short : (word : Text) → is_plain word ≡ true → short_of word ≡ None
-plain_short [] h = refl
-plain_short (b ∷ []) h = go (b == 45)
-  where
-    go : (x : Bool) → option_and_then short_of_rest (if x then Some [] else None) ≡ None
-    go false = refl
-    go true = refl
-plain_short (b ∷ c ∷ rest) h = ap (λ x. option_and_then short_of_rest (if x then Some (c ∷ rest) else None)) (not_hyphen b h)
-
--- ---- a step of the walk, at a plain word that names no command
-
-plain_met : (c : List Rule) (names : Labels) (position : ℕ) (word : Text) (h : Held) → is_plain word ≡ true → subcommand_met names idle word ≡ None
-    → ◌≡◌ {A = Held × Step} (word_met c names false idle position word h) (h, value)
-plain_met c names position word h plain none =
-    ap (λ met. subcommand_or_other c met idle position word h) none
-    ∙ ap (λ (x : Bool). if x then (h, trailing position) else long_or_other c idle word (long_of word) h) (plain_dashes word plain)
-    ∙ ap (λ long. long_or_other c idle word long h) (plain_long word plain)
-    ∙ ap (λ short. short_or_plain c idle word short h) (plain_short word plain)
-
--- before the word of this position
-abbrev at : Held → ℕ → Walk
-at h position = record { held = h; waiting = idle; position = position; is_trailing = false; stopped = None }
-
-plain_walked : (c : List Rule) (names : Labels) (position : ℕ) (word : Text) (h : Held) → is_plain word ≡ true → subcommand_met names idle word ≡ None
-    → walked c names (at h position) word ≡ after_step c word (at h position) h value
-unfolding walked
-plain_walked c names position word h plain none = ap (λ (met : Held × Step). after_step c word (at h position) met.0 met.1) (plain_met c names position word h plain none)
-
-plain_fault : (s : Shape) (names : Labels) (word : Text) (h : Held) → is_plain word ≡ true → subcommand_met names idle word ≡ None → word_fault s names false idle word h ≡ []
-plain_fault s names word h plain none =
-    ap (λ met. other_fault s met word h) none
-    ∙ ap (λ (x : Bool). if x then [] else flag_word_fault s.rules s.args_override_self (long_of word) word h) (plain_dashes word plain)
-    ∙ ap (λ long. flag_word_fault s.rules s.args_override_self long word h) (plain_long word plain)
-    ∙ ap (λ short. option_map_or (λ flags. bundle_fault s.rules s.args_override_self flags h) short []) (plain_short word plain)
-
-plain_turn : (s : Shape) (names : Labels) (position : ℕ) (word : Text) (h : Held) → is_plain word ≡ true → subcommand_met names idle word ≡ None
-    → turn_fault s names (at h position) word ≡ step_fault s position h value
-plain_turn s names position word h plain none =
-    ap₂ or_else (plain_fault s names word h plain none) (ap (λ (met : Held × Step). step_fault s position met.0 met.1) (plain_met s.rules names position word h plain none))
-
--- ---- what words come to
-
--- a fault that isn't the answer to a call for help
-abbrev is_no_help : ErrorKind → Bool
-is_no_help DisplayHelp = false
-is_no_help _ = true
-
-abbrev pub refuses : Kinds → Bool
-refuses [] = false
-refuses (kind ∷ kinds) = list_all is_no_help (kind ∷ kinds)
-
--- words that ask for something have no fault, and name it, and others have a fault
-abbrev pub Fits : Option Names → Kinds → Names → Type 0
-Fits (Some names) kinds found = (kinds ≡ []) × (found ≡ names)
-Fits None kinds found = refuses kinds ≡ true
-
--- ---- the words of a command
-
--- one level, by the walk over its words
-abbrev level : Shape → Kinds → Kinds → Bool → Held → Kinds
-level s faults below has end =
-    or_else faults (or_else below (or_else (settle_fault s.rules s.args_override_self end) (or_else (defaults_fault (settled s.rules end).rows s.rules) (check_fault s (finished s.rules end) has))))
-
-abbrev leaf : Shape → List Text → Kinds
-leaf s words = level_fault s [] nothing_held words false []
-
-abbrev leaf_found : Shape → List Text → Names
-leaf_found s words = asked_of (Some (rows_after s.rules [] words))
-
--- the walk over one word, and over two
-one : (s : Shape) (f : Text) → is_plain f ≡ true → ◌≡◌ {A = Walk} (walk s.rules [] nothing_held (f ∷ [])) (after_step s.rules f (at nothing_held 1) nothing_held value)
-one s f plain = plain_walked s.rules [] 1 f nothing_held plain refl
-
-faults_of_one : (s : Shape) (f : Text) (rest : List Text) → is_plain f ≡ true
-    → walk_fault s [] (walk_from nothing_held) (f ∷ rest) ≡ or_else (step_fault s 1 nothing_held value) (walk_fault s [] (after_step s.rules f (at nothing_held 1) nothing_held value) rest)
-unfolding walk_fault
-faults_of_one s f rest plain = ap₂ (λ t w. or_else t (walk_fault s [] w rest)) (plain_turn s [] 1 f nothing_held plain refl) (plain_walked s.rules [] 1 f nothing_held plain refl)
-
-faults_of_next : (s : Shape) (h : Held) (position : ℕ) (f : Text) (rest : List Text) → is_plain f ≡ true
-    → walk_fault s [] (at h position) (f ∷ rest) ≡ or_else (step_fault s position h value) (walk_fault s [] (after_step s.rules f (at h position) h value) rest)
-unfolding walk_fault
-faults_of_next s h position f rest plain = ap₂ (λ t w. or_else t (walk_fault s [] w rest)) (plain_turn s [] position f h plain refl) (plain_walked s.rules [] position f h plain refl)
-
--- the two commands, as they are built
 abbrev run_leaf : Shape
 run_leaf = unwrap_or (slice_get (built program).subs 0) (built program).top
+
+run_takes : TakesOne run_leaf run
+unfolding clap_on_literals
+run_takes = record { free = refl; goes = λ f. refl; none = refl; one = λ f. refl; finds = λ f. refl; full = λ f later end. refl }
+
+-- ---- check
 
 abbrev check_leaf : Shape
 check_leaf = unwrap_or (slice_get (built program).subs 1) (built program).top
 
--- a step that takes a plain word as a value
-abbrev step : Shape → Walk → Text → Walk
-step s w word = after_step s.rules word w w.held value
-
-abbrev run_after : Text → Walk
-run_after f = step run_leaf (at nothing_held 1) f
-
-abbrev check_after : Text → Walk
-check_after f = step check_leaf (at nothing_held 1) f
-
-abbrev check_after_both : Text → Text → Walk
-check_after_both f c = step check_leaf (check_after f) c
-
-both_so : (a b : Bool) → (a && b) ≡ true → (a ≡ true) × (b ≡ true)
-both_so true b e = (refl, e)
-both_so false b e = absurd (false≢true e)
-
-head_plain : (x : Text) (xs : List Text) → list_all is_plain (x ∷ xs) ≡ true → (is_plain x ≡ true) × (list_all is_plain xs ≡ true)
-head_plain x xs h = both_so (is_plain x) (list_all is_plain xs) h
-
-run_one_none : (f : Text) → level run_leaf (or_else (step_fault run_leaf 1 nothing_held value) (walk_fault run_leaf [] (run_after f) [])) [] false (run_after f).held ≡ []
+check_takes : TakesTwo check_leaf check
 unfolding clap_on_literals
-run_one_none f = refl
+check_takes = record {
+  free = refl;
+  goes = λ f. refl;
+  free_next = λ f. refl;
+  goes_on = λ f c. refl;
+  none = refl;
+  one = λ f. refl;
+  two = λ f c. refl;
+  finds = λ f c. refl;
+  full = λ f c later end. refl;
+}
 
-run_one_found : (f : Text) → asked_of (Some (finished run_leaf.rules (run_after f).held)) ≡ record { script = f; captures = None }
+-- ---- explain
+
+abbrev explain_leaf : Shape
+explain_leaf = unwrap_or (slice_get (built program).subs 2) (built program).top
+
+abbrev explain_1 : Text → Walk
+explain_1 f = step explain_leaf (at nothing_held 1) f
+
+abbrev explain_2 : Text → Text → Walk
+explain_2 f b = step explain_leaf (explain_1 f) b
+
+abbrev explain_3 : Text → Text → Text → Walk
+explain_3 f b p = step explain_leaf (explain_2 f b) p
+
+abbrev explain_4 : Text → Text → Text → Text → Walk
+explain_4 f b p t = step explain_leaf (explain_3 f b p) t
+
+explain_free_1 : step_fault explain_leaf 1 nothing_held value ≡ []
 unfolding clap_on_literals
-run_one_found f = refl
+explain_free_1 = refl
 
-run_none : refuses (leaf run_leaf []) ≡ true
+explain_free_2 : (f : Text) → step_fault explain_leaf 2 (explain_1 f).held value ≡ []
 unfolding clap_on_literals
-run_none = refl
+explain_free_2 f = refl
 
-run_more : (f g : Text) (rest : List Text) → list_all is_plain (f ∷ g ∷ rest) ≡ true → refuses (leaf run_leaf (f ∷ g ∷ rest)) ≡ true
-run_more f g rest h =
-    let first = head_plain f (g ∷ rest) h in
-    let second = head_plain g rest first.1 in
-    ap (λ faults. refuses (level run_leaf faults [] false (walk run_leaf.rules [] nothing_held (f ∷ g ∷ rest)).held))
-    (faults_of_one run_leaf f (g ∷ rest) first.0 ∙ ap (or_else (step_fault run_leaf 1 nothing_held value)) (faults_of_next run_leaf (run_after f).held 2 g rest second.0))
+explain_free_3 : (f b : Text) → step_fault explain_leaf 3 (explain_2 f b).held value ≡ []
+unfolding clap_on_literals
+explain_free_3 f b = refl
 
-run_fits : (words : List Text) → list_all is_plain words ≡ true → Fits (asked_by (codes "run" ∷ words)) (leaf run_leaf words) (leaf_found run_leaf words)
-run_fits [] h = run_none
-run_fits (f ∷ []) h =
-    let plain = (head_plain f [] h).0 in (
-      ap₂ (λ faults (w : Walk). level run_leaf faults [] false w.held) (faults_of_one run_leaf f [] plain) (one run_leaf f plain) ∙ run_one_none f,
-      ap (λ (w : Walk). asked_of (Some (finished run_leaf.rules w.held))) (one run_leaf f plain) ∙ run_one_found f,
+explain_free_4 : (f b p : Text) → step_fault explain_leaf 4 (explain_3 f b p).held value ≡ []
+unfolding clap_on_literals
+explain_free_4 f b p = refl
+
+explain_passes_1 : (f : Text) → is_plain f ≡ true → (words : List Text) (there : Walk) → Passes explain_leaf (explain_1 f) there words → Passes explain_leaf (at nothing_held 1) there (f ∷ words)
+explain_passes_1 f plain words there next = passes_next explain_leaf nothing_held 1 f words there explain_free_1 plain next
+
+explain_passes_2 : (f b : Text) → is_plain f ≡ true → is_plain b ≡ true → (words : List Text) (there : Walk) → Passes explain_leaf (explain_2 f b) there words
+    → Passes explain_leaf (at nothing_held 1) there (f ∷ b ∷ words)
+explain_passes_2 f b first second words there next =
+    explain_passes_1 f first (b ∷ words) there (passes_next explain_leaf (explain_1 f).held 2 b words there (explain_free_2 f) second next)
+
+explain_passes_3 : (f b p : Text) → is_plain f ≡ true → is_plain b ≡ true → is_plain p ≡ true → (words : List Text) (there : Walk) → Passes explain_leaf (explain_3 f b p) there words
+    → Passes explain_leaf (at nothing_held 1) there (f ∷ b ∷ p ∷ words)
+explain_passes_3 f b p first second third words there next =
+    explain_passes_2 f b first second (p ∷ words) there (passes_next explain_leaf (explain_2 f b).held 3 p words there (explain_free_3 f b) third next)
+
+explain_passes_4 : (f b p t : Text) → is_plain f ≡ true → is_plain b ≡ true → is_plain p ≡ true → is_plain t ≡ true
+    → Passes explain_leaf (at nothing_held 1) (explain_4 f b p t) (f ∷ b ∷ p ∷ t ∷ [])
+explain_passes_4 f b p t first second third fourth =
+    explain_passes_3 f b p first second third (t ∷ []) (explain_4 f b p t)
+    (passes_next explain_leaf (explain_3 f b p).held 4 t [] (explain_4 f b p t) (explain_free_4 f b p) fourth (passes_none explain_leaf (explain_4 f b p t)))
+
+explain_none_refused : refuses (leaf explain_leaf []) ≡ true
+unfolding clap_on_literals
+explain_none_refused = refl
+
+explain_one_refused : (f : Text) → refuses (level explain_leaf (walk_fault explain_leaf [] (explain_1 f) []) [] false (explain_1 f).held) ≡ true
+unfolding clap_on_literals
+explain_one_refused f = refl
+
+explain_two_refused : (f b : Text) → refuses (level explain_leaf (walk_fault explain_leaf [] (explain_2 f b) []) [] false (explain_2 f b).held) ≡ true
+unfolding clap_on_literals
+explain_two_refused f b = refl
+
+explain_three_faultless : (f b p : Text) → level explain_leaf (walk_fault explain_leaf [] (explain_3 f b p) []) [] false (explain_3 f b p).held ≡ []
+unfolding clap_on_literals
+explain_three_faultless f b p = refl
+
+explain_three_found : (f b p : Text) → request_of explain_leaf.name (finished explain_leaf.rules (explain_3 f b p).held) ≡ explain f b p None
+unfolding clap_on_literals
+explain_three_found f b p = refl
+
+explain_four_faultless : (f b p t : Text) → level explain_leaf (walk_fault explain_leaf [] (explain_4 f b p t) []) [] false (explain_4 f b p t).held ≡ []
+unfolding clap_on_literals
+explain_four_faultless f b p t = refl
+
+explain_four_found : (f b p t : Text) → request_of explain_leaf.name (finished explain_leaf.rules (explain_4 f b p t).held) ≡ explain f b p (Some t)
+unfolding clap_on_literals
+explain_four_found f b p t = refl
+
+explain_stray : (f b p t : Text) (later : Kinds) (end : Held) → refuses (level explain_leaf (or_else (step_fault explain_leaf 5 (explain_4 f b p t).held value) later) [] false end) ≡ true
+unfolding clap_on_literals
+explain_stray f b p t later end = refl
+
+explain_fits : (words : List Text) → list_all is_plain words ≡ true → Fits (by_port words) (leaf explain_leaf words) (leaf_found explain_leaf words)
+explain_fits [] h = explain_none_refused
+explain_fits (f ∷ []) h =
+    ap refuses (leaf_end explain_leaf (f ∷ []) (explain_1 f) (explain_passes_1 f (head_plain f [] h).0 [] (explain_1 f) (passes_none explain_leaf (explain_1 f)))) ∙ explain_one_refused f
+explain_fits (f ∷ b ∷ []) h =
+    let first = head_plain f (b ∷ []) h in
+    let second = head_plain b [] first.1 in
+    ap refuses (leaf_end explain_leaf (f ∷ b ∷ []) (explain_2 f b) (explain_passes_2 f b first.0 second.0 [] (explain_2 f b) (passes_none explain_leaf (explain_2 f b)))) ∙ explain_two_refused f b
+explain_fits (f ∷ b ∷ p ∷ []) h =
+    let first = head_plain f (b ∷ p ∷ []) h in
+    let second = head_plain b (p ∷ []) first.1 in
+    let third = head_plain p [] second.1 in
+    let passes = explain_passes_3 f b p first.0 second.0 third.0 [] (explain_3 f b p) (passes_none explain_leaf (explain_3 f b p)) in (
+      leaf_end explain_leaf (f ∷ b ∷ p ∷ []) (explain_3 f b p) passes ∙ explain_three_faultless f b p,
+      found_end explain_leaf (f ∷ b ∷ p ∷ []) (explain_3 f b p) passes ∙ explain_three_found f b p,
     )
-run_fits (f ∷ g ∷ []) h = run_more f g [] h
-run_fits (f ∷ g ∷ x ∷ rest) h = run_more f g (x ∷ rest) h
-
-check_none : refuses (leaf check_leaf []) ≡ true
-unfolding clap_on_literals
-check_none = refl
-
-check_one_refused : (f : Text) → refuses (level check_leaf (or_else (step_fault check_leaf 1 nothing_held value) (walk_fault check_leaf [] (check_after f) [])) [] false (check_after f).held) ≡ true
-unfolding clap_on_literals
-check_one_refused f = refl
-
-check_both_none : (f c : Text)
-    → level check_leaf (or_else (step_fault check_leaf 1 nothing_held value) (or_else (step_fault check_leaf 2 (check_after f).held value) (walk_fault check_leaf [] (check_after_both f c) []))) [] false (check_after_both f c).held ≡ []
-unfolding clap_on_literals
-check_both_none f c = refl
-
-check_both_found : (f c : Text) → asked_of (Some (finished check_leaf.rules (check_after_both f c).held)) ≡ record { script = f; captures = Some c }
-unfolding clap_on_literals
-check_both_found f c = refl
-
-check_both : (f c : Text) → is_plain f ≡ true → is_plain c ≡ true → ◌≡◌ {A = Walk} (walk check_leaf.rules [] nothing_held (f ∷ c ∷ [])) (check_after_both f c)
-check_both f c plain other =
-    ap (λ (w : Walk). walked check_leaf.rules [] w c) (plain_walked check_leaf.rules [] 1 f nothing_held plain refl) ∙ plain_walked check_leaf.rules [] 2 c (check_after f).held other refl
-
-check_two : (f c : Text) (rest : List Text) → is_plain f ≡ true → is_plain c ≡ true
-    → walk_fault check_leaf [] (walk_from nothing_held) (f ∷ c ∷ rest) ≡ or_else (step_fault check_leaf 1 nothing_held value) (or_else (step_fault check_leaf 2 (check_after f).held value) (walk_fault check_leaf [] (check_after_both f c) rest))
-check_two f c rest plain other =
-    faults_of_one check_leaf f (c ∷ rest) plain ∙ ap (or_else (step_fault check_leaf 1 nothing_held value)) (faults_of_next check_leaf (check_after f).held 2 c rest other)
-
-check_fits : (words : List Text) → list_all is_plain words ≡ true → Fits (asked_by (codes "check" ∷ words)) (leaf check_leaf words) (leaf_found check_leaf words)
-check_fits [] h = check_none
-check_fits (f ∷ []) h =
-    let plain = (head_plain f [] h).0 in
-    ap₂ (λ faults (w : Walk). refuses (level check_leaf faults [] false w.held)) (faults_of_one check_leaf f [] plain) (one check_leaf f plain) ∙ check_one_refused f
-check_fits (f ∷ c ∷ []) h =
-    let first = head_plain f (c ∷ []) h in
-    let second = head_plain c [] first.1 in (
-      ap₂ (λ faults (w : Walk). level check_leaf faults [] false w.held) (check_two f c [] first.0 second.0) (check_both f c first.0 second.0) ∙ check_both_none f c,
-      ap (λ (w : Walk). asked_of (Some (finished check_leaf.rules w.held))) (check_both f c first.0 second.0) ∙ check_both_found f c,
+explain_fits (f ∷ b ∷ p ∷ t ∷ []) h =
+    let first = head_plain f (b ∷ p ∷ t ∷ []) h in
+    let second = head_plain b (p ∷ t ∷ []) first.1 in
+    let third = head_plain p (t ∷ []) second.1 in
+    let fourth = head_plain t [] third.1 in
+    let passes = explain_passes_4 f b p t first.0 second.0 third.0 fourth.0 in (
+      leaf_end explain_leaf (f ∷ b ∷ p ∷ t ∷ []) (explain_4 f b p t) passes ∙ explain_four_faultless f b p t,
+      found_end explain_leaf (f ∷ b ∷ p ∷ t ∷ []) (explain_4 f b p t) passes ∙ explain_four_found f b p t,
     )
-check_fits (f ∷ c ∷ g ∷ rest) h =
-    let first = head_plain f (c ∷ g ∷ rest) h in
-    let second = head_plain c (g ∷ rest) first.1 in
-    let third = head_plain g rest second.1 in
-    ap (λ faults. refuses (level check_leaf faults [] false (walk check_leaf.rules [] nothing_held (f ∷ c ∷ g ∷ rest)).held))
-    (check_two f c (g ∷ rest) first.0 second.0
-    ∙ ap (λ k. or_else (step_fault check_leaf 1 nothing_held value) (or_else (step_fault check_leaf 2 (check_after f).held value) k)) (faults_of_next check_leaf (check_after_both f c).held 3 g rest third.0))
+explain_fits (f ∷ b ∷ p ∷ t ∷ g ∷ rest) h =
+    let first = head_plain f (b ∷ p ∷ t ∷ g ∷ rest) h in
+    let second = head_plain b (p ∷ t ∷ g ∷ rest) first.1 in
+    let third = head_plain p (t ∷ g ∷ rest) second.1 in
+    let fourth = head_plain t (g ∷ rest) third.1 in
+    let fifth = head_plain g rest fourth.1 in
+    leaf_stray explain_leaf (f ∷ b ∷ p ∷ t ∷ []) (explain_4 f b p t).held 5 g rest (explain_passes_4 f b p t first.0 second.0 third.0 fourth.0) fifth.0 (explain_stray f b p t)
+
+-- ---- diff
+
+abbrev diff_leaf : Shape
+diff_leaf = unwrap_or (slice_get (built program).subs 3) (built program).top
+
+diff_takes : TakesTwo diff_leaf diff
+unfolding clap_on_literals
+diff_takes = record {
+  free = refl;
+  goes = λ f. refl;
+  free_next = λ f. refl;
+  goes_on = λ f g. refl;
+  none = refl;
+  one = λ f. refl;
+  two = λ f g. refl;
+  finds = λ f g. refl;
+  full = λ f g later end. refl;
+}
+
+-- ---- sweep
+
+abbrev sweep_leaf : Shape
+sweep_leaf = unwrap_or (slice_get (built program).subs 4) (built program).top
+
+sweep_takes : TakesOne sweep_leaf sweep
+unfolding clap_on_literals
+sweep_takes = record { free = refl; goes = λ f. refl; none = refl; one = λ f. refl; finds = λ f. refl; full = λ f later end. refl }
 
 -- ---- the words of the program
 
@@ -242,14 +204,17 @@ names = names_of (built program)
 abbrev whole : Kinds → Walk → Kinds
 whole faults w = level (built program).top faults (entered_fault (built program) w.stopped) (is_some (entered (built program) w.stopped)) w.held
 
-abbrev whole_found : Walk → Names
-whole_found w = asked_of (option_map (λ found. found.1) (entered (built program) w.stopped))
+abbrev whole_found : Walk → Request
+whole_found w = asked_of (entered (built program) w.stopped)
 
 abbrev faults : List Text → Kinds
 faults words = built_fault (built program) nothing_held words
 
-abbrev found : List Text → Names
-found words = asked_of (option_map (λ p. p.1) (entered (built program) (stop_after (built program).top.rules names words)))
+abbrev found : List Text → Request
+found words = asked_of (entered (built program) (stop_after (built program).top.rules names words))
+
+abbrev FitsWords : List Text → Type 0
+FitsWords words = Fits (asked_by words) (faults words) (found words)
 
 or_else-nil : (kinds : Kinds) → or_else kinds [] ≡ kinds
 or_else-nil [] = refl
@@ -270,59 +235,63 @@ unfolding walk_fault
 command_faults command rest stops none =
     ap₂ (λ t (w : Walk). or_else t (walk_fault (built program).top names w rest)) none stops ∙ stopped_fault (built program).top names (walk_from nothing_held) (command, []) rest
 
-run_stops : walked (built program).top.rules names (walk_from nothing_held) (codes "run") ≡ stopped_at (codes "run") []
+-- this command is one of the program, and these are its words
+record IsCommand (command : Text) (s : Shape) : Type 0 where
+  stops : walked (built program).top.rules names (walk_from nothing_held) command ≡ stopped_at command []
+  faultless : turn_fault (built program).top names (walk_from nothing_held) command ≡ []
+  is_whole : (rest : List Text) → whole [] (stopped_at command rest) ≡ or_else (leaf s rest) []
+  is_found : (rest : List Text) → whole_found (stopped_at command rest) ≡ leaf_found s rest
+
+run_command : IsCommand (codes "run") run_leaf
 unfolding clap_on_literals
-run_stops = refl
+run_command = record { stops = refl; faultless = refl; is_whole = λ rest. refl; is_found = λ rest. refl }
 
-run_turn : turn_fault (built program).top names (walk_from nothing_held) (codes "run") ≡ []
+check_command : IsCommand (codes "check") check_leaf
 unfolding clap_on_literals
-run_turn = refl
+check_command = record { stops = refl; faultless = refl; is_whole = λ rest. refl; is_found = λ rest. refl }
 
-run_whole : (rest : List Text) → whole [] (stopped_at (codes "run") rest) ≡ or_else (leaf run_leaf rest) []
+explain_command : IsCommand (codes "explain") explain_leaf
 unfolding clap_on_literals
-run_whole rest = refl
+explain_command = record { stops = refl; faultless = refl; is_whole = λ rest. refl; is_found = λ rest. refl }
 
-run_whole_found : (rest : List Text) → whole_found (stopped_at (codes "run") rest) ≡ leaf_found run_leaf rest
+diff_command : IsCommand (codes "diff") diff_leaf
 unfolding clap_on_literals
-run_whole_found rest = refl
+diff_command = record { stops = refl; faultless = refl; is_whole = λ rest. refl; is_found = λ rest. refl }
 
-check_stops : walked (built program).top.rules names (walk_from nothing_held) (codes "check") ≡ stopped_at (codes "check") []
+sweep_command : IsCommand (codes "sweep") sweep_leaf
 unfolding clap_on_literals
-check_stops = refl
+sweep_command = record { stops = refl; faultless = refl; is_whole = λ rest. refl; is_found = λ rest. refl }
 
-check_turn : turn_fault (built program).top names (walk_from nothing_held) (codes "check") ≡ []
+-- a command, by what its own words come to
+fits_command : (command : Text) (s : Shape) (rest : List Text) → IsCommand command s → Fits (asked_by (command ∷ rest)) (leaf s rest) (leaf_found s rest) → FitsWords (command ∷ rest)
+fits_command command s rest is fits =
+    let goes = at_command command rest is.stops in
+    let kinds = ap₂ whole (command_faults command rest is.stops is.faultless) goes ∙ is.is_whole rest ∙ or_else-nil (leaf s rest) in
+    let finds = ap whole_found goes ∙ is.is_found rest in
+    subst (λ k. Fits (asked_by (command ∷ rest)) k (found (command ∷ rest))) (sym kinds) (subst (Fits (asked_by (command ∷ rest)) (leaf s rest)) (sym finds) fits)
+
+-- ---- a word that is no command
+
+record IsOther (command : Text) : Type 0 where
+  not_run : bytes_eq (codes "run") command ≡ false
+  not_check : bytes_eq (codes "check") command ≡ false
+  not_explain : bytes_eq (codes "explain") command ≡ false
+  not_diff : bytes_eq (codes "diff") command ≡ false
+  not_sweep : bytes_eq (codes "sweep") command ≡ false
+
+-- what is found where the first isn't
+abbrev met_or : Text → Bool → Option (Text × List Text) → Option (Text × List Text)
+met_or name x later = if x || false then Some (name, []) else later
+
+unmet : (name : Text) (x : Bool) (later : Option (Text × List Text)) → x ≡ false → met_or name x later ≡ later
+unmet name x later e = ap (λ y. met_or name y later) e
+
+names_none : (command : Text) → IsOther command → subcommand_met names idle command ≡ None
 unfolding clap_on_literals
-check_turn = refl
-
-check_whole : (rest : List Text) → whole [] (stopped_at (codes "check") rest) ≡ or_else (leaf check_leaf rest) []
-unfolding clap_on_literals
-check_whole rest = refl
-
-check_whole_found : (rest : List Text) → whole_found (stopped_at (codes "check") rest) ≡ leaf_found check_leaf rest
-unfolding clap_on_literals
-check_whole_found rest = refl
-
-fits_run : (rest : List Text) → list_all is_plain rest ≡ true → Fits (asked_by (codes "run" ∷ rest)) (faults (codes "run" ∷ rest)) (found (codes "run" ∷ rest))
-fits_run rest plain =
-    let goes = at_command (codes "run") rest run_stops in
-    let kinds = ap₂ whole (command_faults (codes "run") rest run_stops run_turn) goes ∙ run_whole rest ∙ or_else-nil (leaf run_leaf rest) in
-    let names_them = ap whole_found goes ∙ run_whole_found rest in
-    subst (λ k. Fits (asked_by (codes "run" ∷ rest)) k (found (codes "run" ∷ rest))) (sym kinds)
-    (subst (Fits (asked_by (codes "run" ∷ rest)) (leaf run_leaf rest)) (sym names_them) (run_fits rest plain))
-
-fits_check : (rest : List Text) → list_all is_plain rest ≡ true → Fits (asked_by (codes "check" ∷ rest)) (faults (codes "check" ∷ rest)) (found (codes "check" ∷ rest))
-fits_check rest plain =
-    let goes = at_command (codes "check") rest check_stops in
-    let kinds = ap₂ whole (command_faults (codes "check") rest check_stops check_turn) goes ∙ check_whole rest ∙ or_else-nil (leaf check_leaf rest) in
-    let names_them = ap whole_found goes ∙ check_whole_found rest in
-    subst (λ k. Fits (asked_by (codes "check" ∷ rest)) k (found (codes "check" ∷ rest))) (sym kinds)
-    (subst (Fits (asked_by (codes "check" ∷ rest)) (leaf check_leaf rest)) (sym names_them) (check_fits rest plain))
-
--- a word that is neither command
-names_none : (command : Text) → bytes_eq (codes "run") command ≡ false → bytes_eq (codes "check") command ≡ false → subcommand_met names idle command ≡ None
-unfolding clap_on_literals
-names_none command run check =
-    ap₂ (λ (x y : Bool). option_map (λ (s : Text × List Text). s.0) (if x || false then Some (codes "run", []) else (if y || false then Some (codes "check", []) else None))) run check
+names_none command other =
+    ap (option_map (λ (s : Text × List Text). s.0))
+    (unmet (codes "run") _ _ other.not_run ∙ unmet (codes "check") _ _ other.not_check ∙ unmet (codes "explain") _ _ other.not_explain ∙ unmet (codes "diff") _ _ other.not_diff
+    ∙ unmet (codes "sweep") _ _ other.not_sweep)
 
 stray_refused : (more : Kinds) (end : Walk) → refuses (whole (or_else (step_fault (built program).top 1 nothing_held value) more) end) ≡ true
 unfolding clap_on_literals
@@ -337,39 +306,49 @@ other_refused command rest plain none =
     ap (λ k. refuses (whole (or_else k later) end)) (plain_turn t names 1 command nothing_held plain none) ∙ stray_refused later end
 
 -- which then asks for nothing
-asks_none : (command : Text) (rest : List Text) → bytes_eq (codes "run") command ≡ false → bytes_eq (codes "check") command ≡ false → asked_by (command ∷ rest) ≡ None
-asks_none command [] run check = refl
-asks_none command (f ∷ []) run check = ap (λ (x : Bool). if x then Some (record { script = f; captures = None }) else None) run
-asks_none command (f ∷ c ∷ []) run check = ap (λ (x : Bool). if x then Some (record { script = f; captures = Some c }) else None) check
-asks_none command (f ∷ c ∷ x ∷ rest) run check = refl
+unless : (x : Bool) (this other : Option Request) → x ≡ false → ◌≡◌ {A = Option Request} (if x then this else other) other
+unless true this other e = absurd (false≢true (sym e))
+unless false this other e = refl
 
-fits_other : (command : Text) (rest : List Text) → is_plain command ≡ true → bytes_eq (codes "run") command ≡ false → bytes_eq (codes "check") command ≡ false
-    → Fits (asked_by (command ∷ rest)) (faults (command ∷ rest)) (found (command ∷ rest))
-fits_other command rest plain run check =
-    subst (λ asked. Fits asked (faults (command ∷ rest)) (found (command ∷ rest))) (sym (asks_none command rest run check)) (other_refused command rest plain (names_none command run check))
+asks_none : (command : Text) (rest : List Text) → IsOther command → asked_by (command ∷ rest) ≡ None
+asks_none command rest other =
+    unless (bytes_eq (codes "run") command) (by_one run rest) _ other.not_run
+    ∙ unless (bytes_eq (codes "check") command) (by_two check rest) _ other.not_check
+    ∙ unless (bytes_eq (codes "explain") command) (by_port rest) _ other.not_explain
+    ∙ unless (bytes_eq (codes "diff") command) (by_two diff rest) _ other.not_diff
+    ∙ unless (bytes_eq (codes "sweep") command) (by_one sweep rest) _ other.not_sweep
 
-fits_none : Fits (asked_by []) (faults []) (found [])
+fits_other : (command : Text) (rest : List Text) → is_plain command ≡ true → IsOther command → FitsWords (command ∷ rest)
+fits_other command rest plain other =
+    subst (λ asked. Fits asked (faults (command ∷ rest)) (found (command ∷ rest))) (sym (asks_none command rest other)) (other_refused command rest plain (names_none command other))
+
+-- ---- the words behind the program's name
+
+fits_none : FitsWords []
 unfolding clap_on_literals
 fits_none = (refl, refl)
 
--- the words behind the program's name
-words_fit : (words : List Text) → list_all is_plain words ≡ true → Fits (asked_by words) (faults words) (found words)
-words_fit [] h = fits_none
-words_fit (command ∷ rest) h = is_run (bytes_eq (codes "run") command) refl
+-- a word is this name, or another word
+is_or_not : (name command : Text) (rest : List Text) → FitsWords (name ∷ rest) → (bytes_eq name command ≡ false → FitsWords (command ∷ rest)) → FitsWords (command ∷ rest)
+is_or_not name command rest fits other = go (bytes_eq name command) refl
   where
-    plain : (is_plain command ≡ true) × (list_all is_plain rest ≡ true)
-    plain = head_plain command rest h
+    go : (x : Bool) → bytes_eq name command ≡ x → FitsWords (command ∷ rest)
+    go true e = subst (λ c. FitsWords (c ∷ rest)) ((bytes_eq-Decides name command).0 e) fits
+    go false e = other e
 
-    is_check : (x : Bool) → bytes_eq (codes "run") command ≡ false → bytes_eq (codes "check") command ≡ x → Fits (asked_by (command ∷ rest)) (faults (command ∷ rest)) (found (command ∷ rest))
-    is_check true run e = subst (λ c. Fits (asked_by (c ∷ rest)) (faults (c ∷ rest)) (found (c ∷ rest))) ((bytes_eq-Decides (codes "check") command).0 e) (fits_check rest plain.1)
-    is_check false run e = fits_other command rest plain.0 run e
-
-    is_run : (x : Bool) → bytes_eq (codes "run") command ≡ x → Fits (asked_by (command ∷ rest)) (faults (command ∷ rest)) (found (command ∷ rest))
-    is_run true e = subst (λ c. Fits (asked_by (c ∷ rest)) (faults (c ∷ rest)) (found (c ∷ rest))) ((bytes_eq-Decides (codes "run") command).0 e) (fits_run rest plain.1)
-    is_run false e = is_check (bytes_eq (codes "check") command) e refl
+words_fit : (words : List Text) → list_all is_plain words ≡ true → FitsWords words
+words_fit [] h = fits_none
+words_fit (command ∷ rest) h =
+    let plain = head_plain command rest h in
+    is_or_not (codes "run") command rest (fits_command (codes "run") run_leaf rest run_command (fits_one run_leaf run run_takes rest plain.1))
+    (λ r. is_or_not (codes "check") command rest (fits_command (codes "check") check_leaf rest check_command (fits_two check_leaf check check_takes rest plain.1))
+    (λ c. is_or_not (codes "explain") command rest (fits_command (codes "explain") explain_leaf rest explain_command (explain_fits rest plain.1))
+    (λ e. is_or_not (codes "diff") command rest (fits_command (codes "diff") diff_leaf rest diff_command (fits_two diff_leaf diff diff_takes rest plain.1))
+    (λ d. is_or_not (codes "sweep") command rest (fits_command (codes "sweep") sweep_leaf rest sweep_command (fits_one sweep_leaf sweep sweep_takes rest plain.1))
+    (λ s. fits_other command rest plain.0 (record { not_run = r; not_check = c; not_explain = e; not_diff = d; not_sweep = s }))))))
 
 -- the same of all the words, the program's name first
-pub all_fit : (words : List Text) → list_all is_plain (drop 1 words) ≡ true → Fits (asked_by (drop 1 words)) (fault_of program words) (asked_of (option_map (λ p. p.1) (subcommand_of program words)))
+pub all_fit : (words : List Text) → list_all is_plain (drop 1 words) ≡ true → Fits (asked_by (drop 1 words)) (fault_of program words) (asked_of (subcommand_of program words))
 all_fit words h = words_fit (drop 1 words) h
 
 -- what is among such faults is no call for help
@@ -393,16 +372,16 @@ unfolding clap_on_literals
 free = refl
 
 -- words with no fault ask for what was found
-pub fits_asks : (asked : Option Names) (kinds : Kinds) (found : Names) → Fits asked kinds found → kinds ≡ [] → asked ≡ Some found
+pub fits_asks : (asked : Option Request) (kinds : Kinds) (found : Request) → Fits asked kinds found → kinds ≡ [] → asked ≡ Some found
 fits_asks (Some asks) kinds found fit e = ap Some (sym fit.1)
 fits_asks None kinds found fit e = absurd (false≢true (sym (ap refuses e) ∙ fit))
 
-pub memory_refuses : (asked : Option Names) → IsRefusal asked (Fault Memory)
+pub memory_refuses : (asked : Option Request) → IsRefusal asked (Fault Memory)
 memory_refuses (Some asks) = refl
 memory_refuses None = inr refl
 
 -- words with a fault are refused, and others only for want of memory
-pub told_refuses : (asked : Option Names) (kinds : Kinds) (found : Names) (kind : ErrorKind) (stop : Stop) → Fits asked kinds found → (kind ≡ OutOfMemory) ⊎ IsAmong kind kinds
+pub told_refuses : (asked : Option Request) (kinds : Kinds) (found : Request) (kind : ErrorKind) (stop : Stop) → Fits asked kinds found → (kind ≡ OutOfMemory) ⊎ IsAmong kind kinds
     → (kind ≡ OutOfMemory → stop ≡ Fault Memory) → (kind ≢ DisplayHelp → (stop ≡ Told 2) ⊎ (stop ≡ Fault Memory)) → IsRefusal asked stop
 told_refuses (Some asks) kinds found kind stop fit (inl lacks) memory other = memory lacks
 told_refuses (Some asks) kinds found kind stop fit (inr among) memory other = absurd (subst (IsAmong kind) fit.0 among)

@@ -1,12 +1,17 @@
--- What a run or a check through the program's buffer promises of the writer behind it.
-use Rattle.std.specs.Prelude.{ℕ, ◌^◌, ◌⊎◌, Bool, true, false, List, Option, Result, Ok, Err}
+-- What a run of a script, or asking its network, through the program's buffer promises of the writer behind it.
+use Rattle.std.specs.Prelude.{ℕ, ◌^◌, Bool, true, false, List, Option, Result, Ok, Err}
 use Rattle.std.specs.Io.KnownBytes.{append_known}
-use Rattle.mst_tool.specs.Check.{Checks, ChecksFront, ChecksEnded, ChecksScript}
+use Rattle.mst_tool.specs.Ask.{Asks, AsksFront}
 use Rattle.mst_tool.specs.Devices.{Told, IsCut, IsRead}
+use Rattle.mst_tool.specs.Load.{LoadsEnded, LoadsScript}
 use Rattle.mst_tool.specs.Run.{Prints, PrintsFront, PrintsEnded}
+use Rattle.mst_tool.specs.Script.{line_word}
+use Rattle.mst_tool.specs.declared.asked.Question.{Question}
 use Rattle.mst_tool.specs.declared.runs.Outcome.{Outcome}
 use Rattle.mst_tool.specs.declared.runs.RunFault.{RunFault}
 use Rattle.mst_tool.specs.declared.runs.RunFault.TheVariants.{Read, Write, Memory}
+
+-- ---- a run
 
 -- what the writer has, with some bytes that never came to it, is a front of what the script prints
 abbrev pub FallsShort : Option (List ℕ) → Option (List ℕ) → Option (List ℕ) → Type 0
@@ -31,28 +36,31 @@ ReadBy (Err Read) old new = IsCut (2 ^ 32) old new
 ReadBy (Err Write) old new = Unit {0}
 ReadBy (Err Memory) old new = ⊥
 
--- ---- a check
--- what the writer has, with some bytes that never came to it, is a front of what the script and the captures print
-abbrev pub FallsShortOfCheck : Option (List ℕ) → Option (List ℕ) → Option (List ℕ) → Option (List ℕ) → Type 0
-FallsShortOfCheck scripts captures written now = (missing : List ℕ) × ChecksFront scripts captures written (append_known now missing)
+-- ---- what is asked of a script's network
 
--- the complete lines of what was read were served, and the whole of what they print has come to the writer
-abbrev pub ChecksRead : Option (List ℕ) → Option (List ℕ) → Option (List ℕ) → Option (List ℕ) → Type 0
-ChecksRead scripts captures written now = (scripts_left captures_left : Option (List ℕ)) × ChecksEnded scripts scripts_left captures captures_left written now
+-- what the writer has, with some bytes that never came to it, is a front of what the script's lines and the answer print
+abbrev pub FallsShortOfAnswer : Question → Option (List ℕ) → Option (List ℕ) → Option (List ℕ) → Type 0
+FallsShortOfAnswer question reads written now = (missing : List ℕ) × AsksFront question reads written (append_known now missing)
 
--- How a check ends, and what has come to the writer then: where there is no memory for the plan, all that the script prints
-abbrev pub EndsCheck : Option (List ℕ) → Option (List ℕ) → Option (List ℕ) → Option (List ℕ) → Result Outcome RunFault → Type 0
-EndsCheck scripts captures written now (Ok outcome) = Checks scripts captures written now outcome
-EndsCheck scripts captures written now (Err Read) = ChecksRead scripts captures written now
-EndsCheck scripts captures written now (Err Write) = FallsShortOfCheck scripts captures written now
-EndsCheck scripts captures written now (Err Memory) = ChecksScript scripts written now
+-- the complete lines of what was read were served, the whole of what they print has come to the writer, and nothing was
+-- answered
+abbrev pub LoadsRead : Option (List ℕ) → Option (List ℕ) → Option (List ℕ) → Type 0
+LoadsRead reads written now = (left : Option (List ℕ)) × LoadsEnded line_word reads left written now
 
--- How the two sources stand where a check ends
-abbrev pub CheckedBy : Result Outcome RunFault → Told → Told → Told → Told → Type 0
-CheckedBy (Ok outcome) script script_now captures captures_now = IsRead script script_now × IsRead captures captures_now
-CheckedBy (Err Read) script script_now captures captures_now = IsCut (2 ^ 32) script script_now ⊎ IsCut (2 ^ 32) captures captures_now
-CheckedBy (Err Write) script script_now captures captures_now = Unit {0}
-CheckedBy (Err Memory) script script_now captures captures_now = Unit {0}
+-- How asking ends, and what has come to the writer then: where there is no memory for the answer, all that the script's lines
+-- print
+abbrev pub EndsAsk : Question → Option (List ℕ) → Option (List ℕ) → Option (List ℕ) → Result Outcome RunFault → Type 0
+EndsAsk question reads written now (Ok outcome) = Asks question reads written now outcome
+EndsAsk question reads written now (Err Read) = LoadsRead reads written now
+EndsAsk question reads written now (Err Write) = FallsShortOfAnswer question reads written now
+EndsAsk question reads written now (Err Memory) = LoadsScript line_word reads written now
+
+-- How a source stands where asking ends
+abbrev pub AskedBy : Result Outcome RunFault → Told → Told → Type 0
+AskedBy (Ok outcome) old new = IsRead old new
+AskedBy (Err Read) old new = IsCut (2 ^ 32) old new
+AskedBy (Err Write) old new = Unit {0}
+AskedBy (Err Memory) old new = Unit {0}
 
 -- the writer stopped it
 abbrev pub is_broken : Result Outcome RunFault → Bool

@@ -1,5 +1,6 @@
 pub mod Endings
-pub mod Buffered
-pub mod Named
 pub mod Words
+pub mod Buffered
+pub mod Compared
+pub mod Named
 pub mod Program

@@ -1,29 +1,28 @@
--- Which script is run, and which captures are compared with its plan.
+-- Which script is run, and which two inputs are compared.
 use Rattle.std.specs.Prelude.{◌≡◌, ◌≢◌, ◌⊎◌, ℕ, List, [], Option, Some, codes}
 use Rattle.std.specs.Borrow.{Bor}
 use Rattle.mst_tool.specs.declared.runs.RunFault.TheVariants.{Memory}
 use Rattle.mstplan.specs.declared.endings.Stop.{Stop}
 use Rattle.mstplan.specs.declared.endings.Stop.TheVariants.{Told, Unopened, Fault}
 
--- the script is what standard input gives where the name is `-`, and else what the file of this name has
-pub record IsNamed (IsGiven : Option (List ℕ) → Type 0) (IsFile : List ℕ → Option (List ℕ) → Type 0) (name : List ℕ) (script : Option (List ℕ)) : Type 0 where
-  pub given : name ≡ codes "-" → IsGiven script
-  pub file : name ≢ codes "-" → IsFile name script
+-- the input is what standard input gives where the name is `-`, and else what the file of this name has
+pub record IsNamed (IsGiven : Option (List ℕ) → Type 0) (IsFile : List ℕ → Option (List ℕ) → Type 0) (name : List ℕ) (input : Option (List ℕ)) : Type 0 where
+  pub given : name ≡ codes "-" → IsGiven input
+  pub file : name ≢ codes "-" → IsFile name input
 
--- why the script of this name isn't run: its file, and no other, couldn't be opened, or there is no memory
+-- why the input of this name isn't read: its file, and no other, couldn't be opened, or there is no memory
 abbrev pub IsWhyNot : (List ℕ → Type 0) → Bor (List ℕ) → Stop → Type 0
 IsWhyNot IsUnopened name (Told status) = ⊥
 IsWhyNot IsUnopened name (Unopened file) = (file ≡ name) × (name.now ≢ codes "-") × IsUnopened name.now
 IsWhyNot IsUnopened name (Fault fault) = fault ≡ Memory
 
--- the same of a script and of captures. Where both names are `-` the script takes all of standard input, and there is no
--- capture
-pub record AreNamed (IsGiven : Option (List ℕ) → Type 0) (IsFile : List ℕ → Option (List ℕ) → Type 0) (script captures : List ℕ) (scripts captured : Option (List ℕ)) : Type 0 where
-  pub script_named : IsNamed IsGiven IsFile script scripts
-  pub captures_file : captures ≢ codes "-" → IsFile captures captured
-  pub captures_given : captures ≡ codes "-" → script ≢ codes "-" → IsGiven captured
-  pub no_captures : captures ≡ codes "-" → script ≡ codes "-" → captured ≡ Some []
+-- the same of two inputs. Where both names are `-` the first takes all of standard input, and the second is empty
+pub record AreNamed (IsGiven : Option (List ℕ) → Type 0) (IsFile : List ℕ → Option (List ℕ) → Type 0) (name other : List ℕ) (first second : Option (List ℕ)) : Type 0 where
+  pub first_named : IsNamed IsGiven IsFile name first
+  pub second_file : other ≢ codes "-" → IsFile other second
+  pub second_given : other ≡ codes "-" → name ≢ codes "-" → IsGiven second
+  pub no_second : other ≡ codes "-" → name ≡ codes "-" → second ≡ Some []
 
--- why the two aren't run: the file that is told, one of the two, couldn't be opened, or there is no memory
+-- why the two aren't read: the file that is told, one of the two, couldn't be opened, or there is no memory
 abbrev pub IsWhyNeither : (List ℕ → Type 0) → Bor (List ℕ) → Bor (List ℕ) → Stop → Type 0
-IsWhyNeither IsUnopened script captures stop = IsWhyNot IsUnopened script stop ⊎ IsWhyNot IsUnopened captures stop
+IsWhyNeither IsUnopened name other stop = IsWhyNot IsUnopened name stop ⊎ IsWhyNot IsUnopened other stop

@@ -8,20 +8,48 @@ use Rattle.mst_tool.specs.declared.runs.RunFault.TheVariants.{Memory}
 use Rattle.mstplan.specs.declared.endings.Stop.{Stop}
 use Rattle.mstplan.specs.declared.endings.Stop.TheVariants.{Told, Fault}
 use Rattle.mstplan.specs.declared.words.Asked.{Asked}
+use Rattle.mstplan.specs.declared.words.PortWords.{PortWords}
+use Rattle.mstplan.specs.declared.words.Asked.TheVariants.{Run, Check, Explain, Diff, Sweep}
 
--- the name of the script, and that of the captures, if these are asked for
-pub record Names : Type 0 where
-  pub script : List ℕ
-  pub captures : Option (List ℕ)
+-- what words ask for: to run the script of this name; to compare the captures of the second name with the plan of the
+-- script of the first; to explain, in the network that the script leaves, the role of a port, which these words name:
+-- its bridge, its number and, if there is one, a tree; to tell how the network of the first script differs from that of
+-- the second; or to tell what each single failure does to the network of the script
+pub data Request : Type 0 where
+  run : List ℕ → Request
+  check : List ℕ → List ℕ → Request
+  explain : List ℕ → List ℕ → List ℕ → Option (List ℕ) → Request
+  diff : List ℕ → List ℕ → Request
+  sweep : List ℕ → Request
 
-abbrev pub words_of : Asked → Names
-words_of asked = record { script = asked.script.now; captures = option_map (λ name. name.now) asked.captures }
+-- the word that names a tree, if there is one
+abbrev pub tree_word : PortWords → Option (List ℕ)
+tree_word port = option_map (λ word. word.now) port.tree
 
--- of what was found for a command, if there is one, the value of FILE, and that of CAPTURES, if there is one. Without a
--- command the script is `-`
-abbrev pub asked_of : Option (List Row) → Names
-asked_of None = record { script = codes "-"; captures = None }
-asked_of (Some rows) = record { script = unwrap_or (first_of (codes "FILE") rows) (codes "-"); captures = first_of (codes "CAPTURES") rows }
+abbrev pub words_of : Asked → Request
+words_of (Run script) = run script.now
+words_of (Check script captures) = check script.now captures.now
+words_of (Explain script port) = explain script.now port.bridge.now port.number.now (tree_word port)
+words_of (Diff old new) = diff old.now new.now
+words_of (Sweep script) = sweep script.now
+
+-- the value that was found for a word that has to be there. There is one
+abbrev pub value_of : List ℕ → List Row → List ℕ
+value_of id rows = unwrap_or (first_of id rows) (codes "-")
+
+-- what a command asks for, by what was found for it
+abbrev pub request_of : List ℕ → List Row → Request
+request_of command rows =
+    if bytes_eq command (codes "check") then check (value_of (codes "FILE") rows) (value_of (codes "CAPTURES") rows)
+    else if bytes_eq command (codes "explain") then explain (value_of (codes "FILE") rows) (value_of (codes "B") rows) (value_of (codes "P") rows) (first_of (codes "TREE") rows)
+    else if bytes_eq command (codes "diff") then diff (value_of (codes "OLD") rows) (value_of (codes "NEW") rows)
+    else if bytes_eq command (codes "sweep") then sweep (value_of (codes "FILE") rows)
+    else run (value_of (codes "FILE") rows)
+
+-- what the name of a command, if there is one, and what was found for it ask for. Without a command the script is `-`
+abbrev pub asked_of : Option (List ℕ × List Row) → Request
+asked_of None = run (codes "-")
+asked_of (Some found) = request_of found.0 found.1
 
 -- a word that isn't read as an option: it doesn't begin with a hyphen, or is one alone
 abbrev pub is_plain : List ℕ → Bool
@@ -36,35 +64,65 @@ are_plain = list_all is_plain
 abbrev pub behind_name : List (String Global) → List (List ℕ)
 behind_name words = drop 1 (map string_bytes words)
 
+-- what words ask for behind a command that takes one, and behind one that takes two, which are those that the command asks
+-- of
+abbrev pub by_one : (List ℕ → Request) → List (List ℕ) → Option Request
+by_one asks (word ∷ []) = Some (asks word)
+by_one asks words = None
+
+abbrev pub by_two : (List ℕ → List ℕ → Request) → List (List ℕ) → Option Request
+by_two asks (word ∷ other ∷ []) = Some (asks word other)
+by_two asks words = None
+
+-- what they ask for behind `explain`: FILE B P, or FILE B P TREE
+abbrev pub by_port : List (List ℕ) → Option Request
+by_port (script ∷ bridge ∷ port ∷ []) = Some (explain script bridge port None)
+by_port (script ∷ bridge ∷ port ∷ tree ∷ []) = Some (explain script bridge port (Some tree))
+by_port words = None
+
 -- What words ask for that aren't options, behind the program's name: none for the script on standard input, `run FILE` for
--- that of a file, `check FILE CAPTURES` for both. Each name is the word itself. Any other words ask for nothing
-abbrev pub asked_by : List (List ℕ) → Option Names
-asked_by [] = Some (record { script = codes "-"; captures = None })
-asked_by (command ∷ []) = None
-asked_by (command ∷ script ∷ []) = if bytes_eq (codes "run") command then Some (record { script = script; captures = None }) else None
-asked_by (command ∷ script ∷ captures ∷ []) = if bytes_eq (codes "check") command then Some (record { script = script; captures = Some captures }) else None
-asked_by (command ∷ script ∷ captures ∷ more ∷ rest) = None
+-- that of a file, `check FILE CAPTURES`, `explain FILE B P`, with or without TREE, `diff OLD NEW` and `sweep FILE`. What is
+-- asked for are the words themselves. Any other words ask for nothing
+abbrev pub asked_by : List (List ℕ) → Option Request
+asked_by [] = Some (run (codes "-"))
+asked_by (command ∷ words) =
+    if bytes_eq (codes "run") command then by_one run words
+    else if bytes_eq (codes "check") command then by_two check words
+    else if bytes_eq (codes "explain") command then by_port words
+    else if bytes_eq (codes "diff") command then by_two diff words
+    else if bytes_eq (codes "sweep") command then by_one sweep words
+    else None
 
 -- why words that aren't options aren't served: for want of memory, or since they ask for nothing, which is told with status 2
-abbrev pub IsRefusal : Option Names → Stop → Type 0
-IsRefusal (Some names) stop = stop ≡ Fault Memory
+abbrev pub IsRefusal : Option Request → Stop → Type 0
+IsRefusal (Some request) stop = stop ≡ Fault Memory
 IsRefusal None stop = (stop ≡ Told 2) ⊎ (stop ≡ Fault Memory)
 
 -- ---- the same words, as they are declared
 
 -- a word that has to be there
-abbrev pub wanted : List ℕ → Rule
-wanted id = record (new_rule id) { required = true }
+abbrev pub wanted_rule : List ℕ → Rule
+wanted_rule id = record (new_rule id) { required = true }
 
-abbrev pub run_command : App
-run_command = with_rule (new_app (codes "run")) (wanted (codes "FILE"))
+abbrev pub run_app : App
+run_app = with_rule (new_app (codes "run")) (wanted_rule (codes "FILE"))
 
-abbrev pub check_command : App
-check_command = with_rule (with_rule (new_app (codes "check")) (wanted (codes "FILE"))) (wanted (codes "CAPTURES"))
+abbrev pub check_app : App
+check_app = with_rule (with_rule (new_app (codes "check")) (wanted_rule (codes "FILE"))) (wanted_rule (codes "CAPTURES"))
+
+abbrev pub explain_app : App
+explain_app =
+    with_rule (with_rule (with_rule (with_rule (new_app (codes "explain")) (wanted_rule (codes "FILE"))) (wanted_rule (codes "B"))) (wanted_rule (codes "P"))) (new_rule (codes "TREE"))
+
+abbrev pub diff_app : App
+diff_app = with_rule (with_rule (new_app (codes "diff")) (wanted_rule (codes "OLD"))) (wanted_rule (codes "NEW"))
+
+abbrev pub sweep_app : App
+sweep_app = with_rule (new_app (codes "sweep")) (wanted_rule (codes "FILE"))
 
 -- the program with no command, which has none that prints help
 abbrev pub no_command : App
 no_command = record { top = record ((new_app (codes "mstplan")).top) { disable_help_subcommand = true }; subs = [] }
 
 abbrev pub program : App
-program = with_subcommand (with_subcommand no_command run_command.top) check_command.top
+program = with_subcommand (with_subcommand (with_subcommand (with_subcommand (with_subcommand no_command run_app.top) check_app.top) explain_app.top) diff_app.top) sweep_app.top

@@ -1,9 +1,11 @@
 //! Plans Ethernet networks with rapid and multiple spanning trees: runs a script from a file or from
-//! standard input, and compares captured messages with its plan.
+//! standard input, compares captured messages with its plan, tells why a port has its role, how
+//! the networks of two scripts differ, and what each single failure does.
 #![tactic(auto)]
 
 mod buffered;
 mod closed;
+mod compared;
 mod endings;
 mod named;
 mod program;

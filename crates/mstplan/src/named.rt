@@ -1,11 +1,13 @@
 ghost use Rattle.std.specs.Prelude.{ℕ, List, Option, IfOk, IfErr, codes};
-ghost use Rattle.mstplan.specs.Buffered.{Ends, EndsCheck};
+ghost use Rattle.mstplan.specs.Buffered.{Ends, EndsAsk};
+ghost use Rattle.mstplan.specs.Compared.{EndsComparison};
 ghost use Rattle.mstplan.specs.Named.{IsNamed, AreNamed, IsWhyNot, IsWhyNeither};
 
-use crate::buffered::{Ran, check_buffered, run_buffered};
+use crate::buffered::{Ran, ask_buffered, run_buffered};
+use crate::compared::{Comparison, compare_buffered};
 use crate::endings::Stop;
 use crate::sources::{Sources, Unopened};
-use mst_tool::RunFault;
+use mst_tool::{Question, RunFault};
 use std::alloc::Global;
 use std::io::{Read, Write};
 
@@ -33,47 +35,23 @@ pub(crate) fn run_named<'a, S: Sources, W: Write + Drop>(
     }
 }
 
-/// Runs the script in the file of a name, and compares the captures in the file of the other with its plan. Either is
-/// standard input's where its name is `-`. Where both are, the script takes all of it, and there is no capture.
-pub(crate) fn check_named<'a, S: Sources, W: Write + Drop>(
+/// Asks the network of the script in the file of a name, or on standard input where the name is `-`.
+pub(crate) fn ask_named<'a, S: Sources, W: Write + Drop>(
     alloc: Global,
     sources: &S,
-    script: &'a str,
-    captures: &'a str,
+    question: &Question,
+    name: &'a str,
     writer: W,
 ) -> Result<Ran<W>, Stop<'a>>
-    ensures ran { IfOk result (λ ran. (scripts captured : Option (List ℕ)) × AreNamed (S.is_given sources.now) (S.is_file sources.now) script.entry.now captures.entry.now scripts captured
-        × EndsCheck scripts captured (W.contents writer) (W.contents ran.writer) ran.ended) }
-    ensures stopped { IfErr result (IsWhyNeither (S.is_unopened sources.now) script.entry captures.entry) }
+    ensures ran { IfOk result (λ ran. (script : Option (List ℕ)) × IsNamed (S.is_given sources.now) (S.is_file sources.now) name.entry.now script × EndsAsk question.now script (W.contents writer) (W.contents ran.writer) ran.ended) }
+    ensures stopped { IfErr result (IsWhyNot (S.is_unopened sources.now) name.entry) }
 {
-    if script == "-" {
-        return check_given(alloc, sources, captures, writer);
-    }
-    match sources.open(script) {
-        Ok(file) => check_file(alloc, sources, file, captures, writer),
-        Err(Unopened) => Err(Stop::Unopened(script)),
-    }
-}
-
-/// Compares captures with the plan of the script on standard input. There is none where they are named as that.
-fn check_given<'a, S: Sources, W: Write + Drop>(
-    alloc: Global,
-    sources: &S,
-    captures: &'a str,
-    writer: W,
-) -> Result<Ran<W>, Stop<'a>>
-    ensures ran { IfOk result (λ ran. (scripts captured : Option (List ℕ)) × AreNamed (S.is_given sources.now) (S.is_file sources.now) (codes "-") captures.entry.now scripts captured
-        × EndsCheck scripts captured (W.contents writer) (W.contents ran.writer) ran.ended) }
-    ensures stopped { IfErr result (IsWhyNot (S.is_unopened sources.now) captures.entry) }
-{
-    let script = sources.given();
-    let ran = if captures == "-" {
-        let nothing: &[u8] = &[];
-        check_buffered(alloc, script, nothing, writer)
+    let ran = if name == "-" {
+        ask_buffered(alloc, question, sources.given(), writer)
     } else {
-        match sources.open(captures) {
-            Ok(file) => check_buffered(alloc, script, file, writer),
-            Err(Unopened) => return Err(Stop::Unopened(captures)),
+        match sources.open(name) {
+            Ok(file) => ask_buffered(alloc, question, file, writer),
+            Err(Unopened) => return Err(Stop::Unopened(name)),
         }
     };
     match ran {
@@ -82,24 +60,76 @@ fn check_given<'a, S: Sources, W: Write + Drop>(
     }
 }
 
-/// Compares captures with the plan of a script that isn't on standard input.
-fn check_file<'a, S: Sources, R: Read + Drop, W: Write + Drop>(
+/// Compares what is in the files of two names. Either is standard input's where its name is `-`. Where both are, the first
+/// takes all of it, and the second is empty.
+pub(crate) fn compare_named<'a, S: Sources, W: Write + Drop>(
     alloc: Global,
     sources: &S,
-    script: R,
-    captures: &'a str,
+    comparison: Comparison,
+    name: &'a str,
+    other: &'a str,
     writer: W,
 ) -> Result<Ran<W>, Stop<'a>>
-    ensures ran { IfOk result (λ ran. (captured : Option (List ℕ)) × IsNamed (S.is_given sources.now) (S.is_file sources.now) captures.entry.now captured
-        × EndsCheck (R.remaining script) captured (W.contents writer) (W.contents ran.writer) ran.ended) }
-    ensures stopped { IfErr result (IsWhyNot (S.is_unopened sources.now) captures.entry) }
+    ensures ran { IfOk result (λ ran. (first second : Option (List ℕ)) × AreNamed (S.is_given sources.now) (S.is_file sources.now) name.entry.now other.entry.now first second
+        × EndsComparison comparison first second (W.contents writer) (W.contents ran.writer) ran.ended) }
+    ensures stopped { IfErr result (IsWhyNeither (S.is_unopened sources.now) name.entry other.entry) }
 {
-    let ran = if captures == "-" {
-        check_buffered(alloc, script, sources.given(), writer)
+    if name == "-" {
+        return compare_given(alloc, sources, comparison, other, writer);
+    }
+    match sources.open(name) {
+        Ok(file) => compare_file(alloc, sources, comparison, file, other, writer),
+        Err(Unopened) => Err(Stop::Unopened(name)),
+    }
+}
+
+/// Compares standard input with another input, which is empty where it is named as that.
+fn compare_given<'a, S: Sources, W: Write + Drop>(
+    alloc: Global,
+    sources: &S,
+    comparison: Comparison,
+    other: &'a str,
+    writer: W,
+) -> Result<Ran<W>, Stop<'a>>
+    ensures ran { IfOk result (λ ran. (first second : Option (List ℕ)) × AreNamed (S.is_given sources.now) (S.is_file sources.now) (codes "-") other.entry.now first second
+        × EndsComparison comparison first second (W.contents writer) (W.contents ran.writer) ran.ended) }
+    ensures stopped { IfErr result (IsWhyNot (S.is_unopened sources.now) other.entry) }
+{
+    let first = sources.given();
+    let ran = if other == "-" {
+        let nothing: &[u8] = &[];
+        compare_buffered(alloc, comparison, first, nothing, writer)
     } else {
-        match sources.open(captures) {
-            Ok(file) => check_buffered(alloc, script, file, writer),
-            Err(Unopened) => return Err(Stop::Unopened(captures)),
+        match sources.open(other) {
+            Ok(file) => compare_buffered(alloc, comparison, first, file, writer),
+            Err(Unopened) => return Err(Stop::Unopened(other)),
+        }
+    };
+    match ran {
+        Some(ran) => Ok(ran),
+        None => Err(Stop::Fault(RunFault::Memory)),
+    }
+}
+
+/// Compares an input that isn't standard input with another.
+fn compare_file<'a, S: Sources, R: Read + Drop, W: Write + Drop>(
+    alloc: Global,
+    sources: &S,
+    comparison: Comparison,
+    first: R,
+    other: &'a str,
+    writer: W,
+) -> Result<Ran<W>, Stop<'a>>
+    ensures ran { IfOk result (λ ran. (second : Option (List ℕ)) × IsNamed (S.is_given sources.now) (S.is_file sources.now) other.entry.now second
+        × EndsComparison comparison (R.remaining first) second (W.contents writer) (W.contents ran.writer) ran.ended) }
+    ensures stopped { IfErr result (IsWhyNot (S.is_unopened sources.now) other.entry) }
+{
+    let ran = if other == "-" {
+        compare_buffered(alloc, comparison, first, sources.given(), writer)
+    } else {
+        match sources.open(other) {
+            Ok(file) => compare_buffered(alloc, comparison, first, file, writer),
+            Err(Unopened) => return Err(Stop::Unopened(other)),
         }
     };
     match ran {

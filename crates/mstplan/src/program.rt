@@ -1,11 +1,13 @@
-ghost use Rattle.std.specs.Prelude.{◌≡◌, None, IfOk, IfErr, IfSome};
-ghost use Rattle.mstplan.specs.Program.{Serves, IsWhyUnserved, IsAfterRun, IsAfterStop, IsTold};
+ghost use Rattle.std.specs.Prelude.{◌≡◌, None, IfOk, IfErr, IfSome, option_map};
+ghost use Rattle.mstplan.specs.Program.{Serves, port_question, IsWhyUnserved, IsAfterRun, IsAfterStop, IsTold};
 
 use crate::buffered::Ran;
+use crate::compared::Comparison;
 use crate::endings::{Stop, ending_of, tell};
-use crate::named::{check_named, run_named};
+use crate::named::{ask_named, compare_named, run_named};
 use crate::sources::Sources;
-use crate::words::Asked;
+use crate::words::{Asked, PortWords};
+use mst_tool::Question;
 use std::alloc::Global;
 use std::io::Write;
 
@@ -20,19 +22,54 @@ pub(crate) struct Ended<W: Drop> {
     pub(crate) is_told: bool,
 }
 
-/// Runs the script that the words ask for, or checks the captures that they name against its plan.
+/// Does what the words ask for.
 fn serve<'a, S: Sources, W: Write + Drop>(
     alloc: Global,
     sources: &S,
     asked: Asked<'a>,
     output: W,
 ) -> Result<Ran<W>, Stop<'a>>
-    ensures ran { IfOk result (λ ran. Serves (S.is_given sources.now) (S.is_file sources.now) asked.entry.script asked.entry.captures (W.contents output) (W.contents ran.writer) ran.ended) }
-    ensures stopped { IfErr result (IsWhyUnserved (S.is_unopened sources.now) asked.entry.script asked.entry.captures) }
+    ensures ran { IfOk result (λ ran. Serves (S.is_given sources.now) (S.is_file sources.now) asked.entry (W.contents output) (W.contents ran.writer) ran.ended) }
+    ensures stopped { IfErr result (IsWhyUnserved (S.is_unopened sources.now) asked.entry) }
 {
-    match asked.captures {
-        None => run_named(alloc, sources, asked.script, output),
-        Some(captures) => check_named(alloc, sources, asked.script, captures, output),
+    match asked {
+        Asked::Run { script } => run_named(alloc, sources, script, output),
+        Asked::Check { script, captures } => compare_named(
+            alloc,
+            sources,
+            Comparison::Captures,
+            script,
+            captures,
+            output,
+        ),
+        Asked::Explain { script, port } => {
+            ask_named(alloc, sources, &question_of(port), script, output)
+        }
+        Asked::Diff { old, new } => {
+            compare_named(alloc, sources, Comparison::Networks, old, new, output)
+        }
+        Asked::Sweep { script } => ask_named(alloc, sources, &Question::Sweep, script, output),
+    }
+}
+
+/// What the words that name a port ask of a network.
+fn question_of(port: PortWords<'_>) -> Question
+    ensures { result ≡ port_question port.entry }
+{
+    Question::explain(
+        port.bridge.as_bytes(),
+        port.number.as_bytes(),
+        bytes_of(port.tree),
+    )
+}
+
+/// The bytes of a word, if there is one.
+fn bytes_of<'a>(word: Option<&'a str>) -> Option<&'a [u8]>
+    ensures { option_map (λ bytes. bytes.now) result ≡ option_map (λ word. word.now) word.entry }
+{
+    match word {
+        Some(word) => Some(word.as_bytes()),
+        None => None,
     }
 }
 

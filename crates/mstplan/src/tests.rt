@@ -1,5 +1,6 @@
-use crate::buffered::{check_buffered, run_buffered};
-use mst_tool::{Outcome, RunFault};
+use crate::buffered::{ask_buffered, run_buffered};
+use crate::compared::{Comparison, compare_buffered};
+use mst_tool::{Outcome, Question, RunFault};
 use std::io::{Error, ErrorKind, Read, Result, Write};
 
 /// Takes this many bytes, then fails once, and counts the calls after it.
@@ -100,7 +101,14 @@ fn a_run_to_the_end_is_written(rt: HostRuntime) -> Result<()> {
 fn a_check_to_the_end_is_written(rt: HostRuntime) -> Result<()> {
     let script: &[u8] = b"showtree 0\n";
     let captures: &[u8] = b"# none\n00\n";
-    let Some(ran) = check_buffered(rt.alloc(), script, captures, Vec::new(rt.alloc())) else {
+    let compared = compare_buffered(
+        rt.alloc(),
+        Comparison::Captures,
+        script,
+        captures,
+        Vec::new(rt.alloc()),
+    );
+    let Some(ran) = compared else {
         return Err(Error::from(ErrorKind::OutOfMemory));
     };
     let counted = Outcome {
@@ -110,6 +118,60 @@ fn a_check_to_the_end_is_written(rt: HostRuntime) -> Result<()> {
     };
     assert_eq!(rt; ran.ended, Ok(counted));
     let written: &[u8] = b"tree 0\ncapture 2 B02 too short\n";
+    assert_eq!(rt; ran.writer.as_slice(), written);
+    Ok(())
+}
+
+#[test]
+fn an_explanation_to_the_end_is_written(rt: HostRuntime) -> Result<()> {
+    let script: &[u8] =
+        b"no\naddbridge A 02:00:00:00:00:01\naddport A 1\naddlan x\nplug A 1 x\nshowtree 0\n";
+    let question = Question::explain(b"A", b"1", None);
+    let Some(ran) = ask_buffered(rt.alloc(), &question, script, Vec::new(rt.alloc())) else {
+        return Err(Error::from(ErrorKind::OutOfMemory));
+    };
+    let counted = Outcome {
+        refused: 1,
+        memory: 0,
+        differing: 0,
+    };
+    assert_eq!(rt; ran.ended, Ok(counted));
+    let written: &[u8] =
+        b"line 1 E01 no such command\nexplain 0 A:1 x Designated\ndesignated A:1 alone\n";
+    assert_eq!(rt; ran.writer.as_slice(), written);
+    Ok(())
+}
+
+#[test]
+fn how_networks_differ_is_written(rt: HostRuntime) -> Result<()> {
+    let old: &[u8] = b"\
+        addbridge A 02:00:00:00:00:01\naddbridge B 02:00:00:00:00:02\naddlan x\n\
+        addport A 1\naddport B 1\nplug A 1 x\nplug B 1 x\n";
+    let mut new = Vec::new(rt.alloc());
+    new.write_all(old)?;
+    new.write_all(b"no\nsettreeprio B 0 4\n")?;
+    let compared = compare_buffered(
+        rt.alloc(),
+        Comparison::Networks,
+        old,
+        new.as_slice(),
+        Vec::new(rt.alloc()),
+    );
+    let Some(ran) = compared else {
+        return Err(Error::from(ErrorKind::OutOfMemory));
+    };
+    let counted = Outcome {
+        refused: 1,
+        memory: 0,
+        differing: 1,
+    };
+    assert_eq!(rt; ran.ended, Ok(counted));
+    let written: &[u8] = b"\
+        new line 8 E01 no such command\n\
+        root 0 A -> B\n\
+        port 0 A 1 Designated -> Root\n\
+        port 0 B 1 Root -> Designated\n\
+        diff regions 0 roots 1 ports 2 vlans 0\n";
     assert_eq!(rt; ran.writer.as_slice(), written);
     Ok(())
 }

@@ -1,6 +1,6 @@
-ghost use Rattle.std.specs.Prelude.{◌≡◌, ◌≢◌, ◌⊎◌, true, Some, codes, option_map, unwrap_or, IfOk, IfErr};
-ghost use Rattle.clap.specs.Words.{app_of, first_value, found_of, kind_of, subcommand_rows_of};
-ghost use Rattle.mstplan.specs.Words.{words_of, asked_of, asked_by, are_plain, behind_name, IsRefusal, program};
+ghost use Rattle.std.specs.Prelude.{◌≡◌, ◌≢◌, ◌⊎◌, true, false, Some, codes, option_map, IfOk, IfErr};
+ghost use Rattle.clap.specs.Words.{app_of, first_of, found_of, kind_of, rows_of, rule_of, subcommand_rows_of};
+ghost use Rattle.mstplan.specs.Words.{words_of, tree_word, value_of, asked_of, request_of, asked_by, are_plain, behind_name, IsRefusal, wanted_rule, program};
 
 use crate::endings::Stop;
 use clap::error::ErrorKind;
@@ -10,16 +10,56 @@ use std::alloc::{AllocError, Global};
 use std::env::{self, Env};
 use std::io;
 
-/// What the words ask for: to run the script of this name, and, where captures are named, to compare these with its
-/// plan. The name `-` is that of standard input.
+/// What the words ask for. A script and captures are named, and the name `-` is that of standard input.
 #[derive(Clone, Copy)]
-pub(crate) struct Asked<'a> {
-    pub(crate) script: &'a str,
-    pub(crate) captures: Option<&'a str>,
+pub(crate) enum Asked<'a> {
+    /// To run a script.
+    Run {
+        script: &'a str,
+    },
+    /// To compare captures with the plan of a script.
+    Check {
+        script: &'a str,
+        captures: &'a str,
+    },
+    /// To tell why a port has its role in the network that a script leaves.
+    Explain {
+        script: &'a str,
+        port: PortWords<'a>,
+    },
+    /// To tell what becomes of the network of a script with that of another in its place.
+    Diff {
+        old: &'a str,
+        new: &'a str,
+    },
+    /// To tell what each single failure does to the network of a script.
+    Sweep {
+        script: &'a str,
+    },
 }
 
-/// What is said of the word that names a script.
+/// The words that name a port, and a tree if it is one that is asked for. Nothing has looked at what they say.
+#[derive(Clone, Copy)]
+pub(crate) struct PortWords<'a> {
+    pub(crate) bridge: &'a str,
+    pub(crate) number: &'a str,
+    pub(crate) tree: Option<&'a str>,
+}
+
+/// What is said of each word that a command has.
 const SCRIPT: &str = "The script, or - for standard input";
+
+const CAPTURES: &str = "The captured messages, one a line, or - for standard input";
+
+const BRIDGE: &str = "The name of the port's bridge";
+
+const PORT: &str = "The port's number";
+
+const TREE: &str = "The tree, 0 to 4094. Without it, each that the bridge has";
+
+const OLD: &str = "The script of the network before, or - for standard input";
+
+const NEW: &str = "The script of the network afterwards, or - for standard input";
 
 /// What stops the program where memory was refused.
 fn starved(_refused: AllocError) -> Stop<'static>
@@ -82,53 +122,112 @@ fn tell_words<R: Print + Eprint>(rt: &R, error: &Error) -> Stop<'static>
     }
 }
 
+/// A word that has to be there.
+fn wanted<'a>(alloc: Global, id: &'a str, help: &'a str) -> Arg<'a>
+    ensures rule { rule_of result ≡ wanted_rule id.entry.now }
+    ensures local { result.global ≡ false }
+{
+    Arg::new(alloc, id).help(help).required(true)
+}
+
 /// The program's command line.
 fn command<'a>(alloc: Global) -> Result<Command<'a>, AllocError>
     ensures { IfOk result (λ command. app_of command ≡ program) }
 {
-    let script = Arg::new(alloc, "FILE").help(SCRIPT).required(true);
     let run = Command::new(alloc, "run")
         .about("Runs a script")
-        .arg(script)?;
-    let script = Arg::new(alloc, "FILE").help(SCRIPT).required(true);
-    let captures = Arg::new(alloc, "CAPTURES")
-        .help("The captured messages, one a line, or - for standard input")
-        .required(true);
+        .arg(wanted(alloc, "FILE", SCRIPT))?;
     let check = Command::new(alloc, "check")
         .about("Runs a script, and compares captured messages with the plan at its end")
-        .arg(script)?
-        .arg(captures)?;
+        .arg(wanted(alloc, "FILE", SCRIPT))?
+        .arg(wanted(alloc, "CAPTURES", CAPTURES))?;
+    let explain = Command::new(alloc, "explain")
+        .about("Makes the network of a script, and tells why a port has its role there")
+        .arg(wanted(alloc, "FILE", SCRIPT))?
+        .arg(wanted(alloc, "B", BRIDGE))?
+        .arg(wanted(alloc, "P", PORT))?
+        .arg(Arg::new(alloc, "TREE").help(TREE))?;
+    let diff = Command::new(alloc, "diff")
+        .about("Makes the networks of two scripts, and tells what is another in the second")
+        .arg(wanted(alloc, "OLD", OLD))?
+        .arg(wanted(alloc, "NEW", NEW))?;
+    let sweep = Command::new(alloc, "sweep")
+        .about("Makes the network of a script, and tells what each single failure does to it")
+        .arg(wanted(alloc, "FILE", SCRIPT))?;
     Command::new(alloc, "mstplan")
         .about(
             "Plans networks of spanning trees. With no command it reads a script on standard input",
         )
         .disable_help_subcommand(true)
         .subcommand(run)?
-        .subcommand(check)
+        .subcommand(check)?
+        .subcommand(explain)?
+        .subcommand(diff)?
+        .subcommand(sweep)
 }
 
-/// What a command asks for: to run standard input where there is none.
+/// What the words ask for: to run standard input where there is no command.
 fn asked_in<'a>(matches: &ArgMatches<'a>) -> Asked<'a>
-    ensures { words_of result ≡ asked_of (option_map (λ found. found.1) (subcommand_rows_of matches.now)) }
+    ensures { words_of result ≡ asked_of (subcommand_rows_of matches.now) }
 {
     match matches.subcommand() {
-        Some((_, found)) => Asked {
-            script: script_in(found),
-            captures: found.get_str("CAPTURES"),
+        Some((command, found)) => asked_of_command(command, found),
+        None => Asked::Run { script: "-" },
+    }
+}
+
+/// What a command asks for, by what was found for it.
+fn asked_of_command<'a>(command: &str, found: &ArgMatches<'a>) -> Asked<'a>
+    ensures { words_of result ≡ request_of command.now (rows_of (found_of found.now)) }
+{
+    match command {
+        "check" => Asked::Check {
+            script: value_in(found, "FILE"),
+            captures: value_in(found, "CAPTURES"),
         },
-        None => Asked {
-            script: "-",
-            captures: None,
+        "explain" => Asked::Explain {
+            script: value_in(found, "FILE"),
+            port: port_in(found),
+        },
+        "diff" => Asked::Diff {
+            old: value_in(found, "OLD"),
+            new: value_in(found, "NEW"),
+        },
+        "sweep" => Asked::Sweep {
+            script: value_in(found, "FILE"),
+        },
+        _ => Asked::Run {
+            script: value_in(found, "FILE"),
         },
     }
 }
 
-/// The value of FILE, `-` where there is none.
-fn script_in<'a>(found: &ArgMatches<'a>) -> &'a str
-    ensures { result.now ≡ unwrap_or (first_value (found_of found.now) (codes "FILE")) (codes "-") }
+/// The words that name a port.
+fn port_in<'a>(found: &ArgMatches<'a>) -> PortWords<'a>
+    ensures bridge { result.bridge.now ≡ value_of (codes "B") (rows_of (found_of found.now)) }
+    ensures number { result.number.now ≡ value_of (codes "P") (rows_of (found_of found.now)) }
+    ensures tree { tree_word result ≡ first_of (codes "TREE") (rows_of (found_of found.now)) }
 {
-    match found.get_str("FILE") {
-        Some(file) => file,
+    PortWords {
+        bridge: value_in(found, "B"),
+        number: value_in(found, "P"),
+        tree: word_in(found, "TREE"),
+    }
+}
+
+/// The value of a word that had to be there, and `-` where it isn't.
+fn value_in<'a>(found: &ArgMatches<'a>, id: &str) -> &'a str
+    ensures { result.now ≡ value_of id.now (rows_of (found_of found.now)) }
+{
+    match word_in(found, id) {
+        Some(value) => value,
         None => "-",
     }
+}
+
+/// The value of a word, if it is there.
+fn word_in<'a>(found: &ArgMatches<'a>, id: &str) -> Option<&'a str>
+    ensures { option_map (λ word. word.now) result ≡ first_of id.now (rows_of (found_of found.now)) }
+{
+    found.get_str(id)
 }

@@ -1,4 +1,4 @@
-use Rattle.std.proofs.Common.{ap, map, string_bytes, sym, subst, ◌∙◌, Some, option_map}
+use Rattle.std.proofs.Common.{ap, map, string_bytes, sym, subst, ◌∙◌, Some}
 use Rattle.clap.specs.Words.{fault_of, is_simple, is_simple_and_free, subcommand_of}
 use Rattle.clap.specs.Kinds.{HasKind}
 use Rattle.mstplan.specs.Words.{IsRefusal, asked_by, asked_of, behind_name}
@@ -15,7 +15,7 @@ returns-in-Ok-try_get_matches_from-clause-asked g c = λ plain.
     let parse = c.in-Ok-try_get_matches_from.ensures in
     let no_fault = sym (ap (λ a. fault_of a words) app_is) ∙ parse.kinds (ap is_simple_and_free app_is ∙ free) in
     let found = (parse.matches (ap is_simple app_is ∙ simple)).1 ∙ ap (λ a. subcommand_of a words) app_is in
-    fits_asks _ _ _ (all_fit words plain) no_fault ∙ ap Some (sym (c.asked_in.ensures ∙ ap (λ p. asked_of (option_map (λ f. f.1) p)) found))
+    fits_asks _ _ _ (all_fit words plain) no_fault ∙ ap Some (sym (c.asked_in.ensures ∙ ap asked_of found))
 
 pub returns-in-Err-try_get_matches_from-clause-refused : goal.returns-in-Err-try_get_matches_from-clause-refused
 returns-in-Err-try_get_matches_from-clause-refused g c = λ plain.

@@ -1,32 +1,45 @@
 use Rattle.std.proofs.Common.{ap, ap₂, codes, false, true, ◌≡◌, ◌∙◌}
 use Rattle.std.specs.Prelude.{◌||◌}
 use Rattle.std.proofs.lemmas.Result.{IfOk-weaker}
-use Rattle.clap.specs.Words.{App, Rule, app_of, rule_of, with_rule, with_subcommand}
+use Rattle.clap.specs.Words.{App, app_of, new_rule, rule_of, with_rule, with_subcommand}
 use Rattle.clap.specs.Simple.{app_of_fields}
 use Rattle.clap.specs.declared.builder.arg.Arg.{Arg}
-use Rattle.mstplan.specs.Words.{check_command, no_command, run_command, wanted}
+use Rattle.mstplan.specs.Words.{check_app, diff_app, explain_app, no_command, run_app, sweep_app}
 use Rattle.mstplan.proofs.words.command.Goals as goal
 
 pub returns : goal.returns
 returns c =
-    let script_is : rule_of c.required-script.result ≡ wanted (codes "FILE") = ap rule_of c.required-script.ensures ∙ ap (λ (a : Arg). rule_of (record a { required = true })) c.help.ensures
-    ∙ ap (λ (r : Rule). record r { required = true }) c.new.ensures.rule in
-    let script_too : rule_of c.required-script-2.result ≡ wanted (codes "FILE") = ap rule_of c.required-script-2.ensures ∙ ap (λ (a : Arg). rule_of (record a { required = true })) c.help-2.ensures
-    ∙ ap (λ (r : Rule). record r { required = true }) c.new-3.ensures.rule in
-    let captures_is : rule_of c.required-captures.result ≡ wanted (codes "CAPTURES") = ap rule_of c.required-captures.ensures ∙ ap (λ (a : Arg). rule_of (record a { required = true })) c.help-3.ensures
-    ∙ ap (λ (r : Rule). record r { required = true }) c.new-4.ensures.rule in
-    let script_local : c.required-script.result.global ≡ false = ap (λ (a : Arg). a.global) c.required-script.ensures ∙ ap (λ (a : Arg). a.global) c.help.ensures ∙ c.new.ensures.optional.1 in
-    let script_local_too : c.required-script-2.result.global ≡ false = ap (λ (a : Arg). a.global) c.required-script-2.ensures ∙ ap (λ (a : Arg). a.global) c.help-2.ensures ∙ c.new-3.ensures.optional.1 in
-    let captures_local : c.required-captures.result.global ≡ false = ap (λ (a : Arg). a.global) c.required-captures.ensures ∙ ap (λ (a : Arg). a.global) c.help-3.ensures ∙ c.new-4.ensures.optional.1 in
-    let run_is : app_of c.in_ok-run.run' ≡ run_command = c.in_ok-run.ensures.shape script_local ∙ ap₂ with_rule (ap app_of_fields c.about.ensures ∙ c.new-2.ensures.app) script_is in
-    let run_local = c.in_ok-run.ensures.globals ∙ ap₂ (λ x y. x || y) (ap (λ f. f.has_globals) c.about.ensures ∙ c.new-2.ensures.local) script_local in
-    let check_is : app_of c.in_ok-check.check ≡ check_command = c.in_ok-check.ensures.shape captures_local
-    ∙ ap₂ with_rule (c.in_ok-arg.ensures.shape script_local_too ∙ ap₂ with_rule (ap app_of_fields c.about-2.ensures ∙ c.new-5.ensures.app) script_too) captures_is in
+    let run_is : app_of c.in_ok-run.run' ≡ run_app = c.in_ok-run.ensures.shape c.wanted.ensures.local ∙ ap₂ with_rule (ap app_of_fields c.about.ensures ∙ c.new.ensures.app) c.wanted.ensures.rule in
+    let run_local = c.in_ok-run.ensures.globals ∙ ap₂ (λ x y. x || y) (ap (λ f. f.has_globals) c.about.ensures ∙ c.new.ensures.local) c.wanted.ensures.local in
+    let check_is : app_of c.in_ok-check.check ≡ check_app = c.in_ok-check.ensures.shape c.wanted-3.ensures.local
+    ∙ ap₂ with_rule (c.in_ok-arg.ensures.shape c.wanted-2.ensures.local ∙ ap₂ with_rule (ap app_of_fields c.about-2.ensures ∙ c.new-2.ensures.app) c.wanted-2.ensures.rule) c.wanted-3.ensures.rule in
     let check_local = c.in_ok-check.ensures.globals
-    ∙ ap₂ (λ x y. x || y) (c.in_ok-arg.ensures.globals ∙ ap₂ (λ x y. x || y) (ap (λ f. f.has_globals) c.about-2.ensures ∙ c.new-5.ensures.local) script_local_too) captures_local in
+    ∙ ap₂ (λ x y. x || y) (c.in_ok-arg.ensures.globals ∙ ap₂ (λ x y. x || y) (ap (λ f. f.has_globals) c.about-2.ensures ∙ c.new-2.ensures.local) c.wanted-2.ensures.local) c.wanted-3.ensures.local in
+    let tree_is : rule_of c.help.result ≡ new_rule (codes "TREE") = ap rule_of c.help.ensures ∙ c.new-4.ensures.rule in
+    let tree_local : c.help.result.global ≡ false = ap (λ (a : Arg). a.global) c.help.ensures ∙ c.new-4.ensures.optional.1 in
+    let file_is = c.in_ok-arg-2.ensures.shape c.wanted-4.ensures.local ∙ ap₂ with_rule (ap app_of_fields c.about-3.ensures ∙ c.new-3.ensures.app) c.wanted-4.ensures.rule in
+    let file_local = c.in_ok-arg-2.ensures.globals ∙ ap₂ (λ x y. x || y) (ap (λ f. f.has_globals) c.about-3.ensures ∙ c.new-3.ensures.local) c.wanted-4.ensures.local in
+    let bridge_is = c.in_ok-arg-3.ensures.shape c.wanted-5.ensures.local ∙ ap₂ with_rule file_is c.wanted-5.ensures.rule in
+    let bridge_local = c.in_ok-arg-3.ensures.globals ∙ ap₂ (λ x y. x || y) file_local c.wanted-5.ensures.local in
+    let port_is = c.in_ok-arg-4.ensures.shape c.wanted-6.ensures.local ∙ ap₂ with_rule bridge_is c.wanted-6.ensures.rule in
+    let port_local = c.in_ok-arg-4.ensures.globals ∙ ap₂ (λ x y. x || y) bridge_local c.wanted-6.ensures.local in
+    let explain_is : app_of c.in_ok-explain.explain ≡ explain_app = c.in_ok-explain.ensures.shape tree_local ∙ ap₂ with_rule port_is tree_is in
+    let explain_local = c.in_ok-explain.ensures.globals ∙ ap₂ (λ x y. x || y) port_local tree_local in
+    let diff_is : app_of c.in_ok-diff.diff ≡ diff_app = c.in_ok-diff.ensures.shape c.wanted-8.ensures.local
+    ∙ ap₂ with_rule (c.in_ok-arg-5.ensures.shape c.wanted-7.ensures.local ∙ ap₂ with_rule (ap app_of_fields c.about-4.ensures ∙ c.new-5.ensures.app) c.wanted-7.ensures.rule) c.wanted-8.ensures.rule in
+    let diff_local = c.in_ok-diff.ensures.globals
+    ∙ ap₂ (λ x y. x || y) (c.in_ok-arg-5.ensures.globals ∙ ap₂ (λ x y. x || y) (ap (λ f. f.has_globals) c.about-4.ensures ∙ c.new-5.ensures.local) c.wanted-7.ensures.local) c.wanted-8.ensures.local in
+    let sweep_is : app_of c.in_ok-sweep.sweep ≡ sweep_app = c.in_ok-sweep.ensures.shape c.wanted-9.ensures.local ∙ ap₂ with_rule (ap app_of_fields c.about-5.ensures ∙ c.new-6.ensures.app) c.wanted-9.ensures.rule in
+    let sweep_local = c.in_ok-sweep.ensures.globals ∙ ap₂ (λ x y. x || y) (ap (λ f. f.has_globals) c.about-5.ensures ∙ c.new-6.ensures.local) c.wanted-9.ensures.local in
     let none_is : app_of c.disable_help_subcommand.result ≡ no_command = ap app_of_fields c.disable_help_subcommand.ensures
-    ∙ ap (λ f. app_of_fields (record f { disable_help_subcommand = true })) c.about-3.ensures
-    ∙ ap (λ (a : App). record a { top = record a.top { disable_help_subcommand = true } }) c.new-6.ensures.app in
-    let first_is : app_of c.in_ok-subcommand.field-0 ≡ with_subcommand no_command run_command.top = c.in_ok-subcommand.ensures.shape run_local
+    ∙ ap (λ f. app_of_fields (record f { disable_help_subcommand = true })) c.about-6.ensures
+    ∙ ap (λ (a : App). record a { top = record a.top { disable_help_subcommand = true } }) c.new-7.ensures.app in
+    let first_is : app_of c.in_ok-subcommand.field-0 ≡ with_subcommand no_command run_app.top = c.in_ok-subcommand.ensures.shape run_local
     ∙ ap₂ with_subcommand none_is (ap (λ (a : App). a.top) run_is) in
-    IfOk-weaker c.subcommand-2.result _ _ (λ r h. h.shape check_local ∙ ap₂ with_subcommand first_is (ap (λ (a : App). a.top) check_is)) c.subcommand-2.ensures
+    let second_is : app_of c.in_ok-subcommand-2.field-0 ≡ with_subcommand (with_subcommand no_command run_app.top) check_app.top = c.in_ok-subcommand-2.ensures.shape check_local
+    ∙ ap₂ with_subcommand first_is (ap (λ (a : App). a.top) check_is) in
+    let third_is : app_of c.in_ok-subcommand-3.field-0 ≡ with_subcommand (with_subcommand (with_subcommand no_command run_app.top) check_app.top) explain_app.top = c.in_ok-subcommand-3.ensures.shape explain_local
+    ∙ ap₂ with_subcommand second_is (ap (λ (a : App). a.top) explain_is) in
+    let fourth_is : app_of c.in_ok-subcommand-4.field-0 ≡ with_subcommand (with_subcommand (with_subcommand (with_subcommand no_command run_app.top) check_app.top) explain_app.top) diff_app.top = c.in_ok-subcommand-4.ensures.shape diff_local
+    ∙ ap₂ with_subcommand third_is (ap (λ (a : App). a.top) diff_is) in
+    IfOk-weaker c.subcommand-5.result _ _ (λ r h. h.shape sweep_local ∙ ap₂ with_subcommand fourth_is (ap (λ (a : App). a.top) sweep_is)) c.subcommand-5.ensures

@@ -1,0 +1,198 @@
+-- How a comparison of two inputs ends that goes through a buffer.
+use Rattle.std.proofs.Common.{◌≡◌, ℕ, List, [], ◌++◌, Option, Result, Ok, Err, true, false, refl, sym, subst, append-nil, inl, inr}
+use Rattle.std.specs.Prelude.{IfOk, OnErr}
+use Rattle.std.specs.Io.KnownBytes.{Keeps, append_known}
+use Rattle.std.proofs.KnownBytes.{Appends-kept}
+use Rattle.mst_tool.specs.Check.{Checks, ChecksFront, ChecksEnded, ComparesEnded, ChecksScript}
+use Rattle.mst_tool.specs.Diff.{Diffs, DiffsFront, DiffsEnded, DiffsScripts, LoadsNewEnded, both_texts}
+use Rattle.mst_tool.specs.Load.{LoadsEnded}
+use Rattle.mst_tool.specs.Run.{PrintsEnded}
+use Rattle.mst_tool.specs.Script.{old_word}
+use Rattle.mst_tool.specs.Steps.{texts_of}
+use Rattle.mst_tool.specs.declared.runs.Outcome.{Outcome}
+use Rattle.mst_tool.specs.declared.runs.RunFault.{RunFault}
+use Rattle.mst_tool.specs.declared.runs.RunFault.TheVariants.{Read, Write, Memory}
+use Rattle.mstplan.specs.declared.compared.Comparison.{Comparison}
+use Rattle.mstplan.specs.declared.compared.Comparison.TheVariants.{Captures, Networks}
+use Rattle.mstplan.specs.Buffered.{is_broken}
+use Rattle.mstplan.specs.Compared.{Compared, ComparedEnded, ComparedFront, ComparedRead, ComparedScripts, EndsComparison}
+use Rattle.mstplan.proofs.Kept.{front_kept}
+
+-- ---- captures
+
+module _ (scripts captures : Option (List ℕ)) where
+  checks_kept : (a b c : Option (List ℕ)) (outcome : Outcome) → Checks scripts captures a b outcome → Keeps b c → Checks scripts captures a c outcome
+  checks_kept a b c outcome h k = record {
+    script = h.script;
+    captured = h.captured;
+    steps = h.steps;
+    compared = h.compared;
+    script_read = h.script_read;
+    captures_read = h.captures_read;
+    runs = h.runs;
+    compares = h.compares;
+    printed = Appends-kept a b c (texts_of h.steps ++ texts_of h.compared) h.printed k;
+    memory = h.memory;
+    refused = h.refused;
+    differing = h.differing;
+    only = h.only;
+    only_compared = h.only_compared;
+  }
+
+  checks_front_kept : (a b c : Option (List ℕ)) → ChecksFront scripts captures a b → Keeps b c → ChecksFront scripts captures a c
+  checks_front_kept a b c h k = record {
+    script = h.script;
+    captured = h.captured;
+    steps = h.steps;
+    compared = h.compared;
+    script_read = h.script_read;
+    captures_read = h.captures_read;
+    runs = h.runs;
+    compares = h.compares;
+    printed = front_kept a b c (texts_of h.steps ++ texts_of h.compared) h.printed k;
+  }
+
+  -- what was written in full is a front of it
+  checks_front : (a b : Option (List ℕ)) (outcome : Outcome) → Checks scripts captures a b outcome → ChecksFront scripts captures a b
+  checks_front a b outcome h =
+      let text = texts_of h.steps ++ texts_of h.compared in
+      record {
+        script = h.script;
+        captured = h.captured;
+        steps = h.steps;
+        compared = h.compared;
+        script_read = h.script_read;
+        captures_read = h.captures_read;
+        runs = h.runs;
+        compares = h.compares;
+        printed = record { front = text; rest = []; whole = sym (append-nil text); written = h.printed };
+      }
+
+  prints_ended_kept : (left a b c : Option (List ℕ)) → PrintsEnded scripts left a b → Keeps b c → PrintsEnded scripts left a c
+  prints_ended_kept left a b c h k = record { read = h.read; steps = h.steps; consumed = h.consumed; runs = h.runs; printed = Appends-kept a b c (texts_of h.steps) h.printed k }
+
+  compares_ended_kept : (left a b c : Option (List ℕ)) → ComparesEnded scripts captures left a b → Keeps b c → ComparesEnded scripts captures left a c
+  compares_ended_kept left a b c h k = record {
+    script = h.script;
+    read = h.read;
+    steps = h.steps;
+    compared = h.compared;
+    script_read = h.script_read;
+    consumed = h.consumed;
+    runs = h.runs;
+    compares = h.compares;
+    printed = Appends-kept a b c (texts_of h.steps ++ texts_of h.compared) h.printed k;
+  }
+
+  checks_ended_kept : (left other_left a b c : Option (List ℕ)) → ChecksEnded scripts left captures other_left a b → Keeps b c → ChecksEnded scripts left captures other_left a c
+  checks_ended_kept left other_left a b c (inl h) k = inl (prints_ended_kept left a b c h k)
+  checks_ended_kept left other_left a b c (inr h) k = inr (compares_ended_kept other_left a b c h k)
+
+  checks_script_kept : (a b c : Option (List ℕ)) → ChecksScript scripts a b → Keeps b c → ChecksScript scripts a c
+  checks_script_kept a b c h k = record { script = h.script; steps = h.steps; script_read = h.script_read; runs = h.runs; printed = Appends-kept a b c (texts_of h.steps) h.printed k }
+
+-- ---- networks
+
+module _ (olds news : Option (List ℕ)) where
+  diffs_kept : (a b c : Option (List ℕ)) (outcome : Outcome) → Diffs olds news a b outcome → Keeps b c → Diffs olds news a c outcome
+  diffs_kept a b c outcome h k = record {
+    both = h.both;
+    counts = h.counts;
+    text = h.text;
+    differs = h.differs;
+    printed = Appends-kept a b c (both_texts h.both ++ h.text) h.printed k;
+    memory = h.memory;
+    refused = h.refused;
+    differing = h.differing;
+    only_old = h.only_old;
+    only_new = h.only_new;
+    only_difference = h.only_difference;
+  }
+
+  diffs_front_kept : (a b c : Option (List ℕ)) → DiffsFront olds news a b → Keeps b c → DiffsFront olds news a c
+  diffs_front_kept a b c h k = record { both = h.both; counts = h.counts; text = h.text; differs = h.differs; printed = front_kept a b c (both_texts h.both ++ h.text) h.printed k }
+
+  diffs_front : (a b : Option (List ℕ)) (outcome : Outcome) → Diffs olds news a b outcome → DiffsFront olds news a b
+  diffs_front a b outcome h =
+      let text = both_texts h.both ++ h.text in
+      record { both = h.both; counts = h.counts; text = h.text; differs = h.differs; printed = record { front = text; rest = []; whole = sym (append-nil text); written = h.printed } }
+
+  loads_ended_kept : (left a b c : Option (List ℕ)) → LoadsEnded old_word olds left a b → Keeps b c → LoadsEnded old_word olds left a c
+  loads_ended_kept left a b c h k = record { read = h.read; steps = h.steps; consumed = h.consumed; loads = h.loads; printed = Appends-kept a b c (texts_of h.steps) h.printed k }
+
+  loads_new_ended_kept : (left a b c : Option (List ℕ)) → LoadsNewEnded olds news left a b → Keeps b c → LoadsNewEnded olds news left a c
+  loads_new_ended_kept left a b c h k = record {
+    old = h.old;
+    read = h.read;
+    old_steps = h.old_steps;
+    new_steps = h.new_steps;
+    old_read = h.old_read;
+    consumed = h.consumed;
+    old_loads = h.old_loads;
+    new_loads = h.new_loads;
+    printed = Appends-kept a b c (texts_of h.old_steps ++ texts_of h.new_steps) h.printed k;
+  }
+
+  diffs_ended_kept : (left other_left a b c : Option (List ℕ)) → DiffsEnded olds left news other_left a b → Keeps b c → DiffsEnded olds left news other_left a c
+  diffs_ended_kept left other_left a b c (inl h) k = inl (loads_ended_kept left a b c h k)
+  diffs_ended_kept left other_left a b c (inr h) k = inr (loads_new_ended_kept other_left a b c h k)
+
+  diffs_scripts_kept : (a b c : Option (List ℕ)) → DiffsScripts olds news a b → Keeps b c → DiffsScripts olds news a c
+  diffs_scripts_kept a b c h k = record { both = h.both; printed = Appends-kept a b c (both_texts h.both) h.printed k }
+
+-- the same of the bytes of another writer, which are equal
+pub diffs_scripts_same : (olds news a b c d : Option (List ℕ)) → a ≡ c → b ≡ d → DiffsScripts olds news a b → DiffsScripts olds news c d
+diffs_scripts_same olds news a b c d x y h = subst (λ now. DiffsScripts olds news c now) y (subst (λ written. DiffsScripts olds news written b) x h)
+
+-- ---- either
+
+module _ (first second : Option (List ℕ)) where
+  compared_kept : (how : Comparison) (a b c : Option (List ℕ)) (outcome : Outcome) → Compared how first second a b outcome → Keeps b c → Compared how first second a c outcome
+  compared_kept Captures a b c outcome h k = checks_kept first second a b c outcome h k
+  compared_kept Networks a b c outcome h k = diffs_kept first second a b c outcome h k
+
+  compared_front_kept : (how : Comparison) (a b c : Option (List ℕ)) → ComparedFront how first second a b → Keeps b c → ComparedFront how first second a c
+  compared_front_kept Captures a b c h k = checks_front_kept first second a b c h k
+  compared_front_kept Networks a b c h k = diffs_front_kept first second a b c h k
+
+  compared_front : (how : Comparison) (a b : Option (List ℕ)) (outcome : Outcome) → Compared how first second a b outcome → ComparedFront how first second a b
+  compared_front Captures a b outcome h = checks_front first second a b outcome h
+  compared_front Networks a b outcome h = diffs_front first second a b outcome h
+
+  compared_ended_kept : (how : Comparison) (left other_left a b c : Option (List ℕ)) → ComparedEnded how first left second other_left a b → Keeps b c → ComparedEnded how first left second other_left a c
+  compared_ended_kept Captures left other_left a b c h k = checks_ended_kept first second left other_left a b c h k
+  compared_ended_kept Networks left other_left a b c h k = diffs_ended_kept first second left other_left a b c h k
+
+  compared_scripts_kept : (how : Comparison) (a b c : Option (List ℕ)) → ComparedScripts how first second a b → Keeps b c → ComparedScripts how first second a c
+  compared_scripts_kept Captures a b c h k = checks_script_kept first second a b c h k
+  compared_scripts_kept Networks a b c h k = diffs_scripts_kept first second a b c h k
+
+module _ (how : Comparison) (first second : Option (List ℕ)) where
+  -- what a comparison says of the buffer's bytes
+  pub record Told (written now : Option (List ℕ)) (r : Result Outcome RunFault) : Type 0 where
+    pub ok : IfOk r (Compared how first second written now)
+    pub fault : OnErr r (ComparedFront how first second written now)
+    pub read : r ≡ Err Read → ComparedRead how first second written now
+    pub memory : r ≡ Err Memory → ComparedScripts how first second written now
+
+  front_told : (a b : Option (List ℕ)) (r : Result Outcome RunFault) → Told a b r → ComparedFront how first second a b
+  front_told a b (Err f) told = told.fault
+  front_told a b (Ok outcome) told = compared_front first second how a b outcome told.ok
+
+  -- the writer stopped it, and some bytes are held back
+  pub ends_broken : (a b : Option (List ℕ)) (held : List ℕ) (r : Result Outcome RunFault) → is_broken r ≡ true → Told a (append_known b held) r → EndsComparison how first second a b r
+  ends_broken a b held (Ok outcome) e told = absurd cc
+  ends_broken a b held (Err Read) e told = absurd cc
+  ends_broken a b held (Err Write) e told = (held, told.fault)
+  ends_broken a b held (Err Memory) e told = absurd cc
+
+  -- all that was held back was written
+  pub ends_written : (a b c : Option (List ℕ)) (r : Result Outcome RunFault) → is_broken r ≡ false → Told a b r → Keeps b c → EndsComparison how first second a c r
+  ends_written a b c (Ok outcome) e told k = compared_kept first second how a b c outcome told.ok k
+  ends_written a b c (Err Read) e told k = let h = told.read refl in (h.0, h.1, compared_ended_kept first second how h.0 h.1 a b c h.2 k)
+  ends_written a b c (Err Write) e told k = absurd cc
+  ends_written a b c (Err Memory) e told k = compared_scripts_kept first second how a b c (told.memory refl) k
+
+  -- or not all
+  pub ends_lost : (a b c : Option (List ℕ)) (held : List ℕ) (r : Result Outcome RunFault) → Told a b r → Keeps b (append_known c held) → EndsComparison how first second a c (Err Write)
+  ends_lost a b c held r told k = (held, compared_front_kept first second how a b (append_known c held) (front_told a b r told) k)
