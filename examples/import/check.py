@@ -1,0 +1,192 @@
+#!/usr/bin/env python3
+"""Runs each importer on its samples and the program on what it writes: no line may be refused, what couldn't be told is named,
+and a plan is to fit what the sample's devices say of themselves.
+
+usage: check.py PROGRAM
+
+The samples: campus/links.txt is made up; lab/, ovs/rstp and ovs/stp are of the networks that examples/lab/ makes; ovs/settings is
+of ovsdb-server alone, whose devices say nothing of a spanning tree. What no lab has is in a few made-up hosts (strange_hosts).
+"""
+
+import json
+import os
+import subprocess
+import sys
+import tempfile
+
+sys.dont_write_bytecode = True
+
+import lldp  # noqa: E402
+import ovs  # noqa: E402
+
+HERE = os.path.dirname(os.path.abspath(__file__))
+# Each sample: its importer, its words, what reads the same network, how much its devices say, and what is told.
+SAMPLES = [
+    ("links.py", ["campus/links.txt"], None, 0, [
+        "assumed: MAC addresses, and so who is root where priorities are equal; priorities, regions, VLANs",
+    ]),
+    ("lldp.py", ["lab"], lldp.read, 52, [
+        "access-north-side-1 br0 is named access-north-sid",
+        "access-north-side-1 p4 hears of desk p1, which is no interface of these hosts",
+    ]),
+    ("ovs.py", ["ovs/rstp"], lambda path: ovs.read([path]), 40, [
+        "costs that aren't set are assumed to be those that Open vSwitch makes of speeds",
+    ]),
+    ("ovs.py", ["ovs/stp"], lambda path: ovs.read([path]), 34, [
+        "costs that aren't set are assumed to be those that Open vSwitch makes of speeds",
+    ]),
+    ("ovs.py", ["ovs/settings"], lambda path: ovs.read([path]), 0, [
+        "core eth5 has rstp-enable=false, so it takes no part in the spanning tree: it is left out",
+        "core to-edge: its port number isn't told, and 1 is assumed",
+        "costs that aren't set are assumed to be those that Open vSwitch makes of speeds",
+        "distribution-north is named distribution-nor",
+        "distribution-north has priority 30720, which is no multiple of 4096: 28672 stands for it",
+        "distribution-north eth3 has stp-path-cost=low, which is no number",
+        "distribution-north eth2: its port number isn't told, and 1 is assumed",
+        "edge has Max Age 50, which isn't from 6 to 40: 40 stands for it",
+        "edge eth4 has priority 100, which is no multiple of 16: 96 stands for it",
+        "edge bond0 is a bond, so it takes no part in the spanning tree: it is left out",
+        "edge eth4: its port number isn't told, and 1 is assumed",
+        "edge to-core: its port number isn't told, and 2 is assumed",
+        "edge to-plain: its port number isn't told, and 3 is assumed",
+        "plain has neither RSTP nor STP enabled: it is left out, and what it joins isn't known",
+        "core eth1 and distribution-north eth2: the speed isn't told",
+        "core to-edge and edge to-core: the speed isn't told",
+        "distribution-north eth3 and edge eth4: the speed isn't told",
+        "LAN rack-4-cable-2-to-edge is named rack-4-cable-2-t",
+        "edge to-plain: its peer isn't a port of these bridges: it has a LAN of its own",
+    ]),
+]
+
+
+def link(name, address, up=True, master=None, **info):
+    """A link as iproute2 has it, as far as the importer reads it."""
+    flags = ["UP", "LOWER_UP"] if up else ["UP", "NO-CARRIER"]
+    return {"ifname": name, "flags": flags, "address": address, "linkinfo": info, "master": master}
+
+
+def bridge(identifier, stp_state=1, filtering=0):
+    says = {"bridge_id": identifier, "stp_state": stp_state, "max_age": 2000, "vlan_filtering": filtering, "root_port": 0}
+    return link("br0", identifier[5:], info_kind="bridge", info_data=says | {"root_path_cost": 0})
+
+
+def port(name, address, its, up=True, kind="veth", guard=False, **more):
+    """A port of br0 that has this identifier."""
+    says = {"id": hex(its), "no": hex(its & 0x3FF), "cost": 4, "state": "forwarding", "guard": guard, "root_block": guard}
+    says |= {"bridge_id": "8000.2:0:0:0:0:1", "root_id": "8000.2:0:0:0:0:1", "designated_port": its}
+    return link(name, address, up, "br0", info_kind=kind, info_slave_kind="bridge", info_slave_data=says, **more)
+
+
+def heard(name, host, of, mau="1000BaseTFD - Four-pair Category 5 UTP, full duplex mode"):
+    told = {"port": {"id": {"type": "ifname", "value": of}, "auto-negotiation": {"current": mau}}}
+    return {name: {"chassis": {host: {"id": {"type": "local", "value": host}}}} | told}
+
+
+def strange_hosts():
+    """Links and neighbours of hosts with a bond, a bridge with STP off, VLANs, and what else isn't in a lab."""
+    return {
+        "a": (
+            [bridge("8000.2:0:0:0:0:1", stp_state=2, filtering=1), port("bond0", "02:00:00:00:0a:01", 0x8001, kind="bond")]
+            + [link(name, "02:00:00:00:0a:01", master="bond0") for name in ("eth0", "eth1")]
+            + [port("eth2", "02:00:00:00:0a:02", 0x8402, guard=True), port("eth3", "02:00:00:00:0a:03", 0x8003, up=False)],
+            [heard("eth0", "b", "eth0"), heard("eth1", "b", "eth1"), heard("eth2", "c", "eth0", "2p5GbaseX - 2.5G")],
+        ),
+        "b": (
+            [bridge("9001.2:0:0:0:0:2", filtering=1), port("bond0", "02:00:00:00:0b:01", 0x4001, kind="bond")]
+            + [link(name, "02:00:00:00:0b:01", master="bond0") for name in ("eth0", "eth1")]
+            + [port("eth2", "02:00:00:00:0b:02", 0x8002), port("eth3", "02:00:00:00:0b:03", 0x8003)],
+            [heard("eth0", "a", "eth0"), heard("eth1", "a", "eth1"), heard("eth2", "c", "eth1", "2p5GbaseX - 2.5G")],
+        ),
+        "c": (
+            [bridge("8000.2:0:0:0:0:3", stp_state=0)]
+            + [port(name, f"02:00:00:00:0c:0{name[-1]}", 0x8001) for name in ("eth0", "eth1")],
+            [heard("eth0", "a", "eth2", "2p5GbaseX - 2.5G")],
+        ),
+        "d": ([bridge("8000.2:0:0:0:0:1")], []),
+    }
+
+
+STRANGE_TOLD = [
+    "a br0 is run by a daemon: its priorities and costs may be others than the kernel's",
+    "a br0 filters VLANs, and no a.vlan tells which",
+    "a br0 eth2 has number 1026 and priority 128, as its identifier is read",
+    "a br0 eth2 shuts itself where it hears a BPDU: that isn't in the script",
+    "b br0 has priority 36865, which is no multiple of 4096: 36864 stands for it",
+    "c has no bridge with STP on (in the JSON of ip -j -d link)",
+    "d br0 has the MAC address of a br0: it is left out",
+    "b eth2 hears of c eth1, and not the other way round",
+    "a br0 eth3 has no link: it is in no LAN",
+    "a br0 bond0 and b br0 bond0: the speed isn't told",
+    "b br0 eth3 hears of no other bridge: it has a LAN of its own, of unknown speed",
+]
+STRANGE_LINES = [
+    "settreeprio b 0 36864", "settreeportprio b 1 0 64", "setportvlans b 2 1,10-20", "setportvlans b 3 none",
+    "setportrestrrole a 1026 yes", "setportpathcost a 1 4", "plug a 1 a-b", "plug b 1 a-b", "speed a-b.2 2500000",
+    "plug a 1026 a-b.2", "plug b 2 a-b.2", "plug b 3 b-eth3",
+]
+
+
+def imported(importer, words):
+    """What an importer writes and tells, and its status."""
+    words = [sys.executable, os.path.join(HERE, importer), *words]
+    ran = subprocess.run(words, capture_output=True, text=True, cwd=HERE, check=False)
+    return ran.stdout, ran.stderr.splitlines(), ran.returncode
+
+
+def answers(program, script):
+    ran = subprocess.run([program, "run", "-"], input=script, capture_output=True, text=True, check=False)
+    return ran.stdout.splitlines(), ran.returncode
+
+
+def check_sample(program, importer, words, read, says, wanted):
+    """What is wrong with a sample, as a list."""
+    script, told, status = imported(importer, words)
+    wrong = [] if status == 0 else [f"status {status}"]
+    wrong += [f"told, and not wanted: {line}" for line in told if line not in wanted]
+    wrong += [f"wanted, and not told: {line}" for line in wanted if line not in told]
+    refused, _ = answers(program, script)
+    wrong += refused
+    if read:
+        tree, _ = answers(program, script + "showtree 0\n")
+        others, compared = read(os.path.join(HERE, *words))[0].differences(tree)
+        wrong += others + ([] if compared == says else [f"{compared} values compared, and not {says}"])
+    return wrong
+
+
+def check_strange(program):
+    """The made-up hosts, and the same ones with a file missing and one that is no JSON."""
+    with tempfile.TemporaryDirectory() as folder:
+        for host, (links, neighbours) in strange_hosts().items():
+            for end, it in (("link", links), ("lldp", {"lldp": {"interface": neighbours}})):
+                with open(os.path.join(folder, f"{host}.{end}"), "w", encoding="utf-8") as file:
+                    json.dump(it, file)
+        with open(os.path.join(folder, "b.vlan"), "w", encoding="utf-8") as file:
+            json.dump([{"ifname": "eth2", "vlans": [{"vlan": 1, "flags": ["PVID"]}, {"vlan": 10, "vlanEnd": 20}]}], file)
+        wrong = check_sample(program, "lldp.py", [folder], None, 0, STRANGE_TOLD)
+        lines = imported("lldp.py", [folder])[0].splitlines()
+        wrong += [f"not in the script: {line}" for line in STRANGE_LINES if line not in lines]
+        os.remove(os.path.join(folder, "a.lldp"))
+        with open(os.path.join(folder, "b.lldp"), "w", encoding="utf-8") as file:
+            file.write("{")
+        script, told, status = imported("lldp.py", [folder])
+        unread = [line for line in told if line.startswith(folder)]
+        wrong += answers(program, script)[0] + ([] if status == 1 and len(unread) == 2 else [f"status {status}, {unread}"])
+    return wrong
+
+
+def main():
+    if len(sys.argv) != 2:
+        sys.exit(__doc__)
+    program = os.path.abspath(sys.argv[1])
+    checks = [(" ".join([importer, *words]), check_sample(program, importer, words, *more)) for importer, words, *more in SAMPLES]
+    checks.append(("made-up hosts", check_strange(program)))
+    for name, wrong in checks:
+        for line in wrong:
+            print(f"FAILED {name}: {line}")
+    failed = sum(1 for _, wrong in checks if wrong)
+    print(f"{len(checks) - failed} passed, {failed} failed")
+    sys.exit(1 if failed else 0)
+
+
+if __name__ == "__main__":
+    main()
