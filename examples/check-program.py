@@ -9,6 +9,8 @@ The gate runs it on the program that it has built (.ci/run).
 
 import heapq
 import os
+import pty
+import re
 import subprocess
 import sys
 import tempfile
@@ -22,6 +24,7 @@ import load  # noqa: E402
 
 # Any text that has a usage line.
 USAGE = object()
+VERSION = re.compile(rb"mstplan \d+\.\d+\.\d+\n")
 TREE = b"tree 0\n"
 REFUSED = b"line 1 E01 no such command\n"
 SHORT = b"# none\n00\n"
@@ -405,6 +408,11 @@ def cases(folder):
         ("a file that isn't there", ["run", absent], b"", 3, b"", cannot),
         ("a folder", ["run", folder], b"", 3, b"", b"mstplan: read fault\n"),
         ("help", ["--help"], b"", 0, USAGE, b""),
+        ("help, short", ["-h"], b"", 0, USAGE, b""),
+        ("help of a command", ["sweep", "--help"], b"", 0, USAGE, b""),
+        ("version", ["--version"], b"", 0, VERSION, b""),
+        ("version, short", ["-V"], b"", 0, VERSION, b""),
+        ("version of a command", ["run", "--version"], b"", 2, b"", USAGE),
         ("run with no file", ["run"], b"", 2, b"", USAGE),
         ("two files", ["run", script, script], b"", 2, b"", USAGE),
         ("an unknown word", ["walk"], b"", 2, b"", USAGE),
@@ -439,6 +447,8 @@ def asked_cases(folder):
 
 
 def fits(text, expected):
+    if isinstance(expected, re.Pattern):
+        return expected.fullmatch(text) is not None
     return b"Usage: " in text if expected is USAGE else text == expected
 
 
@@ -464,6 +474,63 @@ def check_full(program, words, given):
     return False
 
 
+def forms_of_rules():
+    """The forms of a script's commands, by the table of docs/RULES.md."""
+    with open(os.path.join(HERE, os.pardir, "docs", "RULES.md"), encoding="utf-8") as file:
+        rules = file.read()
+    forms = set()
+    for row in rules.split("| Line | What it does |")[1].split("\n\n")[0].splitlines()[2:]:
+        quoted = re.findall("`([^`]*)`", row.split("|")[1])
+        whole = [form for form in quoted if form not in ("all", "none")]
+        others = [whole[0].replace("VIDS", form) for form in quoted if form not in whole]
+        forms.update(whole + others)
+    return forms
+
+
+def forms_of_page(page):
+    """The forms of the commands that the page at the end of the help has."""
+    forms = set()
+    for line in page.split("\n\n")[0].splitlines()[1:]:
+        *words, last = line.strip().split("  ")[0].split()
+        forms.update(" ".join(words + [choice]) for choice in last.split("|"))
+    return forms
+
+
+def check_page(program):
+    """The help has the program's words, then the commands that docs/RULES.md has, the exit statuses, and where more is told."""
+    told = run(program, ["--help"], b"").stdout.decode()
+    words, begun, page = told.partition("\nCommands of a script,")
+    statuses = re.findall(r"^  (\d)  \S", page.partition("\nExit statuses:\n")[2], re.MULTILINE)
+    is_whole = words.startswith("Plans networks of spanning trees.") and "\nUsage: mstplan [COMMAND]\n" in words
+    is_ended = told.endswith("\n\ndocs/RULES.md in the repository has the whole language, and all that is printed.\n")
+    if begun and is_whole and is_ended and statuses == ["0", "1", "2", "3"] and forms_of_page(page) == forms_of_rules():
+        return True
+    print(f"FAILED the help page: {forms_of_page(page) ^ forms_of_rules()}, {statuses}, {words[:200]!r}, {told[-200:]!r}")
+    return False
+
+
+def check_terminal(program, words, typed, status, out, err):
+    """A script that is typed at a terminal. Where the system has none to give, there is nothing to check."""
+    try:
+        terminal, given = pty.openpty()
+    except OSError as error:
+        print(f"no terminal, {words}: {error}")
+        return True
+    try:
+        os.write(terminal, typed + b"\x04")
+        ran = subprocess.run([program] + words, stdin=given, stdout=subprocess.PIPE, stderr=subprocess.PIPE, timeout=60)
+    finally:
+        os.close(given)
+        os.close(terminal)
+    if (ran.returncode, ran.stdout, ran.stderr) == (status, out, err):
+        return True
+    print(f"FAILED a terminal, {words}: status {ran.returncode}, {ran.stdout[:200]!r}, {ran.stderr[:200]!r}")
+    return False
+
+
+INVITED = b"mstplan: reading a script from the terminal, until Ctrl-D; --help tells of its commands\n"
+
+
 def check_closed(program, folder, words, closed, status, out, err):
     """Standard devices that are closed when the program is started. `closed` is what a shell writes for that."""
     words = [os.path.join(folder, word) if word in ("script", "captures") else word for word in words]
@@ -486,6 +553,7 @@ def closed_cases():
         (["run", "script"], ">&-", 3, b"", write),
         (["run", "script"], "<&- >&-", 3, b"", write),
         (["--help"], ">&-", 3, b"", write),
+        (["--version"], ">&-", 3, b"", write),
         (["run", "script"], "2>&-", 0, TREE, b""),
         (["explain", "-", "A", "1"], "<&-", 3, b"", read),
         (["explain", "script", "A", "1"], ">&-", 3, b"", write),
@@ -569,6 +637,11 @@ def main():
             check_full(program, ["diff", "-", "-"], QUIET),
             check_full(program, ["sweep", "-"], QUIET),
             check_full(program, ["--help"], b""),
+            check_full(program, ["--version"], b""),
+            check_page(program),
+            check_terminal(program, [], b"showtree 0\n", 0, TREE, INVITED),
+            check_terminal(program, [], b"", 0, b"", INVITED),
+            check_terminal(program, ["run", "-"], b"no\n", 1, REFUSED, b""),
             check_sample(program),
             check_large(program),
         ]

@@ -9,16 +9,16 @@ use Rattle.clap.specs.Words.{Shape, Text, built, fault_of, is_simple, is_simple_
 use Rattle.clap.specs.Faults.{built_fault, entered_fault, step_fault, turn_fault, walk_fault}
 use Rattle.clap.specs.Kinds.{Kinds, IsAmong, or_else}
 use Rattle.clap.specs.declared.error.kind.ErrorKind.{ErrorKind}
-use Rattle.clap.specs.declared.error.kind.ErrorKind.TheVariants.{DisplayHelp, OutOfMemory}
+use Rattle.clap.specs.declared.error.kind.ErrorKind.TheVariants.{DisplayHelp, DisplayVersion, OutOfMemory}
 use Rattle.clap.specs.Walk.{Held, Names as Labels, Walk, finished, idle, nothing_held, stop_after, subcommand_met, value, walk, walk_from, walked}
 use Rattle.clap.specs.Simple.{entered, names_of}
 use Rattle.clap.proofs.FaultLemmas.{stopped_fault}
 use Rattle.clap.proofs.OnLiterals.{clap_on_literals}
 use Rattle.clap.proofs.WalkLemmas.{walk_stopped}
-use Rattle.mst_tool.specs.declared.runs.RunFault.TheVariants.{Memory}
+use Rattle.mst_tool.specs.declared.runs.RunFault.TheVariants.{Memory, Write}
 use Rattle.mstplan.specs.declared.endings.Stop.{Stop}
 use Rattle.mstplan.specs.declared.endings.Stop.TheVariants.{Told, Fault}
-use Rattle.mstplan.specs.Words.{IsRefusal, Request, asked_by, asked_of, by_one, by_port, by_two, check, diff, explain, is_plain, program, request_of, run, sweep}
+use Rattle.mstplan.specs.Words.{IsAnswer, IsRefusal, Request, asked_by, asked_of, by_one, by_port, by_two, check, diff, explain, is_help, is_plain, is_version, program, request_of, run, sweep}
 use Rattle.mstplan.proofs.Leaves.{TakesOne, TakesTwo, fits_one, fits_two}
 use Rattle.mstplan.proofs.PlainWords.{Fits, Passes, at, both_so, found_end, head_plain, is_no_help, leaf, leaf_end, leaf_found, leaf_stray, level, passes_next, passes_none, plain_turn, refuses, step}
 
@@ -351,7 +351,7 @@ words_fit (command ∷ rest) h =
 pub all_fit : (words : List Text) → list_all is_plain (drop 1 words) ≡ true → Fits (asked_by (drop 1 words)) (fault_of program words) (asked_of (subcommand_of program words))
 all_fit words h = words_fit (drop 1 words) h
 
--- what is among such faults is no call for help
+-- what is among such faults is no call for help or the version
 among_refuses : (kinds : Kinds) (kind : ErrorKind) → refuses kinds ≡ true → IsAmong kind kinds → is_no_help kind ≡ true
 among_refuses [] kind h among = absurd among
 among_refuses (k ∷ ks) kind h among = each (k ∷ ks) h among
@@ -360,6 +360,74 @@ among_refuses (k ∷ ks) kind h among = each (k ∷ ks) h among
     each [] e among = absurd among
     each (x ∷ xs) e (inl same) = subst (λ y. is_no_help y ≡ true) (sym same) (both_so (is_no_help x) (list_all is_no_help xs) e).0
     each (x ∷ xs) e (inr later) = each xs (both_so (is_no_help x) (list_all is_no_help xs) e).1 later
+
+-- ---- calls for help and the version
+
+-- these words have this fault alone
+abbrev Calls : ErrorKind → List Text → Type 0
+Calls kind words = faults words ≡ kind ∷ []
+
+called_help : Calls DisplayHelp (codes "--help" ∷ [])
+unfolding clap_on_literals
+called_help = refl
+
+called_help_short : Calls DisplayHelp (codes "-h" ∷ [])
+unfolding clap_on_literals
+called_help_short = refl
+
+called_version : Calls DisplayVersion (codes "--version" ∷ [])
+unfolding clap_on_literals
+called_version = refl
+
+called_version_short : Calls DisplayVersion (codes "-V" ∷ [])
+unfolding clap_on_literals
+called_version_short = refl
+
+-- a word that is one of two
+either_calls : (kind : ErrorKind) (one two word : Text) → Calls kind (one ∷ []) → Calls kind (two ∷ []) → (bytes_eq one word || (bytes_eq two word || false)) ≡ true → Calls kind (word ∷ [])
+either_calls kind one two word first second h = go (bytes_eq one word) (bytes_eq two word) refl refl h
+  where
+    go : (x y : Bool) → bytes_eq one word ≡ x → bytes_eq two word ≡ y → (x || (y || false)) ≡ true → Calls kind (word ∷ [])
+    go true y e f h = subst (λ w. Calls kind (w ∷ [])) ((bytes_eq-Decides one word).0 e) first
+    go false true e f h = subst (λ w. Calls kind (w ∷ [])) ((bytes_eq-Decides two word).0 f) second
+    go false false e f h = absurd (false≢true h)
+
+pub help_calls : (words : List Text) → is_help (drop 1 words) ≡ true → fault_of program words ≡ DisplayHelp ∷ []
+help_calls words h = go (drop 1 words) h
+  where
+    go : (behind : List Text) → is_help behind ≡ true → Calls DisplayHelp behind
+    go [] h = absurd (false≢true h)
+    go (word ∷ []) h = either_calls DisplayHelp (codes "--help") (codes "-h") word called_help called_help_short h
+    go (word ∷ other ∷ rest) h = absurd (false≢true h)
+
+pub version_calls : (words : List Text) → is_version (drop 1 words) ≡ true → fault_of program words ≡ DisplayVersion ∷ []
+version_calls words h = go (drop 1 words) h
+  where
+    go : (behind : List Text) → is_version behind ≡ true → Calls DisplayVersion behind
+    go [] h = absurd (false≢true h)
+    go (word ∷ []) h = either_calls DisplayVersion (codes "--version") (codes "-V") word called_version called_version_short h
+    go (word ∷ other ∷ rest) h = absurd (false≢true h)
+
+abbrev has_kind : Kinds → Bool
+has_kind [] = false
+has_kind (kind ∷ kinds) = true
+
+pub called : (kinds : Kinds) (kind : ErrorKind) → kinds ≡ kind ∷ [] → kinds ≡ [] → ⊥
+called kinds kind one none = false≢true (ap has_kind (sym none ∙ one))
+
+-- and such a fault is answered
+pub called_answers : (kinds : Kinds) (call kind : ErrorKind) (stop : Stop) → kinds ≡ call ∷ [] → (kind ≡ OutOfMemory) ⊎ IsAmong kind kinds → (kind ≡ OutOfMemory → stop ≡ Fault Memory)
+    → (kind ≡ call → (stop ≡ Told 0) ⊎ (stop ≡ Fault Write)) → IsAnswer stop
+called_answers kinds call kind stop one (inl lacks) memory told = inr (inr (memory lacks))
+called_answers kinds call kind stop one (inr among) memory told = go (subst (IsAmong kind) one among)
+  where
+    answer : (stop ≡ Told 0) ⊎ (stop ≡ Fault Write) → IsAnswer stop
+    answer (inl done) = inl done
+    answer (inr fault) = inr (inl fault)
+
+    go : IsAmong kind (call ∷ []) → IsAnswer stop
+    go (inl same) = answer (told same)
+    go (inr never) = absurd never
 
 -- ---- what the program makes of it
 
@@ -382,8 +450,10 @@ memory_refuses None = inr refl
 
 -- words with a fault are refused, and others only for want of memory
 pub told_refuses : (asked : Option Request) (kinds : Kinds) (found : Request) (kind : ErrorKind) (stop : Stop) → Fits asked kinds found → (kind ≡ OutOfMemory) ⊎ IsAmong kind kinds
-    → (kind ≡ OutOfMemory → stop ≡ Fault Memory) → (kind ≢ DisplayHelp → (stop ≡ Told 2) ⊎ (stop ≡ Fault Memory)) → IsRefusal asked stop
+    → (kind ≡ OutOfMemory → stop ≡ Fault Memory) → (kind ≢ DisplayHelp → kind ≢ DisplayVersion → (stop ≡ Told 2) ⊎ (stop ≡ Fault Memory)) → IsRefusal asked stop
 told_refuses (Some asks) kinds found kind stop fit (inl lacks) memory other = memory lacks
 told_refuses (Some asks) kinds found kind stop fit (inr among) memory other = absurd (subst (IsAmong kind) fit.0 among)
 told_refuses None kinds found kind stop fit (inl lacks) memory other = inr (memory lacks)
-told_refuses None kinds found kind stop fit (inr among) memory other = other (λ e. false≢true (sym (ap is_no_help e) ∙ among_refuses kinds kind fit among))
+told_refuses None kinds found kind stop fit (inr among) memory other =
+    let calls_none = among_refuses kinds kind fit among in
+    other (λ e. false≢true (sym (ap is_no_help e) ∙ calls_none)) (λ e. false≢true (sym (ap is_no_help e) ∙ calls_none))

@@ -9,7 +9,7 @@ use Rattle.clap.specs.Words.{Rule, Shape, Text}
 use Rattle.clap.specs.Faults.{bundle_fault, check_fault, defaults_fault, flag_word_fault, level_fault, other_fault, settle_fault, step_fault, turn_fault, walk_fault, word_fault}
 use Rattle.clap.specs.Kinds.{Kinds, or_else}
 use Rattle.clap.specs.declared.error.kind.ErrorKind.{ErrorKind}
-use Rattle.clap.specs.declared.error.kind.ErrorKind.TheVariants.{DisplayHelp}
+use Rattle.clap.specs.declared.error.kind.ErrorKind.TheVariants.{DisplayHelp, DisplayVersion}
 use Rattle.clap.specs.Lexer.{long_of, long_of_rest, short_of, short_of_rest, strip_byte}
 use Rattle.clap.specs.Walk.{Held, Names as Labels, Step, Walk, after_step, finished, idle, long_or_other, nothing_held, rows_after, settled, short_or_plain, subcommand_met, subcommand_or_other, trailing, value, walk, walked, word_met}
 use Rattle.mstplan.specs.Words.{Request, is_plain, request_of}
@@ -83,9 +83,10 @@ plain_turn s names position word h plain none =
 
 -- ---- what words come to
 
--- a fault that isn't the answer to a call for help
+-- a fault that isn't the answer to a call for help or the version
 abbrev pub is_no_help : ErrorKind → Bool
 is_no_help DisplayHelp = false
+is_no_help DisplayVersion = false
 is_no_help _ = true
 
 abbrev pub refuses : Kinds → Bool

@@ -4,3 +4,4 @@ pub mod Buffered
 pub mod Compared
 pub mod Named
 pub mod Program
+pub mod Invites

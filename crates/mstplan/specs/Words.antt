@@ -1,10 +1,10 @@
 -- What the program's words ask for.
-use Rattle.std.specs.Prelude.{◌≡◌, ◌⊎◌, ◌==◌, ℕ, Bool, true, not, List, [], ◌∷◌, Option, Some, None, String, codes, drop, map, option_map, string_bytes, unwrap_or, if◌then◌else◌}
-use Rattle.std.specs.List.{list_all}
+use Rattle.std.specs.Prelude.{◌≡◌, ◌⊎◌, ◌==◌, ℕ, Bool, true, false, not, List, [], ◌∷◌, Option, Some, None, String, codes, drop, map, option_map, string_bytes, unwrap_or, if◌then◌else◌}
+use Rattle.std.specs.List.{list_all, list_any}
 use Rattle.std.specs.declared.alloc.Global.{Global}
 use Rattle.std.specs.Str.{bytes_eq}
 use Rattle.clap.specs.Words.{App, Row, Rule, first_of, new_app, new_rule, with_rule, with_subcommand}
-use Rattle.mst_tool.specs.declared.runs.RunFault.TheVariants.{Memory}
+use Rattle.mst_tool.specs.declared.runs.RunFault.TheVariants.{Memory, Write}
 use Rattle.mstplan.specs.declared.endings.Stop.{Stop}
 use Rattle.mstplan.specs.declared.endings.Stop.TheVariants.{Told, Fault}
 use Rattle.mstplan.specs.declared.words.Asked.{Asked}
@@ -93,6 +93,19 @@ asked_by (command ∷ words) =
     else if bytes_eq (codes "sweep") command then by_one sweep words
     else None
 
+-- words that ask the program for its help alone, and for its version
+abbrev pub is_help : List (List ℕ) → Bool
+is_help (word ∷ []) = list_any (λ option. bytes_eq option word) (codes "--help" ∷ codes "-h" ∷ [])
+is_help words = false
+
+abbrev pub is_version : List (List ℕ) → Bool
+is_version (word ∷ []) = list_any (λ option. bytes_eq option word) (codes "--version" ∷ codes "-V" ∷ [])
+is_version words = false
+
+-- these were answered, with status 0, or standard output took no more of that, or memory was wanted
+abbrev pub IsAnswer : Stop → Type 0
+IsAnswer stop = (stop ≡ Told 0) ⊎ ((stop ≡ Fault Write) ⊎ (stop ≡ Fault Memory))
+
 -- why words that aren't options aren't served: for want of memory, or since they ask for nothing, which is told with status 2
 abbrev pub IsRefusal : Option Request → Stop → Type 0
 IsRefusal (Some request) stop = stop ≡ Fault Memory
@@ -120,9 +133,9 @@ diff_app = with_rule (with_rule (new_app (codes "diff")) (wanted_rule (codes "OL
 abbrev pub sweep_app : App
 sweep_app = with_rule (new_app (codes "sweep")) (wanted_rule (codes "FILE"))
 
--- the program with no command, which has none that prints help
+-- the program with no command, which has a version, and no command that prints help
 abbrev pub no_command : App
-no_command = record { top = record ((new_app (codes "mstplan")).top) { disable_help_subcommand = true }; subs = [] }
+no_command = record { top = record ((new_app (codes "mstplan")).top) { has_version = true; disable_help_subcommand = true }; subs = [] }
 
 abbrev pub program : App
 program = with_subcommand (with_subcommand (with_subcommand (with_subcommand (with_subcommand no_command run_app.top) check_app.top) explain_app.top) diff_app.top) sweep_app.top

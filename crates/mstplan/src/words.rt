@@ -1,8 +1,9 @@
-ghost use Rattle.std.specs.Prelude.{◌≡◌, ◌≢◌, ◌⊎◌, true, false, Some, codes, option_map, IfOk, IfErr};
+ghost use Rattle.std.specs.Prelude.{◌≡◌, ◌≢◌, ◌⊎◌, true, false, Some, codes, option_map, IfOk, IfErr, IsErrAnd};
 ghost use Rattle.clap.specs.Words.{app_of, first_of, found_of, kind_of, rows_of, rule_of, subcommand_rows_of};
-ghost use Rattle.mstplan.specs.Words.{words_of, tree_word, value_of, asked_of, request_of, asked_by, are_plain, behind_name, IsRefusal, wanted_rule, program};
+ghost use Rattle.mstplan.specs.Words.{words_of, tree_word, value_of, asked_of, request_of, asked_by, are_plain, behind_name, is_help, is_version, IsAnswer, IsRefusal, wanted_rule, program};
 
 use crate::endings::Stop;
+use crate::page::{PAGE, VERSION};
 use clap::error::ErrorKind;
 use clap::{Arg, ArgMatches, Command, Error};
 use mst_tool::RunFault;
@@ -86,12 +87,15 @@ pub(crate) fn given_words<R: Env + Eprint + AllocGlobal>(
 
 /// What the words ask for, of which the first is the program's name. Where none of the others is an option, an `Err`
 /// comes just where they ask for nothing, or for want of memory.
+/// The program's help and its version are told on standard output, and come as an `Err` too.
 pub(crate) fn asked_for<'a, R: Print + Eprint + AllocGlobal>(
     rt: &R,
     words: &'a [String],
 ) -> Result<Asked<'a>, Stop<'a>>
     ensures asked { are_plain (behind_name words.now) ≡ true → IfOk result (λ asked. asked_by (behind_name words.now) ≡ Some (words_of asked)) }
     ensures refused { are_plain (behind_name words.now) ≡ true → IfErr result (IsRefusal (asked_by (behind_name words.now))) }
+    ensures help { is_help (behind_name words.now) ≡ true → IsErrAnd result IsAnswer }
+    ensures version { is_version (behind_name words.now) ≡ true → IsErrAnd result IsAnswer }
 {
     match command(rt.alloc()) {
         Err(refused) => Err(starved(refused)),
@@ -105,13 +109,14 @@ pub(crate) fn asked_for<'a, R: Print + Eprint + AllocGlobal>(
 /// Tells what the words ask for, on standard output, or what is wrong with them, on standard error.
 fn tell_words<R: Print + Eprint>(rt: &R, error: &Error) -> Stop<'static>
     ensures memory { kind_of error.now ≡ ErrorKind.OutOfMemory → result ≡ Stop.Fault RunFault.Memory }
-    ensures asked { kind_of error.now ≡ ErrorKind.DisplayHelp → (result ≡ Stop.Told 0) ⊎ (result ≡ Stop.Fault RunFault.Write) }
-    ensures wrong { kind_of error.now ≢ ErrorKind.OutOfMemory → kind_of error.now ≢ ErrorKind.DisplayHelp → result ≡ Stop.Told 2 }
-    ensures refused { kind_of error.now ≢ ErrorKind.DisplayHelp → (result ≡ Stop.Told 2) ⊎ (result ≡ Stop.Fault RunFault.Memory) }
+    ensures help { kind_of error.now ≡ ErrorKind.DisplayHelp → (result ≡ Stop.Told 0) ⊎ (result ≡ Stop.Fault RunFault.Write) }
+    ensures version { kind_of error.now ≡ ErrorKind.DisplayVersion → (result ≡ Stop.Told 0) ⊎ (result ≡ Stop.Fault RunFault.Write) }
+    ensures wrong { kind_of error.now ≢ ErrorKind.OutOfMemory → kind_of error.now ≢ ErrorKind.DisplayHelp → kind_of error.now ≢ ErrorKind.DisplayVersion → result ≡ Stop.Told 2 }
+    ensures refused { kind_of error.now ≢ ErrorKind.DisplayHelp → kind_of error.now ≢ ErrorKind.DisplayVersion → (result ≡ Stop.Told 2) ⊎ (result ≡ Stop.Fault RunFault.Memory) }
 {
     match error.kind() {
         ErrorKind::OutOfMemory => Stop::Fault(RunFault::Memory),
-        ErrorKind::DisplayHelp => match error.print(rt) {
+        ErrorKind::DisplayHelp | ErrorKind::DisplayVersion => match error.print(rt) {
             Ok(()) => Stop::Told(0),
             Err(_) => Stop::Fault(RunFault::Write),
         },
@@ -158,6 +163,8 @@ fn command<'a>(alloc: Global) -> Result<Command<'a>, AllocError>
         .about(
             "Plans networks of spanning trees. With no command it reads a script on standard input",
         )
+        .after_help(PAGE)
+        .version(VERSION)
         .disable_help_subcommand(true)
         .subcommand(run)?
         .subcommand(check)?

@@ -1,8 +1,8 @@
-use Rattle.std.proofs.Common.{ap, map, string_bytes, sym, subst, ◌∙◌, Some}
+use Rattle.std.proofs.Common.{ap, inr, map, string_bytes, sym, subst, ◌∙◌, Some}
 use Rattle.clap.specs.Words.{fault_of, is_simple, is_simple_and_free, subcommand_of}
 use Rattle.clap.specs.Kinds.{HasKind}
 use Rattle.mstplan.specs.Words.{IsRefusal, asked_by, asked_of, behind_name}
-use Rattle.mstplan.proofs.CommandLine.{all_fit, fits_asks, free, memory_refuses, simple, told_refuses}
+use Rattle.mstplan.proofs.CommandLine.{all_fit, called, called_answers, help_calls, version_calls, fits_asks, free, memory_refuses, simple, told_refuses}
 use Rattle.mstplan.proofs.words.asked_for.Goals as goal
 
 pub returns-in-Err-clause-refused : goal.returns-in-Err-clause-refused
@@ -22,3 +22,35 @@ returns-in-Err-try_get_matches_from-clause-refused g c = λ plain.
     let words = map string_bytes c.args.words.now in
     let app_is = c.in-Ok.ensures in
     told_refuses _ _ _ _ _ (all_fit words plain) (subst (λ a. HasKind (fault_of a words) c.in-Err-try_get_matches_from.error) app_is (c.in-Err-try_get_matches_from.ensures.kinds (ap is_simple_and_free app_is ∙ free))) c.tell_words.ensures.memory c.tell_words.ensures.refused
+
+pub returns-in-Err-clause-help : goal.returns-in-Err-clause-help
+returns-in-Err-clause-help g c = λ asks. inr (inr c.starved.ensures)
+
+pub returns-in-Ok-try_get_matches_from-clause-help : goal.returns-in-Ok-try_get_matches_from-clause-help
+returns-in-Ok-try_get_matches_from-clause-help g c = λ asks.
+    let words = map string_bytes c.args.words.now in
+    let app_is = c.in-Ok.ensures in
+    let no_fault = sym (ap (λ a. fault_of a words) app_is) ∙ c.in-Ok-try_get_matches_from.ensures.kinds (ap is_simple_and_free app_is ∙ free) in
+    absurd (called _ _ (help_calls words asks) no_fault)
+
+pub returns-in-Err-try_get_matches_from-clause-help : goal.returns-in-Err-try_get_matches_from-clause-help
+returns-in-Err-try_get_matches_from-clause-help g c = λ asks.
+    let words = map string_bytes c.args.words.now in
+    let app_is = c.in-Ok.ensures in
+    called_answers _ _ _ _ (help_calls words asks) (subst (λ a. HasKind (fault_of a words) c.in-Err-try_get_matches_from.error) app_is (c.in-Err-try_get_matches_from.ensures.kinds (ap is_simple_and_free app_is ∙ free))) c.tell_words.ensures.memory c.tell_words.ensures.help
+
+pub returns-in-Err-clause-version : goal.returns-in-Err-clause-version
+returns-in-Err-clause-version g c = λ asks. inr (inr c.starved.ensures)
+
+pub returns-in-Ok-try_get_matches_from-clause-version : goal.returns-in-Ok-try_get_matches_from-clause-version
+returns-in-Ok-try_get_matches_from-clause-version g c = λ asks.
+    let words = map string_bytes c.args.words.now in
+    let app_is = c.in-Ok.ensures in
+    let no_fault = sym (ap (λ a. fault_of a words) app_is) ∙ c.in-Ok-try_get_matches_from.ensures.kinds (ap is_simple_and_free app_is ∙ free) in
+    absurd (called _ _ (version_calls words asks) no_fault)
+
+pub returns-in-Err-try_get_matches_from-clause-version : goal.returns-in-Err-try_get_matches_from-clause-version
+returns-in-Err-try_get_matches_from-clause-version g c = λ asks.
+    let words = map string_bytes c.args.words.now in
+    let app_is = c.in-Ok.ensures in
+    called_answers _ _ _ _ (version_calls words asks) (subst (λ a. HasKind (fault_of a words) c.in-Err-try_get_matches_from.error) app_is (c.in-Err-try_get_matches_from.ensures.kinds (ap is_simple_and_free app_is ∙ free))) c.tell_words.ensures.memory c.tell_words.ensures.version

@@ -32,8 +32,9 @@ returns c =
     let sweep_is : app_of c.in_ok-sweep.sweep ≡ sweep_app = c.in_ok-sweep.ensures.shape c.wanted-9.ensures.local ∙ ap₂ with_rule (ap app_of_fields c.about-5.ensures ∙ c.new-6.ensures.app) c.wanted-9.ensures.rule in
     let sweep_local = c.in_ok-sweep.ensures.globals ∙ ap₂ (λ x y. x || y) (ap (λ f. f.has_globals) c.about-5.ensures ∙ c.new-6.ensures.local) c.wanted-9.ensures.local in
     let none_is : app_of c.disable_help_subcommand.result ≡ no_command = ap app_of_fields c.disable_help_subcommand.ensures
-    ∙ ap (λ f. app_of_fields (record f { disable_help_subcommand = true })) c.about-6.ensures
-    ∙ ap (λ (a : App). record a { top = record a.top { disable_help_subcommand = true } }) c.new-7.ensures.app in
+    ∙ ap (λ f. app_of_fields (record f { disable_help_subcommand = true })) c.version.ensures
+    ∙ ap (λ (a : App). record a { top = record a.top { has_version = true; disable_help_subcommand = true } })
+    (ap app_of_fields c.after_help.ensures ∙ ap app_of_fields c.about-6.ensures ∙ c.new-7.ensures.app) in
     let first_is : app_of c.in_ok-subcommand.field-0 ≡ with_subcommand no_command run_app.top = c.in_ok-subcommand.ensures.shape run_local
     ∙ ap₂ with_subcommand none_is (ap (λ (a : App). a.top) run_is) in
     let second_is : app_of c.in_ok-subcommand-2.field-0 ≡ with_subcommand (with_subcommand no_command run_app.top) check_app.top = c.in_ok-subcommand-2.ensures.shape check_local

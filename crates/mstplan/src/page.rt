@@ -1,0 +1,52 @@
+/// The number of this release, which `--version` prints behind the program's name.
+pub(crate) const VERSION: &str = "0.44.0";
+
+/// What stands at the end of the program's help: the commands of scripts, the exit statuses, and where all of it is said.
+pub(crate) const PAGE: &str = "\
+Commands of a script, one a line (a line that begins with # is a comment):
+  addbridge B MAC                 a new bridge
+  delbridge B                     takes it away
+  bridge B on|off                 switches it
+  kind B mstp|rstp                its kind
+  addport B P                     a new port
+  delport B P                     takes it away
+  addlan L                        a new LAN
+  dellan L                        takes it away
+  lan L up|down                   its state
+  speed L KBPS                    its speed in kb/s
+  plug B P L                      puts the port into the LAN
+  unplug B P                      takes it out of its LAN
+  setkey B P KEY                  the port's aggregation key, 0 for none
+  setsyspri B SYS                 the bridge's system priority
+  settreeprio B TREE PRIO         the bridge's priority in a tree, in steps of 4096
+  settreeportprio B P TREE PRIO   the port's priority in a tree, in steps of 16
+  setportpathcost B P COST        the port's external path cost, 0 for automatic
+  settreeportcost B P TREE COST   the port's internal path cost in a tree, 0 for automatic
+  setportrestrrole B P yes|no     whether the port's role is restricted
+  setmstconfid B REV CNAME        the revision and the name of the bridge's MST configuration
+  setvid2mstid B TREE VIDS        maps these VIDs to the tree
+  setmaxhops B LIM                the bridge's Max Hops
+  setmaxage B LIM                 the bridge's Max Age
+  setportvlans B P VIDS|all|none  the VLANs that the port is a member of
+  showtree TREE                   prints the tree
+  showplan                        prints all trees and what each VLAN reaches
+  showvlan VID                    prints what the VLAN reaches
+  showregions                     prints the regions
+  showmstconfid B                 prints the bridge's MST configuration
+  shownotes                       prints where limits bind, and which roles are restricted
+  showlag                         prints the classes of links
+  mark                            remembers the network for changes
+  changes                         prints what has changed since the mark
+  save                            prints a script that makes the network
+
+TREE is 0 for the CIST, VIDS are like 10,20-29. Behind a first line 'mstplan 2' priorities aren't steps but the numbers
+themselves.
+
+Exit statuses:
+  0  nothing of the below
+  1  a line or a capture was refused, a capture differs from the plan, a port isn't explained, two networks differ, or a
+     failure cuts a VLAN
+  2  the program's words are wrong
+  3  a file couldn't be opened, a read or a write failed, or memory was wanted and refused
+
+docs/RULES.md in the repository has the whole language, and all that is printed.";
