@@ -1,0 +1,23 @@
+-- Steps of the code along the definitions of hints.
+use Rattle.std.proofs.Common.{◌≡◌, ℕ, List, [], ◌∷◌, Option, Some, None, is_some, refl, ap, true≢false, sym}
+use Rattle.std.specs.Option.{option_map, unwrap_or}
+use Rattle.mst_lang.specs.declared.line.Version.{Version}
+use Rattle.mst_lang.specs.declared.line.Command.{Command}
+use Rattle.mst_hints.specs.declared.form.Argument.{Argument}
+use Rattle.mst_hints.specs.Forms.{form_of}
+use Rattle.mst_hints.specs.Hints.{first_wrong, form_hint, command_hint, unknown_text}
+
+-- where no word is left, none is wrong
+pub none_left : (version : Version) (form : List Argument) → first_wrong version form [] ≡ None
+none_left version [] = refl
+none_left version (argument ∷ form) = refl
+
+-- the hint of a command, by its form
+pub of_form : (version : Version) (word : List ℕ) (form : List Argument) (command : Option Command) (arguments : List (List ℕ)) → Some form ≡ option_map form_of command → form_hint version word form arguments ≡ command_hint version word command arguments
+of_form version word form None arguments same = absurd (true≢false (ap is_some same))
+of_form version word form (Some command) arguments same = ap (λ f. form_hint version word f arguments) (ap (λ (o : Option (List Argument)). unwrap_or o []) same)
+
+-- of a word that has none
+pub of_no_form : (version : Version) (word : List ℕ) (command : Option Command) (arguments : List (List ℕ)) → None ≡ option_map form_of command → Some (unknown_text word) ≡ command_hint version word command arguments
+of_no_form version word None arguments same = refl
+of_no_form version word (Some command) arguments same = absurd (true≢false (sym (ap is_some same)))

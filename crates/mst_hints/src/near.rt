@@ -1,0 +1,76 @@
+ghost use Rattle.std.specs.Prelude.{◌≡◌};
+ghost use Rattle.mst_lang.specs.Arguments.{is_text};
+ghost use Rattle.mst_hints.specs.Near.{one_change, is_within_one as within_one, is_within_two as within_two};
+
+/// Whether one word becomes the other by at most one change: a letter put in, left out, or exchanged with its
+/// neighbour.
+pub(crate) fn is_within_one(one: &[u8], other: &[u8]) -> bool
+    ensures { result ≡ within_one one.now other.now }
+{
+    if is_one_change(one, other) {
+        return true;
+    }
+    match (one, other) {
+        ([a, one @ ..], [b, other @ ..]) => *a == *b && is_within_one(one, other),
+        _ => false,
+    }
+}
+
+/// Whether they are equal, or become so by one change at the front.
+fn is_one_change(one: &[u8], other: &[u8]) -> bool
+    ensures { result ≡ one_change is_text one.now other.now }
+{
+    if one == other {
+        return true;
+    }
+    if let [_, one @ ..] = one {
+        if one == other {
+            return true;
+        }
+    }
+    if let [_, other @ ..] = other {
+        if one == other {
+            return true;
+        }
+    }
+    match (one, other) {
+        ([a, b, one @ ..], [c, d, other @ ..]) => *a == *d && *b == *c && one == other,
+        _ => false,
+    }
+}
+
+/// Whether one word becomes the other by at most two changes.
+pub(crate) fn is_within_two(one: &[u8], other: &[u8]) -> bool
+    ensures { result ≡ within_two one.now other.now }
+{
+    if are_two_changes(one, other) {
+        return true;
+    }
+    match (one, other) {
+        ([a, one @ ..], [b, other @ ..]) => *a == *b && is_within_two(one, other),
+        _ => false,
+    }
+}
+
+/// Whether at most one change is left, as they are or after one at the front.
+fn are_two_changes(one: &[u8], other: &[u8]) -> bool
+    ensures { result ≡ one_change within_one one.now other.now }
+{
+    if is_within_one(one, other) {
+        return true;
+    }
+    if let [_, one @ ..] = one {
+        if is_within_one(one, other) {
+            return true;
+        }
+    }
+    if let [_, other @ ..] = other {
+        if is_within_one(one, other) {
+            return true;
+        }
+    }
+    match (one, other) {
+        ([a, b, one @ ..], [c, d, other @ ..]) => *a == *d && *b == *c && is_within_one(one, other),
+        _ => false,
+    }
+}
