@@ -1,0 +1,177 @@
+-- What is seen of a summary, under names.
+use Rattle.std.proofs.Common.{◌≡◌, ℕ, ◌==◌, ◌&&◌, ◌||◌, Bool, true, false, true≢false, cond, List, [], ◌∷◌, ◌++◌, map, length, Some, refl, sym, ap, ◌∙◌, eq-eqb, arith}
+use Rattle.std.specs.Prelude.{if◌then◌else◌}
+use Rattle.std.specs.List.{Contains, filter, filter_map, flat_map, list_all, list_any, count_by}
+use Rattle.std.specs.Option.{option_map, option_map_or, unwrap_or}
+use Rattle.std.specs.FinMap as fin
+use Rattle.std.specs.Cmp.Lexicographic.{bytes_decides}
+use Rattle.std.proofs.lemmas.Bool.{eqb-true}
+use Rattle.std.proofs.lemmas.List.{length-map}
+use Rattle.std.proofs.lemmas.List.Folds.{flat_map-map}
+use Rattle.mst_ids.specs.Identifiers.{bridge_id}
+use Rattle.mst_ids.specs.Vids.{has}
+use Rattle.mst_net.specs.ByTree.{by_tree, vlans_in}
+use Rattle.mst_net.specs.Seen.{bridge_row}
+use Rattle.mst_net.specs.Tables.{Net, Numbers, BridgeRow, IsNetwork}
+use Rattle.mst_lag.specs.Aggregation.{same_name}
+use Rattle.mst_lag.specs.View.{LogicalLan, LogicalPort}
+use Rattle.mst_lag.specs.Viewed.{Viewed, named_bridge, named_lan, named_port}
+use Rattle.mst_lag.specs.declared.in_view.BridgeInView.{BridgeInView}
+use Rattle.mst_lag.specs.declared.in_view.LanInView.{LanInView}
+use Rattle.mst_lag.specs.declared.in_view.PortInView.{PortInView}
+use Rattle.mst_config.specs.Classes.{AreRegions}
+use Rattle.mst_config.specs.Regions.{region_of}
+use Rattle.mst_config.proofs.SameRegion.{has_first, HasFirst}
+use Rattle.mst_trees.specs.Agrees.{AreOf}
+use Rattle.mst_trees.specs.Forest.{Forest, IsForest}
+use Rattle.mst_trees.specs.Outcome.{Outcome}
+use Rattle.mst_trees.proofs.Entries.{all_weaker}
+use Rattle.mst_trees.proofs.Lists.{all_passing, all_there, filter_mapped, kept_same, mapped_twice, some_is}
+use Rattle.mst_trees.proofs.Looking.{filter_alike, has_tree_at}
+use Rattle.mst_trees.proofs.Seen.{SeenBridge, SeenPort, bridges_seen, ports_seen}
+use Rattle.mst_tree_text.specs.Lines.{id_in}
+use Rattle.mst_tree_text.specs.Seen.{seen_has}
+use Rattle.mst_tree_text.specs.TreeText.{has_tree}
+use Rattle.mst_roles.proofs.Named.{named}
+use Rattle.mst_roles.proofs.Forwarded.{each_forwards}
+use Rattle.mst_vlan.specs.Reach.{is_member}
+use Rattle.mst_vlan.specs.Seen.{seen_member}
+use Rattle.mst_changes.specs.Places.{all_trees, bridge_names}
+use Rattle.mst_changes.proofs.Lists.{filter_map-map}
+use Rattle.mst_diff.proofs.Named.{names_are, root_named}
+use Rattle.mst_summary.specs.Blocked.{stops, is_blocked, blocked, blocked_line}
+use Rattle.mst_summary.specs.Carries.{ports_on, carries, carried, carries_line, carries_text}
+use Rattle.mst_summary.specs.Counts.{is_first, is_used, used_trees, counts_of}
+use Rattle.mst_summary.specs.Roots.{follower, followers, root_line, root_lines}
+use Rattle.mst_summary.specs.Seen.{seen_used, seen_trees, seen_first, seen_counts, seen_follower, seen_followers, seen_root_lines, seen_is_blocked, seen_blocked, seen_on, seen_carries, seen_tree_lines, up_text}
+use Rattle.mst_summary.specs.SummaryText.{tree_lines, trees_text}
+use Rattle.mst_summary.proofs.Lists.{count_mapped, count_alike, all_mapped, all_alike, any_mapped, any_alike}
+
+same_mac : (m n : ℕ) → bridge_id 0 0 m ≡ bridge_id 0 0 n → m ≡ n
+same_mac m n e = omega arith
+
+-- a bridge is the first of its region just where the region's identifier has its MAC
+first_told : (net : Net) → IsNetwork net → (a : List ℕ) (x : BridgeRow) → fin.get net.bridges a ≡ Some x → (region_of net a == bridge_id 0 0 x.mac) ≡ is_first net a
+first_told net ok a x row =
+    let f = has_first net a x row in
+    ap (λ n. n == bridge_id 0 0 x.mac) f.identifier ∙ go f (same_name f.first a) refl ∙ ap (λ o. same_name (unwrap_or o a) a) (sym f.is_first)
+  where
+    same_row : (f : HasFirst net a) → f.first ≡ a → bridge_id 0 0 f.row.mac ≡ bridge_id 0 0 x.mac
+    same_row f e = ap (λ (r : BridgeRow). bridge_id 0 0 r.mac) (some_is f.row x (sym f.has_row ∙ ap (fin.get net.bridges) e ∙ row))
+
+    go : (f : HasFirst net a) (t : Bool) → same_name f.first a ≡ t → (bridge_id 0 0 f.row.mac == bridge_id 0 0 x.mac) ≡ t
+    go f true e = eq-eqb (bridge_id 0 0 f.row.mac) (bridge_id 0 0 x.mac) (same_row f ((bytes_decides f.first a).0 e))
+    go f false e = by (bridge_id 0 0 f.row.mac == bridge_id 0 0 x.mac) refl
+      where
+        by : (u : Bool) → (bridge_id 0 0 f.row.mac == bridge_id 0 0 x.mac) ≡ u → u ≡ false
+        by false k = refl
+        by true k =
+            let macs = same_mac f.row.mac x.mac (eqb-true (bridge_id 0 0 f.row.mac) (bridge_id 0 0 x.mac) k) in
+            absurd (true≢false (sym ((bytes_decides f.first a).1 (ok.bridges.macs_differ f.first a f.row x f.has_row row macs)) ∙ e))
+
+module _ (net : Net) (numbers : Numbers) (v : Viewed) (f : Forest) (of : AreOf net numbers v f.regions) where
+  -- ---- trees
+  used_named : (tree : ℕ) → seen_used v tree ≡ is_used net tree
+  used_named tree =
+      any_alike (λ (b : BridgeInView). seen_has v tree b.bridge.number) (λ b. has_tree net tree b.name) v.bridges
+      (all_weaker (SeenBridge net numbers) _ (λ b seen. ap (λ t. tree == 0 || t) (has_tree_at net numbers v f.regions of tree b.name b.bridge.number seen.has_number)) v.bridges (bridges_seen net numbers v of.view))
+      ∙ sym (any_mapped (has_tree net tree) (λ (b : BridgeInView). b.name) v.bridges)
+      ∙ ap (list_any (has_tree net tree)) (names_are net numbers v f of)
+
+  pub trees_named : seen_trees v ≡ used_trees net
+  trees_named = λ i. filter (λ tree. used_named tree i) all_trees
+
+  -- ---- counts
+  module _ (classes : List (ℕ × ℕ)) (regions : AreRegions net numbers classes) where
+    first_named : (b : BridgeInView) → SeenBridge net numbers b → seen_first classes b ≡ is_first net b.name
+    first_named b seen =
+        ap (λ o. option_map_or (λ region. region == bridge_id 0 0 b.bridge.mac) o false) (regions.identifiers b.name b.bridge.number seen.has_number)
+        ∙ first_told net of.network b.name (bridge_row b.bridge) seen.has_row
+
+    firsts_named : count_by (seen_first classes) v.bridges ≡ count_by (is_first net) (bridge_names net)
+    firsts_named =
+        count_alike (seen_first classes) (λ (b : BridgeInView). is_first net b.name) v.bridges (all_weaker (SeenBridge net numbers) _ first_named v.bridges (bridges_seen net numbers v of.view))
+        ∙ sym (count_mapped (is_first net) (λ (b : BridgeInView). b.name) v.bridges)
+        ∙ ap (count_by (is_first net)) (names_are net numbers v f of)
+
+    pub counts_named : seen_counts v classes (seen_trees v) ≡ counts_of net
+    counts_named = λ i. record {
+      bridges = (sym (length-map v.bridges named_bridge) ∙ ap length of.view.bridges) i;
+      on = (sym (count_mapped (λ (e : List ℕ × BridgeRow). e.1.is_on) named_bridge v.bridges) ∙ ap (count_by (λ (e : List ℕ × BridgeRow). e.1.is_on)) of.view.bridges) i;
+      ports = (sym (length-map v.ports named_port) ∙ ap length of.view.ports) i;
+      enabled = (sym (count_mapped (λ (p : LogicalPort). p.is_enabled) named_port v.ports) ∙ ap (count_by (λ (p : LogicalPort). p.is_enabled)) of.view.ports) i;
+      regions = firsts_named i;
+      trees = length (trees_named i);
+    }
+
+  module _ (is : IsForest net numbers f) where
+    abbrev o : Outcome
+    o = is.outcome
+
+    module _ (tree : ℕ) where
+      -- ---- roots
+      follower_named : (b : BridgeInView) → Contains v.bridges b → seen_follower v f tree b ≡ follower net o tree (named_bridge b)
+      follower_named b there = λ i.
+          option_map (λ root. record { name = b.name; id = id_in (of.view.settings i) tree b.name (bridge_row b.bridge); root = root }) (root_named net numbers v f of is tree b there i)
+
+      followers_named : seen_followers v f tree ≡ followers net o tree
+      followers_named =
+          kept_same (seen_follower v f tree) (λ (b : BridgeInView). follower net o tree (named_bridge b)) v.bridges (all_weaker (Contains v.bridges) _ follower_named v.bridges (all_there v.bridges))
+          ∙ sym (filter_map-map (follower net o tree) named_bridge v.bridges)
+          ∙ ap (filter_map (follower net o tree)) of.view.bridges
+
+      roots_named : seen_root_lines v f tree ≡ root_lines net o tree
+      roots_named =
+          (λ i. flat_map (λ (b : BridgeInView). root_line (of.view.settings i) tree (followers_named i) b.name (id_in (of.view.settings i) tree b.name (bridge_row b.bridge))) v.bridges)
+          ∙ sym (flat_map-map (λ (e : List ℕ × BridgeRow). root_line (by_tree net) tree (followers net o tree) e.0 (id_in (by_tree net) tree e.0 e.1)) named_bridge v.bridges)
+          ∙ ap (flat_map (λ (e : List ℕ × BridgeRow). root_line (by_tree net) tree (followers net o tree) e.0 (id_in (by_tree net) tree e.0 e.1))) of.view.bridges
+
+      -- ---- ports that block
+      blocks_named : (p : PortInView) → SeenPort net numbers p → seen_is_blocked v f tree p ≡ is_blocked net o tree (named_port p)
+      blocks_named p seen = ap (λ r. p.is_enabled && stops r) (named net numbers v f of is tree p.name p.number seen.has_numbers.port)
+
+      blocked_named : seen_blocked v f tree ≡ blocked net o tree
+      blocked_named =
+          ap (map (λ (p : PortInView). p.name))
+          (filter_alike (seen_is_blocked v f tree) (λ (p : PortInView). is_blocked net o tree (named_port p)) v.ports (all_weaker (SeenPort net numbers) _ blocks_named v.ports (ports_seen net numbers v of.view)))
+          ∙ sym (mapped_twice (λ (p : LogicalPort). p.name) named_port (filter (λ (p : PortInView). is_blocked net o tree (named_port p)) v.ports))
+          ∙ ap (map (λ (p : LogicalPort). p.name)) (sym (filter_mapped (is_blocked net o tree) named_port v.ports) ∙ ap (filter (is_blocked net o tree)) of.view.ports)
+
+      lines_named : seen_tree_lines v f tree ≡ tree_lines net o tree
+      lines_named = λ i. roots_named i ++ blocked_line tree (blocked_named i)
+
+    pub all_lines_named : flat_map (seen_tree_lines v f) (seen_trees v) ≡ trees_text net o
+    all_lines_named = λ i. flat_map (λ tree. lines_named tree i) (trees_named i)
+
+    -- ---- what ports carry
+    carries_named : (vid : ℕ) (p : PortInView) → SeenPort net numbers p → seen_carries v f vid p ≡ carries net o vid (named_port p)
+    carries_named vid p seen = λ i. each_forwards net numbers v f of is vid p seen i && member vid p i
+      where
+        member : (vid : ℕ) (p : PortInView) → seen_member v vid p ≡ is_member net vid (named_port p)
+        member vid p = λ i. has (vlans_in (of.view.settings i).vlans p.name) vid
+
+    pub all_carry_named : (lan : List ℕ) (vid : ℕ) → list_all (seen_carries v f vid) (seen_on v lan) ≡ list_all (carries net o vid) (ports_on net lan)
+    all_carry_named lan vid =
+        all_alike (seen_carries v f vid) (λ (p : PortInView). carries net o vid (named_port p)) (seen_on v lan)
+        (all_passing (SeenPort net numbers) _ (λ (p : PortInView). same_name p.lan lan) (λ p seen _. carries_named vid p seen) v.ports (ports_seen net numbers v of.view))
+        ∙ sym (all_mapped (carries net o vid) named_port (seen_on v lan))
+        ∙ ap (list_all (carries net o vid)) (sym (filter_mapped (λ (p : LogicalPort). same_name p.lan lan) named_port v.ports) ∙ ap (filter (λ (p : LogicalPort). same_name p.lan lan)) of.view.ports)
+
+    -- the lines of LANs
+    pub lans_named : flat_map (up_text net o) v.lans ≡ carries_text net o
+    lans_named = go v.lans ∙ ap (λ lans. flat_map g (map (λ (l : LogicalLan). l.name) (filter (λ (l : LogicalLan). l.is_up) lans))) of.view.lans
+      where
+        g : List ℕ → List ℕ
+        g lan = carries_line lan (carried net o lan)
+
+        go : (lans : List LanInView) → flat_map (up_text net o) lans ≡ flat_map g (map (λ (l : LogicalLan). l.name) (filter (λ (l : LogicalLan). l.is_up) (map named_lan lans)))
+        go [] = refl
+        go (l ∷ ls) = one l.is_up (go ls)
+          where
+            rest : List LogicalLan
+            rest = filter (λ (l : LogicalLan). l.is_up) (map named_lan ls)
+
+            one : (b : Bool) → flat_map (up_text net o) ls ≡ flat_map g (map (λ (l : LogicalLan). l.name) rest)
+                → (if b then g l.name else []) ++ flat_map (up_text net o) ls ≡ flat_map g (map (λ (l : LogicalLan). l.name) (cond b (named_lan l ∷ rest) rest))
+            one true e = ap (λ t. g l.name ++ t) e
+            one false e = e

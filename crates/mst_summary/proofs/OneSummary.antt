@@ -1,0 +1,88 @@
+-- The summary of a network: there is one, and one only.
+use Rattle.std.proofs.Common.{◌≡◌, ℕ, ◌++◌, ◌∷◌, [], nat_eq, Bool, true, List, refl, sym, ap, ◌∙◌, eq-eqb}
+use Rattle.std.specs.Cmp.{IsEquivalence, nat_eq_equiv}
+use Rattle.std.specs.List.{Contains, flat_map}
+use Rattle.std.proofs.lemmas.Bool.{eqb-true}
+use Rattle.mst_graph.specs.Groups.{AreGroups}
+use Rattle.mst_graph.specs.Islands.{Island}
+use Rattle.mst_graph.proofs.Alike.{alike_groups}
+use Rattle.mst_graph.proofs.Members.{here, in_whole}
+use Rattle.mst_net.specs.Tables.{Net}
+use Rattle.mst_trees.specs.Outcome.{Outcome}
+use Rattle.mst_vlan.specs.Reach.{AreIslandsOf}
+use Rattle.mst_plan_text.specs.PlanText.{all_vids}
+use Rattle.mst_plan_text.proofs.OnePlan.{vids_once, is_vid_there, each_text, OneGrouping}
+use Rattle.mst_summary.specs.Carries.{carries_text}
+use Rattle.mst_summary.specs.Counts.{counts_of, counts_line}
+use Rattle.mst_summary.specs.SummaryText.{trees_text, IsSummary}
+use Rattle.mst_summary.specs.Vlans.{with_bridge, HasIslands, islands_line, group_text, IsVlansText}
+
+module _ (net : Net) (o : Outcome) (one : (vid : ℕ) (islands others : List (Island (List ℕ) (List ℕ))) → AreIslandsOf net o vid islands → AreIslandsOf net o vid others → islands ≡ others) (grouping : OneGrouping) where
+  one_count : (vid n m : ℕ) → HasIslands net o vid n → HasIslands net o vid m → n ≡ m
+  one_count vid n m s t = s.2 ∙ ap with_bridge (one vid s.0 t.0 s.1 t.1) ∙ sym t.2
+
+  module _ (text other : List ℕ) (x : IsVlansText net o text) (y : IsVlansText net o other) where
+    abbrev same : ℕ → ℕ → Bool
+    same u v = nat_eq (x.count u) (x.count v)
+
+    count_same : (vid : ℕ) → Contains all_vids vid → x.count vid ≡ y.count vid
+    count_same vid h = let v = is_vid_there vid h in one_count vid (x.count vid) (y.count vid) (x.counted vid v) (y.counted vid v)
+
+    first : AreGroups (λ u v. same u v ≡ true) all_vids x.groups
+    first =
+        alike_groups (λ u v. x.count u ≡ x.count v) (λ u v. same u v ≡ true) all_vids x.groups
+        (λ u v _ _. (λ e. eq-eqb (x.count u) (x.count v) e, λ e. eqb-true (x.count u) (x.count v) e)) x.are_groups
+
+    second : AreGroups (λ u v. same u v ≡ true) all_vids y.groups
+    second =
+        alike_groups (λ u v. y.count u ≡ y.count v) (λ u v. same u v ≡ true) all_vids y.groups
+        (λ u v h k. (
+          λ e. eq-eqb (x.count u) (x.count v) (count_same u h ∙ e ∙ sym (count_same v k)),
+          λ e. sym (count_same u h) ∙ eqb-true (x.count u) (x.count v) e ∙ count_same v k,
+        )) y.are_groups
+
+    group_same : (group : List ℕ) → Contains x.groups group → group_text x.count group ≡ group_text y.count group
+    group_same [] h = refl
+    group_same (vid ∷ vids) h = ap (islands_line (vid ∷ vids)) (count_same vid (in_whole (x.are_groups.in_order (vid ∷ vids) h) vid (here vid vids)))
+
+    one_vlans : text ≡ other
+    one_vlans =
+        x.is ∙ each_text (group_text x.count) (group_text y.count) x.groups group_same ∙ ap (flat_map (group_text y.count)) (grouping same all_vids x.groups y.groups vids_once first second) ∙ sym y.is
+
+  pub one_text : (text other : List ℕ) → IsSummary net o text → IsSummary net o other → text ≡ other
+  one_text text other x y =
+      x.is ∙ ap (λ vlans. ((counts_line (counts_of net) ++ trees_text net o) ++ vlans) ++ carries_text net o) (one_vlans x.vlans y.vlans x.are_vlans y.are_vlans) ∙ sym y.is
+
+-- and there is one
+module _ (net : Net) (o : Outcome) (some : (vid : ℕ) → (islands : List (Island (List ℕ) (List ℕ))) × AreIslandsOf net o vid islands)
+    (grouping : (same : ℕ → ℕ → Bool) (things : List ℕ) → IsEquivalence same → (groups : List (List ℕ)) × AreGroups (λ x y. same x y ≡ true) things groups) where
+  abbrev count : ℕ → ℕ
+  count vid = with_bridge (some vid).0
+
+  abbrev test : ℕ → ℕ → Bool
+  test x y = nat_eq (count x) (count y)
+
+  equivalence : IsEquivalence test
+  equivalence = record {
+    refl = λ x. nat_eq_equiv.refl (count x);
+    symm = λ x y. nat_eq_equiv.symm (count x) (count y);
+    congr = λ x y z. nat_eq_equiv.congr (count x) (count y) (count z);
+  }
+
+  has_vlans : (text : List ℕ) × IsVlansText net o text
+  has_vlans =
+      let groups = grouping test all_vids equivalence in (
+        flat_map (group_text count) groups.0,
+        record {
+          count = count;
+          counted = λ vid _. ((some vid).0, (some vid).1, refl);
+          groups = groups.0;
+          are_groups = alike_groups (λ x y. test x y ≡ true) (λ x y. count x ≡ count y) all_vids groups.0 (λ x y _ _. (λ e. eqb-true (count x) (count y) e, λ e. eq-eqb (count x) (count y) e)) groups.1;
+          is = refl;
+        },
+      )
+
+  pub has_text : (text : List ℕ) × IsSummary net o text
+  has_text =
+      let vlans = has_vlans in
+      (((counts_line (counts_of net) ++ trees_text net o) ++ vlans.0) ++ carries_text net o, record { vlans = vlans.0; are_vlans = vlans.1; is = refl })

@@ -1,0 +1,35 @@
+use Rattle.std.proofs.Common.{◌≡◌, ℕ, ◌+◌, ◌++◌, Bool, false, List, filter, ap, subst, ◌∙◌}
+use Rattle.std.specs.List.{AllZip, Contains, list_all}
+use Rattle.std.proofs.lemmas.Result.{on_ok_weaker}
+use Rattle.mst_trees.proofs.Entries.{all_weaker}
+use Rattle.mst_trees.proofs.Lists.{all_there}
+use Rattle.mst_trees.proofs.Looking.{filter_alike}
+use Rattle.mst_plan_text.specs.PlanText.{all_vids}
+use Rattle.mst_plan_text.proofs.OnePlan.{is_vid_there}
+use Rattle.mst_summary.specs.Carries.{carries, ports_on, carried, carries_line}
+use Rattle.mst_summary.specs.Kept.{flag_at}
+use Rattle.mst_summary.specs.Seen.{seen_on, seen_carries}
+use Rattle.mst_summary.proofs.Named.{all_carry_named}
+use Rattle.mst_summary.proofs.VidClasses.{AtPlaces, things_have, all_carry_alike}
+use Rattle.mst_summary.proofs.carries.push_lan.Goals as goal
+
+pub returns : goal.returns
+returns c net numbers is of =
+    let k = c.requires.classes in
+    let v = c.args.plan.now.view.now in
+    let f = c.args.plan.now.forest.now in
+    let lan : List ℕ = c.args.lan.now in
+    let classes : List ℕ = c.args.classes.now.numbers.items in
+    let firsts : List ℕ = c.args.classes.now.firsts.items in
+    let flags : List Bool = c.in_ok-flags.flags.items in
+    let R : ℕ → Bool → Type 0 = λ vid flag. flag ≡ list_all (seen_carries v f vid) (seen_on v lan) in
+    let at : AtPlaces R firsts flags =
+    subst (λ places. AtPlaces R places flags) c.as_slice.ensures.value
+    (subst (λ ports. AllZip (λ place flag. flag ≡ list_all (seen_carries v f (place + 1)) ports) c.as_slice.result.now flags) c.requires.ports c.in_ok-flags.ensures.flags) in
+    let have = things_have R false k.tables k.sets (λ x y alike flag h. h ∙ all_carry_alike v k.tables k.sets k.have_tables k.have_sets x y alike f lan) k.numbers classes firsts k.tell k.classes flags at in
+    let all : filter (flag_at classes flags) all_vids ≡ carried net is.outcome lan =
+    filter_alike (flag_at classes flags) (λ vid. list_all (carries net is.outcome vid) (ports_on net lan)) all_vids
+    (all_weaker (Contains all_vids) _ (λ vid there. have vid (is_vid_there vid there) ∙ all_carry_named net numbers v f of is lan vid) all_vids (all_there all_vids)) in
+    let told : c.as_slice-5.result.now ≡ carried net is.outcome lan = c.as_slice-5.ensures.value ∙ c.in_ok-carried.ensures
+    ∙ (λ i. filter (flag_at (c.as_slice-3.ensures.value i) (c.as_slice-4.ensures.value i)) ((c.as_slice-2.ensures.value ∙ c.in_ok-vids.ensures) i)) ∙ all in
+    on_ok_weaker c.push_line.result (λ e. e ∙ ap (λ vids. c.args.out.now.items ++ carries_line lan vids) told) c.push_line.ensures

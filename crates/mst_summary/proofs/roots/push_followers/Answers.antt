@@ -1,0 +1,16 @@
+use Rattle.std.proofs.Common.{rules}
+use Rattle.std.proofs.lemmas.Iterator.Adapters.{items_from_extend}
+use Rattle.std.proofs.lemmas.Iterator.Consumers.{YieldsList-from_filter_map}
+use Rattle.std.proofs.lemmas.Iterator.{YieldsList-from_slice}
+use Rattle.std.proofs.lemmas.Result.{on_ok_weaker}
+use Rattle.std.specs.List.{filter_map}
+use Rattle.mst_summary.specs.Seen.{seen_follower}
+use Rattle.mst_summary.proofs.roots.push_followers.Goals as goal
+
+pub returns : goal.returns
+returns c =
+    let v = c.args.plan.now.view.now in
+    let row = seen_follower v c.args.plan.now.forest.now c.args.tree in
+    on_ok_weaker c.extend.result (λ w. w.0)
+    (items_from_extend {all = filter_map row v.bridges} c.extend.result c.extend.ensures.ran
+    (YieldsList-from_filter_map _ row (YieldsList-from_slice v.bridges (cc)) c.filter_map.ensures.closure (λ x r q k. search rules)))

@@ -1,0 +1,71 @@
+-- The lines of the roots in a tree, in an MSTI of the regional roots.
+use Rattle.std.specs.Prelude.{◌≡◌, ℕ, ◌≤◌, ◌==◌, ◌*◌, not, false, List, [], ◌∷◌, Option, None, Some, length, filter, filter_map, fold, nat_lt, codes, decimal, if◌then◌else◌}
+use Rattle.std.specs.List.{Contains, flat_map}
+use Rattle.std.specs.Option.{option_map}
+use Rattle.std.specs.FinMap as fin
+use Rattle.mst_words.specs.Words.{line}
+use Rattle.mst_net.specs.Tables.{Net, BridgeRow}
+use Rattle.mst_net.specs.ByTree.{ByTree, by_tree, priority_in}
+use Rattle.mst_trees.specs.Outcome.{Outcome}
+use Rattle.mst_tree_text.specs.Lines.{id_in}
+use Rattle.mst_diff.specs.Roots.{root_of}
+use Rattle.mst_diff.specs.Reach.{has_any}
+use Rattle.mst_summary.specs.declared.roots.Follower.{Follower}
+
+-- a bridge that names a root in a tree, with its own identifier there and that of its root. One that is off names none
+abbrev pub follower : Net → Outcome → ℕ → List ℕ × BridgeRow → Option Follower
+follower net o tree e = option_map (λ root. record { name = e.0; id = id_in (by_tree net) tree e.0 e.1; root = root }) (root_of net o tree e.0)
+
+-- all of them, by name
+abbrev pub followers : Net → Outcome → ℕ → List Follower
+followers net o tree = filter_map (follower net o tree) (fin.entries net.bridges)
+
+-- those that name the root of this identifier
+abbrev pub followers_of : ℕ → List Follower → List Follower
+followers_of id all = filter (λ f. f.root == id) all
+
+-- the one of the least identifier: of two the one whose identifier is less
+abbrev pub with_lesser : Option Follower → Follower → Option Follower
+with_lesser None x = Some x
+with_lesser (Some least) x = if nat_lt x.id least.id then Some x else Some least
+
+abbrev pub least : List Follower → Option Follower
+least all = fold with_lesser None all
+
+-- the next least after the root: the least of those that aren't the root itself
+abbrev pub next_of : ℕ → List Follower → Option Follower
+next_of id all = least (filter (λ f. not (f.id == id)) all)
+
+-- this is the next after the root of this identifier: one of them, another than the root, and of all others none has a
+-- lesser identifier
+pub record IsNext (id : ℕ) (all : List Follower) (next : Follower) : Type 0 where
+  pub there : Contains all next
+  pub other : (next.id == id) ≡ false
+  pub least : (f : Follower) → Contains all f → (f.id == id) ≡ false → next.id ≤ f.id
+
+-- the priority of a bridge in a tree as a number, from 0 to 61440
+abbrev pub priority_word : ByTree → ℕ → List ℕ → List ℕ
+priority_word set tree name = decimal (priority_in set.priorities name tree * 4096)
+
+-- `C PRIO`, or `-` where there is none
+abbrev pub next_words : ByTree → ℕ → Option Follower → List (List ℕ)
+next_words set tree None = codes "-" ∷ []
+next_words set tree (Some next) = next.name ∷ priority_word set tree next.name ∷ []
+
+-- `tree T root B PRIO of N next C PRIO`, of a bridge of this identifier with these followers
+abbrev pub whole_line : ByTree → ℕ → List ℕ → ℕ → List Follower → List ℕ
+whole_line set tree name id group =
+    line (codes "tree" ∷ decimal tree ∷ codes "root" ∷ name ∷ priority_word set tree name
+    ∷ codes "of" ∷ decimal (length group) ∷ codes "next" ∷ next_words set tree (next_of id group))
+
+-- where it has one: its line
+abbrev pub group_line : ByTree → ℕ → List ℕ → ℕ → List Follower → List ℕ
+group_line set tree name id group = if has_any group then whole_line set tree name id group else []
+
+abbrev pub root_line : ByTree → ℕ → List Follower → List ℕ → ℕ → List ℕ
+root_line set tree all name id = group_line set tree name id (followers_of id all)
+
+-- of each bridge that some bridge names, by name
+abbrev pub root_lines : Net → Outcome → ℕ → List ℕ
+root_lines net o tree =
+    flat_map (λ e. root_line (by_tree net) tree (followers net o tree) e.0 (id_in (by_tree net) tree e.0 e.1)) (fin.entries net.bridges)

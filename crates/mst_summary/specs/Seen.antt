@@ -1,0 +1,90 @@
+-- What is seen of a summary in a view with its forest, under the numbers of records.
+use Rattle.std.specs.Prelude.{ℕ, ◌==◌, ◌&&◌, ◌++◌, Bool, false, List, [], Option, map, filter, filter_map, length, nat_eq, if◌then◌else◌}
+use Rattle.std.specs.List.{count_by, find, flat_map, list_any}
+use Rattle.std.specs.Map.{lookup}
+use Rattle.std.specs.Option.{option_map, option_map_or, option_and_then}
+use Rattle.mst_ids.specs.Identifiers.{bridge_id}
+use Rattle.mst_ids.specs.declared.name.PortName.{PortName}
+use Rattle.mst_net.specs.Seen.{bridge_row}
+use Rattle.mst_net.specs.Tables.{Net}
+use Rattle.mst_lag.specs.Aggregation.{same_name}
+use Rattle.mst_lag.specs.Viewed.{Viewed}
+use Rattle.mst_lag.specs.declared.in_view.BridgeInView.{BridgeInView}
+use Rattle.mst_lag.specs.declared.in_view.LanInView.{LanInView}
+use Rattle.mst_lag.specs.declared.in_view.PortInView.{PortInView}
+use Rattle.mst_trees.specs.Forest.{Forest}
+use Rattle.mst_trees.specs.Outcome.{Outcome}
+use Rattle.mst_tree_text.specs.Lines.{id_in}
+use Rattle.mst_tree_text.specs.Seen.{seen_has}
+use Rattle.mst_roles.specs.Seen.{seen_role, seen_forwards}
+use Rattle.mst_vlan.specs.Seen.{seen_member}
+use Rattle.mst_vlan.specs.declared.island.Island.{Island}
+use Rattle.mst_changes.specs.Places.{all_trees}
+use Rattle.mst_diff.specs.Reach.{has_any}
+use Rattle.mst_diff.specs.Seen.{seen_root}
+use Rattle.mst_summary.specs.declared.roots.Follower.{Follower}
+use Rattle.mst_summary.specs.declared.counts.Counts.{Counts}
+use Rattle.mst_summary.specs.Roots.{root_line}
+use Rattle.mst_summary.specs.Carries.{carried, carries_line}
+use Rattle.mst_summary.specs.Blocked.{stops, blocked_line}
+
+-- ---- counts
+-- some bridge has the tree
+abbrev pub seen_used : Viewed → ℕ → Bool
+seen_used v tree = list_any (λ b. seen_has v tree b.bridge.number) v.bridges
+
+abbrev pub seen_trees : Viewed → List ℕ
+seen_trees v = filter (seen_used v) all_trees
+
+-- a bridge is the first of its region, whose identifier has its MAC then
+abbrev pub seen_first : List (ℕ × ℕ) → BridgeInView → Bool
+seen_first classes b = option_map_or (λ region. region == bridge_id 0 0 b.bridge.mac) (lookup (nat_eq b.bridge.number) classes) false
+
+abbrev pub seen_counts : Viewed → List (ℕ × ℕ) → List ℕ → Counts
+seen_counts v classes trees = record {
+  bridges = length v.bridges;
+  on = count_by (λ b. (bridge_row b.bridge).is_on) v.bridges;
+  ports = length v.ports;
+  enabled = count_by (λ p. p.is_enabled) v.ports;
+  regions = count_by (seen_first classes) v.bridges;
+  trees = length trees;
+}
+
+-- ---- roots
+abbrev pub seen_follower : Viewed → Forest → ℕ → BridgeInView → Option Follower
+seen_follower v f tree b = option_map (λ root. record { name = b.name; id = id_in v.settings tree b.name (bridge_row b.bridge); root = root }) (seen_root v f tree b.bridge.number)
+
+abbrev pub seen_followers : Viewed → Forest → ℕ → List Follower
+seen_followers v f tree = filter_map (seen_follower v f tree) v.bridges
+
+abbrev pub seen_root_line : Viewed → ℕ → List Follower → BridgeInView → List ℕ
+seen_root_line v tree all b = root_line v.settings tree all b.name (id_in v.settings tree b.name (bridge_row b.bridge))
+
+abbrev pub seen_root_lines : Viewed → Forest → ℕ → List ℕ
+seen_root_lines v f tree = flat_map (seen_root_line v tree (seen_followers v f tree)) v.bridges
+
+-- ---- ports that block, with the role that is looked up by number
+abbrev pub seen_is_blocked : Viewed → Forest → ℕ → PortInView → Bool
+seen_is_blocked v f tree p = p.is_enabled && stops (option_and_then (seen_role v f tree) (find (λ q. p.number == q.number) v.ports))
+
+abbrev pub seen_blocked : Viewed → Forest → ℕ → List PortName
+seen_blocked v f tree = map (λ p. p.name) (filter (seen_is_blocked v f tree) v.ports)
+
+-- ---- islands that have a bridge
+abbrev pub seen_with_bridge : List Island → ℕ
+seen_with_bridge islands = count_by (λ i. has_any i.bridges) islands
+
+-- ---- what ports carry
+abbrev pub seen_on : Viewed → List ℕ → List PortInView
+seen_on v lan = filter (λ p. same_name p.lan lan) v.ports
+
+abbrev pub seen_carries : Viewed → Forest → ℕ → PortInView → Bool
+seen_carries v f vid p = seen_forwards v f vid p && seen_member v vid p
+
+-- the line of a logical LAN, where it is up
+abbrev pub up_text : Net → Outcome → LanInView → List ℕ
+up_text net o l = if l.is_up then carries_line l.name (carried net o l.name) else []
+
+-- ---- trees
+abbrev pub seen_tree_lines : Viewed → Forest → ℕ → List ℕ
+seen_tree_lines v f tree = seen_root_lines v f tree ++ blocked_line tree (seen_blocked v f tree)

@@ -1,0 +1,183 @@
+ghost use Rattle.std.specs.Prelude.{◌≡◌, ◌++◌, ◌+◌, ◌<◌, ℕ, List, filter, length, vec_len, IfOk, OnOk};
+ghost use Rattle.std.specs.List.{All, AllZip, flat_map, list_all};
+ghost use Rattle.mst_net.specs.Tables.{Net, Numbers};
+ghost use Rattle.mst_trees.specs.Agrees.{AreOf};
+ghost use Rattle.mst_trees.specs.Forest.{IsForest};
+ghost use Rattle.mst_plan_text.specs.Bodies.{NumberEach};
+ghost use Rattle.mst_vlan.specs.Seen.{seen_member};
+ghost use Rattle.mst_summary.specs.Carries.{carried, carries_line, carries_text};
+ghost use Rattle.mst_summary.specs.Kept.{AreClasses, flag_at, kept_at};
+ghost use Rattle.mst_summary.specs.Seen.{seen_on, seen_carries, up_text};
+
+use crate::kept::{kept_for, ports_by_lan};
+use indexmap::IndexMap;
+use mst_changes::Planned;
+use mst_graph::Numbering;
+use mst_ids::{Name, Vid, push_bytes};
+use mst_lag::{LanInView, PortInView, View};
+use mst_plan_text::{set_of, vids};
+use mst_roles::port_forwards;
+use mst_words::{push_end, push_word};
+use std::alloc::{AllocError, Global};
+
+/// Whether a port is a member of a VLAN.
+fn is_member(view: &View, vid: Vid, port: &PortInView) -> bool
+    ensures { result ≡ seen_member view.now vid port.now }
+{
+    view.settings().port_vlans(&port.name).contains(vid.value())
+}
+
+/// Whether a port is active for a VID and a member of its VLAN.
+fn carries(plan: &Planned, vid: Vid, port: &PortInView) -> bool
+    ensures { result ≡ seen_carries plan.now.view.now plan.now.forest.now vid port.now }
+{
+    port_forwards(plan.view, plan.forest, port, vid) && is_member(plan.view, vid, port)
+}
+
+/// Whether all of these ports are so.
+fn all_carry(plan: &Planned, vid: Vid, ports: &[PortInView]) -> bool
+    ensures { result ≡ list_all (seen_carries plan.now.view.now plan.now.forest.now vid) ports.now }
+{
+    ports.iter().all(|port| carries(plan, vid, port))
+}
+
+/// Whether all of these ports are so for the VIDs at these places, which are counted from 0.
+fn flags_at(
+    alloc: Global,
+    plan: &Planned,
+    ports: &[PortInView],
+    places: &[usize],
+) -> Result<Vec<bool>, AllocError>
+    requires { All (λ place. place < 4094) places.now }
+    ensures as_long { IfOk result (λ flags. vec_len flags ≡ length places.now) }
+    ensures flags { IfOk result (λ flags. AllZip (λ place flag. flag ≡ list_all (seen_carries plan.now.view.now plan.now.forest.now (place + 1)) ports.now) places.now flags.items) }
+{
+    let mut flags = Vec::new(alloc);
+    for place in places {
+        let vid = Vid::new(*place as u64 + 1).unwrap();
+        flags.push(all_carry(plan, vid, ports))?;
+    }
+    Ok(flags)
+}
+
+/// Those of these VIDs whose numbers have the flag.
+fn flagged(
+    alloc: Global,
+    vids: &[Vid],
+    numbers: &[usize],
+    flags: &[bool],
+) -> Result<Vec<Vid>, AllocError>
+    requires { NumberEach numbers.now (length flags.now) }
+    ensures { IfOk result (λ flagged. flagged.items ≡ filter (flag_at numbers.now flags.now) vids.now) }
+{
+    let mut flagged = Vec::new(alloc);
+    for vid in vids {
+        if flags[numbers[usize::from(vid.value()) - 1]] {
+            flagged.push(*vid)?;
+        }
+    }
+    Ok(flagged)
+}
+
+/// Appends the line of a logical LAN that carries these VIDs, if these aren't all.
+fn push_line(lan: &Name, vids: &[Vid], out: &mut Vec<u8>) -> Result<(), AllocError>
+    ensures { OnOk result (out.new.items ≡ out.old.items ++ carries_line lan.now vids.now) }
+{
+    if vids.len() == 4094 {
+        return Ok(());
+    }
+    push_bytes(b"carries", out)?;
+    push_word(lan.as_bytes(), out)?;
+    push_bytes(b" ", out)?;
+    set_of(vids).push_text(out)?;
+    push_end(out)
+}
+
+/// Appends the line of a logical LAN that has these ports, if it doesn't carry all VIDs.
+fn push_lan(
+    alloc: Global,
+    plan: &Planned,
+    classes: &Numbering,
+    lan: &Name,
+    ports: &[PortInView],
+    out: &mut Vec<u8>,
+) -> Result<(), AllocError>
+    requires classes { AreClasses plan.now.view.now classes.now }
+    requires ports { ports.now ≡ seen_on plan.now.view.now lan.now }
+    ensures { (net : Net) (numbers : Numbers) (is : IsForest net numbers plan.now.forest.now) → AreOf net numbers plan.now.view.now plan.now.forest.now.regions
+        → OnOk result (out.new.items ≡ out.old.items ++ carries_line lan.now (carried net is.outcome lan.now)) }
+{
+    let flags = flags_at(alloc, plan, ports, classes.firsts.as_slice())?;
+    let vids = vids(alloc)?;
+    let carried = flagged(
+        alloc,
+        vids.as_slice(),
+        classes.numbers.as_slice(),
+        flags.as_slice(),
+    )?;
+    push_line(lan, carried.as_slice(), out)
+}
+
+/// Appends the line of a logical LAN, by the ports that are kept for each, if it is up and doesn't carry all VIDs.
+fn push_up(
+    alloc: Global,
+    plan: &Planned,
+    classes: &Numbering,
+    kept: &IndexMap<Name, Vec<PortInView>>,
+    lan: &LanInView,
+    out: &mut Vec<u8>,
+) -> Result<(), AllocError>
+    requires classes { AreClasses plan.now.view.now classes.now }
+    requires kept { (name : List ℕ) → kept_at kept.now name ≡ seen_on plan.now.view.now name }
+    ensures { (net : Net) (numbers : Numbers) (is : IsForest net numbers plan.now.forest.now) → AreOf net numbers plan.now.view.now plan.now.forest.now.regions
+        → OnOk result (out.new.items ≡ out.old.items ++ up_text net is.outcome lan.now) }
+{
+    if !lan.is_up {
+        return Ok(());
+    }
+    push_lan(
+        alloc,
+        plan,
+        classes,
+        &lan.name,
+        kept_for(kept, &lan.name),
+        out,
+    )
+}
+
+/// Appends the lines of those of these logical LANs that are up and don't carry all VIDs.
+fn push_lans(
+    alloc: Global,
+    plan: &Planned,
+    classes: &Numbering,
+    kept: &IndexMap<Name, Vec<PortInView>>,
+    lans: &[LanInView],
+    out: &mut Vec<u8>,
+) -> Result<(), AllocError>
+    requires classes { AreClasses plan.now.view.now classes.now }
+    requires kept { (name : List ℕ) → kept_at kept.now name ≡ seen_on plan.now.view.now name }
+    ensures { (net : Net) (numbers : Numbers) (is : IsForest net numbers plan.now.forest.now) → AreOf net numbers plan.now.view.now plan.now.forest.now.regions
+        → OnOk result (out.new.items ≡ out.old.items ++ flat_map (up_text net is.outcome) lans.now) }
+{
+    for lan in lans {
+        push_up(alloc, plan, classes, kept, lan, out)?;
+    }
+    Ok(())
+}
+
+/// Appends the lines of the logical LANs that are up and don't carry all VIDs, by name.
+///
+/// It asks each port once for each class of VIDs.
+pub(crate) fn push_carries(
+    alloc: Global,
+    plan: &Planned,
+    classes: &Numbering,
+    out: &mut Vec<u8>,
+) -> Result<(), AllocError>
+    requires { AreClasses plan.now.view.now classes.now }
+    ensures { (net : Net) (numbers : Numbers) (is : IsForest net numbers plan.now.forest.now) → AreOf net numbers plan.now.view.now plan.now.forest.now.regions
+        → OnOk result (out.new.items ≡ out.old.items ++ carries_text net is.outcome) }
+{
+    let kept = ports_by_lan(alloc, plan.view)?;
+    push_lans(alloc, plan, classes, &kept, plan.view.lans(), out)
+}

@@ -1,0 +1,106 @@
+ghost use Rattle.std.specs.Prelude.{◌≡◌, ◌++◌, OnOk};
+ghost use Rattle.std.specs.List.{count_by};
+ghost use Rattle.mst_net.specs.Seen.{bridge_row};
+ghost use Rattle.mst_summary.specs.Counts.{counts_line};
+ghost use Rattle.mst_summary.specs.Seen.{seen_first, seen_counts};
+
+use itoa::Buffer;
+use mst_config::Classes;
+use mst_ids::{BridgeId, Tree};
+use mst_lag::{BridgeInView, PortInView, View};
+use mst_lang::Power;
+use mst_words::push_line;
+use std::alloc::AllocError;
+
+/// How much there is of a network: bridges, those that are on, logical ports, those that are enabled, regions and trees.
+#[derive(Clone, Copy)]
+pub(crate) struct Counts {
+    pub(crate) bridges: u64,
+    pub(crate) on: u64,
+    pub(crate) ports: u64,
+    pub(crate) enabled: u64,
+    pub(crate) regions: u64,
+    pub(crate) trees: u64,
+}
+
+/// Whether a bridge is on.
+fn is_on(bridge: &BridgeInView) -> bool
+    ensures { result ≡ (bridge_row bridge.now.bridge).is_on }
+{
+    matches!(bridge.bridge.power, Power::On)
+}
+
+/// How many of these bridges are on.
+fn count_on(bridges: &[BridgeInView]) -> u64
+    ensures { result ≡ count_by (λ b. (bridge_row b.bridge).is_on) bridges.now }
+{
+    bridges.iter().filter(|bridge| is_on(bridge)).count() as u64
+}
+
+/// How many of these ports are enabled.
+fn count_enabled(ports: &[PortInView]) -> u64
+    ensures { result ≡ count_by (λ p. p.is_enabled) ports.now }
+{
+    ports.iter().filter(|port| port.is_enabled).count() as u64
+}
+
+/// Whether a bridge is the first of its region: the region's identifier has its MAC then.
+fn is_first(classes: &Classes, bridge: &BridgeInView) -> bool
+    ensures { result ≡ seen_first classes.now bridge.now }
+{
+    match classes.region(bridge.bridge.number) {
+        None => false,
+        Some(region) => region == BridgeId::of_region(bridge.bridge.mac),
+    }
+}
+
+/// How many of these bridges are the first of their regions.
+fn count_firsts(classes: &Classes, bridges: &[BridgeInView]) -> u64
+    ensures { result ≡ count_by (seen_first classes.now) bridges.now }
+{
+    bridges
+        .iter()
+        .filter(|bridge| is_first(classes, bridge))
+        .count() as u64
+}
+
+/// How much there is, with these trees.
+pub(crate) fn count(view: &View, classes: &Classes, trees: &[Tree]) -> Counts
+    ensures { result ≡ seen_counts view.now classes.now trees.now }
+{
+    Counts {
+        bridges: view.bridges().len() as u64,
+        on: count_on(view.bridges()),
+        ports: view.ports().len() as u64,
+        enabled: count_enabled(view.ports()),
+        regions: count_firsts(classes, view.bridges()),
+        trees: trees.len() as u64,
+    }
+}
+
+/// Appends the line of how much there is.
+pub(crate) fn push_counts(counts: &Counts, out: &mut Vec<u8>) -> Result<(), AllocError>
+    ensures { OnOk result (out.new.items ≡ out.old.items ++ counts_line counts.now) }
+{
+    let mut bridges = Buffer::new();
+    let mut on = Buffer::new();
+    let mut ports = Buffer::new();
+    let mut enabled = Buffer::new();
+    let mut regions = Buffer::new();
+    let mut trees = Buffer::new();
+    let words: [&[u8]; 12] = [
+        b"bridges",
+        bridges.format(counts.bridges).as_bytes(),
+        b"on",
+        on.format(counts.on).as_bytes(),
+        b"ports",
+        ports.format(counts.ports).as_bytes(),
+        b"enabled",
+        enabled.format(counts.enabled).as_bytes(),
+        b"regions",
+        regions.format(counts.regions).as_bytes(),
+        b"trees",
+        trees.format(counts.trees).as_bytes(),
+    ];
+    push_line(&words, out)
+}

@@ -1,0 +1,133 @@
+ghost use Rattle.std.specs.Prelude.{◌≡◌, ◌++◌, ◌+◌, ◌<◌, ℕ, List, IfOk, OnOk, length, map, vec_len};
+ghost use Rattle.std.specs.List.{All, AllZip, flat_map};
+ghost use Rattle.mst_net.specs.Tables.{Net, Numbers};
+ghost use Rattle.mst_trees.specs.Agrees.{AreOf, Known};
+ghost use Rattle.mst_trees.specs.Forest.{IsForest};
+ghost use Rattle.mst_plan_text.specs.Bodies.{NumberEach};
+ghost use Rattle.mst_diff.specs.Reach.{has_any};
+ghost use Rattle.mst_summary.specs.Kept.{AreClasses, count_at};
+ghost use Rattle.mst_summary.specs.Seen.{seen_with_bridge};
+ghost use Rattle.mst_summary.specs.Vlans.{HasIslands, islands_line, group_text, IsVlansText};
+
+use itoa::Buffer;
+use mst_changes::Planned;
+use mst_graph::{Numbering, groups_by_body};
+use mst_ids::{Vid, push_bytes};
+use mst_plan_text::{set_of, vids};
+use mst_vlan::{Island, reach};
+use mst_words::{push_end, push_word};
+use std::alloc::{AllocError, Global};
+
+/// Whether an island has a bridge.
+fn has_bridge(island: &Island) -> bool
+    ensures { result ≡ has_any island.now.bridges }
+{
+    match island.bridges.as_slice() {
+        [] => false,
+        [..] => true,
+    }
+}
+
+/// How many of these islands have a bridge.
+fn with_bridge(islands: &[Island]) -> u64
+    ensures { result ≡ seen_with_bridge islands.now }
+{
+    islands.iter().filter(|island| has_bridge(island)).count() as u64
+}
+
+/// How many islands with a bridge a VID has.
+fn islands_of(alloc: Global, plan: &Planned, vid: Vid) -> Result<u64, AllocError>
+    requires { Known plan.now.view.now plan.now.forest.now.regions }
+    ensures { IfOk result (λ count. (net : Net) (numbers : Numbers) (is : IsForest net numbers plan.now.forest.now) → AreOf net numbers plan.now.view.now plan.now.forest.now.regions
+        → HasIslands net is.outcome vid count) }
+{
+    let islands = reach(alloc, plan.view, plan.forest, vid)?;
+    Ok(with_bridge(islands.as_slice()))
+}
+
+/// How many the VIDs at these places have, which are counted from 0.
+fn counts_at(alloc: Global, plan: &Planned, places: &[usize]) -> Result<Vec<u64>, AllocError>
+    requires known { Known plan.now.view.now plan.now.forest.now.regions }
+    requires vids { All (λ place. place < 4094) places.now }
+    ensures as_long { IfOk result (λ counts. vec_len counts ≡ length places.now) }
+    ensures counts { IfOk result (λ counts. (net : Net) (numbers : Numbers) (is : IsForest net numbers plan.now.forest.now) → AreOf net numbers plan.now.view.now plan.now.forest.now.regions
+        → AllZip (λ place count. HasIslands net is.outcome (place + 1) count) places.now counts.items) }
+{
+    let mut counts = Vec::new(alloc);
+    for place in places {
+        let vid = Vid::new(*place as u64 + 1).unwrap();
+        counts.push(islands_of(alloc, plan, vid)?)?;
+    }
+    Ok(counts)
+}
+
+/// Appends the line of a group of VIDs that have this many.
+fn push_line(group: &[Vid], count: u64, out: &mut Vec<u8>) -> Result<(), AllocError>
+    ensures { OnOk result (out.new.items ≡ out.old.items ++ islands_line group.now count) }
+{
+    let mut number = Buffer::new();
+    push_bytes(b"vlan ", out)?;
+    set_of(group).push_text(out)?;
+    push_word(b"islands", out)?;
+    push_word(number.format(count).as_bytes(), out)?;
+    push_end(out)
+}
+
+/// Appends the line of a group, by the numbers of the VIDs and the counts of the numbers.
+fn push_group(
+    group: &[Vid],
+    numbers: &[usize],
+    counts: &[u64],
+    out: &mut Vec<u8>,
+) -> Result<(), AllocError>
+    requires { NumberEach numbers.now (length counts.now) }
+    ensures { OnOk result (out.new.items ≡ out.old.items ++ group_text (count_at numbers.now counts.now) group.now) }
+{
+    let Some(vid) = group.first() else {
+        return Ok(());
+    };
+    let number = numbers[usize::from(vid.value()) - 1];
+    push_line(group, counts[number], out)
+}
+
+/// Appends the lines of these groups.
+fn push_groups(
+    groups: &[Vec<Vid>],
+    numbers: &[usize],
+    counts: &[u64],
+    out: &mut Vec<u8>,
+) -> Result<(), AllocError>
+    requires { NumberEach numbers.now (length counts.now) }
+    ensures { OnOk result (out.new.items ≡ out.old.items ++ flat_map (group_text (count_at numbers.now counts.now)) (map (λ group. group.items) groups.now)) }
+{
+    for group in groups {
+        push_group(group.as_slice(), numbers, counts, out)?;
+    }
+    Ok(())
+}
+
+/// Appends the lines of how many islands with a bridge VIDs have, VIDs that have equally many in one line, by the least.
+///
+/// Islands are made once for each class of VIDs.
+pub(crate) fn push_vlans(
+    alloc: Global,
+    plan: &Planned,
+    classes: &Numbering,
+    out: &mut Vec<u8>,
+) -> Result<(), AllocError>
+    requires known { Known plan.now.view.now plan.now.forest.now.regions }
+    requires classes { AreClasses plan.now.view.now classes.now }
+    ensures { (net : Net) (numbers : Numbers) (is : IsForest net numbers plan.now.forest.now) → AreOf net numbers plan.now.view.now plan.now.forest.now.regions
+        → OnOk result ((text : List ℕ) × IsVlansText net is.outcome text × (out.new.items ≡ out.old.items ++ text)) }
+{
+    let counts = counts_at(alloc, plan, classes.firsts.as_slice())?;
+    let kept = Vec::from_slice(alloc, counts.as_slice())?;
+    let vids = vids(alloc)?;
+    let groups = groups_by_body(alloc, vids.as_slice(), classes.numbers.as_slice(), counts)?;
+    push_groups(
+        groups.as_slice(),
+        classes.numbers.as_slice(),
+        kept.as_slice(),
+        out,
+    )
+}

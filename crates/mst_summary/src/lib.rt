@@ -1,0 +1,16 @@
+//! The first screen that an engineer sees of a network: how much there is, the roots and the ports that block in each
+//! tree, the islands of VIDs, and the logical LANs that don't carry all VIDs.
+#![tactic(auto)]
+
+mod blocked;
+mod carries;
+mod classes;
+mod counts;
+mod islands;
+mod kept;
+pub mod laws;
+mod roots;
+mod summary;
+mod trees;
+
+pub use summary::push_summary;

@@ -1,0 +1,255 @@
+ghost use Rattle.std.specs.Prelude.{◌≡◌, ◌==◌, ◌*◌, ◌++◌, not, filter, IfOk, OnOk};
+ghost use Rattle.std.specs.List.{flat_map};
+ghost use Rattle.mst_net.specs.Seen.{bridge_row};
+ghost use Rattle.mst_net.specs.ByTree.{priority_in};
+ghost use Rattle.mst_words.specs.Words.{after_space};
+ghost use Rattle.mst_tree_text.specs.Lines.{id_in as identifier_in};
+ghost use Rattle.mst_diff.specs.Reach.{has_any};
+ghost use Rattle.mst_summary.specs.Roots.{followers_of as those_of, with_lesser, least as least_of, next_of, next_words, whole_line, group_line};
+ghost use Rattle.mst_summary.specs.Seen.{seen_follower, seen_followers, seen_root_line, seen_root_lines};
+
+use itoa::Buffer;
+use mst_changes::Planned;
+use mst_diff::root;
+use mst_ids::{BridgeId, Name, Tree, push_bytes};
+use mst_lag::{BridgeInView, View};
+use mst_words::{push_end, push_word, push_words};
+use std::alloc::{AllocError, Global};
+
+/// A bridge that names a root in a tree: its name, its own identifier there and that of its root.
+#[derive(Clone, Copy)]
+pub(crate) struct Follower {
+    pub(crate) name: Name,
+    pub(crate) id: BridgeId,
+    pub(crate) root: BridgeId,
+}
+
+/// The identifier of a bridge in a tree.
+fn id_in(view: &View, tree: Tree, bridge: &BridgeInView) -> BridgeId
+    ensures { result ≡ identifier_in view.now.settings tree bridge.now.name (bridge_row bridge.now.bridge) }
+{
+    let priority = view.settings().tree_priority(&bridge.name, tree);
+    BridgeId::new(priority, tree, bridge.bridge.mac)
+}
+
+/// A bridge with the root that it names in a tree, if it names one.
+fn as_follower(plan: &Planned, tree: Tree, bridge: &BridgeInView) -> Option<Follower>
+    ensures { result ≡ seen_follower plan.now.view.now plan.now.forest.now tree bridge.now }
+{
+    let root = root(plan, tree, bridge.bridge.number)?;
+    Some(Follower {
+        name: bridge.name,
+        id: id_in(plan.view, tree, bridge),
+        root,
+    })
+}
+
+/// Appends the bridges that name a root in a tree.
+fn push_followers(
+    plan: &Planned,
+    tree: Tree,
+    followers: &mut Vec<Follower>,
+) -> Result<(), AllocError>
+    ensures { OnOk result (followers.new.items ≡ followers.old.items ++ seen_followers plan.now.view.now plan.now.forest.now tree) }
+{
+    let bridges = plan.view.bridges().iter();
+    followers.extend(bridges.filter_map(|bridge| as_follower(plan, tree, bridge)))
+}
+
+/// Those that name the root of this identifier.
+fn followers_of(
+    alloc: Global,
+    id: BridgeId,
+    followers: &[Follower],
+) -> Result<Vec<Follower>, AllocError>
+    ensures { IfOk result (λ group. group.items ≡ those_of id followers.now) }
+{
+    followers
+        .iter()
+        .filter(|follower| follower.root == id)
+        .copied()
+        .collect(alloc)
+}
+
+/// Those that haven't this identifier themselves.
+fn others(alloc: Global, id: BridgeId, followers: &[Follower]) -> Result<Vec<Follower>, AllocError>
+    ensures { IfOk result (λ others. others.items ≡ filter (λ f. not (f.id == id)) followers.now) }
+{
+    followers
+        .iter()
+        .filter(|follower| follower.id != id)
+        .copied()
+        .collect(alloc)
+}
+
+/// The one whose identifier is less.
+fn lesser(least: Option<Follower>, follower: &Follower) -> Option<Follower>
+    ensures { result ≡ with_lesser least follower.now }
+{
+    match least {
+        None => Some(*follower),
+        Some(least) => {
+            if follower.id < least.id {
+                Some(*follower)
+            } else {
+                Some(least)
+            }
+        }
+    }
+}
+
+/// The one of the least identifier.
+fn least(followers: &[Follower]) -> Option<Follower>
+    ensures { result ≡ least_of followers.now }
+{
+    let mut least = None;
+    for follower in followers {
+        least = lesser(least, follower);
+    }
+    least
+}
+
+/// The one of the next least identifier after this one.
+fn next(alloc: Global, id: BridgeId, followers: &[Follower]) -> Result<Option<Follower>, AllocError>
+    ensures { IfOk result (λ next. next ≡ next_of id followers.now) }
+{
+    let others = others(alloc, id, followers)?;
+    Ok(least(others.as_slice()))
+}
+
+/// The priority of a bridge in a tree as a number.
+fn priority(view: &View, tree: Tree, bridge: &Name) -> u64
+    ensures { result ≡ priority_in view.now.settings.priorities bridge.now tree * 4096 }
+{
+    u64::from(view.settings().tree_priority(bridge, tree).step()) * 4096
+}
+
+/// Appends the name of the next bridge and its priority, or `-` where there is none, each after a space.
+fn push_next(
+    view: &View,
+    tree: Tree,
+    next: Option<Follower>,
+    out: &mut Vec<u8>,
+) -> Result<(), AllocError>
+    ensures { OnOk result (out.new.items ≡ out.old.items ++ flat_map after_space (next_words view.now.settings tree next)) }
+{
+    match next {
+        None => push_word(b"-", out),
+        Some(next) => {
+            let mut number = Buffer::new();
+            let words: [&[u8]; 2] = [
+                next.name.as_bytes(),
+                number.format(priority(view, tree, &next.name)).as_bytes(),
+            ];
+            push_words(&words, out)
+        }
+    }
+}
+
+/// Appends the line of a root of this name and this identifier, with its followers.
+fn push_whole(
+    alloc: Global,
+    view: &View,
+    tree: Tree,
+    name: &Name,
+    id: BridgeId,
+    group: &[Follower],
+    out: &mut Vec<u8>,
+) -> Result<(), AllocError>
+    ensures { OnOk result (out.new.items ≡ out.old.items ++ whole_line view.now.settings tree name.now id group.now) }
+{
+    let next = next(alloc, id, group)?;
+    let mut number = Buffer::new();
+    let mut own = Buffer::new();
+    let mut count = Buffer::new();
+    let words: [&[u8]; 7] = [
+        number.format(tree.value()).as_bytes(),
+        b"root",
+        name.as_bytes(),
+        own.format(priority(view, tree, name)).as_bytes(),
+        b"of",
+        count.format(group.len() as u64).as_bytes(),
+        b"next",
+    ];
+    push_bytes(b"tree", out)?;
+    push_words(&words, out)?;
+    push_next(view, tree, next, out)?;
+    push_end(out)
+}
+
+/// Whether there is one.
+fn is_any(followers: &[Follower]) -> bool
+    ensures { result ≡ has_any followers.now }
+{
+    match followers {
+        [] => false,
+        [..] => true,
+    }
+}
+
+/// Appends the line of a bridge with its followers, if it has one.
+fn push_group(
+    alloc: Global,
+    view: &View,
+    tree: Tree,
+    name: &Name,
+    id: BridgeId,
+    group: &[Follower],
+    out: &mut Vec<u8>,
+) -> Result<(), AllocError>
+    ensures { OnOk result (out.new.items ≡ out.old.items ++ group_line view.now.settings tree name.now id group.now) }
+{
+    if is_any(group) {
+        return push_whole(alloc, view, tree, name, id, group, out);
+    }
+    Ok(())
+}
+
+/// Appends the line of a bridge, if it is the root of one of these.
+fn push_root(
+    alloc: Global,
+    view: &View,
+    tree: Tree,
+    followers: &[Follower],
+    bridge: &BridgeInView,
+    out: &mut Vec<u8>,
+) -> Result<(), AllocError>
+    ensures { OnOk result (out.new.items ≡ out.old.items ++ seen_root_line view.now tree followers.now bridge.now) }
+{
+    let id = id_in(view, tree, bridge);
+    let group = followers_of(alloc, id, followers)?;
+    push_group(alloc, view, tree, &bridge.name, id, group.as_slice(), out)
+}
+
+/// Appends the lines of the bridges that are the root of one of these.
+fn push_each(
+    alloc: Global,
+    view: &View,
+    tree: Tree,
+    followers: &[Follower],
+    out: &mut Vec<u8>,
+) -> Result<(), AllocError>
+    ensures { OnOk result (out.new.items ≡ out.old.items ++ flat_map (seen_root_line view.now tree followers.now) view.now.bridges) }
+{
+    for bridge in view.bridges() {
+        push_root(alloc, view, tree, followers, bridge, out)?;
+    }
+    Ok(())
+}
+
+/// Appends the lines of the roots in a tree, in an MSTI of the regional roots, by name: the priority of each, how many
+/// bridges name it, and which of these has the next least identifier.
+///
+/// It goes over the bridges that have the tree once for each bridge.
+pub(crate) fn push_roots(
+    alloc: Global,
+    plan: &Planned,
+    tree: Tree,
+    out: &mut Vec<u8>,
+) -> Result<(), AllocError>
+    ensures { OnOk result (out.new.items ≡ out.old.items ++ seen_root_lines plan.now.view.now plan.now.forest.now tree) }
+{
+    let mut followers = Vec::new(alloc);
+    push_followers(plan, tree, &mut followers)?;
+    push_each(alloc, plan.view, tree, followers.as_slice(), out)
+}

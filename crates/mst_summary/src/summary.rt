@@ -1,0 +1,69 @@
+ghost use Rattle.std.specs.Prelude.{◌≡◌, ◌++◌, ℕ, List, OnOk};
+ghost use Rattle.std.specs.List.{flat_map};
+ghost use Rattle.mst_config.specs.Classes.{AreRegions};
+ghost use Rattle.mst_net.specs.Tables.{Net, Numbers};
+ghost use Rattle.mst_trees.specs.Agrees.{AreOf, Known};
+ghost use Rattle.mst_trees.specs.Forest.{IsForest};
+ghost use Rattle.mst_summary.specs.Seen.{seen_tree_lines};
+ghost use Rattle.mst_summary.specs.SummaryText.{IsSummary};
+
+use crate::blocked::push_blocked;
+use crate::carries::push_carries;
+use crate::classes::classes_of_vids;
+use crate::counts::{count, push_counts};
+use crate::islands::push_vlans;
+use crate::roots::push_roots;
+use crate::trees::used_trees;
+use mst_changes::Planned;
+use mst_config::Classes;
+use mst_ids::Tree;
+use std::alloc::{AllocError, Global};
+
+/// Appends the lines of a tree.
+fn push_tree(alloc: Global, plan: &Planned, tree: Tree, out: &mut Vec<u8>) -> Result<(), AllocError>
+    ensures { OnOk result (out.new.items ≡ out.old.items ++ seen_tree_lines plan.now.view.now plan.now.forest.now tree) }
+{
+    push_roots(alloc, plan, tree, out)?;
+    push_blocked(alloc, plan, tree, out)
+}
+
+/// Appends the lines of these trees.
+fn push_trees(
+    alloc: Global,
+    plan: &Planned,
+    trees: &[Tree],
+    out: &mut Vec<u8>,
+) -> Result<(), AllocError>
+    ensures { OnOk result (out.new.items ≡ out.old.items ++ flat_map (seen_tree_lines plan.now.view.now plan.now.forest.now) trees.now) }
+{
+    for tree in trees {
+        push_tree(alloc, plan, *tree, out)?;
+    }
+    Ok(())
+}
+
+/// Appends the summary of a network, by its plan and its classes: how much there is, for each tree that some bridge has
+/// its roots with their followers and the enabled ports that don't forward, how many islands VIDs have, and the logical
+/// LANs that are up and don't carry all VIDs. `AllocError`: memory was wanted and refused; part of the text may have been
+/// appended.
+///
+/// It goes over the ports once for each tree and once for each class of VIDs, which no table and no set of VLANs tells
+/// apart, and makes islands once for each class.
+pub fn push_summary(
+    alloc: Global,
+    plan: &Planned,
+    classes: &Classes,
+    out: &mut Vec<u8>,
+) -> Result<(), AllocError>
+    requires { Known plan.now.view.now plan.now.forest.now.regions }
+    ensures { (net : Net) (numbers : Numbers) (is : IsForest net numbers plan.now.forest.now) → AreOf net numbers plan.now.view.now plan.now.forest.now.regions → AreRegions net numbers classes.now
+        → OnOk result ((text : List ℕ) × IsSummary net is.outcome text × (out.new.items ≡ out.old.items ++ text)) }
+{
+    let trees = used_trees(alloc, plan.view)?;
+    let counts = count(plan.view, classes, trees.as_slice());
+    push_counts(&counts, out)?;
+    push_trees(alloc, plan, trees.as_slice(), out)?;
+    let numbering = classes_of_vids(alloc, plan.view)?;
+    push_vlans(alloc, plan, &numbering, out)?;
+    push_carries(alloc, plan, &numbering, out)
+}
