@@ -8,3 +8,4 @@ pub mod ByName
 pub mod Explaining
 pub mod Sweeping
 pub mod Differing
+pub mod Summarizing

@@ -15,6 +15,7 @@ ghost use Rattle.mst_report.specs.ByName.{KeepsBoundByName};
 ghost use Rattle.mst_report.specs.Standing.{KeepsBounds, standing_of, settlings_of, msti_settlings};
 ghost use Rattle.mst_report.specs.Differing.{Differs};
 ghost use Rattle.mst_report.specs.Explaining.{Explains};
+ghost use Rattle.mst_report.specs.Summarizing.{Summarizes};
 ghost use Rattle.mst_report.specs.Sweeping.{Sweeps};
 ghost use Rattle.mst_report.specs.State.{State, IsState, IsMark, IsMarkNow};
 ghost use Rattle.mst_changes.specs.declared.place.Row.{Row};
@@ -127,4 +128,13 @@ pub fn turned()
 {
     one_outcome();
     mst_diff::laws::turned();
+}
+
+/// A network has one summary, which the network alone settles.
+pub fn one_summary()
+    ensures some { (net : Net) → IsNetwork net → (text : List ℕ) × Summarizes net text }
+    ensures one { (net : Net) (text other : List ℕ) → IsNetwork net → Summarizes net text → Summarizes net other → text ≡ other }
+{
+    has_outcome();
+    mst_summary::laws::one_summary();
 }

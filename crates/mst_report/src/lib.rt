@@ -7,6 +7,7 @@ mod explaining;
 pub mod laws;
 mod plan;
 mod planner;
+mod summarizing;
 mod sweeping;
 mod texts;
 
