@@ -7,6 +7,7 @@ use Rattle.mst_lang.specs.Lines.{lines_of}
 use Rattle.mst_net.specs.Tables.{Net, IsNetwork}
 use Rattle.mst_report.specs.Explaining.{Explains, unexplained_of, code_of, text_of}
 use Rattle.mst_report.specs.State.{State, IsState, empty_state}
+use Rattle.mst_report.specs.Summarizing.{Summarizes}
 use Rattle.mst_report.specs.Sweeping.{Sweeps}
 use Rattle.mst_report.specs.declared.explaining.Unexplained.{Unexplained}
 use Rattle.mst_tool.specs.Ask.{Told, given, not_given, swept, unexplained_line, Tells, IsAnswer, Asks, AsksFront, counted_with}
@@ -18,7 +19,7 @@ use Rattle.mst_tool.specs.Steps.{Step, left_by, texts_of, lacks_of, differing_of
 use Rattle.mst_tool.specs.Written.{AppendsFront}
 use Rattle.mst_tool.specs.declared.asked.Asked.{Asked}
 use Rattle.mst_tool.specs.declared.asked.Question.{Question}
-use Rattle.mst_tool.specs.declared.asked.Question.TheVariants.{Explain, Unread, Sweep}
+use Rattle.mst_tool.specs.declared.asked.Question.TheVariants.{Explain, Unread, Sweep, Summary}
 use Rattle.mst_tool.specs.declared.engine.Input.TheVariants.{Network}
 use Rattle.mst_tool.specs.declared.engine.Side.{Side}
 use Rattle.mst_tool.specs.declared.engine.Side.TheVariants.{Only}
@@ -41,13 +42,18 @@ OneExplanation = (net : Net) (name : PortName) (tree : Option ℕ) (text other :
 abbrev pub OneSweep : Type 0
 OneSweep = (net : Net) (text other : List ℕ) (c d : ℕ) → IsNetwork net → Sweeps net c text → Sweeps net d other → (text ≡ other) × (c ≡ d)
 
+-- and the summary is one
+abbrev pub OneSummary : Type 0
+OneSummary = (net : Net) (text other : List ℕ) → IsNetwork net → Summarizes net text → Summarizes net other → text ≡ other
+
 -- so what is asked has one answer
-one_answer : OneExplanation → OneSweep → (net : Net) (question : Question) (x y : Told) (a b : List ℕ) → IsNetwork net → IsAnswer net question x a → IsAnswer net question y b → (y ≡ x) × (b ≡ a)
-one_answer one sweep net (Unread f) x y a b is h k = (k.0 ∙ sym h.0, k.1 ∙ sym h.1)
-one_answer one sweep net Sweep x y a b is h k =
+one_answer : OneExplanation → OneSweep → OneSummary → (net : Net) (question : Question) (x y : Told) (a b : List ℕ) → IsNetwork net → IsAnswer net question x a → IsAnswer net question y b → (y ≡ x) × (b ≡ a)
+one_answer one sweep summary net (Unread f) x y a b is h k = (k.0 ∙ sym h.0, k.1 ∙ sym h.1)
+one_answer one sweep summary net Sweep x y a b is h k =
     let same = sweep net b a k.0 h.0 is k.1 h.1 in
     (k.2 ∙ ap swept same.1 ∙ sym h.2, same.0)
-one_answer one sweep net (Explain asked) x y a b is h k = by (unexplained_of net asked.port asked.tree) h k
+one_answer one sweep summary net Summary x y a b is h k = (k.0 ∙ sym h.0, summary net b a is k.1 h.1)
+one_answer one sweep summary net (Explain asked) x y a b is h k = by (unexplained_of net asked.port asked.tree) h k
   where
     by : (why : Option Unexplained) → Tells net asked why x a → Tells net asked why y b → (y ≡ x) × (b ≡ a)
     by (Some why) h k = (k.0 ∙ sym h.0, k.1 ∙ sym h.1)
@@ -89,9 +95,9 @@ answer_left : (question : Question) (reads written mid : Option (List ℕ)) (t :
     → IsAnswer t.state.net question told text → IsAnswer (left_by empty_state s.steps).net question told text
 answer_left question reads written mid t told text s h = subst (λ (now : State). IsAnswer now.net question told text) s.state h
 
-pub asks : OneLoad → LoadsStates → OneExplanation → OneSweep → (question : Question) (reads written mid now : Option (List ℕ)) (t : Tally) (told : Told) (text : List ℕ) → Served (Network Only) empty_state reads written mid t
+pub asks : OneLoad → LoadsStates → OneExplanation → OneSweep → OneSummary → (question : Question) (reads written mid now : Option (List ℕ)) (t : Tally) (told : Told) (text : List ℕ) → Served (Network Only) empty_state reads written mid t
     → IsAnswer t.state.net question told text → Appends mid now text → Asks question reads written now (counted_with (outcome_of t) told)
-asks one states one_explained one_swept question reads written mid now t told text s h went =
+asks one states one_explained one_swept one_summarized question reads written mid now t told text s h went =
     let answer = answer_left question reads written mid t told text s h in
     record {
       script = s.bytes;
@@ -106,7 +112,7 @@ asks one states one_explained one_swept question reads written mid now t told te
       refused = ap (λ n. n + told.refused) s.refused;
       differing = omega (arith, s.differing, loads_same Only reads written mid t s);
       only = λ none others loads given. one line_word s.bytes others s.steps loads s.runs given (sym s.memory ∙ none);
-      only_answer = λ also other k. one_answer one_explained one_swept (left_by empty_state s.steps).net question told also text other (states line_word (lines_of s.bytes) s.steps s.runs).network answer k;
+      only_answer = λ also other k. one_answer one_explained one_swept one_summarized (left_by empty_state s.steps).net question told also text other (states line_word (lines_of s.bytes) s.steps s.runs).network answer k;
     }
 
 pub answers_front : (question : Question) (reads written mid now : Option (List ℕ)) (t : Tally) (told : Told) (text : List ℕ) → Served (Network Only) empty_state reads written mid t

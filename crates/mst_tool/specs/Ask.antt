@@ -8,6 +8,7 @@ use Rattle.mst_net.specs.Tables.{Net}
 use Rattle.mst_report.specs.Explaining.{Explains, unexplained_of}
 use Rattle.mst_report.specs.Explaining as unexplained
 use Rattle.mst_report.specs.State.{empty_state}
+use Rattle.mst_report.specs.Summarizing.{Summarizes}
 use Rattle.mst_report.specs.Sweeping.{Sweeps}
 use Rattle.mst_report.specs.declared.explaining.Unexplained.{Unexplained}
 use Rattle.mst_tool.specs.Asked.{asked_of}
@@ -17,7 +18,7 @@ use Rattle.mst_tool.specs.Steps.{Step, left_by, texts_of, refusals_of, lacks_of}
 use Rattle.mst_tool.specs.Written.{AppendsFront, Reads}
 use Rattle.mst_tool.specs.declared.asked.Asked.{Asked}
 use Rattle.mst_tool.specs.declared.asked.Question.{Question}
-use Rattle.mst_tool.specs.declared.asked.Question.TheVariants.{Explain, Unread as unread_question, Sweep}
+use Rattle.mst_tool.specs.declared.asked.Question.TheVariants.{Explain, Unread as unread_question, Sweep, Summary}
 use Rattle.mst_tool.specs.declared.asks.Answer.{Answer}
 use Rattle.mst_tool.specs.declared.asks.Answer.TheVariants.{Text, Unread, Refused, Swept}
 use Rattle.mst_tool.specs.declared.runs.Outcome.{Outcome}
@@ -61,6 +62,7 @@ abbrev pub IsAnswer : Net → Question → Told → List ℕ → Type 0
 IsAnswer net (unread_question f) told text = (told ≡ not_given) × (text ≡ unexplained_line (fault.code_of f) (fault.text_of f))
 IsAnswer net (Explain asked) told text = Tells net asked (unexplained_of net asked.port asked.tree) told text
 IsAnswer net Sweep told text = (cuts : ℕ) × Sweeps net cuts text × (told ≡ swept cuts)
+IsAnswer net Summary told text = (told ≡ given) × Summarizes net text
 
 -- what is counted of a script with what is asked of its network
 abbrev pub counted_with : Outcome → Told → Outcome

@@ -20,6 +20,8 @@ pub enum Question {
     Unread(Fault),
     /// What each single failure does: each LAN that is up going down, and each bridge that is on going off.
     Sweep,
+    /// The first screen: how much there is, roots, ports that block, islands of VIDs and what LANs carry.
+    Summary,
 }
 
 impl Question {

@@ -17,7 +17,7 @@ use crate::lent::{FromRead, ToWrite};
 use crate::print::{WriteFailed, put, put_parts};
 use crate::runs::{Outcome, RunFault, TURNS, serve_input};
 use mst_lang::Fault;
-use mst_report::laws::{one_explanation, one_sweep};
+use mst_report::laws::{one_explanation, one_summary, one_sweep};
 use mst_report::{Planner, Sweep, Unexplained};
 use std::alloc::{AllocError, Global};
 use std::io::{Read, Write};
@@ -25,7 +25,7 @@ use std::io::{Read, Write};
 /// What is told of what was asked.
 #[derive(Drop)]
 pub(crate) enum Answer {
-    /// What explains the port.
+    /// What explains the port, or summarizes the network.
     Text(Vec<u8>),
     /// The words ask nothing.
     Unread(Fault),
@@ -43,6 +43,7 @@ pub(crate) enum Answer {
 /// that its bridge has. Where that isn't told, a line `explain CODE TEXT` says why, by the first of these: the fault of the
 /// words, where they ask for nothing, or why the port [isn't explained](Unexplained). That counts as one refused line more.
 /// For [`Question::Sweep`] it is what each single failure does, and counts as one that differs where some failure cuts a VID.
+/// For [`Question::Summary`] it is the summary of the network.
 ///
 /// The reader and the writer are called as by [`run`](crate::run). After [`RunFault::Read`] all that the complete lines
 /// print has gone out, of what was read; after [`RunFault::Memory`] all that the script's lines print, where there was no
@@ -109,6 +110,7 @@ pub fn ask_within<S: Source, K: Sink>(
     one_load();
     one_explanation();
     one_sweep();
+    one_summary();
     let mut engine = Engine::new(alloc);
     match serve_input(Input::Network(Side::Only), &mut engine, source, sink, turns) {
         Err(fault) => Err(fault),
@@ -133,6 +135,7 @@ fn answer_to(planner: &mut Planner, question: &Question) -> Result<Answer, Alloc
         Question::Explain(asked) => explained(planner, asked),
         Question::Unread(fault) => Ok(Answer::Unread(*fault)),
         Question::Sweep => swept(planner),
+        Question::Summary => summarized(planner),
     }
 }
 
@@ -159,6 +162,19 @@ fn swept(planner: &mut Planner) -> Result<Answer, AllocError>
     }
     match planner.sweep() {
         Ok(sweep) => Ok(Answer::Swept(sweep)),
+        Err(_) => Err(AllocError),
+    }
+}
+
+/// Summarizes the network, once the plan is settled. `AllocError`: memory was wanted and refused.
+fn summarized(planner: &mut Planner) -> Result<Answer, AllocError>
+    ensures { IfOk result (λ answer. IsAnswer (planned_state planner.old).net Question.Summary (told_of answer) (answer_text answer)) }
+{
+    if planner.settle().is_err() {
+        return Err(AllocError);
+    }
+    match planner.summary() {
+        Ok(text) => Ok(Answer::Text(text)),
         Err(_) => Err(AllocError),
     }
 }

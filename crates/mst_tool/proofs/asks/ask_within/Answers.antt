@@ -65,5 +65,5 @@ returns-clause-ok g c =
     let t = tally_of c.serve_input.new.engine in
     let answer = c.in-Ok-answer_to.answer in
     subst (Asks c.args.question.now reads written now) (sym (c.with_answer.ensures ∙ (λ i. counted_with (c.outcome-served.ensures i) (told_of answer))))
-    (asks c.one_load.ensures c.states.ensures.network c.one_explanation.ensures c.one_sweep.ensures.one c.args.question.now reads written mid now t (told_of answer) (answer_text answer)
+    (asks c.one_load.ensures c.states.ensures.network c.one_explanation.ensures c.one_sweep.ensures.one c.one_summary.ensures.one c.args.question.now reads written mid now t (told_of answer) (answer_text answer)
     (subst (λ from. Served (Network Only) from reads written mid t) c.new-engine.ensures.empty c.in-Ok.ensures.ok) c.in-Ok-answer_to.ensures c.in-Ok-put_answer.ensures.ok)
