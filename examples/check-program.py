@@ -379,6 +379,47 @@ def sweep_cases(folder):
     ]
 
 
+NO_NETWORK = b"bridges 0 on 0 ports 0 enabled 0 regions 0 trees 0\nvlan 1-4094 islands 0\n"
+TRIANGLE_IN_SHORT = b"""bridges 3 on 3 ports 6 enabled 6 regions 3 trees 1
+tree 0 root A 32768 of 3 next B 32768
+blocked 0 C:2
+vlan 1-4094 islands 1
+carries bc -
+"""
+# B's port of the link to A has two VLANs alone, and B is the next after A no longer.
+FEW_ON_AB = TRIANGLE + b"setportvlans B 1 10,20\nsettreeprio B 0 9\n"
+FEW_IN_SHORT = b"""bridges 3 on 3 ports 6 enabled 6 regions 3 trees 1
+tree 0 root A 32768 of 3 next C 32768
+blocked 0 B:2
+vlan 1-9,11-19,21-4094 islands 2
+vlan 10,20 islands 1
+carries ab 10,20
+carries bc -
+"""
+OFF_IN_SHORT = b"""bridges 3 on 2 ports 6 enabled 3 regions 3 trees 1
+tree 0 root A 32768 of 2 next B 32768
+blocked 0 -
+vlan 1-4094 islands 1
+carries bc -
+"""
+
+
+def summary_cases(folder):
+    """Each case: its name, the words, standard input, the status, standard output and standard error."""
+    script = os.path.join(folder, "swept")
+    absent = os.path.join(folder, "absent")
+    cannot = b"mstplan: cannot open " + absent.encode() + b"\n"
+    return [
+        ("summary FILE", ["summary", script], b"no\n", 0, TRIANGLE_IN_SHORT, b""),
+        ("summary -", ["summary", "-"], FEW_ON_AB, 0, FEW_IN_SHORT, b""),
+        ("summary, what is down and off", ["summary", "-"], C_IS_OFF, 0, OFF_IN_SHORT, b""),
+        ("summary, nothing to read", ["summary", "-"], b"", 0, NO_NETWORK, b""),
+        ("summary, a refused line", ["summary", "-"], b"no\n" + TRIANGLE + b"showplan\n", 1, REFUSED + TRIANGLE_IN_SHORT, b""),
+        ("summary with no file", ["summary"], b"", 2, b"", USAGE),
+        ("summary, a file that isn't there", ["summary", absent], b"", 3, b"", cannot),
+    ]
+
+
 def cases(folder):
     """Each case: its name, the words, standard input, the status, standard output and standard error."""
     script = os.path.join(folder, "script")
@@ -443,7 +484,7 @@ def cases(folder):
 
 def asked_cases(folder):
     """The cases of what is asked of a script's network."""
-    return explain_cases(folder) + diff_cases(folder) + sweep_cases(folder)
+    return explain_cases(folder) + diff_cases(folder) + sweep_cases(folder) + summary_cases(folder)
 
 
 def fits(text, expected):

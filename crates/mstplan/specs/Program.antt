@@ -9,7 +9,7 @@ use Rattle.mst_tool.specs.declared.runs.Outcome.{Outcome}
 use Rattle.mst_tool.specs.declared.runs.RunFault.{RunFault}
 use Rattle.mstplan.specs.declared.endings.Stop.{Stop}
 use Rattle.mstplan.specs.declared.words.Asked.{Asked}
-use Rattle.mstplan.specs.declared.words.Asked.TheVariants.{Run, Check, Explain, Diff, Sweep}
+use Rattle.mstplan.specs.declared.words.Asked.TheVariants.{Run, Check, Explain, Diff, Sweep, Summary}
 use Rattle.mstplan.specs.declared.compared.Comparison.TheVariants.{Captures, Networks}
 use Rattle.mstplan.specs.declared.words.PortWords.{PortWords}
 use Rattle.mstplan.specs.Buffered.{Ends, EndsAsk}
@@ -32,6 +32,7 @@ Serves IsGiven IsFile (Check script captures) written now answer =
 Serves IsGiven IsFile (Explain script port) written now answer = (reads : Option (List ℕ)) × IsNamed IsGiven IsFile script.now reads × EndsAsk (port_question port) reads written now answer
 Serves IsGiven IsFile (Diff old new) written now answer = (olds news : Option (List ℕ)) × AreNamed IsGiven IsFile old.now new.now olds news × EndsComparison Networks olds news written now answer
 Serves IsGiven IsFile (Sweep script) written now answer = (reads : Option (List ℕ)) × IsNamed IsGiven IsFile script.now reads × EndsAsk question.Sweep reads written now answer
+Serves IsGiven IsFile (Summary script) written now answer = (reads : Option (List ℕ)) × IsNamed IsGiven IsFile script.now reads × EndsAsk question.Summary reads written now answer
 
 -- why nothing was done with the inputs of these names
 abbrev pub IsWhyUnserved : (List ℕ → Type 0) → Asked → Stop → Type 0
@@ -40,6 +41,7 @@ IsWhyUnserved IsUnopened (Check script captures) stop = IsWhyNeither IsUnopened 
 IsWhyUnserved IsUnopened (Explain script port) stop = IsWhyNot IsUnopened script stop
 IsWhyUnserved IsUnopened (Diff old new) stop = IsWhyNeither IsUnopened old new stop
 IsWhyUnserved IsUnopened (Sweep script) stop = IsWhyNot IsUnopened script stop
+IsWhyUnserved IsUnopened (Summary script) stop = IsWhyNot IsUnopened script stop
 
 -- why nothing was run: what the words said, or what kept that which they ask for from being run
 abbrev pub IsReason : (List ℕ → Type 0) → Result Asked Stop → Stop → Type 0

@@ -49,6 +49,9 @@ fn serve<'a, S: Sources, W: Write + Drop>(
             compare_named(alloc, sources, Comparison::Networks, old, new, output)
         }
         Asked::Sweep { script } => ask_named(alloc, sources, &Question::Sweep, script, output),
+        Asked::Summary { script } => {
+            ask_named(alloc, sources, &Question::Summary, script, output)
+        }
     }
 }
 

@@ -37,6 +37,10 @@ pub(crate) enum Asked<'a> {
     Sweep {
         script: &'a str,
     },
+    /// To summarize the network of a script.
+    Summary {
+        script: &'a str,
+    },
 }
 
 /// The words that name a port, and a tree if it is one that is asked for. Nothing has looked at what they say.
@@ -159,6 +163,11 @@ fn command<'a>(alloc: Global) -> Result<Command<'a>, AllocError>
     let sweep = Command::new(alloc, "sweep")
         .about("Makes the network of a script, and tells what each single failure does to it")
         .arg(wanted(alloc, "FILE", SCRIPT))?;
+    let summary = Command::new(alloc, "summary")
+        .about(
+            "Makes the network of a script, and tells its roots, what blocks and what LANs carry",
+        )
+        .arg(wanted(alloc, "FILE", SCRIPT))?;
     Command::new(alloc, "mstplan")
         .about(
             "Plans networks of spanning trees. With no command it reads a script on standard input",
@@ -170,7 +179,8 @@ fn command<'a>(alloc: Global) -> Result<Command<'a>, AllocError>
         .subcommand(check)?
         .subcommand(explain)?
         .subcommand(diff)?
-        .subcommand(sweep)
+        .subcommand(sweep)?
+        .subcommand(summary)
 }
 
 /// What the words ask for: to run standard input where there is no command.
@@ -201,6 +211,9 @@ fn asked_of_command<'a>(command: &str, found: &ArgMatches<'a>) -> Asked<'a>
             new: value_in(found, "NEW"),
         },
         "sweep" => Asked::Sweep {
+            script: value_in(found, "FILE"),
+        },
+        "summary" => Asked::Summary {
             script: value_in(found, "FILE"),
         },
         _ => Asked::Run {
