@@ -1,5 +1,5 @@
 #!/usr/bin/env python3
-"""Compares explain, diff and sweep with a sketch of them that works from the texts of `run` alone, on drawn networks.
+"""Compares explain, diff, sweep and summary with a sketch of them that works from the texts of `run` alone, on drawn networks.
 
 usage: check-answers.py PROGRAM [COUNT] [FIRST]
        check-answers.py PROGRAM SCRIPT ..
@@ -47,7 +47,7 @@ class Text:
     """All trees, the islands of each VID as tuples of bridges, and each bridge's region."""
 
     def __init__(self, printed):
-        self.trees, self.islands, self.regions, self.saved = {}, {}, {}, []
+        self.trees, self.islands, self.active, self.regions, self.saved = {}, {}, {}, {}, []
         vids, body = [], []
         for line in printed.splitlines():
             words = line.split()
@@ -64,7 +64,9 @@ class Text:
                     body.append(tuple(bridges))
             elif words[0] == "region":
                 self.add_region(words)
-            elif words[0] != "active":
+            elif words[0] == "active":
+                self.active.update({vid: set(words[1:]) for vid in vids})
+            else:
                 self.saved.append(words)
 
     def add_region(self, words):
@@ -341,6 +343,57 @@ def swept(program, script, text, lans, bridges):
     return [*lines, f"sweep lans {len(lans)} bridges {len(bridges)} cuts {cuts}"]
 
 
+# ---- summary
+
+
+def root_lines(number, tree):
+    """Each root by name, its priority, its followers, and the one of these that would be next."""
+    entries = {name: entry for name, entry in tree.bridges.items() if entry}
+    names = names_by_id(tree)
+    lines = []
+    for root in sorted({names[root_id(entry, number)] for entry in entries.values()}):
+        own = entries[root][0]
+        group = sorted(entry[0] for entry in entries.values() if root_id(entry, number) == own)
+        rest = [identifier for identifier in group if identifier != own]
+        told = f"{names[rest[0]]} {priority(rest[0])}" if rest else "-"
+        lines.append(f"tree {number} root {root} {priority(own)} of {len(group)} next {told}")
+    return lines
+
+
+def priority(identifier):
+    """The upper four bits of a bridge identifier, as the number that they are there."""
+    return int(identifier[:4], 16) & 0xF000
+
+
+def carried(text, lan):
+    """The VIDs for which all ports of a LAN forward in their bridges' trees of them, and are members."""
+    ports = [name for name, port in text.trees[0].ports.items() if port["lan"] == lan]
+    return [vid for vid in range(1, 4095) if all(at(name) in text.active[vid] for name in ports)]
+
+
+def summary(text, bridges, off, down):
+    ports = text.trees[0].ports if 0 in text.trees else {}
+    enabled = [name for name, port in ports.items() if port["role"] != DISABLED]
+    firsts = {region[-1] for region in text.regions.values()}
+    trees = {number: tree for number, tree in sorted(text.trees.items()) if tree.bridges}
+    counts = (len(bridges), len(bridges) - len(off), len(ports), len(enabled), len(firsts), len(trees))
+    lines = ["bridges {} on {} ports {} enabled {} regions {} trees {}".format(*counts)]
+    for number, tree in trees.items():
+        lines += root_lines(number, tree)
+        stops = [at(name) for name, port in tree.ports.items() if port["role"] in ("Alternate", "Backup")]
+        lines.append(f"blocked {number} {','.join(stops) or '-'}")
+    groups = {}
+    for vid in range(1, 4095):
+        groups.setdefault(len(text.islands[vid]), []).append(vid)
+    lines += [f"vlan {list_of(vids)} islands {count}" for count, vids in groups.items()]
+    for lan in sorted({port["lan"] for port in ports.values()}):
+        if lan in down and is_down(text, lan, off):
+            continue
+        vids = carried(text, lan)
+        lines += [f"carries {lan} {list_of(vids)}"] * (len(vids) < 4094)
+    return lines
+
+
 # ---- networks
 
 
@@ -489,6 +542,8 @@ def faults_of(program, number, script):
     with tempfile.TemporaryDirectory() as folder:
         faults = explains(program, script, text, lines) + diffs(program, script, other, text, folder)
     ups, ons = [it for it in lans if it not in down], [it for it in bridges if it not in off]
+    wanted = [*lines, *summary(text, bridges, off, down)]
+    faults += differing(program, ["summary", "-"], script, wanted, 1 if lines else 0)
     wanted = swept(program, script, text, ups, ons)
     cuts = not wanted[-1].endswith(" cuts 0")
     return faults + differing(program, ["sweep", "-"], script, [*lines, *wanted], 1 if lines or cuts else 0)
