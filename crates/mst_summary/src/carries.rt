@@ -24,7 +24,7 @@ use std::alloc::{AllocError, Global};
 fn is_member(view: &View, vid: Vid, port: &PortInView) -> bool
     ensures { result ≡ seen_member view.now vid port.now }
 {
-    view.settings().port_vlans(&port.name).contains(vid.value())
+    view.settings().is_member(&port.name, vid)
 }
 
 /// Whether a port is active for a VID and a member of its VLAN.
