@@ -1,6 +1,6 @@
 //! Plans Ethernet networks with rapid and multiple spanning trees: runs a script from a file or from
 //! standard input, compares captured messages with its plan, tells why a port has its role, how
-//! the networks of two scripts differ, and what each single failure does.
+//! the networks of two scripts differ, and what each single failure does, and summarizes a network.
 #![tactic(auto)]
 
 mod buffered;
