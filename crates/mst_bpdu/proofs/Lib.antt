@@ -1,3 +1,5 @@
-pub mod Found
-pub mod Sending
-pub mod Planning
+pub mod FrontLemmas
+pub mod MessageLemmas
+pub mod CompareLemmas
+pub mod TrimLemmas
+pub mod ReadingLemmas

@@ -1,17 +1,35 @@
-//! Captured BPDUs beside the plan: which port sent one by the plan, and in which fields it differs from what the plan
-//! has for that port.
+//! Captured BPDUs: what a line of hexadecimal digits says, where that differs from a plan, and what is printed of
+//! it.
 //!
-//! [`read_line`] reads a BPDU, [`sender`] tells the logical port that it comes from, [`compare`] lists its
-//! differences, and [`push_comparison`] and [`push_fault`] append the lines that tell of them.
+//! A line has the octets of an RST BPDU or an MST BPDU (802.1Q-2022, clause 14), with or without the header of
+//! their frame. [`read_line`] gives its fields, or the first fault of it. [`differences`] lists the fields that
+//! aren't as a plan has them, in their order. [`push_comparison`] and [`push_fault`] append the lines that tell of
+//! it.
 #![tactic(auto)]
 
-mod differing;
-pub mod laws;
+mod bpdu;
+mod capture;
+mod compare;
+mod difference;
+mod fault;
+mod fields;
+mod flags;
+mod layout;
+mod messages;
+mod octets;
 mod planned;
-mod senders;
+mod read;
+mod text;
 
-pub use differing::compare;
-pub use mst_wire::{
-    Bpdu, BpduFault, Difference, Field, Value, push_comparison, push_fault, read_line,
-};
-pub use senders::sender;
+pub use bpdu::{Bpdu, ConfigurationId, MstBpdu, MstiMessage, RstBpdu, Times};
+pub use compare::differences;
+pub use difference::{Difference, Field, Value};
+pub use fault::BpduFault;
+pub use flags::{Flags, RoleCode};
+pub use messages::MstiMessages;
+pub use planned::{Planned, PlannedCist, PlannedMsti, PlannedMstis};
+pub use read::read_line;
+pub use text::{push_comparison, push_fault};
+
+#[cfg(test)]
+mod tests;

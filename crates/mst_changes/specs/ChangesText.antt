@@ -3,7 +3,7 @@ use Rattle.std.specs.Prelude.{ℕ, List, [], ◌∷◌, ◌++◌, Option, Some, 
 use Rattle.std.specs.List.{flat_map}
 use Rattle.mst_ids.specs.Texts.{bridge_id_text, port_id_text}
 use Rattle.mst_net.specs.Tables.{Net}
-use Rattle.mst_words.specs.Words.{line, after_space}
+use Rattle.mst_ids.specs.Words.{line, after_space}
 use Rattle.mst_trees.specs.Outcome.{Outcome}
 use Rattle.mst_roles.specs.Names.{role_text}
 use Rattle.mst_changes.specs.declared.place.Item.{Item}

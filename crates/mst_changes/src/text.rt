@@ -1,15 +1,14 @@
 ghost use Rattle.std.specs.Prelude.{◌≡◌, ◌++◌, OnOk};
 ghost use Rattle.std.specs.List.{flat_map};
-ghost use Rattle.mst_words.specs.Words.{after_space};
+ghost use Rattle.mst_ids.specs.Words.{after_space};
 ghost use Rattle.mst_changes.specs.ChangesText.{item_words, spaced, side_words, state_words, change_line, change_text};
 
 use crate::place::{Item, Place};
 use crate::state::{State, is_same};
 use itoa::Buffer;
-use mst_ids::{Name, PortName, Tree, push_bytes};
+use mst_ids::{Name, PortName, Tree, push_bytes, push_end, push_word, push_words};
 use mst_roles::Role;
 use mst_vector::{CistVector, MstiVector};
-use mst_words::{push_end, push_word, push_words};
 use std::alloc::AllocError;
 
 /// Appends the words that name a bridge in a tree.

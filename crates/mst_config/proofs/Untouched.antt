@@ -19,7 +19,7 @@ use Rattle.mst_net.proofs.Changed.{get_changed}
 use Rattle.mst_net.proofs.Keys.{names, name_eq}
 use Rattle.mst_net.proofs.NamesInOrder.{names_stay}
 use Rattle.mst_config.specs.Regions.{same_region, first_of_region, region_of}
-use Rattle.mst_config.specs.Classes.{AreRegions}
+use Rattle.mst_config.specs.Shared.{AreRegions}
 use Rattle.mst_config.specs.Touching.{touches_regions}
 
 -- what regions go by of a bridge's settings
@@ -71,8 +71,8 @@ module _ (old new : Net) (parts : (a : List ℕ) → option_map part (fin.get ne
       ∙ ap identifier (parts (first_of_region new a) ∙ ap (λ b. option_map part (fin.get old.bridges b)) (first_stays a))
       ∙ sym (identifier_by (fin.get old.bridges (first_of_region old a)))
 
-  regions_stay : (was now : Numbers) → now.bridges ≡ was.bridges → (classes : List (ℕ × ℕ)) → AreRegions old was classes → AreRegions new now classes
-  regions_stay was now same classes are = record {
+  regions_stay : (was now : Numbers) → now.bridges ≡ was.bridges → (region_ids : List (ℕ × ℕ)) → AreRegions old was region_ids → AreRegions new now region_ids
+  regions_stay was now same region_ids are = record {
     identifiers = λ a n e. are.identifiers a n (there a n e) ∙ ap Some (sym (identifier_stays a));
     no_identifier = λ n unused. are.no_identifier n (none n unused);
     regions = λ a b n m e f. are.regions a b n m (there a n e) (there b m f) ∙ sym (same_stays a b);
@@ -87,20 +87,20 @@ module _ (old new : Net) (parts : (a : List ℕ) → option_map part (fin.get ne
       none n unused a e = unused a (ap (λ m. fin.get m a) same ∙ e)
 
 -- an edit that leaves the bridges, their numbers and their tables leaves the regions
-module _ (net : Net) (numbers : Numbers) (next : PerKind) (classes : List (ℕ × ℕ)) (are : AreRegions net numbers classes) where
+module _ (net : Net) (numbers : Numbers) (next : PerKind) (region_ids : List (ℕ × ℕ)) (are : AreRegions net numbers region_ids) where
   abbrev Stay : Edit → Type 0
-  Stay edit = AreRegions (effect edit net) (numbers_after edit next numbers) classes
+  Stay edit = AreRegions (effect edit net) (numbers_after edit next numbers) region_ids
 
   left : (edit : Edit) → (effect edit net).bridges ≡ net.bridges → (effect edit net).tables ≡ net.tables → (numbers_after edit next numbers).bridges ≡ numbers.bridges → Stay edit
   left edit bridges tables same =
       regions_stay net (effect edit net) (λ a. ap (λ m. option_map part (fin.get m a)) bridges) (ap (λ m. fin.keys m) bridges) (λ a. ap (λ m. table_in m a) tables)
-      numbers (numbers_after edit next numbers) same classes are
+      numbers (numbers_after edit next numbers) same region_ids are
 
   -- and so does one that sets of a bridge what regions don't go by
-  set : (bridge : List ℕ) (f : BridgeRow → BridgeRow) → ((x : BridgeRow) → part (f x) ≡ part x) → AreRegions (change_bridge bridge f net) numbers classes
+  set : (bridge : List ℕ) (f : BridgeRow → BridgeRow) → ((x : BridgeRow) → part (f x) ≡ part x) → AreRegions (change_bridge bridge f net) numbers region_ids
   set bridge f same = regions_stay net (change_bridge bridge f net)
       (λ a. ap (option_map part) (get_changed names net.bridges bridge f a) ∙ by (name_eq bridge a) (fin.get net.bridges a)) (sym (names_stay names net.bridges bridge f)) (λ a. refl)
-      numbers numbers refl classes are
+      numbers numbers refl region_ids are
     where
       by : (t : Bool) (o : Option BridgeRow) → option_map part (cond t (option_map f o) o) ≡ option_map part o
       by true None = refl
@@ -131,9 +131,9 @@ module _ (net : Net) (numbers : Numbers) (next : PerKind) (classes : List (ℕ �
   stay (SetByTree (Vlans port vids)) e = left (SetByTree (Vlans port vids)) refl refl refl
 
 -- once such an edit was made, the regions are those that were
-pub stay_made : (edit : Edit) (old new : Contents) (classes : List (ℕ × ℕ)) → touches_regions edit ≡ false → Commits edit old new → AreRegions old.net old.numbers classes → AreRegions new.net new.numbers classes
-stay_made edit old new classes e made are =
-    subst (λ n. AreRegions new.net n classes) (sym made.numbers) (subst (λ n. AreRegions n (numbers_after edit old.next old.numbers) classes) (is (refusal_of edit old.net) made.net) (stay old.net old.numbers old.next classes are edit e))
+pub stay_made : (edit : Edit) (old new : Contents) (region_ids : List (ℕ × ℕ)) → touches_regions edit ≡ false → Commits edit old new → AreRegions old.net old.numbers region_ids → AreRegions new.net new.numbers region_ids
+stay_made edit old new region_ids e made are =
+    subst (λ n. AreRegions new.net n region_ids) (sym made.numbers) (subst (λ n. AreRegions n (numbers_after edit old.next old.numbers) region_ids) (is (refusal_of edit old.net) made.net) (stay old.net old.numbers old.next region_ids are edit e))
   where
     net_in : Result Net Refusal → Net
     net_in (Ok net) = net

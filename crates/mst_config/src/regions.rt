@@ -4,7 +4,7 @@ ghost use Rattle.std.specs.FinMap as fin;
 ghost use Rattle.mst_ids.specs.Identifiers.{bridge_id};
 ghost use Rattle.mst_net.specs.Tables.{IsNetwork};
 ghost use Rattle.mst_net.specs.Contents.{IsNumbered};
-ghost use Rattle.mst_config.specs.Classes.{AreRegions, same_in};
+ghost use Rattle.mst_config.specs.Shared.{AreRegions, same_in};
 ghost use Rattle.mst_config.specs.Configured.{configured};
 ghost use Rattle.mst_config.specs.Places.{ArePlaces, GivesRegion};
 ghost use Rattle.mst_config.specs.Touching.{touches_regions};
@@ -19,12 +19,12 @@ use std::marker::Model;
 
 /// Which bridges share a region, and the identifiers of regions, by the numbers of bridges.
 #[derive(Drop)]
-pub struct Classes {
+pub struct Regions {
     // The identifier of each bridge's region.
     regions: IndexMap<BridgeNo, BridgeId>,
 }
 
-impl Model for Classes {
+impl Model for Regions {
     ghost use Rattle.std.specs.Prelude.{ℕ, List};
 
     ghost Value = { List (ℕ × ℕ) };
@@ -32,12 +32,12 @@ impl Model for Classes {
     ghost view = { λ c. c.regions.entries };
 }
 
-impl Classes {
+impl Regions {
     /// The regions of no bridges. It takes no memory.
-    pub fn none(alloc: Global) -> Classes
+    pub fn none(alloc: Global) -> Regions
         ensures { result ≡ [] }
     {
-        Classes {
+        Regions {
             regions: IndexMap::new(alloc),
         }
     }
@@ -65,10 +65,10 @@ impl Classes {
     }
 
     /// A copy. `AllocError`: memory was wanted and refused.
-    pub fn copy(&self) -> Result<Classes, AllocError>
+    pub fn copy(&self) -> Result<Regions, AllocError>
         ensures { IfOk result (λ copy. copy ≡ self.now) }
     {
-        Ok(Classes {
+        Ok(Regions {
             regions: self.regions.clone()?,
         })
     }
@@ -77,18 +77,18 @@ impl Classes {
 /// The regions of a network's bridges (802.1Q-2022, 13.8). Two bridges are in one where both are of kind mstp
 /// and the names, the revisions and the whole tables of their MST configurations are equal. It compares about
 /// one table for each bridge. `AllocError`: memory was wanted and refused.
-pub fn region_classes<C: Contents>(alloc: Global, contents: &C) -> Result<Classes, AllocError>
-    ensures { IfOk result (λ classes. AreRegions (C.tables contents.now).net (C.tables contents.now).numbers classes) }
+pub fn regions_of<C: Contents>(alloc: Global, contents: &C) -> Result<Regions, AllocError>
+    ensures { IfOk result (λ regions. AreRegions (C.tables contents.now).net (C.tables contents.now).numbers regions) }
 {
     contents.known();
     let names = contents.bridge_names(alloc)?;
     let places = places(alloc, contents, names.as_slice())?;
     let regions = identifiers(alloc, contents, names.as_slice(), &places)?;
-    Ok(Classes { regions })
+    Ok(Regions { regions })
 }
 
 /// Whether an edit may change which bridges share a region, or their numbers: it adds or takes away a bridge, or sets
-/// the kind, the configuration or the table of one. No other changes what `region_classes` answers.
+/// the kind, the configuration or the table of one. No other changes what `regions_of` answers.
 pub fn touches_regions(edit: &Edit) -> bool
     ensures { result ≡ touches_regions edit.now }
 {

@@ -5,7 +5,7 @@ use Rattle.std.specs.Cmp.Lexicographic.{bytes_decides}
 use Rattle.std.specs.List.{AllByRecursion, Contains, filter, filter_map, flat_map, list_any, count_by}
 use Rattle.std.specs.Option.{option_map_or}
 use Rattle.std.specs.FinMap as fin
-use Rattle.mst_words.specs.Words.{after_space, line, listed}
+use Rattle.mst_ids.specs.Words.{after_space, line, listed}
 use Rattle.std.proofs.lemmas.List.Sums.{length-filter}
 use Rattle.mst_net.specs.Tables.{Net, BridgeRow}
 use Rattle.mst_lag.specs.Aggregation.{same_name}

@@ -2,7 +2,7 @@
 use Rattle.std.proofs.Common.{◌≡◌, ℕ, List, [], ◌∷◌, ◌++◌, append_assoc, ap, sym, ◌∙◌}
 use Rattle.std.specs.List.{flat_map}
 use Rattle.std.proofs.lemmas.Grind.{flat_map-append}
-use Rattle.mst_words.specs.Words.{after_space, line}
+use Rattle.mst_ids.specs.Words.{after_space, line}
 
 regrouped : (out word name olds arrow news end : List ℕ)
     → (((((out ++ word) ++ name) ++ olds) ++ arrow) ++ news) ++ end ≡ out ++ ((word ++ ((name ++ olds) ++ (arrow ++ news))) ++ end)

@@ -18,7 +18,7 @@ use Rattle.mst_lag.specs.Aggregation.{same_name}
 use Rattle.mst_lag.specs.Trees.{is_among, mstis_of}
 use Rattle.mst_lag.specs.Viewed.{Viewed, named_bridge}
 use Rattle.mst_lag.specs.declared.in_view.BridgeInView.{BridgeInView}
-use Rattle.mst_config.specs.Classes.{same_in}
+use Rattle.mst_config.specs.Shared.{same_in}
 use Rattle.mst_config.specs.Regions.{same_region, first_of_region}
 use Rattle.mst_trees.specs.Agrees.{AreOf}
 use Rattle.mst_trees.specs.Forest.{Forest, IsForest, msti_vector}
@@ -29,7 +29,7 @@ use Rattle.mst_trees.proofs.Entries.{all_weaker}
 use Rattle.mst_trees.proofs.Lists.{mapped_twice}
 use Rattle.mst_trees.proofs.Looking.{has_tree_at}
 use Rattle.mst_trees.proofs.Seen.{SeenBridge, bridge_seen, bridges_seen}
-use Rattle.mst_tree_text.specs.Lines.{id_in}
+use Rattle.mst_text.specs.TreeLines.{id_in}
 use Rattle.mst_changes.specs.Places.{bridge_names}
 use Rattle.mst_diff.specs.declared.roots.Identified.{Identified}
 use Rattle.mst_diff.specs.Roots.{root_of, named_by, root_name}

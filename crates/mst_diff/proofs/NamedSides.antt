@@ -6,7 +6,7 @@ use Rattle.std.specs.FinMap as fin
 use Rattle.std.proofs.lemmas.Grind.{flat_map-append}
 use Rattle.std.proofs.lemmas.List.{map-append}
 use Rattle.std.proofs.lemmas.List.Elements.{filter_more}
-use Rattle.mst_words.specs.Words.{after_space, comma_list, listed}
+use Rattle.mst_ids.specs.Words.{after_space, comma_list, listed}
 use Rattle.mst_graph.specs.Islands.{Island}
 use Rattle.mst_net.specs.Tables.{Net, Numbers}
 use Rattle.mst_lag.proofs.Lists.{map_itself}
@@ -20,9 +20,9 @@ use Rattle.mst_trees.proofs.Lists.{all_there}
 use Rattle.mst_vlan.specs.Reach.{bridges_on, lans_up, vid_links, AreReached}
 use Rattle.mst_vlan.specs.declared.island.Island.{Island as IslandNos}
 use Rattle.mst_vlan.proofs.Renumbered.{bridge_listed}
-use Rattle.mst_vlan_text.specs.Seen.{seen_bridge}
-use Rattle.mst_vlan_text.proofs.Listed.{by_number}
-use Rattle.mst_vlan_text.proofs.Named.{bridge_named}
+use Rattle.mst_text.specs.VlanSeen.{seen_bridge}
+use Rattle.mst_text.proofs.VlanListed.{by_number}
+use Rattle.mst_text.proofs.VlanNamed.{bridge_named}
 use Rattle.mst_diff.specs.Reach.{has_any, island_words, without}
 use Rattle.mst_diff.specs.Seen.{seen_words, one_word, apart_word, joined_sides}
 

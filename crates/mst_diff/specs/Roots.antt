@@ -3,13 +3,13 @@ use Rattle.std.specs.Prelude.{ℕ, ◌==◌, ◌&&◌, Bool, List, [], ◌∷◌
 use Rattle.std.specs.List.{find, flat_map, list_any}
 use Rattle.std.specs.Option.{option_map, option_and_then}
 use Rattle.std.specs.FinMap as fin
-use Rattle.mst_words.specs.Words.{line}
+use Rattle.mst_ids.specs.Words.{line}
 use Rattle.mst_net.specs.Tables.{Net}
 use Rattle.mst_net.specs.ByTree.{by_tree}
 use Rattle.mst_lag.specs.Aggregation.{same_name}
 use Rattle.mst_trees.specs.Msti.{has_msti}
 use Rattle.mst_trees.specs.Outcome.{Outcome}
-use Rattle.mst_tree_text.specs.Lines.{id_in}
+use Rattle.mst_text.specs.TreeLines.{id_in}
 use Rattle.mst_changes.specs.Places.{all_trees, bridge_names}
 use Rattle.mst_diff.specs.declared.roots.RootPair.{RootPair}
 

@@ -2,19 +2,19 @@
 use Rattle.std.specs.Prelude.{ℕ, ◌==◌, ◌||◌, List, [], ◌∷◌, ◌++◌, Option, None, Some, map, filter, filter_map, codes, if◌then◌else◌}
 use Rattle.std.specs.List.{find, flat_map, list_any}
 use Rattle.std.specs.Option.{option_map, option_and_then, unwrap_or}
-use Rattle.mst_words.specs.Words.{after_space, comma_list}
+use Rattle.mst_ids.specs.Words.{after_space, comma_list}
 use Rattle.mst_net.specs.Seen.{bridge_row}
 use Rattle.mst_settle.specs.Assignment.{vector_of}
 use Rattle.mst_lag.specs.Aggregation.{same_name}
 use Rattle.mst_lag.specs.Trees.{is_among}
 use Rattle.mst_lag.specs.Viewed.{Viewed}
 use Rattle.mst_lag.specs.declared.in_view.BridgeInView.{BridgeInView}
-use Rattle.mst_config.specs.Classes.{same_in}
+use Rattle.mst_config.specs.Shared.{same_in}
 use Rattle.mst_trees.specs.Forest.{Forest, msti_vector}
 use Rattle.mst_trees.specs.Seen.{trees_at}
-use Rattle.mst_tree_text.specs.Lines.{id_in}
+use Rattle.mst_text.specs.TreeLines.{id_in}
 use Rattle.mst_vlan.specs.declared.island.Island.{Island}
-use Rattle.mst_vlan_text.specs.Seen.{seen_bridge}
+use Rattle.mst_text.specs.VlanSeen.{seen_bridge}
 use Rattle.mst_diff.specs.declared.both.Both.{Both}
 use Rattle.mst_diff.specs.declared.roots.Identified.{Identified}
 use Rattle.mst_diff.specs.declared.roots.RootPair.{RootPair}

@@ -1,7 +1,7 @@
 -- The same lines with their sides changed over.
 use Rattle.std.specs.Prelude.{◌≡◌, ℕ, List, ◌∷◌, ◌++◌, codes}
 use Rattle.std.specs.List.{flat_map}
-use Rattle.mst_words.specs.Words.{line}
+use Rattle.mst_ids.specs.Words.{line}
 use Rattle.mst_diff.specs.Reach.{sides_text}
 
 -- a line of two sides: its first words, and the words of each side

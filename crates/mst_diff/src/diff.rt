@@ -11,8 +11,7 @@ use crate::reach::push_reach;
 use crate::regions::push_regions;
 use itoa::Buffer;
 use mst_changes::Planned;
-use mst_ids::push_bytes;
-use mst_words::push_line;
+use mst_ids::{push_bytes, push_line};
 use std::alloc::{AllocError, Global};
 
 /// How much differs: lines of regions, of roots and of ports, and VIDs.

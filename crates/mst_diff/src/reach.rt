@@ -10,11 +10,10 @@ ghost use Rattle.mst_diff.specs.Reach.{has_any, AreSides, whole_line, reach_line
 use crate::sides::sides;
 use mst_changes::Planned;
 use mst_graph::{groups_by_body, numbered};
-use mst_ids::{Vid, VidSet, push_bytes};
+use mst_ids::{Vid, VidSet, push_bytes, push_end};
 use mst_lag::View;
 use mst_net::Table;
 use mst_plan_text::{copies, numbers_of_vids, set_of, tables, vids, vlan_sets};
-use mst_words::push_end;
 use std::alloc::{AllocError, Global};
 
 /// The sides of the VIDs at these places, which are counted from 0.

@@ -3,18 +3,17 @@ ghost use Rattle.std.specs.List.{flat_map};
 ghost use Rattle.mst_net.specs.Seen.{bridge_row};
 ghost use Rattle.mst_net.specs.Tables.{Net, Numbers};
 ghost use Rattle.mst_trees.specs.Agrees.{AreOf};
-ghost use Rattle.mst_words.specs.Words.{after_space};
+ghost use Rattle.mst_ids.specs.Words.{after_space};
 ghost use Rattle.mst_diff.specs.Regions.{same_told, region_words, region_line, region_changes};
 ghost use Rattle.mst_diff.specs.Seen.{seen_both, seen_found, seen_first, seen_region};
 
 use crate::both::Both;
 use itoa::Buffer;
 use mst_changes::Planned;
-use mst_ids::{Name, push_bytes};
+use mst_ids::{Name, push_bytes, push_end, push_word};
 use mst_lag::BridgeInView;
 use mst_lang::Kind;
 use mst_net::Bridge;
-use mst_words::{push_end, push_word};
 use std::alloc::AllocError;
 
 /// The first of the bridges, in byte order of names, that are in a bridge's region.

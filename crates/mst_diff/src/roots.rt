@@ -1,16 +1,15 @@
 ghost use Rattle.std.specs.Prelude.{◌≡◌, ◌++◌, IfOk, OnOk, filter_map};
 ghost use Rattle.std.specs.List.{flat_map, list_any};
 ghost use Rattle.mst_net.specs.Seen.{bridge_row};
-ghost use Rattle.mst_tree_text.specs.Lines.{id_in as identifier_in};
+ghost use Rattle.mst_text.specs.TreeLines.{id_in as identifier_in};
 ghost use Rattle.mst_diff.specs.Roots.{paired, same_pair, with_new, each_once, root_line};
 ghost use Rattle.mst_diff.specs.Seen.{seen_root, seen_named, name_by, seen_root_name, seen_pair, with_pair, seen_roots};
 
 use crate::both::Both;
 use itoa::Buffer;
 use mst_changes::Planned;
-use mst_ids::{BridgeId, BridgeNo, Name, Tree};
+use mst_ids::{BridgeId, BridgeNo, Name, Tree, push_line};
 use mst_lag::{BridgeInView, View};
-use mst_words::push_line;
 use std::alloc::{AllocError, Global};
 
 /// A bridge's identifier in a tree, and its name.

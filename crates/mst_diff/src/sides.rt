@@ -1,22 +1,21 @@
 ghost use Rattle.std.specs.Prelude.{◌≡◌, ◌++◌, ℕ, List, IfOk, OnOk, map};
 ghost use Rattle.std.specs.List.{flat_map, list_any};
-ghost use Rattle.mst_words.specs.Words.{after_comma, comma_list};
+ghost use Rattle.mst_ids.specs.Words.{after_comma, comma_list};
 ghost use Rattle.mst_lag.specs.Aggregation.{same_name};
 ghost use Rattle.mst_graph.specs.Islands.{Island as NamedIsland};
 ghost use Rattle.mst_net.specs.Tables.{Net, Numbers};
 ghost use Rattle.mst_trees.specs.Agrees.{AreOf, Known};
 ghost use Rattle.mst_trees.specs.Forest.{IsForest};
 ghost use Rattle.mst_vlan.specs.Reach.{AreIslandsOf};
-ghost use Rattle.mst_vlan_text.specs.Seen.{seen_bridge};
+ghost use Rattle.mst_text.specs.VlanSeen.{seen_bridge};
 ghost use Rattle.mst_diff.specs.Reach.{has_any, island_words, AreSides};
 ghost use Rattle.mst_diff.specs.Seen.{seen_words, one_word, apart_word, joined_sides, side_text};
 
 use mst_changes::Planned;
-use mst_ids::{BridgeNo, Vid, push_bytes};
+use mst_ids::{BridgeNo, Vid, push_bytes, push_word};
 use mst_lag::View;
+use mst_text::bridge_name;
 use mst_vlan::{Island, reach};
-use mst_vlan_text::bridge_name;
-use mst_words::push_word;
 use std::alloc::{AllocError, Global};
 
 /// Appends the names of these bridges, each after a `,`.

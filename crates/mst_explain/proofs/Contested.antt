@@ -43,14 +43,14 @@ abbrev pub CostsBounded : {B P V : Type 0} → Rules B P V → Type 0
 CostsBounded {B} {P} {V} m =
     (t : Topology (List ℕ) (List ℕ) PortName B P) (v : List ℕ → Option V) → IsTopology m t → Settled m t v → (n : List ℕ) (x : V) → v n ≡ Some x → m.cost x ≤ 200_000_000 * (length t.bridges - 1)
 
-module _ (net : Net) (numbers : Numbers) (v : Viewed) (classes : List (ℕ × ℕ)) (of : AreOf net numbers v classes)
+module _ (net : Net) (numbers : Numbers) (v : Viewed) (region_ids : List (ℕ × ℕ)) (of : AreOf net numbers v region_ids)
     {B P V : Type 0} (m : Rules B P V) (law : IsMetric m) (s : Sight B P) (sight : IsSight net m s) (o : TreeOutcome V) (is : IsTreeOutcome m (tree_of net s) o)
-    (seen : TreeSeen B P V) (same : IsSeenTree net numbers v classes of s o seen) where
+    (seen : TreeSeen B P V) (same : IsSeenTree net numbers v region_ids of s o seen) where
   abbrev t : Topology (List ℕ) (List ℕ) PortName B P
   t = tree_of net s
 
   ok : IsTopology m t
-  ok = topology net numbers v classes of m law s sight o is seen same
+  ok = topology net numbers v region_ids of m law s sight o is seen same
 
   few : length t.bridges ≤ 1024
   few = let l = length_kept (named_bridge s) (fin.entries net.bridges) in let n = of.network.bridges.few in omega (arith, l, n, len-entries net.bridges)
@@ -63,7 +63,7 @@ module _ (net : Net) (numbers : Numbers) (v : Viewed) (classes : List (ℕ × �
   can_step bounded = record {
     in_range = λ p c there e. sight.in_range (named_port p) c (port_seen net numbers v of.view p there).is_port (sym (same.ports p there) ∙ e);
     costs = λ p x there e.
-        low (m.cost x) (length t.bridges) (bounded t o.vector ok is.settled p.name.bridge x (sym (vector_at net numbers v classes of m law s sight o is seen same p there) ∙ e)) few;
+        low (m.cost x) (length t.bridges) (bounded t o.vector ok is.settled p.name.bridge x (sym (vector_at net numbers v region_ids of m law s sight o is seen same p there) ∙ e)) few;
   }
 
   module _ (fields : V → List Field) (p : PortInView) (here : Contains v.ports p) (settings : P) (has_settings : s.port (named_port p) ≡ Some settings) where
@@ -101,9 +101,9 @@ module _ (net : Net) (numbers : Numbers) (v : Viewed) (classes : List (ℕ × �
     abbrev lan_text : List ℕ
     lan_text = told_text m.order fields (codes "designated") (Some p.name) (lan_claims m v seen p.lan_number)
 
-    on_lan : IsTold m law.total fields (codes "designated") (Some p.name) (lan_claims m v seen p.lan_number) OnLan (lan_hold net numbers v classes of m law s sight o is seen same p here)
+    on_lan : IsTold m law.total fields (codes "designated") (Some p.name) (lan_claims m v seen p.lan_number) OnLan (lan_hold net numbers v region_ids of m law s sight o is seen same p here)
     on_lan =
-        told_is m law.total fields (codes "designated") (Some p.name) (lan_claims m v seen p.lan_number) OnLan (lan_hold net numbers v classes of m law s sight o is seen same p here)
+        told_is m law.total fields (codes "designated") (Some p.name) (lan_claims m v seen p.lan_number) OnLan (lan_hold net numbers v region_ids of m law s sight o is seen same p here)
         (m.designated own.vector own.bridge settings) says
 
     -- the first on the LAN is its designated port
@@ -167,7 +167,7 @@ module _ (net : Net) (numbers : Numbers) (v : Viewed) (classes : List (ℕ × �
         → TellsRoot m fields t o (named_port p) (told_text m.order fields (codes "root") (Some p.name) (bridge_claims m v seen p.bridge))
     tells_root d e other free =
         let mine = gives d e other free in
-        let hold = bridge_hold net numbers v classes of m law s sight o is seen same p here own.bridge own.is_bridge in
+        let hold = bridge_hold net numbers v region_ids of m law s sight o is seen same p here own.bridge own.is_bridge in
         let told = told_is m law.total fields (codes "root") (Some p.name) (bridge_claims m v seen p.bridge) AtBridge hold mine.0 mine.1 in
         record {
           bridge = own.bridge;
@@ -185,12 +185,12 @@ module _ (net : Net) (numbers : Numbers) (v : Viewed) (classes : List (ℕ × �
     pub tells_contest : TellsContest m fields t o (named_port p) (contest_text m v seen fields p)
     tells_contest =
         let d = chosen.port in
-        let f = designated_found net numbers v classes of m law s sight o is seen same p here d chosen.is_designated in
+        let f = designated_found net numbers v region_ids of m law s sight o is seen same p here d chosen.is_designated in
         let bridge : f.port.name.bridge ≡ d.bridge = ap (λ (n : PortName). n.bridge) f.name in
         let second : second_text m v seen fields p (designated_on m v seen p.lan_number) ≡ (if f.port.bridge == p.bridge then [] else root_text m v seen fields p) =
         ap (second_text m v seen fields p) f.found in
         let apart : d.bridge ≢ p.name.bridge → (f.port.bridge == p.bridge) ≡ false =
-        λ n. numbers_differ f.port.bridge p.bridge (λ i. n (sym bridge ∙ bridge_is net numbers v classes of f.port p f.there here i)) in
+        λ n. numbers_differ f.port.bridge p.bridge (λ i. n (sym bridge ∙ bridge_is net numbers v region_ids of f.port p f.there here i)) in
         let root : d.bridge ≢ p.name.bridge → second_text m v seen fields p (designated_on m v seen p.lan_number) ≡ root_text m v seen fields p =
         λ n. second ∙ ap (λ (b : Bool). if b then [] else root_text m v seen fields p) (apart n) in
         let line = λ (b : Bool). if b then restricted_line else told_text m.order fields (codes "root") (Some p.name) (bridge_claims m v seen p.bridge) in
@@ -200,7 +200,7 @@ module _ (net : Net) (numbers : Numbers) (v : Viewed) (classes : List (ℕ × �
           first = lan_text;
           tells_designated = chosen.tells;
           second = second_text m v seen fields p (designated_on m v seen p.lan_number);
-          own = λ e. second ∙ ap (λ (b : Bool). if b then [] else root_text m v seen fields p) (eq-eqb f.port.bridge p.bridge (bridge_number net numbers v classes of f.port p f.there here (bridge ∙ e)));
+          own = λ e. second ∙ ap (λ (b : Bool). if b then [] else root_text m v seen fields p) (eq-eqb f.port.bridge p.bridge (bridge_number net numbers v region_ids of f.port p f.there here (bridge ∙ e)));
           restricted = λ n r. root n ∙ ap line r;
           free = λ n r. subst (TellsRoot m fields t o (named_port p)) (sym (root n ∙ ap line r)) (tells_root d chosen.is_designated n r);
           is = refl;

@@ -27,9 +27,9 @@ use Rattle.mst_explain.specs.Seen.{TreeSeen, said, designated_on, step_from, hea
 use Rattle.mst_explain.proofs.Firsts.{Hold, keyed}
 use Rattle.mst_explain.proofs.SeenTrees.{IsSeenTree, SeenAs, then_from, unless_some, where_some, numbers_differ, only_one, one_seen, bridge_is, bridge_number, topology, bridge_to, bridge_back, seen_as, says_back}
 
-module _ (net : Net) (numbers : Numbers) (v : Viewed) (classes : List (ℕ × ℕ)) (of : AreOf net numbers v classes)
+module _ (net : Net) (numbers : Numbers) (v : Viewed) (region_ids : List (ℕ × ℕ)) (of : AreOf net numbers v region_ids)
     {B P V : Type 0} (m : Rules B P V) (law : IsMetric m) (s : Sight B P) (sight : IsSight net m s) (o : TreeOutcome V) (is : IsTreeOutcome m (tree_of net s) o)
-    (seen : TreeSeen B P V) (same : IsSeenTree net numbers v classes of s o seen) where
+    (seen : TreeSeen B P V) (same : IsSeenTree net numbers v region_ids of s o seen) where
   abbrev t : Topology (List ℕ) (List ℕ) PortName B P
   t = tree_of net s
 
@@ -37,19 +37,19 @@ module _ (net : Net) (numbers : Numbers) (v : Viewed) (classes : List (ℕ × �
   Key = Plug (List ℕ) (List ℕ) PortName P
 
   ok : IsTopology m t
-  ok = topology net numbers v classes of m law s sight o is seen same
+  ok = topology net numbers v region_ids of m law s sight o is seen same
 
   abbrev As : Key → Type 0
-  As k = SeenAs net numbers v classes of m law s sight o is seen same k
+  As k = SeenAs net numbers v region_ids of m law s sight o is seen same k
 
   seen_key : (k : Key) → HasPort t k → As k
-  seen_key k h = seen_as net numbers v classes of m law s sight o is seen same k h
+  seen_key k h = seen_as net numbers v region_ids of m law s sight o is seen same k h
 
   bridge_at : (q : PortInView) → Contains v.ports q → (b : B) → seen.bridge q.bridge ≡ Some b → HasBridge t q.name.bridge b
-  bridge_at q there b e = bridge_to net numbers v classes of m law s sight o is seen same q.name.bridge q.bridge b (port_seen net numbers v of.view q there).has_numbers.bridge e
+  bridge_at q there b e = bridge_to net numbers v region_ids of m law s sight o is seen same q.name.bridge q.bridge b (port_seen net numbers v of.view q there).has_numbers.bridge e
 
   bridge_by : (q : PortInView) → Contains v.ports q → (b : B) → HasBridge t q.name.bridge b → seen.bridge q.bridge ≡ Some b
-  bridge_by q there b h = bridge_back net numbers v classes of m law s sight o is seen same q.name.bridge q.bridge b (port_seen net numbers v of.view q there).has_numbers.bridge h
+  bridge_by q there b h = bridge_back net numbers v region_ids of m law s sight o is seen same q.name.bridge q.bridge b (port_seen net numbers v of.view q there).has_numbers.bridge h
 
   -- ---- the designated port of a LAN is found
   pub record FoundPort (p : PortInView) (d : PortName) : Type 0 where
@@ -106,14 +106,14 @@ module _ (net : Net) (numbers : Numbers) (v : Viewed) (classes : List (ℕ × �
           let there : Contains v.ports f = subst (Contains v.ports) one x.there in
           let name : f.name ≡ d = ap (λ (q : PortInView). q.name) (sym one) ∙ x.name in
           let z = seen_key h.0 h.3.says.has_port in
-          let same_port : z.port ≡ f = one_seen net numbers v classes of z.port f z.there there (ap (λ (y : Key). y.number) z.is_key ∙ h.2 ∙ sym name) in
+          let same_port : z.port ≡ f = one_seen net numbers v region_ids of z.port f z.there there (ap (λ (y : Key). y.number) z.is_key ∙ h.2 ∙ sym name) in
           record {
             there = there;
             key = h.0;
             message = h.1;
             number = h.2 ∙ sym name;
             designates = h.3;
-            said_is = ap (said m v seen) (sym same_port) ∙ says_back net numbers v classes of m law s sight o is seen same h.0 h.1 h.3.says z;
+            said_is = ap (said m v seen) (sym same_port) ∙ says_back net numbers v region_ids of m law s sight o is seen same h.0 h.1 h.3.says z;
             bridge = ap (λ (y : Key). y.bridge) (sym z.is_key) ∙ ap (λ (q : PortInView). q.name.bridge) same_port;
           }
 
@@ -139,7 +139,7 @@ module _ (net : Net) (numbers : Numbers) (v : Viewed) (classes : List (ℕ × �
           from = h.key;
           message = h.message;
           designates = h.designates;
-          from_other = λ i. true≢false (sym (eq-eqb f.0.bridge q.bridge (bridge_number net numbers v classes of f.0 q h.there here (sym h.bridge ∙ i))) ∙ other.0);
+          from_other = λ i. true≢false (sym (eq-eqb f.0.bridge q.bridge (bridge_number net numbers v region_ids of f.0 q h.there here (sym h.bridge ∙ i))) ∙ other.0);
           sender = r.0;
           has_sender = subst (λ a. HasBridge t a r.0) (sym h.bridge) (bridge_at f.0 h.there r.0 r.1);
           is_step = (λ i. m.step (sym message i) r.0 (sym own i) c.0) ∙ d.2;
@@ -166,13 +166,13 @@ module _ (net : Net) (numbers : Numbers) (v : Viewed) (classes : List (ℕ × �
           let f = designated_found q z.there d (ap o.designated on_lan ∙ g) in
           let w = seen_key st.from st.designates.says.has_port in
           let same_port : w.port ≡ f.port =
-          one_seen net numbers v classes of w.port f.port w.there f.there (ap (λ (y : Key). y.number) w.is_key ∙ ap (λ (y : Key). y.number) (sym one) ∙ h.2 ∙ sym f.name) in
+          one_seen net numbers v region_ids of w.port f.port w.there f.there (ap (λ (y : Key). y.number) w.is_key ∙ ap (λ (y : Key). y.number) (sym one) ∙ h.2 ∙ sym f.name) in
           let bridge : f.port.name.bridge ≡ st.from.bridge = ap (λ (p : PortInView). p.name.bridge) (sym same_port) ∙ ap (λ (y : Key). y.bridge) w.is_key in
-          let says : said m v seen f.port ≡ Some st.message = ap (said m v seen) (sym same_port) ∙ says_back net numbers v classes of m law s sight o is seen same st.from st.message st.designates.says w in
+          let says : said m v seen f.port ≡ Some st.message = ap (said m v seen) (sym same_port) ∙ says_back net numbers v region_ids of m law s sight o is seen same st.from st.message st.designates.says w in
           let sender = bridge_by f.port f.there st.sender (subst (λ a. HasBridge t a st.sender) (sym bridge) st.has_sender) in
           let own = bridge_by q z.there b (subst (λ a. HasBridge t a b) (sym on_bridge) has) in
           let other : (f.port.bridge == q.bridge) ≡ false =
-          numbers_differ f.port.bridge q.bridge (λ i. st.from_other (sym bridge ∙ bridge_is net numbers v classes of f.port q f.there z.there i ∙ on_bridge)) in
+          numbers_differ f.port.bridge q.bridge (λ i. st.from_other (sym bridge ∙ bridge_is net numbers v region_ids of f.port q f.there z.there i ∙ on_bridge)) in
           let step : step_from m v seen q z.settings f.port ≡ Some x =
           ap (option_and_then (λ (y : V). option_and_then (λ (sender : B). option_map (λ (b : B). m.step y sender b z.settings) (seen.bridge q.bridge)) (seen.bridge f.port.bridge))) says
           ∙ ap (option_and_then (λ (sender : B). option_map (λ (b : B). m.step st.message sender b z.settings) (seen.bridge q.bridge))) sender
@@ -210,7 +210,7 @@ module _ (net : Net) (numbers : Numbers) (v : Viewed) (classes : List (ℕ × �
           of_port k =
               let w = where_some (k.0.bridge == p.bridge) (option_map (claim_of m v seen k.0) (given m v seen k.0)) c k.2 in
               let x = changed_from (claim_of m v seen k.0) (given m v seen k.0) c w.1 in
-              let at : k.0.name.bridge ≡ p.name.bridge = bridge_is net numbers v classes of k.0 p k.1 here (eqb-true k.0.bridge p.bridge w.0) in
+              let at : k.0.name.bridge ≡ p.name.bridge = bridge_is net numbers v region_ids of k.0 p k.1 here (eqb-true k.0.bridge p.bridge w.0) in
               subst Has x.2 (subst (λ a. Gives m t o.vector a b (Some k.0.name) x.0) at (gives_to k.0 k.1 b (subst (λ a. HasBridge t a b) (sym at) has) x.0 x.1))
 
       all : (k : Option PortName) (x : V) → Gives m t o.vector p.name.bridge b k x → Contains (bridge_claims m v seen p.bridge) (record { port = k; vector = x })
@@ -220,7 +220,7 @@ module _ (net : Net) (numbers : Numbers) (v : Viewed) (classes : List (ℕ × �
       all (Some k) x h =
           let z = seen_key h.0.port h.0.has_port in
           let name : z.port.name ≡ k = ap (λ (y : Key). y.number) z.is_key ∙ h.1 in
-          let at : z.port.bridge ≡ p.bridge = bridge_number net numbers v classes of z.port p z.there here (ap (λ (y : Key). y.bridge) z.is_key ∙ h.0.on_bridge) in
+          let at : z.port.bridge ≡ p.bridge = bridge_number net numbers v region_ids of z.port p z.there here (ap (λ (y : Key). y.bridge) z.is_key ∙ h.0.on_bridge) in
           Contains-append_right (own_claims m v seen p.bridge) (filter_map (bridge_claim m v seen p.bridge) v.ports) (record { port = Some k; vector = x })
           (kept_in (bridge_claim m v seen p.bridge) v.ports z.port (record { port = Some k; vector = x }) z.there
           (ap (λ (r : Bool). if r then option_map (claim_of m v seen z.port) (given m v seen z.port) else None) (eq-eqb z.port.bridge p.bridge at)

@@ -37,7 +37,7 @@ use Rattle.mst_explain.specs.TreesSeen.{bridge_found, cist_bridge_in, cist_port_
 use Rattle.mst_explain.proofs.SeenTrees.{bridge_found_at, IsSeenTree}
 use Rattle.mst_explain.proofs.Contested.{CostsBounded, can_step, tells_contest}
 
-module _ (net : Net) (numbers : Numbers) (v : Viewed) (classes : List (ℕ × ℕ)) (f : Forest) (is : IsPlanOf net numbers v classes f) where
+module _ (net : Net) (numbers : Numbers) (v : Viewed) (region_ids : List (ℕ × ℕ)) (f : Forest) (is : IsPlanOf net numbers v region_ids f) where
   abbrev o : Outcome
   o = is.forest.outcome
 
@@ -53,28 +53,28 @@ module _ (net : Net) (numbers : Numbers) (v : Viewed) (classes : List (ℕ × �
       ∙ sym (ap (option_and_then (g a)) x.has_row)
 
   -- ---- the CIST
-  cist_bridge_same : (b : BridgeInView) → SeenBridge net numbers b → cist_bridge_in v.settings classes b ≡ (cist_sight net).bridge b.name (bridge_row b.bridge)
+  cist_bridge_same : (b : BridgeInView) → SeenBridge net numbers b → cist_bridge_in v.settings region_ids b ≡ (cist_sight net).bridge b.name (bridge_row b.bridge)
   cist_bridge_same b seen =
-      ap (λ set. cist_bridge_in set classes b) of.view.settings
+      ap (λ set. cist_bridge_in set region_ids b) of.view.settings
       ∙ ap (λ (r : Option ℕ). if◌then◌else◌ {A = Option CistBridge} (bridge_row b.bridge).is_on (option_map (λ region. cist_bridge (by_tree net) region b.name (bridge_row b.bridge)) r) None)
       (is.regions.identifiers b.name b.bridge.number seen.has_number)
 
-  pub cist_is_seen : (tree : ℕ) → (tree == 0) ≡ true → IsSeenTree net numbers v f.regions of (cist_sight net) o.cist (cist_seen v classes f tree)
+  pub cist_is_seen : (tree : ℕ) → (tree == 0) ≡ true → IsSeenTree net numbers v f.regions of (cist_sight net) o.cist (cist_seen v region_ids f tree)
   cist_is_seen tree zero_is = record {
-    bridges = found_bridge (cist_bridge_in v.settings classes) (cist_sight net).bridge cist_bridge_same;
+    bridges = found_bridge (cist_bridge_in v.settings region_ids) (cist_sight net).bridge cist_bridge_same;
     ports = λ p there. ap (λ set. cist_port_in set p) of.view.settings;
     agrees = subst (Agrees numbers o.cist (vector_of f.cist)) (λ i lan. if sym zero_is i then designated_of f.cist lan else msti_designated f tree lan) is.forest.cist;
   }
 
-  pub cist_can_step : CostsBounded cist_rules → (tree : ℕ) → CanStep cist_rules v (cist_seen v classes f tree)
+  pub cist_can_step : CostsBounded cist_rules → (tree : ℕ) → CanStep cist_rules v (cist_seen v region_ids f tree)
   cist_can_step bounded tree =
-      let s = can_step net numbers v f.regions of cist_rules cist_lawful (cist_sight net) (cist_is_sight net of.network) o.cist is.forest.is_outcome.cist (cist_seen v classes f 0) (cist_is_seen 0 refl) bounded in
+      let s = can_step net numbers v f.regions of cist_rules cist_lawful (cist_sight net) (cist_is_sight net of.network) o.cist is.forest.is_outcome.cist (cist_seen v region_ids f 0) (cist_is_seen 0 refl) bounded in
       record { in_range = s.in_range; costs = s.costs }
 
   pub cist_contest : (tree : ℕ) → (tree == 0) ≡ true → (p : PortInView) → Contains v.ports p → p.is_enabled ≡ true
-      → TellsContest cist_rules cist_fields (cist_of net) o.cist (named_port p) (contest_text cist_rules v (cist_seen v classes f tree) cist_fields p)
+      → TellsContest cist_rules cist_fields (cist_of net) o.cist (named_port p) (contest_text cist_rules v (cist_seen v region_ids f tree) cist_fields p)
   cist_contest tree zero_is p there enabled =
-      tells_contest net numbers v f.regions of cist_rules cist_lawful (cist_sight net) (cist_is_sight net of.network) o.cist is.forest.is_outcome.cist (cist_seen v classes f tree) (cist_is_seen tree zero_is)
+      tells_contest net numbers v f.regions of cist_rules cist_lawful (cist_sight net) (cist_is_sight net of.network) o.cist is.forest.is_outcome.cist (cist_seen v region_ids f tree) (cist_is_seen tree zero_is)
       cist_fields p there (cist_port (by_tree net) (named_port p)) (ap (λ (b : Bool). if b then Some (cist_port (by_tree net) (named_port p)) else None) enabled)
 
   -- ---- an MSTI
@@ -91,7 +91,7 @@ module _ (net : Net) (numbers : Numbers) (v : Viewed) (classes : List (ℕ × �
       λ i. if inner_is p seen i && has_tree_at net numbers v f.regions of tree p.name.bridge p.bridge seen.has_numbers.bridge i
       then Some (msti_port (of.view.settings i) tree (named_port p)) else None
 
-  msti_is_seen : (tree : ℕ) → (tree == 0) ≡ false → IsSeenTree net numbers v f.regions of (msti_sight net tree o.cist.designated) (o.msti tree) (msti_seen v classes f tree)
+  msti_is_seen : (tree : ℕ) → (tree == 0) ≡ false → IsSeenTree net numbers v f.regions of (msti_sight net tree o.cist.designated) (o.msti tree) (msti_seen v region_ids f tree)
   msti_is_seen tree other = record {
     bridges = found_bridge (msti_bridge_in v tree) (msti_sight net tree o.cist.designated).bridge (msti_bridge_same tree);
     ports = λ p there. msti_port_same tree p (port_seen net numbers v of.view p there);
@@ -114,17 +114,17 @@ module _ (net : Net) (numbers : Numbers) (v : Viewed) (classes : List (ℕ × �
     agrees = is.forest.mstis tree;
   }
 
-  pub msti_can_step : CostsBounded msti_rules → (tree : ℕ) → CanStep msti_rules v (msti_seen v classes f tree)
+  pub msti_can_step : CostsBounded msti_rules → (tree : ℕ) → CanStep msti_rules v (msti_seen v region_ids f tree)
   msti_can_step bounded tree =
       let s = can_step net numbers v f.regions of msti_rules msti_lawful (msti_sight net tree o.cist.designated) (msti_is_sight net of.network tree o.cist.designated) (o.msti tree) (is.forest.is_outcome.mstis tree)
       (msti_own tree) (msti_seen_as tree) bounded in
       record { in_range = s.in_range; costs = s.costs }
 
   pub msti_contest : (tree : ℕ) → (tree == 0) ≡ false → (p : PortInView) → Contains v.ports p → p.is_enabled ≡ true → is_inner net o.cist.designated (named_port p) ≡ true → has_msti net tree p.name.bridge ≡ true
-      → TellsContest msti_rules msti_fields (msti_of net tree o.cist.designated) (o.msti tree) (named_port p) (contest_text msti_rules v (msti_seen v classes f tree) msti_fields p)
+      → TellsContest msti_rules msti_fields (msti_of net tree o.cist.designated) (o.msti tree) (named_port p) (contest_text msti_rules v (msti_seen v region_ids f tree) msti_fields p)
   msti_contest tree other p there enabled inner has =
       tells_contest net numbers v f.regions of msti_rules msti_lawful (msti_sight net tree o.cist.designated) (msti_is_sight net of.network tree o.cist.designated) (o.msti tree) (is.forest.is_outcome.mstis tree)
-      (msti_seen v classes f tree) (msti_is_seen tree other) msti_fields p there (msti_port (by_tree net) tree (named_port p))
+      (msti_seen v region_ids f tree) (msti_is_seen tree other) msti_fields p there (msti_port (by_tree net) tree (named_port p))
       (ap (λ (b : Bool). if b && is_inner net o.cist.designated (named_port p) && has_msti net tree p.name.bridge then Some (msti_port (by_tree net) tree (named_port p)) else None) enabled
       ∙ ap (λ (b : Bool). if b && has_msti net tree p.name.bridge then Some (msti_port (by_tree net) tree (named_port p)) else None) inner
       ∙ ap (λ (b : Bool). if b then Some (msti_port (by_tree net) tree (named_port p)) else None) has)

@@ -63,7 +63,7 @@ only_one x y c = go c.0 c.1 c.2
     go zero l e = e
     go (suc k) l e = absurd (omega arith)
 
-module _ (net : Net) (numbers : Numbers) (v : Viewed) (classes : List (ℕ × ℕ)) (of : AreOf net numbers v classes) where
+module _ (net : Net) (numbers : Numbers) (v : Viewed) (region_ids : List (ℕ × ℕ)) (of : AreOf net numbers v region_ids) where
   -- ---- bridges and ports of the view
   -- the bridge of this name is found by its number
   pub record FoundBridge (a : List ℕ) (n : ℕ) : Type 0 where

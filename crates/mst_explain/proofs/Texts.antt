@@ -85,7 +85,7 @@ some_up net lan (e ∷ es) = go (same_name (logical_lan net e.0) lan) (some_up n
     go true h = ap (λ t. e.1.is_up || t) h
     go false h = h
 
-module _ (net : Net) (numbers : Numbers) (v : Viewed) (classes : List (ℕ × ℕ)) (f : Forest) (is : IsPlanOf net numbers v classes f) (p : PortInView) (there : Contains v.ports p) where
+module _ (net : Net) (numbers : Numbers) (v : Viewed) (region_ids : List (ℕ × ℕ)) (f : Forest) (is : IsPlanOf net numbers v region_ids f) (p : PortInView) (there : Contains v.ports p) where
   abbrev o : Outcome
   o = is.forest.outcome
 
@@ -115,9 +115,9 @@ module _ (net : Net) (numbers : Numbers) (v : Viewed) (classes : List (ℕ × �
   -- ---- external information
   outside_is : p.is_enabled ≡ true → TellsBoundary net o (named_port p) (outside_text v f p)
   outside_is enabled =
-      let c = cist_contest net numbers v classes f is 0 refl p there enabled in
+      let c = cist_contest net numbers v region_ids f is 0 refl p there enabled in
       let d =
-      designated_found net numbers v f.regions of cist_rules cist_lawful (cist_sight net) (cist_is_sight net of.network) o.cist is.forest.is_outcome.cist (cist_seen v classes f 0) (cist_is_seen net numbers v classes f is 0 refl)
+      designated_found net numbers v f.regions of cist_rules cist_lawful (cist_sight net) (cist_is_sight net of.network) o.cist is.forest.is_outcome.cist (cist_seen v region_ids f 0) (cist_is_seen net numbers v region_ids f is 0 refl)
       p there c.designated c.is_designated in
       let port_line = λ (role : Role) (q : Option PortInView). option_map_or (λ (x : PortInView). boundary_line role x.name) q [] in (
         c.designated,
@@ -130,31 +130,31 @@ module _ (net : Net) (numbers : Numbers) (v : Viewed) (classes : List (ℕ × �
   -- ---- the reason
   module _ (tree : ℕ) (has : Contains (trees_of_bridge net p.name.bridge) tree) where
     inner_of : p.is_enabled ≡ true → seen_inner v f.regions (designated_of f.cist) p ≡ is_inner net o.cist.designated (named_port p)
-    inner_of enabled = inner_is net numbers v classes f is p seen ∙ ap (λ b. b && is_inner net o.cist.designated (named_port p)) enabled
+    inner_of enabled = inner_is net numbers v region_ids f is p seen ∙ ap (λ b. b && is_inner net o.cist.designated (named_port p)) enabled
 
-    tells_msti : p.is_enabled ≡ true → (tree == 0) ≡ false → TellsInMsti net o tree (named_port p) (is_inner net o.cist.designated (named_port p)) (msti_text v classes f tree p)
+    tells_msti : p.is_enabled ≡ true → (tree == 0) ≡ false → TellsInMsti net o tree (named_port p) (is_inner net o.cist.designated (named_port p)) (msti_text v region_ids f tree p)
     tells_msti enabled other =
         subst (λ b. TellsInMsti net o tree (named_port p) (is_inner net o.cist.designated (named_port p)) (text b)) (sym (inner_of enabled)) (go (is_inner net o.cist.designated (named_port p)) refl)
       where
         text : Bool → List ℕ
-        text b = if b then contest_text msti_rules v (msti_seen v classes f tree) msti_fields p else outside_text v f p
+        text b = if b then contest_text msti_rules v (msti_seen v region_ids f tree) msti_fields p else outside_text v f p
 
         go : (b : Bool) → is_inner net o.cist.designated (named_port p) ≡ b → TellsInMsti net o tree (named_port p) b (text b)
-        go true e = msti_contest net numbers v classes f is tree other p there enabled e (tree_there net p.name.bridge tree has other)
+        go true e = msti_contest net numbers v region_ids f is tree other p there enabled e (tree_there net p.name.bridge tree has other)
         go false e = outside_is enabled
 
-    tells_enabled : p.is_enabled ≡ true → TellsEnabled net o tree (named_port p) (tree == 0) (enabled_text v classes f tree p)
+    tells_enabled : p.is_enabled ≡ true → TellsEnabled net o tree (named_port p) (tree == 0) (enabled_text v region_ids f tree p)
     tells_enabled enabled = go (tree == 0) refl
       where
         go : (b : Bool) → (tree == 0) ≡ b
-            → TellsEnabled net o tree (named_port p) b (if b then contest_text cist_rules v (cist_seen v classes f tree) cist_fields p else msti_text v classes f tree p)
-        go true e = cist_contest net numbers v classes f is tree e p there enabled
+            → TellsEnabled net o tree (named_port p) b (if b then contest_text cist_rules v (cist_seen v region_ids f tree) cist_fields p else msti_text v region_ids f tree p)
+        go true e = cist_contest net numbers v region_ids f is tree e p there enabled
         go false e = tells_msti enabled e
 
-    tells_reason : TellsReason net o tree (named_port p) p.is_enabled (reason_text v classes f tree p)
+    tells_reason : TellsReason net o tree (named_port p) p.is_enabled (reason_text v region_ids f tree p)
     tells_reason = go p.is_enabled refl
       where
-        go : (b : Bool) → p.is_enabled ≡ b → TellsReason net o tree (named_port p) b (if b then enabled_text v classes f tree p else off_text v p)
+        go : (b : Bool) → p.is_enabled ≡ b → TellsReason net o tree (named_port p) b (if b then enabled_text v region_ids f tree p else off_text v p)
         go true e = tells_enabled e
         go false e = off_is
 
@@ -166,22 +166,22 @@ module _ (net : Net) (numbers : Numbers) (v : Viewed) (classes : List (ℕ × �
         go true e = (cist_role net o (named_port p), refl)
         go false e = (msti_role net o tree (named_port p), ap (λ (b : Bool). if b then Some (msti_role net o tree (named_port p)) else None) (tree_there net p.name.bridge tree has e))
 
-    pub explained : IsExplanation net o tree (named_port p) (explanation_text v classes f tree p)
+    pub explained : IsExplanation net o tree (named_port p) (explanation_text v region_ids f tree p)
     explained = record {
       role = role_there.0;
       has_role = role_there.1;
-      reason = reason_text v classes f tree p;
+      reason = reason_text v region_ids f tree p;
       tells = tells_reason;
-      is = ap (λ (r : Option Role). option_map_or (λ role. explain_line tree p.name p.lan role ++ reason_text v classes f tree p) r []) (role_is tree ∙ role_there.1);
+      is = ap (λ (r : Option Role). option_map_or (λ role. explain_line tree p.name p.lan role ++ reason_text v region_ids f tree p) r []) (role_is tree ∙ role_there.1);
     }
 
   -- ---- in each tree of the bridge
   abbrev pub explanations_text : List ℕ → List ℕ
-  explanations_text trees = flat_map (λ tree. explanation_text v classes f tree p) trees
+  explanations_text trees = flat_map (λ tree. explanation_text v region_ids f tree p) trees
 
   each_explained : (trees : List ℕ) → AllByRecursion (Contains (trees_of_bridge net p.name.bridge)) trees → AreExplanations net o (named_port p) trees (explanations_text trees)
   each_explained [] h = refl
-  each_explained (tree ∷ trees) h = (explanation_text v classes f tree p, explanations_text trees, explained tree h.0, each_explained trees h.1, refl)
+  each_explained (tree ∷ trees) h = (explanation_text v region_ids f tree p, explanations_text trees, explained tree h.0, each_explained trees h.1, refl)
 
   trees_are : trees_at v p.bridge ≡ option_map_or (mstis_of net p.name.bridge) (fin.get net.bridges p.name.bridge) []
   trees_are =
@@ -196,7 +196,7 @@ module _ (net : Net) (numbers : Numbers) (v : Viewed) (classes : List (ℕ × �
   pub all_explained : AreExplanations net o (named_port p) (trees_of_bridge net p.name.bridge) (explanations_text (0 ∷ []) ++ explanations_text (trees_at v p.bridge))
   all_explained =
       subst (λ ts. AreExplanations net o (named_port p) (trees_of_bridge net p.name.bridge) (explanations_text (0 ∷ []) ++ explanations_text ts)) (sym trees_are)
-      (explanation_text v classes f 0 p, explanations_text own, explained 0 all.0, each_explained own all.1, ap (λ text. text ++ explanations_text own) (append-nil (explanation_text v classes f 0 p)))
+      (explanation_text v region_ids f 0 p, explanations_text own, explained 0 all.0, each_explained own all.1, ap (λ text. text ++ explanations_text own) (append-nil (explanation_text v region_ids f 0 p)))
     where
       own : List ℕ
       own = option_map_or (mstis_of net p.name.bridge) (fin.get net.bridges p.name.bridge) []

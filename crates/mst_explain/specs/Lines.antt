@@ -1,7 +1,7 @@
 -- The lines of an explanation.
 use Rattle.std.specs.Prelude.{ℕ, Bool, List, [], ◌∷◌, ◌++◌, Option, None, Some, codes, decimal, if◌then◌else◌}
 use Rattle.mst_ids.specs.declared.name.PortName.{PortName}
-use Rattle.mst_words.specs.Words.{line}
+use Rattle.mst_ids.specs.Words.{line}
 use Rattle.mst_roles.specs.Names.{role_text}
 use Rattle.mst_roles.specs.declared.kind.Role.{Role}
 

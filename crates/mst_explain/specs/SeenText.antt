@@ -41,12 +41,12 @@ outside_text v f p =
     option_map_or (λ role. option_map_or (λ q. boundary_line role q.name) (option_and_then (port_found v) (designated_in f 0 p.lan_number)) []) (role_at v f 0 p) []
 
 -- of any port
-module _ (v : Viewed) (classes : List (ℕ × ℕ)) (f : Forest) (tree : ℕ) (p : PortInView) where
+module _ (v : Viewed) (region_ids : List (ℕ × ℕ)) (f : Forest) (tree : ℕ) (p : PortInView) where
   abbrev pub msti_text : List ℕ
-  msti_text = if seen_inner v f.regions (designated_of f.cist) p then contest_text msti_rules v (msti_seen v classes f tree) msti_fields p else outside_text v f p
+  msti_text = if seen_inner v f.regions (designated_of f.cist) p then contest_text msti_rules v (msti_seen v region_ids f tree) msti_fields p else outside_text v f p
 
   abbrev pub enabled_text : List ℕ
-  enabled_text = if tree == 0 then contest_text cist_rules v (cist_seen v classes f tree) cist_fields p else msti_text
+  enabled_text = if tree == 0 then contest_text cist_rules v (cist_seen v region_ids f tree) cist_fields p else msti_text
 
   abbrev pub reason_text : List ℕ
   reason_text = if p.is_enabled then enabled_text else off_text v p

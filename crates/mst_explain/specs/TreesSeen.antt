@@ -27,15 +27,15 @@ bridge_found v n = find (λ b. n == b.bridge.number) v.bridges
 
 -- ---- the CIST
 abbrev pub cist_bridge_in : ByTree → List (ℕ × ℕ) → BridgeInView → Option CistBridge
-cist_bridge_in set classes b =
-    if (bridge_row b.bridge).is_on then option_map (λ region. cist_bridge set region b.name (bridge_row b.bridge)) (lookup (nat_eq b.bridge.number) classes) else None
+cist_bridge_in set region_ids b =
+    if (bridge_row b.bridge).is_on then option_map (λ region. cist_bridge set region b.name (bridge_row b.bridge)) (lookup (nat_eq b.bridge.number) region_ids) else None
 
 abbrev pub cist_port_in : ByTree → PortInView → Option CistPort
 cist_port_in set p = if p.is_enabled then Some (cist_port set (named_port p)) else None
 
 abbrev pub cist_seen : Viewed → List (ℕ × ℕ) → Forest → ℕ → TreeSeen CistBridge CistPort CistVector
-cist_seen v classes f tree = record {
-  bridge = λ n. option_and_then (cist_bridge_in v.settings classes) (bridge_found v n);
+cist_seen v region_ids f tree = record {
+  bridge = λ n. option_and_then (cist_bridge_in v.settings region_ids) (bridge_found v n);
   vector = vector_of f.cist;
   port = cist_port_in v.settings;
   designated = designated_in f tree;
@@ -51,7 +51,7 @@ msti_port_in v f tree p =
     if seen_inner v f.regions (designated_of f.cist) p && is_among (trees_at v p.bridge) tree then Some (msti_port v.settings tree (named_port p)) else None
 
 abbrev pub msti_seen : Viewed → List (ℕ × ℕ) → Forest → ℕ → TreeSeen MstiBridge MstiPort MstiVector
-msti_seen v classes f tree = record {
+msti_seen v region_ids f tree = record {
   bridge = λ n. option_and_then (msti_bridge_in v tree) (bridge_found v n);
   vector = msti_vector f tree;
   port = msti_port_in v f tree;

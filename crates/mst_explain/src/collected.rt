@@ -10,7 +10,7 @@ use std::alloc::{AllocError, Global};
 
 /// What a port of the tree says on its LAN: its designated vector.
 fn said<M: InTree>(plan: &TreePlan, port: &PortInView) -> Option<M::Vector>
-    ensures { result ≡ seen_said M.rules plan.now.view.now (M.seen plan.now.view.now plan.now.classes.now plan.now.forest.now plan.now.tree) port.now }
+    ensures { result ≡ seen_said M.rules plan.now.view.now (M.seen plan.now.view.now plan.now.regions.now plan.now.forest.now plan.now.tree) port.now }
 {
     let settings = M::port(plan, port)?;
     let bridge = M::bridge(plan, port.bridge)?;
@@ -25,11 +25,11 @@ fn step_from<M: InTree>(
     settings: &M::Port,
     from: &PortInView,
 ) -> Option<M::Vector>
-    requires steps { CanStep M.rules plan.now.view.now (M.seen plan.now.view.now plan.now.classes.now plan.now.forest.now plan.now.tree) }
+    requires steps { CanStep M.rules plan.now.view.now (M.seen plan.now.view.now plan.now.regions.now plan.now.forest.now plan.now.tree) }
     requires port { Contains plan.now.view.now.ports port.now }
-    requires settings { (M.seen plan.now.view.now plan.now.classes.now plan.now.forest.now plan.now.tree).port port.now ≡ Some settings.now }
+    requires settings { (M.seen plan.now.view.now plan.now.regions.now plan.now.forest.now plan.now.tree).port port.now ≡ Some settings.now }
     requires from { Contains plan.now.view.now.ports from.now }
-    ensures { result ≡ seen_step M.rules plan.now.view.now (M.seen plan.now.view.now plan.now.classes.now plan.now.forest.now plan.now.tree) port.now settings.now from.now }
+    ensures { result ≡ seen_step M.rules plan.now.view.now (M.seen plan.now.view.now plan.now.regions.now plan.now.forest.now plan.now.tree) port.now settings.now from.now }
 {
     let message = said::<M>(plan, from)?;
     let sender = M::bridge(plan, from.bridge)?;
@@ -39,10 +39,10 @@ fn step_from<M: InTree>(
 
 /// The step along a port of these settings from its LAN's designated port, where that is on another bridge.
 fn heard<M: InTree>(plan: &TreePlan, port: &PortInView, settings: &M::Port) -> Option<M::Vector>
-    requires steps { CanStep M.rules plan.now.view.now (M.seen plan.now.view.now plan.now.classes.now plan.now.forest.now plan.now.tree) }
+    requires steps { CanStep M.rules plan.now.view.now (M.seen plan.now.view.now plan.now.regions.now plan.now.forest.now plan.now.tree) }
     requires port { Contains plan.now.view.now.ports port.now }
-    requires settings { (M.seen plan.now.view.now plan.now.classes.now plan.now.forest.now plan.now.tree).port port.now ≡ Some settings.now }
-    ensures { result ≡ seen_heard M.rules plan.now.view.now (M.seen plan.now.view.now plan.now.classes.now plan.now.forest.now plan.now.tree) port.now settings.now }
+    requires settings { (M.seen plan.now.view.now plan.now.regions.now plan.now.forest.now plan.now.tree).port port.now ≡ Some settings.now }
+    ensures { result ≡ seen_heard M.rules plan.now.view.now (M.seen plan.now.view.now plan.now.regions.now plan.now.forest.now plan.now.tree) port.now settings.now }
 {
     let from = M::designated_on(plan, port)?;
     if from.bridge == port.bridge {
@@ -53,9 +53,9 @@ fn heard<M: InTree>(plan: &TreePlan, port: &PortInView, settings: &M::Port) -> O
 
 /// What a port of the tree may give its bridge: a step, if its role isn't restricted.
 fn given<M: InTree>(plan: &TreePlan, port: &PortInView) -> Option<M::Vector>
-    requires steps { CanStep M.rules plan.now.view.now (M.seen plan.now.view.now plan.now.classes.now plan.now.forest.now plan.now.tree) }
+    requires steps { CanStep M.rules plan.now.view.now (M.seen plan.now.view.now plan.now.regions.now plan.now.forest.now plan.now.tree) }
     requires port { Contains plan.now.view.now.ports port.now }
-    ensures { result ≡ seen_given M.rules plan.now.view.now (M.seen plan.now.view.now plan.now.classes.now plan.now.forest.now plan.now.tree) port.now }
+    ensures { result ≡ seen_given M.rules plan.now.view.now (M.seen plan.now.view.now plan.now.regions.now plan.now.forest.now plan.now.tree) port.now }
 {
     if port.settings.is_restricted {
         return None;
@@ -66,7 +66,7 @@ fn given<M: InTree>(plan: &TreePlan, port: &PortInView) -> Option<M::Vector>
 
 /// What a port claims on this LAN, if it is on it.
 fn lan_claim<M: InTree>(plan: &TreePlan, lan: LanNo, port: &PortInView) -> Option<Claim<M::Vector>>
-    ensures { result ≡ seen_lan_claim M.rules plan.now.view.now (M.seen plan.now.view.now plan.now.classes.now plan.now.forest.now plan.now.tree) lan port.now }
+    ensures { result ≡ seen_lan_claim M.rules plan.now.view.now (M.seen plan.now.view.now plan.now.regions.now plan.now.forest.now plan.now.tree) lan port.now }
 {
     if port.lan_number != lan {
         return None;
@@ -84,7 +84,7 @@ pub(crate) fn lan_claims<M: InTree>(
     plan: &TreePlan,
     lan: LanNo,
 ) -> Result<Vec<Claim<M::Vector>>, AllocError>
-    ensures { IfOk result (λ claims. claims.items ≡ seen_lan_claims M.rules plan.now.view.now (M.seen plan.now.view.now plan.now.classes.now plan.now.forest.now plan.now.tree) lan) }
+    ensures { IfOk result (λ claims. claims.items ≡ seen_lan_claims M.rules plan.now.view.now (M.seen plan.now.view.now plan.now.regions.now plan.now.forest.now plan.now.tree) lan) }
 {
     let mut claims = Vec::new(alloc);
     for port in plan.view.ports() {
@@ -101,9 +101,9 @@ fn bridge_claim<M: InTree>(
     bridge: BridgeNo,
     port: &PortInView,
 ) -> Option<Claim<M::Vector>>
-    requires steps { CanStep M.rules plan.now.view.now (M.seen plan.now.view.now plan.now.classes.now plan.now.forest.now plan.now.tree) }
+    requires steps { CanStep M.rules plan.now.view.now (M.seen plan.now.view.now plan.now.regions.now plan.now.forest.now plan.now.tree) }
     requires port { Contains plan.now.view.now.ports port.now }
-    ensures { result ≡ seen_bridge_claim M.rules plan.now.view.now (M.seen plan.now.view.now plan.now.classes.now plan.now.forest.now plan.now.tree) bridge port.now }
+    ensures { result ≡ seen_bridge_claim M.rules plan.now.view.now (M.seen plan.now.view.now plan.now.regions.now plan.now.forest.now plan.now.tree) bridge port.now }
 {
     if port.bridge != bridge {
         return None;
@@ -121,7 +121,7 @@ fn own_claims<M: InTree>(
     plan: &TreePlan,
     bridge: BridgeNo,
 ) -> Result<Vec<Claim<M::Vector>>, AllocError>
-    ensures { IfOk result (λ claims. claims.items ≡ seen_own_claims M.rules plan.now.view.now (M.seen plan.now.view.now plan.now.classes.now plan.now.forest.now plan.now.tree) bridge) }
+    ensures { IfOk result (λ claims. claims.items ≡ seen_own_claims M.rules plan.now.view.now (M.seen plan.now.view.now plan.now.regions.now plan.now.forest.now plan.now.tree) bridge) }
 {
     let mut claims = Vec::new(alloc);
     if let Some(settings) = M::bridge(plan, bridge) {
@@ -139,8 +139,8 @@ pub(crate) fn bridge_claims<M: InTree>(
     plan: &TreePlan,
     bridge: BridgeNo,
 ) -> Result<Vec<Claim<M::Vector>>, AllocError>
-    requires { CanStep M.rules plan.now.view.now (M.seen plan.now.view.now plan.now.classes.now plan.now.forest.now plan.now.tree) }
-    ensures { IfOk result (λ claims. claims.items ≡ seen_bridge_claims M.rules plan.now.view.now (M.seen plan.now.view.now plan.now.classes.now plan.now.forest.now plan.now.tree) bridge) }
+    requires { CanStep M.rules plan.now.view.now (M.seen plan.now.view.now plan.now.regions.now plan.now.forest.now plan.now.tree) }
+    ensures { IfOk result (λ claims. claims.items ≡ seen_bridge_claims M.rules plan.now.view.now (M.seen plan.now.view.now plan.now.regions.now plan.now.forest.now plan.now.tree) bridge) }
 {
     let mut claims = own_claims::<M>(alloc, plan, bridge)?;
     for port in plan.view.ports() {

@@ -55,8 +55,8 @@ fn push_root<M: InTree>(
     port: &PortInView,
     out: &mut Vec<u8>,
 ) -> Result<(), AllocError>
-    requires { CanStep M.rules plan.now.view.now (M.seen plan.now.view.now plan.now.classes.now plan.now.forest.now plan.now.tree) }
-    ensures { OnOk result (out.new.items ≡ out.old.items ++ root_text M.rules plan.now.view.now (M.seen plan.now.view.now plan.now.classes.now plan.now.forest.now plan.now.tree) M.fields port.now) }
+    requires { CanStep M.rules plan.now.view.now (M.seen plan.now.view.now plan.now.regions.now plan.now.forest.now plan.now.tree) }
+    ensures { OnOk result (out.new.items ≡ out.old.items ++ root_text M.rules plan.now.view.now (M.seen plan.now.view.now plan.now.regions.now plan.now.forest.now plan.now.tree) M.fields port.now) }
 {
     if port.settings.is_restricted {
         return push_restricted(out);
@@ -73,8 +73,8 @@ fn push_second<M: InTree>(
     designated: Option<&PortInView>,
     out: &mut Vec<u8>,
 ) -> Result<(), AllocError>
-    requires { CanStep M.rules plan.now.view.now (M.seen plan.now.view.now plan.now.classes.now plan.now.forest.now plan.now.tree) }
-    ensures { OnOk result (out.new.items ≡ out.old.items ++ second_text M.rules plan.now.view.now (M.seen plan.now.view.now plan.now.classes.now plan.now.forest.now plan.now.tree) M.fields port.now (option_copied designated.entry)) }
+    requires { CanStep M.rules plan.now.view.now (M.seen plan.now.view.now plan.now.regions.now plan.now.forest.now plan.now.tree) }
+    ensures { OnOk result (out.new.items ≡ out.old.items ++ second_text M.rules plan.now.view.now (M.seen plan.now.view.now plan.now.regions.now plan.now.forest.now plan.now.tree) M.fields port.now (option_copied designated.entry)) }
 {
     match designated {
         None => Ok(()),
@@ -95,8 +95,8 @@ pub(crate) fn push_contest<M: InTree>(
     port: &PortInView,
     out: &mut Vec<u8>,
 ) -> Result<(), AllocError>
-    requires { CanStep M.rules plan.now.view.now (M.seen plan.now.view.now plan.now.classes.now plan.now.forest.now plan.now.tree) }
-    ensures { OnOk result (out.new.items ≡ out.old.items ++ contest_text M.rules plan.now.view.now (M.seen plan.now.view.now plan.now.classes.now plan.now.forest.now plan.now.tree) M.fields port.now) }
+    requires { CanStep M.rules plan.now.view.now (M.seen plan.now.view.now plan.now.regions.now plan.now.forest.now plan.now.tree) }
+    ensures { OnOk result (out.new.items ≡ out.old.items ++ contest_text M.rules plan.now.view.now (M.seen plan.now.view.now plan.now.regions.now plan.now.forest.now plan.now.tree) M.fields port.now) }
 {
     let claims = lan_claims::<M>(alloc, plan, port.lan_number)?;
     push_told::<M>(b"designated", &port.name, claims.as_slice(), out)?;

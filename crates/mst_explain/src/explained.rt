@@ -15,8 +15,7 @@ ghost use Rattle.mst_explain.specs.TreesSeen.{cist_seen, msti_seen};
 use crate::contest::push_contest;
 use crate::in_tree::TreePlan;
 use crate::lines::{push_boundary, push_disabled, push_heading};
-use crate::settings::is_on;
-use mst_config::Classes;
+use mst_config::Regions;
 use mst_ids::{BridgeNo, Name, PortName, Tree};
 use mst_lag::{PortInView, View};
 use mst_roles::role;
@@ -30,7 +29,7 @@ fn bridge_is_on(view: &View, bridge: BridgeNo) -> bool
 {
     match view.bridge(bridge) {
         None => false,
-        Some(bridge) => is_on(bridge.bridge.power),
+        Some(bridge) => bridge.bridge.is_on(),
     }
 }
 
@@ -87,8 +86,8 @@ fn push_in_msti(
     port: &PortInView,
     out: &mut Vec<u8>,
 ) -> Result<(), AllocError>
-    requires { CanStep msti_rules plan.now.view.now (msti_seen plan.now.view.now plan.now.classes.now plan.now.forest.now plan.now.tree) }
-    ensures { OnOk result (out.new.items ≡ out.old.items ++ msti_text plan.now.view.now plan.now.classes.now plan.now.forest.now plan.now.tree port.now) }
+    requires { CanStep msti_rules plan.now.view.now (msti_seen plan.now.view.now plan.now.regions.now plan.now.forest.now plan.now.tree) }
+    ensures { OnOk result (out.new.items ≡ out.old.items ++ msti_text plan.now.view.now plan.now.regions.now plan.now.forest.now plan.now.tree port.now) }
 {
     if plan.forest.is_inner(plan.view, port) {
         push_contest::<MstiMetric>(alloc, plan, port, out)
@@ -104,9 +103,9 @@ fn push_enabled(
     port: &PortInView,
     out: &mut Vec<u8>,
 ) -> Result<(), AllocError>
-    requires cist { CanStep cist_rules plan.now.view.now (cist_seen plan.now.view.now plan.now.classes.now plan.now.forest.now plan.now.tree) }
-    requires msti { CanStep msti_rules plan.now.view.now (msti_seen plan.now.view.now plan.now.classes.now plan.now.forest.now plan.now.tree) }
-    ensures { OnOk result (out.new.items ≡ out.old.items ++ enabled_text plan.now.view.now plan.now.classes.now plan.now.forest.now plan.now.tree port.now) }
+    requires cist { CanStep cist_rules plan.now.view.now (cist_seen plan.now.view.now plan.now.regions.now plan.now.forest.now plan.now.tree) }
+    requires msti { CanStep msti_rules plan.now.view.now (msti_seen plan.now.view.now plan.now.regions.now plan.now.forest.now plan.now.tree) }
+    ensures { OnOk result (out.new.items ≡ out.old.items ++ enabled_text plan.now.view.now plan.now.regions.now plan.now.forest.now plan.now.tree port.now) }
 {
     if plan.tree.value() == 0 {
         push_contest::<CistMetric>(alloc, plan, port, out)
@@ -122,9 +121,9 @@ fn push_reason(
     port: &PortInView,
     out: &mut Vec<u8>,
 ) -> Result<(), AllocError>
-    requires cist { CanStep cist_rules plan.now.view.now (cist_seen plan.now.view.now plan.now.classes.now plan.now.forest.now plan.now.tree) }
-    requires msti { CanStep msti_rules plan.now.view.now (msti_seen plan.now.view.now plan.now.classes.now plan.now.forest.now plan.now.tree) }
-    ensures { OnOk result (out.new.items ≡ out.old.items ++ reason_text plan.now.view.now plan.now.classes.now plan.now.forest.now plan.now.tree port.now) }
+    requires cist { CanStep cist_rules plan.now.view.now (cist_seen plan.now.view.now plan.now.regions.now plan.now.forest.now plan.now.tree) }
+    requires msti { CanStep msti_rules plan.now.view.now (msti_seen plan.now.view.now plan.now.regions.now plan.now.forest.now plan.now.tree) }
+    ensures { OnOk result (out.new.items ≡ out.old.items ++ reason_text plan.now.view.now plan.now.regions.now plan.now.forest.now plan.now.tree port.now) }
 {
     if port.is_enabled {
         push_enabled(alloc, plan, port, out)
@@ -140,9 +139,9 @@ fn push_in_tree(
     port: &PortInView,
     out: &mut Vec<u8>,
 ) -> Result<(), AllocError>
-    requires cist { CanStep cist_rules plan.now.view.now (cist_seen plan.now.view.now plan.now.classes.now plan.now.forest.now plan.now.tree) }
-    requires msti { CanStep msti_rules plan.now.view.now (msti_seen plan.now.view.now plan.now.classes.now plan.now.forest.now plan.now.tree) }
-    ensures { OnOk result (out.new.items ≡ out.old.items ++ explanation_text plan.now.view.now plan.now.classes.now plan.now.forest.now plan.now.tree port.now) }
+    requires cist { CanStep cist_rules plan.now.view.now (cist_seen plan.now.view.now plan.now.regions.now plan.now.forest.now plan.now.tree) }
+    requires msti { CanStep msti_rules plan.now.view.now (msti_seen plan.now.view.now plan.now.regions.now plan.now.forest.now plan.now.tree) }
+    ensures { OnOk result (out.new.items ≡ out.old.items ++ explanation_text plan.now.view.now plan.now.regions.now plan.now.forest.now plan.now.tree port.now) }
 {
     match role(plan.view, plan.forest, port.number, plan.tree) {
         None => Ok(()),
@@ -162,21 +161,21 @@ fn push_in_tree(
 pub fn push_explanation(
     alloc: Global,
     view: &View,
-    classes: &Classes,
+    regions: &Regions,
     forest: &Forest,
     tree: Tree,
     port: &PortInView,
     out: &mut Vec<u8>,
 ) -> Result<(), AllocError>
-    requires { KnownPlan view.now classes.now forest.now }
-    ensures { (net : Net) (numbers : Numbers) (is : IsPlanOf net numbers view.now classes.now forest.now) → Contains view.now.ports port.now → Contains (trees_of_bridge net port.now.name.bridge) tree
+    requires { KnownPlan view.now regions.now forest.now }
+    ensures { (net : Net) (numbers : Numbers) (is : IsPlanOf net numbers view.now regions.now forest.now) → Contains view.now.ports port.now → Contains (trees_of_bridge net port.now.name.bridge) tree
         → OnOk result ((text : List ℕ) × IsExplanation net is.forest.outcome tree (named_port port.now) text × (out.new.items ≡ out.old.items ++ text)) }
 {
     costs_bounded::<CistMetric, Name, Name, PortName>();
     costs_bounded::<MstiMetric, Name, Name, PortName>();
     let plan = TreePlan {
         view,
-        classes,
+        regions,
         forest,
         tree,
     };
@@ -187,20 +186,20 @@ pub fn push_explanation(
 fn push_in_trees(
     alloc: Global,
     view: &View,
-    classes: &Classes,
+    regions: &Regions,
     forest: &Forest,
     trees: &[Tree],
     port: &PortInView,
     out: &mut Vec<u8>,
 ) -> Result<(), AllocError>
-    requires cist { (tree : ℕ) → CanStep cist_rules view.now (cist_seen view.now classes.now forest.now tree) }
-    requires msti { (tree : ℕ) → CanStep msti_rules view.now (msti_seen view.now classes.now forest.now tree) }
-    ensures { OnOk result (out.new.items ≡ out.old.items ++ flat_map (λ tree. explanation_text view.now classes.now forest.now tree port.now) trees.now) }
+    requires cist { (tree : ℕ) → CanStep cist_rules view.now (cist_seen view.now regions.now forest.now tree) }
+    requires msti { (tree : ℕ) → CanStep msti_rules view.now (msti_seen view.now regions.now forest.now tree) }
+    ensures { OnOk result (out.new.items ≡ out.old.items ++ flat_map (λ tree. explanation_text view.now regions.now forest.now tree port.now) trees.now) }
 {
     for tree in trees {
         let plan = TreePlan {
             view,
-            classes,
+            regions,
             forest,
             tree: *tree,
         };
@@ -213,23 +212,23 @@ fn push_in_trees(
 pub fn push_explanations(
     alloc: Global,
     view: &View,
-    classes: &Classes,
+    regions: &Regions,
     forest: &Forest,
     port: &PortInView,
     out: &mut Vec<u8>,
 ) -> Result<(), AllocError>
-    requires { KnownPlan view.now classes.now forest.now }
-    ensures { (net : Net) (numbers : Numbers) (is : IsPlanOf net numbers view.now classes.now forest.now) → Contains view.now.ports port.now
+    requires { KnownPlan view.now regions.now forest.now }
+    ensures { (net : Net) (numbers : Numbers) (is : IsPlanOf net numbers view.now regions.now forest.now) → Contains view.now.ports port.now
         → OnOk result ((text : List ℕ) × AreExplanations net is.forest.outcome (named_port port.now) (trees_of_bridge net port.now.name.bridge) text × (out.new.items ≡ out.old.items ++ text)) }
 {
     costs_bounded::<CistMetric, Name, Name, PortName>();
     costs_bounded::<MstiMetric, Name, Name, PortName>();
     let cist = [Tree::cist()];
-    push_in_trees(alloc, view, classes, forest, &cist, port, out)?;
+    push_in_trees(alloc, view, regions, forest, &cist, port, out)?;
     push_in_trees(
         alloc,
         view,
-        classes,
+        regions,
         forest,
         view.trees(port.bridge),
         port,

@@ -9,7 +9,7 @@ ghost use Rattle.mst_explain.specs.TreesSeen.{cist_seen, msti_seen};
 
 use crate::field::{Difference, cist_difference, msti_difference};
 use crate::settings::{cist_bridge, cist_port, msti_bridge, msti_port};
-use mst_config::Classes;
+use mst_config::Regions;
 use mst_ids::{BridgeNo, Tree};
 use mst_lag::{PortInView, View};
 use mst_trees::Forest;
@@ -19,7 +19,7 @@ use mst_vector::{CistMetric, Metric, MstiMetric};
 #[derive(Clone, Copy)]
 pub(crate) struct TreePlan<'a> {
     pub(crate) view: &'a View,
-    pub(crate) classes: &'a Classes,
+    pub(crate) regions: &'a Regions,
     pub(crate) forest: &'a Forest,
     pub(crate) tree: Tree,
 }
@@ -34,19 +34,19 @@ pub(crate) trait InTree: Metric {
 
     /// The bridge of this number, where it is in the tree.
     fn bridge(plan: &TreePlan, number: BridgeNo) -> Option<Self::Bridge>
-        ensures { result ≡ (seen plan.now.view.now plan.now.classes.now plan.now.forest.now plan.now.tree).bridge number };
+        ensures { result ≡ (seen plan.now.view.now plan.now.regions.now plan.now.forest.now plan.now.tree).bridge number };
 
     /// The root priority vector of the bridge of this number.
     fn vector(plan: &TreePlan, number: BridgeNo) -> Option<Self::Vector>
-        ensures { result ≡ (seen plan.now.view.now plan.now.classes.now plan.now.forest.now plan.now.tree).vector number };
+        ensures { result ≡ (seen plan.now.view.now plan.now.regions.now plan.now.forest.now plan.now.tree).vector number };
 
     /// What the tree has to know of a logical port, where it is in the tree.
     fn port(plan: &TreePlan, port: &PortInView) -> Option<Self::Port>
-        ensures { result ≡ (seen plan.now.view.now plan.now.classes.now plan.now.forest.now plan.now.tree).port port.now };
+        ensures { result ≡ (seen plan.now.view.now plan.now.regions.now plan.now.forest.now plan.now.tree).port port.now };
 
     /// The designated port of the LAN that a logical port is on.
     fn designated_on<'a>(plan: &TreePlan<'a>, port: &PortInView) -> Option<&'a PortInView>
-        ensures { option_copied result ≡ seen_designated Self.rules plan.now.view.now (seen plan.now.view.now plan.now.classes.now plan.now.forest.now plan.now.tree) port.now.lan_number };
+        ensures { option_copied result ≡ seen_designated Self.rules plan.now.view.now (seen plan.now.view.now plan.now.regions.now plan.now.forest.now plan.now.tree) port.now.lan_number };
 
     /// The first component at which two vectors differ.
     fn difference(x: &Self::Vector, y: &Self::Vector) -> Option<Difference>
@@ -59,7 +59,7 @@ impl InTree for CistMetric {
     ghost seen = { cist_seen };
 
     fn bridge(plan: &TreePlan, number: BridgeNo) -> Option<Self::Bridge> {
-        cist_bridge(plan.view, plan.classes, plan.view.bridge(number)?)
+        cist_bridge(plan.view, plan.regions, plan.view.bridge(number)?)
     }
 
     fn vector(plan: &TreePlan, number: BridgeNo) -> Option<Self::Vector> {

@@ -1,14 +1,13 @@
 ghost use Rattle.std.specs.Prelude.{◌≡◌, ◌++◌, OnOk};
 ghost use Rattle.std.specs.List.{flat_map};
-ghost use Rattle.mst_words.specs.Words.{after_space};
+ghost use Rattle.mst_ids.specs.Words.{after_space};
 ghost use Rattle.mst_explain.specs.Lines.{port_text, giver_text, explain_line, over_line, alone_line, restricted_line, boundary_line, disabled_lines};
 ghost use Rattle.mst_explain.specs.Told.{words_of, value_words};
 
 use crate::field::{Difference, Values};
 use itoa::Buffer;
-use mst_ids::{BridgeId, Name, PortId, PortName, Tree, push_bytes};
+use mst_ids::{BridgeId, Name, PortId, PortName, Tree, push_bytes, push_end, push_line, push_word};
 use mst_roles::Role;
-use mst_words::{push_end, push_line, push_word};
 use std::alloc::AllocError;
 
 /// Appends the name of a port after a space: its bridge, `:` and its number.

@@ -1,37 +1,27 @@
 ghost use Rattle.std.specs.Prelude.{◌≡◌};
 ghost use Rattle.mst_lag.specs.Trees.{is_among};
-ghost use Rattle.mst_net.specs.After.{is_on as power_is_on};
 ghost use Rattle.mst_trees.specs.Seen.{trees_at};
 ghost use Rattle.mst_explain.specs.TreesSeen.{cist_bridge_in, cist_port_in, msti_bridge_in, msti_port_in};
 
-use mst_config::Classes;
+use mst_config::Regions;
 use mst_ids::{BridgeId, BridgeNo, PortId, Tree, auto_cost};
 use mst_lag::{BridgeInView, PortInView, View};
-use mst_lang::{Kind, Power};
+use mst_lang::Kind;
 use mst_trees::Forest;
 use mst_vector::{CistBridge, CistPort, MstiBridge, MstiPort};
-
-pub(crate) fn is_on(power: Power) -> bool
-    ensures { result ≡ power_is_on power }
-{
-    match power {
-        Power::On => true,
-        Power::Off => false,
-    }
-}
 
 /// What the CIST has of a bridge that is on: its identifier, its region and its kind.
 pub(crate) fn cist_bridge(
     view: &View,
-    classes: &Classes,
+    regions: &Regions,
     bridge: &BridgeInView,
 ) -> Option<CistBridge>
-    ensures { result ≡ cist_bridge_in view.now.settings classes.now bridge.now }
+    ensures { result ≡ cist_bridge_in view.now.settings regions.now bridge.now }
 {
-    if !is_on(bridge.bridge.power) {
+    if !bridge.bridge.is_on() {
         return None;
     }
-    let region = classes.region(bridge.bridge.number)?;
+    let region = regions.region(bridge.bridge.number)?;
     let priority = view.settings().tree_priority(&bridge.name, Tree::cist());
     let is_rstp = match bridge.bridge.kind {
         Kind::Mstp => false,
@@ -73,7 +63,7 @@ fn has_tree(view: &View, bridge: BridgeNo, tree: Tree) -> bool
 pub(crate) fn msti_bridge(view: &View, tree: Tree, bridge: &BridgeInView) -> Option<MstiBridge>
     ensures { result ≡ msti_bridge_in view.now tree bridge.now }
 {
-    if !is_on(bridge.bridge.power) || !has_tree(view, bridge.bridge.number, tree) {
+    if !bridge.bridge.is_on() || !has_tree(view, bridge.bridge.number, tree) {
         return None;
     }
     let priority = view.settings().tree_priority(&bridge.name, tree);

@@ -2,7 +2,7 @@
 use Rattle.std.specs.Prelude.{ℕ, ◌==◌, Bool, List, [], ◌∷◌, ◌++◌, length, nat_lt, Option, Some, None, if◌then◌else◌, codes, decimal, find}
 use Rattle.std.specs.Option.{option_map, option_map_or, option_or}
 use Rattle.std.specs.List.{flat_map, list_all}
-use Rattle.mst_words.specs.Words.{after_space}
+use Rattle.mst_ids.specs.Words.{after_space}
 use Rattle.mst_lang.specs.Words.{words, is_plain}
 use Rattle.mst_lang.specs.Reading.{commands, command_of, is_comment}
 use Rattle.mst_lang.specs.declared.line.Version.{Version}

@@ -7,9 +7,8 @@ ghost use Rattle.mst_hints.specs.Hints.{hint_of, hint_line, too_long, bad_byte, 
 use crate::form::{Argument, command_by_one, command_by_two, form_of};
 use crate::right::{first_wrong, step_of};
 use crate::words::{are_plain, next_word, word_count};
-use mst_ids::{push_bytes, push_decimal};
+use mst_ids::{push_bytes, push_decimal, push_end, push_word};
 use mst_lang::Version;
-use mst_words::{push_end, push_word};
 use std::alloc::AllocError;
 
 /// The most bytes that a line may have.

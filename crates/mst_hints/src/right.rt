@@ -1,9 +1,6 @@
-ghost use Rattle.std.specs.Prelude.{◌≡◌, ◌&&◌, ◌||◌, ◌<◌, ◌≤◌, length, true, false, nat_le};
+ghost use Rattle.std.specs.Prelude.{◌≡◌, ◌&&◌, ◌||◌, ◌<◌, true, false, nat_le};
 ghost use Rattle.std.specs.Result.{is_ok, result_ok};
 ghost use Rattle.std.specs.Option.{option_map, option_map_or};
-ghost use Rattle.std.specs.List.{list_all};
-ghost use Rattle.std.specs.Char.{is_ascii_digit as digit};
-ghost use Rattle.mst_ids.specs.Vids.{decimal_value};
 ghost use Rattle.mst_lang.specs.Arguments.{number_value};
 ghost use Rattle.mst_lang.specs.Arguments as forms;
 ghost use Rattle.mst_lang.specs.Words.{words};
@@ -13,7 +10,7 @@ ghost use Rattle.mst_hints.specs.Hints.{first_wrong as first_wrong_of};
 use crate::form::Argument;
 use crate::words::next_word;
 use mst_ids::{ConfName, Name, parse_mac, parse_vids};
-use mst_lang::Version;
+use mst_lang::{Version, parse_number};
 
 /// The first argument that isn't in its form, and the word that stands there.
 #[tactic(auto, using(crate::proofs::Wrong::none_left))]
@@ -100,7 +97,7 @@ fn priority(step: u64, word: &[u8]) -> Option<u64>
     requires { 0 < step }
     ensures { result ≡ result_ok (forms.priority step word.now) }
 {
-    let number = number(word)?;
+    let number = parse_number(word)?;
     if number % step == 0 && number / step <= 15 {
         Some(number / step)
     } else {
@@ -119,37 +116,8 @@ fn is_either(one: &[u8], other: &[u8], word: &[u8]) -> bool
 fn is_between(low: u64, high: u64, word: &[u8]) -> bool
     ensures { result ≡ option_map_or (λ n. nat_le low n && nat_le n high) (number_value word.now) false }
 {
-    match number(word) {
+    match parse_number(word) {
         Some(number) => low <= number && number <= high,
         None => false,
     }
-}
-
-/// A number of 1 to 10 decimal digits.
-fn number(word: &[u8]) -> Option<u64>
-    ensures { result ≡ number_value word.now }
-{
-    if word.is_empty() || word.len() > 10 || !are_digits(word) {
-        return None;
-    }
-    Some(digits(word))
-}
-
-fn are_digits(word: &[u8]) -> bool
-    ensures { result ≡ list_all digit word.now }
-{
-    word.iter().all(|byte| byte.is_ascii_digit())
-}
-
-/// The value of decimal digits.
-fn digits(word: &[u8]) -> u64
-    requires few { length word.now ≤ 10 }
-    requires digits { list_all digit word.now ≡ true }
-    ensures { result ≡ decimal_value word.now }
-{
-    let mut value = 0;
-    for byte in word {
-        value = value * 10 + u64::from(byte - b'0');
-    }
-    value
 }

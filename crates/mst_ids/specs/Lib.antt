@@ -1,4 +1,5 @@
 pub mod Texts
+pub mod Words
 pub mod Costs
 pub mod Identifiers
 pub mod Fields

@@ -5,6 +5,7 @@ ghost use Rattle.std.specs.Cmp.{on_per, on_equiv, partial_equiv_from_equiv};
 ghost use Rattle.std.specs.Cmp.Lexicographic.{pointwise, nat_list_eq_equiv, slice_cmp, nat_list_cmp_total, texts_po, texts_ties};
 ghost use Rattle.std.specs.Ordering.{nat_cmp};
 ghost use Rattle.std.specs.Prelude.{refl};
+ghost use Rattle.mst_ids.specs.Words.{port_text};
 ghost use Rattle.mst_ids.specs.Texts.{is_name as name_text, is_name_byte as name_byte};
 
 use crate::number::PortNumber;
@@ -152,4 +153,29 @@ fn is_name_byte(byte: &u8) -> bool
 pub struct PortName {
     pub bridge: Name,
     pub number: PortNumber,
+}
+
+impl PortName {
+    /// Appends the name of the port's bridge, `:` and the port's number, or changes nothing.
+    pub fn push_text(&self, out: &mut Vec<u8>) -> Result<(), AllocError>
+        ensures ok { OnOk result (out.new.items ≡ out.old.items ++ port_text self.now) }
+        ensures err { OnErr result (out.new.items ≡ out.old.items) }
+    {
+        let len = out.len();
+        let pushed = self.push_parts(out);
+        if pushed.is_err() {
+            out.truncate(len);
+        }
+        pushed
+    }
+
+    /// Appends the same, or a part of it.
+    fn push_parts(&self, out: &mut Vec<u8>) -> Result<(), AllocError>
+        ensures ok { OnOk result (out.new.items ≡ out.old.items ++ port_text self.now) }
+        ensures err { OnErr result (take (length out.old.items) out.new.items ≡ out.old.items) }
+    {
+        self.bridge.push_text(out)?;
+        push_bytes(b":", out)?;
+        self.number.push_text(out)
+    }
 }

@@ -28,7 +28,7 @@ impl Priority {
     pub const DEFAULT: u8 = 8;
 
     /// The priority of a bridge or a port where none was set.
-    pub fn standard() -> Priority
+    pub fn default() -> Priority
         ensures { result ≡ 8 }
     {
         Priority {
@@ -235,7 +235,7 @@ impl Model for Speed {
 
 impl Speed {
     /// The speed of a LAN where none was set, 1 Gb/s.
-    pub fn standard() -> Speed
+    pub fn default() -> Speed
         ensures { result ≡ 1_000_000 }
     {
         Speed { kbps: 1_000_000 }
@@ -260,14 +260,14 @@ impl Speed {
     }
 }
 
-/// How far from its root a spanning tree may reach, 6 to 40: the hops of a region, or the age of
-/// what is received, in seconds.
+/// Max Hops of a bridge, 6 to 40: over how many bridges what a regional root says of a tree may go inside its
+/// region (802.1Q-2022, 13.26).
 #[derive(Clone, Copy, PartialEq, Eq)]
-pub struct Limit {
+pub struct MaxHops {
     value: u8,
 }
 
-impl Model for Limit {
+impl Model for MaxHops {
     ghost use Rattle.std.specs.Prelude.{ℕ, ◌≤◌};
 
     ghost Value = { ℕ };
@@ -279,22 +279,68 @@ impl Model for Limit {
     ghost inverse = { λ n. record { value = n } };
 }
 
-impl Limit {
-    /// The limit where none was set.
-    pub fn standard() -> Limit
+impl MaxHops {
+    /// Max Hops where none was set.
+    pub fn default() -> MaxHops
         ensures { result ≡ 20 }
     {
-        Limit { value: 20 }
+        MaxHops { value: 20 }
     }
 
-    /// The limit of this value, or nothing below 6 and above 40.
-    pub fn new(value: u64) -> Option<Limit>
+    /// Max Hops of this value, or nothing below 6 and above 40.
+    pub fn new(value: u64) -> Option<MaxHops>
         ensures { SomeIff result ((6 ≤ value) × (value ≤ 40)) value }
     {
         if value < 6 || value > 40 {
             return None;
         }
-        Some(Limit { value: value as u8 })
+        Some(MaxHops { value: value as u8 })
+    }
+
+    /// The value, 6 to 40.
+    pub fn value(self) -> u64
+        ensures value { result ≡ self }
+        ensures range { (6 ≤ result) × (result ≤ 40) }
+    {
+        u64::from(self.value)
+    }
+}
+
+/// Max Age of a bridge, 6 to 40: over how many regions what the CIST root says may go, each of which adds 1 to its age
+/// (802.1Q-2022, 13.26).
+#[derive(Clone, Copy, PartialEq, Eq)]
+pub struct MaxAge {
+    value: u8,
+}
+
+impl Model for MaxAge {
+    ghost use Rattle.std.specs.Prelude.{ℕ, ◌≤◌};
+
+    ghost Value = { ℕ };
+
+    ghost view = { λ a. a.value };
+
+    ghost invariant = { λ a. (6 ≤ a.value) × (a.value ≤ 40) };
+
+    ghost inverse = { λ n. record { value = n } };
+}
+
+impl MaxAge {
+    /// Max Age where none was set.
+    pub fn default() -> MaxAge
+        ensures { result ≡ 20 }
+    {
+        MaxAge { value: 20 }
+    }
+
+    /// Max Age of this value, or nothing below 6 and above 40.
+    pub fn new(value: u64) -> Option<MaxAge>
+        ensures { SomeIff result ((6 ≤ value) × (value ≤ 40)) value }
+    {
+        if value < 6 || value > 40 {
+            return None;
+        }
+        Some(MaxAge { value: value as u8 })
     }
 
     /// The value, 6 to 40.

@@ -44,8 +44,8 @@ pub fn push_bytes(bytes: &[u8], out: &mut Vec<u8>) -> Result<(), AllocError>
     out.extend_from_slice(bytes)
 }
 
-/// The text, and zeros after it.
-pub(crate) fn padded<const N: usize>(text: &[u8]) -> [u8; N]
+/// The text, and zeros after it up to N octets.
+pub fn padded<const N: usize>(text: &[u8]) -> [u8; N]
     requires { length text.now ≤ N }
     ensures { result ≡ text.now ++ replicate (N - length text.now) 0 }
 {

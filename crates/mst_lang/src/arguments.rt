@@ -7,8 +7,8 @@ ghost use Rattle.mst_lang.specs.Arguments as forms;
 
 use crate::line::{Fault, Kind, LanState, Power, Version};
 use mst_ids::{
-    ConfName, Cost, Limit, Mac, Name, PortNumber, Priority, Speed, Tree, Vid, VidSet, parse_mac,
-    parse_vids,
+    ConfName, Cost, Mac, MaxAge, MaxHops, Name, PortNumber, Priority, Speed, Tree, Vid, VidSet,
+    parse_mac, parse_vids,
 };
 
 /// A name of a bridge or a LAN.
@@ -79,7 +79,7 @@ pub(crate) fn yes_or_no(word: &[u8]) -> Result<bool, Fault>
 pub(crate) fn port_number(word: &[u8]) -> Result<PortNumber, Fault>
     ensures { result ≡ forms.port_number word.now }
 {
-    let number = number(word).ok_or(Fault::E02)?;
+    let number = parse_number(word).ok_or(Fault::E02)?;
     PortNumber::new(number).ok_or(Fault::E02)
 }
 
@@ -108,7 +108,7 @@ fn priority(step: u64, word: &[u8]) -> Result<Priority, Fault>
     requires { 0 < step }
     ensures { result ≡ forms.priority step word.now }
 {
-    let number = number(word).ok_or(Fault::E02)?;
+    let number = parse_number(word).ok_or(Fault::E02)?;
     if number % step != 0 {
         return Err(Fault::E02);
     }
@@ -119,7 +119,7 @@ fn priority(step: u64, word: &[u8]) -> Result<Priority, Fault>
 pub(crate) fn cost(word: &[u8]) -> Result<Option<Cost>, Fault>
     ensures { result ≡ forms.cost word.now }
 {
-    let number = number(word).ok_or(Fault::E02)?;
+    let number = parse_number(word).ok_or(Fault::E02)?;
     if number == 0 {
         return Ok(None);
     }
@@ -133,23 +133,31 @@ pub(crate) fn cost(word: &[u8]) -> Result<Option<Cost>, Fault>
 pub(crate) fn speed(word: &[u8]) -> Result<Speed, Fault>
     ensures { result ≡ forms.speed word.now }
 {
-    let number = number(word).ok_or(Fault::E02)?;
+    let number = parse_number(word).ok_or(Fault::E02)?;
     Speed::new(number).ok_or(Fault::E02)
 }
 
-/// A limit of hops or of age.
-pub(crate) fn limit(word: &[u8]) -> Result<Limit, Fault>
+/// Max Hops.
+pub(crate) fn max_hops(word: &[u8]) -> Result<MaxHops, Fault>
     ensures { result ≡ forms.limit word.now }
 {
-    let number = number(word).ok_or(Fault::E02)?;
-    Limit::new(number).ok_or(Fault::E02)
+    let number = parse_number(word).ok_or(Fault::E02)?;
+    MaxHops::new(number).ok_or(Fault::E02)
+}
+
+/// Max Age.
+pub(crate) fn max_age(word: &[u8]) -> Result<MaxAge, Fault>
+    ensures { result ≡ forms.limit word.now }
+{
+    let number = parse_number(word).ok_or(Fault::E02)?;
+    MaxAge::new(number).ok_or(Fault::E02)
 }
 
 /// An aggregation key, a system priority or a revision.
 pub(crate) fn sixteen_bits(word: &[u8]) -> Result<u16, Fault>
     ensures { result ≡ forms.sixteen_bits word.now }
 {
-    let number = number(word).ok_or(Fault::E02)?;
+    let number = parse_number(word).ok_or(Fault::E02)?;
     if number > 65535 {
         return Err(Fault::E02);
     }
@@ -170,7 +178,7 @@ pub(crate) fn conf_name(word: &[u8]) -> Result<ConfName, Fault>
 pub(crate) fn tree(word: &[u8]) -> Result<Tree, Fault>
     ensures { result ≡ forms.tree word.now }
 {
-    let number = number(word).ok_or(Fault::E03)?;
+    let number = parse_number(word).ok_or(Fault::E03)?;
     Tree::new(number).ok_or(Fault::E03)
 }
 
@@ -178,7 +186,7 @@ pub(crate) fn tree(word: &[u8]) -> Result<Tree, Fault>
 pub(crate) fn vid(word: &[u8]) -> Result<Vid, Fault>
     ensures { result ≡ forms.vid word.now }
 {
-    let number = number(word).ok_or(Fault::E03)?;
+    let number = parse_number(word).ok_or(Fault::E03)?;
     Vid::new(number).ok_or(Fault::E03)
 }
 
@@ -203,8 +211,8 @@ pub(crate) fn members(word: &[u8]) -> Result<VidSet, Fault>
     }
 }
 
-/// A number of 1 to 10 decimal digits.
-fn number(word: &[u8]) -> Option<u64>
+/// A number of 1 to 10 decimal digits, or nothing where the word is none.
+pub fn parse_number(word: &[u8]) -> Option<u64>
     ensures { result ≡ number_value word.now }
 {
     if word.is_empty() || word.len() > 10 || !are_digits(word) {

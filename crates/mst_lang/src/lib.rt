@@ -14,6 +14,7 @@ mod line;
 mod read;
 mod words;
 
+pub use arguments::parse_number;
 pub use line::{
     BridgeChange, Edit, Fault, Kind, LanChange, LanState, Line, PortChange, Power, Query,
     TreeChange, Version,

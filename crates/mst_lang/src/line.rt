@@ -1,7 +1,9 @@
 ghost use Rattle.std.specs.Prelude.{◌≡◌};
 ghost use Rattle.mst_lang.specs.Faults.{code_of, text_of};
 
-use mst_ids::{ConfName, Cost, Limit, Mac, Name, PortName, Priority, Speed, Tree, Vid, VidSet};
+use mst_ids::{
+    ConfName, Cost, Mac, MaxAge, MaxHops, Name, PortName, Priority, Speed, Tree, Vid, VidSet,
+};
 use thiserror::Error;
 
 /// The version of the language that a script is in. They differ in how priorities are written.
@@ -48,10 +50,10 @@ pub enum BridgeChange {
     SystemPriority(u16),
     /// The revision and the name of its MST configuration.
     Configuration { revision: u16, name: ConfName },
-    /// Over how many bridges what it says inside its region may go.
-    MaxHops(Limit),
-    /// Over how many bridges what it says outside its region may go.
-    MaxAge(Limit),
+    /// Its Max Hops.
+    MaxHops(MaxHops),
+    /// Its Max Age.
+    MaxAge(MaxAge),
 }
 
 /// What is set of a port, but for the LAN that it is in.

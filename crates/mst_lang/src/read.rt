@@ -411,7 +411,7 @@ fn set_max_hops(arguments: &[u8]) -> Result<Line, Fault>
 {
     let (bridge, limit) = two_words(arguments).ok_or(Fault::E01)?;
     let bridge = arguments::name(bridge)?;
-    let limit = arguments::limit(limit)?;
+    let limit = arguments::max_hops(limit)?;
     let change = BridgeChange::MaxHops(limit);
     Ok(Line::Edit(Edit::SetBridge { bridge, change }))
 }
@@ -421,7 +421,7 @@ fn set_max_age(arguments: &[u8]) -> Result<Line, Fault>
 {
     let (bridge, limit) = two_words(arguments).ok_or(Fault::E01)?;
     let bridge = arguments::name(bridge)?;
-    let limit = arguments::limit(limit)?;
+    let limit = arguments::max_age(limit)?;
     let change = BridgeChange::MaxAge(limit);
     Ok(Line::Edit(Edit::SetBridge { bridge, change }))
 }

@@ -30,7 +30,7 @@ use Rattle.mst_net.specs.After.{has_bridge, has_port, has_lan, mac_taken, is_plu
 use Rattle.mst_net.specs.declared.settings.PortSettings.{PortSettings}
 use Rattle.mst_net.specs.declared.refusal.Refusal.{Refusal}
 use Rattle.mst_net.specs.declared.refusal.Refusal.TheVariants.{E04, E05, E06}
-use Rattle.mst_net.proofs.KeptLemmas.{some_is, no_some}
+use Rattle.mst_net.proofs.Somes.{some_is, no_some}
 use Rattle.mst_net.proofs.Keyed.{after_insert, after_keep, still_there, len_added, any_value}
 use Rattle.mst_net.proofs.Changed.{changed_from, contains_changed, len_changed, left_of, other_left, len_removed, left_without}
 use Rattle.mst_net.proofs.Counting.{none_counted}

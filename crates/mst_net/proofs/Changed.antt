@@ -12,7 +12,7 @@ use Rattle.std.specs.declared.cmp.Ordering.{Ordering}
 use Rattle.std.specs.declared.cmp.Ordering.TheVariants.{Less, Equal, Greater}
 use Rattle.std.specs.Map.{values_of}
 use Rattle.mst_net.specs.After.{change}
-use Rattle.mst_net.proofs.KeptLemmas.{some_is, no_some}
+use Rattle.mst_net.proofs.Somes.{some_is, no_some}
 use Rattle.mst_net.proofs.Keyed.{IsKeyed, same_keys, get_inserted, get_removed, len_set, any_set}
 
 mapped_some : {X : Type 0} (f : X → X) (o : Option X) (x : X) → option_map f o ≡ Some x → (y : X) × (o ≡ Some y) × (f y ≡ x)

@@ -11,7 +11,7 @@ use Rattle.std.specs.Ordering.{is_eq, eq_by_cmp}
 use Rattle.std.specs.declared.cmp.Ordering.{Ordering}
 use Rattle.std.specs.declared.cmp.Ordering.TheVariants.{Less, Equal, Greater}
 use Rattle.mst_net.specs.Counting.{count_where}
-use Rattle.mst_net.proofs.KeptLemmas.{some_is, no_some}
+use Rattle.mst_net.proofs.Somes.{some_is, no_some}
 use Rattle.mst_net.proofs.Keyed.{IsKeyed, same_keys, get_inserted, get_removed}
 
 count_cons : {X : Type 0} (p : X → Bool) (x : X) (xs : List X) → count_by p (x ∷ xs) ≡ cond (p x) 1 0 + count_by p xs

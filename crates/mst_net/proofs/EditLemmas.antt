@@ -19,13 +19,13 @@ use Rattle.mst_net.specs.Tables.{Net, IsNetwork, BridgeRow, PortRow, LanRow, por
 use Rattle.mst_net.specs.After.{has_bridge, has_port, has_lan, mac_taken, is_of_bridge, is_in_lan, effect, new_bridge, new_port, new_lan, bridge_with, port_with, lan_with, in_lan, change}
 use Rattle.mst_net.specs.Contents.{CanCommit, Makes}
 use Rattle.mst_net.specs.Counting.{count_where}
-use Rattle.mst_net.specs.Rows.{IsNumberedBy}
+use Rattle.mst_records.specs.Rows.{IsNumberedBy}
 use Rattle.mst_net.specs.ByTree.{with_by_tree}
 use Rattle.mst_net.specs.SettingsAfter.{set_after}
-use Rattle.mst_net.specs.Tally.{count_in}
+use Rattle.mst_records.specs.Tally.{count_in}
 use Rattle.mst_net.specs.NetworkKept.{contents_of, IsSound}
 use Rattle.mst_net.specs.declared.network.Network.TheInside.{Inside}
-use Rattle.mst_net.proofs.KeptLemmas.{some_is}
+use Rattle.mst_net.proofs.Somes.{some_is}
 use Rattle.mst_net.proofs.Keyed.{same_keys, flipped, contains_keyed, set_keyed, removed_keyed, any_added, any_set, any_value}
 use Rattle.mst_net.proofs.Keys.{name_eq, names, ports}
 use Rattle.mst_net.proofs.Changed.{itself, changed_is, any_changed, left_of, other_left, value_found}

@@ -17,7 +17,7 @@ use Rattle.mst_net.specs.Tables.{Net, Numbers, port_eq, bridge_tree_eq, port_tre
 use Rattle.mst_net.specs.After.{effect, refusal_of, own_priority, own_table, own_vlans, all_vids, table_of, vlans_of, new_bridge, new_port, new_lan, bridge_with, port_with, lan_with, in_lan}
 use Rattle.mst_net.specs.Contents.{PerKind, IsNumbered, numbers_after, priority_of, port_priority_of, port_cost_of}
 use Rattle.mst_net.specs.Foreseen.{bridge_row_after, port_row_after, lan_row_after, bridge_number_after, port_number_after, lan_number_after, priority_after, port_priority_after, port_cost_after, table_after, vlans_after, without, bridge_name_after, port_name_after, lan_name_after}
-use Rattle.mst_net.proofs.KeptLemmas.{some_is, no_some}
+use Rattle.mst_net.proofs.Somes.{some_is, no_some}
 use Rattle.mst_net.proofs.Keyed.{IsKeyed, same_keys, after_insert, get_inserted, get_removed, get_kept}
 use Rattle.mst_net.proofs.AfterLemmas.{bridge_addable, port_addable, lan_addable}
 use Rattle.mst_net.proofs.Keys.{name_eq, names, ports, bridge_trees, port_trees}

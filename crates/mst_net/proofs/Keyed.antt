@@ -10,7 +10,7 @@ use Rattle.std.specs.declared.cmp.Ordering.{Ordering}
 use Rattle.std.specs.declared.cmp.Ordering.TheVariants.{Less, Equal, Greater}
 use Rattle.std.specs.Map.{lookup, keys_of, values_of}
 use Rattle.mst_net.specs.After.{keep}
-use Rattle.mst_net.proofs.KeptLemmas.{some_is, no_some}
+use Rattle.mst_net.proofs.Somes.{some_is, no_some}
 
 -- the order tells keys apart, and the test of keys says when they tie
 pub record IsKeyed {K : Type 0} (E : K → K → Bool) (R : K → K → Ordering) : Type 0 where

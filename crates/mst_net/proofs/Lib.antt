@@ -1,4 +1,4 @@
-pub mod KeptLemmas
+pub mod Somes
 pub mod Keyed
 pub mod Keys
 pub mod Counting

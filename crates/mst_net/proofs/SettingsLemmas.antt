@@ -15,7 +15,8 @@ use Rattle.mst_net.specs.Tables.{Net, IsNetwork, BridgeTree, PortTree, port_eq, 
 use Rattle.mst_net.specs.ByTree.{ByTree, AreInTrees, RoomByTree, by_tree, table_in}
 use Rattle.mst_net.specs.After.{effect, keep, own_priority, own_table, own_vlans}
 use Rattle.mst_net.specs.Contents.{Room, room_for}
-use Rattle.mst_net.specs.SetByTree.{in_block, is_marked, in_trees, in_trees_of_bridge, in_trees_of_port}
+use Rattle.mst_records.specs.Blocks.{in_block, is_marked, in_trees}
+use Rattle.mst_net.specs.SetByTree.{in_trees_of_bridge, in_trees_of_port}
 use Rattle.mst_net.specs.SettingsAfter.{set_after, room_to_set}
 use Rattle.mst_net.specs.SettingsKept.{settings_of, AreMarked}
 use Rattle.mst_net.specs.declared.tree_settings.TreeSettings.TheInside.{Inside}

@@ -9,9 +9,9 @@ use Rattle.mst_net.specs.Tables.{Net, IsNetwork, BridgeRow, port_eq, empty_net}
 use Rattle.mst_net.specs.After.{mac_taken, is_of_bridge, is_in_lan}
 use Rattle.mst_net.specs.Contents.{IsNumbered}
 use Rattle.mst_net.specs.Counting.{count_where}
-use Rattle.mst_net.specs.Rows.{IsNumberedBy}
+use Rattle.mst_records.specs.Rows.{IsNumberedBy}
 use Rattle.mst_net.specs.ByTree.{nothing_set}
-use Rattle.mst_net.specs.Tally.{count_in}
+use Rattle.mst_records.specs.Tally.{count_in}
 use Rattle.mst_net.proofs.Counting.{count_empty}
 use Rattle.mst_net.specs.NetworkKept.{contents_of, IsSound}
 use Rattle.mst_net.specs.declared.network.Network.TheInside.{Inside}

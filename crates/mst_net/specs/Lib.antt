@@ -7,10 +7,7 @@ pub mod After
 pub mod Contents
 pub mod SettingsAfter
 pub mod Standing
-pub mod Rows
-pub mod Kept
 pub mod Counting
-pub mod Tally
 pub mod Checks
 pub mod Settings
 pub mod SettingsKept

@@ -7,8 +7,8 @@ use Rattle.mst_net.specs.Tables.{IsNetwork, port_eq}
 use Rattle.mst_net.specs.After.{mac_taken, is_of_bridge, is_in_lan}
 use Rattle.mst_net.specs.Contents.{Contents}
 use Rattle.mst_net.specs.Counting.{count_where}
-use Rattle.mst_net.specs.Rows.{IsNumberedBy}
-use Rattle.mst_net.specs.Tally.{count_in}
+use Rattle.mst_records.specs.Rows.{IsNumberedBy}
+use Rattle.mst_records.specs.Tally.{count_in}
 use Rattle.mst_net.specs.declared.network.Network.TheInside.{Inside}
 
 abbrev pub contents_of : Inside → Contents

@@ -6,7 +6,7 @@ use Rattle.std.specs.Map.{lookup}
 use Rattle.std.specs.Cmp.Lexicographic.{pointwise}
 use Rattle.mst_net.specs.Tables.{BridgeTree, PortTree, port_eq, bridge_tree_eq, port_tree_eq}
 use Rattle.mst_net.specs.ByTree.{Settings}
-use Rattle.mst_net.specs.SetByTree.{is_marked}
+use Rattle.mst_records.specs.Blocks.{is_marked}
 use Rattle.mst_net.specs.declared.tree_settings.TreeSettings.TheInside.{Inside}
 
 abbrev pub settings_of : Inside → Settings

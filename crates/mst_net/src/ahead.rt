@@ -8,13 +8,13 @@ ghost use Rattle.mst_net.specs.Foreseen.{bridge_row_after, port_row_after, lan_r
 use crate::contents::{Bridge, Contents, Lan, Port};
 use crate::names::{with_name, without_name};
 use crate::network::{Network, kept_bridge, kept_lan, kept_port};
-use crate::records::Record;
 use crate::settings::{BridgeSettings, KeptPort, LanSettings};
 use crate::table::Table;
 use crate::tree_settings::TreeSettings;
 use crate::trees::every_tree;
 use mst_ids::{BridgeNo, Cost, LanNo, Name, PortName, PortNo, Priority, Tree, VidSet};
 use mst_lang::{BridgeChange, Edit, LanChange, PortChange, TreeChange};
+use mst_records::Record;
 use std::alloc::{AllocError, Global};
 use std::marker::Model;
 
@@ -408,7 +408,7 @@ fn tree_priority_ahead(edit: &Edit, name: &Name, other: Tree, there: Priority) -
     ensures { result ≡ priority_after edit.now name.now other there }
 {
     match *edit {
-        Edit::DelBridge { bridge } if bridge == *name => Priority::standard(),
+        Edit::DelBridge { bridge } if bridge == *name => Priority::default(),
         Edit::SetByTree(
             TreeChange::Priority {
                 bridge,
@@ -425,7 +425,7 @@ fn port_priority_ahead(edit: &Edit, name: &PortName, other: Tree, there: Priorit
     ensures { result ≡ port_priority_after edit.now name.now other there }
 {
     match *edit {
-        Edit::DelPort { port } if port == *name => Priority::standard(),
+        Edit::DelPort { port } if port == *name => Priority::default(),
         Edit::SetByTree(
             TreeChange::PortPriority {
                 port,

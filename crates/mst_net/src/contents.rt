@@ -14,8 +14,8 @@ use crate::settings::{BridgeSettings, KeptPort, LanSettings, PortSettings};
 use crate::table::Table;
 use crate::tree_settings::TreeSettings;
 use mst_ids::{
-    BridgeNo, ConfName, Cost, LanNo, Limit, Mac, Name, PortName, PortNo, Priority, Speed, Tree,
-    VidSet,
+    BridgeNo, ConfName, Cost, LanNo, Mac, MaxAge, MaxHops, Name, PortName, PortNo, Priority, Speed,
+    Tree, VidSet,
 };
 use mst_lang::{Kind, LanState, Power};
 use std::alloc::{AllocError, Global};
@@ -33,8 +33,20 @@ pub struct Bridge {
     pub revision: u16,
     /// The name of its MST configuration.
     pub conf_name: ConfName,
-    pub max_hops: Limit,
-    pub max_age: Limit,
+    pub max_hops: MaxHops,
+    pub max_age: MaxAge,
+}
+
+impl Bridge {
+    /// Whether the bridge is on.
+    pub fn is_on(&self) -> bool
+        ensures { result ≡ (bridge_row self.now).is_on }
+    {
+        match self.power {
+            Power::On => true,
+            Power::Off => false,
+        }
+    }
 }
 
 /// A port's number, the LAN that it is plugged into, if there is one, and its settings.

@@ -2,18 +2,15 @@
 #![tactic(auto)]
 
 mod ahead;
-mod blocks;
 mod changes;
 mod checks;
 mod contents;
 pub mod laws;
 mod names;
 mod network;
-mod records;
 mod refusal;
 mod settings;
 mod table;
-mod tally;
 mod tree_settings;
 mod trees;
 

@@ -10,14 +10,13 @@ ghost use Rattle.mst_net.specs.Contents.{SameContents, CanCommit, Commits, ahead
 use crate::Refusal;
 use crate::ahead::Ahead;
 use crate::contents::{Bridge, Contents, Lan, Port, seen_bridge, seen_lan, seen_port};
-use crate::records::{Record, Records};
 use crate::settings::{BridgeSettings, KeptPort, LanSettings};
 use crate::table::Table;
-use crate::tally::Tally;
 use crate::tree_settings::TreeSettings;
 use indexmap::IndexSet;
 use mst_ids::{BridgeNo, Cost, LanNo, Mac, Name, PortName, PortNo, Priority, Tree, VidSet};
 use mst_lang::{Edit, laws};
+use mst_records::{Record, Records, Tally};
 use std::alloc::{AllocError, Global};
 use std::marker::Model;
 

@@ -5,10 +5,10 @@ ghost use Rattle.mst_net.specs.After.{new_bridge, new_settings, new_port, new_la
 ghost use Rattle.mst_net.specs.Tables.{BridgeTree, PortTree, bridge_tree_eq, port_tree_eq};
 ghost use Rattle.mst_net.specs.SetByTree.{in_trees_of_bridge, in_trees_of_port};
 
-use crate::blocks::Blocks;
 use indexmap::IndexMap;
-use mst_ids::{ConfName, Cost, Limit, Mac, Name, PortName, Priority, Speed, Tree};
+use mst_ids::{ConfName, Cost, Mac, MaxAge, MaxHops, Name, PortName, Priority, Speed, Tree};
 use mst_lang::{BridgeChange, Kind, LanChange, LanState, PortChange, Power};
+use mst_records::{Blocks, next_block};
 use std::hash::Hash;
 use std::marker::Model;
 
@@ -21,8 +21,8 @@ pub(crate) struct BridgeSettings {
     pub(crate) system_priority: u16,
     pub(crate) revision: u16,
     pub(crate) conf_name: ConfName,
-    pub(crate) max_hops: Limit,
-    pub(crate) max_age: Limit,
+    pub(crate) max_hops: MaxHops,
+    pub(crate) max_age: MaxAge,
 }
 
 impl Model for BridgeSettings {
@@ -54,8 +54,8 @@ impl BridgeSettings {
             system_priority: 32_768,
             revision: 0,
             conf_name: ConfName::of_mac(mac),
-            max_hops: Limit::standard(),
-            max_age: Limit::standard(),
+            max_hops: MaxHops::default(),
+            max_age: MaxAge::default(),
         }
     }
 
@@ -204,7 +204,7 @@ impl LanSettings {
         ensures { result ≡ new_lan }
     {
         LanSettings {
-            speed: Speed::standard(),
+            speed: Speed::default(),
             state: LanState::Up,
         }
     }
@@ -258,27 +258,6 @@ impl Model for PortInTree {
     ghost inverse = { λ k. record { port = k.port; tree = k.tree } };
 }
 
-/// Keeps a value under the key, or none. It takes no memory.
-pub(crate) fn keep<K: Copy + Eq + Hash, V: Copy>(
-    table: &mut IndexMap<K, V>,
-    key: K,
-    value: Option<V>,
-)
-    requires { 0 < spare table.old }
-    ensures { (q : K) → lookup (K.eq q) table.new.entries ≡ cond (K.eq key q) value (lookup (K.eq q) table.old.entries) }
-{
-    match value {
-        None => {
-            let _ = table.swap_remove(&key);
-        }
-        Some(value) => {
-            if let Ok(entry) = table.entry(key) {
-                *entry.or_insert(value) = value;
-            }
-        }
-    }
-}
-
 /// Takes away what is set for the bridge, in every tree of these blocks. It passes by the others.
 pub(crate) fn forget_bridge(
     table: &mut IndexMap<BridgeInTree, Priority>,
@@ -322,14 +301,4 @@ pub(crate) fn forget_port<V: Copy>(
             number = next_block(number);
         }
     }
-}
-
-/// The first tree of the next block, or 4095 after the last.
-pub(crate) fn next_block(tree: u64) -> u64
-    requires { tree < 4095 }
-    ensures above { tree < result }
-    ensures within { result ≤ 4095 }
-    ensures same { (other : ℕ) → tree ≤ other → other < result → other / 64 ≡ tree / 64 }
-{
-    (tree / 64 * 64 + 64).min(4095)
 }

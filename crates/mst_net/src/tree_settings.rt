@@ -10,13 +10,13 @@ ghost use Rattle.std.specs.List.{filter};
 ghost use Rattle.mst_net.specs.Table.{mapped, tree_in, mstis_in};
 ghost use Rattle.mst_net.specs.TreesSet.{trees_where};
 
-use crate::blocks::{Blocks, blocks_of, mark, take};
-use crate::settings::{BridgeInTree, PortInTree, forget_bridge, forget_port, keep};
+use crate::settings::{BridgeInTree, PortInTree, forget_bridge, forget_port};
 use crate::table::Table;
 use crate::trees::trees_of;
 use indexmap::IndexMap;
 use mst_ids::{Cost, Name, PortName, Priority, Tree, Vid, VidSet};
 use mst_lang::{Edit, TreeChange};
+use mst_records::{Blocks, blocks_of, keep, mark, take};
 use std::alloc::{AllocError, Global};
 use std::hash::Hash;
 use std::marker::Model;
@@ -111,7 +111,7 @@ impl TreeSettings {
         };
         match self.priorities.get(&key) {
             Some(priority) => *priority,
-            None => Priority::standard(),
+            None => Priority::default(),
         }
     }
 
@@ -122,7 +122,7 @@ impl TreeSettings {
         let key = PortInTree { port: *port, tree };
         match self.port_priorities.get(&key) {
             Some(priority) => *priority,
-            None => Priority::standard(),
+            None => Priority::default(),
         }
     }
 

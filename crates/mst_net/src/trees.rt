@@ -1,10 +1,9 @@
 ghost use Rattle.std.specs.Prelude.{◌≡◌, IfOk, true};
-ghost use Rattle.mst_net.specs.SetByTree.{in_block};
+ghost use Rattle.mst_records.specs.Blocks.{in_block};
 ghost use Rattle.mst_net.specs.TreesSet.{trees_where};
 
-use crate::blocks::Blocks;
-use crate::settings::next_block;
 use mst_ids::Tree;
+use mst_records::{Blocks, next_block};
 use std::alloc::{AllocError, Global};
 
 /// Every tree, from the CIST to 4094.

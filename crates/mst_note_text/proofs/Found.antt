@@ -9,13 +9,13 @@ use Rattle.mst_trees.specs.Forest.{IsForest}
 use Rattle.mst_trees.specs.Forest.{Forest}
 use Rattle.mst_trees.specs.Outcome.{trees_of}
 use Rattle.mst_nested.specs.Trees.{IsSettled}
-use Rattle.mst_depths.specs.Depths.{InternalDepth, ExternalDepth}
-use Rattle.mst_depths.specs.Places.{HasDepths, depths_at}
-use Rattle.mst_depths.specs.Places as by_place
-use Rattle.mst_depths.specs.Listed.{IsListed}
-use Rattle.mst_depths.specs.declared.parent.Parent.{Parent}
-use Rattle.mst_depths.specs.declared.parent.Depths.{Depths}
-use Rattle.mst_depths.proofs.Listed.{forest, internal, external}
+use Rattle.mst_note_text.specs.Depths.{InternalDepth, ExternalDepth}
+use Rattle.mst_note_text.specs.Places.{HasDepths, depths_at}
+use Rattle.mst_note_text.specs.Places as by_place
+use Rattle.mst_note_text.specs.Listed.{IsListed}
+use Rattle.mst_note_text.specs.declared.parent.Parent.{Parent}
+use Rattle.mst_note_text.specs.declared.parent.Depths.{Depths}
+use Rattle.mst_note_text.proofs.Listed.{forest, internal, external}
 use Rattle.mst_note_text.specs.declared.member.Member.{Member}
 use Rattle.mst_note_text.specs.Parents.{AreGiven}
 use Rattle.mst_note_text.specs.Placed.{ArePlaces}

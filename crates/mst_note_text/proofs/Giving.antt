@@ -6,8 +6,8 @@ use Rattle.std.proofs.lemmas.List.{take_more, length-replicate, length-set, get_
 use Rattle.mst_trees.proofs.Lists.{some_is, no_some}
 use Rattle.mst_trees.proofs.Entries.{all_weaker}
 use Rattle.mst_lag.proofs.Lists.{all_pushed}
-use Rattle.mst_depths.specs.Places.{IsParent}
-use Rattle.mst_depths.specs.declared.parent.Parent.{Parent}
+use Rattle.mst_note_text.specs.Places.{IsParent}
+use Rattle.mst_note_text.specs.declared.parent.Parent.{Parent}
 use Rattle.mst_note_text.specs.Parents.{AreGiven}
 
 module _ {A : Type 0} (given : A → Option (ℕ × Parent)) (ports : List A) (count : ℕ) where

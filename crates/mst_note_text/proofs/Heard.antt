@@ -18,9 +18,9 @@ use Rattle.mst_trees.proofs.Lists.{some_is, no_some}
 use Rattle.mst_trees.proofs.Sights.{IsSight, PortOf, port_from, port_in, is_topology}
 use Rattle.mst_trees.proofs.Seen.{SeenPort, port_seen, port_there, port_of_net}
 use Rattle.mst_trees.proofs.Looking.{IsThere, is_there}
-use Rattle.mst_depths.specs.Depths.{HasParent}
+use Rattle.mst_note_text.specs.Depths.{HasParent}
 
-module _ {B P V : Type 0} (net : Net) (numbers : Numbers) (v : Viewed) (classes : List (ℕ × ℕ)) (of : AreOf net numbers v classes) (m : Rules B P V) (law : IsMetric m) (s : Sight B P) (sight : IsSight net m s)
+module _ {B P V : Type 0} (net : Net) (numbers : Numbers) (v : Viewed) (region_ids : List (ℕ × ℕ)) (of : AreOf net numbers v region_ids) (m : Rules B P V) (law : IsMetric m) (s : Sight B P) (sight : IsSight net m s)
     (o : TreeOutcome V) (is : IsTreeOutcome m (tree_of net s) o) (vector : ℕ → Option V) (designated : ℕ → Option ℕ) (agrees : Agrees numbers o vector designated) (receiver : V → ℕ) where
   -- a port is a root port by number, and the designated port of its LAN is found
   pub record IsRoot (q r : PortInView) : Type 0 where
@@ -45,7 +45,7 @@ module _ {B P V : Type 0} (net : Net) (numbers : Numbers) (v : Viewed) (classes 
       let z = port_from net of.network m s sight p d.says.has_port in
       sym (ap (λ (y : Plug (List ℕ) (List ℕ) PortName P). y.bridge) z.is) ∙ ap (λ (y : Plug (List ℕ) (List ℕ) PortName P). y.number.bridge) z.is ∙ ap (λ (n : PortName). n.bridge) number
 
-  found_bridge : (nm : PortName) (k : ℕ) (r : PortInView) → IsThere net numbers v classes of nm k → find (λ (x : PortInView). k == x.number) v.ports ≡ Some r → fin.get numbers.bridges nm.bridge ≡ Some r.bridge
+  found_bridge : (nm : PortName) (k : ℕ) (r : PortInView) → IsThere net numbers v region_ids of nm k → find (λ (x : PortInView). k == x.number) v.ports ≡ Some r → fin.get numbers.bridges nm.bridge ≡ Some r.bridge
   found_bridge nm k r z found = z.has_bridge ∙ ap (λ (x : PortInView). Some x.bridge) (some_is z.port r (sym z.found ∙ found))
 
   pub gives : (q r : PortInView) → Contains v.ports q → IsRoot q r → GivesParent q r
@@ -53,7 +53,7 @@ module _ {B P V : Type 0} (net : Net) (numbers : Numbers) (v : Viewed) (classes 
       let seen = port_seen net numbers v of.view q there in
       let named = subst (λ (w : Option ℕ). IsNameOf numbers w (o.designated q.lan)) h.designates (agrees.designated_ports q.lan q.lan_number seen.has_numbers.lan) in
       let des = subst (λ w. IsDesignated m (tree_of net s) o.vector q.lan w) named.1 (is.designated q.lan) in
-      let z = is_there net numbers v classes of m s sight o is q.lan named.0 h.number named.1 named.2 in
+      let z = is_there net numbers v region_ids of m s sight o is q.lan named.0 h.number named.1 named.2 in
       record {
         parent = named.0.bridge;
         is_parent = record {
@@ -110,7 +110,7 @@ module _ {B P V : Type 0} (net : Net) (numbers : Numbers) (v : Viewed) (classes 
 
     with_name : (nm : PortName) → o.designated q.lan ≡ Some nm → (k : ℕ) → designated q.lan_number ≡ Some k → fin.get numbers.ports nm ≡ Some k → GivenBy a b
     with_name nm e k f has =
-        let z = is_there net numbers v classes of m s sight o is q.lan nm k e has in
+        let z = is_there net numbers v region_ids of m s sight o is q.lan nm k e has in
         let des = subst (λ w. IsDesignated m (tree_of net s) o.vector q.lan w) e (is.designated q.lan) in
         let one : h.from ≡ des.0 = one_designated m law (tree_of net s) (is_topology net of.network m s sight) o.vector q.lan h.from des.0 h.message des.1 designates_here des.3 in
         let bridge : b ≡ nm.bridge = sym h.is_bridge ∙ ap (λ (x : Plug (List ℕ) (List ℕ) PortName P). x.bridge) one ∙ on_named q.lan nm des.0 des.1 des.2 des.3 in

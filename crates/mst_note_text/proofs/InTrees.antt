@@ -34,7 +34,7 @@ use Rattle.mst_trees.proofs.Looking.{inner_same}
 use Rattle.mst_trees.proofs.CistTopology.{given, cist_is_sight}
 use Rattle.mst_trees.proofs.MstiTopology.{msti_is_sight, msti_port_is}
 use Rattle.mst_nested.specs.Trees.{IsSettled}
-use Rattle.mst_depths.specs.Depths.{HasParent}
+use Rattle.mst_note_text.specs.Depths.{HasParent}
 use Rattle.mst_note_text.specs.declared.member.Member.{Member}
 use Rattle.mst_note_text.specs.SeenTree.{cist_member, msti_member, seen_member, takes_part, receiver_at, is_root_port}
 use Rattle.mst_note_text.proofs.TreeParents.{map_from}

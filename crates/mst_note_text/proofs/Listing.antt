@@ -13,7 +13,7 @@ use Rattle.mst_net.specs.ByTree.{by_tree}
 use Rattle.mst_lag.specs.Viewed.{Viewed}
 use Rattle.mst_lag.specs.declared.in_view.BridgeInView.{BridgeInView}
 use Rattle.mst_lag.specs.declared.in_view.PortInView.{PortInView}
-use Rattle.mst_config.specs.Classes.{same_in}
+use Rattle.mst_config.specs.Shared.{same_in}
 use Rattle.mst_config.specs.Regions.{region_of}
 use Rattle.mst_config.proofs.SameRegion.{told}
 use Rattle.mst_vector.specs.Cist.{cist_rules}
@@ -30,10 +30,10 @@ use Rattle.mst_trees.proofs.Lists.{some_is, all_contained, apart_kept, kept_from
 use Rattle.mst_trees.proofs.Seen.{BridgesRise, bridge_seen, port_seen, bridges_apart}
 use Rattle.mst_trees.proofs.Sights.{bridge_from}
 use Rattle.mst_trees.proofs.CistTopology.{given, cist_is_sight}
-use Rattle.mst_depths.specs.Depths.{ParentIn}
-use Rattle.mst_depths.specs.Places.{IsParent}
-use Rattle.mst_depths.specs.Listed.{IsListed}
-use Rattle.mst_depths.specs.declared.parent.Parent.{Parent}
+use Rattle.mst_note_text.specs.Depths.{ParentIn}
+use Rattle.mst_note_text.specs.Places.{IsParent}
+use Rattle.mst_note_text.specs.Listed.{IsListed}
+use Rattle.mst_note_text.specs.declared.parent.Parent.{Parent}
 use Rattle.mst_note_text.specs.declared.member.Member.{Member}
 use Rattle.mst_note_text.specs.Parents.{AreGiven}
 use Rattle.mst_note_text.specs.Placed.{ArePlaces}

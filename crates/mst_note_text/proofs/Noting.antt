@@ -36,10 +36,10 @@ use Rattle.mst_trees.proofs.Sights.{bridge_from}
 use Rattle.mst_trees.proofs.CistTopology.{given, cist_is_sight}
 use Rattle.mst_trees.proofs.MstiTopology.{msti_is_sight}
 use Rattle.mst_nested.specs.Trees.{Trees, IsSettled, HasTree}
-use Rattle.mst_depths.specs.Depths.{InternalDepth, ExternalDepth}
-use Rattle.mst_depths.specs.Places.{depths_at}
-use Rattle.mst_depths.specs.declared.parent.Depths.{Depths}
-use Rattle.mst_depths.proofs.Tops.{one_internal_depth, one_external_depth, ends_regional, ends_msti, ends_cist}
+use Rattle.mst_note_text.specs.Depths.{InternalDepth, ExternalDepth}
+use Rattle.mst_note_text.specs.Places.{depths_at}
+use Rattle.mst_note_text.specs.declared.parent.Depths.{Depths}
+use Rattle.mst_note_text.proofs.Tops.{one_internal_depth, one_external_depth, ends_regional, ends_msti, ends_cist}
 use Rattle.mst_note_text.specs.AreDepths.{TreeDepths, AreDepths}
 use Rattle.mst_note_text.specs.NotesText.{hops_note, age_note, external_note, internal_note, hops_notes, age_notes, cist_notes, msti_notes, bridge_notes, tree_notes}
 use Rattle.mst_note_text.specs.Placed.{ArePlaces}

@@ -2,8 +2,8 @@
 use Rattle.std.specs.Prelude.{ℕ, List}
 use Rattle.mst_ids.specs.declared.name.PortName.{PortName}
 use Rattle.mst_nested.specs.Trees.{Trees, HasTree}
-use Rattle.mst_depths.specs.Chains.{InternalChain, ExternalChain}
-use Rattle.mst_depths.specs.Depths.{ParentWithin, ParentBetween}
+use Rattle.mst_note_text.specs.Chains.{InternalChain, ExternalChain}
+use Rattle.mst_note_text.specs.Depths.{ParentWithin, ParentBetween}
 
 -- of a bridge in a tree: the steps within its region, and the regional root to which they go. In the CIST: the
 -- steps between regions, and the root to which they go

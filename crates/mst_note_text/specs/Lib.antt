@@ -1,3 +1,8 @@
+pub mod Chains
+pub mod Depths
+pub mod Places
+pub mod Walk
+pub mod Listed
 pub mod AreDepths
 pub mod NotesText
 pub mod Placed

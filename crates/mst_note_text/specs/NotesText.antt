@@ -5,7 +5,7 @@ use Rattle.std.specs.List.{flat_map, range_with_len}
 use Rattle.std.specs.Option.{option_map_or}
 use Rattle.std.specs.FinMap as fin
 use Rattle.mst_ids.specs.declared.name.PortName.{PortName}
-use Rattle.mst_words.specs.Words.{line}
+use Rattle.mst_ids.specs.Words.{line}
 use Rattle.mst_vector.specs.declared.cist.CistVector.{CistVector}
 use Rattle.mst_vector.specs.declared.msti.MstiVector.{MstiVector}
 use Rattle.mst_net.specs.Tables.{Net}

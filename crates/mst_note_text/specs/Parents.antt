@@ -1,8 +1,8 @@
 -- The parents of bridges by places, as ports give them.
 use Rattle.std.specs.Prelude.{◌≡◌, ℕ, List, length, Option, Some}
 use Rattle.std.specs.List.{AllByRecursion, Contains}
-use Rattle.mst_depths.specs.Places.{IsParent}
-use Rattle.mst_depths.specs.declared.parent.Parent.{Parent}
+use Rattle.mst_note_text.specs.Places.{IsParent}
+use Rattle.mst_note_text.specs.declared.parent.Parent.{Parent}
 
 -- each parent is one that some of the ports gives, and where one of the first of them gives a parent there is one
 pub record AreGiven {A : Type 0} (given : A → Option (ℕ × Parent)) (ports first : List A) (count : ℕ) (parents : List (Option Parent)) : Type 0 where

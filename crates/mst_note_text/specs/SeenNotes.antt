@@ -8,8 +8,8 @@ use Rattle.mst_lag.specs.Trees.{is_among}
 use Rattle.mst_lag.specs.Viewed.{Viewed}
 use Rattle.mst_lag.specs.declared.in_view.BridgeInView.{BridgeInView}
 use Rattle.mst_trees.specs.Seen.{trees_at}
-use Rattle.mst_depths.specs.Places.{depths_at}
-use Rattle.mst_depths.specs.declared.parent.Depths.{Depths}
+use Rattle.mst_note_text.specs.Places.{depths_at}
+use Rattle.mst_note_text.specs.declared.parent.Depths.{Depths}
 use Rattle.mst_note_text.specs.NotesText.{hops_note, age_note, external_note, internal_note}
 use Rattle.mst_note_text.specs.declared.member.Member.{Member}
 use Rattle.mst_note_text.specs.declared.member.RootPath.{RootPath}

@@ -12,11 +12,11 @@ use Rattle.mst_net.specs.ByTree.{port_priority_in}
 use Rattle.mst_lag.specs.Viewed.{Viewed}
 use Rattle.mst_lag.specs.declared.in_view.BridgeInView.{BridgeInView}
 use Rattle.mst_lag.specs.declared.in_view.PortInView.{PortInView}
-use Rattle.mst_config.specs.Classes.{same_in}
+use Rattle.mst_config.specs.Shared.{same_in}
 use Rattle.mst_trees.specs.Seen.{seen_inner}
 use Rattle.mst_trees.specs.Forest.{msti_vector, designated_in}
 use Rattle.mst_trees.specs.Forest.{Forest}
-use Rattle.mst_depths.specs.declared.parent.Parent.{Parent}
+use Rattle.mst_note_text.specs.declared.parent.Parent.{Parent}
 use Rattle.mst_note_text.specs.declared.member.Member.{Member}
 
 -- a bridge with its vector

@@ -4,8 +4,8 @@ ghost use Rattle.mst_note_text.specs.SeenNotes.{bridge_of as bridge_at, seen_hop
 
 use crate::lines::{push_age, push_external, push_hops, push_internal};
 use crate::member::{Member, RootPath};
+use crate::parent::Depths;
 use crate::places::Macs;
-use mst_depths::Depths;
 use mst_ids::{BridgeId, Tree};
 use mst_lag::BridgeInView;
 use std::alloc::AllocError;

@@ -3,9 +3,8 @@ ghost use Rattle.mst_lag.specs.Viewed.{named_port};
 ghost use Rattle.mst_note_text.specs.NotesText.{hops_note, age_note, external_note, internal_note, restricted_line, restricted_note};
 
 use itoa::Buffer;
-use mst_ids::{Limit, Name, PortName, Tree};
+use mst_ids::{MaxAge, MaxHops, Name, PortName, Tree, push_line};
 use mst_lag::PortInView;
-use mst_words::push_line;
 use std::alloc::AllocError;
 
 /// The greatest path cost that 32 bits hold, as in a BPDU.
@@ -16,7 +15,7 @@ pub(crate) fn push_hops(
     tree: Tree,
     name: &Name,
     depth: usize,
-    limit: Limit,
+    limit: MaxHops,
     out: &mut Vec<u8>,
 ) -> Result<(), AllocError>
     ensures { OnOk result (out.new.items ≡ out.old.items ++ hops_note tree name.now depth limit) }
@@ -44,7 +43,7 @@ pub(crate) fn push_hops(
 pub(crate) fn push_age(
     name: &Name,
     depth: usize,
-    limit: Limit,
+    limit: MaxAge,
     out: &mut Vec<u8>,
 ) -> Result<(), AllocError>
     ensures { OnOk result (out.new.items ≡ out.old.items ++ age_note name.now depth limit) }

@@ -7,8 +7,8 @@ ghost use Rattle.mst_note_text.specs.Placed.{ArePlaces};
 ghost use Rattle.mst_note_text.specs.SeenTree.{takes_part as takes_part_in, receiver_at, is_root_port as is_root_port_in, given as given_by, parent_by as parent_of_places};
 
 use crate::member::Member;
+use crate::parent::Parent;
 use crate::places::Places;
-use mst_depths::Parent;
 use mst_ids::{BridgeNo, PortId, Tree};
 use mst_lag::{PortInView, View};
 use mst_trees::Forest;

@@ -15,7 +15,7 @@ use Rattle.mst_trees.specs.Forest.{Forest}
 use Rattle.mst_trees.proofs.Entries.{all_weaker}
 use Rattle.mst_trees.proofs.Lists.{all_contained}
 use Rattle.mst_vlan.specs.Reach.{vid_links}
-use Rattle.mst_vlan_text.specs.VlanText.{IsBody}
+use Rattle.mst_text.specs.VlanText.{IsBody}
 use Rattle.mst_plan_text.specs.Alike.{AreAlike, TellApart}
 use Rattle.mst_plan_text.specs.Bodies.{AreBodiesAt, NumberEach, body_at}
 use Rattle.mst_plan_text.proofs.Bodied.{AtPlaces, zip_at}

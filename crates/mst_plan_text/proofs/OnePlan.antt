@@ -11,7 +11,7 @@ use Rattle.mst_graph.proofs.Alike.{alike_groups}
 use Rattle.mst_graph.proofs.Members.{here, there, in_whole}
 use Rattle.mst_net.specs.Tables.{Net}
 use Rattle.mst_trees.specs.Outcome.{Outcome}
-use Rattle.mst_vlan_text.specs.VlanText.{IsBody}
+use Rattle.mst_text.specs.VlanText.{IsBody}
 use Rattle.mst_plan_text.specs.PlanText.{all_vids, group_heading, group_text, trees_text, IsVidsText, IsPlanText}
 use Rattle.mst_plan_text.proofs.Grouped.{vid_place}
 use Rattle.mst_plan_text.proofs.Sets.{vids_all}

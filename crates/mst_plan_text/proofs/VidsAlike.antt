@@ -26,8 +26,8 @@ use Rattle.mst_trees.proofs.Seen.{bridge_there, port_there}
 use Rattle.mst_roles.specs.Roles.{role_in, forwards, tree_of_vid, forwards_for}
 use Rattle.mst_vlan.specs.Active.{active_ports}
 use Rattle.mst_vlan.specs.Reach.{bridges_on, lans_up, is_member, link_of, vid_links}
-use Rattle.mst_vlan_text.specs.Lines.{active_word, active_line}
-use Rattle.mst_vlan_text.specs.VlanText.{port_word, island_text, IsBody}
+use Rattle.mst_text.specs.VlanLines.{active_word, active_line}
+use Rattle.mst_text.specs.VlanText.{port_word, island_text, IsBody}
 
 module _ (net : Net) (numbers : Numbers) (v : Viewed) (f : Forest) (of : AreOf net numbers v f.regions) (o : Outcome) (x y : ℕ)
     (tables : AllByRecursion (λ b. tree_in (table_in v.settings.tables b.name) x ≡ tree_in (table_in v.settings.tables b.name) y) v.bridges)

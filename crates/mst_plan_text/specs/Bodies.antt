@@ -3,7 +3,7 @@ use Rattle.std.specs.Prelude.{◌≡◌, ℕ, ◌+◌, ◌-◌, ◌<◌, List, [
 use Rattle.std.specs.List.{AllZip}
 use Rattle.mst_net.specs.Tables.{Net}
 use Rattle.mst_trees.specs.Outcome.{Outcome}
-use Rattle.mst_vlan_text.specs.VlanText.{IsBody}
+use Rattle.mst_text.specs.VlanText.{IsBody}
 
 -- these are the bodies of the VIDs at these places
 abbrev pub AreBodiesAt : Net → Outcome → List ℕ → List (List ℕ) → Type 0

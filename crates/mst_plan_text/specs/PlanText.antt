@@ -3,14 +3,14 @@ use Rattle.std.specs.Prelude.{◌≡◌, ℕ, Bool, true, List, [], ◌∷◌, �
 use Rattle.std.specs.List.{flat_map, list_any, range_with_len}
 use Rattle.std.specs.FinMap as fin
 use Rattle.mst_ids.specs.Vids.{is_vid, set_where, vids_text}
-use Rattle.mst_words.specs.Words.{line}
+use Rattle.mst_ids.specs.Words.{line}
 use Rattle.mst_graph.specs.Groups.{AreGroups}
 use Rattle.mst_net.specs.Tables.{Net}
 use Rattle.mst_lag.specs.Trees.{is_among}
 use Rattle.mst_trees.specs.Msti.{has_msti}
 use Rattle.mst_trees.specs.Outcome.{Outcome}
-use Rattle.mst_tree_text.specs.TreeText.{tree_text}
-use Rattle.mst_vlan_text.specs.VlanText.{IsBody}
+use Rattle.mst_text.specs.TreeText.{tree_text}
+use Rattle.mst_text.specs.VlanText.{IsBody}
 
 -- ---- trees
 -- some bridge has the tree beside the CIST

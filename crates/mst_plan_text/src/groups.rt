@@ -5,8 +5,7 @@ ghost use Rattle.mst_lag.specs.Trees.{is_among};
 ghost use Rattle.mst_plan_text.specs.PlanText.{all_vids, group_heading, group_text};
 ghost use Rattle.mst_plan_text.specs.Bodies.{NumberEach, body_at};
 
-use mst_ids::{Vid, VidSet, push_bytes};
-use mst_words::push_end;
+use mst_ids::{Vid, VidSet, push_bytes, push_end};
 use std::alloc::{AllocError, Global};
 
 /// The VIDs 1 to 4094. `AllocError`: memory was wanted and refused.

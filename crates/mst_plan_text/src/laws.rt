@@ -5,7 +5,7 @@ ghost use Rattle.mst_trees.specs.Outcome.{Outcome};
 ghost use Rattle.mst_plan_text.specs.PlanText.{IsPlanText};
 
 use mst_graph::laws::group_lists;
-use mst_vlan_text::laws::{has_text, one_text};
+use mst_text::laws::{has_text, one_text};
 
 /// Each network has a text of its plan.
 pub fn has_plan()

@@ -4,13 +4,13 @@ ghost use Rattle.mst_lag.specs.Trees.{is_among};
 ghost use Rattle.mst_net.specs.Tables.{Net, Numbers};
 ghost use Rattle.mst_trees.specs.Agrees.{AreOf};
 ghost use Rattle.mst_trees.specs.Forest.{IsForest};
-ghost use Rattle.mst_tree_text.specs.TreeText.{tree_text};
+ghost use Rattle.mst_text.specs.TreeText.{tree_text};
 ghost use Rattle.mst_plan_text.specs.PlanText.{trees_text};
 ghost use Rattle.mst_plan_text.specs.Seen.{seen_had, seen_mstis};
 
 use mst_ids::Tree;
 use mst_lag::View;
-use mst_tree_text::push_tree;
+use mst_text::push_tree;
 use mst_trees::Forest;
 use std::alloc::{AllocError, Global};
 

@@ -12,14 +12,14 @@ use Rattle.mst_trees.specs.Outcome.{Outcome, IsOutcome}
 use Rattle.mst_changes.specs.ChangesText.{changes_text}
 use Rattle.mst_changes.specs.Kept.{rows_of}
 use Rattle.mst_changes.specs.declared.place.Row.{Row}
-use Rattle.mst_lag_text.specs.LagText.{lags_text}
+use Rattle.mst_text.specs.LagText.{lags_text}
 use Rattle.mst_note_text.specs.NotesText.{AreNotes}
 use Rattle.mst_plan_text.specs.PlanText.{IsPlanText}
-use Rattle.mst_region_text.specs.ConfigurationText.{configuration_text, configuration_line, mstis_text}
-use Rattle.mst_region_text.specs.RegionsText.{regions_text}
+use Rattle.mst_text.specs.ConfigurationText.{configuration_text, configuration_line, mstis_text}
+use Rattle.mst_text.specs.RegionsText.{regions_text}
 use Rattle.mst_save.specs.SaveText.{save_text}
-use Rattle.mst_tree_text.specs.TreeText.{tree_text}
-use Rattle.mst_vlan_text.specs.VlanText.{IsVlanText}
+use Rattle.mst_text.specs.TreeText.{tree_text}
+use Rattle.mst_text.specs.VlanText.{IsVlanText}
 use Rattle.mst_report.specs.Answers.{Answers, TellsOutcome, TellsChanges}
 use Rattle.mst_report.specs.Refusing.{HasText}
 use Rattle.mst_report.specs.State.{State, IsState, IsMark, IsMarkNow}

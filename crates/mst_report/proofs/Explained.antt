@@ -115,7 +115,7 @@ module _ (net : Net) (numbers : Numbers) (plan : Plan) (is : IsPlan net numbers 
   of : AreOf net numbers plan.view plan.forest.regions
   of = is.of
 
-  abbrev pub as_told : IsPlanOf net numbers plan.view plan.classes plan.forest
+  abbrev pub as_told : IsPlanOf net numbers plan.view plan.regions plan.forest
   as_told = record { of = is.of; regions = is.regions; forest = is.forest }
 
   -- ---- the logical port of a name

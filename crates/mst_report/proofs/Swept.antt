@@ -8,7 +8,7 @@ use Rattle.mst_lang.specs.declared.line.Edit.{Edit}
 use Rattle.mst_net.specs.After.{after, effect, refusal_of}
 use Rattle.mst_net.specs.Tables.{Net, Numbers}
 use Rattle.mst_net.specs.Contents.{Contents, PerKind, Tables, SameContents, numbers_after}
-use Rattle.mst_config.specs.Classes.{AreRegions}
+use Rattle.mst_config.specs.Shared.{AreRegions}
 use Rattle.mst_config.specs.Touching.{touches_regions}
 use Rattle.mst_trees.specs.Forest.{Forest, IsForest}
 use Rattle.mst_trees.specs.Outcome.{Outcome}
@@ -89,12 +89,12 @@ untouched (Lan lan) = refl
 untouched (Bridge bridge) = refl
 
 module _ (old now : Contents) (f : Failure) (same : SameContents old now) where
-  pub regions_ahead : ((edit : Edit) (net : Net) (numbers : Numbers) (next : PerKind) (classes : List (ℕ × ℕ)) → touches_regions edit ≡ false → AreRegions net numbers classes → AreRegions (effect edit net) (numbers_after edit next numbers) classes)
-      → (classes : List (ℕ × ℕ)) → AreRegions old.net old.numbers classes → AreRegions (effect (edit_of f) now.net) (numbers_after (edit_of f) now.next now.numbers) classes
-  regions_ahead stay classes are =
+  pub regions_ahead : ((edit : Edit) (net : Net) (numbers : Numbers) (next : PerKind) (region_ids : List (ℕ × ℕ)) → touches_regions edit ≡ false → AreRegions net numbers region_ids → AreRegions (effect edit net) (numbers_after edit next numbers) region_ids)
+      → (region_ids : List (ℕ × ℕ)) → AreRegions old.net old.numbers region_ids → AreRegions (effect (edit_of f) now.net) (numbers_after (edit_of f) now.next now.numbers) region_ids
+  regions_ahead stay region_ids are =
       let net_is : old.net ≡ now.net = sym same.net in
       let numbers_is : old.numbers ≡ now.numbers = sym same.numbers in
-      stay (edit_of f) now.net now.numbers now.next classes (untouched f) (subst (λ (t : Tables). AreRegions t.net t.numbers classes) (λ i. record { net = net_is i; numbers = numbers_is i }) are)
+      stay (edit_of f) now.net now.numbers now.next region_ids (untouched f) (subst (λ (t : Tables). AreRegions t.net t.numbers region_ids) (λ i. record { net = net_is i; numbers = numbers_is i }) are)
 
   pub failed_is : refusal_of (edit_of f) now.net ≡ None → (plan : Plan) → IsPlan (effect (edit_of f) now.net) (numbers_after (edit_of f) now.next now.numbers) plan → IsFailedPlan old.net f plan
   failed_is accepted plan is = record {

@@ -2,7 +2,7 @@
 use Rattle.std.specs.Prelude.{◌≡◌, Bool, true, false, List, Option, Some, None, MatchOption}
 use Rattle.std.specs.Option.{option_map, ForSome}
 use Rattle.mst_net.specs.Tables.{Net, Numbers}
-use Rattle.mst_config.specs.Classes.{AreRegions}
+use Rattle.mst_config.specs.Shared.{AreRegions}
 use Rattle.mst_trees.specs.Agrees.{AreOf}
 use Rattle.mst_trees.specs.Forest.{IsForest}
 use Rattle.mst_changes.specs.declared.place.Row.{Row}
@@ -14,7 +14,7 @@ use Rattle.mst_report.specs.declared.plan.Plan.{Plan}
 -- the view, the regions and the settled trees are those of the network
 pub record IsPlan (net : Net) (numbers : Numbers) (p : Plan) : Type 0 where
   pub of : AreOf net numbers p.view p.forest.regions
-  pub regions : AreRegions net numbers p.classes
+  pub regions : AreRegions net numbers p.regions
   pub forest : IsForest net numbers p.forest
 
 -- a plan that is settled is there, and of the network
@@ -25,7 +25,7 @@ HasPlan net numbers true (Some p) = IsPlan net numbers p
 
 -- the regions of a plan that stand are those of the network, settled or not
 abbrev pub HasRegions : Net → Numbers → Bool → Option Plan → Type 0
-HasRegions net numbers stand plan = stand ≡ true → ForSome plan (λ p. AreRegions net numbers p.classes)
+HasRegions net numbers stand plan = stand ≡ true → ForSome plan (λ p. AreRegions net numbers p.regions)
 
 -- the trees that stand
 abbrev pub standing_in : Option Plan → Standing

@@ -174,7 +174,7 @@ impl Planner {
         push_explanations(
             alloc,
             &plan.view,
-            &plan.classes,
+            &plan.regions,
             &plan.forest,
             port,
             &mut text,
@@ -194,7 +194,7 @@ impl Planner {
         push_explanation(
             alloc,
             &plan.view,
-            &plan.classes,
+            &plan.regions,
             &plan.forest,
             tree,
             port,

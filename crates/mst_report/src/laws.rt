@@ -26,8 +26,8 @@ use mst_net::laws::networks;
 use mst_note_text::laws::notes;
 use mst_plan_text::laws::{has_plan, one_plan};
 use mst_sweep::laws::one_failure;
+use mst_text::laws::{has_text, one_text};
 use mst_trees::laws::{has_outcome, one_outcome};
-use mst_vlan_text::laws::{has_text, one_text};
 
 /// Each query has an answer in each state, a text or a refusal.
 pub fn has_answer()

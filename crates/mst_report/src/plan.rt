@@ -1,9 +1,9 @@
 ghost use Rattle.std.specs.Prelude.{IfOk};
-ghost use Rattle.mst_config.specs.Classes.{AreRegions};
+ghost use Rattle.mst_config.specs.Shared.{AreRegions};
 ghost use Rattle.mst_report.specs.Kept.{IsPlan, HasRegions, standing_in};
 ghost use Rattle.mst_report.specs.Standing.{standing_of, KeepsBounds};
 
-use mst_config::{Classes, region_classes};
+use mst_config::{Regions, regions_of};
 use mst_lag::{View, view};
 use mst_net::Contents;
 use mst_trees::Forest;
@@ -12,7 +12,7 @@ use std::alloc::{AllocError, Global};
 /// What follows from a network: its view, its regions, and its trees, settled.
 pub(crate) struct Plan {
     pub(crate) view: View,
-    pub(crate) classes: Classes,
+    pub(crate) regions: Regions,
     pub(crate) forest: Forest,
 }
 
@@ -21,7 +21,7 @@ impl Drop for Plan {
     fn drop(self) {
         let Plan {
             view: _,
-            classes: _,
+            regions: _,
             forest: _,
         } = self;
     }
@@ -40,10 +40,10 @@ pub(crate) fn next_plan<C: Contents>(
     ensures plan { IfOk result (IsPlan (C.tables contents.now).net (C.tables contents.now).numbers) }
     ensures bounds { IfOk result (λ plan. KeepsBounds (standing_in standing.now) (standing_of plan.forest)) }
 {
-    let classes = next_classes(alloc, contents, standing, regions_stand)?;
+    let regions = next_regions(alloc, contents, standing, regions_stand)?;
     match standing {
-        None => plan_from(alloc, contents, classes, &Forest::empty(alloc)),
-        Some(plan) => plan_from(alloc, contents, classes, &plan.forest),
+        None => plan_from(alloc, contents, regions, &Forest::empty(alloc)),
+        Some(plan) => plan_from(alloc, contents, regions, &plan.forest),
     }
 }
 
@@ -54,26 +54,26 @@ pub(crate) fn repaired_plan<C: Contents>(
     contents: &C,
     standing: &Plan,
 ) -> Result<Plan, AllocError>
-    requires { AreRegions (C.tables contents.now).net (C.tables contents.now).numbers standing.now.classes }
+    requires { AreRegions (C.tables contents.now).net (C.tables contents.now).numbers standing.now.regions }
     ensures { IfOk result (IsPlan (C.tables contents.now).net (C.tables contents.now).numbers) }
 {
-    let classes = standing.classes.copy()?;
-    plan_from(alloc, contents, classes, &standing.forest)
+    let regions = standing.regions.copy()?;
+    plan_from(alloc, contents, regions, &standing.forest)
 }
 
 /// The regions of a network: a copy of those of the plan that stands, where they stand, and else made anew.
-fn next_classes<C: Contents>(
+fn next_regions<C: Contents>(
     alloc: Global,
     contents: &C,
     standing: &Option<Plan>,
     regions_stand: bool,
-) -> Result<Classes, AllocError>
+) -> Result<Regions, AllocError>
     requires { HasRegions (C.tables contents.now).net (C.tables contents.now).numbers regions_stand standing.now }
     ensures { IfOk result (AreRegions (C.tables contents.now).net (C.tables contents.now).numbers) }
 {
     match standing {
-        Some(plan) if regions_stand => plan.classes.copy(),
-        _ => region_classes(alloc, contents),
+        Some(plan) if regions_stand => plan.regions.copy(),
+        _ => regions_of(alloc, contents),
     }
 }
 
@@ -81,19 +81,19 @@ fn next_classes<C: Contents>(
 fn plan_from<C: Contents>(
     alloc: Global,
     contents: &C,
-    classes: Classes,
+    regions: Regions,
     standing: &Forest,
 ) -> Result<Plan, AllocError>
-    requires { AreRegions (C.tables contents.now).net (C.tables contents.now).numbers classes }
+    requires { AreRegions (C.tables contents.now).net (C.tables contents.now).numbers regions }
     ensures plan { IfOk result (IsPlan (C.tables contents.now).net (C.tables contents.now).numbers) }
     ensures bounds { IfOk result (λ plan. KeepsBounds (standing_of standing.now) (standing_of plan.forest)) }
 {
     contents.known();
     let view = view(alloc, contents)?;
-    let forest = standing.repaired(alloc, &view, &classes)?;
+    let forest = standing.repaired(alloc, &view, &regions)?;
     Ok(Plan {
         view,
-        classes,
+        regions,
         forest,
     })
 }

@@ -20,7 +20,7 @@ fn summary_of(alloc: Global, plan: &Plan) -> Result<Vec<u8>, AllocError>
         forest: &plan.forest,
     };
     let mut text = Vec::new(alloc);
-    push_summary(alloc, &planned, &plan.classes, &mut text)?;
+    push_summary(alloc, &planned, &plan.regions, &mut text)?;
     Ok(text)
 }
 

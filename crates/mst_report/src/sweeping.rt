@@ -1,6 +1,6 @@
 ghost use Rattle.std.specs.Prelude.{◌≡◌, ◌++◌, List, ℕ, IfOk};
 ghost use Rattle.mst_net.specs.Contents.{SameContents, CanCommit, ahead_of};
-ghost use Rattle.mst_config.specs.Classes.{AreRegions};
+ghost use Rattle.mst_config.specs.Shared.{AreRegions};
 ghost use Rattle.mst_trees.specs.Agrees.{Known};
 ghost use Rattle.mst_trees.specs.Forest.{IsForest};
 ghost use Rattle.mst_sweep.specs.Standing.{IsStanding};
@@ -131,7 +131,7 @@ fn plan_ahead(
     ready: Ready,
 ) -> Result<Plan, AllocError>
     requires ready { CanCommit ready network.old }
-    requires regions { AreRegions (ahead_of network.old ready).net (ahead_of network.old ready).numbers plan.now.classes }
+    requires regions { AreRegions (ahead_of network.old ready).net (ahead_of network.old ready).numbers plan.now.regions }
     ensures plan { IfOk result (IsPlan (ahead_of network.old ready).net (ahead_of network.old ready).numbers) }
     ensures same { SameContents network.old network.new }
 {

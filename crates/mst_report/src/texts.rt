@@ -7,14 +7,11 @@ ghost use Rattle.mst_report.specs.Refusing.{HasText};
 use crate::planner::Planner;
 use mst_changes::{Rows, push_changes};
 use mst_ids::{Name, Tree, Vid};
-use mst_lag_text::push_lags;
 use mst_lang::Query;
 use mst_note_text::push_notes;
 use mst_plan_text::push_plan;
-use mst_region_text::{push_configuration, push_regions};
 use mst_save::save_text;
-use mst_tree_text::push_tree;
-use mst_vlan_text::push_vlan;
+use mst_text::{push_configuration, push_lags, push_regions, push_tree, push_vlan};
 use std::alloc::AllocError;
 
 impl Planner {
@@ -98,7 +95,7 @@ impl Planner {
     {
         let plan = self.plan();
         let mut text = Vec::new(self.alloc());
-        push_regions(self.alloc(), &plan.view, &plan.classes, &mut text)?;
+        push_regions(self.alloc(), &plan.view, &plan.regions, &mut text)?;
         Ok(text)
     }
 

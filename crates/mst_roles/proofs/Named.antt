@@ -81,7 +81,7 @@ found_there {A} test ys (y ∷ xs) x h e = go (test y) e (found_there test ys xs
 pub found_in : {A : Type 0} (test : A → Bool) (xs : List A) (x : A) → find test xs ≡ Some x → Contains xs x
 found_in test xs x = found_there test xs xs x (all_there xs)
 
-module _ (net : Net) (numbers : Numbers) (v : Viewed) (classes : List (ℕ × ℕ)) (of : AreOf net numbers v classes) where
+module _ (net : Net) (numbers : Numbers) (v : Viewed) (region_ids : List (ℕ × ℕ)) (of : AreOf net numbers v region_ids) where
   -- a port and a bridge are told by their numbers
   port_told : (p : PortInView) → SeenPort net numbers p → (q : PortName) (k : ℕ) → fin.get numbers.ports q ≡ Some k → (k == p.number) ≡ port_eq q p.name
   port_told p seen q k e =
@@ -112,7 +112,7 @@ module _ (net : Net) (numbers : Numbers) (v : Viewed) (classes : List (ℕ × �
       (vector : ℕ → Option V) (designated : ℕ → Option ℕ) (agrees : Agrees numbers o vector designated) (receiver : V → ℕ) (id : ℕ) (p : PortInView) (seen : SeenPort net numbers p) where
     beside_same : (q : PortName) (k : ℕ) → o.designated p.lan ≡ Some q → fin.get numbers.ports q ≡ Some k → seen_beside v p k ≡ beside p.name q
     beside_same q k e f =
-        let x = is_there net numbers v classes of m s sight o is p.lan q k e f in
+        let x = is_there net numbers v region_ids of m s sight o is p.lan q k e f in
         (λ i. if port_told p seen q k f i then Designated else option_map_or (λ (y : PortInView). if y.bridge == p.bridge then Backup else Alternate) (x.found i) Alternate)
         ∙ ap (λ t. if port_eq q p.name then Designated else (if t then Backup else Alternate)) (bridge_told q.bridge p.name.bridge x.port.bridge p.bridge x.has_bridge seen.has_numbers.bridge)
 

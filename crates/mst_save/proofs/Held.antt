@@ -20,7 +20,7 @@ use Rattle.mst_net.specs.ByTree.{table_in}
 use Rattle.mst_net.specs.Table.{no_table, tree_in, mapped, tree_count}
 use Rattle.mst_net.specs.Tables.{Net, IsNetwork, BridgeRow, PortRow, LanRow, port_eq, empty_net}
 use Rattle.mst_net.specs.After.{effect, refusal_of, first_of, has_bridge, has_port, has_lan, mac_taken, is_plugged, table_of, change, change_bridge, change_port, change_lan, new_bridge, new_port, new_lan, bridge_with, port_with, lan_with, in_lan}
-use Rattle.mst_net.proofs.KeptLemmas.{no_some}
+use Rattle.mst_net.proofs.Somes.{no_some}
 use Rattle.mst_net.proofs.Keyed.{same_keys, get_inserted, after_insert, len_added}
 use Rattle.mst_net.proofs.Keys.{name_eq, names, ports}
 use Rattle.mst_net.proofs.Changed.{get_changed, contains_changed, len_changed, changed_from, value_found}

@@ -9,7 +9,7 @@ use Rattle.std.proofs.lemmas.Fmt.{length-decimal-le}
 use Rattle.mst_ids.specs.Texts.{is_name_byte, is_conf_name, is_conf_name_byte, mac_text}
 use Rattle.mst_ids.specs.Vids.{run_text}
 use Rattle.mst_ids.proofs.ConfNameLemmas.{is_conf_name-mac_text}
-use Rattle.mst_words.specs.Words.{after_space}
+use Rattle.mst_ids.specs.Words.{after_space}
 use Rattle.mst_lang.specs.Ranges.{InRange, IsName}
 use Rattle.mst_lang.specs.declared.line.Edit.{Edit}
 use Rattle.mst_lang.specs.declared.line.Edit.TheVariants.{AddBridge, DelBridge, SetBridge, AddPort, DelPort, SetPort, AddLan, DelLan, SetLan, Plug, Unplug, SetByTree}

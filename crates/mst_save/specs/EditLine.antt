@@ -6,7 +6,7 @@ use Rattle.std.specs.Cmp.Lexicographic.{pointwise}
 use Rattle.mst_ids.specs.Texts.{mac_text}
 use Rattle.mst_ids.specs.Vids.{set_where, vids_text}
 use Rattle.mst_ids.specs.declared.name.PortName.{PortName}
-use Rattle.mst_words.specs.Words.{after_space}
+use Rattle.mst_ids.specs.Words.{after_space}
 use Rattle.mst_lang.specs.declared.line.Edit.{Edit}
 use Rattle.mst_lang.specs.declared.line.Edit.TheVariants.{AddBridge, DelBridge, SetBridge, AddPort, DelPort, SetPort, AddLan, DelLan, SetLan, Plug, Unplug, SetByTree}
 use Rattle.mst_lang.specs.declared.line.BridgeChange.{BridgeChange}

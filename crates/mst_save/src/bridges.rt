@@ -4,7 +4,7 @@ ghost use Rattle.std.specs.Option.{option_map_or};
 ghost use Rattle.std.specs.FinMap as fin;
 ghost use Rattle.std.specs.Cmp.Lexicographic.{pointwise};
 ghost use Rattle.mst_lang.specs.declared.line.Edit.TheVariants.{AddBridge, SetBridge, SetByTree};
-ghost use Rattle.mst_lang.specs.declared.line.BridgeChange.TheVariants.{Power as PowerOf, Kind as KindOf, SystemPriority, Configuration, MaxHops, MaxAge};
+ghost use Rattle.mst_lang.specs.declared.line.BridgeChange.TheVariants.{Power as PowerOf, Kind as KindOf, SystemPriority, Configuration, MaxHops as MaxHopsOf, MaxAge as MaxAgeOf};
 ghost use Rattle.mst_lang.specs.declared.line.TreeChange.TheVariants.{Priority};
 ghost use Rattle.mst_lang.specs.declared.line.Kind.TheVariants.{Rstp};
 ghost use Rattle.mst_lang.specs.declared.line.Power.TheVariants.{Off};
@@ -19,10 +19,9 @@ use crate::homes::{Homes, ports_of};
 use crate::line::{push_named, push_number, push_number_word, push_numbers};
 use crate::mappings::push_mappings;
 use crate::ports::push_ports;
-use mst_ids::{ConfName, Limit, Mac, Name, Tree, push_bytes};
+use mst_ids::{ConfName, Mac, MaxAge, MaxHops, Name, Tree, push_bytes, push_end, push_word};
 use mst_lang::{Kind, Power};
 use mst_net::{Bridge, Contents};
-use mst_words::{push_end, push_word};
 use std::alloc::{AllocError, Global};
 
 /// The system priority, and the limits of hops and of age, of a bridge where none was set.
@@ -162,8 +161,8 @@ fn has_own_configuration(bridge: &Bridge) -> bool
     !(bridge.revision == 0 && bridge.conf_name == ConfName::of_mac(bridge.mac))
 }
 
-fn push_max_hops(name: &Name, limit: Limit, out: &mut Vec<u8>) -> Result<(), AllocError>
-    ensures { OnOk result (out.new.items ≡ out.old.items ++ edits_text (when (not (limit == 20)) (SetBridge name.now (MaxHops limit)))) }
+fn push_max_hops(name: &Name, limit: MaxHops, out: &mut Vec<u8>) -> Result<(), AllocError>
+    ensures { OnOk result (out.new.items ≡ out.old.items ++ edits_text (when (not (limit == 20)) (SetBridge name.now (MaxHopsOf limit)))) }
 {
     let limit = u64::from(limit.value());
     if limit == LIMIT {
@@ -172,8 +171,8 @@ fn push_max_hops(name: &Name, limit: Limit, out: &mut Vec<u8>) -> Result<(), All
     push_number(b"setmaxhops", name, limit, out)
 }
 
-fn push_max_age(name: &Name, limit: Limit, out: &mut Vec<u8>) -> Result<(), AllocError>
-    ensures { OnOk result (out.new.items ≡ out.old.items ++ edits_text (when (not (limit == 20)) (SetBridge name.now (MaxAge limit)))) }
+fn push_max_age(name: &Name, limit: MaxAge, out: &mut Vec<u8>) -> Result<(), AllocError>
+    ensures { OnOk result (out.new.items ≡ out.old.items ++ edits_text (when (not (limit == 20)) (SetBridge name.now (MaxAgeOf limit)))) }
 {
     let limit = u64::from(limit.value());
     if limit == LIMIT {

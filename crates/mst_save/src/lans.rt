@@ -10,10 +10,9 @@ ghost use Rattle.mst_save.specs.Saved.{when, lan_settings, lan_edits};
 ghost use Rattle.mst_save.specs.SaveText.{edit_text, edits_text};
 
 use crate::line::{push_named, push_number};
-use mst_ids::Name;
+use mst_ids::{Name, push_line};
 use mst_lang::LanState;
 use mst_net::{Contents, Lan};
-use mst_words::push_line;
 use std::alloc::{AllocError, Global};
 
 /// The speed of a LAN where none was set, in kb/s.

@@ -7,9 +7,8 @@ ghost use Rattle.mst_save.specs.SaveText.{edits_text};
 
 use crate::runs::{push_run, run_from};
 use itoa::Buffer;
-use mst_ids::{Name, Tree, push_bytes};
+use mst_ids::{Name, Tree, push_bytes, push_end, push_word};
 use mst_net::{Contents, Table};
-use mst_words::{push_end, push_word};
 use std::alloc::{AllocError, Global};
 
 /// The most bytes that a line may have.

@@ -17,9 +17,8 @@ ghost use Rattle.mst_save.specs.SaveText.{edit_text, edits_text};
 
 use crate::line::{push_number, push_number_word, push_numbers, push_port_numbers};
 use itoa::Buffer;
-use mst_ids::{Cost, Name, PortName, Tree, VidSet, push_bytes};
+use mst_ids::{Cost, Name, PortName, Tree, VidSet, push_bytes, push_end, push_line, push_word};
 use mst_net::{Contents, Port};
-use mst_words::{push_end, push_line, push_word};
 use std::alloc::{AllocError, Global};
 
 /// Appends the lines of ports, in their order.

@@ -2,7 +2,7 @@
 use Rattle.std.proofs.Common.{◌≡◌, ℕ, List, [], ◌∷◌, ◌++◌, append_assoc, append-nil, ap, sym, ◌∙◌}
 use Rattle.std.specs.List.{flat_map}
 use Rattle.std.proofs.lemmas.Grind.{flat_map-append}
-use Rattle.mst_words.specs.Words.{after_space, line}
+use Rattle.mst_ids.specs.Words.{after_space, line}
 
 in_pieces : (out first words more end : List ℕ) → (((out ++ first) ++ words) ++ more) ++ end ≡ out ++ ((first ++ (words ++ more)) ++ end)
 in_pieces out first words more end = simp append_assoc

@@ -19,7 +19,7 @@ use Rattle.mst_lag.specs.Viewed.{Viewed, named_bridge, named_lan, named_port}
 use Rattle.mst_lag.specs.declared.in_view.BridgeInView.{BridgeInView}
 use Rattle.mst_lag.specs.declared.in_view.LanInView.{LanInView}
 use Rattle.mst_lag.specs.declared.in_view.PortInView.{PortInView}
-use Rattle.mst_config.specs.Classes.{AreRegions}
+use Rattle.mst_config.specs.Shared.{AreRegions}
 use Rattle.mst_config.specs.Regions.{region_of}
 use Rattle.mst_config.proofs.SameRegion.{has_first, HasFirst}
 use Rattle.mst_trees.specs.Agrees.{AreOf}
@@ -29,9 +29,9 @@ use Rattle.mst_trees.proofs.Entries.{all_weaker}
 use Rattle.mst_trees.proofs.Lists.{all_passing, all_there, filter_mapped, kept_same, mapped_twice, some_is}
 use Rattle.mst_trees.proofs.Looking.{filter_alike, has_tree_at}
 use Rattle.mst_trees.proofs.Seen.{SeenBridge, SeenPort, bridges_seen, ports_seen}
-use Rattle.mst_tree_text.specs.Lines.{id_in}
-use Rattle.mst_tree_text.specs.Seen.{seen_has}
-use Rattle.mst_tree_text.specs.TreeText.{has_tree}
+use Rattle.mst_text.specs.TreeLines.{id_in}
+use Rattle.mst_text.specs.TreeSeen.{seen_has}
+use Rattle.mst_text.specs.TreeText.{has_tree}
 use Rattle.mst_roles.proofs.Named.{named}
 use Rattle.mst_roles.proofs.Forwarded.{each_forwards}
 use Rattle.mst_vlan.specs.Reach.{is_member}

@@ -2,12 +2,12 @@
 use Rattle.std.specs.Prelude.{ℕ, Bool, List, [], ◌∷◌, length, filter, codes, decimal}
 use Rattle.std.specs.List.{count_by, list_any}
 use Rattle.std.specs.FinMap as fin
-use Rattle.mst_words.specs.Words.{line}
+use Rattle.mst_ids.specs.Words.{line}
 use Rattle.mst_net.specs.Tables.{Net}
 use Rattle.mst_lag.specs.Aggregation.{same_name}
 use Rattle.mst_lag.specs.View.{view_ports}
 use Rattle.mst_config.specs.Regions.{first_of_region}
-use Rattle.mst_tree_text.specs.TreeText.{has_tree}
+use Rattle.mst_text.specs.TreeText.{has_tree}
 use Rattle.mst_changes.specs.Places.{all_trees, bridge_names}
 use Rattle.mst_summary.specs.declared.counts.Counts.{Counts}
 

@@ -14,8 +14,8 @@ use Rattle.mst_lag.specs.declared.in_view.LanInView.{LanInView}
 use Rattle.mst_lag.specs.declared.in_view.PortInView.{PortInView}
 use Rattle.mst_trees.specs.Forest.{Forest}
 use Rattle.mst_trees.specs.Outcome.{Outcome}
-use Rattle.mst_tree_text.specs.Lines.{id_in}
-use Rattle.mst_tree_text.specs.Seen.{seen_has}
+use Rattle.mst_text.specs.TreeLines.{id_in}
+use Rattle.mst_text.specs.TreeSeen.{seen_has}
 use Rattle.mst_roles.specs.Seen.{seen_role, seen_forwards}
 use Rattle.mst_vlan.specs.Seen.{seen_member}
 use Rattle.mst_vlan.specs.declared.island.Island.{Island}

@@ -2,7 +2,7 @@
 use Rattle.std.specs.Prelude.{◌≡◌, ℕ, true, List, [], ◌∷◌, codes, decimal}
 use Rattle.std.specs.List.{count_by, flat_map}
 use Rattle.mst_ids.specs.Vids.{is_vid, set_where, vids_text}
-use Rattle.mst_words.specs.Words.{line}
+use Rattle.mst_ids.specs.Words.{line}
 use Rattle.mst_graph.specs.Groups.{AreGroups}
 use Rattle.mst_graph.specs.Islands.{Island}
 use Rattle.mst_net.specs.Tables.{Net}

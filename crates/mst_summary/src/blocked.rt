@@ -1,16 +1,15 @@
 ghost use Rattle.std.specs.Prelude.{◌≡◌, ◌++◌, map, IfOk, OnOk};
 ghost use Rattle.std.specs.List.{flat_map};
-ghost use Rattle.mst_words.specs.Words.{after_comma, comma_list};
-ghost use Rattle.mst_vlan_text.specs.Lines.{port_text};
+ghost use Rattle.mst_ids.specs.Words.{after_comma, comma_list};
+ghost use Rattle.mst_text.specs.VlanLines.{port_text};
 ghost use Rattle.mst_summary.specs.Blocked.{stops as stops_of, blocked_line};
 ghost use Rattle.mst_summary.specs.Seen.{seen_is_blocked, seen_blocked};
 
 use itoa::Buffer;
 use mst_changes::Planned;
-use mst_ids::{PortName, Tree, push_bytes};
+use mst_ids::{PortName, Tree, push_bytes, push_end, push_word};
 use mst_lag::PortInView;
 use mst_roles::{Role, role};
-use mst_words::{push_end, push_word};
 use std::alloc::{AllocError, Global};
 
 /// Whether there is a role, and it doesn't forward.

@@ -13,11 +13,10 @@ use crate::kept::{kept_for, ports_by_lan};
 use indexmap::IndexMap;
 use mst_changes::Planned;
 use mst_graph::Numbering;
-use mst_ids::{Name, Vid, push_bytes};
+use mst_ids::{Name, Vid, push_bytes, push_end, push_word};
 use mst_lag::{LanInView, PortInView, View};
 use mst_plan_text::{set_of, vids};
 use mst_roles::port_forwards;
-use mst_words::{push_end, push_word};
 use std::alloc::{AllocError, Global};
 
 /// Whether a port is a member of a VLAN.

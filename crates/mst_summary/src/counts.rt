@@ -5,11 +5,9 @@ ghost use Rattle.mst_summary.specs.Counts.{counts_line};
 ghost use Rattle.mst_summary.specs.Seen.{seen_first, seen_counts};
 
 use itoa::Buffer;
-use mst_config::Classes;
-use mst_ids::{BridgeId, Tree};
+use mst_config::Regions;
+use mst_ids::{BridgeId, Tree, push_line};
 use mst_lag::{BridgeInView, PortInView, View};
-use mst_lang::Power;
-use mst_words::push_line;
 use std::alloc::AllocError;
 
 /// How much there is of a network: bridges, those that are on, logical ports, those that are enabled, regions and trees.
@@ -23,18 +21,14 @@ pub(crate) struct Counts {
     pub(crate) trees: u64,
 }
 
-/// Whether a bridge is on.
-fn is_on(bridge: &BridgeInView) -> bool
-    ensures { result ≡ (bridge_row bridge.now.bridge).is_on }
-{
-    matches!(bridge.bridge.power, Power::On)
-}
-
 /// How many of these bridges are on.
 fn count_on(bridges: &[BridgeInView]) -> u64
     ensures { result ≡ count_by (λ b. (bridge_row b.bridge).is_on) bridges.now }
 {
-    bridges.iter().filter(|bridge| is_on(bridge)).count() as u64
+    bridges
+        .iter()
+        .filter(|bridge| bridge.bridge.is_on())
+        .count() as u64
 }
 
 /// How many of these ports are enabled.
@@ -45,35 +39,35 @@ fn count_enabled(ports: &[PortInView]) -> u64
 }
 
 /// Whether a bridge is the first of its region: the region's identifier has its MAC then.
-fn is_first(classes: &Classes, bridge: &BridgeInView) -> bool
-    ensures { result ≡ seen_first classes.now bridge.now }
+fn is_first(regions: &Regions, bridge: &BridgeInView) -> bool
+    ensures { result ≡ seen_first regions.now bridge.now }
 {
-    match classes.region(bridge.bridge.number) {
+    match regions.region(bridge.bridge.number) {
         None => false,
         Some(region) => region == BridgeId::of_region(bridge.bridge.mac),
     }
 }
 
 /// How many of these bridges are the first of their regions.
-fn count_firsts(classes: &Classes, bridges: &[BridgeInView]) -> u64
-    ensures { result ≡ count_by (seen_first classes.now) bridges.now }
+fn count_firsts(regions: &Regions, bridges: &[BridgeInView]) -> u64
+    ensures { result ≡ count_by (seen_first regions.now) bridges.now }
 {
     bridges
         .iter()
-        .filter(|bridge| is_first(classes, bridge))
+        .filter(|bridge| is_first(regions, bridge))
         .count() as u64
 }
 
 /// How much there is, with these trees.
-pub(crate) fn count(view: &View, classes: &Classes, trees: &[Tree]) -> Counts
-    ensures { result ≡ seen_counts view.now classes.now trees.now }
+pub(crate) fn count(view: &View, regions: &Regions, trees: &[Tree]) -> Counts
+    ensures { result ≡ seen_counts view.now regions.now trees.now }
 {
     Counts {
         bridges: view.bridges().len() as u64,
         on: count_on(view.bridges()),
         ports: view.ports().len() as u64,
         enabled: count_enabled(view.ports()),
-        regions: count_firsts(classes, view.bridges()),
+        regions: count_firsts(regions, view.bridges()),
         trees: trees.len() as u64,
     }
 }

@@ -12,10 +12,9 @@ ghost use Rattle.mst_summary.specs.Vlans.{HasIslands, islands_line, group_text, 
 use itoa::Buffer;
 use mst_changes::Planned;
 use mst_graph::{Numbering, groups_by_body};
-use mst_ids::{Vid, push_bytes};
+use mst_ids::{Vid, push_bytes, push_end, push_word};
 use mst_plan_text::{set_of, vids};
 use mst_vlan::{Island, reach};
-use mst_words::{push_end, push_word};
 use std::alloc::{AllocError, Global};
 
 /// Whether an island has a bridge.

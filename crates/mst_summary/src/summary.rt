@@ -1,6 +1,6 @@
 ghost use Rattle.std.specs.Prelude.{◌≡◌, ◌++◌, ℕ, List, OnOk};
 ghost use Rattle.std.specs.List.{flat_map};
-ghost use Rattle.mst_config.specs.Classes.{AreRegions};
+ghost use Rattle.mst_config.specs.Shared.{AreRegions};
 ghost use Rattle.mst_net.specs.Tables.{Net, Numbers};
 ghost use Rattle.mst_trees.specs.Agrees.{AreOf, Known};
 ghost use Rattle.mst_trees.specs.Forest.{IsForest};
@@ -15,7 +15,7 @@ use crate::islands::push_vlans;
 use crate::roots::push_roots;
 use crate::trees::used_trees;
 use mst_changes::Planned;
-use mst_config::Classes;
+use mst_config::Regions;
 use mst_ids::Tree;
 use std::alloc::{AllocError, Global};
 
@@ -42,7 +42,7 @@ fn push_trees(
     Ok(())
 }
 
-/// Appends the summary of a network, by its plan and its classes: how much there is, for each tree that some bridge has
+/// Appends the summary of a network, by its plan and its regions: how much there is, for each tree that some bridge has
 /// its roots with their followers and the enabled ports that don't forward, how many islands VIDs have, and the logical
 /// LANs that are up and don't carry all VIDs. `AllocError`: memory was wanted and refused; part of the text may have been
 /// appended.
@@ -52,15 +52,15 @@ fn push_trees(
 pub fn push_summary(
     alloc: Global,
     plan: &Planned,
-    classes: &Classes,
+    regions: &Regions,
     out: &mut Vec<u8>,
 ) -> Result<(), AllocError>
     requires { Known plan.now.view.now plan.now.forest.now.regions }
-    ensures { (net : Net) (numbers : Numbers) (is : IsForest net numbers plan.now.forest.now) → AreOf net numbers plan.now.view.now plan.now.forest.now.regions → AreRegions net numbers classes.now
+    ensures { (net : Net) (numbers : Numbers) (is : IsForest net numbers plan.now.forest.now) → AreOf net numbers plan.now.view.now plan.now.forest.now.regions → AreRegions net numbers regions.now
         → OnOk result ((text : List ℕ) × IsSummary net is.outcome text × (out.new.items ≡ out.old.items ++ text)) }
 {
     let trees = used_trees(alloc, plan.view)?;
-    let counts = count(plan.view, classes, trees.as_slice());
+    let counts = count(plan.view, regions, trees.as_slice());
     push_counts(&counts, out)?;
     push_trees(alloc, plan, trees.as_slice(), out)?;
     let numbering = classes_of_vids(alloc, plan.view)?;

@@ -6,7 +6,7 @@ use Rattle.std.specs.FinMap as fin
 use Rattle.std.specs.List.{Contains, find, flat_map, list_any}
 use Rattle.std.specs.Option.{option_map, option_map_or, option_and_then}
 use Rattle.std.proofs.lemmas.Bool.{eqb-true, eq-eqb}
-use Rattle.mst_words.specs.Words.{after_space, comma_list}
+use Rattle.mst_ids.specs.Words.{after_space, comma_list}
 use Rattle.mst_graph.specs.Islands.{Island, Link, AreJoined, link_ends}
 use Rattle.mst_graph.specs.Walks.{Walk, Node, bridge_at, lan_at}
 use Rattle.mst_graph.proofs.Members.{in_map, from_map, in_filter, from_filter, passing}

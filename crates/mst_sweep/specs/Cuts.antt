@@ -2,7 +2,7 @@
 use Rattle.std.specs.Prelude.{◌≡◌, ℕ, true, List, [], ◌∷◌, ◌++◌, filter, codes, if◌then◌else◌}
 use Rattle.std.specs.List.{flat_map}
 use Rattle.mst_ids.specs.Vids.{is_vid, set_where, vids_text}
-use Rattle.mst_words.specs.Words.{after_space}
+use Rattle.mst_ids.specs.Words.{after_space}
 use Rattle.mst_graph.specs.Groups.{AreGroups}
 use Rattle.mst_net.specs.Tables.{Net}
 use Rattle.mst_lag.specs.Trees.{is_among}

@@ -2,7 +2,7 @@
 use Rattle.std.specs.Prelude.{◌≡◌, ℕ, ◌==◌, ◌&&◌, not, Bool, false, List, [], Option, map, filter, filter_map, if◌then◌else◌}
 use Rattle.std.specs.List.{find, flat_map, list_any, position_from}
 use Rattle.std.specs.Option.{option_map, option_map_or, option_and_then}
-use Rattle.mst_words.specs.Words.{after_space, comma_list}
+use Rattle.mst_ids.specs.Words.{after_space, comma_list}
 use Rattle.mst_graph.specs.Islands.{Island}
 use Rattle.mst_net.specs.Tables.{Net}
 use Rattle.mst_lag.specs.Aggregation.{same_name}

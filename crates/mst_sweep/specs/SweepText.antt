@@ -2,7 +2,7 @@
 use Rattle.std.specs.Prelude.{◌≡◌, ℕ, Bool, true, false, List, [], ◌∷◌, ◌++◌, map, codes, decimal, Ok}
 use Rattle.std.specs.List.{AllZip, count_by, flat_map}
 use Rattle.mst_ids.specs.Vids.{set_where, vids_text}
-use Rattle.mst_words.specs.Words.{comma_list, line}
+use Rattle.mst_ids.specs.Words.{comma_list, line}
 use Rattle.mst_net.specs.After.{after}
 use Rattle.mst_net.specs.Tables.{Net}
 use Rattle.mst_lag.specs.Trees.{is_among}

@@ -20,9 +20,8 @@ use indexmap::IndexMap;
 use mst_changes::Planned;
 use mst_diff::Both;
 use mst_graph::groups_by_body;
-use mst_ids::{BridgeNo, Vid, push_bytes};
+use mst_ids::{BridgeNo, Vid, push_bytes, push_end};
 use mst_plan_text::{copies, set_of, vids};
-use mst_words::push_end;
 use std::alloc::{AllocError, Global};
 
 /// The parts of a VID, by the places of its islands before.

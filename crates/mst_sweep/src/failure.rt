@@ -36,16 +36,6 @@ impl Failure {
     }
 }
 
-/// Whether a bridge is on.
-fn is_on(bridge: &BridgeInView) -> bool
-    ensures { result ≡ (bridge_row bridge.now.bridge).is_on }
-{
-    match bridge.bridge.power {
-        Power::On => true,
-        Power::Off => false,
-    }
-}
-
 /// The failures of those of these LANs that are up.
 fn of_lans(alloc: Global, lans: &[MemberLan]) -> Result<Vec<Failure>, AllocError>
     ensures { IfOk result (λ failures. failures.items ≡ map (λ lan. Failure.Lan lan.name) (filter (λ lan. lan.is_up) lans.now)) }
@@ -62,7 +52,7 @@ fn of_bridges(alloc: Global, bridges: &[BridgeInView]) -> Result<Vec<Failure>, A
 {
     bridges
         .iter()
-        .filter(|bridge| is_on(bridge))
+        .filter(|bridge| bridge.bridge.is_on())
         .map(|bridge| Failure::Bridge(bridge.name))
         .collect(alloc)
 }

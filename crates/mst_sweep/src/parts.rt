@@ -1,6 +1,6 @@
 ghost use Rattle.std.specs.Prelude.{◌≡◌, ◌++◌, IfOk, OnOk, filter_map};
 ghost use Rattle.std.specs.List.{find, flat_map, list_any};
-ghost use Rattle.mst_words.specs.Words.{after_comma, comma_list};
+ghost use Rattle.mst_ids.specs.Words.{after_comma, comma_list};
 ghost use Rattle.mst_diff.specs.Seen.{seen_both};
 ghost use Rattle.mst_sweep.specs.Parts.{are_together, came_apart as came_apart_from, part as names_of_part, first_of as first_of_part, leads as leads_part, part_word, parts_text};
 ghost use Rattle.mst_sweep.specs.Seen.{seen_stays};

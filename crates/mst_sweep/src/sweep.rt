@@ -1,6 +1,6 @@
 ghost use Rattle.std.specs.Prelude.{◌≡◌, ◌∷◌, [], ◌++◌, ℕ, List, Ok, IfOk, OnOk, codes, decimal, map};
 ghost use Rattle.std.specs.List.{count_by, flat_map};
-ghost use Rattle.mst_words.specs.Words.{after_space, after_comma, comma_list};
+ghost use Rattle.mst_ids.specs.Words.{after_space, after_comma, comma_list};
 ghost use Rattle.mst_changes.specs.ChangesText.{spaced};
 ghost use Rattle.mst_net.specs.After.{after};
 ghost use Rattle.mst_net.specs.Tables.{Net, Numbers};
@@ -19,9 +19,8 @@ use crate::standing::Standing;
 use itoa::Buffer;
 use mst_changes::Planned;
 use mst_diff::bridges_of_both;
-use mst_ids::{Tree, Vid, push_bytes};
+use mst_ids::{Tree, Vid, push_bytes, push_end, push_line, push_word};
 use mst_plan_text::set_of;
-use mst_words::{push_end, push_line, push_word};
 use std::alloc::{AllocError, Global};
 
 /// Appends the number of a tree.

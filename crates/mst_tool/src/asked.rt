@@ -1,15 +1,11 @@
-ghost use Rattle.std.specs.Prelude.{◌≡◌, ◌≤◌, true, length};
-ghost use Rattle.std.specs.List.{list_all};
+ghost use Rattle.std.specs.Prelude.{◌≡◌};
 ghost use Rattle.std.specs.Option.{option_map};
-ghost use Rattle.std.specs.Char.{is_ascii_digit as digit};
-ghost use Rattle.mst_ids.specs.Vids.{decimal_value};
-ghost use Rattle.mst_lang.specs.Arguments.{number_value};
 ghost use Rattle.mst_lang.specs.Arguments as forms;
 ghost use Rattle.mst_tool.specs.Ask.{explain_question};
 ghost use Rattle.mst_tool.specs.Asked.{asked_of, asked_tree};
 
 use mst_ids::{Name, PortName, PortNumber, Tree};
-use mst_lang::Fault;
+use mst_lang::{Fault, parse_number};
 
 /// What is asked of the network that a script leaves.
 #[derive(Clone, Copy)]
@@ -76,7 +72,7 @@ fn name(word: &[u8]) -> Result<Name, Fault>
 fn port_number(word: &[u8]) -> Result<PortNumber, Fault>
     ensures { result ≡ forms.port_number word.now }
 {
-    let number = number(word).ok_or(Fault::E02)?;
+    let number = parse_number(word).ok_or(Fault::E02)?;
     PortNumber::new(number).ok_or(Fault::E02)
 }
 
@@ -97,35 +93,6 @@ fn some_tree(word: Option<&[u8]>) -> Result<Option<Tree>, Fault>
 fn tree(word: &[u8]) -> Result<Tree, Fault>
     ensures { result ≡ forms.tree word.now }
 {
-    let number = number(word).ok_or(Fault::E03)?;
+    let number = parse_number(word).ok_or(Fault::E03)?;
     Tree::new(number).ok_or(Fault::E03)
-}
-
-/// A number of 1 to 10 decimal digits.
-fn number(word: &[u8]) -> Option<u64>
-    ensures { result ≡ number_value word.now }
-{
-    if word.is_empty() || word.len() > 10 || !are_digits(word) {
-        return None;
-    }
-    Some(digits(word))
-}
-
-fn are_digits(word: &[u8]) -> bool
-    ensures { result ≡ list_all digit word.now }
-{
-    word.iter().all(|byte| byte.is_ascii_digit())
-}
-
-/// The value of decimal digits.
-fn digits(word: &[u8]) -> u64
-    requires few { length word.now ≤ 10 }
-    requires digits { list_all digit word.now ≡ true }
-    ensures { result ≡ decimal_value word.now }
-{
-    let mut value = 0;
-    for byte in word {
-        value = value * 10 + u64::from(byte - b'0');
-    }
-    value
 }

@@ -19,7 +19,7 @@ use Rattle.mst_lag.specs.Viewed.{Viewed}
 use Rattle.mst_lag.specs.declared.in_view.BridgeInView.{BridgeInView}
 use Rattle.mst_lag.specs.declared.in_view.PortInView.{PortInView}
 use Rattle.mst_lag.specs.Trees.{is_among}
-use Rattle.mst_config.specs.Classes.{AreRegions}
+use Rattle.mst_config.specs.Shared.{AreRegions}
 use Rattle.mst_trees.specs.Cist.{cist_sight, cist_of}
 use Rattle.mst_trees.specs.Msti.{msti_bridge, has_msti, msti_sight, msti_of}
 use Rattle.mst_trees.specs.Outcome.{TreeOutcome, IsTreeOutcome, Outcome, IsOutcome}
@@ -36,19 +36,19 @@ use Rattle.mst_trees.proofs.Seen.{bridge_seen, bridge_there}
 use Rattle.mst_trees.proofs.Agreeing.{RenamedVectors, RenamedPorts, agrees}
 use Rattle.mst_trees.proofs.Looking.{cist_is_seen, has_tree_at, inner_is_seen, msti_is_seen}
 
-module _ (net : Net) (numbers : Numbers) (v : Viewed) (classes : List (ℕ × ℕ)) (of : AreOf net numbers v classes) where
+module _ (net : Net) (numbers : Numbers) (v : Viewed) (region_ids : List (ℕ × ℕ)) (of : AreOf net numbers v region_ids) where
   -- the CIST that is settled by numbers is the one by names
   pub cist_agrees : RenamedVectors cist_rules → RenamedPorts cist_rules → (o : TreeOutcome CistVector) → IsTreeOutcome cist_rules (cist_of net) o
-      → (a : Assignment CistVector) → IsSettledFor cist_rules (cist_seen v classes) a → Agrees numbers o (vector_of a) (designated_of a)
+      → (a : Assignment CistVector) → IsSettledFor cist_rules (cist_seen v region_ids) a → Agrees numbers o (vector_of a) (designated_of a)
   cist_agrees vectors ports o is a settled =
       agrees net numbers of.network of.numbered v of.view cist_rules (cist_sight net) (cist_is_sight net of.network) vectors ports o is a
-      (subst (λ t. IsSettledFor cist_rules t a) (cist_is_seen net numbers v classes of) settled)
+      (subst (λ t. IsSettledFor cist_rules t a) (cist_is_seen net numbers v region_ids of) settled)
 
   -- by which the inner ports are those by names
   pub inner_agrees : RenamedVectors cist_rules → RenamedPorts cist_rules → (o : TreeOutcome CistVector) → IsTreeOutcome cist_rules (cist_of net) o
-      → (a : Assignment CistVector) → IsSettledFor cist_rules (cist_seen v classes) a → inner_seen v classes (designated_of a) ≡ inner_of net o.designated v
+      → (a : Assignment CistVector) → IsSettledFor cist_rules (cist_seen v region_ids) a → inner_seen v region_ids (designated_of a) ≡ inner_of net o.designated v
   inner_agrees vectors ports o is a settled =
-      inner_is_seen net numbers v classes of o is (vector_of a) (designated_of a) (cist_agrees vectors ports o is a settled)
+      inner_is_seen net numbers v region_ids of o is (vector_of a) (designated_of a) (cist_agrees vectors ports o is a settled)
 
   module _ (tree : ℕ) (designated : List ℕ → Option PortName) (inner : List PortInView) (inner_is : inner ≡ inner_of net designated v)
       (former mstis : List (ℕ × Assignment MstiVector)) (are : AreOutcomes v inner former mstis) (o : TreeOutcome MstiVector) (is : IsTreeOutcome msti_rules (msti_of net tree designated) o) where
@@ -62,7 +62,7 @@ module _ (net : Net) (numbers : Numbers) (v : Viewed) (classes : List (ℕ × �
         let name : z.0.name ≡ n = ap (λ (e : List ℕ × BridgeRow). e.0) z.2 in
         let number : fin.get numbers.bridges n ≡ Some z.0.bridge.number = ap (fin.get numbers.bridges) (sym name) ∙ (bridge_seen net numbers v of.view z.0 z.1).has_number in
         let there = all_contained (λ (b : BridgeInView). (tree : ℕ) → is_among (trees_at v b.bridge.number) tree ≡ true → is_some (lookup (nat_eq tree) mstis) ≡ true) v.bridges z.0 are.there z.1 in
-        true≢false (sym (there tree (has_tree_at net numbers v classes of tree n z.0.bridge.number number ∙ has)) ∙ ap is_some none)
+        true≢false (sym (there tree (has_tree_at net numbers v region_ids of tree n z.0.bridge.number number ∙ has)) ∙ ap is_some none)
 
     absent : lookup (nat_eq tree) mstis ≡ None → Agrees numbers o (λ n. None) (λ n. None)
     absent none = record {
@@ -99,11 +99,11 @@ module _ (net : Net) (numbers : Numbers) (v : Viewed) (classes : List (ℕ × �
         go (Some a) e =
             subst (λ (x : Option (Assignment MstiVector)). Agrees numbers o (λ n. option_and_then (λ a. vector_of a n) x) (λ n. option_and_then (λ a. designated_of a n) x)) (sym e)
             (agrees net numbers of.network of.numbered v of.view msti_rules (msti_sight net tree designated) (msti_is_sight net of.network tree designated) vectors ports o is a
-            (subst (λ t. IsSettledFor msti_rules t a) (msti_is_seen net numbers v classes of tree designated inner inner_is) (are.settled tree a e).outcome))
+            (subst (λ t. IsSettledFor msti_rules t a) (msti_is_seen net numbers v region_ids of tree designated inner inner_is) (are.settled tree a e).outcome))
 
   pub is_forest : RenamedVectors cist_rules → RenamedPorts cist_rules → RenamedVectors msti_rules → RenamedPorts msti_rules
-      → (o : Outcome) → IsOutcome net o → (f : Forest) → f.regions ≡ classes → IsSettledFor cist_rules (cist_seen v classes) f.cist
-      → (inner : List PortInView) → inner ≡ inner_seen v classes (designated_of f.cist) → (former : List (ℕ × Assignment MstiVector)) → AreOutcomes v inner former f.mstis → IsForest net numbers f
+      → (o : Outcome) → IsOutcome net o → (f : Forest) → f.regions ≡ region_ids → IsSettledFor cist_rules (cist_seen v region_ids) f.cist
+      → (inner : List PortInView) → inner ≡ inner_seen v region_ids (designated_of f.cist) → (former : List (ℕ × Assignment MstiVector)) → AreOutcomes v inner former f.mstis → IsForest net numbers f
   is_forest vectors ports msti_vectors msti_ports o is f regions settled inner inner_is former are = record {
     outcome = o;
     is_outcome = is;

@@ -169,39 +169,39 @@ module _ {B P V : Type 0} (m : Rules B P V) (wires : List (Plug ℕ ℕ ℕ P)) 
   }
 
 -- ---- the CIST
-module _ (net : Net) (numbers : Numbers) (v : Viewed) (classes : List (ℕ × ℕ)) (of : AreOf net numbers v classes) where
-  cist_can : CanSettle cist_rules (cist_bridges_seen v classes) (cist_wires v)
+module _ (net : Net) (numbers : Numbers) (v : Viewed) (region_ids : List (ℕ × ℕ)) (of : AreOf net numbers v region_ids) where
+  cist_can : CanSettle cist_rules (cist_bridges_seen v region_ids) (cist_wires v)
   cist_can =
-      subst (λ (t : Topology ℕ ℕ ℕ CistBridge CistPort). CanSettle cist_rules t.bridges t.ports) (sym (cist_is_seen net numbers v classes of))
+      subst (λ (t : Topology ℕ ℕ ℕ CistBridge CistPort). CanSettle cist_rules t.bridges t.ports) (sym (cist_is_seen net numbers v region_ids of))
       (can_settle net numbers of.network of.numbered v of.view cist_rules (cist_sight net) (cist_is_sight net of.network))
 
   pub cist_numbers : HaveNumbers (cist_wires v)
   cist_numbers = apart_weaker (PortsDiffer cist_rules) (λ (p q : Plug ℕ ℕ ℕ CistPort). p.number ≢ q.number) (λ p q d. d.numbers) (cist_wires v) cist_can.ports_differ
 
   -- each port of the wiring takes part
-  each_part : (p : Plug ℕ ℕ ℕ CistPort) → Contains (cist_wires v) p → port_in (cist_bridges_seen v classes) [] p ≡ p
+  each_part : (p : Plug ℕ ℕ ℕ CistPort) → Contains (cist_wires v) p → port_in (cist_bridges_seen v region_ids) [] p ≡ p
   each_part p h = λ i. record { number = p.number; bridge = p.bridge; lan = p.lan; settings = p.settings; is_part = same i; is_restricted = p.is_restricted }
     where
       bridges : List (ℕ × CistBridge)
-      bridges = cist_bridges_seen v classes
+      bridges = cist_bridges_seen v region_ids
 
       takes : p.is_part ≡ true
       takes = all_contained (λ (p : Plug ℕ ℕ ℕ CistPort). p.is_part ≡ true) (cist_wires v) p cist_can.take_part h
 
       there : is_some (lookup (nat_eq p.bridge) bridges) ≡ true
       there =
-          let b = all_contained (λ (p : Plug ℕ ℕ ℕ CistPort). (b : CistBridge) × Contains (cist_bridges_seen v classes) (p.bridge, b)) (cist_wires v) p cist_can.have_bridge h in
-          there_looked p.bridge b.0 (cist_bridges_seen v classes) b.1
+          let b = all_contained (λ (p : Plug ℕ ℕ ℕ CistPort). (b : CistBridge) × Contains (cist_bridges_seen v region_ids) (p.bridge, b)) (cist_wires v) p cist_can.have_bridge h in
+          there_looked p.bridge b.0 (cist_bridges_seen v region_ids) b.1
 
       same : (p.is_part && is_some (lookup (nat_eq p.bridge) bridges)) ≡ p.is_part
       same = (λ i. takes i && there i) ∙ sym takes
 
-  pub cist_on_wiring : OnWiring cist_rules (topology_of (cist_wires v) (cist_bridges_seen v classes) []) (cist_seen v classes)
-  cist_on_wiring = on_wiring cist_rules (cist_wires v) (cist_bridges_seen v classes) [] (cist_wires v) cist_can (record {
+  pub cist_on_wiring : OnWiring cist_rules (topology_of (cist_wires v) (cist_bridges_seen v region_ids) []) (cist_seen v region_ids)
+  cist_on_wiring = on_wiring cist_rules (cist_wires v) (cist_bridges_seen v region_ids) [] (cist_wires v) cist_can (record {
     numbers = cist_numbers;
     in_range = cist_can.in_range;
     to = λ p h part. subst (Contains (cist_wires v)) (sym (each_part p h)) h;
-    from = λ p h. subst (Contains (map (port_in (cist_bridges_seen v classes) []) (cist_wires v))) (each_part p h) (contains_mapped (port_in (cist_bridges_seen v classes) []) (cist_wires v) p h);
+    from = λ p h. subst (Contains (map (port_in (cist_bridges_seen v region_ids) []) (cist_wires v))) (each_part p h) (contains_mapped (port_in (cist_bridges_seen v region_ids) []) (cist_wires v) p h);
   })
 
 -- ---- the MSTIs
@@ -236,7 +236,7 @@ module _ (v : Viewed) (inner : List PortInView) (tree : ℕ) (own : List (ℕ ×
   msti_can : CanSettle msti_rules bridges ports
   msti_can =
       subst (λ (t : Topology ℕ ℕ ℕ MstiBridge MstiPort). CanSettle msti_rules t.bridges t.ports)
-      (sym (msti_is_seen known.net known.numbers v known.classes known.of tree known.designated inner known.is))
+      (sym (msti_is_seen known.net known.numbers v known.region_ids known.of tree known.designated inner known.is))
       (can_settle known.net known.numbers known.of.network known.of.numbered v known.of.view msti_rules (msti_sight known.net tree known.designated)
       (msti_is_sight known.net known.of.network tree known.designated))
 

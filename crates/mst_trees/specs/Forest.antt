@@ -7,7 +7,7 @@ use Rattle.mst_settle.specs.Assignment.{Assignment, vector_of, designated_of}
 use Rattle.mst_settle.specs.Repair.{CountsVectors}
 use Rattle.mst_net.specs.Tables.{Net, Numbers}
 use Rattle.mst_lag.specs.Viewed.{Viewed}
-use Rattle.mst_config.specs.Classes.{AreRegions}
+use Rattle.mst_config.specs.Shared.{AreRegions}
 use Rattle.mst_trees.specs.Outcome.{Outcome, IsOutcome}
 use Rattle.mst_trees.specs.Agrees.{Agrees}
 use Rattle.mst_trees.specs.Seen.{cist_seen, inner_seen, msti_seen}

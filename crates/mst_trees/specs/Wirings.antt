@@ -27,7 +27,7 @@ abbrev pub cist_wires : Viewed → List (Plug ℕ ℕ ℕ CistPort)
 cist_wires v = filter_map (seen_cist_port v.settings) v.ports
 
 abbrev pub cist_bridges_seen : Viewed → List (ℕ × ℕ) → List (ℕ × CistBridge)
-cist_bridges_seen v classes = filter_map (seen_cist_bridge v.settings classes) v.bridges
+cist_bridges_seen v region_ids = filter_map (seen_cist_bridge v.settings region_ids) v.bridges
 
 -- that of the MSTIs: the inner ports, with the settings that they have in a tree for which none were set
 abbrev pub base_port : PortInView → MstiPort

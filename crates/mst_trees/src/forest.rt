@@ -3,7 +3,7 @@ ghost use Rattle.mst_vector.specs.Cist.{cist_rules};
 ghost use Rattle.mst_settle.specs.Assignment.{vector_of, designated_of};
 ghost use Rattle.mst_repair.specs.Held.{IsHeld};
 ghost use Rattle.mst_net.specs.Tables.{Net, Numbers};
-ghost use Rattle.mst_config.specs.Classes.{same_in};
+ghost use Rattle.mst_config.specs.Shared.{same_in};
 ghost use Rattle.mst_trees.specs.Agrees.{AreOf, Known, KnownInner};
 ghost use Rattle.mst_trees.specs.Forest.{IsForest, IsSettledOnce, KeepsBounds, msti_vector, designated_in, settlings_in, trees_seen};
 ghost use Rattle.mst_trees.specs.Mstis.{AreHeld, AreOutcomes, outcomes};
@@ -17,7 +17,7 @@ use crate::laws::{has_outcome, nested};
 use crate::msti::{inner_ports, is_inner, msti_wiring};
 use crate::mstis::{Mstis, repaired_mstis};
 use indexmap::IndexMap;
-use mst_config::Classes;
+use mst_config::Regions;
 use mst_ids::{BridgeNo, LanNo, Name, PortName, PortNo, Tree};
 use mst_lag::{PortInView, View};
 use mst_repair::SpanningTree;
@@ -31,7 +31,7 @@ use std::marker::Model;
 /// ports: the CIST by that of the enabled ones, and the MSTIs by that of those whose LAN belongs to the region of their
 /// bridge.
 pub struct Forest {
-    regions: Classes,
+    regions: Regions,
     cist_wiring: Wiring<CistPort>,
     cist: SpanningTree<CistMetric>,
     msti_wiring: Wiring<MstiPort>,
@@ -71,7 +71,7 @@ impl Forest {
         ensures mstis { (tree n : ℕ) → msti_vector result tree n ≡ None }
     {
         Forest {
-            regions: Classes::none(alloc),
+            regions: Regions::none(alloc),
             cist_wiring: Wiring::new(alloc),
             cist: SpanningTree::new(alloc),
             msti_wiring: Wiring::new(alloc),
@@ -80,14 +80,14 @@ impl Forest {
     }
 
     /// Settles the trees of a network, by its view and its regions. `AllocError`: memory was wanted and refused.
-    pub fn new(alloc: Global, view: &View, classes: &Classes) -> Result<Forest, AllocError>
-        requires { Known view.now classes.now }
-        ensures outcome { IfOk result (λ forest. (net : Net) (numbers : Numbers) → AreOf net numbers view.now classes.now → IsForest net numbers forest) }
+    pub fn new(alloc: Global, view: &View, regions: &Regions) -> Result<Forest, AllocError>
+        requires { Known view.now regions.now }
+        ensures outcome { IfOk result (λ forest. (net : Net) (numbers : Numbers) → AreOf net numbers view.now regions.now → IsForest net numbers forest) }
         ensures nested { IfOk result (λ forest. IsSettled (trees_seen view.now forest)) }
         ensures once { IfOk result IsSettledOnce }
     {
         let nothing = Forest::empty(alloc);
-        nothing.repaired(alloc, view, classes)
+        nothing.repaired(alloc, view, regions)
     }
 
     /// The trees of another network, each repaired from the one that stands: a copy is repaired, and this forest
@@ -96,10 +96,10 @@ impl Forest {
         &self,
         alloc: Global,
         view: &View,
-        classes: &Classes,
+        regions: &Regions,
     ) -> Result<Forest, AllocError>
-        requires { Known view.now classes.now }
-        ensures outcome { IfOk result (λ forest. (net : Net) (numbers : Numbers) → AreOf net numbers view.now classes.now → IsForest net numbers forest) }
+        requires { Known view.now regions.now }
+        ensures outcome { IfOk result (λ forest. (net : Net) (numbers : Numbers) → AreOf net numbers view.now regions.now → IsForest net numbers forest) }
         ensures nested { IfOk result (λ forest. IsSettled (trees_seen view.now forest)) }
         ensures bounds { IfOk result (KeepsBounds self.now) }
     {
@@ -107,12 +107,12 @@ impl Forest {
         nested();
         renamed::<CistMetric, Name, Name, PortName, BridgeNo, LanNo, PortNo>();
         renamed::<MstiMetric, Name, Name, PortName, BridgeNo, LanNo, PortNo>();
-        let (cist_wiring, cist) = self.next_cist(alloc, view, classes)?;
-        let inner = inner_ports(alloc, view, classes, &cist)?;
+        let (cist_wiring, cist) = self.next_cist(alloc, view, regions)?;
+        let inner = inner_ports(alloc, view, regions, &cist)?;
         let msti_wiring = msti_wiring(alloc, inner.as_slice())?;
         let mstis = self.next_mstis(alloc, view, inner.as_slice(), &msti_wiring)?;
         Ok(Forest {
-            regions: classes.copy()?,
+            regions: regions.copy()?,
             cist_wiring,
             cist,
             msti_wiring,
@@ -125,14 +125,14 @@ impl Forest {
         &self,
         alloc: Global,
         view: &View,
-        classes: &Classes,
+        regions: &Regions,
     ) -> Result<(Wiring<CistPort>, SpanningTree<CistMetric>), AllocError>
-        requires { Known view.now classes.now }
-        ensures settled { IfOk result (λ r. IsSettledBy cist_rules (cist_seen view.now classes.now) (vector_of self.now.cist) r.1.outcome) }
+        requires { Known view.now regions.now }
+        ensures settled { IfOk result (λ r. IsSettledBy cist_rules (cist_seen view.now regions.now) (vector_of self.now.cist) r.1.outcome) }
         ensures held { IfOk result (λ r. IsHeld cist_rules r.0 r.1) }
     {
         let wiring = cist_wiring(alloc, view)?;
-        let cist = repaired_cist(alloc, &self.cist, &self.cist_wiring, &wiring, view, classes)?;
+        let cist = repaired_cist(alloc, &self.cist, &self.cist_wiring, &wiring, view, regions)?;
         Ok((wiring, cist))
     }
 

@@ -1,7 +1,6 @@
 ghost use Rattle.std.specs.Prelude.{◌≡◌, IfOk, map};
 ghost use Rattle.mst_graph.specs.Islands.{AreIslands};
 ghost use Rattle.mst_ids.specs.Vids.{has};
-ghost use Rattle.mst_net.specs.After.{is_on as power_is_on};
 ghost use Rattle.mst_net.specs.Tables.{Net, Numbers};
 ghost use Rattle.mst_trees.specs.Agrees.{AreOf, Known};
 ghost use Rattle.mst_trees.specs.Forest.{IsForest};
@@ -12,19 +11,9 @@ use crate::island::{BridgeList, Island, LanList};
 use mst_graph::{Link, islands};
 use mst_ids::{BridgeNo, LanNo, Vid};
 use mst_lag::{PortInView, View};
-use mst_lang::Power;
 use mst_roles::port_forwards;
 use mst_trees::Forest;
 use std::alloc::{AllocError, Global};
-
-fn is_on(power: Power) -> bool
-    ensures { result ≡ power_is_on power }
-{
-    match power {
-        Power::On => true,
-        Power::Off => false,
-    }
-}
 
 /// The bridges that are on.
 fn bridges_on(alloc: Global, view: &View) -> Result<Vec<BridgeNo>, AllocError>
@@ -32,7 +21,7 @@ fn bridges_on(alloc: Global, view: &View) -> Result<Vec<BridgeNo>, AllocError>
 {
     view.bridges()
         .iter()
-        .filter(|bridge| is_on(bridge.bridge.power))
+        .filter(|bridge| bridge.bridge.is_on())
         .map(|bridge| bridge.bridge.number)
         .collect(alloc)
 }

@@ -1,6 +1,6 @@
 use Rattle.std.proofs.Common.{Vec, Global, ◌≡◌, ℕ, ◌++◌, List, map, ap, ◌∙◌}
 use Rattle.std.specs.List.{flat_map}
-use Rattle.mst_words.specs.Words.{after_space}
+use Rattle.mst_ids.specs.Words.{after_space}
 use Rattle.mst_diff.specs.Reach.{island_words, without}
 use Rattle.mst_diff.specs.Seen.{apart_word, joined_sides}
 use Rattle.mst_diff.proofs.NamedSides.{apart_text, sides_joined}

@@ -2,7 +2,7 @@ use Rattle.std.proofs.Common.{◌≡◌, ◌≤◌, ◌-◌, nat_eq}
 use Rattle.std.specs.Map.{lookup}
 use Rattle.std.specs.Cmp.Lexicographic.{pointwise}
 use Rattle.mst_net.specs.Tables.{BridgeTree, bridge_tree_eq}
-use Rattle.mst_net.specs.SetByTree.{in_block}
+use Rattle.mst_records.specs.Blocks.{in_block}
 use Rattle.mst_net.proofs.SetByTree.{left_below}
 use Rattle.mst_net.proofs.settings.forget_bridge.Given as goal
 

@@ -2,7 +2,7 @@ use Rattle.std.proofs.Common.{false, ap, sym, ◌∙◌, arith}
 use Rattle.std.specs.Prelude.{slice_index_or}
 use Rattle.std.specs.Map.{lookup}
 use Rattle.mst_net.specs.Tables.{port_eq, port_tree_eq}
-use Rattle.mst_net.specs.SetByTree.{in_block}
+use Rattle.mst_records.specs.Blocks.{in_block}
 use Rattle.mst_net.proofs.SetByTree.{none_yet, passed_by, all_trees}
 use Rattle.mst_net.proofs.settings.forget_port.Goals as goal
 

@@ -1,7 +1,7 @@
 use Rattle.std.proofs.Common.{◌≡◌, ◌≤◌, ◌-◌}
 use Rattle.std.specs.Map.{lookup}
 use Rattle.mst_net.specs.Tables.{port_eq, PortTree, port_tree_eq}
-use Rattle.mst_net.specs.SetByTree.{in_block}
+use Rattle.mst_records.specs.Blocks.{in_block}
 use Rattle.mst_net.proofs.SetByTree.{left_below}
 use Rattle.mst_net.proofs.settings.forget_port.Given as goal
 

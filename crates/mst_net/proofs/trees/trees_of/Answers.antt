@@ -1,6 +1,6 @@
 use Rattle.std.proofs.Common.{◌≡◌, ℕ, ◌-◌, ◌∷◌, [], ◌++◌, refl, ap, sym, ◌∙◌, arith, rules}
 use Rattle.std.specs.Prelude.{slice_index_or, false}
-use Rattle.mst_net.specs.SetByTree.{in_block}
+use Rattle.mst_records.specs.Blocks.{in_block}
 use Rattle.mst_net.proofs.TreesListed.{one_passes, some_fail, all_listed}
 use Rattle.mst_net.proofs.trees.trees_of.Goals as goal
 

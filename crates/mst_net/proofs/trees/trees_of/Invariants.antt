@@ -1,6 +1,6 @@
 use Rattle.std.proofs.Common.{◌≡◌, ◌≤◌, ◌-◌}
 use Rattle.std.specs.List.{filter, range_with_len}
-use Rattle.mst_net.specs.SetByTree.{in_block}
+use Rattle.mst_records.specs.Blocks.{in_block}
 use Rattle.mst_net.proofs.trees.trees_of.Given as goal
 
 abbrev pub invariant-loop-number : goal.invariant-loop-number

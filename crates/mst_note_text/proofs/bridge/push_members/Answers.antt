@@ -1,7 +1,7 @@
 use Rattle.std.proofs.Common.{◌++◌, [], length, sym, ap, refl, ◌∙◌}
 use Rattle.std.specs.Option.{option_map_or}
 use Rattle.std.proofs.lemmas.Option.{slice_get_read}
-use Rattle.mst_depths.specs.Places.{depths_at}
+use Rattle.mst_note_text.specs.Places.{depths_at}
 use Rattle.mst_note_text.specs.declared.member.Member.{Member}
 use Rattle.mst_note_text.specs.SeenNotes.{notes_at, seen_notes}
 use Rattle.mst_note_text.proofs.Flat.{number_more}

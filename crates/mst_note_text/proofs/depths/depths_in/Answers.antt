@@ -4,9 +4,9 @@ use Rattle.mst_net.specs.Tables.{Net, Numbers}
 use Rattle.mst_trees.specs.Agrees.{AreOf}
 use Rattle.mst_trees.specs.Forest.{IsForest}
 use Rattle.mst_trees.specs.Outcome.{trees_of}
-use Rattle.mst_depths.specs.Depths.{InternalDepth, ExternalDepth}
-use Rattle.mst_depths.specs.Places.{HasDepths, depths_at}
-use Rattle.mst_depths.specs.declared.parent.Depths.{Depths}
+use Rattle.mst_note_text.specs.Depths.{InternalDepth, ExternalDepth}
+use Rattle.mst_note_text.specs.Places.{HasDepths, depths_at}
+use Rattle.mst_note_text.specs.declared.parent.Depths.{Depths}
 use Rattle.mst_note_text.specs.SeenTree.{name_at}
 use Rattle.mst_note_text.proofs.Found.{if_ok, is_forest, internal_found, external_found}
 use Rattle.mst_note_text.proofs.depths.depths_in.Goals as goal

@@ -1,7 +1,7 @@
 use Rattle.std.proofs.Common.{Vec, Global, ◌≡◌, refl, take, ◌+◌, ℕ, List, ◌++◌, ◌∷◌, [], get_or, map, sym, ap, subst, ◌∙◌, arith, rules}
 use Rattle.std.proofs.lemmas.Grind.{common_steps}
 use Rattle.std.proofs.lemmas.List.{map-append}
-use Rattle.mst_vlan_text.specs.VlanText.{IsBody}
+use Rattle.mst_text.specs.VlanText.{IsBody}
 use Rattle.mst_plan_text.specs.Bodies.{AreBodiesAt}
 use Rattle.mst_plan_text.proofs.Bodied.{bodies_more, bodies_all}
 use Rattle.mst_plan_text.proofs.bodies.bodies.Goals as goal

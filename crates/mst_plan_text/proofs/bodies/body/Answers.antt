@@ -1,5 +1,5 @@
 use Rattle.std.proofs.Common.{◌++◌, sym, ap, subst, ◌∙◌}
-use Rattle.mst_vlan_text.specs.VlanText.{IsBody}
+use Rattle.mst_text.specs.VlanText.{IsBody}
 use Rattle.mst_plan_text.proofs.bodies.body.Goals as goal
 
 pub returns : goal.returns

@@ -1,4 +1,4 @@
-use Rattle.mst_tree_text.specs.TreeText.{tree_text}
+use Rattle.mst_text.specs.TreeText.{tree_text}
 use Rattle.mst_plan_text.proofs.Texts.{text_more, text_all}
 use Rattle.mst_plan_text.proofs.trees.push_mstis.Goals as goal
 

@@ -1,7 +1,7 @@
 use Rattle.std.proofs.Common.{◌≡◌, ◌++◌, ap, ◌∙◌, append_assoc}
 use Rattle.std.specs.List.{flat_map}
 use Rattle.std.proofs.lemmas.Result.{IfOk-from_err, on_ok_weaker}
-use Rattle.mst_tree_text.specs.TreeText.{tree_text}
+use Rattle.mst_text.specs.TreeText.{tree_text}
 use Rattle.mst_plan_text.specs.PlanText.{mstis}
 use Rattle.mst_plan_text.proofs.SeenTrees.{mstis_named}
 use Rattle.mst_plan_text.proofs.trees.push_trees.Goals as goal

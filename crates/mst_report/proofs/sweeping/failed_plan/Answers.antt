@@ -1,7 +1,7 @@
 use Rattle.std.proofs.Common.{◌≡◌, IfOk, sym, ap, subst, ◌∙◌}
 use Rattle.mst_lang.specs.declared.line.Edit.{Edit}
 use Rattle.mst_net.specs.Contents.{CanCommit, ahead_of}
-use Rattle.mst_config.specs.Classes.{AreRegions}
+use Rattle.mst_config.specs.Shared.{AreRegions}
 use Rattle.mst_report.specs.Kept.{IsPlan}
 use Rattle.mst_report.specs.Sweeping.{IsFailedPlan}
 use Rattle.mst_report.proofs.Swept.{if_ok, regions_ahead, failed_is}
@@ -16,10 +16,10 @@ plan_ahead-requires-clause-ready c =
 pub plan_ahead-requires-clause-regions : goal.plan_ahead-requires-clause-regions
 plan_ahead-requires-clause-regions c =
     let now = c.prepare.new.self in
-    let classes = c.args.plan.now.classes in
+    let region_ids = c.args.plan.now.regions in
     let ready = subst (λ r. IfOk r (λ (ready : Edit). (ready ≡ c.edit-edit.result) × CanCommit c.edit-edit.result now)) c.in-Ok.is c.prepare.ensures.ready in
-    subst (λ (e : Edit). AreRegions (ahead_of now e).net (ahead_of now e).numbers classes) (sym (ready.0 ∙ c.edit-edit.ensures))
-    (regions_ahead c.args.network.now now c.args.failure.now c.prepare.ensures.same c.regions_stay.ensures.ahead classes c.requires.regions)
+    subst (λ (e : Edit). AreRegions (ahead_of now e).net (ahead_of now e).numbers region_ids) (sym (ready.0 ∙ c.edit-edit.ensures))
+    (regions_ahead c.args.network.now now c.args.failure.now c.prepare.ensures.same c.regions_stay.ensures.ahead region_ids c.requires.regions)
 
 pub returns-in-Ok-clause-failed : goal.returns-in-Ok-clause-failed
 returns-in-Ok-clause-failed c =

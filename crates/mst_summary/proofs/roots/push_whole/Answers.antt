@@ -1,7 +1,7 @@
 use Rattle.std.proofs.Common.{◌≡◌, ℕ, List, [], ◌∷◌, ◌++◌, length, codes, decimal, ap, ◌∙◌}
 use Rattle.std.specs.List.{flat_map}
 use Rattle.std.proofs.lemmas.Result.{on_ok_weaker}
-use Rattle.mst_words.specs.Words.{after_space}
+use Rattle.mst_ids.specs.Words.{after_space}
 use Rattle.mst_summary.specs.Roots.{priority_word, next_of, next_words}
 use Rattle.mst_summary.proofs.Lines.{line_of_more}
 use Rattle.mst_summary.proofs.roots.push_whole.Goals as goal

@@ -15,7 +15,7 @@ pub returns : goal.returns
 returns c net numbers is of regions =
     let v = c.args.plan.now.view.now in
     let f = c.args.plan.now.forest.now in
-    let classes = c.args.classes.now in
+    let classes = c.args.regions.now in
     let out = c.args.out.now.items in
     let C : List ℕ = counts_line (counts_of net) in
     let T : List ℕ = trees_text net is.outcome in

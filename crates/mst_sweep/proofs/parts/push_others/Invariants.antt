@@ -1,6 +1,6 @@
 use Rattle.std.proofs.Common.{◌≡◌, ◌++◌, take}
 use Rattle.std.specs.List.{flat_map}
-use Rattle.mst_words.specs.Words.{after_comma}
+use Rattle.mst_ids.specs.Words.{after_comma}
 use Rattle.mst_sweep.proofs.parts.push_others.Given as goal
 
 -- the names so far

@@ -1,7 +1,7 @@
 use Rattle.std.proofs.Common.{◌≡◌, ℕ, List, [], ◌∷◌, ◌++◌, codes, decimal, map, ap, ◌∙◌}
 use Rattle.std.proofs.lemmas.Result.{on_ok_weaker}
 use Rattle.mst_ids.specs.Vids.{set_where, vids_text}
-use Rattle.mst_words.specs.Words.{after_space, comma_list}
+use Rattle.mst_ids.specs.Words.{after_space, comma_list}
 use Rattle.mst_changes.specs.ChangesText.{spaced}
 use Rattle.mst_lag.specs.Trees.{is_among}
 use Rattle.mst_sweep.specs.SweepText.{failure_words}

@@ -3,7 +3,7 @@ use Rattle.std.specs.Prelude.{◌==◌, IfOk}
 use Rattle.std.specs.List.{filter}
 use Rattle.std.specs.FinMap as fin
 use Rattle.mst_net.specs.ByTree.{port_cost_in}
-use Rattle.mst_net.specs.SetByTree.{in_block}
+use Rattle.mst_records.specs.Blocks.{in_block}
 use Rattle.mst_net.specs.Tables.{PortTree}
 use Rattle.mst_net.proofs.Keyed.{get_keyed}
 use Rattle.mst_net.proofs.Keys.{port_trees}

@@ -15,34 +15,34 @@ use Rattle.mst_trees.proofs.forest.Forest.repaired.Goals as goal
 pub msti_wiring-requires : goal.msti_wiring-requires
 msti_wiring-requires c =
     let v = c.args.view.now in
-    let classes = c.args.classes.now in
+    let region_ids = c.args.regions.now in
     let k = c.requires in
     let o = c.has_outcome.ensures k.net k.of.network in
     inner_numbers v c.as_slice.result.now (record {
       net = k.net;
       numbers = k.numbers;
-      classes = classes;
+      region_ids = region_ids;
       of = k.of;
       designated = o.0.cist.designated;
       is = c.as_slice.ensures.value ∙ c.in_ok-inner.ensures
-          ∙ inner_agrees k.net k.numbers v classes k.of c.renamed.ensures.vectors c.renamed.ensures.ports o.0.cist o.1.cist c.in_ok-cist_wiring.cist.outcome c.in_ok-cist_wiring.ensures.settled.outcome;
+          ∙ inner_agrees k.net k.numbers v region_ids k.of c.renamed.ensures.vectors c.renamed.ensures.ports o.0.cist o.1.cist c.in_ok-cist_wiring.cist.outcome c.in_ok-cist_wiring.ensures.settled.outcome;
     })
 
 pub next_mstis-requires : goal.next_mstis-requires
 next_mstis-requires c =
     let v = c.args.view.now in
-    let classes = c.args.classes.now in
+    let region_ids = c.args.regions.now in
     let k = c.requires in
     let o = c.has_outcome.ensures k.net k.of.network in
     record {
       known = record {
         net = k.net;
         numbers = k.numbers;
-        classes = classes;
+        region_ids = region_ids;
         of = k.of;
         designated = o.0.cist.designated;
         is = c.as_slice-2.ensures.value ∙ c.in_ok-inner.ensures
-            ∙ inner_agrees k.net k.numbers v classes k.of c.renamed.ensures.vectors c.renamed.ensures.ports o.0.cist o.1.cist c.in_ok-cist_wiring.cist.outcome c.in_ok-cist_wiring.ensures.settled.outcome;
+            ∙ inner_agrees k.net k.numbers v region_ids k.of c.renamed.ensures.vectors c.renamed.ensures.ports o.0.cist o.1.cist c.in_ok-cist_wiring.cist.outcome c.in_ok-cist_wiring.ensures.settled.outcome;
       };
       wiring = c.in_ok-msti_wiring.ensures ∙ ap msti_wires (c.as_slice.ensures.value ∙ sym c.as_slice-2.ensures.value);
     }
@@ -50,10 +50,10 @@ next_mstis-requires c =
 pub returns-clause-outcome : goal.returns-clause-outcome
 returns-clause-outcome c = λ net numbers of.
     let v = c.args.view.now in
-    let classes = c.args.classes.now in
+    let region_ids = c.args.regions.now in
     let o = c.has_outcome.ensures net of.network in
     let f : Forest = record { regions = c.in_ok-copy.field-0; cist = c.in_ok-cist_wiring.cist.outcome; mstis = outcomes c.in_ok-mstis.mstis.entries } in
-    is_forest net numbers v classes of c.renamed.ensures.vectors c.renamed.ensures.ports c.renamed-2.ensures.vectors c.renamed-2.ensures.ports o.0 o.1
+    is_forest net numbers v region_ids of c.renamed.ensures.vectors c.renamed.ensures.ports c.renamed-2.ensures.vectors c.renamed-2.ensures.ports o.0 o.1
     f c.in_ok-copy.ensures c.in_ok-cist_wiring.ensures.settled.outcome c.as_slice-2.result.now (c.as_slice-2.ensures.value ∙ c.in_ok-inner.ensures) c.args.self.now.mstis c.in_ok-mstis.ensures.settled
 
 pub returns-clause-nested : goal.returns-clause-nested
@@ -66,10 +66,10 @@ returns-clause-nested c =
     let f : Forest = record { regions = c.in_ok-copy.field-0; cist = cist; mstis = outcomes c.in_ok-mstis.mstis.entries } in
     is_settled_seen k.net k.numbers v f (subst (AreOf k.net k.numbers v) regions k.of)
     c.renamed.ensures.vectors c.renamed.ensures.ports c.renamed.ensures.topology c.renamed-2.ensures.topology o.0 o.1 (c.nested.ensures.settled k.net o.0 k.of.network o.1)
-    (subst (λ classes. IsSettledFor cist_rules (cist_seen v classes) cist) regions c.in_ok-cist_wiring.ensures.settled.outcome) c.args.self.now.mstis
+    (subst (λ region_ids. IsSettledFor cist_rules (cist_seen v region_ids) cist) regions c.in_ok-cist_wiring.ensures.settled.outcome) c.args.self.now.mstis
     (same_inner (c.as_slice-2.ensures.value ∙ c.in_ok-inner.ensures ∙ (λ i. inner_seen v (regions i) (designated_of cist))) c.in_ok-mstis.ensures.settled)
 
 pub returns-clause-bounds : goal.returns-clause-bounds
 returns-clause-bounds c =
     let f : Forest = record { regions = c.in_ok-copy.field-0; cist = c.in_ok-cist_wiring.cist.outcome; mstis = outcomes c.in_ok-mstis.mstis.entries } in
-    keeps_bounds c.args.self.now f c.args.view.now c.args.classes.now c.in_ok-cist_wiring.ensures.settled c.as_slice-2.result.now c.in_ok-mstis.ensures.settled
+    keeps_bounds c.args.self.now f c.args.view.now c.args.regions.now c.in_ok-cist_wiring.ensures.settled c.as_slice-2.result.now c.in_ok-mstis.ensures.settled

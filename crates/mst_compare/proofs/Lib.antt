@@ -1,0 +1,3 @@
+pub mod Found
+pub mod Sending
+pub mod Planning

@@ -1,0 +1,4 @@
+pub mod Sender
+pub mod Plan
+pub mod Comparison
+pub mod Seen

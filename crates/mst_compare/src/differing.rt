@@ -1,0 +1,55 @@
+ghost use Rattle.std.specs.Prelude.{◌≡◌, true, Some, IfOk, IfErr, IsSome};
+ghost use Rattle.mst_net.specs.Seen.{bridge_row};
+ghost use Rattle.mst_bpdu.specs.Differences.{differences_of};
+ghost use Rattle.mst_bpdu.specs.declared.planned.Planned.{Planned as PlannedOf};
+ghost use Rattle.mst_compare.specs.Sender.{sender_of};
+ghost use Rattle.mst_compare.specs.Comparison.{AreDifferences, fault_of};
+ghost use Rattle.mst_compare.specs.Seen.{seen_cist, seen_planned};
+
+use crate::planned::planned;
+use crate::senders::{Origin, sender_in};
+use mst_bpdu::{Bpdu, BpduFault, Difference, differences};
+use mst_lag::View;
+use mst_net::Contents;
+use mst_report::Planner;
+use mst_trees::Forest;
+use std::alloc::{AllocError, Global};
+
+/// Where a BPDU differs from what the plan has for the port that sent it, in the order in which fields are compared.
+/// The plan has the port's designated priority vector, its role and whether it forwards, in the CIST and in each MSTI
+/// of its bridge, and the bridge's MST Configuration Identifier.
+///
+/// B07: the BPDU has no sender, as [`sender`](crate::sender) tells. B99: it has one, and memory was wanted and
+/// refused. There is no other fault.
+pub fn compare(alloc: Global, planner: &Planner, bpdu: &Bpdu) -> Result<Vec<Difference>, BpduFault>
+    requires { planner.now.is_settled ≡ true }
+    ensures found { IfOk result (λ found. AreDifferences planner.now.contents.net bpdu.now found.items) }
+    ensures fault { IfErr result (λ fault. fault ≡ fault_of (sender_of planner.now.contents.net bpdu.now)) }
+{
+    planner.network().known();
+    let view = planner.view();
+    let forest = planner.forest();
+    match sender_in(view, bpdu) {
+        None => Err(BpduFault::B07),
+        Some(sender) => match from_plan(alloc, view, forest, &sender, bpdu) {
+            Ok(found) => Ok(found),
+            Err(_) => Err(BpduFault::B99),
+        },
+    }
+}
+
+/// Where a BPDU differs from what the plan has for its sender, whose bridge has a root priority vector in the CIST.
+fn from_plan(
+    alloc: Global,
+    view: &View,
+    forest: &Forest,
+    sender: &Origin,
+    bpdu: &Bpdu,
+) -> Result<Vec<Difference>, AllocError>
+    requires { IsSome (seen_cist view.now forest.now (bridge_row sender.now.bridge.bridge) sender.now.port) }
+    ensures { IfOk result (λ found. (plan : PlannedOf) × (seen_planned view.now forest.now sender.now ≡ Some plan) × (found.items ≡ differences_of plan bpdu.now)) }
+{
+    let plan = planned(alloc, view, forest, sender)?;
+    let found = differences(alloc, &plan, bpdu)?;
+    Ok(found)
+}

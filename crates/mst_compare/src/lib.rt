@@ -1,0 +1,17 @@
+//! Captured BPDUs beside the plan: which port sent one by the plan, and in which fields it differs from what the plan
+//! has for that port.
+//!
+//! [`read_line`] reads a BPDU, [`sender`] tells the logical port that it comes from, [`compare`] lists its
+//! differences, and [`push_comparison`] and [`push_fault`] append the lines that tell of them.
+#![tactic(auto)]
+
+mod differing;
+pub mod laws;
+mod planned;
+mod senders;
+
+pub use differing::compare;
+pub use mst_bpdu::{
+    Bpdu, BpduFault, Difference, Field, Value, push_comparison, push_fault, read_line,
+};
+pub use senders::sender;

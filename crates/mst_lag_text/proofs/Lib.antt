@@ -1,2 +1,0 @@
-pub mod ByLan
-pub mod Classes

@@ -1,4 +1,0 @@
-pub mod LagText
-pub mod LagView
-pub mod KeptWords
-pub mod WordsByLan

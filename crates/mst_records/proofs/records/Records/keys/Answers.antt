@@ -1,0 +1,14 @@
+use Rattle.std.proofs.Common.{sym, ap, ◌∙◌, subst}
+use Rattle.std.specs.List.{IsDistinct}
+use Rattle.std.specs.Map.{keys_of}
+use Rattle.std.proofs.lemmas.Result.{IfOk-weaker}
+use Rattle.mst_records.proofs.KeptLemmas.{keys-rows_of}
+use Rattle.mst_records.proofs.records.Records.keys.Goals as goal
+
+pub returns-clause-keys : goal.returns-clause-keys
+returns-clause-keys g c = IfOk-weaker c.collect_keys.result _ _ (λ found h. h ∙ sym (keys-rows_of c.self.inside.records.entries) ∙ ap (λ r. keys_of r.rows) c.self.view_is) c.collect_keys.ensures
+
+pub returns-clause-distinct : goal.returns-clause-distinct
+returns-clause-distinct g c =
+    let eq = g.K.PartialEq.eq in
+    subst (λ r. IsDistinct eq (keys_of r.rows)) c.self.view_is (subst (IsDistinct eq) (sym (keys-rows_of c.self.inside.records.entries)) c.self.invariant.unique)

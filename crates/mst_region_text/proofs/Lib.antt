@@ -1,5 +1,0 @@
-mod Flat
-mod Keeping
-mod RegionsSeen
-mod Shown
-mod VidsOf

@@ -1,3 +1,0 @@
-pub mod ConfigurationText
-pub mod Members
-pub mod RegionsText

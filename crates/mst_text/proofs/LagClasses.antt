@@ -1,0 +1,65 @@
+-- The text of the classes of links, by the lists of a view and by the network.
+use Rattle.std.proofs.Common.{◌≡◌, ℕ, List, [], ◌∷◌, ◌++◌, map, refl, sym, ap, ◌∙◌, codes, decimal}
+use Rattle.std.specs.List.{flat_map}
+use Rattle.std.specs.Option.{option_map_or}
+use Rattle.std.proofs.lemmas.List.Folds.{flat_map-map}
+use Rattle.std.specs.FinMap as fin
+use Rattle.mst_net.specs.Tables.{Net, Numbers}
+use Rattle.mst_lag.specs.Aggregation.{plugs, same_name}
+use Rattle.mst_lag.specs.Lag.{lag_id_text}
+use Rattle.mst_lag.specs.View.{LogicalLan, members, up_members, member_plugs}
+use Rattle.mst_lag.specs.Viewed.{Viewed, IsView, named_lan, member_lan, member_port}
+use Rattle.mst_lag.specs.declared.lag.LagId.{LagId}
+use Rattle.mst_lag.specs.declared.in_view.LanInView.{LanInView}
+use Rattle.mst_lag.specs.declared.in_view.MemberLan.{MemberLan}
+use Rattle.mst_lag.specs.declared.in_view.MemberPort.{MemberPort}
+use Rattle.mst_lag.proofs.Lists.{filter_mapped, mapped_twice}
+use Rattle.mst_text.specs.LagText.{port_text, lag_line, lags_text}
+use Rattle.mst_text.specs.LagView.{lans_in, up_of, ports_in, lan_word, port_word, class_line, class_text, classes_text}
+use Rattle.mst_ids.specs.Words.{line, comma_list}
+
+flat_map_same : {A : Type 0} (f g : A → List ℕ) → ((x : A) → f x ≡ g x) → (xs : List A) → flat_map f xs ≡ flat_map g xs
+flat_map_same f g same [] = refl
+flat_map_same f g same (x ∷ xs) = λ i. same x i ++ flat_map_same f g same xs i
+
+-- the line of a logical LAN, if its members are aggregatable
+abbrev lan_text : Net → LogicalLan → List ℕ
+lan_text net lan = option_map_or (lag_line net lan) lan.lag []
+
+module _ (net : Net) (numbers : Numbers) (v : Viewed) (is : IsView net numbers v) (name : List ℕ) where
+  members_are : lans_in name v.member_lans ≡ map (member_lan net) (members net name)
+  members_are =
+      ap (lans_in name) is.member_lans
+      ∙ filter_mapped (λ (m : MemberLan). same_name m.lan name) (member_lan net) (fin.entries net.lans)
+
+  pub lans_are : map lan_word (lans_in name v.member_lans) ≡ map (λ e. e.0) (members net name)
+  lans_are = ap (map lan_word) members_are ∙ mapped_twice lan_word (member_lan net) (members net name)
+
+  pub ups_are : map lan_word (up_of (lans_in name v.member_lans)) ≡ map (λ e. e.0) (up_members net name)
+  ups_are =
+      ap (λ l. map lan_word (up_of l)) members_are
+      ∙ ap (map lan_word) (filter_mapped (λ (m : MemberLan). m.is_up) (member_lan net) (members net name))
+      ∙ mapped_twice lan_word (member_lan net) (up_members net name)
+
+  pub ports_are : map port_word (ports_in name v.member_ports) ≡ map (λ p. port_text p.port) (member_plugs net name)
+  ports_are =
+      ap (λ l. map port_word (ports_in name l)) is.member_ports
+      ∙ ap (map port_word) (filter_mapped (λ (m : MemberPort). same_name m.lan name) (member_port net) (plugs net))
+      ∙ mapped_twice port_word (member_port net) (member_plugs net name)
+
+module _ (net : Net) (numbers : Numbers) (v : Viewed) (is : IsView net numbers v) where
+  line_is : (lan : LanInView) (id : LagId) → class_line v lan id ≡ lag_line net (named_lan lan) id
+  line_is lan id = λ i.
+      line (codes "lag" ∷ lan.name ∷ lag_id_text id ∷ codes "speed" ∷ decimal lan.speed
+      ∷ codes "up" ∷ comma_list (ups_are net numbers v is lan.name i)
+      ∷ codes "lans" ∷ comma_list (lans_are net numbers v is lan.name i)
+      ∷ codes "ports" ∷ comma_list (ports_are net numbers v is lan.name i) ∷ [])
+
+  text_is : (lan : LanInView) → class_text v lan ≡ lan_text net (named_lan lan)
+  text_is lan = λ i. option_map_or (λ id. line_is lan id i) lan.lag []
+
+  pub classes_are : classes_text v ≡ lags_text net
+  classes_are =
+      flat_map_same (class_text v) (λ lan. lan_text net (named_lan lan)) text_is v.lans
+      ∙ sym (flat_map-map (lan_text net) named_lan v.lans)
+      ∙ ap (flat_map (lan_text net)) is.lans

@@ -1,0 +1,13 @@
+pub mod TreeLines
+pub mod TreeText
+pub mod TreeSeen
+pub mod VlanLines
+pub mod VlanText
+pub mod VlanSeen
+pub mod LagText
+pub mod LagView
+pub mod KeptWords
+pub mod WordsByLan
+pub mod ConfigurationText
+pub mod Members
+pub mod RegionsText

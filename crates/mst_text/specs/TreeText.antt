@@ -1,0 +1,34 @@
+-- The text of a tree, by name.
+use Rattle.std.specs.Prelude.{ℕ, ◌==◌, ◌||◌, Bool, List, [], ◌++◌, filter}
+use Rattle.std.specs.List.{flat_map}
+use Rattle.std.specs.Option.{option_map_or}
+use Rattle.std.specs.FinMap as fin
+use Rattle.mst_net.specs.Tables.{Net, BridgeRow}
+use Rattle.mst_net.specs.ByTree.{by_tree}
+use Rattle.mst_lag.specs.Aggregation.{same_name}
+use Rattle.mst_lag.specs.View.{LogicalPort, view_ports}
+use Rattle.mst_trees.specs.Msti.{has_msti}
+use Rattle.mst_trees.specs.Outcome.{Outcome}
+use Rattle.mst_roles.specs.Roles.{role_in}
+use Rattle.mst_text.specs.TreeLines.{heading, bridge_line, port_line}
+
+-- a bridge has the tree: each has tree 0, the CIST
+abbrev pub has_tree : Net → ℕ → List ℕ → Bool
+has_tree net tree name = tree == 0 || has_msti net tree name
+
+-- the logical ports of a bridge, by number
+abbrev pub ports_of : Net → List ℕ → List LogicalPort
+ports_of net bridge = filter (λ p. same_name p.name.bridge bridge) (view_ports net)
+
+-- the line of a port, with its role, if its bridge has the tree
+abbrev pub port_text : Net → Outcome → ℕ → LogicalPort → List ℕ
+port_text net o tree p = option_map_or (port_line (by_tree net) tree p) (role_in net o tree p) []
+
+-- the lines of a bridge: its own, and one for each of its logical ports
+abbrev pub bridge_text : Net → Outcome → ℕ → List ℕ × BridgeRow → List ℕ
+bridge_text net o tree e =
+    bridge_line (by_tree net) tree e.0 e.1 (o.cist.vector e.0) ((o.msti tree).vector e.0) ++ flat_map (port_text net o tree) (ports_of net e.0)
+
+-- the heading, and the lines of each bridge that has the tree, in byte order of names
+abbrev pub tree_text : Net → Outcome → ℕ → List ℕ
+tree_text net o tree = heading tree ++ flat_map (bridge_text net o tree) (filter (λ e. has_tree net tree e.0) (fin.entries net.bridges))

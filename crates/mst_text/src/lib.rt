@@ -1,0 +1,32 @@
+//! The texts of a network, one each: of a tree, of a VID, of the classes of links, of regions, and of the MST configuration of
+//! a bridge (802.1Q-2022, 13.8).
+//!
+//! | Text | Function | Definition |
+//! |---|---|---|
+//! | a tree: root priority vectors of its bridges, roles of their logical ports | [`push_tree`] | `specs/TreeText.antt` |
+//! | a VID: its active ports, and the islands that frames of it reach | [`push_vlan`] | `specs/VlanText.antt` |
+//! | which LANs count as one, and their ports | [`push_lags`] | `specs/LagText.antt` |
+//! | an MST configuration | [`push_configuration`] | `specs/ConfigurationText.antt` |
+//! | the regions and their bridges | [`push_regions`] | `specs/RegionsText.antt` |
+#![tactic(auto)]
+
+mod active;
+mod by_lan;
+mod configuration;
+mod digits;
+mod islands;
+mod lags;
+pub mod laws;
+mod members;
+mod regions;
+mod tree;
+mod tree_bridge;
+mod tree_port;
+mod vlan;
+
+pub use configuration::push_configuration;
+pub use islands::bridge_name;
+pub use lags::push_lags;
+pub use regions::push_regions;
+pub use tree::push_tree;
+pub use vlan::{push_body, push_vlan};

@@ -1,0 +1,144 @@
+ghost use Rattle.std.specs.Prelude.{◌≡◌, ◌++◌, OnOk};
+ghost use Rattle.mst_net.specs.Seen.{bridge_row};
+ghost use Rattle.mst_trees.specs.Forest.{msti_vector};
+ghost use Rattle.mst_settle.specs.Assignment.{vector_of};
+ghost use Rattle.mst_text.specs.TreeLines.{id_in, off_line, cist_line, msti_line, vector_line};
+ghost use Rattle.mst_text.specs.TreeSeen.{seen_line};
+
+use itoa::Buffer;
+use mst_ids::{BridgeId, Name, Tree, push_line};
+use mst_lag::{BridgeInView, View};
+use mst_lang::Power;
+use mst_net::TreeSettings;
+use mst_trees::Forest;
+use mst_vector::{CistVector, MstiVector};
+use std::alloc::AllocError;
+
+/// Appends the line of a bridge: that it is off, or its root priority vector in the tree.
+pub(crate) fn push_own_line(
+    view: &View,
+    forest: &Forest,
+    tree: Tree,
+    bridge: &BridgeInView,
+    out: &mut Vec<u8>,
+) -> Result<(), AllocError>
+    ensures { OnOk result (out.new.items ≡ out.old.items ++ seen_line view.now forest.now tree bridge.now) }
+{
+    match bridge.bridge.power {
+        Power::Off => push_off(&bridge.name, out),
+        Power::On => {
+            let id = id_in_tree(view.settings(), tree, bridge);
+            push_vector(forest, tree, bridge, id, out)
+        }
+    }
+}
+
+/// The identifier of a bridge in a tree.
+fn id_in_tree(settings: &TreeSettings, tree: Tree, bridge: &BridgeInView) -> BridgeId
+    ensures { result ≡ id_in settings.now.set tree bridge.now.name (bridge_row bridge.now.bridge) }
+{
+    let priority = settings.tree_priority(&bridge.name, tree);
+    BridgeId::new(priority, tree, bridge.bridge.mac)
+}
+
+/// Appends the line of a bridge that is off.
+fn push_off(bridge: &Name, out: &mut Vec<u8>) -> Result<(), AllocError>
+    ensures { OnOk result (out.new.items ≡ out.old.items ++ off_line bridge.now) }
+{
+    let words: [&[u8]; 3] = [b"bridge", bridge.as_bytes(), b"off"];
+    push_line(&words, out)
+}
+
+/// Appends the line of a bridge of this identifier with its root priority vector.
+fn push_vector(
+    forest: &Forest,
+    tree: Tree,
+    bridge: &BridgeInView,
+    id: BridgeId,
+    out: &mut Vec<u8>,
+) -> Result<(), AllocError>
+    ensures { OnOk result (out.new.items ≡ out.old.items ++ vector_line tree bridge.now.name id (vector_of forest.now.cist bridge.now.bridge.number) (msti_vector forest.now tree bridge.now.bridge.number)) }
+{
+    let number = bridge.bridge.number;
+    if tree.value() == 0 {
+        match forest.cist(number) {
+            None => Ok(()),
+            Some(vector) => push_in_cist(&bridge.name, id, &vector, out),
+        }
+    } else {
+        match forest.msti(tree, number) {
+            None => Ok(()),
+            Some(vector) => push_in_msti(&bridge.name, id, &vector, out),
+        }
+    }
+}
+
+/// Appends the line of a bridge with its root priority vector in the CIST.
+fn push_in_cist(
+    bridge: &Name,
+    id: BridgeId,
+    vector: &CistVector,
+    out: &mut Vec<u8>,
+) -> Result<(), AllocError>
+    ensures { OnOk result (out.new.items ≡ out.old.items ++ cist_line bridge.now id vector.now) }
+{
+    let mut external = Buffer::new();
+    let mut internal = Buffer::new();
+    let id = id.text();
+    let root = vector.root.text();
+    let regional = vector.regional.text();
+    let designated = vector.designated.text();
+    let port = vector.port.text();
+    let receiver = vector.receiver.text();
+    let words: [&[u8]; 16] = [
+        b"bridge",
+        bridge.as_bytes(),
+        &id,
+        b"root",
+        &root,
+        b"ext",
+        external.format(vector.external).as_bytes(),
+        b"regional",
+        &regional,
+        b"int",
+        internal.format(vector.internal).as_bytes(),
+        b"from",
+        &designated,
+        &port,
+        b"at",
+        &receiver,
+    ];
+    push_line(&words, out)
+}
+
+/// Appends the line of a bridge with its root priority vector in an MSTI.
+fn push_in_msti(
+    bridge: &Name,
+    id: BridgeId,
+    vector: &MstiVector,
+    out: &mut Vec<u8>,
+) -> Result<(), AllocError>
+    ensures { OnOk result (out.new.items ≡ out.old.items ++ msti_line bridge.now id vector.now) }
+{
+    let mut internal = Buffer::new();
+    let id = id.text();
+    let regional = vector.regional.text();
+    let designated = vector.designated.text();
+    let port = vector.port.text();
+    let receiver = vector.receiver.text();
+    let words: [&[u8]; 12] = [
+        b"bridge",
+        bridge.as_bytes(),
+        &id,
+        b"regional",
+        &regional,
+        b"int",
+        internal.format(vector.internal).as_bytes(),
+        b"from",
+        &designated,
+        &port,
+        b"at",
+        &receiver,
+    ];
+    push_line(&words, out)
+}

@@ -1,0 +1,149 @@
+ghost use Rattle.std.specs.Prelude.{◌≡◌, ◌++◌, ◌∷◌, [], OnOk, codes, decimal};
+ghost use Rattle.mst_lag.specs.Viewed.{named_port};
+ghost use Rattle.mst_roles.specs.Names.{role_text};
+ghost use Rattle.mst_trees.specs.Cist.{cist_port as port_in_cist};
+ghost use Rattle.mst_trees.specs.Msti.{msti_port as port_in_msti};
+ghost use Rattle.mst_ids.specs.Words.{line};
+ghost use Rattle.mst_text.specs.TreeLines.{cist_words, msti_words, port_line};
+ghost use Rattle.mst_text.specs.TreeSeen.{seen_port};
+
+use itoa::Buffer;
+use mst_ids::{PortId, Tree, auto_cost, push_line};
+use mst_lag::{PortInView, View};
+use mst_net::TreeSettings;
+use mst_roles::{Role, role};
+use mst_trees::Forest;
+use mst_vector::{CistPort, MstiPort};
+use std::alloc::AllocError;
+
+/// Appends the line of a logical port, if its bridge has the tree.
+pub(crate) fn push_port(
+    view: &View,
+    forest: &Forest,
+    tree: Tree,
+    port: &PortInView,
+    out: &mut Vec<u8>,
+) -> Result<(), AllocError>
+    ensures { OnOk result (out.new.items ≡ out.old.items ++ seen_port view.now forest.now tree port.now) }
+{
+    match role(view, forest, port.number, tree) {
+        None => Ok(()),
+        Some(role) => push_with_role(view.settings(), tree, port, role, out),
+    }
+}
+
+/// Appends the line of a logical port with its role.
+fn push_with_role(
+    settings: &TreeSettings,
+    tree: Tree,
+    port: &PortInView,
+    role: Role,
+    out: &mut Vec<u8>,
+) -> Result<(), AllocError>
+    ensures { OnOk result (out.new.items ≡ out.old.items ++ port_line settings.now.set tree (named_port port.now) role) }
+{
+    if !port.is_enabled {
+        return push_disabled(port, role.name(), out);
+    }
+    if tree.value() == 0 {
+        push_in_cist(port, &cist_port(settings, port), role.name(), out)
+    } else {
+        push_in_msti(port, &msti_port(settings, tree, port), role.name(), out)
+    }
+}
+
+/// What the CIST has of a port: its identifier and its costs. A cost that isn't set goes by the speed of its logical
+/// LAN.
+fn cist_port(settings: &TreeSettings, port: &PortInView) -> CistPort
+    ensures { result ≡ port_in_cist settings.now.set (named_port port.now) }
+{
+    let automatic = auto_cost(port.speed.max(1));
+    let priority = settings.port_priority(&port.name, Tree::cist());
+    let internal = settings.port_cost(&port.name, Tree::cist());
+    CistPort {
+        id: PortId::new(priority, port.name.number),
+        external: port.settings.external.unwrap_or(automatic),
+        internal: internal.unwrap_or(automatic),
+    }
+}
+
+/// What an MSTI has of a port: its identifier and its internal cost, as the CIST.
+fn msti_port(settings: &TreeSettings, tree: Tree, port: &PortInView) -> MstiPort
+    ensures { result ≡ port_in_msti settings.now.set tree (named_port port.now) }
+{
+    let automatic = auto_cost(port.speed.max(1));
+    let priority = settings.port_priority(&port.name, tree);
+    let internal = settings.port_cost(&port.name, tree);
+    MstiPort {
+        id: PortId::new(priority, port.name.number),
+        internal: internal.unwrap_or(automatic),
+    }
+}
+
+/// Appends the line of an enabled port in the CIST with the name of its role.
+fn push_in_cist(
+    port: &PortInView,
+    cist: &CistPort,
+    role: &str,
+    out: &mut Vec<u8>,
+) -> Result<(), AllocError>
+    ensures { OnOk result (out.new.items ≡ out.old.items ++ line (codes "port" ∷ port.now.name.bridge ∷ decimal port.now.name.number ∷ port.now.lan ∷ cist_words cist.now ++ role.now ∷ [])) }
+{
+    let mut number = Buffer::new();
+    let mut external = Buffer::new();
+    let mut internal = Buffer::new();
+    let id = cist.id.text();
+    let words: [&[u8]; 10] = [
+        b"port",
+        port.name.bridge.as_bytes(),
+        number.format(port.name.number.value()).as_bytes(),
+        port.lan.as_bytes(),
+        &id,
+        b"ext",
+        external.format(cist.external.value()).as_bytes(),
+        b"int",
+        internal.format(cist.internal.value()).as_bytes(),
+        role.as_bytes(),
+    ];
+    push_line(&words, out)
+}
+
+/// Appends the line of an enabled port in an MSTI with the name of its role.
+fn push_in_msti(
+    port: &PortInView,
+    msti: &MstiPort,
+    role: &str,
+    out: &mut Vec<u8>,
+) -> Result<(), AllocError>
+    ensures { OnOk result (out.new.items ≡ out.old.items ++ line (codes "port" ∷ port.now.name.bridge ∷ decimal port.now.name.number ∷ port.now.lan ∷ msti_words msti.now ++ role.now ∷ [])) }
+{
+    let mut number = Buffer::new();
+    let mut internal = Buffer::new();
+    let id = msti.id.text();
+    let words: [&[u8]; 8] = [
+        b"port",
+        port.name.bridge.as_bytes(),
+        number.format(port.name.number.value()).as_bytes(),
+        port.lan.as_bytes(),
+        &id,
+        b"int",
+        internal.format(msti.internal.value()).as_bytes(),
+        role.as_bytes(),
+    ];
+    push_line(&words, out)
+}
+
+/// Appends the line of a port that isn't enabled with the name of its role.
+fn push_disabled(port: &PortInView, role: &str, out: &mut Vec<u8>) -> Result<(), AllocError>
+    ensures { OnOk result (out.new.items ≡ out.old.items ++ line (codes "port" ∷ port.now.name.bridge ∷ decimal port.now.name.number ∷ port.now.lan ∷ role.now ∷ [])) }
+{
+    let mut number = Buffer::new();
+    let words: [&[u8]; 5] = [
+        b"port",
+        port.name.bridge.as_bytes(),
+        number.format(port.name.number.value()).as_bytes(),
+        port.lan.as_bytes(),
+        role.as_bytes(),
+    ];
+    push_line(&words, out)
+}

@@ -1,0 +1,65 @@
+ghost use Rattle.std.specs.Prelude.{◌≡◌, ℕ, List, ◌++◌, OnOk};
+ghost use Rattle.mst_net.specs.Tables.{Net, Numbers};
+ghost use Rattle.mst_trees.specs.Agrees.{AreOf, Known};
+ghost use Rattle.mst_trees.specs.Forest.{IsForest};
+ghost use Rattle.mst_text.specs.VlanLines.{heading};
+ghost use Rattle.mst_text.specs.VlanText.{IsBody, IsVlanText};
+
+use crate::active::push_active;
+use crate::islands::push_islands;
+use itoa::Buffer;
+use mst_ids::{Vid, push_line};
+use mst_lag::View;
+use mst_trees::Forest;
+use mst_vlan::{active, reach};
+use std::alloc::{AllocError, Global};
+
+/// Appends the text of a VID: a heading, and then its body.
+///
+/// For n ports it takes about n log n steps. `AllocError`: memory was wanted and refused; part of the text may have
+/// been appended.
+pub fn push_vlan(
+    alloc: Global,
+    view: &View,
+    forest: &Forest,
+    vid: Vid,
+    out: &mut Vec<u8>,
+) -> Result<(), AllocError>
+    requires { Known view.now forest.now.regions }
+    ensures { (net : Net) (numbers : Numbers) (is : IsForest net numbers forest.now) → AreOf net numbers view.now forest.now.regions
+        → OnOk result ((text : List ℕ) × IsVlanText net is.outcome vid text × (out.new.items ≡ out.old.items ++ text)) }
+{
+    push_heading(vid, out)?;
+    push_body(alloc, view, forest, vid, out)
+}
+
+/// Appends the heading of a VID's text.
+fn push_heading(vid: Vid, out: &mut Vec<u8>) -> Result<(), AllocError>
+    ensures { OnOk result (out.new.items ≡ out.old.items ++ heading vid) }
+{
+    let mut number = Buffer::new();
+    let words: [&[u8]; 2] = [b"vlan", number.format(vid.value()).as_bytes()];
+    push_line(&words, out)
+}
+
+/// Appends the body of a VID's text: its active ports, those that aren't members of its VLAN in brackets, and then its
+/// islands, each with its bridges and its LANs.
+///
+/// For n ports it takes about n log n steps. `AllocError`: memory was wanted and refused; part of the body may have
+/// been appended.
+pub fn push_body(
+    alloc: Global,
+    view: &View,
+    forest: &Forest,
+    vid: Vid,
+    out: &mut Vec<u8>,
+) -> Result<(), AllocError>
+    requires { Known view.now forest.now.regions }
+    ensures { (net : Net) (numbers : Numbers) (is : IsForest net numbers forest.now) → AreOf net numbers view.now forest.now.regions
+        → OnOk result ((body : List ℕ) × IsBody net is.outcome vid body × (out.new.items ≡ out.old.items ++ body)) }
+{
+    let ports = active(alloc, view, forest, vid)?;
+    push_active(view, vid, ports.as_slice(), out)?;
+    let islands = reach(alloc, view, forest, vid)?;
+    push_islands(view, islands.as_slice(), out)
+}

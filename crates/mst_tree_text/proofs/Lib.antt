@@ -1,2 +1,0 @@
-mod Runs
-pub mod Named
