@@ -1,7 +1,7 @@
 -- The rows of a view are those of its network.
 use Rattle.std.proofs.Common.{◌≡◌, ℕ, zero, suc, ◌+◌, ◌<◌, ◌==◌, Bool, true, false, List, [], ◌∷◌, ◌++◌, length, take, get_or, Option, Some, None, refl, sym, ap, ◌∙◌, append_assoc, is_some, arith}
 use Rattle.std.specs.Prelude.{if◌then◌else◌}
-use Rattle.std.specs.List.{filter_map, flat_map, range_with_len, cons_option}
+use Rattle.std.specs.List.{Contains, filter_map, flat_map, range_with_len, cons_option}
 use Rattle.std.specs.Option.{option_map, option_and_then}
 use Rattle.std.specs.FinMap as fin
 use Rattle.std.proofs.lemmas.List.{take_more, flat_map_more}
@@ -19,13 +19,13 @@ use Rattle.mst_trees.specs.Forest.{IsForest, msti_vector}
 use Rattle.mst_trees.specs.Msti.{has_msti}
 use Rattle.mst_trees.specs.Seen.{trees_at}
 use Rattle.mst_trees.specs.Forest.{Forest}
-use Rattle.mst_trees.proofs.Lists.{kept_same}
+use Rattle.mst_trees.proofs.Lists.{kept_same, all_there}
 use Rattle.mst_trees.proofs.Entries.{all_weaker}
-use Rattle.mst_trees.proofs.Seen.{SeenBridge, SeenPort, bridges_seen, ports_seen}
+use Rattle.mst_trees.proofs.Seen.{SeenBridge, bridges_seen}
 use Rattle.mst_trees.proofs.Looking.{has_tree_at}
 use Rattle.mst_roles.specs.Roles.{role_of, role_in, cist_role, msti_role}
 use Rattle.mst_roles.specs.declared.kind.Role.{Role}
-use Rattle.mst_roles.proofs.Named.{named}
+use Rattle.mst_roles.proofs.Named.{own_role}
 use Rattle.mst_changes.specs.declared.place.Item.TheVariants.{Bridge, Port}
 use Rattle.mst_changes.specs.declared.place.Place.{Place}
 use Rattle.mst_changes.specs.declared.state.State.{State}
@@ -85,9 +85,9 @@ module _ (net : Net) (numbers : Numbers) (v : Viewed) (f : Forest) (of : AreOf n
   pub ports_same : filter_map (seen_port_row v f tree) v.ports ≡ filter_map (port_at x tree) (port_names net)
   ports_same =
       kept_same (seen_port_row v f tree) (λ (p : PortInView). port_at x tree p.name) v.ports
-      (all_weaker (SeenPort net numbers) _ (λ p seen.
-      ap (option_map (λ role. record { tree = tree; item = Port p.name; state = HasRole role })) (named net numbers v f of is tree p.name p.number seen.has_numbers.port)
-      ∙ role_twice p.name (role_of net is.outcome tree p.name)) v.ports (ports_seen net numbers v of.view))
+      (all_weaker (Contains v.ports) _ (λ p there.
+      ap (option_map (λ role. record { tree = tree; item = Port p.name; state = HasRole role })) (own_role net numbers v f of is tree p there)
+      ∙ role_twice p.name (role_of net is.outcome tree p.name)) v.ports (all_there v.ports))
       ∙ sym (filter_map-map (λ (p : LogicalPort). port_at x tree p.name) named_port v.ports)
       ∙ ap (filter_map (λ (p : LogicalPort). port_at x tree p.name)) of.view.ports
       ∙ sym (filter_map-map (port_at x tree) (λ (p : LogicalPort). p.name) (view_ports net))

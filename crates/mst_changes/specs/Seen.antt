@@ -1,7 +1,7 @@
 -- The rows of a view, under the numbers of records.
 use Rattle.std.specs.Prelude.{◌≡◌, ℕ, ◌==◌, Bool, List, Option, None, nat_eq, if◌then◌else◌}
-use Rattle.std.specs.List.{find, list_any}
-use Rattle.std.specs.Option.{option_map, option_and_then}
+use Rattle.std.specs.List.{list_any}
+use Rattle.std.specs.Option.{option_map}
 use Rattle.mst_settle.specs.Assignment.{vector_of}
 use Rattle.mst_lag.specs.Trees.{is_among}
 use Rattle.mst_lag.specs.Viewed.{Viewed}
@@ -24,8 +24,7 @@ abbrev pub seen_bridge_row : Viewed → Forest → ℕ → BridgeInView → Opti
 seen_bridge_row v f tree b = option_map (λ state. record { tree = tree; item = Bridge b.name; state = state }) (seen_vector v f tree b.bridge.number)
 
 abbrev pub seen_port_row : Viewed → Forest → ℕ → PortInView → Option Row
-seen_port_row v f tree p =
-    option_map (λ role. record { tree = tree; item = Port p.name; state = HasRole role }) (option_and_then (seen_role v f tree) (find (λ q. p.number == q.number) v.ports))
+seen_port_row v f tree p = option_map (λ role. record { tree = tree; item = Port p.name; state = HasRole role }) (seen_role v f tree p)
 
 -- some bridge has the tree beside the CIST
 abbrev pub is_in_use : Viewed → ℕ → Bool

@@ -14,7 +14,7 @@ use crate::state::State;
 use indexmap::IndexSet;
 use mst_ids::{BridgeNo, Tree};
 use mst_lag::{BridgeInView, PortInView, View};
-use mst_roles::role;
+use mst_roles::port_role;
 use mst_trees::Forest;
 use std::alloc::{AllocError, Global};
 
@@ -82,7 +82,7 @@ fn bridge_row(view: &View, forest: &Forest, tree: Tree, bridge: &BridgeInView) -
 fn port_row(view: &View, forest: &Forest, tree: Tree, port: &PortInView) -> Option<Row>
     ensures { result ≡ seen_port_row view.now forest.now tree port.now }
 {
-    let role = role(view, forest, port.number, tree)?;
+    let role = port_role(view, forest, port, tree)?;
     Some(Row {
         tree,
         item: Item::Port(port.name),

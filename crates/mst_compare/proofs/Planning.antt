@@ -31,7 +31,8 @@ use Rattle.mst_trees.proofs.Views.{IsPort, IsOn, ports_are, row_on, entry_there}
 use Rattle.mst_trees.proofs.Seen.{SeenBridge, SeenPort, bridge_seen, port_seen, port_of_net}
 use Rattle.mst_trees.proofs.Looking.{IsFirst, first_found}
 use Rattle.mst_roles.specs.Roles.{cist_role, role_in, role_of}
-use Rattle.mst_roles.proofs.Named.{named, port_same}
+use Rattle.mst_roles.specs.Seen.{seen_role}
+use Rattle.mst_roles.proofs.Named.{own_role, port_same}
 use Rattle.mst_bpdu.specs.Differences.{differences_of}
 use Rattle.mst_bpdu.specs.declared.bpdu.Bpdu.{Bpdu}
 use Rattle.mst_bpdu.specs.declared.difference.Difference.{Difference}
@@ -40,7 +41,7 @@ use Rattle.mst_bpdu.specs.declared.planned.PlannedCist.{PlannedCist}
 use Rattle.mst_compare.specs.Sender.{sender_of}
 use Rattle.mst_compare.specs.Plan.{planned_cist, planned_msti, with_both, cist_of, msti_of, plan_with, plan_at, planned_of}
 use Rattle.mst_compare.specs.Comparison.{AreDifferences}
-use Rattle.mst_compare.specs.Seen.{role_at, seen_cist, seen_msti, seen_planned}
+use Rattle.mst_compare.specs.Seen.{seen_cist, seen_msti, seen_planned}
 use Rattle.mst_compare.specs.declared.senders.Origin.{Origin}
 use Rattle.mst_compare.proofs.Sending.{IsSender}
 
@@ -144,8 +145,8 @@ module _ (net : Net) (numbers : Numbers) (v : Viewed) (f : Forest) (of : AreOf n
         ∙ trees_of_bridge s.bridge sent.bridge_there
         ∙ ap (λ n. mstis_of net n row) (sym sent.owned)
 
-    role_same : (tree : ℕ) → role_at v f tree s.port ≡ role_of net o tree port
-    role_same tree = named net numbers v f of is tree port s.port.number seen_port.has_numbers.port
+    role_same : (tree : ℕ) → seen_role v f tree s.port ≡ role_of net o tree port
+    role_same tree = own_role net numbers v f of is tree s.port sent.port_there
 
     cist_same : seen_cist v f row s.port ≡ cist_of net o port row
     cist_same = λ i. with_both (planned_cist (of.view.settings i) port row) (is.cist.vectors port.bridge s.port.bridge seen_port.has_numbers.bridge i) (role_same 0 i)

@@ -14,7 +14,6 @@ use Rattle.mst_trees.specs.Seen.{trees_at}
 use Rattle.mst_trees.specs.Forest.{msti_vector}
 use Rattle.mst_trees.specs.Forest.{Forest}
 use Rattle.mst_roles.specs.Seen.{seen_role}
-use Rattle.mst_roles.specs.declared.kind.Role.{Role}
 use Rattle.mst_bpdu.specs.Sender.{bridge_of, port_of}
 use Rattle.mst_bpdu.specs.declared.bpdu.Bpdu.{Bpdu}
 use Rattle.mst_bpdu.specs.declared.planned.Planned.{Planned}
@@ -36,15 +35,11 @@ abbrev pub seen_sender : Viewed → Bpdu → Option Origin
 seen_sender v bpdu = option_and_then (seen_sender_at v bpdu) (find (λ b. b.bridge.mac == mac_of (bridge_of bpdu)) v.bridges)
 
 -- ---- the plan
--- the role of a port in a tree, which is looked up by its number
-abbrev pub role_at : Viewed → Forest → ℕ → PortInView → Option Role
-role_at v f tree p = option_and_then (seen_role v f tree) (find (λ q. p.number == q.number) v.ports)
-
 abbrev pub seen_cist : Viewed → Forest → BridgeRow → PortInView → Option PlannedCist
-seen_cist v f row p = with_both (planned_cist v.settings p.name row) (vector_of f.cist p.bridge) (role_at v f 0 p)
+seen_cist v f row p = with_both (planned_cist v.settings p.name row) (vector_of f.cist p.bridge) (seen_role v f 0 p)
 
 abbrev pub seen_msti : Viewed → Forest → PortInView → ℕ → Option PlannedMsti
-seen_msti v f p tree = with_both (planned_msti v.settings p.name tree) (msti_vector f tree p.bridge) (role_at v f tree p)
+seen_msti v f p tree = with_both (planned_msti v.settings p.name tree) (msti_vector f tree p.bridge) (seen_role v f tree p)
 
 abbrev pub seen_planned : Viewed → Forest → Origin → Option Planned
 seen_planned v f s =

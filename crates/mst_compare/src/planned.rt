@@ -13,7 +13,7 @@ use mst_config::digest;
 use mst_ids::{BridgeId, PortId, PortName, Tree, padded};
 use mst_lag::{PortInView, View};
 use mst_net::{Bridge, TreeSettings};
-use mst_roles::{Role, role};
+use mst_roles::{Role, port_role};
 use mst_trees::Forest;
 use mst_vector::{CistVector, MstiVector};
 use std::alloc::{AllocError, Global};
@@ -44,7 +44,7 @@ fn in_cist(view: &View, forest: &Forest, bridge: &Bridge, port: &PortInView) -> 
     ensures { result ≡ seen_cist view.now forest.now (bridge_row bridge.now) port.now }
 {
     let vector = forest.cist(port.bridge)?;
-    let role = role(view, forest, port.number, Tree::cist())?;
+    let role = port_role(view, forest, port, Tree::cist())?;
     Some(cist_with(view.settings(), bridge, &port.name, &vector, role))
 }
 
@@ -122,7 +122,7 @@ fn in_msti(view: &View, forest: &Forest, port: &PortInView, tree: Tree) -> Optio
     ensures { result ≡ seen_msti view.now forest.now port.now tree }
 {
     let vector = forest.msti(tree, port.bridge)?;
-    let role = role(view, forest, port.number, tree)?;
+    let role = port_role(view, forest, port, tree)?;
     Some(msti_with(view.settings(), &port.name, tree, &vector, role))
 }
 

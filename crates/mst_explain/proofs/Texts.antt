@@ -39,8 +39,8 @@ use Rattle.mst_explain.specs.Explained.{TellsBoundary, TellsInMsti, TellsEnabled
 use Rattle.mst_explain.specs.Planned.{IsPlanOf}
 use Rattle.mst_explain.specs.Seen.{contest_text}
 use Rattle.mst_explain.specs.TreesSeen.{cist_seen, msti_seen}
-use Rattle.mst_explain.specs.SeenText.{port_found, bridge_is_on, lan_is_up, off_text, role_at, outside_text, msti_text, enabled_text, reason_text, explanation_text}
-use Rattle.mst_explain.proofs.SeenTrees.{bridge_found_at, port_found_at}
+use Rattle.mst_explain.specs.SeenText.{port_found, bridge_is_on, lan_is_up, off_text, outside_text, msti_text, enabled_text, reason_text, explanation_text}
+use Rattle.mst_explain.proofs.SeenTrees.{bridge_found_at}
 use Rattle.mst_explain.proofs.Givers.{designated_found}
 use Rattle.mst_explain.proofs.Planned.{cist_is_seen, cist_contest, msti_contest, inner_is}
 
@@ -108,9 +108,8 @@ module _ (net : Net) (numbers : Numbers) (v : Viewed) (region_ids : List (ℕ ×
   off_is = λ i. disabled_lines (bridge_on i) p.name.bridge (lan_up i) p.lan
 
   -- ---- its role
-  role_is : (tree : ℕ) → role_at v f tree p ≡ role_in net o tree (named_port p)
-  role_is tree =
-      ap (option_and_then (seen_role v f tree)) (port_found_at net numbers v f.regions of p there) ∙ each_same net numbers v f of is.forest tree p seen
+  role_is : (tree : ℕ) → seen_role v f tree p ≡ role_in net o tree (named_port p)
+  role_is tree = each_same net numbers v f of is.forest tree p seen
 
   -- ---- external information
   outside_is : p.is_enabled ≡ true → TellsBoundary net o (named_port p) (outside_text v f p)

@@ -1,13 +1,9 @@
 -- The lines of an explanation.
 use Rattle.std.specs.Prelude.{ℕ, Bool, List, [], ◌∷◌, ◌++◌, Option, None, Some, codes, decimal, if◌then◌else◌}
 use Rattle.mst_ids.specs.declared.name.PortName.{PortName}
-use Rattle.mst_ids.specs.Words.{line}
+use Rattle.mst_ids.specs.Words.{line, port_text}
 use Rattle.mst_roles.specs.Names.{role_text}
 use Rattle.mst_roles.specs.declared.kind.Role.{Role}
-
--- `B:P`
-abbrev pub port_text : PortName → List ℕ
-port_text port = port.bridge ++ 58 ∷ decimal port.number
 
 -- a port, or `own` for a bridge's own vector
 abbrev pub giver_text : Option PortName → List ℕ

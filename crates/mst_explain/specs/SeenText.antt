@@ -12,7 +12,6 @@ use Rattle.mst_lag.specs.declared.in_view.PortInView.{PortInView}
 use Rattle.mst_trees.specs.Seen.{seen_inner}
 use Rattle.mst_trees.specs.Forest.{Forest, designated_in}
 use Rattle.mst_roles.specs.Seen.{seen_role}
-use Rattle.mst_roles.specs.declared.kind.Role.{Role}
 use Rattle.mst_explain.specs.Fields.{cist_fields, msti_fields}
 use Rattle.mst_explain.specs.Lines.{explain_line, boundary_line, disabled_lines}
 use Rattle.mst_explain.specs.Seen.{contest_text}
@@ -31,14 +30,10 @@ lan_is_up v lan = list_any (λ m. same_name m.lan lan && m.is_up) v.member_lans
 abbrev pub off_text : Viewed → PortInView → List ℕ
 off_text v p = disabled_lines (bridge_is_on v p.bridge) p.name.bridge (lan_is_up v p.lan) p.lan
 
--- a port's role in a tree
-abbrev pub role_at : Viewed → Forest → ℕ → PortInView → Option Role
-role_at v f tree p = option_and_then (seen_role v f tree) (port_found v p.number)
-
 -- of a port that has received external information
 abbrev pub outside_text : Viewed → Forest → PortInView → List ℕ
 outside_text v f p =
-    option_map_or (λ role. option_map_or (λ q. boundary_line role q.name) (option_and_then (port_found v) (designated_in f 0 p.lan_number)) []) (role_at v f 0 p) []
+    option_map_or (λ role. option_map_or (λ q. boundary_line role q.name) (option_and_then (port_found v) (designated_in f 0 p.lan_number)) []) (seen_role v f 0 p) []
 
 -- of any port
 module _ (v : Viewed) (region_ids : List (ℕ × ℕ)) (f : Forest) (tree : ℕ) (p : PortInView) where
@@ -52,4 +47,4 @@ module _ (v : Viewed) (region_ids : List (ℕ × ℕ)) (f : Forest) (tree : ℕ)
   reason_text = if p.is_enabled then enabled_text else off_text v p
 
   abbrev pub explanation_text : List ℕ
-  explanation_text = option_map_or (λ role. explain_line tree p.name p.lan role ++ reason_text) (role_at v f tree p) []
+  explanation_text = option_map_or (λ role. explain_line tree p.name p.lan role ++ reason_text) (seen_role v f tree p) []

@@ -18,7 +18,7 @@ use crate::lines::{push_boundary, push_disabled, push_heading};
 use mst_config::Regions;
 use mst_ids::{BridgeNo, Name, PortName, Tree};
 use mst_lag::{PortInView, View};
-use mst_roles::role;
+use mst_roles::port_role;
 use mst_settle::laws::costs_bounded;
 use mst_trees::Forest;
 use mst_vector::{CistMetric, MstiMetric};
@@ -70,7 +70,7 @@ fn push_outside(
 ) -> Result<(), AllocError>
     ensures { OnOk result (out.new.items ≡ out.old.items ++ outside_text view.now forest.now port.now) }
 {
-    let Some(role) = role(view, forest, port.number, Tree::cist()) else {
+    let Some(role) = port_role(view, forest, port, Tree::cist()) else {
         return Ok(());
     };
     match designated_in_cist(view, forest, port) {
@@ -143,7 +143,7 @@ fn push_in_tree(
     requires msti { CanStep msti_rules plan.now.view.now (msti_seen plan.now.view.now plan.now.regions.now plan.now.forest.now plan.now.tree) }
     ensures { OnOk result (out.new.items ≡ out.old.items ++ explanation_text plan.now.view.now plan.now.regions.now plan.now.forest.now plan.now.tree port.now) }
 {
-    match role(plan.view, plan.forest, port.number, plan.tree) {
+    match port_role(plan.view, plan.forest, port, plan.tree) {
         None => Ok(()),
         Some(role) => {
             push_heading(plan.tree, &port.name, &port.lan, role, out)?;

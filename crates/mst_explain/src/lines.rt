@@ -1,7 +1,7 @@
 ghost use Rattle.std.specs.Prelude.{◌≡◌, ◌++◌, OnOk};
 ghost use Rattle.std.specs.List.{flat_map};
-ghost use Rattle.mst_ids.specs.Words.{after_space};
-ghost use Rattle.mst_explain.specs.Lines.{port_text, giver_text, explain_line, over_line, alone_line, restricted_line, boundary_line, disabled_lines};
+ghost use Rattle.mst_ids.specs.Words.{after_space, port_text};
+ghost use Rattle.mst_explain.specs.Lines.{giver_text, explain_line, over_line, alone_line, restricted_line, boundary_line, disabled_lines};
 ghost use Rattle.mst_explain.specs.Told.{words_of, value_words};
 
 use crate::field::{Difference, Values};
@@ -10,13 +10,12 @@ use mst_ids::{BridgeId, Name, PortId, PortName, Tree, push_bytes, push_end, push
 use mst_roles::Role;
 use std::alloc::AllocError;
 
-/// Appends the name of a port after a space: its bridge, `:` and its number.
+/// Appends the name of a port after a space.
 fn push_port(port: &PortName, out: &mut Vec<u8>) -> Result<(), AllocError>
     ensures { OnOk result (out.new.items ≡ out.old.items ++ after_space (port_text port.now)) }
 {
-    push_word(port.bridge.as_bytes(), out)?;
-    push_bytes(b":", out)?;
-    port.number.push_text(out)
+    push_bytes(b" ", out)?;
+    port.push_text(out)
 }
 
 /// Appends a port, or `own` for a bridge's own vector, after a space.

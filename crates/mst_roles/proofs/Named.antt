@@ -1,11 +1,12 @@
 -- The role of a logical port under its number is its role under its name.
-use Rattle.std.proofs.Common.{◌≡◌, ℕ, ◌==◌, ◌&&◌, Bool, true, false, cond, nat_eq, List, [], ◌∷◌, map, Option, Some, None, refl, sym, ap, subst, ◌∙◌, eq-eqb}
+use Rattle.std.proofs.Common.{◌≡◌, ℕ, ◌==◌, ◌&&◌, Bool, true, false, cond, nat_eq, List, [], ◌∷◌, map, Option, Some, None, ◌⊎◌, inl, inr, Less, refl, sym, ap, subst, ◌∙◌, eq-eqb}
 use Rattle.std.specs.Prelude.{if◌then◌else◌}
 use Rattle.std.specs.List.{AllByRecursion, Contains, find}
 use Rattle.std.specs.Option.{option_map, option_map_or, option_and_then}
 use Rattle.std.specs.FinMap as fin
 use Rattle.std.specs.Cmp.Lexicographic.{pointwise, bytes_decides}
 use Rattle.std.proofs.lemmas.Bool.{eqb-true, and_parts, and_from}
+use Rattle.mst_ids.specs.Names.{port_cmp}
 use Rattle.mst_ids.specs.declared.name.PortName.{PortName}
 use Rattle.mst_vector.specs.Rules.{Rules}
 use Rattle.mst_vector.specs.Cist.{cist_rules}
@@ -26,13 +27,14 @@ use Rattle.mst_trees.specs.Seen.{seen_inner, trees_at}
 use Rattle.mst_trees.specs.Agrees.{Agrees, IsNameOf, AreOf}
 use Rattle.mst_trees.specs.Forest.{IsForest, msti_vector, msti_designated, designated_in}
 use Rattle.mst_trees.specs.Forest.{Forest}
-use Rattle.mst_trees.proofs.Lists.{some_is, no_some, all_there}
+use Rattle.mst_trees.proofs.Lists.{some_is, no_some, all_there, apart_cases}
 use Rattle.mst_trees.proofs.Entries.{all_weaker}
 use Rattle.mst_trees.proofs.CistTopology.{cist_is_sight}
 use Rattle.mst_trees.proofs.MstiTopology.{msti_is_sight}
 use Rattle.mst_trees.proofs.Sights.{IsSight}
-use Rattle.mst_trees.proofs.Seen.{SeenPort, ports_seen, port_seen}
-use Rattle.mst_trees.proofs.Looking.{is_there, inner_same, has_tree_at}
+use Rattle.mst_trees.proofs.Views.{port_names_differ, ports_rise}
+use Rattle.mst_trees.proofs.Seen.{SeenPort, ports_seen, port_seen, port_of_net}
+use Rattle.mst_trees.proofs.Looking.{first_found, is_there, inner_same, has_tree_at}
 use Rattle.mst_roles.specs.Roles.{beside, role_by, outside, cist_role, msti_role, role_in, role_of}
 use Rattle.mst_roles.specs.Seen.{seen_beside, seen_role_by, seen_cist_role, seen_msti_role, seen_role}
 use Rattle.mst_roles.specs.declared.kind.Role.TheVariants.{Root, Designated, Alternate, Backup, Disabled}
@@ -108,6 +110,18 @@ module _ (net : Net) (numbers : Numbers) (v : Viewed) (region_ids : List (ℕ ×
           (λ same. port_same p.name name (of.numbered.ports_differ p.name name k (seen.has_numbers.port ∙ ap Some (sym (eqb-true k p.number same))) e)))
           v.ports (ports_seen net numbers v of.view)
 
+  -- a port of the view is the one that is found by its name
+  pub port_found : (p : PortInView) → Contains v.ports p → find (λ (q : LogicalPort). port_eq q.name p.name) (view_ports net) ≡ Some (named_port p)
+  port_found p there =
+      let own = port_of_net net numbers v of.view p there in
+      let first = first_found (λ (q : LogicalPort). port_eq q.name p.name) (view_ports net) (named_port p) own (port_same p.name p.name refl) in
+      first.found ∙ ap Some (one first.it (port_is first.it.name p.name first.passes) (apart_cases (λ (a b : LogicalPort). port_cmp a.name b.name ≡ Less) (view_ports net) first.it (named_port p) (ports_rise net) first.there own))
+    where
+      one : (q : LogicalPort) → q.name ≡ p.name → (q ≡ named_port p) ⊎ ((port_cmp q.name p.name ≡ Less) ⊎ (port_cmp p.name q.name ≡ Less)) → q ≡ named_port p
+      one q same (inl e) = e
+      one q same (inr (inl l)) = absurd (port_names_differ q.name p.name l same)
+      one q same (inr (inr l)) = absurd (port_names_differ p.name q.name l (sym same))
+
   module _ {B P V : Type 0} (m : Rules B P V) (s : Sight B P) (sight : IsSight net m s) (o : TreeOutcome V) (is : IsTreeOutcome m (tree_of net s) o)
       (vector : ℕ → Option V) (designated : ℕ → Option ℕ) (agrees : Agrees numbers o vector designated) (receiver : V → ℕ) (id : ℕ) (p : PortInView) (seen : SeenPort net numbers p) where
     beside_same : (q : PortName) (k : ℕ) → o.designated p.lan ≡ Some q → fin.get numbers.ports q ≡ Some k → seen_beside v p k ≡ beside p.name q
@@ -171,6 +185,12 @@ module _ (net : Net) (numbers : Numbers) (v : Viewed) (f : Forest) (of : AreOf n
       go true e = ap Some (cist_same p seen)
       go false e = λ i. if has_tree_at net numbers v f.regions of tree p.name.bridge p.bridge seen.has_numbers.bridge i then Some (msti_same tree e p seen i) else None
 
+  -- the role of a port of the view is that of its name
+  pub own_role : (tree : ℕ) (p : PortInView) → Contains v.ports p → seen_role v f tree p ≡ role_of net o tree p.name
+  own_role tree p there =
+      each_same tree p (port_seen net numbers v of.view p there) ∙ sym (ap (option_and_then (role_in net o tree)) (port_found net numbers v f.regions of p there))
+
+  -- and so is that of the port of a number
   pub named : (tree : ℕ) (name : PortName) (k : ℕ) → fin.get numbers.ports name ≡ Some k
       → option_and_then (seen_role v f tree) (find (λ p. k == p.number) v.ports) ≡ role_of net o tree name
   named tree name k e = go (find (λ p. k == p.number) v.ports) refl ∙ sym (ap (option_and_then (role_in net o tree)) (port_listed net numbers v f.regions of name k e))

@@ -14,7 +14,7 @@ ghost use Rattle.mst_trees.specs.Forest.{IsForest};
 ghost use Rattle.mst_roles.specs.Roles.{forwards_for};
 ghost use Rattle.mst_roles.specs.Seen.{seen_tree, seen_forwards};
 
-use crate::roles::role_in_view;
+use crate::roles::port_role;
 use mst_ids::{BridgeNo, PortNo, Tree, Vid};
 use mst_lag::{BridgeInView, PortInView, View};
 use mst_lang::Kind;
@@ -46,7 +46,7 @@ pub fn port_forwards(view: &View, forest: &Forest, port: &PortInView, vid: Vid) 
     ensures { result ≡ seen_forwards view.now forest.now vid port.now }
 {
     let tree = tree_at(view, port.bridge, vid);
-    match role_in_view(view, forest, port, tree) {
+    match port_role(view, forest, port, tree) {
         None => false,
         Some(role) => role.forwards(),
     }

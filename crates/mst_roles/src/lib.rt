@@ -8,4 +8,4 @@ mod roles;
 
 pub use for_vid::{forwards, port_forwards};
 pub use kind::Role;
-pub use roles::role;
+pub use roles::{port_role, role};

@@ -32,7 +32,7 @@ use Rattle.mst_trees.proofs.Seen.{SeenBridge, SeenPort, bridges_seen, ports_seen
 use Rattle.mst_text.specs.TreeLines.{id_in}
 use Rattle.mst_text.specs.TreeSeen.{seen_has}
 use Rattle.mst_text.specs.TreeText.{has_tree}
-use Rattle.mst_roles.proofs.Named.{named}
+use Rattle.mst_roles.proofs.Named.{own_role}
 use Rattle.mst_roles.proofs.Forwarded.{each_forwards}
 use Rattle.mst_vlan.specs.Reach.{is_member}
 use Rattle.mst_vlan.specs.Seen.{seen_member}
@@ -127,13 +127,13 @@ module _ (net : Net) (numbers : Numbers) (v : Viewed) (f : Forest) (of : AreOf n
           ∙ ap (flat_map (λ (e : List ℕ × BridgeRow). root_line (by_tree net) tree (followers net o tree) e.0 (id_in (by_tree net) tree e.0 e.1))) of.view.bridges
 
       -- ---- ports that block
-      blocks_named : (p : PortInView) → SeenPort net numbers p → seen_is_blocked v f tree p ≡ is_blocked net o tree (named_port p)
-      blocks_named p seen = ap (λ r. p.is_enabled && stops r) (named net numbers v f of is tree p.name p.number seen.has_numbers.port)
+      blocks_named : (p : PortInView) → Contains v.ports p → seen_is_blocked v f tree p ≡ is_blocked net o tree (named_port p)
+      blocks_named p there = ap (λ r. p.is_enabled && stops r) (own_role net numbers v f of is tree p there)
 
       blocked_named : seen_blocked v f tree ≡ blocked net o tree
       blocked_named =
           ap (map (λ (p : PortInView). p.name))
-          (filter_alike (seen_is_blocked v f tree) (λ (p : PortInView). is_blocked net o tree (named_port p)) v.ports (all_weaker (SeenPort net numbers) _ blocks_named v.ports (ports_seen net numbers v of.view)))
+          (filter_alike (seen_is_blocked v f tree) (λ (p : PortInView). is_blocked net o tree (named_port p)) v.ports (all_weaker (Contains v.ports) _ blocks_named v.ports (all_there v.ports)))
           ∙ sym (mapped_twice (λ (p : LogicalPort). p.name) named_port (filter (λ (p : PortInView). is_blocked net o tree (named_port p)) v.ports))
           ∙ ap (map (λ (p : LogicalPort). p.name)) (sym (filter_mapped (is_blocked net o tree) named_port v.ports) ∙ ap (filter (is_blocked net o tree)) of.view.ports)
 

@@ -1,8 +1,8 @@
 -- What is seen of a summary in a view with its forest, under the numbers of records.
 use Rattle.std.specs.Prelude.{ℕ, ◌==◌, ◌&&◌, ◌++◌, Bool, false, List, [], Option, map, filter, filter_map, length, nat_eq, if◌then◌else◌}
-use Rattle.std.specs.List.{count_by, find, flat_map, list_any}
+use Rattle.std.specs.List.{count_by, flat_map, list_any}
 use Rattle.std.specs.Map.{lookup}
-use Rattle.std.specs.Option.{option_map, option_map_or, option_and_then}
+use Rattle.std.specs.Option.{option_map, option_map_or}
 use Rattle.mst_ids.specs.Identifiers.{bridge_id}
 use Rattle.mst_ids.specs.declared.name.PortName.{PortName}
 use Rattle.mst_net.specs.Seen.{bridge_row}
@@ -63,9 +63,9 @@ seen_root_line v tree all b = root_line v.settings tree all b.name (id_in v.sett
 abbrev pub seen_root_lines : Viewed → Forest → ℕ → List ℕ
 seen_root_lines v f tree = flat_map (seen_root_line v tree (seen_followers v f tree)) v.bridges
 
--- ---- ports that block, with the role that is looked up by number
+-- ---- ports that block
 abbrev pub seen_is_blocked : Viewed → Forest → ℕ → PortInView → Bool
-seen_is_blocked v f tree p = p.is_enabled && stops (option_and_then (seen_role v f tree) (find (λ q. p.number == q.number) v.ports))
+seen_is_blocked v f tree p = p.is_enabled && stops (seen_role v f tree p)
 
 abbrev pub seen_blocked : Viewed → Forest → ℕ → List PortName
 seen_blocked v f tree = map (λ p. p.name) (filter (seen_is_blocked v f tree) v.ports)

@@ -1,7 +1,6 @@
 ghost use Rattle.std.specs.Prelude.{◌≡◌, ◌++◌, map, IfOk, OnOk};
 ghost use Rattle.std.specs.List.{flat_map};
-ghost use Rattle.mst_ids.specs.Words.{after_comma, comma_list};
-ghost use Rattle.mst_text.specs.VlanLines.{port_text};
+ghost use Rattle.mst_ids.specs.Words.{after_comma, comma_list, port_text};
 ghost use Rattle.mst_summary.specs.Blocked.{stops as stops_of, blocked_line};
 ghost use Rattle.mst_summary.specs.Seen.{seen_is_blocked, seen_blocked};
 
@@ -9,7 +8,7 @@ use itoa::Buffer;
 use mst_changes::Planned;
 use mst_ids::{PortName, Tree, push_bytes, push_end, push_word};
 use mst_lag::PortInView;
-use mst_roles::{Role, role};
+use mst_roles::{Role, port_role};
 use std::alloc::{AllocError, Global};
 
 /// Whether there is a role, and it doesn't forward.
@@ -26,7 +25,7 @@ fn stops(role: Option<Role>) -> bool
 fn is_blocked(plan: &Planned, tree: Tree, port: &PortInView) -> bool
     ensures { result ≡ seen_is_blocked plan.now.view.now plan.now.forest.now tree port.now }
 {
-    port.is_enabled && stops(role(plan.view, plan.forest, port.number, tree))
+    port.is_enabled && stops(port_role(plan.view, plan.forest, port, tree))
 }
 
 /// The enabled ports of a tree that don't forward.
@@ -41,22 +40,13 @@ fn blocked(alloc: Global, plan: &Planned, tree: Tree) -> Result<Vec<PortName>, A
         .collect(alloc)
 }
 
-/// Appends `B:P`.
-fn push_port(port: &PortName, out: &mut Vec<u8>) -> Result<(), AllocError>
-    ensures { OnOk result (out.new.items ≡ out.old.items ++ port_text port.now) }
-{
-    port.bridge.push_text(out)?;
-    push_bytes(b":", out)?;
-    port.number.push_text(out)
-}
-
 /// Appends these ports, each after a `,`.
 fn push_others(ports: &[PortName], out: &mut Vec<u8>) -> Result<(), AllocError>
     ensures { OnOk result (out.new.items ≡ out.old.items ++ flat_map after_comma (map port_text ports.now)) }
 {
     for port in ports {
         push_bytes(b",", out)?;
-        push_port(port, out)?;
+        port.push_text(out)?;
     }
     Ok(())
 }
@@ -68,7 +58,7 @@ fn push_ports(ports: &[PortName], out: &mut Vec<u8>) -> Result<(), AllocError>
     match ports {
         [] => push_bytes(b"-", out),
         [first, others @ ..] => {
-            push_port(first, out)?;
+            first.push_text(out)?;
             push_others(others, out)
         }
     }

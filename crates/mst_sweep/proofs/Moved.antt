@@ -24,9 +24,10 @@ use Rattle.mst_trees.specs.Msti.{has_msti}
 use Rattle.mst_trees.specs.Outcome.{Outcome}
 use Rattle.mst_trees.proofs.Entries.{all_weaker}
 use Rattle.mst_trees.proofs.Lists.{all_there, mapped_twice}
-use Rattle.mst_trees.proofs.Seen.{SeenPort, port_seen}
-use Rattle.mst_roles.proofs.Named.{named}
+use Rattle.mst_trees.proofs.Seen.{SeenPort}
+use Rattle.mst_roles.proofs.Named.{own_role}
 use Rattle.mst_roles.specs.Roles.{role_of, role_in, cist_role, msti_role}
+use Rattle.mst_roles.specs.Seen.{seen_role}
 use Rattle.mst_roles.specs.declared.kind.Role.{Role}
 use Rattle.mst_changes.specs.Places.{all_trees, bridge_names, port_names}
 use Rattle.mst_changes.proofs.Orders.{trees_are}
@@ -36,7 +37,7 @@ use Rattle.mst_diff.specs.Seen.{seen_in_both, seen_both}
 use Rattle.mst_diff.proofs.Lists.{find-found, list_any-map}
 use Rattle.mst_diff.proofs.Named.{found_named, names_are, none_there, root_named}
 use Rattle.mst_sweep.specs.Moved.{is_other_root, root_moved, is_other_role, port_moved}
-use Rattle.mst_sweep.specs.Seen.{seen_root_moved, role_at, seen_port_moved}
+use Rattle.mst_sweep.specs.Seen.{seen_root_moved, seen_port_moved}
 
 -- ---- lists
 -- whether some of what is made of things passes
@@ -153,8 +154,8 @@ module _ (a b : Net) (n k : Numbers) (v w : Viewed) (f g : Forest) (of : AreOf a
   -- a port of both views of one name
   role_moved : (x y : PortInView) → Contains v.ports x → Contains w.ports y → y.name ≡ x.name → seen_port_moved v f w g tree x y ≡ port_moved a is.outcome b are.outcome tree x.name
   role_moved x y here there name =
-      let old : role_at v f tree x.number ≡ role_of a is.outcome tree x.name = named a n v f of is tree x.name x.number (port_seen a n v of.view x here).has_numbers.port in
-      let new : role_at w g tree y.number ≡ role_of b are.outcome tree x.name = named b k w g so are tree y.name y.number (port_seen b k w so.view y there).has_numbers.port ∙ ap (role_of b are.outcome tree) name in
+      let old : seen_role v f tree x ≡ role_of a is.outcome tree x.name = own_role a n v f of is tree x here in
+      let new : seen_role w g tree y ≡ role_of b are.outcome tree x.name = own_role b k w g so are tree y there ∙ ap (role_of b are.outcome tree) name in
       λ i. is_other_role (old i) (new i)
 
   module _ (ports : port_names a ≡ port_names b) where

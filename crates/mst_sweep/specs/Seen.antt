@@ -1,13 +1,12 @@
 -- What is seen of a failure in two views with their forests, under the numbers of records.
-use Rattle.std.specs.Prelude.{ℕ, ◌==◌, Bool, List, Option, nat_eq}
-use Rattle.std.specs.List.{find, list_any, position_from}
+use Rattle.std.specs.Prelude.{ℕ, Bool, List, Option, nat_eq}
+use Rattle.std.specs.List.{list_any, position_from}
 use Rattle.std.specs.Map.{lookup}
 use Rattle.std.specs.Option.{option_map, option_and_then}
 use Rattle.mst_lag.specs.Viewed.{Viewed}
 use Rattle.mst_lag.specs.declared.in_view.PortInView.{PortInView}
 use Rattle.mst_trees.specs.Forest.{Forest}
 use Rattle.mst_roles.specs.Seen.{seen_role}
-use Rattle.mst_roles.specs.declared.kind.Role.{Role}
 use Rattle.mst_vlan.specs.declared.island.Island.{Island}
 use Rattle.mst_diff.specs.declared.both.Both.{Both}
 use Rattle.mst_diff.specs.Seen.{seen_root}
@@ -18,11 +17,8 @@ use Rattle.mst_sweep.specs.Moved.{is_other_root, is_other_role}
 abbrev pub seen_root_moved : Viewed → Forest → Viewed → Forest → ℕ → Both → Bool
 seen_root_moved v f w g tree both = is_other_root (seen_root v f tree both.old.bridge.number) (seen_root w g tree both.new.bridge.number)
 
-abbrev pub role_at : Viewed → Forest → ℕ → ℕ → Option Role
-role_at v f tree port = option_and_then (seen_role v f tree) (find (λ p. port == p.number) v.ports)
-
 abbrev pub seen_port_moved : Viewed → Forest → Viewed → Forest → ℕ → PortInView → PortInView → Bool
-seen_port_moved v f w g tree old new = is_other_role (role_at v f tree old.number) (role_at w g tree new.number)
+seen_port_moved v f w g tree old new = is_other_role (seen_role v f tree old) (seen_role w g tree new)
 
 -- ---- islands
 -- the place of the island of the bridge of this number

@@ -18,7 +18,7 @@ use mst_changes::{Planned, trees_in_use};
 use mst_diff::is_had;
 use mst_ids::Tree;
 use mst_lag::PortInView;
-use mst_roles::{Role, role};
+use mst_roles::{Role, port_role};
 use std::alloc::{AllocError, Global};
 
 /// Whether a role is other than Disabled.
@@ -48,8 +48,8 @@ fn port_moved(
 ) -> bool
     ensures { result ≡ seen_port_moved old.now.view.now old.now.forest.now new.now.view.now new.now.forest.now tree before.now afterwards.now }
 {
-    let old_role = role(old.view, old.forest, before.number, tree);
-    let new_role = role(new.view, new.forest, afterwards.number, tree);
+    let old_role = port_role(old.view, old.forest, before, tree);
+    let new_role = port_role(new.view, new.forest, afterwards, tree);
     is_other(old_role, new_role)
 }
 

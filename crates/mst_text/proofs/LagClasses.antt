@@ -14,9 +14,9 @@ use Rattle.mst_lag.specs.declared.in_view.LanInView.{LanInView}
 use Rattle.mst_lag.specs.declared.in_view.MemberLan.{MemberLan}
 use Rattle.mst_lag.specs.declared.in_view.MemberPort.{MemberPort}
 use Rattle.mst_lag.proofs.Lists.{filter_mapped, mapped_twice}
-use Rattle.mst_text.specs.LagText.{port_text, lag_line, lags_text}
+use Rattle.mst_text.specs.LagText.{lag_line, lags_text}
 use Rattle.mst_text.specs.LagView.{lans_in, up_of, ports_in, lan_word, port_word, class_line, class_text, classes_text}
-use Rattle.mst_ids.specs.Words.{line, comma_list}
+use Rattle.mst_ids.specs.Words.{line, comma_list, port_text}
 
 flat_map_same : {A : Type 0} (f g : A → List ℕ) → ((x : A) → f x ≡ g x) → (xs : List A) → flat_map f xs ≡ flat_map g xs
 flat_map_same f g same [] = refl

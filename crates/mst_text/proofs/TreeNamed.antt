@@ -1,18 +1,18 @@
 -- The text of a tree under the numbers of records is its text under names.
-use Rattle.std.proofs.Common.{◌≡◌, ℕ, ◌==◌, ◌||◌, ◌++◌, Bool, true, false, cond, List, [], ◌∷◌, Option, Some, None, ◌⊎◌, is_some, refl, sym, ap, ◌∙◌, true≢false, inl, inr, Less, Greater}
+use Rattle.std.proofs.Common.{◌≡◌, ℕ, ◌==◌, ◌||◌, ◌++◌, Bool, true, false, cond, List, [], ◌∷◌, Option, Some, None, is_some, refl, sym, ap, ◌∙◌, true≢false, Less, Greater}
 use Rattle.std.specs.Ordering.{is_lt, nat_cmp, ordering_reverse, ordering_then}
-use Rattle.std.specs.List.{AllByRecursion, Contains, filter, find, flat_map, list_any}
-use Rattle.std.specs.Option.{option_map_or, option_and_then}
+use Rattle.std.specs.List.{AllByRecursion, Contains, filter, flat_map, list_any}
+use Rattle.std.specs.Option.{option_map_or}
 use Rattle.std.specs.Cmp.Lexicographic.{bytes_decides, nat_list_cmp_total}
 use Rattle.std.proofs.lemmas.List.Folds.{flat_map-map}
 use Rattle.std.specs.FinMap as fin
 use Rattle.mst_ids.specs.Names.{name_cmp, port_cmp}
 use Rattle.mst_ids.specs.declared.name.PortName.{PortName}
-use Rattle.mst_net.specs.Tables.{Net, Numbers, BridgeRow, port_eq}
+use Rattle.mst_net.specs.Tables.{Net, Numbers, BridgeRow}
 use Rattle.mst_net.specs.ByTree.{by_tree}
 use Rattle.mst_net.specs.Seen.{bridge_row}
 use Rattle.mst_lag.specs.Aggregation.{same_name}
-use Rattle.mst_lag.specs.View.{LogicalPort, view_ports}
+use Rattle.mst_lag.specs.View.{LogicalPort}
 use Rattle.mst_lag.specs.Viewed.{Viewed, named_bridge, named_port}
 use Rattle.mst_lag.specs.declared.in_view.BridgeInView.{BridgeInView}
 use Rattle.mst_lag.specs.declared.in_view.PortInView.{PortInView}
@@ -21,12 +21,11 @@ use Rattle.mst_trees.specs.Agrees.{AreOf}
 use Rattle.mst_trees.specs.Forest.{IsForest}
 use Rattle.mst_trees.specs.Forest.{Forest}
 use Rattle.mst_trees.proofs.Entries.{all_weaker}
-use Rattle.mst_trees.proofs.Lists.{all_contained, all_passing, all_there, apart_cases, filter_mapped}
-use Rattle.mst_trees.proofs.Views.{names_differ, port_names_differ, ports_rise}
-use Rattle.mst_trees.proofs.Seen.{SeenBridge, SeenPort, BridgesRise, PortsRise, bridges_seen, ports_seen, port_seen, bridges_apart, ports_apart, bridge_there, port_of_net}
-use Rattle.mst_trees.proofs.Looking.{first_found, has_tree_at}
-use Rattle.mst_roles.specs.Roles.{role_in}
-use Rattle.mst_roles.proofs.Named.{named, port_is, port_same}
+use Rattle.mst_trees.proofs.Lists.{all_contained, all_passing, filter_mapped}
+use Rattle.mst_trees.proofs.Views.{names_differ}
+use Rattle.mst_trees.proofs.Seen.{SeenBridge, SeenPort, BridgesRise, PortsRise, bridges_seen, ports_seen, bridges_apart, ports_apart, bridge_there}
+use Rattle.mst_trees.proofs.Looking.{has_tree_at}
+use Rattle.mst_roles.proofs.Named.{each_same}
 use Rattle.mst_text.specs.TreeLines.{heading, bridge_line, port_line}
 use Rattle.mst_text.specs.TreeSeen.{seen_port, seen_line, seen_bridge, seen_bridges, is_of}
 use Rattle.mst_text.specs.TreeText.{has_tree, ports_of, port_text, bridge_text, tree_text}
@@ -100,28 +99,13 @@ module _ (net : Net) (numbers : Numbers) (v : Viewed) (f : Forest) (of : AreOf n
     o = is.outcome
 
     -- ---- ports
-    -- a port of the view is found by its name
-    port_found : (p : PortInView) → Contains v.ports p → find (λ (q : LogicalPort). port_eq q.name p.name) (view_ports net) ≡ Some (named_port p)
-    port_found p there =
-        let own = port_of_net net numbers v of.view p there in
-        let first = first_found (λ (q : LogicalPort). port_eq q.name p.name) (view_ports net) (named_port p) own (port_same p.name p.name refl) in
-        first.found ∙ ap Some (one first.it (port_is first.it.name p.name first.passes) (apart_cases (λ (a b : LogicalPort). port_cmp a.name b.name ≡ Less) (view_ports net) first.it (named_port p) (ports_rise net) first.there own))
-      where
-        one : (q : LogicalPort) → q.name ≡ p.name → (q ≡ named_port p) ⊎ ((port_cmp q.name p.name ≡ Less) ⊎ (port_cmp p.name q.name ≡ Less)) → q ≡ named_port p
-        one q same (inl e) = e
-        one q same (inr (inl l)) = absurd (port_names_differ q.name p.name l same)
-        one q same (inr (inr l)) = absurd (port_names_differ p.name q.name l (sym same))
-
-    port_named : (p : PortInView) → Contains v.ports p → seen_port v f tree p ≡ port_text net o tree (named_port p)
-    port_named p there =
-        let number = (port_seen net numbers v of.view p there).has_numbers.port in
-        (λ i. option_map_or (port_line (of.view.settings i) tree (named_port p)) (named net numbers v f of is tree p.name p.number number i) [])
-        ∙ ap (λ q. option_map_or (port_line (by_tree net) tree (named_port p)) (option_and_then (role_in net o tree) q) []) (port_found p there)
+    port_named : (p : PortInView) → SeenPort net numbers p → seen_port v f tree p ≡ port_text net o tree (named_port p)
+    port_named p seen = λ i. option_map_or (port_line (of.view.settings i) tree (named_port p)) (each_same net numbers v f of is tree p seen i) []
 
     ports_named : (name : List ℕ) → flat_map (seen_port v f tree) (filter (is_of name) v.ports) ≡ flat_map (port_text net o tree) (ports_of net name)
     ports_named name =
         flat_map_alike (seen_port v f tree) (λ p. port_text net o tree (named_port p)) (filter (is_of name) v.ports)
-        (all_passing (Contains v.ports) _ (is_of name) (λ p there _. port_named p there) v.ports (all_there v.ports))
+        (all_passing (SeenPort net numbers) _ (is_of name) (λ p seen _. port_named p seen) v.ports (ports_seen net numbers v of.view))
         ∙ sym (flat_map-map (port_text net o tree) named_port (filter (is_of name) v.ports))
         ∙ ap (flat_map (port_text net o tree)) (sym (filter_mapped (λ (p : LogicalPort). same_name p.name.bridge name) named_port v.ports) ∙ ap (filter (λ (p : LogicalPort). same_name p.name.bridge name)) of.view.ports)
 

@@ -1,36 +1,32 @@
 -- The text of a VID under the numbers of records is its text under names.
-use Rattle.std.proofs.Common.{◌≡◌, ℕ, ◌==◌, ◌++◌, List, [], ◌∷◌, map, Some, refl, sym, ap, subst, ◌∙◌, eq-eqb}
+use Rattle.std.proofs.Common.{◌≡◌, ℕ, ◌++◌, List, [], ◌∷◌, map, Some, refl, sym, ap, subst, ◌∙◌}
 use Rattle.std.specs.List.{AllByRecursion, Contains, filter, flat_map}
-use Rattle.std.specs.Option.{option_map_or}
 use Rattle.std.specs.FinMap as fin
-use Rattle.std.proofs.lemmas.Bool.{eqb-true}
 use Rattle.mst_ids.specs.Vids.{has}
 use Rattle.mst_graph.specs.Islands.{Island}
 use Rattle.mst_graph.proofs.Members.{from_map, from_filter}
 use Rattle.mst_net.specs.Tables.{Net, Numbers, BridgeRow}
 use Rattle.mst_net.specs.ByTree.{vlans_in}
 use Rattle.mst_lag.proofs.Lists.{map_itself}
-use Rattle.mst_lag.specs.View.{LogicalPort, LogicalLan, view_ports, view_lans}
+use Rattle.mst_lag.specs.View.{LogicalLan, view_lans}
 use Rattle.mst_lag.specs.Viewed.{Viewed, named_bridge, named_port, named_lan}
 use Rattle.mst_lag.specs.declared.in_view.BridgeInView.{BridgeInView}
 use Rattle.mst_lag.specs.declared.in_view.PortInView.{PortInView}
 use Rattle.mst_lag.specs.declared.in_view.LanInView.{LanInView}
 use Rattle.mst_trees.specs.Outcome.{Outcome}
 use Rattle.mst_trees.specs.Agrees.{AreOf}
-use Rattle.mst_trees.specs.Forest.{Forest}
+use Rattle.mst_trees.specs.Forest.{Forest, IsForest}
 use Rattle.mst_trees.proofs.Entries.{all_weaker}
-use Rattle.mst_trees.proofs.Lists.{all_there, contains_unmapped, some_is}
-use Rattle.mst_trees.proofs.Looking.{first_found}
-use Rattle.mst_trees.proofs.Seen.{port_seen, port_there}
-use Rattle.mst_roles.specs.Roles.{forwards_for}
+use Rattle.mst_trees.proofs.Lists.{all_there, contains_unmapped, mapped_twice}
 use Rattle.mst_vlan.specs.Active.{active_ports}
 use Rattle.mst_vlan.specs.Reach.{bridges_on, lans_up, vid_links, AreReached}
-use Rattle.mst_vlan.specs.Seen.{seen_member}
+use Rattle.mst_vlan.specs.Seen.{seen_active}
 use Rattle.mst_vlan.specs.declared.island.Island.{Island as IslandNos}
+use Rattle.mst_vlan.proofs.Listed.{active_listed}
 use Rattle.mst_vlan.proofs.Renumbered.{bridge_listed, lan_listed}
 use Rattle.mst_text.specs.VlanLines.{active_word, active_line, island_line}
 use Rattle.mst_text.specs.VlanText.{port_word, island_text, IsBody}
-use Rattle.mst_text.specs.VlanSeen.{seen_word, seen_active_line, seen_bridge, seen_lan, seen_island_line}
+use Rattle.mst_text.specs.VlanSeen.{seen_active_line, seen_bridge, seen_lan, seen_island_line}
 use Rattle.mst_text.proofs.VlanListed.{by_number, named_at}
 
 -- for each element of a list
@@ -65,29 +61,15 @@ module _ (net : Net) (numbers : Numbers) (v : Viewed) (f : Forest) (of : AreOf n
       named_at (λ (l : LanInView). l.number) (λ l. l.name) (fin.get numbers.lans) v.lans of.view.lan_numbers of.numbered.lans_differ l.0 l.1 n (ap (fin.get numbers.lans) l.2 ∙ e) ∙ l.2
 
   -- ---- active ports
+  active_named : (is : IsForest net numbers f) (vid : ℕ) → seen_active_line v vid (seen_active v f vid) ≡ active_line (map (port_word net vid) (active_ports net is.outcome vid))
+  active_named is vid =
+      ap active_line
+      ((λ i. map (λ (p : PortInView). active_word (has (vlans_in (of.view.settings i).vlans p.name) vid) p.name) (seen_active v f vid))
+      ∙ sym (mapped_twice (port_word net vid) named_port (seen_active v f vid))
+      ∙ ap (map (port_word net vid)) (sym (active_listed net numbers v f of is vid)))
+
+  -- ---- islands
   module _ (o : Outcome) (vid : ℕ) where
-    -- the word of a port goes by its name alone
-    word_at : (p : PortInView) → Contains v.ports p → (n : ℕ) → fin.get numbers.ports p.name ≡ Some n → seen_word v vid n ≡ port_word net vid (named_port p)
-    word_at p there n e =
-        let own = (port_seen net numbers v of.view p there).has_numbers.port in
-        let first = first_found (λ (q : PortInView). n == q.number) v.ports p there (eq-eqb n p.number (some_is n p.number (sym e ∙ own))) in
-        let other = (port_seen net numbers v of.view first.it first.there).has_numbers.port in
-        let same : first.it.name ≡ p.name = of.numbered.ports_differ first.it.name p.name n (other ∙ ap Some (sym (eqb-true n first.it.number first.passes))) e in
-        ap (λ q. option_map_or (λ (p : PortInView). active_word (seen_member v vid p) p.name) q []) first.found
-        ∙ (λ i. active_word (has (vlans_in (of.view.settings i).vlans (same i)) vid) (same i))
-
-    word_named : (p : LogicalPort) → Contains (active_ports net o vid) p → (n : ℕ) → fin.get numbers.ports p.name ≡ Some n → seen_word v vid n ≡ port_word net vid p
-    word_named p h n e =
-        let q = port_there net numbers v of.view p (from_filter (forwards_for net o vid) (view_ports net) p h).0 in
-        word_at q.0 q.1 n (ap (λ (p : LogicalPort). fin.get numbers.ports p.name) q.2 ∙ e) ∙ ap (port_word net vid) q.2
-
-    pub active_named : (ports : List ℕ) → map Some ports ≡ map (λ p. fin.get numbers.ports p.name) (active_ports net o vid) → seen_active_line v vid ports ≡ active_line (map (port_word net vid) (active_ports net o vid))
-    active_named ports e =
-        ap active_line
-        (by_number (λ (p : LogicalPort). fin.get numbers.ports p.name) (seen_word v vid) (port_word net vid) ports (active_ports net o vid) e
-        (each_of _ (active_ports net o vid) word_named))
-
-    -- ---- islands
     -- the lists of an island have the numbers of these names
     record HasNames (i : IslandNos) (j : Island (List ℕ) (List ℕ)) : Type 0 where
       bridges : map Some i.bridges ≡ map (fin.get numbers.bridges) j.bridges
@@ -129,7 +111,7 @@ module _ (net : Net) (numbers : Numbers) (v : Viewed) (f : Forest) (of : AreOf n
           lans = lan_listed (bridges_on net) (lans_up net) (vid_links net o vid) r.named r.are_islands j h;
         }))
 
-    -- ---- the body
-    pub is_body : (ports : List ℕ) (islands : List IslandNos) → map Some ports ≡ map (λ p. fin.get numbers.ports p.name) (active_ports net o vid)
-        → AreReached net numbers o vid islands → IsBody net o vid (seen_active_line v vid ports ++ flat_map (seen_island_line v) islands)
-    is_body ports islands active r = (r.named, r.are_islands, λ k. active_named ports active k ++ islands_named islands r k)
+  -- ---- the body
+  pub is_body : (is : IsForest net numbers f) (vid : ℕ) (islands : List IslandNos) → AreReached net numbers is.outcome vid islands
+      → IsBody net is.outcome vid (seen_active_line v vid (seen_active v f vid) ++ flat_map (seen_island_line v) islands)
+  is_body is vid islands r = (r.named, r.are_islands, λ k. active_named is vid k ++ islands_named is.outcome vid islands r k)

@@ -1,17 +1,12 @@
 -- The text of the classes of links.
-use Rattle.std.specs.Prelude.{ℕ, List, [], ◌∷◌, ◌++◌, map, codes, decimal}
+use Rattle.std.specs.Prelude.{ℕ, List, [], ◌∷◌, map, codes, decimal}
 use Rattle.std.specs.List.{flat_map}
 use Rattle.std.specs.Option.{option_map_or}
-use Rattle.mst_ids.specs.declared.name.PortName.{PortName}
 use Rattle.mst_net.specs.Tables.{Net}
 use Rattle.mst_lag.specs.Lag.{lag_id_text}
 use Rattle.mst_lag.specs.View.{LogicalLan, members, up_members, member_plugs, view_lans}
 use Rattle.mst_lag.specs.declared.lag.LagId.{LagId}
-use Rattle.mst_ids.specs.Words.{line, comma_list}
-
--- `B:P`
-abbrev pub port_text : PortName → List ℕ
-port_text port = port.bridge ++ 58 ∷ decimal port.number
+use Rattle.mst_ids.specs.Words.{line, comma_list, port_text}
 
 -- `lag LAN LAGID speed S up UP lans LANS ports PORTS`: the members that are up, all members, and their ports
 abbrev pub lag_line : Net → LogicalLan → LagId → List ℕ

@@ -9,8 +9,7 @@ use Rattle.mst_lag.specs.declared.lag.LagId.{LagId}
 use Rattle.mst_lag.specs.declared.in_view.LanInView.{LanInView}
 use Rattle.mst_lag.specs.declared.in_view.MemberLan.{MemberLan}
 use Rattle.mst_lag.specs.declared.in_view.MemberPort.{MemberPort}
-use Rattle.mst_text.specs.LagText.{port_text}
-use Rattle.mst_ids.specs.Words.{line, comma_list}
+use Rattle.mst_ids.specs.Words.{line, comma_list, port_text}
 
 -- the members of a logical LAN, those that are up, and the ports
 abbrev pub lans_in : List ℕ → List MemberLan → List MemberLan

@@ -1,7 +1,7 @@
 -- The text of a tree, under the numbers of records.
 use Rattle.std.specs.Prelude.{ℕ, ◌==◌, ◌||◌, Bool, List, [], ◌∷◌, ◌++◌, take, drop, if◌then◌else◌}
-use Rattle.std.specs.List.{find, flat_map, prefix_len}
-use Rattle.std.specs.Option.{option_map_or, option_and_then}
+use Rattle.std.specs.List.{flat_map, prefix_len}
+use Rattle.std.specs.Option.{option_map_or}
 use Rattle.mst_settle.specs.Assignment.{vector_of}
 use Rattle.mst_net.specs.Seen.{bridge_row}
 use Rattle.mst_lag.specs.Aggregation.{same_name}
@@ -18,9 +18,9 @@ use Rattle.mst_text.specs.TreeLines.{bridge_line, port_line}
 abbrev pub seen_has : Viewed → ℕ → ℕ → Bool
 seen_has v tree bridge = tree == 0 || is_among (trees_at v bridge) tree
 
--- the line of a port, with the role that is looked up by its number
+-- the line of a port with its role
 abbrev pub seen_port : Viewed → Forest → ℕ → PortInView → List ℕ
-seen_port v f tree p = option_map_or (port_line v.settings tree (named_port p)) (option_and_then (seen_role v f tree) (find (λ q. p.number == q.number) v.ports)) []
+seen_port v f tree p = option_map_or (port_line v.settings tree (named_port p)) (seen_role v f tree p) []
 
 abbrev pub seen_line : Viewed → Forest → ℕ → BridgeInView → List ℕ
 seen_line v f tree b = bridge_line v.settings tree b.name (bridge_row b.bridge) (vector_of f.cist b.bridge.number) (msti_vector f tree b.bridge.number)

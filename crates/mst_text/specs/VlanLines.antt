@@ -1,15 +1,11 @@
 -- The lines of a VID's text.
 use Rattle.std.specs.Prelude.{ℕ, Bool, List, [], ◌∷◌, ◌++◌, if◌then◌else◌, codes, decimal}
 use Rattle.mst_ids.specs.declared.name.PortName.{PortName}
-use Rattle.mst_ids.specs.Words.{line, listed}
+use Rattle.mst_ids.specs.Words.{line, listed, port_text}
 
 -- `vlan V`
 abbrev pub heading : ℕ → List ℕ
 heading vid = line (codes "vlan" ∷ decimal vid ∷ [])
-
--- `B:P`
-abbrev pub port_text : PortName → List ℕ
-port_text port = port.bridge ++ 58 ∷ decimal port.number
 
 -- an active port: `B:P` where it is a member of the VLAN, and `[B:P]` where it isn't
 abbrev pub active_word : Bool → PortName → List ℕ

@@ -3,16 +3,17 @@ use Rattle.std.specs.Prelude.{ℕ, ◌==◌, List, [], map}
 use Rattle.std.specs.List.{find}
 use Rattle.std.specs.Option.{option_map_or}
 use Rattle.mst_lag.specs.Viewed.{Viewed}
+use Rattle.mst_lag.specs.declared.in_view.PortInView.{PortInView}
 use Rattle.mst_vlan.specs.Seen.{seen_member}
 use Rattle.mst_vlan.specs.declared.island.Island.{Island}
 use Rattle.mst_text.specs.VlanLines.{active_word, active_line, island_line}
 
--- the word of the port of this number
-abbrev pub seen_word : Viewed → ℕ → ℕ → List ℕ
-seen_word v vid port = option_map_or (λ p. active_word (seen_member v vid p) p.name) (find (λ p. port == p.number) v.ports) []
+-- the word of an active port
+abbrev pub seen_word : Viewed → ℕ → PortInView → List ℕ
+seen_word v vid p = active_word (seen_member v vid p) p.name
 
--- the line of the active ports of these numbers
-abbrev pub seen_active_line : Viewed → ℕ → List ℕ → List ℕ
+-- the line of these active ports
+abbrev pub seen_active_line : Viewed → ℕ → List PortInView → List ℕ
 seen_active_line v vid ports = active_line (map (seen_word v vid) ports)
 
 -- the names of the bridge and of the logical LAN of this number

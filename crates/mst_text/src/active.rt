@@ -2,18 +2,18 @@ ghost use Rattle.std.specs.Prelude.{◌≡◌, ◌++◌, OnOk, map};
 ghost use Rattle.std.specs.List.{flat_map};
 ghost use Rattle.mst_vlan.specs.Seen.{seen_member};
 ghost use Rattle.mst_ids.specs.Words.{after_space, listed};
-ghost use Rattle.mst_text.specs.VlanLines.{active_word, port_text};
+ghost use Rattle.mst_text.specs.VlanLines.{active_word};
 ghost use Rattle.mst_text.specs.VlanSeen.{seen_word, seen_active_line};
 
-use mst_ids::{PortName, PortNo, Vid, push_bytes, push_end, push_word};
+use mst_ids::{PortName, Vid, push_bytes, push_end, push_word};
 use mst_lag::{PortInView, View};
 use std::alloc::AllocError;
 
-/// Appends the line of the active ports of a VID, by their numbers.
+/// Appends the line of the active ports of a VID.
 pub(crate) fn push_active(
     view: &View,
     vid: Vid,
-    ports: &[PortNo],
+    ports: &[PortInView],
     out: &mut Vec<u8>,
 ) -> Result<(), AllocError>
     ensures { OnOk result (out.new.items ≡ out.old.items ++ seen_active_line view.now vid ports.now) }
@@ -24,32 +24,34 @@ pub(crate) fn push_active(
 }
 
 /// Appends these ports as words, or `-` where there is none.
-fn push_ports(view: &View, vid: Vid, ports: &[PortNo], out: &mut Vec<u8>) -> Result<(), AllocError>
+fn push_ports(
+    view: &View,
+    vid: Vid,
+    ports: &[PortInView],
+    out: &mut Vec<u8>,
+) -> Result<(), AllocError>
     ensures { OnOk result (out.new.items ≡ out.old.items ++ flat_map after_space (listed (map (seen_word view.now vid) ports.now))) }
 {
     if ports.is_empty() {
         return push_word(b"-", out);
     }
     for port in ports {
-        push_active_port(view, vid, *port, out)?;
+        push_active_port(view, vid, port, out)?;
     }
     Ok(())
 }
 
-/// Appends the port of this number as a word.
+/// Appends an active port as a word.
 fn push_active_port(
     view: &View,
     vid: Vid,
-    port: PortNo,
+    port: &PortInView,
     out: &mut Vec<u8>,
 ) -> Result<(), AllocError>
-    ensures { OnOk result (out.new.items ≡ out.old.items ++ after_space (seen_word view.now vid port)) }
+    ensures { OnOk result (out.new.items ≡ out.old.items ++ after_space (seen_word view.now vid port.now)) }
 {
     push_bytes(b" ", out)?;
-    match view.port(port) {
-        None => Ok(()),
-        Some(port) => push_by_membership(&port.name, is_member(view, port, vid), out),
-    }
+    push_by_membership(&port.name, is_member(view, port, vid), out)
 }
 
 /// Whether a logical port is a member of a VLAN.
@@ -64,18 +66,9 @@ fn push_by_membership(port: &PortName, is_member: bool, out: &mut Vec<u8>) -> Re
     ensures { OnOk result (out.new.items ≡ out.old.items ++ active_word is_member port.now) }
 {
     if is_member {
-        return push_port(port, out);
+        return port.push_text(out);
     }
     push_bytes(b"[", out)?;
-    push_port(port, out)?;
+    port.push_text(out)?;
     push_bytes(b"]", out)
-}
-
-/// Appends the name of a port: its bridge, `:` and its number.
-fn push_port(port: &PortName, out: &mut Vec<u8>) -> Result<(), AllocError>
-    ensures { OnOk result (out.new.items ≡ out.old.items ++ port_text port.now) }
-{
-    push_bytes(port.bridge.as_bytes(), out)?;
-    push_bytes(b":", out)?;
-    port.number.push_text(out)
 }

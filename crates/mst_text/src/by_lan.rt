@@ -3,9 +3,8 @@ ghost use Rattle.std.specs.List.{flat_map};
 ghost use Rattle.indexmap.specs.IndexMap.{get};
 ghost use Rattle.mst_lag.specs.Aggregation.{same_name};
 ghost use Rattle.mst_text.specs.KeptWords.{kept_at};
-ghost use Rattle.mst_text.specs.LagText.{port_text};
 ghost use Rattle.mst_text.specs.LagView.{lans_in, up_of as up_members, ports_in, lan_word, port_word};
-ghost use Rattle.mst_ids.specs.Words.{after_comma};
+ghost use Rattle.mst_ids.specs.Words.{after_comma, port_text};
 ghost use Rattle.mst_text.specs.WordsByLan.{AreWords};
 
 use indexmap::IndexMap;
@@ -129,8 +128,6 @@ fn port_name_text(alloc: Global, port: &PortName) -> Result<Vec<u8>, AllocError>
     ensures { IfOk result (λ text. text.items ≡ port_text port.now) }
 {
     let mut text = Vec::new(alloc);
-    port.bridge.push_text(&mut text)?;
-    push_bytes(b":", &mut text)?;
-    port.number.push_text(&mut text)?;
+    port.push_text(&mut text)?;
     Ok(text)
 }

@@ -11,7 +11,7 @@ use itoa::Buffer;
 use mst_ids::{PortId, Tree, auto_cost, push_line};
 use mst_lag::{PortInView, View};
 use mst_net::TreeSettings;
-use mst_roles::{Role, role};
+use mst_roles::{Role, port_role};
 use mst_trees::Forest;
 use mst_vector::{CistPort, MstiPort};
 use std::alloc::AllocError;
@@ -26,7 +26,7 @@ pub(crate) fn push_port(
 ) -> Result<(), AllocError>
     ensures { OnOk result (out.new.items ≡ out.old.items ++ seen_port view.now forest.now tree port.now) }
 {
-    match role(view, forest, port.number, tree) {
+    match port_role(view, forest, port, tree) {
         None => Ok(()),
         Some(role) => push_with_role(view.settings(), tree, port, role, out),
     }

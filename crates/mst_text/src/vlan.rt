@@ -11,7 +11,7 @@ use itoa::Buffer;
 use mst_ids::{Vid, push_line};
 use mst_lag::View;
 use mst_trees::Forest;
-use mst_vlan::{active, reach};
+use mst_vlan::{active_ports, reach};
 use std::alloc::{AllocError, Global};
 
 /// Appends the text of a VID: a heading, and then its body.
@@ -58,7 +58,7 @@ pub fn push_body(
     ensures { (net : Net) (numbers : Numbers) (is : IsForest net numbers forest.now) → AreOf net numbers view.now forest.now.regions
         → OnOk result ((body : List ℕ) × IsBody net is.outcome vid body × (out.new.items ≡ out.old.items ++ body)) }
 {
-    let ports = active(alloc, view, forest, vid)?;
+    let ports = active_ports(alloc, view, forest, vid)?;
     push_active(view, vid, ports.as_slice(), out)?;
     let islands = reach(alloc, view, forest, vid)?;
     push_islands(view, islands.as_slice(), out)

@@ -139,7 +139,7 @@ module _ (net : Net) (numbers : Numbers) (v : Viewed) (f : Forest) (of : AreOf n
 
   -- ---- active ports
   module _ (is : IsForest net numbers f) (vid : ℕ) where
-    active_listed : active_ports net is.outcome vid ≡ map named_port (seen_active v f vid)
+    pub active_listed : active_ports net is.outcome vid ≡ map named_port (seen_active v f vid)
     active_listed =
         ap (filter (forwards_for net is.outcome vid)) (sym of.view.ports) ∙ filter_mapped (forwards_for net is.outcome vid) named_port v.ports
         ∙ ap (map named_port) (filter_alike (λ p. forwards_for net is.outcome vid (named_port p)) (seen_forwards v f vid) v.ports

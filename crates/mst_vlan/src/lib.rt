@@ -8,4 +8,4 @@ mod topology;
 
 pub use island::{BridgeList, Island, LanList};
 pub use reaching::reach;
-pub use topology::active;
+pub use topology::{active, active_ports};

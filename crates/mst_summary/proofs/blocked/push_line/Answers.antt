@@ -1,7 +1,6 @@
 use Rattle.std.proofs.Common.{ℕ, List, [], ◌∷◌, ◌++◌, codes, decimal, map, ap, ◌∙◌}
 use Rattle.std.proofs.lemmas.Result.{on_ok_weaker}
-use Rattle.mst_ids.specs.Words.{after_space, comma_list}
-use Rattle.mst_text.specs.VlanLines.{port_text}
+use Rattle.mst_ids.specs.Words.{after_space, comma_list, port_text}
 use Rattle.mst_summary.proofs.Lines.{line_of_three}
 use Rattle.mst_summary.proofs.blocked.push_line.Goals as goal
 

@@ -1,7 +1,6 @@
 use Rattle.std.proofs.Common.{◌≡◌, ◌++◌, map, take}
 use Rattle.std.specs.List.{flat_map}
-use Rattle.mst_ids.specs.Words.{after_comma}
-use Rattle.mst_text.specs.VlanLines.{port_text}
+use Rattle.mst_ids.specs.Words.{after_comma, port_text}
 use Rattle.mst_summary.proofs.blocked.push_others.Given as goal
 
 -- the ports so far
