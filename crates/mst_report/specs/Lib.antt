@@ -9,3 +9,4 @@ pub mod Explaining
 pub mod Sweeping
 pub mod Differing
 pub mod Summarizing
+pub mod Picturing

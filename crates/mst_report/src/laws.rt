@@ -15,6 +15,7 @@ ghost use Rattle.mst_report.specs.ByName.{KeepsBoundByName};
 ghost use Rattle.mst_report.specs.Standing.{KeepsBounds, standing_of, settlings_of, msti_settlings};
 ghost use Rattle.mst_report.specs.Differing.{Differs};
 ghost use Rattle.mst_report.specs.Explaining.{Explains};
+ghost use Rattle.mst_report.specs.Picturing.{Depicts};
 ghost use Rattle.mst_report.specs.Summarizing.{Summarizes};
 ghost use Rattle.mst_report.specs.Sweeping.{Sweeps};
 ghost use Rattle.mst_report.specs.State.{State, IsState, IsMark, IsMarkNow};
@@ -137,4 +138,13 @@ pub fn one_summary()
 {
     has_outcome();
     mst_summary::laws::one_summary();
+}
+
+/// A network has one picture with each tree, which the network alone settles.
+pub fn one_picture()
+    ensures some { (net : Net) (tree : ℕ) → IsNetwork net → (text : List ℕ) × Depicts net tree text }
+    ensures one { (net : Net) (tree : ℕ) (text other : List ℕ) → IsNetwork net → Depicts net tree text → Depicts net tree other → text ≡ other }
+{
+    has_outcome();
+    mst_picture::laws::one_picture();
 }

@@ -10,8 +10,9 @@ use mst_lag::{PortInView, View};
 use std::alloc::{AllocError, Global};
 use std::slice::from_ref;
 
-/// The logical ports of each logical LAN, by the names of the LANs. It goes over the ports once.
-pub(crate) fn ports_by_lan(
+/// The logical ports of each logical LAN that has one, by the names of the LANs. It goes over the ports once. `AllocError`:
+/// memory was wanted and refused.
+pub fn ports_by_lan(
     alloc: Global,
     view: &View,
 ) -> Result<IndexMap<Name, Vec<PortInView>>, AllocError>
@@ -24,11 +25,8 @@ pub(crate) fn ports_by_lan(
     Ok(kept)
 }
 
-/// What is kept for the logical LAN of this name.
-pub(crate) fn kept_for<'a>(
-    kept: &'a IndexMap<Name, Vec<PortInView>>,
-    lan: &Name,
-) -> &'a [PortInView]
+/// What is kept for the logical LAN of this name: nothing where it has no port.
+pub fn kept_for<'a>(kept: &'a IndexMap<Name, Vec<PortInView>>, lan: &Name) -> &'a [PortInView]
     ensures { result.now ≡ kept_at kept.now lan.now }
 {
     match kept.get(lan) {

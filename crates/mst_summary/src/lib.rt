@@ -13,4 +13,6 @@ mod roots;
 mod summary;
 mod trees;
 
+pub use kept::{kept_for, ports_by_lan};
+pub use roots::id_in;
 pub use summary::push_summary;

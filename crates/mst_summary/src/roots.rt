@@ -24,7 +24,7 @@ pub(crate) struct Follower {
 }
 
 /// The identifier of a bridge in a tree.
-fn id_in(view: &View, tree: Tree, bridge: &BridgeInView) -> BridgeId
+pub fn id_in(view: &View, tree: Tree, bridge: &BridgeInView) -> BridgeId
     ensures { result ≡ identifier_in view.now.settings tree bridge.now.name (bridge_row bridge.now.bridge) }
 {
     let priority = view.settings().tree_priority(&bridge.name, tree);

@@ -1,0 +1,30 @@
+-- Bridges in a picture.
+use Rattle.std.specs.Prelude.{ℕ, ◌==◌, Bool, false, not, List, [], ◌∷◌, codes, if◌then◌else◌}
+use Rattle.std.specs.Option.{option_map_or}
+use Rattle.mst_net.specs.Tables.{Net, BridgeRow}
+use Rattle.mst_net.specs.ByTree.{by_tree}
+use Rattle.mst_trees.specs.Outcome.{Outcome}
+use Rattle.mst_text.specs.TreeLines.{id_in}
+use Rattle.mst_text.specs.TreeText.{has_tree}
+use Rattle.mst_diff.specs.Roots.{root_of}
+use Rattle.mst_picture.specs.Pieces.{joined}
+
+-- a bridge is a root of the tree: it names itself, in an MSTI as its regional root
+abbrev pub is_root : Net → Outcome → ℕ → List ℕ × BridgeRow → Bool
+is_root net o tree e = option_map_or (λ root. root == id_in (by_tree net) tree e.0 e.1) (root_of net o tree e.0) false
+
+-- how a bridge is drawn: grey and dashed where it is off, grey where it hasn't the tree, and with two borders where it is a
+-- root
+abbrev pub style : Bool → Bool → Bool → List ℕ
+style is_on has_tree is_root =
+    if not is_on then codes " [style=dashed, color=gray, fontcolor=gray]"
+    else if not has_tree then codes " [color=gray, fontcolor=gray]"
+    else if is_root then codes " [peripheries=2]"
+    else []
+
+-- its node, which has its name: `"B" STYLE;`
+abbrev pub bridge_line : List ℕ → List ℕ → List ℕ
+bridge_line name style = joined (codes "  \"" ∷ name ∷ codes "\"" ∷ style ∷ codes ";\n" ∷ [])
+
+abbrev pub bridge_text : Net → Outcome → ℕ → List ℕ × BridgeRow → List ℕ
+bridge_text net o tree e = bridge_line e.0 (style e.1.is_on (has_tree net tree e.0) (is_root net o tree e))

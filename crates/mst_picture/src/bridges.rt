@@ -1,0 +1,90 @@
+ghost use Rattle.std.specs.Prelude.{◌≡◌, ◌++◌, OnOk};
+ghost use Rattle.std.specs.List.{flat_map};
+ghost use Rattle.mst_net.specs.Seen.{bridge_row};
+ghost use Rattle.mst_text.specs.TreeSeen.{seen_has};
+ghost use Rattle.mst_picture.specs.Bridges.{style as style_by};
+ghost use Rattle.mst_picture.specs.Seen.{seen_is_root, seen_style, seen_bridge};
+
+use crate::pieces::push_pieces;
+use mst_changes::Planned;
+use mst_diff::root;
+use mst_ids::{BridgeNo, Tree, push_bytes};
+use mst_lag::{BridgeInView, View};
+use mst_lang::Power;
+use mst_summary::id_in;
+use std::alloc::AllocError;
+
+/// Whether a bridge is on.
+fn is_on(bridge: &BridgeInView) -> bool
+    ensures { result ≡ (bridge_row bridge.now.bridge).is_on }
+{
+    matches!(bridge.bridge.power, Power::On)
+}
+
+/// Whether a bridge has a tree: each has the CIST.
+fn has_tree(view: &View, bridge: BridgeNo, tree: Tree) -> bool
+    ensures { result ≡ seen_has view.now tree bridge }
+{
+    tree.value() == 0 || view.has_tree(bridge, tree)
+}
+
+/// Whether a bridge names itself as its root in a tree, in an MSTI as its regional root.
+fn is_root(plan: &Planned, tree: Tree, bridge: &BridgeInView) -> bool
+    ensures { result ≡ seen_is_root plan.now.view.now plan.now.forest.now tree bridge.now }
+{
+    match root(plan, tree, bridge.bridge.number) {
+        None => false,
+        Some(root) => root == id_in(plan.view, tree, bridge),
+    }
+}
+
+/// How a bridge is drawn.
+fn style(is_on: bool, has_tree: bool, is_root: bool) -> &'static str
+    ensures { result.now ≡ style_by is_on has_tree is_root }
+{
+    if !is_on {
+        " [style=dashed, color=gray, fontcolor=gray]"
+    } else if !has_tree {
+        " [color=gray, fontcolor=gray]"
+    } else if is_root {
+        " [peripheries=2]"
+    } else {
+        ""
+    }
+}
+
+/// How a bridge is drawn with a tree.
+fn style_of(plan: &Planned, tree: Tree, bridge: &BridgeInView) -> &'static str
+    ensures { result.now ≡ seen_style plan.now.view.now plan.now.forest.now tree bridge.now }
+{
+    style(
+        is_on(bridge),
+        has_tree(plan.view, bridge.bridge.number, tree),
+        is_root(plan, tree, bridge),
+    )
+}
+
+/// Appends the node of a bridge.
+fn push_bridge(
+    plan: &Planned,
+    tree: Tree,
+    bridge: &BridgeInView,
+    out: &mut Vec<u8>,
+) -> Result<(), AllocError>
+    ensures { OnOk result (out.new.items ≡ out.old.items ++ seen_bridge plan.now.view.now plan.now.forest.now tree bridge.now) }
+{
+    let pieces: [&[u8]; 3] = [b"  \"", bridge.name.as_bytes(), b"\""];
+    push_pieces(&pieces, out)?;
+    push_bytes(style_of(plan, tree, bridge).as_bytes(), out)?;
+    push_bytes(b";\n", out)
+}
+
+/// Appends the nodes of the bridges, by their names.
+pub(crate) fn push_bridges(plan: &Planned, tree: Tree, out: &mut Vec<u8>) -> Result<(), AllocError>
+    ensures { OnOk result (out.new.items ≡ out.old.items ++ flat_map (seen_bridge plan.now.view.now plan.now.forest.now tree) plan.now.view.now.bridges) }
+{
+    for bridge in plan.view.bridges() {
+        push_bridge(plan, tree, bridge, out)?;
+    }
+    Ok(())
+}

@@ -1,0 +1,53 @@
+ghost use Rattle.std.specs.Prelude.{◌≡◌, ◌++◌, OnOk};
+ghost use Rattle.mst_net.specs.Tables.{Net, Numbers};
+ghost use Rattle.mst_trees.specs.Agrees.{AreOf};
+ghost use Rattle.mst_trees.specs.Forest.{IsForest};
+ghost use Rattle.mst_picture.specs.Picture.{opening, picture};
+
+use crate::bridges::push_bridges;
+use crate::lans::push_lans;
+use crate::pieces::push_pieces;
+use itoa::Buffer;
+use mst_changes::Planned;
+use mst_ids::{Tree, push_bytes};
+use std::alloc::{AllocError, Global};
+
+/// Appends the first lines.
+fn push_opening(tree: Tree, out: &mut Vec<u8>) -> Result<(), AllocError>
+    ensures { OnOk result (out.new.items ≡ out.old.items ++ opening tree) }
+{
+    let mut number = Buffer::new();
+    let tree = number.format(tree.value()).as_bytes();
+    let pieces: [&[u8]; 7] = [
+        b"graph \"tree ",
+        tree,
+        b"\" {\n",
+        b"  graph [label=\"tree ",
+        tree,
+        b"\", nodesep=0.6, ranksep=0.8];\n",
+        b"  edge [fontsize=10, labeldistance=1.8];\n",
+    ];
+    push_pieces(&pieces, out)
+}
+
+/// Appends the picture of a network with a tree, by its plan: a text for Graphviz. Bridges are nodes, the root or the regional
+/// roots with two borders; a logical LAN of two logical ports is a line between their bridges, from the designated port, and
+/// any other a box with a line to each port's bridge. The ends of the lines have the ports' numbers and the letters of their
+/// roles, and a line is dashed where an end of it doesn't forward. Where no bridge has the tree the bridges are drawn without
+/// it. `AllocError`: memory was wanted and refused; part of the text may have been appended.
+///
+/// It goes over the ports twice.
+pub fn push_picture(
+    alloc: Global,
+    plan: &Planned,
+    tree: Tree,
+    out: &mut Vec<u8>,
+) -> Result<(), AllocError>
+    ensures { (net : Net) (numbers : Numbers) (is : IsForest net numbers plan.now.forest.now) → AreOf net numbers plan.now.view.now plan.now.forest.now.regions
+        → OnOk result (out.new.items ≡ out.old.items ++ picture net is.outcome tree) }
+{
+    push_opening(tree, out)?;
+    push_bridges(plan, tree, out)?;
+    push_lans(alloc, plan, tree, out)?;
+    push_bytes(b"}\n", out)
+}
