@@ -1,3 +1,4 @@
 pub mod Tables
 pub mod Hinted
 pub mod Wrong
+pub mod Noted

@@ -1,5 +1,5 @@
 -- Steps of the code along the definitions of hints.
-use Rattle.std.proofs.Common.{◌≡◌, ℕ, List, [], ◌∷◌, Option, Some, None, is_some, refl, ap, true≢false, sym}
+use Rattle.std.proofs.Common.{◌≡◌, ℕ, List, [], ◌∷◌, Option, Some, None, is_some, true, false, refl, ap, true≢false, sym}
 use Rattle.std.specs.Option.{option_map, unwrap_or}
 use Rattle.mst_lang.specs.declared.line.Version.{Version}
 use Rattle.mst_lang.specs.declared.line.Command.{Command}
@@ -21,3 +21,12 @@ of_form version word form (Some command) arguments same = ap (λ f. form_hint ve
 pub of_no_form : (version : Version) (word : List ℕ) (command : Option Command) (arguments : List (List ℕ)) → None ≡ option_map form_of command → Some (unknown_text word) ≡ command_hint version word command arguments
 of_no_form version word None arguments same = refl
 of_no_form version word (Some command) arguments same = absurd (true≢false (sym (ap is_some same)))
+
+-- a word that has a form is a command, and one that has none is none
+pub is_command : (form : List Argument) (command : Option Command) → Some form ≡ option_map form_of command → is_some command ≡ true
+is_command form None e = absurd (true≢false (ap is_some e))
+is_command form (Some command) e = refl
+
+pub is_no_command : (command : Option Command) → None ≡ option_map form_of command → is_some command ≡ false
+is_no_command None e = refl
+is_no_command (Some command) e = absurd (true≢false (sym (ap is_some e)))

@@ -12,7 +12,7 @@ use mst_lang::Version;
 use std::alloc::AllocError;
 
 /// The most bytes that a line may have.
-const LONGEST: usize = 4096;
+pub(crate) const LONGEST: usize = 4096;
 
 const TOO_LONG: &str = "a line has at most 4096 bytes";
 
@@ -84,7 +84,7 @@ fn push_text(number: u64, text: &str, out: &mut Vec<u8>) -> Result<bool, AllocEr
 }
 
 /// Appends what a hint's line begins with.
-fn push_start(number: u64, out: &mut Vec<u8>) -> Result<(), AllocError>
+pub(crate) fn push_start(number: u64, out: &mut Vec<u8>) -> Result<(), AllocError>
     ensures { OnOk result (out.new.items ≡ out.old.items ++ codes "line " ++ decimal number ++ 32 ∷ []) }
 {
     push_bytes(b"line ", out)?;
@@ -175,7 +175,7 @@ fn push_asked(command: Option<&[u8]>, out: &mut Vec<u8>) -> Result<(), AllocErro
 
 /// The command that is nearest to a word, where one is at most two changes from it.
 #[tactic(auto, unfolding(crate::specs::Hints::nearest))]
-fn nearest(word: &[u8]) -> Option<&'static [u8]>
+pub(crate) fn nearest(word: &[u8]) -> Option<&'static [u8]>
     ensures { option_map (λ text. text.now) result ≡ nearest_of word.now }
 {
     match command_by_one(word) {

@@ -5,14 +5,19 @@
 //! [isn't read](laws::hinted).
 #![tactic(auto)]
 
+mod added;
+mod adds;
 mod form;
 mod hint;
 pub mod laws;
 mod near;
+mod record;
 mod right;
+mod script;
 mod words;
 
 pub use hint::push_hint;
+pub use script::ScriptHints;
 
 #[cfg(test)]
 mod tests;

@@ -1,4 +1,4 @@
-use crate::push_hint;
+use crate::{ScriptHints, push_hint};
 use mst_lang::Version;
 use std::rt::HostRuntime;
 use std::test::Fail;
@@ -104,5 +104,19 @@ fn long_lines_are_hinted(rt: HostRuntime) -> Result<(), Fail> {
     assert!(rt; out.as_slice() == b"line 1 a line has at most 4096 bytes\n".as_slice());
     let hinted = push_hint(Version::V1, 2, &line[1..], &mut out)?;
     assert!(rt; !hinted);
+    Ok(())
+}
+
+#[test]
+fn records_are_told(rt: HostRuntime) -> Result<(), Fail> {
+    let mut hints = ScriptHints::new(rt.alloc());
+    let mut out = Vec::new(rt.alloc());
+    hints.push_hint(b"mstplan 2", &mut out)?;
+    hints.push_hint(b"addbrigde a 00:1b:21:aa:00:01", &mut out)?;
+    hints.push_hint(b"settreeprio a 0 4096", &mut out)?;
+    let told: &[u8] = b"\
+        line 2 no command addbrigde; addbridge?\n\
+        line 3 no bridge a: line 2 was to add it\n";
+    assert!(rt; out.as_slice() == told);
     Ok(())
 }

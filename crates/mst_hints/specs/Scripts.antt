@@ -1,0 +1,128 @@
+-- What would be right in the lines of a script that are refused.
+use Rattle.std.specs.Prelude.{ℕ, ◌+◌, Bool, false, List, [], ◌∷◌, ◌++◌, Option, Some, None, Result, Ok, Err, is_ok, codes, decimal, if◌then◌else◌}
+use Rattle.std.specs.Option.{option_map, option_map_or, option_flatten, unwrap_or}
+use Rattle.std.specs.Result.{result_ok}
+use Rattle.std.specs.Map.{lookup}
+use Rattle.mst_ids.specs.Words.{port_text}
+use Rattle.mst_lang.specs.Reading.{reading_as, says_version_2}
+use Rattle.mst_lang.specs.declared.line.Fault.{Fault}
+use Rattle.mst_lang.specs.declared.line.Line.{Line}
+use Rattle.mst_lang.specs.declared.line.Line.TheVariants.{Blank, Edit as edit, Query as query}
+use Rattle.mst_lang.specs.declared.line.Query.TheVariants.{ShowConfiguration}
+use Rattle.mst_lang.specs.declared.line.Version.{Version}
+use Rattle.mst_lang.specs.declared.line.Version.TheVariants.{V1, V2}
+use Rattle.mst_net.specs.After.{after, has_bridge}
+use Rattle.mst_net.specs.Tables.{Net, empty_net}
+use Rattle.mst_net.specs.declared.refusal.Refusal.{Refusal}
+use Rattle.mst_net.specs.declared.refusal.Refusal.TheVariants.{E04}
+use Rattle.mst_hints.specs.Hints.{hint_of, hint_line}
+use Rattle.mst_hints.specs.Records.{missing_of, added_of, same_record}
+use Rattle.mst_hints.specs.declared.record.Record.{Record}
+use Rattle.mst_hints.specs.declared.record.Record.TheVariants.{Bridge, Port, Lan}
+
+-- ---- how the lines of a script are read
+-- the version of a script at its next line: it is known already, or this line, the first one, says it
+abbrev pub version_with : Option Version → List ℕ → Version
+version_with (Some version) line = version
+version_with None line = if says_version_2 line then V2 else V1
+
+-- the first line of a script of version 2 says so, and nothing else
+abbrev pub reading_with : Option Version → List ℕ → Result Line Fault
+reading_with (Some version) line = reading_as version line
+reading_with None line = if says_version_2 line then Ok Blank else reading_as V1 line
+
+-- ---- what they make
+-- what a line that is read makes of the network, or why it is refused. Of the queries this tells the one alone that asks
+-- for a record: for a bridge's configuration
+abbrev pub after_line : Line → Net → Result Net Refusal
+after_line (edit e) net = after e net
+after_line (query (ShowConfiguration bridge)) net = if has_bridge bridge net then Ok net else Err E04
+after_line _ net = Ok net
+
+abbrev pub net_after : Line → Net → Net
+net_after line net = unwrap_or (result_ok (after_line line net)) net
+
+-- whether a line is made, and the network after it, by how it is read
+abbrev pub is_made : Net → Result Line Fault → Bool
+is_made net (Err f) = false
+is_made net (Ok line) = is_ok (after_line line net)
+
+abbrev pub net_with : Net → Result Line Fault → Net
+net_with net (Err f) = net
+net_with net (Ok line) = net_after line net
+
+-- ---- the lines that were to add a record
+-- the record that each of them was to add, the last line first, and the number of the line where it was refused or not
+-- read
+abbrev pub Adding : Type 0
+Adding = Record × Option ℕ
+
+-- with one line more, by whether it was made
+abbrev pub noted : ℕ → List Adding → Option Record → Bool → List Adding
+noted number adds None made = adds
+noted number adds (Some added) made = (added, if made then None else Some number) ∷ adds
+
+-- the last line that was to add a record, where that line was refused or not read
+abbrev pub last_adding : Record → List Adding → Option ℕ
+last_adding wanted adds = option_flatten (lookup (λ added. same_record added wanted) adds)
+
+-- ---- the lines that came so far
+-- the version of the script, once its first line has come, the number of the next line, the network, and the lines that were
+-- to add a record
+pub record Past : Type 0 where
+  pub version : Option Version
+  pub number : ℕ
+  pub net : Net
+  pub adds : List Adding
+
+abbrev pub nothing : Past
+nothing = record { version = None; number = 1; net = empty_net; adds = [] }
+
+-- and with one line more
+abbrev pub past_after : Past → List ℕ → Past
+past_after past line = let reading = reading_with past.version line in
+    record {
+      version = Some (version_with past.version line);
+      number = past.number + 1;
+      net = net_with past.net reading;
+      adds = noted past.number past.adds (added_of line) (is_made past.net reading);
+    }
+
+-- ---- the hints
+abbrev pub record_text : Record → List ℕ
+record_text (Bridge bridge) = codes "bridge " ++ bridge
+record_text (Port port) = codes "port " ++ port_text port
+record_text (Lan lan) = codes "LAN " ++ lan
+
+-- there is no such record, and which line was to add it
+abbrev pub since_text : ℕ → List ℕ
+since_text number = codes ": line " ++ decimal number ++ codes " was to add it"
+
+abbrev pub absent_text : Option ℕ → Record → List ℕ
+absent_text since wanted = codes "no " ++ record_text wanted ++ option_map_or since_text since []
+
+abbrev pub missing_hint : List Adding → Option Record → Option (List ℕ)
+missing_hint adds = option_map (λ wanted. absent_text (last_adding wanted adds) wanted)
+
+-- of a line that is read, by what it makes of the network
+abbrev pub refused_hint : List Adding → Line → Result Net Refusal → Option (List ℕ)
+refused_hint adds line (Ok net) = None
+refused_hint adds line (Err refusal) = missing_hint adds (missing_of line refusal)
+
+-- of a line by how it is read
+abbrev pub read_hint : Version → List Adding → Net → List ℕ → Result Line Fault → Option (List ℕ)
+read_hint version adds net line (Err f) = hint_of version line
+read_hint version adds net line (Ok read) = refused_hint adds read (after_line read net)
+
+-- what is printed of the next line
+abbrev pub hint_after : Past → List ℕ → List ℕ
+hint_after past line = hint_line past.number (read_hint (version_with past.version line) past.adds past.net line (reading_with past.version line))
+
+-- of the lines that follow
+abbrev pub hints_from : Past → List (List ℕ) → List ℕ
+hints_from past [] = []
+hints_from past (line ∷ lines) = hint_after past line ++ hints_from (past_after past line) lines
+
+-- of all lines of a script
+abbrev pub hints_of : List (List ℕ) → List ℕ
+hints_of lines = hints_from nothing lines
