@@ -11,5 +11,8 @@ pub mod OneRun
 pub mod Loads
 pub mod OneComparison
 pub mod Saved
+pub mod Shown
+pub mod Told
 pub mod WholeLoad
 pub mod WholeDiff
+pub mod Tells

@@ -9,36 +9,39 @@ use Rattle.mst_net.specs.Tables.{Net}
 use Rattle.mst_net.specs.After.{after}
 use Rattle.mst_changes.specs.declared.place.Row.{Row}
 use Rattle.mst_report.specs.State.{State}
-use Rattle.mst_tool.specs.Script.{line_word, Serves, ServesRead, Loads, loading, unmarked, reading_at, edited, marked}
+use Rattle.mst_tool.specs.Script.{Serves, ServesRead, Loads, loading, unmarked, reading_at, edited, marked}
+use Rattle.mst_tool.specs.Shape.{of_script}
 use Rattle.mst_tool.specs.Steps.{Step, RunsBy, left_by, lacks_of}
+use Rattle.mst_tool.specs.declared.form.Form.{Form}
+use Rattle.mst_tool.specs.declared.form.Shape.{Shape}
 use Rattle.mst_tool.proofs.OneRun.{answered_keeps}
 use Rattle.mst_tool.proofs.Steps.{none_lack}
 
--- an edit makes one network, whatever mark there is, and by whatever word the line of a refusal begins
-edited_unmarked : (word : List ℕ) (number : ℕ) (now : State) (new : Result Net Refusal) → (edited word false number (unmarked now) new).state ≡ unmarked (edited line_word false number now new).state
-edited_unmarked word number now (Err r) = refl
-edited_unmarked word number now (Ok net) = refl
+-- an edit makes one network, whatever mark there is, and of whatever shape a refusal is
+edited_unmarked : (form : Form) (shape : Shape) (number : ℕ) (now : State) (new : Result Net Refusal) → (edited shape false number (unmarked now) new).state ≡ unmarked (edited (of_script form) false number now new).state
+edited_unmarked form shape number now (Err r) = refl
+edited_unmarked form shape number now (Ok net) = refl
 
 -- a mark leaves the network
-marked_unmarked : (lacks : Bool) (number : ℕ) (now : State) (rows : List Row) → unmarked now ≡ unmarked (marked line_word lacks number now rows).state
-marked_unmarked true number now rows = refl
-marked_unmarked false number now rows = refl
+marked_unmarked : (form : Form) (lacks : Bool) (number : ℕ) (now : State) (rows : List Row) → unmarked now ≡ unmarked (marked (of_script form) lacks number now rows).state
+marked_unmarked form true number now rows = refl
+marked_unmarked form false number now rows = refl
 
-module _ (word : List ℕ) where
+module _ (form : Form) (shape : Shape) where
   -- a line that is loaded makes of the network what it makes where it is run
-  load_same : (number : ℕ) (now : State) (r : Result Line Fault) (s t : Step) → ServesRead line_word number now r s → ServesRead word number (unmarked now) (loading r) t → s.lacking ≡ false → t.lacking ≡ false → t.state ≡ unmarked s.state
+  load_same : (number : ℕ) (now : State) (r : Result Line Fault) (s t : Step) → ServesRead (of_script form) number now r s → ServesRead shape number (unmarked now) (loading r) t → s.lacking ≡ false → t.lacking ≡ false → t.state ≡ unmarked s.state
   load_same number now (Err f) s t h k given too = ap (λ (u : Step). u.state) k ∙ sym (ap (λ (u : Step). unmarked u.state) h)
   load_same number now (Ok Blank) s t h k given too = ap (λ (u : Step). u.state) k ∙ sym (ap (λ (u : Step). unmarked u.state) h)
-  load_same number now (Ok Mark) s t h k given too = ap (λ (u : Step). u.state) k ∙ marked_unmarked s.lacking number now h.0 ∙ sym (ap (λ (u : Step). unmarked u.state) h.2)
+  load_same number now (Ok Mark) s t h k given too = ap (λ (u : Step). u.state) k ∙ marked_unmarked form s.lacking number now h.0 ∙ sym (ap (λ (u : Step). unmarked u.state) h.2)
   load_same number now (Ok (query q)) s t h k given too =
-      ap (λ (u : Step). u.state) k ∙ sym (ap unmarked (answered_keeps line_word s.lacking number now h.0)) ∙ sym (ap (λ (u : Step). unmarked u.state) h.2)
+      ap (λ (u : Step). u.state) k ∙ sym (ap unmarked (answered_keeps (of_script form) s.lacking number now q h.0)) ∙ sym (ap (λ (u : Step). unmarked u.state) h.2)
   load_same number now (Ok (edit e)) s t h k given too =
       let new = after e now.net in
-      ap (λ (u : Step). u.state) (k ∙ ap (λ lacks. edited word lacks number (unmarked now) new) too)
-      ∙ edited_unmarked word number now new
-      ∙ sym (ap (λ (u : Step). unmarked u.state) (h ∙ ap (λ lacks. edited line_word lacks number now new) given))
+      ap (λ (u : Step). u.state) (k ∙ ap (λ lacks. edited shape lacks number (unmarked now) new) too)
+      ∙ edited_unmarked form shape number now new
+      ∙ sym (ap (λ (u : Step). unmarked u.state) (h ∙ ap (λ lacks. edited (of_script form) lacks number now new) given))
 
-  pub loads_same : (version : Version) (number : ℕ) (now : State) (lines : List (List ℕ)) (a b : List Step) → RunsBy (Serves version) number now lines a → RunsBy (Loads word version) number (unmarked now) lines b
+  pub loads_same : (version : Version) (number : ℕ) (now : State) (lines : List (List ℕ)) (a b : List Step) → RunsBy (Serves form version) number now lines a → RunsBy (Loads shape version) number (unmarked now) lines b
       → lacks_of a ≡ 0 → lacks_of b ≡ 0 → left_by (unmarked now) b ≡ unmarked (left_by now a)
   unfolding RunsBy
   loads_same version number now [] [] [] h k given too = refl
@@ -51,4 +54,4 @@ module _ (word : List ℕ) where
       let y = none_lack t b too in
       let same : t.state ≡ unmarked s.state = load_same number now (reading_at version number line) s t h.0 k.0 x.0 y.0 in
       ap (λ now. left_by now b) same
-      ∙ loads_same version (number + 1) s.state lines a b h.1 (subst (λ now. RunsBy (Loads word version) (number + 1) now lines b) same k.1) x.1 y.1
+      ∙ loads_same version (number + 1) s.state lines a b h.1 (subst (λ now. RunsBy (Loads shape version) (number + 1) now lines b) same k.1) x.1 y.1

@@ -1,38 +1,41 @@
 -- What asking the network of a script has printed, by what serving the script has.
-use Rattle.std.proofs.Common.{◌≡◌, ℕ, ◌+◌, List, [], Option, None, Some, refl, sym, ap, subst, ◌∙◌, arith, append-nil, inr}
+use Rattle.std.proofs.Common.{◌≡◌, ℕ, ◌+◌, List, [], Option, None, Some, codes, refl, sym, ap, subst, ◌∙◌, arith, append-nil, inr}
 use Rattle.std.specs.Io.KnownBytes.{Appends}
 use Rattle.std.proofs.KnownBytes.{Appends-trans}
 use Rattle.mst_ids.specs.declared.name.PortName.{PortName}
 use Rattle.mst_lang.specs.Lines.{lines_of}
 use Rattle.mst_net.specs.Tables.{Net, IsNetwork}
-use Rattle.mst_report.specs.Explaining.{Explains, unexplained_of, code_of, text_of}
+use Rattle.mst_report.specs.Explaining.{Explains, unexplained_of}
+use Rattle.mst_report.specs.Picturing.{Depicts}
 use Rattle.mst_report.specs.State.{State, IsState, empty_state}
 use Rattle.mst_report.specs.Summarizing.{Summarizes}
 use Rattle.mst_report.specs.Sweeping.{Sweeps}
 use Rattle.mst_report.specs.declared.explaining.Unexplained.{Unexplained}
-use Rattle.mst_tool.specs.Ask.{Told, given, not_given, swept, unexplained_line, Tells, IsAnswer, Asks, AsksFront, counted_with}
-use Rattle.mst_tool.specs.Engine.{Tally, outcome_of, side_word}
+use Rattle.mst_tool.specs.Ask.{Told, given, swept, Tells, IsAnswer, Asks, AsksFront, counted_with}
+use Rattle.mst_tool.specs.Engine.{Tally, outcome_of}
 use Rattle.mst_tool.specs.Load.{LoadsFront, LoadsEnded, LoadsScript}
-use Rattle.mst_tool.specs.Script.{LoadsAll, line_word, version_of, loading}
+use Rattle.mst_tool.specs.Script.{LoadsAll, version_of, loading}
 use Rattle.mst_tool.specs.Served.{Served, ServedFront, ServedEnded}
+use Rattle.mst_tool.specs.Shape.{of_script, shown}
 use Rattle.mst_tool.specs.Steps.{Step, left_by, texts_of, lacks_of, differing_of}
 use Rattle.mst_tool.specs.Written.{AppendsFront}
 use Rattle.mst_tool.specs.declared.asked.Asked.{Asked}
 use Rattle.mst_tool.specs.declared.asked.Question.{Question}
-use Rattle.mst_tool.specs.declared.asked.Question.TheVariants.{Explain, Unread, Sweep, Summary}
+use Rattle.mst_tool.specs.declared.asked.Question.TheVariants.{Explain, Unread, Sweep, Summary, Picture, Undrawn}
 use Rattle.mst_tool.specs.declared.engine.Input.TheVariants.{Network}
-use Rattle.mst_tool.specs.declared.engine.Side.{Side}
-use Rattle.mst_tool.specs.declared.engine.Side.TheVariants.{Only}
+use Rattle.mst_tool.specs.declared.form.Form.{Form}
+use Rattle.mst_tool.specs.declared.form.Shape.{Shape}
 use Rattle.mst_tool.proofs.Known.{AppendsFront-after}
 use Rattle.mst_tool.proofs.OneRun.{none_differ}
+use Rattle.mst_tool.proofs.Shown.{is_shown, one_shown, same_shown}
 
 -- without want of memory a script loads in one way
 abbrev pub OneLoad : Type 0
-OneLoad = (word script : List ℕ) (a b : List Step) → LoadsAll word (lines_of script) a → LoadsAll word (lines_of script) b → lacks_of a ≡ 0 → lacks_of b ≡ 0 → a ≡ b
+OneLoad = (shape : Shape) (script : List ℕ) (a b : List Step) → LoadsAll shape (lines_of script) a → LoadsAll shape (lines_of script) b → lacks_of a ≡ 0 → lacks_of b ≡ 0 → a ≡ b
 
 -- a script leaves a network
 abbrev pub LoadsStates : Type 0
-LoadsStates = (word : List ℕ) (lines : List (List ℕ)) (steps : List Step) → LoadsAll word lines steps → IsState (left_by empty_state steps)
+LoadsStates = (shape : Shape) (lines : List (List ℕ)) (steps : List Step) → LoadsAll shape lines steps → IsState (left_by empty_state steps)
 
 -- a port has one explanation
 abbrev pub OneExplanation : Type 0
@@ -46,38 +49,57 @@ OneSweep = (net : Net) (text other : List ℕ) (c d : ℕ) → IsNetwork net →
 abbrev pub OneSummary : Type 0
 OneSummary = (net : Net) (text other : List ℕ) → IsNetwork net → Summarizes net text → Summarizes net other → text ≡ other
 
+-- and so is the picture with a tree
+abbrev pub OnePicture : Type 0
+OnePicture = (net : Net) (tree : ℕ) (text other : List ℕ) → IsNetwork net → Depicts net tree text → Depicts net tree other → text ≡ other
+
 -- so what is asked has one answer
-one_answer : OneExplanation → OneSweep → OneSummary → (net : Net) (question : Question) (x y : Told) (a b : List ℕ) → IsNetwork net → IsAnswer net question x a → IsAnswer net question y b → (y ≡ x) × (b ≡ a)
-one_answer one sweep summary net (Unread f) x y a b is h k = (k.0 ∙ sym h.0, k.1 ∙ sym h.1)
-one_answer one sweep summary net Sweep x y a b is h k =
-    let same = sweep net b a k.0 h.0 is k.1 h.1 in
+one_answer : OneExplanation → OneSweep → OneSummary → OnePicture → (form : Form) (net : Net) (question : Question) (x y : Told) (a b : List ℕ) → IsNetwork net → IsAnswer form net question x a → IsAnswer form net question y b → (y ≡ x) × (b ≡ a)
+one_answer one sweep summary picture form net (Unread f) x y a b is h k = (k.0 ∙ sym h.0, k.1 ∙ sym h.1)
+one_answer one sweep summary picture form net Sweep x y a b is h k =
+    let same = one_shown form (codes "sweep") (Sweeps net k.0) (Sweeps net h.0) (k.0 ≡ h.0) (λ text other p q. sweep net text other k.0 h.0 is p q) b a k.1 h.1 in
     (k.2 ∙ ap swept same.1 ∙ sym h.2, same.0)
-one_answer one sweep summary net Summary x y a b is h k = (k.0 ∙ sym h.0, summary net b a is k.1 h.1)
-one_answer one sweep summary net (Explain asked) x y a b is h k = by (unexplained_of net asked.port asked.tree) h k
+one_answer one sweep summary picture form net Summary x y a b is h k = (k.0 ∙ sym h.0, same_shown form (codes "summary") (Summarizes net) (λ text other p q. summary net text other is p q) b a k.1 h.1)
+one_answer one sweep summary picture form net (Picture n) x y a b is h k = (k.0 ∙ sym h.0, same_shown form (codes "dot") (Depicts net n) (λ text other p q. picture net n text other is p q) b a k.1 h.1)
+one_answer one sweep summary picture form net (Undrawn f) x y a b is h k = (k.0 ∙ sym h.0, k.1 ∙ sym h.1)
+one_answer one sweep summary picture form net (Explain asked) x y a b is h k = by (unexplained_of net asked.port asked.tree) h k
   where
-    by : (why : Option Unexplained) → Tells net asked why x a → Tells net asked why y b → (y ≡ x) × (b ≡ a)
+    by : (why : Option Unexplained) → Tells form net asked why x a → Tells form net asked why y b → (y ≡ x) × (b ≡ a)
     by (Some why) h k = (k.0 ∙ sym h.0, k.1 ∙ sym h.1)
-    by None h k = (k.0 ∙ sym h.0, one net asked.port asked.tree b a is k.1 h.1)
+    by None h k = (k.0 ∙ sym h.0, same_shown form (codes "explain") (Explains net asked.port asked.tree) (λ text other p q. one net asked.port asked.tree text other is p q) b a k.1 h.1)
 
--- a port that is explained, and one that isn't
-pub tells_text : (net : Net) (asked : Asked) (text : List ℕ) → unexplained_of net asked.port asked.tree ≡ None → Explains net asked.port asked.tree text → IsAnswer net (Explain asked) given text
-tells_text net asked text none h = subst (λ why. Tells net asked why given text) (sym none) (refl, h)
+-- a text that explains a port of a network, and what shows it
+pub explained_shown : (form : Form) (net settled : Net) (asked : Asked) (text printed : List ℕ) → settled ≡ net → unexplained_of settled asked.port asked.tree ≡ None → Explains settled asked.port asked.tree text → printed ≡ shown form None (codes "explain") text → IsAnswer form net (Explain asked) given printed
+explained_shown form net settled asked text printed same none h e =
+    subst (λ net. IsAnswer form net (Explain asked) given printed) same
+    (subst (λ why. Tells form settled asked why given printed) (sym none) (refl, is_shown form (codes "explain") (Explains settled asked.port asked.tree) text printed h e))
 
-pub tells_why : (net : Net) (asked : Asked) (why : Unexplained) → unexplained_of net asked.port asked.tree ≡ Some why → IsAnswer net (Explain asked) not_given (unexplained_line (code_of why) (text_of why))
-tells_why net asked why some = subst (λ w. Tells net asked w not_given (unexplained_line (code_of why) (text_of why))) (sym some) (refl, refl)
+-- what tells of single failures, and what summarizes
+pub swept_shown : (form : Form) (net settled : Net) (cuts : ℕ) (text printed : List ℕ) → settled ≡ net → Sweeps settled cuts text → printed ≡ shown form None (codes "sweep") text → IsAnswer form net Sweep (swept cuts) printed
+swept_shown form net settled cuts text printed same h e =
+    subst (λ net. IsAnswer form net Sweep (swept cuts) printed) same (cuts, is_shown form (codes "sweep") (Sweeps settled cuts) text printed h e, refl)
 
-module _ (side : Side) where
-  pub loads_front : (reads written now : Option (List ℕ)) → ServedFront (Network side) empty_state reads written now → LoadsFront (side_word side) reads written now
+pub summary_shown : (form : Form) (net settled : Net) (text printed : List ℕ) → settled ≡ net → Summarizes settled text → printed ≡ shown form None (codes "summary") text → IsAnswer form net Summary given printed
+summary_shown form net settled text printed same h e =
+    subst (λ net. IsAnswer form net Summary given printed) same (refl, is_shown form (codes "summary") (Summarizes settled) text printed h e)
+
+-- and what draws the network with a tree
+pub picture_shown : (form : Form) (net settled : Net) (tree : ℕ) (text printed : List ℕ) → settled ≡ net → Depicts settled tree text → printed ≡ shown form None (codes "dot") text → IsAnswer form net (Picture tree) given printed
+picture_shown form net settled tree text printed same h e =
+    subst (λ net. IsAnswer form net (Picture tree) given printed) same (refl, is_shown form (codes "dot") (Depicts settled tree) text printed h e)
+
+module _ (shape : Shape) where
+  pub loads_front : (reads written now : Option (List ℕ)) → ServedFront (Network shape) empty_state reads written now → LoadsFront shape reads written now
   loads_front reads written now s = record { script = s.bytes; steps = s.steps; read = s.read; loads = s.runs; printed = s.printed }
 
-  pub loads_ended : (reads left written now : Option (List ℕ)) → ServedEnded (Network side) empty_state reads left written now → LoadsEnded (side_word side) reads left written now
+  pub loads_ended : (reads left written now : Option (List ℕ)) → ServedEnded (Network shape) empty_state reads left written now → LoadsEnded shape reads left written now
   loads_ended reads left written now s = record { read = s.read; steps = s.steps; consumed = s.consumed; loads = s.runs; printed = s.printed }
 
-  pub loads_script : (reads written now : Option (List ℕ)) (t : Tally) → Served (Network side) empty_state reads written now t → LoadsScript (side_word side) reads written now
+  pub loads_script : (reads written now : Option (List ℕ)) (t : Tally) → Served (Network shape) empty_state reads written now t → LoadsScript shape reads written now
   loads_script reads written now t s = record { script = s.bytes; steps = s.steps; read = s.read; loads = s.runs; printed = s.printed }
 
   -- all of it is a front of it
-  pub loads_whole : (reads written now : Option (List ℕ)) (t : Tally) → Served (Network side) empty_state reads written now t → LoadsFront (side_word side) reads written now
+  pub loads_whole : (reads written now : Option (List ℕ)) (t : Tally) → Served (Network shape) empty_state reads written now t → LoadsFront shape reads written now
   loads_whole reads written now t s = record {
     script = s.bytes;
     steps = s.steps;
@@ -87,18 +109,18 @@ module _ (side : Side) where
   }
 
   -- no line of a script is a message that differs
-  pub loads_same : (reads written now : Option (List ℕ)) (t : Tally) (s : Served (Network side) empty_state reads written now t) → differing_of s.steps ≡ 0
-  loads_same reads written now t s = none_differ (side_word side) loading (version_of (lines_of s.bytes)) 1 empty_state (lines_of s.bytes) s.steps s.runs
+  pub loads_same : (reads written now : Option (List ℕ)) (t : Tally) (s : Served (Network shape) empty_state reads written now t) → differing_of s.steps ≡ 0
+  loads_same reads written now t s = none_differ shape loading (version_of (lines_of s.bytes)) 1 empty_state (lines_of s.bytes) s.steps s.runs
 
 -- the answer of the network that the script left
-answer_left : (question : Question) (reads written mid : Option (List ℕ)) (t : Tally) (told : Told) (text : List ℕ) (s : Served (Network Only) empty_state reads written mid t)
-    → IsAnswer t.state.net question told text → IsAnswer (left_by empty_state s.steps).net question told text
-answer_left question reads written mid t told text s h = subst (λ (now : State). IsAnswer now.net question told text) s.state h
+answer_left : (form : Form) (question : Question) (reads written mid : Option (List ℕ)) (t : Tally) (told : Told) (text : List ℕ) (s : Served (Network (of_script form)) empty_state reads written mid t)
+    → IsAnswer form t.state.net question told text → IsAnswer form (left_by empty_state s.steps).net question told text
+answer_left form question reads written mid t told text s h = subst (λ (now : State). IsAnswer form now.net question told text) s.state h
 
-pub asks : OneLoad → LoadsStates → OneExplanation → OneSweep → OneSummary → (question : Question) (reads written mid now : Option (List ℕ)) (t : Tally) (told : Told) (text : List ℕ) → Served (Network Only) empty_state reads written mid t
-    → IsAnswer t.state.net question told text → Appends mid now text → Asks question reads written now (counted_with (outcome_of t) told)
-asks one states one_explained one_swept one_summarized question reads written mid now t told text s h went =
-    let answer = answer_left question reads written mid t told text s h in
+pub asks : OneLoad → LoadsStates → OneExplanation → OneSweep → OneSummary → OnePicture → (form : Form) (question : Question) (reads written mid now : Option (List ℕ)) (t : Tally) (told : Told) (text : List ℕ) → Served (Network (of_script form)) empty_state reads written mid t
+    → IsAnswer form t.state.net question told text → Appends mid now text → Asks form question reads written now (counted_with (outcome_of t) told)
+asks one states one_explained one_swept one_summarized one_depicted form question reads written mid now t told text s h went =
+    let answer = answer_left form question reads written mid t told text s h in
     record {
       script = s.bytes;
       steps = s.steps;
@@ -110,20 +132,20 @@ asks one states one_explained one_swept one_summarized question reads written mi
       printed = Appends-trans written mid now (texts_of s.steps) text s.printed went;
       memory = s.memory;
       refused = ap (λ n. n + told.refused) s.refused;
-      differing = omega (arith, s.differing, loads_same Only reads written mid t s);
-      only = λ none others loads given. one line_word s.bytes others s.steps loads s.runs given (sym s.memory ∙ none);
-      only_answer = λ also other k. one_answer one_explained one_swept one_summarized (left_by empty_state s.steps).net question told also text other (states line_word (lines_of s.bytes) s.steps s.runs).network answer k;
+      differing = omega (arith, s.differing, loads_same (of_script form) reads written mid t s);
+      only = λ none others loads given. one (of_script form) s.bytes others s.steps loads s.runs given (sym s.memory ∙ none);
+      only_answer = λ also other k. one_answer one_explained one_swept one_summarized one_depicted form (left_by empty_state s.steps).net question told also text other (states (of_script form) (lines_of s.bytes) s.steps s.runs).network answer k;
     }
 
-pub answers_front : (question : Question) (reads written mid now : Option (List ℕ)) (t : Tally) (told : Told) (text : List ℕ) → Served (Network Only) empty_state reads written mid t
-    → IsAnswer t.state.net question told text → AppendsFront mid now text → AsksFront question reads written now
-answers_front question reads written mid now t told text s h went = inr (record {
+pub answers_front : (form : Form) (question : Question) (reads written mid now : Option (List ℕ)) (t : Tally) (told : Told) (text : List ℕ) → Served (Network (of_script form)) empty_state reads written mid t
+    → IsAnswer form t.state.net question told text → AppendsFront mid now text → AsksFront form question reads written now
+answers_front form question reads written mid now t told text s h went = inr (record {
   script = s.bytes;
   steps = s.steps;
   told = told;
   text = text;
   read = s.read;
   loads = s.runs;
-  answers = answer_left question reads written mid t told text s h;
+  answers = answer_left form question reads written mid t told text s h;
   printed = AppendsFront-after written mid now (texts_of s.steps) text s.printed went;
 })

@@ -1,26 +1,32 @@
--- What is asked of the network that a script leaves, and what asking it promises.
+-- What is asked of the network that a script leaves, and what asking it promises, where it prints in this form.
 use Rattle.std.specs.Prelude.{◌≡◌, ◌+◌, ◌++◌, ◌⊎◌, ◌==◌, ℕ, List, Option, None, Some, Result, Ok, Err, codes, if◌then◌else◌}
 use Rattle.std.specs.Io.KnownBytes.{Appends}
+use Rattle.mst_json.specs.RefusalJson.{unanswered_json}
+use Rattle.mst_lang.specs.Arguments.{tree}
 use Rattle.mst_lang.specs.Faults as fault
 use Rattle.mst_lang.specs.Lines.{lines_of}
 use Rattle.mst_lang.specs.declared.line.Fault.{Fault}
 use Rattle.mst_net.specs.Tables.{Net}
 use Rattle.mst_report.specs.Explaining.{Explains, unexplained_of}
 use Rattle.mst_report.specs.Explaining as unexplained
+use Rattle.mst_report.specs.Picturing.{Depicts}
 use Rattle.mst_report.specs.State.{empty_state}
 use Rattle.mst_report.specs.Summarizing.{Summarizes}
 use Rattle.mst_report.specs.Sweeping.{Sweeps}
 use Rattle.mst_report.specs.declared.explaining.Unexplained.{Unexplained}
 use Rattle.mst_tool.specs.Asked.{asked_of}
 use Rattle.mst_tool.specs.Load.{LoadsFront}
-use Rattle.mst_tool.specs.Script.{LoadsAll, line_word}
+use Rattle.mst_tool.specs.Script.{LoadsAll}
+use Rattle.mst_tool.specs.Shape.{of_script, IsShown}
 use Rattle.mst_tool.specs.Steps.{Step, left_by, texts_of, refusals_of, lacks_of}
 use Rattle.mst_tool.specs.Written.{AppendsFront, Reads}
 use Rattle.mst_tool.specs.declared.asked.Asked.{Asked}
 use Rattle.mst_tool.specs.declared.asked.Question.{Question}
-use Rattle.mst_tool.specs.declared.asked.Question.TheVariants.{Explain, Unread as unread_question, Sweep, Summary}
+use Rattle.mst_tool.specs.declared.asked.Question.TheVariants.{Explain, Unread as unread_question, Sweep, Summary, Picture, Undrawn as undrawn_question}
 use Rattle.mst_tool.specs.declared.asks.Answer.{Answer}
-use Rattle.mst_tool.specs.declared.asks.Answer.TheVariants.{Text, Unread, Refused, Swept}
+use Rattle.mst_tool.specs.declared.asks.Answer.TheVariants.{Text, Unread, Refused, Swept, Undrawn}
+use Rattle.mst_tool.specs.declared.form.Form.{Form}
+use Rattle.mst_tool.specs.declared.form.Form.TheVariants.{Text as text_form, Json as json_form}
 use Rattle.mst_tool.specs.declared.runs.Outcome.{Outcome}
 
 -- what words for a bridge, a port and, where there is one, a tree ask: to explain the port. Or they ask nothing, by their fault
@@ -30,6 +36,14 @@ question_of (Ok asked) = Explain asked
 
 abbrev pub explain_question : List ℕ → List ℕ → Option (List ℕ) → Question
 explain_question bridge port tree = question_of (asked_of bridge port tree)
+
+-- what a word for a tree asks: the picture with it. Or it asks nothing, by its fault
+abbrev pub drawn_of : Result ℕ Fault → Question
+drawn_of (Err f) = undrawn_question f
+drawn_of (Ok n) = Picture n
+
+abbrev pub picture_question : List ℕ → Question
+picture_question word = drawn_of (tree word)
 
 -- what an answer counts: as a refused line, and as one that tells of a difference
 pub record Told : Type 0 where
@@ -47,22 +61,35 @@ not_given = record { refused = 1; differing = 0 }
 abbrev pub swept : ℕ → Told
 swept cuts = record { refused = 0; differing = if cuts == 0 then 0 else 1 }
 
--- `explain CODE TEXT`
-abbrev pub unexplained_line : List ℕ → List ℕ → List ℕ
-unexplained_line code text = codes "explain " ++ code ++ codes " " ++ text ++ codes "\n"
+-- `WORD CODE TEXT`, where what the word asks isn't answered
+abbrev pub refused_line : List ℕ → List ℕ → List ℕ → List ℕ
+refused_line word code text = word ++ codes " " ++ code ++ codes " " ++ text ++ codes "\n"
+
+-- the same in either form
+abbrev pub unanswered : Form → List ℕ → List ℕ → List ℕ → List ℕ
+unanswered text_form word code text = refused_line word code text
+unanswered json_form word code text = unanswered_json word code text
+
+abbrev pub unexplained_in : Form → List ℕ → List ℕ → List ℕ
+unexplained_in form = unanswered form (codes "explain")
+
+abbrev pub undrawn_in : Form → List ℕ → List ℕ → List ℕ
+undrawn_in form = unanswered form (codes "dot")
 
 -- what is printed of a port, by whether something is in the way: that, in a line, or the text that explains it
-abbrev pub Tells : Net → Asked → Option Unexplained → Told → List ℕ → Type 0
-Tells net asked (Some why) told text = (told ≡ not_given) × (text ≡ unexplained_line (unexplained.code_of why) (unexplained.text_of why))
-Tells net asked None told text = (told ≡ given) × Explains net asked.port asked.tree text
+abbrev pub Tells : Form → Net → Asked → Option Unexplained → Told → List ℕ → Type 0
+Tells form net asked (Some why) told text = (told ≡ not_given) × (text ≡ unexplained_in form (unexplained.code_of why) (unexplained.text_of why))
+Tells form net asked None told text = (told ≡ given) × IsShown form (codes "explain") (Explains net asked.port asked.tree) text
 
 -- what is printed of what was asked of a network, and what that counts. Words that aren't in their forms come before all
 -- else
-abbrev pub IsAnswer : Net → Question → Told → List ℕ → Type 0
-IsAnswer net (unread_question f) told text = (told ≡ not_given) × (text ≡ unexplained_line (fault.code_of f) (fault.text_of f))
-IsAnswer net (Explain asked) told text = Tells net asked (unexplained_of net asked.port asked.tree) told text
-IsAnswer net Sweep told text = (cuts : ℕ) × Sweeps net cuts text × (told ≡ swept cuts)
-IsAnswer net Summary told text = (told ≡ given) × Summarizes net text
+abbrev pub IsAnswer : Form → Net → Question → Told → List ℕ → Type 0
+IsAnswer form net (unread_question f) told text = (told ≡ not_given) × (text ≡ unexplained_in form (fault.code_of f) (fault.text_of f))
+IsAnswer form net (Explain asked) told text = Tells form net asked (unexplained_of net asked.port asked.tree) told text
+IsAnswer form net Sweep told text = (cuts : ℕ) × IsShown form (codes "sweep") (Sweeps net cuts) text × (told ≡ swept cuts)
+IsAnswer form net Summary told text = (told ≡ given) × IsShown form (codes "summary") (Summarizes net) text
+IsAnswer form net (Picture n) told text = (told ≡ given) × IsShown form (codes "dot") (Depicts net n) text
+IsAnswer form net (undrawn_question f) told text = (told ≡ not_given) × (text ≡ undrawn_in form (fault.code_of f) (fault.text_of f))
 
 -- what is counted of a script with what is asked of its network
 abbrev pub counted_with : Outcome → Told → Outcome
@@ -71,45 +98,47 @@ counted_with script told = record script { refused = script.refused + told.refus
 -- The edits of the script's lines were served, from the empty state on, and what they print was written, and after it the
 -- answer of the network that they leave. The outcome counts the lines that were refused, as a run's does, and what the answer
 -- counts. Where none was for want of memory, the script has no other steps that meet none. The network has no other answer
-pub record Asks (question : Question) (reads written now : Option (List ℕ)) (outcome : Outcome) : Type 0 where
+pub record Asks (form : Form) (question : Question) (reads written now : Option (List ℕ)) (outcome : Outcome) : Type 0 where
   pub script : List ℕ
   pub steps : List Step
   pub told : Told
   pub text : List ℕ
   pub read : Reads reads script
-  pub loads : LoadsAll line_word (lines_of script) steps
-  pub answers : IsAnswer (left_by empty_state steps).net question told text
+  pub loads : LoadsAll (of_script form) (lines_of script) steps
+  pub answers : IsAnswer form (left_by empty_state steps).net question told text
   pub printed : Appends written now (texts_of steps ++ text)
   pub memory : outcome.memory ≡ lacks_of steps
   pub refused : outcome.refused ≡ refusals_of steps + told.refused
   pub differing : outcome.differing ≡ told.differing
-  pub only : outcome.memory ≡ 0 → (others : List Step) → LoadsAll line_word (lines_of script) others → lacks_of others ≡ 0 → others ≡ steps
-  pub only_answer : (also : Told) (other : List ℕ) → IsAnswer (left_by empty_state steps).net question also other → (also ≡ told) × (other ≡ text)
+  pub only : outcome.memory ≡ 0 → (others : List Step) → LoadsAll (of_script form) (lines_of script) others → lacks_of others ≡ 0 → others ≡ steps
+  pub only_answer : (also : Told) (other : List ℕ) → IsAnswer form (left_by empty_state steps).net question also other → (also ≡ told) × (other ≡ text)
 
 -- a front of what the script's lines and the answer print was written
-pub record AnswersFront (question : Question) (reads written now : Option (List ℕ)) : Type 0 where
+pub record AnswersFront (form : Form) (question : Question) (reads written now : Option (List ℕ)) : Type 0 where
   pub script : List ℕ
   pub steps : List Step
   pub told : Told
   pub text : List ℕ
   pub read : Reads reads script
-  pub loads : LoadsAll line_word (lines_of script) steps
-  pub answers : IsAnswer (left_by empty_state steps).net question told text
+  pub loads : LoadsAll (of_script form) (lines_of script) steps
+  pub answers : IsAnswer form (left_by empty_state steps).net question told text
   pub printed : AppendsFront written now (texts_of steps ++ text)
 
 -- one of the two: it was stopped in the script, or after it
-abbrev pub AsksFront : Question → Option (List ℕ) → Option (List ℕ) → Option (List ℕ) → Type 0
-AsksFront question reads written now = LoadsFront line_word reads written now ⊎ AnswersFront question reads written now
+abbrev pub AsksFront : Form → Question → Option (List ℕ) → Option (List ℕ) → Option (List ℕ) → Type 0
+AsksFront form question reads written now = LoadsFront (of_script form) reads written now ⊎ AnswersFront form question reads written now
 
 -- what an answer prints, and what it counts
-abbrev pub answer_text : Answer → List ℕ
-answer_text (Text text) = text.items
-answer_text (Unread f) = unexplained_line (fault.code_of f) (fault.text_of f)
-answer_text (Refused why) = unexplained_line (unexplained.code_of why) (unexplained.text_of why)
-answer_text (Swept sweep) = sweep.text.items
+abbrev pub answer_text : Form → Answer → List ℕ
+answer_text form (Text text) = text.items
+answer_text form (Unread f) = unexplained_in form (fault.code_of f) (fault.text_of f)
+answer_text form (Refused why) = unexplained_in form (unexplained.code_of why) (unexplained.text_of why)
+answer_text form (Swept sweep) = sweep.text.items
+answer_text form (Undrawn f) = undrawn_in form (fault.code_of f) (fault.text_of f)
 
 abbrev pub told_of : Answer → Told
 told_of (Text text) = given
 told_of (Unread f) = not_given
 told_of (Refused why) = not_given
 told_of (Swept sweep) = swept sweep.cuts
+told_of (Undrawn f) = not_given

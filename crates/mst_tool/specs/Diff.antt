@@ -1,5 +1,5 @@
--- What telling the networks of two scripts apart promises.
-use Rattle.std.specs.Prelude.{◌≡◌, ◌+◌, ◌++◌, ◌⊎◌, ◌==◌, ◌&&◌, ℕ, Bool, List, Option, if◌then◌else◌}
+-- What telling the networks of two scripts apart promises, where it prints in this form.
+use Rattle.std.specs.Prelude.{◌≡◌, ◌+◌, ◌++◌, ◌⊎◌, ◌==◌, ◌&&◌, ℕ, Bool, List, Option, codes, if◌then◌else◌}
 use Rattle.std.specs.Io.KnownBytes.{Appends, Consumes}
 use Rattle.mst_diff.specs.declared.diff.Differing.{Differing}
 use Rattle.mst_lang.specs.Lines.{lines_of, ended_lines}
@@ -7,9 +7,11 @@ use Rattle.mst_net.specs.Tables.{Net}
 use Rattle.mst_report.specs.Differing.{Differs}
 use Rattle.mst_report.specs.State.{empty_state}
 use Rattle.mst_tool.specs.Load.{LoadsEnded}
-use Rattle.mst_tool.specs.Script.{LoadsAll, old_word, new_word}
+use Rattle.mst_tool.specs.Script.{LoadsAll}
+use Rattle.mst_tool.specs.Shape.{of_old, of_new, IsShown}
 use Rattle.mst_tool.specs.Steps.{Step, left_by, texts_of, refusals_of, lacks_of}
 use Rattle.mst_tool.specs.Written.{AppendsFront, Reads}
+use Rattle.mst_tool.specs.declared.form.Form.{Form}
 use Rattle.mst_tool.specs.declared.runs.Outcome.{Outcome}
 
 -- whether nothing differs
@@ -25,70 +27,74 @@ abbrev pub counted_both : Outcome → Outcome → Differing → Outcome
 counted_both old new counts = record { refused = old.refused + new.refused; memory = old.memory + new.memory; differing = differing_by counts }
 
 -- both scripts, which the readers give, and what their lines do, from the empty state on, where their networks are loaded
-pub record LoadsBoth (olds news : Option (List ℕ)) : Type 0 where
+pub record LoadsBoth (form : Form) (olds news : Option (List ℕ)) : Type 0 where
   pub old : List ℕ
   pub new : List ℕ
   pub old_steps : List Step
   pub new_steps : List Step
   pub old_read : Reads olds old
   pub new_read : Reads news new
-  pub old_loads : LoadsAll old_word (lines_of old) old_steps
-  pub new_loads : LoadsAll new_word (lines_of new) new_steps
+  pub old_loads : LoadsAll (of_old form) (lines_of old) old_steps
+  pub new_loads : LoadsAll (of_new form) (lines_of new) new_steps
 
 -- what the lines of both print, and the networks that they leave
-abbrev pub both_texts : {olds news : Option (List ℕ)} → LoadsBoth olds news → List ℕ
+abbrev pub both_texts : {form : Form} {olds news : Option (List ℕ)} → LoadsBoth form olds news → List ℕ
 both_texts both = texts_of both.old_steps ++ texts_of both.new_steps
 
-abbrev pub old_net : {olds news : Option (List ℕ)} → LoadsBoth olds news → Net
+abbrev pub old_net : {form : Form} {olds news : Option (List ℕ)} → LoadsBoth form olds news → Net
 old_net both = (left_by empty_state both.old_steps).net
 
-abbrev pub new_net : {olds news : Option (List ℕ)} → LoadsBoth olds news → Net
+abbrev pub new_net : {form : Form} {olds news : Option (List ℕ)} → LoadsBoth form olds news → Net
 new_net both = (left_by empty_state both.new_steps).net
+
+-- what tells how two networks differ
+abbrev pub TellsDifference : Form → Net → Net → Differing → List ℕ → Type 0
+TellsDifference form old new counts = IsShown form (codes "diff") (Differs old new counts)
 
 -- The edits of both scripts' lines were served, and what they print was written, that of the old one first, and after it how
 -- the network that the new one leaves differs from the old one's. The outcome counts the lines of both that were refused, and
 -- 1 where something differs. Where none was for want of memory, neither has other steps that meet none. How both networks
 -- differ is one text
-pub record Diffs (olds news written now : Option (List ℕ)) (outcome : Outcome) : Type 0 where
-  pub both : LoadsBoth olds news
+pub record Diffs (form : Form) (olds news written now : Option (List ℕ)) (outcome : Outcome) : Type 0 where
+  pub both : LoadsBoth form olds news
   pub counts : Differing
   pub text : List ℕ
-  pub differs : Differs (old_net both) (new_net both) counts text
+  pub differs : TellsDifference form (old_net both) (new_net both) counts text
   pub printed : Appends written now (both_texts both ++ text)
   pub memory : outcome.memory ≡ lacks_of both.old_steps + lacks_of both.new_steps
   pub refused : outcome.refused ≡ refusals_of both.old_steps + refusals_of both.new_steps
   pub differing : outcome.differing ≡ differing_by counts
-  pub only_old : outcome.memory ≡ 0 → (others : List Step) → LoadsAll old_word (lines_of both.old) others → lacks_of others ≡ 0 → others ≡ both.old_steps
-  pub only_new : outcome.memory ≡ 0 → (others : List Step) → LoadsAll new_word (lines_of both.new) others → lacks_of others ≡ 0 → others ≡ both.new_steps
-  pub only_difference : (also : Differing) (other : List ℕ) → Differs (old_net both) (new_net both) also other → (also ≡ counts) × (other ≡ text)
+  pub only_old : outcome.memory ≡ 0 → (others : List Step) → LoadsAll (of_old form) (lines_of both.old) others → lacks_of others ≡ 0 → others ≡ both.old_steps
+  pub only_new : outcome.memory ≡ 0 → (others : List Step) → LoadsAll (of_new form) (lines_of both.new) others → lacks_of others ≡ 0 → others ≡ both.new_steps
+  pub only_difference : (also : Differing) (other : List ℕ) → TellsDifference form (old_net both) (new_net both) also other → (also ≡ counts) × (other ≡ text)
 
 -- a front of what the lines of both scripts and how their networks differ print was written
-pub record DiffsFront (olds news written now : Option (List ℕ)) : Type 0 where
-  pub both : LoadsBoth olds news
+pub record DiffsFront (form : Form) (olds news written now : Option (List ℕ)) : Type 0 where
+  pub both : LoadsBoth form olds news
   pub counts : Differing
   pub text : List ℕ
-  pub differs : Differs (old_net both) (new_net both) counts text
+  pub differs : TellsDifference form (old_net both) (new_net both) counts text
   pub printed : AppendsFront written now (both_texts both ++ text)
 
 -- The edits of the whole of the old script were served, and the reader of the new one has given these bytes, as far as it
 -- tells, and has some left. Those of the lines that they complete were served too, and the whole of what all these print was
 -- written, and nothing else
-pub record LoadsNewEnded (olds news left written now : Option (List ℕ)) : Type 0 where
+pub record LoadsNewEnded (form : Form) (olds news left written now : Option (List ℕ)) : Type 0 where
   pub old : List ℕ
   pub read : List ℕ
   pub old_steps : List Step
   pub new_steps : List Step
   pub old_read : Reads olds old
   pub consumed : Consumes news left read
-  pub old_loads : LoadsAll old_word (lines_of old) old_steps
-  pub new_loads : LoadsAll new_word (ended_lines read) new_steps
+  pub old_loads : LoadsAll (of_old form) (lines_of old) old_steps
+  pub new_loads : LoadsAll (of_new form) (ended_lines read) new_steps
   pub printed : Appends written now (texts_of old_steps ++ texts_of new_steps)
 
 -- a reader failed: that of the old script, so that no line of the new one was served, or that of the new one
-abbrev pub DiffsEnded : Option (List ℕ) → Option (List ℕ) → Option (List ℕ) → Option (List ℕ) → Option (List ℕ) → Option (List ℕ) → Type 0
-DiffsEnded olds olds_left news news_left written now = LoadsEnded old_word olds olds_left written now ⊎ LoadsNewEnded olds news news_left written now
+abbrev pub DiffsEnded : Form → Option (List ℕ) → Option (List ℕ) → Option (List ℕ) → Option (List ℕ) → Option (List ℕ) → Option (List ℕ) → Type 0
+DiffsEnded form olds olds_left news news_left written now = LoadsEnded (of_old form) olds olds_left written now ⊎ LoadsNewEnded form olds news news_left written now
 
 -- the edits of both scripts' lines were served, and the whole of what they print was written, and nothing else
-pub record DiffsScripts (olds news written now : Option (List ℕ)) : Type 0 where
-  pub both : LoadsBoth olds news
+pub record DiffsScripts (form : Form) (olds news written now : Option (List ℕ)) : Type 0 where
+  pub both : LoadsBoth form olds news
   pub printed : Appends written now (both_texts both)

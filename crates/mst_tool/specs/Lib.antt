@@ -1,6 +1,7 @@
 pub mod Devices
 pub mod Held
 pub mod Steps
+pub mod Shape
 pub mod Script
 pub mod Captures
 pub mod Written
@@ -13,3 +14,4 @@ pub mod Load
 pub mod Asked
 pub mod Ask
 pub mod Diff
+pub mod Hinted

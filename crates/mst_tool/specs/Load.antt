@@ -5,28 +5,29 @@ use Rattle.mst_lang.specs.Lines.{lines_of, ended_lines}
 use Rattle.mst_tool.specs.Script.{LoadsAll}
 use Rattle.mst_tool.specs.Steps.{Step, texts_of}
 use Rattle.mst_tool.specs.Written.{AppendsFront, Reads}
+use Rattle.mst_tool.specs.declared.form.Shape.{Shape}
 
--- a front of what the script's lines print was written. The lines of its refusals begin with this word
-pub record LoadsFront (word : List ℕ) (reads written now : Option (List ℕ)) : Type 0 where
+-- a front of what the script's lines print was written, where it has this shape
+pub record LoadsFront (shape : Shape) (reads written now : Option (List ℕ)) : Type 0 where
   pub script : List ℕ
   pub steps : List Step
   pub read : Reads reads script
-  pub loads : LoadsAll word (lines_of script) steps
+  pub loads : LoadsAll shape (lines_of script) steps
   pub printed : AppendsFront written now (texts_of steps)
 
 -- The reader has given these bytes, as far as it tells, and has these left. The edits of the lines that they complete were
 -- served, from the empty state on, and the whole of what these print was written, and nothing else
-pub record LoadsEnded (word : List ℕ) (reads left written now : Option (List ℕ)) : Type 0 where
+pub record LoadsEnded (shape : Shape) (reads left written now : Option (List ℕ)) : Type 0 where
   pub read : List ℕ
   pub steps : List Step
   pub consumed : Consumes reads left read
-  pub loads : LoadsAll word (ended_lines read) steps
+  pub loads : LoadsAll shape (ended_lines read) steps
   pub printed : Appends written now (texts_of steps)
 
 -- the edits of all of the script's lines were served, and the whole of what they print was written, and nothing else
-pub record LoadsScript (word : List ℕ) (reads written now : Option (List ℕ)) : Type 0 where
+pub record LoadsScript (shape : Shape) (reads written now : Option (List ℕ)) : Type 0 where
   pub script : List ℕ
   pub steps : List Step
   pub read : Reads reads script
-  pub loads : LoadsAll word (lines_of script) steps
+  pub loads : LoadsAll shape (lines_of script) steps
   pub printed : Appends written now (texts_of steps)

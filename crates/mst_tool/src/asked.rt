@@ -1,7 +1,7 @@
 ghost use Rattle.std.specs.Prelude.{◌≡◌};
 ghost use Rattle.std.specs.Option.{option_map};
 ghost use Rattle.mst_lang.specs.Arguments as forms;
-ghost use Rattle.mst_tool.specs.Ask.{explain_question};
+ghost use Rattle.mst_tool.specs.Ask.{explain_question, picture_question};
 ghost use Rattle.mst_tool.specs.Asked.{asked_of, asked_tree};
 
 use mst_ids::{Name, PortName, PortNumber, Tree};
@@ -18,6 +18,10 @@ pub enum Question {
     Sweep,
     /// The first screen: how much there is, roots, ports that block, islands of VIDs and what LANs carry.
     Summary,
+    /// The picture of the network with this tree, as a text for Graphviz.
+    Picture(Tree),
+    /// A word was to name the tree of a picture and doesn't: this fault is told.
+    Undrawn(Fault),
 }
 
 impl Question {
@@ -30,6 +34,17 @@ impl Question {
         match Asked::read(bridge, port, tree) {
             Ok(asked) => Question::Explain(asked),
             Err(fault) => Question::Unread(fault),
+        }
+    }
+
+    /// What the word TREE asks: the picture with this tree. It has the form that a script's has, and else asks nothing, by the
+    /// fault [`Fault::E03`].
+    pub fn picture(word: &[u8]) -> Question
+        ensures { result ≡ picture_question word.now }
+    {
+        match tree(word) {
+            Ok(tree) => Question::Picture(tree),
+            Err(fault) => Question::Undrawn(fault),
         }
     }
 }

@@ -1,23 +1,26 @@
 ghost use Rattle.std.specs.Prelude.{◌≡◌, ◌≤◌, ◌↔◌, ◌^◌, ℕ, false, List, Option, Ok, Err, IfOk, IsOk, OnOk, OnErr};
 ghost use Rattle.std.specs.Io.KnownBytes.{Appends};
+ghost use Rattle.mst_json.specs.RefusalJson.{unanswered_json};
 ghost use Rattle.mst_report.specs.Planned.{planned_state};
-ghost use Rattle.mst_tool.specs.Ask.{Asks, AsksFront, IsAnswer, answer_text, told_of, counted_with, unexplained_line};
+ghost use Rattle.mst_tool.specs.Ask.{Asks, AsksFront, IsAnswer, answer_text, told_of, counted_with, unanswered, refused_line};
 ghost use Rattle.mst_tool.specs.Devices.{Works, IsBroken, IsCut, IsRead, IsCalled, IsStopped, StopsAtZero};
 ghost use Rattle.mst_tool.specs.Load.{LoadsEnded, LoadsScript};
-ghost use Rattle.mst_tool.specs.Script.{line_word};
 ghost use Rattle.mst_tool.specs.Served.{IsFew};
+ghost use Rattle.mst_tool.specs.Shape.{of_script};
 ghost use Rattle.mst_tool.specs.Written.{AppendsFront};
 ghost use Rattle.mst_tool.specs.declared.asked.Question.TheVariants.{Explain};
 
 use crate::asked::{Asked, Question};
 use crate::devices::{Sink, Source};
-use crate::engine::{Engine, Input, Side};
+use crate::engine::{Engine, Input};
+use crate::form::{Form, Shape, Side, show};
 use crate::laws::{one_load, states};
 use crate::lent::{FromRead, ToWrite};
 use crate::print::{WriteFailed, put, put_parts};
 use crate::runs::{Outcome, RunFault, TURNS, serve_input};
+use mst_ids::Tree;
 use mst_lang::Fault;
-use mst_report::laws::{one_explanation, one_summary, one_sweep};
+use mst_report::laws::{one_explanation, one_picture, one_summary, one_sweep};
 use mst_report::{Planner, Sweep, Unexplained};
 use std::alloc::{AllocError, Global};
 use std::io::{Read, Write};
@@ -25,7 +28,7 @@ use std::io::{Read, Write};
 /// What is told of what was asked.
 #[derive(Drop)]
 pub(crate) enum Answer {
-    /// What explains the port, or summarizes the network.
+    /// What explains the port, summarizes the network or depicts it.
     Text(Vec<u8>),
     /// The words ask nothing.
     Unread(Fault),
@@ -33,6 +36,8 @@ pub(crate) enum Answer {
     Refused(Unexplained),
     /// What each single failure does.
     Swept(Sweep),
+    /// The word names no tree.
+    Undrawn(Fault),
 }
 
 /// Loads the network of the script that the reader gives, and writes the answer to what is asked of it. Where nothing meets
@@ -43,7 +48,8 @@ pub(crate) enum Answer {
 /// that its bridge has. Where that isn't told, a line `explain CODE TEXT` says why, by the first of these: the fault of the
 /// words, where they ask for nothing, or why the port [isn't explained](Unexplained). That counts as one refused line more.
 /// For [`Question::Sweep`] it is what each single failure does, and counts as one that differs where some failure cuts a VID.
-/// For [`Question::Summary`] it is the summary of the network.
+/// For [`Question::Summary`] it is the summary of the network, and for [`Question::Picture`] its picture with the tree. Where the
+/// word for the tree has a fault, a line `dot CODE TEXT` says so, and counts as one refused line more.
 ///
 /// The reader and the writer are called as by [`run`](crate::run). After [`RunFault::Read`] all that the complete lines
 /// print has gone out, of what was read; after [`RunFault::Memory`] all that the script's lines print, where there was no
@@ -54,10 +60,10 @@ pub fn ask<R: Read + Drop, W: Write>(
     mut reader: R,
     writer: &mut W,
 ) -> Result<Outcome, RunFault>
-    ensures ok { IfOk result (Asks question.now (R.remaining reader) (W.contents writer.old) (W.contents writer.new)) }
-    ensures fault { OnErr result (AsksFront question.now (R.remaining reader) (W.contents writer.old) (W.contents writer.new)) }
-    ensures read { result ≡ Err RunFault.Read → (left : Option (List ℕ)) × LoadsEnded line_word (R.remaining reader) left (W.contents writer.old) (W.contents writer.new) }
-    ensures memory { result ≡ Err RunFault.Memory → LoadsScript line_word (R.remaining reader) (W.contents writer.old) (W.contents writer.new) }
+    ensures ok { IfOk result (Asks Form.Text question.now (R.remaining reader) (W.contents writer.old) (W.contents writer.new)) }
+    ensures fault { OnErr result (AsksFront Form.Text question.now (R.remaining reader) (W.contents writer.old) (W.contents writer.new)) }
+    ensures read { result ≡ Err RunFault.Read → (left : Option (List ℕ)) × LoadsEnded (of_script Form.Text) (R.remaining reader) left (W.contents writer.old) (W.contents writer.new) }
+    ensures memory { result ≡ Err RunFault.Memory → LoadsScript (of_script Form.Text) (R.remaining reader) (W.contents writer.old) (W.contents writer.new) }
 {
     ask_from(alloc, question, &mut reader, writer)
 }
@@ -69,14 +75,14 @@ pub fn ask_from<R: Read, W: Write>(
     reader: &mut R,
     writer: &mut W,
 ) -> Result<Outcome, RunFault>
-    ensures ok { IfOk result (Asks question.now (R.remaining reader.old) (W.contents writer.old) (W.contents writer.new)) }
-    ensures fault { OnErr result (AsksFront question.now (R.remaining reader.old) (W.contents writer.old) (W.contents writer.new)) }
-    ensures read { result ≡ Err RunFault.Read → LoadsEnded line_word (R.remaining reader.old) (R.remaining reader.new) (W.contents writer.old) (W.contents writer.new) }
-    ensures memory { result ≡ Err RunFault.Memory → LoadsScript line_word (R.remaining reader.old) (W.contents writer.old) (W.contents writer.new) }
+    ensures ok { IfOk result (Asks Form.Text question.now (R.remaining reader.old) (W.contents writer.old) (W.contents writer.new)) }
+    ensures fault { OnErr result (AsksFront Form.Text question.now (R.remaining reader.old) (W.contents writer.old) (W.contents writer.new)) }
+    ensures read { result ≡ Err RunFault.Read → LoadsEnded (of_script Form.Text) (R.remaining reader.old) (R.remaining reader.new) (W.contents writer.old) (W.contents writer.new) }
+    ensures memory { result ≡ Err RunFault.Memory → LoadsScript (of_script Form.Text) (R.remaining reader.old) (W.contents writer.old) (W.contents writer.new) }
 {
     let mut source = FromRead::new(reader);
     let mut sink = ToWrite::new(writer);
-    ask_within(alloc, question, &mut source, &mut sink, TURNS)
+    ask_within(alloc, Form::Text, question, &mut source, &mut sink, TURNS)
 }
 
 /// Asks the network of the script that the source gives in so many turns, as [`ask`] does: it is that with 2^32 of them. A turn
@@ -86,6 +92,7 @@ pub fn ask_from<R: Read, W: Write>(
 /// found the end; [`RunFault::Write`] just where the sink has failed, or took nothing of a part that had a byte.
 pub fn ask_within<S: Source, K: Sink>(
     alloc: Global,
+    form: Form,
     question: &Question,
     source: &mut S,
     sink: &mut K,
@@ -94,10 +101,10 @@ pub fn ask_within<S: Source, K: Sink>(
     requires source { (S.told source.old).failed ≡ false }
     requires sink { (K.told sink.old).failed ≡ false }
     requires turns { turns ≤ 2 ^ 32 }
-    ensures ok { IfOk result (Asks question.now (S.remaining source.old) (K.contents sink.old) (K.contents sink.new)) }
-    ensures fault { OnErr result (AsksFront question.now (S.remaining source.old) (K.contents sink.old) (K.contents sink.new)) }
-    ensures read { result ≡ Err RunFault.Read → LoadsEnded line_word (S.remaining source.old) (S.remaining source.new) (K.contents sink.old) (K.contents sink.new) }
-    ensures memory { result ≡ Err RunFault.Memory → LoadsScript line_word (S.remaining source.old) (K.contents sink.old) (K.contents sink.new) }
+    ensures ok { IfOk result (Asks form question.now (S.remaining source.old) (K.contents sink.old) (K.contents sink.new)) }
+    ensures fault { OnErr result (AsksFront form question.now (S.remaining source.old) (K.contents sink.old) (K.contents sink.new)) }
+    ensures read { result ≡ Err RunFault.Read → LoadsEnded (of_script form) (S.remaining source.old) (S.remaining source.new) (K.contents sink.old) (K.contents sink.new) }
+    ensures memory { result ≡ Err RunFault.Memory → LoadsScript (of_script form) (S.remaining source.old) (K.contents sink.old) (K.contents sink.new) }
     ensures ended { IsOk result → IsRead (S.told source.old) (S.told source.new) }
     ensures read_fault { result ≡ Err RunFault.Read ↔ IsCut turns (S.told source.old) (S.told source.new) × Works (K.told sink.old) (K.told sink.new) }
     ensures write_fault { result ≡ Err RunFault.Write ↔ IsBroken (K.told sink.old) (K.told sink.new) }
@@ -111,14 +118,19 @@ pub fn ask_within<S: Source, K: Sink>(
     one_explanation();
     one_sweep();
     one_summary();
+    one_picture();
     let mut engine = Engine::new(alloc);
-    match serve_input(Input::Network(Side::Only), &mut engine, source, sink, turns) {
+    let shape = Shape {
+        form,
+        side: Side::Only,
+    };
+    match serve_input(Input::Network(shape), &mut engine, source, sink, turns) {
         Err(fault) => Err(fault),
         Ok(()) => {
             let served = engine.outcome();
-            match answer_to(&mut engine.planner, question) {
+            match answer_to(&mut engine.planner, form, question) {
                 Err(_) => Err(RunFault::Memory),
-                Ok(answer) => match put_answer(sink, &answer) {
+                Ok(answer) => match put_answer(sink, form, &answer) {
                     Err(_) => Err(RunFault::Write),
                     Ok(()) => Ok(with_answer(&served, &answer)),
                 },
@@ -128,88 +140,151 @@ pub fn ask_within<S: Source, K: Sink>(
 }
 
 /// The answer to what is asked, of the network as it stands. `AllocError`: memory was wanted and refused.
-fn answer_to(planner: &mut Planner, question: &Question) -> Result<Answer, AllocError>
-    ensures { IfOk result (λ answer. IsAnswer (planned_state planner.old).net question.now (told_of answer) (answer_text answer)) }
+fn answer_to(planner: &mut Planner, form: Form, question: &Question) -> Result<Answer, AllocError>
+    ensures { IfOk result (λ answer. IsAnswer form (planned_state planner.old).net question.now (told_of answer) (answer_text form answer)) }
 {
     match question {
-        Question::Explain(asked) => explained(planner, asked),
+        Question::Explain(asked) => explained(planner, form, asked),
         Question::Unread(fault) => Ok(Answer::Unread(*fault)),
-        Question::Sweep => swept(planner),
-        Question::Summary => summarized(planner),
+        Question::Sweep => swept(planner, form),
+        Question::Summary => summarized(planner, form),
+        Question::Picture(tree) => depicted(planner, form, *tree),
+        Question::Undrawn(fault) => Ok(Answer::Undrawn(*fault)),
     }
 }
 
 /// Explains a port, once the plan is settled. `AllocError`: memory was wanted and refused.
-fn explained(planner: &mut Planner, asked: &Asked) -> Result<Answer, AllocError>
-    ensures { IfOk result (λ answer. IsAnswer (planned_state planner.old).net (Explain asked.now) (told_of answer) (answer_text answer)) }
+fn explained(planner: &mut Planner, form: Form, asked: &Asked) -> Result<Answer, AllocError>
+    ensures { IfOk result (λ answer. IsAnswer form (planned_state planner.old).net (Explain asked.now) (told_of answer) (answer_text form answer)) }
 {
-    if planner.settle().is_err() {
-        return Err(AllocError);
-    }
+    planner.settle()?;
     match planner.explanation(&asked.port, asked.tree) {
-        Ok(text) => Ok(Answer::Text(text)),
+        Ok(mut text) => {
+            show(form, None, "explain", &mut text)?;
+            Ok(Answer::Text(text))
+        }
         Err(Unexplained::Memory) => Err(AllocError),
         Err(why) => Ok(Answer::Refused(why)),
     }
 }
 
 /// What each single failure does, once the plan is settled. `AllocError`: memory was wanted and refused.
-fn swept(planner: &mut Planner) -> Result<Answer, AllocError>
-    ensures { IfOk result (λ answer. IsAnswer (planned_state planner.old).net Question.Sweep (told_of answer) (answer_text answer)) }
+fn swept(planner: &mut Planner, form: Form) -> Result<Answer, AllocError>
+    ensures { IfOk result (λ answer. IsAnswer form (planned_state planner.old).net Question.Sweep (told_of answer) (answer_text form answer)) }
 {
-    if planner.settle().is_err() {
-        return Err(AllocError);
-    }
-    match planner.sweep() {
-        Ok(sweep) => Ok(Answer::Swept(sweep)),
-        Err(_) => Err(AllocError),
-    }
+    planner.settle()?;
+    let mut sweep = planner.sweep()?;
+    show(form, None, "sweep", &mut sweep.text)?;
+    Ok(Answer::Swept(sweep))
 }
 
 /// Summarizes the network, once the plan is settled. `AllocError`: memory was wanted and refused.
-fn summarized(planner: &mut Planner) -> Result<Answer, AllocError>
-    ensures { IfOk result (λ answer. IsAnswer (planned_state planner.old).net Question.Summary (told_of answer) (answer_text answer)) }
+fn summarized(planner: &mut Planner, form: Form) -> Result<Answer, AllocError>
+    ensures { IfOk result (λ answer. IsAnswer form (planned_state planner.old).net Question.Summary (told_of answer) (answer_text form answer)) }
 {
-    if planner.settle().is_err() {
-        return Err(AllocError);
-    }
-    match planner.summary() {
-        Ok(text) => Ok(Answer::Text(text)),
-        Err(_) => Err(AllocError),
-    }
+    planner.settle()?;
+    let mut text = planner.summary()?;
+    show(form, None, "summary", &mut text)?;
+    Ok(Answer::Text(text))
+}
+
+/// Draws the network with a tree, once the plan is settled. `AllocError`: memory was wanted and refused.
+fn depicted(planner: &mut Planner, form: Form, tree: Tree) -> Result<Answer, AllocError>
+    ensures { IfOk result (λ answer. IsAnswer form (planned_state planner.old).net (Question.Picture tree) (told_of answer) (answer_text form answer)) }
+{
+    planner.settle()?;
+    let mut text = planner.picture(tree)?;
+    show(form, None, "dot", &mut text)?;
+    Ok(Answer::Text(text))
 }
 
 /// Writes an answer.
-fn put_answer<K: Sink>(sink: &mut K, answer: &Answer) -> Result<(), WriteFailed>
+fn put_answer<K: Sink>(sink: &mut K, form: Form, answer: &Answer) -> Result<(), WriteFailed>
     requires working { (K.told sink.old).failed ≡ false }
-    ensures ok { OnOk result (Appends (K.contents sink.old) (K.contents sink.new) (answer_text answer.now)) }
-    ensures err { OnErr result (AppendsFront (K.contents sink.old) (K.contents sink.new) (answer_text answer.now)) }
+    ensures ok { OnOk result (Appends (K.contents sink.old) (K.contents sink.new) (answer_text form answer.now)) }
+    ensures err { OnErr result (AppendsFront (K.contents sink.old) (K.contents sink.new) (answer_text form answer.now)) }
     ensures works { OnOk result (Works (K.told sink.old) (K.told sink.new)) }
     ensures broken { OnErr result (IsStopped (K.told sink.old) (K.told sink.new)) }
     ensures lent { K.lent sink.new ≡ K.lent sink.old }
 {
     match answer {
         Answer::Text(text) => put(sink, text.as_slice()),
-        Answer::Unread(fault) => put_unexplained(sink, fault.code(), fault.text()),
-        Answer::Refused(why) => put_unexplained(sink, why.code(), why.text()),
+        Answer::Unread(fault) => put_unanswered(sink, form, "explain", fault.code(), fault.text()),
+        Answer::Refused(why) => put_unanswered(sink, form, "explain", why.code(), why.text()),
         Answer::Swept(sweep) => put(sink, sweep.text.as_slice()),
+        Answer::Undrawn(fault) => put_unanswered(sink, form, "dot", fault.code(), fault.text()),
     }
 }
 
-/// Writes that nothing is explained.
-fn put_unexplained<'a, K: Sink>(
+/// Writes that what this word asks isn't answered.
+fn put_unanswered<'a, K: Sink>(
     sink: &mut K,
+    form: Form,
+    word: &'a str,
     code: &'a str,
     text: &'a str,
 ) -> Result<(), WriteFailed>
     requires working { (K.told sink.old).failed ≡ false }
-    ensures ok { OnOk result (Appends (K.contents sink.old) (K.contents sink.new) (unexplained_line code.now text.now)) }
-    ensures err { OnErr result (AppendsFront (K.contents sink.old) (K.contents sink.new) (unexplained_line code.now text.now)) }
+    ensures ok { OnOk result (Appends (K.contents sink.old) (K.contents sink.new) (unanswered form word.now code.now text.now)) }
+    ensures err { OnErr result (AppendsFront (K.contents sink.old) (K.contents sink.new) (unanswered form word.now code.now text.now)) }
     ensures works { OnOk result (Works (K.told sink.old) (K.told sink.new)) }
     ensures broken { OnErr result (IsStopped (K.told sink.old) (K.told sink.new)) }
     ensures lent { K.lent sink.new ≡ K.lent sink.old }
 {
-    let parts: [&[u8]; 5] = [b"explain ", code.as_bytes(), b" ", text.as_bytes(), b"\n"];
+    match form {
+        Form::Text => put_refused(sink, word, code, text),
+        Form::Json => put_unanswered_json(sink, word, code, text),
+    }
+}
+
+/// Writes that what this word asks isn't answered, in a line of JSON.
+fn put_unanswered_json<'a, K: Sink>(
+    sink: &mut K,
+    query: &'a str,
+    code: &'a str,
+    text: &'a str,
+) -> Result<(), WriteFailed>
+    requires working { (K.told sink.old).failed ≡ false }
+    ensures ok { OnOk result (Appends (K.contents sink.old) (K.contents sink.new) (unanswered_json query.now code.now text.now)) }
+    ensures err { OnErr result (AppendsFront (K.contents sink.old) (K.contents sink.new) (unanswered_json query.now code.now text.now)) }
+    ensures works { OnOk result (Works (K.told sink.old) (K.told sink.new)) }
+    ensures broken { OnErr result (IsStopped (K.told sink.old) (K.told sink.new)) }
+    ensures lent { K.lent sink.new ≡ K.lent sink.old }
+{
+    let parts: [&[u8]; 7] = [
+        b"{\"query\":\"",
+        query.as_bytes(),
+        b"\",\"error\":\"",
+        code.as_bytes(),
+        b"\",\"text\":\"",
+        text.as_bytes(),
+        b"\"}\n",
+    ];
+    put_parts(sink, &parts)
+}
+
+/// Writes that what this word asks isn't answered, in a text.
+fn put_refused<'a, K: Sink>(
+    sink: &mut K,
+    word: &'a str,
+    code: &'a str,
+    text: &'a str,
+) -> Result<(), WriteFailed>
+    requires working { (K.told sink.old).failed ≡ false }
+    ensures ok { OnOk result (Appends (K.contents sink.old) (K.contents sink.new) (refused_line word.now code.now text.now)) }
+    ensures err { OnErr result (AppendsFront (K.contents sink.old) (K.contents sink.new) (refused_line word.now code.now text.now)) }
+    ensures works { OnOk result (Works (K.told sink.old) (K.told sink.new)) }
+    ensures broken { OnErr result (IsStopped (K.told sink.old) (K.told sink.new)) }
+    ensures lent { K.lent sink.new ≡ K.lent sink.old }
+{
+    let parts: [&[u8]; 6] = [
+        word.as_bytes(),
+        b" ",
+        code.as_bytes(),
+        b" ",
+        text.as_bytes(),
+        b"\n",
+    ];
     put_parts(sink, &parts)
 }
 
@@ -220,7 +295,7 @@ fn with_answer(script: &Outcome, answer: &Answer) -> Outcome
 {
     let (refused, differing) = match answer {
         Answer::Text(_) => (0, 0),
-        Answer::Unread(_) | Answer::Refused(_) => (1, 0),
+        Answer::Unread(_) | Answer::Refused(_) | Answer::Undrawn(_) => (1, 0),
         Answer::Swept(sweep) => (0, if sweep.cuts == 0 { 0 } else { 1 }),
     };
     Outcome {

@@ -8,6 +8,7 @@ ghost use Rattle.mst_tool.specs.declared.engine.Input.TheVariants.{Captures};
 
 use crate::devices::{Sink, Source};
 use crate::engine::{Engine, Input};
+use crate::form::Form;
 use crate::laws::{has_steps, one_comparison, one_run, states};
 use crate::lent::{FromRead, ToWrite};
 use crate::runs::{Outcome, RunFault, TURNS, serve_input};
@@ -101,7 +102,7 @@ pub fn check_within<S: Source, C: Source, K: Sink>(
     one_run();
     one_comparison();
     let mut engine = Engine::new(alloc);
-    match serve_input(Input::Script, &mut engine, script, sink, turns) {
+    match serve_input(Input::Script(Form::Text), &mut engine, script, sink, turns) {
         Err(fault) => Err(fault),
         Ok(()) => {
             let served = engine.outcome();

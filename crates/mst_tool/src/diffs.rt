@@ -1,12 +1,12 @@
 ghost use Rattle.std.specs.Prelude.{◌≡◌, ◌≤◌, ◌↔◌, ◌⊎◌, ◌^◌, ℕ, false, List, Option, Ok, Err, IfOk, IsOk, OnErr};
-ghost use Rattle.mst_report.specs.Differing.{Differs};
 ghost use Rattle.mst_report.specs.Planned.{planned_state};
 ghost use Rattle.mst_tool.specs.Devices.{Works, IsBroken, IsCut, IsRead, IsCalled, StopsAtZero};
-ghost use Rattle.mst_tool.specs.Diff.{Diffs, DiffsFront, DiffsEnded, DiffsScripts, counted_both};
+ghost use Rattle.mst_tool.specs.Diff.{Diffs, DiffsFront, DiffsEnded, DiffsScripts, TellsDifference, counted_both};
 ghost use Rattle.mst_tool.specs.Served.{IsFew};
 
 use crate::devices::{Sink, Source};
-use crate::engine::{Engine, Input, Side};
+use crate::engine::{Engine, Input};
+use crate::form::{Form, Shape, Side, show};
 use crate::laws::{has_load, one_load, states};
 use crate::lent::{FromRead, ToWrite};
 use crate::print::put;
@@ -33,10 +33,10 @@ pub fn diff<O: Read + Drop, N: Read + Drop, W: Write>(
     mut new: N,
     writer: &mut W,
 ) -> Result<Outcome, RunFault>
-    ensures ok { IfOk result (Diffs (O.remaining old) (N.remaining new) (W.contents writer.old) (W.contents writer.new)) }
-    ensures fault { OnErr result (DiffsFront (O.remaining old) (N.remaining new) (W.contents writer.old) (W.contents writer.new)) }
-    ensures read { result ≡ Err RunFault.Read → (old_left new_left : Option (List ℕ)) × DiffsEnded (O.remaining old) old_left (N.remaining new) new_left (W.contents writer.old) (W.contents writer.new) }
-    ensures memory { result ≡ Err RunFault.Memory → DiffsScripts (O.remaining old) (N.remaining new) (W.contents writer.old) (W.contents writer.new) }
+    ensures ok { IfOk result (Diffs Form.Text (O.remaining old) (N.remaining new) (W.contents writer.old) (W.contents writer.new)) }
+    ensures fault { OnErr result (DiffsFront Form.Text (O.remaining old) (N.remaining new) (W.contents writer.old) (W.contents writer.new)) }
+    ensures read { result ≡ Err RunFault.Read → (old_left new_left : Option (List ℕ)) × DiffsEnded Form.Text (O.remaining old) old_left (N.remaining new) new_left (W.contents writer.old) (W.contents writer.new) }
+    ensures memory { result ≡ Err RunFault.Memory → DiffsScripts Form.Text (O.remaining old) (N.remaining new) (W.contents writer.old) (W.contents writer.new) }
 {
     diff_from(alloc, &mut old, &mut new, writer)
 }
@@ -48,15 +48,22 @@ pub fn diff_from<O: Read, N: Read, W: Write>(
     new: &mut N,
     writer: &mut W,
 ) -> Result<Outcome, RunFault>
-    ensures ok { IfOk result (Diffs (O.remaining old.old) (N.remaining new.old) (W.contents writer.old) (W.contents writer.new)) }
-    ensures fault { OnErr result (DiffsFront (O.remaining old.old) (N.remaining new.old) (W.contents writer.old) (W.contents writer.new)) }
-    ensures read { result ≡ Err RunFault.Read → DiffsEnded (O.remaining old.old) (O.remaining old.new) (N.remaining new.old) (N.remaining new.new) (W.contents writer.old) (W.contents writer.new) }
-    ensures memory { result ≡ Err RunFault.Memory → DiffsScripts (O.remaining old.old) (N.remaining new.old) (W.contents writer.old) (W.contents writer.new) }
+    ensures ok { IfOk result (Diffs Form.Text (O.remaining old.old) (N.remaining new.old) (W.contents writer.old) (W.contents writer.new)) }
+    ensures fault { OnErr result (DiffsFront Form.Text (O.remaining old.old) (N.remaining new.old) (W.contents writer.old) (W.contents writer.new)) }
+    ensures read { result ≡ Err RunFault.Read → DiffsEnded Form.Text (O.remaining old.old) (O.remaining old.new) (N.remaining new.old) (N.remaining new.new) (W.contents writer.old) (W.contents writer.new) }
+    ensures memory { result ≡ Err RunFault.Memory → DiffsScripts Form.Text (O.remaining old.old) (N.remaining new.old) (W.contents writer.old) (W.contents writer.new) }
 {
     let mut old_source = FromRead::new(old);
     let mut new_source = FromRead::new(new);
     let mut sink = ToWrite::new(writer);
-    diff_within(alloc, &mut old_source, &mut new_source, &mut sink, TURNS)
+    diff_within(
+        alloc,
+        Form::Text,
+        &mut old_source,
+        &mut new_source,
+        &mut sink,
+        TURNS,
+    )
 }
 
 /// Tells apart the networks of the two scripts that the sources give in so many turns each, as [`diff`] does: it is that with
@@ -66,6 +73,7 @@ pub fn diff_from<O: Read, N: Read, W: Write>(
 /// none found the end; [`RunFault::Write`] just where the sink has failed, or took nothing of a part that had a byte.
 pub fn diff_within<O: Source, N: Source, K: Sink>(
     alloc: Global,
+    form: Form,
     old: &mut O,
     new: &mut N,
     sink: &mut K,
@@ -75,10 +83,10 @@ pub fn diff_within<O: Source, N: Source, K: Sink>(
     requires new { (N.told new.old).failed ≡ false }
     requires sink { (K.told sink.old).failed ≡ false }
     requires turns { turns ≤ 2 ^ 32 }
-    ensures ok { IfOk result (Diffs (O.remaining old.old) (N.remaining new.old) (K.contents sink.old) (K.contents sink.new)) }
-    ensures fault { OnErr result (DiffsFront (O.remaining old.old) (N.remaining new.old) (K.contents sink.old) (K.contents sink.new)) }
-    ensures read { result ≡ Err RunFault.Read → DiffsEnded (O.remaining old.old) (O.remaining old.new) (N.remaining new.old) (N.remaining new.new) (K.contents sink.old) (K.contents sink.new) }
-    ensures memory { result ≡ Err RunFault.Memory → DiffsScripts (O.remaining old.old) (N.remaining new.old) (K.contents sink.old) (K.contents sink.new) }
+    ensures ok { IfOk result (Diffs form (O.remaining old.old) (N.remaining new.old) (K.contents sink.old) (K.contents sink.new)) }
+    ensures fault { OnErr result (DiffsFront form (O.remaining old.old) (N.remaining new.old) (K.contents sink.old) (K.contents sink.new)) }
+    ensures read { result ≡ Err RunFault.Read → DiffsEnded form (O.remaining old.old) (O.remaining old.new) (N.remaining new.old) (N.remaining new.new) (K.contents sink.old) (K.contents sink.new) }
+    ensures memory { result ≡ Err RunFault.Memory → DiffsScripts form (O.remaining old.old) (N.remaining new.old) (K.contents sink.old) (K.contents sink.new) }
     ensures ended_old { IsOk result → IsRead (O.told old.old) (O.told old.new) }
     ensures ended_new { IsOk result → IsRead (N.told new.old) (N.told new.new) }
     ensures read_fault { result ≡ Err RunFault.Read ↔ (IsCut turns (O.told old.old) (O.told old.new) ⊎ IsCut turns (N.told new.old) (N.told new.new)) × Works (K.told sink.old) (K.told sink.new) }
@@ -95,13 +103,21 @@ pub fn diff_within<O: Source, N: Source, K: Sink>(
     one_load();
     one_difference();
     let mut before = Engine::new(alloc);
-    match serve_input(Input::Network(Side::Old), &mut before, old, sink, turns) {
+    let of_old = Shape {
+        form,
+        side: Side::Old,
+    };
+    match serve_input(Input::Network(of_old), &mut before, old, sink, turns) {
         Err(fault) => Err(fault),
         Ok(()) => {
             let mut after = Engine::new(alloc);
-            match serve_input(Input::Network(Side::New), &mut after, new, sink, turns) {
+            let of_new = Shape {
+                form,
+                side: Side::New,
+            };
+            match serve_input(Input::Network(of_new), &mut after, new, sink, turns) {
                 Err(fault) => Err(fault),
-                Ok(()) => match what_differs(&mut before.planner, &mut after.planner) {
+                Ok(()) => match what_differs(form, &mut before.planner, &mut after.planner) {
                     Err(_) => Err(RunFault::Memory),
                     Ok(found) => match put(sink, found.text.as_slice()) {
                         Err(_) => Err(RunFault::Write),
@@ -119,13 +135,14 @@ pub fn diff_within<O: Source, N: Source, K: Sink>(
 
 /// How the network of the new planner differs from that of the old one, once both plans are settled. `AllocError`: memory was
 /// wanted and refused.
-fn what_differs(old: &mut Planner, new: &mut Planner) -> Result<Difference, AllocError>
-    ensures { IfOk result (λ found. Differs (planned_state old.old).net (planned_state new.old).net found.counts found.text.items) }
+fn what_differs(form: Form, old: &mut Planner, new: &mut Planner) -> Result<Difference, AllocError>
+    ensures { IfOk result (λ found. TellsDifference form (planned_state old.old).net (planned_state new.old).net found.counts found.text.items) }
 {
-    if old.settle().is_err() || new.settle().is_err() {
-        return Err(AllocError);
-    }
-    old.difference(new)
+    old.settle()?;
+    new.settle()?;
+    let mut found = old.difference(new)?;
+    show(form, None, "diff", &mut found.text)?;
+    Ok(found)
 }
 
 /// What was counted of two scripts and of how their networks differ.

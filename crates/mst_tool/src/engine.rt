@@ -1,6 +1,7 @@
-ghost use Rattle.std.specs.Prelude.{◌≡◌, ℕ, ◌+◌, ◌^◌, ◌<◌, Bool, true, false, List, [], ◌∷◌, Ok, Err, OnOk, OnErr};
+ghost use Rattle.std.specs.Prelude.{◌≡◌, ◌+◌, ◌^◌, ◌<◌, Bool, true, false, [], ◌∷◌, Ok, Err, IfOk, OnOk, OnErr};
 ghost use Rattle.std.specs.Io.KnownBytes.{Appends};
 ghost use Rattle.mst_lang.specs.declared.line.Line.TheVariants.{Mark, Query as query};
+ghost use Rattle.mst_report.specs.Answers.{Answers};
 ghost use Rattle.mst_report.specs.Planned.{planned_state};
 ghost use Rattle.mst_report.specs.Refusing.{HasText};
 ghost use Rattle.mst_report.specs.State.{empty_state};
@@ -8,11 +9,14 @@ ghost use Rattle.mst_net.specs.Refusals.{code_of as refusal_code, text_of as ref
 ghost use Rattle.mst_bpdu.specs.CaptureText.{fault_line};
 ghost use Rattle.mst_tool.specs.Devices.{Works, IsStopped};
 ghost use Rattle.mst_tool.specs.Written.{AppendsFront};
-ghost use Rattle.mst_tool.specs.Script.{ServesRead, Serves, Loads, reading_at, version_said as said, code_line, line_word};
-ghost use Rattle.mst_tool.specs.Engine.{IsReady, word_of, version_from, known_after, does, begun, tally_of, tallied, outcome_of, reply_text, replied};
+ghost use Rattle.mst_tool.specs.Script.{ServesRead, Serves, Loads, reading_at, version_said as said};
+ghost use Rattle.mst_json.specs.RefusalJson.{refusal_json, side_json};
+ghost use Rattle.mst_tool.specs.Shape.{of_script, code_line, side_word, side_name, coded};
+ghost use Rattle.mst_tool.specs.Engine.{IsReady, shape_of, version_from, known_after, does, begun, tally_of, tallied, outcome_of, reply_text, replied};
 
 use crate::captures::compare_line;
 use crate::devices::Sink;
+use crate::form::{Form, Shape, Side, query_word, show};
 use crate::print::{WriteFailed, put, put_parts};
 use crate::runs::Outcome;
 use itoa::Buffer;
@@ -21,28 +25,17 @@ use mst_lang::{Fault, Line, Query, Version, is_version_2, parse_line_as};
 use mst_net::Refusal;
 use mst_report::laws::rows_of_network;
 use mst_report::{Planner, asks_plan};
-use std::alloc::Global;
+use std::alloc::{AllocError, Global};
 
 /// What lines come from, by which they are served.
 #[derive(Clone, Copy)]
 pub(crate) enum Input {
-    /// A script: edits of the network, and queries.
-    Script,
-    /// A script of which the edits alone are served: its queries and marks do nothing.
-    Network(Side),
+    /// A script: edits of the network, and queries. What is printed has this form.
+    Script(Form),
+    /// A script of which the edits alone are served: its queries and marks do nothing. What is printed has this shape.
+    Network(Shape),
     /// Captured messages, which are compared with the plan.
     Captures,
-}
-
-/// Which script's network is loaded, as the lines of refusals tell.
-#[derive(Clone, Copy)]
-pub(crate) enum Side {
-    /// The only one.
-    Only,
-    /// Of two, the old one.
-    Old,
-    /// Of two, the new one.
-    New,
 }
 
 /// What is kept from line to line.
@@ -131,19 +124,19 @@ impl Engine {
         requires memory { self.old.memory < 2 ^ 60 }
         requires differing { self.old.differing < 2 ^ 60 }
         ensures ready { IsReady input self.new }
-        ensures served { does input self.old.version self.old.number (planned_state self.old.planner) line.now (replied (word_of input) self.old.number (planned_state self.new.planner) result) }
-        ensures counted { tally_of self.new ≡ tallied input (tally_of self.old) line.now (replied (word_of input) self.old.number (planned_state self.new.planner) result) }
+        ensures served { does input self.old.version self.old.number (planned_state self.old.planner) line.now (replied (shape_of input) self.old.number (planned_state self.new.planner) result) }
+        ensures counted { tally_of self.new ≡ tallied input (tally_of self.old) line.now (replied (shape_of input) self.old.number (planned_state self.new.planner) result) }
     {
         let reply = match input {
-            Input::Script => {
+            Input::Script(form) => {
                 let version = version_at(self.version, line);
                 self.version = Some(version);
-                serve_line(&mut self.planner, version, self.number, line)
+                serve_line(&mut self.planner, form, version, self.number, line)
             }
-            Input::Network(_) => {
+            Input::Network(shape) => {
                 let version = version_at(self.version, line);
                 self.version = Some(version);
-                load_line(&mut self.planner, version, self.number, line)
+                load_line(&mut self.planner, shape, version, self.number, line)
             }
             Input::Captures => compare_line(self.alloc, &self.planner, self.number, line),
         };
@@ -180,23 +173,39 @@ fn version_said(line: &[u8]) -> Version
 }
 
 /// Serves a line of a script.
-fn serve_line(planner: &mut Planner, version: Version, number: u64, line: &[u8]) -> Reply
-    ensures { Serves version number (planned_state planner.old) line.now (replied line_word number (planned_state planner.new) result) }
+fn serve_line(
+    planner: &mut Planner,
+    form: Form,
+    version: Version,
+    number: u64,
+    line: &[u8],
+) -> Reply
+    ensures { Serves form version number (planned_state planner.old) line.now (replied (of_script form) number (planned_state planner.new) result) }
 {
+    let shape = Shape {
+        form,
+        side: Side::Only,
+    };
     match read_line(version, number, line) {
         Err(fault) => Reply::Unread(fault),
-        Ok(line) => serve(planner, number, &line),
+        Ok(line) => serve(planner, shape, number, &line),
     }
 }
 
 /// Serves a line of a script, if it is an edit or isn't read.
-fn load_line(planner: &mut Planner, version: Version, number: u64, line: &[u8]) -> Reply
-    ensures { (word : List ℕ) → Loads word version number (planned_state planner.old) line.now (replied word number (planned_state planner.new) result) }
+fn load_line(
+    planner: &mut Planner,
+    shape: Shape,
+    version: Version,
+    number: u64,
+    line: &[u8],
+) -> Reply
+    ensures { Loads shape version number (planned_state planner.old) line.now (replied shape number (planned_state planner.new) result) }
 {
     match read_line(version, number, line) {
         Err(fault) => Reply::Unread(fault),
         Ok(Line::Query(_) | Line::Mark) => Reply::Silent,
-        Ok(line) => serve(planner, number, &line),
+        Ok(line) => serve(planner, shape, number, &line),
     }
 }
 
@@ -217,8 +226,8 @@ fn read_line(version: Version, number: u64, line: &[u8]) -> Result<Line, Fault>
 }
 
 /// Serves a line that is read.
-fn serve(planner: &mut Planner, number: u64, line: &Line) -> Reply
-    ensures { (word : List ℕ) → ServesRead word number (planned_state planner.old) (Ok line.now) (replied word number (planned_state planner.new) result) }
+fn serve(planner: &mut Planner, shape: Shape, number: u64, line: &Line) -> Reply
+    ensures { ServesRead shape number (planned_state planner.old) (Ok line.now) (replied shape number (planned_state planner.new) result) }
 {
     match line {
         Line::Blank => Reply::Silent,
@@ -227,14 +236,14 @@ fn serve(planner: &mut Planner, number: u64, line: &Line) -> Reply
             Err(Refusal::E99) => Reply::Starved,
             Err(refusal) => Reply::Refused(refusal),
         },
-        Line::Query(query) => answer(planner, number, query),
-        Line::Mark => mark(planner, number),
+        Line::Query(query) => answer(planner, shape, number, query),
+        Line::Mark => mark(planner, shape, number),
     }
 }
 
 /// Marks the network, once the plan is settled.
-fn mark(planner: &mut Planner, number: u64) -> Reply
-    ensures { (word : List ℕ) → ServesRead word number (planned_state planner.old) (Ok Mark) (replied word number (planned_state planner.new) result) }
+fn mark(planner: &mut Planner, shape: Shape, number: u64) -> Reply
+    ensures { ServesRead shape number (planned_state planner.old) (Ok Mark) (replied shape number (planned_state planner.new) result) }
 {
     planner.known();
     rows_of_network();
@@ -248,39 +257,80 @@ fn mark(planner: &mut Planner, number: u64) -> Reply
 }
 
 /// Answers a query.
-fn answer(planner: &mut Planner, number: u64, asked: &Query) -> Reply
-    ensures { (word : List ℕ) → ServesRead word number (planned_state planner.old) (Ok (query asked.now)) (replied word number (planned_state planner.new) result) }
+fn answer(planner: &mut Planner, shape: Shape, number: u64, asked: &Query) -> Reply
+    ensures { ServesRead shape number (planned_state planner.old) (Ok (query asked.now)) (replied shape number (planned_state planner.new) result) }
 {
     match planner.refusal(asked) {
         Some(refusal) => Reply::Refused(refusal),
-        None => shown(planner, number, asked),
+        None => told(planner, shape, number, asked),
     }
 }
 
-/// What a query that a text answers is answered by: its text, once the plan is settled where it is asked of the plan,
-/// or that memory was wanted for it.
-fn shown(planner: &mut Planner, number: u64, asked: &Query) -> Reply
+/// What a query that a text answers is answered by: what its text is printed as, or that memory was wanted for it.
+fn told(planner: &mut Planner, shape: Shape, number: u64, asked: &Query) -> Reply
     requires { HasText asked.now (planned_state planner.old) }
-    ensures { (word : List ℕ) → ServesRead word number (planned_state planner.old) (Ok (query asked.now)) (replied word number (planned_state planner.new) result) }
+    ensures { ServesRead shape number (planned_state planner.old) (Ok (query asked.now)) (replied shape number (planned_state planner.new) result) }
+{
+    match text_of(planner, asked) {
+        Err(_) => Reply::Starved,
+        Ok(mut text) => match show(shape.form, Some(number), query_word(asked), &mut text) {
+            Err(_) => Reply::Starved,
+            Ok(()) => Reply::Text(text),
+        },
+    }
+}
+
+/// The text that answers a query, once the plan is settled where it is asked of the plan. `AllocError`: memory was wanted and
+/// refused, or no text answers it.
+fn text_of(planner: &mut Planner, asked: &Query) -> Result<Vec<u8>, AllocError>
+    ensures text { IfOk result (λ text. Answers asked.now (planned_state planner.old) (Ok text.items)) }
+    ensures state { planned_state planner.new ≡ planned_state planner.old }
 {
     if asks_plan(asked) && planner.settle().is_err() {
-        return Reply::Starved;
+        return Err(AllocError);
     }
     match planner.answer(asked) {
-        Ok(text) => Reply::Text(text),
-        Err(_) => Reply::Starved,
+        Ok(text) => Ok(text),
+        Err(_) => Err(AllocError),
+    }
+}
+
+/// What refusals and answers are printed as.
+fn shape(input: Input) -> Shape
+    ensures { result ≡ shape_of input }
+{
+    match input {
+        Input::Script(form) => Shape {
+            form,
+            side: Side::Only,
+        },
+        Input::Network(shape) => shape,
+        Input::Captures => Shape {
+            form: Form::Text,
+            side: Side::Only,
+        },
     }
 }
 
 /// The word that the line of a refusal begins with.
-fn word(input: Input) -> &'static str
-    ensures { result.now ≡ word_of input }
+fn word(side: Side) -> &'static str
+    ensures { result.now ≡ side_word side }
 {
-    match input {
-        Input::Script | Input::Network(Side::Only) => "line ",
-        Input::Network(Side::Old) => "old line ",
-        Input::Network(Side::New) => "new line ",
-        Input::Captures => "capture ",
+    match side {
+        Side::Only => "line ",
+        Side::Old => "old line ",
+        Side::New => "new line ",
+    }
+}
+
+/// What a line of JSON says of its script, where there are two.
+fn side_member(side: Side) -> &'static str
+    ensures { result.now ≡ side_json (side_name side) }
+{
+    match side {
+        Side::Only => "",
+        Side::Old => "\"side\":\"old\",",
+        Side::New => "\"side\":\"new\",",
     }
 }
 
@@ -292,19 +342,19 @@ pub(crate) fn print<K: Sink>(
     reply: &Reply,
 ) -> Result<(), WriteFailed>
     requires working { (K.told sink.old).failed ≡ false }
-    ensures ok { OnOk result (Appends (K.contents sink.old) (K.contents sink.new) (reply_text (word_of input) number reply.now)) }
-    ensures err { OnErr result (AppendsFront (K.contents sink.old) (K.contents sink.new) (reply_text (word_of input) number reply.now)) }
+    ensures ok { OnOk result (Appends (K.contents sink.old) (K.contents sink.new) (reply_text (shape_of input) number reply.now)) }
+    ensures err { OnErr result (AppendsFront (K.contents sink.old) (K.contents sink.new) (reply_text (shape_of input) number reply.now)) }
     ensures works { OnOk result (Works (K.told sink.old) (K.told sink.new)) }
     ensures broken { OnErr result (IsStopped (K.told sink.old) (K.told sink.new)) }
     ensures lent { K.lent sink.new ≡ K.lent sink.old }
 {
-    let first = word(input);
+    let shape = shape(input);
     match reply {
         Reply::Silent => Ok(()),
         Reply::Text(text) | Reply::Differing(text) => put(sink, text.as_slice()),
-        Reply::Unread(fault) => put_code(sink, first, number, fault.code(), fault.text()),
-        Reply::Refused(refusal) => put_refusal(sink, first, number, *refusal),
-        Reply::Starved => put_refusal(sink, first, number, Refusal::E99),
+        Reply::Unread(fault) => put_coded(sink, shape, number, fault.code(), fault.text()),
+        Reply::Refused(refusal) => put_refusal(sink, shape, number, *refusal),
+        Reply::Starved => put_refusal(sink, shape, number, Refusal::E99),
         Reply::Faulty(fault) => put_fault(sink, number, *fault),
         Reply::Uncompared => put_fault(sink, number, BpduFault::B99),
     }
@@ -313,18 +363,42 @@ pub(crate) fn print<K: Sink>(
 /// Writes that a line of a script is refused.
 fn put_refusal<K: Sink>(
     sink: &mut K,
-    first: &'static str,
+    shape: Shape,
     number: u64,
     refusal: Refusal,
 ) -> Result<(), WriteFailed>
     requires working { (K.told sink.old).failed ≡ false }
-    ensures ok { OnOk result (Appends (K.contents sink.old) (K.contents sink.new) (code_line first.now number (refusal_code refusal) (refusal_text refusal))) }
-    ensures err { OnErr result (AppendsFront (K.contents sink.old) (K.contents sink.new) (code_line first.now number (refusal_code refusal) (refusal_text refusal))) }
+    ensures ok { OnOk result (Appends (K.contents sink.old) (K.contents sink.new) (coded shape number (refusal_code refusal) (refusal_text refusal))) }
+    ensures err { OnErr result (AppendsFront (K.contents sink.old) (K.contents sink.new) (coded shape number (refusal_code refusal) (refusal_text refusal))) }
     ensures works { OnOk result (Works (K.told sink.old) (K.told sink.new)) }
     ensures broken { OnErr result (IsStopped (K.told sink.old) (K.told sink.new)) }
     ensures lent { K.lent sink.new ≡ K.lent sink.old }
 {
-    put_code(sink, first, number, refusal.code(), refusal.text())
+    put_coded(sink, shape, number, refusal.code(), refusal.text())
+}
+
+/// Writes that a line of a script is refused, by this code and text.
+fn put_coded<'a, K: Sink>(
+    sink: &mut K,
+    shape: Shape,
+    number: u64,
+    code: &'a str,
+    text: &'a str,
+) -> Result<(), WriteFailed>
+    requires working { (K.told sink.old).failed ≡ false }
+    ensures ok { OnOk result (Appends (K.contents sink.old) (K.contents sink.new) (coded shape number code.now text.now)) }
+    ensures err { OnErr result (AppendsFront (K.contents sink.old) (K.contents sink.new) (coded shape number code.now text.now)) }
+    ensures works { OnOk result (Works (K.told sink.old) (K.told sink.new)) }
+    ensures broken { OnErr result (IsStopped (K.told sink.old) (K.told sink.new)) }
+    ensures lent { K.lent sink.new ≡ K.lent sink.old }
+{
+    match shape.form {
+        Form::Text => put_code(sink, word(shape.side), number, code, text),
+        Form::Json => {
+            let member = side_member(shape.side);
+            put_refusal_json(sink, shape.side, member, number, code, text)
+        }
+    }
 }
 
 /// Writes that a captured message isn't compared.
@@ -337,6 +411,39 @@ fn put_fault<K: Sink>(sink: &mut K, number: u64, fault: BpduFault) -> Result<(),
     ensures lent { K.lent sink.new ≡ K.lent sink.old }
 {
     put_code(sink, "capture ", number, fault.code(), fault.text())
+}
+
+/// Writes that a line of a script is refused, in a line of JSON. `member` is what that says of the script.
+fn put_refusal_json<'a, K: Sink>(
+    sink: &mut K,
+    side: Side,
+    member: &'a str,
+    number: u64,
+    code: &'a str,
+    text: &'a str,
+) -> Result<(), WriteFailed>
+    requires member { member.now ≡ side_json (side_name side) }
+    requires working { (K.told sink.old).failed ≡ false }
+    ensures ok { OnOk result (Appends (K.contents sink.old) (K.contents sink.new) (refusal_json (side_name side) number code.now text.now)) }
+    ensures err { OnErr result (AppendsFront (K.contents sink.old) (K.contents sink.new) (refusal_json (side_name side) number code.now text.now)) }
+    ensures works { OnOk result (Works (K.told sink.old) (K.told sink.new)) }
+    ensures broken { OnErr result (IsStopped (K.told sink.old) (K.told sink.new)) }
+    ensures lent { K.lent sink.new ≡ K.lent sink.old }
+{
+    let mut buffer = Buffer::new();
+    let digits = buffer.format(number).as_bytes();
+    let parts: [&[u8]; 9] = [
+        b"{",
+        member.as_bytes(),
+        b"\"line\":",
+        digits,
+        b",\"error\":\"",
+        code.as_bytes(),
+        b"\",\"text\":\"",
+        text.as_bytes(),
+        b"\"}\n",
+    ];
+    put_parts(sink, &parts)
 }
 
 /// Writes the first word, `N CODE TEXT` and the end of the line.

@@ -8,6 +8,7 @@ ghost use Rattle.mst_tool.specs.Served.{Served, ServedFront, ServedEnded, IsFew}
 use crate::devices::{Sink, Source};
 use crate::engine::{Engine, Input};
 use crate::feed::{feed, finish};
+use crate::form::Form;
 use crate::held_line::HeldLine;
 use crate::laws::{has_steps, one_run};
 use crate::lent::{FromRead, ToWrite};
@@ -73,9 +74,9 @@ pub fn run<R: Read + Drop, W: Write>(
     mut reader: R,
     writer: &mut W,
 ) -> Result<Outcome, RunFault>
-    ensures ok { IfOk result (Prints (R.remaining reader) (W.contents writer.old) (W.contents writer.new)) }
-    ensures fault { OnErr result (PrintsFront (R.remaining reader) (W.contents writer.old) (W.contents writer.new)) }
-    ensures read { result ≡ Err RunFault.Read → (left : Option (List ℕ)) × PrintsEnded (R.remaining reader) left (W.contents writer.old) (W.contents writer.new) }
+    ensures ok { IfOk result (Prints Form.Text (R.remaining reader) (W.contents writer.old) (W.contents writer.new)) }
+    ensures fault { OnErr result (PrintsFront Form.Text (R.remaining reader) (W.contents writer.old) (W.contents writer.new)) }
+    ensures read { result ≡ Err RunFault.Read → (left : Option (List ℕ)) × PrintsEnded Form.Text (R.remaining reader) left (W.contents writer.old) (W.contents writer.new) }
     ensures memory { result ≢ Err RunFault.Memory }
 {
     run_from(alloc, &mut reader, writer)
@@ -88,23 +89,28 @@ pub fn run_from<R: Read, W: Write>(
     reader: &mut R,
     writer: &mut W,
 ) -> Result<Outcome, RunFault>
-    ensures ok { IfOk result (Prints (R.remaining reader.old) (W.contents writer.old) (W.contents writer.new)) }
-    ensures fault { OnErr result (PrintsFront (R.remaining reader.old) (W.contents writer.old) (W.contents writer.new)) }
-    ensures read { result ≡ Err RunFault.Read → PrintsEnded (R.remaining reader.old) (R.remaining reader.new) (W.contents writer.old) (W.contents writer.new) }
+    ensures ok { IfOk result (Prints Form.Text (R.remaining reader.old) (W.contents writer.old) (W.contents writer.new)) }
+    ensures fault { OnErr result (PrintsFront Form.Text (R.remaining reader.old) (W.contents writer.old) (W.contents writer.new)) }
+    ensures read { result ≡ Err RunFault.Read → PrintsEnded Form.Text (R.remaining reader.old) (R.remaining reader.new) (W.contents writer.old) (W.contents writer.new) }
     ensures memory { result ≢ Err RunFault.Memory }
 {
     let mut source = FromRead::new(reader);
     let mut sink = ToWrite::new(writer);
-    run_within(alloc, &mut source, &mut sink, TURNS)
+    run_within(alloc, Form::Text, &mut source, &mut sink, TURNS)
 }
 
-/// Runs the script that the source gives in so many turns, as [`run`] does: it is that with 2^32 of them. A turn is one
-/// call of the source, the one that finds the end included.
+/// Runs the script that the source gives in so many turns, as [`run`] does: it is that with 2^32 of them, and in
+/// [`Form::Text`]. A turn is one call of the source, the one that finds the end included.
+///
+/// In [`Form::Json`] each refused line and each text is one line of JSON: `{"line":N,"error":"CODE","text":"TEXT"}`, and
+/// `{"line":N,"query":"COMMAND","records":[..]}`. A query for whose JSON there is no memory is refused, as one is for whose
+/// text there is none.
 ///
 /// [`RunFault::Read`] is answered just where the sink works and the source has failed, or all turns were used and none
 /// found the end; [`RunFault::Write`] just where the sink has failed, or took nothing of a part that had a byte.
 pub fn run_within<S: Source, K: Sink>(
     alloc: Global,
+    form: Form,
     source: &mut S,
     sink: &mut K,
     turns: u64,
@@ -112,9 +118,9 @@ pub fn run_within<S: Source, K: Sink>(
     requires source { (S.told source.old).failed ≡ false }
     requires sink { (K.told sink.old).failed ≡ false }
     requires turns { turns ≤ 2 ^ 32 }
-    ensures ok { IfOk result (Prints (S.remaining source.old) (K.contents sink.old) (K.contents sink.new)) }
-    ensures fault { OnErr result (PrintsFront (S.remaining source.old) (K.contents sink.old) (K.contents sink.new)) }
-    ensures read { result ≡ Err RunFault.Read → PrintsEnded (S.remaining source.old) (S.remaining source.new) (K.contents sink.old) (K.contents sink.new) }
+    ensures ok { IfOk result (Prints form (S.remaining source.old) (K.contents sink.old) (K.contents sink.new)) }
+    ensures fault { OnErr result (PrintsFront form (S.remaining source.old) (K.contents sink.old) (K.contents sink.new)) }
+    ensures read { result ≡ Err RunFault.Read → PrintsEnded form (S.remaining source.old) (S.remaining source.new) (K.contents sink.old) (K.contents sink.new) }
     ensures memory { result ≢ Err RunFault.Memory }
     ensures ended { IsOk result → IsRead (S.told source.old) (S.told source.new) }
     ensures read_fault { result ≡ Err RunFault.Read ↔ IsCut turns (S.told source.old) (S.told source.new) × Works (K.told sink.old) (K.told sink.new) }
@@ -126,7 +132,7 @@ pub fn run_within<S: Source, K: Sink>(
 {
     one_run();
     let mut engine = Engine::new(alloc);
-    match serve_input(Input::Script, &mut engine, source, sink, turns) {
+    match serve_input(Input::Script(form), &mut engine, source, sink, turns) {
         Err(fault) => Err(fault),
         Ok(()) => Ok(engine.outcome()),
     }

@@ -4,6 +4,8 @@ mod devices;
 mod diffs;
 mod edits;
 mod faults;
+mod forms;
+mod hinted;
 mod links;
 mod network;
 mod plans;

@@ -5,24 +5,25 @@ use Rattle.std.specs.Io.KnownBytes.{Keeps, append_known}
 use Rattle.std.proofs.KnownBytes.{Appends-kept}
 use Rattle.mst_tool.specs.Ask.{AnswersFront, Asks, AsksFront}
 use Rattle.mst_tool.specs.Load.{LoadsEnded, LoadsFront, LoadsScript}
-use Rattle.mst_tool.specs.Script.{line_word}
+use Rattle.mst_tool.specs.Shape.{of_script}
 use Rattle.mst_tool.specs.Steps.{texts_of}
 use Rattle.mst_tool.specs.declared.asked.Question.{Question}
+use Rattle.mst_tool.specs.declared.form.Form.{Form}
 use Rattle.mst_tool.specs.declared.runs.Outcome.{Outcome}
 use Rattle.mst_tool.specs.declared.runs.RunFault.{RunFault}
 use Rattle.mst_tool.specs.declared.runs.RunFault.TheVariants.{Read, Write, Memory}
 use Rattle.mstplan.specs.Buffered.{EndsAsk, LoadsRead, is_broken}
 use Rattle.mstplan.proofs.Kept.{front_kept}
 
-module _ (question : Question) (reads : Option (List ℕ)) where
+module _ (form : Form) (question : Question) (reads : Option (List ℕ)) where
   -- what asking says of the buffer's bytes
   pub record Told (written now : Option (List ℕ)) (r : Result Outcome RunFault) : Type 0 where
-    pub ok : IfOk r (Asks question reads written now)
-    pub fault : OnErr r (AsksFront question reads written now)
-    pub read : r ≡ Err Read → LoadsRead reads written now
-    pub memory : r ≡ Err Memory → LoadsScript line_word reads written now
+    pub ok : IfOk r (Asks form question reads written now)
+    pub fault : OnErr r (AsksFront form question reads written now)
+    pub read : r ≡ Err Read → LoadsRead form reads written now
+    pub memory : r ≡ Err Memory → LoadsScript (of_script form) reads written now
 
-  asks_kept : (a b c : Option (List ℕ)) (outcome : Outcome) → Asks question reads a b outcome → Keeps b c → Asks question reads a c outcome
+  asks_kept : (a b c : Option (List ℕ)) (outcome : Outcome) → Asks form question reads a b outcome → Keeps b c → Asks form question reads a c outcome
   asks_kept a b c outcome h k = record {
     script = h.script;
     steps = h.steps;
@@ -39,10 +40,10 @@ module _ (question : Question) (reads : Option (List ℕ)) where
     only_answer = h.only_answer;
   }
 
-  loads_front_kept : (a b c : Option (List ℕ)) → LoadsFront line_word reads a b → Keeps b c → LoadsFront line_word reads a c
+  loads_front_kept : (a b c : Option (List ℕ)) → LoadsFront (of_script form) reads a b → Keeps b c → LoadsFront (of_script form) reads a c
   loads_front_kept a b c h k = record { script = h.script; steps = h.steps; read = h.read; loads = h.loads; printed = front_kept a b c (texts_of h.steps) h.printed k }
 
-  answers_front_kept : (a b c : Option (List ℕ)) → AnswersFront question reads a b → Keeps b c → AnswersFront question reads a c
+  answers_front_kept : (a b c : Option (List ℕ)) → AnswersFront form question reads a b → Keeps b c → AnswersFront form question reads a c
   answers_front_kept a b c h k = record {
     script = h.script;
     steps = h.steps;
@@ -54,21 +55,21 @@ module _ (question : Question) (reads : Option (List ℕ)) where
     printed = front_kept a b c (texts_of h.steps ++ h.text) h.printed k;
   }
 
-  asks_front_kept : (a b c : Option (List ℕ)) → AsksFront question reads a b → Keeps b c → AsksFront question reads a c
+  asks_front_kept : (a b c : Option (List ℕ)) → AsksFront form question reads a b → Keeps b c → AsksFront form question reads a c
   asks_front_kept a b c (inl h) k = inl (loads_front_kept a b c h k)
   asks_front_kept a b c (inr h) k = inr (answers_front_kept a b c h k)
 
-  loads_ended_kept : (left a b c : Option (List ℕ)) → LoadsEnded line_word reads left a b → Keeps b c → LoadsEnded line_word reads left a c
+  loads_ended_kept : (left a b c : Option (List ℕ)) → LoadsEnded (of_script form) reads left a b → Keeps b c → LoadsEnded (of_script form) reads left a c
   loads_ended_kept left a b c h k = record { read = h.read; steps = h.steps; consumed = h.consumed; loads = h.loads; printed = Appends-kept a b c (texts_of h.steps) h.printed k }
 
-  loads_script_kept : (a b c : Option (List ℕ)) → LoadsScript line_word reads a b → Keeps b c → LoadsScript line_word reads a c
+  loads_script_kept : (a b c : Option (List ℕ)) → LoadsScript (of_script form) reads a b → Keeps b c → LoadsScript (of_script form) reads a c
   loads_script_kept a b c h k = record { script = h.script; steps = h.steps; read = h.read; loads = h.loads; printed = Appends-kept a b c (texts_of h.steps) h.printed k }
 
   -- what was written in full is a front of it
-  front_told : (a b : Option (List ℕ)) (r : Result Outcome RunFault) → Told a b r → AsksFront question reads a b
+  front_told : (a b : Option (List ℕ)) (r : Result Outcome RunFault) → Told a b r → AsksFront form question reads a b
   front_told a b (Err f) told = told.fault
   front_told a b (Ok outcome) told =
-      let h : Asks question reads a b outcome = told.ok in
+      let h : Asks form question reads a b outcome = told.ok in
       let text = texts_of h.steps ++ h.text in
       inr (record {
         script = h.script;
@@ -82,19 +83,19 @@ module _ (question : Question) (reads : Option (List ℕ)) where
       })
 
   -- the writer stopped it, and some bytes are held back
-  pub ends_broken : (a b : Option (List ℕ)) (held : List ℕ) (r : Result Outcome RunFault) → is_broken r ≡ true → Told a (append_known b held) r → EndsAsk question reads a b r
+  pub ends_broken : (a b : Option (List ℕ)) (held : List ℕ) (r : Result Outcome RunFault) → is_broken r ≡ true → Told a (append_known b held) r → EndsAsk form question reads a b r
   ends_broken a b held (Ok outcome) e told = absurd cc
   ends_broken a b held (Err Read) e told = absurd cc
   ends_broken a b held (Err Write) e told = (held, told.fault)
   ends_broken a b held (Err Memory) e told = absurd cc
 
   -- all that was held back was written
-  pub ends_written : (a b c : Option (List ℕ)) (r : Result Outcome RunFault) → is_broken r ≡ false → Told a b r → Keeps b c → EndsAsk question reads a c r
+  pub ends_written : (a b c : Option (List ℕ)) (r : Result Outcome RunFault) → is_broken r ≡ false → Told a b r → Keeps b c → EndsAsk form question reads a c r
   ends_written a b c (Ok outcome) e told k = asks_kept a b c outcome told.ok k
   ends_written a b c (Err Read) e told k = let h = told.read refl in (h.0, loads_ended_kept h.0 a b c h.1 k)
   ends_written a b c (Err Write) e told k = absurd cc
   ends_written a b c (Err Memory) e told k = loads_script_kept a b c (told.memory refl) k
 
   -- or not all
-  pub ends_lost : (a b c : Option (List ℕ)) (held : List ℕ) (r : Result Outcome RunFault) → Told a b r → Keeps b (append_known c held) → EndsAsk question reads a c (Err Write)
+  pub ends_lost : (a b c : Option (List ℕ)) (held : List ℕ) (r : Result Outcome RunFault) → Told a b r → Keeps b (append_known c held) → EndsAsk form question reads a c (Err Write)
   ends_lost a b c held r told k = (held, asks_front_kept a b (append_known c held) (front_told a b r told) k)

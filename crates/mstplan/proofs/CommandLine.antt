@@ -18,7 +18,7 @@ use Rattle.clap.proofs.WalkLemmas.{walk_stopped}
 use Rattle.mst_tool.specs.declared.runs.RunFault.TheVariants.{Memory, Write}
 use Rattle.mstplan.specs.declared.endings.Stop.{Stop}
 use Rattle.mstplan.specs.declared.endings.Stop.TheVariants.{Told, Fault}
-use Rattle.mstplan.specs.Words.{IsAnswer, IsRefusal, Request, asked_by, asked_of, by_one, by_port, by_two, check, diff, explain, is_help, is_plain, is_version, program, request_of, run, summary, sweep}
+use Rattle.mstplan.specs.Words.{IsAnswer, IsRefusal, Request, asked_by, asked_of, by_one, by_port, by_two, check, diff, dot, explain, is_help, is_plain, is_version, program, request_of, run, summary, sweep}
 use Rattle.mstplan.proofs.Leaves.{TakesOne, TakesTwo, fits_one, fits_two}
 use Rattle.mstplan.proofs.PlainWords.{Fits, Passes, at, both_so, found_end, head_plain, is_no_help, leaf, leaf_end, leaf_found, leaf_stray, level, passes_next, passes_none, plain_turn, refuses, step}
 
@@ -204,6 +204,25 @@ summary_takes : TakesOne summary_leaf summary
 unfolding clap_on_literals
 summary_takes = record { free = refl; goes = λ f. refl; none = refl; one = λ f. refl; finds = λ f. refl; full = λ f later end. refl }
 
+-- ---- dot
+
+abbrev dot_leaf : Shape
+dot_leaf = unwrap_or (slice_get (built program).subs 6) (built program).top
+
+dot_takes : TakesTwo dot_leaf dot
+unfolding clap_on_literals
+dot_takes = record {
+  free = refl;
+  goes = λ f. refl;
+  free_next = λ f. refl;
+  goes_on = λ f t. refl;
+  none = refl;
+  one = λ f. refl;
+  two = λ f t. refl;
+  finds = λ f t. refl;
+  full = λ f t later end. refl;
+}
+
 -- ---- the words of the program
 
 abbrev names : Labels
@@ -275,6 +294,10 @@ summary_command : IsCommand (codes "summary") summary_leaf
 unfolding clap_on_literals
 summary_command = record { stops = refl; faultless = refl; is_whole = λ rest. refl; is_found = λ rest. refl }
 
+dot_command : IsCommand (codes "dot") dot_leaf
+unfolding clap_on_literals
+dot_command = record { stops = refl; faultless = refl; is_whole = λ rest. refl; is_found = λ rest. refl }
+
 -- a command, by what its own words come to
 fits_command : (command : Text) (s : Shape) (rest : List Text) → IsCommand command s → Fits (asked_by (command ∷ rest)) (leaf s rest) (leaf_found s rest) → FitsWords (command ∷ rest)
 fits_command command s rest is fits =
@@ -292,6 +315,7 @@ record IsOther (command : Text) : Type 0 where
   not_diff : bytes_eq (codes "diff") command ≡ false
   not_sweep : bytes_eq (codes "sweep") command ≡ false
   not_summary : bytes_eq (codes "summary") command ≡ false
+  not_dot : bytes_eq (codes "dot") command ≡ false
 
 -- what is found where the first isn't
 abbrev met_or : Text → Bool → Option (Text × List Text) → Option (Text × List Text)
@@ -305,7 +329,7 @@ unfolding clap_on_literals
 names_none command other =
     ap (option_map (λ (s : Text × List Text). s.0))
     (unmet (codes "run") _ _ other.not_run ∙ unmet (codes "check") _ _ other.not_check ∙ unmet (codes "explain") _ _ other.not_explain ∙ unmet (codes "diff") _ _ other.not_diff
-    ∙ unmet (codes "sweep") _ _ other.not_sweep ∙ unmet (codes "summary") _ _ other.not_summary)
+    ∙ unmet (codes "sweep") _ _ other.not_sweep ∙ unmet (codes "summary") _ _ other.not_summary ∙ unmet (codes "dot") _ _ other.not_dot)
 
 stray_refused : (more : Kinds) (end : Walk) → refuses (whole (or_else (step_fault (built program).top 1 nothing_held value) more) end) ≡ true
 unfolding clap_on_literals
@@ -332,6 +356,7 @@ asks_none command rest other =
     ∙ unless (bytes_eq (codes "diff") command) (by_two diff rest) _ other.not_diff
     ∙ unless (bytes_eq (codes "sweep") command) (by_one sweep rest) _ other.not_sweep
     ∙ unless (bytes_eq (codes "summary") command) (by_one summary rest) _ other.not_summary
+    ∙ unless (bytes_eq (codes "dot") command) (by_two dot rest) _ other.not_dot
 
 fits_other : (command : Text) (rest : List Text) → is_plain command ≡ true → IsOther command → FitsWords (command ∷ rest)
 fits_other command rest plain other =
@@ -361,7 +386,8 @@ words_fit (command ∷ rest) h =
     (λ e. is_or_not (codes "diff") command rest (fits_command (codes "diff") diff_leaf rest diff_command (fits_two diff_leaf diff diff_takes rest plain.1))
     (λ d. is_or_not (codes "sweep") command rest (fits_command (codes "sweep") sweep_leaf rest sweep_command (fits_one sweep_leaf sweep sweep_takes rest plain.1))
     (λ s. is_or_not (codes "summary") command rest (fits_command (codes "summary") summary_leaf rest summary_command (fits_one summary_leaf summary summary_takes rest plain.1))
-    (λ m. fits_other command rest plain.0 (record { not_run = r; not_check = c; not_explain = e; not_diff = d; not_sweep = s; not_summary = m })))))))
+    (λ m. is_or_not (codes "dot") command rest (fits_command (codes "dot") dot_leaf rest dot_command (fits_two dot_leaf dot dot_takes rest plain.1))
+    (λ p. fits_other command rest plain.0 (record { not_run = r; not_check = c; not_explain = e; not_diff = d; not_sweep = s; not_summary = m; not_dot = p }))))))))
 
 -- the same of all the words, the program's name first
 pub all_fit : (words : List Text) → list_all is_plain (drop 1 words) ≡ true → Fits (asked_by (drop 1 words)) (fault_of program words) (asked_of (subcommand_of program words))

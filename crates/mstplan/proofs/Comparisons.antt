@@ -7,8 +7,10 @@ use Rattle.mst_tool.specs.Check.{Checks, ChecksFront, ChecksEnded, ComparesEnded
 use Rattle.mst_tool.specs.Diff.{Diffs, DiffsFront, DiffsEnded, DiffsScripts, LoadsNewEnded, both_texts}
 use Rattle.mst_tool.specs.Load.{LoadsEnded}
 use Rattle.mst_tool.specs.Run.{PrintsEnded}
-use Rattle.mst_tool.specs.Script.{old_word}
+use Rattle.mst_tool.specs.Shape.{of_old}
 use Rattle.mst_tool.specs.Steps.{texts_of}
+use Rattle.mst_tool.specs.declared.form.Form.{Form}
+use Rattle.mst_tool.specs.declared.form.Form.TheVariants.{Text}
 use Rattle.mst_tool.specs.declared.runs.Outcome.{Outcome}
 use Rattle.mst_tool.specs.declared.runs.RunFault.{RunFault}
 use Rattle.mst_tool.specs.declared.runs.RunFault.TheVariants.{Read, Write, Memory}
@@ -68,7 +70,7 @@ module _ (scripts captures : Option (List ℕ)) where
         printed = record { front = text; rest = []; whole = sym (append-nil text); written = h.printed };
       }
 
-  prints_ended_kept : (left a b c : Option (List ℕ)) → PrintsEnded scripts left a b → Keeps b c → PrintsEnded scripts left a c
+  prints_ended_kept : (left a b c : Option (List ℕ)) → PrintsEnded Text scripts left a b → Keeps b c → PrintsEnded Text scripts left a c
   prints_ended_kept left a b c h k = record { read = h.read; steps = h.steps; consumed = h.consumed; runs = h.runs; printed = Appends-kept a b c (texts_of h.steps) h.printed k }
 
   compares_ended_kept : (left a b c : Option (List ℕ)) → ComparesEnded scripts captures left a b → Keeps b c → ComparesEnded scripts captures left a c
@@ -93,8 +95,8 @@ module _ (scripts captures : Option (List ℕ)) where
 
 -- ---- networks
 
-module _ (olds news : Option (List ℕ)) where
-  diffs_kept : (a b c : Option (List ℕ)) (outcome : Outcome) → Diffs olds news a b outcome → Keeps b c → Diffs olds news a c outcome
+module _ (form : Form) (olds news : Option (List ℕ)) where
+  diffs_kept : (a b c : Option (List ℕ)) (outcome : Outcome) → Diffs form olds news a b outcome → Keeps b c → Diffs form olds news a c outcome
   diffs_kept a b c outcome h k = record {
     both = h.both;
     counts = h.counts;
@@ -109,18 +111,18 @@ module _ (olds news : Option (List ℕ)) where
     only_difference = h.only_difference;
   }
 
-  diffs_front_kept : (a b c : Option (List ℕ)) → DiffsFront olds news a b → Keeps b c → DiffsFront olds news a c
+  diffs_front_kept : (a b c : Option (List ℕ)) → DiffsFront form olds news a b → Keeps b c → DiffsFront form olds news a c
   diffs_front_kept a b c h k = record { both = h.both; counts = h.counts; text = h.text; differs = h.differs; printed = front_kept a b c (both_texts h.both ++ h.text) h.printed k }
 
-  diffs_front : (a b : Option (List ℕ)) (outcome : Outcome) → Diffs olds news a b outcome → DiffsFront olds news a b
+  diffs_front : (a b : Option (List ℕ)) (outcome : Outcome) → Diffs form olds news a b outcome → DiffsFront form olds news a b
   diffs_front a b outcome h =
       let text = both_texts h.both ++ h.text in
       record { both = h.both; counts = h.counts; text = h.text; differs = h.differs; printed = record { front = text; rest = []; whole = sym (append-nil text); written = h.printed } }
 
-  loads_ended_kept : (left a b c : Option (List ℕ)) → LoadsEnded old_word olds left a b → Keeps b c → LoadsEnded old_word olds left a c
+  loads_ended_kept : (left a b c : Option (List ℕ)) → LoadsEnded (of_old form) olds left a b → Keeps b c → LoadsEnded (of_old form) olds left a c
   loads_ended_kept left a b c h k = record { read = h.read; steps = h.steps; consumed = h.consumed; loads = h.loads; printed = Appends-kept a b c (texts_of h.steps) h.printed k }
 
-  loads_new_ended_kept : (left a b c : Option (List ℕ)) → LoadsNewEnded olds news left a b → Keeps b c → LoadsNewEnded olds news left a c
+  loads_new_ended_kept : (left a b c : Option (List ℕ)) → LoadsNewEnded form olds news left a b → Keeps b c → LoadsNewEnded form olds news left a c
   loads_new_ended_kept left a b c h k = record {
     old = h.old;
     read = h.read;
@@ -133,39 +135,39 @@ module _ (olds news : Option (List ℕ)) where
     printed = Appends-kept a b c (texts_of h.old_steps ++ texts_of h.new_steps) h.printed k;
   }
 
-  diffs_ended_kept : (left other_left a b c : Option (List ℕ)) → DiffsEnded olds left news other_left a b → Keeps b c → DiffsEnded olds left news other_left a c
+  diffs_ended_kept : (left other_left a b c : Option (List ℕ)) → DiffsEnded form olds left news other_left a b → Keeps b c → DiffsEnded form olds left news other_left a c
   diffs_ended_kept left other_left a b c (inl h) k = inl (loads_ended_kept left a b c h k)
   diffs_ended_kept left other_left a b c (inr h) k = inr (loads_new_ended_kept other_left a b c h k)
 
-  diffs_scripts_kept : (a b c : Option (List ℕ)) → DiffsScripts olds news a b → Keeps b c → DiffsScripts olds news a c
+  diffs_scripts_kept : (a b c : Option (List ℕ)) → DiffsScripts form olds news a b → Keeps b c → DiffsScripts form olds news a c
   diffs_scripts_kept a b c h k = record { both = h.both; printed = Appends-kept a b c (both_texts h.both) h.printed k }
 
 -- the same of the bytes of another writer, which are equal
-pub diffs_scripts_same : (olds news a b c d : Option (List ℕ)) → a ≡ c → b ≡ d → DiffsScripts olds news a b → DiffsScripts olds news c d
-diffs_scripts_same olds news a b c d x y h = subst (λ now. DiffsScripts olds news c now) y (subst (λ written. DiffsScripts olds news written b) x h)
+pub diffs_scripts_same : (form : Form) (olds news a b c d : Option (List ℕ)) → a ≡ c → b ≡ d → DiffsScripts form olds news a b → DiffsScripts form olds news c d
+diffs_scripts_same form olds news a b c d x y h = subst (λ now. DiffsScripts form olds news c now) y (subst (λ written. DiffsScripts form olds news written b) x h)
 
 -- ---- either
 
 module _ (first second : Option (List ℕ)) where
   compared_kept : (how : Comparison) (a b c : Option (List ℕ)) (outcome : Outcome) → Compared how first second a b outcome → Keeps b c → Compared how first second a c outcome
   compared_kept Captures a b c outcome h k = checks_kept first second a b c outcome h k
-  compared_kept Networks a b c outcome h k = diffs_kept first second a b c outcome h k
+  compared_kept (Networks form) a b c outcome h k = diffs_kept form first second a b c outcome h k
 
   compared_front_kept : (how : Comparison) (a b c : Option (List ℕ)) → ComparedFront how first second a b → Keeps b c → ComparedFront how first second a c
   compared_front_kept Captures a b c h k = checks_front_kept first second a b c h k
-  compared_front_kept Networks a b c h k = diffs_front_kept first second a b c h k
+  compared_front_kept (Networks form) a b c h k = diffs_front_kept form first second a b c h k
 
   compared_front : (how : Comparison) (a b : Option (List ℕ)) (outcome : Outcome) → Compared how first second a b outcome → ComparedFront how first second a b
   compared_front Captures a b outcome h = checks_front first second a b outcome h
-  compared_front Networks a b outcome h = diffs_front first second a b outcome h
+  compared_front (Networks form) a b outcome h = diffs_front form first second a b outcome h
 
   compared_ended_kept : (how : Comparison) (left other_left a b c : Option (List ℕ)) → ComparedEnded how first left second other_left a b → Keeps b c → ComparedEnded how first left second other_left a c
   compared_ended_kept Captures left other_left a b c h k = checks_ended_kept first second left other_left a b c h k
-  compared_ended_kept Networks left other_left a b c h k = diffs_ended_kept first second left other_left a b c h k
+  compared_ended_kept (Networks form) left other_left a b c h k = diffs_ended_kept form first second left other_left a b c h k
 
   compared_scripts_kept : (how : Comparison) (a b c : Option (List ℕ)) → ComparedScripts how first second a b → Keeps b c → ComparedScripts how first second a c
   compared_scripts_kept Captures a b c h k = checks_script_kept first second a b c h k
-  compared_scripts_kept Networks a b c h k = diffs_scripts_kept first second a b c h k
+  compared_scripts_kept (Networks form) a b c h k = diffs_scripts_kept form first second a b c h k
 
 module _ (how : Comparison) (first second : Option (List ℕ)) where
   -- what a comparison says of the buffer's bytes

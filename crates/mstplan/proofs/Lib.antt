@@ -6,3 +6,4 @@ pub mod Kept
 pub mod Leaves
 pub mod Names
 pub mod PlainWords
+pub mod Flagged

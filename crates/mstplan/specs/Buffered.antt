@@ -5,8 +5,9 @@ use Rattle.mst_tool.specs.Ask.{Asks, AsksFront}
 use Rattle.mst_tool.specs.Devices.{Told, IsCut, IsRead}
 use Rattle.mst_tool.specs.Load.{LoadsEnded, LoadsScript}
 use Rattle.mst_tool.specs.Run.{Prints, PrintsFront, PrintsEnded}
-use Rattle.mst_tool.specs.Script.{line_word}
+use Rattle.mst_tool.specs.Shape.{of_script}
 use Rattle.mst_tool.specs.declared.asked.Question.{Question}
+use Rattle.mst_tool.specs.declared.form.Form.{Form}
 use Rattle.mst_tool.specs.declared.runs.Outcome.{Outcome}
 use Rattle.mst_tool.specs.declared.runs.RunFault.{RunFault}
 use Rattle.mst_tool.specs.declared.runs.RunFault.TheVariants.{Read, Write, Memory}
@@ -14,19 +15,19 @@ use Rattle.mst_tool.specs.declared.runs.RunFault.TheVariants.{Read, Write, Memor
 -- ---- a run
 
 -- what the writer has, with some bytes that never came to it, is a front of what the script prints
-abbrev pub FallsShort : Option (List ℕ) → Option (List ℕ) → Option (List ℕ) → Type 0
-FallsShort reads written now = (missing : List ℕ) × PrintsFront reads written (append_known now missing)
+abbrev pub FallsShort : Form → Option (List ℕ) → Option (List ℕ) → Option (List ℕ) → Type 0
+FallsShort form reads written now = (missing : List ℕ) × PrintsFront form reads written (append_known now missing)
 
 -- the complete lines of what was read were served, and the whole of what they print has come to the writer
-abbrev pub PrintsRead : Option (List ℕ) → Option (List ℕ) → Option (List ℕ) → Type 0
-PrintsRead reads written now = (left : Option (List ℕ)) × PrintsEnded reads left written now
+abbrev pub PrintsRead : Form → Option (List ℕ) → Option (List ℕ) → Option (List ℕ) → Type 0
+PrintsRead form reads written now = (left : Option (List ℕ)) × PrintsEnded form reads left written now
 
 -- How a run ends, and what has come to the writer then. It doesn't end for want of memory
-abbrev pub Ends : Option (List ℕ) → Option (List ℕ) → Option (List ℕ) → Result Outcome RunFault → Type 0
-Ends reads written now (Ok outcome) = Prints reads written now outcome
-Ends reads written now (Err Read) = PrintsRead reads written now
-Ends reads written now (Err Write) = FallsShort reads written now
-Ends reads written now (Err Memory) = ⊥
+abbrev pub Ends : Form → Option (List ℕ) → Option (List ℕ) → Option (List ℕ) → Result Outcome RunFault → Type 0
+Ends form reads written now (Ok outcome) = Prints form reads written now outcome
+Ends form reads written now (Err Read) = PrintsRead form reads written now
+Ends form reads written now (Err Write) = FallsShort form reads written now
+Ends form reads written now (Err Memory) = ⊥
 
 -- How a source stands where a run ends: one that was read to its end, or has failed, or gave no end in 2^32 calls. A fault of
 -- the writer may come before any of these
@@ -39,21 +40,21 @@ ReadBy (Err Memory) old new = ⊥
 -- ---- what is asked of a script's network
 
 -- what the writer has, with some bytes that never came to it, is a front of what the script's lines and the answer print
-abbrev pub FallsShortOfAnswer : Question → Option (List ℕ) → Option (List ℕ) → Option (List ℕ) → Type 0
-FallsShortOfAnswer question reads written now = (missing : List ℕ) × AsksFront question reads written (append_known now missing)
+abbrev pub FallsShortOfAnswer : Form → Question → Option (List ℕ) → Option (List ℕ) → Option (List ℕ) → Type 0
+FallsShortOfAnswer form question reads written now = (missing : List ℕ) × AsksFront form question reads written (append_known now missing)
 
 -- the complete lines of what was read were served, the whole of what they print has come to the writer, and nothing was
 -- answered
-abbrev pub LoadsRead : Option (List ℕ) → Option (List ℕ) → Option (List ℕ) → Type 0
-LoadsRead reads written now = (left : Option (List ℕ)) × LoadsEnded line_word reads left written now
+abbrev pub LoadsRead : Form → Option (List ℕ) → Option (List ℕ) → Option (List ℕ) → Type 0
+LoadsRead form reads written now = (left : Option (List ℕ)) × LoadsEnded (of_script form) reads left written now
 
 -- How asking ends, and what has come to the writer then: where there is no memory for the answer, all that the script's lines
 -- print
-abbrev pub EndsAsk : Question → Option (List ℕ) → Option (List ℕ) → Option (List ℕ) → Result Outcome RunFault → Type 0
-EndsAsk question reads written now (Ok outcome) = Asks question reads written now outcome
-EndsAsk question reads written now (Err Read) = LoadsRead reads written now
-EndsAsk question reads written now (Err Write) = FallsShortOfAnswer question reads written now
-EndsAsk question reads written now (Err Memory) = LoadsScript line_word reads written now
+abbrev pub EndsAsk : Form → Question → Option (List ℕ) → Option (List ℕ) → Option (List ℕ) → Result Outcome RunFault → Type 0
+EndsAsk form question reads written now (Ok outcome) = Asks form question reads written now outcome
+EndsAsk form question reads written now (Err Read) = LoadsRead form reads written now
+EndsAsk form question reads written now (Err Write) = FallsShortOfAnswer form question reads written now
+EndsAsk form question reads written now (Err Memory) = LoadsScript (of_script form) reads written now
 
 -- How a source stands where asking ends
 abbrev pub AskedBy : Result Outcome RunFault → Told → Told → Type 0

@@ -1,5 +1,7 @@
 pub mod Endings
 pub mod Words
+pub mod Flags
+pub mod Hinted
 pub mod Buffered
 pub mod Compared
 pub mod Named

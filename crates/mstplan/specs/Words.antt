@@ -9,12 +9,13 @@ use Rattle.mstplan.specs.declared.endings.Stop.{Stop}
 use Rattle.mstplan.specs.declared.endings.Stop.TheVariants.{Told, Fault}
 use Rattle.mstplan.specs.declared.words.Asked.{Asked}
 use Rattle.mstplan.specs.declared.words.PortWords.{PortWords}
-use Rattle.mstplan.specs.declared.words.Asked.TheVariants.{Run, Check, Explain, Diff, Sweep, Summary}
+use Rattle.mstplan.specs.declared.words.Asked.TheVariants.{Run, Check, Explain, Diff, Sweep, Summary, Dot}
 
 -- what words ask for: to run the script of this name; to compare the captures of the second name with the plan of the
 -- script of the first; to explain, in the network that the script leaves, the role of a port, which these words name:
 -- its bridge, its number and, if there is one, a tree; to tell how the network of the first script differs from that of
--- the second; to tell what each single failure does to the network of the script; or to summarize it
+-- the second; to tell what each single failure does to the network of the script; to summarize it; or to draw it with the
+-- tree that the second word names
 pub data Request : Type 0 where
   run : List ℕ → Request
   check : List ℕ → List ℕ → Request
@@ -22,6 +23,7 @@ pub data Request : Type 0 where
   diff : List ℕ → List ℕ → Request
   sweep : List ℕ → Request
   summary : List ℕ → Request
+  dot : List ℕ → List ℕ → Request
 
 -- the word that names a tree, if there is one
 abbrev pub tree_word : PortWords → Option (List ℕ)
@@ -34,6 +36,7 @@ words_of (Explain script port) = explain script.now port.bridge.now port.number.
 words_of (Diff old new) = diff old.now new.now
 words_of (Sweep script) = sweep script.now
 words_of (Summary script) = summary script.now
+words_of (Dot script tree) = dot script.now tree.now
 
 -- the value that was found for a word that has to be there. There is one
 abbrev pub value_of : List ℕ → List Row → List ℕ
@@ -47,6 +50,7 @@ request_of command rows =
     else if bytes_eq command (codes "diff") then diff (value_of (codes "OLD") rows) (value_of (codes "NEW") rows)
     else if bytes_eq command (codes "sweep") then sweep (value_of (codes "FILE") rows)
     else if bytes_eq command (codes "summary") then summary (value_of (codes "FILE") rows)
+    else if bytes_eq command (codes "dot") then dot (value_of (codes "FILE") rows) (value_of (codes "TREE") rows)
     else run (value_of (codes "FILE") rows)
 
 -- what the name of a command, if there is one, and what was found for it ask for. Without a command the script is `-`
@@ -84,7 +88,8 @@ by_port (script ∷ bridge ∷ port ∷ tree ∷ []) = Some (explain script brid
 by_port words = None
 
 -- What words ask for that aren't options, behind the program's name: none for the script on standard input, `run FILE` for
--- that of a file, `check FILE CAPTURES`, `explain FILE B P`, with or without TREE, `diff OLD NEW`, `sweep FILE` and `summary FILE`.
+-- that of a file, `check FILE CAPTURES`, `explain FILE B P`, with or without TREE, `diff OLD NEW`, `sweep FILE`, `summary FILE` and `dot
+-- FILE TREE`.
 -- What is asked for are the words themselves. Any other words ask for nothing
 abbrev pub asked_by : List (List ℕ) → Option Request
 asked_by [] = Some (run (codes "-"))
@@ -95,6 +100,7 @@ asked_by (command ∷ words) =
     else if bytes_eq (codes "diff") command then by_two diff words
     else if bytes_eq (codes "sweep") command then by_one sweep words
     else if bytes_eq (codes "summary") command then by_one summary words
+    else if bytes_eq (codes "dot") command then by_two dot words
     else None
 
 -- words that ask the program for its help alone, and for its version
@@ -140,9 +146,13 @@ sweep_app = with_rule (new_app (codes "sweep")) (wanted_rule (codes "FILE"))
 abbrev pub summary_app : App
 summary_app = with_rule (new_app (codes "summary")) (wanted_rule (codes "FILE"))
 
+abbrev pub dot_app : App
+dot_app = with_rule (with_rule (new_app (codes "dot")) (wanted_rule (codes "FILE"))) (wanted_rule (codes "TREE"))
+
 -- the program with no command, which has a version, and no command that prints help
 abbrev pub no_command : App
 no_command = record { top = record ((new_app (codes "mstplan")).top) { has_version = true; disable_help_subcommand = true }; subs = [] }
 
 abbrev pub program : App
-program = with_subcommand (with_subcommand (with_subcommand (with_subcommand (with_subcommand (with_subcommand no_command run_app.top) check_app.top) explain_app.top) diff_app.top) sweep_app.top) summary_app.top
+program =
+    with_subcommand (with_subcommand (with_subcommand (with_subcommand (with_subcommand (with_subcommand (with_subcommand no_command run_app.top) check_app.top) explain_app.top) diff_app.top) sweep_app.top) summary_app.top) dot_app.top

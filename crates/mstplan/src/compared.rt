@@ -5,7 +5,9 @@ ghost use Rattle.mst_tool.specs.Diff.{Diffs, DiffsFront, DiffsEnded, DiffsScript
 ghost use Rattle.mstplan.specs.Compared.{Compared, ComparedFront, ComparedEnded, ComparedScripts, EndsComparison, ComparedBy};
 
 use crate::buffered::{Ran, is_write_fault};
-use mst_tool::{FromRead, Outcome, RunFault, Source, TURNS, ToWrite, check_within, diff_within};
+use mst_tool::{
+    Form, FromRead, Outcome, RunFault, Source, TURNS, ToWrite, check_within, diff_within,
+};
 use std::alloc::Global;
 use std::io::{BufWriter, Read, Write};
 
@@ -14,8 +16,8 @@ use std::io::{BufWriter, Read, Write};
 pub(crate) enum Comparison {
     /// The captures that the second has, with the plan of the script that is the first.
     Captures,
-    /// The network of the second, a script too, with that of the first.
-    Networks,
+    /// The network of the second, a script too, with that of the first, in this form.
+    Networks(Form),
 }
 
 /// Checks the captures that a source gives against the plan of the script that another gives, as `check` does those of
@@ -42,20 +44,21 @@ fn check_to<S: Source, C: Source, W: Write>(
 /// stand.
 fn diff_to<O: Source, N: Source, W: Write>(
     alloc: Global,
+    form: Form,
     old: &mut O,
     new: &mut N,
     writer: &mut W,
 ) -> Result<Outcome, RunFault>
     requires old { (O.told old.old).failed ≡ false }
     requires new { (N.told new.old).failed ≡ false }
-    ensures ok { IfOk result (Diffs (O.remaining old.old) (N.remaining new.old) (W.contents writer.old) (W.contents writer.new)) }
-    ensures fault { OnErr result (DiffsFront (O.remaining old.old) (N.remaining new.old) (W.contents writer.old) (W.contents writer.new)) }
-    ensures read { result ≡ Err RunFault.Read → DiffsEnded (O.remaining old.old) (O.remaining old.new) (N.remaining new.old) (N.remaining new.new) (W.contents writer.old) (W.contents writer.new) }
-    ensures memory { result ≡ Err RunFault.Memory → DiffsScripts (O.remaining old.old) (N.remaining new.old) (W.contents writer.old) (W.contents writer.new) }
+    ensures ok { IfOk result (Diffs form (O.remaining old.old) (N.remaining new.old) (W.contents writer.old) (W.contents writer.new)) }
+    ensures fault { OnErr result (DiffsFront form (O.remaining old.old) (N.remaining new.old) (W.contents writer.old) (W.contents writer.new)) }
+    ensures read { result ≡ Err RunFault.Read → DiffsEnded form (O.remaining old.old) (O.remaining old.new) (N.remaining new.old) (N.remaining new.new) (W.contents writer.old) (W.contents writer.new) }
+    ensures memory { result ≡ Err RunFault.Memory → DiffsScripts form (O.remaining old.old) (N.remaining new.old) (W.contents writer.old) (W.contents writer.new) }
     ensures sources { ComparedBy result (O.told old.old) (O.told old.new) (N.told new.old) (N.told new.new) }
 {
     let mut sink = ToWrite::new(writer);
-    diff_within(alloc, old, new, &mut sink, TURNS)
+    diff_within(alloc, form, old, new, &mut sink, TURNS)
 }
 
 /// Compares what two sources give, and tells how they stand.
@@ -76,7 +79,7 @@ fn compare_to<F: Source, S: Source, W: Write>(
 {
     match comparison {
         Comparison::Captures => check_to(alloc, first, second, writer),
-        Comparison::Networks => diff_to(alloc, first, second, writer),
+        Comparison::Networks(form) => diff_to(alloc, form, first, second, writer),
     }
 }
 

@@ -1,12 +1,14 @@
 //! Plans Ethernet networks with rapid and multiple spanning trees: runs a script from a file or from
 //! standard input, compares captured messages with its plan, tells why a port has its role, how
-//! the networks of two scripts differ, and what each single failure does, and summarizes a network.
+//! the networks of two scripts differ, and what each single failure does, summarizes a network and draws it.
 #![tactic(auto)]
 
 mod buffered;
 mod closed;
 mod compared;
 mod endings;
+mod flags;
+mod hinting;
 mod invites;
 mod named;
 mod page;
@@ -15,6 +17,8 @@ mod sources;
 mod words;
 
 use closed::StandIns;
+use flags::{Flags, Parted};
+use hinting::hint;
 use invites::invite;
 use program::carry_out;
 use std::io::{self, IsTerminal};
@@ -23,16 +27,25 @@ use words::{asked_for, given_words};
 
 fn main(rt: HostRuntime) -> ExitCode {
     let _stand_ins = StandIns::new(&rt);
-    let words = given_words(&rt);
-    let asked = match &words {
-        Ok(words) => {
+    let parted = given_words(&rt).map(Parted::of);
+    let (flags, asked) = match &parted {
+        Ok(parted) => {
+            let words = parted.words.as_slice();
             // without that line, too, the script is read
-            let _ = invite(&mut rt.stderr(), words.as_slice(), rt.stdin().is_terminal());
-            asked_for(&rt, words.as_slice())
+            let _ = invite(&mut rt.stderr(), words, rt.stdin().is_terminal());
+            (parted.flags, asked_for(&rt, parted.flags, words))
         }
-        Err(stop) => Err(*stop),
+        Err(stop) => (Flags::none(), Err(*stop)),
     };
-    let ended = carry_out(rt.alloc(), &rt, asked, io::writer(&rt), &mut rt.stderr());
+    let ended = carry_out(
+        rt.alloc(),
+        &rt,
+        flags.form(),
+        asked,
+        io::writer(&rt),
+        &mut rt.stderr(),
+    );
+    hint(rt.alloc(), &rt, flags, &asked, &mut rt.stderr());
     ExitCode::from(ended.status)
 }
 

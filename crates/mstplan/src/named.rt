@@ -7,7 +7,7 @@ use crate::buffered::{Ran, ask_buffered, run_buffered};
 use crate::compared::{Comparison, compare_buffered};
 use crate::endings::Stop;
 use crate::sources::{Sources, Unopened};
-use mst_tool::{Question, RunFault};
+use mst_tool::{Form, Question, RunFault};
 use std::alloc::Global;
 use std::io::{Read, Write};
 
@@ -15,17 +15,18 @@ use std::io::{Read, Write};
 pub(crate) fn run_named<'a, S: Sources, W: Write + Drop>(
     alloc: Global,
     sources: &S,
+    form: Form,
     name: &'a str,
     writer: W,
 ) -> Result<Ran<W>, Stop<'a>>
-    ensures ran { IfOk result (λ ran. (script : Option (List ℕ)) × IsNamed (S.is_given sources.now) (S.is_file sources.now) name.entry.now script × Ends script (W.contents writer) (W.contents ran.writer) ran.ended) }
+    ensures ran { IfOk result (λ ran. (script : Option (List ℕ)) × IsNamed (S.is_given sources.now) (S.is_file sources.now) name.entry.now script × Ends form script (W.contents writer) (W.contents ran.writer) ran.ended) }
     ensures stopped { IfErr result (IsWhyNot (S.is_unopened sources.now) name.entry) }
 {
     let ran = if name == "-" {
-        run_buffered(alloc, sources.given(), writer)
+        run_buffered(alloc, form, sources.given(), writer)
     } else {
         match sources.open(name) {
-            Ok(file) => run_buffered(alloc, file, writer),
+            Ok(file) => run_buffered(alloc, form, file, writer),
             Err(Unopened) => return Err(Stop::Unopened(name)),
         }
     };
@@ -39,18 +40,19 @@ pub(crate) fn run_named<'a, S: Sources, W: Write + Drop>(
 pub(crate) fn ask_named<'a, S: Sources, W: Write + Drop>(
     alloc: Global,
     sources: &S,
+    form: Form,
     question: &Question,
     name: &'a str,
     writer: W,
 ) -> Result<Ran<W>, Stop<'a>>
-    ensures ran { IfOk result (λ ran. (script : Option (List ℕ)) × IsNamed (S.is_given sources.now) (S.is_file sources.now) name.entry.now script × EndsAsk question.now script (W.contents writer) (W.contents ran.writer) ran.ended) }
+    ensures ran { IfOk result (λ ran. (script : Option (List ℕ)) × IsNamed (S.is_given sources.now) (S.is_file sources.now) name.entry.now script × EndsAsk form question.now script (W.contents writer) (W.contents ran.writer) ran.ended) }
     ensures stopped { IfErr result (IsWhyNot (S.is_unopened sources.now) name.entry) }
 {
     let ran = if name == "-" {
-        ask_buffered(alloc, question, sources.given(), writer)
+        ask_buffered(alloc, form, question, sources.given(), writer)
     } else {
         match sources.open(name) {
-            Ok(file) => ask_buffered(alloc, question, file, writer),
+            Ok(file) => ask_buffered(alloc, form, question, file, writer),
             Err(Unopened) => return Err(Stop::Unopened(name)),
         }
     };

@@ -1,5 +1,5 @@
 /// The number of this release, which `--version` prints behind the program's name.
-pub(crate) const VERSION: &str = "0.44.0";
+pub(crate) const VERSION: &str = "0.46.0";
 
 /// What stands at the end of the program's help: the commands of scripts, the exit statuses, and where all of it is said.
 pub(crate) const PAGE: &str = "\
@@ -41,6 +41,10 @@ Commands of a script, one a line (a line that begins with # is a comment):
 
 TREE is 0 for the CIST, VIDS are like 10,20-29. Behind a first line 'mstplan 2' priorities aren't steps but the numbers
 themselves.
+
+Flags, anywhere among the words:
+  --json    what is printed is JSON, a line for each answer (run, explain, diff, sweep, summary)
+  --hints   standard error has what would be right in each line that is refused (run, check)
 
 Exit statuses:
   0  nothing of the below

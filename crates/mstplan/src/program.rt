@@ -7,7 +7,7 @@ use crate::endings::{Stop, ending_of, tell};
 use crate::named::{ask_named, compare_named, run_named};
 use crate::sources::Sources;
 use crate::words::{Asked, PortWords};
-use mst_tool::Question;
+use mst_tool::{Form, Question};
 use std::alloc::Global;
 use std::io::Write;
 
@@ -26,14 +26,15 @@ pub(crate) struct Ended<W: Drop> {
 fn serve<'a, S: Sources, W: Write + Drop>(
     alloc: Global,
     sources: &S,
+    form: Form,
     asked: Asked<'a>,
     output: W,
 ) -> Result<Ran<W>, Stop<'a>>
-    ensures ran { IfOk result (λ ran. Serves (S.is_given sources.now) (S.is_file sources.now) asked.entry (W.contents output) (W.contents ran.writer) ran.ended) }
+    ensures ran { IfOk result (λ ran. Serves (S.is_given sources.now) (S.is_file sources.now) form asked.entry (W.contents output) (W.contents ran.writer) ran.ended) }
     ensures stopped { IfErr result (IsWhyUnserved (S.is_unopened sources.now) asked.entry) }
 {
     match asked {
-        Asked::Run { script } => run_named(alloc, sources, script, output),
+        Asked::Run { script } => run_named(alloc, sources, form, script, output),
         Asked::Check { script, captures } => compare_named(
             alloc,
             sources,
@@ -43,14 +44,25 @@ fn serve<'a, S: Sources, W: Write + Drop>(
             output,
         ),
         Asked::Explain { script, port } => {
-            ask_named(alloc, sources, &question_of(port), script, output)
+            ask_named(alloc, sources, form, &question_of(port), script, output)
         }
         Asked::Diff { old, new } => {
-            compare_named(alloc, sources, Comparison::Networks, old, new, output)
+            compare_named(alloc, sources, Comparison::Networks(form), old, new, output)
         }
-        Asked::Sweep { script } => ask_named(alloc, sources, &Question::Sweep, script, output),
+        Asked::Sweep { script } => ask_named(
+            alloc,
+            sources,
+            form,
+            &Question::Sweep,
+            script,
+            output,
+        ),
         Asked::Summary { script } => {
-            ask_named(alloc, sources, &Question::Summary, script, output)
+            ask_named(alloc, sources, form, &Question::Summary, script, output)
+        }
+        Asked::Dot { script, tree } => {
+            let question = Question::picture(tree.as_bytes());
+            ask_named(alloc, sources, form, &question, script, output)
         }
     }
 }
@@ -81,15 +93,16 @@ fn bytes_of<'a>(word: Option<&'a str>) -> Option<&'a [u8]>
 pub(crate) fn carry_out<'a, S: Sources, W: Write + Drop, E: Write>(
     alloc: Global,
     sources: &S,
+    form: Form,
     asked: Result<Asked<'a>, Stop<'a>>,
     output: W,
     errors: &mut E,
 ) -> Ended<W>
-    ensures ran { IfSome result.output (λ now. IsAfterRun (S.is_given sources.now) (S.is_file sources.now) asked.entry (W.contents output) (W.contents now) (E.contents errors.old) (E.contents errors.new) result.is_told result.status) }
+    ensures ran { IfSome result.output (λ now. IsAfterRun (S.is_given sources.now) (S.is_file sources.now) form asked.entry (W.contents output) (W.contents now) (E.contents errors.old) (E.contents errors.new) result.is_told result.status) }
     ensures stopped { result.output ≡ None → IsAfterStop (S.is_unopened sources.now) asked.entry (E.contents errors.old) (E.contents errors.new) result.is_told result.status }
 {
     let served = match asked {
-        Ok(asked) => serve(alloc, sources, asked, output),
+        Ok(asked) => serve(alloc, sources, form, asked, output),
         Err(stop) => Err(stop),
     };
     let ending = ending_of(&served);

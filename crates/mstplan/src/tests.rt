@@ -1,6 +1,6 @@
 use crate::buffered::{ask_buffered, run_buffered};
 use crate::compared::{Comparison, compare_buffered};
-use mst_tool::{Outcome, Question, RunFault};
+use mst_tool::{Form, Outcome, Question, RunFault};
 use std::io::{Error, ErrorKind, Read, Result, Write};
 
 /// Takes this many bytes, then fails once, and counts the calls after it.
@@ -51,7 +51,12 @@ impl Read for Cut {
 
 #[test]
 fn what_was_served_before_a_read_fault_is_written(rt: HostRuntime) -> Result<()> {
-    let Some(ran) = run_buffered(rt.alloc(), Cut { is_given: false }, Vec::new(rt.alloc())) else {
+    let Some(ran) = run_buffered(
+        rt.alloc(),
+        Form::Text,
+        Cut { is_given: false },
+        Vec::new(rt.alloc()),
+    ) else {
         return Err(Error::from(ErrorKind::OutOfMemory));
     };
     assert_eq!(rt; ran.ended, Err(RunFault::Read));
@@ -71,7 +76,7 @@ fn no_device_is_called_after_a_write_fault(rt: HostRuntime) -> Result<()> {
         has_failed: false,
         called_again: 0,
     };
-    let Some(ran) = run_buffered(rt.alloc(), script.as_slice(), full) else {
+    let Some(ran) = run_buffered(rt.alloc(), Form::Text, script.as_slice(), full) else {
         return Err(Error::from(ErrorKind::OutOfMemory));
     };
     assert_eq!(rt; ran.ended, Err(RunFault::Write));
@@ -83,7 +88,7 @@ fn no_device_is_called_after_a_write_fault(rt: HostRuntime) -> Result<()> {
 #[test]
 fn a_run_to_the_end_is_written(rt: HostRuntime) -> Result<()> {
     let script: &[u8] = b"no\nshowtree 0\n";
-    let Some(ran) = run_buffered(rt.alloc(), script, Vec::new(rt.alloc())) else {
+    let Some(ran) = run_buffered(rt.alloc(), Form::Text, script, Vec::new(rt.alloc())) else {
         return Err(Error::from(ErrorKind::OutOfMemory));
     };
     let counted = Outcome {
@@ -127,7 +132,13 @@ fn an_explanation_to_the_end_is_written(rt: HostRuntime) -> Result<()> {
     let script: &[u8] =
         b"no\naddbridge A 02:00:00:00:00:01\naddport A 1\naddlan x\nplug A 1 x\nshowtree 0\n";
     let question = Question::explain(b"A", b"1", None);
-    let Some(ran) = ask_buffered(rt.alloc(), &question, script, Vec::new(rt.alloc())) else {
+    let Some(ran) = ask_buffered(
+        rt.alloc(),
+        Form::Text,
+        &question,
+        script,
+        Vec::new(rt.alloc()),
+    ) else {
         return Err(Error::from(ErrorKind::OutOfMemory));
     };
     let counted = Outcome {
@@ -152,7 +163,7 @@ fn how_networks_differ_is_written(rt: HostRuntime) -> Result<()> {
     new.write_all(b"no\nsettreeprio B 0 4\n")?;
     let compared = compare_buffered(
         rt.alloc(),
-        Comparison::Networks,
+        Comparison::Networks(Form::Text),
         old,
         new.as_slice(),
         Vec::new(rt.alloc()),

@@ -1,8 +1,10 @@
 ghost use Rattle.std.specs.Prelude.{◌≡◌, ◌≢◌, ◌⊎◌, true, false, Some, codes, option_map, IfOk, IfErr, IsErrAnd};
 ghost use Rattle.clap.specs.Words.{app_of, first_of, found_of, kind_of, rows_of, rule_of, subcommand_rows_of};
+ghost use Rattle.mstplan.specs.Flags.{asked_with};
 ghost use Rattle.mstplan.specs.Words.{words_of, tree_word, value_of, asked_of, request_of, asked_by, are_plain, behind_name, is_help, is_version, IsAnswer, IsRefusal, wanted_rule, program};
 
 use crate::endings::Stop;
+use crate::flags::Flags;
 use crate::page::{PAGE, VERSION};
 use clap::error::ErrorKind;
 use clap::{Arg, ArgMatches, Command, Error};
@@ -41,6 +43,11 @@ pub(crate) enum Asked<'a> {
     Summary {
         script: &'a str,
     },
+    /// To draw the network of a script with one of its trees. Nothing has looked at what the word for the tree says.
+    Dot {
+        script: &'a str,
+        tree: &'a str,
+    },
 }
 
 /// The words that name a port, and a tree if it is one that is asked for. Nothing has looked at what they say.
@@ -61,6 +68,8 @@ const BRIDGE: &str = "The name of the port's bridge";
 const PORT: &str = "The port's number";
 
 const TREE: &str = "The tree, 0 to 4094. Without it, each that the bridge has";
+
+const DRAWN: &str = "The tree, 0 to 4094";
 
 const OLD: &str = "The script of the network before, or - for standard input";
 
@@ -89,10 +98,35 @@ pub(crate) fn given_words<R: Env + Eprint + AllocGlobal>(
     }
 }
 
+/// What the words ask for with these flags, of which the first is the program's name. Where none of the others is an option,
+/// an `Err` comes just where they ask for nothing that takes these flags, or for want of memory.
+/// The program's help and its version are told on standard output, and come as an `Err` too.
+pub(crate) fn asked_for<'a, R: Print + Eprint + AllocGlobal>(
+    rt: &R,
+    flags: Flags,
+    words: &'a [String],
+) -> Result<Asked<'a>, Stop<'a>>
+    ensures asked { are_plain (behind_name words.now) ≡ true → IfOk result (λ asked. asked_with flags (behind_name words.now) ≡ Some (words_of asked)) }
+    ensures refused { are_plain (behind_name words.now) ≡ true → IfErr result (IsRefusal (asked_with flags (behind_name words.now))) }
+    ensures help { is_help (behind_name words.now) ≡ true → IsErrAnd result IsAnswer }
+    ensures version { is_version (behind_name words.now) ≡ true → IsErrAnd result IsAnswer }
+{
+    match asked_by_words(rt, words) {
+        Err(stop) => Err(stop),
+        Ok(asked) if flags.are_of(&asked) => Ok(asked),
+        Ok(_) => {
+            let _ = eprintln!(rt;
+                "error: --json is a flag of run, explain, diff, sweep and summary, --hints of run and check with the script in a file"
+            );
+            Err(Stop::Told(2))
+        }
+    }
+}
+
 /// What the words ask for, of which the first is the program's name. Where none of the others is an option, an `Err`
 /// comes just where they ask for nothing, or for want of memory.
 /// The program's help and its version are told on standard output, and come as an `Err` too.
-pub(crate) fn asked_for<'a, R: Print + Eprint + AllocGlobal>(
+fn asked_by_words<'a, R: Print + Eprint + AllocGlobal>(
     rt: &R,
     words: &'a [String],
 ) -> Result<Asked<'a>, Stop<'a>>
@@ -168,6 +202,10 @@ fn command<'a>(alloc: Global) -> Result<Command<'a>, AllocError>
             "Makes the network of a script, and tells its roots, what blocks and what LANs carry",
         )
         .arg(wanted(alloc, "FILE", SCRIPT))?;
+    let dot = Command::new(alloc, "dot")
+        .about("Makes the network of a script, and draws it with one of its trees, for Graphviz")
+        .arg(wanted(alloc, "FILE", SCRIPT))?
+        .arg(wanted(alloc, "TREE", DRAWN))?;
     Command::new(alloc, "mstplan")
         .about(
             "Plans networks of spanning trees. With no command it reads a script on standard input",
@@ -180,7 +218,8 @@ fn command<'a>(alloc: Global) -> Result<Command<'a>, AllocError>
         .subcommand(explain)?
         .subcommand(diff)?
         .subcommand(sweep)?
-        .subcommand(summary)
+        .subcommand(summary)?
+        .subcommand(dot)
 }
 
 /// What the words ask for: to run standard input where there is no command.
@@ -215,6 +254,10 @@ fn asked_of_command<'a>(command: &str, found: &ArgMatches<'a>) -> Asked<'a>
         },
         "summary" => Asked::Summary {
             script: value_in(found, "FILE"),
+        },
+        "dot" => Asked::Dot {
+            script: value_in(found, "FILE"),
+            tree: value_in(found, "TREE"),
         },
         _ => Asked::Run {
             script: value_in(found, "FILE"),

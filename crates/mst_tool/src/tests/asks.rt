@@ -6,7 +6,7 @@ use std::test::Fail;
 
 /// Two bridges on a LAN, each a region of its own, of which one has another LAN for itself, and one that is off. Its query and
 /// its mark do nothing, `changes` isn't refused, and line 10 is.
-const SCRIPT: &[u8] = b"\
+pub(super) const SCRIPT: &[u8] = b"\
     addbridge A 02:00:00:00:00:01\n\
     addbridge B 02:00:00:00:00:02\n\
     addlan X\n\
@@ -124,5 +124,28 @@ fn sweeps_failures(rt: HostRuntime) -> Result<(), Fail> {
             differing: 1,
         })
     );
+    Ok(())
+}
+
+#[test]
+fn draws_networks(rt: HostRuntime) -> Result<(), Fail> {
+    let drawn: &[u8] = b"line 10 E07 name taken\n\
+        graph \"tree 0\" {\n  \
+        graph [label=\"tree 0\", nodesep=0.6, ranksep=0.8];\n  \
+        edge [fontsize=10, labeldistance=1.8];\n  \
+        \"A\" [peripheries=2];\n  \
+        \"B\";\n  \
+        \"C\" [style=dashed, color=gray, fontcolor=gray];\n  \
+        \"A\" -- \"B\" [label=\"X\", taillabel=\"1 D\", headlabel=\"1 R\"];\n  \
+        \"A\" -- \"C\" [label=\"Y\", taillabel=\"2 D\", headlabel=\"1 X\", style=dashed];\n\
+        }\n";
+    let unread: &[u8] = b"line 10 E07 name taken\ndot E03 bad VID or tree\n";
+    let cases: [(&[u8], &[u8], u64); 2] = [(b"00", drawn, 1), (b"4095", unread, 2)];
+    for (word, expected, refused) in cases {
+        let mut written = Vec::new(rt.alloc());
+        let ran = ask(rt.alloc(), &Question::picture(word), SCRIPT, &mut written);
+        assert_eq!(rt; written.as_slice(), expected);
+        assert_eq!(rt; ran, Ok(counts(refused, 0)));
+    }
     Ok(())
 }

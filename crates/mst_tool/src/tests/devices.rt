@@ -4,7 +4,7 @@ use super::captures::REGION;
 use super::faults::{Sink, Source};
 use super::{counts, plans, regions};
 use crate::{
-    FromRead, Outcome, RunFault, ToWrite, check, check_from, check_within, run, run_from,
+    Form, FromRead, Outcome, RunFault, ToWrite, check, check_from, check_within, run, run_from,
     run_within,
 };
 use std::alloc::{AllocError, Global};
@@ -72,7 +72,7 @@ fn turns_are_counted(rt: HostRuntime) {
             let mut writer = Sink::new(rt.alloc(), usize::MAX);
             let mut source = FromRead::new(&mut reader);
             let mut sink = ToWrite::new(&mut writer);
-            let ran = run_within(rt.alloc(), &mut source, &mut sink, case.turns);
+            let ran = run_within(rt.alloc(), Form::Text, &mut source, &mut sink, case.turns);
             assert_eq!(rt; ran, case.ended, "{}", case.turns);
             assert_eq!(rt; writer.taken.as_slice(), case.printed, "{}", case.turns);
             assert!(rt; u64::from(reader.calls) <= case.turns, "{}", case.turns);

@@ -5,7 +5,7 @@ use crate::diff;
 use std::test::Fail;
 
 /// Two bridges on a LAN. Its query does nothing, and line 9 is refused.
-const OLD: &[u8] = b"\
+pub(super) const OLD: &[u8] = b"\
     addbridge A 02:00:00:00:00:01\n\
     addbridge B 02:00:00:00:00:02\n\
     addlan X\n\
@@ -17,7 +17,7 @@ const OLD: &[u8] = b"\
     addlan X\n";
 
 /// The same with the other root, and line 2 is refused.
-const NEW: &[u8] = b"\
+pub(super) const NEW: &[u8] = b"\
     addbridge A 02:00:00:00:00:01\n\
     settreeprio B 0 4\n\
     addbridge B 02:00:00:00:00:02\n\

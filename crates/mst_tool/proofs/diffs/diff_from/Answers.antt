@@ -1,5 +1,6 @@
 use Rattle.std.proofs.Common.{rules, subst}
 use Rattle.mst_tool.specs.Diff.{DiffsScripts}
+use Rattle.mst_tool.specs.declared.form.Form.TheVariants.{Text}
 use Rattle.mst_tool.proofs.diffs.diff_from.Goals as goal
 
 pub returns-clause-memory : goal.returns-clause-memory
@@ -10,8 +11,8 @@ returns-clause-memory g c is =
     let a = g.O.Read.remaining c.new-old_source.result.reader.now in
     let b = g.N.Read.remaining c.new-new_source.result.reader.now in
     let now = g.W.Write.contents c.diff_within.new.sink.writer.now in
-    let scripts : DiffsScripts olds news written now =
-    subst (λ o. DiffsScripts o news written now) c.new-old_source.ensures.bytes
-    (subst (λ n. DiffsScripts a n written now) c.new-new_source.ensures.bytes
-    (subst (λ w. DiffsScripts a b w now) c.new-sink.ensures.bytes (c.diff_within.ensures.memory is))) in
-    subst (λ n. DiffsScripts olds news written n) (search rules) scripts
+    let scripts : DiffsScripts Text olds news written now =
+    subst (λ o. DiffsScripts Text o news written now) c.new-old_source.ensures.bytes
+    (subst (λ n. DiffsScripts Text a n written now) c.new-new_source.ensures.bytes
+    (subst (λ w. DiffsScripts Text a b w now) c.new-sink.ensures.bytes (c.diff_within.ensures.memory is))) in
+    subst (λ n. DiffsScripts Text olds news written n) (search rules) scripts

@@ -5,7 +5,7 @@ use Rattle.mst_tool.proofs.OneRun.{Laws, as_loaded, empty_is, full_run}
 use Rattle.mst_tool.proofs.laws.has_load.Goals as goal
 
 pub returns-clause-script : goal.returns-clause-script
-returns-clause-script c word script =
+returns-clause-script c shape script =
     let laws : Laws = record {
       networks = c.networks.ensures.after;
       ranges = c.edits_in_range.ensures;
@@ -13,10 +13,10 @@ returns-clause-script c word script =
       one_rows = c.rows_of_network.ensures.one;
       marks = c.rows_of_network.ensures.mark;
     } in
-    full_run laws word loading as_loaded c.has_answer.ensures (version_of (lines_of script)) 1 empty_state (lines_of script) (empty_is c.networks.ensures.empty)
+    full_run laws shape loading as_loaded c.has_answer.ensures (version_of (lines_of script)) 1 empty_state (lines_of script) (empty_is c.networks.ensures.empty)
 
 pub returns-clause-lines : goal.returns-clause-lines
-returns-clause-lines c word =
+returns-clause-lines c shape =
     let laws : Laws = record {
       networks = c.networks.ensures.after;
       ranges = c.edits_in_range.ensures;
@@ -24,4 +24,4 @@ returns-clause-lines c word =
       one_rows = c.rows_of_network.ensures.one;
       marks = c.rows_of_network.ensures.mark;
     } in
-    full_run laws word loading as_loaded c.has_answer.ensures
+    full_run laws shape loading as_loaded c.has_answer.ensures

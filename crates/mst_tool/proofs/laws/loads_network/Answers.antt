@@ -4,4 +4,4 @@ use Rattle.mst_tool.proofs.Loads.{loads_same}
 use Rattle.mst_tool.proofs.laws.loads_network.Goals as goal
 
 pub returns : goal.returns
-returns c word lines = loads_same word (version_of lines) 1 empty_state lines
+returns c form shape lines = loads_same form shape (version_of lines) 1 empty_state lines

@@ -5,7 +5,7 @@ use Rattle.mst_tool.proofs.OneRun.{Laws, as_loaded, empty_is, one_run}
 use Rattle.mst_tool.proofs.laws.one_load.Goals as goal
 
 pub returns : goal.returns
-returns c word script a b =
+returns c shape script a b =
     let laws : Laws = record {
       networks = c.networks.ensures.after;
       ranges = c.edits_in_range.ensures;
@@ -13,4 +13,4 @@ returns c word script a b =
       one_rows = c.rows_of_network.ensures.one;
       marks = c.rows_of_network.ensures.mark;
     } in
-    one_run laws word loading as_loaded c.one_answer.ensures (version_of (lines_of script)) 1 empty_state (lines_of script) a b (empty_is c.networks.ensures.empty)
+    one_run laws shape loading as_loaded c.one_answer.ensures (version_of (lines_of script)) 1 empty_state (lines_of script) a b (empty_is c.networks.ensures.empty)

@@ -4,4 +4,4 @@ use Rattle.mst_tool.proofs.Saved.{restored_run}
 use Rattle.mst_tool.proofs.laws.saved_again.Goals as goal
 
 pub returns : goal.returns
-returns c net is short = restored_run (lines_of (save_text net)) net (c.restored.ensures net is short)
+returns c form net is short = restored_run form (lines_of (save_text net)) net (c.restored.ensures net is short)
