@@ -8,6 +8,7 @@ The gate runs it on the program that it has built (.ci/run).
 """
 
 import heapq
+import json
 import os
 import pty
 import re
@@ -420,6 +421,60 @@ def summary_cases(folder):
     ]
 
 
+OPENING = b"""graph "tree 0" {
+  graph [label="tree 0", nodesep=0.6, ranksep=0.8];
+  edge [fontsize=10, labeldistance=1.8];
+"""
+# The designated ends come first: A's ports are, and B's on the link to C.
+TRIANGLE_DRAWN = OPENING + b"""  "A" [peripheries=2];
+  "B";
+  "C";
+  "A" -- "B" [label="ab", taillabel="1 D", headlabel="1 R"];
+  "A" -- "C" [label="ac", taillabel="2 D", headlabel="1 R"];
+  "B" -- "C" [label="bc", taillabel="2 D", headlabel="2 A", style=dashed];
+}
+"""
+# A LAN of three ports, one of no port, and a bridge that is off.
+HUB = b"""addbridge A 02:00:00:00:00:01
+addbridge B 02:00:00:00:00:02
+addbridge C 02:00:00:00:00:03
+addlan A
+addlan none
+addport A 1
+addport B 1
+addport C 1
+plug A 1 A
+plug B 1 A
+plug C 1 A
+bridge C off
+"""
+HUB_DRAWN = OPENING + b"""  "A" [peripheries=2];
+  "B";
+  "C" [style=dashed, color=gray, fontcolor=gray];
+  "lan A" [shape=box, fontsize=10, height=0.3, label="A"];
+  "A" -- "lan A" [taillabel="1 D"];
+  "lan A" -- "B" [headlabel="1 R"];
+  "lan A" -- "C" [headlabel="1 X", style=dashed];
+  "lan none" [shape=box, fontsize=10, height=0.3, label="none"];
+}
+"""
+
+
+def dot_cases(folder):
+    """Each case: its name, the words, standard input, the status, standard output and standard error."""
+    script = os.path.join(folder, "swept")
+    absent = os.path.join(folder, "absent")
+    cannot = b"mstplan: cannot open " + absent.encode() + b"\n"
+    return [
+        ("dot FILE TREE", ["dot", script, "0"], b"no\n", 0, TRIANGLE_DRAWN, b""),
+        ("dot -, boxes", ["dot", "-", "00"], HUB, 0, HUB_DRAWN, b""),
+        ("dot, a refused line", ["dot", "-", "0"], b"no\n", 1, REFUSED + OPENING + b"}\n", b""),
+        ("dot, no tree", ["dot", "-", "4095"], b"no\n", 1, REFUSED + b"dot E03 bad VID or tree\n", b""),
+        ("dot with no tree", ["dot", script], b"", 2, b"", USAGE),
+        ("dot, a file that isn't there", ["dot", absent, "x"], b"", 3, b"", cannot),
+    ]
+
+
 def cases(folder):
     """Each case: its name, the words, standard input, the status, standard output and standard error."""
     script = os.path.join(folder, "script")
@@ -482,14 +537,115 @@ def cases(folder):
     ]
 
 
+# A script whose lines are refused in each way that has a hint, and one that hasn't. What is printed is that of the rules.
+HINTED = b"""addbrigde dist1 02:00:00:00:00:01
+settreeprio B 0
+addbridge B 02:00:00:00:00:02
+settreeprio B 0 4096
+bridge dist1 off
+addport B 0
+addport B 1
+addport B 1
+plug B 1 L
+delport B 0
+showtree 0
+"""
+HINTED_RUN = b"""line 1 E01 no such command
+line 2 E01 no such command
+line 4 E02 bad argument
+line 5 E04 no such bridge
+line 6 E02 bad argument
+line 8 E09 port number taken
+line 9 E06 no such LAN
+line 10 E02 bad argument
+tree 0
+bridge B 8000.02:00:00:00:00:02 root 8000.02:00:00:00:00:02 ext 0 regional 8000.02:00:00:00:00:02 int 0 from 8000.02:00:00:00:00:02 0000 at 0000
+"""
+HINTS = b"""line 1 no command addbrigde; addbridge?
+line 2 settreeprio takes B TREE PRIO; 2 words stand here
+line 4 settreeprio B TREE PRIO: PRIO is 0 to 15, in steps of 4096; 4096 is 1
+line 5 no bridge dist1: line 1 was to add it
+line 6 addport B P: P is 1 to 4095
+line 9 no LAN L
+line 10 delport B P: P is 1 to 4095
+"""
+# The same run, and what is explained of it, as JSON.
+HINTED_JSON = [
+    {"line": 1, "error": "E01", "text": "no such command"},
+    {"line": 2, "error": "E01", "text": "no such command"},
+    {"line": 4, "error": "E02", "text": "bad argument"},
+    {"line": 5, "error": "E04", "text": "no such bridge"},
+    {"line": 6, "error": "E02", "text": "bad argument"},
+    {"line": 8, "error": "E09", "text": "port number taken"},
+    {"line": 9, "error": "E06", "text": "no such LAN"},
+    {"line": 10, "error": "E02", "text": "bad argument"},
+    {
+        "line": 11,
+        "query": "showtree",
+        "records": [
+            {"tree": 0},
+            {
+                "bridge": "B",
+                "id": "8000.02:00:00:00:00:02",
+                "root": "8000.02:00:00:00:00:02",
+                "ext": 0,
+                "regional": "8000.02:00:00:00:00:02",
+                "int": 0,
+                "from": "8000.02:00:00:00:00:02",
+                "from_port": "0000",
+                "at": "0000",
+            },
+        ],
+    },
+]
+UNEXPLAINED_JSON = {"query": "explain", "error": "E05", "text": "no such port"}
+
+
+class Json:
+    """Bytes that are these values, one a line, each as short as JSON can be written, with its members in this order."""
+
+    def __init__(self, *values):
+        self.values = values
+
+    def fits(self, text):
+        """Whether a text is that."""
+        lines = [json.dumps(value, separators=(",", ":")) + "\n" for value in self.values]
+        return text == "".join(lines).encode()
+
+
+def flag_cases(folder):
+    """Cases of words with flags."""
+    script = os.path.join(folder, "hinted.script")
+    with open(script, "wb") as file:
+        file.write(HINTED)
+    wrong = b"error: --json is a flag of run, explain, diff, sweep and summary, --hints of run and check with the script in a file\n"
+    gone = [{"reach": "1-4094", "old": ["B"], "new": []}, {"diff": True, "regions": 0, "roots": 0, "ports": 0, "vlans": 4094}]
+    same = [value for value in HINTED_JSON if "error" in value]
+    return [
+        ("hints of a run", ["run", "--hints", script], b"", 1, HINTED_RUN, HINTS),
+        ("hints behind the script", ["run", script, "--hints"], b"", 1, HINTED_RUN, HINTS),
+        ("hints of a check", ["check", "--hints", script, os.devnull], b"", 1, HINTED_RUN, HINTS),
+        ("no hints of standard input", ["--hints"], HINTED, 2, b"", wrong),
+        ("no JSON of a check", ["check", "--json", script, os.devnull], b"", 2, b"", wrong),
+        ("a run in JSON", ["run", "--json", script], b"", 1, Json(*HINTED_JSON), b""),
+        ("standard input in JSON", ["--json"], HINTED, 1, Json(*HINTED_JSON), b""),
+        ("JSON and hints", ["--json", "run", "--hints", script], b"", 1, Json(*HINTED_JSON), HINTS),
+        ("nothing to explain in JSON", ["explain", "--json", script, "B", "1"], b"", 1, Json(*same, UNEXPLAINED_JSON), b""),
+        ("a difference in JSON", ["diff", "--json", script, os.devnull], b"", 1,
+         Json(*({"side": "old", **value} for value in same), {"query": "diff", "records": gone}), b""),
+    ]
+
+
 def asked_cases(folder):
     """The cases of what is asked of a script's network."""
-    return explain_cases(folder) + diff_cases(folder) + sweep_cases(folder) + summary_cases(folder)
+    return explain_cases(folder) + diff_cases(folder) + sweep_cases(folder) + summary_cases(folder) + dot_cases(folder)
 
 
 def fits(text, expected):
     if isinstance(expected, re.Pattern):
         return expected.fullmatch(text) is not None
+    if isinstance(expected, Json):
+        return expected.fits(text)
     return b"Usage: " in text if expected is USAGE else text == expected
 
 
@@ -670,7 +826,7 @@ def main():
         sys.exit(__doc__)
     program = os.path.abspath(sys.argv[1])
     with tempfile.TemporaryDirectory() as folder:
-        passed = [check(program, *case) for case in cases(folder) + asked_cases(folder)]
+        passed = [check(program, *case) for case in cases(folder) + asked_cases(folder) + flag_cases(folder)]
         passed += [
             check_full(program, [], b"showtree 0\n"),
             check_full(program, ["check", "-", os.devnull], b"showtree 0\n"),
