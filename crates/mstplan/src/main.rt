@@ -45,7 +45,8 @@ fn main(rt: HostRuntime) -> ExitCode {
         io::writer(&rt),
         &mut rt.stderr(),
     );
-    hint(rt.alloc(), &rt, flags, &asked, &mut rt.stderr());
+    // the exit status is that of what was run
+    let _ = hint(rt.alloc(), &rt, flags, &asked, &mut rt.stderr());
     ExitCode::from(ended.status)
 }
 
