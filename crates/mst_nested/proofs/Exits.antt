@@ -1,18 +1,18 @@
 -- A part has an exit, or holds the root of the CIST.
 use Rattle.std.proofs.Common.{◌≡◌, ◌⊎◌, inl, inr, refl, sym, ◌∙◌, ap, subst, ℕ, Some, [], ◌∷◌, arith}
-use Rattle.mst_vector.specs.Cist.{cist_own, cist_components}
+use Rattle.mst_vector.specs.Cist.{cist_bridge_vector, cist_components}
 use Rattle.mst_vector.specs.declared.cist.CistVector.{CistVector}
 use Rattle.mst_vector.specs.declared.cist.CistBridge.{CistBridge}
 use Rattle.mst_vector.specs.declared.cist.CistPort.{CistPort}
-use Rattle.mst_settle.specs.Topology.{Plug, HasBridge, KeyTests}
+use Rattle.mst_settle.specs.Topology.{TreePort, HasBridge, KeyTests}
 use Rattle.mst_graph.specs.Walks.{bridge_at, stay, along}
 use Rattle.mst_nested.specs.Ports.{port_ends}
-use Rattle.mst_nested.specs.Trees.{Trees, IsEnabled, IsInner, IsSettled, IsFree, HasTree, SamePart}
+use Rattle.mst_nested.specs.Trees.{Trees, IsEnabled, IsInternal, IsSettled, IsFree, HasTree, SamePart}
 use Rattle.mst_nested.proofs.Settled.{cist_tree}
 use Rattle.mst_nested.proofs.Orders.{Upto, first_upto, rest_upto}
 use Rattle.mst_nested.proofs.Ports.{some_is}
 use Rattle.mst_graph.proofs.Walks.{joined_to, back}
-use Rattle.mst_nested.proofs.Parts.{At, IsOuter, sides, outer_not_inner}
+use Rattle.mst_nested.proofs.Parts.{At, IsOuter, sides, outer_not_internal}
 use Rattle.mst_nested.proofs.Roots.{Regional, regional, TookFar, far_outer, LeadsOut, leads_out, sends}
 use Rattle.mst_nested.proofs.Seats.{outer_part, walk_part, heard_part}
 use Rattle.mst_nested.proofs.Facts.{at, one_roots}
@@ -23,49 +23,49 @@ use Rattle.mst_nested.proofs.TreeRoles.{outer_role, outer_forwards}
 
 module _ {N L K : Type 0} (f : Trees N L K) (tests : KeyTests N L) (ok : IsSettled f) (free : IsFree f) where
   -- the outer ports are those between parts
-  crossing_outer : (p : Plug N L K CistPort) → IsCrossing f p → IsOuter f tests ok p
+  crossing_outer : (p : TreePort N L K CistPort) → IsCrossing f p → IsOuter f tests ok p
   crossing_outer p c = elim (sides f tests ok p c.is_enabled) [ inl i ↦ absurd (c.apart (along p i (inl (refl, refl)) stay)) | inr o ↦ o ]
 
-  outer_crossing : (p : Plug N L K CistPort) → IsEnabled f p → IsOuter f tests ok p → IsCrossing f p
+  outer_crossing : (p : TreePort N L K CistPort) → IsEnabled f p → IsOuter f tests ok p → IsCrossing f p
   outer_crossing p on o = record { is_enabled = on; apart = λ walk. outer_part f tests ok p o (walk_part f tests ok free walk) }
 
-  crossing_not_inner : (p : Plug N L K CistPort) → IsCrossing f p → IsInner f p → ⊥
-  crossing_not_inner p c i = outer_not_inner f tests ok p (crossing_outer p c) i
+  crossing_not_internal : (p : TreePort N L K CistPort) → IsCrossing f p → IsInternal f p → ⊥
+  crossing_not_internal p c i = outer_not_internal f tests ok p (crossing_outer p c) i
 
-  vector_is : (p : Plug N L K CistPort) → (o : IsOuter f tests ok p) (r : IsCistRoot f p) → o.at.vector ≡ r.vector
+  vector_is : (p : TreePort N L K CistPort) → (o : IsOuter f tests ok p) (r : IsCistRoot f p) → o.at.vector ≡ r.vector
   vector_is p o r = some_is (sym o.at.is_vector ∙ r.is_vector)
 
-  leads : (p : Plug N L K CistPort) → IsEnabled f p → (o : IsOuter f tests ok p) → IsCistRoot f p → LeadsOut f tests ok p o
+  leads : (p : TreePort N L K CistPort) → IsEnabled f p → (o : IsOuter f tests ok p) → IsCistRoot f p → LeadsOut f tests ok p o
   leads p on o r = leads_out f tests ok p o on (ap (λ (x : CistVector). x.receiver) (vector_is p o r) ∙ r.came_by)
 
-  root_exit : (p : Plug N L K CistPort) → IsCrossing f p → IsCistRoot f p → IsExit f p
+  root_exit : (p : TreePort N L K CistPort) → IsCrossing f p → IsCistRoot f p → IsExit f p
   root_exit p c r =
       let o = crossing_outer p c in
       record { is_crossing = c; is_root = r; bridge = o.at.bridge; has_bridge = o.at.has_bridge; is_regional = sym (leads p c.is_enabled o r).is_root ∙ ap (λ (x : CistVector). x.regional) (vector_is p o r) }
 
   -- a crossing port forwards in a tree of its bridge exactly where it is an exit
-  pub forwards_exit : (i : ℕ) (p : Plug N L K CistPort) → IsCrossing f p → Forwards f i p → IsExit f p
-  forwards_exit i p c h = root_exit p c (outer_role f tests ok i p (crossing_not_inner p c) h)
+  pub forwards_exit : (i : ℕ) (p : TreePort N L K CistPort) → IsCrossing f p → Forwards f i p → IsExit f p
+  forwards_exit i p c h = root_exit p c (outer_role f tests ok i p (crossing_not_internal p c) h)
 
-  pub exit_forwards : (i : ℕ) (p : Plug N L K CistPort) → IsExit f p → HasTree f i p.bridge → Forwards f i p
-  exit_forwards i p e has = outer_forwards f tests ok i p (crossing_not_inner p e.is_crossing) has e.is_root
+  pub exit_forwards : (i : ℕ) (p : TreePort N L K CistPort) → IsExit f p → HasTree f i p.bridge → Forwards f i p
+  exit_forwards i p e has = outer_forwards f tests ok i p (crossing_not_internal p e.is_crossing) has e.is_root
 
   -- the exit's bridge with its vector
-  exit_at : (p : Plug N L K CistPort) → (e : IsExit f p) → At f tests ok p.bridge
+  exit_at : (p : TreePort N L K CistPort) → (e : IsExit f p) → At f tests ok p.bridge
   exit_at p e = record { bridge = e.bridge; has_bridge = e.has_bridge; vector = e.is_root.vector; is_vector = e.is_root.is_vector }
 
   -- the root of the CIST has no external root path cost
   no_external : (n : N) (b : CistBridge) (x : CistVector) → HasBridge f.cist n b → f.cist_vector n ≡ Some x → x.root ≡ b.id → x.external ≡ 0
-  no_external n b x has e h = upto ((ok.cist.settled.bridges n b x has e).upto (cist_own b) (inl refl))
+  no_external n b x has e h = upto ((ok.cist.settled.bridges n b x has e).upto (cist_bridge_vector b) (inl refl))
     where
-      upto : Upto (cist_components x) (cist_components (cist_own b)) → x.external ≡ 0
+      upto : Upto (cist_components x) (cist_components (cist_bridge_vector b)) → x.external ≡ 0
       upto u =
           let rest = rest_upto x.root b.id (x.external ∷ x.regional ∷ x.internal ∷ x.designated ∷ x.port ∷ x.receiver ∷ []) (0 ∷ b.id ∷ 0 ∷ b.id ∷ 0 ∷ 0 ∷ []) u (omega arith) in
           let low = first_upto x.external 0 (x.regional ∷ x.internal ∷ x.designated ∷ x.port ∷ x.receiver ∷ []) (b.id ∷ 0 ∷ b.id ∷ 0 ∷ 0 ∷ []) rest in
           omega arith
 
   -- no exit where the part holds the root
-  pub no_exit : (n : N) (x : CistVector) → f.cist_vector n ≡ Some x → HoldsRoot f n x → (p : Plug N L K CistPort) → IsExit f p → SamePart f (bridge_at n) (bridge_at p.bridge) → ⊥
+  pub no_exit : (n : N) (x : CistVector) → f.cist_vector n ≡ Some x → HoldsRoot f n x → (p : TreePort N L K CistPort) → IsExit f p → SamePart f (bridge_at n) (bridge_at p.bridge) → ⊥
   no_exit n x e h p exit walk =
       let y = ok.cist.settled.has_vector h.root h.bridge h.has_bridge in
       let there = one_roots f tests ok free n h.root x y.0 e y.1 h.in_part in
@@ -79,7 +79,7 @@ module _ {N L K : Type 0} (f : Trees N L K) (tests : KeyTests N L) (ok : IsSettl
       absurd (omega arith)
 
   -- exits of one part are one
-  one_exit : (p q : Plug N L K CistPort) → IsExit f p → IsExit f q → SamePart f (bridge_at p.bridge) (bridge_at q.bridge) → p ≡ q
+  one_exit : (p q : TreePort N L K CistPort) → IsExit f p → IsExit f q → SamePart f (bridge_at p.bridge) (bridge_at q.bridge) → p ≡ q
   one_exit p q e g walk =
       let a = exit_at p e in
       let c = exit_at q g in

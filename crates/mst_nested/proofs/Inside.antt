@@ -3,14 +3,14 @@ use Rattle.std.proofs.Common.{◌≡◌, ◌⊎◌, inl, inr, refl, sym, ◌∙�
 use Rattle.mst_vector.specs.declared.cist.CistBridge.{CistBridge}
 use Rattle.mst_vector.specs.declared.cist.CistPort.{CistPort}
 use Rattle.mst_vector.specs.declared.msti.MstiBridge.{MstiBridge}
-use Rattle.mst_settle.specs.Topology.{Plug, HasBridge, KeyTests}
+use Rattle.mst_settle.specs.Topology.{TreePort, HasBridge, KeyTests}
 use Rattle.mst_settle.proofs.Offers.{bridge_among, found, lost}
 use Rattle.mst_graph.specs.Walks.{Walk, Node, bridge_at, lan_at}
 use Rattle.mst_nested.specs.Ports.{port_ends}
-use Rattle.mst_nested.specs.Trees.{Trees, IsEnabled, IsInner, IsSettled, IsFree, HasTree, SameRegion, SamePart}
+use Rattle.mst_nested.specs.Trees.{Trees, IsEnabled, IsInternal, IsSettled, IsFree, HasTree, SameRegion, SamePart}
 use Rattle.mst_graph.proofs.Walks.{weaker, replaced, stays_in}
 use Rattle.mst_nested.proofs.Parts.{at_port, IsOf, keeps_region}
-use Rattle.mst_nested.proofs.Seats.{part_at, inner_part, seat_at, same_regional, one_part}
+use Rattle.mst_nested.proofs.Seats.{part_at, internal_part, seat_at, same_regional, one_part}
 use Rattle.mst_nested.proofs.Facts.{one_region}
 use Rattle.mst_nested.proofs.Roots.{root_of}
 use Rattle.mst_nested.proofs.Parts.{vector_at}
@@ -21,7 +21,7 @@ use Rattle.mst_graph.specs.TreesInParts.{Inside}
 use Rattle.mst_nested.proofs.Places.{levels}
 use Rattle.mst_nested.proofs.RoleJoins.{roles_join_part}
 use Rattle.mst_nested.proofs.TreeRoles.{IsTreeRoot}
-use Rattle.mst_nested.proofs.Vid.{places, RootHere, DesignatedHere, has_roles, inside_inner, active_has_no_loop}
+use Rattle.mst_nested.proofs.Vid.{places, RootHere, DesignatedHere, has_roles, inside_internal, active_has_no_loop}
 use Rattle.mst_nested.proofs.Joins.{has_role_tops}
 
 module _ {N L K : Type 0} (f : Trees N L K) (tests : KeyTests N L) (ok : IsSettled f) where
@@ -80,8 +80,8 @@ module _ {N L K : Type 0} (f : Trees N L K) (tests : KeyTests N L) (ok : IsSettl
   tree_bridge zero n has = has
   tree_bridge (suc j) n has = (ok.nested j).bridges n has
 
-  -- the bridge of an inner port that forwards in a tree has it
-  forwards_tree : (i : ℕ) (p : Plug N L K CistPort) → ForwardsInside f i p → HasTree f i p.bridge
+  -- the bridge of an internal port that forwards in a tree has it
+  forwards_tree : (i : ℕ) (p : TreePort N L K CistPort) → ForwardsInside f i p → HasTree f i p.bridge
   forwards_tree zero p h = (h.0.bridge, h.0.has_bridge)
   forwards_tree (suc j) p (i, inl r) = in_tree r
     where
@@ -93,15 +93,15 @@ module _ {N L K : Type 0} (f : Trees N L K) (tests : KeyTests N L) (ok : IsSettl
   forwards_tree (suc j) p (i, inr m) = m.has_tree
 
   module _ (free : IsFree f) where
-    inside_active : (i : ℕ) (p : Plug N L K CistPort) → ForwardsInside f i p → IsActive f (tree_or_cist i) p
+    inside_active : (i : ℕ) (p : TreePort N L K CistPort) → ForwardsInside f i p → IsActive f (tree_or_cist i) p
     inside_active i p h = record { is_enabled = h.0.is_enabled; forwards = subst (λ k. Forwards f k p) (sym (chosen_tree i p.bridge (forwards_tree i p h))) h.1 }
 
     pub inside_no_loop : (i : ℕ) → HasNoLoop port_ends (ForwardsInside f i)
     inside_no_loop i e h walk = active_has_no_loop f tests ok free (tree_or_cist i) (chosen_of_vid i) e (inside_active i e h) (weaker port_ends (λ p o. (inside_active i p o.0, o.1)) walk)
 
-    -- the ends of an inner port are joined
-    inner_joined : (i : ℕ) (e : Plug N L K CistPort) → IsInner f e → HasTree f i e.bridge → Walk port_ends (ForwardsInside f i) (bridge_at e.bridge) (lan_at e.lan)
-    inner_joined i e inner has = weaker port_ends inside (roles_join_part (places f tests ok free tree vid) (IsEnabled f) (IsActive f tree) (RootHere f tests ok free tree vid) (DesignatedHere f tests ok free tree vid) (λ x. root_of (vector_at f tests ok x)) (λ n. IsTreeRoot f tests ok (tree n) n) (has_roles f tests ok free tree vid) (has_role_tops f tests ok free tree vid) (bridge_at e.bridge) (lan_at e.lan) (record { edge = e; is_enabled = inner.is_enabled; is_end = inl refl }) (record { edge = e; is_enabled = inner.is_enabled; is_end = inr refl }) (inner_part f tests ok free e inner))
+    -- the ends of an internal port are joined
+    internal_joined : (i : ℕ) (e : TreePort N L K CistPort) → IsInternal f e → HasTree f i e.bridge → Walk port_ends (ForwardsInside f i) (bridge_at e.bridge) (lan_at e.lan)
+    internal_joined i e internal has = weaker port_ends inside (roles_join_part (places f tests ok free tree vid) (IsEnabled f) (IsActive f tree) (RootHere f tests ok free tree vid) (DesignatedHere f tests ok free tree vid) (λ x. root_of (vector_at f tests ok x)) (λ n. IsTreeRoot f tests ok (tree n) n) (has_roles f tests ok free tree vid) (has_role_tops f tests ok free tree vid) (bridge_at e.bridge) (lan_at e.lan) (record { edge = e; is_enabled = internal.is_enabled; is_end = inl refl }) (record { edge = e; is_enabled = internal.is_enabled; is_end = inr refl }) (internal_part f tests ok free e internal))
       where
         tree : N → ℕ
         tree = tree_or_cist i
@@ -109,18 +109,18 @@ module _ {N L K : Type 0} (f : Trees N L K) (tests : KeyTests N L) (ok : IsSettl
         vid : IsTreeOfVid f tree
         vid = chosen_of_vid i
 
-        inside : (p : Plug N L K CistPort) → Inside port_ends (IsActive f tree) (levels (places f tests ok free tree vid)) (part_at f tests ok (bridge_at e.bridge)) p → ForwardsInside f i p
+        inside : (p : TreePort N L K CistPort) → Inside port_ends (IsActive f tree) (levels (places f tests ok free tree vid)) (part_at f tests ok (bridge_at e.bridge)) p → ForwardsInside f i p
         inside p h =
-            let inner_port = inside_inner f tests ok free tree vid p h.0.is_enabled (h.1 ∙ sym h.2) in
-            let a = at_port f tests ok e inner.is_enabled in
+            let internal_port = inside_internal f tests ok free tree vid p h.0.is_enabled (h.1 ∙ sym h.2) in
+            let a = at_port f tests ok e internal.is_enabled in
             let c = at_port f tests ok p h.0.is_enabled in
             let walk = (one_part f tests ok e.bridge p.bridge a c (same_regional f tests ok (seat_at f tests ok a) (seat_at f tests ok c) (sym h.1))).walk in
             let there = region_tree i e.bridge p.bridge (one_region f tests ok e.bridge p.bridge a.bridge a.has_bridge walk) has in
-            (inner_port, subst (λ k. Forwards f k p) (chosen_tree i p.bridge there) h.0.forwards)
+            (internal_port, subst (λ k. Forwards f k p) (chosen_tree i p.bridge there) h.0.forwards)
 
     -- so a part is
     pub inside_joined : (i : ℕ) (n : N) (y : Node N L) → HasTree f i n → SamePart f (bridge_at n) y → Walk port_ends (ForwardsInside f i) (bridge_at n) y
     inside_joined i n y has walk =
         let b = tree_bridge i n has in
-        replaced port_ends (λ p h. inner_joined i p h.0 (region_tree i n p.bridge (record { bridge = b.0; has_bridge = b.1; other = h.1.0; has_other = h.1.1; same = sym h.1.2 }) has))
+        replaced port_ends (λ p h. internal_joined i p h.0 (region_tree i n p.bridge (record { bridge = b.0; has_bridge = b.1; other = h.1.0; has_other = h.1.1; same = sym h.1.2 }) has))
         (stays_in port_ends (IsOf f tests ok b.0.region) (keeps_region f tests ok b.0.region) (b.0, b.1, refl) walk)

@@ -3,12 +3,12 @@ use Rattle.std.proofs.Common.{◌≡◌, ◌⊎◌, inl, inr, refl, sym, ◌∙�
 use Rattle.mst_vector.specs.declared.cist.CistVector.{CistVector}
 use Rattle.mst_vector.specs.declared.cist.CistBridge.{CistBridge}
 use Rattle.mst_vector.specs.declared.cist.CistPort.{CistPort}
-use Rattle.mst_settle.specs.Topology.{Plug, KeyTests}
+use Rattle.mst_settle.specs.Topology.{TreePort, KeyTests}
 use Rattle.mst_graph.specs.Walks.{bridge_at}
 use Rattle.mst_nested.specs.Ports.{port_ends}
 use Rattle.mst_nested.specs.Trees.{Trees, IsEnabled, IsSettled, IsFree}
 use Rattle.mst_nested.proofs.Settled.{cist_tree}
-use Rattle.mst_nested.proofs.Parts.{At, at_port, outer_not_inner, vector_at, part_region}
+use Rattle.mst_nested.proofs.Parts.{At, at_port, outer_not_internal, vector_at, part_region}
 use Rattle.mst_nested.proofs.Roots.{Regional, regional, TookFar, far_outer, root_of, enabled_root}
 use Rattle.mst_nested.proofs.Seats.{part_of, part_at, seat_at, same_regional, one_part, outer_part}
 use Rattle.mst_graph.specs.Joined.{IsJoined}
@@ -47,7 +47,7 @@ module _ {N L K : Type 0} (f : Trees N L K) (tests : KeyTests N L) (ok : IsSettl
       one_tree_root f tests ok free (tree c) b c walk a d roots (subst (λ k. IsTreeRoot f tests ok k b) trees r) s
 
   -- a part has a port out of it, or holds the root
-  way_out : (e : Plug N L K CistPort) → IsEnabled f e → WayOut (places f tests ok free tree of_vid) (IsActive f tree) e ⊎ (part_at f tests ok (bridge_at e.bridge) ≡ root_of (vector_at f tests ok (bridge_at e.bridge)))
+  way_out : (e : TreePort N L K CistPort) → IsEnabled f e → WayOut (places f tests ok free tree of_vid) (IsActive f tree) e ⊎ (part_at f tests ok (bridge_at e.bridge) ≡ root_of (vector_at f tests ok (bridge_at e.bridge)))
   way_out e on = go (at_port f tests ok e on)
     where
       go : At f tests ok e.bridge → WayOut (places f tests ok free tree of_vid) (IsActive f tree) e ⊎ (part_at f tests ok (bridge_at e.bridge) ≡ root_of (vector_at f tests ok (bridge_at e.bridge)))
@@ -57,12 +57,12 @@ module _ {N L K : Type 0} (f : Trees N L K) (tests : KeyTests N L) (ok : IsSettl
           by r = elim r.began [
             | inl own ↦ (let own_root : r.at.vector.root ≡ r.at.bridge.id = ap (λ (x : CistVector). x.root) own in
                 inr (ap part_of a.is_vector ∙ (ap suc (sym r.is_named ∙ (sym own_root ∙ r.same.root)) ∙ sym (ap root_of a.is_vector))))
-            | inr t ↦ (let p : Plug N L K CistPort = t.0.port in
+            | inr t ↦ (let p : TreePort N L K CistPort = t.0.port in
                 let o = far_outer f tests ok r.root r.at t in
                 let own : part_at f tests ok (bridge_at p.bridge) ≡ part_at f tests ok (bridge_at e.bridge) = ap part_of o.at.is_vector ∙ (ap suc r.same.regional ∙ sym (ap part_of a.is_vector)) in
                 inl (record {
                   port = p;
-                  is_active = record { is_enabled = t.0.part; forwards = outer_forwards f tests ok (tree p.bridge) p (outer_not_inner f tests ok p o) (has_tree f tests ok free tree of_vid o.at) (far_forwards f tests ok r.root r.at t) };
+                  is_active = record { is_enabled = t.0.part; forwards = outer_forwards f tests ok (tree p.bridge) p (outer_not_internal f tests ok p o) (has_tree f tests ok free tree of_vid o.at) (far_forwards f tests ok r.root r.at t) };
                   own = own;
                   other = λ h. outer_part f tests ok p o (own ∙ sym h);
                 }))

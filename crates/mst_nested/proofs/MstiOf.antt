@@ -6,12 +6,12 @@ use Rattle.mst_vector.specs.declared.cist.CistBridge.{CistBridge}
 use Rattle.mst_vector.specs.declared.cist.CistPort.{CistPort}
 use Rattle.mst_vector.specs.declared.msti.MstiBridge.{MstiBridge}
 use Rattle.mst_vector.specs.declared.msti.MstiPort.{MstiPort}
-use Rattle.mst_settle.specs.Topology.{Plug, Topology, HasBridge, HasPort, KeyTests}
+use Rattle.mst_settle.specs.Topology.{TreePort, Topology, HasBridge, HasPort, KeyTests}
 use Rattle.mst_settle.proofs.Rank.{Among, among-contains, contains-among}
 use Rattle.mst_settle.proofs.Unique.{cons_option}
-use Rattle.mst_nested.specs.Trees.{Trees, IsTree, IsInner, IsSettled}
+use Rattle.mst_nested.specs.Trees.{Trees, IsTree, IsInternal, IsSettled}
 use Rattle.mst_nested.proofs.Ports.{some_is}
-use Rattle.mst_nested.proofs.Parts.{IsOuter, sides, outer_not_inner}
+use Rattle.mst_nested.proofs.Parts.{IsOuter, sides, outer_not_internal}
 
 among_cons : {A : Type 0} (x : A) (o : Option A) (xs : List A) → Among x xs → Among x (cons_option o xs)
 among_cons x None xs h = h
@@ -52,12 +52,12 @@ module _ {N L K : Type 0} (t : Topology N L K CistBridge CistPort) (tests : KeyT
     nested = λ i. record {
       bridges = λ n h. absurd (contains-among [] (n, h.0) h.1);
       regions = λ n k r h. absurd (contains-among [] (n, h.0) h.1);
-      ports = λ p inner h. absurd (contains-among [] (p.bridge, h.0) h.1);
+      ports = λ p internal h. absurd (contains-among [] (p.bridge, h.0) h.1);
       from_ports = λ q h. absurd (contains-among [] q h.0);
     };
   }
 
-  -- an MSTI from what is set for it: the bridges that have it, and their inner ports
+  -- an MSTI from what is set for it: the bridges that have it, and their internal ports
   module _ (bridge : N → Option MstiBridge) (port : K → MstiPort) where
     abbrev with_key : N → Option MstiBridge → Option (N × MstiBridge)
     with_key n None = None
@@ -67,19 +67,19 @@ module _ {N L K : Type 0} (t : Topology N L K CistBridge CistPort) (tests : KeyT
     bridges_of [] = []
     bridges_of (b ∷ bs) = cons_option (with_key b.0 (bridge b.0)) (bridges_of bs)
 
-    abbrev pub tree_port : Plug N L K CistPort → Plug N L K MstiPort
+    abbrev pub tree_port : TreePort N L K CistPort → TreePort N L K MstiPort
     tree_port p = record { number = p.number; bridge = p.bridge; lan = p.lan; settings = port p.number; is_part = true; is_restricted = p.is_restricted }
 
-    abbrev port_by : (p : Plug N L K CistPort) → IsInner alone p ⊎ IsOuter alone tests alone_settled p → Option MstiBridge → Option (Plug N L K MstiPort)
+    abbrev port_by : (p : TreePort N L K CistPort) → IsInternal alone p ⊎ IsOuter alone tests alone_settled p → Option MstiBridge → Option (TreePort N L K MstiPort)
     port_by p (inl i) (Some x) = Some (tree_port p)
     port_by p (inl i) None = None
     port_by p (inr o) x = None
 
-    abbrev port_if : (p : Plug N L K CistPort) → HasPort t p → (c : Bool) → p.is_part ≡ c → Option (Plug N L K MstiPort)
+    abbrev port_if : (p : TreePort N L K CistPort) → HasPort t p → (c : Bool) → p.is_part ≡ c → Option (TreePort N L K MstiPort)
     port_if p has true e = port_by p (sides alone tests alone_settled p (has, e)) (bridge p.bridge)
     port_if p has false e = None
 
-    abbrev ports_of : (ps : List (Plug N L K CistPort)) → ((p : Plug N L K CistPort) → Among p ps → HasPort t p) → List (Plug N L K MstiPort)
+    abbrev ports_of : (ps : List (TreePort N L K CistPort)) → ((p : TreePort N L K CistPort) → Among p ps → HasPort t p) → List (TreePort N L K MstiPort)
     ports_of [] all = []
     ports_of (p ∷ ps) all = cons_option (port_if p (all p (inl refl)) p.is_part refl) (ports_of ps (λ q h. all q (inr h)))
 
@@ -112,33 +112,33 @@ module _ {N L K : Type 0} (t : Topology N L K CistBridge CistPort) (tests : KeyT
     pub is_bridge : (n : N) (c : CistBridge) (x : MstiBridge) → HasBridge t n c → bridge n ≡ Some x → HasBridge msti_of n x
     is_bridge n c x h e = among-contains (bridges_of t.bridges) (n, x) (bridges_among t.bridges n c x (contains-among t.bridges (n, c) h) e)
 
-    -- its ports are their inner ports
-    pub record FromPort (q : Plug N L K MstiPort) : Type 0 where
-      pub from : Plug N L K CistPort
-      pub is_inner : IsInner alone from
+    -- its ports are their internal ports
+    pub record FromPort (q : TreePort N L K MstiPort) : Type 0 where
+      pub from : TreePort N L K CistPort
+      pub is_internal : IsInternal alone from
       pub settings : MstiBridge
       pub has_tree : bridge from.bridge ≡ Some settings
       pub is_port : tree_port from ≡ q
 
-    by_is : (p : Plug N L K CistPort) (q : Plug N L K MstiPort) (o : IsInner alone p ⊎ IsOuter alone tests alone_settled p) (x : Option MstiBridge) → bridge p.bridge ≡ x → port_by p o x ≡ Some q → FromPort q
-    by_is p q (inl i) (Some x) has e = record { from = p; is_inner = i; settings = x; has_tree = has; is_port = some_is e }
+    by_is : (p : TreePort N L K CistPort) (q : TreePort N L K MstiPort) (o : IsInternal alone p ⊎ IsOuter alone tests alone_settled p) (x : Option MstiBridge) → bridge p.bridge ≡ x → port_by p o x ≡ Some q → FromPort q
+    by_is p q (inl i) (Some x) has e = record { from = p; is_internal = i; settings = x; has_tree = has; is_port = some_is e }
     by_is p q (inl i) None has e = cc
     by_is p q (inr o) x has e = cc
 
-    if_is : (p : Plug N L K CistPort) (q : Plug N L K MstiPort) (has : HasPort t p) (c : Bool) (on : p.is_part ≡ c) → port_if p has c on ≡ Some q → FromPort q
+    if_is : (p : TreePort N L K CistPort) (q : TreePort N L K MstiPort) (has : HasPort t p) (c : Bool) (on : p.is_part ≡ c) → port_if p has c on ≡ Some q → FromPort q
     if_is p q has true on e = by_is p q (sides alone tests alone_settled p (has, on)) (bridge p.bridge) refl e
     if_is p q has false on e = cc
 
-    by_at : (p : Plug N L K CistPort) (o : IsInner alone p ⊎ IsOuter alone tests alone_settled p) (x : MstiBridge) (y : Option MstiBridge) → IsInner alone p → y ≡ Some x → port_by p o y ≡ Some (tree_port p)
-    by_at p (inl i) x (Some y) inner e = refl
-    by_at p (inl i) x None inner e = cc
-    by_at p (inr o) x y inner e = absurd (outer_not_inner alone tests alone_settled p o inner)
+    by_at : (p : TreePort N L K CistPort) (o : IsInternal alone p ⊎ IsOuter alone tests alone_settled p) (x : MstiBridge) (y : Option MstiBridge) → IsInternal alone p → y ≡ Some x → port_by p o y ≡ Some (tree_port p)
+    by_at p (inl i) x (Some y) internal e = refl
+    by_at p (inl i) x None internal e = cc
+    by_at p (inr o) x y internal e = absurd (outer_not_internal alone tests alone_settled p o internal)
 
-    if_at : (p : Plug N L K CistPort) (has : HasPort t p) (x : MstiBridge) (c : Bool) (on : p.is_part ≡ c) → IsInner alone p → bridge p.bridge ≡ Some x → port_if p has c on ≡ Some (tree_port p)
-    if_at p has x true on inner e = by_at p (sides alone tests alone_settled p (has, on)) x (bridge p.bridge) inner e
-    if_at p has x false on inner e = let part = inner.is_enabled.1 in cc
+    if_at : (p : TreePort N L K CistPort) (has : HasPort t p) (x : MstiBridge) (c : Bool) (on : p.is_part ≡ c) → IsInternal alone p → bridge p.bridge ≡ Some x → port_if p has c on ≡ Some (tree_port p)
+    if_at p has x true on internal e = by_at p (sides alone tests alone_settled p (has, on)) x (bridge p.bridge) internal e
+    if_at p has x false on internal e = let part = internal.is_enabled.1 in cc
 
-    among_ports : (ps : List (Plug N L K CistPort)) (all : (p : Plug N L K CistPort) → Among p ps → HasPort t p) (q : Plug N L K MstiPort) → Among q (ports_of ps all) → FromPort q
+    among_ports : (ps : List (TreePort N L K CistPort)) (all : (p : TreePort N L K CistPort) → Among p ps → HasPort t p) (q : TreePort N L K MstiPort) → Among q (ports_of ps all) → FromPort q
     among_ports [] all q h = absurd h
     among_ports (p ∷ ps) all q h = go (among_either q (port_if p (all p (inl refl)) p.is_part refl) (ports_of ps (λ r g. all r (inr g))) h) (among_ports ps (λ r g. all r (inr g)) q)
       where
@@ -146,15 +146,15 @@ module _ {N L K : Type 0} (t : Topology N L K CistBridge CistPort) (tests : KeyT
         go (inl e) rest = if_is p q (all p (inl refl)) p.is_part refl e
         go (inr r) rest = rest r
 
-    ports_among : (ps : List (Plug N L K CistPort)) (all : (p : Plug N L K CistPort) → Among p ps → HasPort t p) (p : Plug N L K CistPort) (x : MstiBridge) → Among p ps → IsInner alone p → bridge p.bridge ≡ Some x → Among (tree_port p) (ports_of ps all)
-    ports_among [] all p x h inner e = absurd h
-    ports_among (r ∷ ps) all p x h inner e = elim h [
-      | inl f ↦ among_first (tree_port p) (port_if r (all r (inl refl)) r.is_part refl) (ports_of ps (λ q g. all q (inr g))) (if_at r (all r (inl refl)) x r.is_part refl (subst (IsInner alone) f inner) (ap (λ (k : Plug N L K CistPort). bridge k.bridge) (sym f) ∙ e) ∙ ap (λ (k : Plug N L K CistPort). Some (tree_port k)) (sym f))
-      | inr g ↦ among_cons (tree_port p) (port_if r (all r (inl refl)) r.is_part refl) (ports_of ps (λ q k. all q (inr k))) (ports_among ps (λ q k. all q (inr k)) p x g inner e)
+    ports_among : (ps : List (TreePort N L K CistPort)) (all : (p : TreePort N L K CistPort) → Among p ps → HasPort t p) (p : TreePort N L K CistPort) (x : MstiBridge) → Among p ps → IsInternal alone p → bridge p.bridge ≡ Some x → Among (tree_port p) (ports_of ps all)
+    ports_among [] all p x h internal e = absurd h
+    ports_among (r ∷ ps) all p x h internal e = elim h [
+      | inl f ↦ among_first (tree_port p) (port_if r (all r (inl refl)) r.is_part refl) (ports_of ps (λ q g. all q (inr g))) (if_at r (all r (inl refl)) x r.is_part refl (subst (IsInternal alone) f internal) (ap (λ (k : TreePort N L K CistPort). bridge k.bridge) (sym f) ∙ e) ∙ ap (λ (k : TreePort N L K CistPort). Some (tree_port k)) (sym f))
+      | inr g ↦ among_cons (tree_port p) (port_if r (all r (inl refl)) r.is_part refl) (ports_of ps (λ q k. all q (inr k))) (ports_among ps (λ q k. all q (inr k)) p x g internal e)
     ]
 
-    pub port_is : (q : Plug N L K MstiPort) → HasPort msti_of q → FromPort q
+    pub port_is : (q : TreePort N L K MstiPort) → HasPort msti_of q → FromPort q
     port_is q h = among_ports t.ports (λ p g. among-contains t.ports p g) q (contains-among (ports_of t.ports (λ p g. among-contains t.ports p g)) q h)
 
-    pub is_port : (p : Plug N L K CistPort) (x : MstiBridge) → IsInner alone p → bridge p.bridge ≡ Some x → HasPort msti_of (tree_port p)
-    is_port p x inner e = among-contains (ports_of t.ports (λ q g. among-contains t.ports q g)) (tree_port p) (ports_among t.ports (λ q g. among-contains t.ports q g) p x (contains-among t.ports p inner.is_enabled.0) inner e)
+    pub is_port : (p : TreePort N L K CistPort) (x : MstiBridge) → IsInternal alone p → bridge p.bridge ≡ Some x → HasPort msti_of (tree_port p)
+    is_port p x internal e = among-contains (ports_of t.ports (λ q g. among-contains t.ports q g)) (tree_port p) (ports_among t.ports (λ q g. among-contains t.ports q g) p x (contains-among t.ports p internal.is_enabled.0) internal e)

@@ -1,6 +1,6 @@
 -- Root and designated ports of one settled tree, within a region.
 use Rattle.std.proofs.Common.{◌≡◌, sym, ◌∙◌, ap, ℕ, ◌<◌, Option, Some, None, IsTrue, arith}
-use Rattle.mst_settle.specs.Topology.{Plug}
+use Rattle.mst_settle.specs.Topology.{TreePort}
 use Rattle.mst_graph.specs.Walks.{Node, bridge_at, lan_at}
 use Rattle.mst_nested.proofs.Settled.{SettledTree}
 use Rattle.mst_nested.proofs.Ports.{Placed, Heard, node_vector, lan_vector_is, some_is}
@@ -11,7 +11,7 @@ module _ {N L K B P V : Type 0} (tree : SettledTree N L K B P V) where
   open tree use {rules as m, lawful as law, topology as t, vector as v, is_tree.{topology as ok, settled, port_ids}, tests, within as w, is_within as within}
 
   -- a bridge has one root port
-  pub one_root_port : (p q : Plug N L K P) → IsRootPort m t v w.receiver p → IsRootPort m t v w.receiver q → p.bridge ≡ q.bridge → p ≡ q
+  pub one_root_port : (p q : TreePort N L K P) → IsRootPort m t v w.receiver p → IsRootPort m t v w.receiver q → p.bridge ≡ q.bridge → p ≡ q
   one_root_port p q r s e =
       let same : r.vector ≡ s.vector = some_is (sym r.is_vector ∙ (ap v e ∙ s.is_vector)) in
       ok.port_ids p q r.part.0 r.part.1 s.part.0 s.part.1 e (sym r.came_by ∙ (ap w.receiver same ∙ s.came_by))
@@ -33,11 +33,11 @@ module _ {N L K B P V : Type 0} (tree : SettledTree N L K B P V) where
   abbrev pub cost_at : Node N L → ℕ
   cost_at x = cost_of (node_vector tree x)
 
-  pub designated_cost : (p : Plug N L K P) → IsDesignatedPort m t v p → cost_at (lan_at p.lan) ≡ cost_at (bridge_at p.bridge)
+  pub designated_cost : (p : TreePort N L K P) → IsDesignatedPort m t v p → cost_at (lan_at p.lan) ≡ cost_at (bridge_at p.bridge)
   designated_cost p d = ap cost_of (lan_vector_is tree p.lan (record { port = p; message = d.message; designates = d.designates }))
 
   -- it rises along a root port within a region
-  pub root_cost : (p : Plug N L K P) → IsRootPort m t v w.receiver p → ((a : Placed tree p.bridge) (d : Heard tree p.lan) → IsTrue (w.is_near d.designates.says.bridge a.bridge)) → cost_at (lan_at p.lan) < cost_at (bridge_at p.bridge)
+  pub root_cost : (p : TreePort N L K P) → IsRootPort m t v w.receiver p → ((a : Placed tree p.bridge) (d : Heard tree p.lan) → IsTrue (w.is_near d.designates.says.bridge a.bridge)) → cost_at (lan_at p.lan) < cost_at (bridge_at p.bridge)
   root_cost p r near = go (took_along tree p r.part at r.came_by)
     where
       at : Placed tree p.bridge
@@ -45,7 +45,7 @@ module _ {N L K B P V : Type 0} (tree : SettledTree N L K B P V) where
 
       go : (k : Took tree p.bridge at) × (k.port ≡ p) → cost_at (lan_at p.lan) < cost_at (bridge_at p.bridge)
       go k =
-          let d : Heard tree p.lan = on_same_lan (ap (λ (q : Plug N L K P). q.lan) k.1) k.0.heard in
+          let d : Heard tree p.lan = on_same_lan (ap (λ (q : TreePort N L K P). q.lan) k.1) k.0.heard in
           let h = near_step tree p.bridge at k.0 (near at d) in
           let c = h.costs in
           let one = h.positive in

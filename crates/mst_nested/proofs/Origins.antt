@@ -1,7 +1,7 @@
 -- Where the vectors of a region's bridges come from in one settled tree, and what walks from there cost.
 use Rattle.std.proofs.Common.{◌≡◌, ◌≢◌, ◌⊎◌, inl, inr, refl, sym, ◌∙◌, ap, subst, ℕ, zero, suc, ◌+◌, ◌<◌, ◌≤◌, Bool, true, false, IsTrue, arith}
-use Rattle.mst_settle.specs.Topology.{Plug, HasBridge}
-use Rattle.mst_settle.specs.Settled.{Steps}
+use Rattle.mst_settle.specs.Topology.{TreePort, HasBridge}
+use Rattle.mst_settle.specs.Settled.{IsRootPathVector}
 use Rattle.mst_nested.specs.Trees.{TakesPart, IsUnrestricted}
 use Rattle.mst_nested.specs.Costs.{CostWalk, at_start, enter}
 use Rattle.mst_nested.proofs.Settled.{SettledTree}
@@ -27,22 +27,22 @@ module _ {N L K B P V : Type 0} (tree : SettledTree N L K B P V) where
 
   -- the bridge's vector is a step along this port, whose role isn't restricted
   pub record Took (n : N) (a : Placed tree n) : Type 0 where
-    pub port : Plug N L K P
+    pub port : TreePort N L K P
     pub part : TakesPart t port
     pub is_free : port.is_restricted ≡ false
     pub on_bridge : port.bridge ≡ n
     pub heard : Heard tree port.lan
     pub from_other : heard.port.bridge ≢ n
-    pub is_step : a.vector ≡ m.step heard.message heard.designates.says.bridge a.bridge port.settings
+    pub is_made : a.vector ≡ m.root_path_vector heard.message heard.designates.says.bridge a.bridge port.settings
 
   -- a bridge's vector is its own or a step
-  pub took : (n : N) (a : Placed tree n) → (a.vector ≡ m.own a.bridge) ⊎ Took n a
+  pub took : (n : N) (a : Placed tree n) → (a.vector ≡ m.bridge_vector a.bridge) ⊎ Took n a
   took n a = elim (settled.bridges n a.bridge a.vector a.has_bridge a.is_vector).can_take [
     | inl e ↦ inl e
     | inr s ↦ inr (step s)
   ]
     where
-      step : Steps m t v n a.bridge a.vector → Took n a
+      step : IsRootPathVector m t v n a.bridge a.vector → Took n a
       step s =
           let who : s.sender ≡ s.designates.says.bridge = ok.one_bridge s.from.bridge s.sender s.designates.says.bridge s.has_sender s.designates.says.has_bridge in
           record {
@@ -52,15 +52,15 @@ module _ {N L K B P V : Type 0} (tree : SettledTree N L K B P V) where
             on_bridge = s.on_bridge;
             heard = record { port = s.from; message = s.message; designates = s.designates };
             from_other = s.from_other;
-            is_step = sym s.is_step ∙ ap (λ c. m.step s.message c a.bridge s.port.settings) who;
+            is_made = sym s.is_made ∙ ap (λ c. m.root_path_vector s.message c a.bridge s.port.settings) who;
           }
 
   -- a step names its port as the receiving one
   pub names_port : (n : N) (a : Placed tree n) (k : Took n a) → w.receiver a.vector ≡ m.port_id k.port.settings
-  names_port n a k = ap w.receiver k.is_step ∙ within.step_receiver k.heard.message k.heard.designates.says.bridge a.bridge k.port.settings
+  names_port n a k = ap w.receiver k.is_made ∙ within.step_receiver k.heard.message k.heard.designates.says.bridge a.bridge k.port.settings
 
   -- and a vector that names a port so is a step along it
-  pub took_along : (p : Plug N L K P) → TakesPart t p → (a : Placed tree p.bridge) → w.receiver a.vector ≡ m.port_id p.settings → (k : Took p.bridge a) × (k.port ≡ p)
+  pub took_along : (p : TreePort N L K P) → TakesPart t p → (a : Placed tree p.bridge) → w.receiver a.vector ≡ m.port_id p.settings → (k : Took p.bridge a) × (k.port ≡ p)
   took_along p part a by = elim (took p.bridge a) [
     | inl e ↦ absurd (port_ids p part.0 (sym by ∙ (ap w.receiver e ∙ within.own_receiver a.bridge)))
     | inr k ↦ (k, ok.port_ids k.port p k.part.0 k.part.1 part.0 part.1 k.on_bridge (sym (names_port p.bridge a k) ∙ by))
@@ -77,18 +77,18 @@ module _ {N L K B P V : Type 0} (tree : SettledTree N L K B P V) where
       let s = k.heard.designates.says in
       let message = sym s.is_designated in
       record {
-        same = ap w.shared k.is_step ∙ (within.near_shared k.heard.message s.bridge a.bridge k.port.settings near ∙ (ap w.shared message ∙ within.designated_shared s.root s.bridge k.heard.port.settings));
-        costs = ap w.internal k.is_step ∙ (within.near_internal k.heard.message s.bridge a.bridge k.port.settings near ∙ ap (λ (i : ℕ). i + w.cost k.port.settings) (ap w.internal message ∙ within.designated_internal s.root s.bridge k.heard.port.settings));
+        same = ap w.shared k.is_made ∙ (within.near_shared k.heard.message s.bridge a.bridge k.port.settings near ∙ (ap w.shared message ∙ within.designated_shared s.root s.bridge k.heard.port.settings));
+        costs = ap w.internal k.is_made ∙ (within.near_internal k.heard.message s.bridge a.bridge k.port.settings near ∙ ap (λ (i : ℕ). i + w.cost k.port.settings) (ap w.internal message ∙ within.designated_internal s.root s.bridge k.heard.port.settings));
         positive = within.costs k.port.settings (ok.in_range k.port k.part.0);
       }
 
   -- the ports of one kind are those within a region
-  pub record AreNear (IsPort : Plug N L K P → Type 0) : Type 0 where
-    pub part : (p : Plug N L K P) → IsPort p → TakesPart t p
-    pub near : (p : Plug N L K P) → IsPort p → (a : Placed tree p.bridge) (d : Heard tree p.lan) → IsTrue (w.is_near d.designates.says.bridge a.bridge)
-    pub from_near : (p : Plug N L K P) → TakesPart t p → (a : Placed tree p.bridge) (d : Heard tree p.lan) → IsTrue (w.is_near d.designates.says.bridge a.bridge) → IsPort p
+  pub record AreNear (IsPort : TreePort N L K P → Type 0) : Type 0 where
+    pub part : (p : TreePort N L K P) → IsPort p → TakesPart t p
+    pub near : (p : TreePort N L K P) → IsPort p → (a : Placed tree p.bridge) (d : Heard tree p.lan) → IsTrue (w.is_near d.designates.says.bridge a.bridge)
+    pub from_near : (p : TreePort N L K P) → TakesPart t p → (a : Placed tree p.bridge) (d : Heard tree p.lan) → IsTrue (w.is_near d.designates.says.bridge a.bridge) → IsPort p
 
-  module _ (IsPort : Plug N L K P → Type 0) (are : AreNear IsPort) where
+  module _ (IsPort : TreePort N L K P → Type 0) (are : AreNear IsPort) where
     pub designated_port : {lan : L} → (d : Heard tree lan) → IsPort d.port
     designated_port d =
         let s = d.designates.says in
@@ -100,7 +100,7 @@ module _ {N L K B P V : Type 0} (tree : SettledTree N L K B P V) where
       pub at : Placed tree root
       pub same : w.shared at.vector ≡ w.shared a.vector
       pub no_cost : w.internal at.vector ≡ 0
-      pub began : (at.vector ≡ m.own at.bridge) ⊎ ((k : Took root at) × (w.is_near k.heard.designates.says.bridge at.bridge ≡ false))
+      pub began : (at.vector ≡ m.bridge_vector at.bridge) ⊎ ((k : Took root at) × (w.is_near k.heard.designates.says.bridge at.bridge ≡ false))
       pub walk : CostWalk IsPort w.cost root n (w.internal a.vector)
 
     origin_below : (bound : ℕ) (n : N) (a : Placed tree n) → w.internal a.vector < bound → Origin n a
@@ -110,11 +110,11 @@ module _ {N L K B P V : Type 0} (tree : SettledTree N L K B P V) where
       | inr k ↦ go (origin_below bound) k (w.is_near k.heard.designates.says.bridge a.bridge) refl
     ]
       where
-        begins : w.internal a.vector ≡ 0 → (a.vector ≡ m.own a.bridge) ⊎ ((k : Took n a) × (w.is_near k.heard.designates.says.bridge a.bridge ≡ false)) → Origin n a
+        begins : w.internal a.vector ≡ 0 → (a.vector ≡ m.bridge_vector a.bridge) ⊎ ((k : Took n a) × (w.is_near k.heard.designates.says.bridge a.bridge ≡ false)) → Origin n a
         begins e how = record { root = n; at = a; same = refl; no_cost = e; began = how; walk = subst (CostWalk IsPort w.cost n n) (sym e) at_start }
 
         go : ((i : N) (c : Placed tree i) → w.internal c.vector < bound → Origin i c) → (k : Took n a) (c : Bool) → w.is_near k.heard.designates.says.bridge a.bridge ≡ c → Origin n a
-        go rest k false e = begins (ap w.internal k.is_step ∙ within.far_internal k.heard.message k.heard.designates.says.bridge a.bridge k.port.settings e) (inr (k, e))
+        go rest k false e = begins (ap w.internal k.is_made ∙ within.far_internal k.heard.message k.heard.designates.says.bridge a.bridge k.port.settings e) (inr (k, e))
         go rest k true e =
             let from : Placed tree k.heard.port.bridge = sender tree k.heard in
             let h = near_step n a k e in

@@ -1,21 +1,21 @@
 -- Ports with roles are a forest.
 use Rattle.std.proofs.Common.{◌≡◌, ◌⊎◌, inl, inr, sym, ◌∙◌, ap, ◌<◌, arith}
-use Rattle.mst_settle.specs.Topology.{Plug}
+use Rattle.mst_settle.specs.Topology.{TreePort}
 use Rattle.mst_graph.specs.Walks.{Node, bridge_at, lan_at}
 use Rattle.mst_nested.specs.Ports.{port_ends}
 use Rattle.mst_graph.specs.TreesInParts.{Climbs, HasTreesInParts}
 use Rattle.mst_nested.proofs.Places.{Places, place_rank, levels, HasRoles, IsInside}
 
-module _ {N L K P : Type 0} (q : Places N L) (Active Root Designated : Plug N L K P → Type 0) (ok : HasRoles q Active Root Designated) where
+module _ {N L K P : Type 0} (q : Places N L) (Active Root Designated : TreePort N L K P → Type 0) (ok : HasRoles q Active Root Designated) where
   -- what climbs from a bridge is a root port
-  climbs_root : (e : Plug N L K P) → Active e → IsInside q e → place_rank q (lan_at e.lan) < place_rank q (bridge_at e.bridge) → Root e
+  climbs_root : (e : TreePort N L K P) → Active e → IsInside q e → place_rank q (lan_at e.lan) < place_rank q (bridge_at e.bridge) → Root e
   climbs_root e act i l = elim (ok.role e act i) [
     | inl d ↦ (let h = ok.designated_lead e d in absurd (omega arith))
     | inr r ↦ r
   ]
 
   -- and from a LAN a designated port
-  climbs_designated : (e : Plug N L K P) → Active e → IsInside q e → place_rank q (bridge_at e.bridge) < place_rank q (lan_at e.lan) → Designated e
+  climbs_designated : (e : TreePort N L K P) → Active e → IsInside q e → place_rank q (bridge_at e.bridge) < place_rank q (lan_at e.lan) → Designated e
   climbs_designated e act i l = elim (ok.role e act i) [
     | inl d ↦ d
     | inr r ↦ (let h = ok.root_lead e r in absurd (omega arith))
@@ -31,10 +31,10 @@ module _ {N L K P : Type 0} (q : Places N L) (Active Root Designated : Plug N L 
   apart d e = cc
 
   -- the port that climbs from a node
-  abbrev Up : Node N L → Plug N L K P → Type 0
+  abbrev Up : Node N L → TreePort N L K P → Type 0
   Up x e = ((bridge_at e.bridge ≡ x) × Root e) ⊎ ((lan_at e.lan ≡ x) × Designated e)
 
-  up_of : (x : Node N L) (e : Plug N L K P) → Climbs port_ends Active (levels q) x e → Up x e
+  up_of : (x : Node N L) (e : TreePort N L K P) → Climbs port_ends Active (levels q) x e → Up x e
   up_of x e c = elim c.links [
     | inl h ↦ inl (
       h.0,
@@ -48,7 +48,7 @@ module _ {N L K P : Type 0} (q : Places N L) (Active Root Designated : Plug N L 
     )
   ]
 
-  one_up : (x : Node N L) (e f : Plug N L K P) → Up x e → Up x f → e ≡ f
+  one_up : (x : Node N L) (e f : TreePort N L K P) → Up x e → Up x f → e ≡ f
   one_up x e f u v = elim u [
     | inl a ↦ elim v [ inl b ↦ ok.one_root_port e f a.1 b.1 (same_bridge a.0 b.0) | inr b ↦ absurd (apart a.0 b.0) ]
     | inr a ↦ elim v [ inl b ↦ absurd (apart b.0 a.0) | inr b ↦ ok.one_designated e f a.1 b.1 (same_lan a.0 b.0) ]

@@ -1,6 +1,6 @@
 -- Ports with roles join what is enabled.
 use Rattle.std.proofs.Common.{◌≡◌, ◌⊎◌, inl, inr, refl, sym, ◌∙◌, ap, subst, ℕ, arith}
-use Rattle.mst_settle.specs.Topology.{Plug}
+use Rattle.mst_settle.specs.Topology.{TreePort}
 use Rattle.mst_graph.specs.Walks.{Node, Walk, bridge_at, lan_at}
 use Rattle.mst_nested.specs.Ports.{port_ends}
 use Rattle.mst_graph.specs.Joined.{IsJoined}
@@ -14,8 +14,8 @@ abbrev pub IsRootNode : {N L : Type 0} → (N → Type 0) → Node N L → Type 
 IsRootNode IsRoot (bridge_at b) = IsRoot b
 IsRootNode IsRoot (lan_at l) = ⊥
 
-module _ {N L K P : Type 0} (q : Places N L) (Enabled Active Root Designated : Plug N L K P → Type 0) (group : Node N L → ℕ) (IsRoot : N → Type 0) (ok : HasRoles q Active Root Designated) (tops : HasRoleTops q Enabled Active Root Designated group IsRoot) where
-  bridge_up : (e : Plug N L K P) → Enabled e → ((d : Plug N L K P) × Climbs port_ends Active (levels q) (bridge_at e.bridge) d) ⊎ IsRoot e.bridge
+module _ {N L K P : Type 0} (q : Places N L) (Enabled Active Root Designated : TreePort N L K P → Type 0) (group : Node N L → ℕ) (IsRoot : N → Type 0) (ok : HasRoles q Active Root Designated) (tops : HasRoleTops q Enabled Active Root Designated group IsRoot) where
+  bridge_up : (e : TreePort N L K P) → Enabled e → ((d : TreePort N L K P) × Climbs port_ends Active (levels q) (bridge_at e.bridge) d) ⊎ IsRoot e.bridge
   bridge_up e on = elim (tops.bridge_way e on) [
     | inl w ↦ inl (
       w.port,
@@ -30,7 +30,7 @@ module _ {N L K P : Type 0} (q : Places N L) (Enabled Active Root Designated : P
     | inr r ↦ inr r
   ]
 
-  lan_up : (e : Plug N L K P) → Enabled e → (d : Plug N L K P) × Climbs port_ends Active (levels q) (lan_at e.lan) d
+  lan_up : (e : TreePort N L K P) → Enabled e → (d : TreePort N L K P) × Climbs port_ends Active (levels q) (lan_at e.lan) d
   lan_up e on =
       let w = tops.lan_way e on in (
         w.port,
@@ -45,15 +45,15 @@ module _ {N L K P : Type 0} (q : Places N L) (Enabled Active Root Designated : P
 
   -- a node has the way out of its part that a bridge of the part has
   abbrev Out : Node N L → Type 0
-  Out x = ((d : Plug N L K P) × Leaves port_ends Active (levels q) x d) ⊎ (q.part x ≡ group x)
+  Out x = ((d : TreePort N L K P) × Leaves port_ends Active (levels q) x d) ⊎ (q.part x ≡ group x)
 
-  bridge_out : (e : Plug N L K P) → Enabled e → Out (bridge_at e.bridge)
+  bridge_out : (e : TreePort N L K P) → Enabled e → Out (bridge_at e.bridge)
   bridge_out e on = elim (tops.way_out e on) [
     | inl w ↦ inl (w.port, record { is_active = w.is_active; own = w.own; other = w.other })
     | inr t ↦ inr t
   ]
 
-  lan_out : (e : Plug N L K P) → Enabled e → Out (lan_at e.lan)
+  lan_out : (e : TreePort N L K P) → Enabled e → Out (lan_at e.lan)
   lan_out e on =
       let w = tops.lan_way e on in
       elim (tops.way_out w.port (tops.enabled w.port w.is_active)) [
@@ -61,10 +61,10 @@ module _ {N L K P : Type 0} (q : Places N L) (Enabled Active Root Designated : P
         | inr t ↦ inr (sym w.same_part ∙ (t ∙ (tops.one_group w.port (tops.enabled w.port w.is_active) ∙ ap (λ l. group (lan_at l)) w.on_lan)))
       ]
 
-  way_up : (x : Node N L) → Touches port_ends Enabled x → ((d : Plug N L K P) × Climbs port_ends Active (levels q) x d) ⊎ IsRootNode IsRoot x
+  way_up : (x : Node N L) → Touches port_ends Enabled x → ((d : TreePort N L K P) × Climbs port_ends Active (levels q) x d) ⊎ IsRootNode IsRoot x
   way_up x t = elim t.is_end [
-    | inl h ↦ subst (λ (y : Node N L). ((d : Plug N L K P) × Climbs port_ends Active (levels q) y d) ⊎ IsRootNode IsRoot y) h (bridge_up t.edge t.is_enabled)
-    | inr h ↦ subst (λ (y : Node N L). ((d : Plug N L K P) × Climbs port_ends Active (levels q) y d) ⊎ IsRootNode IsRoot y) h (inl (lan_up t.edge t.is_enabled))
+    | inl h ↦ subst (λ (y : Node N L). ((d : TreePort N L K P) × Climbs port_ends Active (levels q) y d) ⊎ IsRootNode IsRoot y) h (bridge_up t.edge t.is_enabled)
+    | inr h ↦ subst (λ (y : Node N L). ((d : TreePort N L K P) × Climbs port_ends Active (levels q) y d) ⊎ IsRootNode IsRoot y) h (inl (lan_up t.edge t.is_enabled))
   ]
 
   way_out : (x : Node N L) → Touches port_ends Enabled x → Out x

@@ -2,16 +2,16 @@
 use Rattle.std.proofs.Common.{◌≡◌, ◌≢◌, ◌⊎◌, inl, inr, refl, sym, ◌∙◌, ap, subst, ℕ, suc, ◌+◌, ◌<◌, ◌≤◌, [], ◌∷◌, Option, Some, None, false, ◌==◌, arith}
 use Rattle.std.specs.Ordering.{is_gt}
 use Rattle.std.proofs.lemmas.Bool.{eqb-false}
-use Rattle.mst_vector.specs.Cist.{cist_rules, cist_own, cist_step}
+use Rattle.mst_vector.specs.Cist.{cist_rules, cist_bridge_vector, cist_root_path_vector}
 use Rattle.mst_vector.specs.CistLaws.{cist_lawful}
 use Rattle.mst_vector.specs.declared.cist.CistVector.{CistVector}
 use Rattle.mst_vector.specs.declared.cist.CistBridge.{CistBridge}
 use Rattle.mst_vector.specs.declared.cist.CistPort.{CistPort}
-use Rattle.mst_settle.specs.Topology.{Plug, HasBridge, KeyTests}
+use Rattle.mst_settle.specs.Topology.{TreePort, HasBridge, KeyTests}
 use Rattle.mst_settle.proofs.Below.{one_designated}
 use Rattle.mst_graph.specs.Walks.{bridge_at, lan_at}
 use Rattle.mst_nested.specs.Ports.{port_ends}
-use Rattle.mst_nested.specs.Trees.{Trees, IsEnabled, IsInner, IsSettled, IsFree, SamePart}
+use Rattle.mst_nested.specs.Trees.{Trees, IsEnabled, IsInternal, IsSettled, IsFree, SamePart}
 use Rattle.mst_nested.specs.Costs.{CostWalk}
 use Rattle.mst_nested.specs.Parts.{SameRoots}
 use Rattle.mst_nested.proofs.Settled.{cist_tree}
@@ -21,7 +21,7 @@ use Rattle.mst_nested.proofs.Ports.{Meets, sender, meets}
 use Rattle.mst_nested.proofs.Origins.{Took, origin, took_along, on_same_lan, same_placed}
 use Rattle.mst_graph.proofs.Walks.{back}
 use Rattle.mst_nested.proofs.CostWalks.{walk_of}
-use Rattle.mst_nested.proofs.Parts.{At, HeardOn, at_port, heard_at, inner_near, IsOuter, part_region, vector_at, vector_on}
+use Rattle.mst_nested.proofs.Parts.{At, HeardOn, at_port, heard_at, internal_near, IsOuter, part_region, vector_at, vector_on}
 
 pub same_roots : (x y : CistVector) → cist_within.shared x ≡ cist_within.shared y → SameRoots x y
 same_roots x y e = record { root = cc; external = cc; regional = cc }
@@ -43,14 +43,14 @@ module _ {N L K : Type 0} (f : Trees N L K) (tests : KeyTests N L) (ok : IsSettl
     pub is_named : at.bridge.id ≡ a.vector.regional
     pub same : SameRoots at.vector a.vector
     pub no_cost : at.vector.internal ≡ 0
-    pub began : (at.vector ≡ cist_own at.bridge) ⊎ TookFar root at
+    pub began : (at.vector ≡ cist_bridge_vector at.bridge) ⊎ TookFar root at
     pub in_part : SamePart f (bridge_at n) (bridge_at root)
     pub same_region : at.bridge.region ≡ a.bridge.region
-    pub walk : CostWalk (IsInner f) (λ p. p.internal) root n a.vector.internal
+    pub walk : CostWalk (IsInternal f) (λ p. p.internal) root n a.vector.internal
 
   pub regional : (n : N) (a : At f tests ok n) → Regional n a
   regional n a =
-      let o = origin (cist_tree f tests ok) (IsInner f) (inner_near f tests ok) n a in
+      let o = origin (cist_tree f tests ok) (IsInternal f) (internal_near f tests ok) n a in
       let same = same_roots o.at.vector a.vector o.same in
       let to : SamePart f (bridge_at n) (bridge_at o.root) = back port_ends (walk_of o.walk) in
       let there = part_region f tests ok a.bridge.region to (a.bridge, a.has_bridge, refl) in
@@ -67,9 +67,9 @@ module _ {N L K : Type 0} (f : Trees N L K) (tests : KeyTests N L) (ok : IsSettl
         walk = o.walk;
       }
     where
-      named : {k : N} → (c : At f tests ok k) → (c.vector ≡ cist_own c.bridge) ⊎ TookFar k c → c.bridge.id ≡ c.vector.regional
+      named : {k : N} → (c : At f tests ok k) → (c.vector ≡ cist_bridge_vector c.bridge) ⊎ TookFar k c → c.bridge.id ≡ c.vector.regional
       named c (inl e) = sym (ap (λ (x : CistVector). x.regional) e)
-      named c (inr t) = sym (ap (λ (x : CistVector). x.regional) t.0.is_step ∙ cist_far_regional t.0.heard.message t.0.heard.designates.says.bridge c.bridge t.0.port.settings t.1)
+      named c (inr t) = sym (ap (λ (x : CistVector). x.regional) t.0.is_made ∙ cist_far_regional t.0.heard.message t.0.heard.designates.says.bridge c.bridge t.0.port.settings t.1)
 
   -- bridges of one identifier are one
   pub one_id : {n k : N} → (a : At f tests ok n) (c : At f tests ok k) → a.bridge.id ≡ c.bridge.id → n ≡ k
@@ -90,7 +90,7 @@ module _ {N L K : Type 0} (f : Trees N L K) (tests : KeyTests N L) (ok : IsSettl
 
   -- a LAN has one designated bridge
   one_sender : {lan : L} → (d e : HeardOn f tests ok lan) → d.port.bridge ≡ e.port.bridge
-  one_sender {lan} d e = ap (λ (q : Plug N L K CistPort). q.bridge) (one_designated cist_rules cist_lawful f.cist ok.cist.topology f.cist_vector lan d.port e.port d.message e.message d.designates e.designates)
+  one_sender {lan} d e = ap (λ (q : TreePort N L K CistPort). q.bridge) (one_designated cist_rules cist_lawful f.cist ok.cist.topology f.cist_vector lan d.port e.port d.message e.message d.designates e.designates)
 
   pub one_root : {lan : L} → (d e : HeardOn f tests ok lan) → d.designates.says.root ≡ e.designates.says.root
   one_root d e = same_vector (one_sender d e) (sends d) (sends e)
@@ -103,7 +103,7 @@ module _ {N L K : Type 0} (f : Trees N L K) (tests : KeyTests N L) (ok : IsSettl
   part_by_root a c e r s = one_id r.at s.at (r.is_named ∙ (e ∙ sym s.is_named))
 
   -- an outer port's bridge and LAN have different regional roots
-  pub outer_roots : (p : Plug N L K CistPort) → (o : IsOuter f tests ok p) → o.at.vector.regional ≢ o.heard.designates.says.root.regional
+  pub outer_roots : (p : TreePort N L K CistPort) → (o : IsOuter f tests ok p) → o.at.vector.regional ≢ o.heard.designates.says.root.regional
   outer_roots p o e =
       let from : At f tests ok o.heard.port.bridge = sends o.heard in
       let r = regional p.bridge o.at in
@@ -117,32 +117,32 @@ module _ {N L K : Type 0} (f : Trees N L K) (tests : KeyTests N L) (ok : IsSettl
   far_outer n a t = record { at = same_placed (sym t.0.on_bridge) a; heard = t.0.heard; is_far = t.1 }
 
   -- an outer port by which its bridge's vector came
-  pub record LeadsOut (p : Plug N L K CistPort) (o : IsOuter f tests ok p) : Type 0 where
+  pub record LeadsOut (p : TreePort N L K CistPort) (o : IsOuter f tests ok p) : Type 0 where
     pub is_root : o.at.vector.regional ≡ o.at.bridge.id
     pub falls : o.heard.designates.says.root.external < o.at.vector.external
 
   -- it is that of a regional root, and the external root path cost falls along it
-  pub leads_out : (p : Plug N L K CistPort) (o : IsOuter f tests ok p) → IsEnabled f p → o.at.vector.receiver ≡ p.settings.id → LeadsOut p o
+  pub leads_out : (p : TreePort N L K CistPort) (o : IsOuter f tests ok p) → IsEnabled f p → o.at.vector.receiver ≡ p.settings.id → LeadsOut p o
   leads_out p o on by = go (took_along (cist_tree f tests ok) p on o.at by)
     where
       go : (k : Took (cist_tree f tests ok) p.bridge o.at) × (k.port ≡ p) → LeadsOut p o
       go k =
           let t = k.0 in
-          let d : HeardOn f tests ok p.lan = on_same_lan (ap (λ (q : Plug N L K CistPort). q.lan) k.1) t.heard in
+          let d : HeardOn f tests ok p.lan = on_same_lan (ap (λ (q : TreePort N L K CistPort). q.lan) k.1) t.heard in
           let s = t.heard.designates.says in
           let far : (s.bridge.region == o.at.bridge.region) ≡ false = ap (λ (b : CistBridge). b.region == o.at.bridge.region) (one_sending_bridge d o.heard) ∙ o.is_far in
           let message : t.heard.message.external ≡ s.root.external = ap (λ (x : CistVector). x.external) (sym s.is_designated) in
           let root : s.root.external ≡ o.heard.designates.says.root.external = ap (λ (x : CistVector). x.external) (one_root d o.heard) in
-          let rise : o.at.vector.external ≡ t.heard.message.external + t.port.settings.external = ap (λ (x : CistVector). x.external) t.is_step ∙ cist_far_external t.heard.message s.bridge o.at.bridge t.port.settings far in
+          let rise : o.at.vector.external ≡ t.heard.message.external + t.port.settings.external = ap (λ (x : CistVector). x.external) t.is_made ∙ cist_far_external t.heard.message s.bridge o.at.bridge t.port.settings far in
           let positive = cist_external t.port.settings (ok.cist.topology.in_range t.port t.part.0) in
           record {
-            is_root = ap (λ (x : CistVector). x.regional) t.is_step ∙ cist_far_regional t.heard.message s.bridge o.at.bridge t.port.settings far;
+            is_root = ap (λ (x : CistVector). x.regional) t.is_made ∙ cist_far_regional t.heard.message s.bridge o.at.bridge t.port.settings far;
             falls = omega arith;
           }
 
   module _ (free : IsFree f) where
     -- a port's bridge has the root of its LAN's designated bridge
-    pub port_root : (p : Plug N L K CistPort) → IsEnabled f p → (a : At f tests ok p.bridge) (d : HeardOn f tests ok p.lan) → a.vector.root ≡ d.designates.says.root.root
+    pub port_root : (p : TreePort N L K CistPort) → IsEnabled f p → (a : At f tests ok p.bridge) (d : HeardOn f tests ok p.lan) → a.vector.root ≡ d.designates.says.root.root
     port_root p on a d = go (meets (cist_tree f tests ok) p on (free.cist p on.0) a d)
       where
         upto : (x y : CistVector) → is_gt (cist_rules.order x y) ≡ false → x.root ≤ y.root
@@ -154,11 +154,11 @@ module _ {N L K : Type 0} (f : Trees N L K) (tests : KeyTests N L) (ok : IsSettl
             let s = d.designates.says in
             let message : d.message.root ≡ s.root.root = ap (λ (x : CistVector). x.root) (sym s.is_designated) in
             let step = cist_root d.message s.bridge a.bridge p.settings in
-            let low = upto a.vector (cist_step d.message s.bridge a.bridge p.settings) h.hears in
-            let high = upto d.message (cist_rules.designated a.vector a.bridge p.settings) h.says_worse in
+            let low = upto a.vector (cist_root_path_vector d.message s.bridge a.bridge p.settings) h.hears in
+            let high = upto d.message (cist_rules.designated_vector a.vector a.bridge p.settings) h.says_worse in
             omega arith
 
-    pub enabled_root : (p : Plug N L K CistPort) → IsEnabled f p → root_of (vector_at f tests ok (bridge_at p.bridge)) ≡ root_of (vector_at f tests ok (lan_at p.lan))
+    pub enabled_root : (p : TreePort N L K CistPort) → IsEnabled f p → root_of (vector_at f tests ok (bridge_at p.bridge)) ≡ root_of (vector_at f tests ok (lan_at p.lan))
     enabled_root p on =
         let a = at_port f tests ok p on in
         let d = heard_at f tests ok p on in

@@ -2,16 +2,16 @@
 use Rattle.std.proofs.Common.{◌≡◌, ◌≢◌, ◌⊎◌, inl, inr, refl, sym, ◌∙◌, ap, ℕ, suc, Option, Some, None}
 use Rattle.mst_vector.specs.declared.cist.CistVector.{CistVector}
 use Rattle.mst_vector.specs.declared.cist.CistPort.{CistPort}
-use Rattle.mst_settle.specs.Topology.{Plug, KeyTests}
+use Rattle.mst_settle.specs.Topology.{TreePort, KeyTests}
 use Rattle.mst_graph.specs.Walks.{Node, bridge_at, lan_at, stay, along}
 use Rattle.mst_nested.specs.Ports.{port_ends}
-use Rattle.mst_nested.specs.Trees.{Trees, IsInner, IsSettled, IsFree, SamePart}
+use Rattle.mst_nested.specs.Trees.{Trees, IsInternal, IsSettled, IsFree, SamePart}
 use Rattle.mst_nested.specs.Parts.{SameRoots}
 use Rattle.mst_nested.proofs.Settled.{cist_tree}
 use Rattle.mst_nested.proofs.Ports.{heard_or_none}
 use Rattle.mst_nested.proofs.Origins.{designated_port}
 use Rattle.mst_graph.proofs.Walks.{back, joined_to}
-use Rattle.mst_nested.proofs.Parts.{At, HeardOn, inner_near, IsOuter, vector_at, vector_on, value, part_value, inner_value}
+use Rattle.mst_nested.proofs.Parts.{At, HeardOn, internal_near, IsOuter, vector_at, vector_on, value, part_value, internal_value}
 use Rattle.mst_nested.proofs.Roots.{same_roots, regional, part_by_root, same_vector, outer_roots, sends}
 
 -- a number for each part: that of its regional root
@@ -30,12 +30,12 @@ value_part (Some x) None e = cc
 value_part (Some x) (Some y) e = ap suc (same_roots x y e).regional
 
 module _ {N L K : Type 0} (f : Trees N L K) (tests : KeyTests N L) (ok : IsSettled f) where
-  -- the port of a LAN's designated bridge is inner
-  pub heard_inner : {lan : L} → (d : HeardOn f tests ok lan) → IsInner f d.port
-  heard_inner d = designated_port (cist_tree f tests ok) (IsInner f) (inner_near f tests ok) d
+  -- the port of a LAN's designated bridge is internal
+  pub heard_internal : {lan : L} → (d : HeardOn f tests ok lan) → IsInternal f d.port
+  heard_internal d = designated_port (cist_tree f tests ok) (IsInternal f) (internal_near f tests ok) d
 
   pub heard_part : {lan : L} → (d : HeardOn f tests ok lan) → SamePart f (lan_at lan) (bridge_at d.port.bridge)
-  heard_part d = along d.port (heard_inner d) (inr (ap lan_at d.designates.on_lan, refl)) stay
+  heard_part d = along d.port (heard_internal d) (inr (ap lan_at d.designates.on_lan, refl)) stay
 
   -- a bridge of a node's part
   pub record Seat (x : Node N L) : Type 0 where
@@ -111,13 +111,13 @@ module _ {N L K : Type 0} (f : Trees N L K) (tests : KeyTests N L) (ok : IsSettl
   ]
 
   -- the two ends of an outer port have different numbers
-  pub outer_part : (p : Plug N L K CistPort) → IsOuter f tests ok p → part_at (bridge_at p.bridge) ≢ part_at (lan_at p.lan)
+  pub outer_part : (p : TreePort N L K CistPort) → IsOuter f tests ok p → part_at (bridge_at p.bridge) ≢ part_at (lan_at p.lan)
   outer_part p o e = outer_roots f tests ok p o (same_regional (seat_at o.at) (seat_on o.heard) e)
 
-  -- those of an inner port have one
+  -- those of an internal port have one
   module _ (free : IsFree f) where
-    pub inner_part : (p : Plug N L K CistPort) → IsInner f p → part_at (bridge_at p.bridge) ≡ part_at (lan_at p.lan)
-    inner_part p i = value_part (vector_at f tests ok (bridge_at p.bridge)) (vector_at f tests ok (lan_at p.lan)) (inner_value f tests ok free p i)
+    pub internal_part : (p : TreePort N L K CistPort) → IsInternal f p → part_at (bridge_at p.bridge) ≡ part_at (lan_at p.lan)
+    internal_part p i = value_part (vector_at f tests ok (bridge_at p.bridge)) (vector_at f tests ok (lan_at p.lan)) (internal_value f tests ok free p i)
 
     -- so do nodes of one part
     pub walk_part : {x y : Node N L} → SamePart f x y → part_at x ≡ part_at y

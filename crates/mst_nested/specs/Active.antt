@@ -2,7 +2,7 @@
 use Rattle.std.specs.Prelude.{◌≡◌, ℕ}
 use Rattle.mst_vector.specs.declared.cist.CistBridge.{CistBridge}
 use Rattle.mst_vector.specs.declared.cist.CistPort.{CistPort}
-use Rattle.mst_settle.specs.Topology.{Plug, HasBridge}
+use Rattle.mst_settle.specs.Topology.{TreePort, HasBridge}
 use Rattle.mst_nested.specs.Trees.{Trees, IsEnabled, HasTree, SameRegion}
 use Rattle.mst_nested.specs.Roles.{Forwards}
 
@@ -13,6 +13,6 @@ module _ {N L K : Type 0} (f : Trees N L K) (tree : N → ℕ) where
     pub one_tree : (n k : N) → SameRegion f n k → tree n ≡ tree k
 
   -- the port forwards in the tree of its bridge
-  pub record IsActive (p : Plug N L K CistPort) : Type 0 where
+  pub record IsActive (p : TreePort N L K CistPort) : Type 0 where
     pub is_enabled : IsEnabled f p
     pub forwards : Forwards f (tree p.bridge) p

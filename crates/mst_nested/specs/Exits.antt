@@ -3,19 +3,19 @@ use Rattle.std.specs.Prelude.{◌≡◌, ◌<◌, Some}
 use Rattle.mst_vector.specs.declared.cist.CistVector.{CistVector}
 use Rattle.mst_vector.specs.declared.cist.CistBridge.{CistBridge}
 use Rattle.mst_vector.specs.declared.cist.CistPort.{CistPort}
-use Rattle.mst_settle.specs.Topology.{Plug, HasBridge}
+use Rattle.mst_settle.specs.Topology.{TreePort, HasBridge}
 use Rattle.mst_graph.specs.Walks.{bridge_at, lan_at}
 use Rattle.mst_nested.specs.Trees.{Trees, IsEnabled, SamePart}
 use Rattle.mst_nested.specs.Roles.{IsCistRoot}
 
 module _ {N L K : Type 0} (f : Trees N L K) where
   -- an enabled port whose ends are in different parts
-  pub record IsCrossing (p : Plug N L K CistPort) : Type 0 where
+  pub record IsCrossing (p : TreePort N L K CistPort) : Type 0 where
     pub is_enabled : IsEnabled f p
     pub apart : SamePart f (bridge_at p.bridge) (lan_at p.lan) → ⊥
 
   -- such a port that is the root port in the CIST of its part's regional root
-  pub record IsExit (p : Plug N L K CistPort) : Type 0 where
+  pub record IsExit (p : TreePort N L K CistPort) : Type 0 where
     pub is_crossing : IsCrossing p
     pub is_root : IsCistRoot f p
     pub bridge : CistBridge
@@ -33,8 +33,8 @@ module _ {N L K : Type 0} (f : Trees N L K) where
   -- the part of bridge n, whose vector is x, has one exit, and its LAN is in a part of lower external root
   -- path cost
   pub record HasOneExit (n : N) (x : CistVector) : Type 0 where
-    pub port : Plug N L K CistPort
+    pub port : TreePort N L K CistPort
     pub is_exit : IsExit port
     pub in_part : SamePart f (bridge_at n) (bridge_at port.bridge)
-    pub alone : (q : Plug N L K CistPort) → IsExit q → SamePart f (bridge_at n) (bridge_at q.bridge) → q ≡ port
+    pub alone : (q : TreePort N L K CistPort) → IsExit q → SamePart f (bridge_at n) (bridge_at q.bridge) → q ≡ port
     pub falls : (k : N) (y : CistVector) → f.cist_vector k ≡ Some y → SamePart f (lan_at port.lan) (bridge_at k) → y.external < x.external

@@ -7,7 +7,7 @@ use Rattle.mst_vector.specs.declared.msti.MstiBridge.{MstiBridge}
 use Rattle.mst_settle.specs.Topology.{HasBridge}
 use Rattle.mst_graph.specs.Walks.{Walk, bridge_at}
 use Rattle.mst_nested.specs.Ports.{port_ends}
-use Rattle.mst_nested.specs.Trees.{Trees, TakesPart, IsEnabled, IsInner, SamePart}
+use Rattle.mst_nested.specs.Trees.{Trees, TakesPart, IsEnabled, IsInternal, SamePart}
 use Rattle.mst_nested.specs.Costs.{CostWalk}
 
 -- the root, the external root path cost and the regional root of two vectors are the same
@@ -35,8 +35,8 @@ module _ {N L K : Type 0} (f : Trees N L K) (n : N) where
     pub has_bridge : HasBridge f.cist root bridge
     pub is_named : bridge.id ≡ x.regional
     pub in_part : SamePart f (bridge_at n) (bridge_at root)
-    pub walk : CostWalk (IsInner f) (λ p. p.internal) root n x.internal
-    pub cheapest : (c : ℕ) → CostWalk (IsInner f) (λ p. p.internal) root n c → x.internal ≤ c
+    pub walk : CostWalk (IsInternal f) (λ p. p.internal) root n x.internal
+    pub cheapest : (c : ℕ) → CostWalk (IsInternal f) (λ p. p.internal) root n c → x.internal ≤ c
 
   -- the regional root that its vector in MSTI i names: of the bridges of n's part, the one with the least
   -- identifier in that tree. The internal root path cost is that of a cheapest walk from there, too

@@ -7,7 +7,7 @@ use Rattle.std.proofs.lemmas.Cmp.{nat_eq_equiv}
 use Rattle.std.proofs.lemmas.List.{length-map, get_or-map}
 use Rattle.std.proofs.lemmas.Map.Lookups.{exact_unsigned}
 use Rattle.std.proofs.lemmas.Map.Views.{Contains-from_lookup, Contains-keys_from_lookup, IsSome-lookup_from_Contains, exact_unsigned_eq, tells_apart}
-use Rattle.mst_settle.specs.Topology.{Plug, Topology, HasBridge, HasPort}
+use Rattle.mst_settle.specs.Topology.{TreePort, Topology, HasBridge, HasPort}
 use Rattle.mst_settle.specs.Wiring.{settings_in, port_in, topology_of}
 use Rattle.mst_settle.specs.Places.{in_map}
 use Rattle.mst_settle.specs.Assignment.{Assignment, KeepsOutcome}
@@ -46,28 +46,28 @@ module _ {B : Type 0} (bridges : List (ℕ × B)) (n : ℕ) where
   is_there b c = IsSome-lookup_from_Contains nat_eq_equiv n bridges (in_mapped (λ (e : ℕ × B). e.0) bridges (n, b) c)
 
 -- a port is in that topology, or is touched
-abbrev IsThereOrTouched : {B P V : Type 0} → Topology ℕ ℕ ℕ B P → Assignment V → Plug ℕ ℕ ℕ P → Type 0
+abbrev IsThereOrTouched : {B P V : Type 0} → Topology ℕ ℕ ℕ B P → Assignment V → TreePort ℕ ℕ ℕ P → Type 0
 IsThereOrTouched u a p = HasPort u p ⊎ IsTouched a p
 
 -- where it is the same in both topologies or is touched, a port of the one is in the other or is touched
-module _ {B P V : Type 0} (t u : Topology ℕ ℕ ℕ B P) (a : Assignment V) (p : Plug ℕ ℕ ℕ P) (done : PortIsDone t u a p) where
+module _ {B P V : Type 0} (t u : Topology ℕ ℕ ℕ B P) (a : Assignment V) (p : TreePort ℕ ℕ ℕ P) (done : PortIsDone t u a p) where
   done_there : HasPort t p → IsThereOrTouched u a p
   done_there h = elim done [ inl same ↦ inl (same.0 h) | inr i ↦ inr i ]
 
   done_back : HasPort u p → IsThereOrTouched t a p
   done_back h = elim done [ inl same ↦ inl (same.1 h) | inr i ↦ inr i ]
 
-module _ {B P : Type 0} (wires_t wires_u : List (Plug ℕ ℕ ℕ P)) (t u : Topology ℕ ℕ ℕ B P) (own_t own_u : List (ℕ × P))
+module _ {B P : Type 0} (wires_t wires_u : List (TreePort ℕ ℕ ℕ P)) (t u : Topology ℕ ℕ ℕ B P) (own_t own_u : List (ℕ × P))
     (is_t : t ≡ topology_of wires_t t.bridges own_t) (is_u : u ≡ topology_of wires_u u.bridges own_u) where
   -- a port of the one topology is a wire; it is a port of the other where it is a wire there too, has no settings of its
   -- own, and its bridge is in both or in neither
-  pub wired : (p : Plug ℕ ℕ ℕ P) → HasPort t p → (w : Plug ℕ ℕ ℕ P) × Contains wires_t w × (port_in t.bridges own_t w ≡ p)
+  pub wired : (p : TreePort ℕ ℕ ℕ P) → HasPort t p → (w : TreePort ℕ ℕ ℕ P) × Contains wires_t w × (port_in t.bridges own_t w ≡ p)
   wired p h = from_mapped (port_in t.bridges own_t) wires_t p (subst (λ z. Contains z p) (ap (λ (z : Topology ℕ ℕ ℕ B P). z.ports) is_t) h)
 
-  pub in_other : (w : Plug ℕ ℕ ℕ P) → Contains wires_u w → HasPort u (port_in u.bridges own_u w)
+  pub in_other : (w : TreePort ℕ ℕ ℕ P) → Contains wires_u w → HasPort u (port_in u.bridges own_u w)
   in_other w c = subst (λ z. Contains z (port_in u.bridges own_u w)) (sym (ap (λ (z : Topology ℕ ℕ ℕ B P). z.ports) is_u)) (in_mapped (port_in u.bridges own_u) wires_u w c)
 
-  same_port : (w : Plug ℕ ℕ ℕ P) → in_map own_t w.number ≡ None → in_map own_u w.number ≡ None → has t.bridges w.bridge ≡ has u.bridges w.bridge → port_in t.bridges own_t w ≡ port_in u.bridges own_u w
+  same_port : (w : TreePort ℕ ℕ ℕ P) → in_map own_t w.number ≡ None → in_map own_u w.number ≡ None → has t.bridges w.bridge ≡ has u.bridges w.bridge → port_in t.bridges own_t w ≡ port_in u.bridges own_u w
   same_port w none_t none_u part i = record {
     number = w.number;
     bridge = w.bridge;
@@ -81,28 +81,28 @@ module _ {B P : Type 0} (wires_t wires_u : List (Plug ℕ ℕ ℕ P)) (t u : Top
       same = ap (λ o. unwrap_or o w.settings) (none_t ∙ sym none_u)
 
   -- a port of the one is one of the other, or something of it differs
-  pub port_or_not : {Q : Type 0} (numbers : List ℕ) → ((w : Plug ℕ ℕ ℕ P) → Contains wires_t w → Contains wires_u w ⊎ Contains numbers w.number)
-      → (p : Plug ℕ ℕ ℕ P) → HasPort t p → (Contains numbers p.number → Q) → ((in_map own_t p.number ≡ None) ⊎ Q) → ((in_map own_u p.number ≡ None) ⊎ Q) → ((has t.bridges p.bridge ≡ has u.bridges p.bridge) ⊎ Q) → HasPort u p ⊎ Q
+  pub port_or_not : {Q : Type 0} (numbers : List ℕ) → ((w : TreePort ℕ ℕ ℕ P) → Contains wires_t w → Contains wires_u w ⊎ Contains numbers w.number)
+      → (p : TreePort ℕ ℕ ℕ P) → HasPort t p → (Contains numbers p.number → Q) → ((in_map own_t p.number ≡ None) ⊎ Q) → ((in_map own_u p.number ≡ None) ⊎ Q) → ((has t.bridges p.bridge ≡ has u.bridges p.bridge) ⊎ Q) → HasPort u p ⊎ Q
   port_or_not {Q} numbers gone p h differs own_there own_here part =
       let w = wired p h in
       subst (λ z. (Contains numbers z.number → Q) → ((in_map own_t z.number ≡ None) ⊎ Q) → ((in_map own_u z.number ≡ None) ⊎ Q) → ((has t.bridges z.bridge ≡ has u.bridges z.bridge) ⊎ Q) → HasPort u z ⊎ Q) w.2 (go w.0 (gone w.0 w.1))
       differs own_there own_here part
     where
-      there : (w : Plug ℕ ℕ ℕ P) → Contains wires_u w → ((in_map own_t w.number ≡ None) ⊎ Q) → ((in_map own_u w.number ≡ None) ⊎ Q) → ((has t.bridges w.bridge ≡ has u.bridges w.bridge) ⊎ Q) → HasPort u (port_in t.bridges own_t w) ⊎ Q
+      there : (w : TreePort ℕ ℕ ℕ P) → Contains wires_u w → ((in_map own_t w.number ≡ None) ⊎ Q) → ((in_map own_u w.number ≡ None) ⊎ Q) → ((has t.bridges w.bridge ≡ has u.bridges w.bridge) ⊎ Q) → HasPort u (port_in t.bridges own_t w) ⊎ Q
       there w c (inl none_t) (inl none_u) (inl same) = inl (subst (λ z. HasPort u z) (sym (same_port w none_t none_u same)) (in_other w c))
       there w c (inr q) b d = inr q
       there w c (inl a) (inr q) d = inr q
       there w c (inl a) (inl b) (inr q) = inr q
 
-      go : (w : Plug ℕ ℕ ℕ P) → Contains wires_u w ⊎ Contains numbers w.number → (Contains numbers w.number → Q) → ((in_map own_t w.number ≡ None) ⊎ Q) → ((in_map own_u w.number ≡ None) ⊎ Q) → ((has t.bridges w.bridge ≡ has u.bridges w.bridge) ⊎ Q) → HasPort u (port_in t.bridges own_t w) ⊎ Q
+      go : (w : TreePort ℕ ℕ ℕ P) → Contains wires_u w ⊎ Contains numbers w.number → (Contains numbers w.number → Q) → ((in_map own_t w.number ≡ None) ⊎ Q) → ((in_map own_u w.number ≡ None) ⊎ Q) → ((has t.bridges w.bridge ≡ has u.bridges w.bridge) ⊎ Q) → HasPort u (port_in t.bridges own_t w) ⊎ Q
       go w (inl c) differs a b d = there w c a b d
       go w (inr m) differs a b d = inr (differs m)
 
   -- all that t has and u hasn't is touched
-  pub touches_missing : {V : Type 0} (a : Assignment V) (numbers : List ℕ) → ((w : Plug ℕ ℕ ℕ P) → Contains wires_t w → Contains wires_u w ⊎ Contains numbers w.number)
-      → ((p : Plug ℕ ℕ ℕ P) → HasPort t p → Contains numbers p.number → IsThereOrTouched u a p)
-      → ((p : Plug ℕ ℕ ℕ P) → HasPort t p → (in_map own_t p.number ≡ None) ⊎ IsThereOrTouched u a p)
-      → ((p : Plug ℕ ℕ ℕ P) → HasPort t p → (in_map own_u p.number ≡ None) ⊎ IsThereOrTouched u a p)
+  pub touches_missing : {V : Type 0} (a : Assignment V) (numbers : List ℕ) → ((w : TreePort ℕ ℕ ℕ P) → Contains wires_t w → Contains wires_u w ⊎ Contains numbers w.number)
+      → ((p : TreePort ℕ ℕ ℕ P) → HasPort t p → Contains numbers p.number → IsThereOrTouched u a p)
+      → ((p : TreePort ℕ ℕ ℕ P) → HasPort t p → (in_map own_t p.number ≡ None) ⊎ IsThereOrTouched u a p)
+      → ((p : TreePort ℕ ℕ ℕ P) → HasPort t p → (in_map own_u p.number ≡ None) ⊎ IsThereOrTouched u a p)
       → ((n : ℕ) (b : B) → HasBridge t n b → BridgeIsDone t u a n b)
       → ((n : ℕ) (b : B) → HasBridge u n b → BridgeIsDone u t a n b)
       → TouchesMissing t u a
@@ -114,7 +114,7 @@ module _ {B P : Type 0} (wires_t wires_u : List (Plug ℕ ℕ ℕ P)) (t u : Top
     };
   }
     where
-      part : (p : Plug ℕ ℕ ℕ P) → HasPort t p → (has t.bridges p.bridge ≡ has u.bridges p.bridge) ⊎ IsThereOrTouched u a p
+      part : (p : TreePort ℕ ℕ ℕ P) → HasPort t p → (has t.bridges p.bridge ≡ has u.bridges p.bridge) ⊎ IsThereOrTouched u a p
       part p h = elim (bridge_or_none t.bridges p.bridge) [
         | inl b ↦ elim (there p.bridge b.0 b.1) [
           | inl g ↦ inl (is_there t.bridges p.bridge b.0 b.1 ∙ sym (is_there u.bridges p.bridge b.0 g))
@@ -130,26 +130,26 @@ module _ {B P : Type 0} (wires_t wires_u : List (Plug ℕ ℕ ℕ P)) (t u : Top
       ]
 
   -- the ports of t are in u, where the bridges are the same and so are the ports at which the wirings or settings may differ
-  pub ports_there : (numbers : List ℕ) → ((w : Plug ℕ ℕ ℕ P) → Contains wires_t w → Contains wires_u w ⊎ Contains numbers w.number) → t.bridges ≡ u.bridges
-      → ((p : Plug ℕ ℕ ℕ P) → HasPort t p → Contains numbers p.number → HasPort u p)
-      → ((p : Plug ℕ ℕ ℕ P) → HasPort t p → (in_map own_t p.number ≡ None) ⊎ HasPort u p)
-      → ((p : Plug ℕ ℕ ℕ P) → HasPort t p → (in_map own_u p.number ≡ None) ⊎ HasPort u p)
-      → (p : Plug ℕ ℕ ℕ P) → HasPort t p → HasPort u p
+  pub ports_there : (numbers : List ℕ) → ((w : TreePort ℕ ℕ ℕ P) → Contains wires_t w → Contains wires_u w ⊎ Contains numbers w.number) → t.bridges ≡ u.bridges
+      → ((p : TreePort ℕ ℕ ℕ P) → HasPort t p → Contains numbers p.number → HasPort u p)
+      → ((p : TreePort ℕ ℕ ℕ P) → HasPort t p → (in_map own_t p.number ≡ None) ⊎ HasPort u p)
+      → ((p : TreePort ℕ ℕ ℕ P) → HasPort t p → (in_map own_u p.number ≡ None) ⊎ HasPort u p)
+      → (p : TreePort ℕ ℕ ℕ P) → HasPort t p → HasPort u p
   ports_there numbers gone bridges differing own_there own_here p h =
       elim (port_or_not numbers gone p h (differing p h) (own_there p h) (own_here p h) (inl (ap (λ z. has z p.bridge) bridges))) [ inl g ↦ g | inr g ↦ g ]
 
 -- two topologies have the same port of a number, or none
 abbrev pub AreSameAt : {B P : Type 0} → (t u : Topology ℕ ℕ ℕ B P) → ℕ → Type 0
-AreSameAt {B} {P} t u n = (p : Plug ℕ ℕ ℕ P) → p.number ≡ n → HasPort t p ↔ HasPort u p
+AreSameAt {B} {P} t u n = (p : TreePort ℕ ℕ ℕ P) → p.number ≡ n → HasPort t p ↔ HasPort u p
 
-module _ {B P : Type 0} (wires_t wires_u : List (Plug ℕ ℕ ℕ P)) (t u : Topology ℕ ℕ ℕ B P) (own_t own_u : List (ℕ × P))
+module _ {B P : Type 0} (wires_t wires_u : List (TreePort ℕ ℕ ℕ P)) (t u : Topology ℕ ℕ ℕ B P) (own_t own_u : List (ℕ × P))
     (is_t : t ≡ topology_of wires_t t.bridges own_t) (is_u : u ≡ topology_of wires_u u.bridges own_u) (numbers : List ℕ) (covers : CoversDifferences wires_t wires_u numbers) where
   -- the ports are the same, where the bridges are, and so are those ports at which the wirings or settings may differ
   pub same_ports : t.bridges ≡ u.bridges
-      → ((p : Plug ℕ ℕ ℕ P) → Contains numbers p.number → HasPort t p ↔ HasPort u p)
-      → ((p : Plug ℕ ℕ ℕ P) → (in_map own_t p.number ≡ None) ⊎ (HasPort t p ↔ HasPort u p))
-      → ((p : Plug ℕ ℕ ℕ P) → (in_map own_u p.number ≡ None) ⊎ (HasPort t p ↔ HasPort u p))
-      → (p : Plug ℕ ℕ ℕ P) → HasPort t p ↔ HasPort u p
+      → ((p : TreePort ℕ ℕ ℕ P) → Contains numbers p.number → HasPort t p ↔ HasPort u p)
+      → ((p : TreePort ℕ ℕ ℕ P) → (in_map own_t p.number ≡ None) ⊎ (HasPort t p ↔ HasPort u p))
+      → ((p : TreePort ℕ ℕ ℕ P) → (in_map own_u p.number ≡ None) ⊎ (HasPort t p ↔ HasPort u p))
+      → (p : TreePort ℕ ℕ ℕ P) → HasPort t p ↔ HasPort u p
   same_ports bridges differing own_there own_here p = (
     ports_there wires_t wires_u t u own_t own_u is_t is_u numbers covers.gone bridges
         (λ q h m. (differing q m).0 h)
@@ -166,9 +166,9 @@ module _ {B P : Type 0} (wires_t wires_u : List (Plug ℕ ℕ ℕ P)) (t u : Top
   -- all that one of the two has and the other hasn't is touched at last, as differing numbers, numbers with settings of
   -- their own and bridges are touched one after the other
   module _ {V : Type 0} (a b c d e : Assignment V) (to_b : KeepsOutcome a b) (to_c : KeepsOutcome b c) (to_d : KeepsOutcome c d) (to_e : KeepsOutcome d e)
-      (differing : (p : Plug ℕ ℕ ℕ P) → HasPort t p ⊎ HasPort u p → Contains numbers p.number → PortIsDone t u a p)
-      (own_there : (p : Plug ℕ ℕ ℕ P) → HasPort t p ⊎ HasPort u p → (in_map own_t p.number ≡ None) ⊎ PortIsDone t u b p)
-      (own_here : (p : Plug ℕ ℕ ℕ P) → HasPort t p ⊎ HasPort u p → (in_map own_u p.number ≡ None) ⊎ PortIsDone t u c p)
+      (differing : (p : TreePort ℕ ℕ ℕ P) → HasPort t p ⊎ HasPort u p → Contains numbers p.number → PortIsDone t u a p)
+      (own_there : (p : TreePort ℕ ℕ ℕ P) → HasPort t p ⊎ HasPort u p → (in_map own_t p.number ≡ None) ⊎ PortIsDone t u b p)
+      (own_here : (p : TreePort ℕ ℕ ℕ P) → HasPort t p ⊎ HasPort u p → (in_map own_u p.number ≡ None) ⊎ PortIsDone t u c p)
       (there : (n : ℕ) (bridge : B) → HasBridge t n bridge → BridgeIsDone t u d n bridge)
       (back : (n : ℕ) (bridge : B) → HasBridge u n bridge → BridgeIsDone u t e n bridge) where
     from_c : KeepsOutcome c e
@@ -180,13 +180,13 @@ module _ {B P : Type 0} (wires_t wires_u : List (Plug ℕ ℕ ℕ P)) (t u : Top
     from_a : KeepsOutcome a e
     from_a = keeps_trans a b e to_b from_b
 
-    differing_last : (p : Plug ℕ ℕ ℕ P) → HasPort t p ⊎ HasPort u p → Contains numbers p.number → PortIsDone t u e p
+    differing_last : (p : TreePort ℕ ℕ ℕ P) → HasPort t p ⊎ HasPort u p → Contains numbers p.number → PortIsDone t u e p
     differing_last p h m = port_kept t u a e from_a p (differing p h m)
 
-    there_last : (p : Plug ℕ ℕ ℕ P) → HasPort t p ⊎ HasPort u p → (in_map own_t p.number ≡ None) ⊎ PortIsDone t u e p
+    there_last : (p : TreePort ℕ ℕ ℕ P) → HasPort t p ⊎ HasPort u p → (in_map own_t p.number ≡ None) ⊎ PortIsDone t u e p
     there_last p h = elim (own_there p h) [ inl none ↦ inl none | inr i ↦ inr (port_kept t u b e from_b p i) ]
 
-    here_last : (p : Plug ℕ ℕ ℕ P) → HasPort t p ⊎ HasPort u p → (in_map own_u p.number ≡ None) ⊎ PortIsDone t u e p
+    here_last : (p : TreePort ℕ ℕ ℕ P) → HasPort t p ⊎ HasPort u p → (in_map own_u p.number ≡ None) ⊎ PortIsDone t u e p
     here_last p h = elim (own_here p h) [ inl none ↦ inl none | inr i ↦ inr (port_kept t u c e from_c p i) ]
 
     done_last : (n : ℕ) (bridge : B) → HasBridge t n bridge → BridgeIsDone t u e n bridge

@@ -3,7 +3,7 @@ use Rattle.std.proofs.Common.{◌≡◌, ℕ, ◌≤◌, List, [], length, Optio
 use Rattle.std.specs.List.{Contains}
 use Rattle.std.specs.Prelude.{◌↔◌}
 use Rattle.mst_vector.specs.Rules.{Rules}
-use Rattle.mst_settle.specs.Topology.{Plug, Topology, IsTopology, HasPort}
+use Rattle.mst_settle.specs.Topology.{TreePort, Topology, IsTopology, HasPort}
 use Rattle.mst_settle.specs.Assignment.{Assignment, vector_of, designated_of, IsSettledFor, HasSpaceFor, KeepsSpace, KeepsOutcome}
 use Rattle.mst_settle.specs.Parts.{SameParts}
 use Rattle.mst_settle.specs.Repair.{WithinBounds}
@@ -26,7 +26,7 @@ nothing_changed v = record {
   from_nothing = λ none. omega arith;
 }
 
-module _ {B P V : Type 0} (m : Rules B P V) (t u : Topology ℕ ℕ ℕ B P) (bridges : t.bridges ≡ u.bridges) (ports : (p : Plug ℕ ℕ ℕ P) → HasPort t p ↔ HasPort u p) where
+module _ {B P V : Type 0} (m : Rules B P V) (t u : Topology ℕ ℕ ℕ B P) (bridges : t.bridges ≡ u.bridges) (ports : (p : TreePort ℕ ℕ ℕ P) → HasPort t p ↔ HasPort u p) where
   same_parts : SameParts t u
   same_parts = record {
     bridges = λ n b. (subst (λ z. Contains z (n, b)) bridges, subst (λ z. Contains z (n, b)) (sym bridges));
@@ -52,7 +52,7 @@ module _ {B P V : Type 0} (m : Rules B P V) (t u : Topology ℕ ℕ ℕ B P) (br
   standing (Some a) n settled space = let f = so_often a n settled space in record { settled = f.0; space = f.1; bounds = nothing_changed (vector_of a) }
 
 -- t is the topology for which a tree holds an outcome
-module _ {B P V : Type 0} (m : Rules B P V) (wires : List (Plug ℕ ℕ ℕ P)) (tree : Tree B P V) (held : IsHeld m wires tree) (t : Topology ℕ ℕ ℕ B P) (is : t ≡ topology_on wires tree) where
+module _ {B P V : Type 0} (m : Rules B P V) (wires : List (TreePort ℕ ℕ ℕ P)) (tree : Tree B P V) (held : IsHeld m wires tree) (t : Topology ℕ ℕ ℕ B P) (is : t ≡ topology_on wires tree) where
   held_settled : IsSettledFor m t tree.outcome
   held_settled = subst (λ z. IsSettledFor m z tree.outcome) (sym is) held.settled
 
@@ -61,7 +61,7 @@ module _ {B P V : Type 0} (m : Rules B P V) (wires : List (Plug ℕ ℕ ℕ P)) 
 
   module _ (u v : Topology ℕ ℕ ℕ B P) (to : u ≡ v) where
     -- the same tree
-    pub stands : t.bridges ≡ u.bridges → ((p : Plug ℕ ℕ ℕ P) → HasPort t p ↔ HasPort u p) → (settler : Option (Assignment V)) (n : ℕ) → outcome_of settler n ≡ tree.outcome → IsSettledOn m v (vector_of tree.outcome) settler 0
+    pub stands : t.bridges ≡ u.bridges → ((p : TreePort ℕ ℕ ℕ P) → HasPort t p ↔ HasPort u p) → (settler : Option (Assignment V)) (n : ℕ) → outcome_of settler n ≡ tree.outcome → IsSettledOn m v (vector_of tree.outcome) settler 0
     stands bridges ports settler n outcome =
         subst (λ z. IsSettledOn m z (vector_of tree.outcome) settler 0) to
         (subst (λ z. IsSettledOn m u (vector_of z) settler 0) outcome

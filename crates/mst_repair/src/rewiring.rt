@@ -2,9 +2,9 @@ ghost use Rattle.std.specs.Prelude.{◌≡◌, IfOk, OnOk, IsTrue};
 ghost use Rattle.std.specs.List.{Contains};
 ghost use Rattle.mst_repair.specs.Differences.{CoversDifferences, NotesMissing};
 
-use crate::comparing::{TellsApart, same_plug};
+use crate::comparing::{TellsApart, same_tree_port};
 use mst_ids::PortNo;
-use mst_settle::{Plug, Wiring};
+use mst_settle::{TreePort, Wiring};
 use std::alloc::{AllocError, Global};
 use std::marker::Model;
 
@@ -28,12 +28,12 @@ impl<'a, M: TellsApart> Model for Rewiring<'a, M> {
 }
 
 /// Whether a wiring has this port.
-fn is_wired<M: TellsApart>(wiring: &Wiring<M::Port>, port: &Plug<M::Port>) -> bool
+fn is_wired<M: TellsApart>(wiring: &Wiring<M::Port>, port: &TreePort<M::Port>) -> bool
     ensures { IsTrue result → Contains wiring.now port.now }
 {
     match wiring.place(port.number) {
         None => false,
-        Some(place) => same_plug::<M>(&wiring.ports()[place], port),
+        Some(place) => same_tree_port::<M>(&wiring.ports()[place], port),
     }
 }
 

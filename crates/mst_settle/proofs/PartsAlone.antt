@@ -2,13 +2,13 @@
 use Rattle.std.specs.Prelude.{Option, Some, None}
 use Rattle.std.proofs.Common.{inl, inr}
 use Rattle.mst_vector.specs.Rules.{Rules}
-use Rattle.mst_settle.specs.Topology.{Plug, Topology}
-use Rattle.mst_settle.specs.Settled.{Says, Designates, Steps, CanTake, Settled, IsDesignated}
+use Rattle.mst_settle.specs.Topology.{TreePort, Topology}
+use Rattle.mst_settle.specs.Settled.{IsDesignatedVector, Designates, IsRootPathVector, CanTake, Settled, IsDesignated}
 use Rattle.mst_settle.specs.Parts.{SameParts}
 
 module _ {N L K B P V : Type 0} (m : Rules B P V) (v : N → Option V) where
   module _ (t u : Topology N L K B P) (h : SameParts t u) where
-    says_there : (p : Plug N L K P) (x : V) → Says m t v p x → Says m u v p x
+    says_there : (p : TreePort N L K P) (x : V) → IsDesignatedVector m t v p x → IsDesignatedVector m u v p x
     says_there p x s = record {
       has_port = (h.ports p s.is_part).0 s.has_port;
       is_part = s.is_part;
@@ -19,7 +19,7 @@ module _ {N L K B P V : Type 0} (m : Rules B P V) (v : N → Option V) where
       is_designated = s.is_designated;
     }
 
-    says_back : (p : Plug N L K P) (x : V) → Says m u v p x → Says m t v p x
+    says_back : (p : TreePort N L K P) (x : V) → IsDesignatedVector m u v p x → IsDesignatedVector m t v p x
     says_back p x s = record {
       has_port = (h.ports p s.is_part).1 s.has_port;
       is_part = s.is_part;
@@ -30,10 +30,10 @@ module _ {N L K B P V : Type 0} (m : Rules B P V) (v : N → Option V) where
       is_designated = s.is_designated;
     }
 
-    designates_there : (lan : L) (p : Plug N L K P) (x : V) → Designates m t v lan p x → Designates m u v lan p x
+    designates_there : (lan : L) (p : TreePort N L K P) (x : V) → Designates m t v lan p x → Designates m u v lan p x
     designates_there lan p x d = record { on_lan = d.on_lan; says = says_there p x d.says; upto = λ q y on s. d.upto q y on (says_back q y s) }
 
-    steps_there : (n : N) (b : B) (x : V) → Steps m t v n b x → Steps m u v n b x
+    steps_there : (n : N) (b : B) (x : V) → IsRootPathVector m t v n b x → IsRootPathVector m u v n b x
     steps_there n b x s = record {
       port = s.port;
       has_port = (h.ports s.port s.is_part).0 s.has_port;
@@ -46,7 +46,7 @@ module _ {N L K B P V : Type 0} (m : Rules B P V) (v : N → Option V) where
       from_other = s.from_other;
       sender = s.sender;
       has_sender = (h.bridges s.from.bridge s.sender).0 s.has_sender;
-      is_step = s.is_step;
+      is_made = s.is_made;
     }
 
     take_there : (n : N) (b : B) (x : V) → CanTake m t v n b x → CanTake m u v n b x

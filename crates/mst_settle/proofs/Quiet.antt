@@ -3,8 +3,8 @@ use Rattle.std.proofs.Common.{◌≡◌, ◌≢◌, ℕ, Option, Some, None, Boo
 use Rattle.std.specs.Prelude.{is_some}
 use Rattle.std.specs.Ordering.{is_gt}
 use Rattle.mst_vector.specs.Rules.{Rules, IsMetric}
-use Rattle.mst_settle.specs.Topology.{Plug, Topology, IsTopology, HasPort}
-use Rattle.mst_settle.specs.Settled.{Says, Designates, Steps, CanTake, IsSilent}
+use Rattle.mst_settle.specs.Topology.{TreePort, Topology, IsTopology, HasPort}
+use Rattle.mst_settle.specs.Settled.{IsDesignatedVector, Designates, IsRootPathVector, CanTake, IsSilent}
 use Rattle.mst_settle.specs.Repair.{IsDue}
 use Rattle.mst_settle.specs.Effects.{IsUnconcerned, IsBridgeOn}
 use Rattle.mst_settle.proofs.KeyTests.{numbers}
@@ -15,7 +15,7 @@ use Rattle.mst_settle.proofs.Locality.{says_other, says_back}
 
 module _ {B P V : Type 0} (m : Rules B P V) (t : Topology ℕ ℕ ℕ B P) (v w : ℕ → Option V) where
   -- where the same ports are designated, the same is due
-  steps_by : (k : ℕ) → ((p : Plug ℕ ℕ ℕ P) → HasPort t p → p.bridge ≡ k → (q : Plug ℕ ℕ ℕ P) (x : V) → Designates m t v p.lan q x → Designates m t w p.lan q x) → (b : B) (x : V) → Steps m t v k b x → Steps m t w k b x
+  steps_by : (k : ℕ) → ((p : TreePort ℕ ℕ ℕ P) → HasPort t p → p.bridge ≡ k → (q : TreePort ℕ ℕ ℕ P) (x : V) → Designates m t v p.lan q x → Designates m t w p.lan q x) → (b : B) (x : V) → IsRootPathVector m t v k b x → IsRootPathVector m t w k b x
   steps_by k forth b x s = record {
     port = s.port;
     has_port = s.has_port;
@@ -28,15 +28,15 @@ module _ {B P V : Type 0} (m : Rules B P V) (t : Topology ℕ ℕ ℕ B P) (v w 
     from_other = s.from_other;
     sender = s.sender;
     has_sender = s.has_sender;
-    is_step = s.is_step;
+    is_made = s.is_made;
   }
 
-  take_by : (k : ℕ) → ((p : Plug ℕ ℕ ℕ P) → HasPort t p → p.bridge ≡ k → (q : Plug ℕ ℕ ℕ P) (x : V) → Designates m t v p.lan q x → Designates m t w p.lan q x) → (b : B) (x : V) → CanTake m t v k b x → CanTake m t w k b x
+  take_by : (k : ℕ) → ((p : TreePort ℕ ℕ ℕ P) → HasPort t p → p.bridge ≡ k → (q : TreePort ℕ ℕ ℕ P) (x : V) → Designates m t v p.lan q x → Designates m t w p.lan q x) → (b : B) (x : V) → CanTake m t v k b x → CanTake m t w k b x
   take_by k forth b x can = elim can [ inl e ↦ inl e | inr s ↦ inr (steps_by k forth b x s) ]
 
 module _ {B P V : Type 0} (m : Rules B P V) (t : Topology ℕ ℕ ℕ B P) (v w : ℕ → Option V) (k : ℕ)
-    (forth : (p : Plug ℕ ℕ ℕ P) → HasPort t p → p.bridge ≡ k → (q : Plug ℕ ℕ ℕ P) (x : V) → Designates m t v p.lan q x → Designates m t w p.lan q x)
-    (back : (p : Plug ℕ ℕ ℕ P) → HasPort t p → p.bridge ≡ k → (q : Plug ℕ ℕ ℕ P) (x : V) → Designates m t w p.lan q x → Designates m t v p.lan q x) where
+    (forth : (p : TreePort ℕ ℕ ℕ P) → HasPort t p → p.bridge ≡ k → (q : TreePort ℕ ℕ ℕ P) (x : V) → Designates m t v p.lan q x → Designates m t w p.lan q x)
+    (back : (p : TreePort ℕ ℕ ℕ P) → HasPort t p → p.bridge ≡ k → (q : TreePort ℕ ℕ ℕ P) (x : V) → Designates m t w p.lan q x → Designates m t v p.lan q x) where
   due_by : (o : Option V) → IsDue m t v k o → IsDue m t w k o
   due_by None none = none
   due_by (Some x) d = (
@@ -49,11 +49,11 @@ module _ {B P V : Type 0} (m : Rules B P V) (t : Topology ℕ ℕ ℕ B P) (v w 
   )
 
 module _ {B P V : Type 0} (m : Rules B P V) (law : IsMetric m) (t : Topology ℕ ℕ ℕ B P) (ok : IsTopology m t) (v w : ℕ → Option V) (n : ℕ) (same : (k : ℕ) → k ≢ n → w k ≡ v k) where
-  spoke : (q : Plug ℕ ℕ ℕ P) (y : V) → q.bridge ≡ n → Says m t v q y → Says m t (λ k. v n) q y
+  spoke : (q : TreePort ℕ ℕ ℕ P) (y : V) → q.bridge ≡ n → IsDesignatedVector m t v q y → IsDesignatedVector m t (λ k. v n) q y
   spoke q y e s = record { has_port = s.has_port; is_part = s.is_part; bridge = s.bridge; has_bridge = s.has_bridge; root = s.root; is_root = ap v (sym e) ∙ s.is_root; is_designated = s.is_designated }
 
-  module _ (lan : ℕ) (quiet : (q : Plug ℕ ℕ ℕ P) → HasPort t q → q.bridge ≡ n → q.lan ≡ lan → IsUnconcerned m t w (v n) q) where
-    quiet_back : (p : Plug ℕ ℕ ℕ P) (x : V) → Designates m t w lan p x → Designates m t v lan p x
+  module _ (lan : ℕ) (quiet : (q : TreePort ℕ ℕ ℕ P) → HasPort t q → q.bridge ≡ n → q.lan ≡ lan → IsUnconcerned m t w (v n) q) where
+    quiet_back : (p : TreePort ℕ ℕ ℕ P) (x : V) → Designates m t w lan p x → Designates m t v lan p x
     quiet_back p x d = elim (same_or_other p.bridge n) [
       | inl e ↦ absurd ((quiet p d.says.has_port e d.on_lan).now x (subst (λ z. Designates m t w z p x) (sym d.on_lan) d))
       | inr other ↦ record {
@@ -66,12 +66,12 @@ module _ {B P V : Type 0} (m : Rules B P V) (law : IsMetric m) (t : Topology ℕ
       }
     ]
 
-    quiet_forth : (p : Plug ℕ ℕ ℕ P) (x : V) → Designates m t v lan p x → Designates m t w lan p x
+    quiet_forth : (p : TreePort ℕ ℕ ℕ P) (x : V) → Designates m t v lan p x → Designates m t w lan p x
     quiet_forth p x d = elim (chosen m law t ok numbers w lan) [
       | inl c ↦ (
           let e = quiet_back c.0 c.1 c.2 in
           let port : c.0 ≡ p = one_designated m law t ok v lan c.0 p c.1 x e d in
-          let there : Says m t v p c.1 = subst (λ z. Says m t v z c.1) port e.says in
+          let there : IsDesignatedVector m t v p c.1 = subst (λ z. IsDesignatedVector m t v z c.1) port e.says in
           let message : c.1 ≡ x = one_message m law t ok v p c.1 x there d.says in
           subst (λ z. Designates m t w lan p z) message (subst (λ z. Designates m t w lan z c.1) port c.2))
       | inr silent ↦ absurd (elim (same_or_other p.bridge n) [
@@ -80,15 +80,15 @@ module _ {B P V : Type 0} (m : Rules B P V) (law : IsMetric m) (t : Topology ℕ
       ])
     ]
 
-  module _ (k : ℕ) (quiet : (q : Plug ℕ ℕ ℕ P) → HasPort t q → q.bridge ≡ n → IsBridgeOn t q.lan k → IsUnconcerned m t w (v n) q) where
-    on_lan : (p : Plug ℕ ℕ ℕ P) → HasPort t p → p.bridge ≡ k → (q : Plug ℕ ℕ ℕ P) → HasPort t q → q.bridge ≡ n → q.lan ≡ p.lan → IsUnconcerned m t w (v n) q
+  module _ (k : ℕ) (quiet : (q : TreePort ℕ ℕ ℕ P) → HasPort t q → q.bridge ≡ n → IsBridgeOn t q.lan k → IsUnconcerned m t w (v n) q) where
+    on_lan : (p : TreePort ℕ ℕ ℕ P) → HasPort t p → p.bridge ≡ k → (q : TreePort ℕ ℕ ℕ P) → HasPort t q → q.bridge ≡ n → q.lan ≡ p.lan → IsUnconcerned m t w (v n) q
     on_lan p h on q hq onq e = quiet q hq onq (p, h, sym e, on)
 
     -- so the same is due at a bridge on such LANs alone
     pub due_quiet : (o : Option V) → IsDue m t w k o → IsDue m t v k o
     due_quiet = due_by m t w v k (λ p h on. quiet_back p.lan (on_lan p h on)) (λ p h on. quiet_forth p.lan (on_lan p h on))
 
-module _ {B P V : Type 0} (m : Rules B P V) (t : Topology ℕ ℕ ℕ B P) (w : ℕ → Option V) (stored : Option V) (p : Plug ℕ ℕ ℕ P) where
+module _ {B P V : Type 0} (m : Rules B P V) (t : Topology ℕ ℕ ℕ B P) (w : ℕ → Option V) (stored : Option V) (p : TreePort ℕ ℕ ℕ P) where
   not_gt : (r : Bool) → ((r ≡ false → ⊥) → ⊥) → r ≡ false
   not_gt false nay = refl
   not_gt true nay = absurd (nay (λ e. cc))
@@ -100,21 +100,21 @@ module _ {B P V : Type 0} (m : Rules B P V) (t : Topology ℕ ℕ ℕ B P) (w : 
     order = λ y x q s d. not_gt (is_gt (m.order x y)) (λ other. nay (λ u. other (u.order y x q s d)));
   }
 
-  pub silent_before : IsSilent m t w p.lan → ((y : V) → Says m t (λ n. stored) p y → ⊥) → IsUnconcerned m t w stored p
+  pub silent_before : IsSilent m t w p.lan → ((y : V) → IsDesignatedVector m t (λ n. stored) p y → ⊥) → IsUnconcerned m t w stored p
   silent_before silent none = record {
     now = λ x d. silent p x d.on_lan d.says;
     before = λ y s n. none y s;
     order = λ y x q s d. absurd (none y s);
   }
 
-module _ {B P V : Type 0} (m : Rules B P V) (law : IsMetric m) (t : Topology ℕ ℕ ℕ B P) (ok : IsTopology m t) (w : ℕ → Option V) (stored : Option V) (p q : Plug ℕ ℕ ℕ P) (x : V) (d : Designates m t w p.lan q x) (other : q.number ≢ p.number) where
-  pub best_unconcerned : ((y : V) → Says m t (λ n. stored) p y → is_gt (m.order x y) ≡ false) → IsUnconcerned m t w stored p
+module _ {B P V : Type 0} (m : Rules B P V) (law : IsMetric m) (t : Topology ℕ ℕ ℕ B P) (ok : IsTopology m t) (w : ℕ → Option V) (stored : Option V) (p q : TreePort ℕ ℕ ℕ P) (x : V) (d : Designates m t w p.lan q x) (other : q.number ≢ p.number) where
+  pub best_unconcerned : ((y : V) → IsDesignatedVector m t (λ n. stored) p y → is_gt (m.order x y) ≡ false) → IsUnconcerned m t w stored p
   best_unconcerned order = record {
-    now = λ z e. other (ap (λ (c : Plug ℕ ℕ ℕ P). c.number) (one_designated m law t ok w p.lan q p x z d e));
+    now = λ z e. other (ap (λ (c : TreePort ℕ ℕ ℕ P). c.number) (one_designated m law t ok w p.lan q p x z d e));
     before = λ y s silent. silent q x d.on_lan d.says;
     order = λ y z r s e.
         let port : r ≡ q = one_designated m law t ok w p.lan r q z x e d in
-        let there : Says m t w q z = subst (λ (c : Plug ℕ ℕ ℕ P). Says m t w c z) port e.says in
+        let there : IsDesignatedVector m t w q z = subst (λ (c : TreePort ℕ ℕ ℕ P). IsDesignatedVector m t w c z) port e.says in
         let same : z ≡ x = one_message m law t ok w q z x there d.says in
         subst (λ c. is_gt (m.order c y) ≡ false) (sym same) (order y s);
   }

@@ -2,14 +2,14 @@
 use Rattle.std.specs.Prelude.{ℕ, ◌&&◌, List, map, is_some, unwrap_or, nat_eq}
 use Rattle.std.specs.Map.{lookup}
 use Rattle.mst_settle.specs.Places.{in_map}
-use Rattle.mst_settle.specs.Topology.{Plug, Topology}
+use Rattle.mst_settle.specs.Topology.{TreePort, Topology}
 
 -- the settings of a port in a tree: those that it has there alone, if it has such, and else those of the wiring
-abbrev pub settings_in : {P : Type 0} → List (ℕ × P) → Plug ℕ ℕ ℕ P → P
+abbrev pub settings_in : {P : Type 0} → List (ℕ × P) → TreePort ℕ ℕ ℕ P → P
 settings_in own p = unwrap_or (in_map own p.number) p.settings
 
 -- a port in a tree of these bridges: it takes part where its bridge is among them
-abbrev pub port_in : {B P : Type 0} → List (ℕ × B) → List (ℕ × P) → Plug ℕ ℕ ℕ P → Plug ℕ ℕ ℕ P
+abbrev pub port_in : {B P : Type 0} → List (ℕ × B) → List (ℕ × P) → TreePort ℕ ℕ ℕ P → TreePort ℕ ℕ ℕ P
 port_in bridges own p = record {
   number = p.number;
   bridge = p.bridge;
@@ -20,5 +20,5 @@ port_in bridges own p = record {
 }
 
 -- the tree of these bridges on a wiring
-abbrev pub topology_of : {B P : Type 0} → List (Plug ℕ ℕ ℕ P) → List (ℕ × B) → List (ℕ × P) → Topology ℕ ℕ ℕ B P
+abbrev pub topology_of : {B P : Type 0} → List (TreePort ℕ ℕ ℕ P) → List (ℕ × B) → List (ℕ × P) → Topology ℕ ℕ ℕ B P
 topology_of wires bridges own = record { bridges = bridges; ports = map (port_in bridges own) wires }

@@ -39,7 +39,7 @@ impl<M: Metric> Bridges<M> {
         }
     }
 
-    /// Adds a bridge whose number is new. It fails where there is no memory, and then nothing changes.
+    /// Adds a bridge whose number is new. `AllocError`: memory was wanted and refused, and nothing changes.
     pub fn add(&mut self, number: BridgeNo, bridge: M::Bridge) -> Result<(), AllocError>
         requires { (b : M.Bridge) → Contains self.old (number, b) → ⊥ }
         ensures ok { OnOk result (self.new ≡ self.old ++ (number, bridge) ∷ []) }

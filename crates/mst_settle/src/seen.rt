@@ -37,7 +37,7 @@ impl Seen {
         }
     }
 
-    /// Makes room for a number. It fails only where there is no memory.
+    /// Makes room for a number. `AllocError`: memory was wanted and refused.
     pub fn make_place(&mut self, number: usize) -> Result<(), AllocError>
         ensures { OnOk result (HasRoomAt self.new.marks number) }
     {
@@ -72,7 +72,7 @@ impl Seen {
         }
     }
 
-    /// A copy. It fails only where there is no memory.
+    /// A copy. `AllocError`: memory was wanted and refused.
     pub fn copy(&self, alloc: Global) -> Result<Self, AllocError>
         ensures { IfOk result (λ copy. copy ≡ self.now) }
     {

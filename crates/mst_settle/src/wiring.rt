@@ -1,7 +1,7 @@
 ghost use Rattle.std.specs.Prelude.{◌≡◌, ◌≢◌, ℕ, ◌<◌, ◌∷◌, ◌++◌, [], length, None, OnOk, OnErr};
 ghost use Rattle.std.specs.List.{Contains};
 ghost use Rattle.std.specs.Option.{ForSome};
-ghost use Rattle.mst_settle.specs.Topology.{Plug as PlugOf};
+ghost use Rattle.mst_settle.specs.Topology.{TreePort as TreePortOf};
 ghost use Rattle.mst_settle.specs.Chains.{IsAt, IsLast};
 
 use crate::by_number::ByNumber;
@@ -12,7 +12,7 @@ use std::marker::Model;
 
 /// A port under the numbers of its bridge and its LAN, with what a tree has to know of it.
 #[derive(Drop)]
-pub struct Plug<P> {
+pub struct TreePort<P> {
     /// The port's number.
     pub number: PortNo,
     /// The number of the port's bridge.
@@ -24,15 +24,15 @@ pub struct Plug<P> {
     /// Whether the port takes part in the tree: others neither speak nor hear.
     pub is_part: bool,
     /// Whether the port's role is restricted (restrictedRole of 802.1Q-2022, 13.27): then its bridge
-    /// takes no step along it.
+    /// makes no root path priority vector there.
     pub is_restricted: bool,
 }
 
-impl<P> Model for Plug<P> {
+impl<P> Model for TreePort<P> {
     ghost use Rattle.std.specs.Prelude.{ℕ};
-    ghost use Rattle.mst_settle.specs.Topology.{Plug as PlugOf};
+    ghost use Rattle.mst_settle.specs.Topology.{TreePort as TreePortOf};
 
-    ghost Value = { PlugOf ℕ ℕ ℕ P };
+    ghost Value = { TreePortOf ℕ ℕ ℕ P };
 
     ghost view = { λ p. record { number = p.number; bridge = p.bridge; lan = p.lan; settings = p.settings; is_part = p.is_part; is_restricted = p.is_restricted } };
 }
@@ -41,7 +41,7 @@ impl<P> Model for Plug<P> {
 /// bridge one after the other. The trees of the network share it.
 #[derive(Drop)]
 pub struct Wiring<P> {
-    ports: Vec<Plug<P>>,
+    ports: Vec<TreePort<P>>,
     places: ByNumber<usize>,
     links: Vec<Link>,
     last_on: ByNumber<Option<usize>>,
@@ -50,9 +50,9 @@ pub struct Wiring<P> {
 
 impl<P> Model for Wiring<P> {
     ghost use Rattle.std.specs.Prelude.{ℕ, List};
-    ghost use Rattle.mst_settle.specs.Topology.{Plug as PlugOf};
+    ghost use Rattle.mst_settle.specs.Topology.{TreePort as TreePortOf};
 
-    ghost Value = { List (PlugOf ℕ ℕ ℕ P) };
+    ghost Value = { List (TreePortOf ℕ ℕ ℕ P) };
 
     ghost view = { λ w. w.ports.items };
 
@@ -76,9 +76,9 @@ impl<P: Copy> Wiring<P> {
         }
     }
 
-    /// Adds a port whose number is new. It fails where there is no memory, and then nothing changes.
-    pub fn add(&mut self, port: Plug<P>) -> Result<(), AllocError>
-        requires { (p : PlugOf ℕ ℕ ℕ P) → Contains self.old p → p.number ≢ port.number }
+    /// Adds a port whose number is new. `AllocError`: memory was wanted and refused, and nothing changes.
+    pub fn add(&mut self, port: TreePort<P>) -> Result<(), AllocError>
+        requires { (p : TreePortOf ℕ ℕ ℕ P) → Contains self.old p → p.number ≢ port.number }
         ensures ok { OnOk result (self.new ≡ self.old ++ port ∷ []) }
         ensures err { OnErr result (self.new ≡ self.old) }
     {
@@ -102,7 +102,7 @@ impl<P: Copy> Wiring<P> {
     }
 
     /// The ports, in the order in which they were added.
-    pub fn ports(&self) -> &[Plug<P>]
+    pub fn ports(&self) -> &[TreePort<P>]
         ensures { result.now ≡ self.now }
     {
         &self.ports
@@ -110,8 +110,8 @@ impl<P: Copy> Wiring<P> {
 
     /// The place of the port of that number.
     pub fn place(&self, number: PortNo) -> Option<usize>
-        ensures some { ForSome result (λ k. (p : PlugOf ℕ ℕ ℕ P) × IsAt self.now k p × (p.number ≡ number)) }
-        ensures none { result ≡ None → (p : PlugOf ℕ ℕ ℕ P) → Contains self.now p → p.number ≢ number }
+        ensures some { ForSome result (λ k. (p : TreePortOf ℕ ℕ ℕ P) × IsAt self.now k p × (p.number ≡ number)) }
+        ensures none { result ≡ None → (p : TreePortOf ℕ ℕ ℕ P) → Contains self.now p → p.number ≢ number }
     {
         self.places.get(number.0)
     }
@@ -133,7 +133,7 @@ impl<P: Copy> Wiring<P> {
     /// The place of the port before this one on the same LAN.
     pub fn before_on(&self, place: usize) -> Option<usize>
         requires { place < length self.now }
-        ensures { (p : PlugOf ℕ ℕ ℕ P) → IsAt self.now place p → IsLast self.now (λ q. q.lan ≡ p.lan) place result }
+        ensures { (p : TreePortOf ℕ ℕ ℕ P) → IsAt self.now place p → IsLast self.now (λ q. q.lan ≡ p.lan) place result }
     {
         self.links[place].on_lan
     }
@@ -141,7 +141,7 @@ impl<P: Copy> Wiring<P> {
     /// The place of the port before this one of the same bridge.
     pub fn before_of(&self, place: usize) -> Option<usize>
         requires { place < length self.now }
-        ensures { (p : PlugOf ℕ ℕ ℕ P) → IsAt self.now place p → IsLast self.now (λ q. q.bridge ≡ p.bridge) place result }
+        ensures { (p : TreePortOf ℕ ℕ ℕ P) → IsAt self.now place p → IsLast self.now (λ q. q.bridge ≡ p.bridge) place result }
     {
         self.links[place].of_bridge
     }

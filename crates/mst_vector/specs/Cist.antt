@@ -16,15 +16,15 @@ cist_components x = x.root ∷ x.external ∷ x.regional ∷ x.internal ∷ x.de
 abbrev pub cist_leading : CistVector → List ℕ
 cist_leading x = x.root ∷ x.external ∷ x.regional ∷ x.internal ∷ []
 
--- a bridge's own vector: it is the root and the regional root, at no cost
-abbrev pub cist_own : CistBridge → CistVector
-cist_own b = record { root = b.id; external = 0; regional = b.id; internal = 0; designated = b.id; port = 0; receiver = 0 }
+-- the bridge priority vector: the bridge is the root and the regional root, at no cost
+abbrev pub cist_bridge_vector : CistBridge → CistVector
+cist_bridge_vector b = record { root = b.id; external = 0; regional = b.id; internal = 0; designated = b.id; port = 0; receiver = 0 }
 
--- a port's designated vector: the bridge's own identifier and the port's stand for the designated ones
-abbrev pub cist_designated : CistVector → CistBridge → CistPort → CistVector
-cist_designated x b p = record x { designated = b.id; port = p.id }
+-- the designated priority vector of a port: the bridge's identifier and the port's stand for the designated ones
+abbrev pub cist_designated_vector : CistVector → CistBridge → CistPort → CistVector
+cist_designated_vector x b p = record x { designated = b.id; port = p.id }
 
--- a step from a bridge of the receiver's region adds the receiving port's internal cost
+-- a message from a bridge of the receiver's region: the receiving port's internal cost is added
 abbrev pub within_region : CistVector → CistPort → CistVector
 within_region x p = record x { internal = x.internal + p.internal; receiver = p.id }
 
@@ -33,15 +33,15 @@ within_region x p = record x { internal = x.internal + p.internal; receiver = p.
 abbrev pub seen_bridge : CistVector → CistBridge → ℕ
 seen_bridge x b = if b.is_rstp then x.regional else x.designated
 
--- a step from another region adds the receiving port's external cost, and makes the receiver its own
+-- a message from another region: the receiving port's external cost is added, and the receiver is its own
 -- regional root
 abbrev pub between_regions : CistVector → CistBridge → CistPort → CistVector
 between_regions x b p =
     record x { external = x.external + p.external; regional = b.id; internal = 0; designated = seen_bridge x b; receiver = p.id }
 
--- what bridge b makes of the message x of bridge s that its port p hears
-abbrev pub cist_step : CistVector → CistBridge → CistBridge → CistPort → CistVector
-cist_step x s b p = if s.region == b.region then within_region x p else between_regions x b p
+-- the root path priority vector that bridge b makes of the message x of bridge s that its port p hears
+abbrev pub cist_root_path_vector : CistVector → CistBridge → CistBridge → CistPort → CistVector
+cist_root_path_vector x s b p = if s.region == b.region then within_region x p else between_regions x b p
 
 abbrev pub cist_rules : Rules CistBridge CistPort CistVector
 cist_rules = record {
@@ -51,7 +51,7 @@ cist_rules = record {
   bridge_id = λ b. b.id;
   port_id = λ p. p.id;
   in_range = λ p. is_cost p.external && is_cost p.internal;
-  own = cist_own;
-  designated = cist_designated;
-  step = cist_step;
+  bridge_vector = cist_bridge_vector;
+  designated_vector = cist_designated_vector;
+  root_path_vector = cist_root_path_vector;
 }

@@ -5,7 +5,7 @@ use Rattle.std.proofs.Common.{arith, ap}
 use Rattle.std.proofs.lemmas.Cmp.{on_total, nat_list_cmp_total}
 use Rattle.mst_vector.specs.Rules.{IsMetric, leading_order, is_cost}
 use Rattle.mst_vector.specs.Lists.{first_less, first_equal, same_list, first_part_less, and_true, is_cost-is}
-use Rattle.mst_vector.specs.Cist.{cist_rules, cist_step, cist_components, cist_leading, within_region, between_regions}
+use Rattle.mst_vector.specs.Cist.{cist_rules, cist_root_path_vector, cist_components, cist_leading, within_region, between_regions}
 use Rattle.mst_vector.specs.declared.cist.CistVector.{CistVector}
 use Rattle.mst_vector.specs.declared.cist.CistBridge.{CistBridge}
 use Rattle.mst_vector.specs.declared.cist.CistPort.{CistPort}
@@ -25,7 +25,7 @@ module _ (x : CistVector) (s b : CistBridge) (p : CistPort) (h : IsTrue (is_cost
   costs : IsTrue (is_cost p.external) × IsTrue (is_cost p.internal)
   costs = and_true (is_cost p.external) (is_cost p.internal) h
 
-  increases : leading_order cist_rules x (cist_step x s b p) ≡ Less
+  increases : leading_order cist_rules x (cist_root_path_vector x s b p) ≡ Less
   increases = go (s.region == b.region)
     where
       go : (t : Bool) → leading_order cist_rules x (if t then within_region x p else between_regions x b p) ≡ Less
@@ -37,7 +37,7 @@ module _ (x : CistVector) (s b : CistBridge) (p : CistPort) (h : IsTrue (is_cost
           first_equal x.root (x.external ∷ x.regional ∷ x.internal ∷ []) ((x.external + p.external) ∷ b.id ∷ 0 ∷ [])
           (first_less x.external (x.external + p.external) (x.regional ∷ x.internal ∷ []) (b.id ∷ 0 ∷ []) (omega arith))
 
-  adds : cist_rules.cost (cist_step x s b p) ≤ cist_rules.cost x + 200_000_000
+  adds : cist_rules.cost (cist_root_path_vector x s b p) ≤ cist_rules.cost x + 200_000_000
   adds = go (s.region == b.region)
     where
       go : (t : Bool) → cist_rules.cost (if t then within_region x p else between_regions x b p) ≤ cist_rules.cost x + 200_000_000

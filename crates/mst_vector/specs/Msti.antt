@@ -16,17 +16,17 @@ msti_components x = x.regional ∷ x.internal ∷ x.designated ∷ x.port ∷ x.
 abbrev pub msti_leading : MstiVector → List ℕ
 msti_leading x = x.regional ∷ x.internal ∷ []
 
--- a bridge's own vector: it is the regional root, at no cost
-abbrev pub msti_own : MstiBridge → MstiVector
-msti_own b = record { regional = b.id; internal = 0; designated = b.id; port = 0; receiver = 0 }
+-- the bridge priority vector: the bridge is the regional root, at no cost
+abbrev pub msti_bridge_vector : MstiBridge → MstiVector
+msti_bridge_vector b = record { regional = b.id; internal = 0; designated = b.id; port = 0; receiver = 0 }
 
--- a port's designated vector: the bridge's own identifier and the port's stand for the designated ones
-abbrev pub msti_designated : MstiVector → MstiBridge → MstiPort → MstiVector
-msti_designated x b p = record x { designated = b.id; port = p.id }
+-- the designated priority vector of a port: the bridge's identifier and the port's stand for the designated ones
+abbrev pub msti_designated_vector : MstiVector → MstiBridge → MstiPort → MstiVector
+msti_designated_vector x b p = record x { designated = b.id; port = p.id }
 
--- a step adds the receiving port's internal cost
-abbrev pub msti_step : MstiVector → MstiPort → MstiVector
-msti_step x p = record x { internal = x.internal + p.internal; receiver = p.id }
+-- a root path priority vector: the receiving port's internal cost is added
+abbrev pub msti_root_path_vector : MstiVector → MstiPort → MstiVector
+msti_root_path_vector x p = record x { internal = x.internal + p.internal; receiver = p.id }
 
 abbrev pub msti_rules : Rules MstiBridge MstiPort MstiVector
 msti_rules = record {
@@ -36,7 +36,7 @@ msti_rules = record {
   bridge_id = λ b. b.id;
   port_id = λ p. p.id;
   in_range = λ p. is_cost p.internal;
-  own = msti_own;
-  designated = msti_designated;
-  step = λ x s b p. msti_step x p;
+  bridge_vector = msti_bridge_vector;
+  designated_vector = msti_designated_vector;
+  root_path_vector = λ x s b p. msti_root_path_vector x p;
 }

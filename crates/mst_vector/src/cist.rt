@@ -19,9 +19,9 @@ pub struct CistVector {
     pub internal: u64,
     /// The designated bridge's identifier.
     pub designated: BridgeId,
-    /// The designated port's identifier; 0 in a bridge's own vector.
+    /// The designated port's identifier; 0 in a bridge priority vector.
     pub port: PortId,
-    /// The receiving port's identifier; 0 in a bridge's own vector.
+    /// The receiving port's identifier; 0 in a bridge priority vector.
     pub receiver: PortId,
 }
 
@@ -65,7 +65,7 @@ impl Metric for CistMetric {
         x.cmp(&y)
     }
 
-    fn own(bridge: &CistBridge) -> CistVector {
+    fn bridge_vector(bridge: &CistBridge) -> CistVector {
         CistVector {
             root: bridge.id,
             external: 0,
@@ -77,7 +77,7 @@ impl Metric for CistMetric {
         }
     }
 
-    fn designated(vector: CistVector, bridge: &CistBridge, port: &CistPort) -> CistVector {
+    fn designated_vector(vector: CistVector, bridge: &CistBridge, port: &CistPort) -> CistVector {
         CistVector {
             designated: bridge.id,
             port: port.id,
@@ -85,7 +85,7 @@ impl Metric for CistMetric {
         }
     }
 
-    fn step(
+    fn root_path_vector(
         message: CistVector,
         sender: &CistBridge,
         receiver: &CistBridge,

@@ -1,6 +1,6 @@
-//! Priority vectors of the CIST and of MSTIs (802.1Q-2022, 13.9 to 13.13): how they compare, a
-//! bridge's own vector, the designated vector of a port, and the step that a bridge takes from a
-//! designated vector that it hears.
+//! Priority vectors of the CIST and of MSTIs (802.1Q-2022, 13.9 to 13.13): how they compare, the bridge
+//! priority vector, the designated priority vector of a port, and the root path priority vector that a
+//! bridge makes of one that it hears.
 #![tactic(auto)]
 
 mod cist;

@@ -21,17 +21,21 @@ pub trait Metric {
     fn order(x: Self::Vector, y: Self::Vector) -> Ordering
         ensures { result ≡ rules.order x y };
 
-    /// A bridge's own vector, with which it would be the root.
-    fn own(bridge: &Self::Bridge) -> Self::Vector
-        ensures { result ≡ rules.own bridge.now };
+    /// The bridge priority vector, with which the bridge would be the root.
+    fn bridge_vector(bridge: &Self::Bridge) -> Self::Vector
+        ensures { result ≡ rules.bridge_vector bridge.now };
 
-    /// The designated vector of a port: what a bridge with this vector says there.
-    fn designated(vector: Self::Vector, bridge: &Self::Bridge, port: &Self::Port) -> Self::Vector
-        ensures { result ≡ rules.designated vector bridge.now port.now };
+    /// The designated priority vector of a port: what a bridge with this root priority vector says there.
+    fn designated_vector(
+        vector: Self::Vector,
+        bridge: &Self::Bridge,
+        port: &Self::Port,
+    ) -> Self::Vector
+        ensures { result ≡ rules.designated_vector vector bridge.now port.now };
 
-    /// What the receiver makes of a designated vector of the sender that its port hears: it adds its
-    /// own port's cost.
-    fn step(
+    /// The root path priority vector: what the receiver makes of a designated priority vector of the sender
+    /// that its port hears. It adds its own port's cost.
+    fn root_path_vector(
         message: Self::Vector,
         sender: &Self::Bridge,
         receiver: &Self::Bridge,
@@ -39,7 +43,7 @@ pub trait Metric {
     ) -> Self::Vector
         requires port { IsTrue (rules.in_range port.now) }
         requires cost { rules.cost message ≤ 2 ^ 62 }
-        ensures { result ≡ rules.step message sender.now receiver.now port.now };
+        ensures { result ≡ rules.root_path_vector message sender.now receiver.now port.now };
 
     /// The laws of a metric.
     ghost lawful: { IsMetric rules };

@@ -15,9 +15,9 @@ pub struct MstiVector {
     pub internal: u64,
     /// The designated bridge's identifier.
     pub designated: BridgeId,
-    /// The designated port's identifier; 0 in a bridge's own vector.
+    /// The designated port's identifier; 0 in a bridge priority vector.
     pub port: PortId,
-    /// The receiving port's identifier; 0 in a bridge's own vector.
+    /// The receiving port's identifier; 0 in a bridge priority vector.
     pub receiver: PortId,
 }
 
@@ -54,7 +54,7 @@ impl Metric for MstiMetric {
         x.cmp(&y)
     }
 
-    fn own(bridge: &MstiBridge) -> MstiVector {
+    fn bridge_vector(bridge: &MstiBridge) -> MstiVector {
         MstiVector {
             regional: bridge.id,
             internal: 0,
@@ -64,7 +64,7 @@ impl Metric for MstiMetric {
         }
     }
 
-    fn designated(vector: MstiVector, bridge: &MstiBridge, port: &MstiPort) -> MstiVector {
+    fn designated_vector(vector: MstiVector, bridge: &MstiBridge, port: &MstiPort) -> MstiVector {
         MstiVector {
             designated: bridge.id,
             port: port.id,
@@ -72,7 +72,7 @@ impl Metric for MstiMetric {
         }
     }
 
-    fn step(
+    fn root_path_vector(
         message: MstiVector,
         _sender: &MstiBridge,
         _receiver: &MstiBridge,

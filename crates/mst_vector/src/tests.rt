@@ -12,9 +12,9 @@ fn first_step<M: Metric>(
 ) -> (M::Vector, bool)
     requires { IsTrue (M.rules.in_range port.now) }
 {
-    let message = M::designated(M::own(sender), sender, port);
-    let step = M::step(message, sender, receiver, port);
-    (step, M::order(M::own(receiver), step).is_lt())
+    let message = M::designated_vector(M::bridge_vector(sender), sender, port);
+    let step = M::root_path_vector(message, sender, receiver, port);
+    (step, M::order(M::bridge_vector(receiver), step).is_lt())
 }
 
 fn bridge_id(mac: &[u8]) -> Result<BridgeId, Fail> {

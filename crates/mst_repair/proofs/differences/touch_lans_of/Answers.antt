@@ -1,6 +1,6 @@
 use Rattle.std.proofs.Common.{◌≡◌, true, length, ap}
 use Rattle.std.specs.List.{Contains}
-use Rattle.mst_settle.specs.Topology.{Plug, HasPort}
+use Rattle.mst_settle.specs.Topology.{TreePort, HasPort}
 use Rattle.mst_settle.specs.Chains.{IsLast}
 use Rattle.mst_settle.proofs.Lowest.{next_step, walk_port}
 use Rattle.mst_settle.proofs.Roomy.{keeps_all, keeps_trans}
@@ -22,7 +22,7 @@ loop-next-preserved g c =
     let on = walk_port c.args.topology.now.ports (λ p. p.bridge ≡ c.args.bridge) c.loop-next.next before.next c.in-Some.place c.in-Some.is port c.at.ensures in
     let has : HasPort c.args.topology.now port = (c.in-Some.place, c.at.ensures.0, c.at.ensures.1) in
     let last : IsLast c.args.topology.now.ports (λ q. q.bridge ≡ c.args.bridge) c.in-Some.place c.before_of-next.result = rw on at (c.before_of-next.ensures port c.at.ensures) in
-    let lan : Contains c.touch-in-Some.new.self.touched_lans (port.lan, true) = (rw (ap (λ (q : Plug _ _ _ g.row.M-Port.Denot). q.lan) c.touch.view_is) at c.touch-in-Some.ensures.touched) (before.keeps.space.lans port.lan (c.requires.lans port has)) in
+    let lan : Contains c.touch-in-Some.new.self.touched_lans (port.lan, true) = (rw (ap (λ (q : TreePort _ _ _ g.row.M-Port.Denot). q.lan) c.touch.view_is) at c.touch-in-Some.ensures.touched) (before.keeps.space.lans port.lan (c.requires.lans port has)) in
     record {
       keeps = keeps_trans c.args.settler.now c.loop-next.settler c.touch-in-Some.new.self before.keeps keeps;
       next = next_step c.args.topology.now.ports (λ p. p.bridge ≡ c.args.bridge) c.in-Some.place c.before_of-next.result last;

@@ -1,6 +1,6 @@
 use Rattle.std.proofs.Common.{rules, ◌≡◌, ◌≤◌, ◌++◌, ◌∷◌, [], length, IsTrue, ap, arith}
 use Rattle.std.proofs.lemmas.List.Elements.{Contains-append_left}
-use Rattle.mst_settle.specs.Topology.{Plug}
+use Rattle.mst_settle.specs.Topology.{TreePort}
 use Rattle.mst_repair.proofs.Marked.{all_there}
 use Rattle.mst_repair.proofs.Noted.{IsNoted, found_more, noted_more}
 use Rattle.mst_repair.proofs.rewiring.note_missing.Goals.{then-not-is_wired+in_ok-push, else-not-is_wired}
@@ -13,7 +13,7 @@ loop-port-preserved g c =
     let before = c.loop-port.invariant in
     elim c.if-not-is_wired.branch [
       | then-not-is_wired+in_ok-push w ↦
-          let number = ap (λ (q : Plug _ _ _ g.row.M-Port.Denot). q.number) c.port.view_is in
+          let number = ap (λ (q : TreePort _ _ _ g.row.M-Port.Denot). q.number) c.port.view_is in
           let pushed : c.if-not-is_wired.numbers.items ≡ c.loop-port.numbers.items ++ c.port.inside.number ∷ [] = rw (ap (λ v. v.items) w.numbers-is) w.in_ok-push.ensures.items in
           let more = rw number at pushed in
           record {
