@@ -13,7 +13,7 @@ use std::alloc::{AllocError, Global};
 /// the plan hasn't, or that an earlier message is of, is not compared further. Times, remaining hops and the other
 /// flags are not compared.
 ///
-/// An `Err` is want of memory.
+/// `AllocError`: memory was wanted and refused.
 pub fn differences(
     alloc: Global,
     planned: &Planned,

@@ -70,7 +70,7 @@ impl PlannedMstis {
         }
     }
 
-    /// Adds an MSTI at the end. An `Err` is want of memory and leaves the MSTIs as they were.
+    /// Adds an MSTI at the end. `AllocError`: memory was wanted and refused, and the MSTIs are as they were.
     pub fn push(&mut self, msti: PlannedMsti) -> Result<(), AllocError>
         ensures ok { OnOk result (self.new ≡ self.old ++ msti ∷ []) }
         ensures err { OnErr result (self.new ≡ self.old) }

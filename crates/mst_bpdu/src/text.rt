@@ -44,7 +44,7 @@ impl Field {
 }
 
 /// Appends what is printed of the capture on the line of this number, which comes from this port and was compared,
-/// or changes nothing: that it agrees, or a line for each difference. An `Err` is want of memory.
+/// or changes nothing: that it agrees, or a line for each difference. `AllocError`: memory was wanted and refused.
 pub fn push_comparison(
     number: u64,
     port: &PortName,
@@ -63,7 +63,7 @@ pub fn push_comparison(
 }
 
 /// Appends what is printed of the capture on the line of this number, which wasn't read or compared, or changes
-/// nothing. An `Err` is want of memory.
+/// nothing. `AllocError`: memory was wanted and refused.
 pub fn push_fault(number: u64, fault: BpduFault, out: &mut Vec<u8>) -> Result<(), AllocError>
     ensures ok { OnOk result (out.new.items ≡ out.old.items ++ fault_line number fault) }
     ensures err { OnErr result (out.new.items ≡ out.old.items) }

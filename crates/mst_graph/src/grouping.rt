@@ -31,8 +31,8 @@ fn add<T: Drop, K: Eq + Hash + Drop>(
 /// The groups of the things that have equal keys: each in the order of the pairs, by their first things.
 /// It takes about one step for each pair.
 ///
-/// Where one thing stands in two pairs with keys that differ, nothing is said of the groups. The only error
-/// is that memory is refused; the pairs are let go then.
+/// Where one thing stands in two pairs with keys that differ, nothing is said of the groups. `AllocError`: memory was
+/// wanted and refused, and the pairs are let go.
 pub fn groups<T: Drop, K: Eq + Hash + Drop>(
     alloc: Global,
     pairs: Vec<(T, K)>,

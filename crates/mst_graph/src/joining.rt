@@ -23,7 +23,7 @@ fn split(alloc: Global, parts: &[Vec<NodeNo>]) -> Result<Vec<Island>, AllocError
 
 /// The islands of bridges and LANs that links join: those with a bridge by their first bridges, and then
 /// the others by their first LANs. Bridges and LANs stand in an island in the order in which they are given.
-/// For n bridges, LANs and links it takes about n log n steps. The only error is that memory is refused.
+/// For n bridges, LANs and links it takes about n log n steps. `AllocError`: memory was wanted and refused.
 pub fn islands(
     alloc: Global,
     bridges: &[BridgeNo],

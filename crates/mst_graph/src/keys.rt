@@ -16,8 +16,11 @@ pub struct Numbering {
 
 /// Numbers keys by their first places. It takes about one step for each key.
 ///
-/// The only error is that memory is refused; the keys are let go then.
-pub fn numbered<K: Eq + Hash + Drop>(alloc: Global, keys: Vec<K>) -> Result<Numbering, AllocError>
+/// `AllocError`: memory was wanted and refused, and the keys are let go.
+pub fn number_keys<K: Eq + Hash + Drop>(
+    alloc: Global,
+    keys: Vec<K>,
+) -> Result<Numbering, AllocError>
     ensures { IfOk result (λ r. AreNumbers K.eq keys.items r.numbers.items r.firsts.items) }
 {
     let mut met = IndexSet::new(alloc);

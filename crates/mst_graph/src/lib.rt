@@ -17,7 +17,7 @@ pub use bodies::groups_by_body;
 pub use grouping::groups;
 pub use island::Island;
 pub use joining::islands;
-pub use keys::{Numbering, numbered};
+pub use keys::{Numbering, number_keys};
 pub use node::Link;
 
 #[cfg(test)]

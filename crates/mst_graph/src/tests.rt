@@ -1,7 +1,7 @@
 ghost use Rattle.std.specs.Prelude.{IsTrue};
 ghost use Rattle.mst_graph.specs.Islands.{HaveEnds};
 
-use crate::{Island, Link, groups, groups_by_body, islands, laws, numbered};
+use crate::{Island, Link, groups, groups_by_body, islands, laws, number_keys};
 use mst_ids::{BridgeNo, LanNo};
 use std::alloc::{AllocError, Global};
 use std::test::Fail;
@@ -37,7 +37,7 @@ fn joins_groups(rt: HostRuntime) -> Result<(), Fail> {
     signatures.push(2)?;
     signatures.push(3)?;
     signatures.push(1)?;
-    let by_signature = numbered(alloc, signatures)?;
+    let by_signature = number_keys(alloc, signatures)?;
     assert!(rt; by_signature.numbers.as_slice() == [0, 1, 2, 0].as_slice());
     assert!(rt; by_signature.firsts.as_slice() == [0, 1, 2].as_slice());
     let mut bodies = Vec::new(alloc);

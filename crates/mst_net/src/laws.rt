@@ -14,6 +14,6 @@ pub fn networks()
 {}
 
 /// An edit that sets what stands already, be it set or the default, leaves the network equal.
-pub fn standing()
+pub fn same_setting()
     ensures { (edit : Edit) (net : Net) → IsNetwork net → Stands edit net → effect edit net ≡ net }
 {}

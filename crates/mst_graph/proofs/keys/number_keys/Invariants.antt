@@ -1,6 +1,6 @@
 use Rattle.std.proofs.Common.{◌≡◌, ◌++◌}
 use Rattle.mst_graph.proofs.NumberedKeys.{Numbered}
-use Rattle.mst_graph.proofs.keys.numbered.Given as goal
+use Rattle.mst_graph.proofs.keys.number_keys.Given as goal
 
 -- the keys so far are numbered, and the others are to come
 abbrev pub invariant-loop-key : goal.invariant-loop-key

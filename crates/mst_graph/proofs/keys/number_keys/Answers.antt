@@ -4,8 +4,8 @@ use Rattle.std.proofs.lemmas.List.{append-nil, append_assoc, nil_from_length}
 use Rattle.mst_graph.specs.Numbers.{AreNumbers}
 use Rattle.mst_graph.proofs.NumberedKeys.{new_numbered, known_numbered, all_numbered}
 use Rattle.mst_graph.proofs.KeyPlaces.{is_new, is_known}
-use Rattle.mst_graph.proofs.keys.numbered.Goals as goal
-use Rattle.mst_graph.proofs.keys.numbered.Goals.{then-is_new+in_ok-push, else-is_new}
+use Rattle.mst_graph.proofs.keys.number_keys.Goals as goal
+use Rattle.mst_graph.proofs.keys.number_keys.Goals.{then-is_new+in_ok-push, else-is_new}
 
 pub loop-key-preserved : goal.loop-key-preserved
 loop-key-preserved g c =
