@@ -10,9 +10,9 @@ use Rattle.mst_vector.specs.Cist.{cist_rules}
 use Rattle.mst_vector.specs.Msti.{msti_rules}
 use Rattle.mst_vector.specs.declared.cist.CistPort.{CistPort}
 use Rattle.mst_vector.specs.declared.msti.MstiPort.{MstiPort}
-use Rattle.mst_settle.specs.Topology.{Plug, Topology, IsTopology, HasPort}
+use Rattle.mst_settle.specs.Topology.{TreePort, Topology, IsTopology, HasPort}
 use Rattle.mst_settle.specs.Settled.{IsDesignated}
-use Rattle.mst_nested.specs.Trees.{Trees, TakesPart, IsEnabled, IsInner, HasTree}
+use Rattle.mst_nested.specs.Trees.{Trees, TakesPart, IsEnabled, IsInternal, HasTree}
 use Rattle.mst_nested.specs.Roles.{IsRootPort, IsDesignatedPort, IsMstiRoot, IsMstiDesignated, ForwardsInRegion, Forwards}
 use Rattle.mst_net.specs.Tables.{Net, IsNetwork, port_eq}
 use Rattle.mst_net.specs.ByTree.{by_tree}
@@ -20,7 +20,7 @@ use Rattle.mst_lag.specs.Aggregation.{same_name}
 use Rattle.mst_lag.specs.View.{LogicalPort, view_ports}
 use Rattle.mst_trees.specs.Sight.{tree_port}
 use Rattle.mst_trees.specs.Cist.{cist_port, cist_sight, cist_of}
-use Rattle.mst_trees.specs.Msti.{msti_bridge, msti_port, msti_sight, msti_of, has_msti, is_inner}
+use Rattle.mst_trees.specs.Msti.{msti_bridge, msti_port, msti_sight, msti_of, has_msti, is_internal}
 use Rattle.mst_trees.specs.Outcome.{Outcome, IsOutcome, trees_of}
 use Rattle.mst_trees.proofs.Lists.{some_is, no_some, all_contained}
 use Rattle.mst_trees.proofs.Views.{IsPort, ports_are, row_on}
@@ -28,7 +28,7 @@ use Rattle.mst_trees.proofs.Outcomes.{OnePorts}
 use Rattle.mst_trees.proofs.Sights.{bridge_in, port_in}
 use Rattle.mst_trees.proofs.CistTopology.{cist_is_sight, cist_topology}
 use Rattle.mst_trees.proofs.MstiTopology.{msti_is_sight, msti_topology}
-use Rattle.mst_trees.proofs.Nested.{inner_told, inner_port}
+use Rattle.mst_trees.proofs.Nested.{internal_told, internal_port}
 use Rattle.mst_roles.specs.Roles.{beside, role_by, outside, cist_role, msti_role, role_in, forwards}
 use Rattle.mst_roles.specs.declared.kind.Role.{Role}
 use Rattle.mst_roles.specs.declared.kind.Role.TheVariants.{Root, Designated, Alternate, Backup, Disabled}
@@ -37,12 +37,12 @@ use Rattle.mst_roles.proofs.Named.{port_is, port_same}
 -- the laws that the designated port is told by its key, at names
 abbrev pub KeyOfDesignated : {B P V : Type 0} → Rules B P V → Type 0
 KeyOfDesignated {B} {P} {V} m =
-    (t : Topology (List ℕ) (List ℕ) PortName B P) (v : List ℕ → Option V) → IsTopology m t → (p : Plug (List ℕ) (List ℕ) PortName P) (o : Option PortName)
+    (t : Topology (List ℕ) (List ℕ) PortName B P) (v : List ℕ → Option V) → IsTopology m t → (p : TreePort (List ℕ) (List ℕ) PortName P) (o : Option PortName)
     → IsDesignated m t v p.lan o → IsDesignatedPort m t v p → o ≡ Some p.number
 
 abbrev pub DesignatedByKey : {B P V : Type 0} → Rules B P V → Type 0
 DesignatedByKey {B} {P} {V} m =
-    (t : Topology (List ℕ) (List ℕ) PortName B P) (v : List ℕ → Option V) → IsTopology m t → (p : Plug (List ℕ) (List ℕ) PortName P) (o : Option PortName)
+    (t : Topology (List ℕ) (List ℕ) PortName B P) (v : List ℕ → Option V) → IsTopology m t → (p : TreePort (List ℕ) (List ℕ) PortName P) (o : Option PortName)
     → TakesPart t p → IsDesignated m t v p.lan o → o ≡ Some p.number → IsDesignatedPort m t v p
 
 not_zero : (i : ℕ) → (suc i == 0) ≡ false
@@ -66,7 +66,7 @@ never_outside false false e = true≢false (sym e)
 
 -- in one tree
 module _ {B P V : Type 0} (m : Rules B P V) (t : Topology (List ℕ) (List ℕ) PortName B P) (ok : IsTopology m t) (v : List ℕ → Option V) (receiver : V → ℕ)
-    (key : KeyOfDesignated m) (by_key : DesignatedByKey m) (q : Plug (List ℕ) (List ℕ) PortName P) (part : TakesPart t q) (d : Option PortName) (is : IsDesignated m t v q.lan d) where
+    (key : KeyOfDesignated m) (by_key : DesignatedByKey m) (q : TreePort (List ℕ) (List ℕ) PortName P) (part : TakesPart t q) (d : Option PortName) (is : IsDesignated m t v q.lan d) where
   -- whether the vector came by the port
   abbrev came_by : Option V → Bool
   came_by x = option_map_or (λ r. r == m.port_id q.settings) (option_map receiver x) false
@@ -125,7 +125,7 @@ module _ (net : Net) (ok : IsNetwork net) (one_ports : OnePorts cist_rules) (o :
   abbrev d : List ℕ → Option PortName
   d = o.cist.designated
 
-  abbrev q : Plug (List ℕ) (List ℕ) PortName CistPort
+  abbrev q : TreePort (List ℕ) (List ℕ) PortName CistPort
   q = tree_port p (cist_port (by_tree net) p)
 
   is_port : IsPort net p
@@ -137,8 +137,8 @@ module _ (net : Net) (ok : IsNetwork net) (one_ports : OnePorts cist_rules) (o :
   part : IsEnabled f q
   part = (port_in net ok cist_rules (cist_sight net) (cist_is_sight net ok) p (cist_port (by_tree net) p) there seen, refl)
 
-  inner_test : IsInner f q → is_inner net d p ≡ true
-  inner_test i = inner_told net ok one_ports o is q i (record { port = p; there = there; is_port = is_port; settings = cist_port (by_tree net) p; seen = seen; is = refl })
+  internal_test : IsInternal f q → is_internal net d p ≡ true
+  internal_test i = internal_told net ok one_ports o is q i (record { port = p; there = there; is_port = is_port; settings = cist_port (by_tree net) p; seen = seen; is = refl })
 
   abbrev enabled_role : Role
   enabled_role = role_by (cist_port (by_tree net) p).id (option_map (λ v. v.receiver) (o.cist.vector p.name.bridge)) (d p.lan) p.name
@@ -154,24 +154,24 @@ module _ (net : Net) (ok : IsNetwork net) (one_ports : OnePorts cist_rules) (o :
 
   -- in an MSTI that the port's bridge has
   module _ (i : ℕ) (has : has_msti net (suc i) p.name.bridge ≡ true) where
-    abbrev r : Plug (List ℕ) (List ℕ) PortName MstiPort
+    abbrev r : TreePort (List ℕ) (List ℕ) PortName MstiPort
     r = tree_port p (msti_port (by_tree net) (suc i) p)
 
-    abbrev inner_role : Role
-    inner_role = role_by (msti_port (by_tree net) (suc i) p).id (option_map (λ v. v.receiver) ((o.msti (suc i)).vector p.name.bridge)) ((o.msti (suc i)).designated p.lan) p.name
+    abbrev internal_role : Role
+    internal_role = role_by (msti_port (by_tree net) (suc i) p).id (option_map (λ v. v.receiver) ((o.msti (suc i)).vector p.name.bridge)) ((o.msti (suc i)).designated p.lan) p.name
 
-    abbrev role_where_inner : Bool → Role
-    role_where_inner inner = if inner then inner_role else outside (cist_role net o p)
+    abbrev role_where_internal : Bool → Role
+    role_where_internal internal = if internal then internal_role else outside (cist_role net o p)
 
-    msti_is : msti_role net o (suc i) p ≡ role_where_inner (is_inner net d p)
-    msti_is = ap (λ (t : Bool). if t then role_where_inner (is_inner net d p) else Disabled) enabled
+    msti_is : msti_role net o (suc i) p ≡ role_where_internal (is_internal net d p)
+    msti_is = ap (λ (t : Bool). if t then role_where_internal (is_internal net d p) else Disabled) enabled
 
-    in_msti : is_inner net d p ≡ true → TakesPart (msti_of net (suc i) d) r
-    in_msti inner =
+    in_msti : is_internal net d p ≡ true → TakesPart (msti_of net (suc i) d) r
+    in_msti internal =
         let settings = msti_port (by_tree net) (suc i) p in
         let seen_there : (msti_sight net (suc i) d).port p ≡ Some settings =
-        ap (λ (t : Bool). if t && is_inner net d p && has_msti net (suc i) p.name.bridge then Some settings else None) enabled
-        ∙ ap (λ (t : Bool). if t && has_msti net (suc i) p.name.bridge then Some settings else None) inner
+        ap (λ (t : Bool). if t && is_internal net d p && has_msti net (suc i) p.name.bridge then Some settings else None) enabled
+        ∙ ap (λ (t : Bool). if t && has_msti net (suc i) p.name.bridge then Some settings else None) internal
         ∙ ap (λ (t : Bool). if t then Some settings else None) has in
         (port_in net ok msti_rules (msti_sight net (suc i) d) (msti_is_sight net ok (suc i) d) p settings there seen_there, refl)
 
@@ -187,45 +187,45 @@ module _ (net : Net) (ok : IsNetwork net) (one_ports : OnePorts cist_rules) (o :
           }),
         )
 
-    msti_to : (b : Bool) → is_inner net d p ≡ b → forwards (role_where_inner b) ≡ true → Forwards f (suc i) q
+    msti_to : (b : Bool) → is_internal net d p ≡ b → forwards (role_where_internal b) ≡ true → Forwards f (suc i) q
     msti_to true e h = inl (record {
-      is_inner = inner_port net ok one_ports o is p there is_port enabled e;
+      is_internal = internal_port net ok one_ports o is p there is_port enabled e;
       port = r;
       same = record { number = refl; bridge = refl; lan = refl };
       role = forwards_to msti_rules (msti_of net (suc i) d) (msti_topology net ok (suc i) d) (o.msti (suc i)).vector (λ x. x.receiver) msti_key msti_by_key r (in_msti e)
           ((o.msti (suc i)).designated p.lan) ((is.mstis (suc i)).designated p.lan) h;
     })
     msti_to false e h = inr (record {
-      is_boundary = record { is_enabled = part; not_inner = λ j. true≢false (sym (inner_test j) ∙ e) };
+      is_boundary = record { is_enabled = part; not_internal = λ j. true≢false (sym (internal_test j) ∙ e) };
       has_tree = bridge_has;
       is_root = outside_to cist_rules (cist_of net) (cist_topology net ok) o.cist.vector (λ x. x.receiver) key by_key q part (d p.lan) (is.cist.designated p.lan)
           (sym (ap (λ x. forwards (outside x)) cist_is) ∙ h);
     })
 
     -- the port of the tree is this one
-    same_port : (w : ForwardsInRegion f (suc i) q) → is_inner net d p ≡ true → w.port ≡ r
+    same_port : (w : ForwardsInRegion f (suc i) q) → is_internal net d p ≡ true → w.port ≡ r
     same_port w e = (msti_topology net ok (suc i) d).one_port w.port r in_tree (in_msti e).0 w.same.number
       where
         in_tree : HasPort (msti_of net (suc i) d) w.port
         in_tree = elim w.role [ inl x ↦ x.part.0 | inr x ↦ x.designates.says.has_port ]
 
-    msti_from : (b : Bool) → is_inner net d p ≡ b → Forwards f (suc i) q → forwards (role_where_inner b) ≡ true
+    msti_from : (b : Bool) → is_internal net d p ≡ b → Forwards f (suc i) q → forwards (role_where_internal b) ≡ true
     msti_from true e s = elim s [
       | inl w ↦ forwards_from msti_rules (msti_of net (suc i) d) (msti_topology net ok (suc i) d) (o.msti (suc i)).vector (λ x. x.receiver) msti_key msti_by_key r (in_msti e)
           ((o.msti (suc i)).designated p.lan) ((is.mstis (suc i)).designated p.lan)
-          (subst (λ (c : Plug (List ℕ) (List ℕ) PortName MstiPort). IsMstiRoot f (suc i) c ⊎ IsMstiDesignated f (suc i) c) (same_port w e) w.role)
-      | inr w ↦ absurd (w.is_boundary.not_inner (inner_port net ok one_ports o is p there is_port enabled e))
+          (subst (λ (c : TreePort (List ℕ) (List ℕ) PortName MstiPort). IsMstiRoot f (suc i) c ⊎ IsMstiDesignated f (suc i) c) (same_port w e) w.role)
+      | inr w ↦ absurd (w.is_boundary.not_internal (internal_port net ok one_ports o is p there is_port enabled e))
     ]
     msti_from false e s = elim s [
-      | inl w ↦ absurd (true≢false (sym (inner_test w.is_inner) ∙ e))
+      | inl w ↦ absurd (true≢false (sym (internal_test w.is_internal) ∙ e))
       | inr w ↦ ap (λ x. forwards (outside x)) cist_is
           ∙ outside_from cist_rules (cist_of net) (cist_topology net ok) o.cist.vector (λ x. x.receiver) key by_key q part (d p.lan) (is.cist.designated p.lan) w.is_root
     ]
 
     msti_forwards : forwards (msti_role net o (suc i) p) ≡ true ↔ Forwards f (suc i) q
     msti_forwards = (
-      λ e. msti_to (is_inner net d p) refl (sym (ap forwards msti_is) ∙ e),
-      λ s. ap forwards msti_is ∙ msti_from (is_inner net d p) refl s,
+      λ e. msti_to (is_internal net d p) refl (sym (ap forwards msti_is) ∙ e),
+      λ s. ap forwards msti_is ∙ msti_from (is_internal net d p) refl s,
     )
 
   pub forwards_in : (tree : ℕ) (role : Role) → role_in net o tree p ≡ Some role → forwards role ≡ true ↔ Forwards f tree q

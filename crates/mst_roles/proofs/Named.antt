@@ -21,11 +21,11 @@ use Rattle.mst_lag.specs.Viewed.{Viewed, named_port}
 use Rattle.mst_lag.specs.declared.in_view.PortInView.{PortInView}
 use Rattle.mst_trees.specs.Sight.{Sight, tree_of}
 use Rattle.mst_trees.specs.Cist.{cist_port, cist_sight}
-use Rattle.mst_trees.specs.Msti.{msti_port, msti_sight, has_msti, is_inner}
+use Rattle.mst_trees.specs.Msti.{msti_port, msti_sight, has_msti, is_internal}
 use Rattle.mst_trees.specs.Outcome.{TreeOutcome, IsTreeOutcome, Outcome}
-use Rattle.mst_trees.specs.Seen.{seen_inner, trees_at}
+use Rattle.mst_trees.specs.Seen.{seen_internal, trees_at}
 use Rattle.mst_trees.specs.Agrees.{Agrees, IsNameOf, AreOf}
-use Rattle.mst_trees.specs.Forest.{IsForest, msti_vector, msti_designated, designated_in}
+use Rattle.mst_trees.specs.Forest.{IsForest, msti_vector, msti_designated_vector, designated_in}
 use Rattle.mst_trees.specs.Forest.{Forest}
 use Rattle.mst_trees.proofs.Lists.{some_is, no_some, all_there, apart_cases}
 use Rattle.mst_trees.proofs.Entries.{all_weaker}
@@ -34,7 +34,7 @@ use Rattle.mst_trees.proofs.MstiTopology.{msti_is_sight}
 use Rattle.mst_trees.proofs.Sights.{IsSight}
 use Rattle.mst_trees.proofs.Views.{port_names_differ, ports_rise}
 use Rattle.mst_trees.proofs.Seen.{SeenPort, ports_seen, port_seen, port_of_net}
-use Rattle.mst_trees.proofs.Looking.{first_found, is_there, inner_same, has_tree_at}
+use Rattle.mst_trees.proofs.Looking.{first_found, is_there, internal_same, has_tree_at}
 use Rattle.mst_roles.specs.Roles.{beside, role_by, outside, cist_role, msti_role, role_in, role_of}
 use Rattle.mst_roles.specs.Seen.{seen_beside, seen_role_by, seen_cist_role, seen_msti_role, seen_role}
 use Rattle.mst_roles.specs.declared.kind.Role.TheVariants.{Root, Designated, Alternate, Backup, Disabled}
@@ -151,10 +151,10 @@ module _ (net : Net) (numbers : Numbers) (v : Viewed) (f : Forest) (of : AreOf n
       (role_same net numbers v f.regions of cist_rules (cist_sight net) (cist_is_sight net of.network) o.cist is.is_outcome.cist (vector_of f.cist) (designated_of f.cist) is.cist
       (λ x. x.receiver) (cist_port (by_tree net) (named_port p)).id p seen)
 
-  -- of an enabled port, the test of inner ports says where its LAN belongs
-  inner_of_enabled : (p : PortInView) → SeenPort net numbers p → p.is_enabled ≡ true → seen_inner v f.regions (designated_of f.cist) p ≡ is_inner net o.cist.designated (named_port p)
-  inner_of_enabled p seen enabled =
-      inner_same net numbers v f.regions of o.cist is.is_outcome.cist (vector_of f.cist) (designated_of f.cist) is.cist p seen ∙ ap (λ b. b && is_inner net o.cist.designated (named_port p)) enabled
+  -- of an enabled port, the test of internal ports says where its LAN belongs
+  internal_of_enabled : (p : PortInView) → SeenPort net numbers p → p.is_enabled ≡ true → seen_internal v f.regions (designated_of f.cist) p ≡ is_internal net o.cist.designated (named_port p)
+  internal_of_enabled p seen enabled =
+      internal_same net numbers v f.regions of o.cist is.is_outcome.cist (vector_of f.cist) (designated_of f.cist) is.cist p seen ∙ ap (λ b. b && is_internal net o.cist.designated (named_port p)) enabled
 
   msti_same : (tree : ℕ) → (tree == 0) ≡ false → (p : PortInView) → SeenPort net numbers p → seen_msti_role v f tree p ≡ msti_role net o tree (named_port p)
   msti_same tree other p seen = go p.is_enabled refl
@@ -163,19 +163,19 @@ module _ (net : Net) (numbers : Numbers) (v : Viewed) (f : Forest) (of : AreOf n
           ≡ role_by (msti_port (by_tree net) tree (named_port p)).id (option_map (λ x. x.receiver) ((o.msti tree).vector p.name.bridge)) ((o.msti tree).designated p.lan) p.name
       inside =
           (λ i. seen_role_by v (msti_port (of.view.settings i) tree (named_port p)).id (option_map (λ x. x.receiver) (msti_vector f tree p.bridge))
-          (if other i then designated_of f.cist p.lan_number else msti_designated f tree p.lan_number) p)
+          (if other i then designated_of f.cist p.lan_number else msti_designated_vector f tree p.lan_number) p)
           ∙ role_same net numbers v f.regions of msti_rules (msti_sight net tree o.cist.designated) (msti_is_sight net of.network tree o.cist.designated) (o.msti tree) (is.is_outcome.mstis tree)
-          (msti_vector f tree) (msti_designated f tree) (is.mstis tree) (λ x. x.receiver) (msti_port (by_tree net) tree (named_port p)).id p seen
+          (msti_vector f tree) (msti_designated_vector f tree) (is.mstis tree) (λ x. x.receiver) (msti_port (by_tree net) tree (named_port p)).id p seen
 
       go : (b : Bool) → p.is_enabled ≡ b
-          → (if b then (if seen_inner v f.regions (designated_of f.cist) p
+          → (if b then (if seen_internal v f.regions (designated_of f.cist) p
           then seen_role_by v (msti_port v.settings tree (named_port p)).id (option_map (λ x. x.receiver) (msti_vector f tree p.bridge)) (designated_in f tree p.lan_number) p
           else outside (seen_cist_role v f p)) else Disabled)
-          ≡ (if b then (if is_inner net o.cist.designated (named_port p)
+          ≡ (if b then (if is_internal net o.cist.designated (named_port p)
           then role_by (msti_port (by_tree net) tree (named_port p)).id (option_map (λ x. x.receiver) ((o.msti tree).vector p.name.bridge)) ((o.msti tree).designated p.lan) p.name
           else outside (cist_role net o (named_port p))) else Disabled)
       go false e = refl
-      go true e = λ i. if inner_of_enabled p seen e i then inside i else outside (cist_same p seen i)
+      go true e = λ i. if internal_of_enabled p seen e i then inside i else outside (cist_same p seen i)
 
   pub each_same : (tree : ℕ) (p : PortInView) → SeenPort net numbers p → seen_role v f tree p ≡ role_in net o tree (named_port p)
   each_same tree p seen = go (tree == 0) refl

@@ -11,7 +11,7 @@ use Rattle.mst_vector.specs.Msti.{msti_rules}
 use Rattle.mst_vector.specs.declared.cist.CistPort.{CistPort}
 use Rattle.mst_vector.specs.declared.msti.MstiPort.{MstiPort}
 use Rattle.std.specs.Cmp.Lexicographic.{pointwise, bytes_decides}
-use Rattle.mst_settle.specs.Topology.{Plug, Topology, IsTest, KeyTests}
+use Rattle.mst_settle.specs.Topology.{TreePort, Topology, IsTest, KeyTests}
 use Rattle.mst_nested.specs.Trees.{Trees, TakesPart}
 use Rattle.mst_nested.specs.Roles.{IsRootPort, IsCistRoot, IsMstiRoot}
 use Rattle.mst_net.specs.Tables.{Net, IsNetwork, port_eq}
@@ -20,7 +20,7 @@ use Rattle.mst_lag.specs.Aggregation.{same_name}
 use Rattle.mst_lag.specs.View.{LogicalPort, view_ports}
 use Rattle.mst_trees.specs.Sight.{tree_port}
 use Rattle.mst_trees.specs.Cist.{cist_port, cist_sight, cist_of}
-use Rattle.mst_trees.specs.Msti.{msti_port, msti_sight, msti_of, has_msti, is_inner}
+use Rattle.mst_trees.specs.Msti.{msti_port, msti_sight, msti_of, has_msti, is_internal}
 use Rattle.mst_trees.specs.Outcome.{Outcome, trees_of}
 use Rattle.mst_trees.proofs.Lists.{some_is, no_some}
 use Rattle.mst_trees.proofs.Sights.{port_in}
@@ -62,7 +62,7 @@ outside_not Disabled e = refl
 
 -- in one tree, by the port that its bridge's vector names
 module _ {B P V : Type 0} (m : Rules B P V) (t : Topology (List ℕ) (List ℕ) PortName B P) (v : List ℕ → Option V) (receiver : V → ℕ)
-    (q : Plug (List ℕ) (List ℕ) PortName P) (part : TakesPart t q) (free : IsRootPort m t v receiver q → q.is_restricted ≡ false) (restricted : q.is_restricted ≡ true) where
+    (q : TreePort (List ℕ) (List ℕ) PortName P) (part : TakesPart t q) (free : IsRootPort m t v receiver q → q.is_restricted ≡ false) (restricted : q.is_restricted ≡ true) where
   abbrev came_by : Option V → Bool
   came_by x = option_map_or (λ r. r == m.port_id q.settings) (option_map receiver x) false
 
@@ -78,8 +78,8 @@ module _ {B P V : Type 0} (m : Rules B P V) (t : Topology (List ℕ) (List ℕ) 
       go false f None = refl
       go false f (Some k) = beside_not (port_eq k q.number) (same_name k.bridge q.number.bridge)
 
-module _ (net : Net) (ok : IsNetwork net) (o : Outcome) (cist_free : (q : Plug (List ℕ) (List ℕ) PortName CistPort) → IsCistRoot (trees_of net o) q → q.is_restricted ≡ false)
-    (msti_free : (i : ℕ) (q : Plug (List ℕ) (List ℕ) PortName MstiPort) → IsMstiRoot (trees_of net o) (suc i) q → q.is_restricted ≡ false)
+module _ (net : Net) (ok : IsNetwork net) (o : Outcome) (cist_free : (q : TreePort (List ℕ) (List ℕ) PortName CistPort) → IsCistRoot (trees_of net o) q → q.is_restricted ≡ false)
+    (msti_free : (i : ℕ) (q : TreePort (List ℕ) (List ℕ) PortName MstiPort) → IsMstiRoot (trees_of net o) (suc i) q → q.is_restricted ≡ false)
     (p : LogicalPort) (there : Contains (view_ports net) p) (restricted : p.settings.is_restricted ≡ true) where
   abbrev d : List ℕ → Option PortName
   d = o.cist.designated
@@ -87,7 +87,7 @@ module _ (net : Net) (ok : IsNetwork net) (o : Outcome) (cist_free : (q : Plug (
   cist_not : leads (cist_role net o p) ≡ false
   cist_not = go p.is_enabled refl
     where
-      q : Plug (List ℕ) (List ℕ) PortName CistPort
+      q : TreePort (List ℕ) (List ℕ) PortName CistPort
       q = tree_port p (cist_port (by_tree net) p)
 
       in_cist : p.is_enabled ≡ true → TakesPart (cist_of net) q
@@ -99,23 +99,23 @@ module _ (net : Net) (ok : IsNetwork net) (o : Outcome) (cist_free : (q : Plug (
       go false e = refl
 
   msti_not : (i : ℕ) → has_msti net (suc i) p.name.bridge ≡ true → leads (msti_role net o (suc i) p) ≡ false
-  msti_not i has = go p.is_enabled refl (is_inner net d p) refl
+  msti_not i has = go p.is_enabled refl (is_internal net d p) refl
     where
       settings : MstiPort
       settings = msti_port (by_tree net) (suc i) p
 
-      r : Plug (List ℕ) (List ℕ) PortName MstiPort
+      r : TreePort (List ℕ) (List ℕ) PortName MstiPort
       r = tree_port p settings
 
-      in_msti : p.is_enabled ≡ true → is_inner net d p ≡ true → TakesPart (msti_of net (suc i) d) r
-      in_msti enabled inner =
+      in_msti : p.is_enabled ≡ true → is_internal net d p ≡ true → TakesPart (msti_of net (suc i) d) r
+      in_msti enabled internal =
           let seen : (msti_sight net (suc i) d).port p ≡ Some settings =
-          ap (λ (t : Bool). if t && is_inner net d p && has_msti net (suc i) p.name.bridge then Some settings else None) enabled
-          ∙ ap (λ (t : Bool). if t && has_msti net (suc i) p.name.bridge then Some settings else None) inner
+          ap (λ (t : Bool). if t && is_internal net d p && has_msti net (suc i) p.name.bridge then Some settings else None) enabled
+          ∙ ap (λ (t : Bool). if t && has_msti net (suc i) p.name.bridge then Some settings else None) internal
           ∙ ap (λ (t : Bool). if t then Some settings else None) has in
           (port_in net ok msti_rules (msti_sight net (suc i) d) (msti_is_sight net ok (suc i) d) p settings there seen, refl)
 
-      go : (b : Bool) → p.is_enabled ≡ b → (c : Bool) → is_inner net d p ≡ c
+      go : (b : Bool) → p.is_enabled ≡ b → (c : Bool) → is_internal net d p ≡ c
           → leads (if b then (if c
           then role_by settings.id (option_map (λ v. v.receiver) ((o.msti (suc i)).vector p.name.bridge)) ((o.msti (suc i)).designated p.lan) p.name
           else outside (cist_role net o p)) else Disabled) ≡ false

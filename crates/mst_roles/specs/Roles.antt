@@ -11,7 +11,7 @@ use Rattle.mst_net.specs.ByTree.{by_tree}
 use Rattle.mst_lag.specs.Aggregation.{same_name}
 use Rattle.mst_lag.specs.View.{LogicalPort, view_ports}
 use Rattle.mst_trees.specs.Cist.{cist_port}
-use Rattle.mst_trees.specs.Msti.{msti_port, has_msti, is_inner}
+use Rattle.mst_trees.specs.Msti.{msti_port, has_msti, is_internal}
 use Rattle.mst_trees.specs.Outcome.{Outcome}
 use Rattle.mst_roles.specs.declared.kind.Role.{Role}
 use Rattle.mst_roles.specs.declared.kind.Role.TheVariants.{Root, Designated, Alternate, Backup, Master, Disabled}
@@ -40,7 +40,7 @@ outside _ = Alternate
 abbrev pub msti_role : Net → Outcome → ℕ → LogicalPort → Role
 msti_role net o tree p =
     if p.is_enabled
-    then (if is_inner net o.cist.designated p
+    then (if is_internal net o.cist.designated p
     then role_by (msti_port (by_tree net) tree p).id (option_map (λ v. v.receiver) ((o.msti tree).vector p.name.bridge)) ((o.msti tree).designated p.lan) p.name
     else outside (cist_role net o p))
     else Disabled

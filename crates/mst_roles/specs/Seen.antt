@@ -11,7 +11,7 @@ use Rattle.mst_lag.specs.Viewed.{Viewed, named_port}
 use Rattle.mst_lag.specs.declared.in_view.PortInView.{PortInView}
 use Rattle.mst_trees.specs.Cist.{cist_port}
 use Rattle.mst_trees.specs.Msti.{msti_port}
-use Rattle.mst_trees.specs.Seen.{trees_at, seen_inner}
+use Rattle.mst_trees.specs.Seen.{trees_at, seen_internal}
 use Rattle.mst_trees.specs.Forest.{msti_vector, designated_in}
 use Rattle.mst_trees.specs.Forest.{Forest}
 use Rattle.mst_roles.specs.Roles.{outside, forwards}
@@ -35,7 +35,7 @@ seen_cist_role v f p =
 abbrev pub seen_msti_role : Viewed → Forest → ℕ → PortInView → Role
 seen_msti_role v f tree p =
     if p.is_enabled
-    then (if seen_inner v f.regions (designated_of f.cist) p
+    then (if seen_internal v f.regions (designated_of f.cist) p
     then seen_role_by v (msti_port v.settings tree (named_port p)).id (option_map (λ x. x.receiver) (msti_vector f tree p.bridge)) (designated_in f tree p.lan_number) p
     else outside (seen_cist_role v f p))
     else Disabled

@@ -2,7 +2,7 @@
 use Rattle.std.proofs.Common.{◌≡◌, ◌≢◌, ℕ, List, [], ◌∷◌, ◌++◌, refl, sym, ap, subst, ◌∙◌, append_assoc}
 use Rattle.std.specs.List.{Contains}
 use Rattle.std.proofs.lemmas.List.{append-nil}
-use Rattle.mst_settle.specs.Topology.{Plug}
+use Rattle.mst_settle.specs.Topology.{TreePort}
 use Rattle.mst_trees.specs.Apart.{Apart}
 use Rattle.mst_trees.specs.Wirings.{HaveNumbers}
 use Rattle.mst_trees.proofs.Lists.{apart_before}
@@ -16,9 +16,9 @@ pub none_left : {A : Type 0} (there left all : List A) → left ≡ [] → there
 none_left there left all none e = sym (append-nil there) ∙ ap (λ r. there ++ r) (sym none) ∙ e
 
 -- the number of the next port is new
-pub new_port : {P : Type 0} (there left all : List (Plug ℕ ℕ ℕ P)) (port : Plug ℕ ℕ ℕ P) → HaveNumbers all → there ++ port ∷ left ≡ all → (p : Plug ℕ ℕ ℕ P) → Contains there p → p.number ≢ port.number
+pub new_port : {P : Type 0} (there left all : List (TreePort ℕ ℕ ℕ P)) (port : TreePort ℕ ℕ ℕ P) → HaveNumbers all → there ++ port ∷ left ≡ all → (p : TreePort ℕ ℕ ℕ P) → Contains there p → p.number ≢ port.number
 new_port {P} there left all port numbers e p h =
-    apart_before (λ (p q : Plug ℕ ℕ ℕ P). p.number ≢ q.number) there left p port (subst (Apart (λ (p q : Plug ℕ ℕ ℕ P). p.number ≢ q.number)) (sym e) numbers) h
+    apart_before (λ (p q : TreePort ℕ ℕ ℕ P). p.number ≢ q.number) there left p port (subst (Apart (λ (p q : TreePort ℕ ℕ ℕ P). p.number ≢ q.number)) (sym e) numbers) h
 
 -- and so is that of the next bridge
 pub new_bridge : {B : Type 0} (there left all : List (ℕ × B)) (n : ℕ) (bridge : B) → Apart (λ (a b : ℕ × B). a.0 ≢ b.0) all → there ++ (n, bridge) ∷ left ≡ all → (b : B) → Contains there (n, b) → ⊥

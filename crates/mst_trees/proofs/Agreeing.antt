@@ -4,7 +4,7 @@ use Rattle.std.specs.Option.{unwrap_or}
 use Rattle.std.specs.FinMap as fin
 use Rattle.mst_ids.specs.declared.name.PortName.{PortName}
 use Rattle.mst_vector.specs.Rules.{Rules}
-use Rattle.mst_settle.specs.Topology.{Plug, Topology, IsTopology, HasBridge, HasPort}
+use Rattle.mst_settle.specs.Topology.{TreePort, Topology, IsTopology, HasBridge, HasPort}
 use Rattle.mst_settle.specs.Settled.{Settled, IsDesignated}
 use Rattle.mst_settle.specs.Renamed.{Renaming, IsRenamed}
 use Rattle.mst_settle.specs.Assignment.{Assignment, vector_of, designated_of, IsSettledFor}
@@ -27,7 +27,7 @@ RenamedVectors {B} {P} {V} m =
 abbrev pub RenamedPorts : {B P V : Type 0} → Rules B P V → Type 0
 RenamedPorts {B} {P} {V} m =
     (r : Renaming (List ℕ) (List ℕ) PortName ℕ ℕ ℕ) (t : Topology (List ℕ) (List ℕ) PortName B P) (u : Topology ℕ ℕ ℕ B P) (v : List ℕ → Option V) (w : ℕ → Option V)
-    → IsTopology m t → IsRenamed r t u → Settled m t v → Settled m u w → (p : Plug (List ℕ) (List ℕ) PortName P) → HasPort t p
+    → IsTopology m t → IsRenamed r t u → Settled m t v → Settled m u w → (p : TreePort (List ℕ) (List ℕ) PortName P) → HasPort t p
     → (o : Option PortName) (q : Option ℕ) → IsDesignated m t v p.lan o → IsDesignated m u w (r.lan p.lan) q → MatchOption o (q ≡ None) (λ k. q ≡ Some (r.port k))
 
 module _ {B P V : Type 0} (net : Net) (numbers : Numbers) (ok : IsNetwork net) (num : IsNumbered net numbers) (v : Viewed) (view : IsView net numbers v)
@@ -84,7 +84,7 @@ module _ {B P V : Type 0} (net : Net) (numbers : Numbers) (ok : IsNetwork net) (
       go None g = g
       go (Some y) g = let z = named k y g in absurd (none z.name z.has_number)
 
-  keys : (p : Plug (List ℕ) (List ℕ) PortName P) → HasPort t p → HasKeys net numbers ok num v view m s sight p
+  keys : (p : TreePort (List ℕ) (List ℕ) PortName P) → HasPort t p → HasKeys net numbers ok num v view m s sight p
   keys p h = has_keys net numbers ok num v view m s sight p h
 
   -- a port that is designated under its name is so under its number
@@ -102,7 +102,7 @@ module _ {B P V : Type 0} (net : Net) (numbers : Numbers) (ok : IsNetwork net) (
 
   -- where none is designated under names, none is under numbers
   record OnLan (n : ℕ) : Type 0 where
-    port : Plug (List ℕ) (List ℕ) PortName P
+    port : TreePort (List ℕ) (List ℕ) PortName P
     there : HasPort t port
     lan_number : fin.get numbers.lans port.lan ≡ Some n
 
@@ -110,7 +110,7 @@ module _ {B P V : Type 0} (net : Net) (numbers : Numbers) (ok : IsNetwork net) (
   on_lan n k e =
       let d = subst (λ x. IsDesignated m u (vector_of a) n x) e (settled.designated n) in
       let p = is_renamed.from_port d.0 d.3.says.has_port in
-      let lan : r.lan p.0.lan ≡ n = ap (λ (x : Plug ℕ ℕ ℕ P). x.lan) p.2 ∙ d.3.on_lan in
+      let lan : r.lan p.0.lan ≡ n = ap (λ (x : TreePort ℕ ℕ ℕ P). x.lan) p.2 ∙ d.3.on_lan in
       record { port = p.0; there = p.1; lan_number = (keys p.0 p.1).lan ∙ ap Some lan }
 
   silent : (l : List ℕ) (n : ℕ) → fin.get numbers.lans l ≡ Some n → o.designated l ≡ None → designated_of a n ≡ None

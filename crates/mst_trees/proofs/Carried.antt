@@ -6,22 +6,22 @@ use Rattle.mst_vector.specs.declared.cist.CistBridge.{CistBridge}
 use Rattle.mst_vector.specs.declared.cist.CistPort.{CistPort}
 use Rattle.mst_vector.specs.declared.msti.MstiBridge.{MstiBridge}
 use Rattle.mst_vector.specs.declared.msti.MstiPort.{MstiPort}
-use Rattle.mst_settle.specs.Topology.{Plug, Topology, IsTopology, HasBridge, HasPort}
+use Rattle.mst_settle.specs.Topology.{TreePort, Topology, IsTopology, HasBridge, HasPort}
 use Rattle.mst_settle.specs.Settled.{Designates, IsDesignated}
 use Rattle.mst_settle.specs.Renamed.{Renaming, renamed, IsRenamed}
-use Rattle.mst_nested.specs.Trees.{Trees, IsLanOf, IsInner, HasTree, IsNested}
+use Rattle.mst_nested.specs.Trees.{Trees, IsLanOf, IsInternal, HasTree, IsNested}
 use Rattle.mst_trees.proofs.Lists.{some_is, no_some}
 
 -- what each LAN's designated port is, under the former keys and the new ones
 pub record AreDesignated {N L K O M J B P V : Type 0} (m : Rules B P V) (t : Topology N L K B P) (u : Topology O M J B P) (r : Renaming N L K O M J) (v : N → Option V) (w : O → Option V) : Type 0 where
   pub former : (lan : L) → (o : Option K) × IsDesignated m t v lan o
   pub now : (lan : M) → (o : Option J) × IsDesignated m u w lan o
-  pub same : (p : Plug N L K P) → HasPort t p → (o : Option K) (q : Option J) → IsDesignated m t v p.lan o → IsDesignated m u w (r.lan p.lan) q → MatchOption o (q ≡ None) (λ k. q ≡ Some (r.port k))
+  pub same : (p : TreePort N L K P) → HasPort t p → (o : Option K) (q : Option J) → IsDesignated m t v p.lan o → IsDesignated m u w (r.lan p.lan) q → MatchOption o (q ≡ None) (λ k. q ≡ Some (r.port k))
 
 module _ {N L K O M J B P V : Type 0} (m : Rules B P V) (t : Topology N L K B P) (u : Topology O M J B P) (ok : IsTopology m u) (r : Renaming N L K O M J) (h : IsRenamed r t u)
     (v : N → Option V) (w : O → Option V) (are : AreDesignated m t u r v w) where
   -- a designated port is so under its new key
-  pub designates_to : (lan : L) (p : Plug N L K P) (x : V) → Designates m t v lan p x → (y : V) × Designates m u w (r.lan lan) (renamed r p) y
+  pub designates_to : (lan : L) (p : TreePort N L K P) (x : V) → Designates m t v lan p x → (y : V) × Designates m u w (r.lan lan) (renamed r p) y
   designates_to lan p x d =
       let on : lan ≡ p.lan = sym d.on_lan in
       let q = are.now (r.lan lan) in
@@ -29,13 +29,13 @@ module _ {N L K O M J B P V : Type 0} (m : Rules B P V) (t : Topology N L K B P)
       are.same p d.says.has_port (Some p.number) q.0 (subst (λ (l : L). IsDesignated m t v l (Some p.number)) on (p, x, refl, d)) (subst (λ (l : L). IsDesignated m u w (r.lan l) q.0) on q.1) in
       let g = subst (λ (o : Option J). IsDesignated m u w (r.lan lan) o) chosen q.1 in
       let one : g.0 ≡ renamed r p = ok.one_port g.0 (renamed r p) g.3.says.has_port (h.ports p d.says.has_port) g.2 in
-      (g.1, subst (λ (c : Plug O M J P). Designates m u w (r.lan lan) c g.1) one g.3)
+      (g.1, subst (λ (c : TreePort O M J P). Designates m u w (r.lan lan) c g.1) one g.3)
 
   -- and was so under its former one
-  pub designates_from : (a : Plug N L K P) (q : Plug O M J P) (x : V) → HasPort t a → Designates m u w (r.lan a.lan) q x → (p : Plug N L K P) × (y : V) × Designates m t v a.lan p y × (renamed r p ≡ q)
+  pub designates_from : (a : TreePort N L K P) (q : TreePort O M J P) (x : V) → HasPort t a → Designates m u w (r.lan a.lan) q x → (p : TreePort N L K P) × (y : V) × Designates m t v a.lan p y × (renamed r p ≡ q)
   designates_from a q x ha d = go (are.former a.lan).0 (are.former a.lan).1
     where
-      go : (o : Option K) → IsDesignated m t v a.lan o → (p : Plug N L K P) × (y : V) × Designates m t v a.lan p y × (renamed r p ≡ q)
+      go : (o : Option K) → IsDesignated m t v a.lan o → (p : TreePort N L K P) × (y : V) × Designates m t v a.lan p y × (renamed r p ≡ q)
       go None g = absurd (no_some q.number (sym (are.same a ha None (Some q.number) g (q, x, refl, d))))
       go (Some k) g =
           let chosen : q.number ≡ r.port k = some_is q.number (r.port k) (are.same a ha (Some k) (Some q.number) g (q, x, refl, d)) in
@@ -61,32 +61,32 @@ module _ {N L K O M J : Type 0} (r : Renaming N L K O M J) (f : Trees N L K) (g 
       let one = same_settings l.port.bridge l.designates.says.bridge d.1.says.bridge l.designates.says.has_bridge d.1.says.has_bridge in
       record { port = renamed r l.port; message = d.0; designates = d.1; in_region = ap (λ (b : CistBridge). b.region) (sym one) ∙ l.in_region }
 
-  lan_from : (a : Plug N L K CistPort) → HasPort f.cist a → (region : ℕ) → IsLanOf g (r.lan a.lan) region → IsLanOf f a.lan region
+  lan_from : (a : TreePort N L K CistPort) → HasPort f.cist a → (region : ℕ) → IsLanOf g (r.lan a.lan) region → IsLanOf f a.lan region
   lan_from a ha region l =
       let d = designates_from cist_rules f.cist g.cist are.new_topology r are.cist f.cist_vector g.cist_vector are.designated a l.port l.message ha l.designates in
-      let on : l.port.bridge ≡ r.bridge d.0.bridge = sym (ap (λ (c : Plug O M J CistPort). c.bridge) d.3) in
+      let on : l.port.bridge ≡ r.bridge d.0.bridge = sym (ap (λ (c : TreePort O M J CistPort). c.bridge) d.3) in
       let one =
       same_settings d.0.bridge d.2.says.bridge l.designates.says.bridge d.2.says.has_bridge (subst (λ (o : O). HasBridge g.cist o l.designates.says.bridge) on l.designates.says.has_bridge) in
       record { port = d.0; message = d.1; designates = d.2; in_region = ap (λ (b : CistBridge). b.region) one ∙ l.in_region }
 
-  inner_to : (p : Plug N L K CistPort) → IsInner f p → IsInner g (renamed r p)
-  inner_to p inner = record {
-    is_enabled = (are.cist.ports p inner.is_enabled.0, inner.is_enabled.1);
-    bridge = inner.bridge;
-    has_bridge = are.cist.bridges p.bridge inner.bridge inner.has_bridge;
-    own_lan = lan_to p.lan inner.bridge.region inner.own_lan;
+  internal_to : (p : TreePort N L K CistPort) → IsInternal f p → IsInternal g (renamed r p)
+  internal_to p internal = record {
+    is_enabled = (are.cist.ports p internal.is_enabled.0, internal.is_enabled.1);
+    bridge = internal.bridge;
+    has_bridge = are.cist.bridges p.bridge internal.bridge internal.has_bridge;
+    own_lan = lan_to p.lan internal.bridge.region internal.own_lan;
   }
 
-  inner_from : (p : Plug N L K CistPort) → HasPort f.cist p → IsInner g (renamed r p) → IsInner f p
-  inner_from p hp inner =
-      let b = are.topology.has_bridge p hp inner.is_enabled.1 in
-      let y = are.cist.from_bridge (r.bridge p.bridge) inner.bridge inner.has_bridge in
-      let one : y.0 ≡ p.bridge = are.cist.one_bridge y.0 p.bridge inner.bridge b.0 y.1 b.1 y.2 in
+  internal_from : (p : TreePort N L K CistPort) → HasPort f.cist p → IsInternal g (renamed r p) → IsInternal f p
+  internal_from p hp internal =
+      let b = are.topology.has_bridge p hp internal.is_enabled.1 in
+      let y = are.cist.from_bridge (r.bridge p.bridge) internal.bridge internal.has_bridge in
+      let one : y.0 ≡ p.bridge = are.cist.one_bridge y.0 p.bridge internal.bridge b.0 y.1 b.1 y.2 in
       record {
-        is_enabled = (hp, inner.is_enabled.1);
-        bridge = inner.bridge;
-        has_bridge = subst (λ (n : N). HasBridge f.cist n inner.bridge) one y.1;
-        own_lan = lan_from p hp inner.bridge.region inner.own_lan;
+        is_enabled = (hp, internal.is_enabled.1);
+        bridge = internal.bridge;
+        has_bridge = subst (λ (n : N). HasBridge f.cist n internal.bridge) one y.1;
+        own_lan = lan_from p hp internal.bridge.region internal.own_lan;
       }
 
   module _ (i : ℕ) (nested : IsNested f (suc i)) where
@@ -122,29 +122,29 @@ module _ {N L K O M J : Type 0} (r : Renaming N L K O M J) (f : Trees N L K) (g 
           let y = are.cist.from_bridge k s.other s.has_other in
           let one = has_former x.0 s.bridge x.1 (subst (HasTree g (suc i)) (sym x.2) h) in
           subst (HasTree g (suc i)) y.2 (has_now y.0 (nested.regions x.0 y.0 (record { bridge = s.bridge; has_bridge = x.1; other = s.other; has_other = y.1; same = s.same }) one));
-      ports = λ p inner h.
-          let x = are.cist.from_port p inner.is_enabled.0 in
-          let inside = inner_from x.0 x.1 (subst (IsInner g) (sym x.2) inner) in
+      ports = λ p internal h.
+          let x = are.cist.from_port p internal.is_enabled.0 in
+          let inside = internal_from x.0 x.1 (subst (IsInternal g) (sym x.2) internal) in
           let b = are.topology.has_bridge x.0 x.1 inside.is_enabled.1 in
-          let on : r.bridge x.0.bridge ≡ p.bridge = ap (λ (c : Plug O M J CistPort). c.bridge) x.2 in
+          let on : r.bridge x.0.bridge ≡ p.bridge = ap (λ (c : TreePort O M J CistPort). c.bridge) x.2 in
           let q = nested.ports x.0 inside (has_former x.0.bridge b.0 b.1 (subst (HasTree g (suc i)) (sym on) h)) in (
             renamed r q.0,
             ((are.mstis i).ports q.0 q.1.0, q.1.1),
             record {
-              number = ap r.port q.2.number ∙ ap (λ (c : Plug O M J CistPort). c.number) x.2;
+              number = ap r.port q.2.number ∙ ap (λ (c : TreePort O M J CistPort). c.number) x.2;
               bridge = ap r.bridge q.2.bridge ∙ on;
-              lan = ap r.lan q.2.lan ∙ ap (λ (c : Plug O M J CistPort). c.lan) x.2;
+              lan = ap r.lan q.2.lan ∙ ap (λ (c : TreePort O M J CistPort). c.lan) x.2;
             },
           );
       from_ports = λ q part.
           let x = (are.mstis i).from_port q part.0 in
-          let p = nested.from_ports x.0 (x.1, subst (λ (c : Plug O M J MstiPort). IsTrue c.is_part) (sym x.2) part.1) in (
+          let p = nested.from_ports x.0 (x.1, subst (λ (c : TreePort O M J MstiPort). IsTrue c.is_part) (sym x.2) part.1) in (
             renamed r p.0,
-            inner_to p.0 p.1,
+            internal_to p.0 p.1,
             record {
-              number = sym (ap (λ (c : Plug O M J MstiPort). c.number) x.2) ∙ ap r.port p.2.number;
-              bridge = sym (ap (λ (c : Plug O M J MstiPort). c.bridge) x.2) ∙ ap r.bridge p.2.bridge;
-              lan = sym (ap (λ (c : Plug O M J MstiPort). c.lan) x.2) ∙ ap r.lan p.2.lan;
+              number = sym (ap (λ (c : TreePort O M J MstiPort). c.number) x.2) ∙ ap r.port p.2.number;
+              bridge = sym (ap (λ (c : TreePort O M J MstiPort). c.bridge) x.2) ∙ ap r.bridge p.2.bridge;
+              lan = sym (ap (λ (c : TreePort O M J MstiPort). c.lan) x.2) ∙ ap r.lan p.2.lan;
             },
           );
     }

@@ -23,8 +23,8 @@ use Rattle.mst_config.specs.Shared.{AreRegions}
 use Rattle.mst_trees.specs.Cist.{cist_sight, cist_of}
 use Rattle.mst_trees.specs.Msti.{msti_bridge, has_msti, msti_sight, msti_of}
 use Rattle.mst_trees.specs.Outcome.{TreeOutcome, IsTreeOutcome, Outcome, IsOutcome}
-use Rattle.mst_trees.specs.Seen.{cist_seen, inner_seen, trees_at}
-use Rattle.mst_trees.specs.Agrees.{Agrees, AreOf, inner_of}
+use Rattle.mst_trees.specs.Seen.{cist_seen, internal_seen, trees_at}
+use Rattle.mst_trees.specs.Agrees.{Agrees, AreOf, internal_ports_of}
 use Rattle.mst_trees.specs.Mstis.{AreOutcomes}
 use Rattle.mst_trees.specs.Forest.{IsForest}
 use Rattle.mst_trees.specs.Forest.{Forest}
@@ -34,7 +34,7 @@ use Rattle.mst_trees.proofs.MstiTopology.{msti_is_sight, msti_topology}
 use Rattle.mst_trees.proofs.Sights.{bridge_from}
 use Rattle.mst_trees.proofs.Seen.{bridge_seen, bridge_there}
 use Rattle.mst_trees.proofs.Agreeing.{RenamedVectors, RenamedPorts, agrees}
-use Rattle.mst_trees.proofs.Looking.{cist_is_seen, has_tree_at, inner_is_seen, msti_is_seen}
+use Rattle.mst_trees.proofs.Looking.{cist_is_seen, has_tree_at, internal_is_seen, msti_is_seen}
 
 module _ (net : Net) (numbers : Numbers) (v : Viewed) (region_ids : List (ℕ × ℕ)) (of : AreOf net numbers v region_ids) where
   -- the CIST that is settled by numbers is the one by names
@@ -44,14 +44,14 @@ module _ (net : Net) (numbers : Numbers) (v : Viewed) (region_ids : List (ℕ ×
       agrees net numbers of.network of.numbered v of.view cist_rules (cist_sight net) (cist_is_sight net of.network) vectors ports o is a
       (subst (λ t. IsSettledFor cist_rules t a) (cist_is_seen net numbers v region_ids of) settled)
 
-  -- by which the inner ports are those by names
-  pub inner_agrees : RenamedVectors cist_rules → RenamedPorts cist_rules → (o : TreeOutcome CistVector) → IsTreeOutcome cist_rules (cist_of net) o
-      → (a : Assignment CistVector) → IsSettledFor cist_rules (cist_seen v region_ids) a → inner_seen v region_ids (designated_of a) ≡ inner_of net o.designated v
-  inner_agrees vectors ports o is a settled =
-      inner_is_seen net numbers v region_ids of o is (vector_of a) (designated_of a) (cist_agrees vectors ports o is a settled)
+  -- by which the internal ports are those by names
+  pub internal_agrees : RenamedVectors cist_rules → RenamedPorts cist_rules → (o : TreeOutcome CistVector) → IsTreeOutcome cist_rules (cist_of net) o
+      → (a : Assignment CistVector) → IsSettledFor cist_rules (cist_seen v region_ids) a → internal_seen v region_ids (designated_of a) ≡ internal_ports_of net o.designated v
+  internal_agrees vectors ports o is a settled =
+      internal_is_seen net numbers v region_ids of o is (vector_of a) (designated_of a) (cist_agrees vectors ports o is a settled)
 
-  module _ (tree : ℕ) (designated : List ℕ → Option PortName) (inner : List PortInView) (inner_is : inner ≡ inner_of net designated v)
-      (former mstis : List (ℕ × Assignment MstiVector)) (are : AreOutcomes v inner former mstis) (o : TreeOutcome MstiVector) (is : IsTreeOutcome msti_rules (msti_of net tree designated) o) where
+  module _ (tree : ℕ) (designated : List ℕ → Option PortName) (internal : List PortInView) (internal_is : internal ≡ internal_ports_of net designated v)
+      (former mstis : List (ℕ × Assignment MstiVector)) (are : AreOutcomes v internal former mstis) (o : TreeOutcome MstiVector) (is : IsTreeOutcome msti_rules (msti_of net tree designated) o) where
     -- a tree that isn't there has no bridge
     pub no_bridge : lookup (nat_eq tree) mstis ≡ None → (n : List ℕ) (b : MstiBridge) → HasBridge (msti_of net tree designated) n b → ⊥
     no_bridge none n b h =
@@ -99,16 +99,16 @@ module _ (net : Net) (numbers : Numbers) (v : Viewed) (region_ids : List (ℕ ×
         go (Some a) e =
             subst (λ (x : Option (Assignment MstiVector)). Agrees numbers o (λ n. option_and_then (λ a. vector_of a n) x) (λ n. option_and_then (λ a. designated_of a n) x)) (sym e)
             (agrees net numbers of.network of.numbered v of.view msti_rules (msti_sight net tree designated) (msti_is_sight net of.network tree designated) vectors ports o is a
-            (subst (λ t. IsSettledFor msti_rules t a) (msti_is_seen net numbers v region_ids of tree designated inner inner_is) (are.settled tree a e).outcome))
+            (subst (λ t. IsSettledFor msti_rules t a) (msti_is_seen net numbers v region_ids of tree designated internal internal_is) (are.settled tree a e).outcome))
 
   pub is_forest : RenamedVectors cist_rules → RenamedPorts cist_rules → RenamedVectors msti_rules → RenamedPorts msti_rules
       → (o : Outcome) → IsOutcome net o → (f : Forest) → f.regions ≡ region_ids → IsSettledFor cist_rules (cist_seen v region_ids) f.cist
-      → (inner : List PortInView) → inner ≡ inner_seen v region_ids (designated_of f.cist) → (former : List (ℕ × Assignment MstiVector)) → AreOutcomes v inner former f.mstis → IsForest net numbers f
-  is_forest vectors ports msti_vectors msti_ports o is f regions settled inner inner_is former are = record {
+      → (internal : List PortInView) → internal ≡ internal_seen v region_ids (designated_of f.cist) → (former : List (ℕ × Assignment MstiVector)) → AreOutcomes v internal former f.mstis → IsForest net numbers f
+  is_forest vectors ports msti_vectors msti_ports o is f regions settled internal internal_is former are = record {
     outcome = o;
     is_outcome = is;
     cist = cist_agrees vectors ports o.cist is.cist f.cist settled;
     mstis = λ tree.
-        msti_agrees tree o.cist.designated inner (inner_is ∙ inner_agrees vectors ports o.cist is.cist f.cist settled) former f.mstis are (o.msti tree) (is.mstis tree) msti_vectors msti_ports;
+        msti_agrees tree o.cist.designated internal (internal_is ∙ internal_agrees vectors ports o.cist is.cist f.cist settled) former f.mstis are (o.msti tree) (is.mstis tree) msti_vectors msti_ports;
     regions = subst (AreRegions net numbers) (sym regions) of.regions;
   }

@@ -113,8 +113,8 @@ gone (Some a) = none_after (vector_of a) (above a.bridges) (vector_below a)
 
 -- ---- the trees of a forest
 pub keeps_bounds : (old new : Forest) (v : Viewed) (region_ids : List (ℕ × ℕ)) → IsSettledBy cist_rules (cist_seen v region_ids) (vector_of old.cist) new.cist
-    → (inner : List PortInView) → AreOutcomes v inner old.mstis new.mstis → KeepsBounds old new
-keeps_bounds old new v region_ids settled inner are = record {
+    → (internal : List PortInView) → AreOutcomes v internal old.mstis new.mstis → KeepsBounds old new
+keeps_bounds old new v region_ids settled internal are = record {
   cist = keeps_bound (vector_of old.cist) (vector_of new.cist) new.cist.settlings settled.bounds;
   mstis = λ tree. go tree (lookup (nat_eq tree) new.mstis) refl;
 }

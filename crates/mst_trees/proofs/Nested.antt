@@ -13,7 +13,7 @@ use Rattle.mst_vector.specs.declared.cist.CistBridge.{CistBridge}
 use Rattle.mst_vector.specs.declared.cist.CistPort.{CistPort}
 use Rattle.mst_vector.specs.declared.msti.MstiBridge.{MstiBridge}
 use Rattle.mst_vector.specs.declared.msti.MstiPort.{MstiPort}
-use Rattle.mst_settle.specs.Topology.{Plug, HasBridge, HasPort}
+use Rattle.mst_settle.specs.Topology.{TreePort, HasBridge, HasPort}
 use Rattle.mst_settle.specs.Settled.{IsDesignated}
 use Rattle.mst_net.specs.Tables.{Net, BridgeRow, IsNetwork}
 use Rattle.mst_net.specs.After.{table_of}
@@ -25,9 +25,9 @@ use Rattle.mst_config.specs.Regions.{same_region, same_configuration, region_of}
 use Rattle.mst_config.proofs.SameRegion.{told}
 use Rattle.mst_trees.specs.Sight.{tree_port}
 use Rattle.mst_trees.specs.Cist.{cist_bridge, cist_port, cist_sight, cist_of}
-use Rattle.mst_trees.specs.Msti.{msti_bridge, msti_port, has_msti, is_inner, msti_sight, msti_of}
+use Rattle.mst_trees.specs.Msti.{msti_bridge, msti_port, has_msti, is_internal, msti_sight, msti_of}
 use Rattle.mst_trees.specs.Outcome.{Outcome, IsOutcome, trees_of}
-use Rattle.mst_nested.specs.Trees.{Trees, TakesPart, IsSamePort, IsLanOf, IsInner, SameRegion, IsSettled, IsFree}
+use Rattle.mst_nested.specs.Trees.{Trees, TakesPart, IsSamePort, IsLanOf, IsInternal, SameRegion, IsSettled, IsFree}
 use Rattle.mst_trees.proofs.Lists.{some_is}
 use Rattle.mst_trees.proofs.Outcomes.{OnePorts}
 use Rattle.mst_trees.proofs.Views.{IsPort}
@@ -84,37 +84,37 @@ module _ (net : Net) (ok : IsNetwork net) (one_ports : OnePorts cist_rules) (o :
       let y = in_cist k b j in
       sym (told net ok n k x.row y.row x.has_row y.has_row) ∙ eq-eqb (region_of net n) (region_of net k) (sym x.region ∙ e ∙ y.region)
 
-  cist_port_from : (p : Plug (List ℕ) (List ℕ) PortName CistPort) → HasPort (cist_of net) p → PortOf net (cist_sight net) p
+  cist_port_from : (p : TreePort (List ℕ) (List ℕ) PortName CistPort) → HasPort (cist_of net) p → PortOf net (cist_sight net) p
   cist_port_from p h = port_from net ok cist_rules (cist_sight net) (cist_is_sight net ok) p h
 
   -- a port's bridge has the name in the port's
-  own_name : (p : Plug (List ℕ) (List ℕ) PortName CistPort) → HasPort (cist_of net) p → p.number.bridge ≡ p.bridge
-  own_name p h = let x = cist_port_from p h in sym (ap (λ (r : Plug (List ℕ) (List ℕ) PortName CistPort). r.number.bridge) x.is) ∙ ap (λ (r : Plug (List ℕ) (List ℕ) PortName CistPort). r.bridge) x.is
+  own_name : (p : TreePort (List ℕ) (List ℕ) PortName CistPort) → HasPort (cist_of net) p → p.number.bridge ≡ p.bridge
+  own_name p h = let x = cist_port_from p h in sym (ap (λ (r : TreePort (List ℕ) (List ℕ) PortName CistPort). r.number.bridge) x.is) ∙ ap (λ (r : TreePort (List ℕ) (List ℕ) PortName CistPort). r.bridge) x.is
 
-  -- an inner port of the CIST passes the test of inner ports
-  pub inner_told : (p : Plug (List ℕ) (List ℕ) PortName CistPort) → IsInner f p → (x : PortOf net (cist_sight net) p) → is_inner net d x.port ≡ true
-  inner_told p inner x =
-      let l = inner.own_lan in
+  -- an internal port of the CIST passes the test of internal ports
+  pub internal_told : (p : TreePort (List ℕ) (List ℕ) PortName CistPort) → IsInternal f p → (x : PortOf net (cist_sight net) p) → is_internal net d x.port ≡ true
+  internal_told p internal x =
+      let l = internal.own_lan in
       let chosen : d p.lan ≡ Some l.port.number =
       one_ports (cist_of net) o.cist.vector o.cist.vector (cist_topology net ok) is.cist.settled is.cist.settled p.lan (d p.lan) (Some l.port.number)
       (is.cist.designated p.lan) (l.port, l.message, refl, l.designates) in
-      let lan : x.port.lan ≡ p.lan = ap (λ (r : Plug (List ℕ) (List ℕ) PortName CistPort). r.lan) x.is in
-      let on : x.port.name.bridge ≡ p.bridge = ap (λ (r : Plug (List ℕ) (List ℕ) PortName CistPort). r.bridge) x.is in
-      let region : same_region net l.port.bridge p.bridge ≡ true = one_region l.port.bridge p.bridge l.designates.says.bridge inner.bridge l.designates.says.has_bridge inner.has_bridge l.in_region in
+      let lan : x.port.lan ≡ p.lan = ap (λ (r : TreePort (List ℕ) (List ℕ) PortName CistPort). r.lan) x.is in
+      let on : x.port.name.bridge ≡ p.bridge = ap (λ (r : TreePort (List ℕ) (List ℕ) PortName CistPort). r.bridge) x.is in
+      let region : same_region net l.port.bridge p.bridge ≡ true = one_region l.port.bridge p.bridge l.designates.says.bridge internal.bridge l.designates.says.has_bridge internal.has_bridge l.in_region in
       ap (λ (w : Option PortName). option_map_or (λ q. same_region net q.bridge x.port.name.bridge) w false) (ap d lan ∙ chosen)
       ∙ (λ i. same_region net (own_name l.port l.designates.says.has_port i) (on i)) ∙ region
 
   -- a LAN whose designated port is on a bridge of the port's region belongs to that region
-  lan_of : (p : LogicalPort) (b : CistBridge) → HasBridge (cist_of net) p.name.bridge b → (w : Option PortName) → d p.lan ≡ w → is_inner net d p ≡ true → IsLanOf f p.lan b.region
-  lan_of p b h None e inner = absurd (true≢false (sym inner ∙ ap (λ (w : Option PortName). option_map_or (λ q. same_region net q.bridge p.name.bridge) w false) e))
-  lan_of p b h (Some k) e inner =
+  lan_of : (p : LogicalPort) (b : CistBridge) → HasBridge (cist_of net) p.name.bridge b → (w : Option PortName) → d p.lan ≡ w → is_internal net d p ≡ true → IsLanOf f p.lan b.region
+  lan_of p b h None e internal = absurd (true≢false (sym internal ∙ ap (λ (w : Option PortName). option_map_or (λ q. same_region net q.bridge p.name.bridge) w false) e))
+  lan_of p b h (Some k) e internal =
       let g = subst (λ (w : Option PortName). IsDesignated cist_rules (cist_of net) o.cist.vector p.lan w) e (is.cist.designated p.lan) in
       let says = g.3.says in
       let x = in_cist g.0.bridge says.bridge says.has_bridge in
       let y = in_cist p.name.bridge b h in
       let name : k.bridge ≡ g.0.bridge = sym (ap (λ (n : PortName). n.bridge) g.2) ∙ own_name g.0 says.has_port in
       let region : same_region net g.0.bridge p.name.bridge ≡ true =
-      ap (λ n. same_region net n p.name.bridge) (sym name) ∙ sym (ap (λ (w : Option PortName). option_map_or (λ q. same_region net q.bridge p.name.bridge) w false) e) ∙ inner in
+      ap (λ n. same_region net n p.name.bridge) (sym name) ∙ sym (ap (λ (w : Option PortName). option_map_or (λ q. same_region net q.bridge p.name.bridge) w false) e) ∙ internal in
       record {
         port = g.0;
         message = g.1;
@@ -122,15 +122,15 @@ module _ (net : Net) (ok : IsNetwork net) (one_ports : OnePorts cist_rules) (o :
         in_region = x.region ∙ eqb-true (region_of net g.0.bridge) (region_of net p.name.bridge) (told net ok g.0.bridge p.name.bridge x.row y.row x.has_row y.has_row ∙ region) ∙ sym y.region;
       }
 
-  -- so a port that passes the test is an inner port of the CIST
-  pub inner_port : (p : LogicalPort) → Contains (view_ports net) p → IsPort net p → p.is_enabled ≡ true → is_inner net d p ≡ true → IsInner f (tree_port p (cist_port (by_tree net) p))
-  inner_port p there is_port enabled inner =
+  -- so a port that passes the test is an internal port of the CIST
+  pub internal_port : (p : LogicalPort) → Contains (view_ports net) p → IsPort net p → p.is_enabled ≡ true → is_internal net d p ≡ true → IsInternal f (tree_port p (cist_port (by_tree net) p))
+  internal_port p there is_port enabled internal =
       let settings = cist_port (by_tree net) p in
       let seen : (cist_sight net).port p ≡ Some settings = ap (λ (t : Bool). if t then Some settings else None) enabled in
       let port : HasPort (cist_of net) (tree_port p settings) = port_in net ok cist_rules (cist_sight net) (cist_is_sight net ok) p settings there seen in
       let own = (cist_is_sight net ok).own_bridge p settings is_port seen in
       let has = bridge_in net ok cist_rules (cist_sight net) (cist_is_sight net ok) p.name.bridge own.0 own.1 in
-      record { is_enabled = (port, refl); bridge = own.0; has_bridge = has; own_lan = lan_of p own.0 has (d p.lan) refl inner }
+      record { is_enabled = (port, refl); bridge = own.0; has_bridge = has; own_lan = lan_of p own.0 has (d p.lan) refl internal }
 
   module _ (tree : ℕ) where
     -- a bridge of the MSTI: it is on, and has the tree
@@ -176,37 +176,37 @@ module _ (net : Net) (ok : IsNetwork net) (one_ports : OnePorts cist_rules) (o :
         ∙ x.has_tree in
         to_msti k (record { row = y.row; has_row = y.has_row; is_on = y.is_on; has_tree = has })
 
-    -- an inner port of the CIST is in the tree where its bridge is
-    inner_in : (p : Plug (List ℕ) (List ℕ) PortName CistPort) → IsInner f p → (b : MstiBridge) → HasBridge (msti_of net tree d) p.bridge b
-        → (q : Plug (List ℕ) (List ℕ) PortName MstiPort) × TakesPart (msti_of net tree d) q × IsSamePort q p
-    inner_in p inner b h =
-        let x = cist_port_from p inner.is_enabled.0 in
+    -- an internal port of the CIST is in the tree where its bridge is
+    internal_in : (p : TreePort (List ℕ) (List ℕ) PortName CistPort) → IsInternal f p → (b : MstiBridge) → HasBridge (msti_of net tree d) p.bridge b
+        → (q : TreePort (List ℕ) (List ℕ) PortName MstiPort) × TakesPart (msti_of net tree d) q × IsSamePort q p
+    internal_in p internal b h =
+        let x = cist_port_from p internal.is_enabled.0 in
         let enabled = (given x.port.is_enabled (cist_port (by_tree net) x.port) x.settings x.seen).0 in
-        let lan : x.port.lan ≡ p.lan = ap (λ (r : Plug (List ℕ) (List ℕ) PortName CistPort). r.lan) x.is in
-        let on : x.port.name.bridge ≡ p.bridge = ap (λ (r : Plug (List ℕ) (List ℕ) PortName CistPort). r.bridge) x.is in
-        let is_in : is_inner net d x.port ≡ true = inner_told p inner x in
+        let lan : x.port.lan ≡ p.lan = ap (λ (r : TreePort (List ℕ) (List ℕ) PortName CistPort). r.lan) x.is in
+        let on : x.port.name.bridge ≡ p.bridge = ap (λ (r : TreePort (List ℕ) (List ℕ) PortName CistPort). r.bridge) x.is in
+        let is_in : is_internal net d x.port ≡ true = internal_told p internal x in
         let has : has_msti net tree x.port.name.bridge ≡ true = ap (has_msti net tree) on ∙ (in_msti p.bridge b h).has_tree in
         let settings = msti_port (by_tree net) tree x.port in
         let seen : (msti_sight net tree d).port x.port ≡ Some settings =
-        ap (λ (t : Bool). if t && is_inner net d x.port && has_msti net tree x.port.name.bridge then Some settings else None) enabled
+        ap (λ (t : Bool). if t && is_internal net d x.port && has_msti net tree x.port.name.bridge then Some settings else None) enabled
         ∙ ap (λ (t : Bool). if t && has_msti net tree x.port.name.bridge then Some settings else None) is_in
         ∙ ap (λ (t : Bool). if t then Some settings else None) has in (
           tree_port x.port settings,
           (port_in net ok msti_rules (msti_sight net tree d) (msti_is_sight net ok tree d) x.port settings x.there seen, refl),
-          record { number = ap (λ (r : Plug (List ℕ) (List ℕ) PortName CistPort). r.number) x.is; bridge = on; lan = lan },
+          record { number = ap (λ (r : TreePort (List ℕ) (List ℕ) PortName CistPort). r.number) x.is; bridge = on; lan = lan },
         )
 
-    -- and a port of the tree is an inner port of the CIST
-    inner_from : (q : Plug (List ℕ) (List ℕ) PortName MstiPort) → TakesPart (msti_of net tree d) q → (p : Plug (List ℕ) (List ℕ) PortName CistPort) × IsInner f p × IsSamePort q p
-    inner_from q part =
+    -- and a port of the tree is an internal port of the CIST
+    internal_from : (q : TreePort (List ℕ) (List ℕ) PortName MstiPort) → TakesPart (msti_of net tree d) q → (p : TreePort (List ℕ) (List ℕ) PortName CistPort) × IsInternal f p × IsSamePort q p
+    internal_from q part =
         let y = port_from net ok msti_rules (msti_sight net tree d) (msti_is_sight net ok tree d) q part.0 in
         let m = msti_port_is net ok tree d y.port y.settings y.seen in (
           tree_port y.port (cist_port (by_tree net) y.port),
-          inner_port y.port y.there y.is_port m.is_enabled m.inner,
+          internal_port y.port y.there y.is_port m.is_enabled m.internal,
           record {
-            number = sym (ap (λ (r : Plug (List ℕ) (List ℕ) PortName MstiPort). r.number) y.is);
-            bridge = sym (ap (λ (r : Plug (List ℕ) (List ℕ) PortName MstiPort). r.bridge) y.is);
-            lan = sym (ap (λ (r : Plug (List ℕ) (List ℕ) PortName MstiPort). r.lan) y.is);
+            number = sym (ap (λ (r : TreePort (List ℕ) (List ℕ) PortName MstiPort). r.number) y.is);
+            bridge = sym (ap (λ (r : TreePort (List ℕ) (List ℕ) PortName MstiPort). r.bridge) y.is);
+            lan = sym (ap (λ (r : TreePort (List ℕ) (List ℕ) PortName MstiPort). r.lan) y.is);
           },
         )
 
@@ -221,8 +221,8 @@ module _ (net : Net) (ok : IsNetwork net) (one_ports : OnePorts cist_rules) (o :
     nested = λ i. record {
       bridges = λ n h. to_cist (suc i) n (in_msti (suc i) n h.0 h.1);
       regions = λ n k s h. shares (suc i) n k s h.0 h.1;
-      ports = λ p inner h. inner_in (suc i) p inner h.0 h.1;
-      from_ports = inner_from (suc i);
+      ports = λ p internal h. internal_in (suc i) p internal h.0 h.1;
+      from_ports = internal_from (suc i);
     };
   }
 
@@ -231,8 +231,8 @@ module _ (net : Net) (ok : IsNetwork net) (one_ports : OnePorts cist_rules) (o :
   is_free free = record {
     cist = λ p h.
         let y = cist_port_from p h in
-        sym (ap (λ (r : Plug (List ℕ) (List ℕ) PortName CistPort). r.is_restricted) y.is) ∙ free y.port y.there;
+        sym (ap (λ (r : TreePort (List ℕ) (List ℕ) PortName CistPort). r.is_restricted) y.is) ∙ free y.port y.there;
     msti = λ i p h.
         let y = port_from net ok msti_rules (msti_sight net (suc i) d) (msti_is_sight net ok (suc i) d) p h in
-        sym (ap (λ (r : Plug (List ℕ) (List ℕ) PortName MstiPort). r.is_restricted) y.is) ∙ free y.port y.there;
+        sym (ap (λ (r : TreePort (List ℕ) (List ℕ) PortName MstiPort). r.is_restricted) y.is) ∙ free y.port y.there;
   }

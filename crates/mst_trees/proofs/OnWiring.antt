@@ -12,7 +12,7 @@ use Rattle.mst_vector.specs.declared.cist.CistBridge.{CistBridge}
 use Rattle.mst_vector.specs.declared.cist.CistPort.{CistPort}
 use Rattle.mst_vector.specs.declared.msti.MstiBridge.{MstiBridge}
 use Rattle.mst_vector.specs.declared.msti.MstiPort.{MstiPort}
-use Rattle.mst_settle.specs.Topology.{Plug, Topology, IsTopology, HasBridge, HasPort}
+use Rattle.mst_settle.specs.Topology.{TreePort, Topology, IsTopology, HasBridge, HasPort}
 use Rattle.mst_settle.specs.Settled.{Settled, IsDesignated}
 use Rattle.mst_settle.specs.Assignment.{vector_of, designated_of, IsSettledFor}
 use Rattle.mst_settle.specs.Repair.{WithinBounds}
@@ -25,12 +25,12 @@ use Rattle.mst_lag.specs.Trees.{is_among}
 use Rattle.mst_lag.specs.Viewed.{Viewed, named_port}
 use Rattle.mst_lag.specs.declared.in_view.PortInView.{PortInView}
 use Rattle.mst_trees.specs.Apart.{Apart}
-use Rattle.mst_trees.specs.Agrees.{AreOf, KnownInner}
+use Rattle.mst_trees.specs.Agrees.{AreOf, KnownInternal}
 use Rattle.mst_trees.specs.Cist.{cist_sight}
-use Rattle.mst_trees.specs.Msti.{msti_bridge, msti_port, is_inner, msti_sight}
-use Rattle.mst_trees.specs.Numbered.{BridgesDiffer, PortsDiffer, CanSettle, IsSettledBy, numbered}
-use Rattle.mst_trees.specs.Seen.{plug_of, cist_seen, trees_at, seen_msti_bridge, seen_msti_port, msti_seen}
-use Rattle.mst_trees.specs.Wirings.{HaveNumbers, AreOwn, base_plug, cist_wires, cist_bridges_seen, msti_wires, msti_bridges_seen}
+use Rattle.mst_trees.specs.Msti.{msti_bridge, msti_port, is_internal, msti_sight}
+use Rattle.mst_trees.specs.Numbered.{BridgesDiffer, PortsDiffer, CanSettle, IsSettledBy, topology_by_number}
+use Rattle.mst_trees.specs.Seen.{seen_tree_port, cist_seen, trees_at, seen_msti_bridge, seen_msti_port, msti_seen}
+use Rattle.mst_trees.specs.Wirings.{HaveNumbers, AreOwn, base_port, cist_wires, cist_bridges_seen, msti_wires, msti_bridges_seen}
 use Rattle.mst_trees.proofs.Entries.{all_both}
 use Rattle.mst_trees.proofs.Lists.{there_first, there_later, all_contained, all_mapped, all_passing, apart_cases, apart_filtered, apart_mapped, apart_weaker, contains_mapped, contains_unmapped, kept_in, kept_from}
 use Rattle.mst_trees.proofs.Views.{port_names_differ}
@@ -70,7 +70,7 @@ pub record OnWiring {B P V : Type 0} (m : Rules B P V) (t u : Topology ℕ ℕ �
   pub numbers : Apart (λ (a b : ℕ × B). a.0 ≢ b.0) t.bridges
 
 -- so is the tree of equal wires, bridges and settings
-pub on_equal : {B P V : Type 0} (m : Rules B P V) (u : Topology ℕ ℕ ℕ B P) {wires wired : List (Plug ℕ ℕ ℕ P)} {bridges seen : List (ℕ × B)} {own set : List (ℕ × P)}
+pub on_equal : {B P V : Type 0} (m : Rules B P V) (u : Topology ℕ ℕ ℕ B P) {wires wired : List (TreePort ℕ ℕ ℕ P)} {bridges seen : List (ℕ × B)} {own set : List (ℕ × P)}
     → wires ≡ wired → bridges ≡ seen → own ≡ set → OnWiring m (topology_of wired seen set) u → OnWiring m (topology_of wires bridges own) u
 on_equal m u e f g = subst (λ t. OnWiring m t u) (λ i. topology_of (sym e i) (sym f i) (sym g i))
 
@@ -80,7 +80,7 @@ pub record PartsAlone {B P V : Type 0} (m : Rules B P V) : Type 0 where
   pub ports : (t u : Topology ℕ ℕ ℕ B P) (v : ℕ → Option V) (lan : ℕ) (p : Option ℕ) → SameParts t u → IsDesignated m t v lan p → IsDesignated m u v lan p
 
 -- what is settled on the wiring is settled for u
-pub settled_on : {B P V : Type 0} (m : Rules B P V) (u : Topology ℕ ℕ ℕ B P) (wires : List (Plug ℕ ℕ ℕ P)) (bridges : List (ℕ × B)) (own : List (ℕ × P)) (before : ℕ → Option V)
+pub settled_on : {B P V : Type 0} (m : Rules B P V) (u : Topology ℕ ℕ ℕ B P) (wires : List (TreePort ℕ ℕ ℕ P)) (bridges : List (ℕ × B)) (own : List (ℕ × P)) (before : ℕ → Option V)
     → PartsAlone m → OnWiring m (topology_of wires bridges own) u → (r : Result (Tree B P V) AllocError)
     → IfOk r (λ tree. tree.bridges ≡ bridges) → IfOk r (λ tree. tree.own ≡ own) → IfOk r (IsHeld m wires) → IfOk r (λ tree. WithinBounds before (vector_of tree.outcome) tree.outcome.settlings)
     → IfOk r (λ tree. IsSettledBy m u before tree.outcome)
@@ -97,25 +97,25 @@ settled_on m u wires bridges own before law on (Ok tree) e f held bounds =
 settled_on m u wires bridges own before law on (Err x) e f held bounds = tt
 
 -- these ports are those of the wiring whose bridge is among these
-record AreParts {B P V : Type 0} (m : Rules B P V) (wires : List (Plug ℕ ℕ ℕ P)) (bridges : List (ℕ × B)) (own : List (ℕ × P)) (ports : List (Plug ℕ ℕ ℕ P)) : Type 0 where
+record AreParts {B P V : Type 0} (m : Rules B P V) (wires : List (TreePort ℕ ℕ ℕ P)) (bridges : List (ℕ × B)) (own : List (ℕ × P)) (ports : List (TreePort ℕ ℕ ℕ P)) : Type 0 where
   numbers : HaveNumbers wires
   in_range : AllByRecursion (λ p. IsTrue (m.in_range (settings_in own p))) wires
-  to : (p : Plug ℕ ℕ ℕ P) → Contains wires p → IsTrue (port_in bridges own p).is_part → Contains ports (port_in bridges own p)
-  from : (p : Plug ℕ ℕ ℕ P) → Contains ports p → Contains (map (port_in bridges own) wires) p
+  to : (p : TreePort ℕ ℕ ℕ P) → Contains wires p → IsTrue (port_in bridges own p).is_part → Contains ports (port_in bridges own p)
+  from : (p : TreePort ℕ ℕ ℕ P) → Contains ports p → Contains (map (port_in bridges own) wires) p
 
-module _ {B P V : Type 0} (m : Rules B P V) (wires : List (Plug ℕ ℕ ℕ P)) (bridges : List (ℕ × B)) (own : List (ℕ × P)) (ports : List (Plug ℕ ℕ ℕ P)) (can : CanSettle m bridges ports) (are : AreParts m wires bridges own ports) where
+module _ {B P V : Type 0} (m : Rules B P V) (wires : List (TreePort ℕ ℕ ℕ P)) (bridges : List (ℕ × B)) (own : List (ℕ × P)) (ports : List (TreePort ℕ ℕ ℕ P)) (can : CanSettle m bridges ports) (are : AreParts m wires bridges own ports) where
   abbrev t : Topology ℕ ℕ ℕ B P
   t = topology_of wires bridges own
 
   -- a port in the tree comes of one of the wiring
-  wire_of : (p : Plug ℕ ℕ ℕ P) → HasPort t p → (w : Plug ℕ ℕ ℕ P) × Contains wires w × (port_in bridges own w ≡ p)
+  wire_of : (p : TreePort ℕ ℕ ℕ P) → HasPort t p → (w : TreePort ℕ ℕ ℕ P) × Contains wires w × (port_in bridges own w ≡ p)
   wire_of p h = contains_unmapped (port_in bridges own) wires p h
 
   -- one that takes part is among these
-  part_in : (p : Plug ℕ ℕ ℕ P) → HasPort t p → IsTrue p.is_part → Contains ports p
+  part_in : (p : TreePort ℕ ℕ ℕ P) → HasPort t p → IsTrue p.is_part → Contains ports p
   part_in p h part =
       let w = wire_of p h in
-      subst (Contains ports) w.2 (are.to w.0 w.1 (subst (λ (q : Plug ℕ ℕ ℕ P). IsTrue q.is_part) (sym w.2) part))
+      subst (Contains ports) w.2 (are.to w.0 w.1 (subst (λ (q : TreePort ℕ ℕ ℕ P). IsTrue q.is_part) (sym w.2) part))
 
   one_bridge : (n : ℕ) (a b : B) → HasBridge t n a → HasBridge t n b → a ≡ b
   one_bridge n a b h j =
@@ -131,36 +131,36 @@ module _ {B P V : Type 0} (m : Rules B P V) (wires : List (Plug ℕ ℕ ℕ P)) 
         | inr differ ↦ absurd (elim differ [ inl d ↦ d.identifiers e | inr d ↦ d.identifiers (sym e) ])
       ]
 
-  one_port : (p q : Plug ℕ ℕ ℕ P) → HasPort t p → HasPort t q → p.number ≡ q.number → p ≡ q
+  one_port : (p q : TreePort ℕ ℕ ℕ P) → HasPort t p → HasPort t q → p.number ≡ q.number → p ≡ q
   one_port p q h j e =
       let w = wire_of p h in
       let x = wire_of q j in
-      let numbers : w.0.number ≡ x.0.number = ap (λ (r : Plug ℕ ℕ ℕ P). r.number) w.2 ∙ e ∙ sym (ap (λ (r : Plug ℕ ℕ ℕ P). r.number) x.2) in
-      elim (apart_cases (λ (p q : Plug ℕ ℕ ℕ P). p.number ≢ q.number) wires w.0 x.0 are.numbers w.1 x.1) [
+      let numbers : w.0.number ≡ x.0.number = ap (λ (r : TreePort ℕ ℕ ℕ P). r.number) w.2 ∙ e ∙ sym (ap (λ (r : TreePort ℕ ℕ ℕ P). r.number) x.2) in
+      elim (apart_cases (λ (p q : TreePort ℕ ℕ ℕ P). p.number ≢ q.number) wires w.0 x.0 are.numbers w.1 x.1) [
         | inl same ↦ sym w.2 ∙ ap (port_in bridges own) same ∙ x.2
         | inr differ ↦ absurd (elim differ [ inl d ↦ d numbers | inr d ↦ d (sym numbers) ])
       ]
 
-  port_ids : (p q : Plug ℕ ℕ ℕ P) → HasPort t p → IsTrue p.is_part → HasPort t q → IsTrue q.is_part → p.bridge ≡ q.bridge → m.port_id p.settings ≡ m.port_id q.settings → p ≡ q
+  port_ids : (p q : TreePort ℕ ℕ ℕ P) → HasPort t p → IsTrue p.is_part → HasPort t q → IsTrue q.is_part → p.bridge ≡ q.bridge → m.port_id p.settings ≡ m.port_id q.settings → p ≡ q
   port_ids p q h part j takes on e =
       elim (apart_cases (PortsDiffer m) ports p q can.ports_differ (part_in p h part) (part_in q j takes)) [
         | inl same ↦ same
         | inr differ ↦ absurd (elim differ [ inl d ↦ d.identifiers on e | inr d ↦ d.identifiers (sym on) (sym e) ])
       ]
 
-  has_bridge : (p : Plug ℕ ℕ ℕ P) → HasPort t p → IsTrue p.is_part → (b : B) × HasBridge t p.bridge b
+  has_bridge : (p : TreePort ℕ ℕ ℕ P) → HasPort t p → IsTrue p.is_part → (b : B) × HasBridge t p.bridge b
   has_bridge p h part =
       let w = wire_of p h in
-      let parts = and_parts w.0.is_part (is_some (lookup (nat_eq w.0.bridge) bridges)) (subst (λ (q : Plug ℕ ℕ ℕ P). IsTrue q.is_part) (sym w.2) part) in
+      let parts = and_parts w.0.is_part (is_some (lookup (nat_eq w.0.bridge) bridges)) (subst (λ (q : TreePort ℕ ℕ ℕ P). IsTrue q.is_part) (sym w.2) part) in
       let b = looked_there w.0.bridge bridges parts.1 in
-      (b.0, subst (λ n. HasBridge t n b.0) (ap (λ (q : Plug ℕ ℕ ℕ P). q.bridge) w.2) b.1)
+      (b.0, subst (λ n. HasBridge t n b.0) (ap (λ (q : TreePort ℕ ℕ ℕ P). q.bridge) w.2) b.1)
 
-  in_range : (p : Plug ℕ ℕ ℕ P) → HasPort t p → IsTrue (m.in_range p.settings)
+  in_range : (p : TreePort ℕ ℕ ℕ P) → HasPort t p → IsTrue (m.in_range p.settings)
   in_range p h =
       let w = wire_of p h in
-      subst (λ (q : Plug ℕ ℕ ℕ P). IsTrue (m.in_range q.settings)) w.2 (all_contained (λ p. IsTrue (m.in_range (settings_in own p))) wires w.0 are.in_range w.1)
+      subst (λ (q : TreePort ℕ ℕ ℕ P). IsTrue (m.in_range q.settings)) w.2 (all_contained (λ p. IsTrue (m.in_range (settings_in own p))) wires w.0 are.in_range w.1)
 
-  on_wiring : OnWiring m (topology_of wires bridges own) (numbered bridges ports)
+  on_wiring : OnWiring m (topology_of wires bridges own) (topology_by_number bridges ports)
   on_wiring = record {
     is_topology = record { one_bridge = one_bridge; one_port = one_port; has_bridge = has_bridge; in_range = in_range; bridge_ids = bridge_ids; port_ids = port_ids };
     same = record { bridges = λ n b. (λ h. h, λ h. h); ports = λ p part. (λ h. part_in p h part, are.from p) };
@@ -176,21 +176,21 @@ module _ (net : Net) (numbers : Numbers) (v : Viewed) (region_ids : List (ℕ ×
       (can_settle net numbers of.network of.numbered v of.view cist_rules (cist_sight net) (cist_is_sight net of.network))
 
   pub cist_numbers : HaveNumbers (cist_wires v)
-  cist_numbers = apart_weaker (PortsDiffer cist_rules) (λ (p q : Plug ℕ ℕ ℕ CistPort). p.number ≢ q.number) (λ p q d. d.numbers) (cist_wires v) cist_can.ports_differ
+  cist_numbers = apart_weaker (PortsDiffer cist_rules) (λ (p q : TreePort ℕ ℕ ℕ CistPort). p.number ≢ q.number) (λ p q d. d.numbers) (cist_wires v) cist_can.ports_differ
 
   -- each port of the wiring takes part
-  each_part : (p : Plug ℕ ℕ ℕ CistPort) → Contains (cist_wires v) p → port_in (cist_bridges_seen v region_ids) [] p ≡ p
+  each_part : (p : TreePort ℕ ℕ ℕ CistPort) → Contains (cist_wires v) p → port_in (cist_bridges_seen v region_ids) [] p ≡ p
   each_part p h = λ i. record { number = p.number; bridge = p.bridge; lan = p.lan; settings = p.settings; is_part = same i; is_restricted = p.is_restricted }
     where
       bridges : List (ℕ × CistBridge)
       bridges = cist_bridges_seen v region_ids
 
       takes : p.is_part ≡ true
-      takes = all_contained (λ (p : Plug ℕ ℕ ℕ CistPort). p.is_part ≡ true) (cist_wires v) p cist_can.take_part h
+      takes = all_contained (λ (p : TreePort ℕ ℕ ℕ CistPort). p.is_part ≡ true) (cist_wires v) p cist_can.take_part h
 
       there : is_some (lookup (nat_eq p.bridge) bridges) ≡ true
       there =
-          let b = all_contained (λ (p : Plug ℕ ℕ ℕ CistPort). (b : CistBridge) × Contains (cist_bridges_seen v region_ids) (p.bridge, b)) (cist_wires v) p cist_can.have_bridge h in
+          let b = all_contained (λ (p : TreePort ℕ ℕ ℕ CistPort). (b : CistBridge) × Contains (cist_bridges_seen v region_ids) (p.bridge, b)) (cist_wires v) p cist_can.have_bridge h in
           there_looked p.bridge b.0 (cist_bridges_seen v region_ids) b.1
 
       same : (p.is_part && is_some (lookup (nat_eq p.bridge) bridges)) ≡ p.is_part
@@ -205,48 +205,48 @@ module _ (net : Net) (numbers : Numbers) (v : Viewed) (region_ids : List (ℕ ×
   })
 
 -- ---- the MSTIs
-module _ (v : Viewed) (inner : List PortInView) (known : KnownInner v inner) where
+module _ (v : Viewed) (internal : List PortInView) (known : KnownInternal v internal) where
   abbrev passes : PortInView → Bool
-  passes p = p.is_enabled && is_inner known.net known.designated (named_port p)
+  passes p = p.is_enabled && is_internal known.net known.designated (named_port p)
 
-  pub inner_numbers : HaveNumbers (msti_wires inner)
-  inner_numbers =
-      apart_mapped (PortsRise known.net known.numbers) (λ (p q : Plug ℕ ℕ ℕ MstiPort). p.number ≢ q.number) base_plug
+  pub internal_numbers : HaveNumbers (msti_wires internal)
+  internal_numbers =
+      apart_mapped (PortsRise known.net known.numbers) (λ (p q : TreePort ℕ ℕ ℕ MstiPort). p.number ≢ q.number) base_port
       (λ p q l same.
       port_names_differ p.name q.name l.less (known.of.numbered.ports_differ p.name q.name q.number (l.first.has_numbers.port ∙ ap Some same) l.second.has_numbers.port))
-      inner
+      internal
       (subst (Apart (PortsRise known.net known.numbers)) (sym known.is) (apart_filtered (PortsRise known.net known.numbers) passes v.ports (ports_apart known.net known.numbers v known.of.view)))
 
-  inner_seen : AllByRecursion (SeenPort known.net known.numbers) inner
-  inner_seen =
+  internal_seen : AllByRecursion (SeenPort known.net known.numbers) internal
+  internal_seen =
       subst (AllByRecursion (SeenPort known.net known.numbers)) (sym known.is)
       (all_passing (SeenPort known.net known.numbers) (SeenPort known.net known.numbers) passes (λ p seen _. seen) v.ports (ports_seen known.net known.numbers v known.of.view))
 
-module _ (v : Viewed) (inner : List PortInView) (tree : ℕ) (own : List (ℕ × MstiPort)) (known : KnownInner v inner) (are : AreOwn v inner tree own) where
+module _ (v : Viewed) (internal : List PortInView) (tree : ℕ) (own : List (ℕ × MstiPort)) (known : KnownInternal v internal) (are : AreOwn v internal tree own) where
   abbrev bridges : List (ℕ × MstiBridge)
   bridges = msti_bridges_seen v tree
 
-  abbrev ports : List (Plug ℕ ℕ ℕ MstiPort)
-  ports = filter_map (seen_msti_port v tree) inner
+  abbrev ports : List (TreePort ℕ ℕ ℕ MstiPort)
+  ports = filter_map (seen_msti_port v tree) internal
 
-  -- an inner port in the tree
-  abbrev part : PortInView → Plug ℕ ℕ ℕ MstiPort
-  part p = plug_of p (msti_port v.settings tree (named_port p))
+  -- an internal port in the tree
+  abbrev part : PortInView → TreePort ℕ ℕ ℕ MstiPort
+  part p = seen_tree_port p (msti_port v.settings tree (named_port p))
 
   msti_can : CanSettle msti_rules bridges ports
   msti_can =
       subst (λ (t : Topology ℕ ℕ ℕ MstiBridge MstiPort). CanSettle msti_rules t.bridges t.ports)
-      (sym (msti_is_seen known.net known.numbers v known.region_ids known.of tree known.designated inner known.is))
+      (sym (msti_is_seen known.net known.numbers v known.region_ids known.of tree known.designated internal known.is))
       (can_settle known.net known.numbers known.of.network known.of.numbered v known.of.view msti_rules (msti_sight known.net tree known.designated)
       (msti_is_sight known.net known.of.network tree known.designated))
 
   -- it is the port of the wiring, where its bridge is in the tree
-  part_is : (p : PortInView) → Contains inner p → is_some (lookup (nat_eq p.bridge) bridges) ≡ true → port_in bridges own (base_plug p) ≡ part p
+  part_is : (p : PortInView) → Contains internal p → is_some (lookup (nat_eq p.bridge) bridges) ≡ true → port_in bridges own (base_port p) ≡ part p
   part_is p h there = λ i. record {
     number = p.number;
     bridge = p.bridge;
     lan = p.lan_number;
-    settings = all_contained (λ p. settings_in own (base_plug p) ≡ msti_port v.settings tree (named_port p)) inner p are h i;
+    settings = all_contained (λ p. settings_in own (base_port p) ≡ msti_port v.settings tree (named_port p)) internal p are h i;
     is_part = there i;
     is_restricted = p.settings.is_restricted;
   }
@@ -259,33 +259,33 @@ module _ (v : Viewed) (inner : List PortInView) (tree : ℕ) (own : List (ℕ ×
       let is = given (row.is_on && is_among (trees_at v x.0.bridge.number) tree) (x.0.bridge.number, msti_bridge v.settings tree x.0.name row) (n, b) x.2 in
       ap (λ k. is_among (trees_at v k) tree) (sym (ap (λ (q : ℕ × MstiBridge). q.0) is.1)) ∙ (and_parts row.is_on (is_among (trees_at v x.0.bridge.number) tree) is.0).1
 
-  to : (p : PortInView) → Contains inner p → is_some (lookup (nat_eq p.bridge) bridges) ≡ true → Contains ports (port_in bridges own (base_plug p))
+  to : (p : PortInView) → Contains internal p → is_some (lookup (nat_eq p.bridge) bridges) ≡ true → Contains ports (port_in bridges own (base_port p))
   to p h there =
       let b = looked_there p.bridge bridges there in
       let has = has_tree p.bridge b.0 b.1 in
-      subst (Contains ports) (sym (part_is p h there)) (kept_in (seen_msti_port v tree) inner p (part p) h (ap (λ (t : Bool). if t then Some (part p) else None) has))
+      subst (Contains ports) (sym (part_is p h there)) (kept_in (seen_msti_port v tree) internal p (part p) h (ap (λ (t : Bool). if t then Some (part p) else None) has))
 
-  from : (q : Plug ℕ ℕ ℕ MstiPort) → Contains ports q → Contains (map (port_in bridges own) (msti_wires inner)) q
+  from : (q : TreePort ℕ ℕ ℕ MstiPort) → Contains ports q → Contains (map (port_in bridges own) (msti_wires internal)) q
   from q h =
-      let x = kept_from (seen_msti_port v tree) inner q h in
+      let x = kept_from (seen_msti_port v tree) internal q h in
       let is : part x.0 ≡ q = (given (is_among (trees_at v x.0.bridge) tree) (part x.0) q x.2).1 in
-      let b = all_contained (λ (p : Plug ℕ ℕ ℕ MstiPort). (b : MstiBridge) × Contains bridges (p.bridge, b)) ports q msti_can.have_bridge h in
-      let there = there_looked x.0.bridge b.0 bridges (subst (λ n. Contains bridges (n, b.0)) (sym (ap (λ (p : Plug ℕ ℕ ℕ MstiPort). p.bridge) is)) b.1) in
-      subst (Contains (map (port_in bridges own) (msti_wires inner))) (part_is x.0 x.1 there ∙ is)
-      (contains_mapped (port_in bridges own) (msti_wires inner) (base_plug x.0) (contains_mapped base_plug inner x.0 x.1))
+      let b = all_contained (λ (p : TreePort ℕ ℕ ℕ MstiPort). (b : MstiBridge) × Contains bridges (p.bridge, b)) ports q msti_can.have_bridge h in
+      let there = there_looked x.0.bridge b.0 bridges (subst (λ n. Contains bridges (n, b.0)) (sym (ap (λ (p : TreePort ℕ ℕ ℕ MstiPort). p.bridge) is)) b.1) in
+      subst (Contains (map (port_in bridges own) (msti_wires internal))) (part_is x.0 x.1 there ∙ is)
+      (contains_mapped (port_in bridges own) (msti_wires internal) (base_port x.0) (contains_mapped base_port internal x.0 x.1))
 
-  pub msti_on_wiring : OnWiring msti_rules (topology_of (msti_wires inner) (msti_bridges_seen v tree) own) (msti_seen v inner tree)
-  msti_on_wiring = on_wiring msti_rules (msti_wires inner) bridges own ports msti_can (record {
-    numbers = inner_numbers v inner known;
-    in_range = all_mapped (λ p. IsTrue (msti_rules.in_range (settings_in own p))) base_plug inner
-        (all_both (SeenPort known.net known.numbers) (λ p. settings_in own (base_plug p) ≡ msti_port v.settings tree (named_port p)) (λ p. IsTrue (msti_rules.in_range (settings_in own (base_plug p))))
+  pub msti_on_wiring : OnWiring msti_rules (topology_of (msti_wires internal) (msti_bridges_seen v tree) own) (msti_seen v internal tree)
+  msti_on_wiring = on_wiring msti_rules (msti_wires internal) bridges own ports msti_can (record {
+    numbers = internal_numbers v internal known;
+    in_range = all_mapped (λ p. IsTrue (msti_rules.in_range (settings_in own p))) base_port internal
+        (all_both (SeenPort known.net known.numbers) (λ p. settings_in own (base_port p) ≡ msti_port v.settings tree (named_port p)) (λ p. IsTrue (msti_rules.in_range (settings_in own (base_port p))))
         (λ p seen e.
         subst (λ c. IsTrue (msti_rules.in_range c)) (sym e)
         (subst (λ set. IsTrue (msti_rules.in_range (msti_port set tree (named_port p)))) (sym known.of.view.settings) (msti_in_range known.net known.of.network tree (named_port p))))
-        inner (inner_seen v inner known) are);
+        internal (internal_seen v internal known) are);
     to = λ w h there.
-        let x = contains_unmapped base_plug inner w h in
-        subst (λ (q : Plug ℕ ℕ ℕ MstiPort). Contains ports (port_in bridges own q)) x.2
-        (to x.0 x.1 (subst (λ (q : Plug ℕ ℕ ℕ MstiPort). IsTrue (port_in bridges own q).is_part) (sym x.2) there));
+        let x = contains_unmapped base_port internal w h in
+        subst (λ (q : TreePort ℕ ℕ ℕ MstiPort). Contains ports (port_in bridges own q)) x.2
+        (to x.0 x.1 (subst (λ (q : TreePort ℕ ℕ ℕ MstiPort). IsTrue (port_in bridges own q).is_part) (sym x.2) there));
     from = from;
   })

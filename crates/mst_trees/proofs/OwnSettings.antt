@@ -16,11 +16,11 @@ use Rattle.mst_net.proofs.TreesListed.{all_listed, priority_told, cost_told}
 use Rattle.mst_lag.specs.Trees.{is_among}
 use Rattle.mst_lag.specs.Viewed.{Viewed, named_port}
 use Rattle.mst_lag.specs.declared.in_view.PortInView.{PortInView}
-use Rattle.mst_trees.specs.Agrees.{KnownInner}
+use Rattle.mst_trees.specs.Agrees.{KnownInternal}
 use Rattle.mst_trees.specs.Apart.{Apart}
 use Rattle.mst_trees.specs.Msti.{msti_port}
 use Rattle.mst_trees.specs.Own.{is_set, noted_at, IsNoted}
-use Rattle.mst_trees.specs.Wirings.{AreOwn, HaveNumbers, own_in, base_port, base_plug, msti_wires}
+use Rattle.mst_trees.specs.Wirings.{AreOwn, HaveNumbers, own_in, base_settings, base_port, msti_wires}
 use Rattle.mst_trees.proofs.Entries.{all_weaker, all_both}
 use Rattle.mst_trees.proofs.Lists.{apart_unmapped}
 
@@ -93,31 +93,31 @@ module _ (v : Viewed) (tree : ℕ) where
   all_passed_by k had (p ∷ ps) h = ap (λ o. noted_from o ps k) (passed_by k had p h.0) ∙ all_passed_by k had ps h.1
 
   -- where nothing is set the port has the settings that ports have then
-  one_noted : (p : PortInView) → unwrap_or (noted_at (is_set v.settings p.name) v p tree p.number None) (base_port p) ≡ msti_port v.settings tree (named_port p)
-  one_noted p = ap (λ b. unwrap_or (if b && is_set v.settings p.name tree then Some (msti_port v.settings tree (named_port p)) else None) (base_port p)) (eq-eqb p.number p.number refl) ∙ by (is_set v.settings p.name tree) refl
+  one_noted : (p : PortInView) → unwrap_or (noted_at (is_set v.settings p.name) v p tree p.number None) (base_settings p) ≡ msti_port v.settings tree (named_port p)
+  one_noted p = ap (λ b. unwrap_or (if b && is_set v.settings p.name tree then Some (msti_port v.settings tree (named_port p)) else None) (base_settings p)) (eq-eqb p.number p.number refl) ∙ by (is_set v.settings p.name tree) refl
     where
       no_cost : (o : Option ℕ) → is_some o ≡ false → o ≡ None
       no_cost None e = refl
       no_cost (Some n) e = absurd (true≢false e)
 
-      by : (b : Bool) → is_set v.settings p.name tree ≡ b → unwrap_or (if b then Some (msti_port v.settings tree (named_port p)) else None) (base_port p) ≡ msti_port v.settings tree (named_port p)
+      by : (b : Bool) → is_set v.settings p.name tree ≡ b → unwrap_or (if b then Some (msti_port v.settings tree (named_port p)) else None) (base_settings p) ≡ msti_port v.settings tree (named_port p)
       by true e = refl
       by false e =
           let none = or_parts (not (port_priority_in v.settings.port_priorities p.name tree == 8)) (is_some (port_cost_in v.settings.port_costs p.name tree)) e in
           let priority = eqb-true (port_priority_in v.settings.port_priorities p.name tree) 8 (not-false _ none.0) in
           λ i. record { id = port_id (sym priority i) p.name.number; internal = unwrap_or (sym (no_cost (port_cost_in v.settings.port_costs p.name tree) none.1) i) (automatic_cost (max 1 p.speed)) }
 
-  all_noted : (ps : List PortInView) → Apart (λ p q. p.number ≢ q.number) ps → AllByRecursion (λ p. unwrap_or (noted_of ps p.number) (base_port p) ≡ msti_port v.settings tree (named_port p)) ps
+  all_noted : (ps : List PortInView) → Apart (λ p q. p.number ≢ q.number) ps → AllByRecursion (λ p. unwrap_or (noted_of ps p.number) (base_settings p) ≡ msti_port v.settings tree (named_port p)) ps
   all_noted [] h = tt
   all_noted (p ∷ ps) h = (
-    ap (λ o. unwrap_or o (base_port p)) (all_passed_by p.number (noted_at (is_set v.settings p.name) v p tree p.number None) ps h.0) ∙ one_noted p,
-    all_both (λ q. p.number ≢ q.number) _ _ (λ q other noted. ap (λ o. unwrap_or (noted_from o ps q.number) (base_port q)) (passed_by q.number None p (λ e. other (sym e))) ∙ noted) ps h.0 (all_noted ps h.1),
+    ap (λ o. unwrap_or o (base_settings p)) (all_passed_by p.number (noted_at (is_set v.settings p.name) v p tree p.number None) ps h.0) ∙ one_noted p,
+    all_both (λ q. p.number ≢ q.number) _ _ (λ q other noted. ap (λ o. unwrap_or (noted_from o ps q.number) (base_settings q)) (passed_by q.number None p (λ e. other (sym e))) ∙ noted) ps h.0 (all_noted ps h.1),
   )
 
-  pub are_own : (inner : List PortInView) (own : List (ℕ × MstiPort)) → HaveNumbers (msti_wires inner) → ((k : ℕ) → in_map own k ≡ noted_of inner k) → AreOwn v inner tree own
-  are_own inner own numbers noted =
-      all_weaker _ _ (λ p right. ap (λ o. unwrap_or o (base_port p)) (noted p.number) ∙ right) inner
-      (all_noted inner (apart_unmapped (λ p q. p.number ≢ q.number) base_plug inner numbers))
+  pub are_own : (internal : List PortInView) (own : List (ℕ × MstiPort)) → HaveNumbers (msti_wires internal) → ((k : ℕ) → in_map own k ≡ noted_of internal k) → AreOwn v internal tree own
+  are_own internal own numbers noted =
+      all_weaker _ _ (λ p right. ap (λ o. unwrap_or o (base_settings p)) (noted p.number) ∙ right) internal
+      (all_noted internal (apart_unmapped (λ p q. p.number ≢ q.number) base_port internal numbers))
 
-pub known_in_trees : (v : Viewed) (inner : List PortInView) → KnownInner v inner → AreInTrees v.settings
-known_in_trees v inner known = subst AreInTrees (sym known.of.view.settings) (network_in_trees known.net known.of.network)
+pub known_in_trees : (v : Viewed) (internal : List PortInView) → KnownInternal v internal → AreInTrees v.settings
+known_in_trees v internal known = subst AreInTrees (sym known.of.view.settings) (network_in_trees known.net known.of.network)

@@ -7,7 +7,7 @@ use Rattle.mst_vector.specs.Rules.{Rules}
 use Rattle.mst_vector.specs.Cist.{cist_rules}
 use Rattle.mst_vector.specs.Msti.{msti_rules}
 use Rattle.mst_vector.specs.declared.msti.MstiVector.{MstiVector}
-use Rattle.mst_settle.specs.Topology.{Plug, Topology, IsTopology}
+use Rattle.mst_settle.specs.Topology.{TreePort, Topology, IsTopology}
 use Rattle.mst_settle.specs.Settled.{Settled}
 use Rattle.mst_settle.specs.Renamed.{Renaming, IsRenamed}
 use Rattle.mst_settle.specs.Assignment.{Assignment, vector_of, designated_of, IsSettledFor}
@@ -18,8 +18,8 @@ use Rattle.mst_trees.specs.Cist.{cist_sight, cist_of}
 use Rattle.mst_trees.specs.Msti.{msti_sight, msti_of}
 use Rattle.mst_trees.specs.Outcome.{Outcome, IsOutcome, trees_of}
 use Rattle.mst_nested.specs.Trees.{IsTree, IsSettled}
-use Rattle.mst_trees.specs.Seen.{cist_seen, inner_seen, msti_seen}
-use Rattle.mst_trees.specs.Agrees.{AreOf, inner_of}
+use Rattle.mst_trees.specs.Seen.{cist_seen, internal_seen, msti_seen}
+use Rattle.mst_trees.specs.Agrees.{AreOf, internal_ports_of}
 use Rattle.mst_trees.specs.Mstis.{AreOutcomes}
 use Rattle.mst_trees.specs.Forest.{trees_seen}
 use Rattle.mst_trees.specs.Forest.{Forest}
@@ -29,7 +29,7 @@ use Rattle.mst_trees.proofs.MstiTopology.{msti_is_sight}
 use Rattle.mst_trees.proofs.Numbering.{numbering, tree_renamed}
 use Rattle.mst_trees.proofs.Agreeing.{RenamedVectors, RenamedPorts}
 use Rattle.mst_trees.proofs.Looking.{cist_is_seen, msti_is_seen}
-use Rattle.mst_trees.proofs.Growing.{inner_agrees, no_bridge}
+use Rattle.mst_trees.proofs.Growing.{internal_agrees, no_bridge}
 use Rattle.mst_trees.proofs.Carried.{AreRenamed, nested_renamed}
 
 -- the law that a renamed topology is one, from names to numbers
@@ -43,34 +43,34 @@ settled_renamed : {B P V : Type 0} (m : Rules B P V) → RenamedTopology m → (
 settled_renamed {B} {P} m law r t u v w tree h settled = record {
   topology = law r t u tree.topology h;
   settled = settled;
-  port_ids = λ p there. let x = h.from_port p there in subst (λ (q : Plug ℕ ℕ ℕ P). m.port_id q.settings ≢ 0) x.2 (tree.port_ids x.0 x.1);
+  port_ids = λ p there. let x = h.from_port p there in subst (λ (q : TreePort ℕ ℕ ℕ P). m.port_id q.settings ≢ 0) x.2 (tree.port_ids x.0 x.1);
 }
 
--- the settled MSTIs over these inner ports are those over equal ones
-pub same_inner : {v : Viewed} {inner other : List PortInView} {former mstis : List (ℕ × Assignment MstiVector)} → inner ≡ other → AreOutcomes v inner former mstis → AreOutcomes v other former mstis
-same_inner {v} {inner} {other} {former} {mstis} e = subst (λ i. AreOutcomes v i former mstis) e
+-- the settled MSTIs over these internal ports are those over equal ones
+pub same_internal : {v : Viewed} {internal other : List PortInView} {former mstis : List (ℕ × Assignment MstiVector)} → internal ≡ other → AreOutcomes v internal former mstis → AreOutcomes v other former mstis
+same_internal {v} {internal} {other} {former} {mstis} e = subst (λ i. AreOutcomes v i former mstis) e
 
 module _ (net : Net) (numbers : Numbers) (v : Viewed) (f : Forest) (of : AreOf net numbers v f.regions)
     (vectors : RenamedVectors cist_rules) (ports : RenamedPorts cist_rules) (topologies : RenamedTopology cist_rules) (msti_topologies : RenamedTopology msti_rules)
     (o : Outcome) (is : IsOutcome net o) (named : IsSettled (trees_of net o))
-    (cist : IsSettledFor cist_rules (cist_seen v f.regions) f.cist) (former : List (ℕ × Assignment MstiVector)) (mstis : AreOutcomes v (inner_seen v f.regions (designated_of f.cist)) former f.mstis) where
+    (cist : IsSettledFor cist_rules (cist_seen v f.regions) f.cist) (former : List (ℕ × Assignment MstiVector)) (mstis : AreOutcomes v (internal_seen v f.regions (designated_of f.cist)) former f.mstis) where
   abbrev r : Renaming (List ℕ) (List ℕ) PortName ℕ ℕ ℕ
   r = numbering numbers
 
-  abbrev inner : List PortInView
-  inner = inner_seen v f.regions (designated_of f.cist)
+  abbrev internal : List PortInView
+  internal = internal_seen v f.regions (designated_of f.cist)
 
-  inner_is : inner ≡ inner_of net o.cist.designated v
-  inner_is = inner_agrees net numbers v f.regions of vectors ports o.cist is.cist f.cist cist
+  internal_is : internal ≡ internal_ports_of net o.cist.designated v
+  internal_is = internal_agrees net numbers v f.regions of vectors ports o.cist is.cist f.cist cist
 
   cist_renamed : IsRenamed r (cist_of net) (cist_seen v f.regions)
   cist_renamed =
       subst (IsRenamed r (cist_of net)) (sym (cist_is_seen net numbers v f.regions of))
       (tree_renamed net numbers of.network of.numbered v of.view cist_rules (cist_sight net) (cist_is_sight net of.network))
 
-  msti_renamed : (i : ℕ) → IsRenamed r (msti_of net i o.cist.designated) (msti_seen v inner i)
+  msti_renamed : (i : ℕ) → IsRenamed r (msti_of net i o.cist.designated) (msti_seen v internal i)
   msti_renamed i =
-      subst (IsRenamed r (msti_of net i o.cist.designated)) (sym (msti_is_seen net numbers v f.regions of i o.cist.designated inner inner_is))
+      subst (IsRenamed r (msti_of net i o.cist.designated)) (sym (msti_is_seen net numbers v f.regions of i o.cist.designated internal internal_is))
       (tree_renamed net numbers of.network of.numbered v of.view msti_rules (msti_sight net i o.cist.designated) (msti_is_sight net of.network i o.cist.designated))
 
   are_renamed : AreRenamed r (trees_of net o) (trees_seen v f)
@@ -87,18 +87,18 @@ module _ (net : Net) (numbers : Numbers) (v : Viewed) (f : Forest) (of : AreOf n
   }
 
   -- an MSTI that no bridge has is settled with no vector
-  msti_settled : (tree : ℕ) → Settled msti_rules (msti_seen v inner tree) (λ n. option_and_then (λ a. vector_of a n) (lookup (nat_eq tree) f.mstis))
+  msti_settled : (tree : ℕ) → Settled msti_rules (msti_seen v internal tree) (λ n. option_and_then (λ a. vector_of a n) (lookup (nat_eq tree) f.mstis))
   msti_settled tree = go (lookup (nat_eq tree) f.mstis) refl
     where
-      to : (x : Option (Assignment MstiVector)) → lookup (nat_eq tree) f.mstis ≡ x → Settled msti_rules (msti_seen v inner tree) (λ n. option_and_then (λ a. vector_of a n) x)
-          → Settled msti_rules (msti_seen v inner tree) (λ n. option_and_then (λ a. vector_of a n) (lookup (nat_eq tree) f.mstis))
-      to x e = subst (λ (y : Option (Assignment MstiVector)). Settled msti_rules (msti_seen v inner tree) (λ n. option_and_then (λ a. vector_of a n) y)) (sym e)
+      to : (x : Option (Assignment MstiVector)) → lookup (nat_eq tree) f.mstis ≡ x → Settled msti_rules (msti_seen v internal tree) (λ n. option_and_then (λ a. vector_of a n) x)
+          → Settled msti_rules (msti_seen v internal tree) (λ n. option_and_then (λ a. vector_of a n) (lookup (nat_eq tree) f.mstis))
+      to x e = subst (λ (y : Option (Assignment MstiVector)). Settled msti_rules (msti_seen v internal tree) (λ n. option_and_then (λ a. vector_of a n) y)) (sym e)
 
       go : (x : Option (Assignment MstiVector)) → lookup (nat_eq tree) f.mstis ≡ x
-          → Settled msti_rules (msti_seen v inner tree) (λ n. option_and_then (λ a. vector_of a n) (lookup (nat_eq tree) f.mstis))
+          → Settled msti_rules (msti_seen v internal tree) (λ n. option_and_then (λ a. vector_of a n) (lookup (nat_eq tree) f.mstis))
       go (Some a) e = to (Some a) e (mstis.settled tree a e).outcome.vectors
       go None e = to None e (record {
-        has_vector = λ n b h. let x = (msti_renamed tree).from_bridge n b h in absurd (no_bridge net numbers v f.regions of tree o.cist.designated inner inner_is former f.mstis mstis (o.msti tree) (is.mstis tree) e x.0 b x.1);
+        has_vector = λ n b h. let x = (msti_renamed tree).from_bridge n b h in absurd (no_bridge net numbers v f.regions of tree o.cist.designated internal internal_is former f.mstis mstis (o.msti tree) (is.mstis tree) e x.0 b x.1);
         is_bridge = λ n x h. absurd (no_some x h);
         bridges = λ n b x h k. absurd (no_some x k);
       })
@@ -107,7 +107,7 @@ module _ (net : Net) (numbers : Numbers) (v : Viewed) (f : Forest) (of : AreOf n
   is_settled_seen = record {
     cist = settled_renamed cist_rules topologies r (cist_of net) (cist_seen v f.regions) o.cist.vector (vector_of f.cist) named.cist cist_renamed cist.vectors;
     msti = λ i.
-        settled_renamed msti_rules msti_topologies r (msti_of net (suc i) o.cist.designated) (msti_seen v inner (suc i)) (o.msti (suc i)).vector
+        settled_renamed msti_rules msti_topologies r (msti_of net (suc i) o.cist.designated) (msti_seen v internal (suc i)) (o.msti (suc i)).vector
         (λ n. option_and_then (λ a. vector_of a n) (lookup (nat_eq (suc i)) f.mstis)) (named.msti i) (msti_renamed (suc i)) (msti_settled (suc i));
     nested = λ i. nested_renamed r (trees_of net o) (trees_seen v f) are_renamed i (named.nested i);
   }

@@ -10,7 +10,7 @@ use Rattle.mst_lag.specs.Viewed.{Viewed}
 use Rattle.mst_config.specs.Shared.{AreRegions}
 use Rattle.mst_trees.specs.Outcome.{Outcome, IsOutcome}
 use Rattle.mst_trees.specs.Agrees.{Agrees}
-use Rattle.mst_trees.specs.Seen.{cist_seen, inner_seen, msti_seen}
+use Rattle.mst_trees.specs.Seen.{cist_seen, internal_seen, msti_seen}
 use Rattle.mst_trees.specs.Bound.{KeepsBound}
 use Rattle.mst_nested.specs.Trees.{Trees}
 use Rattle.mst_vector.specs.declared.cist.CistVector.{CistVector}
@@ -29,12 +29,12 @@ msti_in f tree = lookup (nat_eq tree) f.mstis
 abbrev pub msti_vector : Forest → ℕ → ℕ → Option MstiVector
 msti_vector f tree bridge = option_and_then (λ a. vector_of a bridge) (msti_in f tree)
 
-abbrev pub msti_designated : Forest → ℕ → ℕ → Option ℕ
-msti_designated f tree lan = option_and_then (λ a. designated_of a lan) (msti_in f tree)
+abbrev pub msti_designated_vector : Forest → ℕ → ℕ → Option ℕ
+msti_designated_vector f tree lan = option_and_then (λ a. designated_of a lan) (msti_in f tree)
 
 -- of any tree
 abbrev pub designated_in : Forest → ℕ → ℕ → Option ℕ
-designated_in f tree lan = if tree == 0 then designated_of f.cist lan else msti_designated f tree lan
+designated_in f tree lan = if tree == 0 then designated_of f.cist lan else msti_designated_vector f tree lan
 
 -- how often a bridge was settled in an MSTI, and in any tree
 abbrev pub msti_settlings : Forest → ℕ → ℕ
@@ -48,7 +48,7 @@ pub record IsForest (net : Net) (numbers : Numbers) (f : Forest) : Type 0 where
   pub outcome : Outcome
   pub is_outcome : IsOutcome net outcome
   pub cist : Agrees numbers outcome.cist (vector_of f.cist) (designated_of f.cist)
-  pub mstis : (tree : ℕ) → Agrees numbers (outcome.msti tree) (msti_vector f tree) (msti_designated f tree)
+  pub mstis : (tree : ℕ) → Agrees numbers (outcome.msti tree) (msti_vector f tree) (msti_designated_vector f tree)
   pub regions : AreRegions net numbers f.regions
 
 -- each bridge was settled once in each tree that it is in
@@ -67,6 +67,6 @@ abbrev pub trees_seen : Viewed → Forest → Trees ℕ ℕ ℕ
 trees_seen v f = record {
   cist = cist_seen v f.regions;
   cist_vector = vector_of f.cist;
-  msti = msti_seen v (inner_seen v f.regions (designated_of f.cist));
+  msti = msti_seen v (internal_seen v f.regions (designated_of f.cist));
   msti_vector = msti_vector f;
 }

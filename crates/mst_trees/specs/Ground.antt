@@ -2,24 +2,24 @@
 use Rattle.std.specs.Prelude.{◌≡◌, ℕ, List, []}
 use Rattle.std.specs.BTreeMap.{BTreeMap}
 use Rattle.mst_vector.specs.declared.msti.MstiPort.{MstiPort}
-use Rattle.mst_settle.specs.Topology.{Plug}
+use Rattle.mst_settle.specs.Topology.{TreePort}
 use Rattle.mst_repair.specs.Differences.{Wirings}
 use Rattle.mst_lag.specs.Viewed.{Viewed}
 use Rattle.mst_lag.specs.declared.in_view.PortInView.{PortInView}
-use Rattle.mst_trees.specs.Agrees.{KnownInner}
+use Rattle.mst_trees.specs.Agrees.{KnownInternal}
 use Rattle.mst_trees.specs.Wirings.{AreOwn, own_in, msti_wires}
 
--- its view, the inner ports of that, and the wiring of the MSTIs before
+-- its view, the internal ports of that, and the wiring of the MSTIs before
 pub record Ground : Type 0 where
   pub view : Viewed
-  pub inner : List PortInView
-  pub from : List (Plug ℕ ℕ ℕ MstiPort)
+  pub internal : List PortInView
+  pub from : List (TreePort ℕ ℕ ℕ MstiPort)
 
--- with the settings that ports have in one tree alone, and the wirings from which trees go to that of the inner ports: the
+-- with the settings that ports have in one tree alone, and the wirings from which trees go to that of the internal ports: the
 -- one before, and one of no ports
-pub record AreGround (v : Viewed) (inner : List PortInView) (settings : List (ℕ × BTreeMap ℕ MstiPort)) (rewiring anew : Wirings MstiPort) : Type 0 where
-  pub known : KnownInner v inner
-  pub own : (tree : ℕ) → AreOwn v inner tree (own_in settings tree)
-  pub to : rewiring.to ≡ msti_wires inner
+pub record AreGround (v : Viewed) (internal : List PortInView) (settings : List (ℕ × BTreeMap ℕ MstiPort)) (rewiring anew : Wirings MstiPort) : Type 0 where
+  pub known : KnownInternal v internal
+  pub own : (tree : ℕ) → AreOwn v internal tree (own_in settings tree)
+  pub to : rewiring.to ≡ msti_wires internal
   pub from_none : anew.from ≡ []
-  pub anew_to : anew.to ≡ msti_wires inner
+  pub anew_to : anew.to ≡ msti_wires internal

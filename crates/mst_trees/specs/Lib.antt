@@ -5,6 +5,7 @@ pub mod Outcome
 pub mod Apart
 pub mod Numbered
 pub mod Seen
+pub mod InUse
 pub mod Wirings
 pub mod Own
 pub mod Agrees

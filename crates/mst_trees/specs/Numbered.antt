@@ -2,14 +2,14 @@
 use Rattle.std.specs.Prelude.{◌≡◌, ◌≢◌, ℕ, ◌≤◌, true, List, Option, IsTrue, length}
 use Rattle.std.specs.List.{AllByRecursion, Contains}
 use Rattle.mst_vector.specs.Rules.{Rules}
-use Rattle.mst_settle.specs.Topology.{Plug, Topology}
+use Rattle.mst_settle.specs.Topology.{TreePort, Topology}
 use Rattle.mst_settle.specs.Assignment.{Assignment, vector_of, IsSettledFor}
 use Rattle.mst_settle.specs.Repair.{WithinBounds}
 use Rattle.mst_trees.specs.Apart.{Apart}
 
 -- these bridges and ports
-abbrev pub numbered : {B P : Type 0} → List (ℕ × B) → List (Plug ℕ ℕ ℕ P) → Topology ℕ ℕ ℕ B P
-numbered bridges ports = record { bridges = bridges; ports = ports }
+abbrev pub topology_by_number : {B P : Type 0} → List (ℕ × B) → List (TreePort ℕ ℕ ℕ P) → Topology ℕ ℕ ℕ B P
+topology_by_number bridges ports = record { bridges = bridges; ports = ports }
 
 -- two bridges differ in number and identifier
 pub record BridgesDiffer {B P V : Type 0} (m : Rules B P V) (a b : ℕ × B) : Type 0 where
@@ -17,12 +17,12 @@ pub record BridgesDiffer {B P V : Type 0} (m : Rules B P V) (a b : ℕ × B) : T
   pub identifiers : m.bridge_id a.1 ≢ m.bridge_id b.1
 
 -- two ports differ in number, and on one bridge in identifier
-pub record PortsDiffer {B P V : Type 0} (m : Rules B P V) (p q : Plug ℕ ℕ ℕ P) : Type 0 where
+pub record PortsDiffer {B P V : Type 0} (m : Rules B P V) (p q : TreePort ℕ ℕ ℕ P) : Type 0 where
   pub numbers : p.number ≢ q.number
   pub identifiers : p.bridge ≡ q.bridge → m.port_id p.settings ≢ m.port_id q.settings
 
 -- no two are the same, each port takes part, its bridge is among these, and its costs are in range
-pub record CanSettle {B P V : Type 0} (m : Rules B P V) (bridges : List (ℕ × B)) (ports : List (Plug ℕ ℕ ℕ P)) : Type 0 where
+pub record CanSettle {B P V : Type 0} (m : Rules B P V) (bridges : List (ℕ × B)) (ports : List (TreePort ℕ ℕ ℕ P)) : Type 0 where
   pub bridges_differ : Apart (BridgesDiffer m) bridges
   pub ports_differ : Apart (PortsDiffer m) ports
   pub take_part : AllByRecursion (λ p. p.is_part ≡ true) ports

@@ -10,41 +10,41 @@ use Rattle.mst_vector.specs.declared.cist.CistBridge.{CistBridge}
 use Rattle.mst_vector.specs.declared.cist.CistPort.{CistPort}
 use Rattle.mst_vector.specs.declared.msti.MstiBridge.{MstiBridge}
 use Rattle.mst_vector.specs.declared.msti.MstiPort.{MstiPort}
-use Rattle.mst_settle.specs.Topology.{Plug}
+use Rattle.mst_settle.specs.Topology.{TreePort}
 use Rattle.mst_settle.specs.Wiring.{settings_in}
 use Rattle.mst_lag.specs.Viewed.{Viewed, named_port}
 use Rattle.mst_lag.specs.declared.in_view.PortInView.{PortInView}
 use Rattle.mst_trees.specs.Apart.{Apart}
 use Rattle.mst_trees.specs.Msti.{msti_port}
-use Rattle.mst_trees.specs.Seen.{plug_of, seen_cist_bridge, seen_cist_port, seen_msti_bridge}
+use Rattle.mst_trees.specs.Seen.{seen_tree_port, seen_cist_bridge, seen_cist_port, seen_msti_bridge}
 
 -- no two ports have one number
-abbrev pub HaveNumbers : {P : Type 0} → List (Plug ℕ ℕ ℕ P) → Type 0
+abbrev pub HaveNumbers : {P : Type 0} → List (TreePort ℕ ℕ ℕ P) → Type 0
 HaveNumbers ports = Apart (λ p q. p.number ≢ q.number) ports
 
 -- that of the CIST: the enabled ports
-abbrev pub cist_wires : Viewed → List (Plug ℕ ℕ ℕ CistPort)
+abbrev pub cist_wires : Viewed → List (TreePort ℕ ℕ ℕ CistPort)
 cist_wires v = filter_map (seen_cist_port v.settings) v.ports
 
 abbrev pub cist_bridges_seen : Viewed → List (ℕ × ℕ) → List (ℕ × CistBridge)
 cist_bridges_seen v region_ids = filter_map (seen_cist_bridge v.settings region_ids) v.bridges
 
--- that of the MSTIs: the inner ports, with the settings that they have in a tree for which none were set
-abbrev pub base_port : PortInView → MstiPort
-base_port p = record { id = port_id 8 p.name.number; internal = automatic_cost (max 1 p.speed) }
+-- that of the MSTIs: the internal ports, with the settings that they have in a tree for which none were set
+abbrev pub base_settings : PortInView → MstiPort
+base_settings p = record { id = port_id 8 p.name.number; internal = automatic_cost (max 1 p.speed) }
 
-abbrev pub base_plug : PortInView → Plug ℕ ℕ ℕ MstiPort
-base_plug p = plug_of p (base_port p)
+abbrev pub base_port : PortInView → TreePort ℕ ℕ ℕ MstiPort
+base_port p = seen_tree_port p (base_settings p)
 
-abbrev pub msti_wires : List PortInView → List (Plug ℕ ℕ ℕ MstiPort)
-msti_wires inner = map base_plug inner
+abbrev pub msti_wires : List PortInView → List (TreePort ℕ ℕ ℕ MstiPort)
+msti_wires internal = map base_port internal
 
 abbrev pub msti_bridges_seen : Viewed → ℕ → List (ℕ × MstiBridge)
 msti_bridges_seen v tree = filter_map (seen_msti_bridge v tree) v.bridges
 
--- with these settings of its own in a tree each of the inner ports has the settings that it has there
+-- with these settings of its own in a tree each of the internal ports has the settings that it has there
 abbrev pub AreOwn : Viewed → List PortInView → ℕ → List (ℕ × MstiPort) → Type 0
-AreOwn v inner tree own = AllByRecursion (λ p. settings_in own (base_plug p) ≡ msti_port v.settings tree (named_port p)) inner
+AreOwn v internal tree own = AllByRecursion (λ p. settings_in own (base_port p) ≡ msti_port v.settings tree (named_port p)) internal
 
 -- those of a tree, of those of all trees
 abbrev pub own_in : List (ℕ × BTreeMap ℕ MstiPort) → ℕ → List (ℕ × MstiPort)

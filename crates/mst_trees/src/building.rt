@@ -3,14 +3,14 @@ ghost use Rattle.mst_trees.specs.Apart.{Apart};
 ghost use Rattle.mst_trees.specs.Wirings.{HaveNumbers};
 
 use mst_ids::BridgeNo;
-use mst_settle::{Bridges, Plug, Wiring};
+use mst_settle::{Bridges, TreePort, Wiring};
 use mst_vector::Metric;
 use std::alloc::{AllocError, Global};
 
 /// The wiring of these ports.
 pub(crate) fn wiring_of<P: Copy>(
     alloc: Global,
-    ports: Vec<Plug<P>>,
+    ports: Vec<TreePort<P>>,
 ) -> Result<Wiring<P>, AllocError>
     requires { HaveNumbers ports.items }
     ensures { IfOk result (λ wiring. wiring ≡ ports.items) }

@@ -4,17 +4,17 @@ ghost use Rattle.mst_settle.specs.Assignment.{vector_of, designated_of};
 ghost use Rattle.mst_repair.specs.Held.{IsHeld};
 ghost use Rattle.mst_net.specs.Tables.{Net, Numbers};
 ghost use Rattle.mst_config.specs.Shared.{same_in};
-ghost use Rattle.mst_trees.specs.Agrees.{AreOf, Known, KnownInner};
+ghost use Rattle.mst_trees.specs.Agrees.{AreOf, Known, KnownInternal};
 ghost use Rattle.mst_trees.specs.Forest.{IsForest, IsSettledOnce, KeepsBounds, msti_vector, designated_in, settlings_in, trees_seen};
 ghost use Rattle.mst_trees.specs.Mstis.{AreHeld, AreOutcomes, outcomes};
 ghost use Rattle.mst_trees.specs.Numbered.{IsSettledBy};
-ghost use Rattle.mst_trees.specs.Seen.{cist_seen, seen_inner};
+ghost use Rattle.mst_trees.specs.Seen.{cist_seen, seen_internal};
 ghost use Rattle.mst_trees.specs.Wirings.{msti_wires};
 ghost use Rattle.mst_nested.specs.Trees.{IsSettled};
 
 use crate::cist::{cist_wiring, repaired_cist};
 use crate::laws::{has_outcome, nested};
-use crate::msti::{inner_ports, is_inner, msti_wiring};
+use crate::msti::{internal_ports, is_internal, msti_wiring};
 use crate::mstis::{Mstis, repaired_mstis};
 use indexmap::IndexMap;
 use mst_config::Regions;
@@ -108,9 +108,9 @@ impl Forest {
         renamed::<CistMetric, Name, Name, PortName, BridgeNo, LanNo, PortNo>();
         renamed::<MstiMetric, Name, Name, PortName, BridgeNo, LanNo, PortNo>();
         let (cist_wiring, cist) = self.next_cist(alloc, view, regions)?;
-        let inner = inner_ports(alloc, view, regions, &cist)?;
-        let msti_wiring = msti_wiring(alloc, inner.as_slice())?;
-        let mstis = self.next_mstis(alloc, view, inner.as_slice(), &msti_wiring)?;
+        let internal = internal_ports(alloc, view, regions, &cist)?;
+        let msti_wiring = msti_wiring(alloc, internal.as_slice())?;
+        let mstis = self.next_mstis(alloc, view, internal.as_slice(), &msti_wiring)?;
         Ok(Forest {
             regions: regions.copy()?,
             cist_wiring,
@@ -136,18 +136,18 @@ impl Forest {
         Ok((wiring, cist))
     }
 
-    /// The MSTIs of another network of whose view these are the inner ports, on their wiring: each is repaired from
+    /// The MSTIs of another network of whose view these are the internal ports, on their wiring: each is repaired from
     /// the one that stands, if there is one.
     fn next_mstis(
         &self,
         alloc: Global,
         view: &View,
-        inner: &[PortInView],
+        internal: &[PortInView],
         wiring: &Wiring<MstiPort>,
     ) -> Result<Mstis, AllocError>
-        requires known { KnownInner view.now inner.now }
-        requires wiring { wiring.now ≡ msti_wires inner.now }
-        ensures settled { IfOk result (λ mstis. AreOutcomes view.now inner.now self.now.mstis (outcomes mstis.entries)) }
+        requires known { KnownInternal view.now internal.now }
+        requires wiring { wiring.now ≡ msti_wires internal.now }
+        ensures settled { IfOk result (λ mstis. AreOutcomes view.now internal.now self.now.mstis (outcomes mstis.entries)) }
         ensures held { IfOk result (λ mstis. AreHeld wiring.now mstis.entries) }
     {
         let nothing = Wiring::new(alloc);
@@ -155,7 +155,7 @@ impl Forest {
             alloc,
             &self.mstis,
             view,
-            inner,
+            internal,
             &nothing,
             &self.msti_wiring,
             wiring,
@@ -201,10 +201,10 @@ impl Forest {
 
     /// Whether a port of the view is enabled and its LAN belongs to the region of its bridge, by the regions and the
     /// CIST of this forest: then MSTIs have it.
-    pub fn is_inner(&self, view: &View, port: &PortInView) -> bool
-        ensures { result ≡ seen_inner view.now self.now.regions (designated_of self.now.cist) port.now }
+    pub fn is_internal(&self, view: &View, port: &PortInView) -> bool
+        ensures { result ≡ seen_internal view.now self.now.regions (designated_of self.now.cist) port.now }
     {
-        is_inner(view, &self.regions, &self.cist, port)
+        is_internal(view, &self.regions, &self.cist, port)
     }
 
     /// How often a bridge was settled in a tree, when this forest was made.

@@ -1,11 +1,11 @@
 ghost use Rattle.std.specs.Prelude.{ℕ, ◌==◌, IfOk, OnOk};
 ghost use Rattle.mst_net.specs.ByTree.{AreInTrees};
 ghost use Rattle.mst_lag.specs.Trees.{is_among};
-ghost use Rattle.mst_trees.specs.Agrees.{KnownInner};
+ghost use Rattle.mst_trees.specs.Agrees.{KnownInternal};
 ghost use Rattle.mst_trees.specs.Own.{is_set, IsNoted};
 ghost use Rattle.mst_trees.specs.Wirings.{HaveNumbers, AreOwn, own_in, msti_wires};
 
-use crate::msti::settings_in;
+use crate::settings::msti_port;
 use indexmap::IndexMap;
 use mst_ids::Tree;
 use mst_lag::{PortInView, View};
@@ -26,7 +26,7 @@ fn note_in(
 ) -> Result<(), AllocError>
     ensures { OnOk result (IsNoted (λ t. tree == t) view.now port.now own.old.entries own.new.entries) }
 {
-    let settings = settings_in(view, tree, port);
+    let settings = msti_port(view.settings(), tree, port);
     own.entry(tree)?
         .or_insert(BTreeMap::new(alloc))
         .insert(port.number.0, settings)?;
@@ -66,18 +66,18 @@ fn note_port(
     note_in_each(alloc, view, port, costs.as_slice(), own)
 }
 
-/// The settings that the inner ports of a view have in one MSTI alone.
+/// The settings that the internal ports of a view have in one MSTI alone.
 pub(crate) fn own_settings(
     alloc: Global,
     view: &View,
-    inner: &[PortInView],
+    internal: &[PortInView],
 ) -> Result<OwnSettings, AllocError>
-    requires known { KnownInner view.now inner.now }
-    requires numbers { HaveNumbers (msti_wires inner.now) }
-    ensures { IfOk result (λ own. (tree : ℕ) → AreOwn view.now inner.now tree (own_in own.entries tree)) }
+    requires known { KnownInternal view.now internal.now }
+    requires numbers { HaveNumbers (msti_wires internal.now) }
+    ensures { IfOk result (λ own. (tree : ℕ) → AreOwn view.now internal.now tree (own_in own.entries tree)) }
 {
     let mut own = IndexMap::new(alloc);
-    for port in inner {
+    for port in internal {
         note_port(alloc, view, port, &mut own)?;
     }
     Ok(own)

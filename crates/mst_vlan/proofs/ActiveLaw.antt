@@ -12,7 +12,7 @@ use Rattle.mst_vector.specs.Msti.{msti_rules}
 use Rattle.mst_vector.specs.declared.cist.CistBridge.{CistBridge}
 use Rattle.mst_vector.specs.declared.cist.CistPort.{CistPort}
 use Rattle.mst_vector.specs.declared.msti.MstiBridge.{MstiBridge}
-use Rattle.mst_settle.specs.Topology.{Plug, HasBridge, KeyTests}
+use Rattle.mst_settle.specs.Topology.{TreePort, HasBridge, KeyTests}
 use Rattle.mst_graph.specs.Joined.{IsJoined, HasNoLoop, Other}
 use Rattle.mst_graph.proofs.Members.{in_filter, from_filter}
 use Rattle.mst_nested.specs.Ports.{port_ends as plug_ends}
@@ -166,12 +166,12 @@ module _ (net : Net) (ok : IsNetwork net) (o : Outcome) (settled : IsSettled (tr
       record { is_enabled = enabled_plug net ok p (x.0, enabled); forwards = (law p x.0 enabled (tree p.name.bridge) r.0 r.1).0 r.2 }
 
   -- and an active plug is that of an active port
-  record IsOfActive (e : Plug (List ℕ) (List ℕ) PortName CistPort) : Type 0 where
+  record IsOfActive (e : TreePort (List ℕ) (List ℕ) PortName CistPort) : Type 0 where
     port : LogicalPort
     is_active : Contains (active_ports net o vid) port
     is : plug net port ≡ e
 
-  of_active : (e : Plug (List ℕ) (List ℕ) PortName CistPort) → IsActive f tree e → IsOfActive e
+  of_active : (e : TreePort (List ℕ) (List ℕ) PortName CistPort) → IsActive f tree e → IsOfActive e
   of_active e a =
       let x = port_from net ok cist_rules (cist_sight net) (cist_is_sight net ok) e a.is_enabled.0 in
       let g = given x.port.is_enabled (cist_port (by_tree net) x.port) x.settings x.seen in
@@ -197,7 +197,7 @@ module _ (net : Net) (ok : IsNetwork net) (o : Outcome) (settled : IsSettled (tr
         kind = (
           active_plug q other.0,
           λ same. other.1 (one_port net o vid q p (from_filter (forwards_for net o vid) (view_ports net) q other.0).0 (from_filter (forwards_for net o vid) (view_ports net) p h).0
-              (ap (λ (r : Plug (List ℕ) (List ℕ) PortName CistPort). r.number) same)),
+              (ap (λ (r : TreePort (List ℕ) (List ℕ) PortName CistPort). r.number) same)),
         );
         from = refl;
         to = refl;

@@ -4,7 +4,7 @@ use Rattle.std.specs.Prelude.{if◌then◌else◌, ◌↔◌}
 use Rattle.mst_ids.specs.declared.name.PortName.{PortName}
 use Rattle.mst_vector.specs.Msti.{msti_rules}
 use Rattle.mst_vector.specs.declared.cist.CistPort.{CistPort}
-use Rattle.mst_settle.specs.Topology.{Plug}
+use Rattle.mst_settle.specs.Topology.{TreePort}
 use Rattle.mst_graph.specs.Walks.{bridge_at, lan_at}
 use Rattle.mst_nested.specs.Exits.{IsCrossing, IsExit}
 use Rattle.mst_nested.specs.Roles.{Forwards}
@@ -47,8 +47,8 @@ has_tree net o ok settled p enabled (suc i) role e = go (has_msti net (suc i) p.
         )
 
 module _ (net : Net) (o : Outcome) (ok : IsNetwork net) (settled : IsSettled (trees_of net o)) (law : Forwarding net o)
-    (only : (p : Plug (List ℕ) (List ℕ) PortName CistPort) (tree : ℕ) → IsCrossing (trees_of net o) p → Forwards (trees_of net o) tree p → IsExit (trees_of net o) p)
-    (all : (p : Plug (List ℕ) (List ℕ) PortName CistPort) (tree : ℕ) → IsExit (trees_of net o) p → HasTree (trees_of net o) tree p.bridge → Forwards (trees_of net o) tree p) where
+    (only : (p : TreePort (List ℕ) (List ℕ) PortName CistPort) (tree : ℕ) → IsCrossing (trees_of net o) p → Forwards (trees_of net o) tree p → IsExit (trees_of net o) p)
+    (all : (p : TreePort (List ℕ) (List ℕ) PortName CistPort) (tree : ℕ) → IsExit (trees_of net o) p → HasTree (trees_of net o) tree p.bridge → Forwards (trees_of net o) tree p) where
   pub exit_forwards : (p : LogicalPort) → IsEnabled net p → (SamePart (trees_of net o) (bridge_at p.name.bridge) (lan_at p.lan) → ⊥) → (tree : ℕ) (role : Role) → role_in net o tree p ≡ Some role
       → forwards role ≡ true ↔ IsExit (trees_of net o) (plug net p)
   exit_forwards p enabled apart tree role e =

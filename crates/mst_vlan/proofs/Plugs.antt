@@ -4,7 +4,7 @@ use Rattle.std.specs.Prelude.{if◌then◌else◌}
 use Rattle.mst_ids.specs.declared.name.PortName.{PortName}
 use Rattle.mst_vector.specs.Cist.{cist_rules}
 use Rattle.mst_vector.specs.declared.cist.CistPort.{CistPort}
-use Rattle.mst_settle.specs.Topology.{Plug}
+use Rattle.mst_settle.specs.Topology.{TreePort}
 use Rattle.mst_nested.specs.Trees.{TakesPart}
 use Rattle.mst_net.specs.Tables.{Net, IsNetwork}
 use Rattle.mst_net.specs.ByTree.{by_tree}
@@ -15,7 +15,7 @@ use Rattle.mst_trees.proofs.CistTopology.{cist_is_sight}
 use Rattle.mst_trees.proofs.Sights.{port_in}
 use Rattle.mst_vlan.specs.Active.{IsEnabled}
 
-abbrev pub plug : Net → LogicalPort → Plug (List ℕ) (List ℕ) PortName CistPort
+abbrev pub plug : Net → LogicalPort → TreePort (List ℕ) (List ℕ) PortName CistPort
 plug net p = tree_port p (cist_port (by_tree net) p)
 
 pub enabled_plug : (net : Net) → IsNetwork net → (p : LogicalPort) → IsEnabled net p → TakesPart (cist_of net) (plug net p)

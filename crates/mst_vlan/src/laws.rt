@@ -8,7 +8,7 @@ ghost use Rattle.mst_vector.specs.declared.cist.CistBridge.{CistBridge};
 ghost use Rattle.mst_vector.specs.declared.cist.CistPort.{CistPort};
 ghost use Rattle.mst_vector.specs.declared.cist.CistVector.{CistVector};
 ghost use Rattle.mst_vector.specs.declared.msti.MstiVector.{MstiVector};
-ghost use Rattle.mst_settle.specs.Topology.{Plug, HasBridge};
+ghost use Rattle.mst_settle.specs.Topology.{TreePort, HasBridge};
 ghost use Rattle.mst_graph.specs.Islands.{Island};
 ghost use Rattle.mst_graph.specs.Joined.{HasNoLoop};
 ghost use Rattle.mst_graph.specs.Walks.{Node, Walk, bridge_at, lan_at};
@@ -82,9 +82,9 @@ pub fn roots()
 /// in every tree of its bridge. A part that holds the root of the CIST has no exit, each other part has one, to a part
 /// of lower external root path cost.
 pub fn exits()
-    ensures only { (net : Net) (o : Outcome) → IsNetwork net → IsOutcome net o → IsUnrestricted net → (p : Plug (List ℕ) (List ℕ) PortKey CistPort) (tree : ℕ) → IsCrossing (trees_of net o) p → Forwards (trees_of net o) tree p → IsExit (trees_of net o) p }
-    ensures all { (net : Net) (o : Outcome) → IsNetwork net → IsOutcome net o → IsUnrestricted net → (p : Plug (List ℕ) (List ℕ) PortKey CistPort) (tree : ℕ) → IsExit (trees_of net o) p → HasTree (trees_of net o) tree p.bridge → Forwards (trees_of net o) tree p }
-    ensures top { (net : Net) (o : Outcome) → IsNetwork net → IsOutcome net o → IsUnrestricted net → (n : List ℕ) (x : CistVector) → o.cist.vector n ≡ Some x → HoldsRoot (trees_of net o) n x → (p : Plug (List ℕ) (List ℕ) PortKey CistPort) → IsExit (trees_of net o) p → SamePart (trees_of net o) (bridge_at n) (bridge_at p.bridge) → ⊥ }
+    ensures only { (net : Net) (o : Outcome) → IsNetwork net → IsOutcome net o → IsUnrestricted net → (p : TreePort (List ℕ) (List ℕ) PortKey CistPort) (tree : ℕ) → IsCrossing (trees_of net o) p → Forwards (trees_of net o) tree p → IsExit (trees_of net o) p }
+    ensures all { (net : Net) (o : Outcome) → IsNetwork net → IsOutcome net o → IsUnrestricted net → (p : TreePort (List ℕ) (List ℕ) PortKey CistPort) (tree : ℕ) → IsExit (trees_of net o) p → HasTree (trees_of net o) tree p.bridge → Forwards (trees_of net o) tree p }
+    ensures top { (net : Net) (o : Outcome) → IsNetwork net → IsOutcome net o → IsUnrestricted net → (n : List ℕ) (x : CistVector) → o.cist.vector n ≡ Some x → HoldsRoot (trees_of net o) n x → (p : TreePort (List ℕ) (List ℕ) PortKey CistPort) → IsExit (trees_of net o) p → SamePart (trees_of net o) (bridge_at n) (bridge_at p.bridge) → ⊥ }
     ensures one { (net : Net) (o : Outcome) → IsNetwork net → IsOutcome net o → IsUnrestricted net → (n : List ℕ) (x : CistVector) → o.cist.vector n ≡ Some x → HoldsRoot (trees_of net o) n x ⊎ HasOneExit (trees_of net o) n x }
 {
     nested();

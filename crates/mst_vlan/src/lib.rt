@@ -7,5 +7,5 @@ mod reaching;
 mod topology;
 
 pub use island::{BridgeList, Island, LanList};
-pub use reaching::reach;
+pub use reaching::{is_member, reach};
 pub use topology::{active, active_ports};

@@ -37,8 +37,8 @@ fn lans_up(alloc: Global, view: &View) -> Result<Vec<LanNo>, AllocError>
         .collect(alloc)
 }
 
-/// Whether a logical port is a member of a VLAN.
-fn is_member(view: &View, port: &PortInView, vid: Vid) -> bool
+/// Whether a logical port is a member of a VLAN (802.1Q-2022, 8.8.10): of each where none were set.
+pub fn is_member(view: &View, port: &PortInView, vid: Vid) -> bool
     ensures { result ≡ seen_member view.now vid port.now }
 {
     view.settings().is_member(&port.name, vid)

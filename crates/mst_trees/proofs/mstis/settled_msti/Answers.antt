@@ -14,16 +14,16 @@ repaired_msti-requires-clause-held c =
     (c.requires c.args.tree c.in-Some.msti.now (sym c.in-Some.ensures.value))
 
 pub repaired_msti-requires-clause-own : goal.repaired_msti-requires-clause-own
-repaired_msti-requires-clause-own c = subst (AreOwn c.ground.inside.view.now c.ground.inside.inner.now c.args.tree) (sym c.in_ok-own.ensures) (c.ground.invariant.own c.args.tree)
+repaired_msti-requires-clause-own c = subst (AreOwn c.ground.inside.view.now c.ground.inside.internal.now c.args.tree) (sym c.in_ok-own.ensures) (c.ground.invariant.own c.args.tree)
 
 pub repaired_msti-requires-in-None-clause-own : goal.repaired_msti-requires-in-None-clause-own
 repaired_msti-requires-in-None-clause-own c =
-    subst (AreOwn c.ground.inside.view.now c.ground.inside.inner.now c.args.tree) (sym c.in_ok-own.ensures) (c.ground.invariant.own c.args.tree)
+    subst (AreOwn c.ground.inside.view.now c.ground.inside.internal.now c.args.tree) (sym c.in_ok-own.ensures) (c.ground.invariant.own c.args.tree)
 
 pub returns-in-Some : goal.returns-in-Some
 returns-in-Some c =
     let former = c.args.former.now.entries in
-    let g : Ground = record { view = c.ground.inside.view.now; inner = c.ground.inside.inner.now; from = c.ground.inside.rewiring.now.from } in
+    let g : Ground = record { view = c.ground.inside.view.now; internal = c.ground.inside.internal.now; from = c.ground.inside.rewiring.now.from } in
     subst (λ g. IfOk c.repaired_msti.result (IsSettledFrom g former c.args.tree)) c.ground.view_is
     (settled_from g former c.args.tree (vector_of c.in-Some.msti.now.outcome) (among_some former c.args.tree c.in-Some.msti.now c.in-Some.ensures.value)
     c.ground.inside.rewiring.now.to c.ground.invariant.to c.repaired_msti.result c.repaired_msti.ensures.settled c.repaired_msti.ensures.held)
@@ -31,7 +31,7 @@ returns-in-Some c =
 pub returns-in-None : goal.returns-in-None
 returns-in-None c =
     let former = c.args.former.now.entries in
-    let g : Ground = record { view = c.ground.inside.view.now; inner = c.ground.inside.inner.now; from = c.ground.inside.rewiring.now.from } in
+    let g : Ground = record { view = c.ground.inside.view.now; internal = c.ground.inside.internal.now; from = c.ground.inside.rewiring.now.from } in
     subst (λ g. IfOk c.repaired_msti-in-None.result (IsSettledFrom g former c.args.tree)) c.ground.view_is
     (settled_from g former c.args.tree (vector_of c.new-nothing.result.outcome) (among_none former c.args.tree c.new-nothing.result.outcome c.new-nothing.ensures.vectors c.in-None.ensures.value)
     c.ground.inside.anew.now.to c.ground.invariant.anew_to c.repaired_msti-in-None.result c.repaired_msti-in-None.ensures.settled c.repaired_msti-in-None.ensures.held)

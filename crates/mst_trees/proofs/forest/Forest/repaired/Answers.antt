@@ -1,15 +1,15 @@
 use Rattle.std.proofs.Common.{◌≡◌, sym, subst, ap, ◌∙◌}
 use Rattle.mst_vector.specs.Cist.{cist_rules}
 use Rattle.mst_settle.specs.Assignment.{designated_of, IsSettledFor}
-use Rattle.mst_trees.specs.Seen.{inner_seen, cist_seen}
+use Rattle.mst_trees.specs.Seen.{internal_seen, cist_seen}
 use Rattle.mst_trees.specs.Agrees.{AreOf}
 use Rattle.mst_trees.specs.Forest.{Forest, KeepsBounds}
 use Rattle.mst_trees.specs.Mstis.{AreOutcomes, outcomes}
 use Rattle.mst_trees.specs.Wirings.{msti_wires}
-use Rattle.mst_trees.proofs.Growing.{inner_agrees, is_forest}
+use Rattle.mst_trees.proofs.Growing.{internal_agrees, is_forest}
 use Rattle.mst_trees.proofs.Keeping.{keeps_bounds}
-use Rattle.mst_trees.proofs.OnWiring.{inner_numbers}
-use Rattle.mst_trees.proofs.SettledTrees.{same_inner, is_settled_seen}
+use Rattle.mst_trees.proofs.OnWiring.{internal_numbers}
+use Rattle.mst_trees.proofs.SettledTrees.{same_internal, is_settled_seen}
 use Rattle.mst_trees.proofs.forest.Forest.repaired.Goals as goal
 
 pub msti_wiring-requires : goal.msti_wiring-requires
@@ -18,14 +18,14 @@ msti_wiring-requires c =
     let region_ids = c.args.regions.now in
     let k = c.requires in
     let o = c.has_outcome.ensures k.net k.of.network in
-    inner_numbers v c.as_slice.result.now (record {
+    internal_numbers v c.as_slice.result.now (record {
       net = k.net;
       numbers = k.numbers;
       region_ids = region_ids;
       of = k.of;
       designated = o.0.cist.designated;
-      is = c.as_slice.ensures.value ∙ c.in_ok-inner.ensures
-          ∙ inner_agrees k.net k.numbers v region_ids k.of c.renamed.ensures.vectors c.renamed.ensures.ports o.0.cist o.1.cist c.in_ok-cist_wiring.cist.outcome c.in_ok-cist_wiring.ensures.settled.outcome;
+      is = c.as_slice.ensures.value ∙ c.in_ok-internal.ensures
+          ∙ internal_agrees k.net k.numbers v region_ids k.of c.renamed.ensures.vectors c.renamed.ensures.ports o.0.cist o.1.cist c.in_ok-cist_wiring.cist.outcome c.in_ok-cist_wiring.ensures.settled.outcome;
     })
 
 pub next_mstis-requires : goal.next_mstis-requires
@@ -41,8 +41,8 @@ next_mstis-requires c =
         region_ids = region_ids;
         of = k.of;
         designated = o.0.cist.designated;
-        is = c.as_slice-2.ensures.value ∙ c.in_ok-inner.ensures
-            ∙ inner_agrees k.net k.numbers v region_ids k.of c.renamed.ensures.vectors c.renamed.ensures.ports o.0.cist o.1.cist c.in_ok-cist_wiring.cist.outcome c.in_ok-cist_wiring.ensures.settled.outcome;
+        is = c.as_slice-2.ensures.value ∙ c.in_ok-internal.ensures
+            ∙ internal_agrees k.net k.numbers v region_ids k.of c.renamed.ensures.vectors c.renamed.ensures.ports o.0.cist o.1.cist c.in_ok-cist_wiring.cist.outcome c.in_ok-cist_wiring.ensures.settled.outcome;
       };
       wiring = c.in_ok-msti_wiring.ensures ∙ ap msti_wires (c.as_slice.ensures.value ∙ sym c.as_slice-2.ensures.value);
     }
@@ -54,7 +54,7 @@ returns-clause-outcome c = λ net numbers of.
     let o = c.has_outcome.ensures net of.network in
     let f : Forest = record { regions = c.in_ok-copy.field-0; cist = c.in_ok-cist_wiring.cist.outcome; mstis = outcomes c.in_ok-mstis.mstis.entries } in
     is_forest net numbers v region_ids of c.renamed.ensures.vectors c.renamed.ensures.ports c.renamed-2.ensures.vectors c.renamed-2.ensures.ports o.0 o.1
-    f c.in_ok-copy.ensures c.in_ok-cist_wiring.ensures.settled.outcome c.as_slice-2.result.now (c.as_slice-2.ensures.value ∙ c.in_ok-inner.ensures) c.args.self.now.mstis c.in_ok-mstis.ensures.settled
+    f c.in_ok-copy.ensures c.in_ok-cist_wiring.ensures.settled.outcome c.as_slice-2.result.now (c.as_slice-2.ensures.value ∙ c.in_ok-internal.ensures) c.args.self.now.mstis c.in_ok-mstis.ensures.settled
 
 pub returns-clause-nested : goal.returns-clause-nested
 returns-clause-nested c =
@@ -67,7 +67,7 @@ returns-clause-nested c =
     is_settled_seen k.net k.numbers v f (subst (AreOf k.net k.numbers v) regions k.of)
     c.renamed.ensures.vectors c.renamed.ensures.ports c.renamed.ensures.topology c.renamed-2.ensures.topology o.0 o.1 (c.nested.ensures.settled k.net o.0 k.of.network o.1)
     (subst (λ region_ids. IsSettledFor cist_rules (cist_seen v region_ids) cist) regions c.in_ok-cist_wiring.ensures.settled.outcome) c.args.self.now.mstis
-    (same_inner (c.as_slice-2.ensures.value ∙ c.in_ok-inner.ensures ∙ (λ i. inner_seen v (regions i) (designated_of cist))) c.in_ok-mstis.ensures.settled)
+    (same_internal (c.as_slice-2.ensures.value ∙ c.in_ok-internal.ensures ∙ (λ i. internal_seen v (regions i) (designated_of cist))) c.in_ok-mstis.ensures.settled)
 
 pub returns-clause-bounds : goal.returns-clause-bounds
 returns-clause-bounds c =
