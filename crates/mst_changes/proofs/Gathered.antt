@@ -1,4 +1,4 @@
--- The rows of a view are those of its network.
+-- The entries of a view are those of its network.
 use Rattle.std.proofs.Common.{◌≡◌, ℕ, zero, suc, ◌+◌, ◌<◌, ◌==◌, Bool, true, false, List, [], ◌∷◌, ◌++◌, length, take, get_or, Option, Some, None, refl, sym, ap, ◌∙◌, append_assoc, is_some, arith}
 use Rattle.std.specs.Prelude.{if◌then◌else◌}
 use Rattle.std.specs.List.{Contains, filter_map, flat_map, range_with_len, cons_option}
@@ -15,10 +15,10 @@ use Rattle.mst_lag.specs.Viewed.{Viewed, named_bridge, named_port}
 use Rattle.mst_lag.specs.declared.in_view.BridgeInView.{BridgeInView}
 use Rattle.mst_lag.specs.declared.in_view.PortInView.{PortInView}
 use Rattle.mst_trees.specs.Agrees.{AreOf}
-use Rattle.mst_trees.specs.Forest.{IsForest, msti_vector}
+use Rattle.mst_trees.specs.Forest.{Forest, IsForest, msti_vector}
+use Rattle.mst_trees.specs.InUse.{is_in_use}
 use Rattle.mst_trees.specs.Msti.{has_msti}
 use Rattle.mst_trees.specs.Seen.{trees_at}
-use Rattle.mst_trees.specs.Forest.{Forest}
 use Rattle.mst_trees.proofs.Lists.{kept_same, all_there}
 use Rattle.mst_trees.proofs.Entries.{all_weaker}
 use Rattle.mst_trees.proofs.Seen.{SeenBridge, bridges_seen}
@@ -26,17 +26,17 @@ use Rattle.mst_trees.proofs.Looking.{has_tree_at}
 use Rattle.mst_roles.specs.Roles.{role_of, role_in, cist_role, msti_role}
 use Rattle.mst_roles.specs.declared.kind.Role.{Role}
 use Rattle.mst_roles.proofs.Named.{own_role}
-use Rattle.mst_changes.specs.declared.place.Item.TheVariants.{Bridge, Port}
-use Rattle.mst_changes.specs.declared.place.Place.{Place}
-use Rattle.mst_changes.specs.declared.state.State.{State}
-use Rattle.mst_changes.specs.declared.state.State.TheVariants.{InCist, InMsti, HasRole}
-use Rattle.mst_changes.specs.declared.place.Row.{Row}
-use Rattle.mst_changes.specs.Places.{all_trees, port_in, places_in, bridge_names, port_names}
-use Rattle.mst_changes.specs.States.{vector_in, state_at}
-use Rattle.mst_changes.specs.Kept.{rows_at}
-use Rattle.mst_changes.specs.Seen.{seen_vector, seen_bridge_row, seen_port_row, is_in_use}
+use Rattle.mst_changes.specs.declared.subject.Item.TheVariants.{Bridge, Port}
+use Rattle.mst_changes.specs.declared.subject.Subject.{Subject}
+use Rattle.mst_changes.specs.declared.value.VectorOrRole.{VectorOrRole}
+use Rattle.mst_changes.specs.declared.value.VectorOrRole.TheVariants.{InCist, InMsti, HasRole}
+use Rattle.mst_changes.specs.declared.subject.Entry.{Entry}
+use Rattle.mst_changes.specs.Subjects.{all_trees, port_in, subjects_in, bridge_names, port_names}
+use Rattle.mst_changes.specs.Values.{vector_in, value_at}
+use Rattle.mst_changes.specs.Kept.{entries_at}
+use Rattle.mst_changes.specs.Seen.{seen_vector, seen_bridge_entry, seen_port_entry}
 use Rattle.mst_changes.proofs.Lists.{filter_map-map}
-use Rattle.mst_changes.proofs.Changed.{bridge_at, port_at, rows_in}
+use Rattle.mst_changes.proofs.Changed.{bridge_at, port_at, entries_in}
 use Rattle.mst_changes.proofs.Orders.{trees_are}
 use Rattle.mst_changes.proofs.InUse.{unused}
 
@@ -52,8 +52,8 @@ kept_none h none [] = refl
 kept_none h none (x ∷ xs) = ap (λ o. cons_option o (filter_map h xs)) (none x) ∙ kept_none h none xs
 
 module _ (net : Net) (numbers : Numbers) (v : Viewed) (f : Forest) (of : AreOf net numbers v f.regions) (is : IsForest net numbers f) (tree : ℕ) where
-  abbrev x : Place → Option State
-  x = state_at net is.outcome
+  abbrev x : Subject → Option VectorOrRole
+  x = value_at net is.outcome
 
   vector_same : (b : BridgeInView) → SeenBridge net numbers b → seen_vector v f tree b.bridge.number ≡ vector_in net is.outcome tree b.name
   vector_same b seen = go (tree == 0)
@@ -70,31 +70,31 @@ module _ (net : Net) (numbers : Numbers) (v : Viewed) (f : Forest) (of : AreOf n
       go false = λ i.
           if has_tree_at net numbers v f.regions of tree b.name b.bridge.number seen.has_number i then option_map InMsti ((is.mstis tree).vectors b.name b.bridge.number seen.has_number i) else None
 
-  bridges_same : filter_map (seen_bridge_row v f tree) v.bridges ≡ filter_map (bridge_at x tree) (bridge_names net)
+  bridges_same : filter_map (seen_bridge_entry v f tree) v.bridges ≡ filter_map (bridge_at x tree) (bridge_names net)
   bridges_same =
-      kept_same (seen_bridge_row v f tree) (λ (b : BridgeInView). bridge_at x tree b.name) v.bridges
-      (all_weaker (SeenBridge net numbers) _ (λ b seen. ap (option_map (λ state. record { tree = tree; item = Bridge b.name; state = state })) (vector_same b seen)) v.bridges (bridges_seen net numbers v of.view))
+      kept_same (seen_bridge_entry v f tree) (λ (b : BridgeInView). bridge_at x tree b.name) v.bridges
+      (all_weaker (SeenBridge net numbers) _ (λ b seen. ap (option_map (λ value. record { tree = tree; item = Bridge b.name; value = value })) (vector_same b seen)) v.bridges (bridges_seen net numbers v of.view))
       ∙ sym (filter_map-map (λ (e : List ℕ × BridgeRow). bridge_at x tree e.0) named_bridge v.bridges)
       ∙ ap (filter_map (λ (e : List ℕ × BridgeRow). bridge_at x tree e.0)) of.view.bridges
       ∙ sym (filter_map-map (bridge_at x tree) (λ (e : List ℕ × BridgeRow). e.0) (fin.entries net.bridges))
 
-  role_twice : (name : PortName) (r : Option Role) → option_map {U = Row} (λ role. record { tree = tree; item = Port name; state = HasRole role }) r ≡ option_map {U = Row} (λ state. record { tree = tree; item = Port name; state = state }) (option_map HasRole r)
+  role_twice : (name : PortName) (r : Option Role) → option_map {U = Entry} (λ role. record { tree = tree; item = Port name; value = HasRole role }) r ≡ option_map {U = Entry} (λ value. record { tree = tree; item = Port name; value = value }) (option_map HasRole r)
   role_twice name None = refl
   role_twice name (Some r) = refl
 
-  pub ports_same : filter_map (seen_port_row v f tree) v.ports ≡ filter_map (port_at x tree) (port_names net)
+  pub ports_same : filter_map (seen_port_entry v f tree) v.ports ≡ filter_map (port_at x tree) (port_names net)
   ports_same =
-      kept_same (seen_port_row v f tree) (λ (p : PortInView). port_at x tree p.name) v.ports
+      kept_same (seen_port_entry v f tree) (λ (p : PortInView). port_at x tree p.name) v.ports
       (all_weaker (Contains v.ports) _ (λ p there.
-      ap (option_map (λ role. record { tree = tree; item = Port p.name; state = HasRole role })) (own_role net numbers v f of is tree p there)
+      ap (option_map (λ role. record { tree = tree; item = Port p.name; value = HasRole role })) (own_role net numbers v f of is tree p there)
       ∙ role_twice p.name (role_of net is.outcome tree p.name)) v.ports (all_there v.ports))
       ∙ sym (filter_map-map (λ (p : LogicalPort). port_at x tree p.name) named_port v.ports)
       ∙ ap (filter_map (λ (p : LogicalPort). port_at x tree p.name)) of.view.ports
       ∙ sym (filter_map-map (port_at x tree) (λ (p : LogicalPort). p.name) (view_ports net))
 
-  -- the rows of a tree
-  pub tree_rows : filter_map (seen_bridge_row v f tree) v.bridges ++ filter_map (seen_port_row v f tree) v.ports ≡ rows_at x (places_in (bridge_names net) (port_names net) tree)
-  tree_rows = (λ i. bridges_same i ++ ports_same i) ∙ sym (rows_in x (bridge_names net) (port_names net) tree)
+  -- the entries of a tree
+  pub tree_entries : filter_map (seen_bridge_entry v f tree) v.bridges ++ filter_map (seen_port_entry v f tree) v.ports ≡ entries_at x (subjects_in (bridge_names net) (port_names net) tree)
+  tree_entries = (λ i. bridges_same i ++ ports_same i) ∙ sym (entries_in x (bridge_names net) (port_names net) tree)
 
   -- a tree that isn't in use has none
   module _ (other : (tree == 0) ≡ false) (none : is_in_use v tree ≡ false) where
@@ -110,14 +110,14 @@ module _ (net : Net) (numbers : Numbers) (v : Viewed) (f : Forest) (of : AreOf n
     no_role None = refl
     no_role (Some p) = λ i. if other i then Some (cist_role net is.outcome p) else (if no_tree p.name.bridge i then Some (msti_role net is.outcome tree p) else None)
 
-    pub no_state : (name : PortName) → x (port_in tree name) ≡ None
-    no_state name = ap (λ (r : Option Role). option_map HasRole r) (no_role _)
+    pub no_value_there : (name : PortName) → x (port_in tree name) ≡ None
+    no_value_there name = ap (λ (r : Option Role). option_map HasRole r) (no_role _)
 
-    pub no_rows : rows_at x (places_in (bridge_names net) (port_names net) tree) ≡ []
-    no_rows =
-        rows_in x (bridge_names net) (port_names net) tree
-        ∙ (λ i. kept_none (bridge_at x tree) (λ name. ap (option_map (λ state. record { tree = tree; item = Bridge name; state = state })) (no_vector name)) (bridge_names net) i
-        ++ kept_none (port_at x tree) (λ name. ap (λ (r : Option Role). option_map (λ state. record { tree = tree; item = Port name; state = state }) (option_map HasRole r)) (no_role _)) (port_names net) i)
+    pub no_entries : entries_at x (subjects_in (bridge_names net) (port_names net) tree) ≡ []
+    no_entries =
+        entries_in x (bridge_names net) (port_names net) tree
+        ∙ (λ i. kept_none (bridge_at x tree) (λ name. ap (option_map (λ value. record { tree = tree; item = Bridge name; value = value })) (no_vector name)) (bridge_names net) i
+        ++ kept_none (port_at x tree) (λ name. ap (λ (r : Option Role). option_map (λ value. record { tree = tree; item = Port name; value = value }) (option_map HasRole r)) (no_role _)) (port_names net) i)
 
 -- ---- tree after tree
 range_up : (a n : ℕ) → range_with_len a (suc n) ≡ range_with_len a n ++ (a + n) ∷ []

@@ -3,8 +3,8 @@ use Rattle.std.proofs.Common.{◌≡◌, ℕ, List, [], ◌∷◌, ◌++◌, cod
 use Rattle.std.specs.List.{flat_map}
 use Rattle.std.proofs.lemmas.Grind.{flat_map-append}
 use Rattle.mst_ids.specs.Words.{after_space, line}
-use Rattle.mst_changes.specs.declared.place.Item.{Item}
-use Rattle.mst_changes.specs.declared.place.Item.TheVariants.{Bridge, Port}
+use Rattle.mst_changes.specs.declared.subject.Item.{Item}
+use Rattle.mst_changes.specs.declared.subject.Item.TheVariants.{Bridge, Port}
 use Rattle.mst_changes.specs.ChangesText.{item_words, spaced}
 
 regrouped : (out word words olds arrow news end : List ℕ)

@@ -12,7 +12,7 @@ use Rattle.std.proofs.lemmas.List.Folds.{list_any-append}
 use Rattle.mst_trees.specs.Apart.{Apart}
 use Rattle.mst_trees.proofs.Entries.{entries_apart}
 use Rattle.mst_trees.proofs.Lists.{apart_mapped}
-use Rattle.mst_changes.specs.Places.{names_of_either}
+use Rattle.mst_changes.specs.Subjects.{names_of_either}
 use Rattle.mst_changes.proofs.Lists.{filter_map-map, kept_passing}
 
 tied : (o : Ordering) → is_eq o ≡ true → o ≡ Equal

@@ -6,13 +6,13 @@ use Rattle.mst_net.specs.Tables.{Net}
 use Rattle.mst_ids.specs.Words.{line, after_space}
 use Rattle.mst_trees.specs.Outcome.{Outcome}
 use Rattle.mst_roles.specs.Names.{role_text}
-use Rattle.mst_changes.specs.declared.place.Item.{Item}
-use Rattle.mst_changes.specs.declared.place.Item.TheVariants.{Bridge, Port}
-use Rattle.mst_changes.specs.declared.place.Place.{Place}
-use Rattle.mst_changes.specs.declared.state.State.{State}
-use Rattle.mst_changes.specs.declared.state.State.TheVariants.{InCist, InMsti, HasRole}
-use Rattle.mst_changes.specs.Places.{places_of_either}
-use Rattle.mst_changes.specs.States.{state_at, same_side}
+use Rattle.mst_changes.specs.declared.subject.Item.{Item}
+use Rattle.mst_changes.specs.declared.subject.Item.TheVariants.{Bridge, Port}
+use Rattle.mst_changes.specs.declared.subject.Subject.{Subject}
+use Rattle.mst_changes.specs.declared.value.VectorOrRole.{VectorOrRole}
+use Rattle.mst_changes.specs.declared.value.VectorOrRole.TheVariants.{InCist, InMsti, HasRole}
+use Rattle.mst_changes.specs.Subjects.{subjects_of_either}
+use Rattle.mst_changes.specs.Values.{value_at, same_side}
 
 -- `bridge T B` or `port T B P`
 abbrev pub item_words : ℕ → Item → List (List ℕ)
@@ -25,26 +25,26 @@ spaced [] = []
 spaced (word ∷ words) = word ++ flat_map after_space words
 
 -- the components of a vector, in the order in which vectors are compared, or the name of a role
-abbrev pub state_words : State → List (List ℕ)
-state_words (InCist v) =
+abbrev pub value_words : VectorOrRole → List (List ℕ)
+value_words (InCist v) =
     bridge_id_text v.root ∷ decimal v.external ∷ bridge_id_text v.regional ∷ decimal v.internal ∷ bridge_id_text v.designated ∷ port_id_text v.port ∷ port_id_text v.receiver ∷ []
-state_words (InMsti v) = bridge_id_text v.regional ∷ decimal v.internal ∷ bridge_id_text v.designated ∷ port_id_text v.port ∷ port_id_text v.receiver ∷ []
-state_words (HasRole role) = role_text role ∷ []
+value_words (InMsti v) = bridge_id_text v.regional ∷ decimal v.internal ∷ bridge_id_text v.designated ∷ port_id_text v.port ∷ port_id_text v.receiver ∷ []
+value_words (HasRole role) = role_text role ∷ []
 
 -- or `-`, where there is nothing
-abbrev pub side_words : Option State → List (List ℕ)
+abbrev pub side_words : Option VectorOrRole → List (List ℕ)
 side_words None = codes "-" ∷ []
-side_words (Some state) = state_words state
+side_words (Some value) = value_words value
 
--- the line of a place, `bridge T B OLD -> NEW` or `port T B P OLD -> NEW`
-abbrev pub change_line : Place → Option State → Option State → List ℕ
-change_line place old new = line (item_words place.tree place.item ++ side_words old ++ codes "->" ∷ side_words new)
+-- the line of a subject, `bridge T B OLD -> NEW` or `port T B P OLD -> NEW`
+abbrev pub change_line : Subject → Option VectorOrRole → Option VectorOrRole → List ℕ
+change_line subject old new = line (item_words subject.tree subject.item ++ side_words old ++ codes "->" ∷ side_words new)
 
 -- where it changes
-abbrev pub change_text : Place → Option State → Option State → List ℕ
-change_text place old new = if same_side old new then [] else change_line place old new
+abbrev pub change_text : Subject → Option VectorOrRole → Option VectorOrRole → List ℕ
+change_text subject old new = if same_side old new then [] else change_line subject old new
 
--- the lines of all places of either network where their outcomes differ: in each tree those of bridges, and then
+-- the lines of all subjects of either network where their outcomes differ: in each tree those of bridges, and then
 -- those of logical ports
 abbrev pub changes_text : Net → Outcome → Net → Outcome → List ℕ
-changes_text a o b p = flat_map (λ place. change_text place (state_at a o place) (state_at b p place)) (places_of_either a b)
+changes_text a o b p = flat_map (λ subject. change_text subject (value_at a o subject) (value_at b p subject)) (subjects_of_either a b)

@@ -1,26 +1,26 @@
--- The rows that are kept of a network's outcome.
+-- The entries that are kept of a network's outcome.
 use Rattle.std.specs.Prelude.{◌≡◌, List, Option, filter_map}
 use Rattle.std.specs.Option.{option_map}
 use Rattle.mst_net.specs.Tables.{Net}
 use Rattle.mst_trees.specs.Outcome.{Outcome}
-use Rattle.mst_changes.specs.declared.place.Place.{Place}
-use Rattle.mst_changes.specs.declared.state.State.{State}
-use Rattle.mst_changes.specs.declared.place.Row.{Row}
-use Rattle.mst_changes.specs.declared.rows.Rows.{Rows}
-use Rattle.mst_changes.specs.Places.{places_of}
-use Rattle.mst_changes.specs.States.{state_at}
+use Rattle.mst_changes.specs.declared.subject.Subject.{Subject}
+use Rattle.mst_changes.specs.declared.value.VectorOrRole.{VectorOrRole}
+use Rattle.mst_changes.specs.declared.subject.Entry.{Entry}
+use Rattle.mst_changes.specs.declared.entries.Entries.{Entries}
+use Rattle.mst_changes.specs.Subjects.{subjects_of}
+use Rattle.mst_changes.specs.Values.{value_at}
 
--- what there is at these places, in their order
-abbrev pub row_at : (Place → Option State) → Place → Option Row
-row_at at place = option_map (λ state. record { tree = place.tree; item = place.item; state = state }) (at place)
+-- what there is of these subjects, in their order
+abbrev pub entry_at : (Subject → Option VectorOrRole) → Subject → Option Entry
+entry_at at subject = option_map (λ value. record { tree = subject.tree; item = subject.item; value = value }) (at subject)
 
-abbrev pub rows_at : (Place → Option State) → List Place → List Row
-rows_at at = filter_map (row_at at)
+abbrev pub entries_at : (Subject → Option VectorOrRole) → List Subject → List Entry
+entries_at at = filter_map (entry_at at)
 
--- the rows of a network with this outcome: by trees, rising, the vector of each bridge that has one, in
+-- the entries of a network with this outcome: by trees, rising, the vector of each bridge that has one, in
 -- byte order, and the role of each logical port whose bridge has the tree, by bridge and number
-abbrev pub rows_of : Net → Outcome → List Row
-rows_of net o = rows_at (state_at net o) (places_of net)
+abbrev pub entries_of : Net → Outcome → List Entry
+entries_of net o = entries_at (value_at net o) (subjects_of net)
 
-abbrev pub AreRows : Net → Outcome → Rows → Type 0
-AreRows net o rows = rows.rows.items ≡ rows_of net o
+abbrev pub AreEntries : Net → Outcome → Entries → Type 0
+AreEntries net o entries = entries.entries.items ≡ entries_of net o

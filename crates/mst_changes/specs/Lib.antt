@@ -1,5 +1,5 @@
-pub mod Places
-pub mod States
+pub mod Subjects
+pub mod Values
 pub mod Kept
 pub mod Seen
 pub mod Merging

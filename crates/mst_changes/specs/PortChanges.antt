@@ -4,11 +4,11 @@ use Rattle.std.specs.List.{flat_map}
 use Rattle.mst_ids.specs.Names.{port_cmp}
 use Rattle.mst_net.specs.Tables.{Net}
 use Rattle.mst_trees.specs.Outcome.{Outcome}
-use Rattle.mst_changes.specs.Places.{names_of_either, port_names, port_in}
-use Rattle.mst_changes.specs.States.{state_at}
+use Rattle.mst_changes.specs.Subjects.{names_of_either, port_names, port_in}
+use Rattle.mst_changes.specs.Values.{value_at}
 use Rattle.mst_changes.specs.ChangesText.{change_text}
 
 -- the lines of the logical ports of either network in one tree
 abbrev pub port_changes : Net → Outcome → Net → Outcome → ℕ → List ℕ
 port_changes a o b p tree =
-    flat_map (λ place. change_text place (state_at a o place) (state_at b p place)) (map (port_in tree) (names_of_either port_cmp (port_names a) (port_names b)))
+    flat_map (λ subject. change_text subject (value_at a o subject) (value_at b p subject)) (map (port_in tree) (names_of_either port_cmp (port_names a) (port_names b)))

@@ -3,7 +3,7 @@ ghost use Rattle.std.specs.Prelude.{◌≡◌, []};
 ghost use Rattle.mst_net.specs.Tables.{Net, IsNetwork};
 ghost use Rattle.mst_trees.specs.Outcome.{Outcome, IsOutcome};
 ghost use Rattle.mst_changes.specs.ChangesText.{changes_text};
-ghost use Rattle.mst_changes.specs.Kept.{rows_of};
+ghost use Rattle.mst_changes.specs.Kept.{entries_of};
 
 use mst_trees::laws::one_outcome;
 
@@ -15,9 +15,9 @@ pub fn one_text()
     one_outcome();
 }
 
-/// What is kept of two networks settles the text: networks of equal rows have the same text.
-pub fn rows_tell()
-    ensures { (a b c d : Net) (o p q r : Outcome) → rows_of a o ≡ rows_of c q → rows_of b p ≡ rows_of d r → changes_text a o b p ≡ changes_text c q d r }
+/// What is kept of two networks settles the text: networks of equal entries have the same text.
+pub fn entries_tell()
+    ensures { (a b c d : Net) (o p q r : Outcome) → entries_of a o ≡ entries_of c q → entries_of b p ≡ entries_of d r → changes_text a o b p ≡ changes_text c q d r }
 {}
 
 /// The text of a network against itself is empty.

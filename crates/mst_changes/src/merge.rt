@@ -2,59 +2,63 @@ ghost use Rattle.std.specs.Prelude.{◌≡◌, ◌++◌, List, Option, OnOk};
 ghost use Rattle.std.specs.List.{flat_map};
 ghost use Rattle.mst_net.specs.Tables.{Net};
 ghost use Rattle.mst_trees.specs.Outcome.{Outcome};
-ghost use Rattle.mst_changes.specs.declared.place.Place.{Place as PlaceOf};
-ghost use Rattle.mst_changes.specs.declared.state.State.{State as StateOf};
-ghost use Rattle.mst_changes.specs.Kept.{AreRows, rows_at};
-ghost use Rattle.mst_changes.specs.Merging.{Rise, first_place as place_first, state_first, rows_past};
+ghost use Rattle.mst_changes.specs.declared.subject.Subject.{Subject as SubjectOf};
+ghost use Rattle.mst_changes.specs.declared.value.VectorOrRole.{VectorOrRole as VectorOrRoleOf};
+ghost use Rattle.mst_changes.specs.Kept.{AreEntries, entries_at};
+ghost use Rattle.mst_changes.specs.Merging.{Rise, first_subject as subject_first, value_first, entries_past};
 ghost use Rattle.mst_changes.specs.ChangesText.{change_text, changes_text};
 
-use crate::place::{Place, Row, place_order};
-use crate::rows::Rows;
-use crate::state::State;
+use crate::entries::Entries;
+use crate::subject::{Entry, Subject, subject_order};
 use crate::text::push_change;
+use crate::value::VectorOrRole;
 use std::alloc::AllocError;
 use std::cmp::Ordering;
 
-/// The first place of two lists of rows.
-fn first_place(olds: &[Row], news: &[Row]) -> Option<Place>
-    ensures { result ≡ place_first olds.now news.now }
+/// The first subject of two lists of entries.
+fn first_subject(olds: &[Entry], news: &[Entry]) -> Option<Subject>
+    ensures { result ≡ subject_first olds.now news.now }
 {
     match (olds, news) {
         ([], []) => None,
-        ([old, ..], []) => Some(old.place()),
-        ([], [new, ..]) => Some(new.place()),
-        ([old, ..], [new, ..]) => match place_order(&old.place(), &new.place()) {
-            Ordering::Greater => Some(new.place()),
-            _ => Some(old.place()),
+        ([old, ..], []) => Some(old.subject()),
+        ([], [new, ..]) => Some(new.subject()),
+        ([old, ..], [new, ..]) => match subject_order(&old.subject(), &new.subject()) {
+            Ordering::Greater => Some(new.subject()),
+            _ => Some(old.subject()),
         },
     }
 }
 
-/// What a list of rows has at a place, if its first row is there, and the rows past the place.
-fn split<'a>(place: &Place, rows: &'a [Row]) -> (Option<State>, &'a [Row])
-    ensures state { result.0 ≡ state_first place.now rows.now }
-    ensures rest { result.1.now ≡ rows_past place.now rows.now }
+/// What a list of entries has of a subject, if its first entry is there, and the entries past the subject.
+fn split<'a>(subject: &Subject, entries: &'a [Entry]) -> (Option<VectorOrRole>, &'a [Entry])
+    ensures value { result.0 ≡ value_first subject.now entries.now }
+    ensures rest { result.1.now ≡ entries_past subject.now entries.now }
 {
-    match rows {
-        [first, rest @ ..] if place_order(&first.place(), place) == Ordering::Equal => {
-            (Some(first.state), rest)
+    match entries {
+        [first, rest @ ..] if subject_order(&first.subject(), subject) == Ordering::Equal => {
+            (Some(first.value), rest)
         }
-        _ => (None, rows),
+        _ => (None, entries),
     }
 }
 
-/// Appends the lines of the places at which two lists of rows differ, in the order of places. It takes the rows of
-/// one place after another from both lists.
-pub(crate) fn push_merged(olds: &[Row], news: &[Row], out: &mut Vec<u8>) -> Result<(), AllocError>
-    ensures { OnOk result ((places : List PlaceOf) (x y : PlaceOf → Option StateOf) → Rise places → olds.now ≡ rows_at x places → news.now ≡ rows_at y places
-        → out.new.items ≡ out.old.items ++ flat_map (λ place. change_text place (x place) (y place)) places) }
+/// Appends the lines of the subjects at which two lists of entries differ, in the order of subjects. It takes the entries of
+/// one subject after another from both lists.
+pub(crate) fn push_merged(
+    olds: &[Entry],
+    news: &[Entry],
+    out: &mut Vec<u8>,
+) -> Result<(), AllocError>
+    ensures { OnOk result ((subjects : List SubjectOf) (x y : SubjectOf → Option VectorOrRoleOf) → Rise subjects → olds.now ≡ entries_at x subjects → news.now ≡ entries_at y subjects
+        → out.new.items ≡ out.old.items ++ flat_map (λ subject. change_text subject (x subject) (y subject)) subjects) }
 {
     let mut olds_left = olds;
     let mut news_left = news;
-    while let Some(place) = first_place(olds_left, news_left) {
-        let (old, olds_past) = split(&place, olds_left);
-        let (new, news_past) = split(&place, news_left);
-        push_change(&place, &old, &new, out)?;
+    while let Some(subject) = first_subject(olds_left, news_left) {
+        let (old, olds_past) = split(&subject, olds_left);
+        let (new, news_past) = split(&subject, news_left);
+        push_change(&subject, &old, &new, out)?;
         olds_left = olds_past;
         news_left = news_past;
     }
@@ -64,9 +68,9 @@ pub(crate) fn push_merged(olds: &[Row], news: &[Row], out: &mut Vec<u8>) -> Resu
 /// Appends the text of what has changed from one network's outcome to another's, by what is kept of them. Of equal
 /// outcomes it is empty. `AllocError`: memory was wanted and refused; part of the text may have been appended.
 ///
-/// It goes once over both lists of rows.
-pub fn push_changes(old: &Rows, new: &Rows, out: &mut Vec<u8>) -> Result<(), AllocError>
-    ensures { OnOk result ((a b : Net) (o p : Outcome) → AreRows a o old.now → AreRows b p new.now → out.new.items ≡ out.old.items ++ changes_text a o b p) }
+/// It goes once over both lists of entries.
+pub fn push_changes(old: &Entries, new: &Entries, out: &mut Vec<u8>) -> Result<(), AllocError>
+    ensures { OnOk result ((a b : Net) (o p : Outcome) → AreEntries a o old.now → AreEntries b p new.now → out.new.items ≡ out.old.items ++ changes_text a o b p) }
 {
-    push_merged(old.rows.as_slice(), new.rows.as_slice(), out)
+    push_merged(old.entries.as_slice(), new.entries.as_slice(), out)
 }

@@ -1,10 +1,10 @@
 ghost use Rattle.std.specs.Prelude.{◌≡◌, ◌++◌, OnOk};
 ghost use Rattle.std.specs.List.{flat_map};
 ghost use Rattle.mst_ids.specs.Words.{after_space};
-ghost use Rattle.mst_changes.specs.ChangesText.{item_words, spaced, side_words, state_words, change_line, change_text};
+ghost use Rattle.mst_changes.specs.ChangesText.{item_words, spaced, side_words, value_words, change_line, change_text};
 
-use crate::place::{Item, Place};
-use crate::state::{State, is_same};
+use crate::subject::{Item, Subject};
+use crate::value::{VectorOrRole, is_same};
 use itoa::Buffer;
 use mst_ids::{Name, PortName, Tree, push_bytes, push_end, push_word, push_words};
 use mst_roles::Role;
@@ -36,19 +36,19 @@ fn push_port(tree: Tree, name: &PortName, out: &mut Vec<u8>) -> Result<(), Alloc
     push_words(&words, out)
 }
 
-/// Appends the words that name a place.
-fn push_place(place: &Place, out: &mut Vec<u8>) -> Result<(), AllocError>
-    ensures { OnOk result (out.new.items ≡ out.old.items ++ spaced (item_words place.now.tree place.now.item)) }
+/// Appends the words that name a subject.
+fn push_subject(subject: &Subject, out: &mut Vec<u8>) -> Result<(), AllocError>
+    ensures { OnOk result (out.new.items ≡ out.old.items ++ spaced (item_words subject.now.tree subject.now.item)) }
 {
-    match &place.item {
-        Item::Bridge(name) => push_bridge(place.tree, name, out),
-        Item::Port(name) => push_port(place.tree, name, out),
+    match &subject.item {
+        Item::Bridge(name) => push_bridge(subject.tree, name, out),
+        Item::Port(name) => push_port(subject.tree, name, out),
     }
 }
 
 /// Appends the components of a priority vector of the CIST, each after a space.
 fn push_cist(vector: &CistVector, out: &mut Vec<u8>) -> Result<(), AllocError>
-    ensures { OnOk result (out.new.items ≡ out.old.items ++ flat_map after_space (state_words (State.InCist vector.now))) }
+    ensures { OnOk result (out.new.items ≡ out.old.items ++ flat_map after_space (value_words (VectorOrRole.InCist vector.now))) }
 {
     let mut external = Buffer::new();
     let mut internal = Buffer::new();
@@ -71,7 +71,7 @@ fn push_cist(vector: &CistVector, out: &mut Vec<u8>) -> Result<(), AllocError>
 
 /// Appends the components of a priority vector of an MSTI, each after a space.
 fn push_msti(vector: &MstiVector, out: &mut Vec<u8>) -> Result<(), AllocError>
-    ensures { OnOk result (out.new.items ≡ out.old.items ++ flat_map after_space (state_words (State.InMsti vector.now))) }
+    ensures { OnOk result (out.new.items ≡ out.old.items ++ flat_map after_space (value_words (VectorOrRole.InMsti vector.now))) }
 {
     let mut internal = Buffer::new();
     let regional = vector.regional.text();
@@ -90,50 +90,50 @@ fn push_msti(vector: &MstiVector, out: &mut Vec<u8>) -> Result<(), AllocError>
 
 /// Appends the name of a role after a space.
 fn push_role(role: Role, out: &mut Vec<u8>) -> Result<(), AllocError>
-    ensures { OnOk result (out.new.items ≡ out.old.items ++ flat_map after_space (state_words (State.HasRole role))) }
+    ensures { OnOk result (out.new.items ≡ out.old.items ++ flat_map after_space (value_words (VectorOrRole.HasRole role))) }
 {
     push_word(role.name().as_bytes(), out)
 }
 
-/// Appends what one outcome has at a place, or `-` for nothing.
-fn push_side(side: &Option<State>, out: &mut Vec<u8>) -> Result<(), AllocError>
+/// Appends what one outcome has of a subject, or `-` for nothing.
+fn push_side(side: &Option<VectorOrRole>, out: &mut Vec<u8>) -> Result<(), AllocError>
     ensures { OnOk result (out.new.items ≡ out.old.items ++ flat_map after_space (side_words side.now)) }
 {
     match side {
         None => push_word(b"-", out),
-        Some(State::InCist(vector)) => push_cist(vector, out),
-        Some(State::InMsti(vector)) => push_msti(vector, out),
-        Some(State::HasRole(role)) => push_role(*role, out),
+        Some(VectorOrRole::InCist(vector)) => push_cist(vector, out),
+        Some(VectorOrRole::InMsti(vector)) => push_msti(vector, out),
+        Some(VectorOrRole::HasRole(role)) => push_role(*role, out),
     }
 }
 
-/// Appends the line of a place at which two outcomes differ.
+/// Appends the line of a subject of which two outcomes differ.
 fn push_line(
-    place: &Place,
-    old: &Option<State>,
-    new: &Option<State>,
+    subject: &Subject,
+    old: &Option<VectorOrRole>,
+    new: &Option<VectorOrRole>,
     out: &mut Vec<u8>,
 ) -> Result<(), AllocError>
-    ensures { OnOk result (out.new.items ≡ out.old.items ++ change_line place.now old.now new.now) }
+    ensures { OnOk result (out.new.items ≡ out.old.items ++ change_line subject.now old.now new.now) }
 {
-    push_place(place, out)?;
+    push_subject(subject, out)?;
     push_side(old, out)?;
     push_word(b"->", out)?;
     push_side(new, out)?;
     push_end(out)
 }
 
-/// Appends the line of a place, if two outcomes differ there.
+/// Appends the line of a subject, if two outcomes differ in it.
 pub(crate) fn push_change(
-    place: &Place,
-    old: &Option<State>,
-    new: &Option<State>,
+    subject: &Subject,
+    old: &Option<VectorOrRole>,
+    new: &Option<VectorOrRole>,
     out: &mut Vec<u8>,
 ) -> Result<(), AllocError>
-    ensures { OnOk result (out.new.items ≡ out.old.items ++ change_text place.now old.now new.now) }
+    ensures { OnOk result (out.new.items ≡ out.old.items ++ change_text subject.now old.now new.now) }
 {
     if is_same(old, new) {
         return Ok(());
     }
-    push_line(place, old, new, out)
+    push_line(subject, old, new, out)
 }

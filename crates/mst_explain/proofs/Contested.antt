@@ -7,8 +7,8 @@ use Rattle.std.specs.FinMap as fin
 use Rattle.std.specs.FinMap.{len-entries}
 use Rattle.mst_ids.specs.declared.name.PortName.{PortName}
 use Rattle.mst_vector.specs.Rules.{Rules, IsMetric}
-use Rattle.mst_settle.specs.Topology.{Plug, Topology, IsTopology, HasBridge, HasPort}
-use Rattle.mst_settle.specs.Settled.{Says, Settled, IsDesignated}
+use Rattle.mst_settle.specs.Topology.{TreePort, Topology, IsTopology, HasBridge, HasPort}
+use Rattle.mst_settle.specs.Settled.{IsDesignatedVector, Settled, IsDesignated}
 use Rattle.mst_settle.proofs.Below.{one_speaker}
 use Rattle.mst_settle.proofs.Orders.{both}
 use Rattle.mst_net.specs.Tables.{Net, Numbers}
@@ -20,7 +20,7 @@ use Rattle.mst_trees.specs.Agrees.{AreOf}
 use Rattle.mst_trees.proofs.Lists.{no_some}
 use Rattle.mst_trees.proofs.Sights.{IsSight, bridge_in, port_in, port_from}
 use Rattle.mst_trees.proofs.Seen.{port_seen, port_of_net}
-use Rattle.mst_explain.specs.Contest.{IsFirst, IsAlone, SaysOn, Gives}
+use Rattle.mst_explain.specs.Contest.{IsFirst, IsAlone, IsDesignatedVectorOn, Gives}
 use Rattle.mst_explain.specs.Explained.{TellsRival, TellsDesignated, TellsRoot, TellsContest}
 use Rattle.mst_explain.specs.Fields.{Field}
 use Rattle.mst_explain.specs.Lines.{over_line, alone_line, restricted_line}
@@ -68,9 +68,9 @@ module _ (net : Net) (numbers : Numbers) (v : Viewed) (region_ids : List (ℕ ×
 
   module _ (fields : V → List Field) (p : PortInView) (here : Contains v.ports p) (settings : P) (has_settings : s.port (named_port p) ≡ Some settings) where
     abbrev OnLan : Option PortName → V → Type 0
-    OnLan = SaysOn m t o.vector p.lan
+    OnLan = IsDesignatedVectorOn m t o.vector p.lan
 
-    abbrev key : Plug (List ℕ) (List ℕ) PortName P
+    abbrev key : TreePort (List ℕ) (List ℕ) PortName P
     key = tree_port (named_port p) settings
 
     there : HasPort t key
@@ -90,7 +90,7 @@ module _ (net : Net) (numbers : Numbers) (v : Viewed) (region_ids : List (ℕ ×
         let x = is.settled.has_vector p.name.bridge b.0 h in
         record { bridge = b.0; is_bridge = h; vector = x.0; is_vector = x.1 }
 
-    says : OnLan (Some p.name) (m.designated own.vector own.bridge settings)
+    says : OnLan (Some p.name) (m.designated_vector own.vector own.bridge settings)
     says = (
       key,
       refl,
@@ -104,7 +104,7 @@ module _ (net : Net) (numbers : Numbers) (v : Viewed) (region_ids : List (ℕ ×
     on_lan : IsTold m law.total fields (codes "designated") (Some p.name) (lan_claims m v seen p.lan_number) OnLan (lan_hold net numbers v region_ids of m law s sight o is seen same p here)
     on_lan =
         told_is m law.total fields (codes "designated") (Some p.name) (lan_claims m v seen p.lan_number) OnLan (lan_hold net numbers v region_ids of m law s sight o is seen same p here)
-        (m.designated own.vector own.bridge settings) says
+        (m.designated_vector own.vector own.bridge settings) says
 
     -- the first on the LAN is its designated port
     record Chosen : Type 0 where
@@ -125,8 +125,8 @@ module _ (net : Net) (numbers : Numbers) (v : Viewed) (region_ids : List (ℕ ×
             let low : is_gt (m.order x h.1) ≡ false = first.upto (Some d) h.1 (h.0, h.2, h.3.on_lan, h.3.says) in
             let high : is_gt (m.order h.1 x) ≡ false = h.3.upto f.0 x f.2 f.3 in
             let messages : x ≡ h.1 = law.equal x h.1 (both law.total x h.1 low high) in
-            let ports : f.0 ≡ h.0 = one_speaker m law t ok o.vector o.vector f.0 h.0 h.1 (subst (Says m t o.vector f.0) messages f.3) h.3.says in
-            let names : d ≡ k = sym h.2 ∙ ap (λ (y : Plug (List ℕ) (List ℕ) PortName P). y.number) (sym ports) ∙ f.1 in
+            let ports : f.0 ≡ h.0 = one_speaker m law t ok o.vector o.vector f.0 h.0 h.1 (subst (IsDesignatedVector m t o.vector f.0) messages f.3) h.3.says in
+            let names : d ≡ k = sym h.2 ∙ ap (λ (y : TreePort (List ℕ) (List ℕ) PortName P). y.number) (sym ports) ∙ f.1 in
             record { port = k; is_designated = e ∙ ap Some names; tells = record { vector = x; is_first = first; told = told } }
 
     -- whose vector is the bridge's
@@ -138,7 +138,7 @@ module _ (net : Net) (numbers : Numbers) (v : Viewed) (region_ids : List (ℕ ×
         let h = subst (λ (y : Option PortName). IsDesignated m t o.vector p.lan y) e (is.designated p.lan) in
         let sender = h.3.says.bridge in
         let bridge : h.0.bridge ≡ d.bridge = from_named h.0 d h.3.says.has_port h.2 in (
-          m.step h.1 sender own.bridge settings,
+          m.root_path_vector h.1 sender own.bridge settings,
           (
             record {
               port = key;
@@ -152,16 +152,16 @@ module _ (net : Net) (numbers : Numbers) (v : Viewed) (region_ids : List (ℕ ×
               from_other = λ i. other (sym bridge ∙ i);
               sender = sender;
               has_sender = h.3.says.has_bridge;
-              is_step = refl;
+              is_made = refl;
             },
             refl,
           ),
         )
       where
-        from_named : (q : Plug (List ℕ) (List ℕ) PortName P) (d : PortName) → HasPort t q → q.number ≡ d → q.bridge ≡ d.bridge
+        from_named : (q : TreePort (List ℕ) (List ℕ) PortName P) (d : PortName) → HasPort t q → q.number ≡ d → q.bridge ≡ d.bridge
         from_named q d h e =
             let x = port_from net of.network m s sight q h in
-            ap (λ (y : Plug (List ℕ) (List ℕ) PortName P). y.bridge) (sym x.is) ∙ ap (λ (n : PortName). n.bridge) (ap (λ (y : Plug (List ℕ) (List ℕ) PortName P). y.number) x.is ∙ e)
+            ap (λ (y : TreePort (List ℕ) (List ℕ) PortName P). y.bridge) (sym x.is) ∙ ap (λ (n : PortName). n.bridge) (ap (λ (y : TreePort (List ℕ) (List ℕ) PortName P). y.number) x.is ∙ e)
 
     tells_root : (d : PortName) → o.designated p.lan ≡ Some d → d.bridge ≢ p.name.bridge → p.settings.is_restricted ≡ false
         → TellsRoot m fields t o (named_port p) (told_text m.order fields (codes "root") (Some p.name) (bridge_claims m v seen p.bridge))
@@ -177,7 +177,7 @@ module _ (net : Net) (numbers : Numbers) (v : Viewed) (region_ids : List (ℕ ×
           is_first = told.is_first;
           told = elim told.told [
             | inl h ↦ h
-            | inr h ↦ let alone = h.0 in absurd (no_some p.name (alone None (m.own own.bridge) refl ∙ sym (alone (Some p.name) mine.0 mine.1)))
+            | inr h ↦ let alone = h.0 in absurd (no_some p.name (alone None (m.bridge_vector own.bridge) refl ∙ sym (alone (Some p.name) mine.0 mine.1)))
           ];
         }
 

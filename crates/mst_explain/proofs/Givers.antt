@@ -8,8 +8,8 @@ use Rattle.std.proofs.lemmas.Bool.{eqb-true}
 use Rattle.std.proofs.lemmas.List.Elements.{Contains-append_left, Contains-append_right, Contains-append_cases}
 use Rattle.mst_ids.specs.declared.name.PortName.{PortName}
 use Rattle.mst_vector.specs.Rules.{Rules, IsMetric}
-use Rattle.mst_settle.specs.Topology.{Plug, Topology, IsTopology, HasBridge, HasPort}
-use Rattle.mst_settle.specs.Settled.{Designates, Steps, IsDesignated}
+use Rattle.mst_settle.specs.Topology.{TreePort, Topology, IsTopology, HasBridge, HasPort}
+use Rattle.mst_settle.specs.Settled.{Designates, IsRootPathVector, IsDesignated}
 use Rattle.mst_settle.proofs.Below.{one_designated}
 use Rattle.mst_net.specs.Tables.{Net, Numbers}
 use Rattle.mst_lag.specs.Viewed.{Viewed, named_port}
@@ -23,7 +23,7 @@ use Rattle.mst_trees.proofs.Seen.{port_seen, port_of_net}
 use Rattle.mst_trees.proofs.Looking.{first_found}
 use Rattle.mst_explain.specs.declared.claims.Claim.{Claim}
 use Rattle.mst_explain.specs.Contest.{Gives}
-use Rattle.mst_explain.specs.Seen.{TreeSeen, said, designated_on, step_from, heard, given, claim_of, own_claims, bridge_claim, bridge_claims}
+use Rattle.mst_explain.specs.Seen.{TreeSeen, designated_vector, designated_on, root_path_vector_from, heard, given, claim_of, own_claims, bridge_claim, bridge_claims}
 use Rattle.mst_explain.proofs.Firsts.{Hold, keyed}
 use Rattle.mst_explain.proofs.SeenTrees.{IsSeenTree, SeenAs, then_from, unless_some, where_some, numbers_differ, only_one, one_seen, bridge_is, bridge_number, topology, bridge_to, bridge_back, seen_as, says_back}
 
@@ -34,7 +34,7 @@ module _ (net : Net) (numbers : Numbers) (v : Viewed) (region_ids : List (ℕ ×
   t = tree_of net s
 
   abbrev Key : Type 0
-  Key = Plug (List ℕ) (List ℕ) PortName P
+  Key = TreePort (List ℕ) (List ℕ) PortName P
 
   ok : IsTopology m t
   ok = topology net numbers v region_ids of m law s sight o is seen same
@@ -87,7 +87,7 @@ module _ (net : Net) (numbers : Numbers) (v : Viewed) (region_ids : List (ℕ ×
     pub message : V
     pub number : key.number ≡ f.name
     pub designates : Designates m t o.vector p.lan key message
-    pub said_is : said m v seen f ≡ Some message
+    pub is_made : designated_vector m v seen f ≡ Some message
     pub bridge : key.bridge ≡ f.name.bridge
 
   heard_port : (p : PortInView) → Contains v.ports p → (f : PortInView) → designated_on m v seen p.lan_number ≡ Some f → HeardPort p f
@@ -113,7 +113,7 @@ module _ (net : Net) (numbers : Numbers) (v : Viewed) (region_ids : List (ℕ ×
             message = h.1;
             number = h.2 ∙ sym name;
             designates = h.3;
-            said_is = ap (said m v seen) (sym same_port) ∙ says_back net numbers v region_ids of m law s sight o is seen same h.0 h.1 h.3.says z;
+            is_made = ap (designated_vector m v seen) (sym same_port) ∙ says_back net numbers v region_ids of m law s sight o is seen same h.0 h.1 h.3.says z;
             bridge = ap (λ (y : Key). y.bridge) (sym z.is_key) ∙ ap (λ (q : PortInView). q.name.bridge) same_port;
           }
 
@@ -122,13 +122,13 @@ module _ (net : Net) (numbers : Numbers) (v : Viewed) (region_ids : List (ℕ ×
   gives_to q here b has x e =
       let free = unless_some q.settings.is_restricted (option_and_then (heard m v seen q) (seen.port q)) x e in
       let c = then_from (heard m v seen q) (seen.port q) x free.1 in
-      let f = then_from (λ (from : PortInView). if from.bridge == q.bridge then None else step_from m v seen q c.0 from) (designated_on m v seen q.lan_number) x c.2 in
-      let other = unless_some (f.0.bridge == q.bridge) (step_from m v seen q c.0 f.0) x f.2 in
-      let y = then_from (λ (y : V). option_and_then (λ (sender : B). option_map (λ (b : B). m.step y sender b c.0) (seen.bridge q.bridge)) (seen.bridge f.0.bridge)) (said m v seen f.0) x other.1 in
-      let r = then_from (λ (sender : B). option_map (λ (b : B). m.step y.0 sender b c.0) (seen.bridge q.bridge)) (seen.bridge f.0.bridge) x y.2 in
-      let d = changed_from (λ (b : B). m.step y.0 r.0 b c.0) (seen.bridge q.bridge) x r.2 in
+      let f = then_from (λ (from : PortInView). if from.bridge == q.bridge then None else root_path_vector_from m v seen q c.0 from) (designated_on m v seen q.lan_number) x c.2 in
+      let other = unless_some (f.0.bridge == q.bridge) (root_path_vector_from m v seen q c.0 f.0) x f.2 in
+      let y = then_from (λ (y : V). option_and_then (λ (sender : B). option_map (λ (b : B). m.root_path_vector y sender b c.0) (seen.bridge q.bridge)) (seen.bridge f.0.bridge)) (designated_vector m v seen f.0) x other.1 in
+      let r = then_from (λ (sender : B). option_map (λ (b : B). m.root_path_vector y.0 sender b c.0) (seen.bridge q.bridge)) (seen.bridge f.0.bridge) x y.2 in
+      let d = changed_from (λ (b : B). m.root_path_vector y.0 r.0 b c.0) (seen.bridge q.bridge) x r.2 in
       let h = heard_port q here f.0 f.1 in
-      let message : y.0 ≡ h.message = some_is y.0 h.message (sym y.1 ∙ h.said_is) in
+      let message : y.0 ≡ h.message = some_is y.0 h.message (sym y.1 ∙ h.is_made) in
       let own : d.0 ≡ b = ok.one_bridge q.name.bridge d.0 b (bridge_at q here d.0 d.1) has in (
         record {
           port = tree_port (named_port q) c.0;
@@ -142,12 +142,12 @@ module _ (net : Net) (numbers : Numbers) (v : Viewed) (region_ids : List (ℕ ×
           from_other = λ i. true≢false (sym (eq-eqb f.0.bridge q.bridge (bridge_number net numbers v region_ids of f.0 q h.there here (sym h.bridge ∙ i))) ∙ other.0);
           sender = r.0;
           has_sender = subst (λ a. HasBridge t a r.0) (sym h.bridge) (bridge_at f.0 h.there r.0 r.1);
-          is_step = (λ i. m.step (sym message i) r.0 (sym own i) c.0) ∙ d.2;
+          is_made = (λ i. m.root_path_vector (sym message i) r.0 (sym own i) c.0) ∙ d.2;
         },
         refl,
       )
 
-  gives_back : (n : List ℕ) (b : B) (x : V) (st : Steps m t o.vector n b x) → HasBridge t n b → (z : As st.port) → given m v seen z.port ≡ Some x
+  gives_back : (n : List ℕ) (b : B) (x : V) (st : IsRootPathVector m t o.vector n b x) → HasBridge t n b → (z : As st.port) → given m v seen z.port ≡ Some x
   gives_back n b x st has z = by_name (o.designated st.port.lan) refl (is.designated st.port.lan)
     where
       q : PortInView
@@ -168,20 +168,20 @@ module _ (net : Net) (numbers : Numbers) (v : Viewed) (region_ids : List (ℕ ×
           let same_port : w.port ≡ f.port =
           one_seen net numbers v region_ids of w.port f.port w.there f.there (ap (λ (y : Key). y.number) w.is_key ∙ ap (λ (y : Key). y.number) (sym one) ∙ h.2 ∙ sym f.name) in
           let bridge : f.port.name.bridge ≡ st.from.bridge = ap (λ (p : PortInView). p.name.bridge) (sym same_port) ∙ ap (λ (y : Key). y.bridge) w.is_key in
-          let says : said m v seen f.port ≡ Some st.message = ap (said m v seen) (sym same_port) ∙ says_back net numbers v region_ids of m law s sight o is seen same st.from st.message st.designates.says w in
+          let says : designated_vector m v seen f.port ≡ Some st.message = ap (designated_vector m v seen) (sym same_port) ∙ says_back net numbers v region_ids of m law s sight o is seen same st.from st.message st.designates.says w in
           let sender = bridge_by f.port f.there st.sender (subst (λ a. HasBridge t a st.sender) (sym bridge) st.has_sender) in
           let own = bridge_by q z.there b (subst (λ a. HasBridge t a b) (sym on_bridge) has) in
           let other : (f.port.bridge == q.bridge) ≡ false =
           numbers_differ f.port.bridge q.bridge (λ i. st.from_other (sym bridge ∙ bridge_is net numbers v region_ids of f.port q f.there z.there i ∙ on_bridge)) in
-          let step : step_from m v seen q z.settings f.port ≡ Some x =
-          ap (option_and_then (λ (y : V). option_and_then (λ (sender : B). option_map (λ (b : B). m.step y sender b z.settings) (seen.bridge q.bridge)) (seen.bridge f.port.bridge))) says
-          ∙ ap (option_and_then (λ (sender : B). option_map (λ (b : B). m.step st.message sender b z.settings) (seen.bridge q.bridge))) sender
-          ∙ ap (option_map (λ (b : B). m.step st.message st.sender b z.settings)) own
-          ∙ ap Some (ap (λ (y : Key). m.step st.message st.sender b y.settings) z.is_key ∙ st.is_step) in
+          let step : root_path_vector_from m v seen q z.settings f.port ≡ Some x =
+          ap (option_and_then (λ (y : V). option_and_then (λ (sender : B). option_map (λ (b : B). m.root_path_vector y sender b z.settings) (seen.bridge q.bridge)) (seen.bridge f.port.bridge))) says
+          ∙ ap (option_and_then (λ (sender : B). option_map (λ (b : B). m.root_path_vector st.message sender b z.settings) (seen.bridge q.bridge))) sender
+          ∙ ap (option_map (λ (b : B). m.root_path_vector st.message st.sender b z.settings)) own
+          ∙ ap Some (ap (λ (y : Key). m.root_path_vector st.message st.sender b y.settings) z.is_key ∙ st.is_made) in
           ap (λ (r : Bool). if r then None else option_and_then (heard m v seen q) (seen.port q)) (ap (λ (y : Key). y.is_restricted) z.is_key ∙ st.is_free)
           ∙ ap (option_and_then (heard m v seen q)) z.has_settings
-          ∙ ap (option_and_then (λ (from : PortInView). if from.bridge == q.bridge then None else step_from m v seen q z.settings from)) f.found
-          ∙ ap (λ (r : Bool). if r then None else step_from m v seen q z.settings f.port) other
+          ∙ ap (option_and_then (λ (from : PortInView). if from.bridge == q.bridge then None else root_path_vector_from m v seen q z.settings from)) f.found
+          ∙ ap (λ (r : Bool). if r then None else root_path_vector_from m v seen q z.settings f.port) other
           ∙ step
 
   -- ---- the claims at a bridge
@@ -189,13 +189,13 @@ module _ (net : Net) (numbers : Numbers) (v : Viewed) (region_ids : List (ℕ ×
   bridge_hold p here b has = record { have = have; all = all }
     where
       own_claim : Claim V
-      own_claim = record { port = None; vector = m.own b }
+      own_claim = record { port = None; vector = m.bridge_vector b }
 
       own : own_claims m v seen p.bridge ≡ own_claim ∷ []
       own = ap list (bridge_by p here b has)
         where
           list : Option B → List (Claim V)
-          list y = option_map_or (λ (b : B). (record { port = None; vector = m.own b }) ∷ []) y []
+          list y = option_map_or (λ (b : B). (record { port = None; vector = m.bridge_vector b }) ∷ []) y []
 
       Has : Claim V → Type 0
       Has c = Gives m t o.vector p.name.bridge b c.port c.vector

@@ -21,7 +21,7 @@ use Rattle.mst_trees.specs.Outcome.{Outcome}
 use Rattle.mst_trees.proofs.Sights.{has_port_ids}
 use Rattle.mst_trees.proofs.CistTopology.{cist_is_sight, cist_topology}
 use Rattle.mst_trees.proofs.MstiTopology.{msti_is_sight, msti_topology}
-use Rattle.mst_explain.specs.Contest.{SaysOn, Gives}
+use Rattle.mst_explain.specs.Contest.{IsDesignatedVectorOn, Gives}
 use Rattle.mst_explain.specs.AsTold.{TellsLowerFirst}
 use Rattle.mst_explain.specs.Fields.{Field, cist_fields, msti_fields, decided, TellsLower}
 use Rattle.mst_explain.proofs.OneText.{cist_tells, msti_tells, one_sayer, one_giver}
@@ -64,9 +64,9 @@ module _ (net : Net) (ok : IsNetwork net) (o : Outcome) (tree : ℕ) where
   abbrev d : List ℕ → Option PortName
   d = o.cist.designated
 
-  pub cist_on_lan : (lan : List ℕ) → TellsLowerFirst cist_rules cist_fields (SaysOn cist_rules (cist_of net) o.cist.vector lan)
+  pub cist_on_lan : (lan : List ℕ) → TellsLowerFirst cist_rules cist_fields (IsDesignatedVectorOn cist_rules (cist_of net) o.cist.vector lan)
   cist_on_lan lan =
-      lower_first cist_rules cist_lawful cist_fields cist_lower (SaysOn cist_rules (cist_of net) o.cist.vector lan)
+      lower_first cist_rules cist_lawful cist_fields cist_lower (IsDesignatedVectorOn cist_rules (cist_of net) o.cist.vector lan)
       (one_sayer cist_rules cist_lawful (λ x. x.receiver) cist_tells (cist_of net) (cist_topology net ok) (has_port_ids net ok cist_rules (cist_sight net) (cist_is_sight net ok)) o.cist.vector lan)
 
   pub cist_at_bridge : (name : List ℕ) (b : CistBridge) → TellsLowerFirst cist_rules cist_fields (Gives cist_rules (cist_of net) o.cist.vector name b)
@@ -74,9 +74,9 @@ module _ (net : Net) (ok : IsNetwork net) (o : Outcome) (tree : ℕ) where
       lower_first cist_rules cist_lawful cist_fields cist_lower (Gives cist_rules (cist_of net) o.cist.vector name b)
       (one_giver cist_rules cist_lawful (λ x. x.receiver) cist_tells (cist_of net) (cist_topology net ok) (has_port_ids net ok cist_rules (cist_sight net) (cist_is_sight net ok)) o.cist.vector name b)
 
-  pub msti_on_lan : (lan : List ℕ) → TellsLowerFirst msti_rules msti_fields (SaysOn msti_rules (msti_of net tree d) (o.msti tree).vector lan)
+  pub msti_on_lan : (lan : List ℕ) → TellsLowerFirst msti_rules msti_fields (IsDesignatedVectorOn msti_rules (msti_of net tree d) (o.msti tree).vector lan)
   msti_on_lan lan =
-      lower_first msti_rules msti_lawful msti_fields msti_lower (SaysOn msti_rules (msti_of net tree d) (o.msti tree).vector lan)
+      lower_first msti_rules msti_lawful msti_fields msti_lower (IsDesignatedVectorOn msti_rules (msti_of net tree d) (o.msti tree).vector lan)
       (one_sayer msti_rules msti_lawful (λ x. x.receiver) msti_tells (msti_of net tree d) (msti_topology net ok tree d) (has_port_ids net ok msti_rules (msti_sight net tree d) (msti_is_sight net ok tree d)) (o.msti tree).vector lan)
 
   pub msti_at_bridge : (name : List ℕ) (b : MstiBridge) → TellsLowerFirst msti_rules msti_fields (Gives msti_rules (msti_of net tree d) (o.msti tree).vector name b)

@@ -12,21 +12,21 @@ use Rattle.mst_vector.specs.MstiLaws.{msti_lawful}
 use Rattle.mst_vector.specs.declared.cist.CistVector.{CistVector}
 use Rattle.mst_vector.specs.declared.cist.CistBridge.{CistBridge}
 use Rattle.mst_vector.specs.declared.cist.CistPort.{CistPort}
-use Rattle.mst_settle.specs.Topology.{Plug, Topology, IsTopology, HasBridge, HasPort}
-use Rattle.mst_settle.specs.Settled.{Says, Designates, Steps}
+use Rattle.mst_settle.specs.Topology.{TreePort, Topology, IsTopology, HasBridge, HasPort}
+use Rattle.mst_settle.specs.Settled.{IsDesignatedVector, Designates, IsRootPathVector}
 use Rattle.mst_settle.proofs.Below.{one_message, one_speaker, one_designated}
 use Rattle.mst_settle.proofs.Orders.{both}
 use Rattle.mst_net.specs.Tables.{Net, IsNetwork}
 use Rattle.mst_lag.specs.View.{LogicalPort}
 use Rattle.mst_trees.specs.Cist.{cist_sight, cist_of}
-use Rattle.mst_trees.specs.Msti.{msti_sight, msti_of, is_inner}
+use Rattle.mst_trees.specs.Msti.{msti_sight, msti_of, is_internal}
 use Rattle.mst_trees.specs.Outcome.{TreeOutcome, Outcome}
 use Rattle.mst_trees.proofs.Lists.{some_is}
 use Rattle.mst_trees.proofs.Sights.{has_port_ids}
 use Rattle.mst_trees.proofs.CistTopology.{cist_is_sight, cist_topology}
 use Rattle.mst_trees.proofs.MstiTopology.{msti_is_sight, msti_topology}
 use Rattle.mst_roles.specs.Roles.{cist_role}
-use Rattle.mst_explain.specs.Contest.{IsFirst, IsRival, IsAlone, SaysOn, Gives}
+use Rattle.mst_explain.specs.Contest.{IsFirst, IsRival, IsAlone, IsDesignatedVectorOn, Gives}
 use Rattle.mst_explain.specs.Explained.{TellsRival, TellsDesignated, TellsRoot, TellsContest, TellsBoundary, TellsInMsti, TellsEnabled, TellsReason, IsExplanation}
 use Rattle.mst_explain.specs.Fields.{Field, cist_fields, msti_fields, decided}
 use Rattle.mst_explain.specs.Lines.{explain_line, over_line, alone_line, boundary_line}
@@ -75,29 +75,29 @@ module _ {B P V : Type 0} (m : Rules B P V) (law : IsMetric m) (Has : Option Por
 
 -- ---- in one tree, where a vector tells the port that it came by, and a bridge's own vector none
 pub record TellsReceiver {B P V : Type 0} (m : Rules B P V) (receiver : V → ℕ) : Type 0 where
-  pub own : (b : B) → receiver (m.own b) ≡ 0
-  pub step : (x : V) (s b : B) (p : P) → receiver (m.step x s b p) ≡ m.port_id p
+  pub own : (b : B) → receiver (m.bridge_vector b) ≡ 0
+  pub step : (x : V) (s b : B) (p : P) → receiver (m.root_path_vector x s b p) ≡ m.port_id p
 
 module _ {B P V : Type 0} (m : Rules B P V) (law : IsMetric m) (receiver : V → ℕ) (tells : TellsReceiver m receiver) (t : Topology (List ℕ) (List ℕ) PortName B P) (ok : IsTopology m t)
-    (ids : (p : Plug (List ℕ) (List ℕ) PortName P) → HasPort t p → m.port_id p.settings ≢ 0) (v : List ℕ → Option V) where
+    (ids : (p : TreePort (List ℕ) (List ℕ) PortName P) → HasPort t p → m.port_id p.settings ≢ 0) (v : List ℕ → Option V) where
   -- what ports say on a LAN
-  pub one_said : (lan : List ℕ) (k : Option PortName) (x y : V) → SaysOn m t v lan k x → SaysOn m t v lan k y → x ≡ y
+  pub one_said : (lan : List ℕ) (k : Option PortName) (x y : V) → IsDesignatedVectorOn m t v lan k x → IsDesignatedVectorOn m t v lan k y → x ≡ y
   one_said lan None x y a b = absurd a
   one_said lan (Some k) x y a b =
       let same : a.0 ≡ b.0 = ok.one_port a.0 b.0 a.3.has_port b.3.has_port (a.1 ∙ sym b.1) in
-      one_message m law t ok v b.0 x y (subst (λ p. Says m t v p x) same a.3) b.3
+      one_message m law t ok v b.0 x y (subst (λ p. IsDesignatedVector m t v p x) same a.3) b.3
 
-  pub one_sayer : (lan : List ℕ) (j k : Option PortName) (x : V) → SaysOn m t v lan j x → SaysOn m t v lan k x → j ≡ k
+  pub one_sayer : (lan : List ℕ) (j k : Option PortName) (x : V) → IsDesignatedVectorOn m t v lan j x → IsDesignatedVectorOn m t v lan k x → j ≡ k
   one_sayer lan None k x a b = absurd a
   one_sayer lan (Some j) None x a b = absurd b
   one_sayer lan (Some j) (Some k) x a b =
       let same : a.0 ≡ b.0 = one_speaker m law t ok v v a.0 b.0 x a.3 b.3 in
-      ap Some (sym a.1 ∙ ap (λ (p : Plug (List ℕ) (List ℕ) PortName P). p.number) same ∙ b.1)
+      ap Some (sym a.1 ∙ ap (λ (p : TreePort (List ℕ) (List ℕ) PortName P). p.number) same ∙ b.1)
 
   -- what ports give their bridge
   module _ (n : List ℕ) (b : B) where
-    pub receiver_of : (x : V) (s : Steps m t v n b x) → receiver x ≡ m.port_id s.port.settings
-    receiver_of x s = ap receiver (sym s.is_step) ∙ tells.step s.message s.sender b s.port.settings
+    pub receiver_of : (x : V) (s : IsRootPathVector m t v n b x) → receiver x ≡ m.port_id s.port.settings
+    receiver_of x s = ap receiver (sym s.is_made) ∙ tells.step s.message s.sender b s.port.settings
 
     pub one_given : (k : Option PortName) (x y : V) → Gives m t v n b k x → Gives m t v n b k y → x ≡ y
     one_given None x y f g = f ∙ sym g
@@ -105,11 +105,11 @@ module _ {B P V : Type 0} (m : Rules B P V) (law : IsMetric m) (receiver : V →
         let p = f.0 in
         let q = g.0 in
         let ports : p.port ≡ q.port = ok.one_port p.port q.port p.has_port q.has_port (f.1 ∙ sym g.1) in
-        let there : Designates m t v q.port.lan p.from p.message = subst (λ (z : Plug (List ℕ) (List ℕ) PortName P). Designates m t v z.lan p.from p.message) ports p.designates in
+        let there : Designates m t v q.port.lan p.from p.message = subst (λ (z : TreePort (List ℕ) (List ℕ) PortName P). Designates m t v z.lan p.from p.message) ports p.designates in
         let from : p.from ≡ q.from = one_designated m law t ok v q.port.lan p.from q.from p.message q.message there q.designates in
-        let messages : p.message ≡ q.message = one_message m law t ok v q.from p.message q.message (subst (λ z. Says m t v z p.message) from p.designates.says) q.designates.says in
-        let senders : p.sender ≡ q.sender = ok.one_bridge q.from.bridge p.sender q.sender (subst (λ (z : Plug (List ℕ) (List ℕ) PortName P). HasBridge t z.bridge p.sender) from p.has_sender) q.has_sender in
-        sym p.is_step ∙ (λ i. m.step (messages i) (senders i) b (ports i).settings) ∙ q.is_step
+        let messages : p.message ≡ q.message = one_message m law t ok v q.from p.message q.message (subst (λ z. IsDesignatedVector m t v z p.message) from p.designates.says) q.designates.says in
+        let senders : p.sender ≡ q.sender = ok.one_bridge q.from.bridge p.sender q.sender (subst (λ (z : TreePort (List ℕ) (List ℕ) PortName P). HasBridge t z.bridge p.sender) from p.has_sender) q.has_sender in
+        sym p.is_made ∙ (λ i. m.root_path_vector (messages i) (senders i) b (ports i).settings) ∙ q.is_made
 
     pub one_giver : (j k : Option PortName) (x : V) → Gives m t v n b j x → Gives m t v n b k x → j ≡ k
     one_giver None None x f g = refl
@@ -118,17 +118,17 @@ module _ {B P V : Type 0} (m : Rules B P V) (law : IsMetric m) (receiver : V →
     one_giver (Some j) (Some k) x f g =
         let ports : f.0.port ≡ g.0.port =
         ok.port_ids f.0.port g.0.port f.0.has_port f.0.is_part g.0.has_port g.0.is_part (f.0.on_bridge ∙ sym g.0.on_bridge) (sym (receiver_of x f.0) ∙ receiver_of x g.0) in
-        ap Some (sym f.1 ∙ ap (λ (p : Plug (List ℕ) (List ℕ) PortName P). p.number) ports ∙ g.1)
+        ap Some (sym f.1 ∙ ap (λ (p : TreePort (List ℕ) (List ℕ) PortName P). p.number) ports ∙ g.1)
 
 module _ {B P V : Type 0} (m : Rules B P V) (law : IsMetric m) (receiver : V → ℕ) (tells : TellsReceiver m receiver) (fields : V → List Field)
-    (t : Topology (List ℕ) (List ℕ) PortName B P) (ok : IsTopology m t) (ids : (p : Plug (List ℕ) (List ℕ) PortName P) → HasPort t p → m.port_id p.settings ≢ 0) (o : TreeOutcome V) (p : LogicalPort) where
+    (t : Topology (List ℕ) (List ℕ) PortName B P) (ok : IsTopology m t) (ids : (p : TreePort (List ℕ) (List ℕ) PortName P) → HasPort t p → m.port_id p.settings ≢ 0) (o : TreeOutcome V) (p : LogicalPort) where
   one_designated_line : (q : PortName) (text other : List ℕ) → TellsDesignated m fields t o p q text → TellsDesignated m fields t o p q other → text ≡ other
   one_designated_line q text other a b =
-      let said = one_said m law receiver tells t ok ids o.vector p.lan in
+      let designated_vector = one_said m law receiver tells t ok ids o.vector p.lan in
       let sayer = one_sayer m law receiver tells t ok ids o.vector p.lan in
-      let f = one_first m law (SaysOn m t o.vector p.lan) said sayer (Some q) (Some q) a.vector b.vector a.is_first b.is_first in
-      one_line m law (SaysOn m t o.vector p.lan) said sayer fields (Some p.name) (codes "designated") (Some q) b.vector text other
-      (subst (λ (x : V). TellsRival m fields (SaysOn m t o.vector p.lan) (Some p.name) (Some q) x (over_line (codes "designated") (Some q)) text ⊎ (IsAlone m (SaysOn m t o.vector p.lan) (Some q) × (text ≡ alone_line (codes "designated") (Some q)))) f.1 a.told) b.told
+      let f = one_first m law (IsDesignatedVectorOn m t o.vector p.lan) designated_vector sayer (Some q) (Some q) a.vector b.vector a.is_first b.is_first in
+      one_line m law (IsDesignatedVectorOn m t o.vector p.lan) designated_vector sayer fields (Some p.name) (codes "designated") (Some q) b.vector text other
+      (subst (λ (x : V). TellsRival m fields (IsDesignatedVectorOn m t o.vector p.lan) (Some p.name) (Some q) x (over_line (codes "designated") (Some q)) text ⊎ (IsAlone m (IsDesignatedVectorOn m t o.vector p.lan) (Some q) × (text ≡ alone_line (codes "designated") (Some q)))) f.1 a.told) b.told
 
   one_root_line : (text other : List ℕ) → TellsRoot m fields t o p text → TellsRoot m fields t o p other → text ≡ other
   one_root_line text other a b = go a.bridge b.bridge (ok.one_bridge p.name.bridge a.bridge b.bridge a.is_bridge b.is_bridge) a.giver b.giver a.vector b.vector a.is_first b.is_first a.told b.told
@@ -182,7 +182,7 @@ module _ (net : Net) (ok : IsNetwork net) (o : Outcome) (tree : ℕ) (p : Logica
   one_boundary : (text other : List ℕ) → TellsBoundary net o p text → TellsBoundary net o p other → text ≡ other
   one_boundary text other a b = a.2 ∙ ap (boundary_line (cist_role net o p)) (some_is a.0 b.0 (sym a.1 ∙ b.1)) ∙ sym b.2
 
-  one_in_msti : (inner : Bool) (text other : List ℕ) → TellsInMsti net o tree p inner text → TellsInMsti net o tree p inner other → text ≡ other
+  one_in_msti : (internal : Bool) (text other : List ℕ) → TellsInMsti net o tree p internal text → TellsInMsti net o tree p internal other → text ≡ other
   one_in_msti true text other a b =
       one_contest msti_rules msti_lawful (λ x. x.receiver) msti_tells msti_fields (msti_of net tree d) (msti_topology net ok tree d)
       (has_port_ids net ok msti_rules (msti_sight net tree d) (msti_is_sight net ok tree d)) (o.msti tree) p text other a b
@@ -192,7 +192,7 @@ module _ (net : Net) (ok : IsNetwork net) (o : Outcome) (tree : ℕ) (p : Logica
   one_enabled true text other a b =
       one_contest cist_rules cist_lawful (λ x. x.receiver) cist_tells cist_fields (cist_of net) (cist_topology net ok)
       (has_port_ids net ok cist_rules (cist_sight net) (cist_is_sight net ok)) o.cist p text other a b
-  one_enabled false text other a b = one_in_msti (is_inner net d p) text other a b
+  one_enabled false text other a b = one_in_msti (is_internal net d p) text other a b
 
   one_reason : (enabled : Bool) (text other : List ℕ) → TellsReason net o tree p enabled text → TellsReason net o tree p enabled other → text ≡ other
   one_reason true text other a b = one_enabled (tree == 0) text other a b

@@ -20,15 +20,15 @@ use Rattle.mst_lag.specs.Viewed.{Viewed, named_port}
 use Rattle.mst_lag.specs.declared.in_view.BridgeInView.{BridgeInView}
 use Rattle.mst_lag.specs.declared.in_view.PortInView.{PortInView}
 use Rattle.mst_trees.specs.Cist.{cist_bridge, cist_port, cist_sight, cist_of}
-use Rattle.mst_trees.specs.Msti.{msti_bridge, msti_port, msti_sight, msti_of, has_msti, is_inner}
+use Rattle.mst_trees.specs.Msti.{msti_bridge, msti_port, msti_sight, msti_of, has_msti, is_internal}
 use Rattle.mst_trees.specs.Outcome.{Outcome}
 use Rattle.mst_trees.specs.Agrees.{Agrees, AreOf}
-use Rattle.mst_trees.specs.Seen.{seen_inner}
-use Rattle.mst_trees.specs.Forest.{Forest, msti_vector, msti_designated}
+use Rattle.mst_trees.specs.Seen.{seen_internal}
+use Rattle.mst_trees.specs.Forest.{Forest, msti_vector, msti_designated_vector}
 use Rattle.mst_trees.proofs.CistTopology.{cist_is_sight}
 use Rattle.mst_trees.proofs.MstiTopology.{msti_is_sight}
 use Rattle.mst_trees.proofs.Seen.{SeenBridge, SeenPort, bridge_seen, port_seen}
-use Rattle.mst_trees.proofs.Looking.{inner_same, has_tree_at}
+use Rattle.mst_trees.proofs.Looking.{internal_same, has_tree_at}
 use Rattle.mst_explain.specs.Fields.{cist_fields, msti_fields}
 use Rattle.mst_explain.specs.Explained.{TellsContest}
 use Rattle.mst_explain.specs.Planned.{IsPlanOf}
@@ -63,7 +63,7 @@ module _ (net : Net) (numbers : Numbers) (v : Viewed) (region_ids : List (ℕ ×
   cist_is_seen tree zero_is = record {
     bridges = found_bridge (cist_bridge_in v.settings region_ids) (cist_sight net).bridge cist_bridge_same;
     ports = λ p there. ap (λ set. cist_port_in set p) of.view.settings;
-    agrees = subst (Agrees numbers o.cist (vector_of f.cist)) (λ i lan. if sym zero_is i then designated_of f.cist lan else msti_designated f tree lan) is.forest.cist;
+    agrees = subst (Agrees numbers o.cist (vector_of f.cist)) (λ i lan. if sym zero_is i then designated_of f.cist lan else msti_designated_vector f tree lan) is.forest.cist;
   }
 
   pub cist_can_step : CostsBounded cist_rules → (tree : ℕ) → CanStep cist_rules v (cist_seen v region_ids f tree)
@@ -83,31 +83,31 @@ module _ (net : Net) (numbers : Numbers) (v : Viewed) (region_ids : List (ℕ ×
       if◌then◌else◌ {A = Option MstiBridge} ((bridge_row b.bridge).is_on && has_tree_at net numbers v f.regions of tree b.name b.bridge.number seen.has_number i)
       (Some (msti_bridge (of.view.settings i) tree b.name (bridge_row b.bridge))) None
 
-  pub inner_is : (p : PortInView) → SeenPort net numbers p → seen_inner v f.regions (designated_of f.cist) p ≡ (p.is_enabled && is_inner net o.cist.designated (named_port p))
-  inner_is p seen = inner_same net numbers v f.regions of o.cist is.forest.is_outcome.cist (vector_of f.cist) (designated_of f.cist) is.forest.cist p seen
+  pub internal_is : (p : PortInView) → SeenPort net numbers p → seen_internal v f.regions (designated_of f.cist) p ≡ (p.is_enabled && is_internal net o.cist.designated (named_port p))
+  internal_is p seen = internal_same net numbers v f.regions of o.cist is.forest.is_outcome.cist (vector_of f.cist) (designated_of f.cist) is.forest.cist p seen
 
   msti_port_same : (tree : ℕ) (p : PortInView) → SeenPort net numbers p → msti_port_in v f tree p ≡ (msti_sight net tree o.cist.designated).port (named_port p)
   msti_port_same tree p seen =
-      λ i. if inner_is p seen i && has_tree_at net numbers v f.regions of tree p.name.bridge p.bridge seen.has_numbers.bridge i
+      λ i. if internal_is p seen i && has_tree_at net numbers v f.regions of tree p.name.bridge p.bridge seen.has_numbers.bridge i
       then Some (msti_port (of.view.settings i) tree (named_port p)) else None
 
   msti_is_seen : (tree : ℕ) → (tree == 0) ≡ false → IsSeenTree net numbers v f.regions of (msti_sight net tree o.cist.designated) (o.msti tree) (msti_seen v region_ids f tree)
   msti_is_seen tree other = record {
     bridges = found_bridge (msti_bridge_in v tree) (msti_sight net tree o.cist.designated).bridge (msti_bridge_same tree);
     ports = λ p there. msti_port_same tree p (port_seen net numbers v of.view p there);
-    agrees = subst (Agrees numbers (o.msti tree) (msti_vector f tree)) (λ i lan. if sym other i then designated_of f.cist lan else msti_designated f tree lan) (is.forest.mstis tree);
+    agrees = subst (Agrees numbers (o.msti tree) (msti_vector f tree)) (λ i lan. if sym other i then designated_of f.cist lan else msti_designated_vector f tree lan) (is.forest.mstis tree);
   }
 
   -- whatever the tree
-  abbrev msti_own : ℕ → TreeSeen MstiBridge MstiPort MstiVector
-  msti_own tree = record {
+  abbrev msti_bridge_vector : ℕ → TreeSeen MstiBridge MstiPort MstiVector
+  msti_bridge_vector tree = record {
     bridge = λ n. option_and_then (msti_bridge_in v tree) (bridge_found v n);
     vector = msti_vector f tree;
     port = msti_port_in v f tree;
-    designated = msti_designated f tree;
+    designated = msti_designated_vector f tree;
   }
 
-  msti_seen_as : (tree : ℕ) → IsSeenTree net numbers v f.regions of (msti_sight net tree o.cist.designated) (o.msti tree) (msti_own tree)
+  msti_seen_as : (tree : ℕ) → IsSeenTree net numbers v f.regions of (msti_sight net tree o.cist.designated) (o.msti tree) (msti_bridge_vector tree)
   msti_seen_as tree = record {
     bridges = found_bridge (msti_bridge_in v tree) (msti_sight net tree o.cist.designated).bridge (msti_bridge_same tree);
     ports = λ p there. msti_port_same tree p (port_seen net numbers v of.view p there);
@@ -117,14 +117,14 @@ module _ (net : Net) (numbers : Numbers) (v : Viewed) (region_ids : List (ℕ ×
   pub msti_can_step : CostsBounded msti_rules → (tree : ℕ) → CanStep msti_rules v (msti_seen v region_ids f tree)
   msti_can_step bounded tree =
       let s = can_step net numbers v f.regions of msti_rules msti_lawful (msti_sight net tree o.cist.designated) (msti_is_sight net of.network tree o.cist.designated) (o.msti tree) (is.forest.is_outcome.mstis tree)
-      (msti_own tree) (msti_seen_as tree) bounded in
+      (msti_bridge_vector tree) (msti_seen_as tree) bounded in
       record { in_range = s.in_range; costs = s.costs }
 
-  pub msti_contest : (tree : ℕ) → (tree == 0) ≡ false → (p : PortInView) → Contains v.ports p → p.is_enabled ≡ true → is_inner net o.cist.designated (named_port p) ≡ true → has_msti net tree p.name.bridge ≡ true
+  pub msti_contest : (tree : ℕ) → (tree == 0) ≡ false → (p : PortInView) → Contains v.ports p → p.is_enabled ≡ true → is_internal net o.cist.designated (named_port p) ≡ true → has_msti net tree p.name.bridge ≡ true
       → TellsContest msti_rules msti_fields (msti_of net tree o.cist.designated) (o.msti tree) (named_port p) (contest_text msti_rules v (msti_seen v region_ids f tree) msti_fields p)
-  msti_contest tree other p there enabled inner has =
+  msti_contest tree other p there enabled internal has =
       tells_contest net numbers v f.regions of msti_rules msti_lawful (msti_sight net tree o.cist.designated) (msti_is_sight net of.network tree o.cist.designated) (o.msti tree) (is.forest.is_outcome.mstis tree)
       (msti_seen v region_ids f tree) (msti_is_seen tree other) msti_fields p there (msti_port (by_tree net) tree (named_port p))
-      (ap (λ (b : Bool). if b && is_inner net o.cist.designated (named_port p) && has_msti net tree p.name.bridge then Some (msti_port (by_tree net) tree (named_port p)) else None) enabled
-      ∙ ap (λ (b : Bool). if b && has_msti net tree p.name.bridge then Some (msti_port (by_tree net) tree (named_port p)) else None) inner
+      (ap (λ (b : Bool). if b && is_internal net o.cist.designated (named_port p) && has_msti net tree p.name.bridge then Some (msti_port (by_tree net) tree (named_port p)) else None) enabled
+      ∙ ap (λ (b : Bool). if b && has_msti net tree p.name.bridge then Some (msti_port (by_tree net) tree (named_port p)) else None) internal
       ∙ ap (λ (b : Bool). if b then Some (msti_port (by_tree net) tree (named_port p)) else None) has)

@@ -12,8 +12,8 @@ use Rattle.mst_vector.specs.Cist.{cist_rules}
 use Rattle.mst_vector.specs.CistLaws.{cist_lawful}
 use Rattle.mst_vector.specs.Msti.{msti_rules}
 use Rattle.mst_vector.specs.MstiLaws.{msti_lawful}
-use Rattle.mst_settle.specs.Topology.{Plug, Topology, IsTopology, HasBridge, HasPort}
-use Rattle.mst_settle.specs.Settled.{Says, Designates, IsDesignated, IsVectorOf}
+use Rattle.mst_settle.specs.Topology.{TreePort, Topology, IsTopology, HasBridge, HasPort}
+use Rattle.mst_settle.specs.Settled.{IsDesignatedVector, Designates, IsDesignated, IsVectorOf}
 use Rattle.mst_settle.proofs.Below.{one_speaker, one_designated}
 use Rattle.mst_settle.proofs.Orders.{both}
 use Rattle.mst_net.specs.Tables.{Net, IsNetwork, port_eq}
@@ -22,7 +22,7 @@ use Rattle.mst_lag.specs.Aggregation.{same_name}
 use Rattle.mst_lag.specs.View.{LogicalPort, view_ports}
 use Rattle.mst_trees.specs.Sight.{Sight, tree_port, tree_of}
 use Rattle.mst_trees.specs.Cist.{cist_port, cist_sight, cist_of}
-use Rattle.mst_trees.specs.Msti.{msti_port, msti_sight, msti_of, has_msti, is_inner}
+use Rattle.mst_trees.specs.Msti.{msti_port, msti_sight, msti_of, has_msti, is_internal}
 use Rattle.mst_trees.specs.Outcome.{TreeOutcome, IsTreeOutcome, Outcome, IsOutcome}
 use Rattle.mst_trees.proofs.Lists.{some_is, no_some, all_contained}
 use Rattle.mst_trees.proofs.Views.{IsPort, ports_are}
@@ -33,7 +33,7 @@ use Rattle.mst_roles.specs.Roles.{beside, role_by, outside, cist_role, msti_role
 use Rattle.mst_roles.specs.declared.kind.Role.{Role}
 use Rattle.mst_roles.specs.declared.kind.Role.TheVariants.{Root, Designated, Alternate, Backup, Master, Disabled}
 use Rattle.mst_roles.proofs.Named.{port_is, port_same}
-use Rattle.mst_explain.specs.Contest.{IsFirst, SaysOn, Gives}
+use Rattle.mst_explain.specs.Contest.{IsFirst, IsDesignatedVectorOn, Gives}
 use Rattle.mst_explain.specs.AsTold.{IsDesignatedOn, GivesRoot, IsAsTold}
 use Rattle.mst_explain.proofs.OneText.{TellsReceiver, receiver_of, cist_tells, msti_tells}
 
@@ -55,7 +55,7 @@ module _ {B P V : Type 0} (net : Net) (ok : IsNetwork net) (m : Rules B P V) (la
   t = tree_of net s
 
   abbrev Key : Type 0
-  Key = Plug (List ℕ) (List ℕ) PortName P
+  Key = TreePort (List ℕ) (List ℕ) PortName P
 
   topology : IsTopology m t
   topology = is_topology net ok m s sight
@@ -87,7 +87,7 @@ module _ {B P V : Type 0} (net : Net) (ok : IsNetwork net) (m : Rules B P V) (la
       let d = subst (λ (x : Option PortName). IsDesignated m t o.vector p.lan x) e (is.designated p.lan) in
       (d.1, record { has = (d.0, d.2, d.3.on_lan, d.3.says); upto = upto d.1 d.3.upto })
     where
-      upto : (x : V) → ((r : Key) (y : V) → r.lan ≡ p.lan → Says m t o.vector r y → is_gt (m.order x y) ≡ false) → (k : Option PortName) (y : V) → SaysOn m t o.vector p.lan k y → is_gt (m.order x y) ≡ false
+      upto : (x : V) → ((r : Key) (y : V) → r.lan ≡ p.lan → IsDesignatedVector m t o.vector r y → is_gt (m.order x y) ≡ false) → (k : Option PortName) (y : V) → IsDesignatedVectorOn m t o.vector p.lan k y → is_gt (m.order x y) ≡ false
       upto x low None y h = absurd h
       upto x low (Some k) y h = low h.0 y h.2 h.3
 
@@ -99,7 +99,7 @@ module _ {B P V : Type 0} (net : Net) (ok : IsNetwork net) (m : Rules B P V) (la
       go (Some d) e k =
           let f = h.1.has in
           let messages : h.0 ≡ k.1 = law.equal h.0 k.1 (both law.total h.0 k.1 (h.1.upto (Some d) k.1 (k.0, k.2, k.3.on_lan, k.3.says)) (k.3.upto f.0 h.0 f.2 f.3)) in
-          let ports : f.0 ≡ k.0 = one_speaker m law t topology o.vector o.vector f.0 k.0 k.1 (subst (Says m t o.vector f.0) messages f.3) k.3.says in
+          let ports : f.0 ≡ k.0 = one_speaker m law t topology o.vector o.vector f.0 k.0 k.1 (subst (IsDesignatedVector m t o.vector f.0) messages f.3) k.3.says in
           e ∙ ap Some (sym k.2 ∙ ap (λ (y : Key). y.number) (sym ports) ∙ f.1)
 
   -- ---- whose vector is the bridge's
@@ -248,18 +248,18 @@ module _ (net : Net) (ok : IsNetwork net) (o : Outcome) (is : IsOutcome net o) (
       enabled_role : Role
       enabled_role = role_by (cist_port (by_tree net) p).id (option_map (λ v. v.receiver) (o.cist.vector p.name.bridge)) (d p.lan) p.name
 
-  pub msti_told : (tree : ℕ) → has_msti net tree p.name.bridge ≡ true → is_inner net d p ≡ true → IsAsTold msti_rules (msti_of net tree d) (o.msti tree) p (msti_role net o tree p)
-  msti_told tree has inner =
-      subst (IsAsTold msti_rules (msti_of net tree d) (o.msti tree) p) (sym is_inner_role)
+  pub msti_told : (tree : ℕ) → has_msti net tree p.name.bridge ≡ true → is_internal net d p ≡ true → IsAsTold msti_rules (msti_of net tree d) (o.msti tree) p (msti_role net o tree p)
+  msti_told tree has internal =
+      subst (IsAsTold msti_rules (msti_of net tree d) (o.msti tree) p) (sym is_internal_role)
       (role_told net ok msti_rules msti_lawful (λ x. x.receiver) msti_tells (msti_sight net tree d) (msti_is_sight net ok tree d) (o.msti tree) (is.mstis tree) p here (msti_port (by_tree net) tree p)
-      (ap (λ (b : Bool). if b && is_inner net d p && has_msti net tree p.name.bridge then Some (msti_port (by_tree net) tree p) else None) enabled
-      ∙ ap (λ (b : Bool). if b && has_msti net tree p.name.bridge then Some (msti_port (by_tree net) tree p) else None) inner
+      (ap (λ (b : Bool). if b && is_internal net d p && has_msti net tree p.name.bridge then Some (msti_port (by_tree net) tree p) else None) enabled
+      ∙ ap (λ (b : Bool). if b && has_msti net tree p.name.bridge then Some (msti_port (by_tree net) tree p) else None) internal
       ∙ ap (λ (b : Bool). if b then Some (msti_port (by_tree net) tree p) else None) has))
     where
-      inner_role : Role
-      inner_role = role_by (msti_port (by_tree net) tree p).id (option_map (λ v. v.receiver) ((o.msti tree).vector p.name.bridge)) ((o.msti tree).designated p.lan) p.name
+      internal_role : Role
+      internal_role = role_by (msti_port (by_tree net) tree p).id (option_map (λ v. v.receiver) ((o.msti tree).vector p.name.bridge)) ((o.msti tree).designated p.lan) p.name
 
-      is_inner_role : msti_role net o tree p ≡ inner_role
-      is_inner_role =
-          ap (λ (b : Bool). if b then (if is_inner net d p then inner_role else outside (cist_role net o p)) else Disabled) enabled
-          ∙ ap (λ (b : Bool). if b then inner_role else outside (cist_role net o p)) inner
+      is_internal_role : msti_role net o tree p ≡ internal_role
+      is_internal_role =
+          ap (λ (b : Bool). if b then (if is_internal net d p then internal_role else outside (cist_role net o p)) else Disabled) enabled
+          ∙ ap (λ (b : Bool). if b then internal_role else outside (cist_role net o p)) internal

@@ -7,8 +7,8 @@ use Rattle.std.specs.FinMap as fin
 use Rattle.std.proofs.lemmas.Bool.{eqb-true}
 use Rattle.mst_ids.specs.declared.name.PortName.{PortName}
 use Rattle.mst_vector.specs.Rules.{Rules, IsMetric}
-use Rattle.mst_settle.specs.Topology.{Plug, Topology, IsTopology, HasBridge, HasPort}
-use Rattle.mst_settle.specs.Settled.{Says}
+use Rattle.mst_settle.specs.Topology.{TreePort, Topology, IsTopology, HasBridge, HasPort}
+use Rattle.mst_settle.specs.Settled.{IsDesignatedVector}
 use Rattle.mst_net.specs.Tables.{Net, Numbers, BridgeRow}
 use Rattle.mst_net.specs.Seen.{bridge_row}
 use Rattle.mst_lag.specs.View.{LogicalPort}
@@ -25,8 +25,8 @@ use Rattle.mst_trees.proofs.Seen.{PortsRise, bridge_seen, port_seen, ports_apart
 use Rattle.mst_trees.proofs.Looking.{first_found}
 use Rattle.mst_roles.proofs.Named.{found_in}
 use Rattle.mst_explain.specs.declared.claims.Claim.{Claim}
-use Rattle.mst_explain.specs.Contest.{SaysOn}
-use Rattle.mst_explain.specs.Seen.{TreeSeen, said, designated_on, claim_of, lan_claim, lan_claims}
+use Rattle.mst_explain.specs.Contest.{IsDesignatedVectorOn}
+use Rattle.mst_explain.specs.Seen.{TreeSeen, designated_vector, designated_on, claim_of, lan_claim, lan_claims}
 use Rattle.mst_explain.proofs.Firsts.{Hold, keyed}
 
 -- what follows on a value that is there comes of one
@@ -96,15 +96,6 @@ module _ (net : Net) (numbers : Numbers) (v : Viewed) (region_ids : List (ℕ ×
         | inr apart ↦ absurd (elim apart [ inl l ↦ port_names_differ p.name q.name l.less e | inr l ↦ port_names_differ q.name p.name l.less (sym e) ])
       ]
 
-  -- the port of this name is found by its number
-  pub port_found_at : (p : PortInView) → Contains v.ports p → find (λ (q : PortInView). p.number == q.number) v.ports ≡ Some p
-  port_found_at p there =
-      let first = first_found (λ (q : PortInView). p.number == q.number) v.ports p there (eq-eqb p.number p.number refl) in
-      let own = (port_seen net numbers v of.view p there).has_numbers in
-      let other = (port_seen net numbers v of.view first.it first.there).has_numbers in
-      let name : first.it.name ≡ p.name = of.numbered.ports_differ first.it.name p.name p.number (other.port ∙ ap Some (sym (eqb-true p.number first.it.number first.passes))) own.port in
-      first.found ∙ ap Some (one_seen first.it p first.there there name)
-
   -- LANs, and bridges, of ports are told by number
   pub lan_is : (p q : PortInView) → Contains v.ports p → Contains v.ports q → p.lan_number ≡ q.lan_number → p.lan ≡ q.lan
   lan_is p q a b e =
@@ -145,7 +136,7 @@ module _ (net : Net) (numbers : Numbers) (v : Viewed) (region_ids : List (ℕ ×
     topology = is_topology net of.network m s sight
 
     abbrev Key : Type 0
-    Key = Plug (List ℕ) (List ℕ) PortName P
+    Key = TreePort (List ℕ) (List ℕ) PortName P
 
     -- ---- bridges
     pub bridge_to : (a : List ℕ) (n : ℕ) (b : B) → fin.get numbers.bridges a ≡ Some n → seen.bridge n ≡ Some b → HasBridge t a b
@@ -162,12 +153,12 @@ module _ (net : Net) (numbers : Numbers) (v : Viewed) (region_ids : List (ℕ ×
     vector_at p there = same.agrees.vectors p.name.bridge p.bridge (port_seen net numbers v of.view p there).has_numbers.bridge
 
     -- ---- what a port says
-    pub says_to : (q : PortInView) → Contains v.ports q → (x : V) → said m v seen q ≡ Some x → (c : P) × Says m t o.vector (tree_port (named_port q) c) x
+    pub says_to : (q : PortInView) → Contains v.ports q → (x : V) → designated_vector m v seen q ≡ Some x → (c : P) × IsDesignatedVector m t o.vector (tree_port (named_port q) c) x
     says_to q there x e =
         let has = (port_seen net numbers v of.view q there).has_numbers in
-        let c = then_from (λ (c : P). option_and_then (λ (b : B). option_map (λ (x : V). m.designated x b c) (seen.vector q.bridge)) (seen.bridge q.bridge)) (seen.port q) x e in
-        let b = then_from (λ (b : B). option_map (λ (x : V). m.designated x b c.0) (seen.vector q.bridge)) (seen.bridge q.bridge) x c.2 in
-        let r = changed_from (λ (x : V). m.designated x b.0 c.0) (seen.vector q.bridge) x b.2 in (
+        let c = then_from (λ (c : P). option_and_then (λ (b : B). option_map (λ (x : V). m.designated_vector x b c) (seen.vector q.bridge)) (seen.bridge q.bridge)) (seen.port q) x e in
+        let b = then_from (λ (b : B). option_map (λ (x : V). m.designated_vector x b c.0) (seen.vector q.bridge)) (seen.bridge q.bridge) x c.2 in
+        let r = changed_from (λ (x : V). m.designated_vector x b.0 c.0) (seen.vector q.bridge) x b.2 in (
           c.0,
           record {
             has_port = port_in net of.network m s sight (named_port q) c.0 (port_of_net net numbers v of.view q there) (sym (same.ports q there) ∙ c.1);
@@ -200,37 +191,37 @@ module _ (net : Net) (numbers : Numbers) (v : Viewed) (region_ids : List (ℕ ×
           is_key = ap (λ (q : LogicalPort). tree_port q x.settings) z.2 ∙ x.is;
         }
 
-    pub says_back : (k : Key) (x : V) → Says m t o.vector k x → (z : SeenAs k) → said m v seen z.port ≡ Some x
+    pub says_back : (k : Key) (x : V) → IsDesignatedVector m t o.vector k x → (z : SeenAs k) → designated_vector m v seen z.port ≡ Some x
     says_back k x h z =
         let has = (port_seen net numbers v of.view z.port z.there).has_numbers in
         let on : z.port.name.bridge ≡ k.bridge = ap (λ (y : Key). y.bridge) z.is_key in
         let b = bridge_back z.port.name.bridge z.port.bridge h.bridge has.bridge (subst (λ a. HasBridge t a h.bridge) (sym on) h.has_bridge) in
         let r : seen.vector z.port.bridge ≡ Some h.root = vector_at z.port z.there ∙ ap o.vector on ∙ h.is_root in
-        ap (option_and_then (λ (c : P). option_and_then (λ (b : B). option_map (λ (x : V). m.designated x b c) (seen.vector z.port.bridge)) (seen.bridge z.port.bridge))) z.has_settings
-        ∙ ap (option_and_then (λ (b : B). option_map (λ (x : V). m.designated x b z.settings) (seen.vector z.port.bridge))) b
-        ∙ ap (option_map (λ (x : V). m.designated x h.bridge z.settings)) r
-        ∙ ap Some (ap (λ (y : Key). m.designated h.root h.bridge y.settings) z.is_key ∙ h.is_designated)
+        ap (option_and_then (λ (c : P). option_and_then (λ (b : B). option_map (λ (x : V). m.designated_vector x b c) (seen.vector z.port.bridge)) (seen.bridge z.port.bridge))) z.has_settings
+        ∙ ap (option_and_then (λ (b : B). option_map (λ (x : V). m.designated_vector x b z.settings) (seen.vector z.port.bridge))) b
+        ∙ ap (option_map (λ (x : V). m.designated_vector x h.bridge z.settings)) r
+        ∙ ap Some (ap (λ (y : Key). m.designated_vector h.root h.bridge y.settings) z.is_key ∙ h.is_designated)
 
     -- ---- the claims on a LAN
-    pub lan_hold : (p : PortInView) → Contains v.ports p → Hold (lan_claims m v seen p.lan_number) (SaysOn m t o.vector p.lan)
+    pub lan_hold : (p : PortInView) → Contains v.ports p → Hold (lan_claims m v seen p.lan_number) (IsDesignatedVectorOn m t o.vector p.lan)
     lan_hold p here = record { have = have; all = all }
       where
-        have : (c : Claim V) → Contains (lan_claims m v seen p.lan_number) c → SaysOn m t o.vector p.lan c.port c.vector
+        have : (c : Claim V) → Contains (lan_claims m v seen p.lan_number) c → IsDesignatedVectorOn m t o.vector p.lan c.port c.vector
         have c there =
             let q = kept_from (lan_claim m v seen p.lan_number) v.ports c there in
-            let w = where_some (q.0.lan_number == p.lan_number) (option_map (claim_of m v seen q.0) (said m v seen q.0)) c q.2 in
-            let x = changed_from (claim_of m v seen q.0) (said m v seen q.0) c w.1 in
+            let w = where_some (q.0.lan_number == p.lan_number) (option_map (claim_of m v seen q.0) (designated_vector m v seen q.0)) c q.2 in
+            let x = changed_from (claim_of m v seen q.0) (designated_vector m v seen q.0) c w.1 in
             let says = says_to q.0 q.1 x.0 x.1 in
-            subst (λ (d : Claim V). SaysOn m t o.vector p.lan d.port d.vector) x.2
+            subst (λ (d : Claim V). IsDesignatedVectorOn m t o.vector p.lan d.port d.vector) x.2
             (tree_port (named_port q.0) says.0, refl, lan_is q.0 p q.1 here (eqb-true q.0.lan_number p.lan_number w.0), says.1)
 
-        all : (k : Option PortName) (x : V) → SaysOn m t o.vector p.lan k x → Contains (lan_claims m v seen p.lan_number) (record { port = k; vector = x })
+        all : (k : Option PortName) (x : V) → IsDesignatedVectorOn m t o.vector p.lan k x → Contains (lan_claims m v seen p.lan_number) (record { port = k; vector = x })
         all None x h = absurd h
         all (Some k) x h =
             let z = seen_as h.0 h.3.has_port in
             let on : z.port.lan_number ≡ p.lan_number = lan_number z.port p z.there here (ap (λ (y : Key). y.lan) z.is_key ∙ h.2) in
             let name : z.port.name ≡ k = ap (λ (y : Key). y.number) z.is_key ∙ h.1 in
             kept_in (lan_claim m v seen p.lan_number) v.ports z.port (record { port = Some k; vector = x }) z.there
-            (ap (λ (b : Bool). if b then option_map (claim_of m v seen z.port) (said m v seen z.port) else None) (eq-eqb z.port.lan_number p.lan_number on)
+            (ap (λ (b : Bool). if b then option_map (claim_of m v seen z.port) (designated_vector m v seen z.port) else None) (eq-eqb z.port.lan_number p.lan_number on)
             ∙ ap (option_map (claim_of m v seen z.port)) (says_back h.0 x h.3 z)
             ∙ ap (λ (n : PortName). Some (keyed x n)) name)

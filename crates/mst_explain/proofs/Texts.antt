@@ -20,10 +20,10 @@ use Rattle.mst_lag.specs.declared.in_view.PortInView.{PortInView}
 use Rattle.mst_lag.specs.declared.in_view.MemberLan.{MemberLan}
 use Rattle.mst_lag.proofs.Placing.{pair_found}
 use Rattle.mst_trees.specs.Cist.{cist_sight}
-use Rattle.mst_trees.specs.Msti.{has_msti, is_inner}
+use Rattle.mst_trees.specs.Msti.{has_msti, is_internal}
 use Rattle.mst_trees.specs.Outcome.{Outcome}
 use Rattle.mst_trees.specs.Agrees.{AreOf}
-use Rattle.mst_trees.specs.Seen.{seen_inner, trees_at}
+use Rattle.mst_trees.specs.Seen.{seen_internal, trees_at}
 use Rattle.mst_trees.specs.Forest.{Forest, designated_in}
 use Rattle.mst_trees.proofs.Entries.{all_weaker}
 use Rattle.mst_trees.proofs.Lists.{all_contained, all_there}
@@ -42,7 +42,7 @@ use Rattle.mst_explain.specs.TreesSeen.{cist_seen, msti_seen}
 use Rattle.mst_explain.specs.SeenText.{port_found, bridge_is_on, lan_is_up, off_text, outside_text, msti_text, enabled_text, reason_text, explanation_text}
 use Rattle.mst_explain.proofs.SeenTrees.{bridge_found_at}
 use Rattle.mst_explain.proofs.Givers.{designated_found}
-use Rattle.mst_explain.proofs.Planned.{cist_is_seen, cist_contest, msti_contest, inner_is}
+use Rattle.mst_explain.proofs.Planned.{cist_is_seen, cist_contest, msti_contest, internal_is}
 
 -- one that passes is among those of which some pass
 any_of : {A : Type 0} (test : A → Bool) (xs : List A) (x : A) → Contains xs x → test x ≡ true → list_any test xs ≡ true
@@ -128,17 +128,17 @@ module _ (net : Net) (numbers : Numbers) (v : Viewed) (region_ids : List (ℕ ×
 
   -- ---- the reason
   module _ (tree : ℕ) (has : Contains (trees_of_bridge net p.name.bridge) tree) where
-    inner_of : p.is_enabled ≡ true → seen_inner v f.regions (designated_of f.cist) p ≡ is_inner net o.cist.designated (named_port p)
-    inner_of enabled = inner_is net numbers v region_ids f is p seen ∙ ap (λ b. b && is_inner net o.cist.designated (named_port p)) enabled
+    internal_ports_of : p.is_enabled ≡ true → seen_internal v f.regions (designated_of f.cist) p ≡ is_internal net o.cist.designated (named_port p)
+    internal_ports_of enabled = internal_is net numbers v region_ids f is p seen ∙ ap (λ b. b && is_internal net o.cist.designated (named_port p)) enabled
 
-    tells_msti : p.is_enabled ≡ true → (tree == 0) ≡ false → TellsInMsti net o tree (named_port p) (is_inner net o.cist.designated (named_port p)) (msti_text v region_ids f tree p)
+    tells_msti : p.is_enabled ≡ true → (tree == 0) ≡ false → TellsInMsti net o tree (named_port p) (is_internal net o.cist.designated (named_port p)) (msti_text v region_ids f tree p)
     tells_msti enabled other =
-        subst (λ b. TellsInMsti net o tree (named_port p) (is_inner net o.cist.designated (named_port p)) (text b)) (sym (inner_of enabled)) (go (is_inner net o.cist.designated (named_port p)) refl)
+        subst (λ b. TellsInMsti net o tree (named_port p) (is_internal net o.cist.designated (named_port p)) (text b)) (sym (internal_ports_of enabled)) (go (is_internal net o.cist.designated (named_port p)) refl)
       where
         text : Bool → List ℕ
         text b = if b then contest_text msti_rules v (msti_seen v region_ids f tree) msti_fields p else outside_text v f p
 
-        go : (b : Bool) → is_inner net o.cist.designated (named_port p) ≡ b → TellsInMsti net o tree (named_port p) b (text b)
+        go : (b : Bool) → is_internal net o.cist.designated (named_port p) ≡ b → TellsInMsti net o tree (named_port p) b (text b)
         go true e = msti_contest net numbers v region_ids f is tree other p there enabled e (tree_there net p.name.bridge tree has other)
         go false e = outside_is enabled
 

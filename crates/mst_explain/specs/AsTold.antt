@@ -7,7 +7,7 @@ use Rattle.mst_lag.specs.View.{LogicalPort}
 use Rattle.mst_trees.specs.Outcome.{TreeOutcome}
 use Rattle.mst_roles.specs.declared.kind.Role.{Role}
 use Rattle.mst_roles.specs.declared.kind.Role.TheVariants.{Root, Designated, Alternate, Backup}
-use Rattle.mst_explain.specs.Contest.{IsFirst, IsRival, SaysOn, Gives}
+use Rattle.mst_explain.specs.Contest.{IsFirst, IsRival, IsDesignatedVectorOn, Gives}
 use Rattle.mst_explain.specs.Fields.{Field, decided, TellsLower}
 
 -- whoever is told against whom: the component is the first at which the vectors differ, and the first's value is lower
@@ -18,7 +18,7 @@ TellsLowerFirst {B} {P} {V} m fields Has =
 module _ {B P V : Type 0} (m : Rules B P V) (t : Topology (List ℕ) (List ℕ) PortName B P) (o : TreeOutcome V) (p : LogicalPort) where
   -- a port is the LAN's designated one, and the port gives its bridge's root priority vector
   abbrev pub IsDesignatedOn : PortName → Type 0
-  IsDesignatedOn q = (x : V) × IsFirst m (SaysOn m t o.vector p.lan) (Some q) x
+  IsDesignatedOn q = (x : V) × IsFirst m (IsDesignatedVectorOn m t o.vector p.lan) (Some q) x
 
   abbrev pub GivesRoot : Type 0
   GivesRoot = (b : B) × (x : V) × HasBridge t p.name.bridge b × IsFirst m (Gives m t o.vector p.name.bridge b) (Some p.name) x

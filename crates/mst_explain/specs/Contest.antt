@@ -2,8 +2,8 @@
 use Rattle.std.specs.Prelude.{◌≡◌, ◌≢◌, Option, None, Some, false}
 use Rattle.std.specs.Ordering.{is_gt}
 use Rattle.mst_vector.specs.Rules.{Rules}
-use Rattle.mst_settle.specs.Topology.{Plug, Topology}
-use Rattle.mst_settle.specs.Settled.{Says, Steps}
+use Rattle.mst_settle.specs.Topology.{TreePort, Topology}
+use Rattle.mst_settle.specs.Settled.{IsDesignatedVector, IsRootPathVector}
 
 module _ {K B P V : Type 0} (m : Rules B P V) (Has : K → V → Type 0) where
   -- c has the vector x, and none has a lower one
@@ -26,12 +26,12 @@ module _ {K B P V : Type 0} (m : Rules B P V) (Has : K → V → Type 0) where
 module _ {N L K B P V : Type 0} (m : Rules B P V) (t : Topology N L K B P) (v : N → Option V) where
   -- for the LAN's designated port: under the key of each port of the tree on it stands what that port says; nothing
   -- stands under no key
-  abbrev pub SaysOn : L → Option K → V → Type 0
-  SaysOn lan None x = ⊥
-  SaysOn lan (Some k) x = (p : Plug N L K P) × (p.number ≡ k) × (p.lan ≡ lan) × Says m t v p x
+  abbrev pub IsDesignatedVectorOn : L → Option K → V → Type 0
+  IsDesignatedVectorOn lan None x = ⊥
+  IsDesignatedVectorOn lan (Some k) x = (p : TreePort N L K P) × (p.number ≡ k) × (p.lan ≡ lan) × IsDesignatedVector m t v p x
 
   -- for the root priority vector of bridge n, which is b: its own vector stands under no key, and under the key of a
   -- port the one that comes along that port
   abbrev pub Gives : N → B → Option K → V → Type 0
-  Gives n b None x = x ≡ m.own b
-  Gives n b (Some k) x = (step : Steps m t v n b x) × (step.port.number ≡ k)
+  Gives n b None x = x ≡ m.bridge_vector b
+  Gives n b (Some k) x = (step : IsRootPathVector m t v n b x) × (step.port.number ≡ k)

@@ -11,11 +11,11 @@ use Rattle.mst_net.specs.Tables.{Net}
 use Rattle.mst_lag.specs.Trees.{mstis_of}
 use Rattle.mst_lag.specs.View.{LogicalPort, is_on, is_up}
 use Rattle.mst_trees.specs.Cist.{cist_of}
-use Rattle.mst_trees.specs.Msti.{msti_of, is_inner}
+use Rattle.mst_trees.specs.Msti.{msti_of, is_internal}
 use Rattle.mst_trees.specs.Outcome.{Outcome, TreeOutcome}
 use Rattle.mst_roles.specs.Roles.{cist_role, role_in}
 use Rattle.mst_roles.specs.declared.kind.Role.{Role}
-use Rattle.mst_explain.specs.Contest.{IsFirst, IsRival, IsAlone, SaysOn, Gives}
+use Rattle.mst_explain.specs.Contest.{IsFirst, IsRival, IsAlone, IsDesignatedVectorOn, Gives}
 use Rattle.mst_explain.specs.Fields.{Field, cist_fields, msti_fields, decided}
 use Rattle.mst_explain.specs.Lines.{explain_line, over_line, alone_line, restricted_line, boundary_line, disabled_lines}
 
@@ -29,7 +29,7 @@ pub record TellsRival {K B P V : Type 0} (m : Rules B P V) (fields : V → List 
 module _ {B P V : Type 0} (m : Rules B P V) (fields : V → List Field) (t : Topology (List ℕ) (List ℕ) PortName B P) (o : TreeOutcome V) (p : LogicalPort) where
   -- who may be the LAN's designated port, and what may be the root priority vector of the bridge, which is b
   abbrev pub OnLan : Option PortName → V → Type 0
-  OnLan = SaysOn m t o.vector p.lan
+  OnLan = IsDesignatedVectorOn m t o.vector p.lan
 
   abbrev pub AtBridge : B → Option PortName → V → Type 0
   AtBridge b = Gives m t o.vector p.name.bridge b
@@ -76,7 +76,7 @@ module _ (net : Net) (o : Outcome) where
   -- of an enabled port, by whether the tree is the CIST
   abbrev pub TellsEnabled : ℕ → LogicalPort → Bool → List ℕ → Type 0
   TellsEnabled tree p true text = TellsContest cist_rules cist_fields (cist_of net) o.cist p text
-  TellsEnabled tree p false text = TellsInMsti tree p (is_inner net o.cist.designated p) text
+  TellsEnabled tree p false text = TellsInMsti tree p (is_internal net o.cist.designated p) text
 
   -- of any port, by whether it is enabled
   abbrev pub TellsReason : ℕ → LogicalPort → Bool → List ℕ → Type 0

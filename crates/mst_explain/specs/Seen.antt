@@ -24,38 +24,38 @@ pub record CanStep {B P V : Type 0} (m : Rules B P V) (v : Viewed) (s : TreeSeen
   pub costs : (p : PortInView) (x : V) → Contains v.ports p → s.vector p.bridge ≡ Some x → m.cost x ≤ 2 ^ 62
 
 module _ {B P V : Type 0} (m : Rules B P V) (v : Viewed) (s : TreeSeen B P V) where
-  -- what a port says on its LAN
-  abbrev pub said : PortInView → Option V
-  said q = option_and_then (λ c. option_and_then (λ b. option_map (λ x. m.designated x b c) (s.vector q.bridge)) (s.bridge q.bridge)) (s.port q)
+  -- the designated priority vector of a port, which it says on its LAN
+  abbrev pub designated_vector : PortInView → Option V
+  designated_vector q = option_and_then (λ c. option_and_then (λ b. option_map (λ x. m.designated_vector x b c) (s.vector q.bridge)) (s.bridge q.bridge)) (s.port q)
 
   -- the designated port of a LAN
   abbrev pub designated_on : ℕ → Option PortInView
   designated_on lan = option_and_then (λ n. find (λ q. n == q.number) v.ports) (s.designated lan)
 
-  -- the step along a port of these settings from another one
-  abbrev pub step_from : PortInView → P → PortInView → Option V
-  step_from p c from = option_and_then (λ x. option_and_then (λ sender. option_map (λ b. m.step x sender b c) (s.bridge p.bridge)) (s.bridge from.bridge)) (said from)
+  -- the root path priority vector that a port of these settings has from another one
+  abbrev pub root_path_vector_from : PortInView → P → PortInView → Option V
+  root_path_vector_from p c from = option_and_then (λ x. option_and_then (λ sender. option_map (λ b. m.root_path_vector x sender b c) (s.bridge p.bridge)) (s.bridge from.bridge)) (designated_vector from)
 
-  -- what a port gives its bridge, if its role isn't restricted: the step from its LAN's designated port, where that is on
-  -- another bridge
+  -- what a port gives its bridge, if its role isn't restricted: the root path priority vector from its LAN's designated
+  -- port, where that is on another bridge
   abbrev pub heard : PortInView → P → Option V
-  heard p c = option_and_then (λ from. if from.bridge == p.bridge then None else step_from p c from) (designated_on p.lan_number)
+  heard p c = option_and_then (λ from. if from.bridge == p.bridge then None else root_path_vector_from p c from) (designated_on p.lan_number)
 
   abbrev pub given : PortInView → Option V
   given p = if p.settings.is_restricted then None else option_and_then (heard p) (s.port p)
 
-  -- the claims on a LAN, and those at a bridge, its own vector first
+  -- the claims on a LAN, and those at a bridge, the bridge priority vector first
   abbrev pub claim_of : PortInView → V → Claim V
   claim_of q x = record { port = Some q.name; vector = x }
 
   abbrev pub lan_claim : ℕ → PortInView → Option (Claim V)
-  lan_claim lan q = if q.lan_number == lan then option_map (claim_of q) (said q) else None
+  lan_claim lan q = if q.lan_number == lan then option_map (claim_of q) (designated_vector q) else None
 
   abbrev pub lan_claims : ℕ → List (Claim V)
   lan_claims lan = filter_map (lan_claim lan) v.ports
 
   abbrev pub own_claims : ℕ → List (Claim V)
-  own_claims n = option_map_or (λ b. (record { port = None; vector = m.own b }) ∷ []) (s.bridge n) []
+  own_claims n = option_map_or (λ b. (record { port = None; vector = m.bridge_vector b }) ∷ []) (s.bridge n) []
 
   abbrev pub bridge_claim : ℕ → PortInView → Option (Claim V)
   bridge_claim n q = if q.bridge == n then option_map (claim_of q) (given q) else None

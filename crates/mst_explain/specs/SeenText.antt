@@ -9,7 +9,7 @@ use Rattle.mst_net.specs.Seen.{bridge_row}
 use Rattle.mst_lag.specs.Aggregation.{same_name}
 use Rattle.mst_lag.specs.Viewed.{Viewed}
 use Rattle.mst_lag.specs.declared.in_view.PortInView.{PortInView}
-use Rattle.mst_trees.specs.Seen.{seen_inner}
+use Rattle.mst_trees.specs.Seen.{seen_internal}
 use Rattle.mst_trees.specs.Forest.{Forest, designated_in}
 use Rattle.mst_roles.specs.Seen.{seen_role}
 use Rattle.mst_explain.specs.Fields.{cist_fields, msti_fields}
@@ -38,7 +38,7 @@ outside_text v f p =
 -- of any port
 module _ (v : Viewed) (region_ids : List (ℕ × ℕ)) (f : Forest) (tree : ℕ) (p : PortInView) where
   abbrev pub msti_text : List ℕ
-  msti_text = if seen_inner v f.regions (designated_of f.cist) p then contest_text msti_rules v (msti_seen v region_ids f tree) msti_fields p else outside_text v f p
+  msti_text = if seen_internal v f.regions (designated_of f.cist) p then contest_text msti_rules v (msti_seen v region_ids f tree) msti_fields p else outside_text v f p
 
   abbrev pub enabled_text : List ℕ
   enabled_text = if tree == 0 then contest_text cist_rules v (cist_seen v region_ids f tree) cist_fields p else msti_text

@@ -18,7 +18,7 @@ use Rattle.mst_lag.specs.declared.in_view.BridgeInView.{BridgeInView}
 use Rattle.mst_lag.specs.declared.in_view.PortInView.{PortInView}
 use Rattle.mst_trees.specs.Cist.{cist_bridge, cist_port}
 use Rattle.mst_trees.specs.Msti.{msti_bridge, msti_port}
-use Rattle.mst_trees.specs.Seen.{trees_at, seen_inner}
+use Rattle.mst_trees.specs.Seen.{trees_at, seen_internal}
 use Rattle.mst_trees.specs.Forest.{Forest, msti_vector, designated_in}
 use Rattle.mst_explain.specs.Seen.{TreeSeen}
 
@@ -48,7 +48,7 @@ msti_bridge_in v tree b =
 
 abbrev pub msti_port_in : Viewed → Forest → ℕ → PortInView → Option MstiPort
 msti_port_in v f tree p =
-    if seen_inner v f.regions (designated_of f.cist) p && is_among (trees_at v p.bridge) tree then Some (msti_port v.settings tree (named_port p)) else None
+    if seen_internal v f.regions (designated_of f.cist) p && is_among (trees_at v p.bridge) tree then Some (msti_port v.settings tree (named_port p)) else None
 
 abbrev pub msti_seen : Viewed → List (ℕ × ℕ) → Forest → ℕ → TreeSeen MstiBridge MstiPort MstiVector
 msti_seen v region_ids f tree = record {

@@ -1,6 +1,6 @@
 ghost use Rattle.std.specs.Prelude.{◌≡◌, IfOk};
 ghost use Rattle.std.specs.List.{Contains};
-ghost use Rattle.mst_explain.specs.Seen.{CanStep, said as seen_said, step_from as seen_step, heard as seen_heard, given as seen_given, lan_claim as seen_lan_claim, lan_claims as seen_lan_claims, own_claims as seen_own_claims, bridge_claim as seen_bridge_claim, bridge_claims as seen_bridge_claims};
+ghost use Rattle.mst_explain.specs.Seen.{CanStep, designated_vector as seen_designated_vector, root_path_vector_from as seen_root_path_vector, heard as seen_heard, given as seen_given, lan_claim as seen_lan_claim, lan_claims as seen_lan_claims, own_claims as seen_own_claims, bridge_claim as seen_bridge_claim, bridge_claims as seen_bridge_claims};
 
 use crate::claims::Claim;
 use crate::in_tree::{InTree, TreePlan};
@@ -8,18 +8,18 @@ use mst_ids::{BridgeNo, LanNo};
 use mst_lag::PortInView;
 use std::alloc::{AllocError, Global};
 
-/// What a port of the tree says on its LAN: its designated vector.
-fn said<M: InTree>(plan: &TreePlan, port: &PortInView) -> Option<M::Vector>
-    ensures { result ≡ seen_said M.rules plan.now.view.now (M.seen plan.now.view.now plan.now.regions.now plan.now.forest.now plan.now.tree) port.now }
+/// The designated priority vector of a port of the tree, which it says on its LAN.
+fn designated_vector<M: InTree>(plan: &TreePlan, port: &PortInView) -> Option<M::Vector>
+    ensures { result ≡ seen_designated_vector M.rules plan.now.view.now (M.seen plan.now.view.now plan.now.regions.now plan.now.forest.now plan.now.tree) port.now }
 {
     let settings = M::port(plan, port)?;
     let bridge = M::bridge(plan, port.bridge)?;
     let vector = M::vector(plan, port.bridge)?;
-    Some(M::designated(vector, &bridge, &settings))
+    Some(M::designated_vector(vector, &bridge, &settings))
 }
 
-/// The step along a port of these settings from another one.
-fn step_from<M: InTree>(
+/// The root path priority vector that a port of these settings has from another one.
+fn root_path_vector_from<M: InTree>(
     plan: &TreePlan,
     port: &PortInView,
     settings: &M::Port,
@@ -29,15 +29,16 @@ fn step_from<M: InTree>(
     requires port { Contains plan.now.view.now.ports port.now }
     requires settings { (M.seen plan.now.view.now plan.now.regions.now plan.now.forest.now plan.now.tree).port port.now ≡ Some settings.now }
     requires from { Contains plan.now.view.now.ports from.now }
-    ensures { result ≡ seen_step M.rules plan.now.view.now (M.seen plan.now.view.now plan.now.regions.now plan.now.forest.now plan.now.tree) port.now settings.now from.now }
+    ensures { result ≡ seen_root_path_vector M.rules plan.now.view.now (M.seen plan.now.view.now plan.now.regions.now plan.now.forest.now plan.now.tree) port.now settings.now from.now }
 {
-    let message = said::<M>(plan, from)?;
+    let message = designated_vector::<M>(plan, from)?;
     let sender = M::bridge(plan, from.bridge)?;
     let receiver = M::bridge(plan, port.bridge)?;
-    Some(M::step(message, &sender, &receiver, settings))
+    Some(M::root_path_vector(message, &sender, &receiver, settings))
 }
 
-/// The step along a port of these settings from its LAN's designated port, where that is on another bridge.
+/// The root path priority vector that a port of these settings has from its LAN's designated port, where that is on
+/// another bridge.
 fn heard<M: InTree>(plan: &TreePlan, port: &PortInView, settings: &M::Port) -> Option<M::Vector>
     requires steps { CanStep M.rules plan.now.view.now (M.seen plan.now.view.now plan.now.regions.now plan.now.forest.now plan.now.tree) }
     requires port { Contains plan.now.view.now.ports port.now }
@@ -48,10 +49,10 @@ fn heard<M: InTree>(plan: &TreePlan, port: &PortInView, settings: &M::Port) -> O
     if from.bridge == port.bridge {
         return None;
     }
-    step_from::<M>(plan, port, settings, from)
+    root_path_vector_from::<M>(plan, port, settings, from)
 }
 
-/// What a port of the tree may give its bridge: a step, if its role isn't restricted.
+/// What a port of the tree may give its bridge: a root path priority vector, if its role isn't restricted.
 fn given<M: InTree>(plan: &TreePlan, port: &PortInView) -> Option<M::Vector>
     requires steps { CanStep M.rules plan.now.view.now (M.seen plan.now.view.now plan.now.regions.now plan.now.forest.now plan.now.tree) }
     requires port { Contains plan.now.view.now.ports port.now }
@@ -71,7 +72,7 @@ fn lan_claim<M: InTree>(plan: &TreePlan, lan: LanNo, port: &PortInView) -> Optio
     if port.lan_number != lan {
         return None;
     }
-    let vector = said::<M>(plan, port)?;
+    let vector = designated_vector::<M>(plan, port)?;
     Some(Claim {
         port: Some(port.name),
         vector,
@@ -115,7 +116,7 @@ fn bridge_claim<M: InTree>(
     })
 }
 
-/// The bridge's own vector, which is of no port.
+/// The bridge priority vector, which is of no port.
 fn own_claims<M: InTree>(
     alloc: Global,
     plan: &TreePlan,
@@ -127,13 +128,13 @@ fn own_claims<M: InTree>(
     if let Some(settings) = M::bridge(plan, bridge) {
         claims.push(Claim {
             port: None,
-            vector: M::own(&settings),
+            vector: M::bridge_vector(&settings),
         })?;
     }
     Ok(claims)
 }
 
-/// What may be the root priority vector of a bridge: its own vector, and what its ports give.
+/// What may be the root priority vector of a bridge: its bridge priority vector, and what its ports give.
 pub(crate) fn bridge_claims<M: InTree>(
     alloc: Global,
     plan: &TreePlan,

@@ -89,7 +89,7 @@ fn push_in_msti(
     requires { CanStep msti_rules plan.now.view.now (msti_seen plan.now.view.now plan.now.regions.now plan.now.forest.now plan.now.tree) }
     ensures { OnOk result (out.new.items ≡ out.old.items ++ msti_text plan.now.view.now plan.now.regions.now plan.now.forest.now plan.now.tree port.now) }
 {
-    if plan.forest.is_inner(plan.view, port) {
+    if plan.forest.is_internal(plan.view, port) {
         push_contest::<MstiMetric>(alloc, plan, port, out)
     } else {
         push_outside(plan.view, plan.forest, port, out)
@@ -209,6 +209,7 @@ fn push_in_trees(
 }
 
 /// Appends why a logical port has its role in each tree that its bridge has, rising, as `push_explanation` of each.
+/// `AllocError`: memory was wanted and refused; part of the text may have been appended.
 pub fn push_explanations(
     alloc: Global,
     view: &View,

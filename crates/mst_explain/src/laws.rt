@@ -12,10 +12,10 @@ ghost use Rattle.mst_net.specs.Tables.{Net, IsNetwork};
 ghost use Rattle.mst_lag.specs.View.{LogicalPort, view_ports};
 ghost use Rattle.mst_trees.specs.Outcome.{Outcome, IsOutcome};
 ghost use Rattle.mst_trees.specs.Cist.{cist_of};
-ghost use Rattle.mst_trees.specs.Msti.{msti_of, has_msti, is_inner};
+ghost use Rattle.mst_trees.specs.Msti.{msti_of, has_msti, is_internal};
 ghost use Rattle.mst_roles.specs.Roles.{cist_role, msti_role};
 ghost use Rattle.mst_explain.specs.AsTold.{IsAsTold, TellsLowerFirst};
-ghost use Rattle.mst_explain.specs.Contest.{SaysOn, Gives};
+ghost use Rattle.mst_explain.specs.Contest.{IsDesignatedVectorOn, Gives};
 ghost use Rattle.mst_explain.specs.Explained.{IsExplanation};
 ghost use Rattle.mst_explain.specs.Fields.{cist_fields, msti_fields, decided, TellsLower};
 
@@ -39,9 +39,9 @@ pub fn decided_lower()
 /// In an explanation the vector that is first is lower than the one that it is told against, so the words name the first
 /// component at which they differ, with the lower value first: on each LAN, and at each bridge.
 pub fn told_lower()
-    ensures cist_lan { (net : Net) (o : Outcome) → IsNetwork net → IsOutcome net o → (lan : List ℕ) → TellsLowerFirst cist_rules cist_fields (SaysOn cist_rules (cist_of net) o.cist.vector lan) }
+    ensures cist_lan { (net : Net) (o : Outcome) → IsNetwork net → IsOutcome net o → (lan : List ℕ) → TellsLowerFirst cist_rules cist_fields (IsDesignatedVectorOn cist_rules (cist_of net) o.cist.vector lan) }
     ensures cist_bridge { (net : Net) (o : Outcome) → IsNetwork net → IsOutcome net o → (name : List ℕ) (b : CistBridge) → TellsLowerFirst cist_rules cist_fields (Gives cist_rules (cist_of net) o.cist.vector name b) }
-    ensures msti_lan { (net : Net) (o : Outcome) → IsNetwork net → IsOutcome net o → (tree : ℕ) (lan : List ℕ) → TellsLowerFirst msti_rules msti_fields (SaysOn msti_rules (msti_of net tree o.cist.designated) (o.msti tree).vector lan) }
+    ensures msti_lan { (net : Net) (o : Outcome) → IsNetwork net → IsOutcome net o → (tree : ℕ) (lan : List ℕ) → TellsLowerFirst msti_rules msti_fields (IsDesignatedVectorOn msti_rules (msti_of net tree o.cist.designated) (o.msti tree).vector lan) }
     ensures msti_bridge { (net : Net) (o : Outcome) → IsNetwork net → IsOutcome net o → (tree : ℕ) (name : List ℕ) (b : MstiBridge) → TellsLowerFirst msti_rules msti_fields (Gives msti_rules (msti_of net tree o.cist.designated) (o.msti tree).vector name b) }
 {}
 
@@ -52,6 +52,6 @@ pub fn roles_as_told()
     ensures cist { (net : Net) (o : Outcome) → IsNetwork net → IsOutcome net o → (p : LogicalPort) → Contains (view_ports net) p → p.is_enabled ≡ true
         → IsAsTold cist_rules (cist_of net) o.cist p (cist_role net o p) }
     ensures msti { (net : Net) (o : Outcome) → IsNetwork net → IsOutcome net o → (p : LogicalPort) → Contains (view_ports net) p → p.is_enabled ≡ true
-        → (tree : ℕ) → has_msti net tree p.name.bridge ≡ true → is_inner net o.cist.designated p ≡ true
+        → (tree : ℕ) → has_msti net tree p.name.bridge ≡ true → is_internal net o.cist.designated p ≡ true
         → IsAsTold msti_rules (msti_of net tree o.cist.designated) (o.msti tree) p (msti_role net o tree p) }
 {}

@@ -32,7 +32,7 @@ module _ {N L K B P V : Type 0} (tree : SettledTree N L K B P V) where
 
     -- how a vector begins in a region: as the bridge's own, or with a step from another region
     abbrev pub Begins : (n : N) → Placed tree n → Type 0
-    Begins n a = (a.vector ≡ m.own a.bridge) ⊎ ((k : Took tree n a) × (IsNear n a k ≡ false))
+    Begins n a = (a.vector ≡ m.bridge_vector a.bridge) ⊎ ((k : Took tree n a) × (IsNear n a k ≡ false))
 
     pub record ChainEnd (n : N) (a : Placed tree n) : Type 0 where
       pub root : N

@@ -4,7 +4,7 @@ use Rattle.std.specs.List.{Contains, find}
 use Rattle.std.specs.FinMap as fin
 use Rattle.mst_ids.specs.declared.name.PortName.{PortName}
 use Rattle.mst_vector.specs.Rules.{Rules, IsMetric}
-use Rattle.mst_settle.specs.Topology.{Plug}
+use Rattle.mst_settle.specs.Topology.{TreePort}
 use Rattle.mst_settle.specs.Settled.{IsDesignated, Designates}
 use Rattle.mst_settle.proofs.Below.{one_designated}
 use Rattle.mst_net.specs.Tables.{Net, Numbers}
@@ -40,10 +40,10 @@ module _ {B P V : Type 0} (net : Net) (numbers : Numbers) (v : Viewed) (region_i
     pub has_number : fin.get numbers.bridges parent ≡ Some r.bridge
 
   -- the designated port of a LAN is on the bridge of its name
-  on_named : (lan : List ℕ) (nm : PortName) (p : Plug (List ℕ) (List ℕ) PortName P) (x : V) → p.number ≡ nm → Designates m (tree_of net s) o.vector lan p x → p.bridge ≡ nm.bridge
+  on_named : (lan : List ℕ) (nm : PortName) (p : TreePort (List ℕ) (List ℕ) PortName P) (x : V) → p.number ≡ nm → Designates m (tree_of net s) o.vector lan p x → p.bridge ≡ nm.bridge
   on_named lan nm p x number d =
       let z = port_from net of.network m s sight p d.says.has_port in
-      sym (ap (λ (y : Plug (List ℕ) (List ℕ) PortName P). y.bridge) z.is) ∙ ap (λ (y : Plug (List ℕ) (List ℕ) PortName P). y.number.bridge) z.is ∙ ap (λ (n : PortName). n.bridge) number
+      sym (ap (λ (y : TreePort (List ℕ) (List ℕ) PortName P). y.bridge) z.is) ∙ ap (λ (y : TreePort (List ℕ) (List ℕ) PortName P). y.number.bridge) z.is ∙ ap (λ (n : PortName). n.bridge) number
 
   found_bridge : (nm : PortName) (k : ℕ) (r : PortInView) → IsThere net numbers v region_ids of nm k → find (λ (x : PortInView). k == x.number) v.ports ≡ Some r → fin.get numbers.bridges nm.bridge ≡ Some r.bridge
   found_bridge nm k r z found = z.has_bridge ∙ ap (λ (x : PortInView). Some x.bridge) (some_is z.port r (sym z.found ∙ found))
@@ -99,10 +99,10 @@ module _ {B P V : Type 0} (net : Net) (numbers : Numbers) (v : Viewed) (region_i
     seen_q = port_seen net numbers v of.view q q_there
 
     name_is : q.name.bridge ≡ h.port.bridge
-    name_is = ap (λ (x : LogicalPort). x.name.bridge) q_is ∙ ap (λ (x : Plug (List ℕ) (List ℕ) PortName P). x.bridge) pf.is
+    name_is = ap (λ (x : LogicalPort). x.name.bridge) q_is ∙ ap (λ (x : TreePort (List ℕ) (List ℕ) PortName P). x.bridge) pf.is
 
     lan_is : h.port.lan ≡ q.lan
-    lan_is = sym (ap (λ (x : LogicalPort). x.lan) q_is ∙ ap (λ (x : Plug (List ℕ) (List ℕ) PortName P). x.lan) pf.is)
+    lan_is = sym (ap (λ (x : LogicalPort). x.lan) q_is ∙ ap (λ (x : TreePort (List ℕ) (List ℕ) PortName P). x.lan) pf.is)
 
     -- the LAN's designated port, by the port's LAN
     designates_here : Designates m (tree_of net s) o.vector q.lan h.from h.message
@@ -113,7 +113,7 @@ module _ {B P V : Type 0} (net : Net) (numbers : Numbers) (v : Viewed) (region_i
         let z = is_there net numbers v region_ids of m s sight o is q.lan nm k e has in
         let des = subst (λ w. IsDesignated m (tree_of net s) o.vector q.lan w) e (is.designated q.lan) in
         let one : h.from ≡ des.0 = one_designated m law (tree_of net s) (is_topology net of.network m s sight) o.vector q.lan h.from des.0 h.message des.1 designates_here des.3 in
-        let bridge : b ≡ nm.bridge = sym h.is_bridge ∙ ap (λ (x : Plug (List ℕ) (List ℕ) PortName P). x.bridge) one ∙ on_named q.lan nm des.0 des.1 des.2 des.3 in
+        let bridge : b ≡ nm.bridge = sym h.is_bridge ∙ ap (λ (x : TreePort (List ℕ) (List ℕ) PortName P). x.bridge) one ∙ on_named q.lan nm des.0 des.1 des.2 des.3 in
         record {
           port = q;
           there = q_there;
@@ -124,7 +124,7 @@ module _ {B P V : Type 0} (net : Net) (numbers : Numbers) (v : Viewed) (region_i
             is_settings = ap s.port q_is ∙ pf.seen;
             root = h.is_root.vector;
             is_vector = agrees.vectors q.name.bridge q.bridge seen_q.has_numbers.bridge ∙ ap o.vector name_is ∙ h.is_root.is_vector;
-            came_by = h.is_root.came_by ∙ ap (λ (x : Plug (List ℕ) (List ℕ) PortName P). m.port_id x.settings) (sym pf.is);
+            came_by = h.is_root.came_by ∙ ap (λ (x : TreePort (List ℕ) (List ℕ) PortName P). m.port_id x.settings) (sym pf.is);
             number = k;
             designates = f;
             found = z.found;

@@ -17,29 +17,31 @@ use Rattle.mst_settle.specs.Topology.{HasBridge}
 use Rattle.mst_settle.specs.Assignment.{vector_of, designated_of}
 use Rattle.mst_net.specs.Tables.{Net, Numbers, BridgeRow}
 use Rattle.mst_net.specs.ByTree.{ByTree, by_tree, port_priority_in}
+use Rattle.mst_lag.specs.Trees.{is_among}
 use Rattle.mst_lag.specs.Viewed.{Viewed, named_port}
 use Rattle.mst_lag.specs.declared.in_view.BridgeInView.{BridgeInView}
 use Rattle.mst_lag.specs.declared.in_view.PortInView.{PortInView}
 use Rattle.mst_trees.specs.Sight.{Sight, tree_of}
 use Rattle.mst_trees.specs.Cist.{cist_port, cist_sight}
-use Rattle.mst_trees.specs.Msti.{msti_bridge, msti_port, msti_sight, has_msti, is_inner}
-use Rattle.mst_trees.specs.Seen.{seen_inner}
+use Rattle.mst_trees.specs.Msti.{msti_bridge, msti_port, msti_sight, has_msti, is_internal}
+use Rattle.mst_trees.specs.Seen.{seen_internal, trees_at}
 use Rattle.mst_trees.specs.Outcome.{TreeOutcome, IsTreeOutcome, Outcome, trees_of}
 use Rattle.mst_trees.specs.Agrees.{Agrees, AreOf}
-use Rattle.mst_trees.specs.Forest.{IsForest, msti_vector, msti_designated, designated_in}
+use Rattle.mst_trees.specs.Forest.{IsForest, msti_vector, msti_designated_vector, designated_in}
 use Rattle.mst_trees.specs.Forest.{Forest}
 use Rattle.mst_trees.proofs.Seen.{bridge_seen, port_seen, bridge_there}
 use Rattle.mst_trees.proofs.Sights.{IsSight, bridge_from}
-use Rattle.mst_trees.proofs.Looking.{inner_same}
+use Rattle.mst_trees.proofs.Looking.{internal_same, has_tree_at}
 use Rattle.mst_trees.proofs.CistTopology.{given, cist_is_sight}
 use Rattle.mst_trees.proofs.MstiTopology.{msti_is_sight, msti_port_is}
 use Rattle.mst_nested.specs.Trees.{IsSettled}
 use Rattle.mst_note_text.specs.Depths.{HasParent}
 use Rattle.mst_note_text.specs.declared.member.Member.{Member}
-use Rattle.mst_note_text.specs.SeenTree.{cist_member, msti_member, seen_member, takes_part, receiver_at, is_root_port}
+use Rattle.mst_note_text.specs.SeenTree.{cist_member, msti_member, seen_member, is_root_port}
 use Rattle.mst_note_text.proofs.TreeParents.{map_from}
 use Rattle.mst_note_text.proofs.Heard.{gives, given_by}
 use Rattle.mst_note_text.proofs.Listing.{InTree}
+use Rattle.mst_note_text.proofs.RootRole.{came_by, root_in_cist, root_in_msti}
 
 pub not_zero : (i : ℕ) → (suc i == 0) ≡ false
 not_zero i = go (suc i == 0) refl
@@ -145,7 +147,7 @@ module _ (net : Net) (numbers : Numbers) (v : Viewed) (f : Forest) (of : AreOf n
 
   cist_to : (q : PortInView) → Contains v.ports q → is_root_port v f 0 q ≡ true → CistRoot q
   cist_to q there e =
-      let p = and_parts q.is_enabled (option_map_or (λ r. r == port_id (port_priority_in v.settings.port_priorities q.name 0) q.name.number) (option_map (λ (x : CistVector). x.receiver) (vector_of f.cist q.bridge)) false) e in
+      let p = and_parts q.is_enabled (came_by (option_map (λ (x : CistVector). x.receiver) (vector_of f.cist q.bridge)) (cist_port v.settings (named_port q)).id) (sym (root_in_cist v f q) ∙ e) in
       let r = map_from (λ (x : CistVector). x.receiver) (vector_of f.cist q.bridge) (port_id (port_priority_in v.settings.port_priorities q.name 0) q.name.number)
       (tested (option_map (λ (x : CistVector). x.receiver) (vector_of f.cist q.bridge)) (port_id (port_priority_in v.settings.port_priorities q.name 0) q.name.number) p.1) in
       record {
@@ -159,7 +161,8 @@ module _ (net : Net) (numbers : Numbers) (v : Viewed) (f : Forest) (of : AreOf n
   cist_from : (q : PortInView) → Contains v.ports q → CistRoot q → is_root_port v f 0 q ≡ true
   cist_from q there r =
       let p = given q.is_enabled (cist_port (by_tree net) (named_port q)) r.settings r.is_settings in
-      and_from q.is_enabled (option_map_or (λ k. k == port_id (port_priority_in v.settings.port_priorities q.name 0) q.name.number) (option_map (λ (x : CistVector). x.receiver) (vector_of f.cist q.bridge)) false) p.0
+      root_in_cist v f q
+      ∙ and_from q.is_enabled (came_by (option_map (λ (x : CistVector). x.receiver) (vector_of f.cist q.bridge)) (cist_port v.settings (named_port q)).id) p.0
       (ap (λ (w : Option CistVector). option_map_or (λ k. k == port_id (port_priority_in v.settings.port_priorities q.name 0) q.name.number) (option_map (λ x. x.receiver) w) false) r.is_vector
       ∙ eq-eqb r.root.receiver (port_id (port_priority_in v.settings.port_priorities q.name 0) q.name.number) (r.came_by ∙ ap (λ c. cist_rules.port_id c) (sym p.1) ∙ sym (cist_id q)))
 
@@ -184,14 +187,14 @@ module _ (net : Net) (numbers : Numbers) (v : Viewed) (f : Forest) (of : AreOf n
     pub member_is : (b : BridgeInView) → seen_member f tree b ≡ option_map (msti_member b) (msti_vector f tree b.bridge.number)
     member_is b = ap (λ (t : Bool). if t then option_map (cist_member b) (vector_of f.cist b.bridge.number) else option_map (msti_member b) (msti_vector f tree b.bridge.number)) (not_zero i)
 
-    port_is : (lan : ℕ) → designated_in f tree lan ≡ msti_designated f tree lan
-    port_is lan = ap (λ (t : Bool). if t then designated_of f.cist lan else msti_designated f tree lan) (not_zero i)
+    port_is : (lan : ℕ) → designated_in f tree lan ≡ msti_designated_vector f tree lan
+    port_is lan = ap (λ (t : Bool). if t then designated_of f.cist lan else msti_designated_vector f tree lan) (not_zero i)
 
-    part_is : (q : PortInView) → takes_part v f tree q ≡ seen_inner v f.regions (designated_of f.cist) q
-    part_is q = ap (λ (t : Bool). if t then q.is_enabled else seen_inner v f.regions (designated_of f.cist) q) (not_zero i)
+    abbrev internal : PortInView → Bool
+    internal q = seen_internal v f.regions (designated_of f.cist) q
 
-    receiver_is : (bridge : ℕ) → receiver_at f tree bridge ≡ option_map (λ (x : MstiVector). x.receiver) (msti_vector f tree bridge)
-    receiver_is bridge = ap (λ (t : Bool). if t then option_map (λ (x : CistVector). x.receiver) (vector_of f.cist bridge) else option_map (λ (x : MstiVector). x.receiver) (msti_vector f tree bridge)) (not_zero i)
+    abbrev receiver : PortInView → Option ℕ
+    receiver q = option_map (λ (x : MstiVector). x.receiver) (msti_vector f tree q.bridge)
 
     abbrev id : PortInView → ℕ
     id q = port_id (port_priority_in v.settings.port_priorities q.name tree) q.name.number
@@ -199,11 +202,14 @@ module _ (net : Net) (numbers : Numbers) (v : Viewed) (f : Forest) (of : AreOf n
     msti_id : (q : PortInView) → id q ≡ (msti_port (by_tree net) tree (named_port q)).id
     msti_id q = ap (λ (set : ByTree). port_id (port_priority_in set.port_priorities q.name tree) q.name.number) of.view.settings
 
-    inner_is : (q : PortInView) → Contains v.ports q → seen_inner v f.regions (designated_of f.cist) q ≡ (q.is_enabled && is_inner net o.cist.designated (named_port q))
-    inner_is q there = inner_same net numbers v f.regions of o.cist is.is_outcome.cist (vector_of f.cist) (designated_of f.cist) is.cist q (port_seen net numbers v of.view q there)
+    internal_is : (q : PortInView) → Contains v.ports q → seen_internal v f.regions (designated_of f.cist) q ≡ (q.is_enabled && is_internal net o.cist.designated (named_port q))
+    internal_is q there = internal_same net numbers v f.regions of o.cist is.is_outcome.cist (vector_of f.cist) (designated_of f.cist) is.cist q (port_seen net numbers v of.view q there)
+
+    has_there : (q : PortInView) → Contains v.ports q → is_among (trees_at v q.bridge) tree ≡ has_msti net tree q.name.bridge
+    has_there q there = has_tree_at net numbers v f.regions of tree q.name.bridge q.bridge (port_seen net numbers v of.view q there).has_numbers.bridge
 
     abbrev MstiRoot : PortInView → Type 0
-    MstiRoot = RootPort net numbers v f of msti_rules msti_lawful (msti_sight net tree o.cist.designated) (msti_is_sight net of.network tree o.cist.designated) (o.msti tree) (is.is_outcome.mstis tree) (msti_vector f tree) (msti_designated f tree) (is.mstis tree) (λ x. x.receiver) tree msti_member member_is port_is
+    MstiRoot = RootPort net numbers v f of msti_rules msti_lawful (msti_sight net tree o.cist.designated) (msti_is_sight net of.network tree o.cist.designated) (o.msti tree) (is.is_outcome.mstis tree) (msti_vector f tree) (msti_designated_vector f tree) (is.mstis tree) (λ x. x.receiver) tree msti_member member_is port_is
 
     -- a bridge with a vector has the tree
     pub had : (a : List ℕ) (x : MstiVector) → (o.msti tree).vector a ≡ Some x → has_msti net tree a ≡ true
@@ -214,15 +220,13 @@ module _ (net : Net) (numbers : Numbers) (v : Viewed) (f : Forest) (of : AreOf n
 
     msti_to : (q : PortInView) → Contains v.ports q → is_root_port v f tree q ≡ true → MstiRoot q
     msti_to q there e =
-        let p = and_parts (takes_part v f tree q) (option_map_or (λ r. r == id q) (receiver_at f tree q.bridge) false) e in
-        let inner = and_parts q.is_enabled (is_inner net o.cist.designated (named_port q)) (sym (inner_is q there) ∙ sym (part_is q) ∙ p.0) in
-        let r = map_from (λ (x : MstiVector). x.receiver) (msti_vector f tree q.bridge) (id q) (sym (receiver_is q.bridge) ∙ tested (receiver_at f tree q.bridge) (id q) p.1) in
-        let own = (port_seen net numbers v of.view q there).has_numbers.bridge in
-        let has = had q.name.bridge r.0 (sym ((is.mstis tree).vectors q.name.bridge q.bridge own) ∙ r.1) in
+        let h = and_parts (is_among (trees_at v q.bridge) tree) (q.is_enabled && (internal q && came_by (receiver q) (id q))) (sym (root_in_msti v f q tree (not_zero i)) ∙ e) in
+        let p = and_parts (internal q) (came_by (receiver q) (id q)) (and_parts q.is_enabled (internal q && came_by (receiver q) (id q)) h.1).1 in
+        let r = map_from (λ (x : MstiVector). x.receiver) (msti_vector f tree q.bridge) (id q) (tested (receiver q) (id q) p.1) in
         record {
           settings = msti_port (by_tree net) tree (named_port q);
           is_settings = ap (λ (b : Bool). if b then Some (msti_port (by_tree net) tree (named_port q)) else None)
-              (and_from (q.is_enabled && is_inner net o.cist.designated (named_port q)) (has_msti net tree q.name.bridge) (and_from q.is_enabled (is_inner net o.cist.designated (named_port q)) inner.0 inner.1) has);
+              (and_from (q.is_enabled && is_internal net o.cist.designated (named_port q)) (has_msti net tree q.name.bridge) (sym (internal_is q there) ∙ p.0) (sym (has_there q there) ∙ h.0));
           root = r.0;
           is_vector = r.1;
           came_by = r.2 ∙ msti_id q;
@@ -231,22 +235,24 @@ module _ (net : Net) (numbers : Numbers) (v : Viewed) (f : Forest) (of : AreOf n
     msti_from : (q : PortInView) → Contains v.ports q → MstiRoot q → is_root_port v f tree q ≡ true
     msti_from q there r =
         let p = msti_port_is net of.network tree o.cist.designated (named_port q) r.settings r.is_settings in
-        and_from (takes_part v f tree q) (option_map_or (λ k. k == id q) (receiver_at f tree q.bridge) false)
-        (part_is q ∙ inner_is q there ∙ and_from q.is_enabled (is_inner net o.cist.designated (named_port q)) p.is_enabled p.inner)
-        (ap (λ w. option_map_or (λ k. k == id q) w false) (receiver_is q.bridge ∙ ap (option_map (λ (x : MstiVector). x.receiver)) r.is_vector)
-        ∙ eq-eqb r.root.receiver (id q) (r.came_by ∙ ap (λ c. msti_rules.port_id c) (sym p.is) ∙ sym (msti_id q)))
+        root_in_msti v f q tree (not_zero i)
+        ∙ and_from (is_among (trees_at v q.bridge) tree) (q.is_enabled && (internal q && came_by (receiver q) (id q))) (has_there q there ∙ p.has_tree)
+        (and_from q.is_enabled (internal q && came_by (receiver q) (id q)) p.is_enabled
+        (and_from (internal q) (came_by (receiver q) (id q)) (internal_is q there ∙ and_from q.is_enabled (is_internal net o.cist.designated (named_port q)) p.is_enabled p.internal)
+        (ap (λ (w : Option MstiVector). came_by (option_map (λ x. x.receiver) w) (id q)) r.is_vector
+        ∙ eq-eqb r.root.receiver (id q) (r.came_by ∙ ap (λ c. msti_rules.port_id c) (sym p.is) ∙ sym (msti_id q)))))
 
     pub in_msti : IsSettled (trees_of net o) → InTree net numbers v f o of tree
     in_msti settled = record {
-      has = has_of net numbers v f of msti_rules msti_lawful (msti_sight net tree o.cist.designated) (msti_is_sight net of.network tree o.cist.designated) (o.msti tree) (is.is_outcome.mstis tree) (msti_vector f tree) (msti_designated f tree) (is.mstis tree) (λ x. x.receiver) tree msti_member member_is port_is;
+      has = has_of net numbers v f of msti_rules msti_lawful (msti_sight net tree o.cist.designated) (msti_is_sight net of.network tree o.cist.designated) (o.msti tree) (is.is_outcome.mstis tree) (msti_vector f tree) (msti_designated_vector f tree) (is.mstis tree) (λ x. x.receiver) tree msti_member member_is port_is;
       names = λ b x e.
-          let y = made net numbers v f of msti_rules msti_lawful (msti_sight net tree o.cist.designated) (msti_is_sight net of.network tree o.cist.designated) (o.msti tree) (is.is_outcome.mstis tree) (msti_vector f tree) (msti_designated f tree) (is.mstis tree) (λ x. x.receiver) tree msti_member member_is port_is b x e in
+          let y = made net numbers v f of msti_rules msti_lawful (msti_sight net tree o.cist.designated) (msti_is_sight net of.network tree o.cist.designated) (o.msti tree) (is.is_outcome.mstis tree) (msti_vector f tree) (msti_designated_vector f tree) (is.mstis tree) (λ x. x.receiver) tree msti_member member_is port_is b x e in
           (ap (λ (z : Member). z.name) (sym y.1), ap (λ (z : Member). z.number) (sym y.1));
-      member = member_of net numbers v f of msti_rules msti_lawful (msti_sight net tree o.cist.designated) (msti_is_sight net of.network tree o.cist.designated) (o.msti tree) (is.is_outcome.mstis tree) (msti_vector f tree) (msti_designated f tree) (is.mstis tree) (λ x. x.receiver) tree msti_member member_is port_is;
+      member = member_of net numbers v f of msti_rules msti_lawful (msti_sight net tree o.cist.designated) (msti_is_sight net of.network tree o.cist.designated) (o.msti tree) (is.is_outcome.mstis tree) (msti_vector f tree) (msti_designated_vector f tree) (is.mstis tree) (λ x. x.receiver) tree msti_member member_is port_is;
       in_cist = (settled.nested i).bridges;
-      ends = ends_of net numbers v f of msti_rules msti_lawful (msti_sight net tree o.cist.designated) (msti_is_sight net of.network tree o.cist.designated) (o.msti tree) (is.is_outcome.mstis tree) (msti_vector f tree) (msti_designated f tree) (is.mstis tree) (λ x. x.receiver) tree msti_member member_is port_is;
-      gives = gives_of net numbers v f of msti_rules msti_lawful (msti_sight net tree o.cist.designated) (msti_is_sight net of.network tree o.cist.designated) (o.msti tree) (is.is_outcome.mstis tree) (msti_vector f tree) (msti_designated f tree) (is.mstis tree) (λ x. x.receiver) tree msti_member member_is port_is msti_to msti_from;
-      given_by = given_of net numbers v f of msti_rules msti_lawful (msti_sight net tree o.cist.designated) (msti_is_sight net of.network tree o.cist.designated) (o.msti tree) (is.is_outcome.mstis tree) (msti_vector f tree) (msti_designated f tree) (is.mstis tree) (λ x. x.receiver) tree msti_member member_is port_is msti_to msti_from;
+      ends = ends_of net numbers v f of msti_rules msti_lawful (msti_sight net tree o.cist.designated) (msti_is_sight net of.network tree o.cist.designated) (o.msti tree) (is.is_outcome.mstis tree) (msti_vector f tree) (msti_designated_vector f tree) (is.mstis tree) (λ x. x.receiver) tree msti_member member_is port_is;
+      gives = gives_of net numbers v f of msti_rules msti_lawful (msti_sight net tree o.cist.designated) (msti_is_sight net of.network tree o.cist.designated) (o.msti tree) (is.is_outcome.mstis tree) (msti_vector f tree) (msti_designated_vector f tree) (is.mstis tree) (λ x. x.receiver) tree msti_member member_is port_is msti_to msti_from;
+      given_by = given_of net numbers v f of msti_rules msti_lawful (msti_sight net tree o.cist.designated) (msti_is_sight net of.network tree o.cist.designated) (o.msti tree) (is.is_outcome.mstis tree) (msti_vector f tree) (msti_designated_vector f tree) (is.mstis tree) (λ x. x.receiver) tree msti_member member_is port_is msti_to msti_from;
     }
 
   pub in_tree : IsSettled (trees_of net o) → (tree : ℕ) → InTree net numbers v f o of tree

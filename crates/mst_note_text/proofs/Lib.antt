@@ -16,6 +16,7 @@ mod Giving
 mod Heard
 mod TreeParents
 mod Listing
+mod RootRole
 mod InTrees
 mod Names
 mod Found

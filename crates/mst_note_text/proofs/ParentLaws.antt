@@ -1,7 +1,7 @@
 -- Parents in one settled tree: a bridge's vector is a step from its parent, or its own where it has none.
 use Rattle.std.proofs.Common.{◌≡◌, inl, inr, refl, sym, ◌∙◌, ap, ℕ, Option, Some}
 use Rattle.mst_vector.specs.Rules.{Rules}
-use Rattle.mst_settle.specs.Topology.{Plug, Topology}
+use Rattle.mst_settle.specs.Topology.{TreePort, Topology}
 use Rattle.mst_settle.proofs.Below.{one_designated}
 use Rattle.mst_nested.proofs.Settled.{SettledTree}
 use Rattle.mst_nested.proofs.Ports.{Placed, Heard, some_is}
@@ -23,9 +23,9 @@ module _ {N L K B P V : Type 0} (tree : SettledTree N L K B P V) where
       let vectors : p.is_root.vector ≡ q.is_root.vector = some_is (sym (parent_vector p) ∙ (parent_vector q)) in
       let ports : p.port ≡ q.port = ok.port_ids p.port q.port p.is_root.part.0 p.is_root.part.1 q.is_root.part.0 q.is_root.part.1 (p.on_bridge ∙ sym q.on_bridge) (sym p.is_root.came_by ∙ (ap w.receiver vectors ∙ q.is_root.came_by)) in
       let heard : Heard tree p.port.lan = record { port = p.from; message = p.message; designates = p.designates } in
-      let d : Heard tree q.port.lan = on_same_lan (ap (λ (r : Plug N L K P). r.lan) ports) heard in
+      let d : Heard tree q.port.lan = on_same_lan (ap (λ (r : TreePort N L K P). r.lan) ports) heard in
       let from = one_designated m law t ok v q.port.lan d.port q.from d.message q.message d.designates q.designates in
-      sym p.is_bridge ∙ (ap (λ (r : Plug N L K P). r.bridge) from ∙ q.is_bridge)
+      sym p.is_bridge ∙ (ap (λ (r : TreePort N L K P). r.bridge) from ∙ q.is_bridge)
 
   -- a step comes from the parent
   pub took_parent : (n : N) (a : Placed tree n) (k : Took tree n a) → Parent n k.heard.port.bridge
@@ -40,7 +40,7 @@ module _ {N L K B P V : Type 0} (tree : SettledTree N L K B P V) where
   }
 
   -- a bridge with its own vector has no parent
-  pub own_alone : (n k : N) (a : Placed tree n) → a.vector ≡ m.own a.bridge → Parent n k → ⊥
+  pub own_alone : (n k : N) (a : Placed tree n) → a.vector ≡ m.bridge_vector a.bridge → Parent n k → ⊥
   own_alone n k a own p =
       let vectors : p.is_root.vector ≡ a.vector = some_is (sym (parent_vector p) ∙ a.is_vector) in
       port_ids p.port p.is_root.part.0 (sym p.is_root.came_by ∙ (ap w.receiver vectors ∙ (ap w.receiver own ∙ within.own_receiver a.bridge)))

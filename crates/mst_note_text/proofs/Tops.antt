@@ -1,6 +1,6 @@
 -- The depths of bridges in settled trees, and the roots where their chains end.
 use Rattle.std.proofs.Common.{◌≡◌, inl, inr, sym, ◌∙◌, ap, subst, ℕ, zero, suc, ◌+◌, ◌<◌, Some, arith}
-use Rattle.mst_vector.specs.Cist.{cist_own}
+use Rattle.mst_vector.specs.Cist.{cist_bridge_vector}
 use Rattle.mst_vector.specs.declared.cist.CistVector.{CistVector}
 use Rattle.mst_vector.specs.declared.cist.CistBridge.{CistBridge}
 use Rattle.mst_vector.specs.declared.msti.MstiVector.{MstiVector}
@@ -49,10 +49,10 @@ module _ {N L K : Type 0} (f : Trees N L K) (tests : KeyTests N L) (ok : IsSettl
       let s = k.0.heard.designates.says in
       let message_root : k.0.heard.message.root ≡ s.root.root = ap (λ (x : CistVector). x.root) (sym s.is_designated) in
       let message_external : k.0.heard.message.external ≡ s.root.external = ap (λ (x : CistVector). x.external) (sym s.is_designated) in
-      let rise : a.vector.external ≡ k.0.heard.message.external + k.0.port.settings.external = ap (λ (x : CistVector). x.external) k.0.is_step ∙ cist_far_external k.0.heard.message s.bridge a.bridge k.0.port.settings k.1 in
+      let rise : a.vector.external ≡ k.0.heard.message.external + k.0.port.settings.external = ap (λ (x : CistVector). x.external) k.0.is_made ∙ cist_far_external k.0.heard.message s.bridge a.bridge k.0.port.settings k.1 in
       let positive = cist_external k.0.port.settings (ok.cist.topology.in_range k.0.port k.0.part.0) in
       record {
-        root = ap (λ (x : CistVector). x.root) k.0.is_step ∙ (cist_root k.0.heard.message s.bridge a.bridge k.0.port.settings ∙ message_root);
+        root = ap (λ (x : CistVector). x.root) k.0.is_made ∙ (cist_root k.0.heard.message s.bridge a.bridge k.0.port.settings ∙ message_root);
         falls = omega arith;
       }
 
@@ -60,7 +60,7 @@ module _ {N L K : Type 0} (f : Trees N L K) (tests : KeyTests N L) (ok : IsSettl
   pub record Top (n : N) (a : At f tests ok n) : Type 0 where
     pub root : N
     at : At f tests ok root
-    is_own : at.vector ≡ cist_own at.bridge
+    is_own : at.vector ≡ cist_bridge_vector at.bridge
     same : at.vector.root ≡ a.vector.root
     pub depth : ℕ
     pub chain : ExternalChain (ParentWithin f 0) (ParentBetween f) root n depth
@@ -117,7 +117,7 @@ module _ {N L K : Type 0} (f : Trees N L K) (tests : KeyTests N L) (ok : IsSettl
 
       named : {k : N} → (c : At f tests ok k) → Begins (cist_tree f tests ok) (ParentWithin f 0) (cist_steps f tests ok) k c → c.bridge.id ≡ c.vector.regional
       named c (inl e) = sym (ap (λ (y : CistVector). y.regional) e)
-      named c (inr t) = sym (ap (λ (y : CistVector). y.regional) t.0.is_step ∙ cist_far_regional t.0.heard.message t.0.heard.designates.says.bridge c.bridge t.0.port.settings t.1)
+      named c (inr t) = sym (ap (λ (y : CistVector). y.regional) t.0.is_made ∙ cist_far_regional t.0.heard.message t.0.heard.designates.says.bridge c.bridge t.0.port.settings t.1)
 
       go : CistEnd n at → (b : CistBridge) × HasBridge f.cist depth.root b × (b.id ≡ x.regional)
       go e =

@@ -11,6 +11,7 @@ use Rattle.mst_lag.specs.Viewed.{Viewed}
 use Rattle.mst_lag.specs.declared.in_view.BridgeInView.{BridgeInView}
 use Rattle.mst_trees.specs.Agrees.{AreOf}
 use Rattle.mst_trees.specs.Forest.{IsForest}
+use Rattle.mst_trees.specs.InUse.{is_in_use}
 use Rattle.mst_trees.specs.Seen.{trees_at}
 use Rattle.mst_trees.specs.Forest.{Forest}
 use Rattle.mst_trees.specs.Outcome.{Outcome, trees_of}
@@ -39,18 +40,15 @@ module _ (net : Net) (numbers : Numbers) (v : Viewed) (f : Forest) (of : AreOf n
   abbrev o : Outcome
   o = is.outcome
 
-  abbrev some_has : ℕ → Bool
-  some_has tree = list_any (λ (b : BridgeInView). is_among (trees_at v b.bridge.number) tree) v.bridges
-
   -- a bridge with a vector in an MSTI is in the view, and has it there
-  is_had_by : (i : ℕ) (name : List ℕ) (x : MstiVector) → (o.msti (suc i)).vector name ≡ Some x → some_has (suc i) ≡ true
+  is_had_by : (i : ℕ) (name : List ℕ) (x : MstiVector) → (o.msti (suc i)).vector name ≡ Some x → is_in_use v (suc i) ≡ true
   is_had_by i name x e =
       let m = (in_tree net numbers v f of is settled (suc i)).member name ((settled.msti i).settled.is_bridge name x e) in
       let number = (bridge_seen net numbers v of.view m.0 m.1).has_number in
       any_there (λ (b : BridgeInView). is_among (trees_at v b.bridge.number) (suc i)) v.bridges m.0 m.1
       (has_tree_at net numbers v f.regions of (suc i) m.0.name m.0.bridge.number number ∙ had net numbers v f of is i m.0.name x (ap (o.msti (suc i)).vector m.2 ∙ e))
 
-  unhad : (i : ℕ) → some_has (suc i) ≡ false → tree_notes net o d (suc i) ≡ []
+  unhad : (i : ℕ) → is_in_use v (suc i) ≡ false → tree_notes net o d (suc i) ≡ []
   unhad i none = all_empty (bridge_notes net o d (suc i)) (fin.keys net.bridges) (λ name.
       ap (λ (t : Bool). if t then option_map_or (cist_notes net d name) (o.cist.vector name) [] else option_map_or (msti_notes net d (suc i) name) ((o.msti (suc i)).vector name) []) (not_zero i)
       ∙ go name ((o.msti (suc i)).vector name) refl)
@@ -63,9 +61,9 @@ module _ (net : Net) (numbers : Numbers) (v : Viewed) (f : Forest) (of : AreOf n
   neither true b e = absurd (true≢false e)
   neither false b e = e
 
-  pub no_notes : (tree : ℕ) → is_had v tree v.bridges ≡ false → tree_notes net o d tree ≡ []
+  pub no_notes : (tree : ℕ) → is_had v tree ≡ false → tree_notes net o d tree ≡ []
   no_notes zero none = absurd (true≢false none)
-  no_notes (suc i) none = unhad i (neither (suc i == 0) (some_has (suc i)) none)
+  no_notes (suc i) none = unhad i (neither (suc i == 0) (is_in_use v (suc i)) none)
 
 pub all_trees : (net : Net) (o : Outcome) (d : TreeDepths) (number : ℕ) (first now : List ℕ) → number ≡ 4095 → now ≡ first ++ flat_map (tree_notes net o d) (range_with_len 0 number) → now ≡ first ++ trees_notes net o d
 unfolding trees_notes

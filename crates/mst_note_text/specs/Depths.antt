@@ -4,7 +4,7 @@ use Rattle.mst_vector.specs.Rules.{Rules}
 use Rattle.mst_vector.specs.Cist.{cist_rules}
 use Rattle.mst_vector.specs.Msti.{msti_rules}
 use Rattle.mst_vector.specs.declared.cist.CistBridge.{CistBridge}
-use Rattle.mst_settle.specs.Topology.{Plug, Topology, HasBridge}
+use Rattle.mst_settle.specs.Topology.{TreePort, Topology, HasBridge}
 use Rattle.mst_settle.specs.Settled.{Designates}
 use Rattle.mst_nested.specs.Trees.{Trees, HasTree, SameRegion}
 use Rattle.mst_nested.specs.Roles.{IsRootPort}
@@ -13,10 +13,10 @@ use Rattle.mst_note_text.specs.Chains.{InternalChain, ExternalChain}
 -- the parent of bridge n is bridge k: the designated bridge of the LAN of n's root port, which is the port
 -- by which n's root priority vector came
 pub record HasParent {N L K B P V : Type 0} (m : Rules B P V) (t : Topology N L K B P) (v : N → Option V) (receiver : V → ℕ) (n k : N) : Type 0 where
-  pub port : Plug N L K P
+  pub port : TreePort N L K P
   pub is_root : IsRootPort m t v receiver port
   pub on_bridge : port.bridge ≡ n
-  pub from : Plug N L K P
+  pub from : TreePort N L K P
   pub message : V
   pub designates : Designates m t v port.lan from message
   pub is_bridge : from.bridge ≡ k

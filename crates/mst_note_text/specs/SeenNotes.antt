@@ -1,13 +1,12 @@
 -- The notes on a bridge by what is seen of it.
 use Rattle.std.specs.Prelude.{ℕ, ◌==◌, ◌||◌, Bool, List, [], ◌++◌, length, Option, nat_eq, slice_get}
-use Rattle.std.specs.List.{flat_map, list_any, range_with_len}
+use Rattle.std.specs.List.{flat_map, range_with_len}
 use Rattle.std.specs.Option.{option_map_or, option_and_then}
 use Rattle.std.specs.Map.{lookup}
 use Rattle.mst_ids.specs.Identifiers.{mac_of}
-use Rattle.mst_lag.specs.Trees.{is_among}
 use Rattle.mst_lag.specs.Viewed.{Viewed}
 use Rattle.mst_lag.specs.declared.in_view.BridgeInView.{BridgeInView}
-use Rattle.mst_trees.specs.Seen.{trees_at}
+use Rattle.mst_trees.specs.InUse.{is_in_use}
 use Rattle.mst_note_text.specs.Places.{depths_at}
 use Rattle.mst_note_text.specs.declared.parent.Depths.{Depths}
 use Rattle.mst_note_text.specs.NotesText.{hops_note, age_note, external_note, internal_note}
@@ -41,5 +40,5 @@ abbrev pub members_notes : List BridgeInView → List (ℕ × ℕ) → ℕ → L
 members_notes bridges macs tree members depths = flat_map (notes_at bridges macs tree members depths) (range_with_len 0 (length members))
 
 -- the tree is the CIST, or some bridge has it
-abbrev pub is_had : Viewed → ℕ → List BridgeInView → Bool
-is_had v tree bridges = tree == 0 || list_any (λ b. is_among (trees_at v b.bridge.number) tree) bridges
+abbrev pub is_had : Viewed → ℕ → Bool
+is_had v tree = tree == 0 || is_in_use v tree

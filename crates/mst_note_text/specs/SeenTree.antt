@@ -1,21 +1,21 @@
 -- What is seen of a tree, under the numbers of records: its bridges with their root priority vectors, and which of
 -- its ports give a parent.
-use Rattle.std.specs.Prelude.{ℕ, ◌==◌, ◌&&◌, Bool, not, false, List, [], filter_map, slice_get, Option, Some, None, nat_eq, if◌then◌else◌}
+use Rattle.std.specs.Prelude.{ℕ, ◌==◌, Bool, not, true, false, List, [], filter_map, slice_get, Option, Some, None, nat_eq, if◌then◌else◌}
 use Rattle.std.specs.List.{find}
 use Rattle.std.specs.Option.{option_map, option_map_or, option_and_then}
 use Rattle.std.specs.Map.{lookup}
-use Rattle.mst_ids.specs.Identifiers.{port_id}
 use Rattle.mst_vector.specs.declared.cist.CistVector.{CistVector}
 use Rattle.mst_vector.specs.declared.msti.MstiVector.{MstiVector}
-use Rattle.mst_settle.specs.Assignment.{vector_of, designated_of}
-use Rattle.mst_net.specs.ByTree.{port_priority_in}
+use Rattle.mst_settle.specs.Assignment.{vector_of}
 use Rattle.mst_lag.specs.Viewed.{Viewed}
 use Rattle.mst_lag.specs.declared.in_view.BridgeInView.{BridgeInView}
 use Rattle.mst_lag.specs.declared.in_view.PortInView.{PortInView}
 use Rattle.mst_config.specs.Shared.{same_in}
-use Rattle.mst_trees.specs.Seen.{seen_inner}
 use Rattle.mst_trees.specs.Forest.{msti_vector, designated_in}
 use Rattle.mst_trees.specs.Forest.{Forest}
+use Rattle.mst_roles.specs.Seen.{seen_role}
+use Rattle.mst_roles.specs.declared.kind.Role.{Role}
+use Rattle.mst_roles.specs.declared.kind.Role.TheVariants.{Root}
 use Rattle.mst_note_text.specs.declared.parent.Parent.{Parent}
 use Rattle.mst_note_text.specs.declared.member.Member.{Member}
 
@@ -37,18 +37,13 @@ members_in v f tree = filter_map (seen_member f tree) v.bridges
 abbrev pub name_at : List Member → ℕ → List ℕ
 name_at members place = option_map_or (λ m. m.name) (slice_get members place) []
 
--- the port takes part in the tree
-abbrev pub takes_part : Viewed → Forest → ℕ → PortInView → Bool
-takes_part v f tree q = if tree == 0 then q.is_enabled else seen_inner v f.regions (designated_of f.cist) q
-
--- the port that the vector of a bridge came by
-abbrev pub receiver_at : Forest → ℕ → ℕ → Option ℕ
-receiver_at f tree bridge = if tree == 0 then option_map (λ x. x.receiver) (vector_of f.cist bridge) else option_map (λ x. x.receiver) (msti_vector f tree bridge)
-
 -- the port is the root port of its bridge
+abbrev pub is_root : Option Role → Bool
+is_root (Some Root) = true
+is_root _ = false
+
 abbrev pub is_root_port : Viewed → Forest → ℕ → PortInView → Bool
-is_root_port v f tree q =
-    takes_part v f tree q && option_map_or (λ r. r == port_id (port_priority_in v.settings.port_priorities q.name tree) q.name.number) (receiver_at f tree q.bridge) false
+is_root_port v f tree q = is_root (seen_role v f tree q)
 
 -- the port of the LAN's designated bridge
 abbrev pub designated_at : Viewed → Forest → ℕ → PortInView → Option PortInView

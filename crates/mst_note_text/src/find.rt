@@ -79,8 +79,8 @@ impl Walk {
 }
 
 /// The depths of each bridge, from its parent's place in the list and whether that is of another region. Each
-/// bridge is come to once on the way up and once on the way down, so n bridges take n steps each way. The only
-/// error is that memory is refused.
+/// bridge is come to once on the way up and once on the way down, so n bridges take n steps each way. `AllocError`:
+/// memory was wanted and refused.
 pub(crate) fn depths_of(
     alloc: Global,
     parents: &[Option<Parent>],

@@ -1,7 +1,6 @@
 ghost use Rattle.std.specs.List.{flat_map};
-ghost use Rattle.std.specs.Prelude.{◌≡◌, ◌<◌, ◌++◌, ◌||◌, ℕ, List, false, length, OnOk, slice_index_or};
+ghost use Rattle.std.specs.Prelude.{◌≡◌, ◌<◌, ◌++◌, ℕ, List, false, length, OnOk, slice_index_or};
 ghost use Rattle.mst_lag.specs.declared.in_view.BridgeInView.{BridgeInView as BridgeOf};
-ghost use Rattle.mst_lag.specs.Trees.{is_among};
 ghost use Rattle.mst_lag.specs.Viewed.{named_port};
 ghost use Rattle.mst_net.specs.Tables.{Net, Numbers};
 ghost use Rattle.mst_trees.specs.Agrees.{AreOf};
@@ -19,13 +18,14 @@ use crate::places::{Macs, macs_of};
 use crate::tree::push_tree;
 use mst_ids::Tree;
 use mst_lag::{PortInView, View};
-use mst_trees::Forest;
 use mst_trees::laws::nested;
+use mst_trees::{Forest, trees_in_use};
 use std::alloc::{AllocError, Global};
 
 /// Appends the notes on a network, by its view and its settled trees: for each tree in rising order, and each
 /// bridge that is on and has it, in byte order of names, where hops bind, where age binds, and the external and
-/// internal path costs that 32 bits don't hold; then each logical port whose role is restricted. The view and the trees are to be of one network.
+/// internal path costs that 32 bits don't hold; then each logical port whose role is restricted. The view and the trees
+/// are to be of one network.
 ///
 /// `AllocError`: memory was wanted and refused; part of the notes may have been appended. For each tree that some
 /// bridge has it goes once over the bridges and once over the ports.
@@ -67,7 +67,7 @@ fn push_trees(
     requires known { KnownForest view.now forest.now }
     requires macs { ArePlaces (λ (b : BridgeOf). b.bridge.mac) view.now.bridges macs.now.entries }
     requires long { length had.now ≡ 4095 }
-    requires had { (tree : ℕ) → tree < 4095 → slice_index_or had.now tree false ≡ is_had view.now tree view.now.bridges }
+    requires had { (tree : ℕ) → tree < 4095 → slice_index_or had.now tree false ≡ is_had view.now tree }
     ensures { (net : Net) (numbers : Numbers) (is : IsForest net numbers forest.now) → AreOf net numbers view.now forest.now.regions
         → (d : TreeDepths) → AreDepths (trees_of net is.outcome) d → OnOk result (out.new.items ≡ out.old.items ++ trees_notes net is.outcome d) }
 {
@@ -84,22 +84,9 @@ fn push_trees(
 /// A flag for each tree: whether it is the CIST, or some bridge of the view has it.
 fn trees_of_view(view: &View) -> [bool; 4095]
     ensures long { length result ≡ 4095 }
-    ensures had { (tree : ℕ) → tree < 4095 → slice_index_or result tree false ≡ is_had view.now tree view.now.bridges }
+    ensures had { (tree : ℕ) → tree < 4095 → slice_index_or result tree false ≡ is_had view.now tree }
 {
-    let mut had = [false; 4095];
+    let mut had = trees_in_use(view);
     had[0] = true;
-    for bridge in view.bridges() {
-        mark(view.trees(bridge.bridge.number), &mut had);
-    }
     had
-}
-
-/// Sets the flags of these trees.
-fn mark(trees: &[Tree], had: &mut [bool])
-    requires { length had.old ≡ 4095 }
-    ensures { (tree : ℕ) → tree < 4095 → slice_index_or had.new tree false ≡ (slice_index_or had.old tree false || is_among trees.now tree) }
-{
-    for tree in trees {
-        had[usize::from(tree.value())] = true;
-    }
 }

@@ -1,16 +1,15 @@
 ghost use Rattle.std.specs.Prelude.{◌≡◌, length, IfOk};
-ghost use Rattle.mst_ids.specs.Identifiers.{port_id as id_of};
-ghost use Rattle.mst_net.specs.ByTree.{port_priority_in};
 ghost use Rattle.mst_note_text.specs.declared.member.Member.{Member as MemberOf};
 ghost use Rattle.mst_note_text.specs.Parents.{AreGiven};
 ghost use Rattle.mst_note_text.specs.Placed.{ArePlaces};
-ghost use Rattle.mst_note_text.specs.SeenTree.{takes_part as takes_part_in, receiver_at, is_root_port as is_root_port_in, given as given_by, parent_by as parent_of_places};
+ghost use Rattle.mst_note_text.specs.SeenTree.{is_root_port as is_root_port_in, given as given_by, parent_by as parent_of_places};
 
 use crate::member::Member;
 use crate::parent::Parent;
 use crate::places::Places;
-use mst_ids::{BridgeNo, PortId, Tree};
+use mst_ids::Tree;
 use mst_lag::{PortInView, View};
+use mst_roles::{Role, port_role};
 use mst_trees::Forest;
 use std::alloc::{AllocError, Global};
 
@@ -73,45 +72,9 @@ fn parent_by(
     ))
 }
 
-/// Whether a port is the root port of its bridge in a tree: the bridge's root priority vector came by it.
+/// Whether a port is the root port of its bridge in a tree.
 fn is_root_port(view: &View, forest: &Forest, tree: Tree, port: &PortInView) -> bool
     ensures { result ≡ is_root_port_in view.now forest.now tree port.now }
 {
-    if !takes_part(view, forest, tree, port) {
-        return false;
-    }
-    match receiver(forest, tree, port.bridge) {
-        Some(receiver) => receiver == port_id(view, tree, port),
-        None => false,
-    }
-}
-
-/// Whether a port takes part in a tree that its bridge has.
-fn takes_part(view: &View, forest: &Forest, tree: Tree, port: &PortInView) -> bool
-    ensures { result ≡ takes_part_in view.now forest.now tree port.now }
-{
-    if tree.value() == 0 {
-        port.is_enabled
-    } else {
-        forest.is_inner(view, port)
-    }
-}
-
-/// The port that the root priority vector of a bridge came by.
-fn receiver(forest: &Forest, tree: Tree, bridge: BridgeNo) -> Option<PortId>
-    ensures { result ≡ receiver_at forest.now tree bridge }
-{
-    if tree.value() == 0 {
-        Some(forest.cist(bridge)?.receiver)
-    } else {
-        Some(forest.msti(tree, bridge)?.receiver)
-    }
-}
-
-/// The identifier of a port in a tree.
-fn port_id(view: &View, tree: Tree, port: &PortInView) -> PortId
-    ensures { result ≡ id_of (port_priority_in view.now.settings.port_priorities port.now.name tree) port.now.name.number }
-{
-    let priority = view.settings().port_priority(&port.name, tree);
-    PortId::new(priority, port.name.number)
+    matches!(port_role(view, forest, port, tree), Some(Role::Root))
 }

@@ -7,6 +7,7 @@ use Rattle.mst_lag.specs.Viewed.{Viewed, named_bridge}
 use Rattle.mst_lag.specs.declared.in_view.BridgeInView.{BridgeInView}
 use Rattle.mst_net.specs.Tables.{Net, Numbers, BridgeRow}
 use Rattle.mst_trees.specs.Agrees.{AreOf}
+use Rattle.mst_trees.specs.InUse.{is_in_use, seen_mstis}
 use Rattle.mst_trees.specs.Msti.{has_msti}
 use Rattle.mst_trees.specs.Seen.{trees_at}
 use Rattle.mst_trees.specs.Forest.{Forest}
@@ -14,11 +15,6 @@ use Rattle.mst_trees.proofs.Entries.{all_weaker}
 use Rattle.mst_trees.proofs.Looking.{has_tree_at}
 use Rattle.mst_trees.proofs.Seen.{SeenBridge, bridges_seen}
 use Rattle.mst_plan_text.specs.PlanText.{is_had, mstis}
-use Rattle.mst_plan_text.specs.Seen.{seen_had, seen_mstis}
-
-pub all_seen : (v : Viewed) (n : ℕ) → n ≡ 4094 → filter (seen_had v) (range_with_len 1 n) ≡ seen_mstis v
-unfolding seen_mstis
-all_seen v n e = ap (λ m. filter (seen_had v) (range_with_len 1 m)) e
 
 any_alike : {A : Type 0} (f g : A → Bool) (xs : List A) → AllByRecursion (λ x. f x ≡ g x) xs → list_any f xs ≡ list_any g xs
 any_alike f g [] h = refl
@@ -29,7 +25,7 @@ any_mapped test f [] = refl
 any_mapped test f (x ∷ xs) = ap (λ t. test (f x) || t) (any_mapped test f xs)
 
 module _ (net : Net) (numbers : Numbers) (v : Viewed) (f : Forest) (of : AreOf net numbers v f.regions) where
-  had_named : (tree : ℕ) → seen_had v tree ≡ is_had net tree
+  had_named : (tree : ℕ) → is_in_use v tree ≡ is_had net tree
   had_named tree =
       any_alike (λ (b : BridgeInView). is_among (trees_at v b.bridge.number) tree) (λ b. has_msti net tree b.name) v.bridges
       (all_weaker (SeenBridge net numbers) _ (λ b seen. has_tree_at net numbers v f.regions of tree b.name b.bridge.number seen.has_number) v.bridges (bridges_seen net numbers v of.view))

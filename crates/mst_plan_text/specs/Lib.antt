@@ -1,4 +1,3 @@
 pub mod PlanText
 pub mod Alike
 pub mod Bodies
-pub mod Seen

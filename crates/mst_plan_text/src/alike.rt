@@ -3,7 +3,7 @@ ghost use Rattle.mst_ids.specs.Vids.{has};
 ghost use Rattle.mst_net.specs.Table.{tree_in};
 ghost use Rattle.mst_plan_text.specs.Alike.{IsSplit, TellApart, SplitBySets};
 
-use mst_graph::{Numbering, numbered};
+use mst_graph::{Numbering, number_keys};
 use mst_ids::VidSet;
 use mst_net::Table;
 use std::alloc::{AllocError, Global};
@@ -56,7 +56,7 @@ fn split_by_table(alloc: Global, numbers: &[usize], table: &Table) -> Result<Vec
     let Numbering {
         numbers: split,
         firsts: _,
-    } = numbered(alloc, keys)?;
+    } = number_keys(alloc, keys)?;
     Ok(split)
 }
 
@@ -87,6 +87,6 @@ fn split_by_set(alloc: Global, numbers: &[usize], set: &VidSet) -> Result<Vec<us
     let Numbering {
         numbers: split,
         firsts: _,
-    } = numbered(alloc, keys)?;
+    } = number_keys(alloc, keys)?;
     Ok(split)
 }

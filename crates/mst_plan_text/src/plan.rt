@@ -9,7 +9,7 @@ use crate::bodies::{bodies, copies};
 use crate::distinct::{tables, vlan_sets};
 use crate::groups::{push_groups, vids};
 use crate::trees::push_trees;
-use mst_graph::{groups_by_body, numbered};
+use mst_graph::{groups_by_body, number_keys};
 use mst_lag::View;
 use mst_trees::Forest;
 use std::alloc::{AllocError, Global};
@@ -47,7 +47,7 @@ fn push_vids(
     let tables = tables(alloc, view)?;
     let sets = vlan_sets(alloc, view)?;
     let numbers = numbers_of_vids(alloc, tables.as_slice(), sets.as_slice())?;
-    let classes = numbered(alloc, numbers)?;
+    let classes = number_keys(alloc, numbers)?;
     let bodies = bodies(alloc, view, forest, classes.firsts.as_slice())?;
     let kept = copies(alloc, bodies.as_slice())?;
     let vids = vids(alloc)?;

@@ -1,7 +1,6 @@
 -- The lines of a tree's text.
 use Rattle.std.specs.Prelude.{ℕ, ◌==◌, List, [], ◌∷◌, ◌++◌, Option, if◌then◌else◌, codes, decimal}
 use Rattle.std.specs.Option.{option_map_or}
-use Rattle.mst_ids.specs.Identifiers.{bridge_id}
 use Rattle.mst_ids.specs.Texts.{bridge_id_text, port_id_text}
 use Rattle.mst_ids.specs.Words.{line}
 use Rattle.mst_vector.specs.declared.cist.CistPort.{CistPort}
@@ -9,9 +8,10 @@ use Rattle.mst_vector.specs.declared.cist.CistVector.{CistVector}
 use Rattle.mst_vector.specs.declared.msti.MstiPort.{MstiPort}
 use Rattle.mst_vector.specs.declared.msti.MstiVector.{MstiVector}
 use Rattle.mst_net.specs.Tables.{BridgeRow}
-use Rattle.mst_net.specs.ByTree.{ByTree, priority_in}
+use Rattle.mst_net.specs.ByTree.{ByTree}
 use Rattle.mst_lag.specs.View.{LogicalPort}
 use Rattle.mst_trees.specs.Cist.{cist_port}
+use Rattle.mst_trees.specs.InUse.{id_in}
 use Rattle.mst_trees.specs.Msti.{msti_port}
 use Rattle.mst_roles.specs.Names.{role_text}
 use Rattle.mst_roles.specs.declared.kind.Role.{Role}
@@ -21,10 +21,6 @@ abbrev pub heading : ℕ → List ℕ
 heading tree = line (codes "tree" ∷ decimal tree ∷ [])
 
 -- ---- bridges
--- the identifier of a bridge in a tree
-abbrev pub id_in : ByTree → ℕ → List ℕ → BridgeRow → ℕ
-id_in set tree name row = bridge_id (priority_in set.priorities name tree) tree row.mac
-
 -- `bridge B off`
 abbrev pub off_line : List ℕ → List ℕ
 off_line name = line (codes "bridge" ∷ name ∷ codes "off" ∷ [])

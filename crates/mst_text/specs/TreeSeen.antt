@@ -1,22 +1,17 @@
 -- The text of a tree, under the numbers of records.
-use Rattle.std.specs.Prelude.{ℕ, ◌==◌, ◌||◌, Bool, List, [], ◌∷◌, ◌++◌, take, drop, if◌then◌else◌}
+use Rattle.std.specs.Prelude.{ℕ, Bool, List, [], ◌∷◌, ◌++◌, take, drop, if◌then◌else◌}
 use Rattle.std.specs.List.{flat_map, prefix_len}
 use Rattle.std.specs.Option.{option_map_or}
 use Rattle.mst_settle.specs.Assignment.{vector_of}
 use Rattle.mst_net.specs.Seen.{bridge_row}
 use Rattle.mst_lag.specs.Aggregation.{same_name}
-use Rattle.mst_lag.specs.Trees.{is_among}
 use Rattle.mst_lag.specs.Viewed.{Viewed, named_port}
 use Rattle.mst_lag.specs.declared.in_view.BridgeInView.{BridgeInView}
 use Rattle.mst_lag.specs.declared.in_view.PortInView.{PortInView}
-use Rattle.mst_trees.specs.Seen.{trees_at}
-use Rattle.mst_trees.specs.Forest.{msti_vector}
-use Rattle.mst_trees.specs.Forest.{Forest}
+use Rattle.mst_trees.specs.Forest.{Forest, msti_vector}
+use Rattle.mst_trees.specs.InUse.{seen_has}
 use Rattle.mst_roles.specs.Seen.{seen_role}
 use Rattle.mst_text.specs.TreeLines.{bridge_line, port_line}
-
-abbrev pub seen_has : Viewed → ℕ → ℕ → Bool
-seen_has v tree bridge = tree == 0 || is_among (trees_at v bridge) tree
 
 -- the line of a port with its role
 abbrev pub seen_port : Viewed → Forest → ℕ → PortInView → List ℕ

@@ -1,12 +1,12 @@
 ghost use Rattle.std.specs.Prelude.{◌≡◌, ◌++◌, OnOk, map};
 ghost use Rattle.std.specs.List.{flat_map};
-ghost use Rattle.mst_vlan.specs.Seen.{seen_member};
 ghost use Rattle.mst_ids.specs.Words.{after_space, listed};
 ghost use Rattle.mst_text.specs.VlanLines.{active_word};
 ghost use Rattle.mst_text.specs.VlanSeen.{seen_word, seen_active_line};
 
 use mst_ids::{PortName, Vid, push_bytes, push_end, push_word};
 use mst_lag::{PortInView, View};
+use mst_vlan::is_member;
 use std::alloc::AllocError;
 
 /// Appends the line of the active ports of a VID.
@@ -52,13 +52,6 @@ fn push_active_port(
 {
     push_bytes(b" ", out)?;
     push_by_membership(&port.name, is_member(view, port, vid), out)
-}
-
-/// Whether a logical port is a member of a VLAN.
-fn is_member(view: &View, port: &PortInView, vid: Vid) -> bool
-    ensures { result ≡ seen_member view.now vid port.now }
-{
-    view.settings().is_member(&port.name, vid)
 }
 
 /// Appends the name of a port, in brackets where it isn't a member.

@@ -25,7 +25,7 @@ mod tree_port;
 mod vlan;
 
 pub use configuration::push_configuration;
-pub use islands::bridge_name;
+pub use islands::bridge_names;
 pub use lags::push_lags;
 pub use regions::push_regions;
 pub use tree::push_tree;

@@ -4,15 +4,15 @@ ghost use Rattle.mst_net.specs.Tables.{Net, Numbers};
 ghost use Rattle.mst_trees.specs.Agrees.{AreOf};
 ghost use Rattle.mst_trees.specs.Forest.{IsForest};
 ghost use Rattle.mst_text.specs.TreeLines.{heading};
-ghost use Rattle.mst_text.specs.TreeSeen.{run_of, seen_bridge, seen_bridges, seen_has, seen_port};
+ghost use Rattle.mst_text.specs.TreeSeen.{run_of, seen_bridge, seen_bridges, seen_port};
 ghost use Rattle.mst_text.specs.TreeText.{tree_text};
 
 use crate::tree_bridge::push_own_line;
 use crate::tree_port::push_port;
 use itoa::Buffer;
-use mst_ids::{BridgeNo, Name, Tree, push_line};
+use mst_ids::{Name, Tree, push_line};
 use mst_lag::{BridgeInView, PortInView, View};
-use mst_trees::Forest;
+use mst_trees::{Forest, has_tree};
 use std::alloc::AllocError;
 
 /// Appends the text of a tree, by the view of a network and the forest that was settled of it: a heading, then for each
@@ -88,13 +88,6 @@ fn push_bridge(
     }
     push_own_line(view, forest, tree, bridge, out)?;
     push_ports(view, forest, tree, ports, out)
-}
-
-/// Whether a bridge has a tree: each has the CIST.
-fn has_tree(view: &View, bridge: BridgeNo, tree: Tree) -> bool
-    ensures { result ≡ seen_has view.now tree bridge }
-{
-    tree.value() == 0 || view.has_tree(bridge, tree)
 }
 
 /// Appends the lines of these ports.

@@ -1,16 +1,14 @@
 ghost use Rattle.std.specs.Prelude.{◌≡◌, ◌++◌, OnOk};
-ghost use Rattle.mst_net.specs.Seen.{bridge_row};
 ghost use Rattle.mst_trees.specs.Forest.{msti_vector};
 ghost use Rattle.mst_settle.specs.Assignment.{vector_of};
-ghost use Rattle.mst_text.specs.TreeLines.{id_in, off_line, cist_line, msti_line, vector_line};
+ghost use Rattle.mst_text.specs.TreeLines.{off_line, cist_line, msti_line, vector_line};
 ghost use Rattle.mst_text.specs.TreeSeen.{seen_line};
 
 use itoa::Buffer;
 use mst_ids::{BridgeId, Name, Tree, push_line};
 use mst_lag::{BridgeInView, View};
 use mst_lang::Power;
-use mst_net::TreeSettings;
-use mst_trees::Forest;
+use mst_trees::{Forest, bridge_id};
 use mst_vector::{CistVector, MstiVector};
 use std::alloc::AllocError;
 
@@ -27,18 +25,10 @@ pub(crate) fn push_own_line(
     match bridge.bridge.power {
         Power::Off => push_off(&bridge.name, out),
         Power::On => {
-            let id = id_in_tree(view.settings(), tree, bridge);
+            let id = bridge_id(view.settings(), tree, bridge);
             push_vector(forest, tree, bridge, id, out)
         }
     }
-}
-
-/// The identifier of a bridge in a tree.
-fn id_in_tree(settings: &TreeSettings, tree: Tree, bridge: &BridgeInView) -> BridgeId
-    ensures { result ≡ id_in settings.now.set tree bridge.now.name (bridge_row bridge.now.bridge) }
-{
-    let priority = settings.tree_priority(&bridge.name, tree);
-    BridgeId::new(priority, tree, bridge.bridge.mac)
 }
 
 /// Appends the line of a bridge that is off.

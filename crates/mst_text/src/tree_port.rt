@@ -1,18 +1,16 @@
 ghost use Rattle.std.specs.Prelude.{◌≡◌, ◌++◌, ◌∷◌, [], OnOk, codes, decimal};
 ghost use Rattle.mst_lag.specs.Viewed.{named_port};
 ghost use Rattle.mst_roles.specs.Names.{role_text};
-ghost use Rattle.mst_trees.specs.Cist.{cist_port as port_in_cist};
-ghost use Rattle.mst_trees.specs.Msti.{msti_port as port_in_msti};
 ghost use Rattle.mst_ids.specs.Words.{line};
 ghost use Rattle.mst_text.specs.TreeLines.{cist_words, msti_words, port_line};
 ghost use Rattle.mst_text.specs.TreeSeen.{seen_port};
 
 use itoa::Buffer;
-use mst_ids::{PortId, Tree, auto_cost, push_line};
+use mst_ids::{Tree, push_line};
 use mst_lag::{PortInView, View};
 use mst_net::TreeSettings;
 use mst_roles::{Role, port_role};
-use mst_trees::Forest;
+use mst_trees::{Forest, cist_port, msti_port};
 use mst_vector::{CistPort, MstiPort};
 use std::alloc::AllocError;
 
@@ -49,34 +47,6 @@ fn push_with_role(
         push_in_cist(port, &cist_port(settings, port), role.name(), out)
     } else {
         push_in_msti(port, &msti_port(settings, tree, port), role.name(), out)
-    }
-}
-
-/// What the CIST has of a port: its identifier and its costs. A cost that isn't set goes by the speed of its logical
-/// LAN.
-fn cist_port(settings: &TreeSettings, port: &PortInView) -> CistPort
-    ensures { result ≡ port_in_cist settings.now.set (named_port port.now) }
-{
-    let automatic = auto_cost(port.speed.max(1));
-    let priority = settings.port_priority(&port.name, Tree::cist());
-    let internal = settings.port_cost(&port.name, Tree::cist());
-    CistPort {
-        id: PortId::new(priority, port.name.number),
-        external: port.settings.external.unwrap_or(automatic),
-        internal: internal.unwrap_or(automatic),
-    }
-}
-
-/// What an MSTI has of a port: its identifier and its internal cost, as the CIST.
-fn msti_port(settings: &TreeSettings, tree: Tree, port: &PortInView) -> MstiPort
-    ensures { result ≡ port_in_msti settings.now.set tree (named_port port.now) }
-{
-    let automatic = auto_cost(port.speed.max(1));
-    let priority = settings.port_priority(&port.name, tree);
-    let internal = settings.port_cost(&port.name, tree);
-    MstiPort {
-        id: PortId::new(priority, port.name.number),
-        internal: internal.unwrap_or(automatic),
     }
 }
 

@@ -61,5 +61,5 @@ pub fn push_body(
     let ports = active_ports(alloc, view, forest, vid)?;
     push_active(view, vid, ports.as_slice(), out)?;
     let islands = reach(alloc, view, forest, vid)?;
-    push_islands(view, islands.as_slice(), out)
+    push_islands(alloc, view, islands.as_slice(), out)
 }

@@ -5,4 +5,4 @@ pub returns-clause-cist : goal.returns-clause-cist
 returns-clause-cist c = λ net o ok is p here enabled. cist_told net ok o is p here enabled
 
 pub returns-clause-msti : goal.returns-clause-msti
-returns-clause-msti c = λ net o ok is p here enabled tree has inner. msti_told net ok o is p here enabled tree has inner
+returns-clause-msti c = λ net o ok is p here enabled tree has internal. msti_told net ok o is p here enabled tree has internal

@@ -1,9 +1,16 @@
-use Rattle.std.proofs.Common.{length, sym}
+use Rattle.std.proofs.Common.{length, sym, arith}
 use Rattle.mst_note_text.specs.SeenTree.{given}
 use Rattle.mst_note_text.proofs.Giving.{gives_none, gives_one}
 use Rattle.mst_note_text.proofs.TreeParents.{parts}
 use Rattle.mst_note_text.proofs.parents.parents_of.Goals as goal
 use Rattle.mst_note_text.proofs.parents.parents_of.Goals.{in-Some, in_default}
+
+pub index_mut-requires : goal.index_mut-requires
+index_mut-requires c =
+    let here = (parts c.args.view.now c.args.forest.now c.args.tree c.args.places.now.entries c.port-item.result c.in-Some.place c.in-Some.parent (sym c.in-Some.ensures)).here in
+    let low = c.requires.in_list c.port-item.result.bridge c.in-Some.place here in
+    let long = c.loop-port.invariant.long in
+    omega arith
 
 pub loop-port-preserved : goal.loop-port-preserved
 loop-port-preserved c =

@@ -1,7 +1,7 @@
 ghost use Rattle.std.specs.Prelude.{◌≡◌};
-ghost use Rattle.mst_changes.specs.Places.{place_of, item_cmp, place_cmp};
+ghost use Rattle.mst_changes.specs.Subjects.{subject_of, item_cmp, subject_cmp};
 
-use crate::state::State;
+use crate::value::VectorOrRole;
 use mst_ids::{Name, PortName, Tree};
 use std::cmp::Ordering;
 
@@ -14,25 +14,25 @@ pub(crate) enum Item {
 
 /// A bridge or a logical port in a tree.
 #[derive(Clone, Copy)]
-pub(crate) struct Place {
+pub(crate) struct Subject {
     pub(crate) tree: Tree,
     pub(crate) item: Item,
 }
 
-/// What an outcome has at a place.
+/// What an outcome has of a subject.
 #[derive(Clone, Copy)]
-pub(crate) struct Row {
+pub(crate) struct Entry {
     pub(crate) tree: Tree,
     pub(crate) item: Item,
-    pub(crate) state: State,
+    pub(crate) value: VectorOrRole,
 }
 
-impl Row {
-    /// The place that the row is of.
-    pub(crate) fn place(&self) -> Place
-        ensures { result ≡ place_of self.now }
+impl Entry {
+    /// The subject that the entry is of.
+    pub(crate) fn subject(&self) -> Subject
+        ensures { result ≡ subject_of self.now }
     {
-        Place {
+        Subject {
             tree: self.tree,
             item: self.item,
         }
@@ -51,9 +51,9 @@ fn item_order(a: &Item, b: &Item) -> Ordering
     }
 }
 
-/// The order of places: by trees, and in a tree bridges before ports, by names.
-pub(crate) fn place_order(a: &Place, b: &Place) -> Ordering
-    ensures { result ≡ place_cmp a.now b.now }
+/// The order of subjects: by trees, and in a tree bridges before ports, by names.
+pub(crate) fn subject_order(a: &Subject, b: &Subject) -> Ordering
+    ensures { result ≡ subject_cmp a.now b.now }
 {
     match a.tree.value().cmp(&b.tree.value()) {
         Ordering::Equal => item_order(&a.item, &b.item),

@@ -1,4 +1,4 @@
--- What an outcome has at a place: the root priority vector of a bridge, or the role of a logical port.
+-- What an outcome has of a subject: the root priority vector of a bridge, or the role of a logical port.
 use Rattle.std.specs.Prelude.{ℕ, ◌==◌, ◌&&◌, Bool, false, List, Option, None, if◌then◌else◌}
 use Rattle.std.specs.Option.{option_map, option_eq}
 use Rattle.std.specs.FinMap as fin
@@ -10,26 +10,26 @@ use Rattle.mst_trees.specs.Outcome.{Outcome}
 use Rattle.mst_roles.specs.Roles.{role_of}
 use Rattle.mst_roles.specs.declared.kind.Role.{Role}
 use Rattle.mst_roles.specs.declared.kind.Role.TheVariants.{Root, Designated, Alternate, Backup, Master, Disabled}
-use Rattle.mst_changes.specs.declared.place.Item.{Item}
-use Rattle.mst_changes.specs.declared.place.Item.TheVariants.{Bridge, Port}
-use Rattle.mst_changes.specs.declared.place.Place.{Place}
-use Rattle.mst_changes.specs.declared.state.State.{State}
-use Rattle.mst_changes.specs.declared.state.State.TheVariants.{InCist, InMsti, HasRole}
+use Rattle.mst_changes.specs.declared.subject.Item.{Item}
+use Rattle.mst_changes.specs.declared.subject.Item.TheVariants.{Bridge, Port}
+use Rattle.mst_changes.specs.declared.subject.Subject.{Subject}
+use Rattle.mst_changes.specs.declared.value.VectorOrRole.{VectorOrRole}
+use Rattle.mst_changes.specs.declared.value.VectorOrRole.TheVariants.{InCist, InMsti, HasRole}
 
 -- of a bridge in a tree, where it is there and has the tree. One that is off has no vector
-abbrev pub vector_in : Net → Outcome → ℕ → List ℕ → Option State
+abbrev pub vector_in : Net → Outcome → ℕ → List ℕ → Option VectorOrRole
 vector_in net o tree name =
     if tree == 0
     then (if fin.contains_key net.bridges name then option_map InCist (o.cist.vector name) else None)
     else (if has_msti net tree name then option_map InMsti ((o.msti tree).vector name) else None)
 
--- at a place; of a port where it is a logical port and its bridge has the tree
-abbrev pub state_of : Net → Outcome → ℕ → Item → Option State
-state_of net o tree (Bridge name) = vector_in net o tree name
-state_of net o tree (Port name) = option_map HasRole (role_of net o tree name)
+-- of a subject; of a port where it is a logical port and its bridge has the tree
+abbrev pub value_of : Net → Outcome → ℕ → Item → Option VectorOrRole
+value_of net o tree (Bridge name) = vector_in net o tree name
+value_of net o tree (Port name) = option_map HasRole (role_of net o tree name)
 
-abbrev pub state_at : Net → Outcome → Place → Option State
-state_at net o place = state_of net o place.tree place.item
+abbrev pub value_at : Net → Outcome → Subject → Option VectorOrRole
+value_at net o subject = value_of net o subject.tree subject.item
 
 -- whether two are the same
 abbrev pub same_cist : CistVector → CistVector → Bool
@@ -48,16 +48,16 @@ role_number Backup = 3
 role_number Master = 4
 role_number Disabled = 5
 
-abbrev pub same_state : State → State → Bool
-same_state (InCist v) (InCist w) = same_cist v w
-same_state (InMsti v) (InMsti w) = same_msti v w
-same_state (HasRole r) (HasRole s) = role_number r == role_number s
-same_state (InCist v) (InMsti w) = false
-same_state (InCist v) (HasRole s) = false
-same_state (InMsti v) (InCist w) = false
-same_state (InMsti v) (HasRole s) = false
-same_state (HasRole r) (InCist w) = false
-same_state (HasRole r) (InMsti w) = false
+abbrev pub same_value : VectorOrRole → VectorOrRole → Bool
+same_value (InCist v) (InCist w) = same_cist v w
+same_value (InMsti v) (InMsti w) = same_msti v w
+same_value (HasRole r) (HasRole s) = role_number r == role_number s
+same_value (InCist v) (InMsti w) = false
+same_value (InCist v) (HasRole s) = false
+same_value (InMsti v) (InCist w) = false
+same_value (InMsti v) (HasRole s) = false
+same_value (HasRole r) (InCist w) = false
+same_value (HasRole r) (InMsti w) = false
 
-abbrev pub same_side : Option State → Option State → Bool
-same_side = option_eq same_state
+abbrev pub same_side : Option VectorOrRole → Option VectorOrRole → Bool
+same_side = option_eq same_value
