@@ -16,9 +16,9 @@ use Rattle.mst_trees.proofs.Lists.{all_kept, all_there, some_is, no_some}
 use Rattle.mst_graph.proofs.Members.{here, in_whole, filter_none}
 use Rattle.mst_plan_text.specs.PlanText.{all_vids}
 use Rattle.mst_plan_text.proofs.OnePlan.{is_vid_there}
-use Rattle.mst_changes.specs.Places.{all_trees, bridge_names, port_in, port_names, names_of_either}
+use Rattle.mst_changes.specs.Subjects.{all_trees, bridge_names, port_in, port_names, names_of_either}
 use Rattle.mst_changes.specs.PortChanges.{port_changes}
-use Rattle.mst_changes.specs.States.{state_at}
+use Rattle.mst_changes.specs.Values.{value_at}
 use Rattle.mst_changes.proofs.Same.{none_at}
 use Rattle.mst_ids.specs.Names.{port_cmp}
 use Rattle.mst_net.proofs.Keys.{names}
@@ -96,7 +96,7 @@ no_roots a o = flat_map-none (tree_roots a o a o) (no_tree_roots a o) all_trees
 
 -- ---- ports
 pub no_ports : (a : Net) (o : Outcome) → ports_text a o a o ≡ []
-no_ports a o = flat_map-none (port_changes a o a o) (λ tree. none_at (state_at a o) (map (port_in tree) (names_of_either port_cmp (port_names a) (port_names a)))) all_trees
+no_ports a o = flat_map-none (port_changes a o a o) (λ tree. none_at (value_at a o) (map (port_in tree) (names_of_either port_cmp (port_names a) (port_names a)))) all_trees
 
 -- ---- islands
 any_here : (word : List ℕ) (xs ys : List (List ℕ)) → list_any (λ y. same_name y word) (xs ++ word ∷ ys) ≡ true

@@ -18,9 +18,9 @@ use Rattle.mst_trees.specs.Outcome.{Outcome}
 use Rattle.mst_trees.proofs.Entries.{all_weaker}
 use Rattle.mst_trees.proofs.Lists.{all_there, all_contained}
 use Rattle.mst_plan_text.specs.PlanText.{all_vids}
-use Rattle.mst_changes.specs.Places.{all_trees, bridge_names, port_in, port_names, names_of_either}
+use Rattle.mst_changes.specs.Subjects.{all_trees, bridge_names, port_in, port_names, names_of_either}
 use Rattle.mst_changes.specs.PortChanges.{port_changes}
-use Rattle.mst_changes.specs.States.{state_at, same_side}
+use Rattle.mst_changes.specs.Values.{value_at, same_side}
 use Rattle.mst_changes.specs.ChangesText.{item_words, side_words, change_text}
 use Rattle.mst_diff.specs.declared.diff.Differing.{Differing}
 use Rattle.mst_diff.specs.Regions.{same_told, region_words, region_text, region_change, region_changes}
@@ -104,8 +104,8 @@ roots_told a o b p = told_each (tree_roots a o b p) all_trees (λ tree.
 
 ports_told : (a : Net) (o : Outcome) (b : Net) (p : Outcome) → Told (ports_text a o b p)
 ports_told a o b p = told_each (port_changes a o b p) all_trees (λ tree.
-    told_each (λ place. change_text place (state_at a o place) (state_at b p place)) (map (port_in tree) (names_of_either port_cmp (port_names a) (port_names b)))
-    (λ place. told_unless (same_side (state_at a o place) (state_at b p place)) (item_words place.tree place.item ++ side_words (state_at a o place) ++ codes "->" ∷ side_words (state_at b p place))))
+    told_each (λ place. change_text place (value_at a o place) (value_at b p place)) (map (port_in tree) (names_of_either port_cmp (port_names a) (port_names b)))
+    (λ place. told_unless (same_side (value_at a o place) (value_at b p place)) (item_words place.tree place.item ++ side_words (value_at a o place) ++ codes "->" ∷ side_words (value_at b p place))))
 
 -- ---- the whole text
 module _ (a : Net) (o : Outcome) (b : Net) (p : Outcome) (c : Differing) (text : List ℕ) (x : IsDiff a o b p c text) where

@@ -22,6 +22,7 @@ use Rattle.mst_config.specs.Shared.{same_in}
 use Rattle.mst_config.specs.Regions.{same_region, first_of_region}
 use Rattle.mst_trees.specs.Agrees.{AreOf}
 use Rattle.mst_trees.specs.Forest.{Forest, IsForest, msti_vector}
+use Rattle.mst_trees.specs.InUse.{id_in}
 use Rattle.mst_trees.specs.Msti.{has_msti}
 use Rattle.mst_trees.specs.Outcome.{Outcome}
 use Rattle.mst_trees.specs.Seen.{trees_at}
@@ -29,8 +30,7 @@ use Rattle.mst_trees.proofs.Entries.{all_weaker}
 use Rattle.mst_trees.proofs.Lists.{mapped_twice}
 use Rattle.mst_trees.proofs.Looking.{has_tree_at}
 use Rattle.mst_trees.proofs.Seen.{SeenBridge, bridge_seen, bridges_seen}
-use Rattle.mst_text.specs.TreeLines.{id_in}
-use Rattle.mst_changes.specs.Places.{bridge_names}
+use Rattle.mst_changes.specs.Subjects.{bridge_names}
 use Rattle.mst_diff.specs.declared.roots.Identified.{Identified}
 use Rattle.mst_diff.specs.Roots.{root_of, named_by, root_name}
 use Rattle.mst_diff.specs.Seen.{seen_first, seen_root, seen_named, name_by, seen_root_name}

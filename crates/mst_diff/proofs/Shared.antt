@@ -16,7 +16,7 @@ use Rattle.mst_trees.specs.Forest.{Forest, IsForest}
 use Rattle.mst_trees.specs.Msti.{has_msti}
 use Rattle.mst_trees.proofs.Entries.{all_weaker}
 use Rattle.mst_trees.proofs.Lists.{all_there, kept_same}
-use Rattle.mst_changes.specs.Places.{bridge_names}
+use Rattle.mst_changes.specs.Subjects.{bridge_names}
 use Rattle.mst_changes.proofs.Lists.{filter_map-map}
 use Rattle.mst_diff.specs.declared.both.Both.{Both}
 use Rattle.mst_diff.specs.declared.roots.RootPair.{RootPair}

@@ -30,10 +30,10 @@ use Rattle.mst_roles.specs.Roles.{role_of}
 use Rattle.mst_roles.specs.declared.kind.Role.{Role}
 use Rattle.mst_plan_text.specs.PlanText.{all_vids}
 use Rattle.mst_plan_text.proofs.OnePlan.{is_vid_there}
-use Rattle.mst_changes.specs.declared.state.State.TheVariants.{HasRole}
-use Rattle.mst_changes.specs.Places.{all_trees, bridge_names, port_in, port_names, names_of_either}
+use Rattle.mst_changes.specs.declared.value.VectorOrRole.TheVariants.{HasRole}
+use Rattle.mst_changes.specs.Subjects.{all_trees, bridge_names, port_in, port_names, names_of_either}
 use Rattle.mst_changes.specs.PortChanges.{port_changes}
-use Rattle.mst_changes.specs.States.{state_at, role_number, same_side}
+use Rattle.mst_changes.specs.Values.{value_at, role_number, same_side}
 use Rattle.mst_changes.specs.ChangesText.{side_words, change_text}
 use Rattle.mst_changes.proofs.Names.{kept_left, kept_right}
 use Rattle.mst_diff.specs.declared.diff.Differing.{Differing}
@@ -299,11 +299,11 @@ module _ (a b : Net) (o p : Outcome) where
   changes_turned : (tree : ℕ) → AreTurned (port_changes a o b p tree) (port_changes b p a o tree)
   changes_turned tree =
       let either : List PortName = names_of_either port_cmp (port_names a) (port_names b) in
-      subst (λ text. AreTurned text (port_changes b p a o tree)) (sym (flat_map-map (λ place. change_text place (state_at a o place) (state_at b p place)) (port_in tree) either))
-      (subst (AreTurned (flat_map (λ name. change_text (port_in tree name) (state_at a o (port_in tree name)) (state_at b p (port_in tree name))) either))
-      (sym (flat_map-map (λ place. change_text place (state_at b p place) (state_at a o place)) (port_in tree) either)
-      ∙ ap (λ names. flat_map (λ place. change_text place (state_at b p place) (state_at a o place)) (map (port_in tree) names)) (either_turned ports.total ports.same (port_names a) (port_names b)))
-      (each_turned (λ name. change_text (port_in tree name) (state_at a o (port_in tree name)) (state_at b p (port_in tree name))) (λ name. change_text (port_in tree name) (state_at b p (port_in tree name)) (state_at a o (port_in tree name)))
+      subst (λ text. AreTurned text (port_changes b p a o tree)) (sym (flat_map-map (λ place. change_text place (value_at a o place) (value_at b p place)) (port_in tree) either))
+      (subst (AreTurned (flat_map (λ name. change_text (port_in tree name) (value_at a o (port_in tree name)) (value_at b p (port_in tree name))) either))
+      (sym (flat_map-map (λ place. change_text place (value_at b p place) (value_at a o place)) (port_in tree) either)
+      ∙ ap (λ names. flat_map (λ place. change_text place (value_at b p place) (value_at a o place)) (map (port_in tree) names)) (either_turned ports.total ports.same (port_names a) (port_names b)))
+      (each_turned (λ name. change_text (port_in tree name) (value_at a o (port_in tree name)) (value_at b p (port_in tree name))) (λ name. change_text (port_in tree name) (value_at b p (port_in tree name)) (value_at a o (port_in tree name)))
       either (λ name. port_turned tree name (role_of a o tree name) (role_of b p tree name))))
 
   pub ports_turned : AreTurned (ports_text a o b p) (ports_text b p a o)

@@ -3,7 +3,7 @@ use Rattle.std.specs.Prelude.{ℕ, List}
 use Rattle.std.specs.List.{flat_map}
 use Rattle.mst_net.specs.Tables.{Net}
 use Rattle.mst_trees.specs.Outcome.{Outcome}
-use Rattle.mst_changes.specs.Places.{all_trees}
+use Rattle.mst_changes.specs.Subjects.{all_trees}
 use Rattle.mst_changes.specs.PortChanges.{port_changes}
 
 -- those of the text of changes, by trees, rising

@@ -7,10 +7,10 @@ use Rattle.mst_ids.specs.Words.{line}
 use Rattle.mst_net.specs.Tables.{Net}
 use Rattle.mst_net.specs.ByTree.{by_tree}
 use Rattle.mst_lag.specs.Aggregation.{same_name}
+use Rattle.mst_trees.specs.InUse.{id_in}
 use Rattle.mst_trees.specs.Msti.{has_msti}
 use Rattle.mst_trees.specs.Outcome.{Outcome}
-use Rattle.mst_text.specs.TreeLines.{id_in}
-use Rattle.mst_changes.specs.Places.{all_trees, bridge_names}
+use Rattle.mst_changes.specs.Subjects.{all_trees, bridge_names}
 use Rattle.mst_diff.specs.declared.roots.RootPair.{RootPair}
 
 -- the identifier of a bridge's root in the CIST, and of its regional root in an MSTI, where it is there, has the tree

@@ -11,8 +11,8 @@ use Rattle.mst_lag.specs.Viewed.{Viewed}
 use Rattle.mst_lag.specs.declared.in_view.BridgeInView.{BridgeInView}
 use Rattle.mst_config.specs.Shared.{same_in}
 use Rattle.mst_trees.specs.Forest.{Forest, msti_vector}
+use Rattle.mst_trees.specs.InUse.{id_in}
 use Rattle.mst_trees.specs.Seen.{trees_at}
-use Rattle.mst_text.specs.TreeLines.{id_in}
 use Rattle.mst_vlan.specs.declared.island.Island.{Island}
 use Rattle.mst_text.specs.VlanSeen.{seen_bridge}
 use Rattle.mst_diff.specs.declared.both.Both.{Both}

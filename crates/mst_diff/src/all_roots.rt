@@ -2,16 +2,15 @@ ghost use Rattle.std.specs.Prelude.{◌≡◌, ◌++◌, OnOk};
 ghost use Rattle.mst_net.specs.Tables.{Net, Numbers};
 ghost use Rattle.mst_trees.specs.Agrees.{AreOf};
 ghost use Rattle.mst_trees.specs.Forest.{IsForest};
-ghost use Rattle.mst_changes.specs.Seen.{AreInUse};
+ghost use Rattle.mst_trees.specs.InUse.{AreInUse};
 ghost use Rattle.mst_diff.specs.Roots.{tree_roots, root_changes};
 ghost use Rattle.mst_diff.specs.Seen.{seen_both};
 
 use crate::both::Both;
-use crate::in_use::is_had;
 use crate::roots::push_tree;
-use indexmap::IndexSet;
-use mst_changes::{Planned, trees_in_use};
+use mst_changes::Planned;
 use mst_ids::Tree;
+use mst_trees::{is_had, trees_in_use};
 use std::alloc::{AllocError, Global};
 
 /// Two plans, the bridges that both networks have, and the trees that each has beside the CIST.
@@ -20,8 +19,8 @@ struct Shared<'a> {
     old: &'a Planned<'a>,
     new: &'a Planned<'a>,
     both: &'a [Both],
-    used: &'a IndexSet<Tree>,
-    used_too: &'a IndexSet<Tree>,
+    used: &'a [bool; 4095],
+    used_too: &'a [bool; 4095],
 }
 
 /// Appends the lines of roots in a tree: none where no bridge of one of the networks has it.
@@ -31,8 +30,8 @@ fn push_roots_in(
     tree: Tree,
     out: &mut Vec<u8>,
 ) -> Result<(), AllocError>
-    requires used { AreInUse shared.now.old.now.view.now shared.now.used.now.keys }
-    requires used_too { AreInUse shared.now.new.now.view.now shared.now.used_too.now.keys }
+    requires used { AreInUse shared.now.old.now.view.now shared.now.used.now }
+    requires used_too { AreInUse shared.now.new.now.view.now shared.now.used_too.now }
     requires both { shared.now.both.now ≡ seen_both shared.now.old.now.view.now shared.now.new.now.view.now }
     ensures { (a b : Net) (n k : Numbers) (is : IsForest a n shared.now.old.now.forest.now) (are : IsForest b k shared.now.new.now.forest.now) → AreOf a n shared.now.old.now.view.now shared.now.old.now.forest.now.regions → AreOf b k shared.now.new.now.view.now shared.now.new.now.forest.now.regions
         → OnOk result (out.new.items ≡ out.old.items ++ tree_roots a is.outcome b are.outcome tree) }
@@ -62,8 +61,8 @@ pub(crate) fn push_roots(
     ensures { (a b : Net) (n k : Numbers) (is : IsForest a n old.now.forest.now) (are : IsForest b k new.now.forest.now) → AreOf a n old.now.view.now old.now.forest.now.regions → AreOf b k new.now.view.now new.now.forest.now.regions
         → OnOk result (out.new.items ≡ out.old.items ++ root_changes a is.outcome b are.outcome) }
 {
-    let used = trees_in_use(alloc, old.view)?;
-    let used_too = trees_in_use(alloc, new.view)?;
+    let used = trees_in_use(old.view);
+    let used_too = trees_in_use(new.view);
     let shared = Shared {
         old,
         new,

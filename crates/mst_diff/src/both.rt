@@ -32,7 +32,8 @@ fn push_both(old: &View, new: &View, both: &mut Vec<Both>) -> Result<(), AllocEr
 
 /// The bridges that two views have, in byte order of names.
 ///
-/// Each is looked for among all bridges of the other view, of which there are at most 1,024.
+/// Each is looked for among all bridges of the other view, of which there are at most 1,024. `AllocError`: memory was
+/// wanted and refused.
 pub fn bridges_of_both(alloc: Global, old: &View, new: &View) -> Result<Vec<Both>, AllocError>
     ensures { IfOk result (λ both. both.items ≡ seen_both old.now new.now) }
 {

@@ -4,7 +4,6 @@
 mod all_roots;
 mod both;
 mod diff;
-mod in_use;
 pub mod laws;
 mod ports;
 mod reach;
@@ -14,5 +13,4 @@ mod sides;
 
 pub use both::{Both, bridges_of_both};
 pub use diff::{Differing, push_diff};
-pub use in_use::is_had;
 pub use roots::root;

@@ -2,14 +2,13 @@ ghost use Rattle.std.specs.Prelude.{◌≡◌, ◌++◌, OnOk};
 ghost use Rattle.mst_net.specs.Tables.{Net, Numbers};
 ghost use Rattle.mst_trees.specs.Agrees.{AreOf};
 ghost use Rattle.mst_trees.specs.Forest.{IsForest};
+ghost use Rattle.mst_trees.specs.InUse.{AreInUse};
 ghost use Rattle.mst_changes.specs.PortChanges.{port_changes};
-ghost use Rattle.mst_changes.specs.Seen.{AreInUse};
 ghost use Rattle.mst_diff.specs.Ports.{ports_text};
 
-use crate::in_use::is_had;
-use indexmap::IndexSet;
-use mst_changes::{Planned, push_port_changes, trees_in_use};
+use mst_changes::{Planned, push_port_changes};
 use mst_ids::Tree;
+use mst_trees::{is_had, trees_in_use};
 use std::alloc::{AllocError, Global};
 
 /// Appends the lines of ports in a tree: none where no bridge of either network has it.
@@ -17,13 +16,13 @@ fn push_ports_in(
     alloc: Global,
     old: &Planned,
     new: &Planned,
-    used: &IndexSet<Tree>,
-    used_too: &IndexSet<Tree>,
+    used: &[bool; 4095],
+    used_too: &[bool; 4095],
     tree: Tree,
     out: &mut Vec<u8>,
 ) -> Result<(), AllocError>
-    requires used { AreInUse old.now.view.now used.now.keys }
-    requires used_too { AreInUse new.now.view.now used_too.now.keys }
+    requires used { AreInUse old.now.view.now used.now }
+    requires used_too { AreInUse new.now.view.now used_too.now }
     ensures { (a b : Net) (n k : Numbers) (is : IsForest a n old.now.forest.now) (are : IsForest b k new.now.forest.now) → AreOf a n old.now.view.now old.now.forest.now.regions → AreOf b k new.now.view.now new.now.forest.now.regions
         → OnOk result (out.new.items ≡ out.old.items ++ port_changes a is.outcome b are.outcome tree) }
 {
@@ -46,8 +45,8 @@ pub(crate) fn push_ports(
     ensures { (a b : Net) (n k : Numbers) (is : IsForest a n old.now.forest.now) (are : IsForest b k new.now.forest.now) → AreOf a n old.now.view.now old.now.forest.now.regions → AreOf b k new.now.view.now new.now.forest.now.regions
         → OnOk result (out.new.items ≡ out.old.items ++ ports_text a is.outcome b are.outcome) }
 {
-    let used = trees_in_use(alloc, old.view)?;
-    let used_too = trees_in_use(alloc, new.view)?;
+    let used = trees_in_use(old.view);
+    let used_too = trees_in_use(new.view);
     for number in 0..4095 {
         if let Some(tree) = Tree::new(number) {
             push_ports_in(alloc, old, new, &used, &used_too, tree, out)?;

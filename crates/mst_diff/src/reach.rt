@@ -9,7 +9,7 @@ ghost use Rattle.mst_diff.specs.Reach.{has_any, AreSides, whole_line, reach_line
 
 use crate::sides::sides;
 use mst_changes::Planned;
-use mst_graph::{groups_by_body, numbered};
+use mst_graph::{groups_by_body, number_keys};
 use mst_ids::{Vid, VidSet, push_bytes, push_end};
 use mst_lag::View;
 use mst_net::Table;
@@ -164,7 +164,7 @@ pub(crate) fn push_reach(
     let tables = both_tables(alloc, old.view, new.view)?;
     let sets = both_sets(alloc, old.view, new.view)?;
     let numbers = numbers_of_vids(alloc, tables.as_slice(), sets.as_slice())?;
-    let classes = numbered(alloc, numbers)?;
+    let classes = number_keys(alloc, numbers)?;
     let bodies = sides_at(alloc, old, new, classes.firsts.as_slice())?;
     let kept = copies(alloc, bodies.as_slice())?;
     let vids = vids(alloc)?;

@@ -1,7 +1,5 @@
 ghost use Rattle.std.specs.Prelude.{◌≡◌, ◌++◌, IfOk, OnOk, filter_map};
 ghost use Rattle.std.specs.List.{flat_map, list_any};
-ghost use Rattle.mst_net.specs.Seen.{bridge_row};
-ghost use Rattle.mst_text.specs.TreeLines.{id_in as identifier_in};
 ghost use Rattle.mst_diff.specs.Roots.{paired, same_pair, with_new, each_once, root_line};
 ghost use Rattle.mst_diff.specs.Seen.{seen_root, seen_named, name_by, seen_root_name, seen_pair, with_pair, seen_roots};
 
@@ -9,7 +7,8 @@ use crate::both::Both;
 use itoa::Buffer;
 use mst_changes::Planned;
 use mst_ids::{BridgeId, BridgeNo, Name, Tree, push_line};
-use mst_lag::{BridgeInView, View};
+use mst_lag::View;
+use mst_trees::bridge_id;
 use std::alloc::{AllocError, Global};
 
 /// A bridge's identifier in a tree, and its name.
@@ -33,14 +32,6 @@ struct Side<'a> {
     named: &'a [Identified],
 }
 
-/// The identifier of a bridge in a tree.
-fn id_in(view: &View, tree: Tree, bridge: &BridgeInView) -> BridgeId
-    ensures { result ≡ identifier_in view.now.settings tree bridge.now.name (bridge_row bridge.now.bridge) }
-{
-    let priority = view.settings().tree_priority(&bridge.name, tree);
-    BridgeId::new(priority, tree, bridge.bridge.mac)
-}
-
 /// The bridges of a view with their identifiers in a tree.
 fn named(alloc: Global, view: &View, tree: Tree) -> Result<Vec<Identified>, AllocError>
     ensures { IfOk result (λ named. named.items ≡ seen_named view.now tree) }
@@ -48,7 +39,7 @@ fn named(alloc: Global, view: &View, tree: Tree) -> Result<Vec<Identified>, Allo
     view.bridges()
         .iter()
         .map(|bridge| Identified {
-            id: id_in(view, tree, bridge),
+            id: bridge_id(view.settings(), tree, bridge),
             name: bridge.name,
         })
         .collect(alloc)
@@ -69,7 +60,7 @@ pub fn root(plan: &Planned, tree: Tree, bridge: BridgeNo) -> Option<BridgeId>
     if tree.value() == 0 {
         return plan.forest.cist(bridge).map(|vector| vector.root);
     }
-    if plan.view.trees(bridge).contains(&tree) {
+    if plan.view.has_tree(bridge, tree) {
         plan.forest.msti(tree, bridge).map(|vector| vector.regional)
     } else {
         None

@@ -1,6 +1,6 @@
 ghost use Rattle.std.specs.Prelude.{◌≡◌, ◌++◌, ℕ, List, IfOk, OnOk, map};
 ghost use Rattle.std.specs.List.{flat_map, list_any};
-ghost use Rattle.mst_ids.specs.Words.{after_comma, comma_list};
+ghost use Rattle.mst_ids.specs.Words.{comma_list};
 ghost use Rattle.mst_lag.specs.Aggregation.{same_name};
 ghost use Rattle.mst_graph.specs.Islands.{Island as NamedIsland};
 ghost use Rattle.mst_net.specs.Tables.{Net, Numbers};
@@ -12,49 +12,19 @@ ghost use Rattle.mst_diff.specs.Reach.{has_any, island_words, AreSides};
 ghost use Rattle.mst_diff.specs.Seen.{seen_words, one_word, apart_word, joined_sides, side_text};
 
 use mst_changes::Planned;
-use mst_ids::{BridgeNo, Vid, push_bytes, push_word};
+use mst_ids::{Vid, push_bytes, push_comma_list, push_word};
 use mst_lag::View;
-use mst_text::bridge_name;
+use mst_text::bridge_names;
 use mst_vlan::{Island, reach};
 use std::alloc::{AllocError, Global};
-
-/// Appends the names of these bridges, each after a `,`.
-fn push_others(view: &View, bridges: &[BridgeNo], out: &mut Vec<u8>) -> Result<(), AllocError>
-    ensures { OnOk result (out.new.items ≡ out.old.items ++ flat_map after_comma (map (seen_bridge view.now) bridges.now)) }
-{
-    for bridge in bridges {
-        push_after_comma(bridge_name(view, *bridge), out)?;
-    }
-    Ok(())
-}
-
-/// Appends a `,` and a word.
-fn push_after_comma(word: &[u8], out: &mut Vec<u8>) -> Result<(), AllocError>
-    ensures { OnOk result (out.new.items ≡ out.old.items ++ after_comma word.now) }
-{
-    push_bytes(b",", out)?;
-    push_bytes(word, out)
-}
-
-/// Appends the names of these bridges with `,` between two of them, or `-` where there is none.
-fn push_names(view: &View, bridges: &[BridgeNo], out: &mut Vec<u8>) -> Result<(), AllocError>
-    ensures { OnOk result (out.new.items ≡ out.old.items ++ comma_list (map (seen_bridge view.now) bridges.now)) }
-{
-    match bridges {
-        [] => push_bytes(b"-", out),
-        [first, others @ ..] => {
-            push_bytes(bridge_name(view, *first), out)?;
-            push_others(view, others, out)
-        }
-    }
-}
 
 /// The word of an island: the names of its bridges.
 fn word(alloc: Global, view: &View, island: &Island) -> Result<Vec<u8>, AllocError>
     ensures { IfOk result (λ word. word.items ≡ comma_list (map (seen_bridge view.now) island.now.bridges)) }
 {
+    let names = bridge_names(alloc, view, island.bridges.as_slice())?;
     let mut word = Vec::new(alloc);
-    push_names(view, island.bridges.as_slice(), &mut word)?;
+    push_comma_list(names.as_slice(), &mut word)?;
     Ok(word)
 }
 

@@ -15,13 +15,12 @@ use Rattle.mst_lag.specs.declared.in_view.PortInView.{PortInView}
 use Rattle.mst_lag.proofs.Lists.{same_map}
 use Rattle.mst_trees.specs.Agrees.{AreOf}
 use Rattle.mst_trees.specs.Forest.{Forest, IsForest}
+use Rattle.mst_trees.specs.InUse.{id_in, seen_has}
 use Rattle.mst_trees.specs.Outcome.{Outcome}
 use Rattle.mst_trees.proofs.Entries.{all_weaker}
 use Rattle.mst_trees.proofs.Lists.{all_passing, all_there, filter_mapped, mapped_twice}
 use Rattle.mst_trees.proofs.Looking.{has_tree_at}
 use Rattle.mst_trees.proofs.Seen.{SeenPort, bridge_seen, ports_seen}
-use Rattle.mst_text.specs.TreeLines.{id_in}
-use Rattle.mst_text.specs.TreeSeen.{seen_has}
 use Rattle.mst_text.specs.TreeText.{has_tree}
 use Rattle.mst_roles.proofs.Named.{named}
 use Rattle.mst_diff.proofs.Lists.{flat_map-same}

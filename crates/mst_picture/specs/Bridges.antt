@@ -3,8 +3,8 @@ use Rattle.std.specs.Prelude.{ℕ, ◌==◌, Bool, false, not, List, [], ◌∷�
 use Rattle.std.specs.Option.{option_map_or}
 use Rattle.mst_net.specs.Tables.{Net, BridgeRow}
 use Rattle.mst_net.specs.ByTree.{by_tree}
+use Rattle.mst_trees.specs.InUse.{id_in}
 use Rattle.mst_trees.specs.Outcome.{Outcome}
-use Rattle.mst_text.specs.TreeLines.{id_in}
 use Rattle.mst_text.specs.TreeText.{has_tree}
 use Rattle.mst_diff.specs.Roots.{root_of}
 use Rattle.mst_picture.specs.Pieces.{joined}

@@ -8,9 +8,8 @@ use Rattle.mst_lag.specs.declared.in_view.BridgeInView.{BridgeInView}
 use Rattle.mst_lag.specs.declared.in_view.LanInView.{LanInView}
 use Rattle.mst_lag.specs.declared.in_view.PortInView.{PortInView}
 use Rattle.mst_trees.specs.Forest.{Forest}
+use Rattle.mst_trees.specs.InUse.{id_in, seen_has}
 use Rattle.mst_roles.specs.Seen.{seen_role}
-use Rattle.mst_text.specs.TreeLines.{id_in}
-use Rattle.mst_text.specs.TreeSeen.{seen_has}
 use Rattle.mst_diff.specs.Seen.{seen_root}
 use Rattle.mst_summary.specs.Seen.{seen_on}
 use Rattle.mst_picture.specs.Bridges.{bridge_line, style}

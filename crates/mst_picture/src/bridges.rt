@@ -1,17 +1,16 @@
 ghost use Rattle.std.specs.Prelude.{◌≡◌, ◌++◌, OnOk};
 ghost use Rattle.std.specs.List.{flat_map};
 ghost use Rattle.mst_net.specs.Seen.{bridge_row};
-ghost use Rattle.mst_text.specs.TreeSeen.{seen_has};
 ghost use Rattle.mst_picture.specs.Bridges.{style as style_by};
 ghost use Rattle.mst_picture.specs.Seen.{seen_is_root, seen_style, seen_bridge};
 
 use crate::pieces::push_pieces;
 use mst_changes::Planned;
 use mst_diff::root;
-use mst_ids::{BridgeNo, Tree, push_bytes};
-use mst_lag::{BridgeInView, View};
+use mst_ids::{Tree, push_bytes};
+use mst_lag::BridgeInView;
 use mst_lang::Power;
-use mst_summary::id_in;
+use mst_trees::{bridge_id, has_tree};
 use std::alloc::AllocError;
 
 /// Whether a bridge is on.
@@ -21,20 +20,13 @@ fn is_on(bridge: &BridgeInView) -> bool
     matches!(bridge.bridge.power, Power::On)
 }
 
-/// Whether a bridge has a tree: each has the CIST.
-fn has_tree(view: &View, bridge: BridgeNo, tree: Tree) -> bool
-    ensures { result ≡ seen_has view.now tree bridge }
-{
-    tree.value() == 0 || view.has_tree(bridge, tree)
-}
-
 /// Whether a bridge names itself as its root in a tree, in an MSTI as its regional root.
 fn is_root(plan: &Planned, tree: Tree, bridge: &BridgeInView) -> bool
     ensures { result ≡ seen_is_root plan.now.view.now plan.now.forest.now tree bridge.now }
 {
     match root(plan, tree, bridge.bridge.number) {
         None => false,
-        Some(root) => root == id_in(plan.view, tree, bridge),
+        Some(root) => root == bridge_id(plan.view.settings(), tree, bridge),
     }
 }
 

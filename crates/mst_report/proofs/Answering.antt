@@ -10,8 +10,8 @@ use Rattle.mst_net.specs.declared.refusal.Refusal.{Refusal}
 use Rattle.mst_net.specs.declared.refusal.Refusal.TheVariants.{E04, E16}
 use Rattle.mst_trees.specs.Outcome.{Outcome, IsOutcome}
 use Rattle.mst_changes.specs.ChangesText.{changes_text}
-use Rattle.mst_changes.specs.Kept.{rows_of}
-use Rattle.mst_changes.specs.declared.place.Row.{Row}
+use Rattle.mst_changes.specs.Kept.{entries_of}
+use Rattle.mst_changes.specs.declared.subject.Entry.{Entry}
 use Rattle.mst_text.specs.LagText.{lags_text}
 use Rattle.mst_note_text.specs.NotesText.{AreNotes}
 use Rattle.mst_plan_text.specs.PlanText.{IsPlanText}
@@ -34,12 +34,12 @@ module _ (outcomes : (net : Net) → IsNetwork net → (o : Outcome) × IsOutcom
   told net ok Says there = let o = outcomes net ok in let t = there o.0 o.1 in (t.0, (o.0, o.1, t.0, t.1, refl))
 
   -- what has changed since a mark
-  pub changes_told : (net : Net) → IsNetwork net → (rows : List Row) → IsMark rows → (text : List ℕ) × TellsChanges (Some rows) net (Ok text)
-  changes_told net ok rows was = let t = told net ok (λ o text. text ≡ changes_text was.net was.outcome net o) (λ o is. (changes_text was.net was.outcome net o, refl)) in (t.0, (was, t.1))
+  pub changes_told : (net : Net) → IsNetwork net → (entries : List Entry) → IsMark entries → (text : List ℕ) × TellsChanges (Some entries) net (Ok text)
+  changes_told net ok entries was = let t = told net ok (λ o text. text ≡ changes_text was.net was.outcome net o) (λ o is. (changes_text was.net was.outcome net o, refl)) in (t.0, (was, t.1))
 
-  changes_there : (net : Net) → IsNetwork net → (mark : Option (List Row)) → MatchOption mark (Unit {0}) IsMark → (answer : Result (List ℕ) Refusal) × TellsChanges mark net answer
+  changes_there : (net : Net) → IsNetwork net → (mark : Option (List Entry)) → MatchOption mark (Unit {0}) IsMark → (answer : Result (List ℕ) Refusal) × TellsChanges mark net answer
   changes_there net ok None is = (Err E16, refl)
-  changes_there net ok (Some rows) is = let t = changes_told net ok rows is in (Ok t.0, t.1)
+  changes_there net ok (Some entries) is = let t = changes_told net ok entries is in (Ok t.0, t.1)
 
   -- each query has an answer
   pub answer_there : (query : Query) (s : State) → IsState s → (answer : Result (List ℕ) Refusal) × Answers query s answer
@@ -67,14 +67,14 @@ has_text there Changes s ok other since = absurd (since refl)
 has_text there Save s ok other since = (save_text s.net, refl)
 
 -- what tells of changes since a mark has a text
-told_text : (net : Net) (rows : List Row) (answer : Result (List ℕ) Refusal) → TellsChanges (Some rows) net answer → (text : List ℕ) × TellsChanges (Some rows) net (Ok text)
-told_text net rows answer t = (t.1.2, (t.0, (t.1.0, t.1.1, t.1.2, t.1.3, refl)))
+told_text : (net : Net) (entries : List Entry) (answer : Result (List ℕ) Refusal) → TellsChanges (Some entries) net answer → (text : List ℕ) × TellsChanges (Some entries) net (Ok text)
+told_text net entries answer t = (t.1.2, (t.0, (t.1.0, t.1.1, t.1.2, t.1.3, refl)))
 
 -- so has one about changes, once something is marked
-pub changes_have_text : (net : Net) (mark : Option (List Row)) (rows : List Row) → mark ≡ Some rows → (answer : Result (List ℕ) Refusal) × TellsChanges mark net answer → HasText Changes (record { net = net; mark = mark })
-changes_have_text net mark rows e there =
+pub changes_have_text : (net : Net) (mark : Option (List Entry)) (entries : List Entry) → mark ≡ Some entries → (answer : Result (List ℕ) Refusal) × TellsChanges mark net answer → HasText Changes (record { net = net; mark = mark })
+changes_have_text net mark entries e there =
     subst (λ m. HasText Changes (record { net = net; mark = m })) (sym e)
-    (let h = subst (λ m. (answer : Result (List ℕ) Refusal) × TellsChanges m net answer) e there in told_text net rows h.0 h.1)
+    (let h = subst (λ m. (answer : Result (List ℕ) Refusal) × TellsChanges m net answer) e there in told_text net entries h.0 h.1)
 
 -- a bridge that is there has a configuration to show
 pub configuration_there : (s : State) (bridge : List ℕ) (row : BridgeRow) → Some row ≡ fin.get s.net.bridges bridge → HasText (ShowConfiguration bridge) s
@@ -88,21 +88,21 @@ module _ (outcomes : (net : Net) (o p : Outcome) → IsNetwork net → IsOutcome
     (plans : (net : Net) (o : Outcome) (text other : List ℕ) → IsPlanText net o text → IsPlanText net o other → text ≡ other)
     (vids : (net : Net) (o : Outcome) (vid : ℕ) (text other : List ℕ) → IsVlanText net o vid text → IsVlanText net o vid other → text ≡ other)
     (notes : (net : Net) (o : Outcome) (text other : List ℕ) → IsNetwork net → IsOutcome net o → AreNotes net o text → AreNotes net o other → text ≡ other)
-    (rows_tell : (a b c d : Net) (o p q r : Outcome) → rows_of a o ≡ rows_of c q → rows_of b p ≡ rows_of d r → changes_text a o b p ≡ changes_text c q d r) where
+    (entries_tell : (a b c d : Net) (o p q r : Outcome) → entries_of a o ≡ entries_of c q → entries_of b p ≡ entries_of d r → changes_text a o b p ≡ changes_text c q d r) where
   one_told : (net : Net) → IsNetwork net → (Says : Outcome → List ℕ → Type 0) → ((o : Outcome) → IsOutcome net o → (text other : List ℕ) → Says o text → Says o other → text ≡ other)
       → (a b : Result (List ℕ) Refusal) → TellsOutcome net Says a → TellsOutcome net Says b → a ≡ b
   one_told net ok Says one a b x y =
       let same : x.0 ≡ y.0 = outcomes net x.0 y.0 ok x.1 y.1 in
       x.4 ∙ ap Ok (one y.0 y.1 x.2 y.2 (subst (λ o. Says o x.2) same x.3) y.3) ∙ sym y.4
 
-  one_change : (net : Net) → IsNetwork net → (mark : Option (List Row)) → (a b : Result (List ℕ) Refusal) → TellsChanges mark net a → TellsChanges mark net b → a ≡ b
+  one_change : (net : Net) → IsNetwork net → (mark : Option (List Entry)) → (a b : Result (List ℕ) Refusal) → TellsChanges mark net a → TellsChanges mark net b → a ≡ b
   one_change net ok None a b x y = x ∙ sym y
-  one_change net ok (Some rows) a b x y =
+  one_change net ok (Some entries) a b x y =
       let u = x.1 in
       let v = y.1 in
       let same : u.0 ≡ v.0 = outcomes net u.0 v.0 ok u.1 v.1 in
       u.4
-      ∙ ap Ok (u.3 ∙ rows_tell x.0.net net y.0.net net x.0.outcome u.0 y.0.outcome v.0 (sym x.0.are_rows ∙ y.0.are_rows) (ap (rows_of net) same) ∙ sym v.3)
+      ∙ ap Ok (u.3 ∙ entries_tell x.0.net net y.0.net net x.0.outcome u.0 y.0.outcome v.0 (sym x.0.are_entries ∙ y.0.are_entries) (ap (entries_of net) same) ∙ sym v.3)
       ∙ sym v.4
 
   -- a query has one answer
@@ -118,11 +118,11 @@ module _ (outcomes : (net : Net) (o p : Outcome) → IsNetwork net → IsOutcome
   one_text Save s a b ok x y = x ∙ sym y
 
 -- the mark of which changes have a text
-pub was_marked : (net : Net) (mark : Option (List Row)) (rows : List Row) → mark ≡ Some rows → HasText Changes (record { net = net; mark = mark }) → IsMark rows
-was_marked net mark rows e has = let t = subst (λ m. (text : List ℕ) × TellsChanges m net (Ok text)) e has in t.1.0
+pub was_marked : (net : Net) (mark : Option (List Entry)) (entries : List Entry) → mark ≡ Some entries → HasText Changes (record { net = net; mark = mark }) → IsMark entries
+was_marked net mark entries e has = let t = subst (λ m. (text : List ℕ) × TellsChanges m net (Ok text)) e has in t.1.0
 
 -- without a mark they have none
-pub not_marked : (net : Net) (mark : Option (List Row)) → mark ≡ None → HasText Changes (record { net = net; mark = mark }) → ⊥
+pub not_marked : (net : Net) (mark : Option (List Entry)) → mark ≡ None → HasText Changes (record { net = net; mark = mark }) → ⊥
 not_marked net mark e has = let t = subst (λ m. (text : List ℕ) × TellsChanges m net (Ok text)) e has in no_error t.0 t.1
   where
     is_text : Result (List ℕ) Refusal → Type 0
@@ -133,6 +133,6 @@ not_marked net mark e has = let t = subst (λ m. (text : List ℕ) × TellsChang
     no_error text e = subst is_text e tt
 
 -- the text from the marked network to the one now
-pub changes_are : (net : Net) (mark : Option (List Row)) (rows news : List Row) (text : List ℕ) → mark ≡ Some rows → (was : IsMark rows) → (now : IsMarkNow net news) → text ≡ changes_text was.net was.outcome net now.0
+pub changes_are : (net : Net) (mark : Option (List Entry)) (entries news : List Entry) (text : List ℕ) → mark ≡ Some entries → (was : IsMark entries) → (now : IsMarkNow net news) → text ≡ changes_text was.net was.outcome net now.0
     → TellsChanges mark net (Ok text)
-changes_are net mark rows news text e was now is = subst (λ m. TellsChanges m net (Ok text)) (sym e) (was, (now.0, now.1, text, is, refl))
+changes_are net mark entries news text e was now is = subst (λ m. TellsChanges m net (Ok text)) (sym e) (was, (now.0, now.1, text, is, refl))

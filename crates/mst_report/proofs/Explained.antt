@@ -18,10 +18,9 @@ use Rattle.mst_trees.specs.Seen.{trees_at}
 use Rattle.mst_trees.proofs.Lists.{some_is, no_some, passed, there_first, there_later}
 use Rattle.mst_trees.proofs.Seen.{port_seen}
 use Rattle.mst_trees.proofs.Looking.{has_tree_at}
-use Rattle.mst_roles.proofs.Named.{port_is, port_listed, found_in}
+use Rattle.mst_roles.proofs.Named.{port_is, port_found, found_in}
 use Rattle.mst_explain.specs.Explained.{IsExplanation, AreExplanations, trees_of_bridge}
 use Rattle.mst_explain.specs.Planned.{IsPlanOf}
-use Rattle.mst_explain.proofs.SeenTrees.{port_found_at}
 use Rattle.mst_report.specs.Explaining.{logical_port_of, has_tree, has_asked, unexplained_of, asked_trees, Explains}
 use Rattle.mst_report.specs.Kept.{IsPlan}
 use Rattle.mst_report.specs.declared.explaining.Unexplained.{Unexplained}
@@ -135,9 +134,7 @@ module _ (net : Net) (numbers : Numbers) (plan : Plan) (is : IsPlan net numbers 
   module _ (port : PortInView) (there : Contains plan.view.ports port) where
     -- it is the logical port of its name
     is_port : logical_port_of net port.name ≡ Some (named_port port)
-    is_port =
-        let own = (port_seen net numbers plan.view of.view port there).has_numbers in
-        port_listed net numbers plan.view plan.forest.regions of port.name port.number own.port ∙ ap (option_map named_port) (port_found_at net numbers plan.view plan.forest.regions of port there)
+    is_port = port_found net numbers plan.view plan.forest.regions of port there
 
     -- the trees of its bridge
     pub has_tree_by_number : (tree : ℕ) → (tree == 0 || is_among (trees_at plan.view port.bridge) tree) ≡ has_tree net port.name.bridge tree

@@ -8,7 +8,7 @@ use Rattle.mst_net.specs.declared.refusal.Refusal.{Refusal}
 use Rattle.mst_net.specs.declared.refusal.Refusal.TheVariants.{E04, E16}
 use Rattle.mst_trees.specs.Outcome.{Outcome, IsOutcome}
 use Rattle.mst_changes.specs.ChangesText.{changes_text}
-use Rattle.mst_changes.specs.declared.place.Row.{Row}
+use Rattle.mst_changes.specs.declared.subject.Entry.{Entry}
 use Rattle.mst_text.specs.LagText.{lags_text}
 use Rattle.mst_note_text.specs.NotesText.{AreNotes}
 use Rattle.mst_plan_text.specs.PlanText.{IsPlanText}
@@ -25,9 +25,9 @@ TellsOutcome net Says answer = (o : Outcome) × IsOutcome net o × (text : List 
 
 -- what has changed since a mark: without a mark it is refused, else the text goes from the marked network to the one
 -- now, each in its settled outcome
-abbrev pub TellsChanges : Option (List Row) → Net → Result (List ℕ) Refusal → Type 0
+abbrev pub TellsChanges : Option (List Entry) → Net → Result (List ℕ) Refusal → Type 0
 TellsChanges None net answer = answer ≡ Err E16
-TellsChanges (Some rows) net answer = (was : IsMark rows) × TellsOutcome net (λ o text. text ≡ changes_text was.net was.outcome net o) answer
+TellsChanges (Some entries) net answer = (was : IsMark entries) × TellsOutcome net (λ o text. text ≡ changes_text was.net was.outcome net o) answer
 
 -- in a state a query has this answer, a text or a refusal. The texts of a tree, of a VID, of the whole plan and of the
 -- notes are those of the network's settled outcome; those of the classes of links, of the regions and of an MST

@@ -5,8 +5,8 @@ use Rattle.mst_net.specs.Tables.{Net, Numbers}
 use Rattle.mst_config.specs.Shared.{AreRegions}
 use Rattle.mst_trees.specs.Agrees.{AreOf}
 use Rattle.mst_trees.specs.Forest.{IsForest}
-use Rattle.mst_changes.specs.declared.place.Row.{Row}
-use Rattle.mst_changes.specs.declared.rows.Rows.{Rows}
+use Rattle.mst_changes.specs.declared.subject.Entry.{Entry}
+use Rattle.mst_changes.specs.declared.entries.Entries.{Entries}
 use Rattle.mst_report.specs.State.{IsMark}
 use Rattle.mst_report.specs.Standing.{Standing, nothing, standing_of}
 use Rattle.mst_report.specs.declared.plan.Plan.{Plan}
@@ -32,9 +32,9 @@ abbrev pub standing_in : Option Plan → Standing
 standing_in None = nothing
 standing_in (Some p) = standing_of p.forest
 
--- the rows that are kept of the mark, if there is one, are those of a network
-abbrev pub mark_rows : Option Rows → Option (List Row)
-mark_rows = option_map (λ rows. rows.rows.items)
+-- the entries that are kept of the mark, if there is one, are those of a network
+abbrev pub mark_entries : Option Entries → Option (List Entry)
+mark_entries = option_map (λ entries. entries.entries.items)
 
-abbrev pub HasMark : Option Rows → Type 0
-HasMark mark = MatchOption (mark_rows mark) (Unit {0}) IsMark
+abbrev pub HasMark : Option Entries → Type 0
+HasMark mark = MatchOption (mark_entries mark) (Unit {0}) IsMark

@@ -2,33 +2,33 @@
 use Rattle.std.specs.Prelude.{◌≡◌, List, Option, None, Some, MatchOption}
 use Rattle.mst_net.specs.Tables.{Net, IsNetwork, empty_net}
 use Rattle.mst_trees.specs.Outcome.{Outcome, IsOutcome}
-use Rattle.mst_changes.specs.Kept.{rows_of}
-use Rattle.mst_changes.specs.declared.place.Row.{Row}
+use Rattle.mst_changes.specs.Kept.{entries_of}
+use Rattle.mst_changes.specs.declared.subject.Entry.{Entry}
 
--- the network now, and the rows of the network that was marked, if one was
+-- the network now, and the entries of the network that was marked, if one was
 pub record State : Type 0 where
   pub net : Net
-  pub mark : Option (List Row)
+  pub mark : Option (List Entry)
 
 -- at first there is no record and no mark
 abbrev pub empty_state : State
 empty_state = record { net = empty_net; mark = None }
 
--- these rows are those of a network, in its settled outcome
-pub record IsMark (rows : List Row) : Type 0 where
+-- these entries are those of a network, in its settled outcome
+pub record IsMark (entries : List Entry) : Type 0 where
   pub net : Net
   pub outcome : Outcome
   pub network : IsNetwork net
   pub is_outcome : IsOutcome net outcome
-  pub are_rows : rows ≡ rows_of net outcome
+  pub are_entries : entries ≡ entries_of net outcome
 
--- these rows are those of this network
-abbrev pub IsMarkNow : Net → List Row → Type 0
-IsMarkNow net rows = (o : Outcome) × IsOutcome net o × (rows ≡ rows_of net o)
+-- these entries are those of this network
+abbrev pub IsMarkNow : Net → List Entry → Type 0
+IsMarkNow net entries = (o : Outcome) × IsOutcome net o × (entries ≡ entries_of net o)
 
 -- there is a mark, of this network
-abbrev pub IsRowsNow : Net → Option (List Row) → Type 0
-IsRowsNow net mark = (rows : List Row) × (mark ≡ Some rows) × IsMarkNow net rows
+abbrev pub AreEntriesNow : Net → Option (List Entry) → Type 0
+AreEntriesNow net mark = (entries : List Entry) × (mark ≡ Some entries) × IsMarkNow net entries
 
 -- the state is one of a network and, if there is a mark, of a marked network
 pub record IsState (s : State) : Type 0 where

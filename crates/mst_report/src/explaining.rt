@@ -12,6 +12,7 @@ use mst_explain::{push_explanation, push_explanations};
 use mst_ids::{PortName, Tree};
 use mst_lag::{PortInView, View};
 use mst_net::Contents;
+use mst_trees::has_tree;
 use std::alloc::AllocError;
 use thiserror::Error;
 
@@ -125,7 +126,7 @@ impl Planner {
         requires there { Contains plan.now.view.ports port.now }
         ensures { result ≡ has_tree_in self.now.contents.net port.now.name.bridge tree }
     {
-        tree.value() == 0 || plan.view.has_tree(port.bridge, tree)
+        has_tree(&plan.view, port.bridge, tree)
     }
 
     /// The text of a port that is explained.

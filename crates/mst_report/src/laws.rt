@@ -19,9 +19,9 @@ ghost use Rattle.mst_report.specs.Picturing.{Depicts};
 ghost use Rattle.mst_report.specs.Summarizing.{Summarizes};
 ghost use Rattle.mst_report.specs.Sweeping.{Sweeps};
 ghost use Rattle.mst_report.specs.State.{State, IsState, IsMark, IsMarkNow};
-ghost use Rattle.mst_changes.specs.declared.place.Row.{Row};
+ghost use Rattle.mst_changes.specs.declared.subject.Entry.{Entry};
 
-use mst_changes::laws::rows_tell;
+use mst_changes::laws::entries_tell;
 use mst_explain::laws;
 use mst_net::laws::networks;
 use mst_note_text::laws::notes;
@@ -49,14 +49,14 @@ pub fn one_answer()
     one_plan();
     one_text();
     notes();
-    rows_tell();
+    entries_tell();
 }
 
-/// A network has rows to mark, and one list of them.
-pub fn rows_of_network()
-    ensures some { (net : Net) → IsNetwork net → (rows : List Row) × IsMarkNow net rows }
-    ensures one { (net : Net) (rows others : List Row) → IsNetwork net → IsMarkNow net rows → IsMarkNow net others → rows ≡ others }
-    ensures mark { (net : Net) (rows : List Row) → IsNetwork net → IsMarkNow net rows → IsMark rows }
+/// A network has entries to mark, and one list of them.
+pub fn entries_of_network()
+    ensures some { (net : Net) → IsNetwork net → (entries : List Entry) × IsMarkNow net entries }
+    ensures one { (net : Net) (entries others : List Entry) → IsNetwork net → IsMarkNow net entries → IsMarkNow net others → entries ≡ others }
+    ensures mark { (net : Net) (entries : List Entry) → IsNetwork net → IsMarkNow net entries → IsMark entries }
 {
     has_outcome();
     one_outcome();

@@ -7,10 +7,10 @@ ghost use Rattle.mst_trees.specs.Forest.{IsForest};
 ghost use Rattle.mst_lag.specs.Viewed.{IsView};
 ghost use Rattle.mst_report.specs.Sweeping.{Sweeps};
 
-use crate::laws::rows_of_network;
+use crate::laws::entries_of_network;
 use crate::plan::{Plan, next_plan};
 use crate::sweeping::{Sweep, sweep_network};
-use mst_changes::Rows;
+use mst_changes::Entries;
 use mst_config::laws::regions_stay;
 use mst_config::touches_regions;
 use mst_ids::Tree;
@@ -35,7 +35,7 @@ pub struct Planner {
     // The plan's regions are, if there is a plan: no edit since has touched one.
     regions_stand: bool,
     // What is kept of the marked network, if one was marked.
-    mark: Option<Rows>,
+    mark: Option<Entries>,
 }
 
 // By hand, as a network's.
@@ -62,9 +62,9 @@ impl Model for Planner {
 
     ghost coded = { Prim.hlevel (codes, contents_code) };
 
-    ghost use Rattle.mst_report.specs.Kept.{HasPlan, HasRegions, HasMark, mark_rows, standing_in};
+    ghost use Rattle.mst_report.specs.Kept.{HasPlan, HasRegions, HasMark, mark_entries, standing_in};
 
-    ghost view = { λ p. record { contents = p.network; is_settled = p.is_settled; standing = standing_in p.plan; mark = mark_rows p.mark } };
+    ghost view = { λ p. record { contents = p.network; is_settled = p.is_settled; standing = standing_in p.plan; mark = mark_entries p.mark } };
 
     ghost invariant = { λ p. HasPlan p.network.net p.network.numbers p.is_settled p.plan × HasMark p.mark × HasRegions p.network.net p.network.numbers p.regions_stand p.plan };
 }
@@ -73,7 +73,7 @@ impl Planner {
     ghost use Rattle.mst_report.specs.Kept.{IsPlan};
     ghost use Rattle.mst_report.specs.Planned.{planned_state};
     ghost use Rattle.mst_report.specs.Standing.{Standing, nothing, standing_of, settlings_of, KeepsBounds};
-    ghost use Rattle.mst_report.specs.State.{IsState, IsMarkNow, IsRowsNow, empty_state};
+    ghost use Rattle.mst_report.specs.State.{IsState, IsMarkNow, AreEntriesNow, empty_state};
 
     /// The planner of the network with no records, which isn't settled yet: so it takes no memory.
     pub fn new(alloc: Global) -> Planner
@@ -240,22 +240,22 @@ impl Planner {
         self.alloc
     }
 
-    /// Marks the network as it is now, for what changes from it: its rows take the place of those of an earlier mark.
+    /// Marks the network as it is now, for what changes from it: its entries take the place of those of an earlier mark.
     /// E99 alone refuses it, where memory was wanted and refused; the planner is then as it was.
     pub fn mark(&mut self) -> Result<(), Refusal>
         requires { self.old.is_settled ≡ true }
         ensures same { self.new.contents ≡ self.old.contents }
         ensures settled { self.new.is_settled ≡ true }
         ensures standing { self.new.standing ≡ self.old.standing }
-        ensures marked { OnOk result (IsRowsNow self.old.contents.net self.new.mark) }
+        ensures marked { OnOk result (AreEntriesNow self.old.contents.net self.new.mark) }
         ensures as_it_was { OnErr result (self.new.mark ≡ self.old.mark) }
         ensures refused { IfErr result (λ refusal. refusal ≡ Refusal.E99) }
     {
         self.known();
-        rows_of_network();
-        match self.rows() {
-            Ok(rows) => {
-                self.mark = Some(rows);
+        entries_of_network();
+        match self.entries() {
+            Ok(entries) => {
+                self.mark = Some(entries);
                 Ok(())
             }
             Err(_) => Err(Refusal::E99),
@@ -263,18 +263,18 @@ impl Planner {
     }
 
     /// What is kept of the network as it is now.
-    pub(crate) fn rows(&self) -> Result<Rows, AllocError>
+    pub(crate) fn entries(&self) -> Result<Entries, AllocError>
         requires { self.now.is_settled ≡ true }
-        ensures { IfOk result (λ rows. IsMarkNow self.now.contents.net rows.rows.items) }
+        ensures { IfOk result (λ entries. IsMarkNow self.now.contents.net entries.entries.items) }
     {
         let plan = self.plan();
-        let rows = Rows::new(self.alloc, &plan.view, &plan.forest)?;
-        Ok(rows)
+        let entries = Entries::new(self.alloc, &plan.view, &plan.forest)?;
+        Ok(entries)
     }
 
-    /// The rows of the mark, if there is one.
-    pub(crate) fn marked(&self) -> Option<&Rows>
-        ensures { option_map (λ rows. rows.now.rows.items) result ≡ self.now.mark }
+    /// The entries of the mark, if there is one.
+    pub(crate) fn marked(&self) -> Option<&Entries>
+        ensures { option_map (λ entries. entries.now.entries.items) result ≡ self.now.mark }
     {
         self.mark.as_ref()
     }

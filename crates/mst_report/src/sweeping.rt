@@ -3,7 +3,7 @@ ghost use Rattle.mst_net.specs.Contents.{SameContents, CanCommit, ahead_of};
 ghost use Rattle.mst_config.specs.Shared.{AreRegions};
 ghost use Rattle.mst_trees.specs.Agrees.{Known};
 ghost use Rattle.mst_trees.specs.Forest.{IsForest};
-ghost use Rattle.mst_sweep.specs.Standing.{IsStanding};
+ghost use Rattle.mst_sweep.specs.Baseline.{IsBaseline};
 ghost use Rattle.mst_sweep.specs.SweepText.{IsTold};
 ghost use Rattle.mst_report.specs.Kept.{IsPlan};
 ghost use Rattle.mst_report.specs.Sweeping.{Sweeps, AreTold, IsFailedPlan};
@@ -12,7 +12,7 @@ use crate::plan::{Plan, repaired_plan};
 use mst_changes::Planned;
 use mst_config::laws::regions_stay;
 use mst_net::{Network, Ready};
-use mst_sweep::{Failure, Standing, failures, push_failure, push_last};
+use mst_sweep::{Baseline, Failure, failures, push_failure, push_last};
 use std::alloc::{AllocError, Global};
 
 /// What each single failure of a network does.
@@ -37,22 +37,22 @@ pub(crate) fn sweep_network(
     ensures same { SameContents network.old network.new }
 {
     let failures = failures(alloc, &plan.view)?;
-    let standing = standing_of(alloc, plan)?;
-    let mut told = sweep_failures(alloc, network, plan, &standing, failures.as_slice())?;
+    let baseline = baseline_of(alloc, plan)?;
+    let mut told = sweep_failures(alloc, network, plan, &baseline, failures.as_slice())?;
     push_last(failures.as_slice(), told.cuts, &mut told.text)?;
     Ok(told)
 }
 
 /// What stays the same for all failures.
-fn standing_of(alloc: Global, plan: &Plan) -> Result<Standing, AllocError>
+fn baseline_of(alloc: Global, plan: &Plan) -> Result<Baseline, AllocError>
     requires { Known plan.now.view plan.now.forest.regions }
-    ensures { IfOk result (IsStanding plan.now.view plan.now.forest) }
+    ensures { IfOk result (IsBaseline plan.now.view plan.now.forest) }
 {
     let planned = Planned {
         view: &plan.view,
         forest: &plan.forest,
     };
-    Standing::new(alloc, &planned)
+    Baseline::new(alloc, &planned)
 }
 
 /// What each of these failures does, but for the last line.
@@ -60,18 +60,18 @@ fn sweep_failures(
     alloc: Global,
     network: &mut Network,
     plan: &Plan,
-    standing: &Standing,
+    baseline: &Baseline,
     failures: &[Failure],
 ) -> Result<Sweep, AllocError>
     requires of { IsPlan network.old.net network.old.numbers plan.now }
-    requires standing { IsStanding plan.now.view plan.now.forest standing.now }
+    requires baseline { IsBaseline plan.now.view plan.now.forest baseline.now }
     ensures told { IfOk result (λ told. (is : IsForest network.old.net network.old.numbers plan.now.forest) → AreTold network.old.net is.outcome failures.now told.cuts told.text.items) }
     ensures same { SameContents network.old network.new }
 {
     let mut text = Vec::new(alloc);
     let mut cuts = 0;
     for failure in failures {
-        if push_failed(alloc, network, plan, standing, failure, &mut text)? {
+        if push_failed(alloc, network, plan, baseline, failure, &mut text)? {
             cuts += 1;
         }
     }
@@ -83,12 +83,12 @@ fn push_failed(
     alloc: Global,
     network: &mut Network,
     plan: &Plan,
-    standing: &Standing,
+    baseline: &Baseline,
     failure: &Failure,
     text: &mut Vec<u8>,
 ) -> Result<bool, AllocError>
     requires of { IsPlan network.old.net network.old.numbers plan.now }
-    requires standing { IsStanding plan.now.view plan.now.forest standing.now }
+    requires baseline { IsBaseline plan.now.view plan.now.forest baseline.now }
     ensures told { IfOk result (λ cuts. (is : IsForest network.old.net network.old.numbers plan.now.forest) → (words : List ℕ) × IsTold network.old.net is.outcome failure.now (record { text = words; cuts = cuts }) × (text.new.items ≡ text.old.items ++ words)) }
     ensures same { SameContents network.old network.new }
 {
@@ -101,7 +101,7 @@ fn push_failed(
         view: &failed.view,
         forest: &failed.forest,
     };
-    push_failure(alloc, failure, &old, standing, &new, text)
+    push_failure(alloc, failure, &old, baseline, &new, text)
 }
 
 /// The plan of the network that a failure makes, by one repair of the plan that stands.

@@ -5,7 +5,7 @@ ghost use Rattle.mst_report.specs.Planned.{planned_state};
 ghost use Rattle.mst_report.specs.Refusing.{HasText};
 
 use crate::planner::Planner;
-use mst_changes::{Rows, push_changes};
+use mst_changes::{Entries, push_changes};
 use mst_ids::{Name, Tree, Vid};
 use mst_lang::Query;
 use mst_note_text::push_notes;
@@ -15,8 +15,9 @@ use mst_text::{push_configuration, push_lags, push_regions, push_tree, push_vlan
 use std::alloc::AllocError;
 
 impl Planner {
-    /// The text that answers a query. `AllocError`: memory was wanted and refused.
-    pub(crate) fn text(&self, query: &Query) -> Result<Vec<u8>, AllocError>
+    /// The text that answers a query, which nothing [refuses](Planner::refusal). `AllocError`: memory was wanted and
+    /// refused.
+    pub fn text(&self, query: &Query) -> Result<Vec<u8>, AllocError>
         requires settled { is_of_plan query.now ≡ true → self.now.is_settled ≡ true }
         requires text { HasText query.now (planned_state self.now) }
         ensures { IfOk result (λ text. Answers query.now (planned_state self.now) (Ok text.items)) }
@@ -129,13 +130,13 @@ impl Planner {
     }
 
     /// The text of what has changed since this mark.
-    fn changes_from(&self, mark: &Rows) -> Result<Vec<u8>, AllocError>
+    fn changes_from(&self, mark: &Entries) -> Result<Vec<u8>, AllocError>
         requires settled { self.now.is_settled ≡ true }
-        requires marked { self.now.mark ≡ Some mark.now.rows.items }
+        requires marked { self.now.mark ≡ Some mark.now.entries.items }
         requires text { HasText Changes (planned_state self.now) }
         ensures { IfOk result (λ text. Answers Changes (planned_state self.now) (Ok text.items)) }
     {
-        let now = self.rows()?;
+        let now = self.entries()?;
         let mut text = Vec::new(self.alloc());
         push_changes(mark, &now, &mut text)?;
         Ok(text)

@@ -1,5 +1,5 @@
 -- Lists: what passes, how many, and texts of each.
-use Rattle.std.proofs.Common.{◌≡◌, ℕ, ◌+◌, ◌<◌, ◌&&◌, ◌||◌, Bool, cond, List, [], ◌∷◌, ◌++◌, length, take, get_or, fold, map, refl, sym, ap, ◌∙◌, arith}
+use Rattle.std.proofs.Common.{◌≡◌, ℕ, ◌+◌, ◌<◌, ◌&&◌, ◌||◌, Bool, true, false, cond, List, [], ◌∷◌, ◌++◌, length, take, get_or, fold, map, refl, sym, ap, ◌∙◌, true≢false, arith}
 use Rattle.std.specs.List.{AllByRecursion, filter, list_all, list_any, count_by, range_with_len}
 use Rattle.std.proofs.lemmas.List.{length-map, take_more}
 use Rattle.std.proofs.lemmas.List.Elements.{filter-append}
@@ -7,8 +7,9 @@ use Rattle.std.proofs.lemmas.List.Sums.{length-filter, fold-append}
 use Rattle.mst_net.proofs.Rising.{range_more}
 use Rattle.mst_trees.proofs.Lists.{filter_mapped}
 use Rattle.mst_trees.proofs.Looking.{filter_alike}
-use Rattle.mst_changes.specs.Places.{all_trees}
+use Rattle.mst_changes.specs.Subjects.{all_trees}
 use Rattle.mst_changes.proofs.Orders.{trees_are}
+use Rattle.mst_diff.specs.Reach.{has_any}
 
 -- one more tree of those that pass, and all of them
 pub trees_more : (test : ℕ → Bool) (n : ℕ) → filter test (range_with_len 0 (n + 1)) ≡ filter test (range_with_len 0 n) ++ cond (test n) (n ∷ []) []
@@ -49,3 +50,9 @@ fold_more f first xs i x l is = ap (fold f first) (take_more xs i x l ∙ ap (λ
 -- and of those that pass
 pub passed_more : {A : Type 0} (test : A → Bool) (xs : List A) (i : ℕ) (x : A) → i < length xs → x ≡ get_or xs i x → filter test (take (i + 1) xs) ≡ filter test (take i xs) ++ cond (test x) (x ∷ []) []
 passed_more test xs i x l is = ap (filter test) (take_more xs i x l ∙ ap (λ y. take i xs ++ y ∷ []) (sym is)) ∙ filter-append test (take i xs) (x ∷ [])
+
+-- where there is some, whether one passes or there is no need to
+pub any_or : {A : Type 0} (t : Bool) (test : A → Bool) (xs : List A) → has_any xs ≡ true → (t || list_any test xs) ≡ list_any (λ x. t || test x) xs
+any_or t test [] e = absurd (true≢false (sym e))
+any_or true test (x ∷ xs) e = refl
+any_or false test (x ∷ xs) e = refl

@@ -24,19 +24,18 @@ use Rattle.mst_config.specs.Regions.{region_of}
 use Rattle.mst_config.proofs.SameRegion.{has_first, HasFirst}
 use Rattle.mst_trees.specs.Agrees.{AreOf}
 use Rattle.mst_trees.specs.Forest.{Forest, IsForest}
+use Rattle.mst_trees.specs.InUse.{id_in, seen_has}
 use Rattle.mst_trees.specs.Outcome.{Outcome}
 use Rattle.mst_trees.proofs.Entries.{all_weaker}
 use Rattle.mst_trees.proofs.Lists.{all_passing, all_there, filter_mapped, kept_same, mapped_twice, some_is}
 use Rattle.mst_trees.proofs.Looking.{filter_alike, has_tree_at}
 use Rattle.mst_trees.proofs.Seen.{SeenBridge, SeenPort, bridges_seen, ports_seen}
-use Rattle.mst_text.specs.TreeLines.{id_in}
-use Rattle.mst_text.specs.TreeSeen.{seen_has}
 use Rattle.mst_text.specs.TreeText.{has_tree}
 use Rattle.mst_roles.proofs.Named.{own_role}
 use Rattle.mst_roles.proofs.Forwarded.{each_forwards}
 use Rattle.mst_vlan.specs.Reach.{is_member}
 use Rattle.mst_vlan.specs.Seen.{seen_member}
-use Rattle.mst_changes.specs.Places.{all_trees, bridge_names}
+use Rattle.mst_changes.specs.Subjects.{all_trees, bridge_names}
 use Rattle.mst_changes.proofs.Lists.{filter_map-map}
 use Rattle.mst_diff.proofs.Named.{names_are, root_named}
 use Rattle.mst_summary.specs.Blocked.{stops, is_blocked, blocked, blocked_line}

@@ -8,7 +8,7 @@ use Rattle.mst_lag.specs.Aggregation.{same_name}
 use Rattle.mst_lag.specs.View.{view_ports}
 use Rattle.mst_config.specs.Regions.{first_of_region}
 use Rattle.mst_text.specs.TreeText.{has_tree}
-use Rattle.mst_changes.specs.Places.{all_trees, bridge_names}
+use Rattle.mst_changes.specs.Subjects.{all_trees, bridge_names}
 use Rattle.mst_summary.specs.declared.counts.Counts.{Counts}
 
 -- a bridge is the first of its region: each region has one

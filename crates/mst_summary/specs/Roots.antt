@@ -6,8 +6,8 @@ use Rattle.std.specs.FinMap as fin
 use Rattle.mst_ids.specs.Words.{line}
 use Rattle.mst_net.specs.Tables.{Net, BridgeRow}
 use Rattle.mst_net.specs.ByTree.{ByTree, by_tree, priority_in}
+use Rattle.mst_trees.specs.InUse.{id_in}
 use Rattle.mst_trees.specs.Outcome.{Outcome}
-use Rattle.mst_text.specs.TreeLines.{id_in}
 use Rattle.mst_diff.specs.Roots.{root_of}
 use Rattle.mst_diff.specs.Reach.{has_any}
 use Rattle.mst_summary.specs.declared.roots.Follower.{Follower}

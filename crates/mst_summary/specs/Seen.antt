@@ -13,13 +13,12 @@ use Rattle.mst_lag.specs.declared.in_view.BridgeInView.{BridgeInView}
 use Rattle.mst_lag.specs.declared.in_view.LanInView.{LanInView}
 use Rattle.mst_lag.specs.declared.in_view.PortInView.{PortInView}
 use Rattle.mst_trees.specs.Forest.{Forest}
+use Rattle.mst_trees.specs.InUse.{id_in, seen_has}
 use Rattle.mst_trees.specs.Outcome.{Outcome}
-use Rattle.mst_text.specs.TreeLines.{id_in}
-use Rattle.mst_text.specs.TreeSeen.{seen_has}
 use Rattle.mst_roles.specs.Seen.{seen_role, seen_forwards}
 use Rattle.mst_vlan.specs.Seen.{seen_member}
 use Rattle.mst_vlan.specs.declared.island.Island.{Island}
-use Rattle.mst_changes.specs.Places.{all_trees}
+use Rattle.mst_changes.specs.Subjects.{all_trees}
 use Rattle.mst_diff.specs.Reach.{has_any}
 use Rattle.mst_diff.specs.Seen.{seen_root}
 use Rattle.mst_summary.specs.declared.roots.Follower.{Follower}

@@ -1,12 +1,10 @@
-ghost use Rattle.std.specs.Prelude.{◌≡◌, ◌++◌, map, IfOk, OnOk};
-ghost use Rattle.std.specs.List.{flat_map};
-ghost use Rattle.mst_ids.specs.Words.{after_comma, comma_list, port_text};
+ghost use Rattle.std.specs.Prelude.{◌≡◌, ◌++◌, IfOk, OnOk};
 ghost use Rattle.mst_summary.specs.Blocked.{stops as stops_of, blocked_line};
 ghost use Rattle.mst_summary.specs.Seen.{seen_is_blocked, seen_blocked};
 
 use itoa::Buffer;
 use mst_changes::Planned;
-use mst_ids::{PortName, Tree, push_bytes, push_end, push_word};
+use mst_ids::{PortName, Tree, push_bytes, push_comma_list, push_end, push_word};
 use mst_lag::PortInView;
 use mst_roles::{Role, port_role};
 use std::alloc::{AllocError, Global};
@@ -40,30 +38,6 @@ fn blocked(alloc: Global, plan: &Planned, tree: Tree) -> Result<Vec<PortName>, A
         .collect(alloc)
 }
 
-/// Appends these ports, each after a `,`.
-fn push_others(ports: &[PortName], out: &mut Vec<u8>) -> Result<(), AllocError>
-    ensures { OnOk result (out.new.items ≡ out.old.items ++ flat_map after_comma (map port_text ports.now)) }
-{
-    for port in ports {
-        push_bytes(b",", out)?;
-        port.push_text(out)?;
-    }
-    Ok(())
-}
-
-/// Appends these ports with `,` between two of them, or `-` where there is none.
-fn push_ports(ports: &[PortName], out: &mut Vec<u8>) -> Result<(), AllocError>
-    ensures { OnOk result (out.new.items ≡ out.old.items ++ comma_list (map port_text ports.now)) }
-{
-    match ports {
-        [] => push_bytes(b"-", out),
-        [first, others @ ..] => {
-            first.push_text(out)?;
-            push_others(others, out)
-        }
-    }
-}
-
 /// Appends the line of these ports.
 fn push_line(tree: Tree, ports: &[PortName], out: &mut Vec<u8>) -> Result<(), AllocError>
     ensures { OnOk result (out.new.items ≡ out.old.items ++ blocked_line tree ports.now) }
@@ -72,7 +46,7 @@ fn push_line(tree: Tree, ports: &[PortName], out: &mut Vec<u8>) -> Result<(), Al
     push_bytes(b"blocked", out)?;
     push_word(number.format(tree.value()).as_bytes(), out)?;
     push_bytes(b" ", out)?;
-    push_ports(ports, out)?;
+    push_comma_list(ports, out)?;
     push_end(out)
 }
 

@@ -4,7 +4,6 @@ ghost use Rattle.mst_net.specs.Tables.{Net, Numbers};
 ghost use Rattle.mst_trees.specs.Agrees.{AreOf};
 ghost use Rattle.mst_trees.specs.Forest.{IsForest};
 ghost use Rattle.mst_plan_text.specs.Bodies.{NumberEach};
-ghost use Rattle.mst_vlan.specs.Seen.{seen_member};
 ghost use Rattle.mst_summary.specs.Carries.{carried, carries_line, carries_text};
 ghost use Rattle.mst_summary.specs.Kept.{AreClasses, flag_at, kept_at};
 ghost use Rattle.mst_summary.specs.Seen.{seen_on, seen_carries, up_text};
@@ -14,23 +13,17 @@ use indexmap::IndexMap;
 use mst_changes::Planned;
 use mst_graph::Numbering;
 use mst_ids::{Name, Vid, push_bytes, push_end, push_word};
-use mst_lag::{LanInView, PortInView, View};
+use mst_lag::{LanInView, PortInView};
 use mst_plan_text::{set_of, vids};
 use mst_roles::port_forwards;
+use mst_vlan::is_member;
 use std::alloc::{AllocError, Global};
-
-/// Whether a port is a member of a VLAN.
-fn is_member(view: &View, vid: Vid, port: &PortInView) -> bool
-    ensures { result ≡ seen_member view.now vid port.now }
-{
-    view.settings().is_member(&port.name, vid)
-}
 
 /// Whether a port is active for a VID and a member of its VLAN.
 fn carries(plan: &Planned, vid: Vid, port: &PortInView) -> bool
     ensures { result ≡ seen_carries plan.now.view.now plan.now.forest.now vid port.now }
 {
-    port_forwards(plan.view, plan.forest, port, vid) && is_member(plan.view, vid, port)
+    port_forwards(plan.view, plan.forest, port, vid) && is_member(plan.view, port, vid)
 }
 
 /// Whether all of these ports are so.

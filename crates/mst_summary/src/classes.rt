@@ -1,7 +1,7 @@
 ghost use Rattle.std.specs.Prelude.{IfOk};
 ghost use Rattle.mst_summary.specs.Kept.{AreClasses};
 
-use mst_graph::{Numbering, numbered};
+use mst_graph::{Numbering, number_keys};
 use mst_lag::View;
 use mst_plan_text::{numbers_of_vids, tables, vlan_sets};
 use std::alloc::{AllocError, Global};
@@ -13,5 +13,5 @@ pub(crate) fn classes_of_vids(alloc: Global, view: &View) -> Result<Numbering, A
     let tables = tables(alloc, view)?;
     let sets = vlan_sets(alloc, view)?;
     let numbers = numbers_of_vids(alloc, tables.as_slice(), sets.as_slice())?;
-    numbered(alloc, numbers)
+    number_keys(alloc, numbers)
 }

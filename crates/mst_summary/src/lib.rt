@@ -14,5 +14,4 @@ mod summary;
 mod trees;
 
 pub use kept::{kept_for, ports_by_lan};
-pub use roots::id_in;
 pub use summary::push_summary;

@@ -1,9 +1,7 @@
 ghost use Rattle.std.specs.Prelude.{◌≡◌, ◌==◌, ◌*◌, ◌++◌, not, filter, IfOk, OnOk};
 ghost use Rattle.std.specs.List.{flat_map};
-ghost use Rattle.mst_net.specs.Seen.{bridge_row};
 ghost use Rattle.mst_net.specs.ByTree.{priority_in};
 ghost use Rattle.mst_ids.specs.Words.{after_space};
-ghost use Rattle.mst_text.specs.TreeLines.{id_in as identifier_in};
 ghost use Rattle.mst_diff.specs.Reach.{has_any};
 ghost use Rattle.mst_summary.specs.Roots.{followers_of as those_of, with_lesser, least as least_of, next_of, next_words, whole_line, group_line};
 ghost use Rattle.mst_summary.specs.Seen.{seen_follower, seen_followers, seen_root_line, seen_root_lines};
@@ -13,6 +11,7 @@ use mst_changes::Planned;
 use mst_diff::root;
 use mst_ids::{BridgeId, Name, Tree, push_bytes, push_end, push_word, push_words};
 use mst_lag::{BridgeInView, View};
+use mst_trees::bridge_id;
 use std::alloc::{AllocError, Global};
 
 /// A bridge that names a root in a tree: its name, its own identifier there and that of its root.
@@ -23,14 +22,6 @@ pub(crate) struct Follower {
     pub(crate) root: BridgeId,
 }
 
-/// The identifier of a bridge in a tree.
-pub fn id_in(view: &View, tree: Tree, bridge: &BridgeInView) -> BridgeId
-    ensures { result ≡ identifier_in view.now.settings tree bridge.now.name (bridge_row bridge.now.bridge) }
-{
-    let priority = view.settings().tree_priority(&bridge.name, tree);
-    BridgeId::new(priority, tree, bridge.bridge.mac)
-}
-
 /// A bridge with the root that it names in a tree, if it names one.
 fn as_follower(plan: &Planned, tree: Tree, bridge: &BridgeInView) -> Option<Follower>
     ensures { result ≡ seen_follower plan.now.view.now plan.now.forest.now tree bridge.now }
@@ -38,7 +29,7 @@ fn as_follower(plan: &Planned, tree: Tree, bridge: &BridgeInView) -> Option<Foll
     let root = root(plan, tree, bridge.bridge.number)?;
     Some(Follower {
         name: bridge.name,
-        id: id_in(plan.view, tree, bridge),
+        id: bridge_id(plan.view.settings(), tree, bridge),
         root,
     })
 }
@@ -215,7 +206,7 @@ fn push_root(
 ) -> Result<(), AllocError>
     ensures { OnOk result (out.new.items ≡ out.old.items ++ seen_root_line view.now tree followers.now bridge.now) }
 {
-    let id = id_in(view, tree, bridge);
+    let id = bridge_id(view.settings(), tree, bridge);
     let group = followers_of(alloc, id, followers)?;
     push_group(alloc, view, tree, &bridge.name, id, group.as_slice(), out)
 }

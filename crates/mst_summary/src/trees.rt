@@ -1,13 +1,11 @@
 ghost use Rattle.std.specs.Prelude.{◌≡◌, ◌&&◌, IfOk};
-ghost use Rattle.mst_changes.specs.Seen.{AreInUse};
+ghost use Rattle.mst_trees.specs.InUse.{AreInUse};
 ghost use Rattle.mst_diff.specs.Reach.{has_any};
 ghost use Rattle.mst_summary.specs.Seen.{seen_used, seen_trees};
 
-use indexmap::IndexSet;
-use mst_changes::trees_in_use;
-use mst_diff::is_had;
 use mst_ids::Tree;
 use mst_lag::{BridgeInView, View};
+use mst_trees::{is_had, trees_in_use};
 use std::alloc::{AllocError, Global};
 
 /// Whether there is a bridge.
@@ -21,8 +19,8 @@ fn is_any(bridges: &[BridgeInView]) -> bool
 }
 
 /// Whether some bridge has a tree: each has the CIST.
-fn is_used(view: &View, used: &IndexSet<Tree>, tree: Tree) -> bool
-    requires { AreInUse view.now used.now.keys }
+fn is_used(view: &View, used: &[bool; 4095], tree: Tree) -> bool
+    requires { AreInUse view.now used.now }
     ensures { result ≡ seen_used view.now tree }
 {
     is_any(view.bridges()) && is_had(used, tree)
@@ -32,7 +30,7 @@ fn is_used(view: &View, used: &IndexSet<Tree>, tree: Tree) -> bool
 pub(crate) fn used_trees(alloc: Global, view: &View) -> Result<Vec<Tree>, AllocError>
     ensures { IfOk result (λ trees. trees.items ≡ seen_trees view.now) }
 {
-    let used = trees_in_use(alloc, view)?;
+    let used = trees_in_use(view);
     let mut trees = Vec::new(alloc);
     for number in 0..4095 {
         if let Some(tree) = Tree::new(number) {

@@ -23,7 +23,7 @@ use Rattle.mst_vlan.specs.Active.{active_ports, port_ends, IsEnabled}
 use Rattle.mst_vlan.specs.Reach.{bridges_on, is_member, link_of, vid_links, AreIslandsOf}
 use Rattle.mst_vlan.proofs.ActiveLaw.{active_enabled}
 use Rattle.mst_vlan.proofs.Carried.{carried}
-use Rattle.mst_changes.specs.Places.{bridge_names}
+use Rattle.mst_changes.specs.Subjects.{bridge_names}
 use Rattle.mst_diff.specs.Reach.{has_any}
 use Rattle.mst_diff.proofs.Lists.{find-found}
 use Rattle.mst_sweep.specs.Apart.{AllAreMembers, AreLinked, ComeApart}

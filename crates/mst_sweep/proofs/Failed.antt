@@ -14,7 +14,7 @@ use Rattle.mst_net.proofs.NamesInOrder.{names_stay}
 use Rattle.mst_lag.specs.Aggregation.{Plug, plugs}
 use Rattle.mst_lag.specs.View.{LogicalPort, logical_port, as_port}
 use Rattle.mst_trees.proofs.Lists.{mapped_twice}
-use Rattle.mst_changes.specs.Places.{bridge_names, port_names}
+use Rattle.mst_changes.specs.Subjects.{bridge_names, port_names}
 use Rattle.mst_sweep.specs.declared.failure.Failure.{Failure}
 use Rattle.mst_sweep.specs.declared.failure.Failure.TheVariants.{Lan, Bridge}
 use Rattle.mst_sweep.specs.Failures.{edit_of}

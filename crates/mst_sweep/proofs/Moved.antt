@@ -29,7 +29,7 @@ use Rattle.mst_roles.proofs.Named.{own_role}
 use Rattle.mst_roles.specs.Roles.{role_of, role_in, cist_role, msti_role}
 use Rattle.mst_roles.specs.Seen.{seen_role}
 use Rattle.mst_roles.specs.declared.kind.Role.{Role}
-use Rattle.mst_changes.specs.Places.{all_trees, bridge_names, port_names}
+use Rattle.mst_changes.specs.Subjects.{all_trees, bridge_names, port_names}
 use Rattle.mst_changes.proofs.Orders.{trees_are}
 use Rattle.mst_diff.specs.declared.both.Both.{Both}
 use Rattle.mst_diff.specs.Roots.{root_of}

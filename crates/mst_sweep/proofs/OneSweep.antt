@@ -22,7 +22,7 @@ use Rattle.mst_trees.proofs.Looking.{filter_alike}
 use Rattle.mst_vlan.specs.Reach.{AreIslandsOf, bridges_on}
 use Rattle.mst_plan_text.specs.PlanText.{all_vids}
 use Rattle.mst_plan_text.proofs.OnePlan.{vids_once, is_vid_there, each_text, OneGrouping}
-use Rattle.mst_changes.specs.Places.{bridge_names}
+use Rattle.mst_changes.specs.Subjects.{bridge_names}
 use Rattle.mst_diff.specs.Reach.{has_any}
 use Rattle.mst_diff.proofs.OneDiff.{OneList}
 use Rattle.mst_sweep.specs.declared.failure.Failure.{Failure}

@@ -26,7 +26,7 @@ use Rattle.mst_vlan.specs.Reach.{bridges_on, lans_up, vid_links, AreIslandsOf}
 use Rattle.mst_vlan.proofs.Renumbered.{bridge_listed}
 use Rattle.mst_plan_text.specs.Alike.{AreAlike}
 use Rattle.mst_plan_text.proofs.Classes.{links_shared}
-use Rattle.mst_changes.specs.Places.{bridge_names, port_names}
+use Rattle.mst_changes.specs.Subjects.{bridge_names, port_names}
 use Rattle.mst_changes.proofs.Lists.{filter_map-map}
 use Rattle.mst_diff.specs.declared.both.Both.{Both}
 use Rattle.mst_diff.specs.Seen.{seen_in_both, seen_both}

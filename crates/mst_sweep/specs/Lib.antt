@@ -4,5 +4,5 @@ pub mod Parts
 pub mod Cuts
 pub mod SweepText
 pub mod Seen
-pub mod Standing
+pub mod Baseline
 pub mod Apart

@@ -7,8 +7,8 @@ use Rattle.mst_trees.specs.Outcome.{Outcome}
 use Rattle.mst_roles.specs.Roles.{role_of}
 use Rattle.mst_roles.specs.declared.kind.Role.{Role}
 use Rattle.mst_roles.specs.declared.kind.Role.TheVariants.{Disabled}
-use Rattle.mst_changes.specs.Places.{all_trees, bridge_names, port_names}
-use Rattle.mst_changes.specs.States.{role_number}
+use Rattle.mst_changes.specs.Subjects.{all_trees, bridge_names, port_names}
+use Rattle.mst_changes.specs.Values.{role_number}
 use Rattle.mst_diff.specs.Roots.{root_of}
 
 -- there are two roots, and they aren't the same

@@ -11,11 +11,11 @@ ghost use Rattle.mst_sweep.specs.declared.failure.Failure.{Failure as FailureOf}
 ghost use Rattle.mst_sweep.specs.Failures.{edit_of};
 ghost use Rattle.mst_sweep.specs.Parts.{AreParts};
 ghost use Rattle.mst_sweep.specs.Cuts.{cut_line, group_line, group_text, AreCuts};
-ghost use Rattle.mst_sweep.specs.Standing.{AreHomes, IsStanding};
+ghost use Rattle.mst_sweep.specs.Baseline.{AreHomes, IsBaseline};
 
+use crate::baseline::Baseline;
 use crate::homes::homes_of;
 use crate::parts::{push_parts, staying};
-use crate::standing::Standing;
 use indexmap::IndexMap;
 use mst_changes::Planned;
 use mst_diff::Both;
@@ -50,18 +50,18 @@ fn parts_of_firsts(
     alloc: Global,
     old: &Planned,
     new: &Planned,
-    standing: &Standing,
+    baseline: &Baseline,
     both: &[Both],
 ) -> Result<Vec<Vec<u8>>, AllocError>
     requires new { Known new.now.view.now new.now.forest.now.regions }
     requires both { both.now ≡ seen_both old.now.view.now new.now.view.now }
-    requires standing { IsStanding old.now.view.now old.now.forest.now standing.now }
-    ensures as_long { IfOk result (λ texts. vec_len texts ≡ length standing.now.classes.firsts.items) }
+    requires baseline { IsBaseline old.now.view.now old.now.forest.now baseline.now }
+    ensures as_long { IfOk result (λ texts. vec_len texts ≡ length baseline.now.classes.firsts.items) }
     ensures parts { IfOk result (λ texts. (a b : Net) (n k : Numbers) (is : IsForest a n old.now.forest.now) (are : IsForest b k new.now.forest.now) → AreOf a n old.now.view.now old.now.forest.now.regions → AreOf b k new.now.view.now new.now.forest.now.regions
-        → AllZip (λ place text. AreParts a is.outcome b are.outcome (place + 1) text) standing.now.classes.firsts.items (map (λ text. text.items) texts.items)) }
+        → AllZip (λ place text. AreParts a is.outcome b are.outcome (place + 1) text) baseline.now.classes.firsts.items (map (λ text. text.items) texts.items)) }
 {
-    let firsts = standing.classes.firsts.as_slice();
-    let homes = standing.homes.as_slice();
+    let firsts = baseline.classes.firsts.as_slice();
+    let homes = baseline.homes.as_slice();
     let mut texts = Vec::new(alloc);
     for class in 0..firsts.len() {
         let vid = Vid::new(firsts[class] as u64 + 1).unwrap();
@@ -170,20 +170,20 @@ pub(crate) fn push_cuts(
     alloc: Global,
     old: &Planned,
     new: &Planned,
-    standing: &Standing,
+    baseline: &Baseline,
     both: &[Both],
     out: &mut Vec<u8>,
 ) -> Result<Vec<Vid>, AllocError>
     requires new { Known new.now.view.now new.now.forest.now.regions }
     requires both { both.now ≡ seen_both old.now.view.now new.now.view.now }
-    requires standing { IsStanding old.now.view.now old.now.forest.now standing.now }
+    requires baseline { IsBaseline old.now.view.now old.now.forest.now baseline.now }
     ensures { IfOk result (λ cut. (failure : FailureOf) (a b : Net) (n k : Numbers) (is : IsForest a n old.now.forest.now) (are : IsForest b k new.now.forest.now) → AreOf a n old.now.view.now old.now.forest.now.regions → AreOf b k new.now.view.now new.now.forest.now.regions
         → after (edit_of failure) a ≡ Ok b → (text : List ℕ) × AreCuts a is.outcome b are.outcome cut.items text × (out.new.items ≡ out.old.items ++ text)) }
 {
-    let bodies = parts_of_firsts(alloc, old, new, standing, both)?;
+    let bodies = parts_of_firsts(alloc, old, new, baseline, both)?;
     let kept = copies(alloc, bodies.as_slice())?;
     let vids = vids(alloc)?;
-    let numbers = standing.classes.numbers.as_slice();
+    let numbers = baseline.classes.numbers.as_slice();
     let groups = groups_by_body(alloc, vids.as_slice(), numbers, bodies)?;
     push_groups(groups.as_slice(), numbers, kept.as_slice(), out)?;
     cut_of(alloc, vids.as_slice(), numbers, kept.as_slice())

@@ -6,7 +6,7 @@ ghost use Rattle.mst_net.specs.Tables.{Net, Numbers};
 ghost use Rattle.mst_trees.specs.Agrees.{AreOf, Known};
 ghost use Rattle.mst_trees.specs.Forest.{IsForest};
 ghost use Rattle.mst_sweep.specs.Seen.{seen_home};
-ghost use Rattle.mst_sweep.specs.Standing.{AreHomes};
+ghost use Rattle.mst_sweep.specs.Baseline.{AreHomes};
 
 use indexmap::IndexMap;
 use mst_changes::Planned;

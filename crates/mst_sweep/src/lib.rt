@@ -2,6 +2,7 @@
 //! many roles, and which VIDs are cut into which parts.
 #![tactic(auto)]
 
+mod baseline;
 mod cuts;
 mod failure;
 mod homes;
@@ -9,10 +10,9 @@ pub mod laws;
 mod parts;
 mod ports;
 mod roots;
-mod standing;
 mod sweep;
 mod whole;
 
+pub use baseline::Baseline;
 pub use failure::{Failure, failures};
-pub use standing::Standing;
 pub use sweep::{push_failure, push_last};

@@ -1,14 +1,12 @@
 ghost use Rattle.std.specs.Prelude.{◌≡◌, ◌++◌, IfOk, OnOk, filter_map};
-ghost use Rattle.std.specs.List.{find, flat_map, list_any};
-ghost use Rattle.mst_ids.specs.Words.{after_comma, comma_list};
-ghost use Rattle.mst_diff.specs.Seen.{seen_both};
+ghost use Rattle.std.specs.List.{find, list_any};
 ghost use Rattle.mst_sweep.specs.Parts.{are_together, came_apart as came_apart_from, part as names_of_part, first_of as first_of_part, leads as leads_part, part_word, parts_text};
 ghost use Rattle.mst_sweep.specs.Seen.{seen_stays};
 
 use crate::whole::is_whole;
 use indexmap::IndexMap;
 use mst_diff::Both;
-use mst_ids::{BridgeNo, Name, push_bytes};
+use mst_ids::{BridgeNo, Name, push_bytes, push_comma_list};
 use std::alloc::{AllocError, Global};
 
 /// A bridge that is on before and afterwards, and the places of its islands.
@@ -99,30 +97,6 @@ fn part(alloc: Global, all: &[Stays], bridge: &Stays) -> Result<Vec<Name>, Alloc
         .collect(alloc)
 }
 
-/// Appends these names, each after a `,`.
-fn push_others(names: &[Name], out: &mut Vec<u8>) -> Result<(), AllocError>
-    ensures { OnOk result (out.new.items ≡ out.old.items ++ flat_map after_comma names.now) }
-{
-    for name in names {
-        push_bytes(b",", out)?;
-        push_bytes(name.as_bytes(), out)?;
-    }
-    Ok(())
-}
-
-/// Appends these names with `,` between two of them.
-fn push_names(names: &[Name], out: &mut Vec<u8>) -> Result<(), AllocError>
-    ensures { OnOk result (out.new.items ≡ out.old.items ++ comma_list names.now) }
-{
-    match names {
-        [] => push_bytes(b"-", out),
-        [first, others @ ..] => {
-            push_bytes(first.as_bytes(), out)?;
-            push_others(others, out)
-        }
-    }
-}
-
 /// Appends the part of a bridge that is its first after a space, if its island came apart.
 fn push_part(
     alloc: Global,
@@ -135,7 +109,7 @@ fn push_part(
     if came_apart(all, bridge) && leads(all, bridge) {
         let names = part(alloc, all, bridge)?;
         push_bytes(b" ", out)?;
-        return push_names(names.as_slice(), out);
+        return push_comma_list(names.as_slice(), out);
     }
     Ok(())
 }

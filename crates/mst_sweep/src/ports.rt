@@ -1,25 +1,23 @@
-ghost use Rattle.std.specs.Prelude.{◌≡◌, ◌≤◌, ◌<◌, Ok, IfOk, length, slice_index_or};
+ghost use Rattle.std.specs.Prelude.{◌≡◌, ◌≤◌, ◌<◌, Ok, length, slice_index_or};
 ghost use Rattle.std.specs.List.{count_by};
 ghost use Rattle.mst_ids.specs.declared.name.PortName.{PortName};
 ghost use Rattle.mst_net.specs.After.{after};
 ghost use Rattle.mst_net.specs.Tables.{Net, Numbers};
 ghost use Rattle.mst_trees.specs.Agrees.{AreOf, Known};
 ghost use Rattle.mst_trees.specs.Forest.{IsForest};
-ghost use Rattle.mst_changes.specs.Places.{port_names};
-ghost use Rattle.mst_changes.specs.Seen.{AreInUse};
-ghost use Rattle.mst_changes.specs.States.{role_number};
+ghost use Rattle.mst_trees.specs.InUse.{AreInUse};
+ghost use Rattle.mst_changes.specs.Subjects.{port_names};
+ghost use Rattle.mst_changes.specs.Values.{role_number};
 ghost use Rattle.mst_sweep.specs.declared.failure.Failure.{Failure as FailureOf};
 ghost use Rattle.mst_sweep.specs.Failures.{edit_of};
 ghost use Rattle.mst_sweep.specs.Moved.{takes_part as takes, is_other_role, port_moved as port_moved_in, moved_ports as all_moved_ports};
 ghost use Rattle.mst_sweep.specs.Seen.{seen_port_moved};
 
-use indexmap::IndexSet;
-use mst_changes::{Planned, trees_in_use};
-use mst_diff::is_had;
+use mst_changes::Planned;
 use mst_ids::Tree;
 use mst_lag::PortInView;
 use mst_roles::{Role, port_role};
-use std::alloc::{AllocError, Global};
+use mst_trees::{is_had, trees_in_use};
 
 /// Whether a role is other than Disabled.
 fn takes_part(role: Role) -> bool
@@ -82,9 +80,9 @@ fn moved_in(old: &Planned, new: &Planned, tree: Tree) -> u64
 }
 
 /// How many logical ports have another role in a tree afterwards: none where no bridge of the old network has it.
-fn moved_in_tree(old: &Planned, new: &Planned, used: &IndexSet<Tree>, tree: Tree) -> u64
+fn moved_in_tree(old: &Planned, new: &Planned, used: &[bool; 4095], tree: Tree) -> u64
     requires known { Known old.now.view.now old.now.forest.now.regions }
-    requires used { AreInUse old.now.view.now used.now.keys }
+    requires used { AreInUse old.now.view.now used.now }
     ensures few { result ≤ 16384 }
     ensures moved { (failure : FailureOf) (a b : Net) (n k : Numbers) (is : IsForest a n old.now.forest.now) (are : IsForest b k new.now.forest.now) → AreOf a n old.now.view.now old.now.forest.now.regions → AreOf b k new.now.view.now new.now.forest.now.regions
         → after (edit_of failure) a ≡ Ok b → result ≡ count_by (port_moved_in a is.outcome b are.outcome tree) (port_names a) }
@@ -95,21 +93,20 @@ fn moved_in_tree(old: &Planned, new: &Planned, used: &IndexSet<Tree>, tree: Tree
     moved_in(old, new, tree)
 }
 
-/// How many pairs of a tree and a logical port have another role after a failure, neither being Disabled. `AllocError`:
-/// memory was wanted and refused.
+/// How many pairs of a tree and a logical port have another role after a failure, neither being Disabled.
 ///
-/// It goes over the logical ports once for each tree that the old network has.
-pub(crate) fn moved_ports(alloc: Global, old: &Planned, new: &Planned) -> Result<u64, AllocError>
+/// It goes over the logical ports once for each tree that the old network has, and takes no memory.
+pub(crate) fn moved_ports(old: &Planned, new: &Planned) -> u64
     requires known { Known old.now.view.now old.now.forest.now.regions }
-    ensures { IfOk result (λ count. (failure : FailureOf) (a b : Net) (n k : Numbers) (is : IsForest a n old.now.forest.now) (are : IsForest b k new.now.forest.now) → AreOf a n old.now.view.now old.now.forest.now.regions → AreOf b k new.now.view.now new.now.forest.now.regions
-        → after (edit_of failure) a ≡ Ok b → count ≡ all_moved_ports a is.outcome b are.outcome) }
+    ensures { (failure : FailureOf) (a b : Net) (n k : Numbers) (is : IsForest a n old.now.forest.now) (are : IsForest b k new.now.forest.now) → AreOf a n old.now.view.now old.now.forest.now.regions → AreOf b k new.now.view.now new.now.forest.now.regions
+        → after (edit_of failure) a ≡ Ok b → result ≡ all_moved_ports a is.outcome b are.outcome }
 {
-    let used = trees_in_use(alloc, old.view)?;
+    let used = trees_in_use(old.view);
     let mut count = 0;
     for number in 0..4095 {
         if let Some(tree) = Tree::new(number) {
             count += moved_in_tree(old, new, &used, tree);
         }
     }
-    Ok(count)
+    count
 }

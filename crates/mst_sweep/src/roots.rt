@@ -3,16 +3,16 @@ ghost use Rattle.std.specs.List.{list_any};
 ghost use Rattle.mst_net.specs.Tables.{Net, Numbers};
 ghost use Rattle.mst_trees.specs.Agrees.{AreOf};
 ghost use Rattle.mst_trees.specs.Forest.{IsForest};
-ghost use Rattle.mst_changes.specs.Places.{bridge_names};
-ghost use Rattle.mst_changes.specs.Seen.{AreInUse};
+ghost use Rattle.mst_trees.specs.InUse.{AreInUse};
+ghost use Rattle.mst_changes.specs.Subjects.{bridge_names};
 ghost use Rattle.mst_diff.specs.Seen.{seen_both};
 ghost use Rattle.mst_sweep.specs.Moved.{is_other_root, root_moved as root_moved_in, moved_roots as all_moved_roots};
 ghost use Rattle.mst_sweep.specs.Seen.{seen_root_moved};
 
-use indexmap::IndexSet;
-use mst_changes::{Planned, trees_in_use};
-use mst_diff::{Both, is_had, root};
+use mst_changes::Planned;
+use mst_diff::{Both, root};
 use mst_ids::{BridgeId, Tree};
+use mst_trees::{is_had, trees_in_use};
 use std::alloc::{AllocError, Global};
 
 /// Whether there are two roots that aren't the same.
@@ -42,14 +42,8 @@ fn any_moved(old: &Planned, new: &Planned, tree: Tree, both: &[Both]) -> bool
 }
 
 /// Whether some of these bridges has another root in a tree afterwards: none where no bridge of the old network has it.
-fn tree_moved(
-    old: &Planned,
-    new: &Planned,
-    used: &IndexSet<Tree>,
-    tree: Tree,
-    both: &[Both],
-) -> bool
-    requires used { AreInUse old.now.view.now used.now.keys }
+fn tree_moved(old: &Planned, new: &Planned, used: &[bool; 4095], tree: Tree, both: &[Both]) -> bool
+    requires used { AreInUse old.now.view.now used.now }
     requires both { both.now ≡ seen_both old.now.view.now new.now.view.now }
     ensures { (a b : Net) (n k : Numbers) (is : IsForest a n old.now.forest.now) (are : IsForest b k new.now.forest.now) → AreOf a n old.now.view.now old.now.forest.now.regions → AreOf b k new.now.view.now new.now.forest.now.regions
         → result ≡ list_any (root_moved_in a is.outcome b are.outcome tree) (bridge_names a) }
@@ -74,7 +68,7 @@ pub(crate) fn moved_roots(
     ensures { IfOk result (λ trees. (a b : Net) (n k : Numbers) (is : IsForest a n old.now.forest.now) (are : IsForest b k new.now.forest.now) → AreOf a n old.now.view.now old.now.forest.now.regions → AreOf b k new.now.view.now new.now.forest.now.regions
         → trees.items ≡ all_moved_roots a is.outcome b are.outcome) }
 {
-    let used = trees_in_use(alloc, old.view)?;
+    let used = trees_in_use(old.view);
     let mut trees = Vec::new(alloc);
     for number in 0..4095 {
         if let Some(tree) = Tree::new(number) {

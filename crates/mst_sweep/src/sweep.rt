@@ -1,6 +1,5 @@
-ghost use Rattle.std.specs.Prelude.{◌≡◌, ◌∷◌, [], ◌++◌, ℕ, List, Ok, IfOk, OnOk, codes, decimal, map};
-ghost use Rattle.std.specs.List.{count_by, flat_map};
-ghost use Rattle.mst_ids.specs.Words.{after_space, after_comma, comma_list};
+ghost use Rattle.std.specs.Prelude.{◌≡◌, ◌++◌, ℕ, List, Ok, IfOk, OnOk};
+ghost use Rattle.std.specs.List.{count_by};
 ghost use Rattle.mst_changes.specs.ChangesText.{spaced};
 ghost use Rattle.mst_net.specs.After.{after};
 ghost use Rattle.mst_net.specs.Tables.{Net, Numbers};
@@ -8,52 +7,20 @@ ghost use Rattle.mst_trees.specs.Agrees.{AreOf, Known};
 ghost use Rattle.mst_trees.specs.Forest.{IsForest};
 ghost use Rattle.mst_diff.specs.Reach.{has_any};
 ghost use Rattle.mst_sweep.specs.Failures.{edit_of};
-ghost use Rattle.mst_sweep.specs.Standing.{IsStanding};
+ghost use Rattle.mst_sweep.specs.Baseline.{IsBaseline};
 ghost use Rattle.mst_sweep.specs.SweepText.{failure_words, failure_line, IsFailureText, is_lan as is_lan_of, is_bridge as is_bridge_of, sweep_line};
 
+use crate::baseline::Baseline;
 use crate::cuts::push_cuts;
 use crate::failure::Failure;
 use crate::ports::moved_ports;
 use crate::roots::moved_roots;
-use crate::standing::Standing;
 use itoa::Buffer;
 use mst_changes::Planned;
 use mst_diff::bridges_of_both;
-use mst_ids::{Tree, Vid, push_bytes, push_end, push_line, push_word};
+use mst_ids::{Tree, Vid, push_bytes, push_comma_list, push_end, push_line, push_word};
 use mst_plan_text::set_of;
 use std::alloc::{AllocError, Global};
-
-/// Appends the number of a tree.
-fn push_tree(tree: Tree, out: &mut Vec<u8>) -> Result<(), AllocError>
-    ensures { OnOk result (out.new.items ≡ out.old.items ++ decimal tree) }
-{
-    let mut number = Buffer::new();
-    push_bytes(number.format(tree.value()).as_bytes(), out)
-}
-
-/// Appends the numbers of these trees, each after a `,`.
-fn push_others(trees: &[Tree], out: &mut Vec<u8>) -> Result<(), AllocError>
-    ensures { OnOk result (out.new.items ≡ out.old.items ++ flat_map after_comma (map decimal trees.now)) }
-{
-    for tree in trees {
-        push_bytes(b",", out)?;
-        push_tree(*tree, out)?;
-    }
-    Ok(())
-}
-
-/// Appends the numbers of these trees with `,` between two of them, or `-` where there is none.
-fn push_trees(trees: &[Tree], out: &mut Vec<u8>) -> Result<(), AllocError>
-    ensures { OnOk result (out.new.items ≡ out.old.items ++ comma_list (map decimal trees.now)) }
-{
-    match trees {
-        [] => push_bytes(b"-", out),
-        [first, others @ ..] => {
-            push_tree(*first, out)?;
-            push_others(others, out)
-        }
-    }
-}
 
 /// Appends what fails: the word `lan` or `bridge`, and its name after a space.
 fn push_name(failure: &Failure, out: &mut Vec<u8>) -> Result<(), AllocError>
@@ -84,7 +51,7 @@ fn push_failed(
     let mut number = Buffer::new();
     push_name(failure, out)?;
     push_bytes(b" roots ", out)?;
-    push_trees(roots, out)?;
+    push_comma_list(roots, out)?;
     push_word(b"ports", out)?;
     push_word(number.format(ports).as_bytes(), out)?;
     push_bytes(b" cut ", out)?;
@@ -111,21 +78,21 @@ pub fn push_failure(
     alloc: Global,
     failure: &Failure,
     old: &Planned,
-    standing: &Standing,
+    baseline: &Baseline,
     new: &Planned,
     out: &mut Vec<u8>,
 ) -> Result<bool, AllocError>
     requires old { Known old.now.view.now old.now.forest.now.regions }
     requires new { Known new.now.view.now new.now.forest.now.regions }
-    requires standing { IsStanding old.now.view.now old.now.forest.now standing.now }
+    requires baseline { IsBaseline old.now.view.now old.now.forest.now baseline.now }
     ensures { IfOk result (λ cuts. (a b : Net) (n k : Numbers) (is : IsForest a n old.now.forest.now) (are : IsForest b k new.now.forest.now) → AreOf a n old.now.view.now old.now.forest.now.regions → AreOf b k new.now.view.now new.now.forest.now.regions
         → after (edit_of failure.now) a ≡ Ok b → (text : List ℕ) × IsFailureText a is.outcome b are.outcome failure.now text cuts × (out.new.items ≡ out.old.items ++ text)) }
 {
     let both = bridges_of_both(alloc, old.view, new.view)?;
     let roots = moved_roots(alloc, old, new, both.as_slice())?;
-    let ports = moved_ports(alloc, old, new)?;
+    let ports = moved_ports(old, new);
     let mut lines = Vec::new(alloc);
-    let cut = push_cuts(alloc, old, new, standing, both.as_slice(), &mut lines)?;
+    let cut = push_cuts(alloc, old, new, baseline, both.as_slice(), &mut lines)?;
     push_failed(failure, roots.as_slice(), ports, cut.as_slice(), out)?;
     push_bytes(lines.as_slice(), out)?;
     Ok(is_any(cut.as_slice()))

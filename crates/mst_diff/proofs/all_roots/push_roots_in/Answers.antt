@@ -1,8 +1,7 @@
 use Rattle.std.proofs.Common.{◌++◌, sym, ap, ◌∙◌, append-nil}
 use Rattle.std.proofs.lemmas.Result.{on_ok_weaker}
-use Rattle.mst_changes.proofs.InUse.{unused}
+use Rattle.mst_changes.proofs.InUse.{unused, unused_by}
 use Rattle.mst_diff.specs.Seen.{seen_roots}
-use Rattle.mst_diff.proofs.TreeLines.{is_unused}
 use Rattle.mst_diff.proofs.Shared.{roots_named, no_roots_left, no_roots_right}
 use Rattle.mst_diff.proofs.all_roots.push_roots_in.Goals as goal
 
@@ -13,7 +12,7 @@ returns-then-not-is_had c a b n k is are of so =
     let out = c.args.out.now.items in
     let v = s.old.now.view.now in
     let f = s.old.now.forest.now in
-    let x = is_unused v s.used.now.keys tree (c.requires.used tree) (sym c.is_had.ensures ∙ c.if-not-is_had.true) in
+    let x = unused_by v tree (sym (c.is_had.ensures v c.requires.used) ∙ c.if-not-is_had.true) in
     sym (ap (λ l. out ++ l) (no_roots_left a b n k v s.new.now.view.now f s.new.now.forest.now of so is are tree x.other (unused a n v f.regions of tree x.none)) ∙ append-nil out)
 
 pub returns-then-not-is_had-2 : goal.returns-then-not-is_had-2
@@ -23,7 +22,7 @@ returns-then-not-is_had-2 c a b n k is are of so =
     let out = c.args.out.now.items in
     let w = s.new.now.view.now in
     let g = s.new.now.forest.now in
-    let y = is_unused w s.used_too.now.keys tree (c.requires.used_too tree) (sym c.is_had-2.ensures ∙ c.if-not-is_had-2.true) in
+    let y = unused_by w tree (sym (c.is_had-2.ensures w c.requires.used_too) ∙ c.if-not-is_had-2.true) in
     sym (ap (λ l. out ++ l) (no_roots_right a b n k s.old.now.view.now w s.old.now.forest.now g of so is are tree y.other (unused b k w g.regions so tree y.none)) ∙ append-nil out)
 
 pub returns : goal.returns

@@ -10,5 +10,5 @@ returns c =
     let ports : List ℕ = comma_list (map port_text c.args.ports.now) in
     let one = c.in_ok-push_word.ensures {u = tt} ∙ (λ i. c.in_ok-push_bytes.ensures.ok i ++ after_space ((c.as_bytes.ensures.value ∙ c.format.ensures.text ∙ ap decimal c.value.ensures.value) i)) in
     let two = c.in_ok-push_bytes-2.ensures.ok ∙ ap (λ t. t ++ 32 ∷ []) one in
-    let three = c.in_ok-push_ports.ensures {u = tt} ∙ ap (λ t. t ++ ports) two in
+    let three = c.in_ok-push_comma_list.ensures {u = tt} ∙ ap (λ t. t ++ ports) two in
     on_ok_weaker c.push_end.result (λ last. last ∙ ap (λ t. t ++ 10 ∷ []) three ∙ line_of_three out (codes "blocked") (decimal c.args.tree) ports) c.push_end.ensures

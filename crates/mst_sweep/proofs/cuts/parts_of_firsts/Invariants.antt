@@ -11,5 +11,5 @@ abbrev pub invariant-loop-class : goal.invariant-loop-class
 invariant-loop-class l = record {
   as_long : length l.texts.items ≡ l.class;
   parts : (a b : Net) (n k : Numbers) (is : IsForest a n l.fn.old.forest.now) (are : IsForest b k l.fn.new.forest.now) → AreOf a n l.fn.old.view.now l.fn.old.forest.now.regions → AreOf b k l.fn.new.view.now l.fn.new.forest.now.regions
-      → AllZip (λ place text. AreParts a is.outcome b are.outcome (place + 1) text) (take l.class l.fn.standing.classes.firsts.items) (map (λ text. text.items) l.texts.items);
+      → AllZip (λ place text. AreParts a is.outcome b are.outcome (place + 1) text) (take l.class l.fn.baseline.classes.firsts.items) (map (λ text. text.items) l.texts.items);
 }

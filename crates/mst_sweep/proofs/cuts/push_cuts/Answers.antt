@@ -18,21 +18,21 @@ items body = body.items
 
 pub groups_by_body-requires-clause-as_long : goal.groups_by_body-requires-clause-as_long
 groups_by_body-requires-clause-as_long c =
-    let s = c.requires.standing in
+    let s = c.requires.baseline in
     ap length c.as_slice-numbers.ensures.value ∙ s.classes.as_long ∙ s.tell.as_long ∙ sym (ap length (c.as_slice-2.ensures.value ∙ c.in_ok-vids.ensures) ∙ vids_long)
 
 pub groups_by_body-requires-clause-below : goal.groups_by_body-requires-clause-below
 groups_by_body-requires-clause-below c =
-    let s = c.requires.standing in
-    let classes = c.args.standing.now.classes in
+    let s = c.requires.baseline in
+    let classes = c.args.baseline.now.classes in
     each_below s.numbers classes.numbers.items classes.firsts.items _ s.classes c.in_ok-bodies.ensures.as_long c.as_slice-numbers.result.now c.as_slice-numbers.ensures.value
 
 pub returns : goal.returns
 returns c = IfOk-weaker c.cut_of.result _ _
     (λ cut told failure a b n k is are of so e.
-    let s = c.requires.standing in
-    let classes : List ℕ = c.args.standing.now.classes.numbers.items in
-    let firsts : List ℕ = c.args.standing.now.classes.firsts.items in
+    let s = c.requires.baseline in
+    let classes : List ℕ = c.args.baseline.now.classes.numbers.items in
+    let firsts : List ℕ = c.args.baseline.now.classes.firsts.items in
     let v = c.args.old.now.view.now in
     let w = c.args.new.now.view.now in
     let f = c.args.old.now.forest.now in

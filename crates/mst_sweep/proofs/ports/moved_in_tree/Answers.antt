@@ -1,7 +1,6 @@
 use Rattle.std.proofs.Common.{◌≡◌, ◌≤◌, length, sym, ap, ◌∙◌, arith}
-use Rattle.mst_changes.specs.Places.{port_names}
-use Rattle.mst_changes.proofs.InUse.{unused}
-use Rattle.mst_diff.proofs.TreeLines.{is_unused}
+use Rattle.mst_changes.specs.Subjects.{port_names}
+use Rattle.mst_changes.proofs.InUse.{unused, unused_by}
 use Rattle.mst_sweep.proofs.Moved.{few_ports, none_counted}
 use Rattle.mst_sweep.proofs.ports.moved_in_tree.Goals as goal
 
@@ -9,7 +8,7 @@ pub returns-then-not-is_had-clause-moved : goal.returns-then-not-is_had-clause-m
 returns-then-not-is_had-clause-moved c failure a b n k is are of so e =
     let tree = c.args.tree in
     let v = c.args.old.now.view.now in
-    let x = is_unused v c.args.used.now.keys tree (c.requires.used tree) (sym c.is_had.ensures ∙ c.if-not-is_had.true) in
+    let x = unused_by v tree (sym (c.is_had.ensures v c.requires.used) ∙ c.if-not-is_had.true) in
     sym (none_counted a b is.outcome are.outcome tree x.other (unused a n v c.args.old.now.forest.now.regions of tree x.none) (port_names a))
 
 pub returns-clause-few : goal.returns-clause-few

@@ -1,7 +1,6 @@
 use Rattle.std.proofs.Common.{sym, ap, ◌∙◌}
 use Rattle.std.specs.List.{list_any}
-use Rattle.mst_changes.proofs.InUse.{unused}
-use Rattle.mst_diff.proofs.TreeLines.{is_unused}
+use Rattle.mst_changes.proofs.InUse.{unused, unused_by}
 use Rattle.mst_sweep.specs.Seen.{seen_root_moved}
 use Rattle.mst_sweep.proofs.Moved.{any_moved, none_moved}
 use Rattle.mst_sweep.proofs.roots.tree_moved.Goals as goal
@@ -10,7 +9,7 @@ pub returns-then-not-is_had : goal.returns-then-not-is_had
 returns-then-not-is_had c a b n k is are of so =
     let tree = c.args.tree in
     let v = c.args.old.now.view.now in
-    let x = is_unused v c.args.used.now.keys tree (c.requires.used tree) (sym c.is_had.ensures ∙ c.if-not-is_had.true) in
+    let x = unused_by v tree (sym (c.is_had.ensures v c.requires.used) ∙ c.if-not-is_had.true) in
     sym (none_moved a b is.outcome are.outcome tree x.other (unused a n v c.args.old.now.forest.now.regions of tree x.none))
 
 pub returns : goal.returns

@@ -15,7 +15,7 @@ returns c =
     let vids : List ℕ = vids_text (set_where (is_among c.args.cut.now)) in
     let named = c.in_ok-push_name.ensures {u = tt} in
     let one = c.in_ok-push_bytes.ensures.ok ∙ ap (λ t. t ++ codes " roots ") named in
-    let two = c.in_ok-push_trees.ensures {u = tt} ∙ ap (λ t. t ++ trees) one in
+    let two = c.in_ok-push_comma_list.ensures {u = tt} ∙ ap (λ t. t ++ trees) one in
     let three = c.in_ok-push_word.ensures {u = tt} ∙ ap (λ t. t ++ after_space (codes "ports")) two in
     let four = c.in_ok-push_word-2.ensures {u = tt} ∙ (λ i. three i ++ after_space ((c.as_bytes.ensures.value ∙ c.format.ensures.text) i)) in
     let five = c.in_ok-push_bytes-2.ensures.ok ∙ ap (λ t. t ++ codes " cut ") four in

@@ -13,7 +13,7 @@ returns c a b n k is are of so e =
     let R : List ℕ = moved_roots a is.outcome b are.outcome in
     let P : ℕ = moved_ports a is.outcome b are.outcome in
     let roots : c.as_slice-3.result.now ≡ R = c.as_slice-3.ensures.value ∙ c.in_ok-roots.ensures a b n k is are of so in
-    let ports : c.in_ok-ports.ports ≡ P = c.in_ok-ports.ensures failure a b n k is are of so e in
+    let ports : c.moved_ports-ports.result ≡ P = c.moved_ports-ports.ensures failure a b n k is are of so e in
     let cut : c.as_slice-4.result.now ≡ vids = c.as_slice-4.ensures.value in
     let lines : c.as_slice-5.result.now ≡ cuts.0 = c.as_slice-5.ensures.value ∙ cuts.2 ∙ ap (λ l. l ++ cuts.0) c.new-lines.ensures.items in
     let first : c.push_failed.new.out.items ≡ out ++ failure_line failure R P vids = c.in_ok-push_failed.ensures {u = tt} ∙ (λ i. out ++ failure_line failure (roots i) (ports i) (cut i)) in (

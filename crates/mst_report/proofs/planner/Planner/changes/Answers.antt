@@ -7,4 +7,4 @@ use Rattle.mst_report.proofs.planner.Planner.changes.Goals as goal
 pub returns-in-None : goal.returns-in-None
 returns-in-None c =
     let s = planned_state c.args.self.now in
-    absurd (not_marked s.net s.mark (sym c.marked.ensures ∙ ap (option_map (λ rows. rows.now.rows.items)) c.in-None.is) c.requires.text)
+    absurd (not_marked s.net s.mark (sym c.marked.ensures ∙ ap (option_map (λ entries. entries.now.entries.items)) c.in-None.is) c.requires.text)

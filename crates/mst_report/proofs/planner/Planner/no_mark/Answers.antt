@@ -8,5 +8,5 @@ use Rattle.mst_report.proofs.planner.Planner.no_mark.Goals as goal
 pub returns-in-Some : goal.returns-in-Some
 returns-in-Some c =
     let now = planned_state c.args.self.now in
-    changes_have_text now.net now.mark c.in-Some.field-0.now.rows.items (sym c.marked.ensures ∙ ap (option_map (λ rows. rows.now.rows.items)) c.in-Some.is)
+    changes_have_text now.net now.mark c.in-Some.field-0.now.entries.items (sym c.marked.ensures ∙ ap (option_map (λ entries. entries.now.entries.items)) c.in-Some.is)
     (c.has_answer.ensures Changes now c.known.ensures)

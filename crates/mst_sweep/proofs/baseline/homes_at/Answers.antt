@@ -1,9 +1,9 @@
 use Rattle.std.proofs.Common.{◌≡◌, refl, take, ◌+◌, ℕ, List, ◌++◌, ◌∷◌, [], get_or, map, sym, ap, subst, ◌∙◌, arith, rules}
 use Rattle.std.proofs.lemmas.Grind.{common_steps}
 use Rattle.std.proofs.lemmas.List.{map-append}
-use Rattle.mst_sweep.specs.Standing.{AreHomes}
+use Rattle.mst_sweep.specs.Baseline.{AreHomes}
 use Rattle.mst_sweep.proofs.Placed.{AtPlaces, places_more, places_all}
-use Rattle.mst_sweep.proofs.standing.homes_at.Goals as goal
+use Rattle.mst_sweep.proofs.baseline.homes_at.Goals as goal
 
 pub loop-place-preserved : goal.loop-place-preserved
 loop-place-preserved c = record {

@@ -3,19 +3,19 @@ ghost use Rattle.std.specs.List.{All, AllZip};
 ghost use Rattle.mst_net.specs.Tables.{Net, Numbers};
 ghost use Rattle.mst_trees.specs.Agrees.{AreOf, Known};
 ghost use Rattle.mst_trees.specs.Forest.{IsForest};
-ghost use Rattle.mst_sweep.specs.Standing.{AreHomes, IsStanding};
+ghost use Rattle.mst_sweep.specs.Baseline.{AreHomes, IsBaseline};
 
 use crate::homes::homes_of;
 use indexmap::IndexMap;
 use mst_changes::Planned;
-use mst_graph::{Numbering, numbered};
+use mst_graph::{Numbering, number_keys};
 use mst_ids::{BridgeNo, Vid};
 use mst_plan_text::{numbers_of_vids, tables, vlan_sets};
 use std::alloc::{AllocError, Global};
 
 /// What stays the same for all failures of a network: the classes of its VIDs, and which island each bridge is in before.
 #[derive(Drop)]
-pub struct Standing {
+pub struct Baseline {
     pub(crate) classes: Numbering,
     // For the first VID of each class the places of islands, by the numbers of the bridges in them.
     pub(crate) homes: Vec<IndexMap<BridgeNo, usize>>,
@@ -41,19 +41,19 @@ fn homes_at(
     Ok(homes)
 }
 
-impl Standing {
+impl Baseline {
     /// What stays the same for all failures of a network, by its plan. `AllocError`: memory was wanted and refused.
     ///
     /// Islands are made once for VIDs that no table and no set of VLANs tells apart.
-    pub fn new(alloc: Global, plan: &Planned) -> Result<Standing, AllocError>
+    pub fn new(alloc: Global, plan: &Planned) -> Result<Baseline, AllocError>
         requires { Known plan.now.view.now plan.now.forest.now.regions }
-        ensures { IfOk result (IsStanding plan.now.view.now plan.now.forest.now) }
+        ensures { IfOk result (IsBaseline plan.now.view.now plan.now.forest.now) }
     {
         let tables = tables(alloc, plan.view)?;
         let sets = vlan_sets(alloc, plan.view)?;
         let numbers = numbers_of_vids(alloc, tables.as_slice(), sets.as_slice())?;
-        let classes = numbered(alloc, numbers)?;
+        let classes = number_keys(alloc, numbers)?;
         let homes = homes_at(alloc, plan, classes.firsts.as_slice())?;
-        Ok(Standing { classes, homes })
+        Ok(Baseline { classes, homes })
     }
 }

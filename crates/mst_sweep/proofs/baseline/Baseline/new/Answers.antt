@@ -1,8 +1,8 @@
 use Rattle.std.proofs.Common.{◌≡◌, ◌+◌, ℕ, Bool, List, length, map, ap, subst, ◌∙◌}
 use Rattle.std.specs.List.{AllZip}
 use Rattle.mst_plan_text.specs.Alike.{TellApart}
-use Rattle.mst_sweep.specs.Standing.{AreHomes}
-use Rattle.mst_sweep.proofs.standing.Standing.new.Goals as goal
+use Rattle.mst_sweep.specs.Baseline.{AreHomes}
+use Rattle.mst_sweep.proofs.baseline.Baseline.new.Goals as goal
 
 pub returns : goal.returns
 returns c =

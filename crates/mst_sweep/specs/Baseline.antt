@@ -14,7 +14,7 @@ use Rattle.mst_trees.specs.Outcome.{Outcome}
 use Rattle.mst_vlan.specs.Reach.{AreIslandsOf}
 use Rattle.mst_plan_text.specs.Alike.{TellApart}
 use Rattle.mst_sweep.specs.Parts.{home}
-use Rattle.mst_sweep.specs.declared.standing.Standing.{Standing}
+use Rattle.mst_sweep.specs.declared.baseline.Baseline.{Baseline}
 
 -- the places of bridges' islands of a VID are kept under the numbers of the bridges
 abbrev pub AreHomes : Net → Numbers → Outcome → ℕ → List (ℕ × ℕ) → Type 0
@@ -23,7 +23,7 @@ AreHomes net numbers o vid homes =
 
 -- VIDs of one class have one tree in each table and are in the same sets of VLANs, and for the first VID of each class
 -- the places of islands are kept
-pub record IsStanding (v : Viewed) (f : Forest) (s : Standing) : Type 0 where
+pub record IsBaseline (v : Viewed) (f : Forest) (s : Baseline) : Type 0 where
   pub tables : List (List ℕ)
   pub sets : List (List Bool)
   pub have_tables : AllByRecursion (λ b. Contains tables (table_in v.settings.tables b.name)) v.bridges

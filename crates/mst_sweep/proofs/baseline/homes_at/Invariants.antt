@@ -3,8 +3,8 @@ use Rattle.std.specs.List.{AllZip}
 use Rattle.mst_net.specs.Tables.{Net, Numbers}
 use Rattle.mst_trees.specs.Agrees.{AreOf}
 use Rattle.mst_trees.specs.Forest.{IsForest}
-use Rattle.mst_sweep.specs.Standing.{AreHomes}
-use Rattle.mst_sweep.proofs.standing.homes_at.Given as goal
+use Rattle.mst_sweep.specs.Baseline.{AreHomes}
+use Rattle.mst_sweep.proofs.baseline.homes_at.Given as goal
 
 -- the homes of the places so far
 abbrev pub invariant-loop-place : goal.invariant-loop-place
