@@ -9,17 +9,17 @@ use Rattle.mst_net.specs.Tables.{Net, IsNetwork}
 use Rattle.mst_report.specs.Differing.{Differs}
 use Rattle.mst_report.specs.State.{State, empty_state}
 use Rattle.mst_tool.specs.Diff.{LoadsBoth, both_texts, old_net, new_net, TellsDifference, Diffs, DiffsFront, LoadsNewEnded, DiffsScripts, counted_both}
-use Rattle.mst_tool.specs.Engine.{Tally, outcome_of}
-use Rattle.mst_tool.specs.Script.{LoadsAll}
-use Rattle.mst_tool.specs.Shape.{of_old, of_new, shown}
-use Rattle.mst_tool.specs.Served.{Served, ServedFront, ServedEnded}
-use Rattle.mst_tool.specs.Steps.{Step, texts_of, lacks_of}
-use Rattle.mst_tool.specs.Written.{AppendsFront}
-use Rattle.mst_tool.specs.declared.engine.Input.TheVariants.{Network}
-use Rattle.mst_tool.specs.declared.form.Form.{Form}
-use Rattle.mst_tool.specs.declared.form.Shape.{Shape}
-use Rattle.mst_tool.proofs.Known.{AppendsFront-after, AppendsFront-longer}
-use Rattle.mst_tool.proofs.Shown.{is_shown, one_shown}
+use Rattle.mst_engine.specs.Engine.{Tally, outcome_of}
+use Rattle.mst_engine.specs.Script.{LoadsAll}
+use Rattle.mst_print.specs.Shape.{of_old, of_new, shown}
+use Rattle.mst_engine.specs.Served.{Served, ServedFront, ServedEnded}
+use Rattle.mst_engine.specs.Steps.{Step, texts_of, lacks_of}
+use Rattle.mst_io.specs.Written.{AppendsFront}
+use Rattle.mst_engine.specs.declared.engine.Input.TheVariants.{Network}
+use Rattle.mst_print.specs.declared.form.Form.{Form}
+use Rattle.mst_print.specs.declared.form.Shape.{Shape}
+use Rattle.mst_io.proofs.Known.{AppendsFront-after, AppendsFront-longer}
+use Rattle.mst_print.proofs.Shown.{is_shown, one_shown}
 use Rattle.mst_tool.proofs.WholeCheck.{reads_all}
 use Rattle.mst_tool.proofs.WholeLoad.{OneLoad, LoadsStates}
 

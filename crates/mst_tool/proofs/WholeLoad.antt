@@ -12,22 +12,22 @@ use Rattle.mst_report.specs.Summarizing.{Summarizes}
 use Rattle.mst_report.specs.Sweeping.{Sweeps}
 use Rattle.mst_report.specs.declared.explaining.Unexplained.{Unexplained}
 use Rattle.mst_tool.specs.Ask.{Told, given, swept, Tells, IsAnswer, Asks, AsksFront, counted_with}
-use Rattle.mst_tool.specs.Engine.{Tally, outcome_of}
+use Rattle.mst_engine.specs.Engine.{Tally, outcome_of}
 use Rattle.mst_tool.specs.Load.{LoadsFront, LoadsEnded, LoadsScript}
-use Rattle.mst_tool.specs.Script.{LoadsAll, version_of, loading}
-use Rattle.mst_tool.specs.Served.{Served, ServedFront, ServedEnded}
-use Rattle.mst_tool.specs.Shape.{of_script, shown}
-use Rattle.mst_tool.specs.Steps.{Step, left_by, texts_of, lacks_of, differing_of}
-use Rattle.mst_tool.specs.Written.{AppendsFront}
+use Rattle.mst_engine.specs.Script.{LoadsAll, version_of, loading}
+use Rattle.mst_engine.specs.Served.{Served, ServedFront, ServedEnded}
+use Rattle.mst_print.specs.Shape.{of_script, shown}
+use Rattle.mst_engine.specs.Steps.{Step, left_by, texts_of, lacks_of, differing_of}
+use Rattle.mst_io.specs.Written.{AppendsFront}
 use Rattle.mst_tool.specs.declared.asked.Asked.{Asked}
 use Rattle.mst_tool.specs.declared.asked.Question.{Question}
 use Rattle.mst_tool.specs.declared.asked.Question.TheVariants.{Explain, Unread, Sweep, Summary, Picture, Undrawn}
-use Rattle.mst_tool.specs.declared.engine.Input.TheVariants.{Network}
-use Rattle.mst_tool.specs.declared.form.Form.{Form}
-use Rattle.mst_tool.specs.declared.form.Shape.{Shape}
-use Rattle.mst_tool.proofs.Known.{AppendsFront-after}
-use Rattle.mst_tool.proofs.OneRun.{none_differ}
-use Rattle.mst_tool.proofs.Shown.{is_shown, one_shown, same_shown}
+use Rattle.mst_engine.specs.declared.engine.Input.TheVariants.{Network}
+use Rattle.mst_print.specs.declared.form.Form.{Form}
+use Rattle.mst_print.specs.declared.form.Shape.{Shape}
+use Rattle.mst_io.proofs.Known.{AppendsFront-after}
+use Rattle.mst_engine.proofs.OneRun.{none_differ}
+use Rattle.mst_print.proofs.Shown.{is_shown, one_shown, same_shown}
 
 -- without want of memory a script loads in one way
 abbrev pub OneLoad : Type 0

@@ -1,7 +1,6 @@
 -- What is asked of the network that a script leaves, and what asking it promises, where it prints in this form.
 use Rattle.std.specs.Prelude.{◌≡◌, ◌+◌, ◌++◌, ◌⊎◌, ◌==◌, ℕ, List, Option, None, Some, Result, Ok, Err, codes, if◌then◌else◌}
 use Rattle.std.specs.Io.KnownBytes.{Appends}
-use Rattle.mst_json.specs.RefusalJson.{unanswered_json}
 use Rattle.mst_lang.specs.Arguments.{tree}
 use Rattle.mst_lang.specs.Faults as fault
 use Rattle.mst_lang.specs.Lines.{lines_of}
@@ -16,18 +15,17 @@ use Rattle.mst_report.specs.Sweeping.{Sweeps}
 use Rattle.mst_report.specs.declared.explaining.Unexplained.{Unexplained}
 use Rattle.mst_tool.specs.Asked.{asked_of}
 use Rattle.mst_tool.specs.Load.{LoadsFront}
-use Rattle.mst_tool.specs.Script.{LoadsAll}
-use Rattle.mst_tool.specs.Shape.{of_script, IsShown}
-use Rattle.mst_tool.specs.Steps.{Step, left_by, texts_of, refusals_of, lacks_of}
-use Rattle.mst_tool.specs.Written.{AppendsFront, Reads}
+use Rattle.mst_engine.specs.Script.{LoadsAll}
+use Rattle.mst_print.specs.Shape.{of_script, IsShown, unanswered}
+use Rattle.mst_engine.specs.Steps.{Step, left_by, texts_of, refusals_of, lacks_of}
+use Rattle.mst_io.specs.Written.{AppendsFront, Reads}
 use Rattle.mst_tool.specs.declared.asked.Asked.{Asked}
 use Rattle.mst_tool.specs.declared.asked.Question.{Question}
 use Rattle.mst_tool.specs.declared.asked.Question.TheVariants.{Explain, Unread as unread_question, Sweep, Summary, Picture, Undrawn as undrawn_question}
 use Rattle.mst_tool.specs.declared.asks.Answer.{Answer}
 use Rattle.mst_tool.specs.declared.asks.Answer.TheVariants.{Text, Unread, Refused, Swept, Undrawn}
-use Rattle.mst_tool.specs.declared.form.Form.{Form}
-use Rattle.mst_tool.specs.declared.form.Form.TheVariants.{Text as text_form, Json as json_form}
-use Rattle.mst_tool.specs.declared.runs.Outcome.{Outcome}
+use Rattle.mst_print.specs.declared.form.Form.{Form}
+use Rattle.mst_io.specs.declared.outcome.Outcome.{Outcome}
 
 -- what words for a bridge, a port and, where there is one, a tree ask: to explain the port. Or they ask nothing, by their fault
 abbrev pub question_of : Result Asked Fault → Question
@@ -60,15 +58,6 @@ not_given = record { refused = 1; differing = 0 }
 -- one that tells of so many failures that cut some VID
 abbrev pub swept : ℕ → Told
 swept cuts = record { refused = 0; differing = if cuts == 0 then 0 else 1 }
-
--- `WORD CODE TEXT`, where what the word asks isn't answered
-abbrev pub refused_line : List ℕ → List ℕ → List ℕ → List ℕ
-refused_line word code text = word ++ codes " " ++ code ++ codes " " ++ text ++ codes "\n"
-
--- the same in either form
-abbrev pub unanswered : Form → List ℕ → List ℕ → List ℕ → List ℕ
-unanswered text_form word code text = refused_line word code text
-unanswered json_form word code text = unanswered_json word code text
 
 abbrev pub unexplained_in : Form → List ℕ → List ℕ → List ℕ
 unexplained_in form = unanswered form (codes "explain")

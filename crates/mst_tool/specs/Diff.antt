@@ -7,12 +7,12 @@ use Rattle.mst_net.specs.Tables.{Net}
 use Rattle.mst_report.specs.Differing.{Differs}
 use Rattle.mst_report.specs.State.{empty_state}
 use Rattle.mst_tool.specs.Load.{LoadsEnded}
-use Rattle.mst_tool.specs.Script.{LoadsAll}
-use Rattle.mst_tool.specs.Shape.{of_old, of_new, IsShown}
-use Rattle.mst_tool.specs.Steps.{Step, left_by, texts_of, refusals_of, lacks_of}
-use Rattle.mst_tool.specs.Written.{AppendsFront, Reads}
-use Rattle.mst_tool.specs.declared.form.Form.{Form}
-use Rattle.mst_tool.specs.declared.runs.Outcome.{Outcome}
+use Rattle.mst_engine.specs.Script.{LoadsAll}
+use Rattle.mst_print.specs.Shape.{of_old, of_new, IsShown}
+use Rattle.mst_engine.specs.Steps.{Step, left_by, texts_of, refusals_of, lacks_of}
+use Rattle.mst_io.specs.Written.{AppendsFront, Reads}
+use Rattle.mst_print.specs.declared.form.Form.{Form}
+use Rattle.mst_io.specs.declared.outcome.Outcome.{Outcome}
 
 -- whether nothing differs
 abbrev pub is_nothing : Differing → Bool

@@ -1,17 +1,6 @@
-pub mod Devices
-pub mod Held
-pub mod Steps
-pub mod Shape
-pub mod Script
-pub mod Captures
-pub mod Written
-pub mod Engine
-pub mod Feeding
-pub mod Served
 pub mod Run
 pub mod Check
 pub mod Load
 pub mod Asked
 pub mod Ask
 pub mod Diff
-pub mod Hinted

@@ -2,10 +2,10 @@
 use Rattle.std.specs.Prelude.{ℕ, List, Option}
 use Rattle.std.specs.Io.KnownBytes.{Appends, Consumes}
 use Rattle.mst_lang.specs.Lines.{lines_of, ended_lines}
-use Rattle.mst_tool.specs.Script.{LoadsAll}
-use Rattle.mst_tool.specs.Steps.{Step, texts_of}
-use Rattle.mst_tool.specs.Written.{AppendsFront, Reads}
-use Rattle.mst_tool.specs.declared.form.Shape.{Shape}
+use Rattle.mst_engine.specs.Script.{LoadsAll}
+use Rattle.mst_engine.specs.Steps.{Step, texts_of}
+use Rattle.mst_io.specs.Written.{AppendsFront, Reads}
+use Rattle.mst_print.specs.declared.form.Shape.{Shape}
 
 -- a front of what the script's lines print was written, where it has this shape
 pub record LoadsFront (shape : Shape) (reads written now : Option (List ℕ)) : Type 0 where

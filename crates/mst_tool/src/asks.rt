@@ -1,25 +1,21 @@
-ghost use Rattle.std.specs.Prelude.{◌≡◌, ◌≤◌, ◌↔◌, ◌^◌, ℕ, false, List, Option, Ok, Err, IfOk, IsOk, OnOk, OnErr};
+ghost use Rattle.std.specs.Prelude.{◌≡◌, ◌≤◌, ◌↔◌, ◌^◌, ℕ, false, List, Option, Err, IfOk, IsOk, OnOk, OnErr};
 ghost use Rattle.std.specs.Io.KnownBytes.{Appends};
-ghost use Rattle.mst_json.specs.RefusalJson.{unanswered_json};
 ghost use Rattle.mst_report.specs.Planned.{planned_state};
-ghost use Rattle.mst_tool.specs.Ask.{Asks, AsksFront, IsAnswer, answer_text, told_of, counted_with, unanswered, refused_line};
-ghost use Rattle.mst_tool.specs.Devices.{Works, IsBroken, IsCut, IsRead, IsCalled, IsStopped, StopsAtZero};
+ghost use Rattle.mst_tool.specs.Ask.{Asks, AsksFront, IsAnswer, answer_text, told_of, counted_with};
+ghost use Rattle.mst_io.specs.Devices.{Works, IsBroken, IsCut, IsRead, IsCalled, IsStopped, StopsAtZero};
 ghost use Rattle.mst_tool.specs.Load.{LoadsEnded, LoadsScript};
-ghost use Rattle.mst_tool.specs.Served.{IsFew};
-ghost use Rattle.mst_tool.specs.Shape.{of_script};
-ghost use Rattle.mst_tool.specs.Written.{AppendsFront};
+ghost use Rattle.mst_engine.specs.Served.{IsFew};
+ghost use Rattle.mst_print.specs.Shape.{of_script};
+ghost use Rattle.mst_io.specs.Written.{AppendsFront};
 ghost use Rattle.mst_tool.specs.declared.asked.Question.TheVariants.{Explain};
 
 use crate::asked::{Asked, Question};
-use crate::devices::{Sink, Source};
-use crate::engine::{Engine, Input};
-use crate::form::{Form, Shape, Side, show};
-use crate::laws::{one_load, states};
-use crate::lent::{FromRead, ToWrite};
-use crate::print::{WriteFailed, put, put_parts};
-use crate::runs::{Outcome, RunFault, TURNS, serve_input};
+use mst_engine::laws::{one_load, states};
+use mst_engine::{Engine, Input, serve_input};
 use mst_ids::Tree;
+use mst_io::{FromRead, Outcome, RunFault, Sink, Source, TURNS, ToWrite, WriteFailed, put};
 use mst_lang::Fault;
+use mst_print::{Form, Shape, Side, put_unanswered, show};
 use mst_report::laws::{one_explanation, one_picture, one_summary, one_sweep};
 use mst_report::{Planner, Sweep, Unexplained};
 use std::alloc::{AllocError, Global};
@@ -214,78 +210,6 @@ fn put_answer<K: Sink>(sink: &mut K, form: Form, answer: &Answer) -> Result<(), 
         Answer::Swept(sweep) => put(sink, sweep.text.as_slice()),
         Answer::Undrawn(fault) => put_unanswered(sink, form, "dot", fault.code(), fault.text()),
     }
-}
-
-/// Writes that what this word asks isn't answered.
-fn put_unanswered<'a, K: Sink>(
-    sink: &mut K,
-    form: Form,
-    word: &'a str,
-    code: &'a str,
-    text: &'a str,
-) -> Result<(), WriteFailed>
-    requires working { (K.told sink.old).failed ≡ false }
-    ensures ok { OnOk result (Appends (K.contents sink.old) (K.contents sink.new) (unanswered form word.now code.now text.now)) }
-    ensures err { OnErr result (AppendsFront (K.contents sink.old) (K.contents sink.new) (unanswered form word.now code.now text.now)) }
-    ensures works { OnOk result (Works (K.told sink.old) (K.told sink.new)) }
-    ensures broken { OnErr result (IsStopped (K.told sink.old) (K.told sink.new)) }
-    ensures lent { K.lent sink.new ≡ K.lent sink.old }
-{
-    match form {
-        Form::Text => put_refused(sink, word, code, text),
-        Form::Json => put_unanswered_json(sink, word, code, text),
-    }
-}
-
-/// Writes that what this word asks isn't answered, in a line of JSON.
-fn put_unanswered_json<'a, K: Sink>(
-    sink: &mut K,
-    query: &'a str,
-    code: &'a str,
-    text: &'a str,
-) -> Result<(), WriteFailed>
-    requires working { (K.told sink.old).failed ≡ false }
-    ensures ok { OnOk result (Appends (K.contents sink.old) (K.contents sink.new) (unanswered_json query.now code.now text.now)) }
-    ensures err { OnErr result (AppendsFront (K.contents sink.old) (K.contents sink.new) (unanswered_json query.now code.now text.now)) }
-    ensures works { OnOk result (Works (K.told sink.old) (K.told sink.new)) }
-    ensures broken { OnErr result (IsStopped (K.told sink.old) (K.told sink.new)) }
-    ensures lent { K.lent sink.new ≡ K.lent sink.old }
-{
-    let parts: [&[u8]; 7] = [
-        b"{\"query\":\"",
-        query.as_bytes(),
-        b"\",\"error\":\"",
-        code.as_bytes(),
-        b"\",\"text\":\"",
-        text.as_bytes(),
-        b"\"}\n",
-    ];
-    put_parts(sink, &parts)
-}
-
-/// Writes that what this word asks isn't answered, in a text.
-fn put_refused<'a, K: Sink>(
-    sink: &mut K,
-    word: &'a str,
-    code: &'a str,
-    text: &'a str,
-) -> Result<(), WriteFailed>
-    requires working { (K.told sink.old).failed ≡ false }
-    ensures ok { OnOk result (Appends (K.contents sink.old) (K.contents sink.new) (refused_line word.now code.now text.now)) }
-    ensures err { OnErr result (AppendsFront (K.contents sink.old) (K.contents sink.new) (refused_line word.now code.now text.now)) }
-    ensures works { OnOk result (Works (K.told sink.old) (K.told sink.new)) }
-    ensures broken { OnErr result (IsStopped (K.told sink.old) (K.told sink.new)) }
-    ensures lent { K.lent sink.new ≡ K.lent sink.old }
-{
-    let parts: [&[u8]; 6] = [
-        word.as_bytes(),
-        b" ",
-        code.as_bytes(),
-        b" ",
-        text.as_bytes(),
-        b"\n",
-    ];
-    put_parts(sink, &parts)
 }
 
 /// What was counted of the script and of an answer to it.

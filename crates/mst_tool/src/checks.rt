@@ -1,17 +1,15 @@
 ghost use Rattle.std.specs.Prelude.{◌≡◌, ◌+◌, ◌^◌, ◌<◌, ◌≤◌, ◌↔◌, ◌⊎◌, ℕ, false, List, Option, Ok, Err, IfOk, IsOk, OnOk, OnErr};
 ghost use Rattle.mst_report.specs.Planned.{planned_state};
 ghost use Rattle.mst_tool.specs.Check.{Checks, ChecksFront, ChecksEnded, ChecksScript};
-ghost use Rattle.mst_tool.specs.Devices.{Works, IsBroken, IsCut, IsRead, IsCalled, Stops, StopsAtZero, stopped_by};
-ghost use Rattle.mst_tool.specs.Engine.{tally_of, outcome_of};
-ghost use Rattle.mst_tool.specs.Served.{Served, ServedFront, ServedEnded, IsFew, both};
-ghost use Rattle.mst_tool.specs.declared.engine.Input.TheVariants.{Captures};
+ghost use Rattle.mst_io.specs.Devices.{Works, IsBroken, IsCut, IsRead, IsCalled, Stops, StopsAtZero, stopped_by};
+ghost use Rattle.mst_engine.specs.Engine.{tally_of, outcome_of};
+ghost use Rattle.mst_engine.specs.Served.{Served, ServedFront, ServedEnded, IsFew, both};
+ghost use Rattle.mst_engine.specs.declared.engine.Input.TheVariants.{Captures};
 
-use crate::devices::{Sink, Source};
-use crate::engine::{Engine, Input};
-use crate::form::Form;
-use crate::laws::{has_steps, one_comparison, one_run, states};
-use crate::lent::{FromRead, ToWrite};
-use crate::runs::{Outcome, RunFault, TURNS, serve_input};
+use mst_engine::laws::{has_steps, one_comparison, one_run, states};
+use mst_engine::{Engine, Input, serve_input};
+use mst_io::{FromRead, Outcome, RunFault, Sink, Source, TURNS, ToWrite};
+use mst_print::Form;
 use std::alloc::Global;
 use std::io::{Read, Write};
 

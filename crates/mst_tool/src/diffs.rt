@@ -1,16 +1,13 @@
 ghost use Rattle.std.specs.Prelude.{◌≡◌, ◌≤◌, ◌↔◌, ◌⊎◌, ◌^◌, ℕ, false, List, Option, Ok, Err, IfOk, IsOk, OnErr};
 ghost use Rattle.mst_report.specs.Planned.{planned_state};
-ghost use Rattle.mst_tool.specs.Devices.{Works, IsBroken, IsCut, IsRead, IsCalled, StopsAtZero};
+ghost use Rattle.mst_io.specs.Devices.{Works, IsBroken, IsCut, IsRead, IsCalled, StopsAtZero};
 ghost use Rattle.mst_tool.specs.Diff.{Diffs, DiffsFront, DiffsEnded, DiffsScripts, TellsDifference, counted_both};
-ghost use Rattle.mst_tool.specs.Served.{IsFew};
+ghost use Rattle.mst_engine.specs.Served.{IsFew};
 
-use crate::devices::{Sink, Source};
-use crate::engine::{Engine, Input};
-use crate::form::{Form, Shape, Side, show};
-use crate::laws::{has_load, one_load, states};
-use crate::lent::{FromRead, ToWrite};
-use crate::print::put;
-use crate::runs::{Outcome, RunFault, TURNS, serve_input};
+use mst_engine::laws::{has_load, one_load, states};
+use mst_engine::{Engine, Input, serve_input};
+use mst_io::{FromRead, Outcome, RunFault, Sink, Source, TURNS, ToWrite, put};
+use mst_print::{Form, Shape, Side, show};
 use mst_report::laws::one_difference;
 use mst_report::{Difference, Differing, Planner};
 use std::alloc::{AllocError, Global};

@@ -5,29 +5,16 @@
 
 mod asked;
 mod asks;
-mod captures;
 mod checks;
-mod devices;
 mod diffs;
-mod engine;
-mod feed;
-mod form;
-mod held_line;
-mod hinted;
-pub mod laws;
-mod lent;
-mod print;
 mod runs;
 
 pub use asked::{Asked, Question};
 pub use asks::{ask, ask_from, ask_within};
 pub use checks::{check, check_from, check_within};
-pub use devices::{Failed, Sink, Source};
 pub use diffs::{diff, diff_from, diff_within};
-pub use form::Form;
-pub use hinted::{hints, hints_from, hints_within};
-pub use lent::{FromRead, ToWrite};
-pub use runs::{Outcome, RunFault, TURNS, run, run_from, run_within, status};
-
-#[cfg(test)]
-mod tests;
+pub use mst_engine::laws;
+pub use mst_hinting::{hints, hints_from, hints_within};
+pub use mst_io::{Failed, FromRead, Outcome, RunFault, Sink, Source, TURNS, ToWrite};
+pub use mst_print::Form;
+pub use runs::{run, run_from, run_within, status};

@@ -1,58 +1,13 @@
-ghost use Rattle.std.specs.Prelude.{◌≡◌, ◌≢◌, ◌↔◌, ◌≤◌, ◌^◌, ℕ, false, List, Option, Err, IfOk, IsOk, OnOk, OnErr};
-ghost use Rattle.mst_report.specs.Planned.{planned_state};
-ghost use Rattle.mst_tool.specs.Devices.{Works, IsBroken, IsCut, IsRead, IsCalled, Stops, StopsAtZero, stopped_by};
-ghost use Rattle.mst_tool.specs.Engine.{IsReady, begun, tally_of, outcome_of};
+ghost use Rattle.std.specs.Prelude.{◌≡◌, ◌≢◌, ◌↔◌, ◌≤◌, ◌^◌, ℕ, false, List, Option, Err, IfOk, IsOk, OnErr};
+ghost use Rattle.mst_io.specs.Devices.{Works, IsBroken, IsCut, IsRead, IsCalled, StopsAtZero};
 ghost use Rattle.mst_tool.specs.Run.{Prints, PrintsFront, PrintsEnded, status_of};
-ghost use Rattle.mst_tool.specs.Served.{Served, ServedFront, ServedEnded, IsFew};
 
-use crate::devices::{Sink, Source};
-use crate::engine::{Engine, Input};
-use crate::feed::{feed, finish};
-use crate::form::Form;
-use crate::held_line::HeldLine;
-use crate::laws::{has_steps, one_run};
-use crate::lent::{FromRead, ToWrite};
+use mst_engine::laws::one_run;
+use mst_engine::{Engine, Input, serve_input};
+use mst_io::{FromRead, Outcome, RunFault, Sink, Source, TURNS, ToWrite};
+use mst_print::Form;
 use std::alloc::Global;
 use std::io::{Read, Write};
-use thiserror::Error;
-
-/// What was counted by what came to the end of its inputs: a run of the script's lines, a check of those of the script and
-/// of the captures, and so on. A line counts once at most.
-#[derive(Clone, Copy, Debug, PartialEq, Eq)]
-pub struct Outcome {
-    /// Lines that were refused, but for want of memory. What is asked of a network and can't be told counts as one.
-    pub refused: u64,
-    /// Lines that were refused for want of memory. Each prints so and changes nothing, and the lines
-    /// after it were served.
-    pub memory: u64,
-    /// Captured messages that differ from the planned ones, in one field or more. A script has none. Two networks that
-    /// differ count as one, and so does a network of which some single failure cuts a VID.
-    pub differing: u64,
-}
-
-/// Why a run, a check, a question or a comparison of two networks stopped before the end. The lines before were served, and
-/// a front of what is printed went out: no byte of another text, and none twice.
-#[derive(Clone, Copy, Debug, Error, PartialEq, Eq)]
-pub enum RunFault {
-    /// The reader failed, or gave no end in 2^32 calls. A call that was interrupted has failed, too,
-    /// and isn't made again.
-    #[error("read fault")]
-    Read,
-    /// The writer failed, or took no byte of some that it was given. A call that was interrupted has
-    /// failed, too, and isn't made again.
-    #[error("write fault")]
-    Write,
-    /// Memory was wanted and refused for the plan that captures are compared with, for the answer to a question, or for
-    /// how two networks differ. A run doesn't answer this: a line that wants memory is refused, and counted in
-    /// [`Outcome::memory`].
-    #[error("out of memory")]
-    Memory,
-}
-
-/// How many calls of a reader [`run`] makes at most, and of each reader [`check`](crate::check).
-pub const TURNS: u64 = 1 << 32;
-
-const _: () = prove!(TURNS == 4_294_967_296);
 
 /// Runs the script that the reader gives, from the empty network on, and writes what each line prints
 /// before it reads on. Where no line meets want of memory, what is written is a function of the script.
@@ -136,54 +91,6 @@ pub fn run_within<S: Source, K: Sink>(
         Err(fault) => Err(fault),
         Ok(()) => Ok(engine.outcome()),
     }
-}
-
-/// Serves all lines of an input, of which nothing is counted yet.
-pub(crate) fn serve_input<S: Source, K: Sink>(
-    input: Input,
-    engine: &mut Engine,
-    source: &mut S,
-    sink: &mut K,
-    turns: u64,
-) -> Result<(), RunFault>
-    requires ready { IsReady input engine.old }
-    requires begins { tally_of engine.old ≡ begun (planned_state engine.old.planner) }
-    requires source { (S.told source.old).failed ≡ false }
-    requires sink { (K.told sink.old).failed ≡ false }
-    requires turns { turns ≤ 2 ^ 32 }
-    ensures ok { OnOk result (Served input (planned_state engine.old.planner) (S.remaining source.old) (K.contents sink.old) (K.contents sink.new) (tally_of engine.new)) }
-    ensures few { OnOk result (IsFew (outcome_of (tally_of engine.new))) }
-    ensures fault { OnErr result (ServedFront input (planned_state engine.old.planner) (S.remaining source.old) (K.contents sink.old) (K.contents sink.new)) }
-    ensures read { result ≡ Err RunFault.Read → ServedEnded input (planned_state engine.old.planner) (S.remaining source.old) (S.remaining source.new) (K.contents sink.old) (K.contents sink.new) }
-    ensures memory { result ≢ Err RunFault.Memory }
-    ensures stops { Stops turns (S.told source.old) (S.told source.new) (K.told sink.old) (K.told sink.new) (stopped_by result) }
-    ensures source_calls { IsCalled turns (S.told source.old) (S.told source.new) }
-    ensures sink_calls { StopsAtZero (K.told sink.old) (K.told sink.new) }
-    ensures lent_source { S.lent source.new ≡ S.lent source.old }
-    ensures lent_sink { K.lent sink.new ≡ K.lent sink.old }
-{
-    has_steps();
-    let mut held = HeldLine::new();
-    let mut chunk = [0; 4096];
-    'turns: for turn in 0..turns {
-        engine.planner.known();
-        let count = match source.fill(&mut chunk) {
-            Err(_) => return Err(RunFault::Read),
-            Ok(count) => count,
-        };
-        if count == 0 {
-            match finish(input, engine, &mut held, sink) {
-                Err(_) => return Err(RunFault::Write),
-                Ok(()) => return Ok(()),
-            }
-        }
-        match feed(input, engine, &mut held, sink, &chunk[..count]) {
-            Err(_) => return Err(RunFault::Write),
-            Ok(()) => {}
-        }
-    }
-    engine.planner.known();
-    Err(RunFault::Read)
 }
 
 /// The exit status of a run, a check, a question or a comparison of two networks: 3 for a fault or where a line was refused

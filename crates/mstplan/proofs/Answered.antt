@@ -5,13 +5,13 @@ use Rattle.std.specs.Io.KnownBytes.{Keeps, append_known}
 use Rattle.std.proofs.KnownBytes.{Appends-kept}
 use Rattle.mst_tool.specs.Ask.{AnswersFront, Asks, AsksFront}
 use Rattle.mst_tool.specs.Load.{LoadsEnded, LoadsFront, LoadsScript}
-use Rattle.mst_tool.specs.Shape.{of_script}
-use Rattle.mst_tool.specs.Steps.{texts_of}
+use Rattle.mst_print.specs.Shape.{of_script}
+use Rattle.mst_engine.specs.Steps.{texts_of}
 use Rattle.mst_tool.specs.declared.asked.Question.{Question}
-use Rattle.mst_tool.specs.declared.form.Form.{Form}
-use Rattle.mst_tool.specs.declared.runs.Outcome.{Outcome}
-use Rattle.mst_tool.specs.declared.runs.RunFault.{RunFault}
-use Rattle.mst_tool.specs.declared.runs.RunFault.TheVariants.{Read, Write, Memory}
+use Rattle.mst_print.specs.declared.form.Form.{Form}
+use Rattle.mst_io.specs.declared.outcome.Outcome.{Outcome}
+use Rattle.mst_io.specs.declared.outcome.RunFault.{RunFault}
+use Rattle.mst_io.specs.declared.outcome.RunFault.TheVariants.{Read, Write, Memory}
 use Rattle.mstplan.specs.Buffered.{EndsAsk, LoadsRead, is_broken}
 use Rattle.mstplan.proofs.Kept.{front_kept}
 

@@ -1,6 +1,6 @@
 -- The hints of a script that was run, on standard error.
 use Rattle.std.specs.Prelude.{◌≡◌, ℕ, Bool, true, false, List, Option, Result, Ok, Err}
-use Rattle.mst_tool.specs.Hinted.{Hints, HintsFront}
+use Rattle.mst_hinting.specs.Hinted.{Hints, HintsFront}
 use Rattle.mstplan.specs.declared.endings.Stop.{Stop}
 use Rattle.mstplan.specs.declared.hinting.HintsEnd.{HintsEnd}
 use Rattle.mstplan.specs.declared.hinting.HintsEnd.TheVariants.{Unasked, Unopened, Given, Stopped}

@@ -1,0 +1,10 @@
+pub mod Skips
+pub mod Steps
+pub mod Held
+pub mod Feeds
+pub mod WholeRun
+pub mod OneRun
+pub mod Loads
+pub mod OneComparison
+pub mod Saved
+pub mod Told

@@ -1,0 +1,86 @@
+-- Without want of memory captured messages have one comparison with a plan, and no fewer.
+use Rattle.std.proofs.Common.{◌≡◌, ℕ, ◌+◌, Bool, true, false, List, [], ◌∷◌, Option, Some, None, Result, Ok, Err, refl, sym, ap, subst, ◌∙◌}
+use Rattle.mst_ids.specs.declared.name.PortName.{PortName}
+use Rattle.mst_bpdu.specs.declared.bpdu.Bpdu.{Bpdu}
+use Rattle.mst_bpdu.specs.declared.difference.Difference.{Difference}
+use Rattle.mst_bpdu.specs.declared.fault.BpduFault.{BpduFault}
+use Rattle.mst_bpdu.specs.declared.fault.BpduFault.TheVariants.{B07}
+use Rattle.mst_net.specs.Tables.{Net, IsNetwork}
+use Rattle.mst_compare.specs.Comparison.{AreDifferences}
+use Rattle.mst_compare.specs.Sender.{sender_of}
+use Rattle.mst_report.specs.State.{State, IsState}
+use Rattle.mst_engine.specs.Captures.{Compares, ServesCapture, ServesMessage, ServesSent, capture_of, compared, faulty}
+use Rattle.mst_engine.specs.Steps.{Step, RunsBy, silent, lacks_of}
+use Rattle.mst_engine.proofs.Steps.{runs-none, runs-first, none_lack, no_more_lack}
+
+-- a message leaves the state
+compared_keeps : (lacks : Bool) (number : ℕ) (now : State) (port : PortName) (found : List Difference) → (compared lacks number now port found).state ≡ now
+compared_keeps true number now port found = refl
+compared_keeps false number now port [] = refl
+compared_keeps false number now port (d ∷ ds) = refl
+
+sent_keeps : (number : ℕ) (now : State) (bpdu : Bpdu) (sender : Option PortName) (s : Step) → ServesSent number now bpdu sender s → s.state ≡ now
+sent_keeps number now bpdu None s h = ap (λ (t : Step). t.state) h
+sent_keeps number now bpdu (Some port) s h = ap (λ (t : Step). t.state) h.2 ∙ compared_keeps s.lacking number now port h.0
+
+message_keeps : (number : ℕ) (now : State) (message : Option (Result Bpdu BpduFault)) (s : Step) → ServesMessage number now message s → s.state ≡ now
+message_keeps number now None s h = ap (λ (t : Step). t.state) h
+message_keeps number now (Some (Err fault)) s h = ap (λ (t : Step). t.state) h
+message_keeps number now (Some (Ok bpdu)) s h = sent_keeps number now bpdu (sender_of now.net bpdu) s h
+
+state_kept : (number : ℕ) (now : State) (line : List ℕ) (s : Step) → IsState now → ServesCapture number now line s → IsState s.state
+state_kept number now line s is h = subst IsState (sym (message_keeps number now (capture_of line) s h)) is
+
+pub compared_whole : (number : ℕ) (now : State) (port : PortName) (found : List Difference) → (compared false number now port found).lacking ≡ false
+compared_whole number now port [] = refl
+compared_whole number now port (d ∷ ds) = refl
+
+module _ (there : (net : Net) (bpdu : Bpdu) (port : PortName) → IsNetwork net → sender_of net bpdu ≡ Some port → (found : List Difference) × AreDifferences net bpdu found) where
+  -- a message can be compared without want of memory
+  full_sent : (number : ℕ) (now : State) (bpdu : Bpdu) (sender : Option PortName) → IsState now → sender_of now.net bpdu ≡ sender → (s : Step) × ServesSent number now bpdu sender s × (s.lacking ≡ false)
+  full_sent number now bpdu None is e = (faulty number B07 now, refl, refl)
+  full_sent number now bpdu (Some port) is e =
+      let found = there now.net bpdu port is.network e in
+      let whole = compared_whole number now port found.0 in
+      (compared false number now port found.0, (found.0, found.1, ap (λ lacks. compared lacks number now port found.0) (sym whole)), whole)
+
+  full_message : (number : ℕ) (now : State) (message : Option (Result Bpdu BpduFault)) → IsState now → (s : Step) × ServesMessage number now message s × (s.lacking ≡ false)
+  full_message number now None is = (silent now, refl, refl)
+  full_message number now (Some (Err fault)) is = (faulty number fault now, refl, refl)
+  full_message number now (Some (Ok bpdu)) is = full_sent number now bpdu (sender_of now.net bpdu) is refl
+
+  -- and so can all messages
+  pub full_comparison : (number : ℕ) (now : State) (lines : List (List ℕ)) → IsState now → (steps : List Step) × Compares number now lines steps × (lacks_of steps ≡ 0)
+  full_comparison number now [] is = ([], runs-none ServesCapture number now, refl)
+  full_comparison number now (line ∷ lines) is =
+      let s = full_message number now (capture_of line) is in
+      let rest = full_comparison (number + 1) (s.0).state lines (state_kept number now line s.0 is s.1) in
+      (s.0 ∷ rest.0, runs-first ServesCapture number now line lines s.0 rest.0 s.1 rest.1, no_more_lack s.0 rest.0 s.2 rest.2)
+
+module _ (one : (net : Net) (bpdu : Bpdu) (found others : List Difference) → IsNetwork net → AreDifferences net bpdu found → AreDifferences net bpdu others → found ≡ others) where
+  -- a message does one thing in a state
+  one_sent : (number : ℕ) (now : State) (bpdu : Bpdu) (sender : Option PortName) (s t : Step) → IsState now → ServesSent number now bpdu sender s → ServesSent number now bpdu sender t → s.lacking ≡ false → t.lacking ≡ false → s ≡ t
+  one_sent number now bpdu None s t is h k given too = h ∙ sym k
+  one_sent number now bpdu (Some port) s t is h k given too =
+      let same : h.0 ≡ k.0 = one now.net bpdu h.0 k.0 is.network h.1 k.1 in
+      h.2 ∙ (λ i. compared ((given ∙ sym too) i) number now port (same i)) ∙ sym k.2
+
+  one_message : (number : ℕ) (now : State) (message : Option (Result Bpdu BpduFault)) (s t : Step) → IsState now → ServesMessage number now message s → ServesMessage number now message t → s.lacking ≡ false → t.lacking ≡ false → s ≡ t
+  one_message number now None s t is h k given too = h ∙ sym k
+  one_message number now (Some (Err fault)) s t is h k given too = h ∙ sym k
+  one_message number now (Some (Ok bpdu)) s t is h k given too = one_sent number now bpdu (sender_of now.net bpdu) s t is h k given too
+
+  -- and so do all messages
+  pub one_comparison : (number : ℕ) (now : State) (lines : List (List ℕ)) (a b : List Step) → IsState now → Compares number now lines a → Compares number now lines b → lacks_of a ≡ 0 → lacks_of b ≡ 0 → a ≡ b
+  unfolding RunsBy
+  one_comparison number now [] [] [] is h k given too = refl
+  one_comparison number now [] [] (t ∷ b) is h k given too = absurd k
+  one_comparison number now [] (s ∷ a) b is h k given too = absurd h
+  one_comparison number now (line ∷ lines) [] b is h k given too = absurd h
+  one_comparison number now (line ∷ lines) (s ∷ a) [] is h k given too = absurd k
+  one_comparison number now (line ∷ lines) (s ∷ a) (t ∷ b) is h k given too =
+      let x = none_lack s a given in
+      let y = none_lack t b too in
+      let same : s ≡ t = one_message number now (capture_of line) s t is h.0 k.0 x.0 y.0 in
+      let rest : a ≡ b = one_comparison (number + 1) s.state lines a b (state_kept number now line s is h.0) h.1 (subst (λ (u : Step). RunsBy ServesCapture (number + 1) u.state lines b) (sym same) k.1) x.1 y.1 in
+      λ i. same i ∷ rest i

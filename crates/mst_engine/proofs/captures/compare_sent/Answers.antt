@@ -1,0 +1,19 @@
+use Rattle.std.proofs.Common.{◌≡◌, false, sym, ap, ◌∙◌}
+use Rattle.mst_report.specs.Planned.{planned_state}
+use Rattle.mst_engine.specs.Captures.{compared}
+use Rattle.mst_engine.specs.Engine.{shape_of, is_starved, replied}
+use Rattle.mst_engine.specs.Steps.{Step}
+use Rattle.mst_engine.specs.declared.engine.Input.TheVariants.{Captures}
+use Rattle.mst_engine.proofs.OneComparison.{compared_whole}
+use Rattle.mst_engine.proofs.captures.compare_sent.Goals as goal
+
+pub returns : goal.returns
+returns c =
+    let number = c.args.number in
+    let now = planned_state c.args.planner.now in
+    let port = c.args.port.now in
+    let found = c.in-Ok.differences.items in
+    let reply = c.in-Ok-told.reply in
+    let told : replied (shape_of Captures) number now reply ≡ compared false number now port found = c.in-Ok-told.ensures now ∙ ap (compared false number now port) c.as_slice.ensures.value in
+    let whole : is_starved reply ≡ false = ap (λ (s : Step). s.lacking) told ∙ compared_whole number now port found in
+    (found, c.in-Ok.ensures.found, told ∙ ap (λ lacks. compared lacks number now port found) (sym whole))

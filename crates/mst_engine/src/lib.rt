@@ -1,0 +1,15 @@
+//! An engine that serves the lines of an input, one after another: those of a script, the edits of one alone, or captured
+//! messages, which it compares with the plan.
+//!
+//! [`Engine::reply`] serves a line, and [`serve_input`] all lines that a source gives, of which it writes what they print. The
+//! [laws] say that what is printed is a function of the input.
+#![tactic(auto)]
+
+mod captures;
+mod engine;
+mod feed;
+pub mod laws;
+mod serving;
+
+pub use engine::{Engine, Input, Reply};
+pub use serving::serve_input;

@@ -1,0 +1,253 @@
+-- How the hints of a script go on from byte to byte.
+use Rattle.std.proofs.Common.{◌≡◌, ◌≢◌, ℕ, ◌+◌, ◌<◌, true, false, nat_eq, cond, List, [], ◌∷◌, ◌++◌, length, Option, Some, None, Result, Ok, Err, refl, sym, ap, subst, ◌∙◌, arith, inl, inr, append_assoc, append-nil, eq-eqb, length-append}
+use Rattle.std.proofs.lemmas.Bool.{lt-ltb}
+use Rattle.std.proofs.lemmas.Grind.{common_steps}
+use Rattle.std.specs.Option.{unwrap_or}
+use Rattle.std.specs.Io.KnownBytes.{Appends, Consumes, IsAtEnd}
+use Rattle.std.proofs.KnownBytes.{Appends-trans}
+use Rattle.mst_lang.specs.Lines.{drop_cr, last_line, no_line, lines_from, lines_of, ended_lines}
+use Rattle.mst_lang.specs.Reading.{reading_as, says_version_2}
+use Rattle.mst_lang.specs.declared.line.Fault.{Fault}
+use Rattle.mst_lang.specs.declared.line.Fault.TheVariants.{E01}
+use Rattle.mst_lang.specs.declared.line.Line.{Line}
+use Rattle.mst_lang.specs.declared.line.Line.TheVariants.{Blank}
+use Rattle.mst_lang.specs.declared.line.Version.{Version}
+use Rattle.mst_lang.specs.declared.line.Version.TheVariants.{V1, V2}
+use Rattle.mst_hints.specs.Hints.{hint_of, hint_line, too_long}
+use Rattle.mst_hints.specs.Kept.{IsKept}
+use Rattle.mst_hints.specs.Records.{added_of}
+use Rattle.mst_hints.specs.Scripts.{Past, nothing, past_after, version_with, reading_with, net_with, is_made, noted, read_hint, hint_after, hints_from, hints_of}
+use Rattle.mst_hints.specs.declared.record.Record.{Record}
+use Rattle.mst_hints.specs.declared.script.ScriptHints.{ScriptHints}
+use Rattle.mst_io.specs.Held.{lines_held, ending}
+use Rattle.mst_io.specs.Held.{hold}
+use Rattle.mst_hinting.specs.Hinted.{Hints, HintsFront, HintsEnded, Tells, IsTold, IsWritten, IsStoppedIn}
+use Rattle.mst_io.specs.Written.{AppendsFront}
+use Rattle.mst_io.proofs.Long.{held_cases, long_reading, none_held_of, one_held_of}
+use Rattle.mst_io.proofs.Known.{AppendsFront-after, AppendsFront-longer}
+use Rattle.mst_io.proofs.Starts.{IsHeld, IsHeld-nothing, IsHeld-push}
+use Rattle.mst_io.proofs.ReadBytes.{Reads-rest, Reads-all}
+
+-- ---- bytes
+pub Tells-nil : (past : Past) (part : List ℕ) → Tells past part [] past part []
+Tells-nil past part = record { lines = λ last rest. refl; few = omega arith }
+
+pub Tells-join : (p q r : Past) (a b c xs ys s t : List ℕ) → Tells p a xs q b s → Tells q b ys r c t → Tells p a (xs ++ ys) r c (s ++ t)
+Tells-join p q r a b c xs ys s t f g = record {
+  lines = λ last rest.
+      ap (λ l. hints_from p (lines_held last a l)) (append_assoc xs ys rest)
+      ∙ f.lines last (ys ++ rest)
+      ∙ ap (λ h. s ++ h) (g.lines last rest)
+      ∙ sym (append_assoc s t (hints_from r (lines_held last c rest)));
+  few = omega (arith, f.few, g.few, length-append xs ys);
+}
+
+not_end : (b : ℕ) → b ≢ 10 → nat_eq b 10 ≡ false
+not_end b h = grind (arith, common_steps)
+
+-- a byte that ends no line
+Tells-byte : (past : Past) (part : List ℕ) (b : ℕ) → b ≢ 10 → Tells past part (b ∷ []) past (hold part b) []
+Tells-byte past part b other = record {
+  lines = λ last rest. ap (λ t. hints_from past (cond t (drop_cr part ∷ lines_held last [] rest) (lines_held last (hold part b) rest))) (not_end b other);
+  few = omega arith;
+}
+
+-- and one that does
+Tells-line : (past : Past) (part : List ℕ) (b : ℕ) → b ≡ 10 → Tells past part (b ∷ []) (past_after past (drop_cr part)) [] (hint_after past (drop_cr part))
+Tells-line past part b end = record {
+  lines = λ last rest. ap (λ t. hints_from past (cond t (drop_cr part ∷ lines_held last [] rest) (lines_held last (hold part b) rest))) (eq-eqb b 10 end);
+  few = omega arith;
+}
+
+-- what was told of bytes is appended
+pub told_nothing : (past : Past) (part : List ℕ) (hints : ScriptHints) (out : List ℕ) → IsKept past hints → IsTold past part [] hints part out out
+told_nothing past part hints out kept = record { now = past; text = []; tells = Tells-nil past part; kept = kept; appended = sym (append-nil out) }
+
+pub told_byte : (past : Past) (part : List ℕ) (b : ℕ) (hints : ScriptHints) (out : List ℕ) → b ≢ 10 → IsKept past hints → IsTold past part (b ∷ []) hints (hold part b) out out
+told_byte past part b hints out other kept = record { now = past; text = []; tells = Tells-byte past part b other; kept = kept; appended = sym (append-nil out) }
+
+pub told_line : (past : Past) (part : List ℕ) (b : ℕ) (hints : ScriptHints) (old new : List ℕ) → b ≡ 10 → IsKept (past_after past (drop_cr part)) hints → new ≡ old ++ hint_after past (drop_cr part) → IsTold past part (b ∷ []) hints [] old new
+told_line past part b hints old new end kept appended = record {
+  now = past_after past (drop_cr part);
+  text = hint_after past (drop_cr part);
+  tells = Tells-line past part b end;
+  kept = kept;
+  appended = appended;
+}
+
+pub told_more : (past : Past) (a b c xs ys : List ℕ) (h k : ScriptHints) (old mid new : List ℕ) → (f : IsTold past a xs h b old mid) → IsTold f.now b ys k c mid new → IsTold past a (xs ++ ys) k c old new
+told_more past a b c xs ys h k old mid new f g = record {
+  now = g.now;
+  text = f.text ++ g.text;
+  tells = Tells-join past f.now g.now a b c xs ys f.text g.text f.tells g.tells;
+  kept = g.kept;
+  appended = g.appended ∙ ap (λ l. l ++ g.text) f.appended ∙ append_assoc old f.text g.text;
+}
+
+-- ---- lines of which no more is held than is needed
+says_long : (line : List ℕ) → 4096 < length line → says_version_2 line ≡ false
+says_long line long = rw (lt-ltb 4096 (length line) long) refl
+
+version_long : (known : Option Version) (line : List ℕ) → 4096 < length line → version_with known line ≡ version_with known []
+version_long (Some version) line long = refl
+version_long None line long = ap (λ t. cond t V2 V1) (says_long line long)
+
+reading_long : (known : Option Version) (line : List ℕ) → 4096 < length line → reading_with known line ≡ Err E01
+reading_long (Some version) line long = long_reading version line long
+reading_long None line long = ap (λ t. cond t (Ok Blank) (reading_as V1 line)) (says_long line long) ∙ long_reading V1 line long
+
+added_long : (line : List ℕ) → 4096 < length line → added_of line ≡ None
+added_long line long = rw (lt-ltb 4096 (length line) long) refl
+
+unread_long : (version : Version) (line : List ℕ) → 4096 < length line → hint_of version line ≡ Some too_long
+unread_long version line long = rw (lt-ltb 4096 (length line) long) refl
+
+hint_long : (past : Past) (line : List ℕ) → 4096 < length line → hint_after past line ≡ hint_line past.number (Some too_long)
+hint_long past line long =
+    ap (λ r. hint_line past.number (read_hint (version_with past.version line) past.adds past.net line r)) (reading_long past.version line long)
+    ∙ ap (hint_line past.number) (unread_long (version_with past.version line) line long)
+
+abbrev after_by : Past → Version → Result Line Fault → Option Record → Past
+after_by past version reading added = record { version = Some version; number = past.number + 1; net = net_with past.net reading; adds = noted past.number past.adds added (is_made past.net reading) }
+
+past_long : (past : Past) (line : List ℕ) → 4096 < length line → past_after past line ≡ after_by past (version_with past.version []) (Err E01) None
+past_long past line long =
+    ap (λ v. after_by past v (reading_with past.version line) (added_of line)) (version_long past.version line long)
+    ∙ ap (λ r. after_by past (version_with past.version []) r (added_of line)) (reading_long past.version line long)
+    ∙ ap (λ a. after_by past (version_with past.version []) (Err E01) a) (added_long line long)
+
+held_hint : (past : Past) (part held : List ℕ) → IsHeld part held → hint_after past (drop_cr held) ≡ hint_after past (drop_cr part)
+held_hint past part held is =
+    elim (held_cases part held is) [
+      | inl same ↦ ap (λ l. hint_after past (drop_cr l)) same
+      | inr long ↦ hint_long past (drop_cr held) long.0 ∙ sym (hint_long past (drop_cr part) long.1)
+    ]
+
+held_past : (past : Past) (part held : List ℕ) → IsHeld part held → past_after past (drop_cr held) ≡ past_after past (drop_cr part)
+held_past past part held is =
+    elim (held_cases part held is) [
+      | inl same ↦ ap (λ l. past_after past (drop_cr l)) same
+      | inr long ↦ past_long past (drop_cr held) long.0 ∙ sym (past_long past (drop_cr part) long.1)
+    ]
+
+lines_join : (past : Past) (part held : List ℕ) (xs ys : List (List ℕ)) → IsHeld part held → ((now : Past) → hints_from now xs ≡ hints_from now ys) → hints_from past (drop_cr held ∷ xs) ≡ hints_from past (drop_cr part ∷ ys)
+lines_join past part held xs ys is same =
+    ap (λ h. h ++ hints_from (past_after past (drop_cr held)) xs) (held_hint past part held is)
+    ∙ ap (λ now. hint_after past (drop_cr part) ++ hints_from now xs) (held_past past part held is)
+    ∙ ap (λ h. hint_after past (drop_cr part) ++ h) (same (past_after past (drop_cr part)))
+
+abbrev HeldAlike : (List ℕ → List (List ℕ)) → Type 0
+HeldAlike last = (past : Past) (part held : List ℕ) → IsHeld part held → hints_from past (last held) ≡ hints_from past (last part)
+
+last_alike : HeldAlike last_line
+last_alike past [] [] is = refl
+last_alike past [] (c ∷ cs) is = absurd (one_held_of c cs is)
+last_alike past (b ∷ bs) [] is = absurd (none_held_of b bs is)
+last_alike past (b ∷ bs) (c ∷ cs) is = lines_join past (b ∷ bs) (c ∷ cs) [] [] is (λ now. refl)
+
+none_alike : HeldAlike no_line
+none_alike past part held is = refl
+
+module _ (last : List ℕ → List (List ℕ)) (left : HeldAlike last) where
+  lines_alike : (bytes : List ℕ) (past : Past) (part held : List ℕ) → IsHeld part held → hints_from past (lines_held last held bytes) ≡ hints_from past (lines_from last part bytes)
+  lines_alike [] past part held is = left past part held is
+  lines_alike (b ∷ bs) past part held is =
+      elim (nat_eq b 10) as (λ t. hints_from past (cond t (drop_cr held ∷ lines_held last [] bs) (lines_held last (hold held b) bs)) ≡ hints_from past (cond t (drop_cr part ∷ lines_from last [] bs) (lines_from last (part ++ b ∷ []) bs))) [
+        | true ↦ lines_join past part held (lines_held last [] bs) (lines_from last [] bs) is (λ now. lines_alike bs now [] [] IsHeld-nothing)
+        | false ↦ lines_alike bs past (part ++ b ∷ []) (hold held b) (IsHeld-push part held b is)
+      ]
+
+script_alike : (bytes : List ℕ) → hints_of (lines_of bytes) ≡ hints_from nothing (lines_held last_line [] bytes)
+script_alike bytes = sym (lines_alike last_line last_alike bytes nothing [] [] IsHeld-nothing)
+
+ended_alike : (bytes : List ℕ) → hints_of (ended_lines bytes) ≡ hints_from nothing (lines_held no_line [] bytes)
+ended_alike bytes = sym (lines_alike no_line none_alike bytes nothing [] [] IsHeld-nothing)
+
+-- ---- a whole script
+-- what follows some bytes
+goes_on : (past now : Past) (part bytes left text : List ℕ) (last : List ℕ → List (List ℕ)) → Tells past part bytes now left text → hints_from past (lines_held last part bytes) ≡ text ++ hints_from now (last left)
+goes_on past now part bytes left text last f = ap (λ l. hints_from past (lines_held last part l)) (sym (append-nil bytes)) ∙ f.lines last []
+
+ends_held : (now end : Past) (left more : List ℕ) → Tells now left (ending left) end [] more → hints_from now (last_line left) ≡ more
+ends_held now end [] more g = g.lines last_line [] ∙ append-nil more
+ends_held now end (b ∷ bs) more g = g.lines last_line [] ∙ append-nil more
+
+-- the script has ended, and its last line was taken
+pub hints_whole : (reads rest written mid new : Option (List ℕ)) (now : Past) (read left text : List ℕ) (hints : ScriptHints) → Consumes reads rest read → IsAtEnd rest → Tells nothing [] read now left text → Appends written mid text → IsWritten now left (ending left) hints [] mid new → Hints reads written new
+hints_whole reads rest written mid new now read left text hints consumed at_end f went g = record {
+  script = read;
+  read = Reads-all reads rest read consumed at_end;
+  printed = subst (Appends written new)
+      (sym (script_alike read ∙ goes_on nothing now [] read left text last_line f ∙ ap (λ h. text ++ h) (ends_held now g.now left g.text g.tells)))
+      (Appends-trans written mid new text g.text went g.printed);
+}
+
+-- what was told of the bytes, and a front of what follows
+pub hints_stopped : (reads rest written mid new : Option (List ℕ)) (now : Past) (read left text chunk : List ℕ) → Consumes reads rest (read ++ chunk) → Tells nothing [] read now left text → Appends written mid text → IsStoppedIn now left chunk mid new → HintsFront reads written new
+hints_stopped reads rest written mid new now read left text chunk consumed f went stopped =
+    let more = unwrap_or rest [] in
+    record {
+      script = (read ++ chunk) ++ more;
+      read = Reads-rest reads rest (read ++ chunk) consumed;
+      printed = subst (AppendsFront written new)
+          (sym (script_alike ((read ++ chunk) ++ more) ∙ ap (λ l. hints_from nothing (lines_held last_line [] l)) (append_assoc read chunk more) ∙ f.lines last_line (chunk ++ more)))
+          (AppendsFront-after written mid new text (hints_from now (lines_held last_line left (chunk ++ more))) went (stopped more));
+    }
+
+pub hints_stopped_last : (reads rest written mid new : Option (List ℕ)) (now : Past) (read left text : List ℕ) → Consumes reads rest read → IsAtEnd rest → Tells nothing [] read now left text → Appends written mid text → IsStoppedIn now left (ending left) mid new → HintsFront reads written new
+hints_stopped_last reads rest written mid new now read left text consumed at_end f went stopped = record {
+  script = read;
+  read = Reads-all reads rest read consumed at_end;
+  printed = subst (AppendsFront written new)
+      (sym (script_alike read ∙ goes_on nothing now [] read left text last_line f))
+      (AppendsFront-after written mid new text (hints_from now (last_line left)) went (subst (AppendsFront mid new) (ends left) (stopped [])));
+}
+  where
+    ends : (left : List ℕ) → hints_from now (lines_held last_line left (ending left ++ [])) ≡ hints_from now (last_line left)
+    ends [] = refl
+    ends (b ∷ bs) = refl
+
+-- the reader failed
+pub hints_cut : (reads rest written new : Option (List ℕ)) (now : Past) (read left text : List ℕ) → Consumes reads rest read → Tells nothing [] read now left text → Appends written new text → HintsFront reads written new
+hints_cut reads rest written new now read left text consumed f went =
+    let more = unwrap_or rest [] in
+    record {
+      script = read ++ more;
+      read = Reads-rest reads rest read consumed;
+      printed = record {
+        front = text;
+        rest = hints_from now (lines_held last_line left more);
+        whole = script_alike (read ++ more) ∙ f.lines last_line more;
+        written = went;
+      };
+    }
+
+pub hints_ended : (reads rest written new : Option (List ℕ)) (now : Past) (read left text : List ℕ) → Consumes reads rest read → Tells nothing [] read now left text → Appends written new text → HintsEnded reads rest written new
+hints_ended reads rest written new now read left text consumed f went = record {
+  read = read;
+  consumed = consumed;
+  printed = subst (Appends written new) (sym (ended_alike read ∙ goes_on nothing now [] read left text no_line f ∙ append-nil text)) went;
+}
+
+-- what was taken was written
+pub written_told : (past : Past) (part bytes left : List ℕ) (hints : ScriptHints) (text : List ℕ) (written new : Option (List ℕ)) → IsTold past part bytes hints left [] text → Appends written new text → IsWritten past part bytes hints left written new
+written_told past part bytes left hints text written new f went = record {
+  now = f.now;
+  text = f.text;
+  tells = f.tells;
+  kept = f.kept;
+  printed = subst (Appends written new) f.appended went;
+}
+
+pub stopped_told : (past : Past) (part bytes left : List ℕ) (hints : ScriptHints) (text : List ℕ) (written new : Option (List ℕ)) → IsTold past part bytes hints left [] text → AppendsFront written new text → IsStoppedIn past part bytes written new
+stopped_told past part bytes left hints text written new f went rest =
+    let more = hints_from f.now (lines_held last_line left rest) in
+    subst (AppendsFront written new) (ap (λ l. l ++ more) f.appended ∙ sym (f.tells.lines last_line rest)) (AppendsFront-longer written new text more went)
+
+-- nothing was written
+pub stopped_unwritten : (past : Past) (part bytes : List ℕ) (written : Option (List ℕ)) → Appends written written [] → IsStoppedIn past part bytes written written
+stopped_unwritten past part bytes written none rest = record { front = []; rest = hints_from past (lines_held last_line part (bytes ++ rest)); whole = refl; written = none }
+
+-- the same bytes, by other names of them
+pub told_as : (past : Past) (part bytes left : List ℕ) (hints : ScriptHints) (old same new also : List ℕ) → old ≡ same → new ≡ also → IsTold past part bytes hints left old new → IsTold past part bytes hints left same also
+told_as past part bytes left hints old same new also e f told = record { now = told.now; text = told.text; tells = told.tells; kept = told.kept; appended = sym f ∙ told.appended ∙ ap (λ l. l ++ told.text) e }

@@ -1,0 +1,83 @@
+-- What a device tells of its calls, and which device ended a run.
+use Rattle.std.specs.Prelude.{◌≡◌, ℕ, ◌+◌, ◌<◌, ◌≤◌, ◌==◌, ◌&&◌, ◌||◌, ◌^◌, ◌-◌, ◌⊎◌, Bool, true, false, not, Option, Some, None, Result, Ok, Err, is_err, if◌then◌else◌}
+use Rattle.mst_io.specs.declared.devices.Failed.{Failed}
+use Rattle.mst_io.specs.declared.lent.Count.{Count}
+use Rattle.mst_io.specs.declared.outcome.RunFault.{RunFault}
+use Rattle.mst_io.specs.declared.outcome.RunFault.TheVariants.{Read, Write, Memory}
+
+-- What a device tells: whether it has failed; how many calls it has answered, one with an error included; how many of
+-- these answered 0 though there was a byte to take, or room for one; and whether the last one did
+pub record Told : Type 0 where
+  pub failed : Bool
+  pub calls : ℕ
+  pub zeros : ℕ
+  pub at_zero : Bool
+
+-- a device that was not called yet
+abbrev pub uncalled : Told
+uncalled = record { failed = false; calls = 0; zeros = 0; at_zero = false }
+
+-- whether a call answered 0 though its buffer, or its part, of this size has a byte
+abbrev pub is_zero : Result ℕ Failed → ℕ → Bool
+is_zero (Err e) size = false
+is_zero (Ok count) size = count == 0 && not (size == 0)
+
+-- after a call with a buffer, or a part, of this size
+abbrev pub called : Told → Result ℕ Failed → ℕ → Told
+called old result size = record {
+  failed = is_err result;
+  calls = old.calls + 1;
+  zeros = old.zeros + (if is_zero result size then 1 else 0);
+  at_zero = is_zero result size;
+}
+
+-- what a count tells
+abbrev pub told_by : Count → Told
+told_by c = record { failed = c.is_broken || c.calls == 2 ^ 64 - 1; calls = c.calls; zeros = c.zeros; at_zero = c.at_zero }
+
+-- the sink hasn't failed, and took some of each part
+pub record Works (old new : Told) : Type 0 where
+  pub working : new.failed ≡ false
+  pub taken : new.zeros ≡ old.zeros
+
+-- the sink failed, or took nothing of a part that had a byte
+abbrev pub IsBroken : Told → Told → Type 0
+IsBroken old new = (new.failed ≡ true) ⊎ (old.zeros < new.zeros)
+
+-- no call was made after one that answered 0
+pub record StopsAtZero (old new : Told) : Type 0 where
+  pub once : new.zeros ≤ old.zeros + 1
+  pub last : old.zeros < new.zeros → new.at_zero ≡ true
+
+-- the sink failed, or took nothing of a part that had a byte, and was not called again
+pub record IsStopped (old new : Told) : Type 0 where
+  pub broken : IsBroken old new
+  pub calls : StopsAtZero old new
+
+-- the source failed, or all turns were used, and in none the end was found
+abbrev pub IsCut : ℕ → Told → Told → Type 0
+IsCut turns old new = (new.failed ≡ true) ⊎ ((new.calls ≡ old.calls + turns) × (new.zeros ≡ old.zeros))
+
+-- the source hasn't failed, and its end was found
+pub record IsRead (old new : Told) : Type 0 where
+  pub working : new.failed ≡ false
+  pub some : old.calls < new.calls
+  pub found : new.zeros ≡ old.zeros + 1
+
+-- at most this many calls were made, and none after one that answered 0
+pub record IsCalled (turns : ℕ) (old new : Told) : Type 0 where
+  pub few : new.calls ≤ old.calls + turns
+  pub stops : StopsAtZero old new
+
+-- why something stopped
+abbrev pub stopped_by : {A : Type 0} → Result A RunFault → Option RunFault
+stopped_by (Ok x) = None
+stopped_by (Err fault) = Some fault
+
+-- how both devices stand where an input was served to its end, or was stopped by this fault. For want of memory neither
+-- was called
+abbrev pub Stops : ℕ → Told → Told → Told → Told → Option RunFault → Type 0
+Stops turns source source_now sink sink_now None = IsRead source source_now × Works sink sink_now
+Stops turns source source_now sink sink_now (Some Read) = IsCut turns source source_now × Works sink sink_now
+Stops turns source source_now sink sink_now (Some Write) = IsBroken sink sink_now
+Stops turns source source_now sink sink_now (Some Memory) = (source_now ≡ source) × (sink_now ≡ sink)

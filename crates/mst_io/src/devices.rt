@@ -1,0 +1,60 @@
+ghost use Rattle.std.specs.Prelude.{◌≡◌, ℕ, false, List, length, Option, None};
+ghost use Rattle.std.specs.Borrow.{GName};
+ghost use Rattle.std.specs.Io.{ReadsAtMost, WritesAtMost};
+ghost use Rattle.std.specs.Io.KnownBytes.{ReadConsumes, WriteAppends};
+ghost use Rattle.mst_io.specs.Devices.{Told, called};
+
+/// The device has failed. It isn't called again.
+#[derive(Clone, Copy, Debug, PartialEq, Eq)]
+pub struct Failed;
+
+/// What an input is read from, a call at a time, until it fails. [`FromRead`](crate::FromRead) makes one of a reader.
+pub trait Source {
+    /// The bytes that calls will give from here on, where they are known.
+    ghost remaining: { Self → Option (List ℕ) } = { λ _. None };
+
+    /// Whether it has failed, and what it counts of its calls. One that gave no byte, though there was room, found the
+    /// end.
+    ghost told: { Self → Told };
+
+    /// The reference that it reads through, where it was lent one: a call keeps it, so that who lent it knows what was
+    /// done with it.
+    ghost lent: { Self → Option GName } = { λ _. None };
+
+    /// Whether it has failed.
+    fn failed(&self) -> bool
+        ensures { result ≡ (told self.now).failed };
+
+    /// Gives bytes, at the front of the buffer. None, where there is room, are the end.
+    fn fill(&mut self, buffer: &mut [u8]) -> Result<usize, Failed>
+        requires working { (told self.old).failed ≡ false }
+        ensures bound { ReadsAtMost result buffer.new }
+        ensures bytes { ReadConsumes (remaining self.old) (remaining self.new) result buffer.new }
+        ensures told { told self.new ≡ called (told self.old) result (length buffer.old) }
+        ensures lent { lent self.new ≡ lent self.old };
+}
+
+/// What a text is written to, a call at a time, until it fails. [`ToWrite`](crate::ToWrite) makes one of a writer.
+pub trait Sink {
+    /// The bytes that it holds, where they are known.
+    ghost contents: { Self → Option (List ℕ) } = { λ _. None };
+
+    /// Whether it has failed, and what it counts of its calls.
+    ghost told: { Self → Told };
+
+    /// The reference that it writes through, where it was lent one: a call keeps it, so that who lent it knows what was
+    /// done with it.
+    ghost lent: { Self → Option GName } = { λ _. None };
+
+    /// Whether it has failed.
+    fn failed(&self) -> bool
+        ensures { result ≡ (told self.now).failed };
+
+    /// Takes bytes, from the front of the part.
+    fn put(&mut self, part: &[u8]) -> Result<usize, Failed>
+        requires working { (told self.old).failed ≡ false }
+        ensures bound { WritesAtMost result part.now }
+        ensures bytes { WriteAppends (contents self.old) (contents self.new) result part.now }
+        ensures told { told self.new ≡ called (told self.old) result (length part.now) }
+        ensures lent { lent self.new ≡ lent self.old };
+}

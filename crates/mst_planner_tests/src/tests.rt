@@ -1,0 +1,6 @@
+mod edits;
+mod groups;
+mod network;
+mod records;
+mod refused;
+mod repairs;

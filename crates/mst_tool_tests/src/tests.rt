@@ -1,0 +1,17 @@
+mod asks;
+mod captures;
+mod devices;
+mod diffs;
+mod faults;
+mod forms;
+mod hinted;
+
+use mst_tool::Outcome;
+
+fn counts(refused: u64, memory: u64) -> Outcome {
+    Outcome {
+        refused,
+        memory,
+        differing: 0,
+    }
+}
