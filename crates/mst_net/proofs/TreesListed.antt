@@ -1,7 +1,8 @@
 -- The trees that pass a test, one after another.
-use Rattle.std.proofs.Common.{◌≡◌, ℕ, zero, suc, ◌+◌, ◌-◌, ◌<◌, ◌≤◌, Bool, true, false, cond, List, [], ◌∷◌, ◌++◌, not, Option, Some, None, is_some, refl, sym, ap, ◌∙◌, arith, true≢false}
+use Rattle.std.proofs.Common.{◌≡◌, ℕ, zero, suc, ◌+◌, ◌-◌, ◌<◌, ◌≤◌, Bool, true, false, cond, List, [], ◌∷◌, ◌++◌, length, not, Option, Some, None, is_some, refl, sym, ap, ◌∙◌, arith, true≢false}
 use Rattle.std.specs.Prelude.{◌==◌, replicate}
 use Rattle.std.specs.List.{filter, list_any, range_with_len}
+use Rattle.std.specs.Map.{lookup}
 use Rattle.std.specs.Option.{unwrap_or}
 use Rattle.std.proofs.lemmas.List.{append-nil}
 use Rattle.std.proofs.lemmas.List.Elements.{filter-append}
@@ -66,3 +67,13 @@ priority_told (Some n) h = (n, refl)
 pub cost_told : (o : Option ℕ) → is_some o ≡ true → (n : ℕ) × (o ≡ Some n)
 cost_told None h = absurd (true≢false (sym h))
 cost_told (Some n) h = (n, refl)
+
+-- where no tree passes none is listed
+pub no_trees : (test : ℕ → Bool) → ((k : ℕ) → test k ≡ false) → trees_where test ≡ []
+unfolding trees_where
+no_trees test fails = none_pass test 4095 0 (λ k _. fails k)
+
+-- nor is there where nothing is set
+pub nothing_found : {K X : Type 0} (E : K → Bool) (es : List (K × X)) → length es ≡ 0 → lookup E es ≡ None
+nothing_found E [] e = refl
+nothing_found E (x ∷ xs) e = absurd (omega arith)

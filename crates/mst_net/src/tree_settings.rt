@@ -7,6 +7,8 @@ ghost use Rattle.mst_net.specs.After.{own_priority as own, own_table as kept_tab
 ghost use Rattle.mst_net.specs.ByTree.{AreInTrees, nothing_set, priority_in, port_priority_in, port_cost_in, table_in, vlans_in};
 ghost use Rattle.mst_net.specs.SettingsAfter.{set_after, room_to_set};
 ghost use Rattle.std.specs.List.{filter};
+ghost use Rattle.std.specs.Map.{lookup};
+ghost use Rattle.std.specs.Option.{option_copied};
 ghost use Rattle.mst_net.specs.Table.{mapped, tree_in, mstis_in};
 ghost use Rattle.mst_net.specs.TreesSet.{trees_where};
 
@@ -109,7 +111,7 @@ impl TreeSettings {
             bridge: *bridge,
             tree,
         };
-        match self.priorities.get(&key) {
+        match found(&self.priorities, &key) {
             Some(priority) => *priority,
             None => Priority::default(),
         }
@@ -120,7 +122,7 @@ impl TreeSettings {
         ensures { result ≡ port_priority_in self.now.set.port_priorities port.now tree }
     {
         let key = PortInTree { port: *port, tree };
-        match self.port_priorities.get(&key) {
+        match found(&self.port_priorities, &key) {
             Some(priority) => *priority,
             None => Priority::default(),
         }
@@ -130,9 +132,8 @@ impl TreeSettings {
     pub fn port_cost(&self, port: &PortName, tree: Tree) -> Option<Cost>
         ensures { result ≡ port_cost_in self.now.set.port_costs port.now tree }
     {
-        self.port_costs
-            .get(&PortInTree { port: *port, tree })
-            .copied()
+        let key = PortInTree { port: *port, tree };
+        found(&self.port_costs, &key).copied()
     }
 
     /// The trees in which a bridge has another priority than 8, in rising order. It takes memory.
@@ -168,6 +169,9 @@ impl TreeSettings {
     ) -> Result<Vec<Tree>, AllocError>
         ensures { IfOk result (λ trees. trees.items ≡ trees_where (λ tree. not (port_priority_in self.now.set.port_priorities port.now tree == 8))) }
     {
+        if self.port_priorities.is_empty() {
+            return Ok(Vec::new(alloc));
+        }
         let blocks = blocks_of(&self.port_blocks, port);
         let trees = trees_of(&blocks, alloc)?;
         self.with_port_priority(port, &trees, alloc)
@@ -193,6 +197,9 @@ impl TreeSettings {
     pub fn port_cost_trees(&self, port: &PortName, alloc: Global) -> Result<Vec<Tree>, AllocError>
         ensures { IfOk result (λ trees. trees.items ≡ trees_where (λ tree. is_some (port_cost_in self.now.set.port_costs port.now tree))) }
     {
+        if self.port_costs.is_empty() {
+            return Ok(Vec::new(alloc));
+        }
         let blocks = blocks_of(&self.port_blocks, port);
         let trees = trees_of(&blocks, alloc)?;
         self.with_port_cost(port, &trees, alloc)
@@ -229,7 +236,7 @@ impl TreeSettings {
         ensures { result ≡ has (vlans_in self.now.set.vlans port.now) vid }
     {
         let number = vid.value();
-        match self.vlans.get(port) {
+        match found(&self.vlans, port) {
             Some(vids) => vids.contains(number),
             None => true,
         }
@@ -398,6 +405,16 @@ impl TreeSettings {
     {
         keep(&mut self.vlans, port, own_vlans(vids));
     }
+}
+
+/// The value under a key, if there is one. No key is hashed where nothing is set.
+fn found<'a, K: Eq + Hash, V>(table: &'a IndexMap<K, V>, key: &K) -> Option<&'a V>
+    ensures value { option_copied result ≡ lookup (K.eq key.now) table.now.entries }
+{
+    if table.is_empty() {
+        return None;
+    }
+    table.get(key)
 }
 
 /// What is kept of a priority: none of the default.

@@ -12,7 +12,7 @@ pub returns-in-Some : goal.returns-in-Some
 returns-in-Some c =
     let key = c.args.port.now in
     let set =
-    ap (λ o. unwrap_or (option_copied o) (set_where is_vid)) (sym c.in-Some.is) ∙ ap (λ o. unwrap_or o (set_where is_vid)) (c.get.ensures.value ∙ sym (get_keyed ports c.self.inside.vlans.entries key)) ∙ ap (λ n. vlans_in n.set.vlans key) c.self.view_is in
+    ap (λ o. unwrap_or (option_copied o) (set_where is_vid)) (sym c.in-Some.is) ∙ ap (λ o. unwrap_or o (set_where is_vid)) (c.found.ensures.value ∙ sym (get_keyed ports c.self.inside.vlans.entries key)) ∙ ap (λ n. vlans_in n.set.vlans key) c.self.view_is in
     c.contains.ensures.value ∙ ap (λ vids. has vids c.value-number.result) set ∙ ap (λ n. has (vlans_in c.args.self.now.set.vlans key) n) c.value-number.ensures.value
 
 pub returns-in-None : goal.returns-in-None
@@ -20,7 +20,7 @@ returns-in-None c =
     let key = c.args.port.now in
     let number : ℕ = c.value-number.result in
     let set =
-    ap (λ o. unwrap_or (option_copied o) (set_where is_vid)) (sym c.in-None.is) ∙ ap (λ o. unwrap_or o (set_where is_vid)) (c.get.ensures.value ∙ sym (get_keyed ports c.self.inside.vlans.entries key)) ∙ ap (λ n. vlans_in n.set.vlans key) c.self.view_is in
+    ap (λ o. unwrap_or (option_copied o) (set_where is_vid)) (sym c.in-None.is) ∙ ap (λ o. unwrap_or o (set_where is_vid)) (c.found.ensures.value ∙ sym (get_keyed ports c.self.inside.vlans.entries key)) ∙ ap (λ n. vlans_in n.set.vlans key) c.self.view_is in
     let low = c.value-number.ensures.range.0 in
     let high = c.value-number.ensures.range.1 in
     let below : number < 4096 = omega arith in

@@ -1,13 +1,13 @@
-use Rattle.std.proofs.Common.{◌≡◌, ℕ, Bool, true, not, is_some, Some, refl, sym, ap, subst, ◌∙◌}
+use Rattle.std.proofs.Common.{◌≡◌, ℕ, Bool, true, false, not, is_some, Some, refl, sym, ap, subst, ◌∙◌}
 use Rattle.std.specs.Prelude.{◌==◌, IfOk}
 use Rattle.std.specs.List.{filter}
 use Rattle.std.specs.FinMap as fin
 use Rattle.mst_net.specs.ByTree.{port_cost_in}
 use Rattle.mst_records.specs.Blocks.{in_block}
-use Rattle.mst_net.specs.Tables.{PortTree}
+use Rattle.mst_net.specs.Tables.{PortTree, port_tree_eq}
 use Rattle.mst_net.proofs.Keyed.{get_keyed}
 use Rattle.mst_net.proofs.Keys.{port_trees}
-use Rattle.mst_net.proofs.TreesListed.{trees_narrowed, cost_told}
+use Rattle.mst_net.proofs.TreesListed.{trees_narrowed, cost_told, no_trees, nothing_found}
 use Rattle.mst_net.proofs.tree_settings.TreeSettings.port_cost_trees.Goals as goal
 
 pub returns : goal.returns
@@ -20,3 +20,13 @@ returns c =
     let some = cost_told (fin.get set k) h in
     c.blocks_of-blocks.ensures t ∙ c.self.invariant.port_costs k some.0 (sym (get_keyed port_trees c.self.inside.port_costs.entries k) ∙ ap (λ n. fin.get n.set.port_costs k) c.self.view_is ∙ some.1) in
     subst (λ l. IfOk c.with_port_cost.result (λ trees. trees.items ≡ l)) (ap (filter test) (c.deref.ensures.value ∙ c.in_ok-trees.ensures) ∙ trees_narrowed test (in_block c.blocks_of-blocks.result) marked) c.with_port_cost.ensures
+
+pub returns-then-is_empty : goal.returns-then-is_empty
+returns-then-is_empty c =
+    let port = c.args.port.now in
+    let none = c.is_empty.ensures.0 c.if-is_empty.true in
+    let fails : (t : ℕ) → is_some (port_cost_in c.args.self.now.set.port_costs port t) ≡ false = λ t.
+    let key : PortTree = record { port = port; tree = t } in
+    ap (λ n. is_some (port_cost_in n.set.port_costs port t)) (sym c.self.view_is)
+    ∙ ap is_some (get_keyed port_trees c.self.inside.port_costs.entries key ∙ nothing_found (port_tree_eq key) c.self.inside.port_costs.entries none) in
+    c.new.ensures.items ∙ sym (no_trees (λ t. is_some (port_cost_in c.args.self.now.set.port_costs port t)) fails)
