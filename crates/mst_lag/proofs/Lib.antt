@@ -8,3 +8,10 @@ pub mod Steps
 pub mod Placing
 pub mod Rising
 pub mod TreesOf
+pub mod Renewal
+pub mod LanAlone
+pub mod RenewedBridge
+pub mod BridgeAlone
+pub mod SetAlone
+pub mod RenewedPort
+pub mod PortAlone

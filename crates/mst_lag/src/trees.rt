@@ -91,6 +91,6 @@ fn trees_of_bridge<C: Contents>(
 {
     match bridge.bridge.kind {
         Kind::Rstp => Ok(Vec::new(alloc)),
-        Kind::Mstp => contents.table(&bridge.name).mstis(alloc),
+        Kind::Mstp => contents.mstis(&bridge.name, alloc),
     }
 }
