@@ -16,9 +16,15 @@ use Rattle.mst_sweep.specs.declared.failure.Failure.{Failure}
 use Rattle.mst_sweep.specs.declared.failure.Failure.TheVariants.{Lan, Bridge}
 use Rattle.mst_sweep.specs.Failures.{edit_of, failures}
 use Rattle.mst_sweep.specs.SweepText.{Told, IsTold, IsSweep, sweep_line}
-use Rattle.mst_report.specs.Kept.{IsPlan}
-use Rattle.mst_report.specs.Sweeping.{AreTold, IsFailedPlan}
-use Rattle.mst_report.specs.declared.plan.Plan.{Plan}
+use Rattle.mst_lang.specs.declared.line.BridgeChange.TheVariants.{Power}
+use Rattle.mst_lang.specs.declared.line.LanChange.TheVariants.{State}
+use Rattle.mst_lang.specs.declared.line.Power.TheVariants.{Off}
+use Rattle.mst_lang.specs.declared.line.LanState.TheVariants.{Down}
+use Rattle.mst_lag.specs.Viewed.{Viewed, IsView}
+use Rattle.mst_lag.proofs.LanAlone as lan_alone
+use Rattle.mst_lag.proofs.BridgeAlone as bridge_alone
+use Rattle.mst_report.specs.Kept.{AreTrees}
+use Rattle.mst_report.specs.Sweeping.{AreTold, AreFailed, IsViewBut}
 
 -- what is as it was stays so
 pub same_then : (a b c : Contents) → SameContents a b → SameContents b c → SameContents a c
@@ -88,6 +94,14 @@ untouched : (f : Failure) → touches_regions (edit_of f) ≡ false
 untouched (Lan lan) = refl
 untouched (Bridge bridge) = refl
 
+alone_ahead : (f : Failure) (net : Net) (numbers : Numbers) (next : PerKind) (v : Viewed) → IsView net numbers v → IsViewBut f (effect (edit_of f) net) (numbers_after (edit_of f) next numbers) v
+alone_ahead (Lan lan) net numbers next v view = lan_alone.alone_ahead lan (State Down) net numbers v view
+alone_ahead (Bridge bridge) net numbers next v view = bridge_alone.alone_ahead bridge (Power Off) net numbers v refl view
+
+alone_back : (f : Failure) (net : Net) (numbers : Numbers) (next : PerKind) (v : Viewed) → IsView (effect (edit_of f) net) (numbers_after (edit_of f) next numbers) v → IsViewBut f net numbers v
+alone_back (Lan lan) net numbers next v view = lan_alone.alone_back lan (State Down) net numbers v view
+alone_back (Bridge bridge) net numbers next v view = bridge_alone.alone_back bridge (Power Off) net numbers v refl view
+
 module _ (old now : Contents) (f : Failure) (same : SameContents old now) where
   pub regions_ahead : ((edit : Edit) (net : Net) (numbers : Numbers) (next : PerKind) (region_ids : List (ℕ × ℕ)) → touches_regions edit ≡ false → AreRegions net numbers region_ids → AreRegions (effect edit net) (numbers_after edit next numbers) region_ids)
       → (region_ids : List (ℕ × ℕ)) → AreRegions old.net old.numbers region_ids → AreRegions (effect (edit_of f) now.net) (numbers_after (edit_of f) now.next now.numbers) region_ids
@@ -96,10 +110,24 @@ module _ (old now : Contents) (f : Failure) (same : SameContents old now) where
       let numbers_is : old.numbers ≡ now.numbers = sym same.numbers in
       stay (edit_of f) now.net now.numbers now.next region_ids (untouched f) (subst (λ (t : Tables). AreRegions t.net t.numbers region_ids) (λ i. record { net = net_is i; numbers = numbers_is i }) are)
 
-  pub failed_is : refusal_of (edit_of f) now.net ≡ None → (plan : Plan) → IsPlan (effect (edit_of f) now.net) (numbers_after (edit_of f) now.next now.numbers) plan → IsFailedPlan old.net f plan
-  failed_is accepted plan is = record {
+  here : {X : Type 0} (P : Net → Numbers → X → Type 0) (x : X) → P old.net old.numbers x → P now.net now.numbers x
+  here P x h = subst (λ (t : Tables). P t.net t.numbers x) (λ i. record { net = sym same.net i; numbers = sym same.numbers i }) h
+
+  -- the view before is that of the network that failed, but for what fails
+  pub seen_ahead : (v : Viewed) → IsView old.net old.numbers v → IsViewBut f (effect (edit_of f) now.net) (numbers_after (edit_of f) now.next now.numbers) v
+  seen_ahead v view = alone_ahead f now.net now.numbers now.next v (here IsView v view)
+
+  -- and the one after that of the network, but for what failed
+  pub seen_back : (new : Contents) → SameContents now new → (v : Viewed) → IsView (effect (edit_of f) now.net) (numbers_after (edit_of f) now.next now.numbers) v → IsViewBut f new.net new.numbers v
+  seen_back new after v view =
+      subst (λ (t : Tables). IsViewBut f t.net t.numbers v) (λ i. record { net = sym after.net i; numbers = sym after.numbers i }) (alone_back f now.net now.numbers now.next v view)
+
+  pub failed_is : refusal_of (edit_of f) now.net ≡ None → (v : Viewed) (region_ids : List (ℕ × ℕ)) (trees : Forest)
+      → AreTrees (effect (edit_of f) now.net) (numbers_after (edit_of f) now.next now.numbers) v region_ids trees → AreFailed old.net f v trees
+  failed_is accepted v region_ids trees are = record {
     failed = effect (edit_of f) now.net;
     numbers = numbers_after (edit_of f) now.next now.numbers;
     made = ap (after (edit_of f)) (sym same.net) ∙ ap (λ r. option_map_or Err r (Ok (effect (edit_of f) now.net))) accepted;
-    is_plan = is;
+    of = are.of;
+    forest = are.forest;
   }

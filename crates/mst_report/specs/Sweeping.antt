@@ -7,8 +7,11 @@ use Rattle.mst_trees.specs.Outcome.{Outcome, IsOutcome}
 use Rattle.mst_sweep.specs.declared.failure.Failure.{Failure}
 use Rattle.mst_sweep.specs.Failures.{edit_of}
 use Rattle.mst_sweep.specs.SweepText.{Told, IsTold, IsSweep}
-use Rattle.mst_report.specs.Kept.{IsPlan}
-use Rattle.mst_report.specs.declared.plan.Plan.{Plan}
+use Rattle.mst_sweep.specs.declared.failure.Failure.TheVariants.{Lan, Bridge}
+use Rattle.mst_lag.specs.Viewed.{Viewed}
+use Rattle.mst_lag.specs.Renewed.{IsViewButLan, IsViewButBridge}
+use Rattle.mst_trees.specs.Agrees.{AreOf}
+use Rattle.mst_trees.specs.Forest.{Forest, IsForest}
 
 -- this is the text of what each single failure does, and this the number of those that cut some VID, by a settled outcome
 -- of the network
@@ -24,9 +27,15 @@ pub record AreTold (net : Net) (o : Outcome) (failures : List Failure) (cuts : �
   pub counted : cuts ≡ count_by (λ t. t.cuts) told
   pub is : text ≡ flat_map (λ t. t.text) told
 
--- the plan is that of the network that a failure makes
-pub record IsFailedPlan (net : Net) (failure : Failure) (p : Plan) : Type 0 where
+-- the trees, by this view, are those of the network that a failure makes
+pub record AreFailed (net : Net) (failure : Failure) (v : Viewed) (f : Forest) : Type 0 where
   pub failed : Net
   pub numbers : Numbers
   pub made : after (edit_of failure) net ≡ Ok failed
-  pub is_plan : IsPlan failed numbers p
+  pub of : AreOf failed numbers v f.regions
+  pub forest : IsForest failed numbers f
+
+-- it is the view of a network that differs from this one in what fails at most
+abbrev pub IsViewBut : Failure → Net → Numbers → Viewed → Type 0
+IsViewBut (Lan lan) net numbers v = IsViewButLan lan net numbers v
+IsViewBut (Bridge bridge) net numbers v = IsViewButBridge bridge net numbers v

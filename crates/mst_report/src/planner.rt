@@ -8,7 +8,7 @@ ghost use Rattle.mst_lag.specs.Viewed.{IsView};
 ghost use Rattle.mst_report.specs.Sweeping.{Sweeps};
 
 use crate::laws::entries_of_network;
-use crate::plan::{Plan, next_plan};
+use crate::plan::{Plan, next_plan, renew_plan, settle_plan};
 use crate::sweeping::{Sweep, sweep_network};
 use mst_changes::Entries;
 use mst_config::laws::regions_stay;
@@ -34,6 +34,8 @@ pub struct Planner {
     is_settled: bool,
     // The plan's regions are, if there is a plan: no edit since has touched one.
     regions_stand: bool,
+    // And the plan's view is: each edit since was one for which it was renewed.
+    view_stands: bool,
     // What is kept of the marked network, if one was marked.
     mark: Option<Entries>,
 }
@@ -47,6 +49,7 @@ impl Drop for Planner {
             plan: _,
             is_settled: _,
             regions_stand: _,
+            view_stands: _,
             mark: _,
         } = self;
     }
@@ -62,11 +65,11 @@ impl Model for Planner {
 
     ghost coded = { Prim.hlevel (codes, contents_code) };
 
-    ghost use Rattle.mst_report.specs.Kept.{HasPlan, HasRegions, HasMark, mark_entries, standing_in};
+    ghost use Rattle.mst_report.specs.Kept.{HasPlan, HasRegions, HasView, HasMark, mark_entries, standing_in};
 
     ghost view = { λ p. record { contents = p.network; is_settled = p.is_settled; standing = standing_in p.plan; mark = mark_entries p.mark } };
 
-    ghost invariant = { λ p. HasPlan p.network.net p.network.numbers p.is_settled p.plan × HasMark p.mark × HasRegions p.network.net p.network.numbers p.regions_stand p.plan };
+    ghost invariant = { λ p. HasPlan p.network.net p.network.numbers p.is_settled p.plan × HasMark p.mark × HasRegions p.network.net p.network.numbers p.regions_stand p.plan × HasView p.network.net p.network.numbers p.view_stands p.plan };
 }
 
 impl Planner {
@@ -86,6 +89,7 @@ impl Planner {
             plan: None,
             is_settled: false,
             regions_stand: false,
+            view_stands: false,
             mark: None,
         }
     }
@@ -157,9 +161,19 @@ impl Planner {
         let stand = self.regions_stand && !touches_regions(edit);
         match self.network.prepare(edit) {
             Ok(ready) => {
+                self.network.known();
                 self.network.commit(ready);
+                let view_stands = renew_plan(
+                    self.alloc,
+                    &self.network,
+                    &mut self.plan,
+                    self.is_settled,
+                    self.view_stands,
+                    edit,
+                );
                 self.is_settled = false;
                 self.regions_stand = stand;
+                self.view_stands = view_stands;
                 Ok(())
             }
             Err(refusal) => Err(refusal),
@@ -179,10 +193,16 @@ impl Planner {
         if self.is_settled {
             return Ok(());
         }
-        let plan = next_plan(self.alloc, &self.network, &self.plan, self.regions_stand)?;
-        self.plan = Some(plan);
+        settle_plan(
+            self.alloc,
+            &self.network,
+            &mut self.plan,
+            self.regions_stand,
+            self.view_stands,
+        )?;
         self.is_settled = true;
         self.regions_stand = true;
+        self.view_stands = true;
         Ok(())
     }
 
@@ -211,6 +231,7 @@ impl Planner {
                 self.plan = Some(plan);
                 self.is_settled = true;
                 self.regions_stand = true;
+                self.view_stands = true;
                 Ok(())
             }
             Err(_) => {

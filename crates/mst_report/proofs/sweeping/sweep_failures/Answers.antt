@@ -27,6 +27,7 @@ loop-failure-preserved c =
           (take (i + 1) fs) (take_more fs i f c.loop-failure-test.true ∙ ap (λ x. take i fs ++ x ∷ []) (sym c.failure-item.is))
           c.if-branch.cuts cuts_are whole told.2;
       few = omega (arith, cuts_are, before.few, counts_few cut);
+      seen = made.seen;
     }
 
 pub returns-clause-told : goal.returns-clause-told

@@ -1,5 +1,6 @@
 use Rattle.std.proofs.Common.{◌≤◌, take}
 use Rattle.mst_net.specs.Contents.{SameContents}
+use Rattle.mst_lag.specs.Viewed.{IsView}
 use Rattle.mst_trees.specs.Forest.{IsForest}
 use Rattle.mst_report.specs.Sweeping.{AreTold}
 use Rattle.mst_report.proofs.sweeping.sweep_failures.Given as goal
@@ -10,4 +11,5 @@ invariant-loop-failure l = record {
   same : SameContents l.fn.network l.network;
   told : (is : IsForest l.fn.network.net l.fn.network.numbers l.plan.forest) → AreTold l.fn.network.net is.outcome (take l.failure-index l.failures) l.cuts l.text.items;
   few : l.cuts ≤ l.failure-index;
+  seen : IsView l.network.net l.network.numbers l.seen;
 }
