@@ -11,7 +11,7 @@ use itoa::Buffer;
 use mst_ids::{Vid, push_line};
 use mst_lag::View;
 use mst_trees::Forest;
-use mst_vlan::{active_ports, reach};
+use mst_vlan::{active_ports, reach_from};
 use std::alloc::{AllocError, Global};
 
 /// Appends the text of a VID: a heading, and then its body.
@@ -60,6 +60,6 @@ pub fn push_body(
 {
     let ports = active_ports(alloc, view, forest, vid)?;
     push_active(view, vid, ports.as_slice(), out)?;
-    let islands = reach(alloc, view, forest, vid)?;
+    let islands = reach_from(alloc, view, forest, ports.as_slice(), vid)?;
     push_islands(alloc, view, islands.as_slice(), out)
 }

@@ -7,5 +7,5 @@ mod reaching;
 mod topology;
 
 pub use island::{BridgeList, Island, LanList};
-pub use reaching::{is_member, reach};
+pub use reaching::{is_member, reach, reach_from};
 pub use topology::{active, active_ports};

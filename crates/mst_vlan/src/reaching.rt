@@ -1,17 +1,17 @@
-ghost use Rattle.std.specs.Prelude.{◌≡◌, IfOk, map};
+ghost use Rattle.std.specs.Prelude.{◌≡◌, IfOk, map, filter};
 ghost use Rattle.mst_graph.specs.Islands.{AreIslands};
 ghost use Rattle.mst_ids.specs.Vids.{has};
 ghost use Rattle.mst_net.specs.Tables.{Net, Numbers};
 ghost use Rattle.mst_trees.specs.Agrees.{AreOf, Known};
 ghost use Rattle.mst_trees.specs.Forest.{IsForest};
 ghost use Rattle.mst_vlan.specs.Reach.{AreReached};
-ghost use Rattle.mst_vlan.specs.Seen.{seen_bridges, seen_lans, seen_member, seen_links, as_island};
+ghost use Rattle.mst_vlan.specs.Seen.{seen_active, seen_bridges, seen_lans, seen_link, seen_member, seen_links, as_island};
 
 use crate::island::{BridgeList, Island, LanList};
+use crate::topology::active_ports;
 use mst_graph::{Link, islands};
 use mst_ids::{BridgeNo, LanNo, Vid};
 use mst_lag::{PortInView, View};
-use mst_roles::port_forwards;
 use mst_trees::Forest;
 use std::alloc::{AllocError, Global};
 
@@ -44,13 +44,17 @@ pub fn is_member(view: &View, port: &PortInView, vid: Vid) -> bool
     view.settings().is_member(&port.name, vid)
 }
 
-/// The links of the active ports that are members of the VLAN.
-fn links(alloc: Global, view: &View, forest: &Forest, vid: Vid) -> Result<Vec<Link>, AllocError>
-    ensures { IfOk result (λ links. links.items ≡ seen_links view.now forest.now vid) }
+/// The links of those of these active ports that are members of the VLAN.
+fn links(
+    alloc: Global,
+    view: &View,
+    active: &[PortInView],
+    vid: Vid,
+) -> Result<Vec<Link>, AllocError>
+    ensures { IfOk result (λ links. links.items ≡ map seen_link (filter (seen_member view.now vid) active.now)) }
 {
-    view.ports()
+    active
         .iter()
-        .filter(|port| port_forwards(view, forest, port, vid))
         .filter(|port| is_member(view, port, vid))
         .map(|port| Link {
             bridge: port.bridge,
@@ -59,19 +63,21 @@ fn links(alloc: Global, view: &View, forest: &Forest, vid: Vid) -> Result<Vec<Li
         .collect(alloc)
 }
 
-/// What the links join.
+/// What the links of these active ports join.
 fn joined(
     alloc: Global,
     view: &View,
     forest: &Forest,
+    active: &[PortInView],
     vid: Vid,
 ) -> Result<Vec<mst_graph::Island>, AllocError>
-    requires { Known view.now forest.now.regions }
+    requires known { Known view.now forest.now.regions }
+    requires active { active.now ≡ seen_active view.now forest.now vid }
     ensures { IfOk result (λ joined. AreIslands (seen_bridges view.now) (seen_lans view.now) (seen_links view.now forest.now vid) joined.items) }
 {
     let bridges = bridges_on(alloc, view)?;
     let lans = lans_up(alloc, view)?;
-    let links = links(alloc, view, forest, vid)?;
+    let links = links(alloc, view, active, vid)?;
     islands(alloc, bridges.as_slice(), lans.as_slice(), links.as_slice())
 }
 
@@ -101,6 +107,23 @@ pub fn reach(
     requires { Known view.now forest.now.regions }
     ensures { IfOk result (λ islands. (net : Net) (numbers : Numbers) (is : IsForest net numbers forest.now) → AreOf net numbers view.now forest.now.regions → AreReached net numbers is.outcome vid islands.items) }
 {
-    let joined = joined(alloc, view, forest, vid)?;
+    let active = active_ports(alloc, view, forest, vid)?;
+    reach_from(alloc, view, forest, active.as_slice(), vid)
+}
+
+/// The islands of a VID, as `reach` gives them, where these are its active ports. `AllocError`: memory was wanted and
+/// refused.
+pub fn reach_from(
+    alloc: Global,
+    view: &View,
+    forest: &Forest,
+    active: &[PortInView],
+    vid: Vid,
+) -> Result<Vec<Island>, AllocError>
+    requires known { Known view.now forest.now.regions }
+    requires active { active.now ≡ seen_active view.now forest.now vid }
+    ensures { IfOk result (λ islands. (net : Net) (numbers : Numbers) (is : IsForest net numbers forest.now) → AreOf net numbers view.now forest.now.regions → AreReached net numbers is.outcome vid islands.items) }
+{
+    let joined = joined(alloc, view, forest, active, vid)?;
     listed(alloc, joined.as_slice())
 }

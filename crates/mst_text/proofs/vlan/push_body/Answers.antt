@@ -18,6 +18,6 @@ returns c net numbers is of =
     (λ e. (
       first ++ rest,
       is_body net numbers v c.args.forest.now of is vid islands (c.in_ok-islands.ensures net numbers is of),
-      e ∙ ap (λ islands. c.push_active.new.out.items ++ flat_map (seen_island_line v) islands) c.as_slice-2.ensures.value ∙ ap (λ t. t ++ rest) appended ∙ append_assoc c.args.out.now.items first rest,
+      e ∙ ap (λ islands. c.push_active.new.out.items ++ flat_map (seen_island_line v) islands) c.as_slice-3.ensures.value ∙ ap (λ t. t ++ rest) appended ∙ append_assoc c.args.out.now.items first rest,
     ))
     c.push_islands.ensures
