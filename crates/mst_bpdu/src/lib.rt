@@ -30,6 +30,3 @@ pub use messages::MstiMessages;
 pub use planned::{Planned, PlannedCist, PlannedMsti, PlannedMstis};
 pub use read::read_line;
 pub use text::{push_comparison, push_fault};
-
-#[cfg(test)]
-mod tests;

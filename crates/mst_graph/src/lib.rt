@@ -19,6 +19,3 @@ pub use island::Island;
 pub use joining::islands;
 pub use keys::{Numbering, number_keys};
 pub use node::Link;
-
-#[cfg(test)]
-mod tests;

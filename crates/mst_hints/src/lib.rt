@@ -18,6 +18,3 @@ mod words;
 
 pub use hint::push_hint;
 pub use script::ScriptHints;
-
-#[cfg(test)]
-mod tests;

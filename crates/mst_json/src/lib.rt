@@ -14,6 +14,3 @@ mod split;
 mod value;
 
 pub use answer::push_answer;
-
-#[cfg(test)]
-mod tests;

@@ -17,6 +17,3 @@ mod places;
 mod tree;
 
 pub use notes::push_notes;
-
-#[cfg(test)]
-mod tests;

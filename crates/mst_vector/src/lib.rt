@@ -10,6 +10,3 @@ mod msti;
 pub use cist::{CistBridge, CistMetric, CistPort, CistVector};
 pub use metric::Metric;
 pub use msti::{MstiBridge, MstiMetric, MstiPort, MstiVector};
-
-#[cfg(test)]
-mod tests;

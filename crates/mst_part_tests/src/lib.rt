@@ -1,0 +1,5 @@
+//! Tests of parts that know no planner: graphs, digests, priority vectors, BPDUs, hints, JSON, and what is saved.
+#![tactic(auto)]
+
+#[cfg(test)]
+mod tests;

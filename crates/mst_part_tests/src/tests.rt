@@ -1,0 +1,7 @@
+mod bpdu;
+mod config;
+mod graph;
+mod hints;
+mod json;
+mod save;
+mod vector;
