@@ -1,11 +1,17 @@
 #!/usr/bin/env python3
 """Lists what must be believed: the definitions that the contracts of some calls rest on, in an order to read them.
 
-usage: reading.py [CRATE::MODULE::FUNCTION[/CLAUSE] ...]    (the calls of docs/READING.md if left out)
+usage: reading.py [--besides] [CRATE::MODULE::FUNCTION[/CLAUSE] ...]    (the calls of docs/READING.md if left out)
+       reading.py --check docs/READING.md
+       reading.py --update docs/READING.md
 
 It follows names from the clauses of these functions through the `specs/` of this repository, definition by definition: a
 definition is what stands between two blank lines. Types that the code declares (`specs.declared`) are read in `src/`, and
-what the proved library defines isn't listed.
+what the proved library defines isn't listed. With --besides it leaves out what the calls of docs/READING.md rest on.
+
+--check compares the lists of a page with what is so now, and its steps "Where to begin" with the first list: each file is in
+one step, behind what it rests on, and the sizes are right. The status is 1 where something differs, or where a definition
+isn't seen, with a line for each fault. --update writes the lists and the sizes into the page.
 """
 
 import functools
@@ -14,10 +20,15 @@ import re
 import sys
 
 TOP = os.path.join(os.path.dirname(os.path.abspath(__file__)), os.pardir, "crates")
-CALLS = ["mst_tool::runs::run", "mst_tool::checks::check", "mst_vlan::topology::active/named", "mst_vlan::topology::active/joined"]
-IMPORT = re.compile(r"^ *(?:ghost )?use Rattle\.(\w+)\.specs\.([\w.]+?)(?:\.\{([^}]*)\}| as (\w+));?$", re.MULTILINE)
-DEFINED = re.compile(r"^ {0,2}(?:abbrev )?(?:pub )?(?:record |data )?([^\s:({]+)(?= .*:|$)")
+CALLS = ["mst_tool::runs::run", "mst_tool::checks::check", "mst_vlan::topology::active_ports/named", "mst_vlan::topology::active_ports/joined"]
+ASKED = ["mst_tool::asks::ask", "mst_tool::diffs::diff"]
+LOOPS = ["mst_vlan::laws::joined_without_loop"]
+IMPORT = re.compile(r"^ *(?:ghost )?use Rattle\.(\w+)\.specs\.([\w.]+?)(?:\.\{([^}]*)\}| as (\w+))?;?$", re.MULTILINE)
+KIND = "(?:abbrev|unfoldable|opaque|private) "
+# Four blanks stand before what is defined in a module that is in a module, and before the fields of records there.
+DEFINED = re.compile(rf"^(?: {{0,2}}|    (?={KIND}))(?:{KIND})*(?:pub )?(?:(?:record|data) )?([^\s:({{]+)(?= .*:|$)")
 TOKEN = re.compile(r"[^\s(){},;.]+")
+QUALIFIED = re.compile(r"([^\s(){},;.]+)\.([^\s(){},;.]+)")
 # What a person reads in a minute of definitions.
 LINES_A_MINUTE = 10
 
@@ -26,35 +37,52 @@ class Module:
     """A file of definitions: what it imports, by the name that it uses, and its parts with the names that each defines."""
 
     def __init__(self, text):
-        self.imported = imported(text)
+        self.imported, self.files = imported(text), files_of(text)
         self.parts, self.part_of, self.heads = [], {}, []
         for part in re.split(r"\n\s*\n", text):
             lines = [line for line in part.splitlines() if line and not re.match(r"(ghost )?use ", line)]
             told = [line for line in lines if not line.lstrip().startswith("--")]
-            self.heads += [line for line in told if line.startswith("module ")]
+            self.heads += [line for line in told if line.lstrip().startswith("module ")]
             if not told:
                 continue
             self.parts.append(lines)
             for line in told:
                 found = DEFINED.match(line)
-                if found and not line.startswith("module "):
+                if found and line not in self.heads:
                     self.part_of.setdefault(found.group(1).strip("◌"), len(self.parts) - 1)
 
 
+def imports(text):
+    """Each import from a crate's definitions: the crate, the file, the names that are listed, the name for the file."""
+    return [found for found in IMPORT.findall(text) if os.path.isdir(os.path.join(TOP, found[0])) and is_file(*found[:2])]
+
+
 def imported(text):
+    """The names that are imported: where each is defined, and its name there."""
     names = {}
-    for crate, module, listed, alias in IMPORT.findall(text):
-        if not os.path.isdir(os.path.join(TOP, crate)) or module.startswith("declared"):
-            continue
-        for it in listed.split(",") if listed else [alias]:
+    for crate, module, listed, _ in imports(text):
+        for it in listed.split(",") if listed else []:
             name, _, other = it.strip().partition(" as ")
             names[(other or name).strip("◌")] = (crate, module, name.strip("◌"))
     return names
 
 
+def files_of(text):
+    """The files that are imported under a name, by it; names in them are written behind it and a full stop."""
+    return {alias or module.split(".")[-1]: (crate, module) for crate, module, listed, alias in imports(text) if not listed}
+
+
+def path_of(crate, module):
+    return os.path.join(TOP, crate, "specs", *module.split(".")) + ".antt"
+
+
+def is_file(crate, module):
+    return not module.startswith("declared") and os.path.isfile(path_of(crate, module))
+
+
 @functools.cache
 def module_of(crate, module):
-    with open(os.path.join(TOP, crate, "specs", *module.split(".")) + ".antt", encoding="utf-8") as file:
+    with open(path_of(crate, module), encoding="utf-8") as file:
         return Module(file.read())
 
 
@@ -64,17 +92,31 @@ def clauses(call):
     crate, *modules, name = call.split("::")
     with open(os.path.join(TOP, crate, "src", *modules) + ".rt", encoding="utf-8") as file:
         text = file.read()
-    found = re.search(rf"^ *pub fn {name}\b.*?^ *\{{$", text, re.MULTILINE | re.DOTALL)
+    found = re.search(rf"^ *pub fn {name}\b.*?^ *\{{\}}?$", text, re.MULTILINE | re.DOTALL)
     if not found:
         sys.exit(f"no function {call}")
     said = found.group()
     if clause:
         said = "".join(re.findall(rf"^ *ensures {clause} \{{.*?\}}\n(?= *(?:ensures|requires|\{{))", said, re.MULTILINE | re.DOTALL))
+    if not said:
+        sys.exit(f"no clause {clause} of {call}")
     return text, said
 
 
+def told(lines):
+    """The lines without comments."""
+    return [line for line in lines if not line.lstrip().startswith("--")]
+
+
+def names_in(lines, known, files):
+    """What the lines name of what is imported, by name or behind the name of a file."""
+    text = "\n".join(told(lines))
+    found = {known[word] for word in words(lines) if word in known}
+    return found | {(*files[first], name.strip("◌")) for first, name in QUALIFIED.findall(text) if first in files}
+
+
 def words(lines):
-    return {token.strip("◌") for line in lines if not line.lstrip().startswith("--") for token in TOKEN.findall(line)}
+    return {token.strip("◌") for line in told(lines) for token in TOKEN.findall(line)}
 
 
 def follow(crate, module, name, seen, order):
@@ -84,12 +126,21 @@ def follow(crate, module, name, seen, order):
     if part is None or (crate, module, part) in seen:
         return
     seen.add((crate, module, part))
-    for word in sorted(words([*it.parts[part], *it.heads])):
-        if word in it.imported:
-            follow(*it.imported[word], seen, order)
-        elif word in it.part_of:
-            follow(crate, module, word, seen, order)
+    lines = [*it.parts[part], *it.heads]
+    of_this = {(crate, module, word) for word in words(lines) if word in it.part_of and word not in it.imported}
+    for found in sorted(names_in(lines, it.imported, it.files) | of_this):
+        follow(*found, seen, order)
     order.append((crate, module, len(it.parts[part])))
+
+
+def definitions(calls, seen):
+    """The definitions that these calls rest on and that weren't seen before, each with its crate, its file and its lines."""
+    order = []
+    for call in calls:
+        text, said = clauses(call)
+        for found in sorted(names_in(said.splitlines(), imported(text), files_of(text))):
+            follow(*found, seen, order)
+    return order
 
 
 def crates():
@@ -98,25 +149,147 @@ def crates():
         return [line.split(":")[0].strip() for line in file if ":" in line]
 
 
-def main():
-    seen, order = set(), []
-    for call in sys.argv[1:] or CALLS:
-        text, said = clauses(call)
-        of_file = imported(text)
-        for word in sorted(words(said.splitlines())):
-            if word in of_file:
-                follow(*of_file[word], seen, order)
-    lines_of = {}
+def in_order(crate, files):
+    """The files of a crate, each behind those that it imports."""
+    ordered = []
+
+    def add(module):
+        it = module_of(crate, module)
+        for other in sorted({found[1] for found in [*it.imported.values(), *it.files.values()] if found[0] == crate}):
+            add(other)
+        if module in files and module not in ordered:
+            ordered.append(module)
+
+    for module in files:
+        add(module)
+    return ordered
+
+
+def lines_of(order):
+    """How many lines of each file count, by crate and file, both in an order to read them."""
+    counted = {}
     for crate, module, lines in order:
-        files = lines_of.setdefault(crate, {})
+        files = counted.setdefault(crate, {})
         files[module] = files.get(module, 0) + lines
-    for crate in crates():
-        files = lines_of.get(crate, {})
-        if files:
-            print(f"- `{crate}`, {sum(files.values())} lines: {', '.join(f'`{it}` {lines}' for it, lines in files.items())}")
+    return {crate: {it: counted[crate][it] for it in in_order(crate, counted[crate])} for crate in crates() if crate in counted}
+
+
+def listing(order):
+    """The list as it is printed: a line for each crate, and how much it is in all."""
+    counted = lines_of(order)
+    for crate, files in counted.items():
+        yield f"- `{crate}`, {sum(files.values())} lines: {', '.join(f'`{it}` {lines}' for it, lines in files.items())}"
     total = sum(lines for _, _, lines in order)
-    count = sum(len(files) for files in lines_of.values())
-    print(f"\n{len(order)} definitions in {count} files, {total} lines, some {round(total / LINES_A_MINUTE / 5) * 5} minutes.")
+    count = sum(len(files) for files in counted.values())
+    yield f"{len(order)} definitions in {count} files, {total} lines, some {minutes(total)} minutes."
+
+
+def minutes(lines):
+    return round(lines / LINES_A_MINUTE / 5) * 5
+
+
+# ---- a page with lists
+
+STEP = re.compile(r"^\d+\. ((?:`mst_\w+`:\s+(?:`\w+`(?:,\s+)?)+(?:;\s+)?)+)\s+\((\d+ lines, \d+ minutes)\)", re.MULTILINE)
+LIST = re.compile(r"(?:^- `mst_\w+`, \d+ lines: .*\n)+\n^\d+ definitions in .*\.$", re.MULTILINE)
+
+
+def lists():
+    """The lists of docs/READING.md: that of the loops, the first one, and what is asked besides; and the lines of the first."""
+    seen = set()
+    first = definitions(CALLS, seen)
+    orders = [definitions(LOOPS, set()), first, definitions(ASKED, seen)]
+    return [as_text(order) for order in orders], lines_of(first)
+
+
+def as_text(order):
+    *lines, total = listing(order)
+    return "\n".join(lines) + "\n\n" + total
+
+
+def files_in(step):
+    """The files of a step: of each crate that it names those behind it."""
+    for of_crate in step.split(";"):
+        crate, *modules = re.findall(r"`(\w+)`", of_crate)
+        yield from ((crate, module) for module in modules)
+
+
+def size_of(step, counted):
+    lines = sum(counted.get(crate, {}).get(module, 0) for crate, module in files_in(step))
+    return f"{lines} lines, {round(lines / LINES_A_MINUTE)} minutes"
+
+
+def updated(text):
+    """A page with its lists and the sizes of its steps as they are now."""
+    made, counted = lists()
+    left = iter(made)
+    text = LIST.sub(lambda found: next(left, found.group()), text)
+    return STEP.sub(lambda found: found[0].replace(found[2], size_of(found[1], counted)), text)
+
+
+def faults(text):
+    """What is wrong with a page: each line that differs, and steps that don't have each file of the first list once, in order."""
+    for stands, wanted in zip(text.splitlines(), updated(text).splitlines()):
+        if stands != wanted:
+            yield f"there stands: {stands}"
+            yield f"and it is: {wanted}"
+    made, counted = lists()
+    if len(LIST.findall(text)) != len(made):
+        yield f"it has {len(LIST.findall(text))} lists, and not {len(made)}"
+    steps = [file for step, _ in STEP.findall(text) for file in files_in(step)]
+    listed = [(crate, module) for crate, files in counted.items() for module in files]
+    yield from (f"not in one step: {crate}/{module}" for crate, module in sorted(set(steps) ^ set(listed)))
+    yield from (f"in two steps: {crate}/{module}" for crate, module in sorted({file for file in steps if steps.count(file) > 1}))
+    yield from (f"{'/'.join(file)} stands before {'/'.join(below)}" for file, below in turned(steps))
+    yield from unseen()
+
+
+def turned(steps):
+    """Files that stand before one that they rest on."""
+    for place, (crate, module) in enumerate(steps):
+        it = module_of(crate, module)
+        rests = {found[:2] for found in [*it.imported.values(), *it.files.values()]}
+        yield from (((crate, module), below) for below in steps[place + 1:] if below in rests)
+
+
+def unseen():
+    """Names that a file of definitions imports, and that this program doesn't see where they are defined."""
+    for folder, _, names in sorted(os.walk(TOP)):
+        for name in sorted(names):
+            if name.endswith(".antt") and os.sep + "specs" in folder:
+                with open(os.path.join(folder, name), encoding="utf-8") as file:
+                    found = imported(file.read()).values()
+                lost = (it for it in found if it[2] not in module_of(*it[:2]).part_of)
+                yield from (f"not seen: {'/'.join(it)}" for it in lost)
+
+
+def of_page(given):
+    """Checks a page, or brings it up to what is so."""
+    option, page = given
+    with open(page, encoding="utf-8") as file:
+        text = file.read()
+    if option == "--update":
+        with open(page, "w", encoding="utf-8") as file:
+            file.write(updated(text))
+        return
+    found = list(faults(text))
+    for fault in found:
+        print(f"{page}: {fault}")
+    sys.exit(1 if found else 0)
+
+
+def main():
+    given = sys.argv[1:]
+    if given[:1] in (["--check"], ["--update"]) and len(given) == 2:
+        of_page(given)
+        return
+    seen = set()
+    if given[:1] == ["--besides"]:
+        definitions(CALLS, seen)
+        given = given[1:] or ASKED
+    if any(word.startswith("-") for word in given):
+        sys.exit(__doc__)
+    print(as_text(definitions(given or CALLS, seen)))
 
 
 if __name__ == "__main__":
