@@ -1,13 +1,12 @@
 #!/usr/bin/env python3
-"""Runs the built program on a table of cases, and compares the exit status and both outputs of each; and then on one
-script that is large in each way: 74,756 lines, a network as large as one may be, and an answer of a megabyte.
+"""Runs the built program on a table of cases, and compares the exit status and both outputs of each; and then on what is large in
+each way (large_runs.py): networks as large as they may be, long scripts, answers of megabytes.
 
 usage: check-program.py PROGRAM
 
 The gate runs it on the program that it has built (.ci/run).
 """
 
-import heapq
 import json
 import os
 import pty
@@ -19,9 +18,9 @@ import tempfile
 HERE = os.path.dirname(os.path.abspath(__file__))
 # nothing is to be left beside the script that is imported
 sys.dont_write_bytecode = True
-sys.path.insert(0, os.path.join(HERE, "bench"))
+sys.path.insert(0, HERE)
 
-import load  # noqa: E402
+import large_runs  # noqa: E402
 
 # Any text that has a usage line.
 USAGE = object()
@@ -537,6 +536,17 @@ def cases(folder):
     ]
 
 
+def word_cases(folder):
+    """The program's words as the system gives them: long ones, and bytes that are no text."""
+    long = os.path.join(folder, "a" * 300)
+    no_text = b"error: a word isn't text in UTF-8\n"
+    return [
+        ("a name of 300 bytes", ["run", long], b"", 3, b"", f"mstplan: cannot open {long}\n".encode()),
+        ("a name that isn't UTF-8", ["run", b"\xff"], b"", 2, b"", no_text),
+        ("a command that isn't UTF-8", [b"r\xffn"], b"", 2, b"", no_text),
+    ]
+
+
 # A script whose lines are refused in each way that has a hint, and one that hasn't. What is printed is that of the rules.
 HINTED = b"""addbrigde dist1 02:00:00:00:00:01
 settreeprio B 0
@@ -729,8 +739,8 @@ INVITED = b"mstplan: reading a script from the terminal, until Ctrl-D; --help te
 
 
 def check_closed(program, folder, words, closed, status, out, err):
-    """Standard devices that are closed when the program is started. `closed` is what a shell writes for that."""
-    words = [os.path.join(folder, word) if word in ("script", "captures") else word for word in words]
+    """Standard devices that are closed, or full, when the program is started. `closed` is what a shell writes for that."""
+    words = [os.path.join(folder, word) if word in ("script", "captures", "hinted.script") else word for word in words]
     shell = ["sh", "-c", 'exec "$0" "$@" ' + closed, program] + words
     ran = subprocess.run(shell, stdin=subprocess.DEVNULL, stdout=subprocess.PIPE, stderr=subprocess.PIPE, timeout=60)
     if (ran.returncode, ran.stdout, ran.stderr) == (status, out, err):
@@ -760,6 +770,12 @@ def closed_cases():
     ]
 
 
+def failing_hints():
+    """Hints that can't be written: the run is as ever, and the status tells it."""
+    words = ["run", "--hints", "hinted.script"]
+    return [(words, "2>&-", 3, HINTED_RUN, b""), (words, "2>/dev/full", 3, HINTED_RUN, b"")]
+
+
 def check_sample(program):
     """What captures.py makes of a sample of tcpdump, compared with the plan of its network."""
     maker = [sys.executable, os.path.join(HERE, "captures.py"), os.path.join(HERE, "triangle.tcpdump")]
@@ -772,52 +788,20 @@ def check_sample(program):
     return False
 
 
-COST = 20001
-
-
-def large_script():
-    """A network with as many bridges, ports and LANs as there may be, then edits, one more of each, and a tree."""
-    yield from load.load(load.BRIDGES)
-    for cost in (1, COST):
-        for i in range(load.BRIDGES):
-            for port in range(1, load.PORTS_EACH + 1):
-                yield f"setportpathcost B{i:04} {port} {cost}"
-    yield from ("addbridge X 02:00:00:00:ff:ff", "addport B0000 17", "addlan X", "showtree 0")
-
-
-def distances():
-    """What a path from the least bridge costs each bridge, where each port costs the same."""
-    near = [set() for _ in range(load.BRIDGES)]
-    for i in range(load.BRIDGES):
-        for k in range(1, load.LANS_EACH + 1):
-            near[i].add((i + k) % load.BRIDGES)
-            near[(i + k) % load.BRIDGES].add(i)
-    costs, queue = {0: 0}, [(0, 0)]
-    while queue:
-        cost, i = heapq.heappop(queue)
-        for k in near[i]:
-            if k not in costs:
-                costs[k] = cost + COST
-                heapq.heappush(queue, (costs[k], k))
-    return costs
-
-
-def check_large(program):
-    """No line is refused but those beyond the limits, and each bridge has the root and the cost that a plain search finds."""
-    lines = list(large_script())
-    ran = run(program, ["run", "-"], "".join(line + "\n" for line in lines).encode(), seconds=600)
-    told = ran.stdout.decode().splitlines()
-    first = len(lines) - 3
-    expected = [f"line {first + i} E14 limit" for i in range(3)] + ["tree 0"]
-    costs = distances()
-    bridges = [line.split() for line in told if line.startswith("bridge ")]
-    ports = sum(line.startswith("port ") for line in told)
-    named = [(words[1], words[4], int(words[6])) for words in bridges]
-    wanted = [(f"B{i:04}", "8000.02:00:00:00:00:00", costs[i]) for i in range(load.BRIDGES)]
-    is_whole = len(told) == 4 + load.BRIDGES * (1 + load.PORTS_EACH) and ports == load.BRIDGES * load.PORTS_EACH
-    if ran.returncode == 1 and ran.stderr == b"" and told[:4] == expected and is_whole and named == wanted:
+def check_pipe(program, folder, words):
+    """Hints of a script in a named pipe, which can't be read twice: the words are wrong, and nothing waits for the pipe."""
+    pipe = os.path.join(folder, "pipe")
+    if not os.path.exists(pipe):
+        os.mkfifo(pipe)
+    words = [pipe if word == "pipe" else word for word in words]
+    try:
+        ran = run(program, words, b"", seconds=10)
+    except subprocess.TimeoutExpired:
+        print(f"FAILED {words}: it waits for the pipe")
+        return False
+    if (ran.returncode, ran.stdout) == (2, b"") and ran.stderr.strip():
         return True
-    print(f"FAILED a large script: status {ran.returncode}, {len(told)} lines, {told[:6]}, {ran.stderr[:200]!r}")
+    print(f"FAILED {words}: status {ran.returncode}, {ran.stdout[:200]!r}, {ran.stderr[:200]!r}")
     return False
 
 
@@ -826,7 +810,7 @@ def main():
         sys.exit(__doc__)
     program = os.path.abspath(sys.argv[1])
     with tempfile.TemporaryDirectory() as folder:
-        passed = [check(program, *case) for case in cases(folder) + asked_cases(folder) + flag_cases(folder)]
+        passed = [check(program, *case) for case in cases(folder) + word_cases(folder) + asked_cases(folder) + flag_cases(folder)]
         passed += [
             check_full(program, [], b"showtree 0\n"),
             check_full(program, ["check", "-", os.devnull], b"showtree 0\n"),
@@ -840,9 +824,11 @@ def main():
             check_terminal(program, [], b"", 0, b"", INVITED),
             check_terminal(program, ["run", "-"], b"no\n", 1, REFUSED, b""),
             check_sample(program),
-            check_large(program),
+            check_pipe(program, folder, ["run", "--hints", "pipe"]),
+            check_pipe(program, folder, ["check", "--hints", "pipe", os.devnull]),
         ]
-        passed += [check_closed(program, folder, *case) for case in closed_cases()]
+        passed += [check_closed(program, folder, *case) for case in closed_cases() + failing_hints()]
+        passed += large_runs.checks(program, folder)
     print(f"{sum(passed)} passed, {len(passed) - sum(passed)} failed")
     sys.exit(0 if all(passed) else 1)
 
