@@ -1,6 +1,6 @@
 -- The steps that ports give their bridge, under the numbers of records and under names.
 use Rattle.std.proofs.Common.{◌≡◌, ℕ, ◌==◌, Bool, false, List, [], ◌∷◌, Option, Some, None, inl, inr, refl, sym, ap, subst, ◌∙◌, true≢false, eq-eqb}
-use Rattle.std.specs.Prelude.{◌≢◌, if◌then◌else◌, filter_map}
+use Rattle.std.specs.Prelude.{if◌then◌else◌, filter_map}
 use Rattle.std.specs.List.{Contains, find}
 use Rattle.std.specs.Option.{option_map, option_map_or, option_and_then}
 use Rattle.std.specs.FinMap as fin

@@ -2,8 +2,11 @@ pub mod Lower
 pub mod Firsts
 pub mod SeenTrees
 pub mod Givers
+pub mod ByName
 pub mod Contested
 pub mod Planned
 pub mod Texts
 pub mod OneText
 pub mod Roles
+pub mod SomeClaims
+pub mod SomeText

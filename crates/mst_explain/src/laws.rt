@@ -1,6 +1,6 @@
 //! Laws of explanations. Their functions do nothing: a caller has their clauses.
-ghost use Rattle.std.specs.Prelude.{◌≡◌, ℕ, List, true};
-ghost use Rattle.std.specs.List.{Contains};
+ghost use Rattle.std.specs.Prelude.{◌≡◌, ℕ, ◌==◌, ◌||◌, List, true};
+ghost use Rattle.std.specs.List.{AllByRecursion, Contains};
 ghost use Rattle.std.specs.declared.cmp.Ordering.TheVariants.{Less};
 ghost use Rattle.mst_vector.specs.Cist.{cist_rules};
 ghost use Rattle.mst_vector.specs.Msti.{msti_rules};
@@ -16,7 +16,7 @@ ghost use Rattle.mst_trees.specs.Msti.{msti_of, has_msti, is_internal};
 ghost use Rattle.mst_roles.specs.Roles.{cist_role, msti_role};
 ghost use Rattle.mst_explain.specs.AsTold.{IsAsTold, TellsLowerFirst};
 ghost use Rattle.mst_explain.specs.Contest.{IsDesignatedVectorOn, Gives};
-ghost use Rattle.mst_explain.specs.Explained.{IsExplanation};
+ghost use Rattle.mst_explain.specs.Explained.{IsExplanation, AreExplanations};
 ghost use Rattle.mst_explain.specs.Fields.{cist_fields, msti_fields, decided, TellsLower};
 
 use mst_trees::laws::one_outcome;
@@ -28,6 +28,15 @@ pub fn one_explanation()
 {
     one_outcome();
 }
+
+/// A port has an explanation in each tree that its bridge has, by each settled outcome: in the CIST, and in each MSTI of the
+/// bridge. In any list of such trees there is a text of its explanations, one after another.
+pub fn some_explanation()
+    ensures one { (net : Net) (o : Outcome) → IsNetwork net → IsOutcome net o → (p : LogicalPort) → Contains (view_ports net) p
+        → (tree : ℕ) → (tree == 0 || has_msti net tree p.name.bridge) ≡ true → (text : List ℕ) × IsExplanation net o tree p text }
+    ensures all { (net : Net) (o : Outcome) → IsNetwork net → IsOutcome net o → (p : LogicalPort) → Contains (view_ports net) p
+        → (trees : List ℕ) → AllByRecursion (λ tree. (tree == 0 || has_msti net tree p.name.bridge) ≡ true) trees → (text : List ℕ) × AreExplanations net o p trees text }
+{}
 
 /// The words of a line name the first component at which two vectors differ: the values before are equal, and there the
 /// lower vector has the lower value.
