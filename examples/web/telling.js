@@ -1,0 +1,350 @@
+// What is told in words: of a port, a LAN, a switch, of the whole network, and in the sheets below the picture.
+"use strict";
+
+/** Text of the page in which all that was put in is escaped, but for other texts of this kind. */
+class Markup {
+  constructor(text) { this.text = text; }
+}
+const ESCAPES = { "&": "&amp;", "<": "&lt;", ">": "&gt;", '"': "&quot;", "'": "&#39;" };
+function escaped(value) {
+  if (value instanceof Markup) return value.text;
+  if (Array.isArray(value)) return value.map(escaped).join("");
+  return value === null || value === undefined || value === false ? "" : String(value).replace(/[&<>"']/g, letter => ESCAPES[letter]);
+}
+const markup = (parts, ...values) => new Markup(parts.map((part, i) => part + (i < values.length ? escaped(values[i]) : "")).join(""));
+const joined = (items, between) => items.map((item, i) => (i ? [between, item] : item)).flat();
+
+const FIELDS = {
+  root: "root's identifier", ext: "external path cost", regional: "regional root", int: "internal path cost",
+  bridge: "designated bridge", port: "designated port", receiver: "own port's identifier",
+};
+const MOST_NAMES = 12, MOST_PORTS = 8;
+const DASH = "–";
+
+const speedText = speed => {
+  const [unit, size] = speed >= 1e6 ? ["Gb/s", 1e6] : speed >= 1e3 ? ["Mb/s", 1e3] : ["kb/s", 1];
+  return `${Number((speed / size).toFixed(2))} ${unit}`;
+};
+const counted = (count, one, more = `${one}s`) => `${count} ${count === 1 ? one : more}`;
+const treeName = tree => (tree === CIST ? "CIST (0)" : `MST ${tree}`);
+const entityName = ({ what, name }) => `${what === "lan" ? "LAN" : "switch"} ${name}`;
+const portJump = port => markup`<a class="jump" data-port="${port}">${port}</a>`;
+const lanJump = lan => markup`<a class="jump" data-lan="${lan}">${lan}</a>`;
+const roleTag = (role, text = role) => (role ? markup`<span class="role ${role}">${text}</span>` : DASH);
+const minor = text => markup`<span class="minor">${text}</span>`;
+const line = text => markup`<div>${text}</div>`;
+
+/** A table, of which a head that begins with `#` is one of numbers. Rows are texts, or cells. */
+function table(heads, rows) {
+  const isNumber = heads.map(head => head.startsWith("#"));
+  const cells = (tag, values) => values.map((value, i) =>
+    new Markup(`<${tag}${isNumber[i] ? ' class="number"' : ""}>${escaped(value)}</${tag}>`));
+  const row = it => (it instanceof Markup ? it : it.cells ? rowOf(it, cells("td", it.cells)) : markup`<tr>${cells("td", it)}</tr>`);
+  return markup`<table><tr>${cells("th", heads.map(head => head.replace("#", "")))}</tr>${rows.map(row)}</table>`;
+}
+/** A row that a click goes by: `data` tells where to. */
+function rowOf({ data, isSelected }, cells) {
+  const told = Object.entries(data).map(([key, value]) => markup` data-${key}="${value}"`);
+  return markup`<tr class="row${isSelected ? " selected" : ""}"${told}>${cells}</tr>`;
+}
+
+/** Some of a list, and how many more there are. */
+function some(items, most) {
+  const left = items.length - most;
+  return [joined(items.slice(0, most), ", "), left > 0 ? ` and ${left} more` : ""];
+}
+
+class Telling {
+  /** `hue` is the colour of a bridge's region; `all` has both networks where there are two. */
+  constructor(network, all, hue) {
+    Object.assign(this, { network, all, hue });
+  }
+
+  bridgeJump(bridge) { return this.network.bridges.has(bridge) ? markup`<a class="jump" data-bridge="${bridge}">${bridge}</a>` : bridge; }
+
+  // ---- the panel
+
+  panel(shown) {
+    const [what, ...rest] = (shown.selected ?? "").split(" "), name = rest.join(" ");
+    if (what === "port" && this.network.ports.has(name)) return this.port(name, shown);
+    if (what === "lan" && this.network.lans.has(name)) return this.lan(name, shown);
+    if (what === "bridge" && this.network.bridges.has(name)) return this.bridge(name, shown);
+    return this.overview();
+  }
+
+  port(port, shown) {
+    const { network } = this, lan = network.lanOf(port), { speed, ports } = network.lans.get(lan), set = network.ports.get(port);
+    const others = ports.filter(it => it !== port).map(portJump);
+    const trees = network.treeNumbers.filter(tree => network.role(tree, port, null) !== null);
+    return markup`<h2>Port ${port}</h2>
+      <div class="minor">on ${lanJump(lan)}, ${speedText(speed)}; to ${others.length ? joined(others, ", ") : "no other port"}</div>
+      <div class="minor">VLANs ${set.vlans || "none"}${set.restricted ? "; role restricted" : ""}</div>
+      ${trees.map(tree => this.portInTree(port, tree, shown))}
+      ${network.lans.get(lan).members.map(member => this.failing(`lan ${member}`, shown))}`;
+  }
+
+  portInTree(port, tree, shown) {
+    const { network } = this, before = network.role(tree, port, null), after = network.role(tree, port, shown.failure);
+    const { id, ext, int } = network.trees.get(tree).ports.get(port);
+    const isShown = tree === (shown.vid === null ? shown.tree : network.treeOf(bridgeOf(port), shown.vid));
+    return markup`<h3>${treeName(tree)}${isShown ? " · shown" : ""}</h3>${roleTag(before)}
+      ${before !== after ? markup` → ${roleTag(after)} after this failure` : ""}
+      ${minor(id ? `${id}${ext === undefined ? "" : ` ext ${ext}`} int ${int}` : "")}
+      <div class="why">${this.why(port, tree).map(line)}${this.printedWhy(port, tree)}</div>`;
+  }
+
+  /** What a port's role stands on, in words. */
+  why(port, tree) {
+    const told = this.network.reasons.get(port)?.[tree];
+    return told ? told.map(record => this.reason(record, port)) : ["No other port is on its LAN, so it is compared with none."];
+  }
+  printedWhy(port, tree) {
+    const told = this.network.reasons.get(port)?.[tree];
+    return told ? markup`<code>${told.map(printedReason).join("\n")}</code>` : "";
+  }
+
+  reason(record, port) {
+    const at = (other, own) => (other === port ? own : portJump(other));
+    if (record.boundary) {
+      return markup`At the boundary of its region it does as in the CIST: ${roleTag(record.role)} there, and ${portJump(record.designated)} is
+        the LAN's designated port.`;
+    }
+    if ("designated" in record && record.alone) return markup`${portJump(record.designated)} is the only port of the tree on its LAN.`;
+    if ("designated" in record) {
+      return markup`On the LAN ${at(record.designated, "it")} is the <b>designated port</b> rather than ${at(record.over, "this port")}:
+        ${this.comparison(record)}.`;
+    }
+    if (record.root === "own") {
+      return markup`<b>${bridgeOf(port)} is the root itself</b>, which is better than what ${at(record.over, "this port")} hears:
+        ${this.comparison(record)}.`;
+    }
+    if ("root" in record) {
+      const over = record.over === "own" ? "itself as root" : at(record.over, "this one");
+      return markup`The switch's <b>root port</b> is ${at(record.root, "this one")} rather than ${over}: ${this.comparison(record)}.`;
+    }
+    if (record.restricted) return markup`The port's role is <b>restricted</b>: it never becomes a root port.`;
+    if ("off" in record) return markup`${this.bridgeJump(record.off)} is off.`;
+    return "down" in record ? markup`${lanJump(record.down)} is down.` : printedReason(record);
+  }
+
+  comparison({ field, value, over_value: overValue }) {
+    const named = id => (this.network.names.has(id) ? `${id} (${this.network.named(id)})` : id);
+    return markup`${FIELDS[field] ?? field} <span class="values">${named(value)} &lt; ${named(overValue)}</span>`;
+  }
+
+  lan(lan, shown) {
+    const { network } = this, { members, speed, ports } = network.lans.get(lan), carried = network.carried(lan), trees = network.treeNumbers;
+    return markup`<h2>LAN ${lan}</h2>
+      <div class="minor">${speedText(speed)}${members.length > 1 ? `; counts as one link: ${members.join(", ")}` : ""}
+        ${network.isDown(lan, null) ? "; down" : ""}</div>
+      <h3>Carries VLANs${shown.failure ? " while all is well" : ""}</h3>
+      <div>${carried.text || "none"} ${minor(`(${carried.count})`)}</div>
+      <h3>Roles at its ends${shown.failure ? " after this failure" : ""}</h3>
+      ${table(["Port", ...trees.map(treeName)], ports.map(port =>
+        [portJump(port), ...trees.map(tree => roleTag(network.role(tree, port, shown.failure)))]))}
+      ${members.map(member => this.failing(`lan ${member}`, shown))}`;
+  }
+
+  bridge(bridge, shown) {
+    const { network } = this, { mac, kind, on, vids: mapped } = network.bridges.get(bridge), region = network.regionAt.get(bridge);
+    const maps = kind === "rstp" ? [] : Object.entries(mapped).map(([tree, list]) => `${list} in MST ${tree}`);
+    const trees = network.treeNumbers, short = role => roleTag(role, role === "Disabled" ? "×" : role?.[0]);
+    const ports = network.portsOf(bridge).map(port =>
+      [portJump(port), lanJump(network.lanOf(port)), ...trees.map(tree => short(network.role(tree, port, shown.failure)))]);
+    return markup`<h2>Switch ${bridge}</h2>
+      <div class="minor">${mac}; ${kind === "rstp" ? "RSTP" : `MSTP, region ${region?.name}`}${on ? "" : "; off"}</div>
+      <h3>Trees${shown.failure ? " while all is well" : ""}</h3>
+      ${table(["Tree", "Priority", "Root", "Root port", "#Cost"], this.treeRows(bridge))}
+      ${maps.length ? minor(`VLANs ${maps.join("; ")}; all others in the CIST`) : ""}
+      <h3>Ports${shown.failure ? " after this failure" : ""}</h3>${table(["Port", "LAN", ...trees.map(String)], ports)}
+      ${this.failing(`bridge ${bridge}`, shown)}`;
+  }
+
+  treeRows(bridge) {
+    const { network } = this, ports = network.portsOf(bridge);
+    return network.treeNumbers.filter(tree => network.root(tree, bridge, null) !== null).map(tree => {
+      const { ext, int } = network.bridgeIn(tree, bridge);
+      const rootPort = ports.find(port => ["Root", "Master"].includes(network.role(tree, port, null)));
+      const cost = tree === CIST ? `${ext}+${int}` : int;
+      const root = this.bridgeJump(network.root(tree, bridge, null));
+      return [treeName(tree), network.priority(tree, bridge), root, rootPort ? portJump(rootPort) : DASH, cost];
+    });
+  }
+
+  /** What an entity's failure does, with a button that shows it; nothing where it is no failure of the sweep. */
+  failing(key, shown) {
+    const failure = this.network.failures.get(key);
+    if (!failure) return "";
+    const cuts = failure.parts.map(([cut, parts]) => markup`<div class="warning">VLANs ${cut} come apart:</div>
+      <div>${joined(parts.map(part => part.split(",").join(", ")), markup` <b class="warning">|</b> `)}</div>`);
+    const roots = failure.roots.map(([tree, before, after]) =>
+      markup`<div>Root of ${treeName(tree)}: ${this.bridgeJump(before)} → ${this.bridgeJump(after)}</div>`);
+    return markup`<h3>If ${entityName(failure)} fails</h3>
+      ${cuts.length ? cuts : markup`<div class="fine">No VLAN is cut between the switches that stay.</div>`}${roots}
+      <div>${counted(failure.changed, "role")} of ports that stay in use ${failure.changed === 1 ? "changes" : "change"}.</div>
+      <button class="action" data-fail="${key}">${shown.failure === failure ? "Back to the whole network" : "Show this failure"}</button>`;
+  }
+
+  // ---- the overview
+
+  overview() {
+    return markup`<h2>Overview</h2><div class="minor">Click a switch, a cable or a port's number.</div>
+      ${this.all.before ? this.change() : ""}${this.refusals()}${this.network.treeNumbers.map(tree => this.roots(tree))}${this.regions()}
+      ${this.ties()}${this.spares()}${this.notes()}`;
+  }
+
+  change() {
+    const told = this.all.differences, roles = new Map();
+    for (const record of told.filter(it => "number" in it)) kept(roles, record.tree, () => []).push(portJump(`${record.port}:${record.number}`));
+    const roots = told.filter(it => it.root === true).map(it => markup`<div>Root of ${treeName(it.tree)}: ${it.old} → <b>${it.new}</b></div>`);
+    const regions = told.filter(it => "old_first" in it).map(it =>
+      markup`<div>Region of ${this.bridgeJump(it.region)}: ${it.old_name} ${it.old_revision} → <b>${it.new_name} ${it.new_revision}</b></div>`);
+    const reach = told.filter(it => "reach" in it).map(it =>
+      markup`<div class="warning">VLANs ${it.reach} reach other switches:</div><div>${it.old.join(" | ") || DASH} → ${it.new.join(" | ") || DASH}</div>`);
+    const ports = [...roles].map(([tree, list]) =>
+      markup`<div>${treeName(tree)}: ${counted(list.length, "role")} ${minor(some(list, MOST_PORTS))}</div>`);
+    const none = roots.length + regions.length + reach.length + ports.length ? "" : minor("No root, role, region or reach is another one.");
+    return markup`<h3>What the change does</h3>${roots}${regions}${reach}${ports}${none}${this.failuresCompared()}`;
+  }
+
+  /** Which single failures cut a VLAN after the change, and didn't before. */
+  failuresCompared() {
+    if (!this.network.swept) return "";
+    const cutting = told => new Set(told.failures.filter(it => it.cut).map(entityName));
+    const before = cutting(this.all.before), after = cutting(this.all.after);
+    const worse = [...after].filter(it => !before.has(it)), better = [...before].filter(it => !after.has(it));
+    if (!worse.length && !better.length) return minor(`The same single failures cut VLANs as before: ${after.size}.`);
+    return [
+      ...worse.map(it => markup`<div class="warning">From now on the failure of ${it} cuts a VLAN.</div>`),
+      ...better.map(it => markup`<div class="fine">The failure of ${it} cuts nothing any more.</div>`),
+    ];
+  }
+
+  refusals() {
+    const { refused } = this.network;
+    const rows = refused.map(it => [`line ${it.line}`, markup`<span class="warning">${it.error} ${it.text}</span>`]);
+    return rows.length ? markup`<h3>Refused lines</h3>${table(["", ""], rows)}` : "";
+  }
+
+  roots(tree) {
+    const told = this.network.summary.filter(it => it.tree === tree), { blocked } = told.find(it => "blocked" in it);
+    const rows = told.filter(it => "root" in it).map(it =>
+      [this.bridgeJump(it.root), it.priority, it.next ? [this.bridgeJump(it.next), ` ${it.next_priority}`] : DASH, it.of]);
+    const ports = blocked.length > MOST_NAMES ? `${blocked.length} ports` : blocked.length ? joined(blocked.map(portJump), ", ") : "no port";
+    return markup`<h3>${treeName(tree)}</h3>${table(["Root", "Priority", "Next", "#Switches"], rows)}${minor(["Blocked: ", ports])}`;
+  }
+
+  regions() {
+    const rows = this.network.regions.slice(0, MOST_NAMES).map(({ region, name, revision, bridges }) => {
+      const sign = markup`<span class="hue" style="background:${this.hue(bridges[0])}"></span>`;
+      const named = region === "mstp" ? markup`<b>${name}</b> revision ${revision}` : "RSTP";
+      return markup`<div>${sign}${named}: ${some(bridges.map(bridge => this.bridgeJump(bridge)), MOST_NAMES)}</div>`;
+    });
+    const left = this.network.regions.length - rows.length;
+    return markup`<h3>Regions</h3>${rows}${left > 0 ? minor(`and ${left} more`) : ""}`;
+  }
+
+  /** Blocked ports that a MAC address alone decides on: costs and priorities are equal. */
+  ties() {
+    const ties = new Map();
+    for (const [port, byTree] of this.network.reasons) {
+      for (const [tree, records] of Object.entries(byTree)) {
+        const tie = records.find(it => "root" in it && it.field === "bridge" && it.value.slice(0, 4) === it.over_value.slice(0, 4));
+        if (tie && BLOCKING.has(this.network.role(Number(tree), port, null))) {
+          kept(ties, [this.network.named(tie.value), this.network.named(tie.over_value)].join(" "), () => new Set()).add(port);
+        }
+      }
+    }
+    if (!ties.size) return "";
+    const rows = [...ties].slice(0, MOST_PORTS).map(([pair, ports]) => {
+      const blocked = ports.size > 4 ? `${ports.size} ports` : joined([...ports].map(portJump), ", ");
+      return markup`<div>${joined(pair.split(" ").map(bridge => this.bridgeJump(bridge)), " before ")} ${minor(["blocks ", blocked])}</div>`;
+    });
+    const left = ties.size - rows.length;
+    return markup`<h3>Decided by a MAC address alone</h3>${rows}${left > 0 ? line(`and ${counted(left, "more pair", "more pairs")}`) : ""}
+      ${minor("Costs and priorities are equal there.")}`;
+  }
+
+  spares() {
+    const { network } = this;
+    const isUsed = port => network.role(CIST, port, null) !== "Disabled";
+    const spare = [...network.lans].filter(([lan, { ports }]) => ports.length > 1 && ports.every(isUsed) && !network.carried(lan).count);
+    if (!spare.length) return "";
+    const told = spare.length > MOST_NAMES ? `${spare.length} links` : joined(spare.map(([lan]) => lanJump(lan)), ", ");
+    return markup`<h3>Spare links</h3><div>${told} ${minor("carry no VLAN while all is well")}</div>`;
+  }
+
+  notes() {
+    const told = this.network.notes.map(note => Object.entries(note).map(([key, value]) => `${key} ${value}`).join(" "));
+    return told.length ? markup`<h3>Notes</h3>${told.map(text => markup`<div class="warning">${text}</div>`)}` : "";
+  }
+
+  // ---- the sheets
+
+  failureSheet(shown) {
+    const cutting = [...this.network.failures.values()].sort((a, b) => Boolean(b.cut) - Boolean(a.cut));
+    const rows = cutting.map(failure => ({ data: { fail: failure.key }, isSelected: shown.failure === failure, cells: [
+      markup`${failure.what === "lan" ? "LAN" : "switch"} <b>${failure.name}</b>`,
+      failure.cut ? markup`<span class="warning">${failure.cut}</span>` : markup`<span class="fine">none</span>`,
+      failure.parts.map(([cut, parts]) => line(`${failure.parts.length > 1 ? `${cut}: ` : ""}${parts.join(" | ")}`)),
+      failure.roots.map(([tree, before, after]) => line(`${treeName(tree)}: ${before} → ${after}`)),
+      failure.changed,
+    ] }));
+    return table(["What fails", "VLANs cut", "Parts", "New roots", "#Roles changed"], rows);
+  }
+
+  vlanSheet() {
+    const rows = this.network.groups.map(group => {
+      const list = vids(group.vids), { islands } = group, apart = islands.slice(0, 6).map(island => island.join(",")).join(" | ");
+      const told = islands.length === 1 ? markup`<span class="fine">whole</span>`
+        : markup`<span class="warning">${islands.length}</span>: ${apart}${islands.length > 6 ? " | …" : ""}`;
+      return { data: { vlan: list.first }, cells: [markup`<b>${group.vids}</b>`, list.count, told] };
+    });
+    return table(["VLANs", "#Number", "Islands"], rows);
+  }
+
+  linkSheet() {
+    const links = [...this.network.lans].map(([lan, told]) => ({ lan, ...told, carried: this.network.carried(lan) }));
+    links.sort((a, b) => b.carried.count - a.carried.count || byOrder(a.lan, b.lan));
+    const rows = links.map(({ lan, ports, speed, carried }) => ({ data: { lan }, cells: [
+      markup`<b>${lan}</b>`, ports.join(` ${DASH} `), speedText(speed), carried.count,
+      carried.count === LAST_VID ? "all" : carried.text || minor("spare: carries nothing while all is well"),
+    ] }));
+    return table(["LAN", "Ends", "Speed", "#VLANs carried", ""], rows);
+  }
+
+  blockedSheet() {
+    const { network } = this;
+    const rows = network.treeNumbers.flatMap(tree => [...network.trees.get(tree).ports]
+      .filter(([, { role }]) => BLOCKING.has(role)).map(([port, { lan, role }]) => ({ data: { port, tree }, cells: [
+        markup`<b>${port}</b>`, lan, treeName(tree), roleTag(role), joined(this.why(port, tree), " "),
+      ] })));
+    return table(["Port", "LAN", "Tree", "Role", "Why"], rows);
+  }
+
+  // ---- above the picture
+
+  banner({ vid, failure }) {
+    if (failure) {
+      const roots = failure.roots.map(([tree, , root]) => `${root} of ${treeName(tree)}`);
+      const cut = failure.cut ? markup`<span class="warning">VLANs ${failure.cut} are cut</span>` : "no VLAN is cut";
+      return [Boolean(failure.cut), markup`<button data-clear="failure">Back to the whole network</button>
+        <b>After ${entityName(failure)} has failed</b>${vid === null ? "" : `, VLAN ${vid}`}: ${cut}${roots.length ? `; new root ${roots.join(", ")}` : ""};
+        ${counted(failure.changed, "role")} of ports in use ${failure.changed === 1 ? "changes" : "change"}. Dashed rings: another role than before.`];
+    }
+    if (vid === null) return null;
+    const islands = this.network.islands(vid, null).length;
+    const told = islands === 1 ? "reaches every switch that is on" : `is in ${islands} islands; switches in red aren't in the largest`;
+    return [islands > 1, markup`<button data-clear="vlan">Back to trees</button><b>VLAN ${vid}</b> ${told}.
+      ${minor("Each switch is drawn with its own tree of this VLAN.")}`];
+  }
+}
+
+/** The line of `explain` that a record was. */
+function printedReason(record) {
+  const { field, value, over_value: overValue, over } = record;
+  if (record.boundary) return `boundary ${record.role} designated ${record.designated}`;
+  const winner = "designated" in record ? `designated ${record.designated}` : "root" in record ? `root ${record.root}` : null;
+  if (winner) return record.alone ? `${winner} alone` : `${winner} over ${over} ${field} ${value} ${overValue}`;
+  return Object.entries(record).map(([key, told]) => (told === true ? key : `${key} ${told}`)).join(" ");
+}
