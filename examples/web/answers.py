@@ -202,7 +202,7 @@ def network_of(program, script, sweeping):
     names = {told["id"]: bridge for tree in trees.values() for bridge, told in tree["bridges"].items() if "id" in told}
     for failure, changed in zip(failures, answers[len(QUERIES) :], strict=True):
         failure.update(changes_of(changed, names))
-    logical_ports = trees[0]["ports"] if trees else {}
+    logical_ports = trees[0]["ports"]
     logical = logical_lans(logical_ports, lans, classes)
     compared = [port for port, told in logical_ports.items() if len(logical[told["lan"]]["ports"]) > 1]
     return {

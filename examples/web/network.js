@@ -62,7 +62,8 @@ class Network {
       this.trees.set(Number(number), { bridges: mapOf(tree.bridges), ports: mapOf(tree.ports) });
       for (const [bridge, { id }] of Object.entries(tree.bridges)) if (id) this.names.set(id, bridge);
     }
-    this.treeNumbers = [...this.trees.keys()].sort((a, b) => a - b);
+    // Tree 0 is told of a network without bridges as well.
+    this.treeNumbers = [...this.trees.keys()].filter(tree => this.trees.get(tree).bridges.size).sort((a, b) => a - b);
     this.regionAt = new Map(told.regions.flatMap(region => region.bridges.map(bridge => [bridge, region])));
     this.failures = new Map(told.failures.map(it => new Failure(it)).map(it => [it.key, it]));
     this.carriedBy = new Map(told.summary.filter(it => "carries" in it).map(it => [it.lan, it.carries ?? ""]));

@@ -205,8 +205,7 @@ document.addEventListener("change", event => {
 byId("vlan").addEventListener("input", ({ target }) => {
   const vid = Number(target.value), isFine = target.value === "" || (Number.isInteger(vid) && vid >= 1 && vid <= LAST_VID);
   target.classList.toggle("warned", !isFine);
-  if (!isFine) return;
-  shown.vid = target.value === "" ? null : vid;
+  shown.vid = isFine && target.value !== "" ? vid : null;
   changed();
 });
 document.addEventListener("keydown", event => {

@@ -296,7 +296,7 @@ class Telling {
   vlanSheet() {
     const rows = this.network.groups.map(group => {
       const list = vids(group.vids), { islands } = group, apart = islands.slice(0, 6).map(island => island.join(",")).join(" | ");
-      const told = islands.length === 1 ? markup`<span class="fine">whole</span>`
+      const told = islands.length < 2 ? markup`<span class="fine">whole</span>`
         : markup`<span class="warning">${islands.length}</span>: ${apart}${islands.length > 6 ? " | …" : ""}`;
       return { data: { vlan: list.first }, cells: [markup`<b>${group.vids}</b>`, list.count, told] };
     });
@@ -334,7 +334,7 @@ class Telling {
     }
     if (vid === null) return null;
     const islands = this.network.islands(vid, null).length;
-    const told = islands === 1 ? "reaches every switch that is on" : `is in ${islands} islands; switches in red aren't in the largest`;
+    const told = islands < 2 ? "reaches every switch that is on" : `is in ${islands} islands; switches in red aren't in the largest`;
     return [islands > 1, markup`<button data-clear="vlan">Back to trees</button><b>VLAN ${vid}</b> ${told}.
       ${minor("Each switch is drawn with its own tree of this VLAN.")}`];
   }
