@@ -29,6 +29,7 @@ SYSTEM_PYTHON = "/usr/bin/python3"
 SECONDS, SECONDS_OF_A_STEP, SECONDS_TO_END = 300, 60, 20
 MOST_PORTS, MOST_FAILURES, MOST_VLANS = 24, 24, 6
 CAMPUS = ["4", "10"]
+FLAGS = ("headless=new", "no-sandbox", "disable-gpu", "disable-dev-shm-usage", "window-size=1440,1100")
 FORWARDING = {"Root", "Designated", "Master"}
 BLOCKING = {"Alternate", "Backup"}
 
@@ -91,6 +92,10 @@ return {
 CLICK = """
 const at = document.querySelector(arguments[0]);
 at.dispatchEvent(new MouseEvent("click", { bubbles: true }));"""
+ENTER = """
+const box = document.getElementById("vlan");
+box.value = arguments[0];
+box.dispatchEvent(new Event("input"));"""
 ISLANDS = "return arguments[0].map(vid => network.islands(vid, shown.failure));"
 FRAME = "return document.getElementById('network').getAttribute('viewBox');"
 
@@ -118,8 +123,10 @@ def spread(items, most):
 
 def missing():
     """What isn't there of what drives a page, by name."""
-    found = {"chromium": chromium(), "chromium-driver": shutil.which("chromedriver"), "python3-selenium": importlib.util.find_spec("selenium")}
-    return [name for name, it in found.items() if not it]
+    needed = {
+        "chromium": chromium(), "chromium-driver": shutil.which("chromedriver"), "python3-selenium": importlib.util.find_spec("selenium"),
+    }
+    return [name for name, found in needed.items() if not found]
 
 
 def chromium():
@@ -143,8 +150,7 @@ class Browser:
 
         options = webdriver.ChromeOptions()
         options.binary_location = chromium()
-        flags = ["headless=new", "no-sandbox", "disable-gpu", "disable-dev-shm-usage", "window-size=1440,1100", f"user-data-dir={folder}/profile"]
-        for flag in flags:
+        for flag in (*FLAGS, f"user-data-dir={folder}/profile"):
             options.add_argument(f"--{flag}")
         options.add_experimental_option("prefs", {"download.default_directory": folder})
         options.set_capability("goog:loggingPrefs", {"browser": "ALL"})
@@ -283,7 +289,7 @@ class Page:
         kinds = {str(sorted(active)): vid for vid, active in self.text.active.items()}
         for vid in spread(kinds.values(), MOST_VLANS):
             self.browser.click("#tabs [data-sheet='vlans']")
-            self.browser.run("const box = document.getElementById('vlan'); box.value = arguments[0]; box.dispatchEvent(new Event('input'));", vid)
+            self.browser.run(ENTER, vid)
             view, members = self.browser.view(), self.text.active[vid]
             active = {word.strip("[]") for word in members}
             forwards = sorted(port for port, role, _ in view["signs"] if role in FORWARDING)
@@ -402,8 +408,8 @@ def check_strange(browser, program, folder, expect):
     with open(path, "w", encoding="utf-8") as file:
         file.write(page.replace('"islands":[[', '"islands":[["nowhere"],[', 1))
     browser.open(path)
-    found = browser.compared()
-    expect.equal("strange: a page that differs", (found[0], found[1] > 0, browser.view()["chips"][-1:]), (compared, True, ["page and program differ"]))
+    (found, wrong), chips = browser.compared(), browser.view()["chips"]
+    expect.equal("strange: a page that differs", (found, wrong > 0, chips[-1:]), (compared, True, ["page and program differ"]))
 
 
 def check_refused(browser, program, folder, expect):
@@ -423,7 +429,8 @@ def check_refused(browser, program, folder, expect):
 
 
 def run_page(words):
-    return subprocess.run([sys.executable, os.path.join(HERE, "page.py"), *words], capture_output=True, text=True, timeout=SECONDS_OF_A_STEP, check=False)
+    words = [sys.executable, os.path.join(HERE, "page.py"), *words]
+    return subprocess.run(words, capture_output=True, text=True, timeout=SECONDS_OF_A_STEP, check=False)
 
 
 def made(program, folder, name, expect, words, status=0, told=()):
@@ -453,7 +460,8 @@ def check_words(program, folder, expect):
     ran = run_page(["--help"])
     expect.equal("page.py --help", (ran.returncode, ran.stdout.startswith("usage: page.py"), ran.stderr), (0, True, ""))
     ran = run_page([program, script, "--no-sweep", "--title", "A & B"])
-    expect.equal("page.py on standard output", (ran.returncode, html.escape("A & B") in ran.stdout, ran.stdout.endswith("</html>\n")), (0, True, True))
+    found = ran.returncode, html.escape("A & B") in ran.stdout, ran.stdout.endswith("</html>\n")
+    expect.equal("page.py on standard output", found, (0, True, True))
 
 
 def check_pages(browser, program, folder, expect):

@@ -134,8 +134,9 @@ class Network {
   carried(lan) {
     const { ports } = this.lans.get(lan);
     if (ports.length < 3) return vids(this.isDown(lan, null) ? "" : this.carriedBy.get(lan) ?? `1-${LAST_VID}`);
-    const joined = ({ first }) => new Set(ports.filter(port => this.isMember(port, first) && this.isActive(port, first, null)).map(bridgeOf));
-    return vids(this.groups.map(group => vids(group.vids)).filter(group => joined(group).size > 1).map(group => group.text).join(","));
+    const passes = (port, vid) => this.isMember(port, vid) && this.isActive(port, vid, null);
+    const joins = list => new Set(ports.filter(port => passes(port, vids(list).first)).map(bridgeOf)).size > 1;
+    return vids(this.groups.map(group => group.vids).filter(joins).join(","));
   }
 
   /** Classes of VIDs that every bridge has in one tree, and every port is a member of alike: the least VID, and how many. */
@@ -212,7 +213,8 @@ class Comparison {
     }
     this.expect(`VLANs that ${failure.key} cuts`, [cut], [vids(failure.cut).count]);
     this.expect(`roots after ${failure.key}`, new Set(failure.roots.map(([tree]) => tree)), failure.trees);
-    const changed = failure.roles.filter(([tree, port, role]) => role !== "Disabled" && network.role(tree, port, null) !== "Disabled");
+    const isUsed = ([tree, port, role]) => role !== "Disabled" && network.role(tree, port, null) !== "Disabled";
+    const changed = failure.roles.filter(isUsed);
     this.expect(`roles after ${failure.key}`, [changed.length], [failure.changed]);
   }
 }

@@ -33,9 +33,10 @@ function showControls() {
     markup`<button data-${key}="${value}" class="${isOn ? "on" : ""}" title="${title}">${text}</button>`;
   const { treeNumbers: trees, groups } = network;
   if (other) put("times", TIMES.map(time => button("net", time, time === "before" ? "Before" : "After", time === TIME)));
-  const more = trees.slice(MOST_BUTTONS).map(tree => markup`<option ${shown.tree === tree ? "selected" : ""}>${tree}</option>`);
+  const isShown = tree => shown.vid === null && shown.tree === tree;
+  const more = trees.slice(MOST_BUTTONS).map(tree => markup`<option ${isShown(tree) ? "selected" : ""}>${tree}</option>`);
   put("trees", [
-    trees.slice(0, MOST_BUTTONS).map(tree => button("tree", tree, tree === CIST ? "0 CIST" : tree, shown.vid === null && shown.tree === tree)),
+    trees.slice(0, MOST_BUTTONS).map(tree => button("tree", tree, tree === CIST ? "0 CIST" : tree, isShown(tree))),
     more.length ? markup`<select id="moretrees"><option>…</option>${more}</select>` : "",
   ]);
   const short = text => (text.length > 14 ? `${text.slice(0, 12)}…` : text);
@@ -53,7 +54,8 @@ function showBanner() {
 }
 
 function showSheet() {
-  put("tabs", SHEETS.map(([name, title]) => markup`<button class="${shown.sheet === name ? "on" : ""}" data-sheet="${name}">${title}</button>`));
+  const isOn = name => (shown.sheet === name ? "on" : "");
+  put("tabs", SHEETS.map(([name, title]) => markup`<button class="${isOn(name)}" data-sheet="${name}">${title}</button>`));
   const sheets = { vlans: "vlanSheet", links: "linkSheet", blocked: "blockedSheet", failures: "failureSheet" };
   put("sheet", telling[sheets[shown.sheet]](shown));
 }
@@ -80,8 +82,8 @@ function showLegend() {
   const roles = ["Root", "Designated", "Alternate", "Master", "Disabled"].map(role =>
     markup`<span>${drawn(22, SIGNS[role][0])}${role === "Alternate" ? "Alternate, Backup: blocks" : role}</span>`);
   const lines = [
-    ["forwards", "forwards (thick: 10 Gb/s and more)", 4], ["forwards carries", "carries the VLAN", 4], ["blocked", "blocked at an end"],
-    ["elsewhere", "other region"], ["down", "down, or an end is off"],
+    ["forwards", "forwards (thick: 10 Gb/s and more)", 4], ["forwards carries", "carries the VLAN", 4],
+    ["blocked", "blocked at an end"], ["elsewhere", "other region"], ["down", "down, or an end is off"],
   ].map(([state, text, width]) => markup`<span>${sample(state, width)}${text}</span>`);
   put("legend", [roles, lines]);
 }
@@ -89,8 +91,8 @@ function showLegend() {
 function showHead(comparison) {
   const counts = network.summary.find(it => "trees" in it), cutting = told => told.failures.filter(it => it.cut).length;
   const chip = (text, kind = "", title = "") => markup`<span class="chip ${kind}" title="${title}">${text}</span>`;
-  const cuts = cutting(ALL[TIME]), swept = ALL[TIME].failures.length;
-  const failing = cuts ? `${cuts} of ${counted(swept, "single failure")} cut a VLAN` : `none of ${counted(swept, "single failure")} cuts a VLAN`;
+  const cuts = cutting(ALL[TIME]), swept = counted(ALL[TIME].failures.length, "single failure");
+  const failing = cuts > 1 ? `${cuts} of ${swept} cut a VLAN` : `${cuts || "none"} of ${swept} cuts a VLAN`;
   const scripts = other ? `${ALL.before.script} → ${ALL.after.script}` : ALL.after.script;
   byId("made").textContent = `${scripts} · ${ALL.version} · ${ALL.made}`;
   put("chips", [

@@ -19,8 +19,10 @@ function element(name, attributes, parent, text) {
 }
 
 const disc = attributes => sign => element("circle", { class: "shape", ...attributes }, sign);
-const square = (side, attributes) => sign =>
-  element("rect", { class: "shape", x: -side / 2, y: -side / 2, width: side, height: side, stroke: "#fff", "stroke-width": 1.2, ...attributes }, sign);
+const square = (side, attributes) => sign => {
+  const sides = { x: -side / 2, y: -side / 2, width: side, height: side };
+  element("rect", { class: "shape", ...sides, stroke: "#fff", "stroke-width": 1.2, ...attributes }, sign);
+};
 /** The sign of each role, and the colour of the port's number in it. */
 const SIGNS = {
   Root: [disc({ r: 8.5, fill: "var(--root)", stroke: "#fff", "stroke-width": 1.2 }), "#fff"],
@@ -156,7 +158,8 @@ class Picture {
     cable.line = element("path", { class: "line", d: path }, cable.drawn);
     if (this.isCable(cable.lan)) {
       const [x, y] = cable.labelSpot(curve);
-      element("text", { class: "name", x, y: y + 3 }, cable.drawn, members.length > 1 ? `${cable.lan} ×${members.length}` : cable.lan);
+      const name = members.length > 1 ? `${cable.lan} ×${members.length}` : cable.lan;
+      element("text", { class: "name", x, y: y + 3 }, cable.drawn, name);
     }
     element("title", {}, cable.drawn, `${cable.lan}, ${speedText(speed)}`);
     cable.ends.forEach(({ port }, i) => {
@@ -167,8 +170,8 @@ class Picture {
   }
 
   drawBox(name, { x, y, width, height }, layer) {
-    const isLan = name.startsWith("lan ");
-    const box = element("g", { transform: `translate(${x} ${y})`, [isLan ? "data-lan" : "data-bridge"]: isLan ? name.slice(4) : name }, layer);
+    const isLan = name.startsWith("lan "), data = isLan ? { "data-lan": name.slice(4) } : { "data-bridge": name };
+    const box = element("g", { transform: `translate(${x} ${y})`, ...data }, layer);
     element("rect", { class: "box", x: -width / 2, y: -height / 2, width, height, rx: isLan ? 4 : 10 }, box);
     if (isLan) element("text", { class: "told", y: 4 }, box, name);
     else {
@@ -234,11 +237,12 @@ class Picture {
     const tree = vid === null ? shown.tree : network.treeOf(bridge, vid), isOn = network.isOn(bridge, failure);
     const hasTree = Boolean(network.bridgeIn(tree, bridge)), isRoot = network.root(tree, bridge, failure) === bridge;
     const state = !isOn ? " off" : !hasTree ? " absent" : isRoot ? " root" : "";
-    box.setAttribute("class", `node${state}${isOn && isApart ? " apart" : ""}${shown.selected === `bridge ${bridge}` ? " selected" : ""}`);
+    const marks = [isOn && isApart ? " apart" : "", shown.selected === `bridge ${bridge}` ? " selected" : ""].join("");
+    box.setAttribute("class", `node${state}${marks}`);
     const named = tree !== CIST && (isRoot || vid !== null) ? `MST ${tree}` : "";
     const told = [isRoot ? "root" : "", named].filter(Boolean).join(", ");
-    const priority = network.priority(tree, bridge);
-    box.querySelector(".told").textContent = !isOn ? "off" : !hasTree ? "not in this tree" : told ? `${told} · ${priority}` : priority;
+    const text = [told, network.priority(tree, bridge)].filter(it => it !== "").join(" · ");
+    box.querySelector(".told").textContent = !isOn ? "off" : !hasTree ? "not in this tree" : text;
     box.querySelectorAll(".cross").forEach(line => line.remove());
     if (failure?.takesAway("bridge", bridge)) drawCross(box, 16);
   }
@@ -263,14 +267,15 @@ const textOf = frame => [frame.x, frame.y, frame.width, frame.height].join(" ");
 /** The part of the picture that is seen: it is dragged, and made larger and smaller. */
 class Sight {
   constructor(svg, places) {
-    const margin = 46;
+    const margin = 46, width = Math.max(places.width, 120) + 2 * margin;
     this.svg = svg;
-    this.whole = { x: -margin, y: -margin - 14, width: Math.max(places.width, 120) + 2 * margin, height: places.height + 2 * margin - 8 };
+    this.whole = { x: -margin, y: -margin - 14, width, height: places.height + 2 * margin - 8 };
     this.hasMoved = false;
     this.see(this.whole);
     svg.addEventListener("wheel", event => {
       event.preventDefault();
-      this.scale(event.deltaY > 0 ? 1.12 : 0.89, new DOMPoint(event.clientX, event.clientY).matrixTransform(svg.getScreenCTM().inverse()));
+      const point = new DOMPoint(event.clientX, event.clientY);
+      this.scale(event.deltaY > 0 ? 1.12 : 0.89, point.matrixTransform(svg.getScreenCTM().inverse()));
     }, { passive: false });
     svg.addEventListener("pointerdown", event => this.grip(event));
     addEventListener("pointermove", event => this.drag(event));

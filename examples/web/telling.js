@@ -9,9 +9,10 @@ const ESCAPES = { "&": "&amp;", "<": "&lt;", ">": "&gt;", '"': "&quot;", "'": "&
 function escaped(value) {
   if (value instanceof Markup) return value.text;
   if (Array.isArray(value)) return value.map(escaped).join("");
-  return value === null || value === undefined || value === false ? "" : String(value).replace(/[&<>"']/g, letter => ESCAPES[letter]);
+  if (value === null || value === undefined) return "";
+  return String(value).replace(/[&<>"']/g, letter => ESCAPES[letter]);
 }
-const markup = (parts, ...values) => new Markup(parts.map((part, i) => part + (i < values.length ? escaped(values[i]) : "")).join(""));
+const markup = (parts, ...values) => new Markup(parts.map((part, i) => part + escaped(values[i])).join(""));
 const joined = (items, between) => items.map((item, i) => (i ? [between, item] : item)).flat();
 
 const FIELDS = {
@@ -60,7 +61,10 @@ class Telling {
     Object.assign(this, { network, all, hue });
   }
 
-  bridgeJump(bridge) { return this.network.bridges.has(bridge) ? markup`<a class="jump" data-bridge="${bridge}">${bridge}</a>` : bridge; }
+  /** With two networks a bridge may be in the other one alone. */
+  bridgeJump(bridge) {
+    return this.network.bridges.has(bridge) ? markup`<a class="jump" data-bridge="${bridge}">${bridge}</a>` : bridge;
+  }
 
   // ---- the panel
 
@@ -106,13 +110,15 @@ class Telling {
   reason(record, port) {
     const at = (other, own) => (other === port ? own : portJump(other));
     if (record.boundary) {
-      return markup`At the boundary of its region it does as in the CIST: ${roleTag(record.role)} there, and ${portJump(record.designated)} is
-        the LAN's designated port.`;
+      return markup`At the boundary of its region it does as in the CIST: ${roleTag(record.role)} there, and
+        ${portJump(record.designated)} is the LAN's designated port.`;
     }
-    if ("designated" in record && record.alone) return markup`${portJump(record.designated)} is the only port of the tree on its LAN.`;
+    if ("designated" in record && record.alone) {
+      return markup`${portJump(record.designated)} is the only port of the tree on its LAN.`;
+    }
     if ("designated" in record) {
-      return markup`On the LAN ${at(record.designated, "it")} is the <b>designated port</b> rather than ${at(record.over, "this port")}:
-        ${this.comparison(record)}.`;
+      return markup`On the LAN ${at(record.designated, "it")} is the <b>designated port</b> rather than
+        ${at(record.over, "this port")}: ${this.comparison(record)}.`;
     }
     if (record.root === "own") {
       return markup`<b>${bridgeOf(port)} is the root itself</b>, which is better than what ${at(record.over, "this port")} hears:
@@ -120,7 +126,8 @@ class Telling {
     }
     if ("root" in record) {
       const over = record.over === "own" ? "itself as root" : at(record.over, "this one");
-      return markup`The switch's <b>root port</b> is ${at(record.root, "this one")} rather than ${over}: ${this.comparison(record)}.`;
+      return markup`The switch's <b>root port</b> is ${at(record.root, "this one")} rather than ${over}:
+        ${this.comparison(record)}.`;
     }
     if (record.restricted) return markup`The port's role is <b>restricted</b>: it never becomes a root port.`;
     if ("off" in record) return markup`${this.bridgeJump(record.off)} is off.`;
@@ -133,7 +140,8 @@ class Telling {
   }
 
   lan(lan, shown) {
-    const { network } = this, { members, speed, ports } = network.lans.get(lan), carried = network.carried(lan), trees = network.treeNumbers;
+    const { network } = this, { members, speed, ports } = network.lans.get(lan), carried = network.carried(lan);
+    const trees = network.treeNumbers;
     return markup`<h2>LAN ${lan}</h2>
       <div class="minor">${speedText(speed)}${members.length > 1 ? `; counts as one link: ${members.join(", ")}` : ""}
         ${network.isDown(lan, null) ? "; down" : ""}</div>
@@ -179,32 +187,38 @@ class Telling {
       <div>${joined(parts.map(part => part.split(",").join(", ")), markup` <b class="warning">|</b> `)}</div>`);
     const roots = failure.roots.map(([tree, before, after]) =>
       markup`<div>Root of ${treeName(tree)}: ${this.bridgeJump(before)} → ${this.bridgeJump(after)}</div>`);
+    const does = shown.failure === failure ? "Back to the whole network" : "Show this failure";
     return markup`<h3>If ${entityName(failure)} fails</h3>
       ${cuts.length ? cuts : markup`<div class="fine">No VLAN is cut between the switches that stay.</div>`}${roots}
       <div>${counted(failure.changed, "role")} of ports that stay in use ${failure.changed === 1 ? "changes" : "change"}.</div>
-      <button class="action" data-fail="${key}">${shown.failure === failure ? "Back to the whole network" : "Show this failure"}</button>`;
+      <button class="action" data-fail="${key}">${does}</button>`;
   }
 
   // ---- the overview
 
   overview() {
     return markup`<h2>Overview</h2><div class="minor">Click a switch, a cable or a port's number.</div>
-      ${this.all.before ? this.change() : ""}${this.refusals()}${this.network.treeNumbers.map(tree => this.roots(tree))}${this.regions()}
-      ${this.ties()}${this.spares()}${this.notes()}`;
+      ${this.all.before ? this.change() : ""}${this.refusals()}${this.network.treeNumbers.map(tree => this.roots(tree))}
+      ${this.regions()}${this.ties()}${this.spares()}${this.notes()}`;
   }
 
   change() {
     const told = this.all.differences, roles = new Map();
-    for (const record of told.filter(it => "number" in it)) kept(roles, record.tree, () => []).push(portJump(`${record.port}:${record.number}`));
-    const roots = told.filter(it => it.root === true).map(it => markup`<div>Root of ${treeName(it.tree)}: ${it.old} → <b>${it.new}</b></div>`);
-    const regions = told.filter(it => "old_first" in it).map(it =>
-      markup`<div>Region of ${this.bridgeJump(it.region)}: ${it.old_name} ${it.old_revision} → <b>${it.new_name} ${it.new_revision}</b></div>`);
-    const reach = told.filter(it => "reach" in it).map(it =>
-      markup`<div class="warning">VLANs ${it.reach} reach other switches:</div><div>${it.old.join(" | ") || DASH} → ${it.new.join(" | ") || DASH}</div>`);
+    const apart = islands => islands.join(" | ") || DASH;
+    for (const it of told.filter(record => "number" in record)) {
+      kept(roles, it.tree, () => []).push(portJump(`${it.port}:${it.number}`));
+    }
+    const roots = told.filter(it => it.root === true).map(it =>
+      markup`<div>Root of ${treeName(it.tree)}: ${it.old} → <b>${it.new}</b></div>`);
+    const regions = told.filter(it => "old_first" in it).map(it => markup`<div>Region of ${this.bridgeJump(it.region)}:
+      ${it.old_name} ${it.old_revision} → <b>${it.new_name} ${it.new_revision}</b></div>`);
+    const reach = told.filter(it => "reach" in it).map(it => markup`<div class="warning">VLANs ${it.reach} reach other switches:</div>
+      <div>${apart(it.old)} → ${apart(it.new)}</div>`);
     const ports = [...roles].map(([tree, list]) =>
       markup`<div>${treeName(tree)}: ${counted(list.length, "role")} ${minor(some(list, MOST_PORTS))}</div>`);
-    const none = roots.length + regions.length + reach.length + ports.length ? "" : minor("No root, role, region or reach is another one.");
-    return markup`<h3>What the change does</h3>${roots}${regions}${reach}${ports}${none}${this.failuresCompared()}`;
+    const changes = [...roots, ...regions, ...reach, ...ports];
+    const none = minor("No root, role, region or reach is another one.");
+    return markup`<h3>What the change does</h3>${changes.length ? changes : line(none)}${this.failuresCompared()}`;
   }
 
   /** Which single failures cut a VLAN after the change, and didn't before. */
@@ -230,8 +244,9 @@ class Telling {
     const told = this.network.summary.filter(it => it.tree === tree), { blocked } = told.find(it => "blocked" in it);
     const rows = told.filter(it => "root" in it).map(it =>
       [this.bridgeJump(it.root), it.priority, it.next ? [this.bridgeJump(it.next), ` ${it.next_priority}`] : DASH, it.of]);
-    const ports = blocked.length > MOST_NAMES ? `${blocked.length} ports` : blocked.length ? joined(blocked.map(portJump), ", ") : "no port";
-    return markup`<h3>${treeName(tree)}</h3>${table(["Root", "Priority", "Next", "#Switches"], rows)}${minor(["Blocked: ", ports])}`;
+    const ports = blocked.length > MOST_NAMES ? `${blocked.length} ports` : joined(blocked.map(portJump), ", ");
+    return markup`<h3>${treeName(tree)}</h3>${table(["Root", "Priority", "Next", "#Switches"], rows)}
+      ${minor(["Blocked: ", blocked.length ? ports : "no port"])}`;
   }
 
   regions() {
@@ -258,17 +273,18 @@ class Telling {
     if (!ties.size) return "";
     const rows = [...ties].slice(0, MOST_PORTS).map(([pair, ports]) => {
       const blocked = ports.size > 4 ? `${ports.size} ports` : joined([...ports].map(portJump), ", ");
-      return markup`<div>${joined(pair.split(" ").map(bridge => this.bridgeJump(bridge)), " before ")} ${minor(["blocks ", blocked])}</div>`;
+      const bridges = joined(pair.split(" ").map(bridge => this.bridgeJump(bridge)), " before ");
+      return markup`<div>${bridges} ${minor(["blocks ", blocked])}</div>`;
     });
     const left = ties.size - rows.length;
-    return markup`<h3>Decided by a MAC address alone</h3>${rows}${left > 0 ? line(`and ${counted(left, "more pair", "more pairs")}`) : ""}
+    return markup`<h3>Decided by a MAC address alone</h3>${rows}${left > 0 ? line(`and ${counted(left, "more pair")}`) : ""}
       ${minor("Costs and priorities are equal there.")}`;
   }
 
   spares() {
-    const { network } = this;
-    const isUsed = port => network.role(CIST, port, null) !== "Disabled";
-    const spare = [...network.lans].filter(([lan, { ports }]) => ports.length > 1 && ports.every(isUsed) && !network.carried(lan).count);
+    const { network } = this, isUsed = port => network.role(CIST, port, null) !== "Disabled";
+    const isSpare = ([lan, { ports }]) => ports.length > 1 && ports.every(isUsed) && !network.carried(lan).count;
+    const spare = [...network.lans].filter(isSpare);
     if (!spare.length) return "";
     const told = spare.length > MOST_NAMES ? `${spare.length} links` : joined(spare.map(([lan]) => lanJump(lan)), ", ");
     return markup`<h3>Spare links</h3><div>${told} ${minor("carry no VLAN while all is well")}</div>`;
@@ -326,15 +342,16 @@ class Telling {
 
   banner({ vid, failure }) {
     if (failure) {
-      const roots = failure.roots.map(([tree, , root]) => `${root} of ${treeName(tree)}`);
+      const roots = failure.roots.map(([tree, , root]) => `; new root ${root} of ${treeName(tree)}`);
       const cut = failure.cut ? markup`<span class="warning">VLANs ${failure.cut} are cut</span>` : "no VLAN is cut";
       return [Boolean(failure.cut), markup`<button data-clear="failure">Back to the whole network</button>
-        <b>After ${entityName(failure)} has failed</b>${vid === null ? "" : `, VLAN ${vid}`}: ${cut}${roots.length ? `; new root ${roots.join(", ")}` : ""};
-        ${counted(failure.changed, "role")} of ports in use ${failure.changed === 1 ? "changes" : "change"}. Dashed rings: another role than before.`];
+        <b>After ${entityName(failure)} has failed</b>${vid === null ? "" : `, VLAN ${vid}`}: ${cut}${roots};
+        ${counted(failure.changed, "role")} of ports in use ${failure.changed === 1 ? "changes" : "change"}.
+        ${minor("Dashed rings: another role than before.")}`];
     }
     if (vid === null) return null;
     const islands = this.network.islands(vid, null).length;
-    const told = islands < 2 ? "reaches every switch that is on" : `is in ${islands} islands; switches in red aren't in the largest`;
+    const told = islands > 1 ? `is in ${islands} islands; switches in red aren't in the largest` : "reaches every switch that is on";
     return [islands > 1, markup`<button data-clear="vlan">Back to trees</button><b>VLAN ${vid}</b> ${told}.
       ${minor("Each switch is drawn with its own tree of this VLAN.")}`];
   }
