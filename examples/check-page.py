@@ -3,10 +3,10 @@
 
 usage: check-page.py PROGRAM
 
-The networks: each script of the examples, two on one page, a campus of 50 switches, and one with strange names. Needed:
-Chromium, its driver and Selenium (Debian: chromium, chromium-driver, python3-selenium). Where one isn't there nothing is
-checked, and a line tells which; where this Python lacks Selenium, /usr/bin/python3 is tried. The exit status is 1 where
-something differs, or where it takes longer than its time.
+The networks: each script of the examples, a few drawn ones, two on one page, a campus of 50 switches, and one with strange
+names. Needed: Chromium, its driver and Selenium (Debian: chromium, chromium-driver, python3-selenium). Where one isn't there
+nothing is checked, and a line tells which; where this Python lacks Selenium, /usr/bin/python3 is tried. The exit status is 1
+where something differs, or where it takes longer than its time.
 """
 
 import collections
@@ -25,10 +25,12 @@ import xml.etree.ElementTree
 
 HERE = os.path.dirname(os.path.abspath(__file__))
 SYSTEM_PYTHON = "/usr/bin/python3"
-# It takes half a minute on a machine that does nothing else.
+# It takes a minute or two.
 SECONDS, SECONDS_OF_A_STEP, SECONDS_TO_END = 300, 60, 20
 MOST_PORTS, MOST_FAILURES, MOST_VLANS = 24, 24, 6
 CAMPUS = ["4", "10"]
+# Of the drawn networks of check-answers.py some, with shared LANs, links of a class, RSTP bridges and restricted roles.
+DRAWN = (0, 2, 9, 10)
 FLAGS = ("headless=new", "no-sandbox", "disable-gpu", "disable-dev-shm-usage", "window-size=1440,1100")
 FORWARDING = {"Root", "Designated", "Master"}
 BLOCKING = {"Alternate", "Backup"}
@@ -123,9 +125,8 @@ def spread(items, most):
 
 def missing():
     """What isn't there of what drives a page, by name."""
-    needed = {
-        "chromium": chromium(), "chromium-driver": shutil.which("chromedriver"), "python3-selenium": importlib.util.find_spec("selenium"),
-    }
+    driver, selenium = shutil.which("chromedriver"), importlib.util.find_spec("selenium")
+    needed = {"chromium": chromium(), "chromium-driver": driver, "python3-selenium": selenium}
     return [name for name, found in needed.items() if not found]
 
 
@@ -220,6 +221,14 @@ def drawn_ports(text):
     return {texts.at(name) for name, port in ports.items() if lans[port["lan"]] > 1}
 
 
+def cables_of(text):
+    """The ports of each LAN that joins just two switches."""
+    lans = {}
+    for name, port in text.trees[0].ports.items():
+        lans.setdefault(port["lan"], []).append(name)
+    return {lan: [*map(texts.at, names)] for lan, names in lans.items() if len(names) == 2 and names[0][0] != names[1][0]}
+
+
 class Page:
     """A page that is open, the script that it was made of, as lines, and the texts of its network."""
 
@@ -283,9 +292,7 @@ class Page:
         self.browser.click("#banner [data-clear]")
 
     def check_vlans(self):
-        lans = {}
-        for name, port in self.text.trees[0].ports.items():
-            lans.setdefault(port["lan"], []).append(texts.at(name))
+        cables = cables_of(self.text)
         kinds = {str(sorted(active)): vid for vid, active in self.text.active.items()}
         for vid in spread(kinds.values(), MOST_VLANS):
             self.browser.click("#tabs [data-sheet='vlans']")
@@ -294,8 +301,8 @@ class Page:
             active = {word.strip("[]") for word in members}
             forwards = sorted(port for port, role, _ in view["signs"] if role in FORWARDING)
             self.equal(f"active ports of VLAN {vid}", forwards, sorted(active & self.drawn))
-            carrying = sorted(lan for lan, ports in lans.items() if len(ports) == 2 and all(port in members for port in ports))
-            self.equal(f"links of VLAN {vid}", sorted(lan for lan in view["carrying"] if len(lans[lan]) == 2), carrying)
+            carrying = sorted(lan for lan, ports in cables.items() if all(port in members for port in ports))
+            self.equal(f"links of VLAN {vid}", sorted(cables.keys() & set(view["carrying"])), carrying)
             self.equal(f"VLAN {vid} is whole", view["warned"], len(self.text.islands[vid]) > 1)
         self.browser.click("#banner [data-clear]")
 
@@ -466,15 +473,19 @@ def check_words(program, folder, expect):
 
 def check_pages(browser, program, folder, expect):
     """All pages, and how many comparisons they made themselves."""
-    compared, switches = 0, os.path.join(folder, "switches.script")
-    with open(switches, "w", encoding="ascii") as file:
-        campus = [sys.executable, os.path.join(HERE, "bench", "campus.py"), *CAMPUS]
-        subprocess.run(campus, stdout=file, check=True, timeout=SECONDS_OF_A_STEP)
-    scripts = [*sorted(glob.glob(f"{HERE}/*.script") + glob.glob(f"{HERE}/small/*.script")), switches]
+    compared, networks = 0, {f"drawn-{number}.script": texts.drawn(number) for number in DRAWN}
+    campus = [sys.executable, os.path.join(HERE, "bench", "campus.py"), *CAMPUS]
+    networks["switches.script"] = subprocess.check_output(campus, text=True, timeout=SECONDS_OF_A_STEP).splitlines()
+    for name, lines in networks.items():
+        with open(os.path.join(folder, name), "w", encoding="ascii") as file:
+            file.write("\n".join([*lines, ""]))
+    scripts = sorted(glob.glob(f"{HERE}/*.script") + glob.glob(f"{HERE}/small/*.script"))
+    scripts += [os.path.join(folder, name) for name in networks]
     for script in scripts:
-        name = os.path.basename(script)
-        browser.open(made(program, folder, name, expect, [script]))
-        page = Page(browser, name, program, texts.lines_of(script), expect)
+        name, lines = os.path.basename(script), texts.lines_of(script)
+        refused = [f"page.py: {script}: {line}" for line in texts.refused(program, lines)]
+        browser.open(made(program, folder, name, expect, [script], 1 if refused else 0, refused))
+        page = Page(browser, name, program, texts.edits_of(lines), expect)
         compared += page.check_all()
         if name == "campus.script":
             check_hand(page)

@@ -2,8 +2,9 @@
 """Makes one HTML page of a script's network: its picture with each tree and VLAN, why each port has its role, and what
 each single failure does.
 
-All that the page tells is an answer of PROGRAM with --json. It needs no network and no other file, so it can be opened from
-a disk or sent in a mail. Graphviz's dot puts the switches in order; without it they stand by name.
+What the page tells is PROGRAM's answers. Which switches a VLAN joins after a failure the page works out itself, and compares
+with PROGRAM's sweep when it is opened. It needs no network and no other file, so it can be sent in a mail. Graphviz's dot puts
+the switches in order; without it they stand by name.
 
 For example: page.py mstplan campus.script campus.html
 """

@@ -120,6 +120,7 @@ class Telling {
       return markup`On the LAN ${at(record.designated, "it")} is the <b>designated port</b> rather than
         ${at(record.over, "this port")}: ${this.comparison(record)}.`;
     }
+    if ("root" in record && record.alone) return printedReason(record);
     if (record.root === "own") {
       return markup`<b>${bridgeOf(port)} is the root itself</b>, which is better than what ${at(record.over, "this port")} hears:
         ${this.comparison(record)}.`;
