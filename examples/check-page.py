@@ -229,6 +229,13 @@ def cables_of(text):
     return {lan: [*map(texts.at, names)] for lan, names in lans.items() if len(names) == 2 and names[0][0] != names[1][0]}
 
 
+def having_of(text, vid):
+    """The switches with a logical port in a VLAN."""
+    lists = {tuple(words[1:3]): words[3] for words in text.saved if words[0] == "setportvlans"}
+    lists = {(bridge, int(number)): [] if vids == "none" else texts.numbers_in(vids) for (bridge, number), vids in lists.items()}
+    return {name[0] for name in text.trees[0].ports if vid in lists.get(name, [vid])}
+
+
 class Page:
     """A page that is open, the script that it was made of, as lines, and the texts of its network."""
 
@@ -303,7 +310,9 @@ class Page:
             self.equal(f"active ports of VLAN {vid}", forwards, sorted(active & self.drawn))
             carrying = sorted(lan for lan, ports in cables.items() if all(port in members for port in ports))
             self.equal(f"links of VLAN {vid}", sorted(cables.keys() & set(view["carrying"])), carrying)
-            self.equal(f"VLAN {vid} is whole", view["warned"], len(self.text.islands[vid]) > 1)
+            having = having_of(self.text, vid)
+            inhabited = [island for island in self.text.islands[vid] if having.intersection(island)]
+            self.equal(f"VLAN {vid} is apart", view["warned"], len(inhabited) > 1)
         self.browser.click("#banner [data-clear]")
 
     def check_sheets(self):

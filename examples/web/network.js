@@ -116,6 +116,15 @@ class Network {
       .map(port => ({ port, bridge: bridgeOf(port), tree: this.treeOf(bridgeOf(port), vid) }))));
   }
 
+  /** The bridges that have a port in a VLAN. Any other is an island of its own, which nothing of the VLAN is to reach. */
+  having(vid) { return new Set(this.joinsOf(vid).flat().map(({ bridge }) => bridge)); }
+
+  /** The islands of a VLAN that have a port in it. */
+  inhabited(vid, failure) {
+    const having = this.having(vid);
+    return this.islands(vid, failure).filter(([first]) => having.has(first));
+  }
+
   /** The islands of a VLAN's bridges that are on, the largest first: what ports that forward and are members join. */
   islands(vid, failure) {
     const above = new Map();

@@ -192,12 +192,14 @@ class Picture {
 
   /** Shows what is selected: a tree or a VLAN, and a failure or none. `roleBefore` is what a port's role is compared with. */
   paint(shown, roleBefore) {
-    const islands = shown.vid === null ? [] : this.network.islands(shown.vid, shown.failure);
+    const islands = shown.vid === null ? [] : this.network.inhabited(shown.vid, shown.failure);
+    const having = shown.vid === null ? this.network.bridges : this.network.having(shown.vid);
+    const relation = name => (!having.has(name) ? " without" : islands.length > 1 && !islands[0].includes(name) ? " apart" : "");
     for (const cable of this.cables) this.paintCable(cable, shown);
     for (const [port, sign] of this.signs) this.paintSign(port, sign, shown, roleBefore);
     for (const [name, box] of this.boxes) {
       if (name.startsWith("lan ")) box.setAttribute("class", `node${shown.selected === name ? " selected" : ""}`);
-      else this.paintSwitch(name, box, shown, islands.length > 1 && !islands[0].includes(name));
+      else this.paintSwitch(name, box, shown, relation(name));
     }
   }
 
@@ -232,12 +234,13 @@ class Picture {
     element("title", {}, sign, `${port} ${role ?? absent}${other}`);
   }
 
-  paintSwitch(bridge, box, shown, isApart) {
+  /** `relation` is how the switch stands to the VLAN: apart from most of it, or without a port in it. */
+  paintSwitch(bridge, box, shown, relation) {
     const { network } = this, { vid, failure } = shown;
     const tree = vid === null ? shown.tree : network.treeOf(bridge, vid), isOn = network.isOn(bridge, failure);
     const hasTree = Boolean(network.bridgeIn(tree, bridge)), isRoot = network.root(tree, bridge, failure) === bridge;
     const state = !isOn ? " off" : !hasTree ? " absent" : isRoot ? " root" : "";
-    const marks = [isOn && isApart ? " apart" : "", shown.selected === `bridge ${bridge}` ? " selected" : ""].join("");
+    const marks = `${isOn ? relation : ""}${shown.selected === `bridge ${bridge}` ? " selected" : ""}`;
     box.setAttribute("class", `node${state}${marks}`);
     const named = tree !== CIST && (isRoot || vid !== null) ? `MST ${tree}` : "";
     const told = [isRoot ? "root" : "", named].filter(Boolean).join(", ");

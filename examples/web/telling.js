@@ -19,7 +19,7 @@ const FIELDS = {
   root: "root's identifier", ext: "external path cost", regional: "regional root", int: "internal path cost",
   bridge: "designated bridge", port: "designated port", receiver: "own port's identifier",
 };
-const MOST_NAMES = 12, MOST_PORTS = 8;
+const MOST_NAMES = 12, MOST_PORTS = 8, MOST_ISLANDS = 6;
 const DASH = "–";
 
 const speedText = speed => {
@@ -34,6 +34,8 @@ const lanJump = lan => markup`<a class="jump" data-lan="${lan}">${lan}</a>`;
 const roleTag = (role, text = role) => (role ? markup`<span class="role ${role}">${text}</span>` : DASH);
 const minor = text => markup`<span class="minor">${text}</span>`;
 const line = text => markup`<div>${text}</div>`;
+/** A list without spaces, which may be broken behind its commas. */
+const listed = text => joined(text.split(","), markup`,<wbr>`);
 
 /** A table, of which a head that begins with `#` is one of numbers. Rows are texts, or cells. */
 function table(heads, rows) {
@@ -97,10 +99,13 @@ class Telling {
       <div class="why">${this.why(port, tree).map(line)}${this.printedWhy(port, tree)}</div>`;
   }
 
-  /** What a port's role stands on, in words. */
+  /** What a port's role stands on, in words. One that is alone on its LAN isn't explained by the program. */
   why(port, tree) {
-    const told = this.network.reasons.get(port)?.[tree];
-    return told ? told.map(record => this.reason(record, port)) : ["No other port is on its LAN, so it is compared with none."];
+    const told = this.network.reasons.get(port)?.[tree], lan = this.network.lanOf(port);
+    if (told) return told.map(record => this.reason(record, port));
+    if (!this.network.isOn(bridgeOf(port), null)) return this.reason({ off: bridgeOf(port) }, port);
+    if (this.network.isDown(lan, null)) return this.reason({ down: lan }, port);
+    return "No other port is on its LAN, so it is compared with none.";
   }
   printedWhy(port, tree) {
     const told = this.network.reasons.get(port)?.[tree];
@@ -147,7 +152,7 @@ class Telling {
       <div class="minor">${speedText(speed)}${members.length > 1 ? `; counts as one link: ${members.join(", ")}` : ""}
         ${network.isDown(lan, null) ? "; down" : ""}</div>
       <h3>Carries VLANs${shown.failure ? " while all is well" : ""}</h3>
-      <div>${carried.text || "none"} ${minor(`(${carried.count})`)}</div>
+      <div>${listed(carried.text || "none")} ${minor(`(${carried.count})`)}</div>
       <h3>Roles at its ends${shown.failure ? " after this failure" : ""}</h3>
       ${table(["Port", ...trees.map(treeName)], ports.map(port =>
         [portJump(port), ...trees.map(tree => roleTag(network.role(tree, port, shown.failure)))]))}
@@ -184,7 +189,7 @@ class Telling {
   failing(key, shown) {
     const failure = this.network.failures.get(key);
     if (!failure) return "";
-    const cuts = failure.parts.map(([cut, parts]) => markup`<div class="warning">VLANs ${cut} come apart:</div>
+    const cuts = failure.parts.map(([cut, parts]) => markup`<div class="warning">VLANs ${listed(cut)} come apart:</div>
       <div>${joined(parts.map(part => part.split(",").join(", ")), markup` <b class="warning">|</b> `)}</div>`);
     const roots = failure.roots.map(([tree, before, after]) =>
       markup`<div>Root of ${treeName(tree)}: ${this.bridgeJump(before)} → ${this.bridgeJump(after)}</div>`);
@@ -213,8 +218,10 @@ class Telling {
       markup`<div>Root of ${treeName(it.tree)}: ${it.old} → <b>${it.new}</b></div>`);
     const regions = told.filter(it => "old_first" in it).map(it => markup`<div>Region of ${this.bridgeJump(it.region)}:
       ${it.old_name} ${it.old_revision} → <b>${it.new_name} ${it.new_revision}</b></div>`);
-    const reach = told.filter(it => "reach" in it).map(it => markup`<div class="warning">VLANs ${it.reach} reach other switches:</div>
-      <div>${apart(it.old)} → ${apart(it.new)}</div>`);
+    const reach = told.filter(it => "reach" in it).map(it => [
+      markup`<div class="warning">VLANs ${listed(it.reach)} reach other switches:</div>`,
+      line([apart(it.old), " → ", apart(it.new)]),
+    ]);
     const ports = [...roles].map(([tree, list]) =>
       markup`<div>${treeName(tree)}: ${counted(list.length, "role")} ${minor(some(list, MOST_PORTS))}</div>`);
     const changes = [...roots, ...regions, ...reach, ...ports];
@@ -302,8 +309,8 @@ class Telling {
     const cutting = [...this.network.failures.values()].sort((a, b) => Boolean(b.cut) - Boolean(a.cut));
     const rows = cutting.map(failure => ({ data: { fail: failure.key }, isSelected: shown.failure === failure, cells: [
       markup`${failure.what === "lan" ? "LAN" : "switch"} <b>${failure.name}</b>`,
-      failure.cut ? markup`<span class="warning">${failure.cut}</span>` : markup`<span class="fine">none</span>`,
-      failure.parts.map(([cut, parts]) => line(`${failure.parts.length > 1 ? `${cut}: ` : ""}${parts.join(" | ")}`)),
+      failure.cut ? markup`<span class="warning">${listed(failure.cut)}</span>` : markup`<span class="fine">none</span>`,
+      failure.parts.map(([cut, parts]) => line([failure.parts.length > 1 ? [listed(cut), ": "] : "", listed(parts.join(" | "))])),
       failure.roots.map(([tree, before, after]) => line(`${treeName(tree)}: ${before} → ${after}`)),
       failure.changed,
     ] }));
@@ -312,12 +319,14 @@ class Telling {
 
   vlanSheet() {
     const rows = this.network.groups.map(group => {
-      const list = vids(group.vids), { islands } = group, apart = islands.slice(0, 6).map(island => island.join(",")).join(" | ");
+      const list = vids(group.vids), islands = this.network.inhabited(list.first, null);
+      const apart = listed(islands.slice(0, MOST_ISLANDS).map(island => island.join(",")).join(" | "));
       const told = islands.length < 2 ? markup`<span class="fine">whole</span>`
-        : markup`<span class="warning">${islands.length}</span>: ${apart}${islands.length > 6 ? " | …" : ""}`;
-      return { data: { vlan: list.first }, cells: [markup`<b>${group.vids}</b>`, list.count, told] };
+        : markup`<span class="warning">${islands.length} islands</span>: ${apart}${islands.length > MOST_ISLANDS ? " | …" : ""}`;
+      const { size } = this.network.having(list.first);
+      return { data: { vlan: list.first }, cells: [markup`<b>${listed(group.vids)}</b>`, list.count, size, told] };
     });
-    return table(["VLANs", "#Number", "Islands"], rows);
+    return table(["VLANs", "#Number", "#Switches with a port in it", "Of these"], rows);
   }
 
   linkSheet() {
@@ -325,7 +334,7 @@ class Telling {
     links.sort((a, b) => b.carried.count - a.carried.count || byOrder(a.lan, b.lan));
     const rows = links.map(({ lan, ports, speed, carried }) => ({ data: { lan }, cells: [
       markup`<b>${lan}</b>`, ports.join(` ${DASH} `), speedText(speed), carried.count,
-      carried.count === LAST_VID ? "all" : carried.text || minor("spare: carries nothing while all is well"),
+      carried.count === LAST_VID ? "all" : carried.count ? listed(carried.text) : minor("spare: carries nothing while all is well"),
     ] }));
     return table(["LAN", "Ends", "Speed", "#VLANs carried", ""], rows);
   }
@@ -344,16 +353,18 @@ class Telling {
   banner({ vid, failure }) {
     if (failure) {
       const roots = failure.roots.map(([tree, , root]) => `; new root ${root} of ${treeName(tree)}`);
-      const cut = failure.cut ? markup`<span class="warning">VLANs ${failure.cut} are cut</span>` : "no VLAN is cut";
+      const cut = failure.cut ? markup`<span class="warning">VLANs ${listed(failure.cut)} are cut</span>` : "no VLAN is cut";
       return [Boolean(failure.cut), markup`<button data-clear="failure">Back to the whole network</button>
         <b>After ${entityName(failure)} has failed</b>${vid === null ? "" : `, VLAN ${vid}`}: ${cut}${roots};
         ${counted(failure.changed, "role")} of ports in use ${failure.changed === 1 ? "changes" : "change"}.
         ${minor("Dashed rings: another role than before.")}`];
     }
     if (vid === null) return null;
-    const islands = this.network.islands(vid, null).length;
-    const told = islands > 1 ? `is in ${islands} islands; switches in red aren't in the largest` : "reaches every switch that is on";
-    return [islands > 1, markup`<button data-clear="vlan">Back to trees</button><b>VLAN ${vid}</b> ${told}.
+    const islands = this.network.inhabited(vid, null).length, without = this.network.bridges.size - this.network.having(vid).size;
+    const whole = without ? "reaches every switch that is on and has a port in it" : "reaches every switch that is on";
+    const told = islands > 1 ? `is in ${islands} islands; switches in red aren't in the largest` : whole;
+    const pale = without ? `; ${counted(without, "pale switch has", "pale switches have")} none` : "";
+    return [islands > 1, markup`<button data-clear="vlan">Back to trees</button><b>VLAN ${vid}</b> ${told}${pale}.
       ${minor("Each switch is drawn with its own tree of this VLAN.")}`];
   }
 }
