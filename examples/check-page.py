@@ -27,7 +27,7 @@ HERE = os.path.dirname(os.path.abspath(__file__))
 SYSTEM_PYTHON = "/usr/bin/python3"
 # It takes a minute or two.
 SECONDS, SECONDS_OF_A_STEP, SECONDS_TO_END = 300, 60, 20
-MOST_PORTS, MOST_FAILURES, MOST_VLANS = 24, 24, 6
+MOST_PORTS, MOST_FAILURES, MOST_VLANS = 16, 16, 6
 CAMPUS = ["4", "10"]
 # Of the drawn networks of check-answers.py some, with shared LANs, links of a class, RSTP bridges and restricted roles.
 DRAWN = (0, 2, 9, 10)
