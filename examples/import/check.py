@@ -6,6 +6,7 @@ usage: check.py PROGRAM
 
 The samples: campus/links.txt is made up; lab/, ovs/rstp and ovs/stp are of the networks that examples/lab/ makes; ovs/settings is
 of ovsdb-server alone, whose devices say nothing of a spanning tree. What no lab has is in a few made-up hosts (strange_hosts).
+Then each importer reads 2,000 inputs that are no device's (fuzz.py). It takes about half a minute.
 """
 
 import json
@@ -16,6 +17,7 @@ import tempfile
 
 sys.dont_write_bytecode = True
 
+import fuzz  # noqa: E402
 import lldp  # noqa: E402
 import ovs  # noqa: E402
 
@@ -23,6 +25,9 @@ HERE = os.path.dirname(os.path.abspath(__file__))
 # Each sample: its importer, its words, what reads the same network, how much its devices say, and what is told.
 SAMPLES = [
     ("links.py", ["campus/links.txt"], None, 0, [
+        "assumed: MAC addresses, and so who is root where priorities are equal; priorities, regions, VLANs",
+    ]),
+    ("links.py", ["campus/switches.txt"], None, 0, [
         "assumed: MAC addresses, and so who is root where priorities are equal; priorities, regions, VLANs",
     ]),
     ("lldp.py", ["lab"], lldp.read, 52, [
@@ -45,7 +50,9 @@ SAMPLES = [
         "distribution-north eth2: its port number isn't told, and 1 is assumed",
         "edge has Max Age 50, which isn't from 6 to 40: 40 stands for it",
         "edge eth4 has priority 100, which is no multiple of 16: 96 stands for it",
-        "edge bond0 is a bond, so it takes no part in the spanning tree: it is left out",
+        "edge bond0 is a bond: Open vSwitch runs no spanning tree on it and always forwards there, and the plan has it take part",
+        "edge bond0: its port number isn't told, and 4 is assumed",
+        "edge bond0: no cable is told: it has a LAN of its own",
         "edge eth4: its port number isn't told, and 1 is assumed",
         "edge to-core: its port number isn't told, and 2 is assumed",
         "edge to-plain: its port number isn't told, and 3 is assumed",
@@ -77,9 +84,29 @@ def port(name, address, its, up=True, kind="veth", guard=False, **more):
     return link(name, address, up, "br0", info_kind=kind, info_slave_kind="bridge", info_slave_data=says, **more)
 
 
-def heard(name, host, of, mau="1000BaseTFD - Four-pair Category 5 UTP, full duplex mode"):
-    told = {"port": {"id": {"type": "ifname", "value": of}, "auto-negotiation": {"current": mau}}}
-    return {name: {"chassis": {host: {"id": {"type": "local", "value": host}}}} | told}
+def heard(name, host, of, mau="1000BaseTFD - Four-pair Category 5 UTP, full duplex mode", description=None):
+    """A neighbour as lldpctl -f json0 has it."""
+    told = {"id": [{"type": "ifname", "value": of}], "auto-negotiation": [{"current": [{"value": mau}]}]}
+    told |= {"descr": [{"value": description}]} if description else {}
+    return {"name": name, "chassis": [{"id": [{"type": "local", "value": host}], "name": [{"value": host}]}], "port": [told]}
+
+
+def heard_by_key(name, host, of):
+    """One as lldpctl -f json has it."""
+    return {name: {"chassis": {host: {"id": {"type": "local", "value": host}}}, "port": {"id": {"type": "ifname", "value": of}}}}
+
+
+def vlan_host(octet, far):
+    """A host with two bridges, each with a VLAN interface on one cable, and a stranger on another."""
+    address = f"02:00:00:00:{octet:02x}:01"
+    links = [link("eno1", address), link("eno2", address)]
+    for count, vid in enumerate((10, 20)):
+        its = bridge(f"8000.2:0:0:{count}:{octet:x}:0") | {"ifname": f"br{vid}"}
+        on = port(f"eno1.{vid}", address, 0x8001, kind="vlan", info_data={"protocol": "802.1Q", "id": vid})
+        links += [its, on | {"link": "eno1", "master": f"br{vid}"}]
+    smuggled = "p1\naddbridge evil 02:00:00:00:ee:ee"
+    hostile = heard("eno2", "core\u00e9\"1\x1b[2J", smuggled, description="up\u202e\u2028\x07link\nlan x down")
+    return links, [heard("eno1", far, "eno1"), hostile]
 
 
 def strange_hosts():
@@ -95,7 +122,8 @@ def strange_hosts():
             [bridge("9001.2:0:0:0:0:2", filtering=1), port("bond0", "02:00:00:00:0b:01", 0x4001, kind="bond")]
             + [link(name, "02:00:00:00:0b:01", master="bond0") for name in ("eth0", "eth1")]
             + [port("eth2", "02:00:00:00:0b:02", 0x8002), port("eth3", "02:00:00:00:0b:03", 0x8003)],
-            [heard("eth0", "a", "eth0"), heard("eth1", "a", "eth1"), heard("eth2", "c", "eth1", "2p5GbaseX - 2.5G")],
+            [heard("eth0", "a", "eth0"), heard("eth1", "a", "eth1"), heard("eth2", "c", "eth1", "2p5GbaseX - 2.5G")]
+            + [heard_by_key("eth2", "c", "eth1"), heard("eth9", "c", "eth1")],
         ),
         "c": (
             [bridge("8000.2:0:0:0:0:3", stp_state=0)]
@@ -103,6 +131,8 @@ def strange_hosts():
             [heard("eth0", "a", "eth2", "2p5GbaseX - 2.5G")],
         ),
         "d": ([bridge("8000.2:0:0:0:0:1")], []),
+        "distribution-e-1": vlan_host(0xe1, "distribution-e-2"),
+        "distribution-e-2": vlan_host(0xe2, "distribution-e-1"),
     }
 
 
@@ -116,13 +146,21 @@ STRANGE_TOLD = [
     "d br0 has the MAC address of a br0: it is left out",
     "b eth2 hears of c eth1, and not the other way round",
     "a br0 eth3 has no link: it is in no LAN",
-    "a br0 bond0 and b br0 bond0: the speed isn't told",
+    "a br0 eth2 and b br0 eth2: the speed isn't told",
+    "b.lldp is of lldpctl -f json, where a neighbour's name can make up others: -f json0 can't",
+    "b.link has no eth9, which is to hear of c: that is left out",
+    *(f"distribution-e-{it} br{vid} is named distributio.br{vid}" for it, vid in ((1, 10), (1, 20))),
+    *(f"distribution-e-2 br{vid} is named distribut.2.br{vid}" for vid in (10, 20)),
+    *(f"distribution-e-{it} eno2 hears of core\u00e9\"1\\x1b[2J up\\u202e\\u2028\\x07link\\nlan x down, which is no interface of "
+      "these hosts" for it in (1, 2)),
     "b br0 eth3 hears of no other bridge: it has a LAN of its own, of unknown speed",
 ]
 STRANGE_LINES = [
     "settreeprio b 0 36864", "settreeportprio b 1 0 64", "setportvlans b 2 1,10-20", "setportvlans b 3 none",
-    "setportrestrrole a 1026 yes", "setportpathcost a 1 4", "plug a 1 a-b", "plug b 1 a-b", "speed a-b.2 2500000",
-    "plug a 1026 a-b.2", "plug b 2 a-b.2", "plug b 3 b-eth3",
+    "setportrestrrole a 1026 yes", "setportpathcost a 1 4", "plug a 1 a-b.2", "plug b 1 a-b.2",
+    "plug a 4095 a-b.3", "plug b 4095 a-b.3", "setkey a 1 1", "setkey a 4095 1", "setkey b 1 1", "setkey b 4095 1", "plug a 1026 a-b", "plug b 2 a-b", "plug b 3 b-eth3",
+    "plug distributio.br10 1 di.br10-dis.br10",
+    "plug distribut.2.br10 1 di.br10-dis.br10",
 ]
 
 
@@ -169,7 +207,7 @@ def check_strange(program):
         with open(os.path.join(folder, "b.lldp"), "w", encoding="utf-8") as file:
             file.write("{")
         script, told, status = imported("lldp.py", [folder])
-        unread = [line for line in told if line.startswith(folder)]
+        unread = [line for line in told if "can't be read" in line]
         wrong += answers(program, script)[0] + ([] if status == 1 and len(unread) == 2 else [f"status {status}, {unread}"])
     return wrong
 
@@ -180,6 +218,7 @@ def main():
     program = os.path.abspath(sys.argv[1])
     checks = [(" ".join([importer, *words]), check_sample(program, importer, words, *more)) for importer, words, *more in SAMPLES]
     checks.append(("made-up hosts", check_strange(program)))
+    checks += [(f"{fuzz.INPUTS} inputs of {importer}", fuzz.check(program, importer)) for importer in fuzz.IMPORTERS]
     for name, wrong in checks:
         for line in wrong:
             print(f"FAILED {name}: {line}")

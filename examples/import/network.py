@@ -1,35 +1,136 @@
 """A network as an importer reads it from devices: the script of it, what couldn't be told, and whether a plan fits what the
 devices say of themselves. The importers of this folder share it.
+
+What devices say may be a stranger's: neither LLDP nor CDP is authenticated. So all that is printed goes out by `put`, which
+escapes what isn't printable, and a device's word stands in a script's command only as a name that `Network.name` has made.
 """
 
+import json
+import os
 import re
 import sys
 import textwrap
 from dataclasses import dataclass, field
 
 DEFAULT_SPEED = 1_000_000
-DEFAULT_PRIORITY, DEFAULT_PORT_PRIORITY, DEFAULT_MAX_AGE = 32768, 128, 20
-LONGEST_NAME, LONGEST_LIST, HIGHEST_COST = 16, 4000, 200_000_000
+DEFAULT_PRIORITY, DEFAULT_PORT_PRIORITY, DEFAULT_MAX_AGE, DEFAULT_MAX_HOPS = 32768, 128, 20, 20
+LONGEST_NAME, LONGEST_END, LONGEST_LIST, HIGHEST_COST, HIGHEST_SPEED = 16, 10, 4000, 200_000_000, 9_999_999_999
+HIGHEST_PORT, HIGHEST_KEY, HIGHEST_VID = 4095, 65535, 4094
+MOST_BRIDGES, MOST_LANS, MOST_PORTS, MOST_TREES = 1024, 8192, 16384, 64
 MAC = re.compile(r"[0-9a-f]{2}(:[0-9a-f]{2}){5}")
+NOT_IN_NAMES = re.compile(r"[^A-Za-z0-9_.-]")
+STATUS_UNREAD, STATUS_WORDS, STATUS_FAULT = 1, 2, 3
+
+
+def printable(text):
+    """A text on one line: ends of lines, control characters and whatever else isn't printable are escaped as Python does it."""
+    return "".join(it if it.isprintable() else it.encode("unicode_escape").decode("ascii") for it in text)
+
+
+def put(line, stream=None):
+    """Prints a line, to standard output or another stream. It is the only way out for what devices, files and words say."""
+    stream = stream or sys.stdout
+    encoding = getattr(stream, "encoding", None) or "utf-8"
+    stream.write(printable(line).encode(encoding, "backslashreplace").decode(encoding) + "\n")
+
+
+def called(page, least, most=None):
+    """The words that an importer is called with, `least` or more and at most `most`. `--help` prints its page and ends with 0;
+    a wrong number of words prints its usage on standard error and ends with 2."""
+    words = sys.argv[1:]
+    if any(it in ("--help", "-h") for it in words):
+        print(page.strip())
+        sys.exit(0)
+    if not least <= len(words) <= (len(words) if most is None else most):
+        usage = [line for line in page.splitlines() if line.startswith("usage:")]
+        put(f"{usage[0]}    (--help tells more)", sys.stderr)
+        sys.exit(STATUS_WORDS)
+    return words
+
+
+def guarded(main):
+    """Runs an importer's main function. A fault of standard output ends it with 3: quietly where nobody reads any more."""
+    try:
+        main()
+        sys.stdout.flush()
+    except OSError as why:
+        if not isinstance(why, BrokenPipeError):
+            put(f"standard output can't be written: {why.strerror}", sys.stderr)
+        # what is left in the buffer has nowhere to go
+        os.dup2(os.open(os.devnull, os.O_WRONLY), sys.stdout.fileno())
+        sys.exit(STATUS_FAULT)
+
+
+def contents(path):
+    """The bytes of a file, `-` being standard input. Raises OSError where it can't be read."""
+    if path == "-":
+        return sys.stdin.buffer.read()
+    with open(path, "rb") as file:
+        return file.read()
+
+
+def files_of(folder, endings):
+    """The bytes of each file of a folder that has one of these endings, by name, and lines of those that can't be read."""
+    found, unread = {}, []
+    try:
+        names = sorted(it for it in os.listdir(folder) if it.endswith(endings))
+    except OSError as why:
+        put(f"{folder} is no folder that can be read: {why.strerror}", sys.stderr)
+        sys.exit(STATUS_FAULT)
+    for name in names:
+        try:
+            found[name] = contents(os.path.join(folder, name))
+        except OSError as why:
+            unread.append(f"{name} can't be read: {why.strerror}")
+    return found, unread
+
+
+def decoded(data, where, tell):
+    """The text of bytes. Those that aren't UTF-8 are replaced, and that is told."""
+    try:
+        return data.decode("utf-8-sig")
+    except UnicodeDecodeError:
+        tell(f"{where} has bytes that aren't UTF-8: they are replaced")
+        return data.decode("utf-8-sig", "replace")
+
+
+def parsed(text, pairs=None):
+    """What a text's JSON says; `pairs` makes objects. Raises ValueError where it is none, or has more levels than can be read."""
+    try:
+        return json.loads(text, object_pairs_hook=pairs)
+    except RecursionError:
+        raise ValueError("it has too many levels") from None
 
 
 @dataclass
 class Port:
-    """A bridge's port. A cost of None is the automatic one, `vlans` is a set of VIDs or None for all; `role` and `forwards` are
-    what the device says, None where it doesn't."""
+    """A bridge's port. A cost of None is the automatic one, `vlans` is a set of VIDs or None for all, and a key of 0 stands for
+    none. By MSTI, `priorities` and `costs` are those that are set. By tree, `says` is what the device says: the role and whether
+    the port forwards, each None where it doesn't."""
     label: str
     priority: int = DEFAULT_PORT_PRIORITY
     cost: int | None = None
     restricted: bool = False
     vlans: set[int] | None = None
     lan: str | None = None
-    role: str | None = None
-    forwards: bool | None = None
+    key: int = 0
+    priorities: dict[int, int] = field(default_factory=dict)
+    costs: dict[int, int] = field(default_factory=dict)
+    says: dict[int, tuple[str | None, bool | None]] = field(default_factory=dict)
+
+
+@dataclass
+class Region:
+    """An MST configuration: its name, its revision, and the VIDs of each MSTI."""
+    name: str
+    revision: int = 0
+    table: dict[int, set[int]] = field(default_factory=dict)
 
 
 @dataclass
 class Bridge:
-    """A bridge. `root` and `root_cost` are what the device says, None where it doesn't."""
+    """A bridge, of kind rstp where it has no region. `root` and `root_cost` are what the device says, None where it doesn't;
+    `priorities` are those that are set, by MSTI."""
     name: str
     label: str
     mac: str
@@ -39,6 +140,9 @@ class Bridge:
     ports: dict[int, Port] = field(default_factory=dict)
     root: str | None = None
     root_cost: int | None = None
+    region: Region | None = None
+    max_hops: int = DEFAULT_MAX_HOPS
+    priorities: dict[int, int] = field(default_factory=dict)
 
 
 @dataclass
@@ -47,6 +151,25 @@ class Lan:
     name: str
     speed: int | None
     ends: list[tuple[Bridge, int]]
+
+
+class Joined:
+    """Things that are joined: all that are joined to each other have one end."""
+
+    def __init__(self):
+        self.next = {}
+
+    def end(self, it):
+        while it in self.next:
+            on = self.next[it]
+            self.next[it] = self.next.get(on, on)
+            it = on
+        return it
+
+    def join(self, one, other):
+        one, other = self.end(one), self.end(other)
+        if one != other:
+            self.next[other] = one
 
 
 def automatic(speed):
@@ -58,28 +181,64 @@ def identifier(priority, mac):
     return f"{priority:04x}.{mac}"
 
 
-def runs(vids):
-    """A list of VIDs in its longest runs."""
+def longest_runs(vids):
+    """The VIDs of these numbers as their longest runs, rising: each its first and its last."""
     found = []
-    for vid in sorted(it for it in vids if 1 <= it <= 4094):
+    for vid in sorted(it for it in vids if 1 <= it <= HIGHEST_VID):
         if found and found[-1][1] == vid - 1:
             found[-1][1] = vid
         else:
             found.append([vid, vid])
-    return ",".join(f"{first}-{last}" if first < last else str(first) for first, last in found) or "none"
+    return found
+
+
+def runs(vids):
+    """A list of VIDs in its longest runs."""
+    return ",".join(f"{first}-{last}" if first < last else str(first) for first, last in longest_runs(vids)) or "none"
+
+
+def vid_lists(vids):
+    """Lists of VIDs, each short enough for a line, that together have these."""
+    lists = textwrap.wrap(runs(vids).replace(",", " "), LONGEST_LIST, break_on_hyphens=False) if vids else []
+    return [it.replace(" ", ",") for it in lists]
+
+
+def vids_of(text):
+    """The VIDs of a list like 10,20-29. Raises ValueError where it is none."""
+    found = set()
+    for item in text.split(","):
+        first, dash, last = item.partition("-")
+        if not all(re.fullmatch("[0-9]{1,4}", it) for it in ((first, last) if dash else (first,))):
+            raise ValueError(f"{text} is no list of VIDs")
+        low, high = int(first), int(last or first)
+        if not 1 <= low <= high <= HIGHEST_VID:
+            raise ValueError(f"{item} is no VID, or no two with the first one not greater")
+        found.update(range(low, high + 1))
+    return found
 
 
 def comment(text):
     """A comment's lines, each short enough for the language, whatever the devices' words have in them."""
-    return textwrap.wrap(text, 120, initial_indent="# ", subsequent_indent="# ")
+    return textwrap.wrap(printable(text), 120, initial_indent="# ", subsequent_indent="# ")
+
+
+def cut(part):
+    """A part of a name without one letter: the last one before its last full stop, while two stand there."""
+    head, stop, tail = part.rpartition(".")
+    return head[:-1] + stop + tail if len(head) > 1 else part[:-1]
 
 
 def shortened(parts):
     """These parts with - between, the longest ones cut until they fit into a name."""
     while len("-".join(parts)) > LONGEST_NAME:
         longest = max(parts, key=len)
-        parts[parts.index(longest)] = longest[:-1]
+        parts[parts.index(longest)] = cut(longest)
     return "-".join(parts)
+
+
+def where_of(ends):
+    """These ports, each as (bridge, number), as a line names them."""
+    return " and ".join(f"{bridge.label} {bridge.ports[number].label}" for bridge, number in ends)
 
 
 class Network:
@@ -98,15 +257,16 @@ class Network:
     def told(self):
         return list(self.lines)
 
-    def name(self, kind, wanted):
-        """A name that the language takes and no other bridge or LAN has, as near as may be to the wanted one."""
-        plain = re.sub(r"[^A-Za-z0-9_.-]", "-", wanted).lstrip("_.-") or kind
-        names, first = self.names[kind], plain[:LONGEST_NAME]
-        name = first
+    def name(self, kind, wanted, last=""):
+        """A name that the language takes and no other bridge or LAN has, as near as may be to the wanted one with `last` behind
+        it: that stays where the name is cut, and the number that a second one of a name gets stands before it."""
+        plain, last = (NOT_IN_NAMES.sub("-", it) for it in (wanted, last[:LONGEST_END]))
+        plain, names = plain.lstrip("_.-") or kind, self.names[kind]
+        first = name = plain[:LONGEST_NAME - len(last)] + last
         while name in names:
             names[first] += 1
-            end = f".{names[first]}"
-            name = plain[:LONGEST_NAME - len(end)] + end
+            mark = f".{names[first]}"
+            name = plain[:max(1, LONGEST_NAME - len(mark) - len(last))] + mark + last
         names[name] = 1
         return name
 
@@ -118,14 +278,16 @@ class Network:
             self.tell(f"{where} has {what} {value}, which {why}: {near} stands for it")
         return near
 
-    def add_bridge(self, wanted, label, mac, priority, max_age):
-        """A new bridge, or None where another one has its MAC."""
-        if not MAC.fullmatch(mac) or mac in self.macs:
-            why = f"the MAC address of {self.macs[mac].label}" if mac in self.macs else f"no MAC address, but {mac}"
+    def add_bridge(self, wanted, label, mac, priority, max_age, last=""):
+        """A new bridge of the wanted name with `last` behind it, or None where another one has its MAC, or there are too many."""
+        if not MAC.fullmatch(mac) or mac in self.macs or len(self.bridges) == MOST_BRIDGES:
+            why = f"no MAC address, but {mac}"
+            if MAC.fullmatch(mac):
+                why = f"the MAC address of {self.macs[mac].label}" if mac in self.macs else f"{MOST_BRIDGES} bridges before it"
             self.tell(f"{label} has {why}: it is left out")
             return None
-        name = self.name("bridge", wanted)
-        if name != wanted:
+        name = self.name("bridge", wanted, last)
+        if name != wanted + last:
             self.tell(f"{label} is named {name}")
         bridge = Bridge(name, label, mac, self.fit(label, "priority", priority, 0, 61440, 4096))
         bridge.max_age = self.fit(label, "Max Age", max_age, 6, 40)
@@ -134,6 +296,7 @@ class Network:
         return bridge
 
     def add_port(self, bridge, number, port):
+        """A new port; what it has is held in the ranges of the language."""
         where = f"{bridge.label} {port.label}"
         port.priority = self.fit(where, "priority", port.priority, 0, 240, 16)
         if port.cost is not None:
@@ -151,18 +314,45 @@ class Network:
         name = self.name("LAN", wanted or shortened(parts))
         if wanted and name != wanted:
             self.tell(f"LAN {wanted} is named {name}")
+        if speed is not None:
+            speed = self.fit(f"LAN {name}", "speed", speed, 1, HIGHEST_SPEED)
         for bridge, number in ends:
             bridge.ports[number].lan = name
         self.lans.append(Lan(name, speed, ends))
+
+    def add_bundle(self, ends, cables):
+        """LANs with a key, which count as one link between two ports of different bridges. `ends` are these ports; a cable is the
+        labels of its two ports, its speed, and the name that is wanted for it or None. The first cable has the ports themselves;
+        each other one has ports of the highest numbers that are free, since the lowest number is the link's."""
+        for bridge, number in ends:
+            bridge.ports[number].key = number
+        for count, (labels, speed, wanted) in enumerate(cables):
+            numbers = [number for _, number in ends]
+            if count:
+                numbers = [self.add_member(*end, label) for end, label in zip(ends, labels)]
+            if None in numbers:
+                self.tell(f"{where_of(ends)}: no number is left for {' and '.join(labels)}: the cable is left out")
+            else:
+                self.add_lan([(bridge, number) for (bridge, _), number in zip(ends, numbers)], speed, wanted)
+
+    @staticmethod
+    def add_member(bridge, number, label):
+        """Another port of the bundle that this port is of: its number, or None where none is free."""
+        spare = next((it for it in range(HIGHEST_PORT, number, -1) if it not in bridge.ports), None)
+        if spare is not None:
+            bridge.ports[spare] = Port(f"{bridge.ports[number].label} {label}", key=number)
+        return spare
 
     def script(self):
         """The lines of a script that makes the network."""
         yield "mstplan 2"
         speeds = {lan.name: lan.speed for lan in self.lans}
         for bridge in self.bridges:
-            yield from self.bridge_lines(bridge, speeds)
+            yield from self.bridge_lines(bridge)
+            for number, port in sorted(bridge.ports.items()):
+                yield from self.port_lines(f"{bridge.name} {number}", port, automatic(speeds.get(port.lan)))
         for lan in self.lans:
-            yield from comment(" and ".join(f"{bridge.label} {bridge.ports[number].label}" for bridge, number in lan.ends))
+            yield from comment(where_of(lan.ends))
             yield f"addlan {lan.name}"
             if lan.speed not in (None, DEFAULT_SPEED):
                 yield f"speed {lan.name} {lan.speed}"
@@ -170,39 +360,54 @@ class Network:
                 yield f"plug {bridge.name} {number} {lan.name}"
 
     @staticmethod
-    def bridge_lines(bridge, speeds):
+    def bridge_lines(bridge):
         numbers = ", ".join(f"{number} is {port.label}" for number, port in sorted(bridge.ports.items()))
         yield from comment(f"{bridge.label}: {numbers or 'no ports'}")
         yield f"addbridge {bridge.name} {bridge.mac}"
-        yield f"kind {bridge.name} rstp"
+        if bridge.region is None:
+            yield f"kind {bridge.name} rstp"
+        else:
+            yield from region_lines(bridge.name, bridge.region)
         if not bridge.on:
             yield f"bridge {bridge.name} off"
-        if bridge.priority != DEFAULT_PRIORITY:
-            yield f"settreeprio {bridge.name} 0 {bridge.priority}"
+        for tree, priority in ((0, bridge.priority), *sorted(bridge.priorities.items())):
+            if priority != DEFAULT_PRIORITY:
+                yield f"settreeprio {bridge.name} {tree} {priority}"
+        if bridge.max_hops != DEFAULT_MAX_HOPS:
+            yield f"setmaxhops {bridge.name} {bridge.max_hops}"
         if bridge.max_age != DEFAULT_MAX_AGE:
             yield f"setmaxage {bridge.name} {bridge.max_age}"
-        for number, port in sorted(bridge.ports.items()):
-            its = f"{bridge.name} {number}"
-            yield f"addport {its}"
-            if port.priority != DEFAULT_PORT_PRIORITY:
-                yield f"settreeportprio {its} 0 {port.priority}"
-            if port.cost is not None and port.cost != automatic(speeds.get(port.lan)):
-                yield f"setportpathcost {its} {port.cost}"
-            if port.restricted:
-                yield f"setportrestrrole {its} yes"
-            if port.vlans is not None:
-                yield f"setportvlans {its} {runs(port.vlans)}"
 
-    def differences(self, tree):
-        """What the text of tree 0, as lines, says otherwise than the devices; and how much was compared."""
-        roots, roles = planned(tree)
+    @staticmethod
+    def port_lines(its, port, cost):
+        """The lines of a port, `its` being its bridge and number, and `cost` the automatic one in its LAN alone."""
+        yield f"addport {its}"
+        if port.key:
+            yield f"setkey {its} {port.key}"
+        for tree, priority in ((0, port.priority), *sorted(port.priorities.items())):
+            if priority != DEFAULT_PORT_PRIORITY:
+                yield f"settreeportprio {its} {tree} {priority}"
+        if port.cost is not None and (port.key or port.cost != cost):
+            yield f"setportpathcost {its} {port.cost}"
+        for tree, internal in sorted(port.costs.items()):
+            if port.key or internal != cost:
+                yield f"settreeportcost {its} {tree} {internal}"
+        if port.restricted:
+            yield f"setportrestrrole {its} yes"
+        if port.vlans is not None:
+            yield f"setportvlans {its} {runs(port.vlans)}"
+
+    def differences(self, texts):
+        """What the texts of trees, as lines, say otherwise than the devices; and how much was compared."""
+        roots, roles = planned(texts)
         compared, others = 0, []
         for bridge in self.bridges:
             pairs = [(bridge.label, (bridge.root, bridge.root_cost), roots.get(bridge.name, (None, None)))]
             for number, port in sorted(bridge.ports.items()):
-                role = roles.get((bridge.name, number), "Disabled")
-                forwards = role in ("Root", "Designated")
-                pairs.append((f"{bridge.label} {port.label}", (port.role, port.forwards), (role, forwards)))
+                for tree, says in sorted(port.says.items()):
+                    role = roles.get((tree, bridge.name, number), "Disabled")
+                    where = f"{bridge.label} {port.label}" + (f" in tree {tree}" if tree else "")
+                    pairs.append((where, says, (role, role in ("Root", "Designated", "Master"))))
             for where, says, plans in pairs:
                 for said, plan in zip(says, plans):
                     compared += said is not None
@@ -211,20 +416,32 @@ class Network:
         return others, compared
 
 
-def planned(tree):
-    """Each bridge's root and root path cost, and each port's role, of the text of tree 0."""
-    roots, roles = {}, {}
-    for words in map(str.split, tree):
-        if words[:1] == ["bridge"] and len(words) > 6:
+def region_lines(name, region):
+    """The lines of a bridge's MST configuration."""
+    yield f"setmstconfid {name} {region.revision} {region.name}"
+    for tree, vids in sorted(region.table.items()):
+        yield from (f"setvid2mstid {name} {tree} {it}" for it in vid_lists(vids))
+
+
+def planned(texts):
+    """Each bridge's root and root path cost, and each port's role by tree, bridge and number, of the texts of trees."""
+    roots, roles, tree = {}, {}, 0
+    for words in map(str.split, texts):
+        if words[:1] == ["tree"]:
+            tree = int(words[1])
+        elif words[:1] == ["bridge"] and len(words) > 6 and not tree:
             roots[words[1]] = words[4], int(words[6])
         elif words[:1] == ["port"]:
-            roles[words[1], int(words[2])] = words[-1]
+            roles[tree, words[1], int(words[2])] = words[-1]
     return roots, roles
 
 
 def write(network, unread):
     """An importer's end: the script, and on standard error what couldn't be told and what couldn't be read, with status 1."""
-    print("\n".join(network.script()))
+    for line in network.script():
+        put(line)
     for line in network.told + unread:
-        print(line, file=sys.stderr)
-    sys.exit(1 if unread else 0)
+        put(line, sys.stderr)
+    if unread:
+        sys.stdout.flush()
+        sys.exit(STATUS_UNREAD)

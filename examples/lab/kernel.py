@@ -98,7 +98,7 @@ def collect(folder, sockets):
     settle(states, ("listening", "learning"))
     os.makedirs(folder, exist_ok=True)
     for host in HOSTS:
-        heard = run("lldpctl", "-u", os.path.join(sockets, host + ".socket"), "-f", "json")
+        heard = run("lldpctl", "-u", os.path.join(sockets, host + ".socket"), "-f", "json0")
         for kind, text in (("link", links(host)), ("lldp", heard)):
             with open(os.path.join(folder, f"{host}.{kind}"), "w", encoding="utf-8") as file:
                 file.write(text)
