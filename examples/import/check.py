@@ -4,19 +4,22 @@ and a plan is to fit what the sample's devices say of themselves.
 
 usage: check.py PROGRAM
 
-The samples: campus/links.txt is made up; lab/, ovs/rstp and ovs/stp are of the networks that examples/lab/ makes; ovs/settings is
-of ovsdb-server alone, whose devices say nothing of a spanning tree. What no lab has is in a few made-up hosts (strange_hosts).
-Then each importer reads 2,000 inputs that are no device's (fuzz.py). It takes about half a minute.
+The samples: campus/ is made up, and so is cisco/, by the documented forms of the texts; lab/, ovs/rstp and ovs/stp are of the
+networks that examples/lab/ makes; ovs/settings is of ovsdb-server alone, whose devices say nothing of a spanning tree. What no lab
+has is in a few made-up hosts (strange_hosts). Then each importer reads 2,000 inputs that are no device's (fuzz.py). It takes about
+a quarter of a minute.
 """
 
 import json
 import os
+import shutil
 import subprocess
 import sys
 import tempfile
 
 sys.dont_write_bytecode = True
 
+import cisco  # noqa: E402
 import fuzz  # noqa: E402
 import lldp  # noqa: E402
 import ovs  # noqa: E402
@@ -29,6 +32,13 @@ SAMPLES = [
     ]),
     ("links.py", ["campus/switches.txt"], None, 0, [
         "assumed: MAC addresses, and so who is root where priorities are equal; priorities, regions, VLANs",
+    ]),
+    ("cisco.py", ["cisco/campus"], cisco.read, 114, [
+        "acc1: spanning-tree bpduguard enable isn't planned",
+        "core2.cdp line 32 isn't understood: Weather: fair",
+        "dist2.config line 6 isn't understood: spanning-tree colour blue",
+        "acc1: these hear of no port of these switches, and each has a LAN of its own: Gi1/0/10",
+        "speeds aren't told: all costs are those that the switches print",
     ]),
     ("lldp.py", ["lab"], lldp.read, 52, [
         "access-north-side-1 br0 is named access-north-sid",
@@ -158,7 +168,8 @@ STRANGE_TOLD = [
 STRANGE_LINES = [
     "settreeprio b 0 36864", "settreeportprio b 1 0 64", "setportvlans b 2 1,10-20", "setportvlans b 3 none",
     "setportrestrrole a 1026 yes", "setportpathcost a 1 4", "plug a 1 a-b.2", "plug b 1 a-b.2",
-    "plug a 4095 a-b.3", "plug b 4095 a-b.3", "setkey a 1 1", "setkey a 4095 1", "setkey b 1 1", "setkey b 4095 1", "plug a 1026 a-b", "plug b 2 a-b", "plug b 3 b-eth3",
+    "plug a 4095 a-b.3", "plug b 4095 a-b.3", "setkey a 1 1", "setkey a 4095 1", "setkey b 1 1", "setkey b 4095 1",
+    "plug a 1026 a-b", "plug b 2 a-b", "plug b 3 b-eth3",
     "plug distributio.br10 1 di.br10-dis.br10",
     "plug distribut.2.br10 1 di.br10-dis.br10",
 ]
@@ -185,7 +196,7 @@ def check_sample(program, importer, words, read, says, wanted):
     refused, _ = answers(program, script)
     wrong += refused
     if read:
-        tree, _ = answers(program, script + "showtree 0\n")
+        tree, _ = answers(program, script + "showtree 0\nshowtree 1\nshowtree 2\n")
         others, compared = read(os.path.join(HERE, *words))[0].differences(tree)
         wrong += others + ([] if compared == says else [f"{compared} values compared, and not {says}"])
     return wrong
@@ -212,12 +223,36 @@ def check_strange(program):
     return wrong
 
 
+def check_cisco(program):
+    """Roles that the switches print compared with a plan, by the importer itself, as they are and with one changed; and a switch
+    with a tree for each VLAN, which is refused by name."""
+    wrong = []
+    with tempfile.TemporaryDirectory() as folder:
+        shutil.copytree(os.path.join(HERE, "cisco", "campus"), folder, dirs_exist_ok=True)
+        with open(os.path.join(folder, "acc1.mst"), "r+", encoding="utf-8") as file:
+            text = file.read().replace("Gi1/0/2          Altn BLK", "Gi1/0/2          Desg FWD", 1)
+            file.seek(0)
+            file.write(text)
+        other = [f"acc1 Gi1/0/2: the device says {its}" for its in ("Designated, the plan Alternate", "True, the plan False")]
+        for where, status, lines in (
+            ("cisco/campus", 0, ["114 values compared, 0 differ"]),
+            (folder, 1, [*other, "114 values compared, 2 differ"]),
+            ("cisco/per-vlan", 1, ["0 values compared, 0 differ"]),
+        ):
+            out, told, its = imported("cisco.py", ["--check", program, where])
+            if (out.splitlines(), its) != (lines, status):
+                wrong.append(f"{where}: status {its}, {out}")
+    refused = ["core1 is left out: its mode is rapid-pvst, which has a tree for each VLAN, and those aren't planned"]
+    return wrong + ([] if told == refused else told)
+
+
 def main():
     if len(sys.argv) != 2:
         sys.exit(__doc__)
     program = os.path.abspath(sys.argv[1])
     checks = [(" ".join([importer, *words]), check_sample(program, importer, words, *more)) for importer, words, *more in SAMPLES]
     checks.append(("made-up hosts", check_strange(program)))
+    checks.append(("Cisco's roles", check_cisco(program)))
     checks += [(f"{fuzz.INPUTS} inputs of {importer}", fuzz.check(program, importer)) for importer in fuzz.IMPORTERS]
     for name, wrong in checks:
         for line in wrong:

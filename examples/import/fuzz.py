@@ -1,8 +1,8 @@
 """Inputs that are no device's, for each importer: its samples with changes, random bytes, and JSON with what doesn't belong there.
 
 However an input is, an importer is to end by itself: without a traceback, with nothing printed that isn't printable, and with
-nothing in the script but comments and the commands that make a network. Of each tenth input the program runs the script too, and
-is to refuse no line. All is the same in each run.
+nothing in the script but comments and the commands that make a network. Of each twentieth input the program runs the script too,
+and is to refuse no line. All is the same in each run.
 """
 
 import contextlib
@@ -16,13 +16,14 @@ import re
 import subprocess
 import traceback
 
+import cisco
 import links
 import lldp
 import ovs
 from network import write
 
 HERE = os.path.dirname(os.path.abspath(__file__))
-SEED, INPUTS, RUN_OF = 802, 2000, 10
+SEED, INPUTS, RUN_OF = 802, 2000, 20
 LONGEST_LINE, MOST_TOLD = 4096, 5
 COMMAND = re.compile(r"mstplan 2|(addbridge|kind|bridge|addport|addlan|speed|plug|set[a-z0-9]+)( [!-~]+){1,4}|# .*|#")
 # Texts as a stranger would send them, and values of other types and sizes than are wanted.
@@ -136,6 +137,12 @@ def hosts():
     return samples(*names) | {"core-1.vlan": json.dumps(vlans).encode()}
 
 
+def switches():
+    """Three switches of Cisco's, one of them with a text of LLDP."""
+    names = [f"cisco/campus/{host}.{end}" for host in ("core1", "dist1", "acc2") for end in ("mst", "config", "cdp")]
+    return samples(*names[:-1], "cisco/campus/acc2.lldp")
+
+
 def of_network(reader):
     """What runs an importer that makes a network of files, bytes by name."""
     return lambda files: write(*reader.read_files(files))
@@ -143,8 +150,9 @@ def of_network(reader):
 
 # Each importer's samples, of which an input has one set, and what runs it.
 IMPORTERS = {
-    "links.py": ([samples("campus/links.txt"), samples("campus/switches.txt")], lambda files: links.read_data(*files.popitem()[::-1])),
+    "links.py": ([samples(f"campus/{name}.txt") for name in ("links", "switches")], lambda its: links.read_data(*its.popitem()[::-1])),
     "lldp.py": ([hosts()], of_network(lldp)),
+    "cisco.py": ([switches()], of_network(cisco)),
     "ovs.py": ([samples("ovs/rstp"), samples("ovs/stp"), samples("ovs/settings")], of_network(ovs)),
 }
 
@@ -177,7 +185,7 @@ def check(program, importer):
     chance, wrong = random.Random(f"{SEED} {importer}"), []
     for count in range(INPUTS):
         files = dict(chance.choice(its))
-        for name in chance.choices(list(files), k=chance.choice((1, 1, 2))):
+        for name in chance.sample(list(files), k=min(len(files), chance.choice((1, 1, 2)))):
             files[name] = changed(chance, files[name])
         out, err, trace = printed(run, files)
         its_wrong = [trace] if trace else wrong_with(out, err)

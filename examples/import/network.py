@@ -24,6 +24,8 @@ STATUS_UNREAD, STATUS_WORDS, STATUS_FAULT = 1, 2, 3
 
 def printable(text):
     """A text on one line: ends of lines, control characters and whatever else isn't printable are escaped as Python does it."""
+    if text.isprintable():
+        return text
     return "".join(it if it.isprintable() else it.encode("unicode_escape").decode("ascii") for it in text)
 
 

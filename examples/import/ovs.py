@@ -20,8 +20,8 @@ in whichever file, are in the LAN of that name; any other port that is up gets a
     ovs-vsctl set interface eth1 external_ids:mstplan-lan=CABLE-7
 
 Two bonds whose interfaces have the same cables are links with a key, which count as one; any other bond is one port in one LAN.
-Open vSwitch itself runs no spanning tree on a bond, and that is told. A bridge without RSTP and STP is part of a LAN where it passes
-BPDUs on (other_config:forward-bpdu), and else left out.
+Open vSwitch itself runs no spanning tree on a bond, and that is told. A bridge without RSTP and STP is part of a LAN where it
+passes BPDUs on (other_config:forward-bpdu), and else left out.
 
 What couldn't be told, what was assumed and which names were changed is told on standard error, with status 0; a file that can't
 be read is told there too, with status 1. Status 2 stands for wrong words, 3 for standard output that can't be written. Speeds are
@@ -37,8 +37,8 @@ from dataclasses import dataclass
 sys.dont_write_bytecode = True
 
 from network import (  # noqa: E402
-    DEFAULT_MAX_AGE, DEFAULT_PORT_PRIORITY, DEFAULT_PRIORITY, HIGHEST_PORT, Bridge, Joined, Network, Port, called, contents, decoded,
-    guarded, identifier, where_of, write,
+    DEFAULT_MAX_AGE, DEFAULT_PORT_PRIORITY, DEFAULT_PRIORITY, HIGHEST_PORT, Bridge, Joined, Network, Port, called, contents,
+    decoded, guarded, identifier, where_of, write,
 )
 
 LAN_KEY = "mstplan-lan"
@@ -274,8 +274,8 @@ class Reader:
         port.cost = self.setting(label, settings, f"{protocol}-path-cost", None)
         is_bond = len(interfaces) > 1
         if is_bond:
-            self.network.tell(f"{label} is a bond: Open vSwitch runs no spanning tree on it and always forwards there, and the plan "
-                              "has it take part")
+            self.network.tell(f"{label} is a bond: Open vSwitch runs no spanning tree on it and always forwards there, and the "
+                              "plan has it take part")
         else:
             port.says[0] = settled(row[SAYS[protocol]], protocol)
             self.assume_cost(port, interfaces[0]["link_speed"], protocol)
