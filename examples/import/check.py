@@ -5,7 +5,8 @@ and a plan is to fit what the sample's devices say of themselves.
 usage: check.py PROGRAM
 
 The samples: campus/ is made up, and so is cisco/, by the documented forms of the texts; lab/, ovs/rstp and ovs/stp are of the
-networks that examples/lab/ makes; ovs/settings is of ovsdb-server alone, whose devices say nothing of a spanning tree. What no lab
+networks that examples/lab/ makes; ovs/bonds is of one too, whose bridge behind a bond
+is a root that no plan has, and ovs/settings of ovsdb-server alone, whose devices say nothing of a spanning tree. What no lab
 has is in a few made-up hosts (strange_hosts). Then each importer reads 2,000 inputs that are no device's (fuzz.py). It takes about
 a quarter of a minute.
 """
@@ -49,6 +50,11 @@ SAMPLES = [
     ]),
     ("ovs.py", ["ovs/stp"], lambda path: ovs.read([path]), 34, [
         "costs that aren't set are assumed to be those that Open vSwitch makes of speeds",
+    ]),
+    ("ovs.py", ["ovs/bonds"], None, 0, [
+        "costs that aren't set are assumed to be those that Open vSwitch makes of speeds",
+        *(f"{its}-bond is a bond: Open vSwitch runs no spanning tree on it and always forwards there, and the plan has it take part" for its in ("edge edge", "south south")),
+        *(f"{its}-bond: its port number isn't told, and {number} is assumed" for its, number in (("edge edge", 1), ("south south", 7))),
     ]),
     ("ovs.py", ["ovs/settings"], lambda path: ovs.read([path]), 0, [
         "core eth5 has rstp-enable=false, so it takes no part in the spanning tree: it is left out",
@@ -223,6 +229,24 @@ def check_strange(program):
     return wrong
 
 
+def check_bundles(program):
+    """The links that count as one, and the one LAN of a bridge that passes BPDUs on."""
+    wrong = []
+    for words, wanted in (
+        (("ovs.py", ["ovs/bonds"]), "lag south-edge-7 8000.02:00:00:00:01:03.0007+8000.02:00:00:00:01:05.0001 speed 20000000 "
+                                    "up south-edge-7,south-edge-8 lans south-edge-7,south-edge-8 "
+                                    "ports edge:1,edge:4095,south:7,south:4095"),
+        (("cisco.py", ["cisco/campus"]), "lag core1-core2 8000.00:1b:21:aa:00:01.0001+8000.00:1b:21:aa:00:02.0001 speed 2000000 "
+                                         "up core1-core2,core1-core2.2 lans core1-core2,core1-core2.2 "
+                                         "ports core1:1,core1:4095,core2:1,core2:4095"),
+    ):
+        lines, _ = answers(program, imported(*words)[0] + "showlag\n")
+        wrong += [] if lines == [wanted] else lines or [f"no bundle in {words[1][0]}"]
+    plugs = [line.split()[-1] for line in imported("ovs.py", ["ovs/bonds"])[0].splitlines() if line.startswith("plug ")]
+    ports = sorted(map(plugs.count, set(plugs)))[-2:]
+    return wrong + ([] if ports == [3, 4] else [f"the relay and the hub have {ports} ports, and not 3 and 4"])
+
+
 def check_cisco(program):
     """Roles that the switches print compared with a plan, by the importer itself, as they are and with one changed; and a switch
     with a tree for each VLAN, which is refused by name."""
@@ -252,6 +276,7 @@ def main():
     program = os.path.abspath(sys.argv[1])
     checks = [(" ".join([importer, *words]), check_sample(program, importer, words, *more)) for importer, words, *more in SAMPLES]
     checks.append(("made-up hosts", check_strange(program)))
+    checks.append(("bundles", check_bundles(program)))
     checks.append(("Cisco's roles", check_cisco(program)))
     checks += [(f"{fuzz.INPUTS} inputs of {importer}", fuzz.check(program, importer)) for importer in fuzz.IMPORTERS]
     for name, wrong in checks:

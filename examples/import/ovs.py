@@ -338,13 +338,14 @@ class Reader:
     def add_lan(self, cables):
         ends = {end.its: end for cable in cables for end in self.cables[cable]}.values()
         speeds, where = {end.speed for end in ends}, where_of(end.port for end in ends)
+        is_of_bond = any(end.is_of_bond for end in ends)
         if len(ends) == 1:
             kind, its = cables[0][0], cables[0][-1]
             why = {"patch": "its peer isn't a port of these bridges", "named": f"no other port has {LAN_KEY}={its}"}
             self.network.tell(f"{where}: {why.get(kind, 'no cable is told')}: it has a LAN of its own")
-        elif len(speeds) > 1 or None in speeds or len(cables) > 1:
+        elif len(speeds) > 1 or None in speeds or is_of_bond:
             self.network.tell(f"{where}: the speed isn't told")
-        speed = speeds.pop() if len(speeds) == 1 and len(cables) == 1 else None
+        speed = speeds.pop() if len(speeds) == 1 and not is_of_bond else None
         self.network.add_lan([end.port for end in ends], speed, next(filter(None, map(wanted, cables)), None))
 
 

@@ -89,11 +89,16 @@ class Lab:
         self.say(passed, f"imported: {sizes}; {len(told)} lines refused", network.told + unread + told)
         return script
 
-    def compare(self, what, network, script):
-        """A plan of a script, and what the devices say of the network at the same time."""
+    def compare(self, what, network, script, apart=None):
+        """A plan of a script, and what the devices say of the network at the same time. The bridge `apart`, if one is named, is
+        known to be a root that the plan hasn't: its root and its cost are to differ."""
         status, tree = self.ask(["run", "-"], script + "showtree 0\n")
         others, compared = network.differences(tree)
-        self.say(status == 0 < compared and not others, f"{what}: {compared} values compared, {len(others)} differ", others)
+        known = [line for line in others if line.startswith(f"{apart}: ")]
+        others = [line for line in others if line not in known]
+        told = f"; but for {apart}, whose root and cost do" if apart else ""
+        passed = status == 0 < compared and not others and len(known) == (2 if apart else 0)
+        self.say(passed, f"{what}: {compared} values compared, {len(others)} differ{told}", others)
 
     def listen(self, ports):
         """What tcpdump prints of some seconds on these ports, as lines of captures."""

@@ -17,9 +17,10 @@ from lab import inside, ip, main, make_spaces, run, settle, start
 import ovs
 
 SPACE, SCHEMA = "ovs", "/usr/share/openvswitch/vswitch.ovsschema"
-BRIDGES = {"north": 4096, "east": 8192, "south": 32768, "west": 32768}
-# The cables: two ports, each as a bridge and a number. The hub is a bridge of the kernel with STP off.
-HUB = "hub"
+BRIDGES = {"north": 4096, "east": 8192, "south": 32768, "west": 32768, "edge": 32768}
+# The cables: two ports, each as a bridge and a number. The hub is a bridge of the kernel with STP off, and the relay one of Open
+# vSwitch without a spanning tree, which passes BPDUs on.
+HUB, RELAY = "hub", "relay"
 CABLES = [
     ("north", 1, "east", 1),
     ("north", 2, "west", 1),
@@ -31,7 +32,16 @@ CABLES = [
     ("south", 4, HUB, 3),
     ("south", 5, HUB, 4),
     ("west", 4, "west", 5),
+    ("east", 4, RELAY, 1),
+    ("south", 6, RELAY, 2),
+    ("west", 6, RELAY, 3),
+    ("south", 7, "edge", 1),
+    ("south", 8, "edge", 2),
 ]
+# A bond's two ends, with their cables' numbers. Open vSwitch runs no spanning tree on it: nothing else reaches edge, which so is
+# its own root, where the plan has it behind the bond.
+BONDS = {"south": (7, 8), "edge": (1, 2)}
+APART = "edge"
 # What is set of bridges and ports in other_config, by protocol: STP is to settle as fast as it can.
 BRIDGE_SETTINGS = {"rstp": [], "stp": ["stp-forward-delay=4", "stp-hello-time=1", "stp-max-age=6"]}
 PORT_SETTINGS = {
@@ -47,6 +57,8 @@ PORT_SETTINGS = {
 PASSING, COUNTING = ("Learning", "learning", "listening"), "stp_sec_in_state"
 # The ports that go down.
 DOWN = [("north", 1), ("south", 3)]
+# Ends of cables of which another one of the same LAN is listened to, or that no BPDU is sent on.
+NOT_HEARD = ((HUB, 2), (HUB, 3), (HUB, 4), (RELAY, 2), (RELAY, 3), ("edge", 1), ("edge", 2))
 
 
 def port_name(bridge, number):
@@ -93,12 +105,17 @@ class Switch:
             words += ["--", "add-br", bridge, "--", "set", "bridge", bridge, "datapath_type=netdev", f"{protocol}_enable=true"]
             settings = [f"{protocol}-priority={priority}", f"hwaddr=02:00:00:00:01:{count:02x}", *BRIDGE_SETTINGS[protocol]]
             words += ["other_config:" + it for it in settings]
+        words += ["--", "add-br", RELAY, "--", "set", "bridge", RELAY, "datapath_type=netdev", "other_config:forward-bpdu=true"]
+        for bridge, numbers in BONDS.items():
+            words += ["--", "add-bond", bridge, f"{bridge}-bond", *(port_name(bridge, it) for it in numbers), "bond_mode=balance-slb"]
         for one, first, other, second in CABLES:
             lan = HUB if other == HUB else f"{one}-{other}-{first}"
             for bridge, number in ((one, first), (other, second)):
-                if bridge in BRIDGES:
-                    name = port_name(bridge, number)
-                    words += ["--", "add-port", bridge, name, "--", "set", "interface", name, f"external_ids:{ovs.LAN_KEY}={lan}"]
+                name = port_name(bridge, number)
+                if bridge != HUB and number not in BONDS.get(bridge, ()):
+                    words += ["--", "add-port", bridge, name]
+                if bridge != HUB:
+                    words += ["--", "set", "interface", name, f"external_ids:{ovs.LAN_KEY}={lan}"]
         for bridge, number, setting in PORT_SETTINGS[protocol]:
             words += ["--", "set", "port", port_name(bridge, number), "other_config:" + setting]
         self.ask(*words)
@@ -131,8 +148,8 @@ def try_protocol(lab, stack, folder, protocol):
     switch.make()
     network, unread = switch.collect(lab.folder, "before")
     script = lab.imported(network, unread)
-    lab.compare(f"{protocol} as it stands", network, script)
-    listening = [(SPACE, port_name(*cable[:2])) for cable in CABLES if cable[2] != HUB or cable[0] == "north"]
+    lab.compare(f"{protocol} as it stands", network, script, APART)
+    listening = [(SPACE, port_name(*cable[:2])) for cable in CABLES if cable[2:] not in NOT_HEARD]
     lab.check(f"{protocol} as it stands", script, listening)
     lans = {port.label: port.lan for bridge in network.bridges for port in bridge.ports.values()}
     edits = "".join(f"lan {lans[port_name(*port)]} down\n" for port in DOWN)
@@ -140,7 +157,7 @@ def try_protocol(lab, stack, folder, protocol):
     for port in DOWN:
         ip(SPACE, "link", "set", port_name(*port), "down")
     network, _ = switch.collect(lab.folder, "after")
-    lab.compare(f"{protocol} with cables down", network, script + edits)
+    lab.compare(f"{protocol} with cables down", network, script + edits, APART)
     lab.check(f"{protocol} with cables down", script + edits, listening)
 
 
