@@ -3,8 +3,8 @@
 
 usage: check-package.py PROGRAM [--root]
 
-Checked are: two packages of one program are equal; each file's owner and mode; the program differs from PROGRAM in the names of
-its loader and its libraries' place alone, and runs from there; the manual page renders without a warning and names each command;
+Checked are: two packages of one program are equal; each file's owner and mode; the program differs from PROGRAM in the name of its
+loader and the table that it reads alone, and runs from there; the manual page renders without a warning and names each command;
 the completion is read by bash and completes; each other command runs on its sample; the .tar.gz has the same files. Where a tool
 for one of them isn't there (man, bash), it is named, and the check is left out. Where dpkg-deb isn't there, that is said, and
 nothing is checked, with status 0.
@@ -23,8 +23,11 @@ import sys
 import tarfile
 import tempfile
 
+sys.dont_write_bytecode = True
+
+import package  # noqa: E402
+
 HERE = os.path.dirname(os.path.abspath(__file__))
-LOADER = b"/lib64/ld-linux-x86-64.so.2"
 DOC = "usr/share/doc/mstplan"
 SOURCES = "/etc/apt/sources.list.d/debian.sources"
 # Each command with words and standard input below the samples, and how its first line begins.
@@ -82,15 +85,15 @@ def modes(root, deb):
 
 
 def program_of(program, root):
-    """What is wrong with the packaged program: it is to differ in two names alone, and to say what PROGRAM says."""
+    """What is wrong with the packaged program: it is to differ in what the loader reads alone, and to say what PROGRAM says."""
     packaged = os.path.join(root, "usr/bin/mstplan")
     with open(program, "rb") as one, open(packaged, "rb") as other:
         before, after = one.read(), other.read()
-    differ = [at for at, (old, new) in enumerate(zip(before, after)) if old != new]
-    wrong = [] if len(before) == len(after) and LOADER + b"\0" in after else ["it hasn't the system's loader"]
-    # the loader's name, and the entries of the dynamic section, 16 octets each
-    if len(differ) > 600 or b"toolchain/lib/ld" in after:
-        wrong.append(f"{len(differ)} octets differ")
+    elf = package.Elf(before)
+    may = {at for kind in (package.SEGMENT_LOADER, package.SEGMENT_DYNAMIC) for at in range(elf.segment(kind)[0], sum(elf.segment(kind)))}
+    differ = [at for at, (old, new) in enumerate(zip(before, after)) if old != new and at not in may]
+    wrong = [] if len(before) == len(after) and package.LOADER + b"\0" in after else ["it hasn't the system's loader"]
+    wrong += [f"{len(differ)} octets of code or data differ"] if differ else []
     wrong += [f"it needs {it}" for it in re.findall(r"=> (\S*toolchain\S*|not found)", ran("ldd", packaged, text=True).stdout)]
     script = os.path.join(root, DOC, "examples/campus.script")
     for words in (["--version"], ["summary", script], ["run", script]):

@@ -11,8 +11,9 @@ of examples/, the texts of docs/, and as commands of their own the importers (ms
 mstplan-captures and, where examples/page.py is there, mstplan-page. These need Python 3.10 or later; the program needs the C library
 alone. The .tar.gz runs from wherever it is unpacked.
 
-The program as it is built names the toolchain's loader and libraries. In the packages it names the system's: the bytes of these
-two names' entries are changed in place, and no other. Nothing else is taken from the toolchain.
+The program as it is built names the toolchain's loader and the place of its libraries. In the packages it names the system's
+loader, and no place: the loader's name and the table of entries that it reads are changed where they stand, so neither patchelf nor
+a linker is needed, and all else, code and data, is the same byte for byte.
 
 The packages are the same, byte for byte, for one program and one state of the repository: times are SOURCE_DATE_EPOCH in seconds,
 or else 0. They end with status 0; 1 where dpkg-deb is missing, so that only the .tar.gz is made; 2 for wrong words; 3 where
