@@ -43,7 +43,7 @@ SAMPLES = [
     ]),
     ("lldp.py", ["lab"], lldp.read, 52, [
         "access-north-side-1 br0 is named access-north-sid",
-        "access-north-side-1 p4 hears of desk p1, which is no interface of these hosts",
+        "access-north-side-1 p4 hears of d\"esk\ufffd\\x1b[2J p1, which is no interface of these hosts",
     ]),
     ("ovs.py", ["ovs/rstp"], lambda path: ovs.read([path]), 40, [
         "costs that aren't set are assumed to be those that Open vSwitch makes of speeds",

@@ -159,7 +159,10 @@ def neighbour_of(said, chassis, name):
 def neighbour_list(text, tell=lambda _: None):
     """The neighbours of lldpctl's JSON, each with its interface. Raises ValueError where it isn't of that form; of json's form,
     where names are keys, it is told."""
-    told, found = parsed(text), []
+    try:
+        told, found = parsed(text), []
+    except ValueError as why:
+        raise ValueError(f"{why} (of lldpctl's JSON that of -f json0 alone has all names escaped)") from None
     if not isinstance(told, dict) or "lldp" not in told:
         raise ValueError("it has no lldp")
     for entry in (it for part in listed(told["lldp"]) for it in listed(typed(part, "interface", (dict, list), []))):

@@ -96,10 +96,11 @@ def decoded(data, where, tell):
         return data.decode("utf-8-sig", "replace")
 
 
-def parsed(text, pairs=None):
-    """What a text's JSON says; `pairs` makes objects. Raises ValueError where it is none, or has more levels than can be read."""
+def parsed(text):
+    """What a text's JSON says. Control characters may stand in its texts, for not every tool escapes them. Raises ValueError where
+    it is no JSON, or has more levels than can be read."""
     try:
-        return json.loads(text, object_pairs_hook=pairs)
+        return json.loads(text, strict=False)
     except RecursionError:
         raise ValueError("it has too many levels") from None
 

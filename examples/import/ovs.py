@@ -105,7 +105,7 @@ COLUMNS = {
 
 def tables(its):
     """The tables that matter, each as its rows by identifier. Raises ValueError where the text has another form."""
-    found, at, decoder = {name: {} for name in TABLES}, 0, json.JSONDecoder()
+    found, at, decoder = {name: {} for name in TABLES}, 0, json.JSONDecoder(strict=False)
     its = its.strip()
     while at < len(its):
         try:

@@ -9,6 +9,7 @@ takes away at its end. It takes about a minute, and exits with 1 where a plan an
 
 import json
 import os
+import subprocess
 
 from lab import inside, ip, main, make_spaces, run, settle, start
 
@@ -18,6 +19,8 @@ TIMES = "forward_delay 400 hello_time 100 max_age 600".split()
 # The bridges, each a host, with their priorities. The hub is a bridge with STP off, and the desk no bridge at all.
 HOSTS = {"core-1": 4096, "core-2": 8192, "dist-1": 32768, "dist-2": 32768, "access-north-side-1": 32768}
 HUB, DESK = "hub", "desk"
+# What the desk says it is named: a stranger's octets, no UTF-8 among them.
+DESK_NAME = b'd"esk\xe9\x1b[2J'
 # The cables: two ports, each as its host and the number in its interface's name.
 CABLES = [
     ("core-1", 1, "core-2", 1),
@@ -74,8 +77,10 @@ def start_lldpd(stack, folder):
     """An lldpd in each host's namespace, and in that of the desk, which isn't imported; each with a socket of its own."""
     for host in (*HOSTS, DESK):
         path = os.path.join(folder, host)
-        with open(path + ".conf", "w", encoding="utf-8") as file:
-            file.write(f"configure system hostname {host}\nconfigure system description lab\nconfigure lldp tx-interval 1\n")
+        name = DESK_NAME if host == DESK else host.encode()
+        with open(path + ".conf", "wb") as file:
+            file.write(b"configure system hostname '%b'\n" % name)
+            file.write(b"configure system description lab\nconfigure lldp tx-interval 1\n")
         start(stack, inside(host, "lldpd", "-d", "-u", path + ".socket", "-O", path + ".conf"), path + ".log")
 
 
@@ -98,10 +103,10 @@ def collect(folder, sockets):
     settle(states, ("listening", "learning"))
     os.makedirs(folder, exist_ok=True)
     for host in HOSTS:
-        heard = run("lldpctl", "-u", os.path.join(sockets, host + ".socket"), "-f", "json0")
-        for kind, text in (("link", links(host)), ("lldp", heard)):
-            with open(os.path.join(folder, f"{host}.{kind}"), "w", encoding="utf-8") as file:
-                file.write(text)
+        with open(os.path.join(folder, f"{host}.lldp"), "wb") as file:
+            subprocess.run(("lldpctl", "-u", os.path.join(sockets, host + ".socket"), "-f", "json0"), check=True, stdout=file)
+        with open(os.path.join(folder, f"{host}.link"), "w", encoding="utf-8") as file:
+            file.write(links(host))
     return lldp.read(folder)
 
 

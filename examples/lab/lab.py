@@ -13,6 +13,8 @@ sys.dont_write_bytecode = True
 HERE = os.path.dirname(os.path.abspath(__file__))
 sys.path.insert(0, os.path.join(HERE, os.pardir, "import"))
 
+from network import put  # noqa: E402
+
 SPACE = "mstplan-lab-"
 CONFIGURATION, TOPOLOGY_CHANGE = "00000000", "00000080"
 
@@ -74,7 +76,7 @@ class Lab:
         self.failed += not passed
         print("" if passed else "FAILED", text, flush=True)
         for line in others:
-            print("   ", line)
+            put(f"    {line}")
 
     def ask(self, words, given):
         ran = subprocess.run([self.program, *words], input=given, stdout=subprocess.PIPE, text=True, check=False)
