@@ -167,8 +167,9 @@ STRANGE_TOLD = [
     "b.link has no eth9, which is to hear of c: that is left out",
     *(f"distribution-e-{it} br{vid} is named distributio.br{vid}" for it, vid in ((1, 10), (1, 20))),
     *(f"distribution-e-2 br{vid} is named distribut.2.br{vid}" for vid in (10, 20)),
-    *(f"distribution-e-{it} eno2 hears of core\u00e9\"1\\x1b[2J up\\u202e\\u2028\\x07link\\nlan x down, which is no interface of "
-      "these hosts" for it in (1, 2)),
+    *(f"distribution-e-{it} eno2 hears of core{letter}\"1\\x1b[2J up\\u202e\\u2028\\x07link\\nlan x down, which is no interface of "
+      "these hosts" for it, letter in ((1, "\u00e9"), (2, "\ufffd"))),
+    "distribution-e-2.lldp has bytes that aren't UTF-8: they are replaced",
     "b br0 eth3 hears of no other bridge: it has a LAN of its own, of unknown speed",
 ]
 STRANGE_LINES = [
@@ -213,8 +214,10 @@ def check_strange(program):
     with tempfile.TemporaryDirectory() as folder:
         for host, (links, neighbours) in strange_hosts().items():
             for end, it in (("link", links), ("lldp", {"lldp": {"interface": neighbours}})):
-                with open(os.path.join(folder, f"{host}.{end}"), "w", encoding="utf-8") as file:
-                    json.dump(it, file)
+                # one host's neighbour has a letter in Latin-1, which is no UTF-8
+                text = json.dumps(it).encode().replace(b"\\u00e9", b"\xe9" if host.endswith("-2") else b"\\u00e9")
+                with open(os.path.join(folder, f"{host}.{end}"), "wb") as file:
+                    file.write(text)
         with open(os.path.join(folder, "b.vlan"), "w", encoding="utf-8") as file:
             json.dump([{"ifname": "eth2", "vlans": [{"vlan": 1, "flags": ["PVID"]}, {"vlan": 10, "vlanEnd": 20}]}], file)
         wrong = check_sample(program, "lldp.py", [folder], None, 0, STRANGE_TOLD)
