@@ -139,7 +139,7 @@ def strange_hosts():
             + [link(name, "02:00:00:00:0b:01", master="bond0") for name in ("eth0", "eth1")]
             + [port("eth2", "02:00:00:00:0b:02", 0x8002), port("eth3", "02:00:00:00:0b:03", 0x8003)],
             [heard("eth0", "a", "eth0"), heard("eth1", "a", "eth1"), heard("eth2", "c", "eth1", "2p5GbaseX - 2.5G")]
-            + [heard_by_key("eth2", "c", "eth1"), heard("eth9", "c", "eth1")],
+            + [heard_by_key("eth2", "c", "eth1"), heard("eth9", "c", "eth1"), heard("eth3", "a", "eth0", "")],
         ),
         "c": (
             [bridge("8000.2:0:0:0:0:3", stp_state=0)]
@@ -165,6 +165,7 @@ STRANGE_TOLD = [
     "a br0 eth2 and b br0 eth2: the speed isn't told",
     "b.lldp is of lldpctl -f json, where a neighbour's name can make up others: -f json0 can't",
     "b.link has no eth9, which is to hear of c: that is left out",
+    "b eth3 hears of a eth0, which hears of another one, and that of it: this is left out",
     *(f"distribution-e-{it} br{vid} is named distributio.br{vid}" for it, vid in ((1, 10), (1, 20))),
     *(f"distribution-e-2 br{vid} is named distribut.2.br{vid}" for vid in (10, 20)),
     *(f"distribution-e-{it} eno2 hears of core{letter}\"1\\x1b[2J up\\u202e\\u2028\\x07link\\nlan x down, which is no interface of "

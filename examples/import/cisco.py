@@ -39,8 +39,8 @@ sys.dont_write_bytecode = True
 
 from network import (  # noqa: E402
     DEFAULT_MAX_AGE, DEFAULT_MAX_HOPS, HIGHEST_COST, HIGHEST_KEY, HIGHEST_PORT, HIGHEST_VID, MOST_TREES, STATUS_FAULT,
-    STATUS_UNREAD, STATUS_WORDS, Joined, Network, Port, Region, called, decoded, files_of, guarded, identifier, put, runs, vids_of,
-    write,
+    STATUS_UNREAD, STATUS_WORDS, Joined, Network, Port, Region, agreed, called, decoded, files_of, guarded, identifier, put, runs,
+    vids_of, warn, write,
 )
 
 ENDINGS = (".mst", ".config", ".cdp", ".lldp")
@@ -421,19 +421,17 @@ class Switches:
                 if other[0] is None:
                     self.network.tell(f"{host} {interface} hears of {device} {far_interface}, which is no switch of this folder")
                     continue
-                pairs[one, other] = None
                 ends = [(end[0], self.switches[end[0]].logical(end[1])) for end in (one, other)]
                 absent = [end for end in ends if end not in self.ports]
                 if absent or ends[0] == ends[1]:
                     why = "{} {} isn't in MST0".format(*absent[0]) if absent else "both are one"
                     self.network.tell(f"{host} {interface} hears of {device} {far_interface}, and {why}: that is left out")
                     continue
-                self.lans.join(*ends)
-                for near, far in ((one, other), (other, one)):
-                    self.far.setdefault(near, set()).add(far)
-        for one, other in pairs:
-            if (other, one) not in pairs:
-                self.network.tell("{} {} hears of {} {}, and not the other way round".format(*one, *other))
+                pairs[one, other] = ends
+        for one, other in agreed(pairs, self.network.tell):
+            self.lans.join(*pairs[one, other])
+            self.far.setdefault(one, set()).add(other)
+            self.far.setdefault(other, set()).add(one)
 
     def cables(self, ends):
         """The cables of two bundles of two bridges, each the labels of its ends; None where not each has one end at both."""
@@ -485,7 +483,7 @@ def check(program, network, unread):
     try:
         ran = subprocess.run([program, "run", "-"], input=script.encode(), stdout=subprocess.PIPE, check=False)
     except OSError as why:
-        put(f"{program} can't be run: {why.strerror}", sys.stderr)
+        warn(f"{program} can't be run: {why.strerror}")
         sys.exit(STATUS_FAULT)
     texts = ran.stdout.decode(errors="replace").splitlines()
     others, compared = network.differences(texts)
@@ -493,7 +491,7 @@ def check(program, network, unread):
     for line in (*refused, *others, f"{compared} values compared, {len(others)} differ"):
         put(line)
     for line in network.told + unread:
-        put(line, sys.stderr)
+        warn(line)
     sys.stdout.flush()
     sys.exit(STATUS_UNREAD if others or unread or refused or ran.returncode else 0)
 
@@ -503,7 +501,7 @@ def main():
     if len(words) == 3 and words[0] == "--check":
         check(words[1], *read(words[2]))
     if len(words) > 1:
-        put("usage: cisco.py FOLDER    or: cisco.py --check PROGRAM FOLDER", sys.stderr)
+        warn("usage: cisco.py FOLDER    or: cisco.py --check PROGRAM FOLDER")
         sys.exit(STATUS_WORDS)
     write(*read(words[0]))
 

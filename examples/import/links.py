@@ -37,7 +37,7 @@ sys.dont_write_bytecode = True
 
 from network import (  # noqa: E402
     HIGHEST_KEY, HIGHEST_PORT, HIGHEST_SPEED, HIGHEST_VID, MAC, MOST_BRIDGES, MOST_LANS, MOST_PORTS, MOST_TREES, STATUS_FAULT,
-    STATUS_UNREAD, Region, called, contents, decoded, guarded, put, region_lines, runs, vids_of,
+    STATUS_UNREAD, Region, called, contents, decoded, guarded, put, region_lines, runs, vids_of, warn,
 )
 
 NAME = re.compile(r"[A-Za-z0-9][A-Za-z0-9_.-]{0,15}")
@@ -282,7 +282,7 @@ def read_data(data, path):
     for line in script(table):
         put(line)
     for line in (*told, *assumed(table), *table.unread):
-        put(line, sys.stderr)
+        warn(line)
     if table.unread:
         sys.stdout.flush()
         sys.exit(STATUS_UNREAD)
@@ -293,7 +293,7 @@ def main():
     try:
         data = contents(path)
     except OSError as why:
-        put(f"{path} can't be read: {why.strerror}", sys.stderr)
+        warn(f"{path} can't be read: {why.strerror}")
         sys.exit(STATUS_FAULT)
     read_data(data, path)
 

@@ -34,7 +34,7 @@ from dataclasses import dataclass
 sys.dont_write_bytecode = True
 
 from network import (  # noqa: E402
-    HIGHEST_VID, Joined, Network, Port, called, decoded, files_of, guarded, identifier, parsed, where_of, write,
+    HIGHEST_VID, Joined, Network, Port, agreed, called, decoded, files_of, guarded, identifier, parsed, where_of, write,
 )
 
 SPEED = re.compile(r"([0-9]{1,6})(p5)?(G?)(?:ig)?[bB]ase")
@@ -364,16 +364,14 @@ class Reader:
                 other = self.hosts.interface(neighbour)
                 if other:
                     pairs[(host, name), other] = None
-                    self.join((host, name), other)
-                    self.far.setdefault((host, name), set()).add(other)
-                    self.far.setdefault(other, set()).add((host, name))
                 else:
                     who = neighbour.name or neighbour.chassis
                     port = neighbour.description or neighbour.port
                     self.network.tell(f"{host} {name} hears of {who} {port}, which is no interface of these hosts")
-        for one, other in pairs:
-            if (other, one) not in pairs:
-                self.network.tell("{} {} hears of {} {}, and not the other way round".format(*one, *other))
+        for one, other in agreed(pairs, self.network.tell):
+            self.join(one, other)
+            self.far.setdefault(one, set()).add(other)
+            self.far.setdefault(other, set()).add(one)
 
     def cables(self, host, name):
         """The members of a bond that have a link, each with the only one that it hears of; None where one hears of none or two, or

@@ -1,10 +1,12 @@
 """A network as an importer reads it from devices: the script of it, what couldn't be told, and whether a plan fits what the
 devices say of themselves. The importers of this folder share it.
 
-What devices say may be a stranger's: neither LLDP nor CDP is authenticated. So all that is printed goes out by `put`, which
-escapes what isn't printable, and a device's word stands in a script's command only as a name that `Network.name` has made.
+What devices say may be a stranger's: neither LLDP nor CDP is authenticated. So all that is printed goes out by `put` and `warn`,
+which escape what isn't printable; a device's word stands in a script's command only as a name that `Network.name` has made; and of
+two interfaces one's word alone doesn't join them where the other says otherwise (`agreed`).
 """
 
+import errno
 import json
 import os
 import re
@@ -19,7 +21,7 @@ HIGHEST_PORT, HIGHEST_KEY, HIGHEST_VID = 4095, 65535, 4094
 MOST_BRIDGES, MOST_LANS, MOST_PORTS, MOST_TREES = 1024, 8192, 16384, 64
 MAC = re.compile(r"[0-9a-f]{2}(:[0-9a-f]{2}){5}")
 NOT_IN_NAMES = re.compile(r"[^A-Za-z0-9_.-]")
-STATUS_UNREAD, STATUS_WORDS, STATUS_FAULT = 1, 2, 3
+STATUS_UNREAD, STATUS_WORDS, STATUS_FAULT, STATUS_INTERRUPTED = 1, 2, 3, 130
 
 
 def printable(text):
@@ -29,9 +31,20 @@ def printable(text):
     return "".join(it if it.isprintable() else it.encode("unicode_escape").decode("ascii") for it in text)
 
 
-def put(line, stream=None):
-    """Prints a line, to standard output or another stream. It is the only way out for what devices, files and words say."""
-    stream = stream or sys.stdout
+def put(line):
+    """Prints a line. With `warn`, it is the only way out for what devices, files and words say."""
+    if sys.stdout is None:
+        raise OSError(errno.EBADF, os.strerror(errno.EBADF))
+    write_line(line, sys.stdout)
+
+
+def warn(line):
+    """Prints a line to standard error, if there is one."""
+    if sys.stderr is not None:
+        write_line(line, sys.stderr)
+
+
+def write_line(line, stream):
     encoding = getattr(stream, "encoding", None) or "utf-8"
     stream.write(printable(line).encode(encoding, "backslashreplace").decode(encoding) + "\n")
 
@@ -41,30 +54,38 @@ def called(page, least, most=None):
     a wrong number of words prints its usage on standard error and ends with 2."""
     words = sys.argv[1:]
     if any(it in ("--help", "-h") for it in words):
-        print(page.strip())
+        for line in page.strip().splitlines():
+            put(line)
+        sys.stdout.flush()
         sys.exit(0)
     if not least <= len(words) <= (len(words) if most is None else most):
         usage = [line for line in page.splitlines() if line.startswith("usage:")]
-        put(f"{usage[0]}    (--help tells more)", sys.stderr)
+        warn(f"{usage[0]}    (--help tells more)")
         sys.exit(STATUS_WORDS)
     return words
 
 
 def guarded(main):
-    """Runs an importer's main function. A fault of standard output ends it with 3: quietly where nobody reads any more."""
+    """Runs an importer's main function. A fault of standard output ends it with 3: quietly where nobody reads any more. Where it is
+    interrupted it ends with 130, as a shell has it."""
     try:
         main()
         sys.stdout.flush()
     except OSError as why:
         if not isinstance(why, BrokenPipeError):
-            put(f"standard output can't be written: {why.strerror}", sys.stderr)
-        # what is left in the buffer has nowhere to go
-        os.dup2(os.open(os.devnull, os.O_WRONLY), sys.stdout.fileno())
+            warn(f"standard output can't be written: {why.strerror}")
+        if sys.stdout is not None:
+            # what is left in the buffer has nowhere to go
+            os.dup2(os.open(os.devnull, os.O_WRONLY), sys.stdout.fileno())
         sys.exit(STATUS_FAULT)
+    except KeyboardInterrupt:
+        sys.exit(STATUS_INTERRUPTED)
 
 
 def contents(path):
     """The bytes of a file, `-` being standard input. Raises OSError where it can't be read."""
+    if path == "-" and sys.stdin is None:
+        raise OSError(errno.EBADF, os.strerror(errno.EBADF))
     if path == "-":
         return sys.stdin.buffer.read()
     with open(path, "rb") as file:
@@ -77,7 +98,7 @@ def files_of(folder, endings):
     try:
         names = sorted(it for it in os.listdir(folder) if it.endswith(endings))
     except OSError as why:
-        put(f"{folder} is no folder that can be read: {why.strerror}", sys.stderr)
+        warn(f"{folder} is no folder that can be read: {why.strerror}")
         sys.exit(STATUS_FAULT)
     for name in names:
         try:
@@ -173,6 +194,22 @@ class Joined:
         one, other = self.end(one), self.end(other)
         if one != other:
             self.next[other] = one
+
+
+def agreed(pairs, tell):
+    """Those of the pairs that are believed, each an interface that hears of another one, both as (host, interface). Where only one
+    hears of the other, that is told; and where the other and a third one hear of each other, it is left out besides."""
+    both, found = {one for one, other in pairs if (other, one) in pairs}, []
+    for one, other in pairs:
+        where = "{} {} hears of {} {}".format(*one, *other)
+        if (other, one) in pairs:
+            found.append((one, other))
+        elif other in both:
+            tell(f"{where}, which hears of another one, and that of it: this is left out")
+        else:
+            tell(f"{where}, and not the other way round")
+            found.append((one, other))
+    return found
 
 
 def automatic(speed):
@@ -444,7 +481,7 @@ def write(network, unread):
     for line in network.script():
         put(line)
     for line in network.told + unread:
-        put(line, sys.stderr)
+        warn(line)
     if unread:
         sys.stdout.flush()
         sys.exit(STATUS_UNREAD)
