@@ -233,6 +233,79 @@ def check_strange(program):
     return wrong
 
 
+TABLE = """one a:1 b:1 10G 7 vlans=10,20-29
+two a:2 b:4096
+three a:2 b:2 0
+four a:2 b:2 1G 65536
+five a:2 b:2 vlans=4095
+six:1 a:2
+seven seventeen-letters:1 a:2
+one a:3
+eight a:1
+nine a:2 b:2 1G 7 colour=blue
+switch a mac=00:1b:21:AA:00:01 region=HQ
+switch b mac=00:1b:21:aa:00:01
+switch c mac=00:1b:21:aa:00
+switch d region=nowhere
+region HQ revision=1 1=10,20 2=30
+region HX 1=10 2=10
+region HY revision=65536
+\x1b[2J
+"""
+TABLE_TOLD = [
+    "assumed: MAC addresses, and so who is root where priorities are equal; priorities, regions",
+    "line 2: 4096 is no port's number, 1 to 4095: two a:2 b:4096",
+    "line 3: 0 is no speed in kb/s, 1 to 9999999999: three a:2 b:2 0",
+    "line 4: 65536 is no key, 0 to 65535: four a:2 b:2 1G 65536",
+    "line 5: 4095 is no VID, or no two with the first one not greater: five a:2 b:2 vlans=4095",
+    "line 6: six:1 is no name of a LAN: 1 to 16 letters, digits, _, - and ., the first a letter or a digit: six:1 a:2",
+    "line 7: seventeen-letters is no name of a switch: 1 to 16 letters, digits, _, - and ., the first a letter or a digit: "
+    "seven seventeen-letters:1 a:2",
+    "line 8: the LAN one stands twice: one a:3",
+    "line 9: the port a:1 stands twice: eight a:1",
+    "line 10: colour=blue isn't one of vlans=: nine a:2 b:2 1G 7 colour=blue",
+    "line 12: the MAC address 00:1b:21:aa:00:01 stands twice: switch b mac=00:1b:21:aa:00:01",
+    "line 13: 00:1b:21:aa:00 is no MAC address: switch c mac=00:1b:21:aa:00",
+    "line 16: VLAN 10 stands in two trees: region HX 1=10 2=10",
+    "line 17: 65536 is no revision, 0 to 65535: region HY revision=65536",
+    "line 18: a line has a LAN, and one port A:1 or more: \\x1b[2J",
+    "line 14: no line has the region nowhere: switch d region=nowhere",
+]
+TABLE_LINES = [
+    "addbridge a 00:1b:21:aa:00:01", "setmstconfid a 1 HQ", "setvid2mstid a 1 10,20", "setvid2mstid a 2 30",
+    "addbridge b 02:00:00:00:00:01", "addbridge d 02:00:00:00:00:02", "addlan one", "speed one 10000000",
+    "addport a 1", "setkey a 1 7", "setportvlans a 1 10,20-29", "plug a 1 one",
+    "addport b 1", "setkey b 1 7", "setportvlans b 1 10,20-29", "plug b 1 one",
+]
+
+
+def check_table(program):
+    """A table with lines that can't be read: each is told with its number and its text, and the others are in the script."""
+    ran = subprocess.run([sys.executable, os.path.join(HERE, "links.py")], input=TABLE, capture_output=True, text=True, check=False)
+    wrong = [] if ran.returncode == 1 else [f"status {ran.returncode}"]
+    wrong += [f"told: {line}" for line in ran.stderr.splitlines() if line not in TABLE_TOLD]
+    wrong += [f"not told: {line}" for line in TABLE_TOLD if line not in ran.stderr.splitlines()]
+    wrong += [] if ran.stdout.splitlines() == TABLE_LINES else ran.stdout.splitlines()
+    return wrong + answers(program, ran.stdout)[0]
+
+
+def check_words(_):
+    """What each importer does with --help, with wrong words, and with what can't be read or written."""
+    wrong = []
+    for importer in fuzz.IMPORTERS:
+        script = os.path.join(HERE, importer)
+        for words, status in ((["--help"], 0), ([os.path.join(HERE, "none")], 1 if importer == "ovs.py" else 3),
+                              (["a", "b", "c", "d"] if importer != "ovs.py" else [], 2)):
+            out, told, its = imported(importer, words)
+            if its != status or ("usage: " in out) != (status == 0) or any("Traceback" in line for line in told):
+                wrong.append(f"{importer} {' '.join(words)}: status {its}, {told[-1:]}")
+        with open("/dev/full", "wb") as full:
+            ran = subprocess.run([sys.executable, script, "--help"], stdout=full, stderr=subprocess.PIPE, text=True, check=False)
+        if ran.returncode != 3 or "standard output can't be written" not in ran.stderr:
+            wrong.append(f"{importer} with a full disk: status {ran.returncode}, {ran.stderr}")
+    return wrong
+
+
 def check_bundles(program):
     """The links that count as one, and the one LAN of a bridge that passes BPDUs on."""
     wrong = []
@@ -279,9 +352,9 @@ def main():
         sys.exit(__doc__)
     program = os.path.abspath(sys.argv[1])
     checks = [(" ".join([importer, *words]), check_sample(program, importer, words, *more)) for importer, words, *more in SAMPLES]
-    checks.append(("made-up hosts", check_strange(program)))
-    checks.append(("bundles", check_bundles(program)))
-    checks.append(("Cisco's roles", check_cisco(program)))
+    others = {"made-up hosts": check_strange, "a table": check_table, "words": check_words, "bundles": check_bundles,
+              "Cisco's roles": check_cisco}
+    checks += [(name, its(program)) for name, its in others.items()]
     checks += [(f"{fuzz.INPUTS} inputs of {importer}", fuzz.check(program, importer)) for importer in fuzz.IMPORTERS]
     for name, wrong in checks:
         for line in wrong:

@@ -66,8 +66,7 @@ ROOT_HERE = re.compile(r"Root\s+this switch for .*")
 ROOT_COST = re.compile(rf"\s+port\s+\S+\s+(?:path )?cost\s+{NUMBER}(?:\s+rem hops [0-9]+)?\s*")
 CONFIGURED = re.compile(rf"Configured\s+hello time.*max age {NUMBER}, max hops\s+{NUMBER}\s*")
 PORT = re.compile(rf"(\S+)\s+(Root|Desg|Altn|Back|Mstr|Disa)\s+([A-Z]+)\*?\s+{NUMBER}\s+{NUMBER}\.{NUMBER}\s+(.*?)\s*")
-OF_MST = re.compile(r"Regional Root .*|\s+internal cost\s.*|Operational\s.*|Interface\s+Role Sts Cost .*|Root\s+this switch.*"
-                    r"|\* .* configuration.*")
+OF_MST = re.compile(r"(Regional Root|IST master) .*|\s+(internal|path) cost\s.*|Operational\s.*|Interface\s+Role Sts Cost .*")
 PER_VLAN_TREE = re.compile(r"VLAN[0-9]{4}")
 OF_CDP = re.compile(
     r"(Entry address|\s+IP(v6)? address|Platform|Holdtime|advertisement version|Protocol Hello|VTP Management Domain|Native VLAN"

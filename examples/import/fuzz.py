@@ -153,7 +153,7 @@ IMPORTERS = {
     "links.py": ([samples(f"campus/{name}.txt") for name in ("links", "switches")], lambda its: links.read_data(*its.popitem()[::-1])),
     "lldp.py": ([hosts()], of_network(lldp)),
     "cisco.py": ([switches()], of_network(cisco)),
-    "ovs.py": ([samples(f"ovs/{name}") for name in ("rstp", "stp", "bonds", "settings")], of_network(ovs)),
+    "ovs.py": ([samples(f"ovs/{name}") for name in ("stp", "bonds", "settings")], of_network(ovs)),
 }
 
 
