@@ -92,7 +92,8 @@ def program_of(program, root):
     elf = package.Elf(before)
     may = {at for kind in (package.SEGMENT_LOADER, package.SEGMENT_DYNAMIC) for at in range(elf.segment(kind)[0], sum(elf.segment(kind)))}
     differ = [at for at, (old, new) in enumerate(zip(before, after)) if old != new and at not in may]
-    wrong = [] if len(before) == len(after) and package.LOADER + b"\0" in after else ["it hasn't the system's loader"]
+    has_loader = package.LOADER + b"\0" in after or elf.segment(package.SEGMENT_LOADER) == (0, 0)
+    wrong = [] if len(before) == len(after) and has_loader else ["it hasn't the system's loader"]
     wrong += [f"{len(differ)} octets of code or data differ"] if differ else []
     wrong += [f"it needs {it}" for it in re.findall(r"=> (\S*toolchain\S*|not found)", ran("ldd", packaged, text=True).stdout)]
     script = os.path.join(root, DOC, "examples/campus.script")

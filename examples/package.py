@@ -109,9 +109,8 @@ class Elf:
         self.segments = [(kind, offset, address, length) for kind, _, offset, address, _, length, _, _ in heads]
 
     def segment(self, kind):
-        """The offset and the size of the segment of a type."""
-        found = [(offset, length) for its, offset, _, length in self.segments if its == kind]
-        return found[0] if found else fault(f"the program has no segment of type {kind}: it isn't linked dynamically")
+        """The offset and the size of the segment of a type, both 0 where there is none: a program may need no loader."""
+        return next(((offset, length) for its, offset, _, length in self.segments if its == kind), (0, 0))
 
     def entries(self):
         """The entries for the loader, as (tag, value), and their offset."""
@@ -121,18 +120,18 @@ class Elf:
     def libraries(self):
         """The names of the libraries that it needs."""
         entries, _ = self.entries()
-        texts = next(value for tag, value in entries if tag == TEXTS)
-        start = next(offset + texts - address for kind, offset, address, length in self.segments
-                     if kind == SEGMENT_LOADED and address <= texts < address + length)
+        texts = next((value for tag, value in entries if tag == TEXTS), 0)
+        start = next((offset + texts - address for kind, offset, address, length in self.segments
+                      if kind == SEGMENT_LOADED and address <= texts < address + length), 0)
         names = [start + value for tag, value in entries if tag == NEEDED]
         return [self.data[at:self.data.index(b"\0", at)].decode() for at in names]
 
     def use_system(self):
         """Names the system's loader, and no place for libraries but the system's; both in place."""
         offset, length = self.segment(SEGMENT_LOADER)
-        if length <= len(LOADER):
+        if length and length <= len(LOADER):
             fault("the name of the program's loader is too short to be replaced")
-        self.data[offset:offset + length] = LOADER.ljust(length, b"\0")
+        self.data[offset:offset + length] = LOADER.ljust(length, b"\0") if length else b""
         entries, offset = self.entries()
         kept = [it for it in entries if it[0] not in PLACES]
         kept += [(END, 0)] * (len(entries) - len(kept))
@@ -283,8 +282,9 @@ def make_deb(stage, version, depends, path, epoch):
     sums = "".join(f"{hashlib.md5(read(stage, name)).hexdigest()}  {name}\n" for name in names)
     control = (
         f"Package: mstplan\nVersion: {version}\nArchitecture: amd64\nMaintainer: {MAINTAINER}\nInstalled-Size: {-(-size // 1024)}\n"
-        f"Depends: {', '.join(depends)}\nRecommends: python3 (>= 3.10)\nSuggests: graphviz\nSection: net\nPriority: optional\n"
+        f"Recommends: python3 (>= 3.10)\nSuggests: graphviz\nSection: net\nPriority: optional\n"
     )
+    control += f"Depends: {', '.join(depends)}\n" if depends else ""
     write(stage, "DEBIAN/control", control + DESCRIPTION.format(suffix=" (not proved)" if version.endswith("+unproved") else ""))
     write(stage, "DEBIAN/md5sums", sums)
     for at, folders, names in os.walk(stage, topdown=False):

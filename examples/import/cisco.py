@@ -24,7 +24,8 @@ which isn't planned: it is refused.
 
 --check runs PROGRAM, an mstplan, on the script, and prints each root and role that a switch prints otherwise than the plan.
 
-CDP and LLDP aren't authenticated: what isn't printable in a neighbour's words is escaped. What couldn't be told, what was assumed
+CDP and LLDP aren't authenticated: what isn't printable in a neighbour's words is escaped. Where just one of two interfaces hears of
+the other, that is told, and where the other and a third one hear of each other, the one's word is left out. What couldn't be told, what was assumed
 and which names were changed is told on standard error, with status 0; a switch that is refused and a file that can't be read are
 told there too, with status 1, and so does --check end where something differs. Status 2 stands for wrong words, 3 for a folder or a
 program that can't be read or run, and for standard output that can't be written.

@@ -17,14 +17,16 @@ file unreadable, and with more in it makes up neighbours.
 Each bridge with STP on becomes a bridge of kind rstp, named by its host, and by host and bridge where a host has several such
 bridges. A port has the number and priority of its Port Identifier; ports that hear of each other by LLDP are in one LAN. VLAN
 interfaces are in one LAN where their VIDs are equal and what they stand on is in one. A bridge with STP off is part of a LAN, since
-it passes BPDUs on. Two bonds whose members hear of each other are links with a key, which count as one; any other bond is one port
-in one LAN, by its active member alone where it has one. A port that is up and hears of no other one gets a LAN of its own.
-Speeds are those that LLDP tells, in kb/s; a cost is set where it isn't the automatic one.
+it passes BPDUs on. Two bonds whose members hear of each other are links with a key, which count as one: the key is the number of the
+bond's port, and members but the first get the highest numbers that are free. Any other bond is one port in one LAN, by its active
+member alone where it has one. A port that is up and hears of no other one gets a LAN of its own. Speeds are those that LLDP tells,
+in kb/s; a cost is set where it isn't the automatic one. No kernel with bonds or VLAN interfaces was at hand: these are read by the
+forms of iproute2's source.
 
-LLDP isn't authenticated, so a neighbour's words are taken for nothing but what they say: what isn't printable in them is escaped.
-What couldn't be told, what was assumed and which names were changed is told on standard error, with status 0; a file that can't
-be read is told there too, with status 1. Status 2 stands for wrong words, 3 for a folder that can't be read and for standard
-output that can't be written.
+LLDP isn't authenticated: what isn't printable in a neighbour's words is escaped. Where just one of two interfaces hears of the
+other, that is told, and where the other and a third one hear of each other, the one's word is left out. What couldn't be told, what
+was assumed and which names were changed is told on standard error, with status 0; a file that can't be read is told there too, with
+status 1. Status 2 stands for wrong words, 3 for a folder that can't be read and for standard output that can't be written.
 """
 
 import re
@@ -415,7 +417,8 @@ class Reader:
 
     def add_lan(self, ports, speeds):
         ends = [end for _, end in ports]
-        bonds = any(self.hosts.links[host][name].kind in BONDS for (host, name), _ in ports)
+        below = [(host, self.node(host, name)[1]) for (host, name), _ in ports]
+        bonds = any(self.hosts.links[host][name].kind in BONDS for host, name in below)
         speeds = set(speeds or {None})
         if len(ports) == 1 and speeds == {None}:
             self.network.tell(f"{where_of(ends)} hears of no other bridge: it has a LAN of its own, of unknown speed")

@@ -42,6 +42,9 @@ CABLES = [
 # its own root, where the plan has it behind the bond.
 BONDS = {"south": (7, 8), "edge": (1, 2)}
 APART = "edge"
+# The numbers of a bridge's ports. Of two ports that hear one designated port, as south's two at the hub do, Open vSwitch's RSTP
+# takes one by the order of their numbers in a table of its own, whatever they cost: with these it takes the cheaper one.
+NUMBERS = {2: 1, 6: 2, 5: 3, 3: 4, 4: 5, 1: 6}
 # What is set of bridges and ports in other_config, by protocol: STP is to settle as fast as it can.
 BRIDGE_SETTINGS = {"rstp": [], "stp": ["stp-forward-delay=4", "stp-hello-time=1", "stp-max-age=6"]}
 PORT_SETTINGS = {
@@ -50,6 +53,7 @@ PORT_SETTINGS = {
         ("south", 3, "rstp-port-priority=64"),
         ("south", 4, "rstp-path-cost=3000"),
         ("east", 1, "rstp-port-num=9"),
+        *(("south", port, f"rstp-port-num={number}") for port, number in NUMBERS.items()),
     ],
     "stp": [("west", 1, "stp-path-cost=20"), ("south", 3, "stp-port-priority=64"), ("south", 4, "stp-path-cost=3")],
 }
