@@ -24,7 +24,11 @@ MULTICAST, OUTGOING, ETHERNET_DEVICE = 2, 4, 1
 # What a frame is: a BPDU of ours, one of Cisco's for one VLAN, a provider bridge's, or none; or the capture has another link type.
 BPDU, PVST, PROVIDER, OTHER, FOREIGN = "BPDU", "PVST+", "provider", "other", "foreign"
 
-PCAP_MAGIC = {b"\xd4\xc3\xb2\xa1": ("<", 6), b"\xa1\xb2\xc3\xd4": (">", 6), b"\x4d\x3c\xb2\xa1": ("<", 9), b"\xa1\xb2\x3c\x4d": (">", 9)}
+# The first octets of a pcap file: its byte order, and the digits of its fractions of a second.
+PCAP_MAGIC = {
+    b"\xd4\xc3\xb2\xa1": ("<", 6), b"\xa1\xb2\xc3\xd4": (">", 6),
+    b"\x4d\x3c\xb2\xa1": ("<", 9), b"\xa1\xb2\x3c\x4d": (">", 9),
+}
 SECTION_HEADER = b"\x0a\x0d\x0d\x0a"
 PCAPNG_ORDER = {b"\x4d\x3c\x2b\x1a": "<", b"\x1a\x2b\x3c\x4d": ">"}
 SECTION, INTERFACE, OBSOLETE, SIMPLE, ENHANCED = 0x0A0D0D0A, 1, 2, 3, 6
