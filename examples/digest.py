@@ -1,19 +1,19 @@
 #!/usr/bin/env python3
-"""Looks for a table of VIDs to MSTIs that has a Configuration Digest: a BPDU has the digest of its region's table, and not the table.
+"""Looks for a table of VIDs to MSTIs that has a Configuration Digest: a BPDU has that of its region's table, and no table.
 
 usage: digest.py DIGEST [VIDS] [--trees TREES] [--bridge NAME] [--seconds N]
 
 DIGEST is 32 hexadecimal digits, as `check` and `showregions` print it. VIDS are those that may be mapped, as a script has them
-(10,20,100-110), and TREES the MSTIs that the BPDUs have messages of (1,2). Both are worth telling: with them all ways to map up
-to some ten VIDs are tried. For example:
+(10,20,100-110), where those with - between may go together, and TREES the MSTIs that the BPDUs have messages of (1,2). Both are
+worth telling: with them all ways to map some ten VIDs or ranges are tried. For example:
 
     digest.py 60c0f7106757ed98f78fcf6d6efeef38 --trees 1,2 --bridge core1
 
-prints the lines `setvid2mstid NAME TREE VIDS` of a table that has the digest, for the bridge NAME (B if it isn't told), or a comment
-where no VID is mapped. The digest is the HMAC-MD5 of the table (docs/RULES.md), and two tables with one digest aren't to be feared.
-The tables that are tried: none mapped; all VIDs or VIDS to one MSTI; odd and even ones; VIDs to the MSTIs with their own numbers, and
-round ones; ranges of one width; ranges between round numbers; two ranges at any cut; each single VID; and VIDS, or round VIDs, to
-MSTIs in each way. N is the most seconds that it may take, 60 if it isn't told.
+prints the lines `setvid2mstid NAME TREE VIDS` of a table that has the digest, for the bridge NAME (B if it isn't told), or a
+comment where no VID is mapped. The digest is the HMAC-MD5 of the table (docs/RULES.md); that two tables have one isn't to be feared.
+These are tried: no VID mapped; all VIDs or VIDS to one MSTI; VIDS in each way; odd and even ones; VIDs to the MSTIs with their own
+numbers, and round ones; ranges of one width; ranges between round numbers; each single VID; two ranges at any cut; and round VIDs
+to MSTIs in each way. N is the most seconds that it may take, 60 if it isn't told.
 
 The exit status is 0 where a table was found, 1 where none was, and what was tried is told on standard error, and 2 where the
 words are wrong.
@@ -38,8 +38,8 @@ KEY = bytes.fromhex("13AC06A62E47FD51F95D2BA243CD0346")
 ELEMENTS, LAST_VID, MOST_TREES = 4096, 4094, 64
 ZEROS = bytes(2 * ELEMENTS)
 SECONDS = 60.0
-# The most tables of one kind that have to do with choices of VIDs.
-MOST = 200_000
+# The most tables of one kind for each choice of VIDs and trees: those that come early, and all.
+FEW, MOST = 1000, 200_000
 NAME = re.compile(r"[A-Za-z0-9][A-Za-z0-9_.-]{0,15}")
 ITEM = re.compile(r"([0-9]{1,10})(?:-([0-9]{1,10}))?")
 
@@ -75,12 +75,18 @@ def span(first, last, step=1):
 # ---- the tables that are tried; a kind is given the trees that are known, or those that are most likely, and the VIDs
 
 
-def all_to_one(trees, _vids):
+def all_to_one(trees, _named):
     known = trees or span(1, LAST_VID)
     return ([(tree, span(1, LAST_VID))] for tree in known)
 
 
-def vids_to_one(trees, vids):
+def single_vids(named):
+    """The VIDs of some ranges, rising."""
+    return sorted({vid for vids in named for vid in vids})
+
+
+def named_to_one(trees, named):
+    vids = single_vids(named)
     return ([(tree, vids)] for tree in trees or span(1, LAST_VID)) if vids else iter(())
 
 
@@ -89,14 +95,14 @@ def ordered(trees):
     return itertools.permutations([*(trees or range(1, 5)), 0], 2)
 
 
-def odd_and_even(trees, _vids):
+def odd_and_even(trees, _named):
     for last in [LAST_VID, *range(10, 101, 10), *range(200, 4001, 100)]:
         for first in (1, 2):
             for one, other in ordered(trees):
                 yield [(one, span(first, last, 2)), (other, span(2 if first == 1 else 3, last, 2))]
 
 
-def own_numbers(trees, vids):
+def own_numbers(trees, named):
     for times in (1, 10, 100, 1000):
         known = [tree for tree in trees if tree * times <= LAST_VID]
         yield [(tree, (tree * times,)) for tree in known]
@@ -104,12 +110,13 @@ def own_numbers(trees, vids):
             yield [(tree, (tree * times,)) for tree in range(1, last + 1)]
             yield [(tree, (tree * times,)) for tree in range(2, last + 1)]
             yield [(tree * times, (tree * times,)) for tree in range(1, last + 1)]
+    vids = single_vids(named)
     if len(vids) <= MOST_TREES:
         yield [(vid, (vid,)) for vid in vids]
         yield [(tree, (vid,)) for tree, vid in enumerate(vids, start=1)]
 
 
-def single(trees, _vids):
+def single(trees, _named):
     for tree in trees or range(1, MOST_TREES + 1):
         for vid in span(1, LAST_VID):
             yield [(tree, (vid,))]
@@ -121,7 +128,7 @@ def rounds():
     return sorted({1, 2, 5, *range(10, 101, 10), *range(150, 1001, 50), *range(1100, 4001, 100), *powers})
 
 
-def ranges(trees, _vids):
+def ranges(trees, _named):
     firsts = sorted({it + more for it in rounds() for more in (0, 1)})
     lasts = sorted({it + more for it in rounds() for more in (-1, 0)} | {LAST_VID})
     for tree in trees or range(1, 4):
@@ -131,14 +138,14 @@ def ranges(trees, _vids):
                     yield [(tree, span(first, last))]
 
 
-def any_cut(trees, _vids):
+def any_cut(trees, _named):
     for one, other in ordered((trees or (1, 2))[:4]):
         for first in (1, 2):
             for cut in span(first, LAST_VID - 1):
                 yield [(one, span(first, cut)), (other, span(cut + 1, LAST_VID))]
 
 
-def one_width(trees, _vids):
+def one_width(trees, _named):
     thirds = [LAST_VID // count for count in range(2, 17)]
     for width in sorted({*rounds(), *thirds, *(it + 1 for it in thirds)} - {1}):
         for first in sorted({1, 2, 10, 11, 100, 101, width, width + 1, 1000, 1001}):
@@ -150,7 +157,7 @@ def one_width(trees, _vids):
                 yield [*table[:-1], *((tree, span(vids.start, LAST_VID)) for tree, vids in table[-1:])]
 
 
-def two_ranges(trees, _vids):
+def two_ranges(trees, _named):
     ends = [it for it in rounds() if it > 9]
     for one, other in itertools.permutations((trees or (1, 2))[:3], 2):
         for first, cut, last in itertools.product((1, 2, 10, 100), ends, [*ends, LAST_VID]):
@@ -159,9 +166,9 @@ def two_ranges(trees, _vids):
                 yield [(one, span(first, cut - 1)), (other, span(cut, last - (last < LAST_VID)))]
 
 
-def one_each(trees, vids):
+def one_each(trees, named):
     """One VID to each MSTI."""
-    likely = list(dict.fromkeys([*vids, *range(10, 101, 10), *range(100, 1001, 100), *range(1, 21), *range(110, 251, 10),
+    likely = list(dict.fromkeys([*single_vids(named), *range(10, 101, 10), *range(100, 1001, 100), *range(1, 21), *range(110, 251, 10),
                                  *range(101, 111), *range(1100, 4001, 100)]))
     for known in [trees] if trees else [(1, 2), (1, 2, 3)]:
         count = len(likely)
@@ -171,41 +178,57 @@ def one_each(trees, vids):
             yield list(zip(known, ((vid,) for vid in chosen)))
 
 
-def each_way(trees, vids):
-    """Each way to map some VIDs, as many of them as isn't too many."""
-    likely = [vids] if vids else [range(10, 171, 10), range(100, 1701, 100), range(1, 18), range(101, 118)]
+def choices_of(trees, some, most):
+    """Each way to map these ranges to these trees or the CIST, as many of them as isn't too many."""
+    count = len(some)
+    while count > 1 and (len(trees) + 1) ** count > most:
+        count -= 1
+    for chosen in itertools.product((0, *trees), repeat=count):
+        yield [(tree, vids) for tree, vids in zip(chosen, some) if tree]
+
+
+def named_each_way(trees, named):
+    for known in [trees] if trees else [(1,), (1, 2), (1, 2, 3), (1, 2, 3, 4)]:
+        yield from choices_of(known, named, MOST) if named else ()
+
+
+def each_way(trees, named, most=MOST):
+    """Each way to map single VIDs."""
+    likely = [single_vids(named)] if named else [range(10, 171, 10), range(100, 1701, 100), range(1, 18), range(101, 118)]
     for known in [trees] if trees else [(1,), (1, 2), (1, 2, 3)]:
-        choices = (0, *known)
         for some in likely:
-            count = len(some)
-            while count > 1 and len(choices) ** count > MOST:
-                count -= 1
-            for chosen in itertools.product(choices, repeat=count):
-                yield [(tree, (vid,)) for tree, vid in zip(chosen, some) if tree]
+            yield from choices_of(known, [(vid,) for vid in some], most)
+
+
+def few_each_way(trees, named):
+    return each_way(trees, named, FEW)
 
 
 KINDS = [
-    ("no VID mapped", lambda _trees, _vids: iter([[]])),
+    ("no VID mapped", lambda _trees, _named: iter([[]])),
     ("all VIDs to one MSTI", all_to_one),
-    ("the VIDs that were named to one MSTI", vids_to_one),
+    ("the VIDs that were named to one MSTI", named_to_one),
+    ("the ranges that were named in each way", named_each_way),
     ("odd and even VIDs", odd_and_even),
     ("VIDs to the MSTIs with their numbers, and round ones", own_numbers),
+    ("a few VIDs in each way", few_each_way),
     ("ranges of one width", one_width),
     ("two ranges at round numbers", two_ranges),
     ("one range at round numbers", ranges),
+    ("a single VID", single),
     ("one VID to each MSTI", one_each),
     ("two ranges at any cut", any_cut),
-    ("a single VID", single),
     ("some VIDs in each way", each_way),
 ]
 
 
-def find(wanted, trees=(), vids=(), seconds=SECONDS):
-    """A table with this digest, as a sorted list of VIDs for each of its trees, or None; and what was tried, in lines."""
+def find(wanted, trees=(), named=(), seconds=SECONDS):
+    """A table with this digest, as a sorted list of VIDs for each of its trees, or None; and what was tried, in lines. The trees are
+    those that it has, if they are known, and `named` are ranges of VIDs that may be mapped."""
     tried, until = [], time.monotonic() + seconds
     for text, kind in KINDS:
         count, is_over = 0, False
-        for table in kind(tuple(trees), tuple(vids)):
+        for table in kind(tuple(trees), tuple(named)):
             if digest(table) == wanted:
                 return mapped(table), tried
             count += 1
@@ -251,16 +274,20 @@ def of_digest(word):
     return bytes.fromhex(digits)
 
 
-def of_list(word):
-    """The numbers from 1 to 4094 of a list."""
-    found = set()
+def of_ranges(word):
+    """The ranges of a list, of numbers from 1 to 4094."""
+    found = []
     for item in word.split(","):
         its = ITEM.fullmatch(item)
         first, last = (int(its[1]), int(its[2] or its[1])) if its else (0, 0)
         if not 1 <= first <= last <= LAST_VID:
             raise argparse.ArgumentTypeError(f"{item!r} isn't a number, or two with - between, from 1 to {LAST_VID}")
-        found |= set(range(first, last + 1))
-    return tuple(sorted(found))
+        found.append(span(first, last))
+    return tuple(found)
+
+
+def of_list(word):
+    return tuple(single_vids(of_ranges(word)))
 
 
 def of_name(word):
@@ -278,7 +305,7 @@ def of_seconds(word):
 def words():
     parser = argparse.ArgumentParser(prog="digest.py", usage=__doc__.split("\n\n")[1].removeprefix("usage: "), add_help=False)
     parser.add_argument("digest", type=of_digest)
-    parser.add_argument("vids", type=of_list, nargs="?", default=())
+    parser.add_argument("vids", type=of_ranges, nargs="?", default=())
     parser.add_argument("--trees", type=of_list, default=())
     parser.add_argument("--bridge", type=of_name, default="B")
     parser.add_argument("--seconds", type=of_seconds, default=SECONDS)
