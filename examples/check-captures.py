@@ -33,7 +33,7 @@ import frames  # noqa: E402
 
 CAPTURES, DIGEST, LEARN = (os.path.join(HERE, *names) for names in (["captures.py"], ["digest.py"], ["import", "captures.py"]))
 # How many damaged captures and drawn networks there are, and how many seconds a program may run.
-MUTATIONS, DRAWN, SECONDS = 1200, 20, 60
+MUTATIONS, DRAWN, SECONDS = 1200, 12, 60
 GROUP, PROVIDER, PVST = bytes.fromhex("0180c2000000"), bytes.fromhex("0180c2000008"), bytes.fromhex("01000ccccccd")
 SENDER, LLC, SNAP = bytes.fromhex("020000000001"), bytes.fromhex("424203"), bytes.fromhex("aaaa0300000c010b")
 RST = bytes.fromhex("0000" "02" "02" "3c" "8000020000000001" "00000000" "8000020000000001" "8002" "0000" "1400" "0200" "0f00" "00")
@@ -300,19 +300,17 @@ def learner():
     return module
 
 
-def read_through(module, octets, path):
-    """Reads a capture as captures.py and import/captures.py do, and returns the learned script's lines; any fault but Unread is raised."""
+def read_through(module, octets):
+    """Reads a capture as captures.py and import/captures.py do, and returns the learned script's lines. A fault but Unread is raised."""
     try:
         for frame in frames.frames(io.BytesIO(octets)):
             its = frames.found(frame)
             bool(its.whole and (its.header + its.bpdu).hex())
     except frames.Unread:
         pass
-    with open(path, "wb") as file:
-        file.write(octets)
     heard = module.Heard()
     try:
-        module.listen_to(heard, path)
+        module.listen_to(heard, "a.pcap", io.BytesIO(octets))
     except frames.Unread:
         pass
     heard.end()
@@ -325,17 +323,16 @@ def check_damage(program):
     whole = [octets for cases in (whole_cases(), cut_cases(), text_cases()) for _, octets, _, _ in cases if octets]
     searched, digest.find = digest.find, lambda *_: (None, [])
     scripts = []
-    with tempfile.TemporaryDirectory() as folder:
-        for number in range(MUTATIONS):
-            octets = damaged(draw, draw.choice(whole)) if number % 30 else draw.randbytes(draw.randrange(300))
-            try:
-                scripts.append(read_through(module, octets, os.path.join(folder, "a.pcap")))
-            except Exception as why:  # pylint: disable=broad-except
-                wrong.append(f"damaged capture {number}: {why!r}")
-            if number % 100 == 0:
-                _, telling, status = ran([CAPTURES], octets)
-                if status not in (0, 1) or any("Traceback" in line for line in telling):
-                    wrong.append(f"damaged capture {number}: status {status}, {telling}")
+    for number in range(MUTATIONS):
+        octets = damaged(draw, draw.choice(whole)) if number % 30 else draw.randbytes(draw.randrange(300))
+        try:
+            scripts.append(read_through(module, octets))
+        except Exception as why:  # pylint: disable=broad-except
+            wrong.append(f"damaged capture {number}: {why!r}")
+        if number % 100 == 0:
+            _, telling, status = ran([CAPTURES], octets)
+            if status not in (0, 1) or any("Traceback" in line for line in telling):
+                wrong.append(f"damaged capture {number}: status {status}, {telling}")
     digest.find = searched
     for script in [it for it in scripts if len(it) > 4][:60]:
         wrong += [f"a learned script: {line}" for line in asked(program, script)]
@@ -357,19 +354,19 @@ def lines_within(stream, count, seconds):
 
 
 def interrupted(before, after, closes, comes):
-    """A live capture of which so much comes before Ctrl-C and so much after it, and whether it then ends: the number of BPDUs that
-    were there before, what was written, what was told, the status and the seconds that passed."""
+    """A live capture of which so much comes before Ctrl-C and so much after it, and whether it then ends: how many BPDUs were there
+    before, what was written, what was told, the status and the seconds that passed."""
     with subprocess.Popen([sys.executable, CAPTURES], stdin=subprocess.PIPE, stdout=subprocess.PIPE, stderr=subprocess.PIPE) as it:
         it.stdin.write(before)
         it.stdin.flush()
-        early = lines_within(it.stdout, comes, 10)
+        early = lines_within(it.stdout, comes, 20)
         start = time.monotonic()
         it.send_signal(signal.SIGINT)
         it.stdin.write(after)
         it.stdin.flush()
         if closes:
             it.stdin.close()
-        late, status = it.stdout.read(), it.wait(10)
+        late, status = it.stdout.read(), it.wait(20)
         passed, telling = time.monotonic() - start, it.stderr.read().decode().splitlines()
         if not closes:
             it.stdin.close()
@@ -377,27 +374,28 @@ def interrupted(before, after, closes, comes):
     return len(lines[0]), lines[0] + lines[1], telling, status, passed
 
 
-def check_live():
-    """Live captures that Ctrl-C ends: nothing that came may be lost."""
-    wrong, file, text = [], pcap([PLAIN, *OTHERS, PLAIN_MST]), tcpdump(RST) * 3
-    more = pcap([PLAIN])[24:]
-    both = lines_of([PLAIN, PLAIN_MST])
-    counts = told(other=1, PVST=2, provider=1)
-    cases = [
-        ("a pcap that ends", file, more, True, 4, 2, [*both, *lines_of([PLAIN])], counts, 1.0),
-        ("a pcap that stays open", file, b"", False, 4, 2, both, counts, 5.0),
-        ("a pcap that stops in a frame", file, more[:40], False, 4, 2, both, counts, 5.0),
-        ("a text", text.encode(), tcpdump(RST).encode(), True, 4, 2, lines_of([RST] * 4), [], 1.0),
-        ("a text that stays open", text.encode(), b"", False, 4, 2, lines_of([RST] * 3), [], 5.0),
-        ("a text that stops in a frame", (text + tcpdump(RST)[:100]).encode(), b"", False, 6, 3, lines_of([RST] * 3),
-         told(cut=1, lost=1), 5.0),
-    ]
-    for name, before, after, closes, comes, early, wanted, tells, most in cases:
-        first, lines, telling, status, passed = interrupted(before, after, closes, comes)
-        tells = [*tells, *told(written=len(wanted))]
-        if (first, lines, telling, status) != (early, wanted, tells, 0) or passed > most:
-            wrong.append(f"{name}: {first} before Ctrl-C, {len(lines)} lines, {telling}, status {status}, {passed:.1f} s")
-    return len(cases), wrong
+def live_cases():
+    """Live captures: the name, what comes before Ctrl-C and after, whether it ends, the lines and the BPDUs that are there before, all
+    of them, what is told of others, and the seconds that it may take."""
+    file, text, more = pcap([PLAIN, *OTHERS, PLAIN_MST]), tcpdump(RST) * 3, pcap([PLAIN])[24:]
+    both, counts = lines_of([PLAIN, PLAIN_MST]), told(other=1, PVST=2, provider=1)
+    yield "a pcap that ends", file, more, True, 4, 2, [*both, PLAIN.hex()], counts, 20
+    yield "a pcap that stays open", file, b"", False, 4, 2, both, counts, 20
+    yield "a pcap that stops in a frame", file, more[:40], False, 4, 2, both, counts, 20
+    yield "a text", text.encode(), tcpdump(RST).encode(), True, 4, 2, lines_of([RST] * 4), [], 20
+    yield "a text that stays open", text.encode(), b"", False, 4, 2, lines_of([RST] * 3), [], 20
+    part = (text + tcpdump(RST)[:100]).encode()
+    yield "a text that stops in a frame", part, b"", False, 6, 3, lines_of([RST] * 3), told(cut=1, lost=1), 20
+
+
+def check_live_case(case):
+    """What is wrong with a live capture that Ctrl-C ends, in lines: nothing that came may be lost."""
+    name, before, after, closes, comes, early, wanted, tells, most = case
+    first, lines, telling, status, passed = interrupted(before, after, closes, comes)
+    tells = [*tells, *told(written=len(wanted))]
+    if (first, lines, telling, status) == (early, wanted, tells, 0) and passed < most:
+        return []
+    return [f"{name}: {first} before Ctrl-C, {len(lines)} lines, {telling}, status {status}, {passed:.1f} s"]
 
 
 # ---- digests
@@ -414,10 +412,10 @@ def digest_of(table):
 EVERY = range(1, 4095)
 TABLES = [
     ({}, []), ({vid: 1 for vid in EVERY}, []), ({vid: 2 - vid % 2 for vid in EVERY}, []), ({vid: 7 for vid in EVERY}, []),
-    ({137: 5}, []), ({4000: 12}, ["--trees", "12"]), ({vid: vid for vid in range(1, 21)}, []), ({10: 1, 20: 2}, []), ({100: 1, 200: 2, 300: 3}, []),
-    ({vid: 1 if vid < 101 else 2 for vid in range(1, 201)}, []), ({vid: 1 for vid in range(1, 101)}, []),
+    ({137: 5}, ["--trees", "5"]), ({4000: 12}, ["--trees", "12"]), ({vid: vid for vid in range(1, 21)}, []), ({10: 1, 20: 2}, []), ({100: 1, 200: 2, 300: 3}, []),
+    ({vid: 1 if vid < 101 else 2 for vid in range(1, 201)}, []), ({vid: 1 for vid in range(1, 101)}, ["--trees", "1"]),
     ({vid: 1 if vid < 2048 else 2 for vid in EVERY}, []), ({vid: 1 if vid < 1777 else 2 for vid in EVERY}, ["--trees", "1,2"]),
-    ({vid: 3 for vid in range(200, 300)}, []), ({vid: vid // 100 for vid in range(100, 500)}, []),
+    ({vid: 3 for vid in range(200, 300)}, ["--trees", "3"]), ({vid: vid // 100 for vid in range(100, 500)}, []),
     ({17: 4, 333: 4, 1234: 4}, ["17,333,1234"]), ({5: 5, 77: 77, 901: 901}, ["5,77,901", "--trees", "5,77,901"]),
     ({17: 3, 333: 9, 1234: 3, 2: 9}, ["2,17,333,1234,1999", "--trees", "3,9"]), ({10: 1, 20: 1, 30: 2, 40: 2}, ["--trees", "1,2"]),
     ({vid: 1 if vid < 10 else 2 for vid in [*range(1, 10), *range(20, 30)]}, ["1-9,15,20-29", "--trees", "1,2"]),
@@ -593,7 +591,7 @@ def main():
         sys.exit(__doc__)
     program = os.path.abspath(sys.argv[1])
     checks = [
-        ("captures", check_cases), ("sample", check_sample), ("damage", lambda: check_damage(program)), ("live", check_live),
+        ("captures", check_cases), ("sample", check_sample), ("damage", lambda: check_damage(program)), ("live", lambda: in_pool(check_live_case, live_cases())),
         ("digests", lambda: check_digests(program)), ("learning", lambda: check_learning(program)),
     ]
     passed = failed = 0

@@ -24,6 +24,7 @@ ports that are down. A file that can't be read is told there, too, with status 1
 """
 
 import argparse
+import itertools
 import os
 import struct
 import sys
@@ -36,7 +37,8 @@ sys.path.append(os.path.join(HERE, os.pardir))
 
 import digest  # noqa: E402
 import frames  # noqa: E402
-from network import DEFAULT_MAX_AGE, DEFAULT_PORT_PRIORITY, DEFAULT_PRIORITY, HIGHEST_COST, Network, automatic, comment, write  # noqa: E402
+from network import DEFAULT_MAX_AGE, DEFAULT_PORT_PRIORITY, DEFAULT_PRIORITY, HIGHEST_COST  # noqa: E402
+from network import Network, automatic, comment, write  # noqa: E402
 
 ALTERNATE, ROOT, DESIGNATED = 1, 2, 3
 WORST_PRIORITY, HIGHEST_PORT = 61440, 4095
@@ -261,9 +263,9 @@ class Heard(Network):
             return root
         its = self.between.get(root)
         if its is None:
-            where = next(it for it in map(mac, range(MADE_UP_MACS, MADE_UP_MACS + len(self.heard) + 1)) if it not in self.heard)
-            its = self.between[root] = self.heard[where] = Bridge(self.name("bridge", f"between-{len(self.between) + 1}"), where, None, None)
-            its.between = 1
+            where = next(it for it in map(mac, itertools.count(MADE_UP_MACS)) if it not in self.heard)
+            its = Bridge(self.name("bridge", f"between-{len(self.between) + 1}"), where, None, None, between=1)
+            self.between[root] = self.heard[where] = its
             self.tell(f"the region of {root.name} is in parts: {its.name}, of no region, stands between them")
             self.make_way(its, root, None, 1)
         return its
@@ -390,7 +392,8 @@ class Heard(Network):
             trees = sorted({tree for it in self.heard.values() if it.said and it.region == region for tree in it.said.trees} - {0})
             table, _ = digest.find(region[2], trees, self.named, min(SECONDS_EACH, until - time.monotonic()))
             if table is None:
-                self.tell(f"no table is found for the digest {region[2].hex()}: made-up VIDs stand for it, and the plan won't agree on it")
+                self.tell(f"no table is found for the digest {region[2].hex()}: made-up VIDs stand for it, and the plan won't agree"
+                          " on it")
                 table = {tree: [count % 63 * 64 + at] for at, tree in enumerate(trees[:64], start=1)}
             self.tables[region] = table
 
@@ -454,22 +457,22 @@ def as_compared(its):
     return its.version, its.root, its.external, its.bridge, its.region, trees
 
 
-def listen_to(heard, path):
-    """Adds the BPDUs of a file. Raises Unread, or OSError where it can't be opened or a read fails."""
-    wanted, lans, refused = os.path.splitext(os.path.basename(path))[0] if path != "-" else "LAN", {}, 0
-    with sys.stdin.buffer if path == "-" else open(path, "rb") as stream:
-        for frame in frames.frames(stream):
-            found = frames.found(frame)
-            if found.kind != frames.BPDU:
-                continue
-            its = said(found.bpdu)
-            if its is None:
-                refused += 1
-                continue
-            interface = frames.heard_at(frame)
-            if interface not in lans:
-                lans[interface] = heard.name("LAN", f"{wanted}.{interface}" if lans else wanted)
-            heard.listen(lans[interface], its)
+def listen_to(heard, path, stream):
+    """Adds the BPDUs of a file, read from a stream. Raises Unread, or OSError where a read fails."""
+    wanted = os.path.splitext(os.path.basename(path))[0] if path != "-" else "LAN"
+    lans, refused = {}, 0
+    for frame in frames.frames(stream):
+        found = frames.found(frame)
+        if found.kind != frames.BPDU:
+            continue
+        its = said(found.bpdu)
+        if its is None:
+            refused += 1
+            continue
+        interface = frames.heard_at(frame)
+        if interface not in lans:
+            lans[interface] = heard.name("LAN", f"{wanted}.{interface}" if lans else wanted)
+        heard.listen(lans[interface], its)
     if refused:
         heard.tell(f"{path}: {refused} BPDUs aren't of RSTP or MSTP, or are damaged")
     if not lans:
@@ -492,7 +495,8 @@ def main():
     heard = Heard(its.vids)
     for path in its.files:
         try:
-            listen_to(heard, path)
+            with sys.stdin.buffer if path == "-" else open(path, "rb") as stream:
+                listen_to(heard, path, stream)
         except (frames.Unread, OSError) as why:
             unread.append(f"{path}: {why.strerror if isinstance(why, OSError) else why}")
     heard.end()
