@@ -3,9 +3,10 @@
 
 usage: check-captures.py PROGRAM
 
-captures.py reads pcap and pcapng files in all their forms, frames with tags and cooked ones, texts, what others' BPDUs are and what
-is cut; damaged ones, of which none may end in a traceback; and a live capture that Ctrl-C ends. digest.py looks for tables whose digests
-are made here. import/captures.py makes scripts of what plans of networks say on the wire, with which the program must then agree.
+captures.py reads pcap and pcapng files in all their forms, frames with tags and cooked ones, texts, what others' BPDUs are and
+what is cut; damaged ones, of which none may end in a traceback; and a live capture that Ctrl-C ends. digest.py looks for tables
+whose digests are made here. import/captures.py makes scripts of what plans of networks say on the wire, with which the program
+must then agree.
 """
 
 import concurrent.futures
@@ -105,7 +106,7 @@ def tcpdump(octets, says="STP 802.1w, Rapid STP, Flags [Learn, Forward], length 
 
 def tshark(octets):
     rows = [octets[at:at + 16] for at in range(0, len(octets), 16)]
-    return "".join(f"{at * 16:04x}  {' '.join(f'{it:02x}' for it in row):47}   {'.' * len(row)}\n" for at, row in enumerate(rows)) + "\n"
+    return "".join(f"{at * 16:04x}  {row.hex(' '):47}   {'.' * len(row)}\n" for at, row in enumerate(rows)) + "\n"
 
 
 def lines_of(octets):
@@ -153,10 +154,10 @@ def whole_cases():
         packets = b"".join(enhanced(order, it) for it in MIXED)
         yield f"pcapng, {name}", section(order) + described(order) + packets, MIXED_LINES, MIXED_TOLD
         named = struct.pack(order + "HH", 2, 4) + b"eth0" + struct.pack(order + "HHB3xHHq", 9, 1, 9, 14, 8, 3)
-        parts = [section(order), described(order, extra=named), block(order, 5, bytes(12)), simple(order, PLAIN), obsolete(order, PLAIN)]
+        parts = [section(order), described(order, extra=named), block(order, 5, bytes(12)), simple(order, PLAIN)]
         other = ">" if order == "<" else "<"
-        parts += [section(other), described(other, 113), described(other, 276), described(other, 105), enhanced(other, cooked(LLC + RST))]
-        parts += [enhanced(other, cooked_2(LLC + MST), 1), enhanced(other, b"\x80", 2)]
+        parts += [obsolete(order, PLAIN), section(other), *(described(other, link) for link in (113, 276, 105))]
+        parts += [enhanced(other, cooked(LLC + RST)), enhanced(other, cooked_2(LLC + MST), 1), enhanced(other, b"\x80", 2)]
         yield f"pcapng, two sections, {name} first", b"".join(parts), lines_of([PLAIN, PLAIN, RST, MST]), told(foreign=1)
     sll = [cooked(LLC + RST), cooked(LLC + MST, 4), cooked(LLC + RST, 0), cooked(SNAP + RST), cooked(LLC + RST, 2, TAG, 0x8100)]
     yield "cooked", pcap(sll, link=113), lines_of([RST, MST, RST]), told(other=1, PVST=1)
@@ -194,19 +195,21 @@ def cut_cases():
         written=0, unread="its frame 1 is of an interface that isn't described: it is damaged")
     none = "it is no capture, and no text of tcpdump -x, tcpdump -xx or tshark -x"
     yield "no capture", b"hello\n\xff\n", [], told(written=0, unread=none)
-    yield "compressed", b"\x1f\x8b\x08\0" + bytes(20), [], told(written=0, unread="it is compressed: gzip -dc makes a capture of it")
+    compressed = "it is compressed: gzip -dc makes a capture of it"
+    yield "compressed", b"\x1f\x8b\x08\0" + bytes(20), [], told(written=0, unread=compressed)
 
 
 def text_cases():
     """Texts of tcpdump and tshark."""
     padded = RST.ljust(43, b"\0")
     pvst = RST + bytes.fromhex("000000020001")
-    for name, text in (("tcpdump -xx", "".join(tcpdump(it, whole=True) for it in MIXED)), ("tshark -x", "".join(map(tshark, MIXED)))):
-        yield name, text.encode(), MIXED_LINES, MIXED_TOLD
+    for name, form in (("tcpdump -xx", lambda it: tcpdump(it, whole=True)), ("tshark -x", tshark)):
+        yield name, "".join(map(form, MIXED)).encode(), MIXED_LINES, MIXED_TOLD
     short = [tcpdump(padded), tcpdump(pvst, "STP 802.1w, Rapid STP, length 42"), tcpdump(MST, "STP 802.1s, Rapid STP, length 102")]
     yield "tcpdump -x", "".join(short).encode(), lines_of([padded, MST]), told(PVST=1)
-    short = tcpdump(LLC + RST) + tcpdump(padded, "> 01:80:c2:00:00:08, 802.3, length 39: STP 802.1w, length 36") + tcpdump(bytes(40), "ARP")
-    yield "tcpdump -x, of more kinds", short.encode(), lines_of([RST]), told(other=1, provider=1)
+    short = [tcpdump(LLC + RST), tcpdump(padded, "> 01:80:c2:00:00:08, 802.3, length 39: STP 802.1w, length 36")]
+    short += [tcpdump(bytes(40), "ARP")]
+    yield "tcpdump -x, of more kinds", "".join(short).encode(), lines_of([RST]), told(other=1, provider=1)
     short = tcpdump(padded[:33]) + tcpdump(PLAIN[:50], "STP 802.1w, Rapid STP [|stp]") + tcpdump(MST[:60], "STP 802.1s, length 102")
     yield "tcpdump -x, cut", short.encode(), [], told(cut=3, lost=3, written=0)
     for name, them in (("cooked", cooked), ("cooked, version 2", cooked_2)):
@@ -224,7 +227,8 @@ def ran(words, given=b""):
 def asked(program, lines, words=("run", "-")):
     """What the program prints where these lines are its standard input."""
     text = "\n".join(lines) + "\n"
-    return subprocess.run([program, *words], input=text, capture_output=True, text=True, timeout=SECONDS, check=False).stdout.splitlines()
+    it = subprocess.run([program, *words], input=text, capture_output=True, text=True, timeout=SECONDS, check=False)
+    return it.stdout.splitlines()
 
 
 def in_pool(what, each):
@@ -301,7 +305,7 @@ def learner():
 
 
 def read_through(module, octets):
-    """Reads a capture as captures.py and import/captures.py do, and returns the learned script's lines. A fault but Unread is raised."""
+    """Reads a capture as captures.py and import/captures.py do, and returns the learned script. Raises any fault but Unread."""
     try:
         for frame in frames.frames(io.BytesIO(octets)):
             its = frames.found(frame)
@@ -375,8 +379,8 @@ def interrupted(before, after, closes, comes):
 
 
 def live_cases():
-    """Live captures: the name, what comes before Ctrl-C and after, whether it ends, the lines and the BPDUs that are there before, all
-    of them, what is told of others, and the seconds that it may take."""
+    """Live captures: the name, what comes before Ctrl-C and after, whether it ends, the lines and the BPDUs that are there before,
+    all BPDUs, what is told of other frames, and the seconds that it may take."""
     file, text, more = pcap([PLAIN, *OTHERS, PLAIN_MST]), tcpdump(RST) * 3, pcap([PLAIN])[24:]
     both, counts = lines_of([PLAIN, PLAIN_MST]), told(other=1, PVST=2, provider=1)
     yield "a pcap that ends", file, more, True, 4, 2, [*both, PLAIN.hex()], counts, 20
@@ -412,7 +416,8 @@ def digest_of(table):
 EVERY = range(1, 4095)
 TABLES = [
     ({}, []), ({vid: 1 for vid in EVERY}, []), ({vid: 2 - vid % 2 for vid in EVERY}, []), ({vid: 7 for vid in EVERY}, []),
-    ({137: 5}, ["--trees", "5"]), ({4000: 12}, ["--trees", "12"]), ({vid: vid for vid in range(1, 21)}, []), ({10: 1, 20: 2}, []), ({100: 1, 200: 2, 300: 3}, []),
+    ({137: 5}, ["--trees", "5"]), ({4000: 12}, ["--trees", "12"]), ({vid: vid for vid in range(1, 21)}, []),
+    ({10: 1, 20: 2}, []), ({100: 1, 200: 2, 300: 3}, []),
     ({vid: 1 if vid < 101 else 2 for vid in range(1, 201)}, []), ({vid: 1 for vid in range(1, 101)}, ["--trees", "1"]),
     ({vid: 1 if vid < 2048 else 2 for vid in EVERY}, []), ({vid: 1 if vid < 1777 else 2 for vid in EVERY}, ["--trees", "1,2"]),
     ({vid: 3 for vid in range(200, 300)}, ["--trees", "3"]), ({vid: vid // 100 for vid in range(100, 500)}, []),
@@ -489,9 +494,10 @@ class Wire:
         region = self.regions[bridge]
         if region is None:
             return b"\0\0\2\2" + flags(role) + vector + identifier(says["id"]) + struct.pack(">H", port) + times
-        name, revision, its = region
-        config = b"\0" + name.encode().ljust(32, b"\0") + struct.pack(">H", int(revision)) + bytes.fromhex(its)
-        messages = b"".join(self.message(tree, bridge, number) for tree in sorted(self.trees) if tree and bridge in self.trees[tree][0])
+        name, revision, digits = region
+        config = b"\0" + name.encode().ljust(32, b"\0") + struct.pack(">H", int(revision)) + bytes.fromhex(digits)
+        its = [tree for tree in sorted(self.trees) if tree and bridge in self.trees[tree][0]]
+        messages = b"".join(self.message(tree, bridge, number) for tree in its)
         inside = config + struct.pack(">I", int(says["int"])) + identifier(says["id"]) + b"\x13"
         front = b"\0\0\3\2" + flags(role) + vector + identifier(says["regional"]) + struct.pack(">H", port) + times
         return front + struct.pack(">H", 64 + len(messages)) + inside + messages
@@ -553,13 +559,15 @@ def check_learned(program, what, captures):
 
 
 def check_plan(program, name, edits):
-    """What is wrong with scripts that are learned of what a plan says on the wire: of designated ports alone, of all ports, and of
-    the designated ports of each second LAN."""
+    """What is wrong with scripts that are learned of what a plan says on the wire: of designated ports alone, of all ports, of the
+    designated ports of each second LAN; of one file with all LANs, each heard by another interface; and of two files of each LAN."""
     wire = Wire(program, edits)
     sent, everyone = wire.frames(False), wire.frames(True)
     some = dict(list(sent.items())[::2])
-    cases = [("designated ports", sent), ("all ports", everyone), ("some LANs", some)]
-    return [line for what, its in cases if its for line in check_learned(program, f"{name}, {what}", list(map(pcap, its.values())))]
+    apart = [cooked_2(it[14:], interface=at) for at, them in enumerate(everyone.values()) for it in them]
+    cases = [(what, list(map(pcap, its.values()))) for what, its in (("designated ports", sent), ("all ports", everyone), ("some", some))]
+    cases += [("one file", [pcap(apart, link=276)] if apart else []), ("twice", list(map(pcap, [*sent.values(), *everyone.values()])))]
+    return [line for what, its in cases if its for line in check_learned(program, f"{name}, {what}", its)]
 
 
 def samples():
@@ -591,7 +599,8 @@ def main():
         sys.exit(__doc__)
     program = os.path.abspath(sys.argv[1])
     checks = [
-        ("captures", check_cases), ("sample", check_sample), ("damage", lambda: check_damage(program)), ("live", lambda: in_pool(check_live_case, live_cases())),
+        ("captures", check_cases), ("sample", check_sample), ("damage", lambda: check_damage(program)),
+        ("live", lambda: in_pool(check_live_case, live_cases())),
         ("digests", lambda: check_digests(program)), ("learning", lambda: check_learning(program)),
     ]
     passed = failed = 0

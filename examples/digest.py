@@ -10,7 +10,7 @@ worth telling: with them all ways to map some ten VIDs or ranges are tried. For 
     digest.py 60c0f7106757ed98f78fcf6d6efeef38 --trees 1,2 --bridge core1
 
 prints the lines `setvid2mstid NAME TREE VIDS` of a table that has the digest, for the bridge NAME (B if it isn't told), or a
-comment where no VID is mapped. The digest is the HMAC-MD5 of the table (docs/RULES.md); that two tables have one isn't to be feared.
+comment where no VID is mapped. The digest is the HMAC-MD5 of the table (docs/RULES.md): two tables don't share one by chance.
 These are tried: no VID mapped; all VIDs or VIDS to one MSTI; VIDS in each way; odd and even ones; VIDs to the MSTIs with their own
 numbers, and round ones; ranges of one width; ranges between round numbers; each single VID; two ranges at any cut; and round VIDs
 to MSTIs in each way. N is the most seconds that it may take, 60 if it isn't told.
@@ -168,8 +168,9 @@ def two_ranges(trees, _named):
 
 def one_each(trees, named):
     """One VID to each MSTI."""
-    likely = list(dict.fromkeys([*single_vids(named), *range(10, 101, 10), *range(100, 1001, 100), *range(1, 21), *range(110, 251, 10),
-                                 *range(101, 111), *range(1100, 4001, 100)]))
+    tens, hundreds = [*range(10, 101, 10), *range(110, 251, 10)], [*range(100, 1001, 100), *range(1100, 4001, 100)]
+    likely = [*single_vids(named), *tens[:10], *hundreds[:10], *range(1, 21), *tens[10:], *range(101, 111), *hundreds[10:]]
+    likely = list(dict.fromkeys(likely))
     for known in [trees] if trees else [(1, 2), (1, 2, 3)]:
         count = len(likely)
         while count > len(known) and count ** len(known) > MOST:
@@ -223,8 +224,10 @@ KINDS = [
 
 
 def find(wanted, trees=(), named=(), seconds=SECONDS):
-    """A table with this digest, as a sorted list of VIDs for each of its trees, or None; and what was tried, in lines. The trees are
-    those that it has, if they are known, and `named` are ranges of VIDs that may be mapped."""
+    """A table with this digest, as a sorted list of VIDs for each of its trees, or None; and what was tried, in lines.
+
+    The trees are those that the table has, if they are known, and `named` are ranges of VIDs that may be mapped.
+    """
     tried, until = [], time.monotonic() + seconds
     for text, kind in KINDS:
         count, is_over = 0, False

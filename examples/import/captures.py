@@ -3,24 +3,25 @@
 
 usage: captures.py [--vids VIDS] FILE ...    (- is standard input)
 
-Each file is what was captured on one LAN, in any form that ../captures.py reads (pcap, pcapng, a text of tcpdump or tshark); where a
-capture says which interface heard a frame, each interface is a LAN. Files in which one port is heard are of one LAN. For example:
+Each file is what was captured on one LAN, in any form that ../captures.py reads (pcap, pcapng, a text of tcpdump or tshark);
+where a capture says which interface heard a frame, each interface is a LAN. Files in which one port is heard are of one LAN. A
+designated port sends each two seconds, so some seconds of each LAN are enough. For example:
 
     captures.py uplink.pcap rack-1.pcap > learned.script
     ../captures.py uplink.pcap rack-1.pcap > CAPTURES
     mstplan check learned.script CAPTURES
 
 Each bridge that sent a BPDU becomes a bridge named by its MAC address: of kind mstp where it sent MST BPDUs, else rstp, with its
-priorities and, in a region, name, revision and a table that ../digest.py finds for the digest, of VIDS if they
-are told (in 20 seconds, or a minute for all). Each port that
-sent one has its number and its priorities, and is in its LAN. The last BPDU of a port counts.
+priorities and, in a region, name, revision and a table that ../digest.py finds for the digest, of VIDS if they are told (in 20
+seconds, or a minute for all). Each port that sent one has its number and its priorities, and is in its LAN. The last BPDU of a
+port counts.
 
-A cost follows where a root port and its LAN's designated port are both heard: it is the difference of what they say. Where a bridge's
-root port isn't heard, its way to the root is one made-up LAN of the cost that it says; a root or a regional root that isn't heard has
-a bridge that stands for it. Ports that block get a cost at which they do.
+A cost follows where a root port and its LAN's designated port are both heard: it is the difference of what they say. Where a
+bridge's root port isn't heard, its way to the root is one made-up LAN of the cost that it says; a root or a regional root that
+isn't heard has a bridge that stands for it. Ports that block get a cost at which they do.
 
 What couldn't be known is told on standard error: bridges that only listen aren't in the script, nor are speeds, VLANs of ports and
-ports that are down. A file that can't be read is told there, too, with status 1.
+ports that are down. A file that can't be read is told there, too, with status 1; wrong words have status 2.
 """
 
 import argparse
@@ -165,14 +166,19 @@ class Bridge:
 
 
 class Heard(Network):
-    """The network that BPDUs tell of. `heard` has bridges by MAC address, `on` the ports of each LAN, `same` the LAN that one was
-    joined to, `plugged` the bridge whose made-up port is the designated one of a LAN, `ways` the port at a made-up LAN from a bridge
-    to a root, `between` the bridge between the parts of a root's region, `named` the VIDs that may be mapped, as ranges, and `tables` the table of each region."""
+    """The network that BPDUs tell of.
+
+    `heard` has bridges by MAC address, `on` the ports of each LAN, `same` the LAN that one was joined to, `plugged` the bridge
+    whose made-up port is the designated one of a LAN, `ways` the port at a made-up LAN from a bridge to a root, `between` the
+    bridge between the parts of a root's region, `trees` those of each region, `tables` their VIDs, and `named` are ranges of VIDs
+    that may be mapped.
+    """
 
     def __init__(self, named=()):
         super().__init__()
         self.named = named
-        self.heard, self.on, self.same, self.plugged, self.ways, self.tables, self.between = {}, {}, {}, {}, {}, {}, {}
+        self.heard, self.on, self.same, self.plugged = {}, {}, {}, {}
+        self.ways, self.between, self.trees, self.tables = {}, {}, {}, {}
 
     # ---- what was heard
 
@@ -212,6 +218,8 @@ class Heard(Network):
         for bridge in heard:
             bridge.priorities = {tree: its.priority for tree, its in bridge.said.trees.items()}
             self.tell_extension(bridge.said.bridge)
+            if bridge.region:
+                self.trees.setdefault(bridge.region, set()).update(bridge.said.trees)
             for number, port in bridge.ports.items():
                 port.lan = self.lan_of(port.lan)
                 self.on.setdefault(port.lan, []).append((bridge, number))
@@ -301,8 +309,7 @@ class Heard(Network):
         designated = self.designated(port.lan, tree, bridge)
         if designated:
             return designated
-        inside = self.designated(port.lan, 0, bridge) or self.plugged.get(port.lan) or bridge
-        if tree and not self.is_inside(inside, bridge):
+        if tree and self.is_boundary(port, bridge):
             return None
         ports = [it.ports[number].said for it, number in self.on[port.lan]]
         if any(says.role == DESIGNATED for its in ports if its for says in its.trees.values()):
@@ -312,6 +319,11 @@ class Heard(Network):
             self.add_port_of(root, port.lan)
             self.plugged.setdefault(port.lan, root)
         return root
+
+    def is_boundary(self, port, bridge):
+        """Whether a port of a bridge is in another region's LAN, as far as the LAN's designated port was heard or made up."""
+        designated = self.designated(port.lan, 0, bridge) or self.plugged.get(port.lan)
+        return designated is not None and not self.is_inside(designated, bridge)
 
     @staticmethod
     def is_inside(one, other):
@@ -339,13 +351,9 @@ class Heard(Network):
             self.tell(f"{bridge.name} has no port number left: a made-up port is left out")
             return Port(lan)
         port = bridge.ports[number] = Port(lan)
-        port.costs = {tree: HIGHEST_COST for tree in self.trees_of(bridge)}
+        port.costs = {tree: HIGHEST_COST for tree in self.trees.get(bridge.region, ())}
         self.on.setdefault(lan, []).append((bridge, number))
         return port
-
-    def trees_of(self, bridge):
-        """The trees that bridges of its region tell of."""
-        return sorted({tree for it in self.heard.values() if it.said and self.is_inside(it, bridge) for tree in it.said.trees})
 
     def make_way(self, bridge, root, tree, cost):
         """A made-up LAN from a bridge to a root, of this cost in the tree, or of an external cost for None."""
@@ -368,11 +376,13 @@ class Heard(Network):
             for tree, says in port.said.trees.items() if port.said else ():
                 if says.role != ALTERNATE or self.designated(port.lan, tree, bridge) is bridge:
                     continue
+                if tree and self.is_boundary(port, bridge):
+                    continue
                 root = self.heard[mac(bridge.said.trees[tree].regional if tree else bridge.said.root)]
                 root = self.outside(bridge, root) if tree == 0 and bridge.said.external else root
                 nearer = self.nearer(bridge, port, tree, root)
                 if nearer is None or nearer is bridge:
-                    self.tell(f"{bridge.name} port {number} blocks, and nothing was heard of what it blocks for: the plan won't agree")
+                    self.tell(f"{bridge.name} port {number} blocks, and nothing was heard of why: the plan won't agree")
                     continue
                 if nearer.said and nearer.root(tree) < bridge.root(tree):
                     port.restricted = True
@@ -389,7 +399,7 @@ class Heard(Network):
         regions = dict.fromkeys(bridge.region for bridge in self.heard.values() if bridge.region)
         until = time.monotonic() + SECONDS_ALL
         for count, region in enumerate(regions):
-            trees = sorted({tree for it in self.heard.values() if it.said and it.region == region for tree in it.said.trees} - {0})
+            trees = sorted(self.trees[region] - {0})
             table, _ = digest.find(region[2], trees, self.named, min(SECONDS_EACH, until - time.monotonic()))
             if table is None:
                 self.tell(f"no table is found for the digest {region[2].hex()}: made-up VIDs stand for it, and the plan won't agree"
@@ -427,7 +437,7 @@ class Heard(Network):
             yield f"kind {bridge.name} rstp"
         if bridge.max_age != DEFAULT_MAX_AGE:
             yield f"setmaxage {bridge.name} {bridge.max_age}"
-        for tree in [0, *self.trees_of(bridge)[1:]]:
+        for tree in sorted(self.trees.get(bridge.region, {0})):
             its = bridge.priorities.get(tree, WORST_PRIORITY)
             if its != DEFAULT_PRIORITY:
                 yield f"settreeprio {bridge.name} {tree} {its}"
@@ -473,6 +483,8 @@ def listen_to(heard, path, stream):
         if interface not in lans:
             lans[interface] = heard.name("LAN", f"{wanted}.{interface}" if lans else wanted)
         heard.listen(lans[interface], its)
+        if frame.link == frames.COOKED:
+            heard.tell(f"{path}: its cooked frames don't say which interface heard them, so all of them are taken for one LAN's")
     if refused:
         heard.tell(f"{path}: {refused} BPDUs aren't of RSTP or MSTP, or are damaged")
     if not lans:
@@ -495,6 +507,8 @@ def main():
     heard = Heard(its.vids)
     for path in its.files:
         try:
+            if path == "-" and not sys.stdin:
+                raise frames.Unread("it is closed")
             with sys.stdin.buffer if path == "-" else open(path, "rb") as stream:
                 listen_to(heard, path, stream)
         except (frames.Unread, OSError) as why:
@@ -504,4 +518,7 @@ def main():
 
 
 if __name__ == "__main__":
-    main()
+    try:
+        main()
+    except KeyboardInterrupt:
+        sys.exit(130)
