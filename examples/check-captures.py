@@ -34,7 +34,7 @@ import frames  # noqa: E402
 
 CAPTURES, DIGEST, LEARN = (os.path.join(HERE, *names) for names in (["captures.py"], ["digest.py"], ["import", "captures.py"]))
 # How many damaged captures and drawn networks there are, and how many seconds a program may run.
-MUTATIONS, DRAWN, SECONDS = 1200, 12, 60
+MUTATIONS, DRAWN, SECONDS = 1200, 8, 60
 GROUP, PROVIDER, PVST = bytes.fromhex("0180c2000000"), bytes.fromhex("0180c2000008"), bytes.fromhex("01000ccccccd")
 SENDER, LLC, SNAP = bytes.fromhex("020000000001"), bytes.fromhex("424203"), bytes.fromhex("aaaa0300000c010b")
 RST = bytes.fromhex("0000" "02" "02" "3c" "8000020000000001" "00000000" "8000020000000001" "8002" "0000" "1400" "0200" "0f00" "00")
@@ -540,6 +540,12 @@ def networks():
         yield f"drawn network {number}", quiet(lines)
 
 
+def capture_lines(octets):
+    """The lines of a capture's BPDUs, as captures.py writes them."""
+    them = map(frames.found, frames.frames(io.BytesIO(octets)))
+    return [(it.header + it.bpdu).hex() for it in them if it.kind == frames.BPDU]
+
+
 def check_learned(program, what, captures):
     """What is wrong with a script that is learned of captures, one for each LAN, in lines: all of them must agree with its plan."""
     with tempfile.TemporaryDirectory() as folder:
@@ -548,13 +554,13 @@ def check_learned(program, what, captures):
             with open(path, "wb") as file:
                 file.write(octets)
         script, telling, status = ran([LEARN, "--vids", VIDS, *paths])
-        lines, _, _ = ran([CAPTURES, *paths])
+        lines = [line for octets in captures for line in capture_lines(octets)]
         plan = os.path.join(folder, "learned.script")
         with open(plan, "w", encoding="utf-8") as file:
             file.write("\n".join(script) + "\n")
         says = asked(program, lines, ("check", plan, "-"))
     wrong = [f"status {status}, {telling[-1:]}"] * (status != 0) + [line for line in says if not line.endswith(" agrees")]
-    wrong += ["not each BPDU is compared"] * (len(says) != sum(not line.startswith("#") for line in lines))
+    wrong += ["not each BPDU is compared"] * (len(says) != len(lines))
     return [f"{what}: {line}" for line in wrong]
 
 
@@ -565,8 +571,9 @@ def check_plan(program, name, edits):
     sent, everyone = wire.frames(False), wire.frames(True)
     some = dict(list(sent.items())[::2])
     apart = [cooked_2(it[14:], interface=at) for at, them in enumerate(everyone.values()) for it in them]
-    cases = [(what, list(map(pcap, its.values()))) for what, its in (("designated ports", sent), ("all ports", everyone), ("some", some))]
-    cases += [("one file", [pcap(apart, link=276)] if apart else []), ("twice", list(map(pcap, [*sent.values(), *everyone.values()])))]
+    twice = [*sent.values(), *everyone.values()]
+    cases = [("designated ports", sent.values()), ("all ports", everyone.values()), ("some LANs", some.values()), ("twice", twice)]
+    cases = [(what, list(map(pcap, its))) for what, its in cases] + [("one file", [pcap(apart, link=276)] if apart else [])]
     return [line for what, its in cases if its for line in check_learned(program, f"{name}, {what}", its)]
 
 
