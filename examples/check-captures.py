@@ -162,8 +162,9 @@ def whole_cases():
     sll = [cooked(LLC + RST), cooked(LLC + MST, 4), cooked(LLC + RST, 0), cooked(SNAP + RST), cooked(LLC + RST, 2, TAG, 0x8100)]
     yield "cooked", pcap(sll, link=113), lines_of([RST, MST, RST]), told(other=1, PVST=1)
     sll = [cooked_2(LLC + RST), cooked_2(LLC + MST, 4), cooked_2(LLC + RST, 3), cooked_2(SNAP + RST)]
-    sll += [cooked_2(LLC + RST, 2, 4, TAG, 0x8100)]
-    yield "cooked, version 2", pcap(sll, link=276), lines_of([RST, MST, RST]), told(other=1, PVST=1)
+    stacked = struct.pack(">HH", 0xE000, len(LLC + RST))
+    sll += [cooked_2(LLC + RST, 2, 4, TAG, 0x8100), cooked_2(LLC + RST, 2, 4, stacked, len(LLC + RST))]
+    yield "cooked, version 2", pcap(sll, link=276), lines_of([RST, MST, RST, RST]), told(other=1, PVST=1)
     yield "another link type", pcap([bytes(60)] * 3, link=105), [], told(foreign=3, written=0)
     yield "STP", pcap([ethernet(LLC + STP)]), lines_of([ethernet(LLC + STP)]), []
     yield "padded to 9000 octets", pcap([PLAIN.ljust(9000, b"\0")]), lines_of([PLAIN.ljust(2048, b"\0")]), []

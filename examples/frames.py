@@ -293,6 +293,10 @@ def behind(kind, rest, group, addresses=b""):
     while kind in TAG_TYPES and len(rest) >= 4:
         vids.append(int.from_bytes(rest[:2], "big") & 0xFFF)
         kind, rest = int.from_bytes(rest[2:4], "big"), rest[4:]
+    if not addresses and rest[2:4] == kind.to_bytes(2, "big") and kind <= LONGEST_LENGTH:
+        # of stacked tags `tcpdump -i any` loses the type of the inner one, and has the length both before it and behind it
+        vids.append(int.from_bytes(rest[:2], "big") & 0xFFF)
+        rest = rest[4:]
     cut = len(rest) < kind <= LONGEST_LENGTH
     if kind > LONGEST_LENGTH:
         return Found(OTHER)
