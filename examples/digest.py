@@ -195,14 +195,16 @@ def named_each_way(trees, named):
 
 def each_way(trees, named, most=MOST):
     """Each way to map single VIDs."""
-    likely = [single_vids(named)] if named else [range(10, 171, 10), range(100, 1701, 100), range(1, 18), range(101, 118)]
+    likely = [range(10, 171, 10), range(100, 1701, 100), range(1, 18), range(10, 27), range(101, 118)]
+    likely = [single_vids(named)] if named else likely
     for known in [trees] if trees else [(1,), (1, 2), (1, 2, 3)]:
         for some in likely:
             yield from choices_of(known, [(vid,) for vid in some], most)
 
 
 def few_each_way(trees, named):
-    return each_way(trees, named, FEW)
+    """The first ways to map single VIDs, the likely ones even where others are named."""
+    return itertools.chain(each_way(trees, named, FEW), each_way(trees, (), FEW) if named else ())
 
 
 KINDS = [
