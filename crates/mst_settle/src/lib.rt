@@ -7,6 +7,7 @@ mod bridges;
 mod by_number;
 mod designations;
 mod heard;
+mod keys;
 pub mod laws;
 mod link;
 mod looking;
