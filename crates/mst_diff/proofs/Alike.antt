@@ -60,7 +60,7 @@ no_regions a =
 
 -- ---- roots
 -- what holds of all things holds of those that are kept once
-once_all : {A : Type 0} (P : A → Type 0) (same : A → A → Bool) (xs kept : List A) → AllByRecursion P kept → AllByRecursion P xs → AllByRecursion P (fold (with_new same) kept xs)
+pub once_all : {A : Type 0} (P : A → Type 0) (same : A → A → Bool) (xs kept : List A) → AllByRecursion P kept → AllByRecursion P xs → AllByRecursion P (fold (with_new same) kept xs)
 once_all P same [] kept h k = h
 once_all {A} P same (x ∷ xs) kept h k = once_all P same xs (with_new same kept x) (go (list_any (λ y. same y x) kept)) k.1
   where
@@ -76,7 +76,7 @@ pair_itself : (o : Option (List ℕ)) (pair : RootPair) → paired o o ≡ Some 
 pair_itself None pair e = absurd (no_some pair e)
 pair_itself (Some name) pair e = ap (λ (p : RootPair). p.old) (sym (some_is (record { old = name; new = name }) pair e)) ∙ ap (λ (p : RootPair). p.new) (some_is (record { old = name; new = name }) pair e)
 
-any_name : (names : List (List ℕ)) → AllByRecursion (λ _. Unit {0}) names
+pub any_name : (names : List (List ℕ)) → AllByRecursion (λ _. Unit {0}) names
 any_name [] = tt
 any_name (name ∷ names) = (tt, any_name names)
 
@@ -108,7 +108,7 @@ any_here word (x ∷ xs) ys = ap (λ b. same_name x word || b) (any_here word xs
     last false = refl
 
 -- words that are all among others
-none_apart : (xs ys : List (List ℕ)) → AllByRecursion (λ x. list_any (λ y. same_name y x) ys ≡ true) xs → without xs ys ≡ []
+pub none_apart : (xs ys : List (List ℕ)) → AllByRecursion (λ x. list_any (λ y. same_name y x) ys ≡ true) xs → without xs ys ≡ []
 none_apart [] ys h = refl
 none_apart (x ∷ xs) ys h =
     ap (λ b. cond (not b) (x ∷ filter (λ x. not (list_any (λ y. same_name y x) ys)) xs) (filter (λ x. not (list_any (λ y. same_name y x) ys)) xs)) h.0 ∙ none_apart xs ys h.1

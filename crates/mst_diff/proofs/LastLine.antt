@@ -50,21 +50,21 @@ zero_right m n e = omega arith
 same_sum : (m n : ℕ) → m + n ≡ n → m ≡ 0
 same_sum m n e = omega arith
 
-no_more : {A : Type 0} (x : A) (xs : List A) → x ∷ xs ≡ [] → ⊥
+pub no_more : {A : Type 0} (x : A) (xs : List A) → x ∷ xs ≡ [] → ⊥
 no_more x xs e = true≢false (ap has_any e)
 
 none_long : {A : Type 0} (xs : List A) → length xs ≡ 0 → xs ≡ []
 none_long [] e = refl
 none_long (x ∷ xs) e = absurd (not_suc (length xs) e)
 
-both_none : {A : Type 0} (xs ys : List A) → xs ++ ys ≡ [] → (xs ≡ []) × (ys ≡ [])
+pub both_none : {A : Type 0} (xs ys : List A) → xs ++ ys ≡ [] → (xs ≡ []) × (ys ≡ [])
 both_none [] ys e = (refl, e)
 both_none (x ∷ xs) ys e = absurd (no_more x (xs ++ ys) e)
 
 no_front : {A : Type 0} (xs ys : List A) → xs ++ ys ≡ ys → xs ≡ []
 no_front xs ys e = none_long xs (same_sum (length xs) (length ys) (sym (length-append xs ys) ∙ ap length e))
 
-each_is_none : {A : Type 0} (f : A → List ℕ) (xs : List A) → flat_map f xs ≡ [] → AllByRecursion (λ x. f x ≡ []) xs
+pub each_is_none : {A : Type 0} (f : A → List ℕ) (xs : List A) → flat_map f xs ≡ [] → AllByRecursion (λ x. f x ≡ []) xs
 each_is_none f [] e = tt
 each_is_none f (x ∷ xs) e = let b = both_none (f x) (flat_map f xs) e in (b.0, each_is_none f xs b.1)
 
@@ -109,10 +109,10 @@ ports_told a o b p = told_each (port_changes a o b p) all_trees (λ tree.
 
 -- ---- the whole text
 module _ (a : Net) (o : Outcome) (b : Net) (p : Outcome) (c : Differing) (text : List ℕ) (x : IsDiff a o b p c text) where
-  abbrev differs : ℕ → Bool
+  abbrev pub differs : ℕ → Bool
   differs vid = has_any (x.is_reach.sides vid)
 
-  in_count : length (filter differs all_vids) ≡ c.vlans
+  pub in_count : length (filter differs all_vids) ≡ c.vlans
   in_count = length-filter differs all_vids ∙ sym x.is_reach.counted
 
   -- where nothing is counted
@@ -134,7 +134,7 @@ module _ (a : Net) (o : Outcome) (b : Net) (p : Outcome) (c : Differing) (text :
     no_reach : x.reach ≡ []
     no_reach = x.is_reach.is ∙ each_none (group_text x.is_reach.sides) x.is_reach.groups (all_weaker (Contains x.is_reach.groups) _ no_group x.is_reach.groups (all_there x.is_reach.groups))
 
-    alone : text ≡ diff_line c
+    pub alone : text ≡ diff_line c
     alone =
         x.is
         ∙ (λ i. regions_told a b (sym x.regions ∙ ap (λ (d : Differing). d.regions) e) i ++ roots_told a o b p (sym x.roots ∙ ap (λ (d : Differing). d.roots) e) i
@@ -148,10 +148,10 @@ module _ (a : Net) (o : Outcome) (b : Net) (p : Outcome) (c : Differing) (text :
     abbrev first : (region_changes a b ++ root_changes a o b p ++ ports_text a o b p ≡ []) × (x.reach ≡ [])
     first = both_none (region_changes a b ++ root_changes a o b p ++ ports_text a o b p) x.reach all_before
 
-    abbrev second : (region_changes a b ++ root_changes a o b p ≡ []) × (ports_text a o b p ≡ [])
+    pub second : (region_changes a b ++ root_changes a o b p ≡ []) × (ports_text a o b p ≡ [])
     second = both_none (region_changes a b ++ root_changes a o b p) (ports_text a o b p) first.0
 
-    abbrev third : (region_changes a b ≡ []) × (root_changes a o b p ≡ [])
+    pub third : (region_changes a b ≡ []) × (root_changes a o b p ≡ [])
     third = both_none (region_changes a b) (root_changes a o b p) second.0
 
     no_line : (group sides : List ℕ) → reach_line group sides ≡ [] → has_any sides ≡ false
@@ -166,7 +166,7 @@ module _ (a : Net) (o : Outcome) (b : Net) (p : Outcome) (c : Differing) (text :
     alike_in (v ∷ vs) vid h k there none =
         ap has_any (sym ((x.is_reach.are_groups.related (v ∷ vs) v vid k (here v vs) h).0 there)) ∙ no_line (v ∷ vs) (x.is_reach.sides v) none
 
-    none_alike : (vid : ℕ) → Contains all_vids vid → differs vid ≡ false
+    pub none_alike : (vid : ℕ) → Contains all_vids vid → differs vid ≡ false
     none_alike vid h =
         let group = x.is_reach.are_groups.each vid h in
         alike_in group.0 vid h group.1 group.2

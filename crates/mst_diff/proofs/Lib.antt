@@ -10,3 +10,7 @@ pub mod OneDiff
 pub mod Alike
 pub mod Turned
 pub mod LastLine
+pub mod AlikeNets
+pub mod TwoSides
+pub mod Plain
+pub mod ReachTurned

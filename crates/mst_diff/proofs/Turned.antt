@@ -254,7 +254,7 @@ module _ (a b : Net) (o p : Outcome) where
   roots_turned = each_turned (tree_roots a o b p) (tree_roots b p a o) all_trees tree_turned
 
 -- ---- ports
-tied : (o : Ordering) → is_eq o ≡ true → o ≡ Equal
+pub tied : (o : Ordering) → is_eq o ≡ true → o ≡ Equal
 tied Less e = absurd (true≢false (sym e))
 tied Equal e = refl
 tied Greater e = absurd (true≢false (sym e))
@@ -264,7 +264,7 @@ module _ {K : Type 0} {R : K → K → Ordering} (total : IsTotalOrder R) (same 
   abbrev twice : List K → List (K × K)
   twice ks = map (λ k. (k, k)) ks
 
-  found_twice : (q : K) (ks : List K) → find R q (twice ks) ≡ cond (list_any (eq_by_cmp R q) ks) (Some q) None
+  pub found_twice : (q : K) (ks : List K) → find R q (twice ks) ≡ cond (list_any (eq_by_cmp R q) ks) (Some q) None
   found_twice q [] = refl
   found_twice q (k ∷ ks) = go (eq_by_cmp R q k) refl (found_twice q ks)
     where
@@ -310,7 +310,7 @@ module _ (a b : Net) (o p : Outcome) where
   ports_turned = each_turned (port_changes a o b p) (port_changes b p a o) all_trees changes_turned
 
 -- ---- islands
-any_turned : (u v : List (List ℕ)) → has_any (if has_any (u ++ v) then flat_map after_space (listed u ++ codes "->" ∷ listed v) else []) ≡ has_any (if has_any (v ++ u) then flat_map after_space (listed v ++ codes "->" ∷ listed u) else [])
+pub any_turned : (u v : List (List ℕ)) → has_any (if has_any (u ++ v) then flat_map after_space (listed u ++ codes "->" ∷ listed v) else []) ≡ has_any (if has_any (v ++ u) then flat_map after_space (listed v ++ codes "->" ∷ listed u) else [])
 any_turned [] [] = refl
 any_turned [] (w ∷ ws) = refl
 any_turned (w ∷ ws) [] = refl

@@ -5,3 +5,4 @@ pub mod Reach
 pub mod DiffText
 pub mod Seen
 pub mod Turned
+pub mod AlikeNets

@@ -2,7 +2,7 @@
 use Rattle.std.specs.Prelude.{◌≡◌, ℕ, List, ◌∷◌, ◌++◌, codes}
 use Rattle.std.specs.List.{flat_map}
 use Rattle.mst_ids.specs.Words.{line}
-use Rattle.mst_diff.specs.Reach.{sides_text}
+use Rattle.mst_diff.specs.Reach.{sides_text, whole_line}
 
 -- a line of two sides: its first words, and the words of each side
 pub record Sided : Type 0 where
@@ -25,3 +25,14 @@ AreTurned text other = (lines : List Sided) × (text ≡ flat_map sided_line lin
 -- two texts are the sides of a VID, and the same changed over
 abbrev pub SidesTurned : List ℕ → List ℕ → Type 0
 SidesTurned text other = (old new : List (List ℕ)) × (text ≡ sides_text old new) × (other ≡ sides_text new old)
+
+-- a line of VIDs: their group, and the words of each side
+pub record ReachSided : Type 0 where
+  pub vids : List ℕ
+  pub old : List (List ℕ)
+  pub new : List (List ℕ)
+
+-- two texts have lines of the same groups of VIDs, in the same order, with their sides changed over
+abbrev pub ReachTurned : List ℕ → List ℕ → Type 0
+ReachTurned text other =
+    (lines : List ReachSided) × (text ≡ flat_map (λ l. whole_line l.vids (sides_text l.old l.new)) lines) × (other ≡ flat_map (λ l. whole_line l.vids (sides_text l.new l.old)) lines)

@@ -1,4 +1,5 @@
 use Rattle.mst_diff.proofs.Turned.{regions_turned, roots_turned, ports_turned, sides_turned, counts_turned}
+use Rattle.mst_diff.proofs.ReachTurned.{reach_turned}
 use Rattle.mst_diff.proofs.laws.turned.Goals as goal
 
 pub returns-clause-regions : goal.returns-clause-regions
@@ -12,6 +13,9 @@ returns-clause-ports g = ports_turned
 
 pub returns-clause-sides : goal.returns-clause-sides
 returns-clause-sides g a b o p = sides_turned a b o p g.islands_of_vid.ensures.one
+
+pub returns-clause-reach : goal.returns-clause-reach
+returns-clause-reach g a b o p text other v w na nb x y = reach_turned a b o p na nb g.islands_of_vid.ensures.one g.group_lists.ensures.one text other v w x y
 
 pub returns-clause-counts : goal.returns-clause-counts
 returns-clause-counts g a b o p = counts_turned a b o p g.islands_of_vid.ensures.one
