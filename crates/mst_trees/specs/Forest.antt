@@ -1,5 +1,5 @@
 -- What a forest answers, under the numbers of records.
-use Rattle.std.specs.Prelude.{ℕ, ◌==◌, List, Option, nat_eq, if◌then◌else◌}
+use Rattle.std.specs.Prelude.{◌≡◌, ℕ, ◌==◌, false, List, Option, nat_eq, if◌then◌else◌}
 use Rattle.std.specs.Option.{option_and_then, option_map_or}
 use Rattle.std.specs.Map.{lookup}
 use Rattle.mst_vector.specs.declared.msti.MstiVector.{MstiVector}
@@ -12,6 +12,7 @@ use Rattle.mst_trees.specs.Outcome.{Outcome, IsOutcome}
 use Rattle.mst_trees.specs.Agrees.{Agrees}
 use Rattle.mst_trees.specs.Seen.{cist_seen, internal_seen, msti_seen}
 use Rattle.mst_trees.specs.Bound.{KeepsBound}
+use Rattle.mst_trees.specs.Msti.{has_msti}
 use Rattle.mst_nested.specs.Trees.{Trees}
 use Rattle.mst_vector.specs.declared.cist.CistVector.{CistVector}
 
@@ -25,16 +26,16 @@ pub record Forest : Type 0 where
 abbrev pub msti_in : Forest → ℕ → Option (Assignment MstiVector)
 msti_in f tree = lookup (nat_eq tree) f.mstis
 
--- the vector of a bridge in it, and the designated port of a LAN
+-- the vector of a bridge in it, and the designated port of a LAN in it
 abbrev pub msti_vector : Forest → ℕ → ℕ → Option MstiVector
 msti_vector f tree bridge = option_and_then (λ a. vector_of a bridge) (msti_in f tree)
 
-abbrev pub msti_designated_vector : Forest → ℕ → ℕ → Option ℕ
-msti_designated_vector f tree lan = option_and_then (λ a. designated_of a lan) (msti_in f tree)
+abbrev pub msti_designated : Forest → ℕ → ℕ → Option ℕ
+msti_designated f tree lan = option_and_then (λ a. designated_of a lan) (msti_in f tree)
 
 -- of any tree
 abbrev pub designated_in : Forest → ℕ → ℕ → Option ℕ
-designated_in f tree lan = if tree == 0 then designated_of f.cist lan else msti_designated_vector f tree lan
+designated_in f tree lan = if tree == 0 then designated_of f.cist lan else msti_designated f tree lan
 
 -- how often a bridge was settled in an MSTI, and in any tree
 abbrev pub msti_settlings : Forest → ℕ → ℕ
@@ -43,12 +44,16 @@ msti_settlings f tree = option_map_or (λ a. a.settlings) (msti_in f tree) 0
 abbrev pub settlings_in : Forest → ℕ → ℕ
 settlings_in f tree = if tree == 0 then f.cist.settlings else msti_settlings f tree
 
+-- in an MSTI that no bridge of the network has no bridge was settled
+abbrev pub SettlesNoUnused : Net → (settlings : ℕ → ℕ) → Type 0
+SettlesNoUnused net settlings = (tree : ℕ) → ((name : List ℕ) → has_msti net tree name ≡ false) → settlings tree ≡ 0
+
 -- it answers by a settled outcome of the network, and by the network's regions
 pub record IsForest (net : Net) (numbers : Numbers) (f : Forest) : Type 0 where
   pub outcome : Outcome
   pub is_outcome : IsOutcome net outcome
   pub cist : Agrees numbers outcome.cist (vector_of f.cist) (designated_of f.cist)
-  pub mstis : (tree : ℕ) → Agrees numbers (outcome.msti tree) (msti_vector f tree) (msti_designated_vector f tree)
+  pub mstis : (tree : ℕ) → Agrees numbers (outcome.msti tree) (msti_vector f tree) (msti_designated f tree)
   pub regions : AreRegions net numbers f.regions
 
 -- each bridge was settled once in each tree that it is in

@@ -5,7 +5,7 @@ ghost use Rattle.mst_repair.specs.Held.{IsHeld};
 ghost use Rattle.mst_net.specs.Tables.{Net, Numbers};
 ghost use Rattle.mst_config.specs.Shared.{same_in};
 ghost use Rattle.mst_trees.specs.Agrees.{AreOf, Known, KnownInternal};
-ghost use Rattle.mst_trees.specs.Forest.{IsForest, IsSettledOnce, KeepsBounds, msti_vector, designated_in, settlings_in, trees_seen};
+ghost use Rattle.mst_trees.specs.Forest.{IsForest, IsSettledOnce, KeepsBounds, SettlesNoUnused, msti_vector, msti_settlings, designated_in, settlings_in, trees_seen};
 ghost use Rattle.mst_trees.specs.Mstis.{AreHeld, AreOutcomes, outcomes};
 ghost use Rattle.mst_trees.specs.Numbered.{IsSettledBy};
 ghost use Rattle.mst_trees.specs.Seen.{cist_seen, seen_internal};
@@ -102,6 +102,7 @@ impl Forest {
         ensures outcome { IfOk result (λ forest. (net : Net) (numbers : Numbers) → AreOf net numbers view.now regions.now → IsForest net numbers forest) }
         ensures nested { IfOk result (λ forest. IsSettled (trees_seen view.now forest)) }
         ensures bounds { IfOk result (KeepsBounds self.now) }
+        ensures unused { IfOk result (λ forest. (net : Net) (numbers : Numbers) → AreOf net numbers view.now regions.now → SettlesNoUnused net (msti_settlings forest)) }
     {
         has_outcome();
         nested();
@@ -207,7 +208,7 @@ impl Forest {
         is_internal(view, &self.regions, &self.cist, port)
     }
 
-    /// How often a bridge was settled in a tree, when this forest was made.
+    /// How often a bridge was settled in a tree, when this forest was made: 0 in an MSTI that no bridge has.
     pub fn settlings(&self, tree: Tree) -> u64
         ensures { result ≡ settlings_in self.now tree }
     {

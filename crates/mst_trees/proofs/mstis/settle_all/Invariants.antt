@@ -1,5 +1,5 @@
 use Rattle.std.proofs.Common.{◌≡◌, ℕ, true, is_some, nat_eq, take}
-use Rattle.std.specs.List.{AllByRecursion}
+use Rattle.std.specs.List.{AllByRecursion, list_any}
 use Rattle.std.specs.Map.{lookup}
 use Rattle.mst_lag.specs.Trees.{is_among}
 use Rattle.mst_trees.specs.Seen.{trees_at}
@@ -11,4 +11,5 @@ abbrev pub invariant-loop-bridge : goal.invariant-loop-bridge
 invariant-loop-bridge l = record {
   settled : AreSettled l.ground l.former.entries l.mstis.entries;
   there : AllByRecursion (λ b. (tree : ℕ) → is_among (trees_at l.ground.view b.bridge.number) tree ≡ true → is_some (lookup (nat_eq tree) l.mstis.entries) ≡ true) (take l.bridge-index l.bridge-items);
+  only : (tree : ℕ) → is_some (lookup (nat_eq tree) l.mstis.entries) ≡ true → list_any (λ b. is_among (trees_at l.ground.view b.bridge.number) tree) (take l.bridge-index l.bridge-items) ≡ true;
 }

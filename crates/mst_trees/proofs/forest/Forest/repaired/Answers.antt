@@ -10,6 +10,7 @@ use Rattle.mst_trees.proofs.Growing.{internal_agrees, is_forest}
 use Rattle.mst_trees.proofs.Keeping.{keeps_bounds}
 use Rattle.mst_trees.proofs.OnWiring.{internal_numbers}
 use Rattle.mst_trees.proofs.SettledTrees.{same_internal, is_settled_seen}
+use Rattle.mst_trees.proofs.Unused.{settles_no_unused}
 use Rattle.mst_trees.proofs.forest.Forest.repaired.Goals as goal
 
 pub msti_wiring-requires : goal.msti_wiring-requires
@@ -73,3 +74,7 @@ pub returns-clause-bounds : goal.returns-clause-bounds
 returns-clause-bounds c =
     let f : Forest = record { regions = c.in_ok-copy.field-0; cist = c.in_ok-cist_wiring.cist.outcome; mstis = outcomes c.in_ok-mstis.mstis.entries } in
     keeps_bounds c.args.self.now f c.args.view.now c.args.regions.now c.in_ok-cist_wiring.ensures.settled c.as_slice-2.result.now c.in_ok-mstis.ensures.settled
+
+pub returns-clause-unused : goal.returns-clause-unused
+returns-clause-unused c = λ net numbers of.
+    settles_no_unused net numbers c.args.view.now c.args.regions.now of c.as_slice-2.result.now c.args.self.now.mstis (outcomes c.in_ok-mstis.mstis.entries) c.in_ok-mstis.ensures.settled
