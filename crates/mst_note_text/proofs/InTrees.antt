@@ -27,7 +27,7 @@ use Rattle.mst_trees.specs.Msti.{msti_bridge, msti_port, msti_sight, has_msti, i
 use Rattle.mst_trees.specs.Seen.{seen_internal, trees_at}
 use Rattle.mst_trees.specs.Outcome.{TreeOutcome, IsTreeOutcome, Outcome, trees_of}
 use Rattle.mst_trees.specs.Agrees.{Agrees, AreOf}
-use Rattle.mst_trees.specs.Forest.{IsForest, msti_vector, msti_designated_vector, designated_in}
+use Rattle.mst_trees.specs.Forest.{IsForest, msti_vector, msti_designated, designated_in}
 use Rattle.mst_trees.specs.Forest.{Forest}
 use Rattle.mst_trees.proofs.Seen.{bridge_seen, port_seen, bridge_there}
 use Rattle.mst_trees.proofs.Sights.{IsSight, bridge_from}
@@ -187,8 +187,8 @@ module _ (net : Net) (numbers : Numbers) (v : Viewed) (f : Forest) (of : AreOf n
     pub member_is : (b : BridgeInView) → seen_member f tree b ≡ option_map (msti_member b) (msti_vector f tree b.bridge.number)
     member_is b = ap (λ (t : Bool). if t then option_map (cist_member b) (vector_of f.cist b.bridge.number) else option_map (msti_member b) (msti_vector f tree b.bridge.number)) (not_zero i)
 
-    port_is : (lan : ℕ) → designated_in f tree lan ≡ msti_designated_vector f tree lan
-    port_is lan = ap (λ (t : Bool). if t then designated_of f.cist lan else msti_designated_vector f tree lan) (not_zero i)
+    port_is : (lan : ℕ) → designated_in f tree lan ≡ msti_designated f tree lan
+    port_is lan = ap (λ (t : Bool). if t then designated_of f.cist lan else msti_designated f tree lan) (not_zero i)
 
     abbrev internal : PortInView → Bool
     internal q = seen_internal v f.regions (designated_of f.cist) q
@@ -209,7 +209,7 @@ module _ (net : Net) (numbers : Numbers) (v : Viewed) (f : Forest) (of : AreOf n
     has_there q there = has_tree_at net numbers v f.regions of tree q.name.bridge q.bridge (port_seen net numbers v of.view q there).has_numbers.bridge
 
     abbrev MstiRoot : PortInView → Type 0
-    MstiRoot = RootPort net numbers v f of msti_rules msti_lawful (msti_sight net tree o.cist.designated) (msti_is_sight net of.network tree o.cist.designated) (o.msti tree) (is.is_outcome.mstis tree) (msti_vector f tree) (msti_designated_vector f tree) (is.mstis tree) (λ x. x.receiver) tree msti_member member_is port_is
+    MstiRoot = RootPort net numbers v f of msti_rules msti_lawful (msti_sight net tree o.cist.designated) (msti_is_sight net of.network tree o.cist.designated) (o.msti tree) (is.is_outcome.mstis tree) (msti_vector f tree) (msti_designated f tree) (is.mstis tree) (λ x. x.receiver) tree msti_member member_is port_is
 
     -- a bridge with a vector has the tree
     pub had : (a : List ℕ) (x : MstiVector) → (o.msti tree).vector a ≡ Some x → has_msti net tree a ≡ true
@@ -244,15 +244,15 @@ module _ (net : Net) (numbers : Numbers) (v : Viewed) (f : Forest) (of : AreOf n
 
     pub in_msti : IsSettled (trees_of net o) → InTree net numbers v f o of tree
     in_msti settled = record {
-      has = has_of net numbers v f of msti_rules msti_lawful (msti_sight net tree o.cist.designated) (msti_is_sight net of.network tree o.cist.designated) (o.msti tree) (is.is_outcome.mstis tree) (msti_vector f tree) (msti_designated_vector f tree) (is.mstis tree) (λ x. x.receiver) tree msti_member member_is port_is;
+      has = has_of net numbers v f of msti_rules msti_lawful (msti_sight net tree o.cist.designated) (msti_is_sight net of.network tree o.cist.designated) (o.msti tree) (is.is_outcome.mstis tree) (msti_vector f tree) (msti_designated f tree) (is.mstis tree) (λ x. x.receiver) tree msti_member member_is port_is;
       names = λ b x e.
-          let y = made net numbers v f of msti_rules msti_lawful (msti_sight net tree o.cist.designated) (msti_is_sight net of.network tree o.cist.designated) (o.msti tree) (is.is_outcome.mstis tree) (msti_vector f tree) (msti_designated_vector f tree) (is.mstis tree) (λ x. x.receiver) tree msti_member member_is port_is b x e in
+          let y = made net numbers v f of msti_rules msti_lawful (msti_sight net tree o.cist.designated) (msti_is_sight net of.network tree o.cist.designated) (o.msti tree) (is.is_outcome.mstis tree) (msti_vector f tree) (msti_designated f tree) (is.mstis tree) (λ x. x.receiver) tree msti_member member_is port_is b x e in
           (ap (λ (z : Member). z.name) (sym y.1), ap (λ (z : Member). z.number) (sym y.1));
-      member = member_of net numbers v f of msti_rules msti_lawful (msti_sight net tree o.cist.designated) (msti_is_sight net of.network tree o.cist.designated) (o.msti tree) (is.is_outcome.mstis tree) (msti_vector f tree) (msti_designated_vector f tree) (is.mstis tree) (λ x. x.receiver) tree msti_member member_is port_is;
+      member = member_of net numbers v f of msti_rules msti_lawful (msti_sight net tree o.cist.designated) (msti_is_sight net of.network tree o.cist.designated) (o.msti tree) (is.is_outcome.mstis tree) (msti_vector f tree) (msti_designated f tree) (is.mstis tree) (λ x. x.receiver) tree msti_member member_is port_is;
       in_cist = (settled.nested i).bridges;
-      ends = ends_of net numbers v f of msti_rules msti_lawful (msti_sight net tree o.cist.designated) (msti_is_sight net of.network tree o.cist.designated) (o.msti tree) (is.is_outcome.mstis tree) (msti_vector f tree) (msti_designated_vector f tree) (is.mstis tree) (λ x. x.receiver) tree msti_member member_is port_is;
-      gives = gives_of net numbers v f of msti_rules msti_lawful (msti_sight net tree o.cist.designated) (msti_is_sight net of.network tree o.cist.designated) (o.msti tree) (is.is_outcome.mstis tree) (msti_vector f tree) (msti_designated_vector f tree) (is.mstis tree) (λ x. x.receiver) tree msti_member member_is port_is msti_to msti_from;
-      given_by = given_of net numbers v f of msti_rules msti_lawful (msti_sight net tree o.cist.designated) (msti_is_sight net of.network tree o.cist.designated) (o.msti tree) (is.is_outcome.mstis tree) (msti_vector f tree) (msti_designated_vector f tree) (is.mstis tree) (λ x. x.receiver) tree msti_member member_is port_is msti_to msti_from;
+      ends = ends_of net numbers v f of msti_rules msti_lawful (msti_sight net tree o.cist.designated) (msti_is_sight net of.network tree o.cist.designated) (o.msti tree) (is.is_outcome.mstis tree) (msti_vector f tree) (msti_designated f tree) (is.mstis tree) (λ x. x.receiver) tree msti_member member_is port_is;
+      gives = gives_of net numbers v f of msti_rules msti_lawful (msti_sight net tree o.cist.designated) (msti_is_sight net of.network tree o.cist.designated) (o.msti tree) (is.is_outcome.mstis tree) (msti_vector f tree) (msti_designated f tree) (is.mstis tree) (λ x. x.receiver) tree msti_member member_is port_is msti_to msti_from;
+      given_by = given_of net numbers v f of msti_rules msti_lawful (msti_sight net tree o.cist.designated) (msti_is_sight net of.network tree o.cist.designated) (o.msti tree) (is.is_outcome.mstis tree) (msti_vector f tree) (msti_designated f tree) (is.mstis tree) (λ x. x.receiver) tree msti_member member_is port_is msti_to msti_from;
     }
 
   pub in_tree : IsSettled (trees_of net o) → (tree : ℕ) → InTree net numbers v f o of tree

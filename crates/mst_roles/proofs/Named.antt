@@ -25,7 +25,7 @@ use Rattle.mst_trees.specs.Msti.{msti_port, msti_sight, has_msti, is_internal}
 use Rattle.mst_trees.specs.Outcome.{TreeOutcome, IsTreeOutcome, Outcome}
 use Rattle.mst_trees.specs.Seen.{seen_internal, trees_at}
 use Rattle.mst_trees.specs.Agrees.{Agrees, IsNameOf, AreOf}
-use Rattle.mst_trees.specs.Forest.{IsForest, msti_vector, msti_designated_vector, designated_in}
+use Rattle.mst_trees.specs.Forest.{IsForest, msti_vector, msti_designated, designated_in}
 use Rattle.mst_trees.specs.Forest.{Forest}
 use Rattle.mst_trees.proofs.Lists.{some_is, no_some, all_there, apart_cases}
 use Rattle.mst_trees.proofs.Entries.{all_weaker}
@@ -163,9 +163,9 @@ module _ (net : Net) (numbers : Numbers) (v : Viewed) (f : Forest) (of : AreOf n
           ≡ role_by (msti_port (by_tree net) tree (named_port p)).id (option_map (λ x. x.receiver) ((o.msti tree).vector p.name.bridge)) ((o.msti tree).designated p.lan) p.name
       inside =
           (λ i. seen_role_by v (msti_port (of.view.settings i) tree (named_port p)).id (option_map (λ x. x.receiver) (msti_vector f tree p.bridge))
-          (if other i then designated_of f.cist p.lan_number else msti_designated_vector f tree p.lan_number) p)
+          (if other i then designated_of f.cist p.lan_number else msti_designated f tree p.lan_number) p)
           ∙ role_same net numbers v f.regions of msti_rules (msti_sight net tree o.cist.designated) (msti_is_sight net of.network tree o.cist.designated) (o.msti tree) (is.is_outcome.mstis tree)
-          (msti_vector f tree) (msti_designated_vector f tree) (is.mstis tree) (λ x. x.receiver) (msti_port (by_tree net) tree (named_port p)).id p seen
+          (msti_vector f tree) (msti_designated f tree) (is.mstis tree) (λ x. x.receiver) (msti_port (by_tree net) tree (named_port p)).id p seen
 
       go : (b : Bool) → p.is_enabled ≡ b
           → (if b then (if seen_internal v f.regions (designated_of f.cist) p

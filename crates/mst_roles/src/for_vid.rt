@@ -11,8 +11,8 @@ ghost use Rattle.mst_lag.specs.View.{view_ports};
 ghost use Rattle.mst_lag.specs.Viewed.{named_port};
 ghost use Rattle.mst_trees.specs.Agrees.{AreOf};
 ghost use Rattle.mst_trees.specs.Forest.{IsForest};
-ghost use Rattle.mst_roles.specs.Roles.{forwards_for};
-ghost use Rattle.mst_roles.specs.Seen.{seen_tree, seen_forwards};
+ghost use Rattle.mst_roles.specs.Roles.{forwards as is_forwarding, forwards_for};
+ghost use Rattle.mst_roles.specs.Seen.{seen_role, seen_tree, seen_forwards};
 
 use crate::roles::port_role;
 use mst_ids::{BridgeNo, PortNo, Tree, Vid};
@@ -30,8 +30,8 @@ fn tree_of(view: &View, bridge: &BridgeInView, vid: Vid) -> Tree
     }
 }
 
-/// The tree that the bridge of this number has a VID in, and the CIST where no bridge has the number.
-fn tree_at(view: &View, bridge: BridgeNo, vid: Vid) -> Tree
+/// The tree that the bridge of this number has a VID in (802.1Q-2022, 8.9.3), and the CIST where no bridge has the number.
+pub fn vid_tree(view: &View, bridge: BridgeNo, vid: Vid) -> Tree
     ensures { result ≡ seen_tree view.now bridge vid }
 {
     match view.bridge(bridge) {
@@ -40,16 +40,23 @@ fn tree_at(view: &View, bridge: BridgeNo, vid: Vid) -> Tree
     }
 }
 
+/// Whether a logical port of the view forwards in a tree. One whose bridge hasn't the tree doesn't. It takes constant time and no
+/// memory.
+pub fn forwards_in(view: &View, forest: &Forest, port: &PortInView, tree: Tree) -> bool
+    ensures { result ≡ option_map_or is_forwarding (seen_role view.now forest.now tree port.now) false }
+{
+    match port_role(view, forest, port, tree) {
+        None => false,
+        Some(role) => role.forwards(),
+    }
+}
+
 /// Whether a logical port of the view forwards for a VID: in its bridge's tree of the VID. It takes constant time
 /// and no memory.
 pub fn port_forwards(view: &View, forest: &Forest, port: &PortInView, vid: Vid) -> bool
     ensures { result ≡ seen_forwards view.now forest.now vid port.now }
 {
-    let tree = tree_at(view, port.bridge, vid);
-    match port_role(view, forest, port, tree) {
-        None => false,
-        Some(role) => role.forwards(),
-    }
+    forwards_in(view, forest, port, vid_tree(view, port.bridge, vid))
 }
 
 fn forwards_at(view: &View, forest: &Forest, port: PortNo, vid: Vid) -> bool

@@ -6,6 +6,6 @@ mod kind;
 pub mod laws;
 mod roles;
 
-pub use for_vid::{forwards, port_forwards};
+pub use for_vid::{forwards, forwards_in, port_forwards, vid_tree};
 pub use kind::Role;
 pub use roles::{port_role, role};

@@ -1,20 +1,24 @@
 ghost use Rattle.std.specs.Prelude.{◌≡◌, Some, IfOk, map};
 ghost use Rattle.std.specs.FinMap as fin;
+ghost use Rattle.std.specs.Option.{ForSome};
 ghost use Rattle.mst_net.specs.Tables.{Net, Numbers};
 ghost use Rattle.mst_lag.specs.View.{IsUnrestricted};
+ghost use Rattle.mst_lag.specs.Viewed.{named_port};
 ghost use Rattle.mst_trees.specs.Agrees.{AreOf};
 ghost use Rattle.mst_trees.specs.Forest.{IsForest};
+ghost use Rattle.mst_roles.specs.Seen.{seen_tree};
 ghost use Rattle.mst_vlan.specs.Active.{active_ports as active_in, JoinWithoutLoop};
 ghost use Rattle.mst_vlan.specs.Seen.{seen_active};
 
 use crate::laws::joined_without_loop;
-use mst_ids::{PortNo, Vid};
+use mst_ids::{BridgeNo, PortNo, Tree, Vid};
 use mst_lag::{PortInView, View};
-use mst_roles::port_forwards;
+use mst_roles::{forwards_in, vid_tree};
 use mst_trees::Forest;
 use std::alloc::{AllocError, Global};
 
-/// The active topology of a VID, as `active` gives it, with all that the view has of its ports.
+/// The active topology of a VID: the logical ports that forward in their own bridge's tree of it, in the order of
+/// the view. Where no port's role is restricted they join what is enabled, without a loop (802.1Q-2022, 8.4).
 /// For n ports it takes n steps. `AllocError`: memory was wanted and refused.
 pub fn active_ports(
     alloc: Global,
@@ -22,31 +26,64 @@ pub fn active_ports(
     forest: &Forest,
     vid: Vid,
 ) -> Result<Vec<PortInView>, AllocError>
-    ensures { IfOk result (λ ports. ports.items ≡ seen_active view.now forest.now vid) }
+    ensures seen { IfOk result (λ ports. ports.items ≡ seen_active view.now forest.now vid) }
+    ensures named { IfOk result (λ ports. (net : Net) (numbers : Numbers) (is : IsForest net numbers forest.now) → AreOf net numbers view.now forest.now.regions
+        → map named_port ports.items ≡ active_in net is.outcome vid) }
+    ensures joined { IfOk result (λ ports. (net : Net) (numbers : Numbers) → IsForest net numbers forest.now → AreOf net numbers view.now forest.now.regions
+        → IsUnrestricted net → JoinWithoutLoop net (map named_port ports.items)) }
 {
-    view.ports()
-        .iter()
-        .filter(|port| port_forwards(view, forest, port, vid))
-        .copied()
-        .collect(alloc)
+    joined_without_loop();
+    forwarding_ports(alloc, view, forest, vid)
 }
 
-/// The numbers of the active ports of a VID.
-fn active_in_view(
+/// The tree that a bridge has a VID in, where that of one bridge is known, if it is this one.
+fn tree_beside(view: &View, known: Option<(BridgeNo, Tree)>, bridge: BridgeNo, vid: Vid) -> Tree
+    requires { ForSome known (λ k. k.1 ≡ seen_tree view.now k.0 vid) }
+    ensures { result ≡ seen_tree view.now bridge vid }
+{
+    match known {
+        None => vid_tree(view, bridge, vid),
+        Some((before, tree)) => {
+            if before == bridge {
+                tree
+            } else {
+                vid_tree(view, bridge, vid)
+            }
+        }
+    }
+}
+
+/// The ports of the view that forward for a VID. The ports of a bridge come one after another, so its tree of the VID is
+/// looked up once.
+fn forwarding_ports(
     alloc: Global,
     view: &View,
     forest: &Forest,
     vid: Vid,
-) -> Result<Vec<PortNo>, AllocError>
-    ensures { IfOk result (λ ports. ports.items ≡ map (λ p. p.number) (seen_active view.now forest.now vid)) }
+) -> Result<Vec<PortInView>, AllocError>
+    ensures { IfOk result (λ ports. ports.items ≡ seen_active view.now forest.now vid) }
 {
-    let ports = active_ports(alloc, view, forest, vid)?;
+    let mut ports = Vec::new(alloc);
+    let mut known = None;
+    for port in view.ports() {
+        let tree = tree_beside(view, known, port.bridge, vid);
+        known = Some((port.bridge, tree));
+        if forwards_in(view, forest, port, tree) {
+            ports.push(*port)?;
+        }
+    }
+    Ok(ports)
+}
+
+/// The numbers of ports.
+fn numbers_of(alloc: Global, ports: &[PortInView]) -> Result<Vec<PortNo>, AllocError>
+    ensures { IfOk result (λ numbers. numbers.items ≡ map (λ p. p.number) ports.now) }
+{
     ports.iter().map(|port| port.number).collect(alloc)
 }
 
-/// The active topology of a VID: the logical ports that forward in their own bridge's tree of it, in the order of
-/// the view. Where no port's role is restricted they join what is enabled, without a loop (802.1Q-2022, 8.4).
-/// For n ports it takes n steps. `AllocError`: memory was wanted and refused.
+/// The active topology of a VID, as `active_ports` gives it, by the numbers of ports. For n ports it takes n steps.
+/// `AllocError`: memory was wanted and refused.
 pub fn active(
     alloc: Global,
     view: &View,
@@ -60,5 +97,6 @@ pub fn active(
         → IsUnrestricted net → JoinWithoutLoop net (active_in net is.outcome vid)) }
 {
     joined_without_loop();
-    active_in_view(alloc, view, forest, vid)
+    let ports = active_ports(alloc, view, forest, vid)?;
+    numbers_of(alloc, ports.as_slice())
 }

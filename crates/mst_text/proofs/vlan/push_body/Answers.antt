@@ -13,7 +13,7 @@ returns c net numbers is of =
     let islands = c.in_ok-islands.islands.items in
     let first = seen_active_line v vid (seen_active v c.args.forest.now vid) in
     let rest = flat_map (seen_island_line v) islands in
-    let appended : c.push_active.new.out.items ≡ c.args.out.now.items ++ first = c.in_ok-push_active.ensures ∙ ap (λ ports. c.args.out.now.items ++ seen_active_line v vid ports) (c.as_slice.ensures.value ∙ c.in_ok-ports.ensures) in
+    let appended : c.push_active.new.out.items ≡ c.args.out.now.items ++ first = c.in_ok-push_active.ensures ∙ ap (λ ports. c.args.out.now.items ++ seen_active_line v vid ports) (c.as_slice.ensures.value ∙ c.in_ok-ports.ensures.seen) in
     on_ok_weaker c.push_islands.result
     (λ e. (
       first ++ rest,
