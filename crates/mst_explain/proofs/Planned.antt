@@ -24,7 +24,7 @@ use Rattle.mst_trees.specs.Msti.{msti_bridge, msti_port, msti_sight, msti_of, ha
 use Rattle.mst_trees.specs.Outcome.{Outcome}
 use Rattle.mst_trees.specs.Agrees.{Agrees, AreOf}
 use Rattle.mst_trees.specs.Seen.{seen_internal}
-use Rattle.mst_trees.specs.Forest.{Forest, msti_vector, msti_designated_vector}
+use Rattle.mst_trees.specs.Forest.{Forest, msti_vector, msti_designated}
 use Rattle.mst_trees.proofs.CistTopology.{cist_is_sight}
 use Rattle.mst_trees.proofs.MstiTopology.{msti_is_sight}
 use Rattle.mst_trees.proofs.Seen.{SeenBridge, SeenPort, bridge_seen, port_seen}
@@ -63,7 +63,7 @@ module _ (net : Net) (numbers : Numbers) (v : Viewed) (region_ids : List (ℕ ×
   cist_is_seen tree zero_is = record {
     bridges = found_bridge (cist_bridge_in v.settings region_ids) (cist_sight net).bridge cist_bridge_same;
     ports = λ p there. ap (λ set. cist_port_in set p) of.view.settings;
-    agrees = subst (Agrees numbers o.cist (vector_of f.cist)) (λ i lan. if sym zero_is i then designated_of f.cist lan else msti_designated_vector f tree lan) is.forest.cist;
+    agrees = subst (Agrees numbers o.cist (vector_of f.cist)) (λ i lan. if sym zero_is i then designated_of f.cist lan else msti_designated f tree lan) is.forest.cist;
   }
 
   pub cist_can_step : CostsBounded cist_rules → (tree : ℕ) → CanStep cist_rules v (cist_seen v region_ids f tree)
@@ -95,7 +95,7 @@ module _ (net : Net) (numbers : Numbers) (v : Viewed) (region_ids : List (ℕ ×
   msti_is_seen tree other = record {
     bridges = found_bridge (msti_bridge_in v tree) (msti_sight net tree o.cist.designated).bridge (msti_bridge_same tree);
     ports = λ p there. msti_port_same tree p (port_seen net numbers v of.view p there);
-    agrees = subst (Agrees numbers (o.msti tree) (msti_vector f tree)) (λ i lan. if sym other i then designated_of f.cist lan else msti_designated_vector f tree lan) (is.forest.mstis tree);
+    agrees = subst (Agrees numbers (o.msti tree) (msti_vector f tree)) (λ i lan. if sym other i then designated_of f.cist lan else msti_designated f tree lan) (is.forest.mstis tree);
   }
 
   -- whatever the tree
@@ -104,7 +104,7 @@ module _ (net : Net) (numbers : Numbers) (v : Viewed) (region_ids : List (ℕ ×
     bridge = λ n. option_and_then (msti_bridge_in v tree) (bridge_found v n);
     vector = msti_vector f tree;
     port = msti_port_in v f tree;
-    designated = msti_designated_vector f tree;
+    designated = msti_designated f tree;
   }
 
   msti_seen_as : (tree : ℕ) → IsSeenTree net numbers v f.regions of (msti_sight net tree o.cist.designated) (o.msti tree) (msti_bridge_vector tree)
