@@ -5,17 +5,24 @@ use Rattle.mst_io.specs.declared.lent.Count.{Count}
 use Rattle.mst_io.specs.declared.outcome.RunFault.{RunFault}
 use Rattle.mst_io.specs.declared.outcome.RunFault.TheVariants.{Read, Write, Memory}
 
--- What a device tells: whether it has failed; how many calls it has answered, one with an error included; how many of
--- these answered 0 though there was a byte to take, or room for one; and whether the last one did
+-- What a device tells: whether it has failed; how many calls it has answered, one with an error included; how many bytes
+-- went through in them; how many of these answered 0 though there was a byte to take, or room for one; and whether the last
+-- one did
 pub record Told : Type 0 where
   pub failed : Bool
   pub calls : ℕ
+  pub bytes : ℕ
   pub zeros : ℕ
   pub at_zero : Bool
 
 -- a device that was not called yet
 abbrev pub uncalled : Told
-uncalled = record { failed = false; calls = 0; zeros = 0; at_zero = false }
+uncalled = record { failed = false; calls = 0; bytes = 0; zeros = 0; at_zero = false }
+
+-- how many bytes went through in a call
+abbrev pub bytes_of : Result ℕ Failed → ℕ
+bytes_of (Err e) = 0
+bytes_of (Ok count) = count
 
 -- whether a call answered 0 though its buffer, or its part, of this size has a byte
 abbrev pub is_zero : Result ℕ Failed → ℕ → Bool
@@ -27,25 +34,29 @@ abbrev pub called : Told → Result ℕ Failed → ℕ → Told
 called old result size = record {
   failed = is_err result;
   calls = old.calls + 1;
+  bytes = old.bytes + bytes_of result;
   zeros = old.zeros + (if is_zero result size then 1 else 0);
   at_zero = is_zero result size;
 }
 
 -- what a count tells
 abbrev pub told_by : Count → Told
-told_by c = record { failed = c.is_broken || c.calls == 2 ^ 64 - 1; calls = c.calls; zeros = c.zeros; at_zero = c.at_zero }
+told_by c = record { failed = c.is_broken || c.calls == 2 ^ 64 - 1; calls = c.calls; bytes = c.bytes; zeros = c.zeros; at_zero = c.at_zero }
 
--- the sink hasn't failed, and took some of each part
+-- the sink hasn't failed, and took some of each part: so in each call a byte went through
 pub record Works (old new : Told) : Type 0 where
   pub working : new.failed ≡ false
   pub taken : new.zeros ≡ old.zeros
+  pub each : new.calls + old.bytes ≤ old.calls + new.bytes
 
 -- the sink failed, or took nothing of a part that had a byte
 abbrev pub IsBroken : Told → Told → Type 0
 IsBroken old new = (new.failed ≡ true) ⊎ (old.zeros < new.zeros)
 
--- no call was made after one that answered 0
+-- no call was made after one that answered 0, and in all calls but one a byte went through: there were at most as many calls as
+-- bytes, and one
 pub record StopsAtZero (old new : Told) : Type 0 where
+  pub few : new.calls + old.bytes ≤ old.calls + new.bytes + 1
   pub once : new.zeros ≤ old.zeros + 1
   pub last : old.zeros < new.zeros → new.at_zero ≡ true
 

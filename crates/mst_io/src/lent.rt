@@ -10,6 +10,8 @@ struct Count {
     is_broken: bool,
     /// How many calls were answered, one with an error included.
     calls: u64,
+    /// How many bytes went through in them.
+    bytes: u64,
     /// How many of these answered 0, though there was a byte to take, or room for one.
     zeros: u64,
     /// Whether the last one did.
@@ -18,7 +20,7 @@ struct Count {
 }
 
 impl Count {
-    ghost use Rattle.std.specs.Prelude.{◌≡◌, ◌<◌, ◌+◌, ◌-◌, ◌^◌, true, false, IsOk, Err};
+    ghost use Rattle.std.specs.Prelude.{◌≡◌, ◌==◌, ◌||◌, ◌<◌, ◌+◌, ◌-◌, ◌^◌, nat_lt, true, false, IsOk, IfOk, Err};
     ghost use Rattle.mst_io.specs.Devices.{told_by, uncalled, called};
 
     /// Of a device that was not called yet.
@@ -28,6 +30,7 @@ impl Count {
         Count {
             is_broken: false,
             calls: 0,
+            bytes: 0,
             zeros: 0,
             at_zero: false,
         }
@@ -40,24 +43,31 @@ impl Count {
         self.is_broken || self.calls == u64::MAX
     }
 
-    /// Whether there is no call left but one that fails.
-    fn is_spent(&self) -> bool
+    /// Whether there is no call left with a buffer, or a part, of this size, but one that fails.
+    fn is_spent(&self, size: usize) -> bool
         requires { (told_by self.now).failed ≡ false }
-        ensures { result ≡ false → self.now.calls + 1 < 2 ^ 64 - 1 }
+        ensures exact { result ≡ (self.now.calls == 2 ^ 64 - 2 || nat_lt (2 ^ 64 - 1 - size) self.now.bytes) }
+        ensures left { result ≡ false → self.now.calls + 1 < 2 ^ 64 - 1 }
+        ensures room { result ≡ false → self.now.bytes + size < 2 ^ 64 }
     {
-        self.calls == u64::MAX - 1
+        self.calls == u64::MAX - 1 || self.bytes > u64::MAX - size as u64
     }
 
     /// Counts a call with a buffer, or a part, of this size.
     fn add(&mut self, answer: Result<usize, Failed>, size: usize)
         requires working { (told_by self.old).failed ≡ false }
         requires left { IsOk answer → self.old.calls + 1 < 2 ^ 64 - 1 }
+        requires room { IfOk answer (λ count. self.old.bytes + count < 2 ^ 64) }
         ensures { told_by self.new ≡ called (told_by self.old) answer size }
     {
         let at_zero = answer == Ok(0) && size != 0;
         *self = Count {
             is_broken: answer.is_err(),
             calls: self.calls + 1,
+            bytes: match answer {
+                Ok(count) => self.bytes + count as u64,
+                Err(_) => self.bytes,
+            },
             zeros: if at_zero { self.zeros + 1 } else { self.zeros },
             at_zero,
         };
@@ -66,7 +76,7 @@ impl Count {
 
 /// A reader as a source, of the same bytes. An error of any kind is its failure, an interrupted call included.
 ///
-/// It counts its calls, and gives up as failed before there are 2^64 of them.
+/// It counts its calls and their bytes, and gives up as failed before there are 2^64 of either.
 #[derive(Drop)]
 pub struct FromRead<'a, R> {
     reader: &'a mut R,
@@ -105,7 +115,7 @@ impl<R: Read> Source for FromRead<'_, R> {
     }
 
     fn fill(&mut self, buffer: &mut [u8]) -> Result<usize, Failed> {
-        let answer = if self.count.is_spent() {
+        let answer = if self.count.is_spent(buffer.len()) {
             Err(Failed)
         } else {
             match self.reader.read(buffer) {
@@ -121,7 +131,7 @@ impl<R: Read> Source for FromRead<'_, R> {
 /// A writer as a sink, of the same bytes. An error of any kind is its failure, an interrupted call included. It isn't
 /// flushed.
 ///
-/// It counts its calls, and gives up as failed before there are 2^64 of them.
+/// It counts its calls and their bytes, and gives up as failed before there are 2^64 of either.
 #[derive(Drop)]
 pub struct ToWrite<'a, W> {
     writer: &'a mut W,
@@ -160,7 +170,7 @@ impl<W: Write> Sink for ToWrite<'_, W> {
     }
 
     fn put(&mut self, part: &[u8]) -> Result<usize, Failed> {
-        let answer = if self.count.is_spent() {
+        let answer = if self.count.is_spent(part.len()) {
             Err(Failed)
         } else {
             match self.writer.write(part) {
