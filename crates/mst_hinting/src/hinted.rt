@@ -1,4 +1,4 @@
-ghost use Rattle.std.specs.Prelude.{◌≡◌, ◌≢◌, ℕ, ◌+◌, ◌<◌, ◌≤◌, ◌^◌, false, List, [], ◌∷◌, length, Option, Err, IfErr, IsOk, OnOk, OnErr};
+ghost use Rattle.std.specs.Prelude.{◌≡◌, ◌≢◌, ◌↔◌, ℕ, ◌+◌, ◌<◌, ◌≤◌, ◌^◌, false, List, [], ◌∷◌, length, Option, Err, IfErr, IsOk, OnOk, OnErr};
 ghost use Rattle.std.specs.Io.KnownBytes.{Appends};
 ghost use Rattle.mst_hints.specs.Kept.{IsKept};
 ghost use Rattle.mst_hints.specs.Scripts.{Past};
@@ -51,8 +51,9 @@ pub fn hints_from<R: Read, W: Write>(
 /// The hints of the script that the source gives in so many turns, as [`hints`] gives them: it is that with 2^32 of them. A
 /// turn is one call of the source, the one that finds the end included.
 ///
-/// [`RunFault::Read`] is answered only where the source has failed, or all turns were used and none found the end;
-/// [`RunFault::Write`] only where the sink has failed, or took nothing of a part that had a byte.
+/// [`RunFault::Read`] is answered only where the sink works and the source has failed, or all turns were used and none found
+/// the end; [`RunFault::Write`] just where the sink has failed, or took nothing of a part that had a byte; and
+/// [`RunFault::Memory`] only where both work.
 pub fn hints_within<S: Source, K: Sink>(
     alloc: Global,
     source: &mut S,
@@ -66,8 +67,10 @@ pub fn hints_within<S: Source, K: Sink>(
     ensures fault { OnErr result (HintsFront (S.remaining source.old) (K.contents sink.old) (K.contents sink.new)) }
     ensures read { result ≡ Err RunFault.Read → HintsEnded (S.remaining source.old) (S.remaining source.new) (K.contents sink.old) (K.contents sink.new) }
     ensures ended { IsOk result → IsRead (S.told source.old) (S.told source.new) }
-    ensures read_fault { result ≡ Err RunFault.Read → IsCut turns (S.told source.old) (S.told source.new) }
-    ensures write_fault { result ≡ Err RunFault.Write → IsBroken (K.told sink.old) (K.told sink.new) }
+    ensures read_fault { result ≡ Err RunFault.Read → IsCut turns (S.told source.old) (S.told source.new) × Works (K.told sink.old) (K.told sink.new) }
+    ensures write_fault { result ≡ Err RunFault.Write ↔ IsBroken (K.told sink.old) (K.told sink.new) }
+    ensures memory { result ≡ Err RunFault.Memory → ((S.told source.new).failed ≡ false) × Works (K.told sink.old) (K.told sink.new) }
+    ensures works { IsOk result → Works (K.told sink.old) (K.told sink.new) }
     ensures source_calls { IsCalled turns (S.told source.old) (S.told source.new) }
     ensures sink_calls { StopsAtZero (K.told sink.old) (K.told sink.new) }
     ensures lent_source { S.lent source.new ≡ S.lent source.old }

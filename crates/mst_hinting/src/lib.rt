@@ -1,4 +1,4 @@
-//! What would be right in the lines of a script that are refused, from any reader to any writer.
+//! What would be right in the lines of a script that aren't read, or name a record that isn't there, from any reader to any writer.
 #![tactic(auto)]
 
 mod hinted;

@@ -1,4 +1,4 @@
-//! What would be right where a line of a script isn't read.
+//! What would be right where a line of a script isn't read, or a record isn't there ([`ScriptHints`]).
 //!
 //! [`push_hint`] tells the command that is nearest to a word that is none, the form of a command that has another
 //! number of words, or the range of the first argument that isn't in it. There is a hint exactly where the line

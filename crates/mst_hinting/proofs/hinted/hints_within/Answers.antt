@@ -3,7 +3,7 @@ use Rattle.std.proofs.lemmas.Result.{on_ok_weaker, on_err_weaker}
 use Rattle.std.proofs.KnownBytes.{Consumes-nil, Appends-nil, Appends-trans, Consumes-trans}
 use Rattle.mst_hints.specs.Scripts.{nothing}
 use Rattle.mst_hinting.specs.Hinted.{Tells}
-use Rattle.mst_io.proofs.Calls.{works_on}
+use Rattle.mst_io.proofs.Calls.{works_on, works_both}
 use Rattle.mst_hinting.proofs.Tells.{Tells-nil, Tells-join, hints_whole, hints_stopped, hints_stopped_last, hints_cut, hints_ended}
 use Rattle.mst_io.proofs.ReadBytes.{few_more, Consumes-kept, Consumes-none}
 use Rattle.mst_hinting.proofs.hinted.hints_within.Goals as goal
@@ -16,9 +16,9 @@ turns-init g c = record {
   consumed = Consumes-nil _;
   tells = subst (λ held. Tells nothing [] [] nothing held []) (sym c.new-held.ensures) (Tells-nil nothing []);
   kept = c.new-hints.ensures;
-  reading = record { working = c.requires.source; taken = refl };
+  reading = record { working = c.requires.source; taken = refl; each = omega arith };
   calls = omega arith;
-  works = record { working = c.requires.sink; taken = refl };
+  works = record { working = c.requires.sink; taken = refl; each = omega arith };
   lent_source = refl;
   lent_sink = refl;
   written = Appends-nil _;
@@ -39,7 +39,7 @@ turns-preserved g c =
       kept = new.kept;
       reading = works_on _ _ _ c.in-Ok.count _ was.reading c.in-Ok.ensures.told c.if-count-eq0.false;
       calls = ap (λ t. t.calls) c.in-Ok.ensures.told ∙ omega (arith, was.calls);
-      works = let went = c.tell.ensures.works (search arith) in record { working = went.working; taken = went.taken ∙ was.works.taken };
+      works = works_both _ _ _ was.works (c.tell.ensures.works (search arith));
       lent_source = c.in-Ok.ensures.lent ∙ was.lent_source;
       lent_sink = c.tell.ensures.lent ∙ was.lent_sink;
       written = Appends-trans _ _ _ was.text new.text was.written new.printed;
