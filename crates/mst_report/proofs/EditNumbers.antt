@@ -101,3 +101,16 @@ are_one {B} {P} {V} net numbers ok is r s sight o outcome vector designated agre
         let h = outcome.settled.is_bridge a x e in
         let b = bridge_from net ok r s sight a h.0 h.1 in
         absurd (true≢false (sym (ap is_some b.has_row) ∙ sym (is.bridges a) ∙ ap is_some none))
+
+-- numbers that go together, by what is said of them
+pub as_together : (m k : BridgeNumbers) → ((a b : List ℕ) (n : ℕ) → fin.get m a ≡ Some n → fin.get m b ≡ Some n → a ≡ b) → ((a b : List ℕ) (n : ℕ) → fin.get k a ≡ Some n → fin.get k b ≡ Some n → a ≡ b)
+    → ((a : List ℕ) (i j : ℕ) → fin.get m a ≡ Some i → fin.get k a ≡ Some j → i ≡ j) → ((a b : List ℕ) (n : ℕ) → fin.get m a ≡ Some n → fin.get k b ≡ Some n → a ≡ b) → GoTogether m k
+as_together m k was now same one = record { was = was; now = now; same = same; one = one }
+
+-- with themselves
+pub with_themselves : (k : BridgeNumbers) → ((a b : List ℕ) (n : ℕ) → fin.get k a ≡ Some n → fin.get k b ≡ Some n → a ≡ b) → GoTogether k k
+with_themselves k differ = record { was = differ; now = differ; same = λ a i j h l. some_is i j (sym h ∙ l); one = differ }
+
+-- where no bridge has a vector
+pub none_one : {V : Type 0} (k : BridgeNumbers) → AreOne {V = V} k (λ n. None) (λ a. None)
+none_one k = record { named = λ a n h. refl; unnamed = λ n h. refl; unnumbered = λ a h. refl }

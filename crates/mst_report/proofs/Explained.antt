@@ -1,7 +1,7 @@
 -- What is asked about a port, under the numbers of records and by name.
 use Rattle.std.proofs.Common.{◌≡◌, ℕ, ◌==◌, ◌||◌, Bool, true, false, not, cond, List, [], ◌∷◌, ◌++◌, map, Option, Some, None, is_some, refl, sym, ap, subst, ◌∙◌, true≢false, append-nil}
 use Rattle.std.specs.Prelude.{◌≢◌, MatchOption, if◌then◌else◌}
-use Rattle.std.specs.List.{Contains, find}
+use Rattle.std.specs.List.{AllByRecursion, Contains, find}
 use Rattle.std.specs.Option.{option_map, option_map_or}
 use Rattle.std.specs.FinMap as fin
 use Rattle.std.proofs.lemmas.Bool.{eqb-true}
@@ -9,18 +9,21 @@ use Rattle.mst_ids.specs.declared.name.PortName.{PortName}
 use Rattle.mst_net.specs.After.{has_bridge}
 use Rattle.mst_net.specs.Tables.{Net, Numbers, BridgeRow, IsNetwork, port_eq}
 use Rattle.mst_lag.specs.Trees.{mstis_of, is_among}
-use Rattle.mst_lag.specs.View.{LogicalPort}
+use Rattle.mst_lag.specs.View.{LogicalPort, view_ports}
 use Rattle.mst_lag.specs.Viewed.{named_port}
 use Rattle.mst_lag.specs.declared.in_view.PortInView.{PortInView}
 use Rattle.mst_trees.specs.Agrees.{AreOf}
+use Rattle.mst_trees.specs.Msti.{has_msti}
 use Rattle.mst_trees.specs.Outcome.{Outcome, IsOutcome}
+use Rattle.mst_trees.proofs.Entries.{all_weaker}
 use Rattle.mst_trees.specs.Seen.{trees_at}
-use Rattle.mst_trees.proofs.Lists.{some_is, no_some, passed, there_first, there_later}
+use Rattle.mst_trees.proofs.Lists.{some_is, no_some, passed, all_there, there_first, there_later}
 use Rattle.mst_trees.proofs.Seen.{port_seen}
 use Rattle.mst_trees.proofs.Looking.{has_tree_at}
 use Rattle.mst_roles.proofs.Named.{port_is, port_found, found_in}
 use Rattle.mst_explain.specs.Explained.{IsExplanation, AreExplanations, trees_of_bridge}
 use Rattle.mst_explain.specs.Planned.{IsPlanOf}
+use Rattle.mst_explain.proofs.Texts.{tree_there as among_trees}
 use Rattle.mst_report.specs.Explaining.{logical_port_of, has_tree, has_asked, unexplained_of, asked_trees, Explains}
 use Rattle.mst_report.specs.Kept.{IsPlan}
 use Rattle.mst_report.specs.declared.explaining.Unexplained.{Unexplained}
@@ -95,6 +98,32 @@ found_passes {A} test (y ∷ ys) x e = go (test y) refl e (found_passes test ys 
     go : (b : Bool) → test y ≡ b → cond b (Some y) (find test ys) ≡ Some x → (find test ys ≡ Some x → test x ≡ true) → test x ≡ true
     go true f h rest = ap test (sym (some_is y x h)) ∙ f
     go false f h rest = rest h
+
+-- each tree that is told of is one that the bridge has
+told_had : (net : Net) (bridge : List ℕ) (tree : Option ℕ) → has_asked net bridge tree ≡ true → AllByRecursion (λ t. has_tree net bridge t ≡ true) (asked_trees net bridge tree)
+told_had net bridge (Some t) h = (h, tt)
+told_had net bridge None h = all_weaker (Contains (trees_of_bridge net bridge)) _ (λ t c. by t c (t == 0) refl) (trees_of_bridge net bridge) (all_there (trees_of_bridge net bridge))
+  where
+    by : (t : ℕ) → Contains (trees_of_bridge net bridge) t → (b : Bool) → (t == 0) ≡ b → has_tree net bridge t ≡ true
+    by t c true e = ap (λ b. b || has_msti net t bridge) e
+    by t c false e = ap (λ b. b || has_msti net t bridge) e ∙ among_trees net bridge t c e
+
+-- where ports have explanations by an outcome, and there is one, a port that isn't refused has an explanation
+pub some_explains : ((net : Net) (o : Outcome) → IsNetwork net → IsOutcome net o → (p : LogicalPort) → Contains (view_ports net) p → (trees : List ℕ) → AllByRecursion (λ t. has_tree net p.name.bridge t ≡ true) trees → (text : List ℕ) × AreExplanations net o p trees text)
+    → ((net : Net) → IsNetwork net → (o : Outcome) × IsOutcome net o) → (net : Net) (name : PortName) (tree : Option ℕ) → IsNetwork net → unexplained_of net name tree ≡ None → (text : List ℕ) × Explains net name tree text
+some_explains some has net name tree ok none = by (logical_port_of net name) refl (has_all net name tree none).found
+  where
+    trees : List ℕ
+    trees = asked_trees net name.bridge tree
+
+    by : (found : Option LogicalPort) → logical_port_of net name ≡ found → is_some (logical_port_of net name) ≡ true → (text : List ℕ) × Explains net name tree text
+    by None e h = absurd (true≢false (sym h ∙ ap is_some e))
+    by (Some p) e h =
+        let o = has net ok in
+        let named : p.name ≡ name = port_is p.name name (found_passes (λ (q : LogicalPort). port_eq q.name name) (view_ports net) p e) in
+        let had = subst (λ (n : PortName). AllByRecursion (λ t. has_tree net n.bridge t ≡ true) trees) (sym named) (told_had net name.bridge tree (has_all net name tree none).asked) in
+        let said = some net o.0 ok o.1 p (found_in (λ (q : LogicalPort). port_eq q.name name) (view_ports net) p e) trees had in
+        (said.0, record { port = p; is_port = e; outcome = o.0; is_outcome = o.1; told = said.1 })
 
 -- so a port that is found by name has that name
 pub has_name : (name : PortName) (ps : List PortInView) (p : PortInView) → find (λ p. port_eq p.name name) ps ≡ Some p → p.name ≡ name

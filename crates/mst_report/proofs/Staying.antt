@@ -1,13 +1,18 @@
 -- What is kept of a network stays so, where its contents are as they were.
-use Rattle.std.proofs.Common.{◌≡◌, Bool, true, false, not, Option, Some, None, refl, sym, ap, subst, ◌∙◌}
+use Rattle.std.proofs.Common.{◌≡◌, ℕ, Bool, true, false, not, List, Option, Some, None, Result, Ok, Err, is_some, refl, sym, ap, subst, ◌∙◌}
 use Rattle.std.specs.Option.{option_map, option_map_or, ForSome}
 use Rattle.std.proofs.lemmas.Option.{none-some}
 use Rattle.mst_config.specs.Shared.{AreRegions}
+use Rattle.mst_lang.specs.declared.line.Edit.{Edit}
+use Rattle.mst_net.specs.After.{after, effect, refusal_of}
+use Rattle.mst_net.specs.declared.refusal.Refusal.{Refusal}
 use Rattle.mst_net.specs.Tables.{Net, Numbers}
 use Rattle.mst_net.specs.Contents.{Contents, Tables, SameContents}
 use Rattle.mst_lag.specs.Viewed.{Viewed, IsView}
 use Rattle.mst_changes.specs.declared.entries.Entries.{Entries}
-use Rattle.mst_report.specs.Kept.{HasPlan, HasRegions, HasView, HasMark}
+use Rattle.mst_trees.specs.Forest.{Forest}
+use Rattle.mst_report.specs.Standing.{standing_of}
+use Rattle.mst_report.specs.Kept.{HasPlan, HasRegions, HasView, HasMark, standing_in}
 use Rattle.mst_report.specs.declared.plan.Plan.{Plan}
 
 -- all that is kept
@@ -37,3 +42,17 @@ regions_so net numbers stand old new same has = λ stands plan is. go old (has s
 pub untrue : (b : Bool) → not b ≡ true → b ≡ false
 untrue true h = sym h
 untrue false h = refl
+
+-- an edit that is made has its effect
+pub effect_made : (edit : Edit) (old new : Net) → after edit old ≡ Ok new → effect edit old ≡ new
+effect_made edit old new made = go (refusal_of edit old) made
+  where
+    go : (refusal : Option Refusal) → option_map_or Err refusal (Ok (effect edit old)) ≡ Ok new → effect edit old ≡ new
+    go None e = cc
+    go (Some refusal) e = cc
+
+-- the trees that a plan is given stand in it
+pub given_trees : (plan : Option Plan) (regions : List (ℕ × ℕ)) (forest : Forest) → is_some plan ≡ true
+    → standing_of forest ≡ standing_in (option_map (λ (p : Plan). record { view = p.view; regions = regions; forest = forest }) plan)
+given_trees None regions forest there = cc
+given_trees (Some plan) regions forest there = refl

@@ -1,5 +1,5 @@
 //! Laws of answers. Their functions do nothing: a caller has their clauses.
-ghost use Rattle.std.specs.Prelude.{◌≡◌, ◌↔◌, ℕ, List, Option, Result};
+ghost use Rattle.std.specs.Prelude.{◌≡◌, ◌↔◌, ℕ, List, None, Option, Result};
 ghost use Rattle.mst_ids.specs.declared.name.PortName.{PortName};
 ghost use Rattle.mst_lang.specs.declared.line.Query.{Query};
 ghost use Rattle.mst_lang.specs.declared.line.Edit.{Edit};
@@ -8,13 +8,14 @@ ghost use Rattle.mst_net.specs.Contents.{Contents, IsNumbered, Commits};
 ghost use Rattle.mst_net.specs.declared.refusal.Refusal.{Refusal};
 ghost use Rattle.mst_trees.specs.Forest.{Forest as ForestOf, IsForest};
 ghost use Rattle.mst_trees.specs.Outcome.{Outcome, IsOutcome};
+ghost use Rattle.mst_diff.specs.AlikeNets.{AreAlike};
 ghost use Rattle.mst_diff.specs.DiffText.{diff_line};
 ghost use Rattle.mst_diff.specs.declared.diff.Differing.{Differing as Counts};
 ghost use Rattle.mst_report.specs.Answers.{Answers};
-ghost use Rattle.mst_report.specs.ByName.{KeepsBoundByName};
-ghost use Rattle.mst_report.specs.Standing.{KeepsBounds, standing_of, settlings_of, msti_settlings};
+ghost use Rattle.mst_report.specs.ByName.{KeepsBoundByName, KeepBoundsByName, KeepFirstBounds, StandsFor, KeepNumbers};
+ghost use Rattle.mst_report.specs.Standing.{KeepsBounds, nothing, standing_of, settlings_of, msti_settlings};
 ghost use Rattle.mst_report.specs.Differing.{Differs};
-ghost use Rattle.mst_report.specs.Explaining.{Explains};
+ghost use Rattle.mst_report.specs.Explaining.{Explains, unexplained_of};
 ghost use Rattle.mst_report.specs.Picturing.{Depicts};
 ghost use Rattle.mst_report.specs.Summarizing.{Summarizes};
 ghost use Rattle.mst_report.specs.Sweeping.{Sweeps};
@@ -64,7 +65,8 @@ pub fn entries_of_network()
 
 /// The bound on settlings by names of bridges: between the settled outcomes of a network before an edit and after it there
 /// are at most twice as many settlings in a tree as bridges whose vector differs, and at least as many as those of them that
-/// have one afterwards. What stands before and after is told by `Planner::standing`, so by `Planner::settlings`.
+/// have one afterwards. What stands before and after is told by the trees that stand (`standing` in the planner's clauses), and
+/// how often by `Planner::settlings`.
 pub fn bounded_by_name()
     ensures cist { (edit : Edit) (old new : Contents) (f g : ForestOf) → IsNetwork old.net → IsNetwork new.net → IsNumbered old.net old.numbers → IsNumbered new.net new.numbers → Commits edit old new
         → IsForest old.net old.numbers f → IsForest new.net new.numbers g → KeepsBounds (standing_of f) (standing_of g)
@@ -76,12 +78,27 @@ pub fn bounded_by_name()
     one_outcome();
 }
 
-/// A port has one text that explains it, in the tree that is asked or in each of its bridge: the network alone settles
-/// it.
-pub fn one_explanation()
-    ensures { (net : Net) (name : PortName) (tree : Option ℕ) (text other : List ℕ) → IsNetwork net → Explains net name tree text → Explains net name tree other → text ≡ other }
+/// The same bound over any number of edits: from the network for which the trees were settled last to the one for which they are
+/// settled now, where each bridge that is in both has kept its number, as it does unless it was taken away and added again; and
+/// of the trees that are settled first, whatever edits were staged before.
+pub fn bounded_since()
+    ensures since { (old new : Contents) (f g : ForestOf) → StandsFor old f → StandsFor new g → KeepNumbers old.numbers new.numbers → KeepsBounds (standing_of f) (standing_of g)
+        → (o q : Outcome) → IsOutcome old.net o → IsOutcome new.net q → KeepBoundsByName o q (standing_of g) }
+    ensures first { (new : Contents) (g : ForestOf) → StandsFor new g → KeepsBounds nothing (standing_of g) → (q : Outcome) → IsOutcome new.net q → KeepFirstBounds q (standing_of g) }
+    ensures kept { (edit : Edit) (old new : Contents) → IsNumbered old.net old.numbers → IsNumbered new.net new.numbers → Commits edit old new → KeepNumbers old.numbers new.numbers }
 {
+    one_outcome();
+}
+
+/// A port that isn't refused has a text that explains it, in the tree that is asked or in each of its bridge, and one alone: the
+/// network settles it.
+pub fn one_explanation()
+    ensures some { (net : Net) (name : PortName) (tree : Option ℕ) → IsNetwork net → unexplained_of net name tree ≡ None → (text : List ℕ) × Explains net name tree text }
+    ensures one { (net : Net) (name : PortName) (tree : Option ℕ) (text other : List ℕ) → IsNetwork net → Explains net name tree text → Explains net name tree other → text ≡ other }
+{
+    has_outcome();
     laws::one_explanation();
+    laws::some_explanation();
 }
 
 /// Each network has a text of what each single failure does, and one text and one number of those that cut some VID.
@@ -114,10 +131,11 @@ pub fn no_difference()
     mst_diff::laws::no_difference();
 }
 
-/// The last line stands alone exactly where nothing is counted.
+/// The last line stands alone exactly where nothing is counted, and that is exactly where the networks are alike.
 pub fn last_line()
-    ensures { (a b : Net) (c : Counts) (text : List ℕ) → Differs a b c text
+    ensures counted { (a b : Net) (c : Counts) (text : List ℕ) → Differs a b c text
         → (c ≡ record { regions = 0; roots = 0; ports = 0; vlans = 0 }) ↔ (text ≡ diff_line c) }
+    ensures same { (a b : Net) (c : Counts) (text : List ℕ) → (x : Differs a b c text) → (text ≡ diff_line c) ↔ AreAlike a x.old b x.new }
 {
     mst_diff::laws::last_line();
 }

@@ -3,7 +3,8 @@ ghost use Rattle.std.specs.Option.{option_map, ForSome};
 ghost use Rattle.mst_config.specs.Shared.{AreRegions};
 ghost use Rattle.mst_report.specs.Kept.{IsPlan, AreTrees, HasPlan, HasRegions, HasView, WasViewed, standing_in};
 ghost use Rattle.mst_lag.specs.Viewed.{IsView};
-ghost use Rattle.mst_report.specs.Standing.{standing_of, KeepsBounds};
+ghost use Rattle.mst_report.specs.Standing.{standing_of, msti_settlings, KeepsBounds};
+ghost use Rattle.mst_trees.specs.Forest.{SettlesNoUnused};
 
 use mst_config::{Regions, regions_of};
 use mst_lag::laws::{bridge_alone, lan_alone, port_alone, set_alone};
@@ -43,6 +44,7 @@ pub(crate) fn next_plan<C: Contents>(
     requires { HasRegions (C.tables contents.now).net (C.tables contents.now).numbers regions_stand standing.now }
     ensures plan { IfOk result (IsPlan (C.tables contents.now).net (C.tables contents.now).numbers) }
     ensures bounds { IfOk result (λ plan. KeepsBounds (standing_in standing.now) (standing_of plan.forest)) }
+    ensures unused { IfOk result (λ plan. SettlesNoUnused (C.tables contents.now).net (msti_settlings (standing_of plan.forest))) }
 {
     let regions = next_regions(alloc, contents, standing, regions_stand)?;
     match standing {
@@ -62,6 +64,7 @@ fn next_trees<C: Contents>(
     requires regions { regions_stand ≡ true → AreRegions (C.tables contents.now).net (C.tables contents.now).numbers standing.now.regions }
     ensures trees { IfOk result (λ trees. AreTrees (C.tables contents.now).net (C.tables contents.now).numbers standing.now.view trees.0 trees.1) }
     ensures bounds { IfOk result (λ trees. KeepsBounds (standing_of standing.now.forest) (standing_of trees.1)) }
+    ensures unused { IfOk result (λ trees. SettlesNoUnused (C.tables contents.now).net (msti_settlings (standing_of trees.1))) }
 {
     contents.known();
     let regions = regions_now(alloc, contents, standing, regions_stand)?;
@@ -225,6 +228,7 @@ pub(crate) fn settle_plan(
     requires view { HasView network.now.net network.now.numbers view_stands plan.old }
     ensures plan { OnOk result (HasPlan network.now.net network.now.numbers true plan.new) }
     ensures bounds { OnOk result (KeepsBounds (standing_in plan.old) (standing_in plan.new)) }
+    ensures unused { OnOk result (SettlesNoUnused network.now.net (msti_settlings (standing_in plan.new))) }
     ensures as_it_was { OnErr result (plan.new ≡ plan.old) }
 {
     if view_stands && plan.is_some() {
@@ -247,6 +251,7 @@ fn settle_trees(
     requires view { HasView network.now.net network.now.numbers true plan.old }
     ensures plan { OnOk result (HasPlan network.now.net network.now.numbers true plan.new) }
     ensures bounds { OnOk result (KeepsBounds (standing_in plan.old) (standing_in plan.new)) }
+    ensures unused { OnOk result (SettlesNoUnused network.now.net (msti_settlings (standing_in plan.new))) }
     ensures as_it_was { OnErr result (plan.new ≡ plan.old) }
 {
     let standing = plan.as_ref().unwrap();
@@ -281,6 +286,7 @@ fn plan_from<C: Contents>(
     requires { AreRegions (C.tables contents.now).net (C.tables contents.now).numbers regions }
     ensures plan { IfOk result (IsPlan (C.tables contents.now).net (C.tables contents.now).numbers) }
     ensures bounds { IfOk result (λ plan. KeepsBounds (standing_of standing.now) (standing_of plan.forest)) }
+    ensures unused { IfOk result (λ plan. SettlesNoUnused (C.tables contents.now).net (msti_settlings (standing_of plan.forest))) }
 {
     contents.known();
     let view = view(alloc, contents)?;

@@ -3,7 +3,7 @@ ghost use Rattle.mst_net.specs.After.{after};
 ghost use Rattle.mst_net.specs.Contents.{SameContents, CanCommit, Commits, room_for};
 ghost use Rattle.std.specs.Option.{option_map};
 ghost use Rattle.mst_trees.specs.Agrees.{AreOf};
-ghost use Rattle.mst_trees.specs.Forest.{IsForest};
+ghost use Rattle.mst_trees.specs.Forest.{IsForest, SettlesNoUnused};
 ghost use Rattle.mst_lag.specs.Viewed.{IsView};
 ghost use Rattle.mst_report.specs.Sweeping.{Sweeps};
 
@@ -75,7 +75,7 @@ impl Model for Planner {
 impl Planner {
     ghost use Rattle.mst_report.specs.Kept.{IsPlan};
     ghost use Rattle.mst_report.specs.Planned.{planned_state};
-    ghost use Rattle.mst_report.specs.Standing.{Standing, nothing, standing_of, settlings_of, KeepsBounds};
+    ghost use Rattle.mst_report.specs.Standing.{Standing, nothing, standing_of, settlings_of, msti_settlings, KeepsBounds};
     ghost use Rattle.mst_report.specs.State.{IsState, IsMarkNow, AreEntriesNow, empty_state};
 
     /// The planner of the network with no records, which isn't settled yet: so it takes no memory.
@@ -133,7 +133,7 @@ impl Planner {
     }
 
     /// How often a bridge was settled in a tree when the plan was brought up to the network last, and 0 where it never
-    /// was or no bridge had the tree. It is at least the number of bridges whose vector in the tree was another one
+    /// was or no bridge of that network had the tree. It is at least the number of bridges whose vector in the tree was another one
     /// afterwards, and at most twice the number of those whose vector was another one or none.
     pub fn settlings(&self, tree: Tree) -> u64
         ensures { result ≡ settlings_of self.now.standing tree }
@@ -188,6 +188,7 @@ impl Planner {
         ensures settled { OnOk result (self.new.is_settled ≡ true) }
         ensures idle { self.old.is_settled ≡ true → self.new ≡ self.old }
         ensures bounds { OnOk result (self.old.is_settled ≡ false → KeepsBounds self.old.standing self.new.standing) }
+        ensures unused { OnOk result (self.old.is_settled ≡ false → SettlesNoUnused self.old.contents.net (msti_settlings self.new.standing)) }
         ensures as_it_was { OnErr result (self.new ≡ self.old) }
     {
         if self.is_settled {
@@ -214,6 +215,7 @@ impl Planner {
         ensures ok { OnOk result (Commits edit.now self.old.contents self.new.contents) }
         ensures settled { OnOk result (self.new.is_settled ≡ true) }
         ensures bounds { OnOk result (KeepsBounds self.old.standing self.new.standing) }
+        ensures unused { OnOk result (SettlesNoUnused self.new.contents.net (msti_settlings self.new.standing)) }
         ensures same { OnErr result (SameContents self.old.contents self.new.contents) }
         ensures as_it_was { OnErr result (self.new.is_settled ≡ self.old.is_settled) }
         ensures standing { OnErr result (self.new.standing ≡ self.old.standing) }

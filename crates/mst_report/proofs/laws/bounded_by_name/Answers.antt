@@ -5,7 +5,7 @@ use Rattle.mst_trees.specs.Cist.{cist_sight}
 use Rattle.mst_trees.specs.Msti.{msti_sight}
 use Rattle.mst_trees.specs.Outcome.{Outcome}
 use Rattle.mst_settle.specs.Assignment.{vector_of, designated_of}
-use Rattle.mst_trees.specs.Forest.{msti_vector, msti_designated_vector, msti_settlings}
+use Rattle.mst_trees.specs.Forest.{msti_vector, msti_designated, msti_settlings}
 use Rattle.mst_trees.proofs.CistTopology.{cist_is_sight}
 use Rattle.mst_trees.proofs.MstiTopology.{msti_is_sight}
 use Rattle.mst_report.specs.ByName.{KeepsBoundByName}
@@ -29,6 +29,6 @@ returns-clause-mstis c edit old new f g ok fine was now made stood stands bounds
     subst (λ (x : Outcome). KeepsBoundByName (x.msti tree).vector (q.msti tree).vector (msti_settlings g tree)) (c.one_outcome.ensures old.net w o ok stood.is_outcome is_o)
     (subst (λ (x : Outcome). KeepsBoundByName (w.msti tree).vector (x.msti tree).vector (msti_settlings g tree)) (c.one_outcome.ensures new.net n q fine stands.is_outcome is_q)
     (by_name old.numbers.bridges new.numbers.bridges (together old new was now edit made) (msti_vector f tree) (msti_vector g tree) (w.msti tree).vector (n.msti tree).vector
-    (are_one old.net old.numbers ok was msti_rules (msti_sight old.net tree w.cist.designated) (msti_is_sight old.net ok tree w.cist.designated) (w.msti tree) (stood.is_outcome.mstis tree) (msti_vector f tree) (msti_designated_vector f tree) (stood.mstis tree))
-    (are_one new.net new.numbers fine now msti_rules (msti_sight new.net tree n.cist.designated) (msti_is_sight new.net fine tree n.cist.designated) (n.msti tree) (stands.is_outcome.mstis tree) (msti_vector g tree) (msti_designated_vector g tree) (stands.mstis tree))
+    (are_one old.net old.numbers ok was msti_rules (msti_sight old.net tree w.cist.designated) (msti_is_sight old.net ok tree w.cist.designated) (w.msti tree) (stood.is_outcome.mstis tree) (msti_vector f tree) (msti_designated f tree) (stood.mstis tree))
+    (are_one new.net new.numbers fine now msti_rules (msti_sight new.net tree n.cist.designated) (msti_is_sight new.net fine tree n.cist.designated) (n.msti tree) (stands.is_outcome.mstis tree) (msti_vector g tree) (msti_designated g tree) (stands.mstis tree))
     (msti_settlings g tree) (bounds.mstis tree)))

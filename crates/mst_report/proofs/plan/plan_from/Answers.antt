@@ -24,3 +24,9 @@ returns-clause-plan g c =
 
 pub returns-clause-bounds : goal.returns-clause-bounds
 returns-clause-bounds g c = record { cist = c.in_ok-forest.ensures.bounds.cist; mstis = c.in_ok-forest.ensures.bounds.mstis }
+
+pub returns-clause-unused : goal.returns-clause-unused
+returns-clause-unused g c =
+    let tables = g.C.Contents.tables c.args.contents.now in
+    c.in_ok-forest.ensures.unused tables.net tables.numbers
+    (record { network = c.known.ensures.network; numbered = c.known.ensures.numbered; view = c.in_ok-view.ensures; regions = c.requires })
