@@ -37,9 +37,9 @@ module _ (form : Form) (shape : Shape) where
       ap (λ (u : Step). u.state) k ∙ sym (ap unmarked (answered_keeps (of_script form) s.lacking number now q h.0)) ∙ sym (ap (λ (u : Step). unmarked u.state) h.2)
   load_same number now (Ok (edit e)) s t h k given too =
       let new = after e now.net in
-      ap (λ (u : Step). u.state) (k ∙ ap (λ lacks. edited shape lacks number (unmarked now) new) too)
+      ap (λ (u : Step). u.state) (k.0 ∙ ap (λ lacks. edited shape lacks number (unmarked now) new) too)
       ∙ edited_unmarked form shape number now new
-      ∙ sym (ap (λ (u : Step). unmarked u.state) (h ∙ ap (λ lacks. edited (of_script form) lacks number now new) given))
+      ∙ sym (ap (λ (u : Step). unmarked u.state) (h.0 ∙ ap (λ lacks. edited (of_script form) lacks number now new) given))
 
   pub loads_same : (version : Version) (number : ℕ) (now : State) (lines : List (List ℕ)) (a b : List Step) → RunsBy (Serves form version) number now lines a → RunsBy (Loads shape version) number (unmarked now) lines b
       → lacks_of a ≡ 0 → lacks_of b ≡ 0 → left_by (unmarked now) b ≡ unmarked (left_by now a)

@@ -1,4 +1,4 @@
--- Without want of memory captured messages have one comparison with a plan, and no fewer.
+-- Captured messages have one comparison with a plan by those that lack memory, and one without.
 use Rattle.std.proofs.Common.{◌≡◌, ℕ, ◌+◌, Bool, true, false, List, [], ◌∷◌, Option, Some, None, Result, Ok, Err, refl, sym, ap, subst, ◌∙◌}
 use Rattle.mst_ids.specs.declared.name.PortName.{PortName}
 use Rattle.mst_bpdu.specs.declared.bpdu.Bpdu.{Bpdu}
@@ -10,8 +10,8 @@ use Rattle.mst_compare.specs.Comparison.{AreDifferences}
 use Rattle.mst_compare.specs.Sender.{sender_of}
 use Rattle.mst_report.specs.State.{State, IsState}
 use Rattle.mst_engine.specs.Captures.{Compares, ServesCapture, ServesMessage, ServesSent, capture_of, compared, faulty}
-use Rattle.mst_engine.specs.Steps.{Step, RunsBy, silent, lacks_of}
-use Rattle.mst_engine.proofs.Steps.{runs-none, runs-first, none_lack, no_more_lack}
+use Rattle.mst_engine.specs.Steps.{Step, RunsBy, silent, lacks_of, lacking_of}
+use Rattle.mst_engine.proofs.Steps.{runs-none, runs-first, no_more_lack, alike_both}
 
 -- a message leaves the state
 compared_keeps : (lacks : Bool) (number : ℕ) (now : State) (port : PortName) (found : List Difference) → (compared lacks number now port found).state ≡ now
@@ -58,29 +58,28 @@ module _ (there : (net : Net) (bpdu : Bpdu) (port : PortName) → IsNetwork net 
       (s.0 ∷ rest.0, runs-first ServesCapture number now line lines s.0 rest.0 s.1 rest.1, no_more_lack s.0 rest.0 s.2 rest.2)
 
 module _ (one : (net : Net) (bpdu : Bpdu) (found others : List Difference) → IsNetwork net → AreDifferences net bpdu found → AreDifferences net bpdu others → found ≡ others) where
-  -- a message does one thing in a state
-  one_sent : (number : ℕ) (now : State) (bpdu : Bpdu) (sender : Option PortName) (s t : Step) → IsState now → ServesSent number now bpdu sender s → ServesSent number now bpdu sender t → s.lacking ≡ false → t.lacking ≡ false → s ≡ t
-  one_sent number now bpdu None s t is h k given too = h ∙ sym k
-  one_sent number now bpdu (Some port) s t is h k given too =
+  -- a message does one thing in a state, or lacks memory
+  one_sent : (number : ℕ) (now : State) (bpdu : Bpdu) (sender : Option PortName) (s t : Step) → IsState now → ServesSent number now bpdu sender s → ServesSent number now bpdu sender t → s.lacking ≡ t.lacking → s ≡ t
+  one_sent number now bpdu None s t is h k alike = h ∙ sym k
+  one_sent number now bpdu (Some port) s t is h k alike =
       let same : h.0 ≡ k.0 = one now.net bpdu h.0 k.0 is.network h.1 k.1 in
-      h.2 ∙ (λ i. compared ((given ∙ sym too) i) number now port (same i)) ∙ sym k.2
+      h.2 ∙ (λ i. compared (alike i) number now port (same i)) ∙ sym k.2
 
-  one_message : (number : ℕ) (now : State) (message : Option (Result Bpdu BpduFault)) (s t : Step) → IsState now → ServesMessage number now message s → ServesMessage number now message t → s.lacking ≡ false → t.lacking ≡ false → s ≡ t
-  one_message number now None s t is h k given too = h ∙ sym k
-  one_message number now (Some (Err fault)) s t is h k given too = h ∙ sym k
-  one_message number now (Some (Ok bpdu)) s t is h k given too = one_sent number now bpdu (sender_of now.net bpdu) s t is h k given too
+  one_message : (number : ℕ) (now : State) (message : Option (Result Bpdu BpduFault)) (s t : Step) → IsState now → ServesMessage number now message s → ServesMessage number now message t → s.lacking ≡ t.lacking → s ≡ t
+  one_message number now None s t is h k alike = h ∙ sym k
+  one_message number now (Some (Err fault)) s t is h k alike = h ∙ sym k
+  one_message number now (Some (Ok bpdu)) s t is h k alike = one_sent number now bpdu (sender_of now.net bpdu) s t is h k alike
 
   -- and so do all messages
-  pub one_comparison : (number : ℕ) (now : State) (lines : List (List ℕ)) (a b : List Step) → IsState now → Compares number now lines a → Compares number now lines b → lacks_of a ≡ 0 → lacks_of b ≡ 0 → a ≡ b
+  pub one_comparison : (number : ℕ) (now : State) (lines : List (List ℕ)) (a b : List Step) → IsState now → Compares number now lines a → Compares number now lines b → lacking_of a ≡ lacking_of b → a ≡ b
   unfolding RunsBy
-  one_comparison number now [] [] [] is h k given too = refl
-  one_comparison number now [] [] (t ∷ b) is h k given too = absurd k
-  one_comparison number now [] (s ∷ a) b is h k given too = absurd h
-  one_comparison number now (line ∷ lines) [] b is h k given too = absurd h
-  one_comparison number now (line ∷ lines) (s ∷ a) [] is h k given too = absurd k
-  one_comparison number now (line ∷ lines) (s ∷ a) (t ∷ b) is h k given too =
-      let x = none_lack s a given in
-      let y = none_lack t b too in
-      let same : s ≡ t = one_message number now (capture_of line) s t is h.0 k.0 x.0 y.0 in
-      let rest : a ≡ b = one_comparison (number + 1) s.state lines a b (state_kept number now line s is h.0) h.1 (subst (λ (u : Step). RunsBy ServesCapture (number + 1) u.state lines b) (sym same) k.1) x.1 y.1 in
+  one_comparison number now [] [] [] is h k alike = refl
+  one_comparison number now [] [] (t ∷ b) is h k alike = absurd k
+  one_comparison number now [] (s ∷ a) b is h k alike = absurd h
+  one_comparison number now (line ∷ lines) [] b is h k alike = absurd h
+  one_comparison number now (line ∷ lines) (s ∷ a) [] is h k alike = absurd k
+  one_comparison number now (line ∷ lines) (s ∷ a) (t ∷ b) is h k alike =
+      let both = alike_both s t a b alike in
+      let same : s ≡ t = one_message number now (capture_of line) s t is h.0 k.0 both.0 in
+      let rest : a ≡ b = one_comparison (number + 1) s.state lines a b (state_kept number now line s is h.0) h.1 (subst (λ (u : Step). RunsBy ServesCapture (number + 1) u.state lines b) (sym same) k.1) both.1 in
       λ i. same i ∷ rest i

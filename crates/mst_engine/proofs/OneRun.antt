@@ -1,5 +1,5 @@
--- Without want of memory a script has one output and no fewer, and a query's answer is the network's alone.
-use Rattle.std.proofs.Common.{◌≡◌, ℕ, ◌+◌, Bool, true, false, cond, nat_eq, List, [], ◌∷◌, Some, Result, Ok, Err, refl, sym, ap, subst, ◌∙◌, arith}
+-- A script has one output by the lines that lack memory, and one without; a query's answer is the network's alone.
+use Rattle.std.proofs.Common.{◌≡◌, ℕ, ◌+◌, Bool, true, false, true≢false, cond, nat_eq, List, [], ◌∷◌, Some, Result, Ok, Err, refl, sym, ap, subst, ◌∙◌, arith}
 use Rattle.std.proofs.lemmas.List.Sums.{sum_by-cons}
 use Rattle.mst_lang.specs.declared.line.Line.{Line}
 use Rattle.mst_lang.specs.declared.line.Line.TheVariants.{Blank, Mark, Edit as edit, Query as query}
@@ -19,9 +19,9 @@ use Rattle.mst_changes.specs.declared.subject.Entry.{Entry}
 use Rattle.mst_report.specs.Answers.{Answers}
 use Rattle.mst_report.specs.State.{State, IsState, IsMark, IsMarkNow, empty_state}
 use Rattle.mst_engine.specs.Script.{ServesRead, loading, reading_at, refused, edited, marked, answered}
-use Rattle.mst_engine.specs.Steps.{Step, RunsBy, silent, left_by, lacks_of, differing_of}
+use Rattle.mst_engine.specs.Steps.{Step, RunsBy, silent, left_by, lacks_of, lacking_of, differing_of}
 use Rattle.mst_print.specs.declared.form.Shape.{Shape}
-use Rattle.mst_engine.proofs.Steps.{ServesBy, runs-none, runs-first, none_lack, no_more_lack}
+use Rattle.mst_engine.proofs.Steps.{ServesBy, runs-none, runs-first, no_more_lack, alike_both}
 
 -- a query whose answer meets no want of memory
 answer_of : (shape : Shape) (number : ℕ) (now : State) (q : Query) (s : Step) → ServesRead shape number now (Ok (query q)) s → s.lacking ≡ false → (answer : Result (List ℕ) Refusal) × Answers q now answer × (s ≡ answered shape false number now q answer)
@@ -55,7 +55,7 @@ served_same : (shape : Shape) (number : ℕ) (now : State) (r : Result Line Faul
 served_same shape number now (Err f) s h = ap (λ (t : Step). t.differs) h
 served_same shape number now (Ok Blank) s h = ap (λ (t : Step). t.differs) h
 served_same shape number now (Ok Mark) s h = ap (λ (t : Step). t.differs) h.2 ∙ marked_same shape s.lacking number now h.0
-served_same shape number now (Ok (edit d)) s h = ap (λ (t : Step). t.differs) h ∙ edited_same shape s.lacking number now (after d now.net)
+served_same shape number now (Ok (edit d)) s h = ap (λ (t : Step). t.differs) h.0 ∙ edited_same shape s.lacking number now (after d now.net)
 served_same shape number now (Ok (query q)) s h = ap (λ (t : Step). t.differs) h.2 ∙ answered_same shape s.lacking number now q h.0
 
 pub none_differ : (shape : Shape) (how : Result Line Fault → Result Line Fault) (version : Version) (number : ℕ) (now : State) (lines : List (List ℕ)) (steps : List Step) → RunsBy (ServesBy shape how version) number now lines steps → differing_of steps ≡ 0
@@ -116,7 +116,7 @@ module _ (laws : Laws) (shape : Shape) (how : Result Line Fault → Result Line 
       by true k = subst (λ (t : Step). IsState t.state) (sym k) is
       by false k = subst (λ (t : Step). IsState t.state) (sym k) (record { network = is.network; mark = laws.marks now.net h.0 is.network h.1 })
   state_kept version number now line (Ok (query q)) s is e h = same_state s (answered shape s.lacking number now q h.0) now h.2 (answered_keeps shape s.lacking number now q h.0) is
-  state_kept version number now line (Ok (edit d)) s is e h = by (after d now.net) s.lacking refl h
+  state_kept version number now line (Ok (edit d)) s is e h = by (after d now.net) s.lacking refl h.0
     where
       by : (o : Result Net Refusal) (lacks : Bool) → after d now.net ≡ o → s ≡ edited shape lacks number now o → IsState s.state
       by (Err r) true f h = subst (λ (t : Step). IsState t.state) (sym h) is
@@ -146,8 +146,8 @@ module _ (laws : Laws) (shape : Shape) (how : Result Line Fault → Result Line 
     full_step number now (Ok (edit d)) is = by (after d now.net) refl
       where
         by : (o : Result Net Refusal) → after d now.net ≡ o → (s : Step) × ServesRead shape number now (Ok (edit d)) s × (s.lacking ≡ false)
-        by (Err r) f = (refused shape number (refusal.code_of r) (refusal.text_of r) now, sym (ap (edited shape false number now) f), refl)
-        by (Ok new) f = (silent (record now { net = new }), sym (ap (edited shape false number now) f), refl)
+        by (Err r) f = (refused shape number (refusal.code_of r) (refusal.text_of r) now, (sym (ap (edited shape false number now) f), λ lacks. absurd (true≢false (sym lacks))), refl)
+        by (Ok new) f = (silent (record now { net = new }), (sym (ap (edited shape false number now) f), λ lacks. absurd (true≢false (sym lacks))), refl)
 
     -- and so can all lines
     pub full_run : (version : Version) (number : ℕ) (now : State) (lines : List (List ℕ)) → IsState now → (steps : List Step) × RunsBy (ServesBy shape how version) number now lines steps × (lacks_of steps ≡ 0)
@@ -158,32 +158,30 @@ module _ (laws : Laws) (shape : Shape) (how : Result Line Fault → Result Line 
         (s.0 ∷ rest.0, runs-first (ServesBy shape how version) number now line lines s.0 rest.0 s.1 rest.1, no_more_lack s.0 rest.0 s.2 rest.2)
 
   module _ (answers : (q : Query) (now : State) (a b : Result (List ℕ) Refusal) → IsNetwork now.net → Answers q now a → Answers q now b → a ≡ b) where
-    -- a line does one thing in a state
-    one_step : (number : ℕ) (now : State) (r : Result Line Fault) (s t : Step) → IsState now → ServesRead shape number now r s → ServesRead shape number now r t → s.lacking ≡ false → t.lacking ≡ false → s ≡ t
-    one_step number now (Err f) s t is h k given too = h ∙ sym k
-    one_step number now (Ok Blank) s t is h k given too = h ∙ sym k
-    one_step number now (Ok Mark) s t is h k given too =
+    -- a line does one thing in a state, or lacks memory
+    one_step : (number : ℕ) (now : State) (r : Result Line Fault) (s t : Step) → IsState now → ServesRead shape number now r s → ServesRead shape number now r t → s.lacking ≡ t.lacking → s ≡ t
+    one_step number now (Err f) s t is h k alike = h ∙ sym k
+    one_step number now (Ok Blank) s t is h k alike = h ∙ sym k
+    one_step number now (Ok Mark) s t is h k alike =
         let entries : h.0 ≡ k.0 = laws.one_rows now.net h.0 k.0 is.network h.1 k.1 in
-        h.2 ∙ (λ i. marked shape ((given ∙ sym too) i) number now (entries i)) ∙ sym k.2
-    one_step number now (Ok (edit d)) s t is h k given too = h ∙ ap (λ lacks. edited shape lacks number now (after d now.net)) (given ∙ sym too) ∙ sym k
-    one_step number now (Ok (query q)) s t is h k given too =
-        let x = answer_of shape number now q s h given in
-        let y = answer_of shape number now q t k too in
-        x.2 ∙ ap (answered shape false number now q) (answers q now x.0 y.0 is.network x.1 y.1) ∙ sym y.2
+        h.2 ∙ (λ i. marked shape (alike i) number now (entries i)) ∙ sym k.2
+    one_step number now (Ok (edit d)) s t is h k alike = h.0 ∙ ap (λ lacks. edited shape lacks number now (after d now.net)) alike ∙ sym k.0
+    one_step number now (Ok (query q)) s t is h k alike =
+        let answer : h.0 ≡ k.0 = answers q now h.0 k.0 is.network h.1 k.1 in
+        h.2 ∙ (λ i. answered shape (alike i) number now q (answer i)) ∙ sym k.2
 
     -- and so do all lines
-    pub one_run : (version : Version) (number : ℕ) (now : State) (lines : List (List ℕ)) (a b : List Step) → IsState now → RunsBy (ServesBy shape how version) number now lines a → RunsBy (ServesBy shape how version) number now lines b → lacks_of a ≡ 0 → lacks_of b ≡ 0 → a ≡ b
+    pub one_run : (version : Version) (number : ℕ) (now : State) (lines : List (List ℕ)) (a b : List Step) → IsState now → RunsBy (ServesBy shape how version) number now lines a → RunsBy (ServesBy shape how version) number now lines b → lacking_of a ≡ lacking_of b → a ≡ b
     unfolding RunsBy
-    one_run version number now [] [] [] is h k given too = refl
-    one_run version number now [] [] (t ∷ b) is h k given too = absurd k
-    one_run version number now [] (s ∷ a) b is h k given too = absurd h
-    one_run version number now (line ∷ lines) [] b is h k given too = absurd h
-    one_run version number now (line ∷ lines) (s ∷ a) [] is h k given too = absurd k
-    one_run version number now (line ∷ lines) (s ∷ a) (t ∷ b) is h k given too =
-        let x = none_lack s a given in
-        let y = none_lack t b too in
-        let same : s ≡ t = one_step number now (how (reading_at version number line)) s t is h.0 k.0 x.0 y.0 in
-        let rest : a ≡ b = one_run version (number + 1) s.state lines a b (state_kept version number now line (how (reading_at version number line)) s is refl h.0) h.1 (subst (λ (u : Step). RunsBy (ServesBy shape how version) (number + 1) u.state lines b) (sym same) k.1) x.1 y.1 in
+    one_run version number now [] [] [] is h k alike = refl
+    one_run version number now [] [] (t ∷ b) is h k alike = absurd k
+    one_run version number now [] (s ∷ a) b is h k alike = absurd h
+    one_run version number now (line ∷ lines) [] b is h k alike = absurd h
+    one_run version number now (line ∷ lines) (s ∷ a) [] is h k alike = absurd k
+    one_run version number now (line ∷ lines) (s ∷ a) (t ∷ b) is h k alike =
+        let both = alike_both s t a b alike in
+        let same : s ≡ t = one_step number now (how (reading_at version number line)) s t is h.0 k.0 both.0 in
+        let rest : a ≡ b = one_run version (number + 1) s.state lines a b (state_kept version number now line (how (reading_at version number line)) s is refl h.0) h.1 (subst (λ (u : Step). RunsBy (ServesBy shape how version) (number + 1) u.state lines b) (sym same) k.1) both.1 in
         λ i. same i ∷ rest i
 
     -- in equal states a query has one answer

@@ -1,5 +1,5 @@
 -- What a saved network does, run as a script.
-use Rattle.std.proofs.Common.{◌≡◌, ℕ, ◌+◌, ◌<◌, false, cond, nat_eq, List, [], ◌∷◌, Result, Ok, Err, refl, sym, ap, subst, ◌∙◌, arith}
+use Rattle.std.proofs.Common.{true≢false, ◌≡◌, ℕ, ◌+◌, ◌<◌, false, cond, nat_eq, List, [], ◌∷◌, Result, Ok, Err, refl, sym, ap, subst, ◌∙◌, arith}
 use Rattle.std.proofs.lemmas.Grind.{common_steps}
 use Rattle.std.proofs.lemmas.List.Sums.{sum_by-cons}
 use Rattle.mst_lang.specs.Reading.{reading_as}
@@ -47,7 +47,7 @@ makes_step form number now (Err f) new h = absurd h
 makes_step form number now (Ok Blank) new h = absurd h
 makes_step form number now (Ok Mark) new h = absurd h
 makes_step form number now (Ok (query q)) new h = absurd h
-makes_step form number now (Ok (edit e)) new h = sym (ap (edited (of_script form) false number now) h)
+makes_step form number now (Ok (edit e)) new h = (sym (ap (edited (of_script form) false number now) h), λ lacks. absurd (true≢false (sym lacks)))
 
 leave_run : (form : Form) (number : ℕ) (now : State) (lines : List (List ℕ)) (new : Net) → 1 < number → Leave now.net lines new → (steps : List Step) × RunsBy (Serves form V2) number now lines steps × Quiet now steps new
 leave_run form number now [] new later h =

@@ -8,7 +8,7 @@ use Rattle.mst_report.specs.State.{State, IsState}
 use Rattle.mst_engine.specs.Captures.{ServesCapture, Compares}
 use Rattle.mst_engine.specs.Engine.{version_from, known_after, does, RunsOn}
 use Rattle.mst_engine.specs.Script.{Serves, ServesRead, Loads, reading_at, version_said}
-use Rattle.mst_engine.specs.Steps.{Step, RunsBy, left_by, lacks_of}
+use Rattle.mst_engine.specs.Steps.{Step, RunsBy, left_by, lacks_of, lacking_of}
 use Rattle.mst_engine.specs.declared.engine.Input.{Input}
 use Rattle.mst_engine.specs.declared.engine.Input.TheVariants.{Script, Network, Captures}
 use Rattle.mst_print.specs.declared.form.Form.{Form}
@@ -41,6 +41,32 @@ none_lack s steps h = by s.lacking (sym (sum_by-cons (λ (t : Step). cond t.lack
     by : (b : Bool) → cond b 1 0 + lacks_of steps ≡ 0 → (b ≡ false) × (lacks_of steps ≡ 0)
     by true h = absurd (omega arith)
     by false h = (refl, omega arith)
+
+-- of two lists of steps that lack memory at the same lines the first do both or neither, and so do the others
+pub alike_both : (s t : Step) (a b : List Step) → lacking_of (s ∷ a) ≡ lacking_of (t ∷ b) → (s.lacking ≡ t.lacking) × (lacking_of a ≡ lacking_of b)
+alike_both s t a b alike = (ap first_of alike, ap rest_of alike)
+  where
+    first_of : List Bool → Bool
+    first_of [] = false
+    first_of (x ∷ xs) = x
+
+    rest_of : List Bool → List Bool
+    rest_of [] = []
+    rest_of (x ∷ xs) = xs
+
+-- steps of the same lines that lack none lack at the same lines
+pub none_alike : (D E : ℕ → State → List ℕ → Step → Type 0) (m n : ℕ) (now other : State) (lines : List (List ℕ)) (a b : List Step) → RunsBy D m now lines a → RunsBy E n other lines b → lacks_of a ≡ 0 → lacks_of b ≡ 0 → lacking_of a ≡ lacking_of b
+unfolding RunsBy
+none_alike D E m n now other [] [] [] h k given too = refl
+none_alike D E m n now other [] [] (t ∷ b) h k given too = absurd k
+none_alike D E m n now other [] (s ∷ a) b h k given too = absurd h
+none_alike D E m n now other (line ∷ lines) [] b h k given too = absurd h
+none_alike D E m n now other (line ∷ lines) (s ∷ a) [] h k given too = absurd k
+none_alike D E m n now other (line ∷ lines) (s ∷ a) (t ∷ b) h k given too =
+    let x = none_lack s a given in
+    let y = none_lack t b too in
+    let rest = none_alike D E (m + 1) (n + 1) s.state t.state lines a b h.1 k.1 x.1 y.1 in
+    λ i. (x.0 ∙ sym y.0) i ∷ rest i
 
 -- where none of some steps met it, and one before neither, none does
 pub no_more_lack : (s : Step) (steps : List Step) → s.lacking ≡ false → lacks_of steps ≡ 0 → lacks_of (s ∷ steps) ≡ 0

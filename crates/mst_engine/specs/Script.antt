@@ -1,5 +1,7 @@
 -- What a script prints.
 use Rattle.std.specs.Prelude.{◌≡◌, ℕ, Bool, true, false, ◌==◌, List, [], ◌∷◌, Some, None, Result, Ok, Err, if◌then◌else◌}
+use Rattle.mst_lang.specs.declared.line.Edit.{Edit}
+use Rattle.mst_lang.specs.declared.line.Edit.TheVariants.{AddBridge, DelBridge, SetBridge, AddPort, DelPort, SetPort, AddLan, DelLan, SetLan, Plug, Unplug, SetByTree}
 use Rattle.mst_lang.specs.declared.line.Line.{Line}
 use Rattle.mst_lang.specs.declared.line.Line.TheVariants.{Blank, Mark, Edit as edit, Query as query}
 use Rattle.mst_lang.specs.declared.line.Fault.{Fault}
@@ -46,12 +48,27 @@ answered shape lacks number now q (Err r) = refused shape number (refusal.code_o
 answered shape true number now q (Ok text) = starved shape number now
 answered shape false number now q (Ok text) = printed now (shown shape.form (Some number) (query_word q) text)
 
+-- the edit may add a record, or something that is set by tree or VID. Any other finds its room there
+abbrev pub may_grow : Edit → Bool
+may_grow (AddBridge bridge mac) = true
+may_grow (DelBridge bridge) = false
+may_grow (SetBridge bridge change) = false
+may_grow (AddPort port) = true
+may_grow (DelPort port) = false
+may_grow (SetPort port change) = false
+may_grow (AddLan lan) = true
+may_grow (DelLan lan) = false
+may_grow (SetLan lan change) = false
+may_grow (Plug port lan) = true
+may_grow (Unplug port) = false
+may_grow (SetByTree change) = true
+
 -- what a line that is read in this way does in a state, where what is printed has this shape
 abbrev pub ServesRead : Shape → ℕ → State → Result Line Fault → Step → Type 0
 ServesRead shape number now (Err f) s = s ≡ refused shape number (fault.code_of f) (fault.text_of f) now
 ServesRead shape number now (Ok Blank) s = s ≡ silent now
 ServesRead shape number now (Ok Mark) s = (entries : List Entry) × IsMarkNow now.net entries × (s ≡ marked shape s.lacking number now entries)
-ServesRead shape number now (Ok (edit e)) s = s ≡ edited shape s.lacking number now (after e now.net)
+ServesRead shape number now (Ok (edit e)) s = (s ≡ edited shape s.lacking number now (after e now.net)) × (s.lacking ≡ true → may_grow e ≡ true)
 ServesRead shape number now (Ok (query q)) s = (answer : Result (List ℕ) Refusal) × Answers q now answer × (s ≡ answered shape s.lacking number now q answer)
 
 -- the version that a script's first line says

@@ -13,7 +13,7 @@ ghost use Rattle.mst_save.specs.SaveText.{save_text, IsShort};
 ghost use Rattle.mst_engine.specs.Captures.{Compares};
 ghost use Rattle.mst_engine.specs.Script.{answered, Serves, ServesRead, Runs, Loads, LoadsAll, unmarked};
 ghost use Rattle.mst_print.specs.Shape.{of_script};
-ghost use Rattle.mst_engine.specs.Steps.{Step, RunsBy, left_by, texts_of, refusals_of, lacks_of};
+ghost use Rattle.mst_engine.specs.Steps.{Step, RunsBy, left_by, texts_of, refusals_of, lacks_of, lacking_of};
 ghost use Rattle.mst_engine.specs.Engine.{RunsOn};
 ghost use Rattle.mst_engine.specs.declared.engine.Input.{Input};
 ghost use Rattle.mst_print.specs.declared.form.Form.{Form};
@@ -37,9 +37,11 @@ pub fn has_run()
     entries_of_network();
 }
 
-/// Where no line meets want of memory, a script has one run in each form: what it prints is a function of the script.
+/// A script has one run in each form for each set of lines that met want of memory: what it prints, the lines with E99
+/// among it, is a function of the script and of that set, and where none met it of the script alone.
 pub fn one_run()
-    ensures { (form : Form) (script : List ℕ) (a b : List Step) → Runs form (lines_of script) a → Runs form (lines_of script) b → lacks_of a ≡ 0 → lacks_of b ≡ 0 → a ≡ b }
+    ensures same { (form : Form) (lines : List (List ℕ)) (a b : List Step) → Runs form lines a → Runs form lines b → lacking_of a ≡ lacking_of b → a ≡ b }
+    ensures full { (form : Form) (script : List ℕ) (a b : List Step) → Runs form (lines_of script) a → Runs form (lines_of script) b → lacks_of a ≡ 0 → lacks_of b ≡ 0 → a ≡ b }
 {
     networks();
     edits_in_range();
@@ -59,10 +61,11 @@ pub fn has_load()
     entries_of_network();
 }
 
-/// Where no line meets want of memory, a script loads in one way: what it prints then, and the network that it leaves, are
-/// functions of the script.
+/// A script loads in one way for each set of lines that met want of memory: what it prints then, and the network that it
+/// leaves, are functions of the script and of that set, and where none met it of the script alone.
 pub fn one_load()
-    ensures { (shape : Shape) (script : List ℕ) (a b : List Step) → LoadsAll shape (lines_of script) a → LoadsAll shape (lines_of script) b → lacks_of a ≡ 0 → lacks_of b ≡ 0 → a ≡ b }
+    ensures same { (shape : Shape) (lines : List (List ℕ)) (a b : List Step) → LoadsAll shape lines a → LoadsAll shape lines b → lacking_of a ≡ lacking_of b → a ≡ b }
+    ensures full { (shape : Shape) (script : List ℕ) (a b : List Step) → LoadsAll shape (lines_of script) a → LoadsAll shape (lines_of script) b → lacks_of a ≡ 0 → lacks_of b ≡ 0 → a ≡ b }
 {
     networks();
     edits_in_range();
@@ -76,7 +79,7 @@ pub fn loads_network()
     ensures { (form : Form) (shape : Shape) (lines : List (List ℕ)) (a b : List Step) → Runs form lines a → LoadsAll shape lines b → lacks_of a ≡ 0 → lacks_of b ≡ 0 → left_by empty_state b ≡ unmarked (left_by empty_state a) }
 {}
 
-/// The state alone settles an answer: after any two scripts that leave equal networks, and equal rows of a mark, a
+/// The state alone settles an answer: after any two scripts that leave equal networks, and equal entries of a mark, a
 /// query that meets no want of memory has one answer, the same text or the same refusal, whatever edits made the
 /// networks, and of whatever versions the scripts are.
 pub fn network_alone()
@@ -107,10 +110,11 @@ pub fn has_comparison()
     has_list();
 }
 
-/// Where none meets want of memory, captured messages have one comparison with the plan of a network: what is printed is
-/// a function of them and of the network.
+/// Captured messages have one comparison with the plan of a network for each set of those that met want of memory: what is
+/// printed is a function of them, of the network and of that set, and where none met it of the first two.
 pub fn one_comparison()
-    ensures { (number : ℕ) (now : State) (lines : List (List ℕ)) (a b : List Step) → IsState now → Compares number now lines a → Compares number now lines b → lacks_of a ≡ 0 → lacks_of b ≡ 0 → a ≡ b }
+    ensures same { (number : ℕ) (now : State) (lines : List (List ℕ)) (a b : List Step) → IsState now → Compares number now lines a → Compares number now lines b → lacking_of a ≡ lacking_of b → a ≡ b }
+    ensures full { (number : ℕ) (now : State) (lines : List (List ℕ)) (a b : List Step) → IsState now → Compares number now lines a → Compares number now lines b → lacks_of a ≡ 0 → lacks_of b ≡ 0 → a ≡ b }
 {
     one_list();
 }

@@ -4,6 +4,7 @@ use Rattle.std.proofs.lemmas.Result.{err_from_is_err_and}
 use Rattle.mst_engine.specs.Engine.{tally_of}
 use Rattle.mst_engine.specs.Feeding.{Feeds, Breaks}
 use Rattle.mst_engine.proofs.Feeds.{Feeds-join, Breaks-after, Breaks-longer, texts_join}
+use Rattle.mst_io.proofs.Calls.{works_both}
 use Rattle.mst_engine.proofs.feed.feed.Goals as goal
 
 pub loop-byte-preserved : goal.loop-byte-preserved
@@ -22,7 +23,7 @@ loop-byte-preserved g c =
       feeds = subst (λ l. Feeds c.args.input (was.done ++ new.0) old c.args.held.now l now left) (sym (take_more bytes i 0 (omega arith)))
           (Feeds-join c.args.input was.done new.0 old (tally_of c.loop-byte.engine) now c.args.held.now c.loop-byte.held left (take i bytes) (get_or bytes i 0 ∷ []) was.feeds new.1);
       written = texts_join _ _ _ was.done new.0 was.written new.2;
-      works = record { working = c.in_ok-take_byte.ensures.works.working; taken = c.in_ok-take_byte.ensures.works.taken ∙ was.works.taken };
+      works = works_both _ _ _ was.works c.in_ok-take_byte.ensures.works;
       lent = c.take_byte.ensures.lent ∙ was.lent;
     }
 

@@ -2,7 +2,7 @@ use Rattle.std.proofs.Common.{◌++◌, [], arith, take, refl, ap, ◌∙◌}
 use Rattle.std.proofs.KnownBytes.{Consumes-nil, Appends-nil, Consumes-trans}
 use Rattle.mst_report.specs.Planned.{planned_state}
 use Rattle.mst_engine.specs.Engine.{tally_of, begun}
-use Rattle.mst_io.proofs.Calls.{works_on}
+use Rattle.mst_io.proofs.Calls.{works_on, works_both}
 use Rattle.mst_engine.proofs.Feeds.{Feeds-join, Breaks-after, texts_join}
 use Rattle.mst_engine.proofs.WholeRun.{run_served, run_few, run_broken, run_broken_last, run_cut, begins, begins_counted, run_ended}
 use Rattle.mst_io.proofs.ReadBytes.{few_more, Consumes-kept, Consumes-none}
@@ -18,9 +18,9 @@ turns-init g c =
       done = [];
       consumed = Consumes-nil _;
       feeds = begins c.args.input from (tally_of c.args.engine.now) c.new-held.result c.requires.begins c.new-held.ensures;
-      reading = record { working = c.requires.source; taken = refl };
+      reading = record { working = c.requires.source; taken = refl; each = omega arith };
       calls = omega arith;
-      works = record { working = c.requires.sink; taken = refl };
+      works = record { working = c.requires.sink; taken = refl; each = omega arith };
       lent_source = refl;
       lent_sink = refl;
       written = Appends-nil _;
@@ -42,7 +42,7 @@ turns-preserved g c =
       feeds = Feeds-join c.args.input was.done new.0 (begun from) (tally_of c.turns.engine) (tally_of c.feed.new.engine) [] c.turns.held c.feed.new.held was.read chunk was.feeds new.1;
       reading = works_on _ _ _ c.in-Ok.count _ was.reading c.in-Ok.ensures.told c.if-count-eq0.false;
       calls = ap (λ t. t.calls) c.in-Ok.ensures.told ∙ omega (arith, was.calls);
-      works = record { working = c.in-Ok-feed.ensures.works.working; taken = c.in-Ok-feed.ensures.works.taken ∙ was.works.taken };
+      works = works_both _ _ _ was.works c.in-Ok-feed.ensures.works;
       lent_source = c.in-Ok.ensures.lent ∙ was.lent_source;
       lent_sink = c.feed.ensures.lent ∙ was.lent_sink;
       written = texts_join _ _ _ was.done new.0 was.written new.2;
