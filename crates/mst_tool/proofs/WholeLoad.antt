@@ -3,7 +3,7 @@ use Rattle.std.proofs.Common.{◌≡◌, ℕ, ◌+◌, List, [], Option, None, S
 use Rattle.std.specs.Io.KnownBytes.{Appends}
 use Rattle.std.proofs.KnownBytes.{Appends-trans}
 use Rattle.mst_ids.specs.declared.name.PortName.{PortName}
-use Rattle.mst_lang.specs.Lines.{lines_of}
+use Rattle.mst_lang.specs.Lines.{lines_of, ended_lines}
 use Rattle.mst_net.specs.Tables.{Net, IsNetwork}
 use Rattle.mst_report.specs.Explaining.{Explains, unexplained_of}
 use Rattle.mst_report.specs.Picturing.{Depicts}
@@ -17,7 +17,7 @@ use Rattle.mst_tool.specs.Load.{LoadsFront, LoadsEnded, LoadsScript}
 use Rattle.mst_engine.specs.Script.{LoadsAll, version_of, loading}
 use Rattle.mst_engine.specs.Served.{Served, ServedFront, ServedEnded}
 use Rattle.mst_print.specs.Shape.{of_script, shown}
-use Rattle.mst_engine.specs.Steps.{Step, left_by, texts_of, lacks_of, differing_of}
+use Rattle.mst_engine.specs.Steps.{Step, left_by, texts_of, lacking_of, differing_of}
 use Rattle.mst_io.specs.Written.{AppendsFront}
 use Rattle.mst_tool.specs.declared.asked.Asked.{Asked}
 use Rattle.mst_tool.specs.declared.asked.Question.{Question}
@@ -29,9 +29,9 @@ use Rattle.mst_io.proofs.Known.{AppendsFront-after}
 use Rattle.mst_engine.proofs.OneRun.{none_differ}
 use Rattle.mst_print.proofs.Shown.{is_shown, one_shown, same_shown}
 
--- without want of memory a script loads in one way
+-- a script loads in one way by the lines that lack memory
 abbrev pub OneLoad : Type 0
-OneLoad = (shape : Shape) (script : List ℕ) (a b : List Step) → LoadsAll shape (lines_of script) a → LoadsAll shape (lines_of script) b → lacks_of a ≡ 0 → lacks_of b ≡ 0 → a ≡ b
+OneLoad = (shape : Shape) (lines : List (List ℕ)) (a b : List Step) → LoadsAll shape lines a → LoadsAll shape lines b → lacking_of a ≡ lacking_of b → a ≡ b
 
 -- a script leaves a network
 abbrev pub LoadsStates : Type 0
@@ -88,15 +88,15 @@ pub picture_shown : (form : Form) (net settled : Net) (tree : ℕ) (text printed
 picture_shown form net settled tree text printed same h e =
     subst (λ net. IsAnswer form net (Picture tree) given printed) same (refl, is_shown form (codes "dot") (Depicts settled tree) text printed h e)
 
-module _ (shape : Shape) where
+module _ (one : OneLoad) (shape : Shape) where
   pub loads_front : (reads written now : Option (List ℕ)) → ServedFront (Network shape) empty_state reads written now → LoadsFront shape reads written now
-  loads_front reads written now s = record { script = s.bytes; steps = s.steps; read = s.read; loads = s.runs; printed = s.printed }
+  loads_front reads written now s = record { script = s.bytes; steps = s.steps; read = s.read; loads = s.runs; printed = s.printed; only = λ others loads. one shape (lines_of s.bytes) others s.steps loads s.runs }
 
   pub loads_ended : (reads left written now : Option (List ℕ)) → ServedEnded (Network shape) empty_state reads left written now → LoadsEnded shape reads left written now
-  loads_ended reads left written now s = record { read = s.read; steps = s.steps; consumed = s.consumed; loads = s.runs; printed = s.printed }
+  loads_ended reads left written now s = record { read = s.read; steps = s.steps; consumed = s.consumed; loads = s.runs; printed = s.printed; only = λ others loads. one shape (ended_lines s.read) others s.steps loads s.runs }
 
   pub loads_script : (reads written now : Option (List ℕ)) (t : Tally) → Served (Network shape) empty_state reads written now t → LoadsScript shape reads written now
-  loads_script reads written now t s = record { script = s.bytes; steps = s.steps; read = s.read; loads = s.runs; printed = s.printed }
+  loads_script reads written now t s = record { script = s.bytes; steps = s.steps; read = s.read; loads = s.runs; printed = s.printed; only = λ others loads. one shape (lines_of s.bytes) others s.steps loads s.runs }
 
   -- all of it is a front of it
   pub loads_whole : (reads written now : Option (List ℕ)) (t : Tally) → Served (Network shape) empty_state reads written now t → LoadsFront shape reads written now
@@ -106,11 +106,12 @@ module _ (shape : Shape) where
     read = s.read;
     loads = s.runs;
     printed = record { front = texts_of s.steps; rest = []; whole = sym (append-nil (texts_of s.steps)); written = s.printed };
+    only = λ others loads. one shape (lines_of s.bytes) others s.steps loads s.runs;
   }
 
-  -- no line of a script is a message that differs
-  pub loads_same : (reads written now : Option (List ℕ)) (t : Tally) (s : Served (Network shape) empty_state reads written now t) → differing_of s.steps ≡ 0
-  loads_same reads written now t s = none_differ shape loading (version_of (lines_of s.bytes)) 1 empty_state (lines_of s.bytes) s.steps s.runs
+-- no line of a script is a message that differs
+loads_same : (shape : Shape) (reads written now : Option (List ℕ)) (t : Tally) (s : Served (Network shape) empty_state reads written now t) → differing_of s.steps ≡ 0
+loads_same shape reads written now t s = none_differ shape loading (version_of (lines_of s.bytes)) 1 empty_state (lines_of s.bytes) s.steps s.runs
 
 -- the answer of the network that the script left
 answer_left : (form : Form) (question : Question) (reads written mid : Option (List ℕ)) (t : Tally) (told : Told) (text : List ℕ) (s : Served (Network (of_script form)) empty_state reads written mid t)
@@ -133,19 +134,23 @@ asks one states one_explained one_swept one_summarized one_depicted form questio
       memory = s.memory;
       refused = ap (λ n. n + told.refused) s.refused;
       differing = omega (arith, s.differing, loads_same (of_script form) reads written mid t s);
-      only = λ none others loads given. one (of_script form) s.bytes others s.steps loads s.runs given (sym s.memory ∙ none);
+      only = λ others loads. one (of_script form) (lines_of s.bytes) others s.steps loads s.runs;
       only_answer = λ also other k. one_answer one_explained one_swept one_summarized one_depicted form (left_by empty_state s.steps).net question told also text other (states (of_script form) (lines_of s.bytes) s.steps s.runs).network answer k;
     }
 
-pub answers_front : (form : Form) (question : Question) (reads written mid now : Option (List ℕ)) (t : Tally) (told : Told) (text : List ℕ) → Served (Network (of_script form)) empty_state reads written mid t
+pub answers_front : OneLoad → LoadsStates → OneExplanation → OneSweep → OneSummary → OnePicture → (form : Form) (question : Question) (reads written mid now : Option (List ℕ)) (t : Tally) (told : Told) (text : List ℕ) → Served (Network (of_script form)) empty_state reads written mid t
     → IsAnswer form t.state.net question told text → AppendsFront mid now text → AsksFront form question reads written now
-answers_front form question reads written mid now t told text s h went = inr (record {
-  script = s.bytes;
-  steps = s.steps;
-  told = told;
-  text = text;
-  read = s.read;
-  loads = s.runs;
-  answers = answer_left form question reads written mid t told text s h;
-  printed = AppendsFront-after written mid now (texts_of s.steps) text s.printed went;
-})
+answers_front one states one_explained one_swept one_summarized one_depicted form question reads written mid now t told text s h went =
+    let answer = answer_left form question reads written mid t told text s h in
+    inr (record {
+      script = s.bytes;
+      steps = s.steps;
+      told = told;
+      text = text;
+      read = s.read;
+      loads = s.runs;
+      answers = answer;
+      printed = AppendsFront-after written mid now (texts_of s.steps) text s.printed went;
+      only = λ others loads. one (of_script form) (lines_of s.bytes) others s.steps loads s.runs;
+      only_answer = λ also other k. one_answer one_explained one_swept one_summarized one_depicted form (left_by empty_state s.steps).net question told also text other (states (of_script form) (lines_of s.bytes) s.steps s.runs).network answer k;
+    })

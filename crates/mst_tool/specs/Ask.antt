@@ -17,7 +17,7 @@ use Rattle.mst_tool.specs.Asked.{asked_of}
 use Rattle.mst_tool.specs.Load.{LoadsFront}
 use Rattle.mst_engine.specs.Script.{LoadsAll}
 use Rattle.mst_print.specs.Shape.{of_script, IsShown, unanswered}
-use Rattle.mst_engine.specs.Steps.{Step, left_by, texts_of, refusals_of, lacks_of}
+use Rattle.mst_engine.specs.Steps.{Step, left_by, texts_of, refusals_of, lacks_of, lacking_of}
 use Rattle.mst_io.specs.Written.{AppendsFront, Reads}
 use Rattle.mst_tool.specs.declared.asked.Asked.{Asked}
 use Rattle.mst_tool.specs.declared.asked.Question.{Question}
@@ -86,7 +86,7 @@ counted_with script told = record script { refused = script.refused + told.refus
 
 -- The edits of the script's lines were served, from the empty state on, and what they print was written, and after it the
 -- answer of the network that they leave. The outcome counts the lines that were refused, as a run's does, and what the answer
--- counts. Where none was for want of memory, the script has no other steps that meet none. The network has no other answer
+-- counts. The script has no other steps that lack memory at the same lines, and the network no other answer
 pub record Asks (form : Form) (question : Question) (reads written now : Option (List ℕ)) (outcome : Outcome) : Type 0 where
   pub script : List ℕ
   pub steps : List Step
@@ -99,7 +99,7 @@ pub record Asks (form : Form) (question : Question) (reads written now : Option 
   pub memory : outcome.memory ≡ lacks_of steps
   pub refused : outcome.refused ≡ refusals_of steps + told.refused
   pub differing : outcome.differing ≡ told.differing
-  pub only : outcome.memory ≡ 0 → (others : List Step) → LoadsAll (of_script form) (lines_of script) others → lacks_of others ≡ 0 → others ≡ steps
+  pub only : (others : List Step) → LoadsAll (of_script form) (lines_of script) others → lacking_of others ≡ lacking_of steps → others ≡ steps
   pub only_answer : (also : Told) (other : List ℕ) → IsAnswer form (left_by empty_state steps).net question also other → (also ≡ told) × (other ≡ text)
 
 -- a front of what the script's lines and the answer print was written
@@ -112,6 +112,8 @@ pub record AnswersFront (form : Form) (question : Question) (reads written now :
   pub loads : LoadsAll (of_script form) (lines_of script) steps
   pub answers : IsAnswer form (left_by empty_state steps).net question told text
   pub printed : AppendsFront written now (texts_of steps ++ text)
+  pub only : (others : List Step) → LoadsAll (of_script form) (lines_of script) others → lacking_of others ≡ lacking_of steps → others ≡ steps
+  pub only_answer : (also : Told) (other : List ℕ) → IsAnswer form (left_by empty_state steps).net question also other → (also ≡ told) × (other ≡ text)
 
 -- one of the two: it was stopped in the script, or after it
 abbrev pub AsksFront : Form → Question → Option (List ℕ) → Option (List ℕ) → Option (List ℕ) → Type 0

@@ -9,7 +9,7 @@ use Rattle.mst_report.specs.State.{empty_state}
 use Rattle.mst_tool.specs.Load.{LoadsEnded}
 use Rattle.mst_engine.specs.Script.{LoadsAll}
 use Rattle.mst_print.specs.Shape.{of_old, of_new, IsShown}
-use Rattle.mst_engine.specs.Steps.{Step, left_by, texts_of, refusals_of, lacks_of}
+use Rattle.mst_engine.specs.Steps.{Step, left_by, texts_of, refusals_of, lacks_of, lacking_of}
 use Rattle.mst_io.specs.Written.{AppendsFront, Reads}
 use Rattle.mst_print.specs.declared.form.Form.{Form}
 use Rattle.mst_io.specs.declared.outcome.Outcome.{Outcome}
@@ -26,7 +26,8 @@ differing_by counts = if is_nothing counts then 0 else 1
 abbrev pub counted_both : Outcome → Outcome → Differing → Outcome
 counted_both old new counts = record { refused = old.refused + new.refused; memory = old.memory + new.memory; differing = differing_by counts }
 
--- both scripts, which the readers give, and what their lines do, from the empty state on, where their networks are loaded
+-- both scripts, which the readers give, and what their lines do, from the empty state on, where their networks are loaded.
+-- Neither has other steps that lack memory at the same lines
 pub record LoadsBoth (form : Form) (olds news : Option (List ℕ)) : Type 0 where
   pub old : List ℕ
   pub new : List ℕ
@@ -36,6 +37,8 @@ pub record LoadsBoth (form : Form) (olds news : Option (List ℕ)) : Type 0 wher
   pub new_read : Reads news new
   pub old_loads : LoadsAll (of_old form) (lines_of old) old_steps
   pub new_loads : LoadsAll (of_new form) (lines_of new) new_steps
+  pub only_old : (others : List Step) → LoadsAll (of_old form) (lines_of old) others → lacking_of others ≡ lacking_of old_steps → others ≡ old_steps
+  pub only_new : (others : List Step) → LoadsAll (of_new form) (lines_of new) others → lacking_of others ≡ lacking_of new_steps → others ≡ new_steps
 
 -- what the lines of both print, and the networks that they leave
 abbrev pub both_texts : {form : Form} {olds news : Option (List ℕ)} → LoadsBoth form olds news → List ℕ
@@ -53,8 +56,7 @@ TellsDifference form old new counts = IsShown form (codes "diff") (Differs old n
 
 -- The edits of both scripts' lines were served, and what they print was written, that of the old one first, and after it how
 -- the network that the new one leaves differs from the old one's. The outcome counts the lines of both that were refused, and
--- 1 where something differs. Where none was for want of memory, neither has other steps that meet none. How both networks
--- differ is one text
+-- 1 where something differs. How both networks differ is one text
 pub record Diffs (form : Form) (olds news written now : Option (List ℕ)) (outcome : Outcome) : Type 0 where
   pub both : LoadsBoth form olds news
   pub counts : Differing
@@ -64,8 +66,6 @@ pub record Diffs (form : Form) (olds news written now : Option (List ℕ)) (outc
   pub memory : outcome.memory ≡ lacks_of both.old_steps + lacks_of both.new_steps
   pub refused : outcome.refused ≡ refusals_of both.old_steps + refusals_of both.new_steps
   pub differing : outcome.differing ≡ differing_by counts
-  pub only_old : outcome.memory ≡ 0 → (others : List Step) → LoadsAll (of_old form) (lines_of both.old) others → lacks_of others ≡ 0 → others ≡ both.old_steps
-  pub only_new : outcome.memory ≡ 0 → (others : List Step) → LoadsAll (of_new form) (lines_of both.new) others → lacks_of others ≡ 0 → others ≡ both.new_steps
   pub only_difference : (also : Differing) (other : List ℕ) → TellsDifference form (old_net both) (new_net both) also other → (also ≡ counts) × (other ≡ text)
 
 -- a front of what the lines of both scripts and how their networks differ print was written
@@ -75,6 +75,7 @@ pub record DiffsFront (form : Form) (olds news written now : Option (List ℕ)) 
   pub text : List ℕ
   pub differs : TellsDifference form (old_net both) (new_net both) counts text
   pub printed : AppendsFront written now (both_texts both ++ text)
+  pub only_difference : (also : Differing) (other : List ℕ) → TellsDifference form (old_net both) (new_net both) also other → (also ≡ counts) × (other ≡ text)
 
 -- The edits of the whole of the old script were served, and the reader of the new one has given these bytes, as far as it
 -- tells, and has some left. Those of the lines that they complete were served too, and the whole of what all these print was
@@ -89,6 +90,8 @@ pub record LoadsNewEnded (form : Form) (olds news left written now : Option (Lis
   pub old_loads : LoadsAll (of_old form) (lines_of old) old_steps
   pub new_loads : LoadsAll (of_new form) (ended_lines read) new_steps
   pub printed : Appends written now (texts_of old_steps ++ texts_of new_steps)
+  pub only_old : (others : List Step) → LoadsAll (of_old form) (lines_of old) others → lacking_of others ≡ lacking_of old_steps → others ≡ old_steps
+  pub only_new : (others : List Step) → LoadsAll (of_new form) (ended_lines read) others → lacking_of others ≡ lacking_of new_steps → others ≡ new_steps
 
 -- a reader failed: that of the old script, so that no line of the new one was served, or that of the new one
 abbrev pub DiffsEnded : Form → Option (List ℕ) → Option (List ℕ) → Option (List ℕ) → Option (List ℕ) → Option (List ℕ) → Option (List ℕ) → Type 0

@@ -1,9 +1,9 @@
--- What loading the network of a script promises.
-use Rattle.std.specs.Prelude.{ℕ, List, Option}
+-- What loading the network of a script promises. A script has no other steps that lack memory at the same lines.
+use Rattle.std.specs.Prelude.{◌≡◌, ℕ, List, Option}
 use Rattle.std.specs.Io.KnownBytes.{Appends, Consumes}
 use Rattle.mst_lang.specs.Lines.{lines_of, ended_lines}
 use Rattle.mst_engine.specs.Script.{LoadsAll}
-use Rattle.mst_engine.specs.Steps.{Step, texts_of}
+use Rattle.mst_engine.specs.Steps.{Step, texts_of, lacking_of}
 use Rattle.mst_io.specs.Written.{AppendsFront, Reads}
 use Rattle.mst_print.specs.declared.form.Shape.{Shape}
 
@@ -14,6 +14,7 @@ pub record LoadsFront (shape : Shape) (reads written now : Option (List ℕ)) : 
   pub read : Reads reads script
   pub loads : LoadsAll shape (lines_of script) steps
   pub printed : AppendsFront written now (texts_of steps)
+  pub only : (others : List Step) → LoadsAll shape (lines_of script) others → lacking_of others ≡ lacking_of steps → others ≡ steps
 
 -- The reader has given these bytes, as far as it tells, and has these left. The edits of the lines that they complete were
 -- served, from the empty state on, and the whole of what these print was written, and nothing else
@@ -23,6 +24,7 @@ pub record LoadsEnded (shape : Shape) (reads left written now : Option (List ℕ
   pub consumed : Consumes reads left read
   pub loads : LoadsAll shape (ended_lines read) steps
   pub printed : Appends written now (texts_of steps)
+  pub only : (others : List Step) → LoadsAll shape (ended_lines read) others → lacking_of others ≡ lacking_of steps → others ≡ steps
 
 -- the edits of all of the script's lines were served, and the whole of what they print was written, and nothing else
 pub record LoadsScript (shape : Shape) (reads written now : Option (List ℕ)) : Type 0 where
@@ -31,3 +33,4 @@ pub record LoadsScript (shape : Shape) (reads written now : Option (List ℕ)) :
   pub read : Reads reads script
   pub loads : LoadsAll shape (lines_of script) steps
   pub printed : Appends written now (texts_of steps)
+  pub only : (others : List Step) → LoadsAll shape (lines_of script) others → lacking_of others ≡ lacking_of steps → others ≡ steps

@@ -68,7 +68,8 @@ pub fn check_from<S: Read, C: Read, W: Write>(
 /// included.
 ///
 /// [`RunFault::Read`] is answered just where the sink works and a source has failed, or all turns of it were used and
-/// none found the end; [`RunFault::Write`] just where the sink has failed, or took nothing of a part that had a byte.
+/// none found the end; [`RunFault::Write`] just where the sink has failed, or took nothing of a part that had a byte. After
+/// [`RunFault::Memory`] the second source wasn't called.
 pub fn check_within<S: Source, C: Source, K: Sink>(
     alloc: Global,
     script: &mut S,
@@ -84,6 +85,7 @@ pub fn check_within<S: Source, C: Source, K: Sink>(
     ensures fault { OnErr result (ChecksFront (S.remaining script.old) (C.remaining captures.old) (K.contents sink.old) (K.contents sink.new)) }
     ensures read { result ≡ Err RunFault.Read → ChecksEnded (S.remaining script.old) (S.remaining script.new) (C.remaining captures.old) (C.remaining captures.new) (K.contents sink.old) (K.contents sink.new) }
     ensures memory { result ≡ Err RunFault.Memory → ChecksScript (S.remaining script.old) (K.contents sink.old) (K.contents sink.new) }
+    ensures unread { result ≡ Err RunFault.Memory → (C.told captures.new ≡ C.told captures.old) × (C.remaining captures.new ≡ C.remaining captures.old) }
     ensures ended_script { IsOk result → IsRead (S.told script.old) (S.told script.new) }
     ensures ended_captures { IsOk result → IsRead (C.told captures.old) (C.told captures.new) }
     ensures read_fault { result ≡ Err RunFault.Read ↔ (IsCut turns (S.told script.old) (S.told script.new) ⊎ IsCut turns (C.told captures.old) (C.told captures.new)) × Works (K.told sink.old) (K.told sink.new) }
@@ -127,6 +129,7 @@ fn serve_captures<C: Source, K: Sink>(
     ensures fault { OnErr result (ServedFront Captures (planned_state engine.old.planner) (C.remaining captures.old) (K.contents sink.old) (K.contents sink.new)) }
     ensures read { result ≡ Err RunFault.Read → ServedEnded Captures (planned_state engine.old.planner) (C.remaining captures.old) (C.remaining captures.new) (K.contents sink.old) (K.contents sink.new) }
     ensures memory { result ≡ Err RunFault.Memory → K.contents sink.new ≡ K.contents sink.old }
+    ensures unread { result ≡ Err RunFault.Memory → (C.told captures.new ≡ C.told captures.old) × (C.remaining captures.new ≡ C.remaining captures.old) }
     ensures stops { Stops turns (C.told captures.old) (C.told captures.new) (K.told sink.old) (K.told sink.new) (stopped_by result) }
     ensures captures_calls { IsCalled turns (C.told captures.old) (C.told captures.new) }
     ensures sink_calls { StopsAtZero (K.told sink.old) (K.told sink.new) }

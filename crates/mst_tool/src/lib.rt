@@ -1,6 +1,7 @@
 //! Runs a script over any reader and writer: its lines are edits of a network and queries about it. And checks captured
 //! messages against the plan of the network that a script leaves, answers what is asked of that network, and tells the
-//! networks of two scripts apart. [`hints`] tells what would be right in the lines of a script that are refused.
+//! networks of two scripts apart. [`hints`] tells what would be right in the lines of a script that aren't read, or name a
+//! record that isn't there.
 #![tactic(auto)]
 
 mod asked;

@@ -15,7 +15,7 @@ returns-in-Err-clause-fault g c =
     let reads = g.S.Source.remaining c.args.source.now in
     let written = g.K.Sink.contents c.args.sink.now in
     let now = g.K.Sink.contents c.serve_input.new.sink in
-    inl (loads_front (of_script c.args.form) reads written now (subst (λ from. ServedFront (Network (of_script c.args.form)) from reads written now) c.new-engine.ensures.empty c.in-Err.ensures.fault))
+    inl (loads_front c.one_load.ensures.same (of_script c.args.form) reads written now (subst (λ from. ServedFront (Network (of_script c.args.form)) from reads written now) c.new-engine.ensures.empty c.in-Err.ensures.fault))
 
 one_fault : (r : Result Outcome RunFault) (a b : RunFault) → r ≡ Err a → r ≡ Err b → a ≡ b
 one_fault r a b p q = cc
@@ -27,7 +27,7 @@ returns-in-Err-clause-read g c is =
     let left = g.S.Source.remaining c.serve_input.new.source in
     let written = g.K.Sink.contents c.args.sink.now in
     let now = g.K.Sink.contents c.serve_input.new.sink in
-    loads_ended (of_script c.args.form) reads left written now (subst (λ from. ServedEnded (Network (of_script c.args.form)) from reads left written now) c.new-engine.ensures.empty (c.in-Err.ensures.read (λ i. Err (same i))))
+    loads_ended c.one_load.ensures.same (of_script c.args.form) reads left written now (subst (λ from. ServedEnded (Network (of_script c.args.form)) from reads left written now) c.new-engine.ensures.empty (c.in-Err.ensures.read (λ i. Err (same i))))
 
 pub returns-in-Err-answer_to-clause-fault : goal.returns-in-Err-answer_to-clause-fault
 returns-in-Err-answer_to-clause-fault g c =
@@ -35,7 +35,7 @@ returns-in-Err-answer_to-clause-fault g c =
     let written = g.K.Sink.contents c.args.sink.now in
     let now = g.K.Sink.contents c.serve_input.new.sink in
     let t = tally_of c.serve_input.new.engine in
-    inl (loads_whole (of_script c.args.form) reads written now t (subst (λ from. Served (Network (of_script c.args.form)) from reads written now t) c.new-engine.ensures.empty c.in-Ok.ensures.ok))
+    inl (loads_whole c.one_load.ensures.same (of_script c.args.form) reads written now t (subst (λ from. Served (Network (of_script c.args.form)) from reads written now t) c.new-engine.ensures.empty c.in-Ok.ensures.ok))
 
 pub returns-in-Err-answer_to-clause-memory : goal.returns-in-Err-answer_to-clause-memory
 returns-in-Err-answer_to-clause-memory g c is =
@@ -43,7 +43,7 @@ returns-in-Err-answer_to-clause-memory g c is =
     let written = g.K.Sink.contents c.args.sink.now in
     let now = g.K.Sink.contents c.serve_input.new.sink in
     let t = tally_of c.serve_input.new.engine in
-    loads_script (of_script c.args.form) reads written now t (subst (λ from. Served (Network (of_script c.args.form)) from reads written now t) c.new-engine.ensures.empty c.in-Ok.ensures.ok)
+    loads_script c.one_load.ensures.same (of_script c.args.form) reads written now t (subst (λ from. Served (Network (of_script c.args.form)) from reads written now t) c.new-engine.ensures.empty c.in-Ok.ensures.ok)
 
 pub returns-in-Err-put_answer-clause-fault : goal.returns-in-Err-put_answer-clause-fault
 returns-in-Err-put_answer-clause-fault g c =
@@ -53,7 +53,7 @@ returns-in-Err-put_answer-clause-fault g c =
     let now = g.K.Sink.contents c.put_answer.new.sink in
     let t = tally_of c.serve_input.new.engine in
     let answer = c.in-Ok-answer_to.answer in
-    answers_front c.args.form c.args.question.now reads written mid now t (told_of answer) (answer_text c.args.form answer)
+    answers_front c.one_load.ensures.same c.states.ensures.network c.one_explanation.ensures.one c.one_sweep.ensures.one c.one_summary.ensures.one c.one_picture.ensures.one c.args.form c.args.question.now reads written mid now t (told_of answer) (answer_text c.args.form answer)
     (subst (λ from. Served (Network (of_script c.args.form)) from reads written mid t) c.new-engine.ensures.empty c.in-Ok.ensures.ok) c.in-Ok-answer_to.ensures c.in-Err-put_answer.ensures.err
 
 pub returns-clause-ok : goal.returns-clause-ok
@@ -65,5 +65,5 @@ returns-clause-ok g c =
     let t = tally_of c.serve_input.new.engine in
     let answer = c.in-Ok-answer_to.answer in
     subst (Asks c.args.form c.args.question.now reads written now) (sym (c.with_answer.ensures ∙ (λ i. counted_with (c.outcome-served.ensures i) (told_of answer))))
-    (asks c.one_load.ensures c.states.ensures.network c.one_explanation.ensures c.one_sweep.ensures.one c.one_summary.ensures.one c.one_picture.ensures.one c.args.form c.args.question.now reads written mid now t (told_of answer) (answer_text c.args.form answer)
+    (asks c.one_load.ensures.same c.states.ensures.network c.one_explanation.ensures.one c.one_sweep.ensures.one c.one_summary.ensures.one c.one_picture.ensures.one c.args.form c.args.question.now reads written mid now t (told_of answer) (answer_text c.args.form answer)
     (subst (λ from. Served (Network (of_script c.args.form)) from reads written mid t) c.new-engine.ensures.empty c.in-Ok.ensures.ok) c.in-Ok-answer_to.ensures c.in-Ok-put_answer.ensures.ok)

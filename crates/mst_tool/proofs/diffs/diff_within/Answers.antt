@@ -29,7 +29,7 @@ returns-in-Err-clause-fault g c =
     let olds = g.O.Source.remaining c.args.old.now in
     let written = g.K.Sink.contents c.args.sink.now in
     let now = g.K.Sink.contents c.serve_input.new.sink in
-    front_in_old c.one_difference.ensures.some c.states.ensures.network c.has_load.ensures.script c.args.form olds (g.N.Source.remaining c.args.new.now) written now
+    front_in_old c.one_difference.ensures.some c.one_difference.ensures.one c.one_load.ensures.same c.states.ensures.network c.has_load.ensures.script c.args.form olds (g.N.Source.remaining c.args.new.now) written now
     (subst (λ from. ServedFront (Network (of_old c.args.form)) from olds written now) c.new-before.ensures.empty c.in-Err.ensures.fault)
 
 pub returns-in-Err-clause-read : goal.returns-in-Err-clause-read
@@ -39,7 +39,7 @@ returns-in-Err-clause-read g c is =
     let left = g.O.Source.remaining c.serve_input.new.source in
     let written = g.K.Sink.contents c.args.sink.now in
     let now = g.K.Sink.contents c.serve_input.new.sink in
-    inl (loads_ended (of_old c.args.form) olds left written now (subst (λ from. ServedEnded (Network (of_old c.args.form)) from olds left written now) c.new-before.ensures.empty (c.in-Err.ensures.read (λ i. Err (same i)))))
+    inl (loads_ended c.one_load.ensures.same (of_old c.args.form) olds left written now (subst (λ from. ServedEnded (Network (of_old c.args.form)) from olds left written now) c.new-before.ensures.empty (c.in-Err.ensures.read (λ i. Err (same i)))))
 
 pub returns-in-Err-serve_input-clause-fault : goal.returns-in-Err-serve_input-clause-fault
 returns-in-Err-serve_input-clause-fault g c =
@@ -49,8 +49,8 @@ returns-in-Err-serve_input-clause-fault g c =
     let mid = g.K.Sink.contents c.serve_input.new.sink in
     let now = g.K.Sink.contents c.serve_input-in-Ok.new.sink in
     let t = tally_of c.serve_input.new.engine in
-    front_in_new c.args.form olds news written mid t (subst (λ from. Served (Network (of_old c.args.form)) from olds written mid t) c.new-before.ensures.empty c.in-Ok.ensures.ok)
-    c.one_difference.ensures.some c.states.ensures.network now
+    front_in_new c.one_load.ensures.same c.args.form olds news written mid t (subst (λ from. Served (Network (of_old c.args.form)) from olds written mid t) c.new-before.ensures.empty c.in-Ok.ensures.ok)
+    c.one_difference.ensures.some c.one_difference.ensures.one c.states.ensures.network now
     (subst (λ from. ServedFront (Network (of_new c.args.form)) from news mid now) c.new-after.ensures.empty c.in-Err-serve_input.ensures.fault)
 
 pub returns-in-Err-serve_input-clause-read : goal.returns-in-Err-serve_input-clause-read
@@ -63,7 +63,7 @@ returns-in-Err-serve_input-clause-read g c is =
     let mid = g.K.Sink.contents c.serve_input.new.sink in
     let now = g.K.Sink.contents c.serve_input-in-Ok.new.sink in
     let t = tally_of c.serve_input.new.engine in
-    inr (new_ended c.args.form olds news written mid t (subst (λ from. Served (Network (of_old c.args.form)) from olds written mid t) c.new-before.ensures.empty c.in-Ok.ensures.ok) left now
+    inr (new_ended c.one_load.ensures.same c.args.form olds news written mid t (subst (λ from. Served (Network (of_old c.args.form)) from olds written mid t) c.new-before.ensures.empty c.in-Ok.ensures.ok) left now
     (subst (λ from. ServedEnded (Network (of_new c.args.form)) from news left mid now) c.new-after.ensures.empty (c.in-Err-serve_input.ensures.read (λ i. Err (same i)))))
 
 pub returns-in-Err-what_differs-clause-fault : goal.returns-in-Err-what_differs-clause-fault
@@ -75,8 +75,8 @@ returns-in-Err-what_differs-clause-fault g c =
     let end = g.K.Sink.contents c.serve_input-in-Ok.new.sink in
     let t = tally_of c.serve_input.new.engine in
     let u = tally_of c.serve_input-in-Ok.new.engine in
-    both_whole c.args.form olds news written mid t (subst (λ from. Served (Network (of_old c.args.form)) from olds written mid t) c.new-before.ensures.empty c.in-Ok.ensures.ok)
-    end u (subst (λ from. Served (Network (of_new c.args.form)) from news mid end u) c.new-after.ensures.empty c.in-Ok-serve_input.ensures.ok) c.one_difference.ensures.some c.states.ensures.network
+    both_whole c.one_load.ensures.same c.args.form olds news written mid t (subst (λ from. Served (Network (of_old c.args.form)) from olds written mid t) c.new-before.ensures.empty c.in-Ok.ensures.ok)
+    end u (subst (λ from. Served (Network (of_new c.args.form)) from news mid end u) c.new-after.ensures.empty c.in-Ok-serve_input.ensures.ok) c.one_difference.ensures.some c.one_difference.ensures.one c.states.ensures.network
 
 pub returns-in-Err-what_differs-clause-memory : goal.returns-in-Err-what_differs-clause-memory
 returns-in-Err-what_differs-clause-memory g c is =
@@ -87,7 +87,7 @@ returns-in-Err-what_differs-clause-memory g c is =
     let end = g.K.Sink.contents c.serve_input-in-Ok.new.sink in
     let t = tally_of c.serve_input.new.engine in
     let u = tally_of c.serve_input-in-Ok.new.engine in
-    both_scripts c.args.form olds news written mid t (subst (λ from. Served (Network (of_old c.args.form)) from olds written mid t) c.new-before.ensures.empty c.in-Ok.ensures.ok)
+    both_scripts c.one_load.ensures.same c.args.form olds news written mid t (subst (λ from. Served (Network (of_old c.args.form)) from olds written mid t) c.new-before.ensures.empty c.in-Ok.ensures.ok)
     end u (subst (λ from. Served (Network (of_new c.args.form)) from news mid end u) c.new-after.ensures.empty c.in-Ok-serve_input.ensures.ok)
 
 pub returns-in-Err-put-clause-fault : goal.returns-in-Err-put-clause-fault
@@ -101,9 +101,9 @@ returns-in-Err-put-clause-fault g c =
     let t = tally_of c.serve_input.new.engine in
     let u = tally_of c.serve_input-in-Ok.new.engine in
     let found = c.in-Ok-what_differs.found in
-    differs_front c.args.form olds news written mid t (subst (λ from. Served (Network (of_old c.args.form)) from olds written mid t) c.new-before.ensures.empty c.in-Ok.ensures.ok)
+    differs_front c.one_load.ensures.same c.args.form olds news written mid t (subst (λ from. Served (Network (of_old c.args.form)) from olds written mid t) c.new-before.ensures.empty c.in-Ok.ensures.ok)
     end u (subst (λ from. Served (Network (of_new c.args.form)) from news mid end u) c.new-after.ensures.empty c.in-Ok-serve_input.ensures.ok)
-    found.counts found.text.items c.in-Ok-what_differs.ensures now (subst (AppendsFront end now) c.as_slice.ensures.value c.in-Err-put.ensures.err)
+    found.counts found.text.items c.in-Ok-what_differs.ensures now c.one_difference.ensures.one c.states.ensures.network (subst (AppendsFront end now) c.as_slice.ensures.value c.in-Err-put.ensures.err)
 
 pub returns-in-Err-put-clause-read_fault : goal.returns-in-Err-put-clause-read_fault
 returns-in-Err-put-clause-read_fault g c =
@@ -145,6 +145,6 @@ returns-clause-ok g c =
     let u = tally_of c.serve_input-in-Ok.new.engine in
     let found = c.in-Ok-what_differs.found in
     subst (Diffs c.args.form olds news written now) (sym (c.with_difference.ensures ∙ (λ i. counted_both (c.outcome-old_served.ensures i) (c.outcome-new_served.ensures i) found.counts)))
-    (diffs c.args.form olds news written mid t (subst (λ from. Served (Network (of_old c.args.form)) from olds written mid t) c.new-before.ensures.empty c.in-Ok.ensures.ok)
+    (diffs c.one_load.ensures.same c.args.form olds news written mid t (subst (λ from. Served (Network (of_old c.args.form)) from olds written mid t) c.new-before.ensures.empty c.in-Ok.ensures.ok)
     end u (subst (λ from. Served (Network (of_new c.args.form)) from news mid end u) c.new-after.ensures.empty c.in-Ok-serve_input.ensures.ok)
-    found.counts found.text.items c.in-Ok-what_differs.ensures now c.one_load.ensures c.states.ensures.network c.one_difference.ensures.one (subst (Appends end now) c.as_slice.ensures.value c.in-Ok-put.ensures.ok))
+    found.counts found.text.items c.in-Ok-what_differs.ensures now c.states.ensures.network c.one_difference.ensures.one (subst (Appends end now) c.as_slice.ensures.value c.in-Ok-put.ensures.ok))
