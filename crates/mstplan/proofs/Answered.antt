@@ -41,7 +41,7 @@ module _ (form : Form) (question : Question) (reads : Option (List ℕ)) where
   }
 
   loads_front_kept : (a b c : Option (List ℕ)) → LoadsFront (of_script form) reads a b → Keeps b c → LoadsFront (of_script form) reads a c
-  loads_front_kept a b c h k = record { script = h.script; steps = h.steps; read = h.read; loads = h.loads; printed = front_kept a b c (texts_of h.steps) h.printed k }
+  loads_front_kept a b c h k = record { script = h.script; steps = h.steps; read = h.read; loads = h.loads; printed = front_kept a b c (texts_of h.steps) h.printed k; only = h.only }
 
   answers_front_kept : (a b c : Option (List ℕ)) → AnswersFront form question reads a b → Keeps b c → AnswersFront form question reads a c
   answers_front_kept a b c h k = record {
@@ -53,6 +53,8 @@ module _ (form : Form) (question : Question) (reads : Option (List ℕ)) where
     loads = h.loads;
     answers = h.answers;
     printed = front_kept a b c (texts_of h.steps ++ h.text) h.printed k;
+    only = h.only;
+    only_answer = h.only_answer;
   }
 
   asks_front_kept : (a b c : Option (List ℕ)) → AsksFront form question reads a b → Keeps b c → AsksFront form question reads a c
@@ -60,10 +62,10 @@ module _ (form : Form) (question : Question) (reads : Option (List ℕ)) where
   asks_front_kept a b c (inr h) k = inr (answers_front_kept a b c h k)
 
   loads_ended_kept : (left a b c : Option (List ℕ)) → LoadsEnded (of_script form) reads left a b → Keeps b c → LoadsEnded (of_script form) reads left a c
-  loads_ended_kept left a b c h k = record { read = h.read; steps = h.steps; consumed = h.consumed; loads = h.loads; printed = Appends-kept a b c (texts_of h.steps) h.printed k }
+  loads_ended_kept left a b c h k = record { read = h.read; steps = h.steps; consumed = h.consumed; loads = h.loads; printed = Appends-kept a b c (texts_of h.steps) h.printed k; only = h.only }
 
   loads_script_kept : (a b c : Option (List ℕ)) → LoadsScript (of_script form) reads a b → Keeps b c → LoadsScript (of_script form) reads a c
-  loads_script_kept a b c h k = record { script = h.script; steps = h.steps; read = h.read; loads = h.loads; printed = Appends-kept a b c (texts_of h.steps) h.printed k }
+  loads_script_kept a b c h k = record { script = h.script; steps = h.steps; read = h.read; loads = h.loads; printed = Appends-kept a b c (texts_of h.steps) h.printed k; only = h.only }
 
   -- what was written in full is a front of it
   front_told : (a b : Option (List ℕ)) (r : Result Outcome RunFault) → Told a b r → AsksFront form question reads a b
@@ -80,6 +82,8 @@ module _ (form : Form) (question : Question) (reads : Option (List ℕ)) where
         loads = h.loads;
         answers = h.answers;
         printed = record { front = text; rest = []; whole = sym (append-nil text); written = h.printed };
+        only = h.only;
+        only_answer = h.only_answer;
       })
 
   -- the writer stopped it, and some bytes are held back

@@ -52,6 +52,8 @@ module _ (scripts captures : Option (List ℕ)) where
     runs = h.runs;
     compares = h.compares;
     printed = front_kept a b c (texts_of h.steps ++ texts_of h.compared) h.printed k;
+    only = h.only;
+    only_compared = h.only_compared;
   }
 
   -- what was written in full is a front of it
@@ -68,10 +70,12 @@ module _ (scripts captures : Option (List ℕ)) where
         runs = h.runs;
         compares = h.compares;
         printed = record { front = text; rest = []; whole = sym (append-nil text); written = h.printed };
+        only = h.only;
+        only_compared = h.only_compared;
       }
 
   prints_ended_kept : (left a b c : Option (List ℕ)) → PrintsEnded Text scripts left a b → Keeps b c → PrintsEnded Text scripts left a c
-  prints_ended_kept left a b c h k = record { read = h.read; steps = h.steps; consumed = h.consumed; runs = h.runs; printed = Appends-kept a b c (texts_of h.steps) h.printed k }
+  prints_ended_kept left a b c h k = record { read = h.read; steps = h.steps; consumed = h.consumed; runs = h.runs; printed = Appends-kept a b c (texts_of h.steps) h.printed k; only = h.only }
 
   compares_ended_kept : (left a b c : Option (List ℕ)) → ComparesEnded scripts captures left a b → Keeps b c → ComparesEnded scripts captures left a c
   compares_ended_kept left a b c h k = record {
@@ -84,6 +88,8 @@ module _ (scripts captures : Option (List ℕ)) where
     runs = h.runs;
     compares = h.compares;
     printed = Appends-kept a b c (texts_of h.steps ++ texts_of h.compared) h.printed k;
+    only = h.only;
+    only_compared = h.only_compared;
   }
 
   checks_ended_kept : (left other_left a b c : Option (List ℕ)) → ChecksEnded scripts left captures other_left a b → Keeps b c → ChecksEnded scripts left captures other_left a c
@@ -91,7 +97,7 @@ module _ (scripts captures : Option (List ℕ)) where
   checks_ended_kept left other_left a b c (inr h) k = inr (compares_ended_kept other_left a b c h k)
 
   checks_script_kept : (a b c : Option (List ℕ)) → ChecksScript scripts a b → Keeps b c → ChecksScript scripts a c
-  checks_script_kept a b c h k = record { script = h.script; steps = h.steps; script_read = h.script_read; runs = h.runs; printed = Appends-kept a b c (texts_of h.steps) h.printed k }
+  checks_script_kept a b c h k = record { script = h.script; steps = h.steps; script_read = h.script_read; runs = h.runs; printed = Appends-kept a b c (texts_of h.steps) h.printed k; only = h.only }
 
 -- ---- networks
 
@@ -106,21 +112,19 @@ module _ (form : Form) (olds news : Option (List ℕ)) where
     memory = h.memory;
     refused = h.refused;
     differing = h.differing;
-    only_old = h.only_old;
-    only_new = h.only_new;
     only_difference = h.only_difference;
   }
 
   diffs_front_kept : (a b c : Option (List ℕ)) → DiffsFront form olds news a b → Keeps b c → DiffsFront form olds news a c
-  diffs_front_kept a b c h k = record { both = h.both; counts = h.counts; text = h.text; differs = h.differs; printed = front_kept a b c (both_texts h.both ++ h.text) h.printed k }
+  diffs_front_kept a b c h k = record { both = h.both; counts = h.counts; text = h.text; differs = h.differs; printed = front_kept a b c (both_texts h.both ++ h.text) h.printed k; only_difference = h.only_difference }
 
   diffs_front : (a b : Option (List ℕ)) (outcome : Outcome) → Diffs form olds news a b outcome → DiffsFront form olds news a b
   diffs_front a b outcome h =
       let text = both_texts h.both ++ h.text in
-      record { both = h.both; counts = h.counts; text = h.text; differs = h.differs; printed = record { front = text; rest = []; whole = sym (append-nil text); written = h.printed } }
+      record { both = h.both; counts = h.counts; text = h.text; differs = h.differs; printed = record { front = text; rest = []; whole = sym (append-nil text); written = h.printed }; only_difference = h.only_difference }
 
   loads_ended_kept : (left a b c : Option (List ℕ)) → LoadsEnded (of_old form) olds left a b → Keeps b c → LoadsEnded (of_old form) olds left a c
-  loads_ended_kept left a b c h k = record { read = h.read; steps = h.steps; consumed = h.consumed; loads = h.loads; printed = Appends-kept a b c (texts_of h.steps) h.printed k }
+  loads_ended_kept left a b c h k = record { read = h.read; steps = h.steps; consumed = h.consumed; loads = h.loads; printed = Appends-kept a b c (texts_of h.steps) h.printed k; only = h.only }
 
   loads_new_ended_kept : (left a b c : Option (List ℕ)) → LoadsNewEnded form olds news left a b → Keeps b c → LoadsNewEnded form olds news left a c
   loads_new_ended_kept left a b c h k = record {
@@ -133,6 +137,8 @@ module _ (form : Form) (olds news : Option (List ℕ)) where
     old_loads = h.old_loads;
     new_loads = h.new_loads;
     printed = Appends-kept a b c (texts_of h.old_steps ++ texts_of h.new_steps) h.printed k;
+    only_old = h.only_old;
+    only_new = h.only_new;
   }
 
   diffs_ended_kept : (left other_left a b c : Option (List ℕ)) → DiffsEnded form olds left news other_left a b → Keeps b c → DiffsEnded form olds left news other_left a c

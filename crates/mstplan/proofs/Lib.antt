@@ -7,3 +7,4 @@ pub mod Leaves
 pub mod Names
 pub mod PlainWords
 pub mod Flagged
+pub mod Hints

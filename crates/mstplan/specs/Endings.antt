@@ -27,6 +27,11 @@ line_of (Told status) = []
 line_of (Unopened name) = codes "mstplan: cannot open " ++ name.now ++ codes "\n"
 line_of (Fault fault) = message_of fault ++ codes "\n"
 
+-- what standard error gets, if anything is told
+abbrev pub said_of : Option Stop → List ℕ
+said_of None = []
+said_of (Some stop) = line_of stop
+
 -- 3 where a file can't be opened, a device failed or memory was wanted
 abbrev pub status_of_stop : Stop → ℕ
 status_of_stop (Told status) = status

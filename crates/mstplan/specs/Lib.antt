@@ -1,4 +1,5 @@
 pub mod Endings
+pub mod Said
 pub mod Words
 pub mod Flags
 pub mod Hinted

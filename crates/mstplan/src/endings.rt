@@ -1,11 +1,11 @@
-ghost use Rattle.std.specs.Prelude.{◌≡◌, IfOk, IfErr, OnOk, Some};
-ghost use Rattle.std.specs.Io.KnownBytes.{Appends};
+ghost use Rattle.std.specs.Prelude.{◌≡◌, IfOk, IfErr, Some};
 ghost use Rattle.mst_tool.specs.Run.{status_of};
-ghost use Rattle.mstplan.specs.Endings.{told_fault, told_of, message_of, line_of, status_of_stop};
+ghost use Rattle.mstplan.specs.Endings.{told_fault, told_of, message_of, said_of, status_of_stop};
+ghost use Rattle.mstplan.specs.Said.{IsSaid};
 
 use crate::buffered::Ran;
-use mst_tool::{Outcome, RunFault, status};
-use std::io::{self, Write};
+use crate::said::say;
+use mst_tool::{Outcome, RunFault, Sink, status};
 
 /// Why a script isn't run, or not to its end, or not in full.
 #[derive(Clone, Copy)]
@@ -99,16 +99,15 @@ fn message(fault: RunFault) -> &'static str
     }
 }
 
-/// Tells in a line what is still to be told.
-pub(crate) fn tell<E: Write>(errors: &mut E, told: Stop<'_>) -> io::Result<()>
-    ensures { OnOk result (Appends (E.contents errors.old) (E.contents errors.new) (line_of told.entry)) }
+/// Tells in a line what is still to be told, if anything is.
+pub(crate) fn tell<K: Sink>(errors: &mut K, told: Option<Stop<'_>>)
+    ensures { IsSaid (record { told = K.told errors.old; text = K.contents errors.old }) (record { told = K.told errors.new; text = K.contents errors.new }) (said_of told.entry) }
 {
     match told {
-        Stop::Told(_) => Ok(()),
-        Stop::Unopened(name) => writeln!(errors, "mstplan: cannot open {name}"),
-        Stop::Fault(fault) => {
-            let text = message(fault);
-            writeln!(errors, "{text}")
+        None | Some(Stop::Told(_)) => say(errors, &[]),
+        Some(Stop::Unopened(name)) => {
+            say(errors, &[b"mstplan: cannot open ", name.as_bytes(), b"\n"]);
         }
+        Some(Stop::Fault(fault)) => say(errors, &[message(fault).as_bytes(), b"\n"]),
     }
 }

@@ -64,14 +64,6 @@ fn plain_words(mut words: Vec<String>) -> Vec<String>
 }
 
 impl Flags {
-    /// No flag.
-    pub(crate) fn none() -> Flags {
-        Flags {
-            json: false,
-            hints: false,
-        }
-    }
-
     /// The flags among these words.
     fn among(words: &[String]) -> Flags
         ensures { result ≡ flags_in (map string_bytes words.now) }

@@ -13,40 +13,28 @@ mod invites;
 mod named;
 mod page;
 mod program;
+mod said;
 mod sources;
 mod words;
 
 use closed::StandIns;
-use flags::{Flags, Parted};
-use hinting::hint;
-use invites::invite;
-use program::carry_out;
+use mst_tool::ToWrite;
+use program::run_program;
 use std::io::{self, IsTerminal};
 use std::process::ExitCode;
-use words::{asked_for, given_words};
+use words::given_words;
 
 fn main(rt: HostRuntime) -> ExitCode {
     let _stand_ins = StandIns::new(&rt);
-    let parted = given_words(&rt).map(Parted::of);
-    let (flags, asked) = match &parted {
-        Ok(parted) => {
-            let words = parted.words.as_slice();
-            // without that line, too, the script is read
-            let _ = invite(&mut rt.stderr(), words, rt.stdin().is_terminal());
-            (parted.flags, asked_for(&rt, parted.flags, words))
-        }
-        Err(stop) => (Flags::none(), Err(*stop)),
-    };
-    let ended = carry_out(
-        rt.alloc(),
+    let mut stderr = rt.stderr();
+    let ended = run_program(
         &rt,
-        flags.form(),
-        asked,
+        &rt,
+        given_words(&rt),
+        rt.stdin().is_terminal(),
         io::writer(&rt),
-        &mut rt.stderr(),
+        &mut ToWrite::new(&mut stderr),
     );
-    // the exit status is that of what was run
-    let _ = hint(rt.alloc(), &rt, flags, &asked, &mut rt.stderr());
     ExitCode::from(ended.status)
 }
 

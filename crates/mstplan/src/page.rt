@@ -44,7 +44,8 @@ themselves.
 
 Flags, anywhere among the words:
   --json    what is printed is JSON, a line for each answer (run, explain, diff, sweep, summary)
-  --hints   standard error has what would be right in each line that is refused (run, check)
+  --hints   standard error has what would be right in each line that isn't read, or names a record that isn't there (run,
+            check, of a script in a regular file)
 
 Exit statuses:
   0  nothing of the below

@@ -1,13 +1,17 @@
-ghost use Rattle.std.specs.Prelude.{◌≡◌, None, IfOk, IfErr, IfSome, option_map};
-ghost use Rattle.mstplan.specs.Program.{Serves, port_question, IsWhyUnserved, IsAfterRun, IsAfterStop, IsTold};
+ghost use Rattle.std.specs.Prelude.{◌≡◌, ◌⊎◌, map, Err, IfOk, IfErr, option_map, string_bytes};
+ghost use Rattle.mstplan.specs.Flags.{flags_in, without_flags};
+ghost use Rattle.mstplan.specs.Program.{Serves, port_question, IsWhyUnserved, IsCarriedOut, IsProgram, IsReadOnce, hinted_script as hinted_name};
 
 use crate::buffered::Ran;
 use crate::compared::Comparison;
 use crate::endings::{Stop, ending_of, tell};
+use crate::flags::{Flags, Parted};
+use crate::hinting::{HintsEnd, hint};
+use crate::invites::invite;
 use crate::named::{ask_named, compare_named, run_named};
 use crate::sources::Sources;
-use crate::words::{Asked, PortWords};
-use mst_tool::{Form, Question};
+use crate::words::{Asked, PortWords, asked_for};
+use mst_tool::{Form, Question, Sink};
 use std::alloc::Global;
 use std::io::Write;
 
@@ -18,8 +22,6 @@ pub(crate) struct Ended<W: Drop> {
     pub(crate) status: u8,
     /// Standard output. `None`: nothing was run, and it wasn't called.
     pub(crate) output: Option<W>,
-    /// Whether standard error has taken what is told, if anything is.
-    pub(crate) is_told: bool,
 }
 
 /// Does what the words ask for.
@@ -90,39 +92,116 @@ fn bytes_of<'a>(word: Option<&'a str>) -> Option<&'a [u8]>
 
 /// Does what the words ask for, and tells in a line on standard error what stopped it. `Err`: the words ask for nothing
 /// that is run, and this is why.
-pub(crate) fn carry_out<'a, S: Sources, W: Write + Drop, E: Write>(
+pub(crate) fn carry_out<'a, S: Sources, W: Write + Drop, K: Sink>(
     alloc: Global,
     sources: &S,
     form: Form,
     asked: Result<Asked<'a>, Stop<'a>>,
     output: W,
-    errors: &mut E,
+    errors: &mut K,
 ) -> Ended<W>
-    ensures ran { IfSome result.output (λ now. IsAfterRun (S.is_given sources.now) (S.is_file sources.now) form asked.entry (W.contents output) (W.contents now) (E.contents errors.old) (E.contents errors.new) result.is_told result.status) }
-    ensures stopped { result.output ≡ None → IsAfterStop (S.is_unopened sources.now) asked.entry (E.contents errors.old) (E.contents errors.new) result.is_told result.status }
+    ensures { IsCarriedOut (S.is_given sources.now) (S.is_file sources.now) (S.is_unopened sources.now) form asked.entry (W.contents output) (option_map (λ w. W.contents w) result.output) (record { told = K.told errors.old; text = K.contents errors.old }) (record { told = K.told errors.new; text = K.contents errors.new }) result.status }
 {
     let served = match asked {
         Ok(asked) => serve(alloc, sources, form, asked, output),
         Err(stop) => Err(stop),
     };
     let ending = ending_of(&served);
-    let is_told = tell_any(errors, ending.told);
+    tell(errors, ending.told);
     Ended {
         status: ending.status,
         output: match served {
             Ok(ran) => Some(ran.writer),
             Err(_) => None,
         },
-        is_told,
     }
 }
 
-/// Tells in a line what is to be told, if anything is, and answers whether that was taken.
-fn tell_any<E: Write>(errors: &mut E, told: Option<Stop<'_>>) -> bool
-    ensures { IsTold told.entry result (E.contents errors.old) (E.contents errors.new) }
+/// The script that what is asked for has hints of, if it has any.
+fn hinted_script<'a>(asked: &Asked<'a>) -> Option<&'a str>
+    ensures { option_map (λ name. name.now) result ≡ hinted_name asked.now }
 {
-    match told {
-        None => true,
-        Some(stop) => tell(errors, stop).is_ok(),
+    match asked {
+        Asked::Run { script } | Asked::Check { script, .. } => Some(*script),
+        _ => None,
+    }
+}
+
+/// What is asked for, unless it is to have hints and its script can be read but once: this is told on standard error.
+fn hintable<'a, R: Eprint, S: Sources>(
+    rt: &R,
+    sources: &S,
+    flags: Flags,
+    asked: Result<Asked<'a>, Stop<'a>>,
+) -> Result<Asked<'a>, Stop<'a>>
+    ensures { (result ≡ asked.entry) ⊎ IsReadOnce (S.is_once sources.now) flags.hints asked.entry result }
+{
+    let Ok(words) = &asked else {
+        return asked;
+    };
+    match hinted_script(words) {
+        Some(name) if flags.hints && sources.is_once(name) => {
+            let _ = eprintln!(rt;
+                "error: for --hints the script is read a second time, so it has to be a regular file"
+            );
+            Err(Stop::Told(2))
+        }
+        _ => asked,
+    }
+}
+
+/// All that the program does with the words that it was called with, its name first, or where it couldn't have them: it tells
+/// who waits at a terminal so, does what they ask for, and gives the hints that they ask for. What it has to tell besides
+/// goes to standard error, until that fails.
+pub(crate) fn run_program<R: Print + Eprint + AllocGlobal, S: Sources, W: Write + Drop, K: Sink>(
+    rt: &R,
+    sources: &S,
+    given: Result<Vec<String>, Stop<'static>>,
+    is_terminal: bool,
+    output: W,
+    errors: &mut K,
+) -> Ended<W>
+    ensures words { IfOk given.entry (λ words. IsProgram (S.is_given sources.now) (S.is_file sources.now) (S.is_unopened sources.now) (S.is_once sources.now) (flags_in (map string_bytes words.items)) (without_flags (map string_bytes words.items)) is_terminal (W.contents output) (option_map (λ w. W.contents w) result.output)
+        (record { told = K.told errors.old; text = K.contents errors.old }) (record { told = K.told errors.new; text = K.contents errors.new }) result.status) }
+    ensures wordless { IfErr given.entry (λ stop. IsCarriedOut (S.is_given sources.now) (S.is_file sources.now) (S.is_unopened sources.now) Form.Text (Err stop) (W.contents output) (option_map (λ w. W.contents w) result.output)
+        (record { told = K.told errors.old; text = K.contents errors.old }) (record { told = K.told errors.new; text = K.contents errors.new }) result.status) }
+{
+    match given {
+        Err(stop) => carry_out(rt.alloc(), sources, Form::Text, Err(stop), output, errors),
+        Ok(words) => {
+            let parted = Parted::of(words);
+            run_words(rt, sources, &parted, is_terminal, output, errors)
+        }
+    }
+}
+
+/// The same with words whose flags were taken out.
+fn run_words<R: Print + Eprint + AllocGlobal, S: Sources, W: Write + Drop, K: Sink>(
+    rt: &R,
+    sources: &S,
+    parted: &Parted,
+    is_terminal: bool,
+    output: W,
+    errors: &mut K,
+) -> Ended<W>
+    ensures { IsProgram (S.is_given sources.now) (S.is_file sources.now) (S.is_unopened sources.now) (S.is_once sources.now) parted.now.flags (map string_bytes parted.now.words.items) is_terminal
+        (W.contents output) (option_map (λ w. W.contents w) result.output)
+        (record { told = K.told errors.old; text = K.contents errors.old }) (record { told = K.told errors.new; text = K.contents errors.new }) result.status }
+{
+    let flags = parted.flags;
+    let words = parted.words.as_slice();
+    invite(errors, words, is_terminal);
+    let first = asked_for(rt, flags, words);
+    let asked = hintable(rt, sources, flags, first);
+    let ended = carry_out(rt.alloc(), sources, flags.form(), asked, output, errors);
+    let hinted = if ended.output.is_some() {
+        hint(rt.alloc(), sources, flags, asked, errors)
+    } else {
+        HintsEnd::Unasked
+    };
+    tell(errors, hinted.told());
+    Ended {
+        status: hinted.status(ended.status),
+        output: ended.output,
     }
 }

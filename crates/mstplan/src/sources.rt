@@ -1,6 +1,6 @@
-ghost use Rattle.std.specs.Prelude.{ℕ, List, Option, IfOk, IfErr, ⊤};
+ghost use Rattle.std.specs.Prelude.{◌≡◌, ℕ, true, List, Option, IfOk, IfErr, ⊤};
 
-use std::fs::File;
+use std::fs::{File, metadata};
 use std::io::Read;
 use std::rt::Files;
 
@@ -23,6 +23,9 @@ pub(crate) trait Sources {
     /// Whether the file of a name couldn't be opened.
     ghost is_unopened: { Self → List ℕ → Type 0 };
 
+    /// Whether the file of a name can be read but once, as a named pipe can.
+    ghost is_once: { Self → List ℕ → Type 0 };
+
     /// Standard input.
     fn given(&self) -> Self::Given
         ensures { is_given self.now (Self.Given.remaining result) };
@@ -31,6 +34,10 @@ pub(crate) trait Sources {
     fn open(&self, name: &str) -> Result<Self::Opened, Unopened>
         ensures opened { IfOk result (λ file. is_file self.now name.now (Self.Opened.remaining file)) }
         ensures unopened { IfErr result (λ _. is_unopened self.now name.now) };
+
+    /// Whether the file of a name can be read but once: it is there, and no regular file.
+    fn is_once(&self, name: &str) -> bool
+        ensures { result ≡ true → is_once self.now name.now };
 }
 
 /// The system's. No clause can say what they hold.
@@ -45,6 +52,8 @@ impl<R: Files + Input> Sources for R {
 
     ghost is_unopened = { λ _ _. ⊤ };
 
+    ghost is_once = { λ _ _. ⊤ };
+
     fn given(&self) -> R::Reader {
         self.reader()
     }
@@ -53,6 +62,13 @@ impl<R: Files + Input> Sources for R {
         match File::open(self, name) {
             Ok(file) => Ok(file),
             Err(_) => Err(Unopened),
+        }
+    }
+
+    fn is_once(&self, name: &str) -> bool {
+        match metadata(self, name) {
+            Ok(found) => !found.is_file(),
+            Err(_) => false,
         }
     }
 }
