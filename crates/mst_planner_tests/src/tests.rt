@@ -1,3 +1,4 @@
+mod calls;
 mod edits;
 mod groups;
 mod network;

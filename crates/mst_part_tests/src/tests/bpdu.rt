@@ -1,6 +1,9 @@
 //! The worked captures, with what is printed of them written by hand.
 
-use mst_bpdu::{BpduFault, ConfigurationId, Planned, PlannedCist, PlannedMsti, PlannedMstis, RoleCode, differences, push_comparison, push_fault, read_line};
+use mst_bpdu::{
+    BpduFault, ConfigurationId, Planned, PlannedCist, PlannedMsti, PlannedMstis, RoleCode,
+    differences, push_comparison, push_fault, read_line,
+};
 use mst_ids::{BridgeId, Name, PortId, PortName, PortNumber, Priority, Tree};
 use std::alloc::{AllocError, Global};
 use std::test::Fail;

@@ -1,9 +1,9 @@
 //! The vectors of RFC 1321 and RFC 2202, the digest of the table of zeros that the standard gives, and
 //! digests of other tables by Python's `hashlib` and `hmac`, an implementation that isn't this one.
 
-use mst_config::{Table, digest, hmac_md5, mcid};
 use hex::encode;
 use md5::{Digest, Md5};
+use mst_config::{Table, digest, hmac_md5, mcid};
 use mst_ids::{ConfName, Name};
 use mst_lang::{Edit, Line, parse_line};
 use mst_net::{Contents, Network, Refusal};

@@ -1,7 +1,7 @@
 ghost use Rattle.std.specs.Prelude.{◌≡◌, IsTrue};
 
-use mst_vector::{CistBridge, CistMetric, CistPort, Metric, MstiBridge, MstiMetric, MstiPort};
 use mst_ids::{BridgeId, Cost, PortId, PortNumber, Priority, Tree, parse_mac};
+use mst_vector::{CistBridge, CistMetric, CistPort, Metric, MstiBridge, MstiMetric, MstiPort};
 use std::test::Fail;
 
 /// What the receiver makes of the sender's own vector, and whether that is worse than its own.
