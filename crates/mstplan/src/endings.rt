@@ -1,6 +1,6 @@
 ghost use Rattle.std.specs.Prelude.{◌≡◌, IfOk, IfErr, Some};
 ghost use Rattle.mst_tool.specs.Run.{status_of};
-ghost use Rattle.mstplan.specs.Endings.{told_fault, told_of, message_of, said_of, status_of_stop};
+ghost use Rattle.mstplan.specs.Endings.{told_fault, told_of, message_of, said_of, line_of, status_of_stop};
 ghost use Rattle.mstplan.specs.Said.{IsSaid};
 
 use crate::buffered::Ran;
@@ -104,10 +104,20 @@ pub(crate) fn tell<K: Sink>(errors: &mut K, told: Option<Stop<'_>>)
     ensures { IsSaid (record { told = K.told errors.old; text = K.contents errors.old }) (record { told = K.told errors.new; text = K.contents errors.new }) (said_of told.entry) }
 {
     match told {
-        None | Some(Stop::Told(_)) => say(errors, &[]),
-        Some(Stop::Unopened(name)) => {
+        None => say(errors, &[]),
+        Some(stop) => tell_stop(errors, stop),
+    }
+}
+
+/// Tells what stopped the program. What its words said was told before.
+fn tell_stop<K: Sink>(errors: &mut K, stop: Stop<'_>)
+    ensures { IsSaid (record { told = K.told errors.old; text = K.contents errors.old }) (record { told = K.told errors.new; text = K.contents errors.new }) (line_of stop.entry) }
+{
+    match stop {
+        Stop::Told(_) => say(errors, &[]),
+        Stop::Unopened(name) => {
             say(errors, &[b"mstplan: cannot open ", name.as_bytes(), b"\n"]);
         }
-        Some(Stop::Fault(fault)) => say(errors, &[message(fault).as_bytes(), b"\n"]),
+        Stop::Fault(fault) => say(errors, &[message(fault).as_bytes(), b"\n"]),
     }
 }

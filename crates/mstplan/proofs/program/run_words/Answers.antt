@@ -35,8 +35,8 @@ returns g c =
       hinted = as_errors (g.K.Sink.told c.if-is_some.errors) (g.K.Sink.contents c.if-is_some.errors);
       end = c.if-is_some.hinted;
       hints = elim c.if-is_some.branch [
-        | then-is_some w ↦ given_after (λ w. g.W.Write.contents w) (λ k. as_errors (g.K.Sink.told k) (g.K.Sink.contents k)) (g.S.Sources.is_file c.args.sources.now) (g.S.Sources.is_unopened c.args.sources.now) flags.hints asked output (as_errors (g.K.Sink.told served) (g.K.Sink.contents served)) c.if-is_some.errors w.hint-hinted.new.errors c.if-is_some.hinted w.hint-hinted.result (sym c.is_some.ensures ∙ w.if-is_some) w.errors-is w.hinted-is w.hint-hinted.ensures
-        | else-is_some w ↦ none_after (λ w. g.W.Write.contents w) (λ k. as_errors (g.K.Sink.told k) (g.K.Sink.contents k)) (g.S.Sources.is_file c.args.sources.now) (g.S.Sources.is_unopened c.args.sources.now) flags.hints asked output served c.if-is_some.errors c.if-is_some.hinted (sym c.is_some.ensures ∙ w.if-is_some) w.errors-is w.hinted-is
+        | then-is_some w ↦ given_after (λ w. g.W.Write.contents w) (λ k. as_errors (g.K.Sink.told k) (g.K.Sink.contents k)) (g.S.Sources.is_file c.args.sources.now) (g.S.Sources.is_unopened c.args.sources.now) flags.hints asked output (as_errors (g.K.Sink.told served) (g.K.Sink.contents served)) c.if-is_some.errors w.hint-hinted.new.errors c.if-is_some.hinted w.hint-hinted.result (sym c.is_some.ensures ∙ w.if-is_some.true) w.errors-is w.hinted-is w.hint-hinted.ensures
+        | else-is_some w ↦ none_after (λ w. g.W.Write.contents w) (λ k. as_errors (g.K.Sink.told k) (g.K.Sink.contents k)) (g.S.Sources.is_file c.args.sources.now) (g.S.Sources.is_unopened c.args.sources.now) flags.hints asked output served c.if-is_some.errors c.if-is_some.hinted (sym c.is_some.ensures ∙ w.if-is_some.false) w.errors-is w.hinted-is
       ];
       told = subst (λ told. IsSaid (as_errors (g.K.Sink.told c.if-is_some.errors) (g.K.Sink.contents c.if-is_some.errors)) (as_errors (g.K.Sink.told c.tell.new.errors) (g.K.Sink.contents c.tell.new.errors)) (said_of told)) c.told.ensures c.tell.ensures;
       ends = c.status.ensures;
