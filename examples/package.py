@@ -48,7 +48,7 @@ COMMANDS = {
     "mstplan-import-cisco": "import/cisco.py", "mstplan-captures": "captures.py", "mstplan-page": "page.py",
 }
 # What goes along with them, and what a reader tries them with.
-MODULES = ("import/network.py", "web/*")
+MODULES = ("import/network.py", "frames.py", "web/*")
 EXAMPLES = ("*.script", "*.captures", "*.tcpdump", "small/*", "import/campus/*", "import/cisco/*/*", "import/lab/*", "import/ovs/*")
 WRAPPER = """#!/bin/sh
 here=$(dirname "$(readlink -f "$0")")
@@ -198,9 +198,11 @@ def manual(version, page, pages):
 def completion(page, commands):
     """The completion for bash: commands first, then files; behind - the flags that go with the command."""
     flags = {}
-    for flag, its in re.findall(r"^  (--[a-z-]+) .*\(([a-z, ]+)\)$", page, re.MULTILINE):
-        for command in its.split(", "):
-            flags.setdefault(command, []).append(flag)
+    for flag, text in re.findall(r"^  (--[a-z-]+) (.+\n(?: {4,}.+\n)*)", page, re.MULTILINE):
+        its = re.findall(r"[a-z]+", text.rpartition("(")[2])
+        for command in commands:
+            if command in its:
+                flags.setdefault(command, []).append(flag)
     every = sorted({flag for its in flags.values() for flag in its})
     cases = [f'        "") flags+=" {" ".join(every)}" ;;']
     cases += [f'        {command}) flags+=" {" ".join(its)}" ;;' for command, its in sorted(flags.items())]
