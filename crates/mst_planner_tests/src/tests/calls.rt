@@ -1,56 +1,10 @@
-//! Calls that a tool may make and the program doesn't: a forest from nothing, whether a port forwards by its number, the
-//! numbers of active ports, a topology settled from scratch.
+//! Calls that a tool may make and the program doesn't: a topology settled from scratch.
 
-use super::edits::{name, network_of};
-use super::repairs::TRIANGLE;
-use mst_config::regions_of;
-use mst_ids::{BridgeId, BridgeNo, PortName, PortNo, PortNumber, Priority, Tree, Vid, parse_mac};
-use mst_lag::{View, view};
-use mst_net::{Contents, Network};
-use mst_roles::forwards;
+use mst_ids::{BridgeId, BridgeNo, Priority, Tree, parse_mac};
 use mst_settle::{Bridges, Settler, Topology, Wiring};
-use mst_trees::Forest;
 use mst_vector::{CistBridge, CistMetric};
-use mst_vlan::active;
-use std::alloc::{AllocError, Global};
 use std::collections::BTreeMap;
 use std::test::Fail;
-
-/// The view of a network and its trees, settled from nothing.
-fn planned(alloc: Global, network: &Network) -> Result<(View, Forest), AllocError> {
-    network.known();
-    let view = view(alloc, network)?;
-    let regions = regions_of(alloc, network)?;
-    let forest = Forest::new(alloc, &view, &regions)?;
-    Ok((view, forest))
-}
-
-/// The number of a port.
-fn number_of(network: &Network, bridge: &str, port: u64) -> Option<PortNo> {
-    let port = PortName {
-        bridge: name(bridge)?,
-        number: PortNumber::new(port)?,
-    };
-    network.port(&port).map(|port| port.number)
-}
-
-// Of three switches in a triangle the last one's port to the second blocks; each is settled once.
-#[test]
-fn a_forest_from_nothing(rt: HostRuntime) -> Result<(), Fail> {
-    let alloc = rt.alloc();
-    let network = network_of(alloc, TRIANGLE).ok_or("refused")?;
-    let (view, forest) = planned(alloc, &network)?;
-    assert_eq!(rt; forest.settlings(Tree::cist()), 3);
-    let vid = Vid::new(1).ok_or("VID")?;
-    let blocked = number_of(&network, "C", 2).ok_or("no port")?;
-    let root = number_of(&network, "C", 1).ok_or("no port")?;
-    assert!(rt; !forwards(&view, &forest, blocked, vid));
-    assert!(rt; forwards(&view, &forest, root, vid));
-    let ports = active(alloc, &view, &forest, vid)?;
-    assert_eq!(rt; ports.len(), 5);
-    assert!(rt; ports.contains(&root) && !ports.contains(&blocked));
-    Ok(())
-}
 
 // A bridge alone is its own root.
 #[test]

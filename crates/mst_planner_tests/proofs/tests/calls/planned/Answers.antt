@@ -1,8 +1,0 @@
-use Rattle.mst_planner_tests.proofs.tests.calls.planned.Goals as goal
-
-pub new-forest-requires : goal.new-forest-requires
-new-forest-requires c = record {
-  net = c.args.network.now.net;
-  numbers = c.args.network.now.numbers;
-  of = record { network = c.known.ensures.network; numbered = c.known.ensures.numbered; view = c.in_ok-view.ensures; regions = c.in_ok-regions.ensures };
-}
