@@ -5,6 +5,7 @@ pub mod Sides
 pub mod Known
 pub mod Viewing
 pub mod Steps
+pub mod Keyless
 pub mod Placing
 pub mod Rising
 pub mod TreesOf
