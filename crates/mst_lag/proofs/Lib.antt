@@ -7,6 +7,7 @@ pub mod Viewing
 pub mod Steps
 pub mod Keyless
 pub mod Placing
+pub mod InPlace
 pub mod Rising
 pub mod TreesOf
 pub mod Renewal

@@ -1,5 +1,5 @@
 -- A view of a network in which one LAN, or what is set by tree, is another than before.
-use Rattle.std.specs.Prelude.{◌≡◌, ℕ, ◌&&◌, true, false, Bool, List, filter, Option, if◌then◌else◌, nat_lt}
+use Rattle.std.specs.Prelude.{◌≡◌, ℕ, ◌&&◌, true, false, Bool, List, Option, if◌then◌else◌, nat_lt}
 use Rattle.std.specs.List.{find}
 use Rattle.std.specs.Option.{option_map, option_map_or, option_and_then}
 use Rattle.std.specs.FinMap as fin
@@ -64,8 +64,12 @@ member_again lan is_up m = if same_name m.name lan then record m { is_up = is_up
 abbrev pub lan_again : List ℕ → Total → LanInView → LanInView
 lan_again lan total l = if same_name l.name lan then record l { speed = total.speed; is_up = total.is_up } else l
 
+-- a logical port whose logical LAN's members give this together, and so once this LAN's members do
+abbrev pub port_giving : Net → Total → PortInView → PortInView
+port_giving net total p = record p { speed = total.speed; is_enabled = is_on net p.name.bridge && total.is_up }
+
 abbrev pub port_again : Net → List ℕ → Total → PortInView → PortInView
-port_again net lan total p = if same_name p.lan lan then record p { speed = total.speed; is_enabled = is_on net p.name.bridge && total.is_up } else p
+port_again net lan total p = if same_name p.lan lan then port_giving net total p else p
 
 -- what links and trees go by of a bridge's settings, but for whether it is on
 pub record BridgePart : Type 0 where
@@ -90,9 +94,12 @@ pub record IsViewButBridge (bridge : List ℕ) (net : Net) (numbers : Numbers) (
   pub view : IsView old numbers v
   pub differ : DifferInBridge bridge old net
 
--- a logical port of this bridge once that is on or off: its logical LAN is up where it has a speed
+-- a logical port whose bridge is on or off, and so once this bridge is: its logical LAN is up where it has a speed
+abbrev pub powered : Bool → PortInView → PortInView
+powered is_on p = record p { is_enabled = is_on && nat_lt 0 p.speed }
+
 abbrev pub port_powered : List ℕ → Bool → PortInView → PortInView
-port_powered bridge is_on p = if same_name p.name.bridge bridge then record p { is_enabled = is_on && nat_lt 0 p.speed } else p
+port_powered bridge is_on p = if same_name p.name.bridge bridge then powered is_on p else p
 
 -- a change of a bridge that leaves what links and trees go by, but for whether it is on
 abbrev pub leaves_links : BridgeChange → Bool
@@ -151,9 +158,12 @@ pub record IsViewButPort (port : PortName) (net : Net) (numbers : Numbers) (v : 
 abbrev pub settings_there : Net → PortName → PortSettings
 settings_there net port = option_map_or (λ row. row.settings) (fin.get net.ports port) new_settings
 
--- a logical port once this one has these settings
+-- a logical port with these settings, and so once this one has them
+abbrev pub port_with : PortSettings → PortInView → PortInView
+port_with settings p = record p { settings = settings }
+
 abbrev pub port_set : PortName → PortSettings → PortInView → PortInView
-port_set port settings p = if port_eq p.name port then record p { settings = settings } else p
+port_set port settings p = if port_eq p.name port then port_with settings p else p
 
 -- a change of a port that leaves what links go by
 abbrev pub leaves_key : PortChange → Bool

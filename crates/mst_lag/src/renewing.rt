@@ -6,7 +6,7 @@ ghost use Rattle.mst_lag.specs.Aggregation.{same_name};
 ghost use Rattle.mst_lag.specs.View.{is_on as bridge_is_on};
 ghost use Rattle.mst_lag.specs.Viewed.{IsView, named_bridge};
 ghost use Rattle.mst_lag.specs.Seen.{total_of, named_row};
-ghost use Rattle.mst_lag.specs.Renewed.{IsViewButLan, IsViewButBridge, IsViewButSet, IsViewButSettings, leaves_links as leaves_what_links, leaves_tables as leaves_all_tables, leaves_key as leaves_own_key, IsViewButPort, settings_there, port_set, port_powered, is_up_there, logical_among, seen_member, member_again, lan_again as lan_renewed, port_again as port_renewed};
+ghost use Rattle.mst_lag.specs.Renewed.{IsViewButLan, IsViewButBridge, IsViewButSet, IsViewButSettings, leaves_links as leaves_what_links, leaves_tables as leaves_all_tables, leaves_key as leaves_own_key, IsViewButPort, settings_there, port_set, port_with as set_of_port, port_powered, powered, is_up_there, logical_among, seen_member, member_again, lan_again as lan_renewed, port_again as port_renewed, port_giving};
 
 use crate::in_view::{BridgeInView, LanInView, MemberLan, PortInView, View};
 use crate::listed::Listed;
@@ -120,76 +120,39 @@ fn renewed_member(member: &MemberLan, lan: &Name, is_up: bool) -> MemberLan
     }
 }
 
-/// These members, where this LAN is up or down now.
-fn renewed_members(
-    alloc: Global,
-    members: &[MemberLan],
-    lan: &Name,
-    is_up: bool,
-) -> Result<Vec<MemberLan>, AllocError>
-    ensures { IfOk result (λ v. v.items ≡ map (member_again lan.now is_up) members.now) }
+/// Renews these members, where this LAN is up or down now.
+fn renew_members(members: &mut Vec<MemberLan>, lan: &Name, is_up: bool)
+    ensures { members.new.items ≡ map (member_again lan.now is_up) members.old.items }
 {
-    members
-        .iter()
-        .map(|member| renewed_member(member, lan, is_up))
-        .collect(alloc)
-}
-
-/// A logical LAN, where the members of this one give this together now.
-fn renewed_lan(seen: &LanInView, lan: &Name, total: Total) -> LanInView
-    ensures { result ≡ lan_renewed lan.now total seen.now }
-{
-    if seen.name != *lan {
-        return *seen;
-    }
-    LanInView {
-        name: seen.name,
-        number: seen.number,
-        speed: total.speed,
-        is_up: total.is_up,
-        lag: seen.lag,
+    for member in members.as_mut_slice().iter_mut() {
+        let renewed = renewed_member(member, lan, is_up);
+        *member = renewed;
     }
 }
 
-/// These logical LANs, where the members of this one give this together now.
-fn renewed_lans(
-    alloc: Global,
-    lans: &[LanInView],
-    lan: &Name,
-    total: Total,
-) -> Result<Vec<LanInView>, AllocError>
-    ensures { IfOk result (λ v. v.items ≡ map (lan_renewed lan.now total) lans.now) }
+/// Renews these logical LANs, where the members of this one give this together now.
+fn renew_lans(lans: &mut Listed<LanInView>, lan: &Name, total: Total)
+    ensures { lans.new ≡ map (lan_renewed lan.now total) lans.old }
 {
-    lans.iter()
-        .map(|seen| renewed_lan(seen, lan, total))
-        .collect(alloc)
-}
-
-/// These logical LANs, to be found by number, where the members of this one give this together now.
-fn lans_again(
-    alloc: Global,
-    lans: &[LanInView],
-    lan: &Name,
-    total: Total,
-) -> Result<Listed<LanInView>, AllocError>
-    ensures { IfOk result (λ v. v ≡ map (lan_renewed lan.now total) lans.now) }
-{
-    let lans = renewed_lans(alloc, lans, lan, total)?;
-    Listed::new(alloc, lans)
-}
-
-/// A logical port, where the members of this logical LAN give this together now.
-fn renewed_port<C: Contents>(
-    contents: &C,
-    seen: &PortInView,
-    lan: &Name,
-    total: Total,
-) -> PortInView
-    ensures { result ≡ port_renewed (C.tables contents.now).net lan.now total seen.now }
-{
-    if seen.lan != *lan {
-        return *seen;
+    for place in 0..lans.len() {
+        let seen = lans.as_slice()[place];
+        if seen.name == *lan {
+            let renewed = LanInView {
+                name: seen.name,
+                number: seen.number,
+                speed: total.speed,
+                is_up: total.is_up,
+                lag: seen.lag,
+            };
+            lans.write(place, renewed);
+        }
     }
+}
+
+/// A logical port, where the members of its logical LAN give this together now.
+fn renewed_port<C: Contents>(contents: &C, seen: &PortInView, total: Total) -> PortInView
+    ensures { result ≡ port_giving (C.tables contents.now).net total seen.now }
+{
     PortInView {
         name: seen.name,
         number: seen.number,
@@ -202,43 +165,22 @@ fn renewed_port<C: Contents>(
     }
 }
 
-/// These logical ports, where the members of this logical LAN give this together now.
-fn renewed_ports<C: Contents>(
-    alloc: Global,
-    contents: &C,
-    ports: &[PortInView],
-    lan: &Name,
-    total: Total,
-) -> Result<Vec<PortInView>, AllocError>
-    ensures { IfOk result (λ v. v.items ≡ map (port_renewed (C.tables contents.now).net lan.now total) ports.now) }
+/// Renews these logical ports, where the members of this logical LAN give this together now.
+fn renew_ports<C: Contents>(ports: &mut Listed<PortInView>, contents: &C, lan: &Name, total: Total)
+    ensures { ports.new ≡ map (port_renewed (C.tables contents.now).net lan.now total) ports.old }
 {
-    ports
-        .iter()
-        .map(|seen| renewed_port(contents, seen, lan, total))
-        .collect(alloc)
-}
-
-/// These logical ports, to be found by number, where the members of this logical LAN give this together now.
-fn ports_again<C: Contents>(
-    alloc: Global,
-    contents: &C,
-    ports: &[PortInView],
-    lan: &Name,
-    total: Total,
-) -> Result<Listed<PortInView>, AllocError>
-    ensures { IfOk result (λ v. v ≡ map (port_renewed (C.tables contents.now).net lan.now total) ports.now) }
-{
-    let ports = renewed_ports(alloc, contents, ports, lan, total)?;
-    Listed::new(alloc, ports)
-}
-
-/// A logical port, where this bridge is on or off now.
-fn powered_port(seen: &PortInView, bridge: &Name, is_on: bool) -> PortInView
-    ensures { result ≡ port_powered bridge.now is_on seen.now }
-{
-    if seen.name.bridge != *bridge {
-        return *seen;
+    for place in 0..ports.len() {
+        let seen = ports.as_slice()[place];
+        if seen.lan == *lan {
+            ports.write(place, renewed_port(contents, &seen, total));
+        }
     }
+}
+
+/// A logical port, where its bridge is on or off now.
+fn powered_port(seen: &PortInView, is_on: bool) -> PortInView
+    ensures { result ≡ powered is_on seen.now }
+{
     PortInView {
         name: seen.name,
         number: seen.number,
@@ -251,32 +193,16 @@ fn powered_port(seen: &PortInView, bridge: &Name, is_on: bool) -> PortInView
     }
 }
 
-/// These logical ports, where this bridge is on or off now.
-fn powered_ports(
-    alloc: Global,
-    ports: &[PortInView],
-    bridge: &Name,
-    is_on: bool,
-) -> Result<Vec<PortInView>, AllocError>
-    ensures { IfOk result (λ v. v.items ≡ map (port_powered bridge.now is_on) ports.now) }
+/// Renews these logical ports, where this bridge is on or off now.
+fn power_ports(ports: &mut Listed<PortInView>, bridge: &Name, is_on: bool)
+    ensures { ports.new ≡ map (port_powered bridge.now is_on) ports.old }
 {
-    ports
-        .iter()
-        .map(|seen| powered_port(seen, bridge, is_on))
-        .collect(alloc)
-}
-
-/// These logical ports, to be found by number, where this bridge is on or off now.
-fn ports_powered(
-    alloc: Global,
-    ports: &[PortInView],
-    bridge: &Name,
-    is_on: bool,
-) -> Result<Listed<PortInView>, AllocError>
-    ensures { IfOk result (λ v. v ≡ map (port_powered bridge.now is_on) ports.now) }
-{
-    let ports = powered_ports(alloc, ports, bridge, is_on)?;
-    Listed::new(alloc, ports)
+    for place in 0..ports.len() {
+        let seen = ports.as_slice()[place];
+        if seen.name.bridge == *bridge {
+            ports.write(place, powered_port(&seen, is_on));
+        }
+    }
 }
 
 /// The bridges, to be found by number.
@@ -305,13 +231,10 @@ fn settings_now<C: Contents>(contents: &C, port: &PortName) -> PortSettings
     }
 }
 
-/// A logical port, where this one has these settings now.
-fn set_port(seen: &PortInView, port: &PortName, settings: PortSettings) -> PortInView
-    ensures { result ≡ port_set port.now settings seen.now }
+/// A logical port that has these settings now.
+fn port_with(seen: &PortInView, settings: &PortSettings) -> PortInView
+    ensures { result ≡ set_of_port settings.now seen.now }
 {
-    if seen.name != *port {
-        return *seen;
-    }
     PortInView {
         name: seen.name,
         number: seen.number,
@@ -319,37 +242,21 @@ fn set_port(seen: &PortInView, port: &PortName, settings: PortSettings) -> PortI
         lan: seen.lan,
         lan_number: seen.lan_number,
         speed: seen.speed,
-        settings,
+        settings: *settings,
         is_enabled: seen.is_enabled,
     }
 }
 
-/// These logical ports, where this one has these settings now.
-fn set_ports(
-    alloc: Global,
-    ports: &[PortInView],
-    port: &PortName,
-    settings: PortSettings,
-) -> Result<Vec<PortInView>, AllocError>
-    ensures { IfOk result (λ v. v.items ≡ map (port_set port.now settings) ports.now) }
+/// Renews these logical ports, where this one has these settings now.
+fn set_port(ports: &mut Listed<PortInView>, port: &PortName, settings: &PortSettings)
+    ensures { ports.new ≡ map (port_set port.now settings.now) ports.old }
 {
-    ports
-        .iter()
-        .map(|seen| set_port(seen, port, settings))
-        .collect(alloc)
-}
-
-/// These logical ports, to be found by number, where this one has these settings now.
-fn ports_set(
-    alloc: Global,
-    ports: &[PortInView],
-    port: &PortName,
-    settings: PortSettings,
-) -> Result<Listed<PortInView>, AllocError>
-    ensures { IfOk result (λ v. v ≡ map (port_set port.now settings) ports.now) }
-{
-    let ports = set_ports(alloc, ports, port, settings)?;
-    Listed::new(alloc, ports)
+    for place in 0..ports.len() {
+        let seen = ports.as_slice()[place];
+        if seen.name == *port {
+            ports.write(place, port_with(&seen, settings));
+        }
+    }
 }
 
 /// Whether a change of a port leaves what links go by: then `renew_port` renews a view.
@@ -378,9 +285,9 @@ pub fn leaves_tables(change: &TreeChange) -> bool
 }
 
 impl View {
-    /// Renews the view, which is that of the network before the state or the speed of this LAN was changed. It makes three
-    /// lists anew, in one pass each, and looks up what is on the logical LAN alone. `AllocError`: memory was wanted and
-    /// refused, and the view is as it was.
+    /// Renews the view, which is that of the network before the state or the speed of this LAN was changed. It goes over three
+    /// lists, in one pass each, writes what is on the logical LAN alone, and takes memory for the members of that. `AllocError`:
+    /// memory was wanted and refused, and the view is as it was.
     pub fn renew_lan<C: Contents>(
         &mut self,
         alloc: Global,
@@ -395,16 +302,13 @@ impl View {
         let logical = logical_of(self.member_lans.as_slice(), lan);
         let total = total_now(alloc, contents, self.member_lans.as_slice(), &logical)?;
         let is_up = is_up_now(contents, lan);
-        let member_lans = renewed_members(alloc, self.member_lans.as_slice(), lan, is_up)?;
-        let lans = lans_again(alloc, self.lans.as_slice(), &logical, total)?;
-        let ports = ports_again(alloc, contents, self.ports.as_slice(), &logical, total)?;
-        self.member_lans = member_lans;
-        self.lans = lans;
-        self.ports = ports;
+        renew_members(&mut self.member_lans, lan, is_up);
+        renew_lans(&mut self.lans, &logical, total);
+        renew_ports(&mut self.ports, contents, &logical, total);
         Ok(())
     }
     /// Renews the view, which is that of the network before another setting of this bridge was changed than its kind and its
-    /// system priority. It looks up each bridge, and makes the list of ports anew in one pass. `AllocError`: memory was wanted
+    /// system priority. It looks up each bridge, and goes over the list of ports in one pass. `AllocError`: memory was wanted
     /// and refused, and the view is as it was.
     pub fn renew_bridge<C: Contents>(
         &mut self,
@@ -419,9 +323,8 @@ impl View {
         contents.known();
         let is_on = is_on_now(contents, bridge);
         let bridges = bridges_again(alloc, contents)?;
-        let ports = ports_powered(alloc, self.ports.as_slice(), bridge, is_on)?;
         self.bridges = bridges;
-        self.ports = ports;
+        power_ports(&mut self.ports, bridge, is_on);
         Ok(())
     }
     /// Renews the view, which is that of the network before something else was set by tree or VID than a table. It copies what
@@ -453,11 +356,11 @@ impl View {
         self.settings = settings;
         Ok(())
     }
-    /// Renews the view, which is that of the network before another setting of this port was changed than its key. It makes the
-    /// list of ports anew in one pass. `AllocError`: memory was wanted and refused, and the view is as it was.
+    /// Renews the view, which is that of the network before another setting of this port was changed than its key. It goes over
+    /// the list of ports in one pass, and takes no memory, so that no `AllocError` comes.
     pub fn renew_port<C: Contents>(
         &mut self,
-        alloc: Global,
+        _alloc: Global,
         contents: &C,
         port: &PortName,
     ) -> Result<(), AllocError>
@@ -466,8 +369,7 @@ impl View {
         ensures err { OnErr result (self.new ≡ self.old) }
     {
         let settings = settings_now(contents, port);
-        let ports = ports_set(alloc, self.ports.as_slice(), port, settings)?;
-        self.ports = ports;
+        set_port(&mut self.ports, port, &settings);
         Ok(())
     }
 }

@@ -1,6 +1,6 @@
-use Rattle.std.proofs.Common.{map, sym, ap, subst, ◌∙◌}
+use Rattle.std.proofs.Common.{sym, subst}
 use Rattle.mst_lag.specs.Viewed.{Viewed}
-use Rattle.mst_lag.specs.Renewed.{IsViewButBridge, port_powered}
+use Rattle.mst_lag.specs.Renewed.{IsViewButBridge}
 use Rattle.mst_lag.specs.contracts.in_view.View.{the_view}
 use Rattle.mst_lag.proofs.RenewedBridge.{is_view}
 use Rattle.mst_lag.proofs.in_view.View.renew_bridge.Goals as goal
@@ -13,4 +13,4 @@ returns-clause-ok g c =
     is_view c.args.bridge.now t.net t.numbers v was c.known.ensures.network
     c.in_ok-bridges.bridges c.in_ok-bridges.ensures.rows c.in_ok-bridges.ensures.numbers
     c.is_on_now-is_on.result c.is_on_now-is_on.ensures
-    c.in_ok-ports.ports (c.in_ok-ports.ensures ∙ ap (map (port_powered c.args.bridge.now c.is_on_now-is_on.result)) c.as_slice.ensures)
+    c.power_ports.new.ports c.power_ports.ensures

@@ -1,8 +1,8 @@
-use Rattle.std.proofs.Common.{◌≡◌, ◌≤◌, List, length, filter, filter_map, map, sym, ap, subst, ◌∙◌}
+use Rattle.std.proofs.Common.{◌≤◌, List, length, filter, filter_map, sym, ap, subst, ◌∙◌}
 use Rattle.mst_lag.specs.Aggregation.{same_name}
 use Rattle.mst_lag.specs.Seen.{total_of}
 use Rattle.mst_lag.specs.Viewed.{Viewed}
-use Rattle.mst_lag.specs.Renewed.{IsViewButLan, logical_among, seen_member, member_again, lan_again, port_again}
+use Rattle.mst_lag.specs.Renewed.{IsViewButLan, logical_among, seen_member}
 use Rattle.mst_lag.specs.contracts.in_view.View.{the_view}
 use Rattle.mst_lag.specs.declared.in_view.MemberLan.{MemberLan}
 use Rattle.mst_lag.specs.declared.members.LanSeen.{LanSeen}
@@ -28,6 +28,6 @@ returns-clause-ok g c =
     total (c.in_ok-total.ensures
     ∙ ap (λ ms. total_of (filter (λ (x : LanSeen). same_name x.lan at) (filter_map (seen_member t.net t.numbers) (filter (λ (x : MemberLan). same_name x.lan at) ms)))) c.as_slice-2.ensures.value)
     c.is_up_now-is_up.result c.is_up_now-is_up.ensures
-    c.in_ok-ports.ports (c.in_ok-ports.ensures ∙ ap (map (port_again t.net at total)) c.as_slice-5.ensures)
-    c.in_ok-lans.lans (c.in_ok-lans.ensures ∙ ap (map (lan_again at total)) c.as_slice-4.ensures)
-    c.in_ok-member_lans.member_lans.items (c.in_ok-member_lans.ensures ∙ ap (map (member_again c.args.lan.now c.is_up_now-is_up.result)) c.as_slice-3.ensures.value)
+    c.renew_ports.new.ports c.renew_ports.ensures
+    c.renew_lans.new.lans c.renew_lans.ensures
+    c.renew_members.new.members.items c.renew_members.ensures

@@ -1,6 +1,6 @@
-use Rattle.std.proofs.Common.{map, sym, ap, subst, ◌∙◌}
+use Rattle.std.proofs.Common.{sym, subst}
 use Rattle.mst_lag.specs.Viewed.{Viewed}
-use Rattle.mst_lag.specs.Renewed.{IsViewButPort, port_set}
+use Rattle.mst_lag.specs.Renewed.{IsViewButPort}
 use Rattle.mst_lag.specs.contracts.in_view.View.{the_view}
 use Rattle.mst_lag.proofs.RenewedPort.{is_view}
 use Rattle.mst_lag.proofs.in_view.View.renew_port.Goals as goal
@@ -11,4 +11,4 @@ returns-clause-ok g c =
     let v : Viewed = the_view c.self.inside in
     is_view c.args.port.now t.net t.numbers v (subst (IsViewButPort c.args.port.now t.net t.numbers) (sym c.self.view_is) c.requires)
     c.settings_now-settings.result c.settings_now-settings.ensures
-    c.in_ok-ports.ports (c.in_ok-ports.ensures ∙ ap (map (port_set c.args.port.now c.settings_now-settings.result)) c.as_slice.ensures)
+    c.set_port.new.ports c.set_port.ensures
