@@ -17,3 +17,4 @@ pub mod BridgeAlone
 pub mod SetAlone
 pub mod RenewedPort
 pub mod PortAlone
+pub mod PortsAlone

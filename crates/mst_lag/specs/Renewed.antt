@@ -130,6 +130,13 @@ leaves_tables (PortCost port tree cost) = true
 leaves_tables (Table bridge tree vids) = false
 leaves_tables (Vlans port vids) = true
 
+-- it is the view of a network that differs from this one in its ports at most
+pub record IsViewButPorts (net : Net) (numbers : Numbers) (v : Viewed) : Type 0 where
+  pub old : Net
+  pub view : IsView old numbers v
+  pub ports : fin.FinMap port_cmp PortRow
+  pub is : net ≡ record old { ports = ports }
+
 -- what links go by of a port: its LAN and its key
 pub record PortPart : Type 0 where
   pub lan : Option (List ℕ)

@@ -1,6 +1,6 @@
 //! Laws of views. Their functions do nothing: a caller has their clauses.
 ghost use Rattle.std.specs.Prelude.{◌≡◌, List, ℕ, true};
-ghost use Rattle.mst_lang.specs.declared.line.Edit.TheVariants.{SetBridge, SetLan, SetPort, SetByTree};
+ghost use Rattle.mst_lang.specs.declared.line.Edit.TheVariants.{SetBridge, SetLan, SetPort, SetByTree, Plug, Unplug};
 ghost use Rattle.mst_lang.specs.declared.line.BridgeChange.{BridgeChange};
 ghost use Rattle.mst_lang.specs.declared.line.LanChange.{LanChange};
 ghost use Rattle.mst_ids.specs.declared.name.PortName.{PortName};
@@ -10,7 +10,7 @@ ghost use Rattle.mst_net.specs.Tables.{Net, Numbers, IsNetwork};
 ghost use Rattle.mst_net.specs.After.{effect};
 ghost use Rattle.mst_net.specs.Contents.{Contents, Commits, IsNumbered};
 ghost use Rattle.mst_lag.specs.Viewed.{Viewed, IsView};
-ghost use Rattle.mst_lag.specs.Renewed.{IsViewButLan, IsViewButBridge, IsViewButSet, IsViewButSettings, leaves_links, leaves_tables, leaves_key, IsViewButPort};
+ghost use Rattle.mst_lag.specs.Renewed.{IsViewButLan, IsViewButBridge, IsViewButSet, IsViewButSettings, leaves_links, leaves_tables, leaves_key, IsViewButPort, IsViewButPorts};
 
 /// An edit of the state or the speed of a LAN changes nothing else: the view before it is that of the network that it makes,
 /// but for this LAN, and the view after it that of the network before.
@@ -38,4 +38,11 @@ pub fn set_alone()
 pub fn port_alone()
     ensures { (port : PortName) (change : PortChange) (old new : Contents) (v : Viewed) → leaves_key change ≡ true → IsNetwork old.net → IsNumbered old.net old.numbers
         → Commits (SetPort port change) old new → IsView old.net old.numbers v → IsViewButPort port new.net new.numbers v }
+{}
+
+/// An edit of a port, or of where it is plugged, changes nothing else.
+pub fn ports_alone()
+    ensures set { (port : PortName) (change : PortChange) (old new : Contents) (v : Viewed) → Commits (SetPort port change) old new → IsView old.net old.numbers v → IsViewButPorts new.net new.numbers v }
+    ensures plugged { (port : PortName) (lan : List ℕ) (old new : Contents) (v : Viewed) → Commits (Plug port lan) old new → IsView old.net old.numbers v → IsViewButPorts new.net new.numbers v }
+    ensures unplugged { (port : PortName) (old new : Contents) (v : Viewed) → Commits (Unplug port) old new → IsView old.net old.numbers v → IsViewButPorts new.net new.numbers v }
 {}

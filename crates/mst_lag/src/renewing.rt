@@ -6,12 +6,12 @@ ghost use Rattle.mst_lag.specs.Aggregation.{same_name};
 ghost use Rattle.mst_lag.specs.View.{is_on as bridge_is_on};
 ghost use Rattle.mst_lag.specs.Viewed.{IsView, named_bridge};
 ghost use Rattle.mst_lag.specs.Seen.{total_of, named_row};
-ghost use Rattle.mst_lag.specs.Renewed.{IsViewButLan, IsViewButBridge, IsViewButSet, IsViewButSettings, leaves_links as leaves_what_links, leaves_tables as leaves_all_tables, leaves_key as leaves_own_key, IsViewButPort, settings_there, port_set, port_with as set_of_port, port_powered, powered, is_up_there, logical_among, seen_member, member_again, lan_again as lan_renewed, port_again as port_renewed, port_giving};
+ghost use Rattle.mst_lag.specs.Renewed.{IsViewButLan, IsViewButBridge, IsViewButSet, IsViewButSettings, leaves_links as leaves_what_links, leaves_tables as leaves_all_tables, leaves_key as leaves_own_key, IsViewButPort, IsViewButPorts, settings_there, port_set, port_with as set_of_port, port_powered, powered, is_up_there, logical_among, seen_member, member_again, lan_again as lan_renewed, port_again as port_renewed, port_giving};
 
 use crate::in_view::{BridgeInView, LanInView, MemberLan, PortInView, View};
 use crate::listed::Listed;
 use crate::members::{LanSeen, Total, total_at, totals};
-use crate::viewed::{listed_bridges, listed_trees};
+use crate::viewed::{Links, links_now, listed_bridges, listed_trees};
 use mst_ids::{Name, PortName};
 use mst_lang::{BridgeChange, LanState, PortChange, TreeChange};
 use mst_net::{Contents, PortSettings};
@@ -370,6 +370,27 @@ impl View {
     {
         let settings = settings_now(contents, port);
         set_port(&mut self.ports, port, &settings);
+        Ok(())
+    }
+
+    /// Renews the view, which is that of the network before ports were plugged or unplugged or had other settings. It finds the
+    /// classes of links anew, and all that goes by them, and leaves the bridges, their trees, and what is set by tree or VID.
+    /// `AllocError`: memory was wanted and refused, and the view is as it was.
+    pub fn renew_links<C: Contents>(
+        &mut self,
+        alloc: Global,
+        contents: &C,
+    ) -> Result<(), AllocError>
+        requires { IsViewButPorts (C.tables contents.now).net (C.tables contents.now).numbers self.old }
+        ensures ok { OnOk result (IsView (C.tables contents.now).net (C.tables contents.now).numbers self.new) }
+        ensures err { OnErr result (self.new ≡ self.old) }
+    {
+        let links = links_now(alloc, contents)?;
+        self.ports = links.ports;
+        self.lans = links.lans;
+        self.member_lans = links.member_lans;
+        self.member_ports = links.member_ports;
+        self.lags = links.lags;
         Ok(())
     }
 }
