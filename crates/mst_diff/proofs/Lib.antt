@@ -14,3 +14,4 @@ pub mod AlikeNets
 pub mod TwoSides
 pub mod Plain
 pub mod ReachTurned
+pub mod FirstNamed

@@ -1,6 +1,7 @@
 -- What differs between two views with their forests, under the numbers of records.
-use Rattle.std.specs.Prelude.{ℕ, ◌==◌, ◌||◌, List, [], ◌∷◌, ◌++◌, Option, None, Some, map, filter, filter_map, codes, if◌then◌else◌}
+use Rattle.std.specs.Prelude.{◌≡◌, ℕ, ◌==◌, ◌||◌, List, [], ◌∷◌, ◌++◌, Option, None, Some, map, filter, filter_map, codes, if◌then◌else◌}
 use Rattle.std.specs.List.{find, flat_map, list_any}
+use Rattle.std.specs.Map.{lookup}
 use Rattle.std.specs.Option.{option_map, option_and_then, unwrap_or}
 use Rattle.mst_ids.specs.Words.{after_space, comma_list}
 use Rattle.mst_net.specs.Seen.{bridge_row}
@@ -29,6 +30,10 @@ seen_in_both w x = option_map (λ y. record { old = x; new = y }) (find (λ y. s
 
 abbrev pub seen_both : Viewed → Viewed → List Both
 seen_both v w = filter_map (seen_in_both w) v.bridges
+
+-- under each name the first of these bridges that has it
+abbrev pub AreByName : List BridgeInView → List (List ℕ × BridgeInView) → Type 0
+AreByName bridges entries = (name : List ℕ) → lookup (same_name name) entries ≡ find (λ y. same_name y.name name) bridges
 
 -- ---- regions
 -- the first bridge of a bridge's region
