@@ -6,6 +6,7 @@ pub mod Changed
 pub mod TableLemmas
 pub mod Rising
 pub mod TableFits
+pub mod TablesCounted
 pub mod SetByTree
 pub mod MarkedLemmas
 pub mod AfterLemmas

@@ -47,7 +47,7 @@ unfolding trees_where
 trees_narrowed p q weaker = filtered p q weaker (range_with_len 0 4095)
 
 -- no tree beside the CIST is in the table that maps nothing
-none_has : (n tree : ℕ) → (tree ≡ 0 → ⊥) → list_any (λ t. t == tree) (replicate n 0) ≡ false
+pub none_has : (n tree : ℕ) → (tree ≡ 0 → ⊥) → list_any (λ t. t == tree) (replicate n 0) ≡ false
 none_has zero tree other = refl
 none_has (suc n) tree other = or_from (0 == tree) _ (ne_eqb 0 tree (λ e. other (sym e))) (none_has n tree other)
 

@@ -1,4 +1,5 @@
 pub mod Table
+pub mod KeptTables
 pub mod Tables
 pub mod SetByTree
 pub mod Refusals

@@ -17,7 +17,8 @@ const PORT_LIMIT: usize = 16_384;
 
 const LAN_LIMIT: usize = 8192;
 
-const TREE_LIMIT: usize = 64;
+/// How many trees a bridge can have beside the CIST.
+pub(crate) const TREE_LIMIT: usize = 64;
 
 // What refuses an edit.
 impl Network {
@@ -189,6 +190,9 @@ impl Network {
         ensures { result ≡ answer_of (refusal_of (SetByTree (Table bridge.now tree vids.now)) self.now.net) }
     {
         self.check_bridge(bridge)?;
+        if self.settings.has_room_for_tree(bridge) {
+            return Ok(());
+        }
         let table = self.settings.table_with(bridge, tree, vids);
         if table.tree_count() > TREE_LIMIT {
             return Err(Refusal::E15);

@@ -5,6 +5,7 @@ mod ahead;
 mod changes;
 mod checks;
 mod contents;
+mod kept_table;
 pub mod laws;
 mod names;
 mod network;

@@ -1,17 +1,19 @@
-ghost use Rattle.std.specs.Prelude.{◌≡◌, ◌==◌, ◌<◌, not, is_some, min, OnOk, OnErr, IfOk};
+ghost use Rattle.std.specs.Prelude.{◌≡◌, ◌==◌, ◌<◌, not, is_some, min, OnOk, OnErr, IfOk, IsTrue};
 ghost use Rattle.indexmap.specs.IndexMap.{spare};
 ghost use Rattle.mst_ids.specs.Vids.{has};
 ghost use Rattle.mst_lang.specs.declared.line.Edit.TheVariants.{DelBridge, DelPort, SetByTree};
 ghost use Rattle.mst_lang.specs.declared.line.TreeChange.TheVariants.{Priority as SetPriority, PortPriority, PortCost, Table as MapVids, Vlans};
-ghost use Rattle.mst_net.specs.After.{own_priority as own, own_table as kept_table, own_vlans as kept_vlans};
+ghost use Rattle.mst_net.specs.After.{own_priority as own, own_vlans as kept_vlans};
 ghost use Rattle.mst_net.specs.ByTree.{AreInTrees, nothing_set, priority_in, port_priority_in, port_cost_in, table_in, vlans_in};
 ghost use Rattle.mst_net.specs.SettingsAfter.{set_after, room_to_set};
-ghost use Rattle.std.specs.List.{filter};
+ghost use Rattle.std.specs.List.{filter, list_all};
 ghost use Rattle.std.specs.Map.{lookup};
 ghost use Rattle.std.specs.Option.{option_copied};
-ghost use Rattle.mst_net.specs.Table.{mapped, tree_in, mstis_in};
+ghost use Rattle.mst_net.specs.KeptTables.{IsPutAt, table_among};
+ghost use Rattle.mst_net.specs.Table.{mapped, tree_in, tree_count, mstis_in};
 ghost use Rattle.mst_net.specs.TreesSet.{trees_where};
 
+use crate::kept_table::KeptTable;
 use crate::settings::{BridgeInTree, PortInTree, forget_bridge, forget_port};
 use crate::table::Table;
 use crate::trees::trees_of;
@@ -29,7 +31,7 @@ pub struct TreeSettings {
     priorities: IndexMap<BridgeInTree, Priority>,
     port_priorities: IndexMap<PortInTree, Priority>,
     port_costs: IndexMap<PortInTree, Cost>,
-    tables: IndexMap<Name, Table>,
+    tables: IndexMap<Name, KeptTable>,
     vlans: IndexMap<PortName, VidSet>,
     // The blocks of trees in which something may be set for a bridge, and for a port.
     bridge_blocks: IndexMap<Name, Blocks>,
@@ -226,7 +228,7 @@ impl TreeSettings {
         ensures { IfOk result (λ trees. trees.items ≡ mstis_in (table_in self.now.set.tables bridge.now)) }
     {
         match self.tables.get(bridge) {
-            Some(table) => table.mstis(alloc),
+            Some(kept) => kept.table().mstis(alloc),
             None => Ok(Vec::new(alloc)),
         }
     }
@@ -257,7 +259,7 @@ impl TreeSettings {
         ensures { result ≡ table_in self.now.set.tables bridge.now }
     {
         match self.tables.get(bridge) {
-            Some(table) => *table,
+            Some(kept) => *kept.table(),
             None => Table::new(),
         }
     }
@@ -267,8 +269,19 @@ impl TreeSettings {
         ensures { result ≡ tree_in (table_in self.now.set.tables bridge.now) vid }
     {
         match self.tables.get(bridge) {
-            Some(table) => table.tree(vid),
+            Some(kept) => kept.table().tree(vid),
             None => Tree::cist(),
+        }
+    }
+
+    /// Whether the table of a bridge has room for one more tree by the bound that is kept. It counts none, so it
+    /// may say no where there is room.
+    pub(crate) fn has_room_for_tree(&self, bridge: &Name) -> bool
+        ensures { IsTrue result → tree_count (table_in self.now.set.tables bridge.now) < 64 }
+    {
+        match self.tables.get(bridge) {
+            Some(kept) => kept.has_room(),
+            None => true,
         }
     }
 
@@ -395,8 +408,9 @@ impl TreeSettings {
         requires { 0 < self.old.room.table }
         ensures { self.new.set ≡ set_after (SetByTree (MapVids bridge tree vids.now)) self.old.set }
     {
-        let table = self.table_with(&bridge, tree, vids);
-        keep(&mut self.tables, bridge, own_table(table));
+        if map_in(&mut self.tables, bridge, tree, vids) {
+            let _ = self.tables.swap_remove(&bridge);
+        }
     }
 
     fn set_port_vlans(&mut self, port: PortName, vids: VidSet)
@@ -428,14 +442,20 @@ fn own_priority(priority: Priority) -> Option<Priority>
     }
 }
 
-/// What is kept of a table: none with all VIDs in the CIST.
-fn own_table(table: Table) -> Option<Table>
-    ensures { result ≡ kept_table table }
+/// Maps VIDs to a tree in the table of a bridge, which gets one where it has none. Whether each VID is in the CIST
+/// then. The table is changed in place, and it takes no memory.
+fn map_in(tables: &mut IndexMap<Name, KeptTable>, bridge: Name, tree: Tree, vids: &VidSet) -> bool
+    requires { 0 < spare tables.old }
+    ensures kept { IsPutAt bridge (mapped vids.now tree (table_among tables.old.entries bridge)) tables.old.entries tables.new.entries }
+    ensures default { result ≡ list_all (λ tree. tree == 0) (mapped vids.now tree (table_among tables.old.entries bridge)) }
 {
-    if table.is_default() {
-        None
-    } else {
-        Some(table)
+    match tables.entry(bridge) {
+        Err(_) => false,
+        Ok(entry) => {
+            let kept = entry.or_insert_with(KeptTable::new);
+            kept.map(vids, tree);
+            kept.table().is_default()
+        }
     }
 }
 
@@ -491,9 +511,9 @@ fn copies_by_tree(
 
 /// Copies of what is set by VID, the tables of bridges and the VLANs of ports.
 fn copies_by_vid(
-    tables: &IndexMap<Name, Table>,
+    tables: &IndexMap<Name, KeptTable>,
     vlans: &IndexMap<PortName, VidSet>,
-) -> Result<(IndexMap<Name, Table>, IndexMap<PortName, VidSet>), AllocError>
+) -> Result<(IndexMap<Name, KeptTable>, IndexMap<PortName, VidSet>), AllocError>
     ensures { IfOk result (λ copies. (copies.0.entries ≡ tables.now.entries) × (copies.1.entries ≡ vlans.now.entries)) }
 {
     let tables = tables.clone()?;

@@ -11,8 +11,8 @@ use Rattle.mst_net.proofs.tree_settings.TreeSettings.mstis.Goals as goal
 pub returns-in-Some : goal.returns-in-Some
 returns-in-Some c =
     let key = c.args.bridge.now in
-    let same : c.in-Some.table.now ≡ table_in c.args.self.now.set.tables key =
-    ap (λ o. unwrap_or (option_copied o) no_table) (sym c.in-Some.is)
+    let same : c.table.result.now ≡ table_in c.args.self.now.set.tables key =
+    c.table.ensures ∙ ap (λ o. unwrap_or (option_copied o) no_table) (sym c.in-Some.is)
     ∙ ap (λ o. unwrap_or o no_table) (c.get.ensures.value ∙ sym (get_keyed names c.self.inside.tables.entries key))
     ∙ ap (λ n. table_in n.set.tables key) c.self.view_is in
     subst (λ table. IfOk c.mstis.result (λ trees. trees.items ≡ mstis_in table)) same c.mstis.ensures

@@ -9,7 +9,7 @@ use Rattle.mst_net.proofs.tree_settings.TreeSettings.table.Goals as goal
 pub returns-in-Some : goal.returns-in-Some
 returns-in-Some c =
     let key = c.args.bridge.now in
-    ap (λ o. unwrap_or (option_copied o) no_table) (sym c.in-Some.is) ∙ ap (λ o. unwrap_or o no_table) (c.get.ensures.value ∙ sym (get_keyed names c.self.inside.tables.entries key)) ∙ ap (λ n. table_in n.set.tables key) c.self.view_is
+    c.table.ensures ∙ ap (λ o. unwrap_or (option_copied o) no_table) (sym c.in-Some.is) ∙ ap (λ o. unwrap_or o no_table) (c.get.ensures.value ∙ sym (get_keyed names c.self.inside.tables.entries key)) ∙ ap (λ n. table_in n.set.tables key) c.self.view_is
 
 pub returns-in-None : goal.returns-in-None
 returns-in-None c =

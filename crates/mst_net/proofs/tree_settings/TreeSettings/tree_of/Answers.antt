@@ -11,7 +11,7 @@ pub returns-in-Some : goal.returns-in-Some
 returns-in-Some c =
     let key = c.args.bridge.now in
     let vid = c.args.vid in
-    c.tree.ensures ∙ ap (λ o. tree_in (unwrap_or (option_copied o) no_table) vid) (sym c.in-Some.is)
+    c.tree.ensures ∙ ap (λ t. tree_in t vid) c.table.ensures ∙ ap (λ o. tree_in (unwrap_or (option_copied o) no_table) vid) (sym c.in-Some.is)
     ∙ ap (λ o. tree_in (unwrap_or o no_table) vid) (c.get.ensures.value ∙ sym (get_keyed names c.self.inside.tables.entries key))
     ∙ ap (λ n. tree_in (table_in n.set.tables key) vid) c.self.view_is
 
