@@ -10,3 +10,4 @@ pub mod Positions
 pub mod Joined
 pub mod CutApart
 pub mod Unbroken
+pub mod Paired

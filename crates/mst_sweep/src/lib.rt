@@ -7,6 +7,7 @@ mod cuts;
 mod failure;
 mod homes;
 pub mod laws;
+mod pairs;
 mod parts;
 mod ports;
 mod roots;

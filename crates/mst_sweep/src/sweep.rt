@@ -13,11 +13,11 @@ ghost use Rattle.mst_sweep.specs.SweepText.{failure_words, failure_line, IsFailu
 use crate::baseline::Baseline;
 use crate::cuts::push_cuts;
 use crate::failure::Failure;
+use crate::pairs::pairs;
 use crate::ports::moved_ports;
 use crate::roots::moved_roots;
 use itoa::Buffer;
 use mst_changes::Planned;
-use mst_diff::bridges_of_both;
 use mst_ids::{Tree, Vid, push_bytes, push_comma_list, push_end, push_line, push_word};
 use mst_plan_text::set_of;
 use std::alloc::{AllocError, Global};
@@ -88,7 +88,7 @@ pub fn push_failure(
     ensures { IfOk result (λ cuts. (a b : Net) (n k : Numbers) (is : IsForest a n old.now.forest.now) (are : IsForest b k new.now.forest.now) → AreOf a n old.now.view.now old.now.forest.now.regions → AreOf b k new.now.view.now new.now.forest.now.regions
         → after (edit_of failure.now) a ≡ Ok b → (text : List ℕ) × IsFailureText a is.outcome b are.outcome failure.now text cuts × (out.new.items ≡ out.old.items ++ text)) }
 {
-    let both = bridges_of_both(alloc, old.view, new.view)?;
+    let both = pairs(alloc, old, new)?;
     let roots = moved_roots(alloc, old, new, both.as_slice())?;
     let ports = moved_ports(old, new);
     let mut lines = Vec::new(alloc);
