@@ -1,4 +1,4 @@
--- What is set by tree, as it is taken away tree by tree, in the trees whose blocks have their flags.
+-- What is set by tree, as it is taken away tree by tree, in the trees that are marked.
 use Rattle.std.proofs.Common.{◌≡◌, ◌+◌, ◌<◌, ◌≤◌, ◌⊎◌, inl, inr, ℕ, Bool, true, false, cond, ◌&&◌, Option, None, nat_lt, nat_le, nat_eq, refl, sym, ap, ◌∙◌, arith, true≢false}
 use Rattle.std.proofs.lemmas.Bool.{cases_lt, cases_eq, lt-ltb, le-ltb, eq-eqb, ne_eqb, le-leb, lt-leb}
 
@@ -16,7 +16,7 @@ taken : {X : Type 0} (b : Bool) (o : Option X) → cond b None (cond true None o
 taken true o = refl
 taken false o = refl
 
--- what is taken away in the next tree, whose block has its flag, joins what is taken away below it
+-- what is taken away in the next tree, which is marked, joins what is taken away below it
 pub one_tree_more : {X : Type 0} (same flag : Bool) (tree next : ℕ) (o : Option X) → (next ≡ tree → flag ≡ true) → cond (same && nat_eq next tree) None (left_below same flag tree next o) ≡ left_below same flag tree (next + 1) o
 one_tree_more false flag tree next o marked = refl
 one_tree_more true false tree next o marked = ap (λ b. cond b None o) (ne_eqb next tree (λ here. true≢false (sym (marked here))))
@@ -34,7 +34,7 @@ one_tree_more true true tree next o marked = by (cases_lt tree next) (cases_eq n
         ∙ ap (λ b. cond b None o) (le-ltb tree next past)
         ∙ ap (λ b. cond b None o) (sym (le-ltb tree (next + 1) (omega (arith, other))))
 
--- trees whose blocks have no flags are passed by
+-- trees that are not marked are passed by
 pub passed_by : {X : Type 0} (same flag : Bool) (tree number next : ℕ) (o : Option X) → number ≤ next → (number ≤ tree → tree < next → flag ≡ false) → left_below same flag tree number o ≡ left_below same flag tree next o
 passed_by false flag tree number next o up unmarked = refl
 passed_by true false tree number next o up unmarked = refl

@@ -114,7 +114,7 @@ module _ (a b : Inside) where
     vlans = removed_keyed ports a.vlans.entries b.vlans.entries port vlans i;
   }
 
--- ---- the blocks that are marked
+-- ---- the trees that are marked
 -- equal entries are marked alike
 pub same_marked : (a b : Inside) → b.priorities.entries ≡ a.priorities.entries → b.port_priorities.entries ≡ a.port_priorities.entries → b.port_costs.entries ≡ a.port_costs.entries
     → b.bridge_blocks.entries ≡ a.bridge_blocks.entries → b.port_blocks.entries ≡ a.port_blocks.entries → AreMarked a → AreMarked b

@@ -27,7 +27,7 @@ settings_of a = record {
   };
 }
 
--- whatever is set by tree is set in a tree of a block that is marked for its bridge or its port
+-- whatever is set by tree is set in a tree that is marked for its bridge or its port
 pub record AreMarked (a : Inside) : Type 0 where
   pub priorities : (q : BridgeTree) (n : ℕ) → lookup (bridge_tree_eq q) a.priorities.entries ≡ Some n → is_marked (pointwise nat_eq) a.bridge_blocks.entries q.bridge q.tree ≡ true
   pub port_priorities : (q : PortTree) (n : ℕ) → lookup (port_tree_eq q) a.port_priorities.entries ≡ Some n → is_marked port_eq a.port_blocks.entries q.port q.tree ≡ true

@@ -8,7 +8,7 @@ ghost use Rattle.mst_net.specs.SetByTree.{in_trees_of_bridge, in_trees_of_port};
 use indexmap::IndexMap;
 use mst_ids::{ConfName, Cost, Mac, MaxAge, MaxHops, Name, PortName, Priority, Speed, Tree};
 use mst_lang::{BridgeChange, Kind, LanChange, LanState, PortChange, Power};
-use mst_records::{Blocks, next_block};
+use mst_records::Blocks;
 use std::hash::Hash;
 use std::marker::Model;
 
@@ -258,7 +258,7 @@ impl Model for PortInTree {
     ghost inverse = { λ k. record { port = k.port; tree = k.tree } };
 }
 
-/// Takes away what is set for the bridge, in every tree of these blocks. It passes by the others.
+/// Takes away what is set for the bridge, in every tree that is marked. It passes by the others.
 pub(crate) fn forget_bridge(
     table: &mut IndexMap<BridgeInTree, Priority>,
     bridge: &Name,
@@ -277,12 +277,12 @@ pub(crate) fn forget_bridge(
             let _ = table.swap_remove(&key);
             number += 1;
         } else {
-            number = next_block(number);
+            number = blocks.after(number);
         }
     }
 }
 
-/// Takes away what is set for the port, in every tree of these blocks. It passes by the others.
+/// Takes away what is set for the port, in every tree that is marked. It passes by the others.
 pub(crate) fn forget_port<V: Copy>(
     table: &mut IndexMap<PortInTree, V>,
     port: &PortName,
@@ -298,7 +298,7 @@ pub(crate) fn forget_port<V: Copy>(
             let _ = table.swap_remove(&key);
             number += 1;
         } else {
-            number = next_block(number);
+            number = blocks.after(number);
         }
     }
 }

@@ -16,11 +16,11 @@ ghost use Rattle.mst_net.specs.TreesSet.{trees_where};
 use crate::kept_table::KeptTable;
 use crate::settings::{BridgeInTree, PortInTree, forget_bridge, forget_port};
 use crate::table::Table;
-use crate::trees::trees_of;
+use crate::trees::marked_trees;
 use indexmap::IndexMap;
 use mst_ids::{Cost, Name, PortName, Priority, Tree, Vid, VidSet};
 use mst_lang::{Edit, TreeChange};
-use mst_records::{Blocks, blocks_of, keep, mark, take};
+use mst_records::{Blocks, keep, mark, take};
 use std::alloc::{AllocError, Global};
 use std::hash::Hash;
 use std::marker::Model;
@@ -33,7 +33,7 @@ pub struct TreeSettings {
     port_costs: IndexMap<PortInTree, Cost>,
     tables: IndexMap<Name, KeptTable>,
     vlans: IndexMap<PortName, VidSet>,
-    // The blocks of trees in which something may be set for a bridge, and for a port.
+    // Marks of the trees in which something may be set for a bridge, and for a port.
     bridge_blocks: IndexMap<Name, Blocks>,
     port_blocks: IndexMap<PortName, Blocks>,
 }
@@ -142,8 +142,7 @@ impl TreeSettings {
     pub fn priority_trees(&self, bridge: &Name, alloc: Global) -> Result<Vec<Tree>, AllocError>
         ensures { IfOk result (λ trees. trees.items ≡ trees_where (λ tree. not (priority_in self.now.set.priorities bridge.now tree == 8))) }
     {
-        let blocks = blocks_of(&self.bridge_blocks, bridge);
-        let trees = trees_of(&blocks, alloc)?;
+        let trees = marked_trees(&self.bridge_blocks, bridge, alloc)?;
         self.with_priority(bridge, &trees, alloc)
     }
 
@@ -174,8 +173,7 @@ impl TreeSettings {
         if self.port_priorities.is_empty() {
             return Ok(Vec::new(alloc));
         }
-        let blocks = blocks_of(&self.port_blocks, port);
-        let trees = trees_of(&blocks, alloc)?;
+        let trees = marked_trees(&self.port_blocks, port, alloc)?;
         self.with_port_priority(port, &trees, alloc)
     }
 
@@ -202,8 +200,7 @@ impl TreeSettings {
         if self.port_costs.is_empty() {
             return Ok(Vec::new(alloc));
         }
-        let blocks = blocks_of(&self.port_blocks, port);
-        let trees = trees_of(&blocks, alloc)?;
+        let trees = marked_trees(&self.port_blocks, port, alloc)?;
         self.with_port_cost(port, &trees, alloc)
     }
 

@@ -1,10 +1,12 @@
 ghost use Rattle.std.specs.Prelude.{◌≡◌, IfOk, true};
-ghost use Rattle.mst_records.specs.Blocks.{in_block};
+ghost use Rattle.mst_records.specs.Blocks.{in_block, is_marked};
 ghost use Rattle.mst_net.specs.TreesSet.{trees_where};
 
+use indexmap::IndexMap;
 use mst_ids::Tree;
-use mst_records::{Blocks, next_block};
+use mst_records::Blocks;
 use std::alloc::{AllocError, Global};
+use std::hash::Hash;
 
 /// Every tree, from the CIST to 4094.
 pub(crate) fn every_tree(alloc: Global) -> Result<Vec<Tree>, AllocError>
@@ -17,8 +19,22 @@ pub(crate) fn every_tree(alloc: Global) -> Result<Vec<Tree>, AllocError>
     Ok(trees)
 }
 
-/// The trees of these blocks, in rising order. It passes by the other blocks.
-pub(crate) fn trees_of(blocks: &Blocks, alloc: Global) -> Result<Vec<Tree>, AllocError>
+/// The trees that are marked for the key, in rising order.
+pub(crate) fn marked_trees<K: Copy + Eq + Hash>(
+    marks: &IndexMap<K, Blocks>,
+    key: &K,
+    alloc: Global,
+) -> Result<Vec<Tree>, AllocError>
+    ensures { IfOk result (λ trees. trees.items ≡ trees_where (is_marked K.eq marks.now.entries key.now)) }
+{
+    match marks.get(key) {
+        Some(marked) => trees_of(marked, alloc),
+        None => Ok(Vec::new(alloc)),
+    }
+}
+
+/// The trees that are marked, in rising order. It passes by the blocks in which none is.
+fn trees_of(blocks: &Blocks, alloc: Global) -> Result<Vec<Tree>, AllocError>
     ensures { IfOk result (λ trees. trees.items ≡ trees_where (in_block blocks.now)) }
 {
     let mut trees = Vec::new(alloc);
@@ -28,7 +44,7 @@ pub(crate) fn trees_of(blocks: &Blocks, alloc: Global) -> Result<Vec<Tree>, Allo
             trees.push(Tree::new(number).unwrap())?;
             number += 1;
         } else {
-            number = next_block(number);
+            number = blocks.after(number);
         }
     }
     Ok(trees)

@@ -7,7 +7,7 @@ mod keeping;
 mod records;
 mod tally;
 
-pub use blocks::{Blocks, blocks_of, mark, next_block, take};
+pub use blocks::{Blocks, mark, take};
 pub use keeping::keep;
 pub use records::{Record, Records};
 pub use tally::Tally;

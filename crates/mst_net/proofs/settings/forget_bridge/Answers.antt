@@ -1,5 +1,4 @@
-use Rattle.std.proofs.Common.{nat_eq, false, ap, sym, ◌∙◌, arith}
-use Rattle.std.specs.Prelude.{slice_index_or}
+use Rattle.std.proofs.Common.{nat_eq, ◌∙◌, arith}
 use Rattle.std.specs.Map.{lookup}
 use Rattle.std.specs.Cmp.Lexicographic.{pointwise}
 use Rattle.mst_net.specs.Tables.{bridge_tree_eq}
@@ -17,9 +16,9 @@ pub loop-number-preserved : goal.loop-number-preserved
 loop-number-preserved c = record {
   gone = λ q.
       c.loop-number.invariant.gone q
-      ∙ passed_by (pointwise nat_eq c.args.bridge.now q.bridge) (in_block c.args.blocks.now q.tree) q.tree c.loop-number.number c.next_block-number.result (lookup (bridge_tree_eq q) c.args.table.now.entries) (omega (arith, c.next_block-number.ensures.above))
-      (λ from below. ap (λ block. slice_index_or c.args.blocks.now block false) (c.next_block-number.ensures.same q.tree from below) ∙ sym c.has.ensures ∙ c.if-has.false);
-  within = c.next_block-number.ensures.within;
+      ∙ passed_by (pointwise nat_eq c.args.bridge.now q.bridge) (in_block c.args.blocks.now q.tree) q.tree c.loop-number.number c.after-number.result (lookup (bridge_tree_eq q) c.args.table.now.entries) (omega (arith, c.after-number.ensures.above))
+      (c.after-number.ensures.passed q.tree);
+  within = c.after-number.ensures.within;
 }
 
 pub returns : goal.returns

@@ -1,5 +1,4 @@
 use Rattle.std.proofs.Common.{◌≡◌, ℕ, ◌-◌, ◌∷◌, [], ◌++◌, refl, ap, sym, ◌∙◌, arith, rules}
-use Rattle.std.specs.Prelude.{slice_index_or, false}
 use Rattle.mst_records.specs.Blocks.{in_block}
 use Rattle.mst_net.proofs.TreesListed.{one_passes, some_fail, all_listed}
 use Rattle.mst_net.proofs.trees.trees_of.Goals as goal
@@ -17,11 +16,10 @@ loop-number-preserved-then-has c =
 pub loop-number-preserved : goal.loop-number-preserved
 loop-number-preserved c =
     let n = c.loop-number.number in
-    let m = c.next_block-number.result in
+    let m = c.after-number.result in
     record {
-      listed = c.loop-number.invariant.listed ∙ sym (some_fail (in_block c.args.blocks.now) (m - n) n m (omega (arith, c.next_block-number.ensures.above))
-          (λ k low high. ap (λ block. slice_index_or c.args.blocks.now block false) (c.next_block-number.ensures.same k low high) ∙ sym c.has.ensures ∙ c.if-has.false));
-      within = c.next_block-number.ensures.within;
+      listed = c.loop-number.invariant.listed ∙ sym (some_fail (in_block c.args.blocks.now) (m - n) n m (omega (arith, c.after-number.ensures.above)) c.after-number.ensures.passed);
+      within = c.after-number.ensures.within;
     }
 
 pub returns : goal.returns

@@ -3,8 +3,8 @@ use Rattle.std.specs.Prelude.{◌==◌, IfOk}
 use Rattle.std.specs.List.{filter}
 use Rattle.std.specs.FinMap as fin
 use Rattle.mst_net.specs.ByTree.{port_cost_in}
-use Rattle.mst_records.specs.Blocks.{in_block}
-use Rattle.mst_net.specs.Tables.{PortTree, port_tree_eq}
+use Rattle.mst_records.specs.Blocks.{is_marked}
+use Rattle.mst_net.specs.Tables.{PortTree, port_eq, port_tree_eq}
 use Rattle.mst_net.proofs.Keyed.{get_keyed}
 use Rattle.mst_net.proofs.Keys.{port_trees}
 use Rattle.mst_net.proofs.TreesListed.{trees_narrowed, cost_told, no_trees, nothing_found}
@@ -15,11 +15,11 @@ returns c =
     let set = c.args.self.now.set.port_costs in
     let key = c.args.port.now in
     let test : ℕ → Bool = λ tree. is_some (port_cost_in set key tree) in
-    let marked : (t : ℕ) → test t ≡ true → in_block c.blocks_of-blocks.result t ≡ true = λ t h.
+    let marked : (t : ℕ) → test t ≡ true → is_marked port_eq c.self.inside.port_blocks.entries key t ≡ true = λ t h.
     let k : PortTree = record { port = key; tree = t } in
     let some = cost_told (fin.get set k) h in
-    c.blocks_of-blocks.ensures t ∙ c.self.invariant.port_costs k some.0 (sym (get_keyed port_trees c.self.inside.port_costs.entries k) ∙ ap (λ n. fin.get n.set.port_costs k) c.self.view_is ∙ some.1) in
-    subst (λ l. IfOk c.with_port_cost.result (λ trees. trees.items ≡ l)) (ap (filter test) (c.deref.ensures.value ∙ c.in_ok-trees.ensures) ∙ trees_narrowed test (in_block c.blocks_of-blocks.result) marked) c.with_port_cost.ensures
+    c.self.invariant.port_costs k some.0 (sym (get_keyed port_trees c.self.inside.port_costs.entries k) ∙ ap (λ n. fin.get n.set.port_costs k) c.self.view_is ∙ some.1) in
+    subst (λ l. IfOk c.with_port_cost.result (λ trees. trees.items ≡ l)) (ap (filter test) (c.deref.ensures.value ∙ c.in_ok-trees.ensures) ∙ trees_narrowed test (is_marked port_eq c.self.inside.port_blocks.entries key) marked) c.with_port_cost.ensures
 
 pub returns-then-is_empty : goal.returns-then-is_empty
 returns-then-is_empty c =

@@ -4,8 +4,8 @@ use Rattle.std.specs.List.{filter}
 use Rattle.std.specs.Option.{unwrap_or}
 use Rattle.std.specs.FinMap as fin
 use Rattle.mst_net.specs.ByTree.{port_priority_in}
-use Rattle.mst_records.specs.Blocks.{in_block}
-use Rattle.mst_net.specs.Tables.{PortTree, port_tree_eq}
+use Rattle.mst_records.specs.Blocks.{is_marked}
+use Rattle.mst_net.specs.Tables.{PortTree, port_eq, port_tree_eq}
 use Rattle.mst_net.proofs.Keyed.{get_keyed}
 use Rattle.mst_net.proofs.Keys.{port_trees}
 use Rattle.mst_net.proofs.TreesListed.{trees_narrowed, priority_told, no_trees, nothing_found}
@@ -16,11 +16,11 @@ returns c =
     let set = c.args.self.now.set.port_priorities in
     let key = c.args.port.now in
     let test : ℕ → Bool = λ tree. not (port_priority_in set key tree == 8) in
-    let marked : (t : ℕ) → test t ≡ true → in_block c.blocks_of-blocks.result t ≡ true = λ t h.
+    let marked : (t : ℕ) → test t ≡ true → is_marked port_eq c.self.inside.port_blocks.entries key t ≡ true = λ t h.
     let k : PortTree = record { port = key; tree = t } in
     let some = priority_told (fin.get set k) h in
-    c.blocks_of-blocks.ensures t ∙ c.self.invariant.port_priorities k some.0 (sym (get_keyed port_trees c.self.inside.port_priorities.entries k) ∙ ap (λ n. fin.get n.set.port_priorities k) c.self.view_is ∙ some.1) in
-    subst (λ l. IfOk c.with_port_priority.result (λ trees. trees.items ≡ l)) (ap (filter test) (c.deref.ensures.value ∙ c.in_ok-trees.ensures) ∙ trees_narrowed test (in_block c.blocks_of-blocks.result) marked) c.with_port_priority.ensures
+    c.self.invariant.port_priorities k some.0 (sym (get_keyed port_trees c.self.inside.port_priorities.entries k) ∙ ap (λ n. fin.get n.set.port_priorities k) c.self.view_is ∙ some.1) in
+    subst (λ l. IfOk c.with_port_priority.result (λ trees. trees.items ≡ l)) (ap (filter test) (c.deref.ensures.value ∙ c.in_ok-trees.ensures) ∙ trees_narrowed test (is_marked port_eq c.self.inside.port_blocks.entries key) marked) c.with_port_priority.ensures
 
 pub returns-then-is_empty : goal.returns-then-is_empty
 returns-then-is_empty c =

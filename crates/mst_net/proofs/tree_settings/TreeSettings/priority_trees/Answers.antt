@@ -3,10 +3,10 @@ use Rattle.std.specs.Prelude.{◌==◌, IfOk}
 use Rattle.std.specs.List.{filter}
 use Rattle.std.specs.FinMap as fin
 use Rattle.mst_net.specs.ByTree.{priority_in}
-use Rattle.mst_records.specs.Blocks.{in_block}
+use Rattle.mst_records.specs.Blocks.{is_marked}
 use Rattle.mst_net.specs.Tables.{BridgeTree}
 use Rattle.mst_net.proofs.Keyed.{get_keyed}
-use Rattle.mst_net.proofs.Keys.{bridge_trees}
+use Rattle.mst_net.proofs.Keys.{name_eq, bridge_trees}
 use Rattle.mst_net.proofs.TreesListed.{trees_narrowed, priority_told}
 use Rattle.mst_net.proofs.tree_settings.TreeSettings.priority_trees.Goals as goal
 
@@ -15,8 +15,8 @@ returns c =
     let set = c.args.self.now.set.priorities in
     let key = c.args.bridge.now in
     let test : ℕ → Bool = λ tree. not (priority_in set key tree == 8) in
-    let marked : (t : ℕ) → test t ≡ true → in_block c.blocks_of-blocks.result t ≡ true = λ t h.
+    let marked : (t : ℕ) → test t ≡ true → is_marked name_eq c.self.inside.bridge_blocks.entries key t ≡ true = λ t h.
     let k : BridgeTree = record { bridge = key; tree = t } in
     let some = priority_told (fin.get set k) h in
-    c.blocks_of-blocks.ensures t ∙ c.self.invariant.priorities k some.0 (sym (get_keyed bridge_trees c.self.inside.priorities.entries k) ∙ ap (λ n. fin.get n.set.priorities k) c.self.view_is ∙ some.1) in
-    subst (λ l. IfOk c.with_priority.result (λ trees. trees.items ≡ l)) (ap (filter test) (c.deref.ensures.value ∙ c.in_ok-trees.ensures) ∙ trees_narrowed test (in_block c.blocks_of-blocks.result) marked) c.with_priority.ensures
+    c.self.invariant.priorities k some.0 (sym (get_keyed bridge_trees c.self.inside.priorities.entries k) ∙ ap (λ n. fin.get n.set.priorities k) c.self.view_is ∙ some.1) in
+    subst (λ l. IfOk c.with_priority.result (λ trees. trees.items ≡ l)) (ap (filter test) (c.deref.ensures.value ∙ c.in_ok-trees.ensures) ∙ trees_narrowed test (is_marked name_eq c.self.inside.bridge_blocks.entries key) marked) c.with_priority.ensures

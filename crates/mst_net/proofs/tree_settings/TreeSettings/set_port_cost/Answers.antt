@@ -13,8 +13,8 @@ invariant_of-self c =
     let a = c.self.inside in
     record {
       priorities = c.self.invariant.priorities;
-      port_priorities = λ q n h. still_marked ports a.port_blocks.entries c.mark.new.marks.entries c.args.port.now c.args.tree c.mark.ensures q.port q.tree (c.self.invariant.port_priorities q n h);
-      port_costs = kept_marked ports port_trees (λ k. k.port) (λ k. k.tree) a.port_blocks.entries c.mark.new.marks.entries a.port_costs.entries c.keep.new.table.entries _ c.args.cost c.mark.ensures c.keep.ensures c.self.invariant.port_costs;
+      port_priorities = λ q n h. still_marked ports a.port_blocks.entries c.mark.new.marks.entries c.args.port.now c.args.tree c.mark.ensures.still q.port q.tree (c.self.invariant.port_priorities q n h);
+      port_costs = kept_marked ports port_trees (λ k. k.port) (λ k. k.tree) a.port_blocks.entries c.mark.new.marks.entries a.port_costs.entries c.keep.new.table.entries _ c.args.cost c.mark.ensures.marked c.mark.ensures.still c.keep.ensures c.self.invariant.port_costs;
     }
 
 pub returns : goal.returns

@@ -12,7 +12,7 @@ pub invariant_of-self : goal.invariant_of-self
 invariant_of-self c =
     let a = c.self.inside in
     record {
-      priorities = kept_marked names bridge_trees (λ k. k.bridge) (λ k. k.tree) a.bridge_blocks.entries c.mark.new.marks.entries a.priorities.entries c.keep.new.table.entries _ c.own_priority.result c.mark.ensures c.keep.ensures c.self.invariant.priorities;
+      priorities = kept_marked names bridge_trees (λ k. k.bridge) (λ k. k.tree) a.bridge_blocks.entries c.mark.new.marks.entries a.priorities.entries c.keep.new.table.entries _ c.own_priority.result c.mark.ensures.marked c.mark.ensures.still c.keep.ensures c.self.invariant.priorities;
       port_priorities = c.self.invariant.port_priorities;
       port_costs = c.self.invariant.port_costs;
     }

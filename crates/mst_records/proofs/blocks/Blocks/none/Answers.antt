@@ -1,6 +1,5 @@
-use Rattle.std.proofs.Common.{false, ◌/◌}
-use Rattle.mst_records.proofs.Marks.{at_any}
+use Rattle.mst_records.proofs.Marks.{none_marked}
 use Rattle.mst_records.proofs.blocks.Blocks.none.Goals as goal
 
-pub returns : goal.returns
-returns c tree = at_any 64 (tree / 64) false
+pub returns-clause-none : goal.returns-clause-none
+returns-clause-none c tree = none_marked tree
