@@ -19,7 +19,7 @@ use Rattle.mst_repair.proofs.Kept.{port_kept, done_kept}
 in_mapped : {A B : Type 0} (f : A → B) (xs : List A) (x : A) → Contains xs x → Contains (map f xs) (f x)
 in_mapped f xs x h = (h.0, rw length-map h.1, get_or-map f xs h.0 x (f x) h.1 ∙ ap f h.2)
 
-from_mapped : {A B : Type 0} (f : A → B) (xs : List A) (y : B) → Contains (map f xs) y → (x : A) × Contains xs x × (f x ≡ y)
+pub from_mapped : {A B : Type 0} (f : A → B) (xs : List A) (y : B) → Contains (map f xs) y → (x : A) × Contains xs x × (f x ≡ y)
 from_mapped f xs y h = let e = at_from f xs h.0 y (h.1, h.2) in (e.0, (h.0, e.1.0, e.1.1), sym e.2)
 
 -- a number has settings of its own, or none

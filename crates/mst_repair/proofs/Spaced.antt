@@ -1,42 +1,40 @@
--- Space for the topology after an edit, where there is space for the one before.
-use Rattle.std.proofs.Common.{◌≡◌, ℕ, List, refl, subst, inl, inr}
+-- The space of a settler for the topologies on a wiring whose ports have space.
+use Rattle.std.proofs.Common.{◌≡◌, ℕ, ◌<◌, List, Result, Ok, Err, IfOk, sym, subst}
 use Rattle.std.specs.List.{Contains}
-use Rattle.mst_settle.specs.Topology.{TreePort, Topology, HasBridge, HasPort}
+use Rattle.std.specs.declared.alloc.AllocError.{AllocError}
+use Rattle.mst_settle.specs.Topology.{TreePort, Topology}
 use Rattle.mst_settle.specs.Wiring.{port_in, topology_of}
 use Rattle.mst_settle.specs.Slots.{HasRoom}
-use Rattle.mst_settle.specs.Assignment.{Assignment, HasSpaceFor, KeepsOutcome}
-use Rattle.mst_repair.specs.Differences.{CoversDifferences, IsOn, PortHasSpace, NumberHasSpace}
-use Rattle.mst_repair.proofs.Rewired.{wired, in_other}
+use Rattle.mst_settle.specs.Assignment.{Assignment, KeepsSpace}
+use Rattle.mst_repair.specs.Differences.{Wirings, HasSpaceOn, HasSpaceForBoth}
+use Rattle.mst_repair.proofs.Rewired.{from_mapped}
 
--- a topology is on the wiring on which it was made
-pub on_wiring : {B P : Type 0} (wires : List (TreePort ℕ ℕ ℕ P)) (bridges : List (ℕ × B)) (own : List (ℕ × P)) (t : Topology ℕ ℕ ℕ B P) → t ≡ topology_of wires bridges own → IsOn wires t
-on_wiring {B} {P} wires bridges own t is = (own, rw is refl)
+module _ {V : Type 0} (a b : Assignment V) where
+  -- the same touches have the same space
+  pub space_same : b.touched_bridges ≡ a.touched_bridges → b.touched_lans ≡ a.touched_lans → KeepsSpace a b
+  space_same bridges lans = record { bridges = λ n r. subst (λ z. HasRoom z n) (sym bridges) r; lans = λ n r. subst (λ z. HasRoom z n) (sym lans) r }
 
-module _ {V : Type 0} (a b : Assignment V) (k : KeepsOutcome a b) where
-  pub port_space_kept : {P : Type 0} (p : TreePort ℕ ℕ ℕ P) → PortHasSpace a p → PortHasSpace b p
-  port_space_kept p h = (k.space.bridges p.bridge h.0, k.space.lans p.lan h.1)
+  pub space_then : (c : Assignment V) → KeepsSpace a b → KeepsSpace b c → KeepsSpace a c
+  space_then c h i = record { bridges = λ n r. i.bridges n (h.bridges n r); lans = λ n r. i.lans n (h.lans n r) }
 
-  pub number_space_kept : {B P : Type 0} (t : Topology ℕ ℕ ℕ B P) (n : ℕ) → NumberHasSpace t a n → NumberHasSpace t b n
-  number_space_kept t n h p i e = port_space_kept p (h p i e)
+  pub on_kept : {P : Type 0} (ports : List (TreePort ℕ ℕ ℕ P)) → KeepsSpace a b → HasSpaceOn ports a → HasSpaceOn ports b
+  on_kept ports k space p h = let s = space p h in (k.bridges p.bridge s.0, k.lans p.lan s.1)
 
-module _ {B P V : Type 0} (wires_t wires_u : List (TreePort ℕ ℕ ℕ P)) (t u : Topology ℕ ℕ ℕ B P) (on_t : IsOn wires_t t) (on_u : IsOn wires_u u)
-    (numbers : List ℕ) (covers : CoversDifferences wires_t wires_u numbers) (a : Assignment V) (space : HasSpaceFor t a)
-    (bridges : (n : ℕ) (b : B) → HasBridge u n b → HasRoom a.touched_bridges n)
-    (differing : (p : TreePort ℕ ℕ ℕ P) → HasPort u p → Contains numbers p.number → PortHasSpace a p) where
-  -- a port of u has the bridge and the LAN of one of t, or its number is a differing one
-  port_space : (p : TreePort ℕ ℕ ℕ P) → HasPort u p → PortHasSpace a p
-  port_space p h =
-      let w = wired wires_u wires_t u t on_u.0 on_t.0 on_u.1 on_t.1 p h in
-      elim (covers.come w.0 w.1) [
-        | inl c ↦ (
-            let q = in_other wires_u wires_t u t on_u.0 on_t.0 on_u.1 on_t.1 w.0 c in
-            subst (λ z. PortHasSpace a z) w.2 (space.bridges_of_ports (port_in t.bridges on_t.0 w.0) q, space.lans (port_in t.bridges on_t.0 w.0) q))
-        | inr m ↦ differing p h (subst (λ (z : TreePort ℕ ℕ ℕ P). Contains numbers z.number) w.2 m)
-      ]
+-- the ports of a topology are on the bridges and LANs of those of its wiring
+pub on_ports : {B P V : Type 0} (wires : List (TreePort ℕ ℕ ℕ P)) (bridges : List (ℕ × B)) (own : List (ℕ × P)) (t : Topology ℕ ℕ ℕ B P) → t ≡ topology_of wires bridges own → (a : Assignment V) → HasSpaceOn wires a → HasSpaceOn t.ports a
+on_ports {B} {P} {V} wires bridges own t is a space = subst (λ (z : Topology ℕ ℕ ℕ B P). HasSpaceOn z.ports a) (sym is) there
+  where
+    there : HasSpaceOn (topology_of wires bridges own).ports a
+    there p h =
+        let w = from_mapped (port_in bridges own) wires p h in
+        subst (λ (q : TreePort ℕ ℕ ℕ P). HasRoom a.touched_bridges q.bridge × HasRoom a.touched_lans q.lan) w.2 (space w.0 w.1)
 
-  pub space_after : HasSpaceFor u a
-  space_after = record {
-    bridges = bridges;
-    lans = λ p h. (port_space p h).1;
-    bridges_of_ports = λ p h. (port_space p h).0;
-  }
+-- where numbers below bounds have space, so have the ports of two wirings whose numbers are below them
+pub below_bounds : {P V : Type 0} (w : Wirings P) (bridges lans : ℕ)
+    → ((p : TreePort ℕ ℕ ℕ P) → Contains w.from p → (p.bridge < bridges) × (p.lan < lans)) → ((p : TreePort ℕ ℕ ℕ P) → Contains w.to p → (p.bridge < bridges) × (p.lan < lans))
+    → (r : Result (Assignment V) AllocError) → IfOk r (λ s. (n : ℕ) → n < bridges → HasRoom s.touched_bridges n) → IfOk r (λ s. (lan : ℕ) → lan < lans → HasRoom s.touched_lans lan) → IfOk r (HasSpaceForBoth w)
+below_bounds w bridges lans from to (Ok s) has_bridges has_lans = record {
+  from = λ p h. let low = from p h in (has_bridges p.bridge low.0, has_lans p.lan low.1);
+  to = λ p h. let low = to p h in (has_bridges p.bridge low.0, has_lans p.lan low.1);
+}
+below_bounds w bridges lans from to (Err e) has_bridges has_lans = tt

@@ -1,10 +1,10 @@
 ghost use Rattle.std.specs.Prelude.{◌≡◌, IfOk, OnOk, IsTrue};
 ghost use Rattle.std.specs.List.{Contains};
-ghost use Rattle.mst_repair.specs.Differences.{CoversDifferences, NotesMissing};
+ghost use Rattle.mst_repair.specs.Differences.{CoversDifferences, HasSpaceForBoth, NotesMissing};
 
 use crate::comparing::{TellsApart, same_tree_port};
 use mst_ids::PortNo;
-use mst_settle::{TreePort, Wiring};
+use mst_settle::{Settler, TreePort, Wiring};
 use std::alloc::{AllocError, Global};
 use std::marker::Model;
 
@@ -71,6 +71,16 @@ impl<'a, M: TellsApart> Rewiring<'a, M> {
             to,
             differing,
         })
+    }
+
+    /// A settler with space for all ports of both wirings: each tree that goes from the one to the other can use it in turn.
+    /// `AllocError`: memory was wanted and refused.
+    pub fn settler(&self, alloc: Global) -> Result<Settler<M>, AllocError>
+        ensures { IfOk result (HasSpaceForBoth self.now) }
+    {
+        let bridges = self.from.bridge_bound().max(self.to.bridge_bound());
+        let lans = self.from.lan_bound().max(self.to.lan_bound());
+        Settler::with_space(alloc, bridges, lans)
     }
 
     /// The wiring before.

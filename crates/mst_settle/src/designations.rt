@@ -1,4 +1,4 @@
-ghost use Rattle.std.specs.Prelude.{◌≡◌, ◌≢◌, ℕ, [], Bool, Option, Some, true, false, IfOk};
+ghost use Rattle.std.specs.Prelude.{◌≡◌, ◌≢◌, ℕ, [], Bool, Option, Some, true, false};
 ghost use Rattle.std.specs.Map.{keys_of};
 ghost use Rattle.std.specs.List.{Contains};
 ghost use Rattle.mst_settle.specs.Places.{option_at, HasRoomAt};
@@ -155,16 +155,6 @@ impl Designations {
             ports: ByNumber::new(alloc),
             heard: Seen::new(alloc),
         }
-    }
-
-    /// A copy. `AllocError`: memory was wanted and refused.
-    pub fn copy(&self, alloc: Global) -> Result<Self, AllocError>
-        ensures { IfOk result (λ copy. copy ≡ self.now) }
-    {
-        Ok(Designations {
-            ports: self.ports.copy(alloc)?,
-            heard: self.heard.copy(alloc)?,
-        })
     }
 
     /// Finds the designated port of a LAN anew, if it wasn't heard in this round.

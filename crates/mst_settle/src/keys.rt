@@ -1,4 +1,4 @@
-ghost use Rattle.std.specs.Prelude.{◌≡◌, ℕ, ◌*◌, ◌<◌, ◌/◌, [], Some, None, true, length, IfOk, OnOk, OnErr};
+ghost use Rattle.std.specs.Prelude.{◌≡◌, ℕ, ◌*◌, ◌<◌, ◌/◌, [], Some, None, true, length, OnOk, OnErr};
 ghost use Rattle.std.specs.List.{Contains};
 ghost use Rattle.std.specs.Option.{ForSome};
 ghost use Rattle.mst_settle.specs.Best.{IsBestOf};
@@ -127,15 +127,5 @@ impl<M: Metric> Keys<M> {
         let (place, key) = least?;
         let (number, _) = self.slots.entries()[place];
         Some((number, key))
-    }
-
-    /// A copy. `AllocError`: memory was wanted and refused.
-    pub fn copy(&self, alloc: Global) -> Result<Self, AllocError>
-        ensures { IfOk result (λ copy. copy ≡ self.now) }
-    {
-        Ok(Keys {
-            slots: self.slots.copy(alloc)?,
-            bests: Vec::from_slice(alloc, self.bests.as_slice())?,
-        })
     }
 }

@@ -12,6 +12,7 @@ pub mod laws;
 mod link;
 mod looking;
 mod messages;
+mod outcome;
 mod progress;
 mod queue;
 mod repairing;
@@ -24,6 +25,7 @@ mod touched;
 mod wiring;
 
 pub use bridges::Bridges;
+pub use outcome::Outcome;
 pub use settler::Settler;
 pub use topology::Topology;
 pub use wiring::{TreePort, Wiring};

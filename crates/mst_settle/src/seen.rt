@@ -1,4 +1,4 @@
-ghost use Rattle.std.specs.Prelude.{◌≡◌, ◌⊎◌, ℕ, [], true, IfOk, OnOk};
+ghost use Rattle.std.specs.Prelude.{◌≡◌, ◌⊎◌, ℕ, [], true, OnOk};
 ghost use Rattle.mst_settle.specs.Places.{HasRoomAt};
 ghost use Rattle.mst_settle.specs.Seen.{IsSeen, IsEmpty};
 
@@ -70,15 +70,5 @@ impl Seen {
         if self.marks.has(number) {
             self.marks.write_at(number, self.round);
         }
-    }
-
-    /// A copy. `AllocError`: memory was wanted and refused.
-    pub fn copy(&self, alloc: Global) -> Result<Self, AllocError>
-        ensures { IfOk result (λ copy. copy ≡ self.now) }
-    {
-        Ok(Seen {
-            marks: self.marks.copy(alloc)?,
-            round: self.round,
-        })
     }
 }

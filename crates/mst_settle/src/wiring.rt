@@ -123,6 +123,20 @@ impl<P: Copy> Wiring<P> {
         self.last_on.get(lan.0).flatten()
     }
 
+    /// A number that is above those of the LANs of all ports.
+    pub fn lan_bound(&self) -> usize
+        ensures { (p : TreePortOf ℕ ℕ ℕ P) → Contains self.now p → p.lan < result }
+    {
+        self.last_on.bound()
+    }
+
+    /// A number that is above those of the bridges of all ports.
+    pub fn bridge_bound(&self) -> usize
+        ensures { (p : TreePortOf ℕ ℕ ℕ P) → Contains self.now p → p.bridge < result }
+    {
+        self.last_of.bound()
+    }
+
     /// The place of the last port of the bridge.
     pub fn last_of(&self, bridge: BridgeNo) -> Option<usize>
         ensures { IsLast self.now (λ p. p.bridge ≡ bridge) (length self.now) result }

@@ -15,11 +15,13 @@ pub record Ground : Type 0 where
   pub internal : List PortInView
   pub from : List (TreePort ℕ ℕ ℕ MstiPort)
 
--- with the settings that ports have in one tree alone, and the wirings from which trees go to that of the internal ports: the
--- one before, and one of no ports
-pub record AreGround (v : Viewed) (internal : List PortInView) (settings : List (ℕ × BTreeMap ℕ MstiPort)) (rewiring anew : Wirings MstiPort) : Type 0 where
+-- the wirings from which and to which trees go
+abbrev pub rewiring_of : Ground → Wirings MstiPort
+rewiring_of g = record { from = g.from; to = msti_wires g.internal }
+
+-- with the settings that ports have in one tree alone, the wirings from the one before to that of the internal ports, and one of no ports
+pub record AreGround (v : Viewed) (internal : List PortInView) (settings : List (ℕ × BTreeMap ℕ MstiPort)) (rewiring : Wirings MstiPort) (nothing : List (TreePort ℕ ℕ ℕ MstiPort)) : Type 0 where
   pub known : KnownInternal v internal
   pub own : (tree : ℕ) → AreOwn v internal tree (own_in settings tree)
   pub to : rewiring.to ≡ msti_wires internal
-  pub from_none : anew.from ≡ []
-  pub anew_to : anew.to ≡ msti_wires internal
+  pub none : nothing ≡ []

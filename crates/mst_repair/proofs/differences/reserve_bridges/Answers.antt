@@ -19,7 +19,12 @@ pub returns-in_err-reserve_bridge-clause-keeps : goal.returns-in_err-reserve_bri
 returns-in_err-reserve_bridge-clause-keeps g c = keeps_trans c.args.settler.now c.loop-bridge.settler c.reserve_bridge.new.self c.loop-bridge.invariant.keeps c.reserve_bridge.ensures.keeps
 
 pub returns-clause-ok : goal.returns-clause-ok
-returns-clause-ok g c = λ n b h.
+returns-clause-ok g c =
     let e : length c.bridges-bridge-items.result.now ≡ length c.args.topology.now.bridges = ap length c.bridges-bridge-items.ensures in
     let end : length c.args.topology.now.bridges ≤ c.loop-bridge.bridge-index = omega arith in
-    all_there (λ (e : ℕ × g.row.M-Bridge.Denot). HasRoom c.loop-bridge.settler.touched_bridges e.0) c.args.topology.now.bridges c.loop-bridge.bridge-index (n, b) end c.loop-bridge.invariant.room h
+    let space = c.loop-bridge.invariant.keeps.space in
+    record {
+      bridges = λ n b h. all_there (λ (e : ℕ × g.row.M-Bridge.Denot). HasRoom c.loop-bridge.settler.touched_bridges e.0) c.args.topology.now.bridges c.loop-bridge.bridge-index (n, b) end c.loop-bridge.invariant.room h;
+      lans = λ p h. space.lans p.lan (c.requires p h).1;
+      bridges_of_ports = λ p h. space.bridges p.bridge (c.requires p h).0;
+    }
