@@ -11,3 +11,4 @@ pub mod Joined
 pub mod CutApart
 pub mod Unbroken
 pub mod Paired
+pub mod NoCuts

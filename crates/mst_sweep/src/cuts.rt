@@ -1,5 +1,5 @@
 ghost use Rattle.std.specs.Prelude.{◌≡◌, ◌<◌, ◌+◌, ◌++◌, ℕ, List, Ok, IfOk, OnOk, length, map, filter, vec_len};
-ghost use Rattle.std.specs.List.{AllZip, flat_map};
+ghost use Rattle.std.specs.List.{AllZip, flat_map, list_any};
 ghost use Rattle.mst_net.specs.After.{after};
 ghost use Rattle.mst_net.specs.Tables.{Net, Numbers};
 ghost use Rattle.mst_trees.specs.Agrees.{AreOf, Known};
@@ -20,6 +20,7 @@ use indexmap::IndexMap;
 use mst_changes::Planned;
 use mst_diff::Both;
 use mst_graph::groups_by_body;
+use mst_graph::laws::group_lists;
 use mst_ids::{BridgeNo, Vid, push_bytes, push_end};
 use mst_plan_text::{copies, set_of, vids};
 use std::alloc::{AllocError, Global};
@@ -78,6 +79,13 @@ fn is_any(parts: &[u8]) -> bool
         [] => false,
         [..] => true,
     }
+}
+
+/// Whether there are parts in some of these.
+fn are_any(texts: &[Vec<u8>]) -> bool
+    ensures { result ≡ list_any (λ text. has_any text.items) texts.now }
+{
+    texts.iter().any(|text| is_any(text.as_slice()))
 }
 
 /// Appends the line of a group of VIDs, with these parts.
@@ -165,7 +173,8 @@ fn cut_of(
 /// Appends the lines of VIDs that a failure cuts, VIDs of equal parts in one line, and answers these VIDs. `AllocError`:
 /// memory was wanted and refused; part of them may have been appended.
 ///
-/// Islands are made once for VIDs that no table and no set of VLANs tells apart. A failure leaves both.
+/// Islands are made once for VIDs that no table and no set of VLANs tells apart. A failure leaves both. Where no VID has
+/// parts, none is grouped.
 pub(crate) fn push_cuts(
     alloc: Global,
     old: &Planned,
@@ -180,7 +189,12 @@ pub(crate) fn push_cuts(
     ensures { IfOk result (λ cut. (failure : FailureOf) (a b : Net) (n k : Numbers) (is : IsForest a n old.now.forest.now) (are : IsForest b k new.now.forest.now) → AreOf a n old.now.view.now old.now.forest.now.regions → AreOf b k new.now.view.now new.now.forest.now.regions
         → after (edit_of failure) a ≡ Ok b → (text : List ℕ) × AreCuts a is.outcome b are.outcome cut.items text × (out.new.items ≡ out.old.items ++ text)) }
 {
+    group_lists::<Vid>();
     let bodies = parts_of_firsts(alloc, old, new, baseline, both)?;
+    let texts = bodies.as_slice();
+    if !are_any(texts) {
+        return Ok(Vec::new(alloc));
+    }
     let kept = copies(alloc, bodies.as_slice())?;
     let vids = vids(alloc)?;
     let numbers = baseline.classes.numbers.as_slice();

@@ -1,5 +1,5 @@
-use Rattle.std.proofs.Common.{Vec, Global, ◌≡◌, ℕ, ◌++◌, Bool, List, length, map, refl, sym, ap, subst, ◌∙◌}
-use Rattle.std.specs.List.{filter, flat_map}
+use Rattle.std.proofs.Common.{Vec, Global, ◌≡◌, ℕ, ◌-◌, ◌++◌, Bool, false, List, [], get_or, length, map, refl, sym, ap, subst, ◌∙◌, append-nil}
+use Rattle.std.specs.List.{filter, flat_map, list_any}
 use Rattle.std.proofs.lemmas.Result.{IfOk-weaker}
 use Rattle.mst_plan_text.specs.Bodies.{NumberEach, body_at}
 use Rattle.mst_plan_text.specs.PlanText.{all_vids}
@@ -8,8 +8,9 @@ use Rattle.mst_plan_text.proofs.Classes.{numbers_below, each_below, have_bodies}
 use Rattle.mst_diff.specs.Reach.{has_any}
 use Rattle.mst_diff.proofs.Reached.{AreTold}
 use Rattle.mst_sweep.specs.Parts.{AreParts}
-use Rattle.mst_sweep.specs.Cuts.{group_text}
+use Rattle.mst_sweep.specs.Cuts.{group_text, AreCuts}
 use Rattle.mst_sweep.proofs.Failed.{are_left}
+use Rattle.mst_sweep.proofs.NoCuts.{none_at, no_cuts}
 use Rattle.mst_sweep.proofs.Stay.{parts_moved}
 use Rattle.mst_sweep.proofs.cuts.push_cuts.Goals as goal
 
@@ -59,3 +60,22 @@ returns c = IfOk-weaker c.cut_of.result _ _
       },
       c.in_ok-push_groups.ensures {u = tt} ∙ (λ j. c.args.out.now.items ++ flat_map (group_text (body_at (c.as_slice-numbers.ensures.value j) (kept j))) (map (λ group. group.items) (c.as_slice-3.ensures.value j))),
     )) c.cut_of.ensures
+
+pub returns-then-not-are_any : goal.returns-then-not-are_any
+returns-then-not-are_any c failure a b n k is are of so e =
+    let s = c.requires.baseline in
+    let classes : List ℕ = c.args.baseline.now.classes.numbers.items in
+    let firsts : List ℕ = c.args.baseline.now.classes.firsts.items in
+    let v = c.args.old.now.view.now in
+    let w = c.args.new.now.view.now in
+    let f = c.args.old.now.forest.now in
+    let g = c.args.new.now.forest.now in
+    let bodies : List (Vec ℕ Global) = c.in_ok-bodies.bodies.items in
+    let texts : List (List ℕ) = map items bodies in
+    let R : ℕ → List ℕ → Type 0 = AreParts a is.outcome b are.outcome in
+    let told_by : AreTold v s.tables s.sets = record { tables = s.have_tables; sets = s.have_sets } in
+    let none : list_any (λ (t : Vec ℕ Global). has_any t.items) bodies ≡ false =
+    ap (list_any (λ (t : Vec ℕ Global). has_any t.items)) (sym c.as_slice-texts.ensures.value) ∙ sym c.are_any.ensures ∙ c.if-not-are_any.true in
+    let parts = have_bodies R s.tables s.sets (parts_moved a b n k v w f g of so (are_left failure a b e) s.tables s.sets told_by is.outcome are.outcome) s.numbers classes firsts s.tell s.classes texts (c.in_ok-bodies.ensures.parts a b n k is are of so) in
+    let cuts = no_cuts (body_at classes texts) (λ vid. none_at bodies none (get_or classes (vid - 1) 0)) a b is.outcome are.outcome c.group_lists.ensures.some parts in
+    ([], subst (λ vids. AreCuts a is.outcome b are.outcome vids []) (sym c.new.ensures.items) cuts, sym (append-nil c.args.out.now.items))
