@@ -12,3 +12,6 @@ pub mod CutApart
 pub mod Unbroken
 pub mod Paired
 pub mod NoCuts
+pub mod PartsJoined
+pub mod LastLine
+pub mod SweptParts

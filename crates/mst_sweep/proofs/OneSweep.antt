@@ -31,7 +31,7 @@ use Rattle.mst_sweep.specs.Failures.{edit_of, failures}
 use Rattle.mst_sweep.specs.Moved.{moved_roots, moved_ports}
 use Rattle.mst_sweep.specs.Parts.{staying, parts_text, AreParts}
 use Rattle.mst_sweep.specs.Cuts.{group_line, group_text, AreCuts}
-use Rattle.mst_sweep.specs.SweepText.{failure_line, IsFailureText, Told, IsTold, sweep_line, IsSweep}
+use Rattle.mst_sweep.specs.SweepText.{failure_line, IsFailureText, Told, IsTold, sweep_line, IsSweepOf}
 
 -- ---- one failure
 module _ (a b : Net) (o p : Outcome) (one : OneList) (grouping : OneGrouping) where
@@ -175,12 +175,17 @@ module _ (one : OneList) (grouping : OneGrouping) (single : (net : Net) (o p : O
         cuts = cuts_alike net x.failed o x.outcome one grouping failure t.text u.text t.cuts u.cuts x.is other i;
       }
 
-  module _ (text other : List ℕ) (c d : ℕ) (x : IsSweep net o text c) (y : IsSweep net o other d) where
-    all_same : x.told ≡ y.told
-    all_same = zip_same (IsTold net o) (IsTold net o) (failures net) x.told y.told told_same x.each y.each
+  -- of some of the failures, or of all
+  module _ (fs : List Failure) (own : (f : Failure) → Contains fs f → Contains (failures net) f) where
+    pub all_told : (told others : List Told) → AllZip (IsTold net o) fs told → AllZip (IsTold net o) fs others → told ≡ others
+    all_told told others x y = zip_same (IsTold net o) (IsTold net o) fs told others (λ f h. told_same f (own f h)) x y
 
-    pub count_same : c ≡ d
-    count_same = x.counted ∙ ap (count_by (λ (t : Told). t.cuts)) all_same ∙ sym y.counted
+    module _ (text other : List ℕ) (c d : ℕ) (x : IsSweepOf net o fs text c) (y : IsSweepOf net o fs other d) where
+      all_same : x.told ≡ y.told
+      all_same = all_told x.told y.told x.each y.each
 
-    pub one_sweep : text ≡ other
-    one_sweep = x.is ∙ (λ i. flat_map (λ (t : Told). t.text) (all_same i) ++ sweep_line (failures net) (count_same i)) ∙ sym y.is
+      pub count_same : c ≡ d
+      count_same = x.counted ∙ ap (count_by (λ (t : Told). t.cuts)) all_same ∙ sym y.counted
+
+      pub one_sweep : text ≡ other
+      one_sweep = x.is ∙ (λ i. flat_map (λ (t : Told). t.text) (all_same i) ++ sweep_line fs (count_same i)) ∙ sym y.is

@@ -3,6 +3,7 @@ pub mod Moved
 pub mod Parts
 pub mod Cuts
 pub mod SweepText
+pub mod SweepParts
 pub mod Seen
 pub mod Baseline
 pub mod Apart

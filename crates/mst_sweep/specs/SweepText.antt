@@ -59,9 +59,14 @@ abbrev pub sweep_line : List Failure → ℕ → List ℕ
 sweep_line all cuts =
     line (codes "sweep" ∷ codes "lans" ∷ decimal (count_by is_lan all) ∷ codes "bridges" ∷ decimal (count_by is_bridge all) ∷ codes "cuts" ∷ decimal cuts ∷ [])
 
--- this is the text of all failures, one after another, and this the number of those that cut some VID
-pub record IsSweep (net : Net) (o : Outcome) (text : List ℕ) (cuts : ℕ) : Type 0 where
+-- this is the text of these failures, one after another, with a last line that counts them, and this the number of those that
+-- cut some VID
+pub record IsSweepOf (net : Net) (o : Outcome) (all : List Failure) (text : List ℕ) (cuts : ℕ) : Type 0 where
   pub told : List Told
-  pub each : AllZip (IsTold net o) (failures net) told
+  pub each : AllZip (IsTold net o) all told
   pub counted : cuts ≡ count_by (λ t. t.cuts) told
-  pub is : text ≡ flat_map (λ t. t.text) told ++ sweep_line (failures net) cuts
+  pub is : text ≡ flat_map (λ t. t.text) told ++ sweep_line all cuts
+
+-- and of all failures of the network
+abbrev pub IsSweep : Net → Outcome → List ℕ → ℕ → Type 0
+IsSweep net o text cuts = IsSweepOf net o (failures net) text cuts

@@ -1,15 +1,17 @@
 //! Laws of the text of what each single failure does. Their functions do nothing: a caller has their clauses.
-ghost use Rattle.std.specs.Prelude.{◌≡◌, ◌↔◌, ℕ, Bool, true, List, Ok};
+ghost use Rattle.std.specs.Prelude.{◌≡◌, ◌↔◌, ◌+◌, ◌/◌, ◌≤◌, ℕ, Bool, true, List, length, Ok};
+ghost use Rattle.std.specs.List.{flat_map, sum_by};
 ghost use Rattle.mst_net.specs.After.{after};
 ghost use Rattle.mst_net.specs.Tables.{Net, IsNetwork};
 ghost use Rattle.mst_lag.specs.View.{IsUnrestricted};
 ghost use Rattle.mst_trees.specs.Outcome.{Outcome, IsOutcome};
 ghost use Rattle.mst_diff.specs.Reach.{has_any};
 ghost use Rattle.mst_sweep.specs.Apart.{AllAreMembers, ComeApart};
-ghost use Rattle.mst_sweep.specs.Failures.{edit_of};
+ghost use Rattle.mst_sweep.specs.Failures.{edit_of, failures};
 ghost use Rattle.mst_sweep.specs.Parts.{AreParts};
 ghost use Rattle.mst_sweep.specs.declared.failure.Failure.{Failure as FailureOf};
 ghost use Rattle.mst_sweep.specs.SweepText.{IsFailureText, IsSweep};
+ghost use Rattle.mst_sweep.specs.SweepParts.{PartOf, IsPart, ToldOfPart, whole_part, part_of, IsSweepPart, AreSweepParts, but_last_line};
 
 use mst_graph::laws::group_lists;
 use mst_ids::Vid;
@@ -32,6 +34,23 @@ pub fn one_failure()
 /// made by.
 pub fn one_sweep()
     ensures { (net : Net) (o p : Outcome) (text other : List ℕ) (c d : ℕ) → IsNetwork net → IsOutcome net o → IsOutcome net p → IsSweep net o text c → IsSweep net p other d → (text ≡ other) × (c ≡ d) }
+{
+    one_outcome();
+    islands_of_vid();
+    group_lists::<Vid>();
+    networks();
+}
+
+/// A part of a sweep has one text and one number of failures that cut some VID, too. And the parts are the sweep: so many of
+/// them, each without its last line, are one after another its text without its last line, and their numbers of failures that
+/// cut some VID have its number as their sum. The only part of one is the sweep itself. A part has as many failures as all
+/// over the number of parts, rounded down, or one more.
+pub fn sweep_parts()
+    ensures one { (net : Net) (o p : Outcome) (part : PartOf) (text other : List ℕ) (c d : ℕ) → IsNetwork net → IsOutcome net o → IsOutcome net p → IsSweepPart part net o text c → IsSweepPart part net p other d → (text ≡ other) × (c ≡ d) }
+    ensures joined { (net : Net) (o : Outcome) (count : ℕ) (parts : List ToldOfPart) (text : List ℕ) (cuts : ℕ) → IsNetwork net → IsOutcome net o → 1 ≤ count → AreSweepParts net o count parts → IsSweep net o text cuts
+        → (flat_map (λ part. but_last_line part.text) parts ≡ but_last_line text) × (sum_by (λ part. part.cuts) parts ≡ cuts) }
+    ensures lengths { (net : Net) (part : PartOf) → IsPart part → (length (failures net) / part.count ≤ length (part_of part (failures net))) × (length (part_of part (failures net)) ≤ length (failures net) / part.count + 1) }
+    ensures whole { (net : Net) (o : Outcome) (text : List ℕ) (cuts : ℕ) → IsSweepPart whole_part net o text cuts ↔ IsSweep net o text cuts }
 {
     one_outcome();
     islands_of_vid();

@@ -12,8 +12,10 @@ mod parts;
 mod ports;
 mod roots;
 mod sweep;
+mod sweep_part;
 mod whole;
 
 pub use baseline::Baseline;
 pub use failure::{Failure, failures};
 pub use sweep::{push_failure, push_last};
+pub use sweep_part::SweepPart;

@@ -1,4 +1,5 @@
 use Rattle.std.proofs.Common.{◌≡◌, subst}
+use Rattle.mst_sweep.specs.Failures.{failures}
 use Rattle.mst_sweep.specs.SweepText.{IsSweep}
 use Rattle.mst_sweep.proofs.OneSweep.{one_sweep, count_same}
 use Rattle.mst_sweep.proofs.laws.one_sweep.Goals as goal
@@ -10,6 +11,6 @@ returns g net o p text other c d is oa pa x y =
     let one = g.islands_of_vid.ensures.one in
     let grouping = g.group_lists.ensures.one in
     let after = g.networks.ensures.after in (
-      one_sweep one grouping g.one_outcome.ensures after net o is text other c d x z,
-      count_same one grouping g.one_outcome.ensures after net o is text other c d x z,
+      one_sweep one grouping g.one_outcome.ensures after net o is (failures net) (λ f own. own) text other c d x z,
+      count_same one grouping g.one_outcome.ensures after net o is (failures net) (λ f own. own) text other c d x z,
     )

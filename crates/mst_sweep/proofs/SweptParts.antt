@@ -1,0 +1,128 @@
+-- The parts of a sweep, one after another, are the sweep.
+use Rattle.std.proofs.Common.{◌≡◌, ℕ, ◌+◌, ◌<◌, Bool, true, false, cond, List, [], ◌∷◌, ◌++◌, codes, decimal, map, take, drop, refl, sym, ap, subst, ◌∙◌, append-nil, arith}
+use Rattle.std.specs.List.{AllByRecursion, AllZip, Contains, flat_map, count_by, sum_by, range_with_len}
+use Rattle.std.specs.Prelude.{if◌then◌else◌}
+use Rattle.std.proofs.lemmas.Grind.{flat_map-append}
+use Rattle.std.proofs.lemmas.List.{take-append-drop}
+use Rattle.std.proofs.lemmas.List.Elements.{Contains-append_left, Contains-append_right}
+use Rattle.std.proofs.lemmas.List.Sums.{sum_by-append, sum_by-cons}
+use Rattle.mst_ids.specs.Vids.{set_where, vids_text}
+use Rattle.mst_ids.specs.Words.{after_space, comma_list}
+use Rattle.mst_net.specs.Tables.{Net}
+use Rattle.mst_lag.specs.Trees.{is_among}
+use Rattle.mst_trees.specs.Outcome.{Outcome}
+use Rattle.mst_diff.specs.Reach.{has_any}
+use Rattle.mst_sweep.specs.declared.failure.Failure.{Failure}
+use Rattle.mst_sweep.specs.Failures.{failures}
+use Rattle.mst_sweep.specs.Moved.{moved_roots, moved_ports}
+use Rattle.mst_sweep.specs.Cuts.{cut_line, group_text}
+use Rattle.mst_sweep.specs.SweepText.{failure_words, failure_line, Told, IsTold, is_lan, is_bridge, sweep_line, IsSweep, IsSweepOf}
+use Rattle.mst_sweep.specs.SweepParts.{PartOf, whole_part, part_of, ToldOfPart, AreSweepParts, but_last_line}
+use Rattle.mst_sweep.proofs.PartsJoined.{all_parts}
+use Rattle.mst_sweep.proofs.LastLine.{ends, AreLines, lines_joined, lines_ended, are_line, all_lines, one_line, decimal_word, but_last}
+
+-- ---- a part
+-- the whole is one
+pub whole_is : {A : Type 0} (all : List A) → part_of whole_part all ≡ all
+whole_is all = sym (append-nil (part_of whole_part all)) ∙ all_parts 1 (omega arith) all
+
+-- what is in a part is in the list
+pub from_part : {A : Type 0} (part : PartOf) (all : List A) (x : A) → Contains (part_of part all) x → Contains all x
+from_part part all x h = from_drop _ all (from_take _ _ h)
+  where
+    from_take : (n : ℕ) (xs : List _) → Contains (take n xs) x → Contains xs x
+    from_take n xs h = subst (λ l. Contains l x) (take-append-drop n xs) (Contains-append_left (take n xs) (drop n xs) x h)
+
+    from_drop : (n : ℕ) (xs : List _) → Contains (drop n xs) x → Contains xs x
+    from_drop n xs h = subst (λ l. Contains l x) (take-append-drop n xs) (Contains-append_right (take n xs) (drop n xs) x h)
+
+-- ---- the lines of a sweep
+cut_ended : (group parts : List ℕ) → AreLines (cut_line group parts)
+cut_ended group parts = lines_ended (codes "cut" ++ after_space (vids_text (set_where (is_among group))) ++ codes " parts" ++ parts)
+
+group_lines : (parts : ℕ → List ℕ) (group : List ℕ) → AreLines (group_text parts group)
+group_lines parts [] = tt
+group_lines parts (vid ∷ others) = go (has_any (parts vid))
+  where
+    go : (x : Bool) → AreLines (if x then cut_line (vid ∷ others) (parts vid) else [])
+    go true = cut_ended (vid ∷ others) (parts vid)
+    go false = tt
+
+each_group : (parts : ℕ → List ℕ) (groups : List (List ℕ)) → AllByRecursion (λ group. AreLines (group_text parts group)) groups
+each_group parts [] = tt
+each_group parts (group ∷ groups) = (group_lines parts group, each_group parts groups)
+
+last_one : (fs : List Failure) (cuts : ℕ) → ends (sweep_line fs cuts) ≡ 1
+last_one fs cuts =
+    let lans = decimal (count_by is_lan fs) in
+    let bridges = decimal (count_by is_bridge fs) in
+    one_line (codes "sweep" ∷ codes "lans" ∷ lans ∷ codes "bridges" ∷ bridges ∷ codes "cuts" ∷ decimal cuts ∷ [])
+    (refl, (refl, (decimal_word (count_by is_lan fs), (refl, (decimal_word (count_by is_bridge fs), (refl, (decimal_word cuts, tt)))))))
+
+failed_ended : (failure : Failure) (roots : List ℕ) (ports : ℕ) (vids : List ℕ) → AreLines (failure_line failure roots ports vids)
+failed_ended failure roots ports vids =
+    are_line (failure_words failure ++ codes "roots" ∷ comma_list (map decimal roots) ∷ codes "ports" ∷ decimal ports ∷ codes "cut" ∷ vids_text (set_where (is_among vids)) ∷ [])
+
+module _ (net : Net) (o : Outcome) where
+  told_lines : (failure : Failure) (told : Told) → IsTold net o failure told → AreLines told.text
+  told_lines failure told is =
+      let cuts = is.is.are_cuts in
+      let lines : AreLines is.is.lines = subst AreLines (sym cuts.is) (all_lines (group_text cuts.parts) cuts.groups (each_group cuts.parts cuts.groups)) in
+      let roots = moved_roots net o is.failed is.outcome in
+      let ports = moved_ports net o is.failed is.outcome in
+      subst AreLines (sym is.is.is) (lines_joined (failure_line failure roots ports is.is.vids) is.is.lines (failed_ended failure roots ports is.is.vids) lines)
+
+  each_told : (fs : List Failure) (told : List Told) → AllZip (IsTold net o) fs told → AllByRecursion (λ (t : Told). AreLines t.text) told
+  each_told [] [] h = tt
+  each_told [] (t ∷ told) h = absurd h
+  each_told (f ∷ fs) [] h = absurd h
+  each_told (f ∷ fs) (t ∷ told) h = (told_lines f t h.0, each_told fs told h.1)
+
+  -- without the last of them
+  without_last : (fs : List Failure) (text : List ℕ) (cuts : ℕ) (x : IsSweepOf net o fs text cuts) → but_last_line text ≡ flat_map (λ (t : Told). t.text) x.told
+  without_last fs text cuts x =
+      ap but_last_line x.is ∙ but_last (flat_map (λ (t : Told). t.text) x.told) (sweep_line fs cuts) (all_lines (λ (t : Told). t.text) x.told (each_told fs x.told x.each)) (last_one fs cuts)
+
+  -- ---- all parts
+  zip_joined : {A B : Type 0} (R : A → B → Type 0) (xs ys : List A) (us vs : List B) → AllZip R xs us → AllZip R ys vs → AllZip R (xs ++ ys) (us ++ vs)
+  zip_joined R [] ys [] vs h k = k
+  zip_joined R [] ys (u ∷ us) vs h k = absurd h
+  zip_joined R (x ∷ xs) ys [] vs h k = absurd h
+  zip_joined R (x ∷ xs) ys (u ∷ us) vs h k = (h.0, zip_joined R xs ys us vs h.1 k)
+
+  -- what is told of parts of a list, one after another
+  module _ (all : List Failure) (count : ℕ) where
+    abbrev numbered : ℕ → List Failure
+    numbered number = part_of (record { number = number; count = count }) all
+
+    record Together (numbers : List ℕ) (parts : List ToldOfPart) : Type 0 where
+      told : List Told
+      each : AllZip (IsTold net o) (flat_map numbered numbers) told
+      texts : flat_map (λ (p : ToldOfPart). but_last_line p.text) parts ≡ flat_map (λ (t : Told). t.text) told
+      cuts : sum_by (λ (p : ToldOfPart). p.cuts) parts ≡ count_by (λ (t : Told). t.cuts) told
+
+    together : (numbers : List ℕ) (parts : List ToldOfPart) → AllZip (λ number (part : ToldOfPart). IsSweepOf net o (numbered number) part.text part.cuts) numbers parts → Together numbers parts
+    together [] [] h = record { told = []; each = tt; texts = refl; cuts = refl }
+    together [] (part ∷ parts) h = absurd h
+    together (n ∷ numbers) [] h = absurd h
+    together (n ∷ numbers) (part ∷ parts) h =
+        let x = h.0 in
+        let rest = together numbers parts h.1 in
+        let first = without_last (numbered n) part.text part.cuts x in
+        record {
+          told = x.told ++ rest.told;
+          each = zip_joined (IsTold net o) (numbered n) (flat_map numbered numbers) x.told rest.told x.each rest.each;
+          texts = (λ i. first i ++ rest.texts i) ∙ sym (flat_map-append (λ (t : Told). t.text) x.told rest.told);
+          cuts = sum_by-cons (λ (p : ToldOfPart). p.cuts) part parts ∙ (λ i. x.counted i + rest.cuts i) ∙ sym (sum_by-append (λ (t : Told). cond t.cuts 1 0) x.told rest.told);
+        }
+
+  pub joined : ((told others : List Told) → AllZip (IsTold net o) (failures net) told → AllZip (IsTold net o) (failures net) others → told ≡ others)
+      → (count : ℕ) → 0 < count → (parts : List ToldOfPart) (text : List ℕ) (cuts : ℕ) → AreSweepParts net o count parts → IsSweep net o text cuts
+      → (flat_map (λ (p : ToldOfPart). but_last_line p.text) parts ≡ but_last_line text) × (sum_by (λ (p : ToldOfPart). p.cuts) parts ≡ cuts)
+  joined one count some parts text cuts are x =
+      let t = together (failures net) count (range_with_len 1 count) parts are in
+      let each : AllZip (IsTold net o) (failures net) t.told = subst (λ l. AllZip (IsTold net o) l t.told) (all_parts count some (failures net)) t.each in
+      let same : t.told ≡ x.told = one t.told x.told each x.each in (
+        t.texts ∙ ap (flat_map (λ (t : Told). t.text)) same ∙ sym (without_last (failures net) text cuts x),
+        t.cuts ∙ ap (count_by (λ (t : Told). t.cuts)) same ∙ sym x.counted,
+      )
