@@ -5,3 +5,4 @@ pub mod Explained
 pub mod Staying
 pub mod SweepThere
 pub mod Swept
+pub mod SweptParts

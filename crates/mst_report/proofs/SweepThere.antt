@@ -1,5 +1,5 @@
--- Each network has a text of what each single failure does.
-use Rattle.std.proofs.Common.{◌≡◌, ℕ, Bool, List, [], ◌∷◌, ◌++◌, map, not, is_some, Some, Ok, Err, refl, ap}
+-- Each network has a text of what each single failure does, and of what each of a part of them does.
+use Rattle.std.proofs.Common.{◌≡◌, ℕ, Bool, List, [], ◌∷◌, ◌++◌, map, take, drop, zero, suc, not, is_some, Some, Ok, Err, refl, ap}
 use Rattle.std.specs.List.{AllByRecursion, AllZip, filter, flat_map, count_by}
 use Rattle.std.specs.Option.{option_map_or}
 use Rattle.std.specs.FinMap as fin
@@ -16,12 +16,26 @@ use Rattle.mst_vlan.specs.Reach.{bridges_on}
 use Rattle.mst_sweep.specs.declared.failure.Failure.{Failure}
 use Rattle.mst_sweep.specs.declared.failure.Failure.TheVariants.{Lan, Bridge}
 use Rattle.mst_sweep.specs.Failures.{edit_of, failures}
-use Rattle.mst_sweep.specs.SweepText.{IsFailureText, Told, IsTold, sweep_line}
-use Rattle.mst_report.specs.Sweeping.{Sweeps}
+use Rattle.mst_sweep.specs.SweepText.{IsFailureText, Told, IsTold, sweep_line, IsSweepOf}
+use Rattle.mst_sweep.specs.SweepParts.{PartOf, part_of}
+use Rattle.mst_report.specs.Sweeping.{Sweeps, SweepsPart}
 
 all_joined : {A : Type 0} (P : A → Type 0) (xs ys : List A) → AllByRecursion P xs → AllByRecursion P ys → AllByRecursion P (xs ++ ys)
 all_joined P [] ys h k = k
 all_joined P (x ∷ xs) ys h k = (h.0, all_joined P xs ys h.1 k)
+
+all_taken : {A : Type 0} (P : A → Type 0) (n : ℕ) (xs : List A) → AllByRecursion P xs → AllByRecursion P (take n xs)
+all_taken P zero xs h = tt
+all_taken P (suc n) [] h = tt
+all_taken P (suc n) (x ∷ xs) h = (h.0, all_taken P n xs h.1)
+
+all_dropped : {A : Type 0} (P : A → Type 0) (n : ℕ) (xs : List A) → AllByRecursion P xs → AllByRecursion P (drop n xs)
+all_dropped P zero xs h = h
+all_dropped P (suc n) [] h = tt
+all_dropped P (suc n) (x ∷ xs) h = all_dropped P n xs h.1
+
+all_in_part : {A : Type 0} (P : A → Type 0) (part : PartOf) (xs : List A) → AllByRecursion P xs → AllByRecursion P (part_of part xs)
+all_in_part P part xs h = all_taken P _ _ (all_dropped P _ xs h)
 
 -- the edit of a failure is in its ranges, and nothing refuses it
 record CanFail (net : Net) (f : Failure) : Type 0 where
@@ -70,11 +84,17 @@ module _ (net : Net) (is : IsNetwork net) where
           (record { failed = failed; made = h.0.accepted; outcome = after_it.0; is_outcome = after_it.1; is = t.2 }, others.1),
         )
 
+    told_of : (fs : List Failure) → AllByRecursion (CanFail net) fs → (cuts : ℕ) × (text : List ℕ) × IsSweepOf net o fs text cuts
+    told_of fs can =
+        let told = has_told fs can in
+        let cuts : ℕ = count_by (λ (t : Told). t.cuts) told.0 in
+        (cuts, flat_map (λ (t : Told). t.text) told.0 ++ sweep_line fs cuts, record { told = told.0; each = told.1; counted = refl; is = refl })
+
     pub has_sweep : (cuts : ℕ) × (text : List ℕ) × Sweeps net cuts text
-    has_sweep =
-        let told = has_told (failures net) all_can in
-        let cuts : ℕ = count_by (λ (t : Told). t.cuts) told.0 in (
-          cuts,
-          flat_map (λ (t : Told). t.text) told.0 ++ sweep_line (failures net) cuts,
-          record { outcome = o; is_outcome = (outcomes net is).1; told = record { told = told.0; each = told.1; counted = refl; is = refl } },
-        )
+    has_sweep = let told = told_of (failures net) all_can in (told.0, told.1, record { outcome = o; is_outcome = (outcomes net is).1; told = told.2 })
+
+    -- and a text of each part of them
+    pub has_part : (part : PartOf) → (cuts : ℕ) × (text : List ℕ) × SweepsPart part net cuts text
+    has_part part =
+        let told = told_of (part_of part (failures net)) (all_in_part (CanFail net) part (failures net) all_can) in
+        (told.0, told.1, record { outcome = o; is_outcome = (outcomes net is).1; told = told.2 })

@@ -14,8 +14,8 @@ use Rattle.mst_trees.specs.Forest.{Forest, IsForest}
 use Rattle.mst_trees.specs.Outcome.{Outcome}
 use Rattle.mst_sweep.specs.declared.failure.Failure.{Failure}
 use Rattle.mst_sweep.specs.declared.failure.Failure.TheVariants.{Lan, Bridge}
-use Rattle.mst_sweep.specs.Failures.{edit_of, failures}
-use Rattle.mst_sweep.specs.SweepText.{Told, IsTold, IsSweep, sweep_line}
+use Rattle.mst_sweep.specs.Failures.{edit_of}
+use Rattle.mst_sweep.specs.SweepText.{Told, IsTold, IsSweepOf, sweep_line}
 use Rattle.mst_lang.specs.declared.line.BridgeChange.TheVariants.{Power}
 use Rattle.mst_lang.specs.declared.line.LanChange.TheVariants.{State}
 use Rattle.mst_lang.specs.declared.line.Power.TheVariants.{Off}
@@ -70,9 +70,9 @@ module _ (net : Net) (o : Outcome) where
         is = whole_is ∙ ap (λ l. l ++ words) are.is ∙ ap (λ l. flat_map (λ t. t.text) are.told ++ l) (sym (append-nil words)) ∙ sym (flat_map-append (λ t. t.text) are.told (t ∷ []));
       }
 
-  -- and all, with the last line
-  pub swept : (fs : List Failure) → fs ≡ failures net → (cuts : ℕ) (text whole : List ℕ) → AreTold net o fs cuts text → whole ≡ text ++ sweep_line fs cuts → IsSweep net o whole cuts
-  swept fs e cuts text whole are is = record {
+  -- and all of these, with the last line
+  pub swept : (fs gs : List Failure) → fs ≡ gs → (cuts : ℕ) (text whole : List ℕ) → AreTold net o fs cuts text → whole ≡ text ++ sweep_line fs cuts → IsSweepOf net o gs whole cuts
+  swept fs gs e cuts text whole are is = record {
     told = are.told;
     each = subst (λ l. AllZip (IsTold net o) l are.told) e are.each;
     counted = are.counted;

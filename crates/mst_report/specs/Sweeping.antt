@@ -1,12 +1,13 @@
 -- What each single failure of a network does, and the plan of a network that failed.
 use Rattle.std.specs.Prelude.{◌≡◌, ℕ, List, Ok}
-use Rattle.std.specs.List.{AllZip, count_by, flat_map}
+use Rattle.std.specs.List.{AllZip, count_by, flat_map, range_with_len}
 use Rattle.mst_net.specs.After.{after}
 use Rattle.mst_net.specs.Tables.{Net, Numbers}
 use Rattle.mst_trees.specs.Outcome.{Outcome, IsOutcome}
 use Rattle.mst_sweep.specs.declared.failure.Failure.{Failure}
 use Rattle.mst_sweep.specs.Failures.{edit_of}
 use Rattle.mst_sweep.specs.SweepText.{Told, IsTold, IsSweep}
+use Rattle.mst_sweep.specs.SweepParts.{PartOf, ToldOfPart, IsSweepPart}
 use Rattle.mst_sweep.specs.declared.failure.Failure.TheVariants.{Lan, Bridge}
 use Rattle.mst_lag.specs.Viewed.{Viewed}
 use Rattle.mst_lag.specs.Renewed.{IsViewButLan, IsViewButBridge}
@@ -19,6 +20,16 @@ pub record Sweeps (net : Net) (cuts : ℕ) (text : List ℕ) : Type 0 where
   pub outcome : Outcome
   pub is_outcome : IsOutcome net outcome
   pub told : IsSweep net outcome text cuts
+
+-- and of one part of its failures
+pub record SweepsPart (part : PartOf) (net : Net) (cuts : ℕ) (text : List ℕ) : Type 0 where
+  pub outcome : Outcome
+  pub is_outcome : IsOutcome net outcome
+  pub told : IsSweepPart part net outcome text cuts
+
+-- this is told of each of so many parts, by their numbers
+abbrev pub SweepParts : Net → ℕ → List ToldOfPart → Type 0
+SweepParts net count parts = AllZip (λ number part. SweepsPart (record { number = number; count = count }) net part.cuts part.text) (range_with_len 1 count) parts
 
 -- these failures have this text, one after another, and this many of them cut some VID
 pub record AreTold (net : Net) (o : Outcome) (failures : List Failure) (cuts : ℕ) (text : List ℕ) : Type 0 where

@@ -1,5 +1,6 @@
 //! Laws of answers. Their functions do nothing: a caller has their clauses.
-ghost use Rattle.std.specs.Prelude.{◌≡◌, ◌↔◌, ℕ, List, None, Option, Result};
+ghost use Rattle.std.specs.Prelude.{◌≡◌, ◌↔◌, ◌≤◌, ℕ, List, None, Option, Result};
+ghost use Rattle.std.specs.List.{flat_map, sum_by};
 ghost use Rattle.mst_ids.specs.declared.name.PortName.{PortName};
 ghost use Rattle.mst_lang.specs.declared.line.Query.{Query};
 ghost use Rattle.mst_lang.specs.declared.line.Edit.{Edit};
@@ -18,7 +19,8 @@ ghost use Rattle.mst_report.specs.Differing.{Differs};
 ghost use Rattle.mst_report.specs.Explaining.{Explains, unexplained_of};
 ghost use Rattle.mst_report.specs.Picturing.{Depicts};
 ghost use Rattle.mst_report.specs.Summarizing.{Summarizes};
-ghost use Rattle.mst_report.specs.Sweeping.{Sweeps};
+ghost use Rattle.mst_report.specs.Sweeping.{Sweeps, SweepsPart, SweepParts};
+ghost use Rattle.mst_sweep.specs.SweepParts.{PartOf, ToldOfPart, whole_part, but_last_line};
 ghost use Rattle.mst_report.specs.State.{State, IsState, IsMark, IsMarkNow};
 ghost use Rattle.mst_changes.specs.declared.subject.Entry.{Entry};
 
@@ -110,6 +112,23 @@ pub fn one_sweep()
     networks();
     one_failure();
     mst_sweep::laws::one_sweep();
+}
+
+/// A sweep in parts: each part has a text and a number of failures that cut some VID, and one of each. So many parts, each
+/// without its last line, are one after another the sweep's text without its last line, and their numbers have the sweep's as
+/// their sum. The only part of one is the sweep.
+pub fn sweep_parts()
+    ensures some { (net : Net) (part : PartOf) → IsNetwork net → (cuts : ℕ) × (text : List ℕ) × SweepsPart part net cuts text }
+    ensures one { (net : Net) (part : PartOf) (text other : List ℕ) (c d : ℕ) → IsNetwork net → SweepsPart part net c text → SweepsPart part net d other → (text ≡ other) × (c ≡ d) }
+    ensures joined { (net : Net) (count : ℕ) (parts : List ToldOfPart) (text : List ℕ) (cuts : ℕ) → IsNetwork net → 1 ≤ count → SweepParts net count parts → Sweeps net cuts text
+        → (flat_map (λ part. but_last_line part.text) parts ≡ but_last_line text) × (sum_by (λ part. part.cuts) parts ≡ cuts) }
+    ensures whole { (net : Net) (text : List ℕ) (cuts : ℕ) → SweepsPart whole_part net cuts text ↔ Sweeps net cuts text }
+{
+    has_outcome();
+    one_outcome();
+    networks();
+    one_failure();
+    mst_sweep::laws::sweep_parts();
 }
 
 /// What the change from one network to another does: there is one text and one count of what differs, which the networks

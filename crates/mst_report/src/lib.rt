@@ -16,5 +16,6 @@ pub use answers::asks_plan;
 pub use differing::Difference;
 pub use explaining::Unexplained;
 pub use mst_diff::Differing;
+pub use mst_sweep::SweepPart;
 pub use planner::Planner;
 pub use sweeping::Sweep;

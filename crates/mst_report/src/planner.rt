@@ -5,9 +5,9 @@ ghost use Rattle.std.specs.Option.{option_map};
 ghost use Rattle.mst_trees.specs.Agrees.{AreOf};
 ghost use Rattle.mst_trees.specs.Forest.{IsForest, SettlesNoUnused};
 ghost use Rattle.mst_lag.specs.Viewed.{IsView};
-ghost use Rattle.mst_report.specs.Sweeping.{Sweeps};
+ghost use Rattle.mst_report.specs.Sweeping.{Sweeps, SweepsPart};
 
-use crate::laws::entries_of_network;
+use crate::laws::{entries_of_network, sweep_parts};
 use crate::plan::{Plan, next_plan, renew_plan, settle_plan};
 use crate::sweeping::{Sweep, sweep_network};
 use mst_changes::Entries;
@@ -17,6 +17,7 @@ use mst_ids::Tree;
 use mst_lag::View;
 use mst_lang::Edit;
 use mst_net::{Contents, Network, Refusal};
+use mst_sweep::SweepPart;
 use mst_trees::Forest;
 use std::alloc::{AllocError, Global};
 use std::marker::Model;
@@ -254,8 +255,21 @@ impl Planner {
         ensures standing { self.new.standing ≡ self.old.standing }
         ensures mark { self.new.mark ≡ self.old.mark }
     {
+        sweep_parts();
+        self.sweep_part(SweepPart::whole())
+    }
+
+    /// The same of a part of the failures: so a sweep can be made in parts, each by a planner of its own.
+    pub fn sweep_part(&mut self, part: SweepPart) -> Result<Sweep, AllocError>
+        requires { self.old.is_settled ≡ true }
+        ensures told { IfOk result (λ told. SweepsPart part self.old.contents.net told.cuts told.text.items) }
+        ensures same { SameContents self.old.contents self.new.contents }
+        ensures settled { self.new.is_settled ≡ true }
+        ensures standing { self.new.standing ≡ self.old.standing }
+        ensures mark { self.new.mark ≡ self.old.mark }
+    {
         let plan = self.plan.as_ref().unwrap();
-        sweep_network(self.alloc, &mut self.network, plan)
+        sweep_network(self.alloc, &mut self.network, plan, part)
     }
 
     /// What the texts take memory from.

@@ -7,18 +7,18 @@ ghost use Rattle.mst_sweep.specs.Baseline.{IsBaseline};
 ghost use Rattle.mst_sweep.specs.SweepText.{IsTold};
 ghost use Rattle.mst_lag.specs.Viewed.{IsView};
 ghost use Rattle.mst_report.specs.Kept.{IsPlan, AreTrees};
-ghost use Rattle.mst_report.specs.Sweeping.{Sweeps, AreTold, AreFailed, IsViewBut};
+ghost use Rattle.mst_report.specs.Sweeping.{SweepsPart, AreTold, AreFailed, IsViewBut};
 
 use crate::plan::Plan;
 use mst_changes::Planned;
 use mst_config::laws::regions_stay;
 use mst_lag::{View, view};
 use mst_net::{Contents, Network, Ready};
-use mst_sweep::{Baseline, Failure, failures, push_failure, push_last};
+use mst_sweep::{Baseline, Failure, SweepPart, failures, push_failure, push_last};
 use mst_trees::Forest;
 use std::alloc::{AllocError, Global};
 
-/// What each single failure of a network does.
+/// What each single failure of a network does, or each of a part of them.
 #[derive(Drop)]
 pub struct Sweep {
     /// A line for each LAN that is up and then for each bridge that is on, each with the parts of what its failure cuts, and
@@ -28,29 +28,24 @@ pub struct Sweep {
     pub cuts: u64,
 }
 
-/// What each single failure of a network does, by its plan. `AllocError`: memory was wanted and refused. The network is as
-/// it was in either case.
+/// What each single failure of a part of a network's does, by its plan. `AllocError`: memory was wanted and refused. The
+/// network is as it was in either case.
 pub(crate) fn sweep_network(
     alloc: Global,
     network: &mut Network,
     plan: &Plan,
+    part: SweepPart,
 ) -> Result<Sweep, AllocError>
     requires { IsPlan network.old.net network.old.numbers plan.now }
-    ensures told { IfOk result (λ told. Sweeps network.old.net told.cuts told.text.items) }
+    ensures told { IfOk result (λ told. SweepsPart part network.old.net told.cuts told.text.items) }
     ensures same { SameContents network.old network.new }
 {
-    let failures = failures(alloc, &plan.view)?;
+    let all = failures(alloc, &plan.view)?;
+    let failures = part.of(all.as_slice());
     let baseline = baseline_of(alloc, plan)?;
     let mut seen = view(alloc, network)?;
-    let mut told = sweep_failures(
-        alloc,
-        network,
-        plan,
-        &baseline,
-        failures.as_slice(),
-        &mut seen,
-    )?;
-    push_last(failures.as_slice(), told.cuts, &mut told.text)?;
+    let mut told = sweep_failures(alloc, network, plan, &baseline, failures, &mut seen)?;
+    push_last(failures, told.cuts, &mut told.text)?;
     Ok(told)
 }
 

@@ -1,5 +1,7 @@
-use Rattle.std.proofs.Common.{◌++◌, sym, ap, ◌∙◌}
-use Rattle.mst_sweep.specs.SweepText.{sweep_line}
+use Rattle.std.proofs.Common.{List, ap, ◌∙◌}
+use Rattle.mst_sweep.specs.declared.failure.Failure.{Failure}
+use Rattle.mst_sweep.specs.Failures.{failures}
+use Rattle.mst_sweep.specs.SweepParts.{part_of}
 use Rattle.mst_report.proofs.Swept.{swept}
 use Rattle.mst_report.proofs.sweeping.sweep_network.Goals as goal
 
@@ -8,10 +10,11 @@ returns-clause-told c =
     let old = c.args.network.now in
     let is = c.requires.forest in
     let told = c.in_ok-told.told in
-    let fs_are = c.as_slice.ensures.value ∙ c.in_ok-failures.ensures old.net old.numbers c.requires.of.view in
-    let last = c.in_ok-push_last.ensures ∙ ap (λ fs. told.text.items ++ sweep_line fs told.cuts) (c.as_slice-2.ensures.value ∙ sym c.as_slice.ensures.value) in
+    let part = c.args.part in
+    let all_are = c.as_slice.ensures.value ∙ c.in_ok-all.ensures old.net old.numbers c.requires.of.view in
+    let fs_are = c.of-failures.ensures ∙ ap (λ (fs : List Failure). part_of part fs) all_are in
     record {
       outcome = is.outcome;
       is_outcome = is.is_outcome;
-      told = swept old.net is.outcome c.as_slice.result.now fs_are told.cuts told.text.items c.push_last.new.out.items (c.in_ok-told.ensures.told is) last;
+      told = swept old.net is.outcome c.of-failures.result.now (part_of part (failures old.net)) fs_are told.cuts told.text.items c.push_last.new.out.items (c.in_ok-told.ensures.told is) c.in_ok-push_last.ensures;
     }
