@@ -143,7 +143,7 @@ kept_members (Bridge bridge) a vid all p h =
     subst (λ (p : LogicalPort). is_member a vid p ≡ true) q.2 (all (as_port a q.0) (in_map (as_port a) (filter (λ p. port_eq (logical_port a p).port p.port) (plugs a)) q.0 q.1))
 
 -- ---- the law
-stays_is : (olds news : List (Island (List ℕ) (List ℕ))) (name : List ℕ) (s : Stays) → stays_at olds news name ≡ Some s → (home olds name ≡ Some s.before) × (home news name ≡ Some s.after)
+pub stays_is : (olds news : List (Island (List ℕ) (List ℕ))) (name : List ℕ) (s : Stays) → stays_at olds news name ≡ Some s → (home olds name ≡ Some s.before) × (home news name ≡ Some s.after)
 stays_is olds news name s e = go (home olds name) (home news name) e
   where
     go : (old new : Option ℕ) → option_and_then (λ before. option_map (λ after. let stays : Stays = record { name = name; before = before; after = after } in stays) new) old ≡ Some s → (old ≡ Some s.before) × (new ≡ Some s.after)

@@ -1,43 +1,77 @@
 -- What a failure leaves as it is.
-use Rattle.std.proofs.Common.{◌≡◌, ℕ, List, map, filter, Option, Some, None, Ok, Err, refl, sym, ap, subst, ◌∙◌}
+use Rattle.std.proofs.Common.{◌≡◌, ℕ, Bool, true, false, cond, List, map, filter, Option, Some, None, Ok, Err, refl, sym, ap, subst, ◌∙◌}
 use Rattle.std.specs.FinMap as fin
-use Rattle.std.specs.Option.{option_map_or}
+use Rattle.std.specs.List.{find}
+use Rattle.std.specs.Option.{option_map, option_map_or, unwrap_or}
 use Rattle.mst_lang.specs.declared.line.Edit.{Edit}
 use Rattle.mst_lang.specs.declared.line.BridgeChange.TheVariants.{Power}
+use Rattle.mst_lang.specs.declared.line.LanChange.TheVariants.{State}
+use Rattle.mst_lang.specs.declared.line.LanState.TheVariants.{Down}
 use Rattle.mst_lang.specs.declared.line.Power.TheVariants.{Off}
 use Rattle.mst_net.specs.declared.refusal.Refusal.{Refusal}
-use Rattle.mst_net.specs.After.{after, effect, refusal_of, bridge_with}
+use Rattle.mst_net.specs.After.{after, effect, refusal_of, bridge_with, lan_with}
 use Rattle.mst_net.specs.ByTree.{by_tree}
-use Rattle.mst_net.specs.Tables.{Net, port_eq}
+use Rattle.mst_net.specs.Tables.{Net, BridgeRow, port_eq}
+use Rattle.mst_net.proofs.Changed.{get_changed}
 use Rattle.mst_net.proofs.Keys.{names}
 use Rattle.mst_net.proofs.NamesInOrder.{names_stay}
-use Rattle.mst_lag.specs.Aggregation.{Plug, plugs}
-use Rattle.mst_lag.specs.View.{LogicalPort, logical_port, as_port}
+use Rattle.mst_lag.specs.Aggregation.{Plug, plugs, lans_as_one, same_name}
+use Rattle.mst_lag.specs.View.{LogicalPort, logical_lan, logical_port, as_port, view_ports}
 use Rattle.mst_trees.proofs.Lists.{mapped_twice}
 use Rattle.mst_changes.specs.Subjects.{bridge_names, port_names}
 use Rattle.mst_sweep.specs.declared.failure.Failure.{Failure}
 use Rattle.mst_sweep.specs.declared.failure.Failure.TheVariants.{Lan, Bridge}
 use Rattle.mst_sweep.specs.Failures.{edit_of}
 
--- the names of bridges and of logical ports, and what is set by tree or VID
+-- the kind of the bridge of a name
+abbrev pub kind_in : Net → List ℕ → Option Bool
+kind_in net name = option_map (λ row. row.is_rstp) (fin.get net.bridges name)
+
+-- the LANs of the logical ports
+abbrev pub lan_names : Net → List (List ℕ)
+lan_names net = map (λ p. p.lan) (view_ports net)
+
+-- the names and kinds of bridges, the names of logical ports and of their LANs, and what is set by tree or VID
 pub record AreLeft (a b : Net) : Type 0 where
   pub bridges : bridge_names a ≡ bridge_names b
+  pub kinds : (name : List ℕ) → kind_in a name ≡ kind_in b name
   pub ports : port_names a ≡ port_names b
+  pub lans : lan_names a ≡ lan_names b
   pub settings : by_tree a ≡ by_tree b
 
 -- the names of logical ports are those of plugs
 names_of_plugs : (net : Net) → port_names net ≡ map (λ (p : Plug). p.port) (filter (λ p. port_eq (logical_port net p).port p.port) (plugs net))
 names_of_plugs net = mapped_twice (λ (p : LogicalPort). p.name) (as_port net) (filter (λ p. port_eq (logical_port net p).port p.port) (plugs net))
 
+lans_of_plugs : (net : Net) → lan_names net ≡ map (λ (p : Plug). logical_lan net p.lan) (filter (λ p. port_eq (logical_port net p).port p.port) (plugs net))
+lans_of_plugs net = mapped_twice (λ (p : LogicalPort). p.lan) (as_port net) (filter (λ p. port_eq (logical_port net p).port p.port) (plugs net))
+
+-- the least of the LANs that count as one is found among their names
+lans_by : (a : Net) (olds news : List (List ℕ)) → olds ≡ news
+    → map (λ (p : Plug). unwrap_or (find (lans_as_one a p.lan) olds) p.lan) (filter (λ p. port_eq (logical_port a p).port p.port) (plugs a))
+    ≡ map (λ (p : Plug). unwrap_or (find (lans_as_one a p.lan) news) p.lan) (filter (λ p. port_eq (logical_port a p).port p.port) (plugs a))
+lans_by a olds news e = ap (λ ns. map (λ (p : Plug). unwrap_or (find (lans_as_one a p.lan) ns) p.lan) (filter (λ p. port_eq (logical_port a p).port p.port) (plugs a))) e
+
+kind_stays : (t : Bool) (o : Option BridgeRow) → option_map (λ (row : BridgeRow). row.is_rstp) o ≡ option_map (λ (row : BridgeRow). row.is_rstp) (cond t (option_map (bridge_with (Power Off)) o) o)
+kind_stays true None = refl
+kind_stays true (Some row) = refl
+kind_stays false o = refl
+
 left_by : (failure : Failure) (a : Net) → AreLeft a (effect (edit_of failure) a)
 left_by (Lan lan) a = record {
   bridges = refl;
+  kinds = λ name. refl;
   ports = names_of_plugs a ∙ sym (names_of_plugs (effect (edit_of (Lan lan)) a));
+  lans =
+      lans_of_plugs a ∙ lans_by a (fin.keys a.lans) (fin.keys (effect (edit_of (Lan lan)) a).lans) (names_stay names a.lans lan (lan_with (State Down)))
+      ∙ sym (lans_of_plugs (effect (edit_of (Lan lan)) a));
   settings = refl;
 }
 left_by (Bridge bridge) a = record {
   bridges = names_stay names a.bridges bridge (bridge_with (Power Off));
+  kinds = λ name. kind_stays (same_name bridge name) (fin.get a.bridges name) ∙ sym (ap (option_map (λ (row : BridgeRow). row.is_rstp)) (get_changed names a.bridges bridge (bridge_with (Power Off)) name));
   ports = names_of_plugs a ∙ sym (names_of_plugs (effect (edit_of (Bridge bridge)) a));
+  lans = lans_of_plugs a ∙ sym (lans_of_plugs (effect (edit_of (Bridge bridge)) a));
   settings = refl;
 }
 

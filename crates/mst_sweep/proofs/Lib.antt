@@ -11,6 +11,10 @@ pub mod Joined
 pub mod CutApart
 pub mod Unbroken
 pub mod Paired
+pub mod StillJoined
+pub mod Untouched
+pub mod KeptLinks
+pub mod Unlinked
 pub mod NoCuts
 pub mod PartsJoined
 pub mod LastLine

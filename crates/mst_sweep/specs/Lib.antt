@@ -7,3 +7,4 @@ pub mod SweepParts
 pub mod Seen
 pub mod Baseline
 pub mod Apart
+pub mod Touched

@@ -12,9 +12,11 @@ ghost use Rattle.mst_sweep.specs.Failures.{edit_of};
 ghost use Rattle.mst_sweep.specs.Parts.{AreParts};
 ghost use Rattle.mst_sweep.specs.Cuts.{cut_line, group_line, group_text, AreCuts};
 ghost use Rattle.mst_sweep.specs.Baseline.{AreHomes, IsBaseline};
+ghost use Rattle.mst_sweep.specs.Touched.{AreWhereTouched};
 
 use crate::baseline::Baseline;
 use crate::homes::homes_of;
+use crate::links::breaks_no_link;
 use crate::parts::{push_parts, staying};
 use indexmap::IndexMap;
 use mst_changes::Planned;
@@ -23,6 +25,7 @@ use mst_graph::groups_by_body;
 use mst_graph::laws::group_lists;
 use mst_ids::{BridgeNo, Vid, push_bytes, push_end};
 use mst_plan_text::{copies, set_of, vids};
+use mst_vlan::laws::islands_of_vid;
 use std::alloc::{AllocError, Global};
 
 /// The parts of a VID, by the places of its islands before.
@@ -46,6 +49,29 @@ fn parts(
     Ok(text)
 }
 
+/// The parts of a VID: none where no link that joined bridges goes, so that no islands are made.
+fn parts_if_cut(
+    alloc: Global,
+    old: &Planned,
+    new: &Planned,
+    homes: &IndexMap<BridgeNo, usize>,
+    both: &[Both],
+    touched: &[usize],
+    vid: Vid,
+) -> Result<Vec<u8>, AllocError>
+    requires new { Known new.now.view.now new.now.forest.now.regions }
+    requires both { both.now ≡ seen_both old.now.view.now new.now.view.now }
+    requires touched { AreWhereTouched old.now.view.now old.now.forest.now new.now.view.now new.now.forest.now touched.now }
+    ensures { IfOk result (λ text. (failure : FailureOf) (a b : Net) (n k : Numbers) (is : IsForest a n old.now.forest.now) (are : IsForest b k new.now.forest.now) → AreOf a n old.now.view.now old.now.forest.now.regions → AreOf b k new.now.view.now new.now.forest.now.regions
+        → after (edit_of failure) a ≡ Ok b → AreHomes a n is.outcome vid homes.now.entries → AreParts a is.outcome b are.outcome vid text.items) }
+{
+    islands_of_vid();
+    if breaks_no_link(old, new, vid, touched) {
+        return Ok(Vec::new(alloc));
+    }
+    parts(alloc, old, new, homes, both, vid)
+}
+
 /// The parts of the first VID of each class.
 fn parts_of_firsts(
     alloc: Global,
@@ -53,20 +79,23 @@ fn parts_of_firsts(
     new: &Planned,
     baseline: &Baseline,
     both: &[Both],
+    touched: &[usize],
 ) -> Result<Vec<Vec<u8>>, AllocError>
     requires new { Known new.now.view.now new.now.forest.now.regions }
     requires both { both.now ≡ seen_both old.now.view.now new.now.view.now }
+    requires touched { AreWhereTouched old.now.view.now old.now.forest.now new.now.view.now new.now.forest.now touched.now }
     requires baseline { IsBaseline old.now.view.now old.now.forest.now baseline.now }
     ensures as_long { IfOk result (λ texts. vec_len texts ≡ length baseline.now.classes.firsts.items) }
-    ensures parts { IfOk result (λ texts. (a b : Net) (n k : Numbers) (is : IsForest a n old.now.forest.now) (are : IsForest b k new.now.forest.now) → AreOf a n old.now.view.now old.now.forest.now.regions → AreOf b k new.now.view.now new.now.forest.now.regions
-        → AllZip (λ place text. AreParts a is.outcome b are.outcome (place + 1) text) baseline.now.classes.firsts.items (map (λ text. text.items) texts.items)) }
+    ensures parts { IfOk result (λ texts. (failure : FailureOf) (a b : Net) (n k : Numbers) (is : IsForest a n old.now.forest.now) (are : IsForest b k new.now.forest.now) → AreOf a n old.now.view.now old.now.forest.now.regions → AreOf b k new.now.view.now new.now.forest.now.regions
+        → after (edit_of failure) a ≡ Ok b → AllZip (λ place text. AreParts a is.outcome b are.outcome (place + 1) text) baseline.now.classes.firsts.items (map (λ text. text.items) texts.items)) }
 {
     let firsts = baseline.classes.firsts.as_slice();
     let homes = baseline.homes.as_slice();
     let mut texts = Vec::new(alloc);
     for class in 0..firsts.len() {
         let vid = Vid::new(firsts[class] as u64 + 1).unwrap();
-        texts.push(parts(alloc, old, new, &homes[class], both, vid)?)?;
+        let text = parts_if_cut(alloc, old, new, &homes[class], both, touched, vid)?;
+        texts.push(text)?;
     }
     Ok(texts)
 }
@@ -173,24 +202,26 @@ fn cut_of(
 /// Appends the lines of VIDs that a failure cuts, VIDs of equal parts in one line, and answers these VIDs. `AllocError`:
 /// memory was wanted and refused; part of them may have been appended.
 ///
-/// Islands are made once for VIDs that no table and no set of VLANs tells apart. A failure leaves both. Where no VID has
-/// parts, none is grouped.
+/// Islands are made once for VIDs that no table and no set of VLANs tells apart, and only where a link of a VID that joined
+/// bridges goes. A failure leaves tables and sets. `touched` are the places of the ports that have other roles.
 pub(crate) fn push_cuts(
     alloc: Global,
     old: &Planned,
     new: &Planned,
     baseline: &Baseline,
     both: &[Both],
+    touched: &[usize],
     out: &mut Vec<u8>,
 ) -> Result<Vec<Vid>, AllocError>
     requires new { Known new.now.view.now new.now.forest.now.regions }
     requires both { both.now ≡ seen_both old.now.view.now new.now.view.now }
+    requires touched { AreWhereTouched old.now.view.now old.now.forest.now new.now.view.now new.now.forest.now touched.now }
     requires baseline { IsBaseline old.now.view.now old.now.forest.now baseline.now }
     ensures { IfOk result (λ cut. (failure : FailureOf) (a b : Net) (n k : Numbers) (is : IsForest a n old.now.forest.now) (are : IsForest b k new.now.forest.now) → AreOf a n old.now.view.now old.now.forest.now.regions → AreOf b k new.now.view.now new.now.forest.now.regions
         → after (edit_of failure) a ≡ Ok b → (text : List ℕ) × AreCuts a is.outcome b are.outcome cut.items text × (out.new.items ≡ out.old.items ++ text)) }
 {
     group_lists::<Vid>();
-    let bodies = parts_of_firsts(alloc, old, new, baseline, both)?;
+    let bodies = parts_of_firsts(alloc, old, new, baseline, both, touched)?;
     let texts = bodies.as_slice();
     if !are_any(texts) {
         return Ok(Vec::new(alloc));

@@ -7,12 +7,14 @@ mod cuts;
 mod failure;
 mod homes;
 pub mod laws;
+mod links;
 mod pairs;
 mod parts;
 mod ports;
 mod roots;
 mod sweep;
 mod sweep_part;
+mod touched;
 mod whole;
 
 pub use baseline::Baseline;

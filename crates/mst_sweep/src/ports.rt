@@ -1,17 +1,18 @@
-ghost use Rattle.std.specs.Prelude.{◌≡◌, ◌≤◌, ◌<◌, Ok, length, slice_index_or};
-ghost use Rattle.std.specs.List.{count_by};
+ghost use Rattle.std.specs.Prelude.{◌≡◌, ◌≤◌, ◌<◌, ◌∷◌, Ok, length, slice_index_or};
+ghost use Rattle.std.specs.List.{Contains, count_by};
 ghost use Rattle.mst_ids.specs.declared.name.PortName.{PortName};
 ghost use Rattle.mst_net.specs.After.{after};
 ghost use Rattle.mst_net.specs.Tables.{Net, Numbers};
 ghost use Rattle.mst_trees.specs.Agrees.{AreOf, Known};
 ghost use Rattle.mst_trees.specs.Forest.{IsForest};
-ghost use Rattle.mst_trees.specs.InUse.{AreInUse};
+ghost use Rattle.mst_trees.specs.InUse.{AreInUse, seen_mstis};
 ghost use Rattle.mst_changes.specs.Subjects.{port_names};
 ghost use Rattle.mst_changes.specs.Values.{role_number};
 ghost use Rattle.mst_sweep.specs.declared.failure.Failure.{Failure as FailureOf};
 ghost use Rattle.mst_sweep.specs.Failures.{edit_of};
 ghost use Rattle.mst_sweep.specs.Moved.{takes_part as takes, is_other_role, port_moved as port_moved_in, moved_ports as all_moved_ports};
 ghost use Rattle.mst_sweep.specs.Seen.{seen_port_moved};
+ghost use Rattle.mst_sweep.specs.Touched.{AreTouched};
 
 use mst_changes::Planned;
 use mst_ids::Tree;
@@ -52,7 +53,7 @@ fn port_moved(
 }
 
 /// Whether the port at a place has another role in a tree afterwards. A failure leaves all ports in their places.
-fn moved_at(old: &Planned, new: &Planned, tree: Tree, place: usize) -> bool
+fn role_moved_at(old: &Planned, new: &Planned, tree: Tree, place: usize) -> bool
     requires { place < length old.now.view.now.ports }
     ensures { (failure : FailureOf) (a b : Net) (n k : Numbers) (is : IsForest a n old.now.forest.now) (are : IsForest b k new.now.forest.now) → AreOf a n old.now.view.now old.now.forest.now.regions → AreOf b k new.now.view.now new.now.forest.now.regions
         → after (edit_of failure) a ≡ Ok b → (name : PortName) → slice_index_or (port_names a) place name ≡ name → result ≡ port_moved_in a is.outcome b are.outcome tree name }
@@ -64,15 +65,34 @@ fn moved_at(old: &Planned, new: &Planned, tree: Tree, place: usize) -> bool
     port_moved(old, new, tree, before, afterwards)
 }
 
+/// Whether the port at a place has. One that wasn't touched doesn't.
+fn moved_at(old: &Planned, new: &Planned, tree: Tree, touched: &[bool], place: usize) -> bool
+    requires place { place < length old.now.view.now.ports }
+    requires tree { Contains (0 ∷ seen_mstis old.now.view.now) tree }
+    requires as_long { length touched.now ≡ length old.now.view.now.ports }
+    requires touched { AreTouched old.now.view.now old.now.forest.now new.now.view.now new.now.forest.now touched.now }
+    ensures { (failure : FailureOf) (a b : Net) (n k : Numbers) (is : IsForest a n old.now.forest.now) (are : IsForest b k new.now.forest.now) → AreOf a n old.now.view.now old.now.forest.now.regions → AreOf b k new.now.view.now new.now.forest.now.regions
+        → after (edit_of failure) a ≡ Ok b → (name : PortName) → slice_index_or (port_names a) place name ≡ name → result ≡ port_moved_in a is.outcome b are.outcome tree name }
+{
+    if touched[place] {
+        role_moved_at(old, new, tree, place)
+    } else {
+        false
+    }
+}
+
 /// How many logical ports have another role in a tree afterwards.
-fn moved_in(old: &Planned, new: &Planned, tree: Tree) -> u64
+fn moved_in(old: &Planned, new: &Planned, tree: Tree, touched: &[bool]) -> u64
+    requires tree { Contains (0 ∷ seen_mstis old.now.view.now) tree }
+    requires as_long { length touched.now ≡ length old.now.view.now.ports }
+    requires touched { AreTouched old.now.view.now old.now.forest.now new.now.view.now new.now.forest.now touched.now }
     ensures few { result ≤ length old.now.view.now.ports }
     ensures moved { (failure : FailureOf) (a b : Net) (n k : Numbers) (is : IsForest a n old.now.forest.now) (are : IsForest b k new.now.forest.now) → AreOf a n old.now.view.now old.now.forest.now.regions → AreOf b k new.now.view.now new.now.forest.now.regions
         → after (edit_of failure) a ≡ Ok b → result ≡ count_by (port_moved_in a is.outcome b are.outcome tree) (port_names a) }
 {
     let mut count = 0;
     for place in 0..old.view.ports().len() {
-        if moved_at(old, new, tree, place) {
+        if moved_at(old, new, tree, touched, place) {
             count += 1;
         }
     }
@@ -80,9 +100,17 @@ fn moved_in(old: &Planned, new: &Planned, tree: Tree) -> u64
 }
 
 /// How many logical ports have another role in a tree afterwards: none where no bridge of the old network has it.
-fn moved_in_tree(old: &Planned, new: &Planned, used: &[bool; 4095], tree: Tree) -> u64
+fn moved_in_tree(
+    old: &Planned,
+    new: &Planned,
+    used: &[bool; 4095],
+    tree: Tree,
+    touched: &[bool],
+) -> u64
     requires known { Known old.now.view.now old.now.forest.now.regions }
     requires used { AreInUse old.now.view.now used.now }
+    requires as_long { length touched.now ≡ length old.now.view.now.ports }
+    requires touched { AreTouched old.now.view.now old.now.forest.now new.now.view.now new.now.forest.now touched.now }
     ensures few { result ≤ 16384 }
     ensures moved { (failure : FailureOf) (a b : Net) (n k : Numbers) (is : IsForest a n old.now.forest.now) (are : IsForest b k new.now.forest.now) → AreOf a n old.now.view.now old.now.forest.now.regions → AreOf b k new.now.view.now new.now.forest.now.regions
         → after (edit_of failure) a ≡ Ok b → result ≡ count_by (port_moved_in a is.outcome b are.outcome tree) (port_names a) }
@@ -90,14 +118,18 @@ fn moved_in_tree(old: &Planned, new: &Planned, used: &[bool; 4095], tree: Tree) 
     if !is_had(used, tree) {
         return 0;
     }
-    moved_in(old, new, tree)
+    // (its range is in the contract)
+    let _number = tree.value();
+    moved_in(old, new, tree, touched)
 }
 
 /// How many pairs of a tree and a logical port have another role after a failure, neither being Disabled.
 ///
-/// It goes over the logical ports once for each tree that the old network has, and takes no memory.
-pub(crate) fn moved_ports(old: &Planned, new: &Planned) -> u64
+/// For each tree that the old network has it goes over the flags of the ports that are touched, and takes no memory.
+pub(crate) fn moved_ports(old: &Planned, new: &Planned, touched: &[bool]) -> u64
     requires known { Known old.now.view.now old.now.forest.now.regions }
+    requires as_long { length touched.now ≡ length old.now.view.now.ports }
+    requires touched { AreTouched old.now.view.now old.now.forest.now new.now.view.now new.now.forest.now touched.now }
     ensures { (failure : FailureOf) (a b : Net) (n k : Numbers) (is : IsForest a n old.now.forest.now) (are : IsForest b k new.now.forest.now) → AreOf a n old.now.view.now old.now.forest.now.regions → AreOf b k new.now.view.now new.now.forest.now.regions
         → after (edit_of failure) a ≡ Ok b → result ≡ all_moved_ports a is.outcome b are.outcome }
 {
@@ -105,7 +137,7 @@ pub(crate) fn moved_ports(old: &Planned, new: &Planned) -> u64
     let mut count = 0;
     for number in 0..4095 {
         if let Some(tree) = Tree::new(number) {
-            count += moved_in_tree(old, new, &used, tree);
+            count += moved_in_tree(old, new, &used, tree, touched);
         }
     }
     count

@@ -16,6 +16,7 @@ use crate::failure::Failure;
 use crate::pairs::pairs;
 use crate::ports::moved_ports;
 use crate::roots::moved_roots;
+use crate::touched::{places_of, touched};
 use itoa::Buffer;
 use mst_changes::Planned;
 use mst_ids::{Tree, Vid, push_bytes, push_comma_list, push_end, push_line, push_word};
@@ -73,7 +74,8 @@ fn is_any(cut: &[Vid]) -> bool
 /// answers whether it cuts some. `old` is the plan of the network with what stays the same for all its failures, `new` the
 /// plan of the network that failed. `AllocError`: memory was wanted and refused; part of the text may have been appended.
 ///
-/// It goes over the logical ports once for each tree, and makes islands once for each class of VIDs.
+/// It looks at the roles of each logical port once for each tree, and makes islands once for each class of VIDs of which a link
+/// that joined bridges goes.
 pub fn push_failure(
     alloc: Global,
     failure: &Failure,
@@ -90,9 +92,21 @@ pub fn push_failure(
 {
     let both = pairs(alloc, old, new)?;
     let roots = moved_roots(alloc, old, new, both.as_slice())?;
-    let ports = moved_ports(old, new);
+    let flags = touched(alloc, old, new)?;
+    let touched = flags.as_slice();
+    let places = places_of(alloc, touched)?;
+    let ports = moved_ports(old, new, touched);
+    let where_touched = places.as_slice();
     let mut lines = Vec::new(alloc);
-    let cut = push_cuts(alloc, old, new, baseline, both.as_slice(), &mut lines)?;
+    let cut = push_cuts(
+        alloc,
+        old,
+        new,
+        baseline,
+        both.as_slice(),
+        where_touched,
+        &mut lines,
+    )?;
     push_failed(failure, roots.as_slice(), ports, cut.as_slice(), out)?;
     push_bytes(lines.as_slice(), out)?;
     Ok(is_any(cut.as_slice()))

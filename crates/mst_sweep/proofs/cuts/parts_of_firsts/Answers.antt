@@ -10,7 +10,7 @@ use Rattle.mst_sweep.proofs.cuts.parts_of_firsts.Goals as goal
 pub loop-class-preserved : goal.loop-class-preserved
 loop-class-preserved c = record {
   as_long = grind (arith, common_steps);
-  parts = λ a b n k is are of so.
+  parts = λ failure a b n k is are of so e.
       let i : ℕ = c.loop-class.class in
       let baseline = c.args.baseline.now in
       let firsts : List ℕ = baseline.classes.firsts.items in
@@ -27,14 +27,14 @@ loop-class-preserved c = record {
       let at : AreHomes a n is.outcome (place + 1) (get_or (map (λ h. h.entries) baseline.homes.items) i []) =
       zip_at (λ place homes. AreHomes a n is.outcome (place + 1) homes) firsts (map (λ h. h.entries) baseline.homes.items) i 0 [] (c.requires.baseline.homes a n is of) below in
       let homes : AreHomes a n is.outcome c.unwrap-vid.result h.entries = subst (λ vid. AreHomes a n is.outcome vid h.entries) (sym vid) (subst (AreHomes a n is.outcome (place + 1)) kept at) in
-      let pushed = ap (map (λ text. text.items)) c.in_ok-push.ensures.items ∙ map-append (λ text. text.items) c.loop-class.texts.items (c.in_ok-parts.field-0 ∷ []) in
+      let pushed = ap (map (λ text. text.items)) c.in_ok-push.ensures.items ∙ map-append (λ text. text.items) c.loop-class.texts.items (c.in_ok-text.text ∷ []) in
       subst (AtPlaces (AreParts a is.outcome b are.outcome) (take (i + 1) firsts)) (sym pushed)
-      (places_more (AreParts a is.outcome b are.outcome) firsts i place c.unwrap-vid.result below refl vid (map (λ text. text.items) c.loop-class.texts.items) c.in_ok-parts.field-0.items
-      (c.loop-class.invariant.parts a b n k is are of so) (c.in_ok-parts.ensures a b n k is are of so homes));
+      (places_more (AreParts a is.outcome b are.outcome) firsts i place c.unwrap-vid.result below refl vid (map (λ text. text.items) c.loop-class.texts.items) c.in_ok-text.text.items
+      (c.loop-class.invariant.parts failure a b n k is are of so e) (c.in_ok-text.ensures failure a b n k is are of so e homes));
 }
 
 pub returns-clause-parts : goal.returns-clause-parts
-returns-clause-parts c a b n k is are of so =
+returns-clause-parts c failure a b n k is are of so e =
     let firsts : List ℕ = c.args.baseline.now.classes.firsts.items in
     let past : length firsts ≤ c.loop-class.class = subst (λ xs. length xs ≤ c.loop-class.class) c.as_slice-firsts.ensures.value c.loop-class-test.false in
-    places_all (AreParts a is.outcome b are.outcome) firsts c.loop-class.class past (map (λ text. text.items) c.loop-class.texts.items) (c.loop-class.invariant.parts a b n k is are of so)
+    places_all (AreParts a is.outcome b are.outcome) firsts c.loop-class.class past (map (λ text. text.items) c.loop-class.texts.items) (c.loop-class.invariant.parts failure a b n k is are of so e)

@@ -52,7 +52,7 @@ returns c = IfOk-weaker c.cut_of.result _ _
       flat_map (group_text (body_at classes texts)) groups,
       record {
         parts = body_at classes texts;
-        are_parts = have_bodies R s.tables s.sets (parts_moved a b n k v w f g of so (are_left failure a b e) s.tables s.sets told_by is.outcome are.outcome) s.numbers classes firsts s.tell s.classes texts (c.in_ok-bodies.ensures.parts a b n k is are of so);
+        are_parts = have_bodies R s.tables s.sets (parts_moved a b n k v w f g of so (are_left failure a b e) s.tables s.sets told_by is.outcome are.outcome) s.numbers classes firsts s.tell s.classes texts (c.in_ok-bodies.ensures.parts failure a b n k is are of so e);
         groups = groups;
         are_groups = groups_given items classes bodies each c.as_slice-numbers.result.now c.as_slice-2.result.now c.as_slice-numbers.ensures.value (c.as_slice-2.ensures.value ∙ c.in_ok-vids.ensures) groups c.in_ok-groups.ensures;
         cut = told ∙ (λ j. filter (λ vid. has_any (body_at (c.as_slice-numbers.ensures.value j) (counted j) vid)) (all j));
@@ -76,6 +76,6 @@ returns-then-not-are_any c failure a b n k is are of so e =
     let told_by : AreTold v s.tables s.sets = record { tables = s.have_tables; sets = s.have_sets } in
     let none : list_any (λ (t : Vec ℕ Global). has_any t.items) bodies ≡ false =
     ap (list_any (λ (t : Vec ℕ Global). has_any t.items)) (sym c.as_slice-texts.ensures.value) ∙ sym c.are_any.ensures ∙ c.if-not-are_any.true in
-    let parts = have_bodies R s.tables s.sets (parts_moved a b n k v w f g of so (are_left failure a b e) s.tables s.sets told_by is.outcome are.outcome) s.numbers classes firsts s.tell s.classes texts (c.in_ok-bodies.ensures.parts a b n k is are of so) in
+    let parts = have_bodies R s.tables s.sets (parts_moved a b n k v w f g of so (are_left failure a b e) s.tables s.sets told_by is.outcome are.outcome) s.numbers classes firsts s.tell s.classes texts (c.in_ok-bodies.ensures.parts failure a b n k is are of so e) in
     let cuts = no_cuts (body_at classes texts) (λ vid. none_at bodies none (get_or classes (vid - 1) 0)) a b is.outcome are.outcome c.group_lists.ensures.some parts in
     ([], subst (λ vids. AreCuts a is.outcome b are.outcome vids []) (sym c.new.ensures.items) cuts, sym (append-nil c.args.out.now.items))

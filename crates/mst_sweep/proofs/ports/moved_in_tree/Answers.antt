@@ -1,7 +1,8 @@
-use Rattle.std.proofs.Common.{◌≡◌, ◌≤◌, length, sym, ap, ◌∙◌, arith}
+use Rattle.std.proofs.Common.{◌≡◌, ◌<◌, ◌≤◌, length, sym, ap, ◌∙◌, arith}
 use Rattle.mst_changes.specs.Subjects.{port_names}
 use Rattle.mst_changes.proofs.InUse.{unused, unused_by}
 use Rattle.mst_sweep.proofs.Moved.{few_ports, none_counted}
+use Rattle.mst_sweep.proofs.Untouched.{had_listed}
 use Rattle.mst_sweep.proofs.ports.moved_in_tree.Goals as goal
 
 pub returns-then-not-is_had-clause-moved : goal.returns-then-not-is_had-clause-moved
@@ -18,3 +19,11 @@ returns-clause-few c =
     let few : c.moved_in.result ≤ length v.ports = c.moved_in.ensures.few in
     let all : length v.ports ≤ 16384 = few_ports known.net known.numbers v c.args.old.now.forest.now.regions known.of in
     omega arith
+
+pub moved_in-requires-clause-tree : goal.moved_in-requires-clause-tree
+moved_in-requires-clause-tree c =
+    let v = c.args.old.now.view.now in
+    let same : c.value-number.result ≡ c.args.tree = c.value-number.ensures.value in
+    let within : c.value-number.result ≤ 4094 = c.value-number.ensures.small in
+    let small : c.args.tree < 4095 = omega arith in
+    had_listed v c.args.tree small (sym (c.is_had.ensures v c.requires.used) ∙ c.if-not-is_had.false)
