@@ -6,6 +6,7 @@ ghost use Rattle.mst_compare.specs.Sender.{sender_of};
 ghost use Rattle.mst_compare.specs.Comparison.{AreDifferences, fault_of};
 ghost use Rattle.mst_compare.specs.Seen.{seen_cist, seen_planned};
 
+use crate::digests::Digests;
 use crate::planned::planned;
 use crate::senders::{Origin, sender_in};
 use mst_bpdu::{Bpdu, BpduFault, Difference, differences};
@@ -26,12 +27,27 @@ pub fn compare(alloc: Global, planner: &Planner, bpdu: &Bpdu) -> Result<Vec<Diff
     ensures found { IfOk result (λ found. AreDifferences planner.now.contents.net bpdu.now found.items) }
     ensures fault { IfErr result (λ fault. fault ≡ fault_of (sender_of planner.now.contents.net bpdu.now)) }
 {
+    let mut digests = Digests::new(alloc);
+    compare_with(alloc, planner, &mut digests, bpdu)
+}
+
+/// The same as [`compare`], with the digests that are kept from other BPDUs, of this network or another.
+pub fn compare_with(
+    alloc: Global,
+    planner: &Planner,
+    digests: &mut Digests,
+    bpdu: &Bpdu,
+) -> Result<Vec<Difference>, BpduFault>
+    requires { planner.now.is_settled ≡ true }
+    ensures found { IfOk result (λ found. AreDifferences planner.now.contents.net bpdu.now found.items) }
+    ensures fault { IfErr result (λ fault. fault ≡ fault_of (sender_of planner.now.contents.net bpdu.now)) }
+{
     planner.network().known();
     let view = planner.view();
     let forest = planner.forest();
     match sender_in(view, bpdu) {
         None => Err(BpduFault::B07),
-        Some(sender) => match from_plan(alloc, view, forest, &sender, bpdu) {
+        Some(sender) => match from_plan(alloc, view, forest, digests, &sender, bpdu) {
             Ok(found) => Ok(found),
             Err(_) => Err(BpduFault::B99),
         },
@@ -43,13 +59,14 @@ fn from_plan(
     alloc: Global,
     view: &View,
     forest: &Forest,
+    digests: &mut Digests,
     sender: &Origin,
     bpdu: &Bpdu,
 ) -> Result<Vec<Difference>, AllocError>
     requires { IsSome (seen_cist view.now forest.now (bridge_row sender.now.bridge.bridge) sender.now.port) }
     ensures { IfOk result (λ found. (plan : PlannedOf) × (seen_planned view.now forest.now sender.now ≡ Some plan) × (found.items ≡ differences_of plan bpdu.now)) }
 {
-    let plan = planned(alloc, view, forest, sender)?;
+    let plan = planned(alloc, view, forest, digests, sender)?;
     let found = differences(alloc, &plan, bpdu)?;
     Ok(found)
 }

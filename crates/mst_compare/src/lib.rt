@@ -2,15 +2,18 @@
 //! has for that port.
 //!
 //! [`read_line`] reads a BPDU, [`sender`] tells the logical port that it comes from, [`compare`] lists its
-//! differences, and [`push_comparison`] and [`push_fault`] append the lines that tell of them.
+//! differences, and [`push_comparison`] and [`push_fault`] append the lines that tell of them. [`compare_with`] keeps the
+//! [`Digests`] of tables for the next BPDU.
 #![tactic(auto)]
 
 mod differing;
+mod digests;
 pub mod laws;
 mod planned;
 mod senders;
 
-pub use differing::compare;
+pub use differing::{compare, compare_with};
+pub use digests::Digests;
 pub use mst_bpdu::{
     Bpdu, BpduFault, Difference, Field, Value, push_comparison, push_fault, read_line,
 };

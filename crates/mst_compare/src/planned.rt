@@ -7,9 +7,9 @@ ghost use Rattle.mst_trees.specs.Seen.{trees_at};
 ghost use Rattle.mst_compare.specs.Plan.{code_of, configuration_of, planned_cist, planned_msti};
 ghost use Rattle.mst_compare.specs.Seen.{seen_cist, seen_msti, seen_planned};
 
+use crate::digests::Digests;
 use crate::senders::Origin;
 use mst_bpdu::{ConfigurationId, Planned, PlannedCist, PlannedMsti, PlannedMstis, RoleCode};
-use mst_config::digest;
 use mst_ids::{BridgeId, PortId, PortName, Tree, padded};
 use mst_lag::{PortInView, View};
 use mst_net::{Bridge, TreeSettings};
@@ -24,6 +24,7 @@ pub(crate) fn planned(
     alloc: Global,
     view: &View,
     forest: &Forest,
+    digests: &mut Digests,
     sender: &Origin,
 ) -> Result<Planned, AllocError>
     requires { IsSome (seen_cist view.now forest.now (bridge_row sender.now.bridge.bridge) sender.now.port) }
@@ -33,7 +34,7 @@ pub(crate) fn planned(
     let mstis = in_mstis(alloc, view, forest, &sender.port)?;
     Ok(Planned {
         cist,
-        configuration: configuration(view.settings(), sender),
+        configuration: configuration(view.settings(), digests, sender),
         mstis,
     })
 }
@@ -148,7 +149,7 @@ fn msti_with(
 }
 
 /// The MST Configuration Identifier of a sender's bridge (802.1Q-2022, 13.8).
-fn configuration(settings: &TreeSettings, sender: &Origin) -> ConfigurationId
+fn configuration(settings: &TreeSettings, digests: &mut Digests, sender: &Origin) -> ConfigurationId
     ensures { result ≡ configuration_of (bridge_row sender.now.bridge.bridge) (table_in settings.now.set.tables sender.now.port.name.bridge) }
 {
     let bridge = &sender.bridge.bridge;
@@ -157,6 +158,6 @@ fn configuration(settings: &TreeSettings, sender: &Origin) -> ConfigurationId
         selector: 0,
         name: padded::<32>(bridge.conf_name.as_bytes()),
         revision: bridge.revision,
-        digest: digest(&table),
+        digest: digests.of(&table),
     }
 }

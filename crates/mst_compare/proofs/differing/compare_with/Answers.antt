@@ -2,7 +2,7 @@ use Rattle.std.proofs.Common.{sym, ap, ◌∙◌}
 use Rattle.mst_compare.specs.Comparison.{fault_of}
 use Rattle.mst_compare.proofs.Sending.{sent_by, sent_by_none, is_sender}
 use Rattle.mst_compare.proofs.Planning.{of_contents, has_seen, are_differences}
-use Rattle.mst_compare.proofs.differing.compare.Goals as goal
+use Rattle.mst_compare.proofs.differing.compare_with.Goals as goal
 
 pub returns-in-None : goal.returns-in-None
 returns-in-None c =
