@@ -11,14 +11,22 @@ ghost use Rattle.mst_lang.specs.Words.{is_blank as blank};
 
 use crate::engine::Reply;
 use mst_compare::laws::has_list;
-use mst_compare::{Bpdu, BpduFault, Difference, compare, push_comparison, read_line, sender};
+use mst_compare::{
+    Bpdu, BpduFault, Difference, Digests, compare_with, push_comparison, read_line, sender,
+};
 use mst_ids::PortName;
 use mst_io::is_blank;
 use mst_report::Planner;
 use std::alloc::{AllocError, Global};
 
 /// Compares a line of captures with a settled plan.
-pub(crate) fn compare_line(alloc: Global, planner: &Planner, number: u64, line: &[u8]) -> Reply
+pub(crate) fn compare_line(
+    alloc: Global,
+    planner: &Planner,
+    digests: &mut Digests,
+    number: u64,
+    line: &[u8],
+) -> Reply
     requires { planner.now.is_settled ≡ true }
     ensures { ServesCapture number (planned_state planner.now) line.now (replied (shape_of Captures) number (planned_state planner.now) result) }
 {
@@ -27,7 +35,7 @@ pub(crate) fn compare_line(alloc: Global, planner: &Planner, number: u64, line: 
     }
     match read_line(line) {
         Err(fault) => Reply::Faulty(fault),
-        Ok(bpdu) => compare_bpdu(alloc, planner, number, &bpdu),
+        Ok(bpdu) => compare_bpdu(alloc, planner, digests, number, &bpdu),
     }
 }
 
@@ -49,13 +57,19 @@ fn first_byte(line: &[u8]) -> Option<&u8>
 }
 
 /// Compares a captured message.
-fn compare_bpdu(alloc: Global, planner: &Planner, number: u64, bpdu: &Bpdu) -> Reply
+fn compare_bpdu(
+    alloc: Global,
+    planner: &Planner,
+    digests: &mut Digests,
+    number: u64,
+    bpdu: &Bpdu,
+) -> Reply
     requires { planner.now.is_settled ≡ true }
     ensures { ServesMessage number (planned_state planner.now) (Some (Ok bpdu.now)) (replied (shape_of Captures) number (planned_state planner.now) result) }
 {
     match sender(planner, bpdu) {
         None => Reply::Faulty(BpduFault::B07),
-        Some(port) => compare_sent(alloc, planner, number, &port, bpdu),
+        Some(port) => compare_sent(alloc, planner, digests, number, &port, bpdu),
     }
 }
 
@@ -63,6 +77,7 @@ fn compare_bpdu(alloc: Global, planner: &Planner, number: u64, bpdu: &Bpdu) -> R
 fn compare_sent(
     alloc: Global,
     planner: &Planner,
+    digests: &mut Digests,
     number: u64,
     port: &PortName,
     bpdu: &Bpdu,
@@ -73,7 +88,7 @@ fn compare_sent(
 {
     planner.known();
     has_list();
-    match compare(alloc, planner, bpdu) {
+    match compare_with(alloc, planner, digests, bpdu) {
         Err(_) => Reply::Uncompared,
         Ok(differences) => match told(alloc, number, port, differences.as_slice()) {
             Err(_) => Reply::Uncompared,

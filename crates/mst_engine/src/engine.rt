@@ -12,7 +12,7 @@ ghost use Rattle.mst_print.specs.Shape.{of_script};
 ghost use Rattle.mst_engine.specs.Engine.{IsReady, shape_of, version_from, does, begun, tally_of, tallied, outcome_of, reply_text, replied};
 
 use crate::captures::compare_line;
-use mst_compare::BpduFault;
+use mst_compare::{BpduFault, Digests};
 use mst_io::{Outcome, Sink, WriteFailed, put};
 use mst_lang::{Fault, Line, Query, Version, is_version_2, parse_line_as};
 use mst_net::Refusal;
@@ -47,6 +47,8 @@ pub struct Engine {
     pub memory: u64,
     /// How many captured messages of the input differ from the planned ones.
     pub differing: u64,
+    /// The digests of tables that captured messages were compared with.
+    digests: Digests,
 }
 
 /// What a line is answered by.
@@ -84,6 +86,7 @@ impl Engine {
             refused: 0,
             memory: 0,
             differing: 0,
+            digests: Digests::new(alloc),
         }
     }
 
@@ -132,7 +135,13 @@ impl Engine {
                 self.version = Some(version);
                 load_line(&mut self.planner, shape, version, self.number, line)
             }
-            Input::Captures => compare_line(self.alloc, &self.planner, self.number, line),
+            Input::Captures => compare_line(
+                self.alloc,
+                &self.planner,
+                &mut self.digests,
+                self.number,
+                line,
+            ),
         };
         self.number += 1;
         match reply {
