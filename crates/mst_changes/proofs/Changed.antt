@@ -29,6 +29,7 @@ use Rattle.mst_changes.specs.Subjects.{all_trees, bridge_in, port_in, subjects_i
 use Rattle.mst_changes.specs.Values.{value_at}
 use Rattle.mst_changes.specs.Kept.{entry_at, entries_at}
 use Rattle.mst_changes.specs.Merging.{Rise}
+use Rattle.mst_changes.specs.TreeChanges.{either_in}
 use Rattle.mst_changes.proofs.Lists.{filter_map-flat_map, filter_map-map}
 use Rattle.mst_changes.proofs.Orders.{subjects_rise, tree_rises}
 use Rattle.mst_changes.proofs.Names.{either_rise, kept_left, kept_right}
@@ -50,6 +51,11 @@ either_subjects_rise a b =
     subjects_rise (names_of_either name_cmp (bridge_names a) (bridge_names b)) (names_of_either port_cmp (port_names a) (port_names b))
     (either_rise names.total names.same (bridge_names a) (bridge_names b)) (either_rise ports.total ports.same (port_names a) (port_names b))
 
+pub either_in_rise : (a b : Net) (tree : ℕ) → Rise (either_in a b tree)
+either_in_rise a b tree =
+    tree_rises (names_of_either name_cmp (bridge_names a) (bridge_names b)) (names_of_either port_cmp (port_names a) (port_names b))
+    (either_rise names.total names.same (bridge_names a) (bridge_names b)) (either_rise ports.total ports.same (port_names a) (port_names b)) tree
+
 pub either_ports_rise : (a b : Net) (tree : ℕ) → Rise (map (port_in tree) (names_of_either port_cmp (port_names a) (port_names b)))
 either_ports_rise a b tree =
     tree_rises [] (names_of_either port_cmp (port_names a) (port_names b)) tt (either_rise ports.total ports.same (port_names a) (port_names b)) tree
@@ -70,11 +76,15 @@ module _ (x : Subject → Option VectorOrRole) where
   pub entries_in_trees : (bs : List (List ℕ)) (ps : List PortName) → entries_at x (subjects bs ps) ≡ flat_map (λ tree. entries_at x (subjects_in bs ps tree)) all_trees
   entries_in_trees bs ps = filter_map-flat_map (entry_at x) (subjects_in bs ps) all_trees
 
+  same_in : (bs cs : List (List ℕ)) (ps qs : List PortName) (tree : ℕ) → filter_map (bridge_at tree) bs ≡ filter_map (bridge_at tree) cs → filter_map (port_at tree) ps ≡ filter_map (port_at tree) qs
+      → entries_at x (subjects_in bs ps tree) ≡ entries_at x (subjects_in cs qs tree)
+  same_in bs cs ps qs tree f g = entries_in bs ps tree ∙ (λ k. f k ++ g k) ∙ sym (entries_in cs qs tree)
+
   same_entries : (bs cs : List (List ℕ)) (ps qs : List PortName) → ((tree : ℕ) → filter_map (bridge_at tree) bs ≡ filter_map (bridge_at tree) cs) → ((tree : ℕ) → filter_map (port_at tree) ps ≡ filter_map (port_at tree) qs)
       → entries_at x (subjects bs ps) ≡ entries_at x (subjects cs qs)
   same_entries bs cs ps qs f g =
       entries_in_trees bs ps
-      ∙ (λ i. flat_map (λ tree. (entries_in bs ps tree ∙ (λ k. f tree k ++ g tree k) ∙ sym (entries_in cs qs tree)) i) all_trees)
+      ∙ (λ i. flat_map (λ tree. same_in bs cs ps qs tree (f tree) (g tree) i) all_trees)
       ∙ sym (entries_in_trees cs qs)
 
 -- ---- what isn't in a network has no entry
@@ -121,6 +131,19 @@ module _ (net : Net) (o : Outcome) where
         sym (same_entries (value_at net o) (names_of_either name_cmp (bridge_names other) (bridge_names net)) (bridge_names net) (names_of_either port_cmp (port_names other) (port_names net)) (port_names net)
         (λ tree. kept_right names.total names.same (bridge_names other) (bridge_names net) (bridge_at (value_at net o) tree) (names_rise net) (no_bridge tree))
         (λ tree. kept_right ports.total ports.same (port_names other) (port_names net) (port_at (value_at net o) tree) (port_names_rise net) (no_port tree)))
+
+    -- the entries of one tree
+    pub tree_left : (tree : ℕ) → entries_at (value_at net o) (subjects_in (bridge_names net) (port_names net) tree) ≡ entries_at (value_at net o) (either_in net other tree)
+    tree_left tree =
+        sym (same_in (value_at net o) (names_of_either name_cmp (bridge_names net) (bridge_names other)) (bridge_names net) (names_of_either port_cmp (port_names net) (port_names other)) (port_names net) tree
+        (kept_left names.total names.same (bridge_names net) (bridge_names other) (bridge_at (value_at net o) tree) (names_rise net) (no_bridge tree))
+        (kept_left ports.total ports.same (port_names net) (port_names other) (port_at (value_at net o) tree) (port_names_rise net) (no_port tree)))
+
+    pub tree_right : (tree : ℕ) → entries_at (value_at net o) (subjects_in (bridge_names net) (port_names net) tree) ≡ entries_at (value_at net o) (either_in other net tree)
+    tree_right tree =
+        sym (same_in (value_at net o) (names_of_either name_cmp (bridge_names other) (bridge_names net)) (bridge_names net) (names_of_either port_cmp (port_names other) (port_names net)) (port_names net) tree
+        (kept_right names.total names.same (bridge_names other) (bridge_names net) (bridge_at (value_at net o) tree) (names_rise net) (no_bridge tree))
+        (kept_right ports.total ports.same (port_names other) (port_names net) (port_at (value_at net o) tree) (port_names_rise net) (no_port tree)))
 
     -- the entries of ports in one tree
     pub ports_left : (tree : ℕ) → filter_map (port_at (value_at net o) tree) (port_names net) ≡ entries_at (value_at net o) (map (port_in tree) (names_of_either port_cmp (port_names net) (port_names other)))

@@ -1,7 +1,7 @@
 -- The entries of a view are those of its network.
-use Rattle.std.proofs.Common.{◌≡◌, ℕ, zero, suc, ◌+◌, ◌<◌, ◌==◌, Bool, true, false, List, [], ◌∷◌, ◌++◌, length, take, get_or, Option, Some, None, refl, sym, ap, ◌∙◌, append_assoc, is_some, arith}
+use Rattle.std.proofs.Common.{◌≡◌, ℕ, zero, suc, ◌+◌, ◌<◌, ◌==◌, Bool, true, false, List, [], ◌∷◌, ◌++◌, length, map, take, get_or, Option, Some, None, refl, sym, ap, ◌∙◌, append_assoc, is_some, arith}
 use Rattle.std.specs.Prelude.{if◌then◌else◌}
-use Rattle.std.specs.List.{Contains, filter_map, flat_map, range_with_len, cons_option}
+use Rattle.std.specs.List.{Contains, zip, filter_map, flat_map, range_with_len, cons_option}
 use Rattle.std.specs.Option.{option_map, option_and_then}
 use Rattle.std.specs.FinMap as fin
 use Rattle.std.proofs.lemmas.List.{take_more, flat_map_more}
@@ -24,6 +24,7 @@ use Rattle.mst_trees.proofs.Entries.{all_weaker}
 use Rattle.mst_trees.proofs.Seen.{SeenBridge, bridges_seen}
 use Rattle.mst_trees.proofs.Looking.{has_tree_at}
 use Rattle.mst_roles.specs.Roles.{role_of, role_in, cist_role, msti_role}
+use Rattle.mst_roles.specs.Seen.{seen_role}
 use Rattle.mst_roles.specs.declared.kind.Role.{Role}
 use Rattle.mst_roles.proofs.Named.{own_role}
 use Rattle.mst_changes.specs.declared.subject.Item.TheVariants.{Bridge, Port}
@@ -35,7 +36,9 @@ use Rattle.mst_changes.specs.Subjects.{all_trees, port_in, subjects_in, bridge_n
 use Rattle.mst_changes.specs.Values.{vector_in, value_at}
 use Rattle.mst_changes.specs.Kept.{entries_at}
 use Rattle.mst_changes.specs.Seen.{seen_vector, seen_bridge_entry, seen_port_entry}
-use Rattle.mst_changes.proofs.Lists.{filter_map-map}
+use Rattle.mst_changes.specs.Stored.{bridge_entry, port_entry, kept_in}
+use Rattle.mst_changes.specs.declared.kept.TreeEntries.{TreeEntries}
+use Rattle.mst_changes.proofs.Lists.{filter_map-map, filter_map-zip}
 use Rattle.mst_changes.proofs.Changed.{bridge_at, port_at, entries_in}
 use Rattle.mst_changes.proofs.Orders.{trees_are}
 use Rattle.mst_changes.proofs.InUse.{unused}
@@ -96,6 +99,15 @@ module _ (net : Net) (numbers : Numbers) (v : Viewed) (f : Forest) (of : AreOf n
   pub tree_entries : filter_map (seen_bridge_entry v f tree) v.bridges ++ filter_map (seen_port_entry v f tree) v.ports ≡ entries_at x (subjects_in (bridge_names net) (port_names net) tree)
   tree_entries = (λ i. bridges_same i ++ ports_same i) ∙ sym (entries_in x (bridge_names net) (port_names net) tree)
 
+  -- by what is kept of a tree
+  pub kept_entries_are : (kept : TreeEntries) → kept.tree ≡ tree → kept.vectors.items ≡ map (λ (b : BridgeInView). seen_vector v f tree b.bridge.number) v.bridges → kept.roles.items ≡ map (seen_role v f tree) v.ports
+      → kept_in (map (λ (b : BridgeInView). b.name) v.bridges) (map (λ (p : PortInView). p.name) v.ports) kept ≡ entries_at x (subjects_in (bridge_names net) (port_names net) tree)
+  kept_entries_are kept same vectors roles =
+      (λ i. filter_map (bridge_entry (same i)) (zip (map (λ (b : BridgeInView). b.name) v.bridges) (vectors i)) ++ filter_map (port_entry (same i)) (zip (map (λ (p : PortInView). p.name) v.ports) (roles i)))
+      ∙ (λ i. filter_map-zip (bridge_entry tree) (λ (b : BridgeInView). b.name) (λ (b : BridgeInView). seen_vector v f tree b.bridge.number) v.bridges i
+      ++ filter_map-zip (port_entry tree) (λ (p : PortInView). p.name) (seen_role v f tree) v.ports i)
+      ∙ tree_entries
+
   -- a tree that isn't in use has none
   module _ (other : (tree == 0) ≡ false) (none : is_in_use v tree ≡ false) where
     no_tree : (name : List ℕ) → has_msti net tree name ≡ false
@@ -134,6 +146,10 @@ range_more n =
 
 pub tree_more : {A : Type 0} (f : ℕ → List A) (n : ℕ) (now new : List A) → now ≡ flat_map f (range_with_len 0 n) → new ≡ now ++ f n → new ≡ flat_map f (range_with_len 0 (n + 1))
 tree_more f n now new before after = after ∙ ap (λ l. l ++ f n) before ∙ flat_map_more f [] (range_with_len 0 n) n ∙ ap (flat_map f) (sym (range_more n))
+
+-- after what was there before
+pub more_after : {A : Type 0} (f : ℕ → List A) (n : ℕ) (before now new : List A) → now ≡ before ++ flat_map f (range_with_len 0 n) → new ≡ now ++ f n → new ≡ before ++ flat_map f (range_with_len 0 (n + 1))
+more_after f n before now new e after = after ∙ ap (λ l. l ++ f n) e ∙ flat_map_more f before (range_with_len 0 n) n ∙ ap (λ r. before ++ flat_map f r) (sym (range_more n))
 
 pub trees_done : {A : Type 0} (f : ℕ → List A) (n : ℕ) → n ≡ 4095 → flat_map f (range_with_len 0 n) ≡ flat_map f all_trees
 trees_done f n e = ap (flat_map f) (ap (range_with_len 0) e ∙ trees_are)

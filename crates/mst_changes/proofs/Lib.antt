@@ -6,5 +6,7 @@ pub mod Changed
 pub mod Same
 pub mod InUse
 pub mod Gathered
+pub mod ByTree
+pub mod InTrees
 pub mod Lines
 pub mod NoPorts

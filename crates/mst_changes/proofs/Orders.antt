@@ -47,7 +47,7 @@ unfolding all_trees
 trees_are = refl
 
 module _ (bridges : List (List ℕ)) (ports : List PortName) where
-  all_in : (tree : ℕ) → AllByRecursion (λ (p : Subject). p.tree ≡ tree) (subjects_in bridges ports tree)
+  pub all_in : (tree : ℕ) → AllByRecursion (λ (p : Subject). p.tree ≡ tree) (subjects_in bridges ports tree)
   all_in tree =
       all_append (λ (p : Subject). p.tree ≡ tree) (map (bridge_in tree) bridges) (map (port_in tree) ports)
       (all_mapped (λ (p : Subject). p.tree ≡ tree) (bridge_in tree) bridges (every bridges)) (all_mapped (λ (p : Subject). p.tree ≡ tree) (port_in tree) ports (every ports))

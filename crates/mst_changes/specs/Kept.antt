@@ -9,6 +9,7 @@ use Rattle.mst_changes.specs.declared.subject.Entry.{Entry}
 use Rattle.mst_changes.specs.declared.entries.Entries.{Entries}
 use Rattle.mst_changes.specs.Subjects.{subjects_of}
 use Rattle.mst_changes.specs.Values.{value_at}
+use Rattle.mst_changes.specs.Stored.{kept_entries}
 
 -- what there is of these subjects, in their order
 abbrev pub entry_at : (Subject → Option VectorOrRole) → Subject → Option Entry
@@ -23,4 +24,4 @@ abbrev pub entries_of : Net → Outcome → List Entry
 entries_of net o = entries_at (value_at net o) (subjects_of net)
 
 abbrev pub AreEntries : Net → Outcome → Entries → Type 0
-AreEntries net o entries = entries.entries.items ≡ entries_of net o
+AreEntries net o entries = kept_entries entries ≡ entries_of net o

@@ -1,7 +1,9 @@
 pub mod Subjects
 pub mod Values
+pub mod Stored
 pub mod Kept
 pub mod Seen
 pub mod Merging
 pub mod ChangesText
 pub mod PortChanges
+pub mod TreeChanges

@@ -1,115 +1,60 @@
-ghost use Rattle.std.specs.Prelude.{◌≡◌, ◌++◌, IfOk, OnOk, filter_map};
+ghost use Rattle.std.specs.Prelude.{◌≡◌, ◌++◌, ◌==◌, map, IfOk, OnOk, filter};
+ghost use Rattle.std.specs.List.{flat_map};
 ghost use Rattle.mst_net.specs.Tables.{Net, Numbers};
 ghost use Rattle.mst_trees.specs.Agrees.{AreOf};
 ghost use Rattle.mst_trees.specs.Forest.{IsForest};
 ghost use Rattle.mst_trees.specs.InUse.{AreInUse};
-ghost use Rattle.mst_changes.specs.Subjects.{subjects_in, bridge_names, port_names};
+ghost use Rattle.mst_changes.specs.Subjects.{subjects_in, bridge_names as names_of_bridges, port_names as names_of_ports};
 ghost use Rattle.mst_changes.specs.Values.{value_at};
 ghost use Rattle.mst_changes.specs.Kept.{AreEntries, entries_at};
-ghost use Rattle.mst_changes.specs.Seen.{seen_vector, seen_bridge_entry, seen_port_entry};
+ghost use Rattle.mst_changes.specs.Stored.{kept_in, kept_entries};
 
-use crate::subject::{Entry, Item};
-use crate::value::VectorOrRole;
-use mst_ids::{BridgeNo, Tree};
-use mst_lag::{BridgeInView, PortInView, View};
-use mst_roles::port_role;
+use crate::kept::{TreeEntries, bridge_names, port_names, push_kept, tree_entries};
+use crate::subject::Entry;
+use mst_ids::{Name, PortName, Tree};
+use mst_lag::View;
 use mst_trees::{Forest, is_had, trees_in_use};
 use std::alloc::{AllocError, Global};
 
-/// What is kept of a network's outcome, by names and in the order of the text: by trees, the root priority vectors
-/// of bridges before the roles of logical ports.
+/// What is kept of a network's outcome, by names: the root priority vectors of bridges and the roles of logical ports in
+/// each tree that some bridge has, rising. The names stand in it once, and not for each tree.
 pub struct Entries {
-    pub(crate) entries: Vec<Entry>,
+    pub(crate) bridges: Vec<Name>,
+    pub(crate) ports: Vec<PortName>,
+    pub(crate) trees: Vec<TreeEntries>,
 }
 
 // By hand, as a view's.
 impl Drop for Entries {
     fn drop(self) {
-        let Entries { entries: _ } = self;
+        let Entries {
+            bridges: _,
+            ports: _,
+            trees: _,
+        } = self;
     }
 }
 
-/// The root priority vector of a bridge in a tree, where the bridge is on and has the tree.
-fn vector(view: &View, forest: &Forest, tree: Tree, bridge: BridgeNo) -> Option<VectorOrRole>
-    ensures { result ≡ seen_vector view.now forest.now tree bridge }
-{
-    if tree.value() == 0 {
-        return forest.cist(bridge).map(VectorOrRole::InCist);
-    }
-    if view.has_tree(bridge, tree) {
-        forest.msti(tree, bridge).map(VectorOrRole::InMsti)
-    } else {
-        None
-    }
-}
-
-/// The entry of a bridge in a tree.
-fn bridge_row(view: &View, forest: &Forest, tree: Tree, bridge: &BridgeInView) -> Option<Entry>
-    ensures { result ≡ seen_bridge_entry view.now forest.now tree bridge.now }
-{
-    let value = vector(view, forest, tree, bridge.bridge.number)?;
-    Some(Entry {
-        tree,
-        item: Item::Bridge(bridge.name),
-        value,
-    })
-}
-
-/// The entry of a logical port in a tree.
-fn port_row(view: &View, forest: &Forest, tree: Tree, port: &PortInView) -> Option<Entry>
-    ensures { result ≡ seen_port_entry view.now forest.now tree port.now }
-{
-    let role = port_role(view, forest, port, tree)?;
-    Some(Entry {
-        tree,
-        item: Item::Port(port.name),
-        value: VectorOrRole::HasRole(role),
-    })
-}
-
-/// Appends the entries of the bridges of a view in a tree.
-fn push_bridges(
-    view: &View,
-    forest: &Forest,
-    tree: Tree,
-    entries: &mut Vec<Entry>,
-) -> Result<(), AllocError>
-    ensures { OnOk result (entries.new.items ≡ entries.old.items ++ filter_map (seen_bridge_entry view.now forest.now tree) view.now.bridges) }
-{
-    let bridges = view.bridges().iter();
-    entries.extend(bridges.filter_map(|bridge| bridge_row(view, forest, tree, bridge)))
-}
-
-/// Appends the entries of the logical ports of a view in a tree.
-pub(crate) fn push_ports(
-    view: &View,
-    forest: &Forest,
-    tree: Tree,
-    entries: &mut Vec<Entry>,
-) -> Result<(), AllocError>
-    ensures { OnOk result (entries.new.items ≡ entries.old.items ++ filter_map (seen_port_entry view.now forest.now tree) view.now.ports) }
-{
-    let ports = view.ports().iter();
-    entries.extend(ports.filter_map(|port| port_row(view, forest, tree, port)))
-}
-
-/// Appends the entries of a tree: none where no bridge has it.
-fn push_tree(
+/// Adds what is kept of a tree: nothing where no bridge has it.
+fn keep_tree(
+    alloc: Global,
     view: &View,
     forest: &Forest,
     used: &[bool; 4095],
     tree: Tree,
-    entries: &mut Vec<Entry>,
+    trees: &mut Vec<TreeEntries>,
 ) -> Result<(), AllocError>
     requires { AreInUse view.now used.now }
     ensures { OnOk result ((net : Net) (numbers : Numbers) (is : IsForest net numbers forest.now) → AreOf net numbers view.now forest.now.regions
-        → entries.new.items ≡ entries.old.items ++ entries_at (value_at net is.outcome) (subjects_in (bridge_names net) (port_names net) tree)) }
+        → flat_map (kept_in (map (λ b. b.name) view.now.bridges) (map (λ p. p.name) view.now.ports)) trees.new.items
+        ≡ flat_map (kept_in (map (λ b. b.name) view.now.bridges) (map (λ p. p.name) view.now.ports)) trees.old.items ++ entries_at (value_at net is.outcome) (subjects_in (names_of_bridges net) (names_of_ports net) tree)) }
 {
     if !is_had(used, tree) {
         return Ok(());
     }
-    push_bridges(view, forest, tree, entries)?;
-    push_ports(view, forest, tree, entries)
+    let kept = tree_entries(alloc, view, forest, tree)?;
+    trees.push(kept)?;
+    Ok(())
 }
 
 impl Entries {
@@ -120,12 +65,35 @@ impl Entries {
         ensures { IfOk result (λ entries. (net : Net) (numbers : Numbers) (is : IsForest net numbers forest.now) → AreOf net numbers view.now forest.now.regions → AreEntries net is.outcome entries) }
     {
         let used = trees_in_use(view);
-        let mut entries = Vec::new(alloc);
+        let bridges = bridge_names(alloc, view)?;
+        let ports = port_names(alloc, view)?;
+        let mut trees = Vec::new(alloc);
         for number in 0..4095 {
             if let Some(tree) = Tree::new(number) {
-                push_tree(view, forest, &used, tree, &mut entries)?;
+                keep_tree(alloc, view, forest, &used, tree, &mut trees)?;
             }
         }
-        Ok(Entries { entries })
+        Ok(Entries {
+            bridges,
+            ports,
+            trees,
+        })
+    }
+
+    /// Appends the entries of a tree.
+    pub(crate) fn push_tree(&self, tree: Tree, entries: &mut Vec<Entry>) -> Result<(), AllocError>
+        ensures { OnOk result (entries.new.items ≡ entries.old.items ++ filter (λ entry. entry.tree == tree) (kept_entries self.now)) }
+    {
+        for kept in &self.trees {
+            if kept.tree == tree {
+                push_kept(
+                    kept,
+                    self.bridges.as_slice(),
+                    self.ports.as_slice(),
+                    entries,
+                )?;
+            }
+        }
+        Ok(())
     }
 }

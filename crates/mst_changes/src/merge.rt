@@ -1,14 +1,11 @@
 ghost use Rattle.std.specs.Prelude.{◌≡◌, ◌++◌, List, Option, OnOk};
 ghost use Rattle.std.specs.List.{flat_map};
-ghost use Rattle.mst_net.specs.Tables.{Net};
-ghost use Rattle.mst_trees.specs.Outcome.{Outcome};
 ghost use Rattle.mst_changes.specs.declared.subject.Subject.{Subject as SubjectOf};
 ghost use Rattle.mst_changes.specs.declared.value.VectorOrRole.{VectorOrRole as VectorOrRoleOf};
-ghost use Rattle.mst_changes.specs.Kept.{AreEntries, entries_at};
+ghost use Rattle.mst_changes.specs.Kept.{entries_at};
 ghost use Rattle.mst_changes.specs.Merging.{Rise, first_subject as subject_first, value_first, entries_past};
-ghost use Rattle.mst_changes.specs.ChangesText.{change_text, changes_text};
+ghost use Rattle.mst_changes.specs.ChangesText.{change_text};
 
-use crate::entries::Entries;
 use crate::subject::{Entry, Subject, subject_order};
 use crate::text::push_change;
 use crate::value::VectorOrRole;
@@ -63,14 +60,4 @@ pub(crate) fn push_merged(
         news_left = news_past;
     }
     Ok(())
-}
-
-/// Appends the text of what has changed from one network's outcome to another's, by what is kept of them. Of equal
-/// outcomes it is empty. `AllocError`: memory was wanted and refused; part of the text may have been appended.
-///
-/// It goes once over both lists of entries.
-pub fn push_changes(old: &Entries, new: &Entries, out: &mut Vec<u8>) -> Result<(), AllocError>
-    ensures { OnOk result ((a b : Net) (o p : Outcome) → AreEntries a o old.now → AreEntries b p new.now → out.new.items ≡ out.old.items ++ changes_text a o b p) }
-{
-    push_merged(old.entries.as_slice(), new.entries.as_slice(), out)
 }

@@ -4,8 +4,8 @@ ghost use Rattle.mst_trees.specs.Agrees.{AreOf};
 ghost use Rattle.mst_trees.specs.Forest.{IsForest};
 ghost use Rattle.mst_changes.specs.PortChanges.{port_changes};
 
-use crate::entries::push_ports;
 use crate::merge::push_merged;
+use crate::rows::push_ports;
 use mst_ids::Tree;
 use mst_lag::View;
 use mst_trees::Forest;

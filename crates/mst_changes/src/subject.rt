@@ -19,9 +19,9 @@ pub(crate) struct Subject {
     pub(crate) item: Item,
 }
 
-/// What an outcome has of a subject.
+/// What an outcome has of a subject. A mark is told of, in contracts, as the list of its entries.
 #[derive(Clone, Copy)]
-pub(crate) struct Entry {
+pub struct Entry {
     pub(crate) tree: Tree,
     pub(crate) item: Item,
     pub(crate) value: VectorOrRole,

@@ -9,6 +9,7 @@ use Rattle.mst_config.specs.Shared.{AreRegions}
 use Rattle.mst_trees.specs.Agrees.{AreOf}
 use Rattle.mst_trees.specs.Forest.{Forest, IsForest}
 use Rattle.mst_changes.specs.declared.subject.Entry.{Entry}
+use Rattle.mst_changes.specs.Stored.{kept_entries}
 use Rattle.mst_changes.specs.declared.entries.Entries.{Entries}
 use Rattle.mst_report.specs.State.{IsMark}
 use Rattle.mst_report.specs.Standing.{Standing, nothing, standing_of}
@@ -55,7 +56,7 @@ standing_in (Some p) = standing_of p.forest
 
 -- the entries that are kept of the mark, if there is one, are those of a network
 abbrev pub mark_entries : Option Entries → Option (List Entry)
-mark_entries = option_map (λ entries. entries.entries.items)
+mark_entries = option_map kept_entries
 
 abbrev pub HasMark : Option Entries → Type 0
 HasMark mark = MatchOption (mark_entries mark) (Unit {0}) IsMark

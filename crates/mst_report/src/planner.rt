@@ -5,6 +5,7 @@ ghost use Rattle.std.specs.Option.{option_map};
 ghost use Rattle.mst_trees.specs.Agrees.{AreOf};
 ghost use Rattle.mst_trees.specs.Forest.{IsForest, SettlesNoUnused};
 ghost use Rattle.mst_lag.specs.Viewed.{IsView};
+ghost use Rattle.mst_changes.specs.Stored.{kept_entries};
 ghost use Rattle.mst_report.specs.Sweeping.{Sweeps, SweepsPart};
 
 use crate::laws::{entries_of_network, sweep_parts};
@@ -300,9 +301,9 @@ impl Planner {
     }
 
     /// What is kept of the network as it is now.
-    pub(crate) fn entries(&self) -> Result<Entries, AllocError>
+    fn entries(&self) -> Result<Entries, AllocError>
         requires { self.now.is_settled ≡ true }
-        ensures { IfOk result (λ entries. IsMarkNow self.now.contents.net entries.entries.items) }
+        ensures { IfOk result (λ entries. IsMarkNow self.now.contents.net (kept_entries entries)) }
     {
         let plan = self.plan();
         let entries = Entries::new(self.alloc, &plan.view, &plan.forest)?;
@@ -311,7 +312,7 @@ impl Planner {
 
     /// The entries of the mark, if there is one.
     pub(crate) fn marked(&self) -> Option<&Entries>
-        ensures { option_map (λ entries. entries.now.entries.items) result ≡ self.now.mark }
+        ensures { option_map (λ entries. kept_entries entries.now) result ≡ self.now.mark }
     {
         self.mark.as_ref()
     }

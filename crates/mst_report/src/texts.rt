@@ -1,11 +1,12 @@
 ghost use Rattle.std.specs.Prelude.{◌≡◌, true, Ok, Some, IfOk};
 ghost use Rattle.mst_lang.specs.declared.line.Query.TheVariants.{ShowPlan, ShowTree, ShowVlan, ShowNotes, ShowLag, ShowRegions, ShowConfiguration, Changes, Save};
+ghost use Rattle.mst_changes.specs.Stored.{kept_entries};
 ghost use Rattle.mst_report.specs.Answers.{Answers, asks_plan as is_of_plan};
 ghost use Rattle.mst_report.specs.Planned.{planned_state};
 ghost use Rattle.mst_report.specs.Refusing.{HasText};
 
 use crate::planner::Planner;
-use mst_changes::{Entries, push_changes};
+use mst_changes::{Entries, Planned, push_changes};
 use mst_ids::{Name, Tree, Vid};
 use mst_lang::Query;
 use mst_note_text::push_notes;
@@ -132,13 +133,17 @@ impl Planner {
     /// The text of what has changed since this mark.
     fn changes_from(&self, mark: &Entries) -> Result<Vec<u8>, AllocError>
         requires settled { self.now.is_settled ≡ true }
-        requires marked { self.now.mark ≡ Some mark.now.entries.items }
+        requires marked { self.now.mark ≡ Some (kept_entries mark.now) }
         requires text { HasText Changes (planned_state self.now) }
         ensures { IfOk result (λ text. Answers Changes (planned_state self.now) (Ok text.items)) }
     {
-        let now = self.entries()?;
+        let plan = self.plan();
+        let now = Planned {
+            view: &plan.view,
+            forest: &plan.forest,
+        };
         let mut text = Vec::new(self.alloc());
-        push_changes(mark, &now, &mut text)?;
+        push_changes(self.alloc(), mark, now, &mut text)?;
         Ok(text)
     }
 }

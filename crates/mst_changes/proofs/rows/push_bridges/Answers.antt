@@ -5,7 +5,7 @@ use Rattle.std.proofs.lemmas.Iterator.{YieldsList-from_slice}
 use Rattle.std.proofs.lemmas.Result.{on_ok_weaker}
 use Rattle.std.specs.List.{filter_map}
 use Rattle.mst_changes.specs.Seen.{seen_bridge_entry}
-use Rattle.mst_changes.proofs.entries.push_bridges.Goals as goal
+use Rattle.mst_changes.proofs.rows.push_bridges.Goals as goal
 
 pub returns : goal.returns
 returns c =

@@ -4,7 +4,7 @@ use Rattle.std.proofs.lemmas.Result.{on_ok_weaker}
 use Rattle.mst_changes.specs.Seen.{seen_bridge_entry, seen_port_entry}
 use Rattle.mst_changes.proofs.InUse.{unused_by}
 use Rattle.mst_changes.proofs.Gathered.{tree_entries, no_entries}
-use Rattle.mst_changes.proofs.entries.push_tree.Goals as goal
+use Rattle.mst_changes.proofs.rows.push_tree.Goals as goal
 
 pub returns-then-not-is_had : goal.returns-then-not-is_had
 returns-then-not-is_had c = λ net numbers is of.
