@@ -1,10 +1,68 @@
-//! Calls that a tool may make and the program doesn't: a topology settled from scratch.
+//! Calls that a tool may make and the program doesn't: a forest from nothing, whether a port forwards by its number, the
+//! numbers of active ports, a topology settled from scratch.
 
-use mst_ids::{BridgeId, BridgeNo, Priority, Tree, parse_mac};
+use super::edits::{name, network_of};
+use super::repairs::TRIANGLE;
+use mst_config::regions_of;
+use mst_ids::{BridgeId, BridgeNo, Name, PortNo, Priority, Tree, Vid, parse_mac};
+use mst_lag::{View, view};
+use mst_net::{Contents, Network};
+use mst_roles::forwards;
 use mst_settle::{Bridges, Settler, Topology, Wiring};
+use mst_trees::Forest;
 use mst_vector::{CistBridge, CistMetric};
+use mst_vlan::active;
+use std::alloc::{AllocError, Global};
 use std::collections::BTreeMap;
 use std::test::Fail;
+
+/// The view of a network and its trees, settled from nothing.
+fn planned(alloc: Global, network: &Network) -> Result<(View, Forest), AllocError> {
+    network.known();
+    let view = view(alloc, network)?;
+    let regions = regions_of(alloc, network)?;
+    let forest = Forest::new(alloc, &view, &regions)?;
+    Ok((view, forest))
+}
+
+/// The number of a logical port of a view.
+fn number_of(view: &View, bridge: Name, number: u16) -> Option<PortNo> {
+    for port in view.ports() {
+        if port.name.bridge == bridge && port.name.number.value() == number {
+            return Some(port.number);
+        }
+    }
+    None
+}
+
+/// Whether of the two ports of bridge C the first forwards VID 1 and the second doesn't.
+fn second_alone_blocks(view: &View, forest: &Forest) -> Option<bool> {
+    let last = name("C")?;
+    let vid = Vid::new(1)?;
+    let root = number_of(view, last, 1)?;
+    let blocked = number_of(view, last, 2)?;
+    Some(forwards(view, forest, root, vid) && !forwards(view, forest, blocked, vid))
+}
+
+/// How many ports are active for VID 1.
+fn active_for_vid_1(alloc: Global, view: &View, forest: &Forest) -> Result<usize, AllocError> {
+    match Vid::new(1) {
+        None => Ok(0),
+        Some(vid) => Ok(active(alloc, view, forest, vid)?.len()),
+    }
+}
+
+// Of three switches in a triangle the last one's port to the second blocks; each is settled once.
+#[test]
+fn a_forest_from_nothing(rt: HostRuntime) -> Result<(), Fail> {
+    let alloc = rt.alloc();
+    let network = network_of(alloc, TRIANGLE).ok_or("refused")?;
+    let (view, forest) = planned(alloc, &network)?;
+    assert_eq!(rt; forest.settlings(Tree::cist()), 3);
+    assert_eq!(rt; second_alone_blocks(&view, &forest), Some(true));
+    assert_eq!(rt; active_for_vid_1(alloc, &view, &forest)?, 5);
+    Ok(())
+}
 
 // A bridge alone is its own root.
 #[test]

@@ -9,7 +9,7 @@ use std::alloc::{AllocError, Global};
 use std::test::Fail;
 
 /// Bridges A, B and C, and their ports in the LANs X, Y and Z between each two of them.
-const TRIANGLE: &str = "\
+pub(super) const TRIANGLE: &str = "\
 addbridge A 02:00:00:00:00:01
 addbridge B 02:00:00:00:00:02
 addbridge C 02:00:00:00:00:03
