@@ -7,7 +7,7 @@ ghost use Rattle.mst_report.specs.Standing.{standing_of, msti_settlings, KeepsBo
 ghost use Rattle.mst_trees.specs.Forest.{SettlesNoUnused};
 
 use mst_config::{Regions, regions_of};
-use mst_lag::laws::{bridge_alone, lan_alone, port_alone, set_alone};
+use mst_lag::laws::{bridge_alone, lan_alone, port_alone, ports_alone, set_alone};
 use mst_lag::{View, leaves_key, leaves_links, leaves_tables, view};
 use mst_lang::Edit;
 use mst_net::{Contents, Network};
@@ -150,6 +150,7 @@ fn renews_view(alloc: Global, network: &Network, view: &mut View, edit: &Edit) -
     lan_alone();
     bridge_alone();
     port_alone();
+    ports_alone();
     set_alone();
     match edit {
         Edit::SetLan { lan, change: _ } => view.renew_lan(alloc, network, lan).is_ok(),
@@ -157,8 +158,14 @@ fn renews_view(alloc: Global, network: &Network, view: &mut View, edit: &Edit) -
             leaves_links(change) && view.renew_bridge(alloc, network, bridge).is_ok()
         }
         Edit::SetPort { port, change } => {
-            leaves_key(change) && view.renew_port(alloc, network, port).is_ok()
+            if leaves_key(change) {
+                view.renew_port(alloc, network, port).is_ok()
+            } else {
+                view.renew_links(alloc, network).is_ok()
+            }
         }
+        Edit::Plug { port: _, lan: _ } => view.renew_links(alloc, network).is_ok(),
+        Edit::Unplug { port: _ } => view.renew_links(alloc, network).is_ok(),
         Edit::SetByTree(change) => {
             if leaves_tables(change) {
                 view.renew_settings(network).is_ok()

@@ -27,3 +27,18 @@ pub renew_tables-requires : goal.renew_tables-requires
 renew_tables-requires c =
     c.set_alone.ensures.made c.in-SetByTree.change c.requires.old c.args.network.now c.args.view.now
     (subst (λ (e : Edit). Commits e c.requires.old c.args.network.now) c.in-SetByTree.is c.requires.made) c.requires.view
+
+pub renew_links-requires : goal.renew_links-requires
+renew_links-requires c =
+    c.ports_alone.ensures.set c.in-SetPort.port c.in-SetPort.change c.requires.old c.args.network.now c.args.view.now
+    (subst (λ (e : Edit). Commits e c.requires.old c.args.network.now) c.in-SetPort.is c.requires.made) c.requires.view
+
+pub renew_links-requires-in-Plug : goal.renew_links-requires-in-Plug
+renew_links-requires-in-Plug c =
+    c.ports_alone.ensures.plugged _ _ c.requires.old c.args.network.now c.args.view.now
+    (subst (λ (e : Edit). Commits e c.requires.old c.args.network.now) c.in-Plug.is c.requires.made) c.requires.view
+
+pub renew_links-requires-in-Unplug : goal.renew_links-requires-in-Unplug
+renew_links-requires-in-Unplug c =
+    c.ports_alone.ensures.unplugged _ c.requires.old c.args.network.now c.args.view.now
+    (subst (λ (e : Edit). Commits e c.requires.old c.args.network.now) c.in-Unplug.is c.requires.made) c.requires.view
