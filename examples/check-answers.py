@@ -534,6 +534,14 @@ def diffs(program, script, other, text, folder):
     return faults
 
 
+def in_parts(program, number, script, wanted, refused_lines):
+    """The parts of a sweep, of 1 to 12 of them, have its lines one after another, the refused lines once, and but for their last."""
+    count = number % 12 + 1
+    parts = [run(program, ["sweep", "-", f"{part}/{count}"], script)[0].splitlines() for part in range(1, count + 1)]
+    told = [*parts[0][:refused_lines], *itertools.chain.from_iterable(part[refused_lines:-1] for part in parts)]
+    return [] if told == wanted else [f"network {number}: {count} parts of its sweep aren't the sweep"]
+
+
 def faults_of(program, number, script):
     draws = Draws(number + 10**6)
     other = [*script[:1], *(line for line in script[1:] if draws.below(20)), *(settings(draws, "ABC") for _ in range(draws.below(4)))]
@@ -546,7 +554,8 @@ def faults_of(program, number, script):
     faults += differing(program, ["summary", "-"], script, wanted, 1 if lines else 0)
     wanted = swept(program, script, text, ups, ons)
     cuts = not wanted[-1].endswith(" cuts 0")
-    return faults + differing(program, ["sweep", "-"], script, [*lines, *wanted], 1 if lines or cuts else 0)
+    faults += differing(program, ["sweep", "-"], script, [*lines, *wanted], 1 if lines or cuts else 0)
+    return faults + in_parts(program, number, script, [*lines, *wanted[:-1]], len(lines))
 
 
 def lines_of(path):

@@ -7,6 +7,7 @@ usage: check-program.py PROGRAM
 The gate runs it on the program that it has built (.ci/run).
 """
 
+import itertools
 import json
 import os
 import pty
@@ -288,6 +289,10 @@ def diff_cases(folder):
     ]
 
 
+# Words that name no part of a sweep, and what is told of them.
+NO_PARTS = ("0/1", "2/1", "0/0", "1/0", "1/65537", "1", "1/", "/1", "/", "", "1/2/3", "a/b", "+1/2", "1 /2", "1/99999999999", "1:2")
+NO_PART = b"error: PART is K/N, two numbers in decimal with 1 <= K <= N <= 65536\n"
+
 # What each single failure does, worked out by hand.
 NO_FAILURE = b"sweep lans 0 bridges 0 cuts 0\n"
 OF_PAIRED = b"""lan x roots 0 ports 0 cut 1-4094
@@ -373,10 +378,32 @@ def sweep_cases(folder):
         ("sweep, fewer VLANs on a link", ["sweep", "-"], FEW_ON_BC, 1, OF_FEW_ON_BC, b""),
         ("sweep, what is down and off", ["sweep", "-"], C_IS_OFF, 1, OF_C_IS_OFF, b""),
         ("sweep with no file", ["sweep"], b"", 2, b"", USAGE),
-        ("sweep with a second file", ["sweep", script, script], b"", 2, b"", USAGE),
+        ("sweep with a word that names no part", ["sweep", script, script], b"", 2, b"", NO_PART),
+        ("sweep with a third word", ["sweep", script, "1/2", "2/2"], b"", 2, b"", USAGE),
         ("sweep, a file that isn't there", ["sweep", absent], b"", 3, b"", cannot),
         ("sweep, a folder", ["sweep", folder], b"", 3, b"", b"mstplan: read fault\n"),
+        ("sweep, a part of a script that isn't there", ["sweep", absent, "1/2"], b"", 3, b"", cannot),
+        *((f"sweep, the part {word}", ["sweep", script, word], b"", 2, b"", NO_PART) for word in NO_PARTS),
+        *part_cases("a triangle", TRIANGLE, OF_TRIANGLE),
+        *part_cases("fewer VLANs on a link", FEW_ON_BC, OF_FEW_ON_BC),
     ]
+
+
+def part_cases(name, network, whole):
+    """The parts of a sweep of a network: each has its share of the failures, each with its lines, and counts that alone."""
+    told = whole.decode().split("\n")[:-2]
+    starts = [place for place, line in enumerate(told) if not line.startswith("cut ")]
+    failures = [told[start:end] for start, end in zip(starts, [*starts[1:], len(told)])]
+    cases = []
+    for count in (1, 2, 3, 4, 5, 6, 7, 64, 65536):
+        for number in {1, 2, 3, count - 1, count} & set(range(1, count + 1)):
+            part = failures[(number - 1) * len(failures) // count : number * len(failures) // count]
+            kinds = [lines[0].split()[0] for lines in part]
+            cuts = sum(len(lines) > 1 for lines in part)
+            last = f"sweep lans {kinds.count('lan')} bridges {kinds.count('bridge')} cuts {cuts}"
+            text = "".join(line + "\n" for line in [*itertools.chain.from_iterable(part), last]).encode()
+            cases.append((f"sweep, {name}, {number}/{count}", ["sweep", "-", f"{number}/{count}"], network, 1 if cuts else 0, text, b""))
+    return cases
 
 
 NO_NETWORK = b"bridges 0 on 0 ports 0 enabled 0 regions 0 trees 0\nvlan 1-4094 islands 0\n"

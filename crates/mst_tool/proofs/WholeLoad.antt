@@ -9,8 +9,9 @@ use Rattle.mst_report.specs.Explaining.{Explains, unexplained_of}
 use Rattle.mst_report.specs.Picturing.{Depicts}
 use Rattle.mst_report.specs.State.{State, IsState, empty_state}
 use Rattle.mst_report.specs.Summarizing.{Summarizes}
-use Rattle.mst_report.specs.Sweeping.{Sweeps}
+use Rattle.mst_report.specs.Sweeping.{SweepsPart}
 use Rattle.mst_report.specs.declared.explaining.Unexplained.{Unexplained}
+use Rattle.mst_sweep.specs.SweepParts.{PartOf}
 use Rattle.mst_tool.specs.Ask.{Told, given, swept, Tells, IsAnswer, Asks, AsksFront, counted_with}
 use Rattle.mst_engine.specs.Engine.{Tally, outcome_of}
 use Rattle.mst_tool.specs.Load.{LoadsFront, LoadsEnded, LoadsScript}
@@ -41,9 +42,9 @@ LoadsStates = (shape : Shape) (lines : List (List ℕ)) (steps : List Step) → 
 abbrev pub OneExplanation : Type 0
 OneExplanation = (net : Net) (name : PortName) (tree : Option ℕ) (text other : List ℕ) → IsNetwork net → Explains net name tree text → Explains net name tree other → text ≡ other
 
--- and what single failures do is one text
+-- and what single failures of a part do is one text
 abbrev pub OneSweep : Type 0
-OneSweep = (net : Net) (text other : List ℕ) (c d : ℕ) → IsNetwork net → Sweeps net c text → Sweeps net d other → (text ≡ other) × (c ≡ d)
+OneSweep = (net : Net) (part : PartOf) (text other : List ℕ) (c d : ℕ) → IsNetwork net → SweepsPart part net c text → SweepsPart part net d other → (text ≡ other) × (c ≡ d)
 
 -- and the summary is one
 abbrev pub OneSummary : Type 0
@@ -56,8 +57,8 @@ OnePicture = (net : Net) (tree : ℕ) (text other : List ℕ) → IsNetwork net 
 -- so what is asked has one answer
 one_answer : OneExplanation → OneSweep → OneSummary → OnePicture → (form : Form) (net : Net) (question : Question) (x y : Told) (a b : List ℕ) → IsNetwork net → IsAnswer form net question x a → IsAnswer form net question y b → (y ≡ x) × (b ≡ a)
 one_answer one sweep summary picture form net (Unread f) x y a b is h k = (k.0 ∙ sym h.0, k.1 ∙ sym h.1)
-one_answer one sweep summary picture form net Sweep x y a b is h k =
-    let same = one_shown form (codes "sweep") (Sweeps net k.0) (Sweeps net h.0) (k.0 ≡ h.0) (λ text other p q. sweep net text other k.0 h.0 is p q) b a k.1 h.1 in
+one_answer one sweep summary picture form net (Sweep part) x y a b is h k =
+    let same = one_shown form (codes "sweep") (SweepsPart part net k.0) (SweepsPart part net h.0) (k.0 ≡ h.0) (λ text other p q. sweep net part text other k.0 h.0 is p q) b a k.1 h.1 in
     (k.2 ∙ ap swept same.1 ∙ sym h.2, same.0)
 one_answer one sweep summary picture form net Summary x y a b is h k = (k.0 ∙ sym h.0, same_shown form (codes "summary") (Summarizes net) (λ text other p q. summary net text other is p q) b a k.1 h.1)
 one_answer one sweep summary picture form net (Picture n) x y a b is h k = (k.0 ∙ sym h.0, same_shown form (codes "dot") (Depicts net n) (λ text other p q. picture net n text other is p q) b a k.1 h.1)
@@ -75,9 +76,9 @@ explained_shown form net settled asked text printed same none h e =
     (subst (λ why. Tells form settled asked why given printed) (sym none) (refl, is_shown form (codes "explain") (Explains settled asked.port asked.tree) text printed h e))
 
 -- what tells of single failures, and what summarizes
-pub swept_shown : (form : Form) (net settled : Net) (cuts : ℕ) (text printed : List ℕ) → settled ≡ net → Sweeps settled cuts text → printed ≡ shown form None (codes "sweep") text → IsAnswer form net Sweep (swept cuts) printed
-swept_shown form net settled cuts text printed same h e =
-    subst (λ net. IsAnswer form net Sweep (swept cuts) printed) same (cuts, is_shown form (codes "sweep") (Sweeps settled cuts) text printed h e, refl)
+pub swept_shown : (form : Form) (part : PartOf) (net settled : Net) (cuts : ℕ) (text printed : List ℕ) → settled ≡ net → SweepsPart part settled cuts text → printed ≡ shown form None (codes "sweep") text → IsAnswer form net (Sweep part) (swept cuts) printed
+swept_shown form part net settled cuts text printed same h e =
+    subst (λ net. IsAnswer form net (Sweep part) (swept cuts) printed) same (cuts, is_shown form (codes "sweep") (SweepsPart part settled cuts) text printed h e, refl)
 
 pub summary_shown : (form : Form) (net settled : Net) (text printed : List ℕ) → settled ≡ net → Summarizes settled text → printed ≡ shown form None (codes "summary") text → IsAnswer form net Summary given printed
 summary_shown form net settled text printed same h e =

@@ -1,6 +1,7 @@
 -- What is asked of the network that a script leaves, and what asking it promises, where it prints in this form.
 use Rattle.std.specs.Prelude.{◌≡◌, ◌+◌, ◌++◌, ◌⊎◌, ◌==◌, ℕ, List, Option, None, Some, Result, Ok, Err, codes, if◌then◌else◌}
 use Rattle.std.specs.Io.KnownBytes.{Appends}
+use Rattle.std.specs.Option.{option_map}
 use Rattle.mst_lang.specs.Arguments.{tree}
 use Rattle.mst_lang.specs.Faults as fault
 use Rattle.mst_lang.specs.Lines.{lines_of}
@@ -11,9 +12,10 @@ use Rattle.mst_report.specs.Explaining as unexplained
 use Rattle.mst_report.specs.Picturing.{Depicts}
 use Rattle.mst_report.specs.State.{empty_state}
 use Rattle.mst_report.specs.Summarizing.{Summarizes}
-use Rattle.mst_report.specs.Sweeping.{Sweeps}
+use Rattle.mst_report.specs.Sweeping.{SweepsPart}
+use Rattle.mst_sweep.specs.SweepParts.{whole_part}
 use Rattle.mst_report.specs.declared.explaining.Unexplained.{Unexplained}
-use Rattle.mst_tool.specs.Asked.{asked_of}
+use Rattle.mst_tool.specs.Asked.{asked_of, part_value}
 use Rattle.mst_tool.specs.Load.{LoadsFront}
 use Rattle.mst_engine.specs.Script.{LoadsAll}
 use Rattle.mst_print.specs.Shape.{of_script, IsShown, unanswered}
@@ -42,6 +44,12 @@ drawn_of (Ok n) = Picture n
 
 abbrev pub picture_question : List ℕ → Question
 picture_question word = drawn_of (tree word)
+
+-- what a word for a part, if there is one, asks: what single failures of the part do, or of all. A word that is none asks
+-- nothing
+abbrev pub sweep_question : Option (List ℕ) → Option Question
+sweep_question None = Some (Sweep whole_part)
+sweep_question (Some word) = option_map Sweep (part_value word)
 
 -- what an answer counts: as a refused line, and as one that tells of a difference
 pub record Told : Type 0 where
@@ -75,7 +83,7 @@ Tells form net asked None told text = (told ≡ given) × IsShown form (codes "e
 abbrev pub IsAnswer : Form → Net → Question → Told → List ℕ → Type 0
 IsAnswer form net (unread_question f) told text = (told ≡ not_given) × (text ≡ unexplained_in form (fault.code_of f) (fault.text_of f))
 IsAnswer form net (Explain asked) told text = Tells form net asked (unexplained_of net asked.port asked.tree) told text
-IsAnswer form net Sweep told text = (cuts : ℕ) × IsShown form (codes "sweep") (Sweeps net cuts) text × (told ≡ swept cuts)
+IsAnswer form net (Sweep part) told text = (cuts : ℕ) × IsShown form (codes "sweep") (SweepsPart part net cuts) text × (told ≡ swept cuts)
 IsAnswer form net Summary told text = (told ≡ given) × IsShown form (codes "summary") (Summarizes net) text
 IsAnswer form net (Picture n) told text = (told ≡ given) × IsShown form (codes "dot") (Depicts net n) text
 IsAnswer form net (undrawn_question f) told text = (told ≡ not_given) × (text ≡ undrawn_in form (fault.code_of f) (fault.text_of f))

@@ -1,7 +1,9 @@
--- Which port is to be explained: what words ask for.
-use Rattle.std.specs.Prelude.{ℕ, List, Option, None, Some, Result, Ok, Err}
-use Rattle.mst_lang.specs.Arguments.{name, port_number, tree}
+-- Which port is to be explained, and which part of a sweep to be told: what words ask for.
+use Rattle.std.specs.Prelude.{ℕ, ◌+◌, ◌==◌, List, take, drop, position, Option, None, Some, Result, Ok, Err}
+use Rattle.std.specs.Option.{option_map, option_and_then}
+use Rattle.mst_lang.specs.Arguments.{name, number_value, port_number, tree}
 use Rattle.mst_lang.specs.declared.line.Fault.{Fault}
+use Rattle.mst_sweep.specs.SweepParts.{PartOf, part_at}
 use Rattle.mst_tool.specs.declared.asked.Asked.{Asked}
 
 -- the tree that a word stands for in a script, if there is a word
@@ -24,3 +26,15 @@ asked_in (Ok bridge) (Ok number) (Ok tree) = Ok (record { port = record { bridge
 -- for B and P, which comes first, and E03 for TREE
 abbrev pub asked_of : List ℕ → List ℕ → Option (List ℕ) → Result Asked Fault
 asked_of bridge port tree = asked_in (name bridge) (port_number port) (asked_tree tree)
+
+-- what stands before the first `/` of a word and what stands after it, if it has one
+abbrev pub halves_of : List ℕ → Option (List ℕ × List ℕ)
+halves_of word = option_map (λ slash. (take slash word, drop (slash + 1) word)) (position (λ b. b == 47) word)
+
+-- the part that two numbers name: its own, and how many there are
+abbrev pub part_named : Option ℕ → Option ℕ → Option PartOf
+part_named number count = option_and_then (λ k. option_and_then (λ n. part_at k n) count) number
+
+-- the part of a sweep that a word K/N names, of two numbers that have the form of a script's
+abbrev pub part_value : List ℕ → Option PartOf
+part_value word = option_and_then (λ halves. part_named (number_value halves.0) (number_value halves.1)) (halves_of word)

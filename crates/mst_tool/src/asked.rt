@@ -1,11 +1,12 @@
-ghost use Rattle.std.specs.Prelude.{◌≡◌};
+ghost use Rattle.std.specs.Prelude.{◌≡◌, ◌<◌, ◌==◌, length, position, IfSome};
 ghost use Rattle.std.specs.Option.{option_map};
 ghost use Rattle.mst_lang.specs.Arguments as forms;
-ghost use Rattle.mst_tool.specs.Ask.{explain_question, picture_question};
-ghost use Rattle.mst_tool.specs.Asked.{asked_of, asked_tree};
+ghost use Rattle.mst_tool.specs.Ask.{explain_question, picture_question, sweep_question};
+ghost use Rattle.mst_tool.specs.Asked.{asked_of, asked_tree, halves_of, part_value};
 
 use mst_ids::{Name, PortName, PortNumber, Tree};
 use mst_lang::{Fault, parse_number};
+use mst_report::SweepPart;
 
 /// What is asked of the network that a script leaves.
 #[derive(Clone, Copy)]
@@ -14,8 +15,8 @@ pub enum Question {
     Explain(Asked),
     /// Words were to ask for a port and don't: this fault is told.
     Unread(Fault),
-    /// What each single failure does: each LAN that is up going down, and each bridge that is on going off.
-    Sweep,
+    /// What each single failure of this part does: each LAN that is up going down, and each bridge that is on going off.
+    Sweep(SweepPart),
     /// The first screen: how much there is, roots, ports that block, islands of VIDs and what LANs carry.
     Summary,
     /// The picture of the network with this tree, as a text for Graphviz.
@@ -34,6 +35,21 @@ impl Question {
         match Asked::read(bridge, port, tree) {
             Ok(asked) => Question::Explain(asked),
             Err(fault) => Question::Unread(fault),
+        }
+    }
+
+    /// What the word PART asks, where there is one: what each single failure of the K-th of N equal parts does, the word being
+    /// `K/N`, of two numbers in decimal. Without a word it is what each of all does. Nothing for another word: also where K is
+    /// 0 or above N, or N above 65,536.
+    pub fn sweep(part: Option<&[u8]>) -> Option<Question>
+        ensures { result ≡ sweep_question (option_map (λ word. word.now) part.entry) }
+    {
+        match part {
+            None => Some(Question::Sweep(SweepPart::whole())),
+            Some(word) => match sweep_part(word) {
+                Some(part) => Some(Question::Sweep(part)),
+                None => None,
+            },
         }
     }
 
@@ -110,4 +126,29 @@ fn tree(word: &[u8]) -> Result<Tree, Fault>
 {
     let number = parse_number(word).ok_or(Fault::E03)?;
     Tree::new(number).ok_or(Fault::E03)
+}
+
+/// The part that a word `K/N` names.
+fn sweep_part(word: &[u8]) -> Option<SweepPart>
+    ensures { result ≡ part_value word.now }
+{
+    let (number, count) = halves(word)?;
+    let number = parse_number(number)?;
+    let count = parse_number(count)?;
+    SweepPart::new(number, count)
+}
+
+/// What stands before the first slash of a word and what stands after it.
+fn halves(word: &[u8]) -> Option<(&[u8], &[u8])>
+    ensures { option_map (λ halves. (halves.0.now, halves.1.now)) result ≡ halves_of word.now }
+{
+    let slash = first_slash(word)?;
+    Some((&word[..slash], &word[slash + 1..]))
+}
+
+fn first_slash(word: &[u8]) -> Option<usize>
+    ensures value { result ≡ position (λ b. b == 47) word.now }
+    ensures within { IfSome result (λ slash. slash < length word.now) }
+{
+    word.iter().position(|byte| *byte == b'/')
 }

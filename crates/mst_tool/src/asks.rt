@@ -16,8 +16,8 @@ use mst_ids::Tree;
 use mst_io::{FromRead, Outcome, RunFault, Sink, Source, TURNS, ToWrite, WriteFailed, put};
 use mst_lang::Fault;
 use mst_print::{Form, Shape, Side, put_unanswered, show};
-use mst_report::laws::{one_explanation, one_picture, one_summary, one_sweep};
-use mst_report::{Planner, Sweep, Unexplained};
+use mst_report::laws::{one_explanation, one_picture, one_summary, sweep_parts};
+use mst_report::{Planner, Sweep, SweepPart, Unexplained};
 use std::alloc::{AllocError, Global};
 use std::io::{Read, Write};
 
@@ -30,7 +30,7 @@ pub(crate) enum Answer {
     Unread(Fault),
     /// The port isn't explained, for another reason than want of memory.
     Refused(Unexplained),
-    /// What each single failure does.
+    /// What each single failure of a part does.
     Swept(Sweep),
     /// The word names no tree.
     Undrawn(Fault),
@@ -43,7 +43,8 @@ pub(crate) enum Answer {
 /// refused. After its lines the answer is written: for [`Question::Explain`] why the port has its role in the tree, or in each
 /// that its bridge has. Where that isn't told, a line `explain CODE TEXT` says why, by the first of these: the fault of the
 /// words, where they ask for nothing, or why the port [isn't explained](Unexplained). That counts as one refused line more.
-/// For [`Question::Sweep`] it is what each single failure does, and counts as one that differs where some failure cuts a VID.
+/// For [`Question::Sweep`] it is what each single failure of the part does, and counts as one that differs where some failure of it
+/// cuts a VID.
 /// For [`Question::Summary`] it is the summary of the network, and for [`Question::Picture`] its picture with the tree. Where the
 /// word for the tree has a fault, a line `dot CODE TEXT` says so, and counts as one refused line more.
 ///
@@ -112,7 +113,7 @@ pub fn ask_within<S: Source, K: Sink>(
     states();
     one_load();
     one_explanation();
-    one_sweep();
+    sweep_parts();
     one_summary();
     one_picture();
     let mut engine = Engine::new(alloc);
@@ -142,7 +143,7 @@ fn answer_to(planner: &mut Planner, form: Form, question: &Question) -> Result<A
     match question {
         Question::Explain(asked) => explained(planner, form, asked),
         Question::Unread(fault) => Ok(Answer::Unread(*fault)),
-        Question::Sweep => swept(planner, form),
+        Question::Sweep(part) => swept(planner, form, *part),
         Question::Summary => summarized(planner, form),
         Question::Picture(tree) => depicted(planner, form, *tree),
         Question::Undrawn(fault) => Ok(Answer::Undrawn(*fault)),
@@ -164,12 +165,12 @@ fn explained(planner: &mut Planner, form: Form, asked: &Asked) -> Result<Answer,
     }
 }
 
-/// What each single failure does, once the plan is settled. `AllocError`: memory was wanted and refused.
-fn swept(planner: &mut Planner, form: Form) -> Result<Answer, AllocError>
-    ensures { IfOk result (λ answer. IsAnswer form (planned_state planner.old).net Question.Sweep (told_of answer) (answer_text form answer)) }
+/// What each single failure of a part does, once the plan is settled. `AllocError`: memory was wanted and refused.
+fn swept(planner: &mut Planner, form: Form, part: SweepPart) -> Result<Answer, AllocError>
+    ensures { IfOk result (λ answer. IsAnswer form (planned_state planner.old).net (Question.Sweep part) (told_of answer) (answer_text form answer)) }
 {
     planner.settle()?;
-    let mut sweep = planner.sweep()?;
+    let mut sweep = planner.sweep_part(part)?;
     show(form, None, "sweep", &mut sweep.text)?;
     Ok(Answer::Swept(sweep))
 }

@@ -18,4 +18,5 @@ pub use mst_engine::laws;
 pub use mst_hinting::{hints, hints_from, hints_within};
 pub use mst_io::{Failed, FromRead, Outcome, RunFault, Sink, Source, TURNS, ToWrite};
 pub use mst_print::Form;
+pub use mst_report::SweepPart;
 pub use runs::{run, run_from, run_within, status};

@@ -1,10 +1,10 @@
 -- Flags among words, and what is refused with them.
 use Rattle.std.proofs.Common.{◌≡◌, Bool, true, false, cond, List, [], ◌∷◌, map, Option, Some, None, refl, ap, inr}
-use Rattle.std.specs.Prelude.{◌||◌, filter, if◌then◌else◌}
+use Rattle.std.specs.Prelude.{◌||◌, ◌&&◌, filter, if◌then◌else◌}
 use Rattle.std.specs.List.{list_any}
 use Rattle.std.specs.Option.{option_and_then}
 use Rattle.mstplan.specs.Flags.{takes}
-use Rattle.mstplan.specs.Words.{IsRefusal, Request}
+use Rattle.mstplan.specs.Words.{IsRefusal, Request, names_part}
 use Rattle.mstplan.specs.declared.endings.Stop.{Stop}
 use Rattle.mstplan.specs.declared.flags.Flags.{Flags}
 
@@ -24,9 +24,9 @@ filter_mapped f is [] = refl
 filter_mapped f is (word ∷ words) = filter_step f is word words (is (f word)) (filter_mapped f is words)
 
 -- what refuses words refuses them with flags, too
-pub refused_with : (flags : Flags) (asked : Option Request) (stop : Stop) → IsRefusal asked stop → IsRefusal (option_and_then (λ request. if takes flags request then Some request else None) asked) stop
+pub refused_with : (flags : Flags) (asked : Option Request) (stop : Stop) → IsRefusal asked stop → IsRefusal (option_and_then (λ request. if names_part request && takes flags request then Some request else None) asked) stop
 refused_with flags None stop h = h
-refused_with flags (Some request) stop h = by (takes flags request)
+refused_with flags (Some request) stop h = by (names_part request && takes flags request)
   where
     by : (b : Bool) → IsRefusal (if b then Some request else None) stop
     by true = h

@@ -1,11 +1,11 @@
--- What the words come to of a command that takes one word, or two.
-use Rattle.std.proofs.Common.{◌≡◌, ℕ, true, false, List, [], ◌∷◌, sym, ap, ◌∙◌, subst}
+-- What the words come to of a command that takes one word, or two, or one or two.
+use Rattle.std.proofs.Common.{◌≡◌, ℕ, true, false, List, [], ◌∷◌, Option, Some, None, sym, ap, ◌∙◌, subst}
 use Rattle.std.specs.List.{list_all}
 use Rattle.clap.specs.Words.{Shape, Text}
 use Rattle.clap.specs.Faults.{step_fault, walk_fault}
 use Rattle.clap.specs.Kinds.{Kinds, or_else}
 use Rattle.clap.specs.Walk.{Held, Walk, finished, nothing_held, value}
-use Rattle.mstplan.specs.Words.{Request, by_one, by_two, is_plain, request_of}
+use Rattle.mstplan.specs.Words.{Request, by_one, by_one_or_two, by_two, is_plain, request_of}
 use Rattle.mstplan.proofs.PlainWords.{Fits, Passes, at, found_end, head_plain, leaf, leaf_end, leaf_found, leaf_stray, level, passes_next, passes_none, refuses, step}
 
 -- what is held after one word, and after two
@@ -85,3 +85,40 @@ fits_two s asks takes (f ∷ g ∷ more ∷ rest) h =
     let second = head_plain g (more ∷ rest) first.1 in
     let third = head_plain more rest second.1 in
     leaf_stray s (f ∷ g ∷ []) (held_2 s f g) 3 more rest (passes_two s asks takes f g first.0 second.0) third.0 (takes.full f g)
+
+-- a command that takes one word, and may take a second
+pub record TakesOneOrTwo (s : Shape) (asks : Text → Option Text → Request) : Type 0 where
+  pub free : step_fault s 1 nothing_held value ≡ []
+  pub goes : (f : Text) → ◌≡◌ {A = Walk} (step s (at nothing_held 1) f) (at (held_1 s f) 2)
+  pub free_next : (f : Text) → step_fault s 2 (held_1 s f) value ≡ []
+  pub goes_on : (f g : Text) → ◌≡◌ {A = Walk} (step s (at (held_1 s f) 2) g) (at (held_2 s f g) 3)
+  pub none : refuses (leaf s []) ≡ true
+  pub one : (f : Text) → ending s (held_1 s f) 2 ≡ []
+  pub finds_one : (f : Text) → request_of s.name (finished s.rules (held_1 s f)) ≡ asks f None
+  pub two : (f g : Text) → ending s (held_2 s f g) 3 ≡ []
+  pub finds : (f g : Text) → request_of s.name (finished s.rules (held_2 s f g)) ≡ asks f (Some g)
+  pub full : (f g : Text) → IsFull s (held_2 s f g) 3
+
+passes_both : (s : Shape) (asks : Text → Option Text → Request) → TakesOneOrTwo s asks → (f g : Text) → is_plain f ≡ true → is_plain g ≡ true → Passes s (at nothing_held 1) (at (held_2 s f g) 3) (f ∷ g ∷ [])
+passes_both s asks takes f g plain other =
+    passes_to s nothing_held 1 f (held_1 s f) 2 (g ∷ []) (at (held_2 s f g) 3) takes.free (takes.goes f) plain
+    (passes_to s (held_1 s f) 2 g (held_2 s f g) 3 [] (at (held_2 s f g) 3) (takes.free_next f) (takes.goes_on f g) other (passes_none s (at (held_2 s f g) 3)))
+
+pub fits_one_or_two : (s : Shape) (asks : Text → Option Text → Request) → TakesOneOrTwo s asks → (words : List Text) → list_all is_plain words ≡ true → Fits (by_one_or_two asks words) (leaf s words) (leaf_found s words)
+fits_one_or_two s asks takes [] h = takes.none
+fits_one_or_two s asks takes (f ∷ []) h =
+    let passes = passes_to s nothing_held 1 f (held_1 s f) 2 [] (at (held_1 s f) 2) takes.free (takes.goes f) (head_plain f [] h).0 (passes_none s (at (held_1 s f) 2)) in (
+      leaf_end s (f ∷ []) (at (held_1 s f) 2) passes ∙ takes.one f,
+      found_end s (f ∷ []) (at (held_1 s f) 2) passes ∙ takes.finds_one f,
+    )
+fits_one_or_two s asks takes (f ∷ g ∷ []) h =
+    let first = head_plain f (g ∷ []) h in
+    let passes = passes_both s asks takes f g first.0 (head_plain g [] first.1).0 in (
+      leaf_end s (f ∷ g ∷ []) (at (held_2 s f g) 3) passes ∙ takes.two f g,
+      found_end s (f ∷ g ∷ []) (at (held_2 s f g) 3) passes ∙ takes.finds f g,
+    )
+fits_one_or_two s asks takes (f ∷ g ∷ more ∷ rest) h =
+    let first = head_plain f (g ∷ more ∷ rest) h in
+    let second = head_plain g (more ∷ rest) first.1 in
+    let third = head_plain more rest second.1 in
+    leaf_stray s (f ∷ g ∷ []) (held_2 s f g) 3 more rest (passes_both s asks takes f g first.0 second.0) third.0 (takes.full f g)

@@ -6,7 +6,7 @@ use Rattle.std.specs.Str.{bytes_eq}
 use Rattle.std.specs.declared.alloc.Global.{Global}
 use Rattle.mst_print.specs.declared.form.Form.{Form}
 use Rattle.mst_print.specs.declared.form.Form.TheVariants.{Text, Json}
-use Rattle.mstplan.specs.Words.{Request, asked_by, run, check, explain, diff, sweep, summary, dot}
+use Rattle.mstplan.specs.Words.{Request, asked_by, names_part, run, check, explain, diff, sweep, summary, dot}
 use Rattle.mstplan.specs.declared.flags.Flags.{Flags}
 
 abbrev pub is_json : List ℕ → Bool
@@ -37,7 +37,7 @@ has_json (run script) = true
 has_json (check script captures) = false
 has_json (explain script bridge port tree) = true
 has_json (diff old new) = true
-has_json (sweep script) = true
+has_json (sweep script part) = true
 has_json (summary script) = true
 has_json (dot script tree) = false
 
@@ -47,7 +47,7 @@ has_hints (run script) = not (bytes_eq script (codes "-"))
 has_hints (check script captures) = not (bytes_eq script (codes "-"))
 has_hints (explain script bridge port tree) = false
 has_hints (diff old new) = false
-has_hints (sweep script) = false
+has_hints (sweep script part) = false
 has_hints (summary script) = false
 has_hints (dot script tree) = false
 
@@ -55,6 +55,6 @@ has_hints (dot script tree) = false
 abbrev pub takes : Flags → Request → Bool
 takes flags request = (not flags.json || has_json request) && (not flags.hints || has_hints request)
 
--- what words that aren't options ask for with these flags
+-- what words that aren't options ask for with these flags, where a word for a part of a sweep names one
 abbrev pub asked_with : Flags → List (List ℕ) → Option Request
-asked_with flags words = option_and_then (λ request. if takes flags request then Some request else None) (asked_by words)
+asked_with flags words = option_and_then (λ request. if names_part request && takes flags request then Some request else None) (asked_by words)

@@ -1,6 +1,6 @@
 ghost use Rattle.std.specs.Prelude.{◌≡◌, ◌⊎◌, map, Err, IfOk, IfErr, option_map, string_bytes};
 ghost use Rattle.mstplan.specs.Flags.{flags_in, without_flags};
-ghost use Rattle.mstplan.specs.Program.{Serves, port_question, IsWhyUnserved, IsCarriedOut, IsProgram, IsReadOnce, hinted_script as hinted_name};
+ghost use Rattle.mstplan.specs.Program.{Serves, ServesSweep, port_question, part_question, IsWhyUnserved, IsWhyUnswept, IsCarriedOut, IsProgram, IsReadOnce, hinted_script as hinted_name};
 
 use crate::buffered::Ran;
 use crate::compared::Comparison;
@@ -10,7 +10,7 @@ use crate::hinting::{HintsEnd, hint};
 use crate::invites::invite;
 use crate::named::{ask_named, compare_named, run_named};
 use crate::sources::Sources;
-use crate::words::{Asked, PortWords, asked_for};
+use crate::words::{Asked, PortWords, asked_for, bytes_of};
 use mst_tool::{Form, Question, Sink};
 use std::alloc::Global;
 use std::io::Write;
@@ -51,14 +51,7 @@ fn serve<'a, S: Sources, W: Write + Drop>(
         Asked::Diff { old, new } => {
             compare_named(alloc, sources, Comparison::Networks(form), old, new, output)
         }
-        Asked::Sweep { script } => ask_named(
-            alloc,
-            sources,
-            form,
-            &Question::Sweep,
-            script,
-            output,
-        ),
+        Asked::Sweep { script, part } => { sweep_named(alloc, sources, form, script, part, output) }
         Asked::Summary { script } => {
             ask_named(alloc, sources, form, &Question::Summary, script, output)
         }
@@ -66,6 +59,25 @@ fn serve<'a, S: Sources, W: Write + Drop>(
             let question = Question::picture(tree.as_bytes());
             ask_named(alloc, sources, form, &question, script, output)
         }
+    }
+}
+
+/// Tells what each single failure does to the network of a script, or each of the part that the word names. A word that names
+/// none is told with status 2.
+fn sweep_named<'a, S: Sources, W: Write + Drop>(
+    alloc: Global,
+    sources: &S,
+    form: Form,
+    script: &'a str,
+    part: Option<&'a str>,
+    output: W,
+) -> Result<Ran<W>, Stop<'a>>
+    ensures ran { IfOk result (λ ran. ServesSweep (S.is_given sources.now) (S.is_file sources.now) form script.entry part.entry (W.contents output) (W.contents ran.writer) ran.ended) }
+    ensures stopped { IfErr result (IsWhyUnswept (S.is_unopened sources.now) script.entry (part_question part.entry)) }
+{
+    match Question::sweep(bytes_of(part)) {
+        Some(question) => ask_named(alloc, sources, form, &question, script, output),
+        None => Err(Stop::Told(2)),
     }
 }
 
@@ -78,16 +90,6 @@ fn question_of(port: PortWords<'_>) -> Question
         port.number.as_bytes(),
         bytes_of(port.tree),
     )
-}
-
-/// The bytes of a word, if there is one.
-fn bytes_of<'a>(word: Option<&'a str>) -> Option<&'a [u8]>
-    ensures { option_map (λ bytes. bytes.now) result ≡ option_map (λ word. word.now) word.entry }
-{
-    match word {
-        Some(word) => Some(word.as_bytes()),
-        None => None,
-    }
 }
 
 /// Does what the words ask for, and tells in a line on standard error what stopped it. `Err`: the words ask for nothing

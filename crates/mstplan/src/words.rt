@@ -1,14 +1,14 @@
 ghost use Rattle.std.specs.Prelude.{◌≡◌, ◌≢◌, ◌⊎◌, true, false, Some, codes, option_map, IfOk, IfErr, IsErrAnd};
-ghost use Rattle.clap.specs.Words.{app_of, first_of, found_of, kind_of, rows_of, rule_of, subcommand_rows_of};
+ghost use Rattle.clap.specs.Words.{app_of, first_of, found_of, kind_of, rows_of, rule_of, subcommand_rows_of, with_subcommand};
 ghost use Rattle.mstplan.specs.Flags.{asked_with};
-ghost use Rattle.mstplan.specs.Words.{words_of, tree_word, value_of, asked_of, request_of, asked_by, are_plain, behind_name, is_help, is_version, IsAnswer, IsRefusal, wanted_rule, program};
+ghost use Rattle.mstplan.specs.Words.{words_of, tree_word, value_of, asked_of, request_of, asked_by, are_plain, behind_name, names_part as part_named, is_help, is_version, IsAnswer, IsRefusal, wanted_rule, sweep_app, program};
 
 use crate::endings::Stop;
 use crate::flags::Flags;
 use crate::page::{PAGE, VERSION};
 use clap::error::ErrorKind;
 use clap::{Arg, ArgMatches, Command, Error};
-use mst_tool::RunFault;
+use mst_tool::{Question, RunFault};
 use std::alloc::{AllocError, Global};
 use std::env::{self, Env};
 use std::io;
@@ -35,9 +35,11 @@ pub(crate) enum Asked<'a> {
         old: &'a str,
         new: &'a str,
     },
-    /// To tell what each single failure does to the network of a script.
+    /// To tell what each single failure does to the network of a script, or each of a part of them. Nothing has looked at what
+    /// the word for the part says.
     Sweep {
         script: &'a str,
+        part: Option<&'a str>,
     },
     /// To summarize the network of a script.
     Summary {
@@ -69,6 +71,8 @@ const PORT: &str = "The port's number";
 
 const TREE: &str = "The tree, 0 to 4094. Without it, each that the bridge has";
 
+const PART: &str = "K/N, the K-th of N equal parts of the failures. Without it, all of them";
+
 const DRAWN: &str = "The tree, 0 to 4094";
 
 const OLD: &str = "The script of the network before, or - for standard input";
@@ -98,6 +102,16 @@ pub(crate) fn given_words<R: Env + Eprint + AllocGlobal>(
     }
 }
 
+/// Whether the word for a part of a sweep, if there is one, names a part.
+fn names_part(asked: &Asked<'_>) -> bool
+    ensures { result ≡ part_named (words_of asked.now) }
+{
+    match asked {
+        Asked::Sweep { part, .. } => Question::sweep(bytes_of(*part)).is_some(),
+        _ => true,
+    }
+}
+
 /// What the words ask for with these flags, of which the first is the program's name. Where none of the others is an option,
 /// an `Err` comes just where they ask for nothing that takes these flags, or for want of memory.
 /// The program's help and its version are told on standard output, and come as an `Err` too.
@@ -113,6 +127,12 @@ pub(crate) fn asked_for<'a, R: Print + Eprint + AllocGlobal>(
 {
     match asked_by_words(rt, words) {
         Err(stop) => Err(stop),
+        Ok(asked) if !names_part(&asked) => {
+            let _ = eprintln!(rt;
+                "error: PART is K/N, two numbers in decimal with 1 <= K <= N <= 65536"
+            );
+            Err(Stop::Told(2))
+        }
         Ok(asked) if flags.are_of(&asked) => Ok(asked),
         Ok(_) => {
             let _ = eprintln!(rt;
@@ -173,6 +193,17 @@ fn wanted<'a>(alloc: Global, id: &'a str, help: &'a str) -> Arg<'a>
     Arg::new(alloc, id).help(help).required(true)
 }
 
+/// A command line with the command that tells what single failures do behind those that it has.
+fn with_sweep<'a>(alloc: Global, before: Command<'a>) -> Result<Command<'a>, AllocError>
+    ensures { IfOk result (λ command. app_of command ≡ with_subcommand (app_of before.entry) sweep_app.top) }
+{
+    let sweep = Command::new(alloc, "sweep")
+        .about("Makes the network of a script, and tells what each single failure does to it")
+        .arg(wanted(alloc, "FILE", SCRIPT))?
+        .arg(Arg::new(alloc, "PART").help(PART))?;
+    before.subcommand(sweep)
+}
+
 /// The program's command line.
 fn command<'a>(alloc: Global) -> Result<Command<'a>, AllocError>
     ensures { IfOk result (λ command. app_of command ≡ program) }
@@ -194,9 +225,6 @@ fn command<'a>(alloc: Global) -> Result<Command<'a>, AllocError>
         .about("Makes the networks of two scripts, and tells what is another in the second")
         .arg(wanted(alloc, "OLD", OLD))?
         .arg(wanted(alloc, "NEW", NEW))?;
-    let sweep = Command::new(alloc, "sweep")
-        .about("Makes the network of a script, and tells what each single failure does to it")
-        .arg(wanted(alloc, "FILE", SCRIPT))?;
     let summary = Command::new(alloc, "summary")
         .about(
             "Makes the network of a script, and tells its roots, what blocks and what LANs carry",
@@ -206,7 +234,7 @@ fn command<'a>(alloc: Global) -> Result<Command<'a>, AllocError>
         .about("Makes the network of a script, and draws it with one of its trees, for Graphviz")
         .arg(wanted(alloc, "FILE", SCRIPT))?
         .arg(wanted(alloc, "TREE", DRAWN))?;
-    Command::new(alloc, "mstplan")
+    let before = Command::new(alloc, "mstplan")
         .about(
             "Plans networks of spanning trees. With no command it reads a script on standard input",
         )
@@ -216,8 +244,8 @@ fn command<'a>(alloc: Global) -> Result<Command<'a>, AllocError>
         .subcommand(run)?
         .subcommand(check)?
         .subcommand(explain)?
-        .subcommand(diff)?
-        .subcommand(sweep)?
+        .subcommand(diff)?;
+    with_sweep(alloc, before)?
         .subcommand(summary)?
         .subcommand(dot)
 }
@@ -251,6 +279,7 @@ fn asked_of_command<'a>(command: &str, found: &ArgMatches<'a>) -> Asked<'a>
         },
         "sweep" => Asked::Sweep {
             script: value_in(found, "FILE"),
+            part: word_in(found, "PART"),
         },
         "summary" => Asked::Summary {
             script: value_in(found, "FILE"),
@@ -293,4 +322,14 @@ fn word_in<'a>(found: &ArgMatches<'a>, id: &str) -> Option<&'a str>
     ensures { option_map (λ word. word.now) result ≡ first_of id.now (rows_of (found_of found.now)) }
 {
     found.get_str(id)
+}
+
+/// The bytes of a word, if there is one.
+pub(crate) fn bytes_of<'a>(word: Option<&'a str>) -> Option<&'a [u8]>
+    ensures { option_map (λ bytes. bytes.now) result ≡ option_map (λ word. word.now) word.entry }
+{
+    match word {
+        Some(word) => Some(word.as_bytes()),
+        None => None,
+    }
 }

@@ -1,7 +1,7 @@
 //! What is asked of a script's network.
 
 use super::counts;
-use mst_tool::{Outcome, Question, ask};
+use mst_tool::{Outcome, Question, SweepPart, ask};
 use std::test::Fail;
 
 /// Two bridges on a LAN, each a region of its own, of which one has another LAN for itself, and one that is off. Its query and
@@ -114,7 +114,12 @@ fn sweeps_failures(rt: HostRuntime) -> Result<(), Fail> {
         bridge B roots - ports 0 cut -\n\
         sweep lans 2 bridges 2 cuts 1\n";
     let mut written = Vec::new(rt.alloc());
-    let ran = ask(rt.alloc(), &Question::Sweep, SCRIPT, &mut written);
+    let ran = ask(
+        rt.alloc(),
+        &Question::Sweep(SweepPart::whole()),
+        SCRIPT,
+        &mut written,
+    );
     assert_eq!(rt; written.as_slice(), expected);
     assert_eq!(rt;
         ran,
@@ -124,6 +129,20 @@ fn sweeps_failures(rt: HostRuntime) -> Result<(), Fail> {
             differing: 1,
         })
     );
+    Ok(())
+}
+
+// The second of three parts, after what line 10 prints.
+#[test]
+fn sweeps_a_part(rt: HostRuntime) -> Result<(), Fail> {
+    let expected: &[u8] = b"line 10 E07 name taken\n\
+        lan Y roots - ports 0 cut -\n\
+        sweep lans 1 bridges 0 cuts 0\n";
+    let part = SweepPart::new(2, 3).ok_or("no part")?;
+    let mut written = Vec::new(rt.alloc());
+    let ran = ask(rt.alloc(), &Question::Sweep(part), SCRIPT, &mut written);
+    assert_eq!(rt; written.as_slice(), expected);
+    assert!(rt; ran.is_ok());
     Ok(())
 }
 

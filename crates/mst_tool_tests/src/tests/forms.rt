@@ -4,8 +4,8 @@ use super::asks::SCRIPT;
 use super::counts;
 use super::diffs::{NEW, OLD};
 use mst_tool::{
-    Form, FromRead, Outcome, Question, RunFault, TURNS, ToWrite, ask_within, diff_within,
-    run_within,
+    Form, FromRead, Outcome, Question, RunFault, SweepPart, TURNS, ToWrite, ask_within,
+    diff_within, run_within,
 };
 use std::alloc::Global;
 use std::test::Fail;
@@ -51,7 +51,11 @@ fn answers_are_json(rt: HostRuntime) -> Result<(), Fail> {
     let unexplained: &[u8] = b"{\"line\":10,\"error\":\"E07\",\"text\":\"name taken\"}\n\
         {\"query\":\"explain\",\"error\":\"E04\",\"text\":\"no such bridge\"}\n";
     let mut written = Vec::new(rt.alloc());
-    let ran = asked(rt.alloc(), &Question::Sweep, &mut written);
+    let ran = asked(
+        rt.alloc(),
+        &Question::Sweep(SweepPart::whole()),
+        &mut written,
+    );
     assert_eq!(rt; written.as_slice(), swept);
     assert_eq!(rt; ran, Ok(differing(1)));
     let question = Question::explain(b"D", b"1", Some(b"7"));

@@ -6,5 +6,5 @@ use Rattle.mst_tool.proofs.asks.swept.Goals as goal
 pub returns : goal.returns
 returns c =
     let sweep = c.in_ok-sweep.sweep in
-    swept_shown c.args.form c.args.planner.now.contents.net c.settle.new.self.contents.net sweep.cuts sweep.text.items c.show.new.text.items
+    swept_shown c.args.form c.args.part c.args.planner.now.contents.net c.settle.new.self.contents.net sweep.cuts sweep.text.items c.show.new.text.items
     (ap (λ (k : Contents). k.net) c.settle.ensures.same) c.in_ok-sweep.ensures.told c.in_ok-show.ensures
