@@ -1,12 +1,14 @@
 //! Calls that a tool may make and the program doesn't: a forest from nothing, whether a port forwards by its number, the
-//! numbers of active ports, a topology settled from scratch.
+//! numbers of active ports, a sweep of all failures, one BPDU compared, a topology settled from scratch.
 
 use super::edits::{name, network_of};
-use super::repairs::TRIANGLE;
+use super::repairs::{EACH_ITS_OWN_REGION, TRIANGLE, is_staged, planner_of};
+use mst_compare::{compare, read_line};
 use mst_config::regions_of;
 use mst_ids::{BridgeId, BridgeNo, Name, PortNo, Priority, Tree, Vid, parse_mac};
 use mst_lag::{View, view};
 use mst_net::{Contents, Network};
+use mst_report::Planner;
 use mst_roles::forwards;
 use mst_settle::{Bridges, Settler, Topology, Wiring};
 use mst_trees::Forest;
@@ -61,6 +63,48 @@ fn a_forest_from_nothing(rt: HostRuntime) -> Result<(), Fail> {
     assert_eq!(rt; forest.settlings(Tree::cist()), 3);
     assert_eq!(rt; second_alone_blocks(&view, &forest), Some(true));
     assert_eq!(rt; active_for_vid_1(alloc, &view, &forest)?, 5);
+    Ok(())
+}
+
+// No single failure of a triangle cuts a VLAN.
+#[test]
+fn a_sweep_of_all_failures(rt: HostRuntime) -> Result<(), Fail> {
+    let mut planner = planner_of(rt.alloc(), TRIANGLE).ok_or("refused")?;
+    planner.settle()?;
+    let told = planner.sweep()?;
+    assert_eq!(rt; told.cuts, 0);
+    assert!(rt;
+        told.text
+            .as_slice()
+            .ends_with(b"sweep lans 3 bridges 3 cuts 0\n")
+    );
+    Ok(())
+}
+
+/// The planner of the triangle with bridges that run RSTP.
+fn of_rstp(alloc: Global) -> Option<Planner> {
+    let mut planner = planner_of(alloc, TRIANGLE)?;
+    for line in EACH_ITS_OWN_REGION.lines() {
+        if !is_staged(&mut planner, line) {
+            return None;
+        }
+    }
+    Some(planner)
+}
+
+/// An RST BPDU of port 2 of bridge A, the root: Designated, learning and forwarding.
+const OF_THE_ROOT: &[u8] =
+    b"0000 02 02 3c 8000020000000001 00000000 8000020000000001 8002 0000 1400 0200 0f00 00";
+
+// It is what the plan has for that port.
+#[test]
+fn one_bpdu_compared(rt: HostRuntime) -> Result<(), Fail> {
+    let alloc = rt.alloc();
+    let bpdu = read_line(OF_THE_ROOT).map_err(|_| "not read")?;
+    let mut planner = of_rstp(alloc).ok_or("refused")?;
+    planner.settle()?;
+    let found = compare(alloc, &planner, &bpdu).map_err(|_| "not compared")?;
+    assert!(rt; found.is_empty());
     Ok(())
 }
 

@@ -30,7 +30,7 @@ plug B 2 Z
 plug C 2 Z
 ";
 
-const EACH_ITS_OWN_REGION: &str = "kind A rstp\nkind B rstp\nkind C rstp\n";
+pub(super) const EACH_ITS_OWN_REGION: &str = "kind A rstp\nkind B rstp\nkind C rstp\n";
 
 /// The three are of one region, and have tree 1.
 const ONE_REGION: &str = "\
@@ -124,7 +124,7 @@ fn cases() -> [Case; 7] {
 }
 
 /// Whether the line says an edit, which isn't refused. It is staged then.
-fn is_staged(planner: &mut Planner, line: &str) -> bool {
+pub(super) fn is_staged(planner: &mut Planner, line: &str) -> bool {
     match edit_of(line) {
         Some(edit) => planner.stage(&edit).is_ok(),
         None => false,
@@ -132,7 +132,7 @@ fn is_staged(planner: &mut Planner, line: &str) -> bool {
 }
 
 /// A planner of the network that these lines make, if none is refused.
-fn planner_of(alloc: Global, lines: &str) -> Option<Planner> {
+pub(super) fn planner_of(alloc: Global, lines: &str) -> Option<Planner> {
     let mut planner = Planner::new(alloc);
     for line in lines.lines() {
         if !is_staged(&mut planner, line) {
