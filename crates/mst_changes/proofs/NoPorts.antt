@@ -3,11 +3,11 @@ use Rattle.std.proofs.Common.{◌≡◌, ℕ, ◌==◌, false, List, [], ◌∷�
 use Rattle.std.specs.List.{flat_map}
 use Rattle.mst_ids.specs.Names.{port_cmp}
 use Rattle.mst_ids.specs.declared.name.PortName.{PortName}
-use Rattle.mst_net.specs.Tables.{Net, Numbers}
-use Rattle.mst_lag.specs.Viewed.{Viewed}
-use Rattle.mst_trees.specs.Agrees.{AreOf}
-use Rattle.mst_trees.specs.Forest.{Forest, IsForest}
-use Rattle.mst_trees.specs.InUse.{is_in_use}
+use Rattle.mst_roles.specs.net.Tables.{Net, Numbers}
+use Rattle.mst_roles.specs.lag.Viewed.{Viewed}
+use Rattle.mst_roles.specs.trees.Agrees.{AreOf}
+use Rattle.mst_roles.specs.trees.Forest.{Forest, IsForest}
+use Rattle.mst_roles.specs.trees.InUse.{is_in_use}
 use Rattle.mst_changes.specs.declared.subject.Subject.{Subject}
 use Rattle.mst_changes.specs.declared.value.VectorOrRole.{VectorOrRole}
 use Rattle.mst_changes.specs.Subjects.{port_in, names_of_either, port_names}

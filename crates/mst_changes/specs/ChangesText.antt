@@ -2,9 +2,9 @@
 use Rattle.std.specs.Prelude.{ℕ, List, [], ◌∷◌, ◌++◌, Option, Some, None, if◌then◌else◌, codes, decimal}
 use Rattle.std.specs.List.{flat_map}
 use Rattle.mst_ids.specs.Texts.{bridge_id_text, port_id_text}
-use Rattle.mst_net.specs.Tables.{Net}
+use Rattle.mst_roles.specs.net.Tables.{Net}
 use Rattle.mst_ids.specs.Words.{line, after_space}
-use Rattle.mst_trees.specs.Outcome.{Outcome}
+use Rattle.mst_roles.specs.trees.Outcome.{Outcome}
 use Rattle.mst_roles.specs.Names.{role_text}
 use Rattle.mst_changes.specs.declared.subject.Item.{Item}
 use Rattle.mst_changes.specs.declared.subject.Item.TheVariants.{Bridge, Port}

@@ -2,8 +2,8 @@
 use Rattle.std.specs.Prelude.{ℕ, List, map}
 use Rattle.std.specs.List.{flat_map}
 use Rattle.mst_ids.specs.Names.{port_cmp}
-use Rattle.mst_net.specs.Tables.{Net}
-use Rattle.mst_trees.specs.Outcome.{Outcome}
+use Rattle.mst_roles.specs.net.Tables.{Net}
+use Rattle.mst_roles.specs.trees.Outcome.{Outcome}
 use Rattle.mst_changes.specs.Subjects.{names_of_either, port_names, port_in}
 use Rattle.mst_changes.specs.Values.{value_at}
 use Rattle.mst_changes.specs.ChangesText.{change_text}

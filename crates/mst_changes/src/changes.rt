@@ -1,9 +1,9 @@
 ghost use Rattle.std.specs.Prelude.{◌≡◌, ◌<◌, ◌++◌, OnOk};
-ghost use Rattle.mst_net.specs.Tables.{Net, Numbers};
-ghost use Rattle.mst_trees.specs.Agrees.{AreOf};
-ghost use Rattle.mst_trees.specs.Forest.{IsForest};
-ghost use Rattle.mst_trees.specs.InUse.{AreInUse};
-ghost use Rattle.mst_trees.specs.Outcome.{Outcome};
+ghost use Rattle.mst_roles.specs.net.Tables.{Net, Numbers};
+ghost use Rattle.mst_roles.specs.trees.Agrees.{AreOf};
+ghost use Rattle.mst_roles.specs.trees.Forest.{IsForest};
+ghost use Rattle.mst_roles.specs.trees.InUse.{AreInUse};
+ghost use Rattle.mst_roles.specs.trees.Outcome.{Outcome};
 ghost use Rattle.mst_changes.specs.Kept.{AreEntries};
 ghost use Rattle.mst_changes.specs.ChangesText.{changes_text};
 ghost use Rattle.mst_changes.specs.TreeChanges.{tree_changes};
@@ -13,7 +13,7 @@ use crate::merge::push_merged;
 use crate::ports::Planned;
 use crate::rows::push_tree;
 use mst_ids::Tree;
-use mst_trees::trees_in_use;
+use mst_roles::trees::trees_in_use;
 use std::alloc::{AllocError, Global};
 
 /// Appends the lines of what has changed in one tree. It takes memory for the entries of that tree alone.

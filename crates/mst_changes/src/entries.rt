@@ -1,9 +1,9 @@
 ghost use Rattle.std.specs.Prelude.{◌≡◌, ◌++◌, ◌==◌, map, IfOk, OnOk, filter};
 ghost use Rattle.std.specs.List.{flat_map};
-ghost use Rattle.mst_net.specs.Tables.{Net, Numbers};
-ghost use Rattle.mst_trees.specs.Agrees.{AreOf};
-ghost use Rattle.mst_trees.specs.Forest.{IsForest};
-ghost use Rattle.mst_trees.specs.InUse.{AreInUse};
+ghost use Rattle.mst_roles.specs.net.Tables.{Net, Numbers};
+ghost use Rattle.mst_roles.specs.trees.Agrees.{AreOf};
+ghost use Rattle.mst_roles.specs.trees.Forest.{IsForest};
+ghost use Rattle.mst_roles.specs.trees.InUse.{AreInUse};
 ghost use Rattle.mst_changes.specs.Subjects.{subjects_in, bridge_names as names_of_bridges, port_names as names_of_ports};
 ghost use Rattle.mst_changes.specs.Values.{value_at};
 ghost use Rattle.mst_changes.specs.Kept.{AreEntries, entries_at};
@@ -12,8 +12,8 @@ ghost use Rattle.mst_changes.specs.Stored.{kept_in, kept_entries};
 use crate::kept::{TreeEntries, bridge_names, port_names, push_kept, tree_entries};
 use crate::subject::Entry;
 use mst_ids::{Name, PortName, Tree};
-use mst_lag::View;
-use mst_trees::{Forest, is_had, trees_in_use};
+use mst_roles::lag::View;
+use mst_roles::trees::{Forest, is_had, trees_in_use};
 use std::alloc::{AllocError, Global};
 
 /// What is kept of a network's outcome, by names: the root priority vectors of bridges and the roles of logical ports in

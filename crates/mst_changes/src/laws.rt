@@ -1,11 +1,11 @@
 //! Laws of the text. Their functions do nothing: a caller has their clauses.
 ghost use Rattle.std.specs.Prelude.{◌≡◌, []};
-ghost use Rattle.mst_net.specs.Tables.{Net, IsNetwork};
-ghost use Rattle.mst_trees.specs.Outcome.{Outcome, IsOutcome};
+ghost use Rattle.mst_roles.specs.net.Tables.{Net, IsNetwork};
+ghost use Rattle.mst_roles.specs.trees.Outcome.{Outcome, IsOutcome};
 ghost use Rattle.mst_changes.specs.ChangesText.{changes_text};
 ghost use Rattle.mst_changes.specs.Kept.{entries_of};
 
-use mst_trees::laws::one_outcome;
+use mst_roles::trees::laws::one_outcome;
 
 /// Two networks have one text, whichever settled outcomes it is made by.
 pub fn one_text()

@@ -1,14 +1,14 @@
 ghost use Rattle.std.specs.Prelude.{◌≡◌, ◌++◌, OnOk};
-ghost use Rattle.mst_net.specs.Tables.{Net, Numbers};
-ghost use Rattle.mst_trees.specs.Agrees.{AreOf};
-ghost use Rattle.mst_trees.specs.Forest.{IsForest};
+ghost use Rattle.mst_roles.specs.net.Tables.{Net, Numbers};
+ghost use Rattle.mst_roles.specs.trees.Agrees.{AreOf};
+ghost use Rattle.mst_roles.specs.trees.Forest.{IsForest};
 ghost use Rattle.mst_changes.specs.PortChanges.{port_changes};
 
 use crate::merge::push_merged;
 use crate::rows::push_ports;
 use mst_ids::Tree;
-use mst_lag::View;
-use mst_trees::Forest;
+use mst_roles::lag::View;
+use mst_roles::trees::Forest;
 use std::alloc::{AllocError, Global};
 
 /// A network's view and its settled trees.

@@ -1,9 +1,9 @@
 //! The entries of a network's outcome, by its view and its forest.
 ghost use Rattle.std.specs.Prelude.{◌≡◌, ◌++◌, OnOk, filter_map};
-ghost use Rattle.mst_net.specs.Tables.{Net, Numbers};
-ghost use Rattle.mst_trees.specs.Agrees.{AreOf};
-ghost use Rattle.mst_trees.specs.Forest.{IsForest};
-ghost use Rattle.mst_trees.specs.InUse.{AreInUse};
+ghost use Rattle.mst_roles.specs.net.Tables.{Net, Numbers};
+ghost use Rattle.mst_roles.specs.trees.Agrees.{AreOf};
+ghost use Rattle.mst_roles.specs.trees.Forest.{IsForest};
+ghost use Rattle.mst_roles.specs.trees.InUse.{AreInUse};
 ghost use Rattle.mst_changes.specs.Subjects.{subjects_in, bridge_names, port_names};
 ghost use Rattle.mst_changes.specs.Values.{value_at};
 ghost use Rattle.mst_changes.specs.Kept.{entries_at};
@@ -12,9 +12,9 @@ ghost use Rattle.mst_changes.specs.Seen.{seen_vector, seen_bridge_entry, seen_po
 use crate::subject::{Entry, Item};
 use crate::value::VectorOrRole;
 use mst_ids::{BridgeNo, Tree};
-use mst_lag::{BridgeInView, PortInView, View};
+use mst_roles::lag::{BridgeInView, PortInView, View};
 use mst_roles::port_role;
-use mst_trees::{Forest, is_had};
+use mst_roles::trees::{Forest, is_had};
 use std::alloc::AllocError;
 
 /// The root priority vector of a bridge in a tree, where the bridge is on and has the tree.

@@ -15,20 +15,20 @@ use Rattle.mst_ids.specs.Names.{port_cmp}
 use Rattle.mst_ids.specs.Vids.{is_vid}
 use Rattle.mst_ids.specs.Words.{after_space, line, listed}
 use Rattle.mst_ids.specs.declared.name.PortName.{PortName}
-use Rattle.mst_graph.proofs.Members.{in_none, cases, passing, in_map, in_filter, filter_none}
-use Rattle.mst_net.specs.Tables.{Net, BridgeRow, port_eq}
-use Rattle.mst_net.proofs.Keyed.{flipped}
-use Rattle.mst_net.proofs.Keys.{names, ports}
-use Rattle.mst_lag.specs.Aggregation.{same_name}
-use Rattle.mst_lag.specs.View.{LogicalPort, view_ports}
-use Rattle.mst_config.specs.Regions.{first_of_region}
-use Rattle.mst_trees.specs.Outcome.{Outcome}
-use Rattle.mst_trees.proofs.Entries.{all_weaker, entries_found}
-use Rattle.mst_trees.proofs.Lists.{all_contained, all_kept, all_there, some_is, no_some}
-use Rattle.mst_trees.proofs.Views.{entry_there}
-use Rattle.mst_roles.specs.Roles.{role_in, role_of}
-use Rattle.mst_roles.specs.declared.kind.Role.{Role}
-use Rattle.mst_roles.specs.declared.kind.Role.TheVariants.{Root, Designated, Alternate, Backup, Master, Disabled}
+use Rattle.mst_plan_text.proofs.graph.Members.{in_none, cases, passing, in_map, in_filter, filter_none}
+use Rattle.mst_plan_text.specs.net.Tables.{Net, BridgeRow, port_eq}
+use Rattle.mst_plan_text.proofs.net.Keyed.{flipped}
+use Rattle.mst_plan_text.proofs.net.Keys.{names, ports}
+use Rattle.mst_plan_text.specs.lag.Aggregation.{same_name}
+use Rattle.mst_plan_text.specs.lag.View.{LogicalPort, view_ports}
+use Rattle.mst_plan_text.specs.config.Regions.{first_of_region}
+use Rattle.mst_plan_text.specs.trees.Outcome.{Outcome}
+use Rattle.mst_plan_text.proofs.trees_text.Entries.{all_weaker, entries_found}
+use Rattle.mst_plan_text.proofs.trees_text.Lists.{all_contained, all_kept, all_there, some_is, no_some}
+use Rattle.mst_plan_text.proofs.trees_text.Views.{entry_there}
+use Rattle.mst_plan_text.specs.roles.Roles.{role_in, role_of}
+use Rattle.mst_plan_text.specs.roles.declared.kind.Role.{Role}
+use Rattle.mst_plan_text.specs.roles.declared.kind.Role.TheVariants.{Root, Designated, Alternate, Backup, Master, Disabled}
 use Rattle.mst_plan_text.specs.PlanText.{all_vids}
 use Rattle.mst_plan_text.proofs.Grouped.{place_of_vid}
 use Rattle.mst_plan_text.proofs.OnePlan.{is_vid_there}

@@ -1,3 +1,12 @@
+pub use Rattle.mst_plan_text.proofs.graph as graph
+pub use Rattle.mst_plan_text.proofs.net as net
+pub use Rattle.mst_plan_text.proofs.lag as lag
+pub use Rattle.mst_plan_text.proofs.config as config
+pub use Rattle.mst_plan_text.proofs.trees as trees
+pub use Rattle.mst_plan_text.proofs.roles as roles
+pub use Rattle.mst_plan_text.proofs.vlan as vlan
+pub use Rattle.mst_changes.proofs as changes
+pub use Rattle.mst_plan_text.proofs as plan_text
 pub mod Lists
 pub mod Named
 pub mod Shared

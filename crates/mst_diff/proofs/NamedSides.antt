@@ -7,22 +7,22 @@ use Rattle.std.proofs.lemmas.Grind.{flat_map-append}
 use Rattle.std.proofs.lemmas.List.{map-append}
 use Rattle.std.proofs.lemmas.List.Elements.{filter_more}
 use Rattle.mst_ids.specs.Words.{after_space, comma_list, listed}
-use Rattle.mst_graph.specs.Islands.{Island}
-use Rattle.mst_net.specs.Tables.{Net, Numbers}
-use Rattle.mst_lag.proofs.Lists.{map_itself}
-use Rattle.mst_lag.specs.Aggregation.{same_name}
-use Rattle.mst_lag.specs.Viewed.{Viewed}
-use Rattle.mst_trees.specs.Agrees.{AreOf}
-use Rattle.mst_trees.specs.Forest.{Forest}
-use Rattle.mst_trees.specs.Outcome.{Outcome}
-use Rattle.mst_trees.proofs.Entries.{all_weaker}
-use Rattle.mst_trees.proofs.Lists.{all_there}
-use Rattle.mst_vlan.specs.Reach.{bridges_on, lans_up, vid_links, AreReached}
-use Rattle.mst_vlan.specs.declared.island.Island.{Island as IslandNos}
-use Rattle.mst_vlan.proofs.Renumbered.{bridge_listed}
-use Rattle.mst_text.specs.VlanSeen.{seen_bridge}
-use Rattle.mst_text.proofs.VlanListed.{by_number}
-use Rattle.mst_text.proofs.VlanNamed.{bridge_named}
+use Rattle.mst_plan_text.specs.graph.Islands.{Island}
+use Rattle.mst_plan_text.specs.net.Tables.{Net, Numbers}
+use Rattle.mst_plan_text.proofs.lag.Lists.{map_itself}
+use Rattle.mst_plan_text.specs.lag.Aggregation.{same_name}
+use Rattle.mst_plan_text.specs.lag.Viewed.{Viewed}
+use Rattle.mst_plan_text.specs.trees.Agrees.{AreOf}
+use Rattle.mst_plan_text.specs.trees.Forest.{Forest}
+use Rattle.mst_plan_text.specs.trees.Outcome.{Outcome}
+use Rattle.mst_plan_text.proofs.trees_text.Entries.{all_weaker}
+use Rattle.mst_plan_text.proofs.trees_text.Lists.{all_there}
+use Rattle.mst_plan_text.specs.vlan.Reach.{bridges_on, lans_up, vid_links, AreReached}
+use Rattle.mst_plan_text.specs.vlan.declared.island.Island.{Island as IslandNos}
+use Rattle.mst_plan_text.proofs.vlan.Renumbered.{bridge_listed}
+use Rattle.mst_plan_text.specs.text.VlanSeen.{seen_bridge}
+use Rattle.mst_plan_text.proofs.text.VlanListed.{by_number}
+use Rattle.mst_plan_text.proofs.text.VlanNamed.{bridge_named}
 use Rattle.mst_diff.specs.Reach.{has_any, island_words, without}
 use Rattle.mst_diff.specs.Seen.{seen_words, one_word, apart_word, joined_sides}
 

@@ -17,17 +17,17 @@ use Rattle.std.proofs.lemmas.List.Folds.{flat_map-map, list_any-append}
 use Rattle.mst_ids.specs.Names.{name_cmp, port_cmp}
 use Rattle.mst_ids.specs.declared.name.PortName.{PortName}
 use Rattle.mst_ids.specs.Words.{after_space, line, listed}
-use Rattle.mst_net.specs.Tables.{Net, BridgeRow}
-use Rattle.mst_net.proofs.Keys.{names, ports}
-use Rattle.mst_lag.specs.Aggregation.{same_name}
-use Rattle.mst_config.specs.Regions.{first_of_region}
-use Rattle.mst_trees.specs.Apart.{Apart}
-use Rattle.mst_trees.specs.Outcome.{Outcome}
-use Rattle.mst_trees.proofs.Entries.{all_weaker, entries_found}
-use Rattle.mst_trees.proofs.Lists.{apart_mapped}
-use Rattle.mst_trees.proofs.Views.{bridges_rise}
-use Rattle.mst_roles.specs.Roles.{role_of}
-use Rattle.mst_roles.specs.declared.kind.Role.{Role}
+use Rattle.mst_plan_text.specs.net.Tables.{Net, BridgeRow}
+use Rattle.mst_plan_text.proofs.net.Keys.{names, ports}
+use Rattle.mst_plan_text.specs.lag.Aggregation.{same_name}
+use Rattle.mst_plan_text.specs.config.Regions.{first_of_region}
+use Rattle.mst_plan_text.specs.trees.Apart.{Apart}
+use Rattle.mst_plan_text.specs.trees.Outcome.{Outcome}
+use Rattle.mst_plan_text.proofs.trees_text.Entries.{all_weaker, entries_found}
+use Rattle.mst_plan_text.proofs.trees_text.Lists.{apart_mapped}
+use Rattle.mst_plan_text.proofs.trees_text.Views.{bridges_rise}
+use Rattle.mst_plan_text.specs.roles.Roles.{role_of}
+use Rattle.mst_plan_text.specs.roles.declared.kind.Role.{Role}
 use Rattle.mst_plan_text.specs.PlanText.{all_vids}
 use Rattle.mst_plan_text.proofs.OnePlan.{is_vid_there}
 use Rattle.mst_changes.specs.declared.value.VectorOrRole.TheVariants.{HasRole}

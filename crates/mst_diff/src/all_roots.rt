@@ -1,8 +1,8 @@
 ghost use Rattle.std.specs.Prelude.{◌≡◌, ◌++◌, OnOk};
-ghost use Rattle.mst_net.specs.Tables.{Net, Numbers};
-ghost use Rattle.mst_trees.specs.Agrees.{AreOf};
-ghost use Rattle.mst_trees.specs.Forest.{IsForest};
-ghost use Rattle.mst_trees.specs.InUse.{AreInUse};
+ghost use Rattle.mst_plan_text.specs.net.Tables.{Net, Numbers};
+ghost use Rattle.mst_plan_text.specs.trees.Agrees.{AreOf};
+ghost use Rattle.mst_plan_text.specs.trees.Forest.{IsForest};
+ghost use Rattle.mst_plan_text.specs.trees.InUse.{AreInUse};
 ghost use Rattle.mst_diff.specs.Roots.{tree_roots, root_changes};
 ghost use Rattle.mst_diff.specs.Seen.{seen_both};
 
@@ -10,7 +10,7 @@ use crate::both::Both;
 use crate::roots::push_tree;
 use mst_changes::Planned;
 use mst_ids::Tree;
-use mst_trees::{is_had, trees_in_use};
+use mst_plan_text::trees::{is_had, trees_in_use};
 use std::alloc::{AllocError, Global};
 
 /// Two plans, the bridges that both networks have, and the trees that each has beside the CIST.

@@ -13,4 +13,7 @@ mod sides;
 
 pub use both::{Both, bridges_of_both};
 pub use diff::{Differing, push_diff};
+pub use mst_changes as changes;
+pub use mst_plan_text as plan_text;
+pub use mst_plan_text::{config, graph, lag, lang, net, roles, settle, text, trees, vector, vlan};
 pub use roots::root;

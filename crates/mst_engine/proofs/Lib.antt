@@ -1,3 +1,5 @@
+pub use Rattle.mst_print.proofs.io as io
+pub use Rattle.mst_print.proofs as printing
 pub mod Skips
 pub mod Steps
 pub mod Held

@@ -12,4 +12,7 @@ pub mod laws;
 mod serving;
 
 pub use engine::{Engine, Input, Reply};
+pub use mst_compare::{lang, net, report, trees};
+pub use mst_print as printing;
+pub use mst_print::io;
 pub use serving::serve_input;

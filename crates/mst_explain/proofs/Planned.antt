@@ -4,31 +4,31 @@ use Rattle.std.specs.Prelude.{if◌then◌else◌}
 use Rattle.std.specs.List.{Contains}
 use Rattle.std.specs.Option.{option_map, option_and_then}
 use Rattle.std.specs.FinMap as fin
-use Rattle.mst_vector.specs.Cist.{cist_rules}
-use Rattle.mst_vector.specs.Msti.{msti_rules}
-use Rattle.mst_vector.specs.CistLaws.{cist_lawful}
-use Rattle.mst_vector.specs.MstiLaws.{msti_lawful}
-use Rattle.mst_vector.specs.declared.cist.CistBridge.{CistBridge}
-use Rattle.mst_vector.specs.declared.msti.MstiBridge.{MstiBridge}
-use Rattle.mst_vector.specs.declared.msti.MstiPort.{MstiPort}
-use Rattle.mst_vector.specs.declared.msti.MstiVector.{MstiVector}
-use Rattle.mst_settle.specs.Assignment.{vector_of, designated_of}
-use Rattle.mst_net.specs.Tables.{Net, Numbers, BridgeRow}
-use Rattle.mst_net.specs.ByTree.{by_tree}
-use Rattle.mst_net.specs.Seen.{bridge_row}
-use Rattle.mst_lag.specs.Viewed.{Viewed, named_port}
-use Rattle.mst_lag.specs.declared.in_view.BridgeInView.{BridgeInView}
-use Rattle.mst_lag.specs.declared.in_view.PortInView.{PortInView}
-use Rattle.mst_trees.specs.Cist.{cist_bridge, cist_port, cist_sight, cist_of}
-use Rattle.mst_trees.specs.Msti.{msti_bridge, msti_port, msti_sight, msti_of, has_msti, is_internal}
-use Rattle.mst_trees.specs.Outcome.{Outcome}
-use Rattle.mst_trees.specs.Agrees.{Agrees, AreOf}
-use Rattle.mst_trees.specs.Seen.{seen_internal}
-use Rattle.mst_trees.specs.Forest.{Forest, msti_vector, msti_designated}
-use Rattle.mst_trees.proofs.CistTopology.{cist_is_sight}
-use Rattle.mst_trees.proofs.MstiTopology.{msti_is_sight}
-use Rattle.mst_trees.proofs.Seen.{SeenBridge, SeenPort, bridge_seen, port_seen}
-use Rattle.mst_trees.proofs.Looking.{internal_same, has_tree_at}
+use Rattle.mst_roles.specs.vector.Cist.{cist_rules}
+use Rattle.mst_roles.specs.vector.Msti.{msti_rules}
+use Rattle.mst_roles.specs.vector.CistLaws.{cist_lawful}
+use Rattle.mst_roles.specs.vector.MstiLaws.{msti_lawful}
+use Rattle.mst_roles.specs.vector.declared.cist.CistBridge.{CistBridge}
+use Rattle.mst_roles.specs.vector.declared.msti.MstiBridge.{MstiBridge}
+use Rattle.mst_roles.specs.vector.declared.msti.MstiPort.{MstiPort}
+use Rattle.mst_roles.specs.vector.declared.msti.MstiVector.{MstiVector}
+use Rattle.mst_roles.specs.settle.Assignment.{vector_of, designated_of}
+use Rattle.mst_roles.specs.net.Tables.{Net, Numbers, BridgeRow}
+use Rattle.mst_roles.specs.net.ByTree.{by_tree}
+use Rattle.mst_roles.specs.net.Seen.{bridge_row}
+use Rattle.mst_roles.specs.lag.Viewed.{Viewed, named_port}
+use Rattle.mst_roles.specs.lag.declared.in_view.BridgeInView.{BridgeInView}
+use Rattle.mst_roles.specs.lag.declared.in_view.PortInView.{PortInView}
+use Rattle.mst_roles.specs.trees.Cist.{cist_bridge, cist_port, cist_sight, cist_of}
+use Rattle.mst_roles.specs.trees.Msti.{msti_bridge, msti_port, msti_sight, msti_of, has_msti, is_internal}
+use Rattle.mst_roles.specs.trees.Outcome.{Outcome}
+use Rattle.mst_roles.specs.trees.Agrees.{Agrees, AreOf}
+use Rattle.mst_roles.specs.trees.Seen.{seen_internal}
+use Rattle.mst_roles.specs.trees.Forest.{Forest, msti_vector, msti_designated}
+use Rattle.mst_roles.proofs.trees.CistTopology.{cist_is_sight}
+use Rattle.mst_roles.proofs.trees.MstiTopology.{msti_is_sight}
+use Rattle.mst_roles.proofs.trees.Seen.{SeenBridge, SeenPort, bridge_seen, port_seen}
+use Rattle.mst_roles.proofs.trees.Looking.{internal_same, has_tree_at}
 use Rattle.mst_explain.specs.Fields.{cist_fields, msti_fields}
 use Rattle.mst_explain.specs.Explained.{TellsContest}
 use Rattle.mst_explain.specs.Planned.{IsPlanOf}

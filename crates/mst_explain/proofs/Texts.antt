@@ -5,30 +5,30 @@ use Rattle.std.specs.List.{AllByRecursion, Contains, filter, flat_map, list_any}
 use Rattle.std.specs.Option.{option_map, option_map_or, option_and_then, unwrap_or}
 use Rattle.std.specs.Map.{lookup}
 use Rattle.std.specs.FinMap as fin
-use Rattle.mst_vector.specs.Cist.{cist_rules}
-use Rattle.mst_vector.specs.Msti.{msti_rules}
-use Rattle.mst_vector.specs.CistLaws.{cist_lawful}
-use Rattle.mst_settle.specs.Assignment.{designated_of}
-use Rattle.mst_net.specs.Tables.{Net, Numbers, BridgeRow, LanRow}
-use Rattle.mst_net.specs.Seen.{bridge_row}
-use Rattle.mst_lag.specs.Aggregation.{same_name}
-use Rattle.mst_lag.specs.Trees.{mstis_of, is_among}
-use Rattle.mst_lag.specs.View.{logical_lan, is_on, is_up}
-use Rattle.mst_lag.specs.Viewed.{Viewed, named_port, member_lan}
-use Rattle.mst_lag.specs.declared.in_view.BridgeInView.{BridgeInView}
-use Rattle.mst_lag.specs.declared.in_view.PortInView.{PortInView}
-use Rattle.mst_lag.specs.declared.in_view.MemberLan.{MemberLan}
-use Rattle.mst_lag.proofs.Placing.{pair_found}
-use Rattle.mst_trees.specs.Cist.{cist_sight}
-use Rattle.mst_trees.specs.Msti.{has_msti, is_internal}
-use Rattle.mst_trees.specs.Outcome.{Outcome}
-use Rattle.mst_trees.specs.Agrees.{AreOf}
-use Rattle.mst_trees.specs.Seen.{seen_internal, trees_at}
-use Rattle.mst_trees.specs.Forest.{Forest, designated_in}
-use Rattle.mst_trees.proofs.Entries.{all_weaker}
-use Rattle.mst_trees.proofs.Lists.{all_contained, all_there}
-use Rattle.mst_trees.proofs.CistTopology.{cist_is_sight}
-use Rattle.mst_trees.proofs.Seen.{SeenPort, port_seen}
+use Rattle.mst_roles.specs.vector.Cist.{cist_rules}
+use Rattle.mst_roles.specs.vector.Msti.{msti_rules}
+use Rattle.mst_roles.specs.vector.CistLaws.{cist_lawful}
+use Rattle.mst_roles.specs.settle.Assignment.{designated_of}
+use Rattle.mst_roles.specs.net.Tables.{Net, Numbers, BridgeRow, LanRow}
+use Rattle.mst_roles.specs.net.Seen.{bridge_row}
+use Rattle.mst_roles.specs.lag.Aggregation.{same_name}
+use Rattle.mst_roles.specs.lag.Trees.{mstis_of, is_among}
+use Rattle.mst_roles.specs.lag.View.{logical_lan, is_on, is_up}
+use Rattle.mst_roles.specs.lag.Viewed.{Viewed, named_port, member_lan}
+use Rattle.mst_roles.specs.lag.declared.in_view.BridgeInView.{BridgeInView}
+use Rattle.mst_roles.specs.lag.declared.in_view.PortInView.{PortInView}
+use Rattle.mst_roles.specs.lag.declared.in_view.MemberLan.{MemberLan}
+use Rattle.mst_roles.proofs.lag.Placing.{pair_found}
+use Rattle.mst_roles.specs.trees.Cist.{cist_sight}
+use Rattle.mst_roles.specs.trees.Msti.{has_msti, is_internal}
+use Rattle.mst_roles.specs.trees.Outcome.{Outcome}
+use Rattle.mst_roles.specs.trees.Agrees.{AreOf}
+use Rattle.mst_roles.specs.trees.Seen.{seen_internal, trees_at}
+use Rattle.mst_roles.specs.trees.Forest.{Forest, designated_in}
+use Rattle.mst_roles.proofs.trees.Entries.{all_weaker}
+use Rattle.mst_roles.proofs.trees.Lists.{all_contained, all_there}
+use Rattle.mst_roles.proofs.trees.CistTopology.{cist_is_sight}
+use Rattle.mst_roles.proofs.trees.Seen.{SeenPort, port_seen}
 use Rattle.mst_roles.specs.Roles.{cist_role, msti_role, role_in}
 use Rattle.mst_roles.specs.Seen.{seen_role}
 use Rattle.mst_roles.specs.declared.kind.Role.{Role}

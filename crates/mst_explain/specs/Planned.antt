@@ -1,10 +1,10 @@
 -- A plan that explanations are of.
 use Rattle.std.specs.Prelude.{ℕ, List}
-use Rattle.mst_net.specs.Tables.{Net, Numbers}
-use Rattle.mst_lag.specs.Viewed.{Viewed}
-use Rattle.mst_config.specs.Shared.{AreRegions}
-use Rattle.mst_trees.specs.Agrees.{AreOf}
-use Rattle.mst_trees.specs.Forest.{Forest, IsForest}
+use Rattle.mst_roles.specs.net.Tables.{Net, Numbers}
+use Rattle.mst_roles.specs.lag.Viewed.{Viewed}
+use Rattle.mst_roles.specs.config.Shared.{AreRegions}
+use Rattle.mst_roles.specs.trees.Agrees.{AreOf}
+use Rattle.mst_roles.specs.trees.Forest.{Forest, IsForest}
 
 -- it is that of a network: its view, its regions, and its trees, settled
 pub record IsPlanOf (net : Net) (numbers : Numbers) (v : Viewed) (region_ids : List (ℕ × ℕ)) (f : Forest) : Type 0 where

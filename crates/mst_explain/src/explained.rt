@@ -1,11 +1,11 @@
 ghost use Rattle.std.specs.Prelude.{◌≡◌, ◌++◌, ℕ, List, OnOk};
 ghost use Rattle.std.specs.List.{Contains, flat_map};
 ghost use Rattle.std.specs.Option.{option_and_then, option_copied};
-ghost use Rattle.mst_net.specs.Tables.{Net, Numbers};
-ghost use Rattle.mst_vector.specs.Cist.{cist_rules};
-ghost use Rattle.mst_vector.specs.Msti.{msti_rules};
-ghost use Rattle.mst_lag.specs.Viewed.{named_port};
-ghost use Rattle.mst_trees.specs.Forest.{designated_in};
+ghost use Rattle.mst_roles.specs.net.Tables.{Net, Numbers};
+ghost use Rattle.mst_roles.specs.vector.Cist.{cist_rules};
+ghost use Rattle.mst_roles.specs.vector.Msti.{msti_rules};
+ghost use Rattle.mst_roles.specs.lag.Viewed.{named_port};
+ghost use Rattle.mst_roles.specs.trees.Forest.{designated_in};
 ghost use Rattle.mst_explain.specs.Explained.{IsExplanation, AreExplanations, trees_of_bridge};
 ghost use Rattle.mst_explain.specs.Planned.{IsPlanOf, KnownPlan};
 ghost use Rattle.mst_explain.specs.Seen.{CanStep};
@@ -15,13 +15,13 @@ ghost use Rattle.mst_explain.specs.TreesSeen.{cist_seen, msti_seen};
 use crate::contest::push_contest;
 use crate::in_tree::TreePlan;
 use crate::lines::{push_boundary, push_disabled, push_heading};
-use mst_config::Regions;
 use mst_ids::{BridgeNo, Name, PortName, Tree};
-use mst_lag::{PortInView, View};
+use mst_roles::config::Regions;
+use mst_roles::lag::{PortInView, View};
 use mst_roles::port_role;
-use mst_settle::laws::costs_bounded;
-use mst_trees::Forest;
-use mst_vector::{CistMetric, MstiMetric};
+use mst_roles::settle::laws::costs_bounded;
+use mst_roles::trees::Forest;
+use mst_roles::vector::{CistMetric, MstiMetric};
 use std::alloc::{AllocError, Global};
 
 fn bridge_is_on(view: &View, bridge: BridgeNo) -> bool

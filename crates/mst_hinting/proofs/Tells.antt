@@ -5,14 +5,14 @@ use Rattle.std.proofs.lemmas.Grind.{common_steps}
 use Rattle.std.specs.Option.{unwrap_or}
 use Rattle.std.specs.Io.KnownBytes.{Appends, Consumes, IsAtEnd}
 use Rattle.std.proofs.KnownBytes.{Appends-trans}
-use Rattle.mst_lang.specs.Lines.{drop_cr, last_line, no_line, lines_from, lines_of, ended_lines}
-use Rattle.mst_lang.specs.Reading.{reading_as, says_version_2}
-use Rattle.mst_lang.specs.declared.line.Fault.{Fault}
-use Rattle.mst_lang.specs.declared.line.Fault.TheVariants.{E01}
-use Rattle.mst_lang.specs.declared.line.Line.{Line}
-use Rattle.mst_lang.specs.declared.line.Line.TheVariants.{Blank}
-use Rattle.mst_lang.specs.declared.line.Version.{Version}
-use Rattle.mst_lang.specs.declared.line.Version.TheVariants.{V1, V2}
+use Rattle.mst_hints.specs.lang.Lines.{drop_cr, last_line, no_line, lines_from, lines_of, ended_lines}
+use Rattle.mst_hints.specs.lang.Reading.{reading_as, says_version_2}
+use Rattle.mst_hints.specs.lang.declared.line.Fault.{Fault}
+use Rattle.mst_hints.specs.lang.declared.line.Fault.TheVariants.{E01}
+use Rattle.mst_hints.specs.lang.declared.line.Line.{Line}
+use Rattle.mst_hints.specs.lang.declared.line.Line.TheVariants.{Blank}
+use Rattle.mst_hints.specs.lang.declared.line.Version.{Version}
+use Rattle.mst_hints.specs.lang.declared.line.Version.TheVariants.{V1, V2}
 use Rattle.mst_hints.specs.Hints.{hint_of, hint_line, too_long}
 use Rattle.mst_hints.specs.Kept.{IsKept}
 use Rattle.mst_hints.specs.Records.{added_of}

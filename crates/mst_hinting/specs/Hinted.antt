@@ -1,7 +1,7 @@
 -- What giving the hints of a script promises.
 use Rattle.std.specs.Prelude.{◌≡◌, ℕ, ◌+◌, ◌≤◌, List, ◌++◌, length, Option}
 use Rattle.std.specs.Io.KnownBytes.{Appends, Consumes}
-use Rattle.mst_lang.specs.Lines.{lines_of, ended_lines, last_line}
+use Rattle.mst_hints.specs.lang.Lines.{lines_of, ended_lines, last_line}
 use Rattle.mst_hints.specs.Kept.{IsKept}
 use Rattle.mst_hints.specs.Scripts.{Past, hints_from, hints_of}
 use Rattle.mst_hints.specs.declared.script.ScriptHints.{ScriptHints}

@@ -1,3 +1,4 @@
+pub use Rattle.mst_net.proofs as net
 pub mod Names
 pub mod Lists
 pub mod Entries

@@ -1,3 +1,5 @@
+pub use Rattle.mst_graph.proofs as graph
+pub use Rattle.mst_settle.proofs as settle
 pub mod Orders
 pub mod Within
 pub mod Settled

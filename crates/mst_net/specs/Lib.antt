@@ -1,3 +1,4 @@
+pub use Rattle.mst_lang.specs as lang
 pub mod Table
 pub mod KeptTables
 pub mod Tables

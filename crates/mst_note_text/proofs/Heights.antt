@@ -1,13 +1,13 @@
 -- A number that falls along parents: how many they are, or in an MSTI the internal root path cost.
 use Rattle.std.proofs.Common.{◌≡◌, inl, inr, refl, sym, ◌∙◌, ap, subst, ℕ, zero, suc, ◌<◌, Option, Some, None, arith}
-use Rattle.mst_vector.specs.declared.cist.CistVector.{CistVector}
-use Rattle.mst_vector.specs.declared.msti.MstiVector.{MstiVector}
-use Rattle.mst_settle.specs.Topology.{KeyTests}
-use Rattle.mst_nested.specs.Trees.{Trees, IsSettled}
-use Rattle.mst_nested.proofs.Settled.{cist_tree, msti_tree}
-use Rattle.mst_nested.proofs.Origins.{near_step}
-use Rattle.mst_nested.proofs.Mstis.{InTree}
-use Rattle.mst_nested.proofs.Facts.{at}
+use Rattle.mst_roles.specs.vector.declared.cist.CistVector.{CistVector}
+use Rattle.mst_roles.specs.vector.declared.msti.MstiVector.{MstiVector}
+use Rattle.mst_roles.specs.settle.Topology.{KeyTests}
+use Rattle.mst_roles.specs.nested.Trees.{Trees, IsSettled}
+use Rattle.mst_roles.proofs.nested.Settled.{cist_tree, msti_tree}
+use Rattle.mst_roles.proofs.nested.Origins.{near_step}
+use Rattle.mst_roles.proofs.nested.Mstis.{InTree}
+use Rattle.mst_roles.proofs.nested.Facts.{at}
 use Rattle.mst_note_text.specs.Chains.{ExternalChain, last, within, across}
 use Rattle.mst_note_text.specs.Depths.{ParentIn, ParentWithin, ParentBetween}
 use Rattle.mst_note_text.proofs.Chains.{AreSides}

@@ -1,16 +1,16 @@
 -- Parents in the CIST and in an MSTI, and where their chains within a region end.
 use Rattle.std.proofs.Common.{◌≡◌, ◌⊎◌, inl, inr, refl, sym, ◌∙◌, ap, ℕ, zero, suc, Bool, true, false, eqb-true, eq-eqb}
 use Rattle.std.proofs.lemmas.Bool.{eqb-false}
-use Rattle.mst_vector.specs.declared.cist.CistBridge.{CistBridge}
-use Rattle.mst_settle.specs.Topology.{KeyTests}
-use Rattle.mst_graph.specs.Walks.{bridge_at, lan_at, Walk, stay, along}
-use Rattle.mst_nested.specs.Ports.{port_ends}
-use Rattle.mst_nested.specs.Trees.{Trees, TakesPart, IsSettled, HasTree, SameRegion}
-use Rattle.mst_nested.proofs.Settled.{cist_tree, msti_tree}
-use Rattle.mst_nested.proofs.Origins.{Took}
-use Rattle.mst_nested.proofs.Parts.{At}
-use Rattle.mst_nested.proofs.Mstis.{same_part}
-use Rattle.mst_nested.proofs.Facts.{one_region}
+use Rattle.mst_roles.specs.vector.declared.cist.CistBridge.{CistBridge}
+use Rattle.mst_roles.specs.settle.Topology.{KeyTests}
+use Rattle.mst_roles.specs.graph.Walks.{bridge_at, lan_at, Walk, stay, along}
+use Rattle.mst_roles.specs.nested.Ports.{port_ends}
+use Rattle.mst_roles.specs.nested.Trees.{Trees, TakesPart, IsSettled, HasTree, SameRegion}
+use Rattle.mst_roles.proofs.nested.Settled.{cist_tree, msti_tree}
+use Rattle.mst_roles.proofs.nested.Origins.{Took}
+use Rattle.mst_roles.proofs.nested.Parts.{At}
+use Rattle.mst_roles.proofs.nested.Mstis.{same_part}
+use Rattle.mst_roles.proofs.nested.Facts.{one_region}
 use Rattle.mst_note_text.specs.Depths.{ParentIn, ParentWithin, ParentBetween}
 use Rattle.mst_note_text.proofs.Chains.{IsOne, AreSides}
 use Rattle.mst_note_text.proofs.ParentLaws.{one_parent, took_parent, TookFrom, took_from, parent_vector}

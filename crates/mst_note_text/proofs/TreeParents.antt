@@ -6,14 +6,14 @@ use Rattle.std.specs.Option.{option_map, option_and_then}
 use Rattle.std.specs.Map.{lookup}
 use Rattle.std.proofs.lemmas.Bool.{cases_lt}
 use Rattle.mst_ids.specs.Names.{name_cmp}
-use Rattle.mst_lag.specs.Viewed.{Viewed}
-use Rattle.mst_lag.specs.declared.in_view.PortInView.{PortInView}
-use Rattle.mst_config.specs.Shared.{same_in}
-use Rattle.mst_trees.specs.Apart.{Apart}
-use Rattle.mst_trees.specs.Forest.{designated_in}
-use Rattle.mst_trees.specs.Forest.{Forest}
-use Rattle.mst_trees.proofs.Lists.{some_is, no_some, all_at}
-use Rattle.mst_trees.proofs.Views.{names_differ}
+use Rattle.mst_roles.specs.lag.Viewed.{Viewed}
+use Rattle.mst_roles.specs.lag.declared.in_view.PortInView.{PortInView}
+use Rattle.mst_roles.specs.config.Shared.{same_in}
+use Rattle.mst_roles.specs.trees.Apart.{Apart}
+use Rattle.mst_roles.specs.trees.Forest.{designated_in}
+use Rattle.mst_roles.specs.trees.Forest.{Forest}
+use Rattle.mst_roles.proofs.trees.Lists.{some_is, no_some, all_at}
+use Rattle.mst_roles.proofs.trees.Views.{names_differ}
 use Rattle.mst_note_text.specs.declared.parent.Parent.{Parent}
 use Rattle.mst_note_text.specs.SeenTree.{is_root_port, designated_at, parent_by, members_in, name_at}
 use Rattle.mst_note_text.specs.SeenTree as seen_tree

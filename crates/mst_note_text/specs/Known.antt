@@ -1,9 +1,9 @@
 -- A forest and a view of one network.
-use Rattle.mst_net.specs.Tables.{Net, Numbers}
-use Rattle.mst_lag.specs.Viewed.{Viewed}
-use Rattle.mst_trees.specs.Agrees.{AreOf}
-use Rattle.mst_trees.specs.Forest.{IsForest}
-use Rattle.mst_trees.specs.Forest.{Forest}
+use Rattle.mst_roles.specs.net.Tables.{Net, Numbers}
+use Rattle.mst_roles.specs.lag.Viewed.{Viewed}
+use Rattle.mst_roles.specs.trees.Agrees.{AreOf}
+use Rattle.mst_roles.specs.trees.Forest.{IsForest}
+use Rattle.mst_roles.specs.trees.Forest.{Forest}
 
 -- they are so of some network
 pub record KnownForest (v : Viewed) (f : Forest) : Type 0 where

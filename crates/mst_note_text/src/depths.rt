@@ -1,8 +1,8 @@
 ghost use Rattle.std.specs.Prelude.{◌≡◌, ◌<◌, ℕ, length, IfOk};
-ghost use Rattle.mst_net.specs.Tables.{Net, Numbers};
-ghost use Rattle.mst_trees.specs.Agrees.{AreOf};
-ghost use Rattle.mst_trees.specs.Forest.{IsForest};
-ghost use Rattle.mst_trees.specs.Outcome.{trees_of};
+ghost use Rattle.mst_roles.specs.net.Tables.{Net, Numbers};
+ghost use Rattle.mst_roles.specs.trees.Agrees.{AreOf};
+ghost use Rattle.mst_roles.specs.trees.Forest.{IsForest};
+ghost use Rattle.mst_roles.specs.trees.Outcome.{trees_of};
 ghost use Rattle.mst_note_text.specs.Depths.{InternalDepth, ExternalDepth};
 ghost use Rattle.mst_note_text.specs.Places.{depths_at};
 ghost use Rattle.mst_note_text.specs.Known.{KnownForest};
@@ -14,9 +14,9 @@ use crate::parent::Depths;
 use crate::parents::parents_of;
 use crate::places::places_of;
 use mst_ids::Tree;
-use mst_lag::View;
-use mst_trees::Forest;
-use mst_trees::laws::nested;
+use mst_roles::lag::View;
+use mst_roles::trees::Forest;
+use mst_roles::trees::laws::nested;
 use std::alloc::{AllocError, Global};
 
 /// The depths of the bridges of a tree.

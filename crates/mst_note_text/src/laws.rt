@@ -1,10 +1,10 @@
 //! Laws of notes. Their functions do nothing: a caller has their clauses.
 ghost use Rattle.std.specs.Prelude.{◌≡◌, ℕ, List};
-ghost use Rattle.mst_net.specs.Tables.{Net, IsNetwork};
-ghost use Rattle.mst_trees.specs.Outcome.{Outcome, IsOutcome};
+ghost use Rattle.mst_roles.specs.net.Tables.{Net, IsNetwork};
+ghost use Rattle.mst_roles.specs.trees.Outcome.{Outcome, IsOutcome};
 ghost use Rattle.mst_note_text.specs.NotesText.{AreNotes};
 
-use mst_trees::laws::nested;
+use mst_roles::trees::laws::nested;
 
 /// The notes on a settled outcome of a network are one text: there is one, and no other.
 pub fn notes()

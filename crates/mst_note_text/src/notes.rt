@@ -1,11 +1,11 @@
 ghost use Rattle.std.specs.List.{flat_map};
 ghost use Rattle.std.specs.Prelude.{◌≡◌, ◌<◌, ◌++◌, ℕ, List, false, length, OnOk, slice_index_or};
-ghost use Rattle.mst_lag.specs.declared.in_view.BridgeInView.{BridgeInView as BridgeOf};
-ghost use Rattle.mst_lag.specs.Viewed.{named_port};
-ghost use Rattle.mst_net.specs.Tables.{Net, Numbers};
-ghost use Rattle.mst_trees.specs.Agrees.{AreOf};
-ghost use Rattle.mst_trees.specs.Forest.{IsForest};
-ghost use Rattle.mst_trees.specs.Outcome.{trees_of};
+ghost use Rattle.mst_roles.specs.lag.declared.in_view.BridgeInView.{BridgeInView as BridgeOf};
+ghost use Rattle.mst_roles.specs.lag.Viewed.{named_port};
+ghost use Rattle.mst_roles.specs.net.Tables.{Net, Numbers};
+ghost use Rattle.mst_roles.specs.trees.Agrees.{AreOf};
+ghost use Rattle.mst_roles.specs.trees.Forest.{IsForest};
+ghost use Rattle.mst_roles.specs.trees.Outcome.{trees_of};
 ghost use Rattle.mst_note_text.specs.AreDepths.{TreeDepths, AreDepths};
 ghost use Rattle.mst_note_text.specs.Known.{KnownForest};
 ghost use Rattle.mst_note_text.specs.NotesText.{trees_notes, restricted_note, AreNotes};
@@ -17,9 +17,9 @@ use crate::lines::push_restricted;
 use crate::places::{Macs, macs_of};
 use crate::tree::push_tree;
 use mst_ids::Tree;
-use mst_lag::{PortInView, View};
-use mst_trees::laws::nested;
-use mst_trees::{Forest, trees_in_use};
+use mst_roles::lag::{PortInView, View};
+use mst_roles::trees::laws::nested;
+use mst_roles::trees::{Forest, trees_in_use};
 use std::alloc::{AllocError, Global};
 
 /// Appends the notes on a network, by its view and its settled trees: for each tree in rising order, and each

@@ -4,27 +4,27 @@ use Rattle.std.specs.List.{AllByRecursion, Contains, filter, flat_map}
 use Rattle.std.specs.Option.{option_map_or}
 use Rattle.std.specs.FinMap as fin
 use Rattle.std.proofs.lemmas.List.Folds.{flat_map-map}
-use Rattle.mst_net.specs.Seen.{bridge_row}
-use Rattle.mst_net.specs.Tables.{Net, Numbers, BridgeRow}
-use Rattle.mst_lag.specs.Aggregation.{same_name}
-use Rattle.mst_lag.specs.View.{LogicalLan, LogicalPort, view_lans}
-use Rattle.mst_lag.specs.Viewed.{Viewed, named_bridge, named_lan, named_port}
-use Rattle.mst_lag.specs.declared.in_view.BridgeInView.{BridgeInView}
-use Rattle.mst_lag.specs.declared.in_view.LanInView.{LanInView}
-use Rattle.mst_lag.specs.declared.in_view.PortInView.{PortInView}
-use Rattle.mst_lag.proofs.Lists.{same_map}
-use Rattle.mst_trees.specs.Agrees.{AreOf}
-use Rattle.mst_trees.specs.Forest.{Forest, IsForest}
-use Rattle.mst_trees.specs.InUse.{id_in, seen_has}
-use Rattle.mst_trees.specs.Outcome.{Outcome}
-use Rattle.mst_trees.proofs.Entries.{all_weaker}
-use Rattle.mst_trees.proofs.Lists.{all_passing, all_there, filter_mapped, mapped_twice}
-use Rattle.mst_trees.proofs.Looking.{has_tree_at}
-use Rattle.mst_trees.proofs.Seen.{SeenPort, bridge_seen, ports_seen}
-use Rattle.mst_text.specs.TreeText.{has_tree}
-use Rattle.mst_roles.proofs.Named.{named}
-use Rattle.mst_diff.proofs.Lists.{flat_map-same}
-use Rattle.mst_diff.proofs.Named.{root_named}
+use Rattle.mst_summary.specs.net.Seen.{bridge_row}
+use Rattle.mst_summary.specs.net.Tables.{Net, Numbers, BridgeRow}
+use Rattle.mst_summary.specs.lag.Aggregation.{same_name}
+use Rattle.mst_summary.specs.lag.View.{LogicalLan, LogicalPort, view_lans}
+use Rattle.mst_summary.specs.lag.Viewed.{Viewed, named_bridge, named_lan, named_port}
+use Rattle.mst_summary.specs.lag.declared.in_view.BridgeInView.{BridgeInView}
+use Rattle.mst_summary.specs.lag.declared.in_view.LanInView.{LanInView}
+use Rattle.mst_summary.specs.lag.declared.in_view.PortInView.{PortInView}
+use Rattle.mst_summary.proofs.lag.Lists.{same_map}
+use Rattle.mst_summary.specs.trees.Agrees.{AreOf}
+use Rattle.mst_summary.specs.trees.Forest.{Forest, IsForest}
+use Rattle.mst_summary.specs.trees.InUse.{id_in, seen_has}
+use Rattle.mst_summary.specs.trees.Outcome.{Outcome}
+use Rattle.mst_summary.proofs.in_use.Entries.{all_weaker}
+use Rattle.mst_summary.proofs.in_use.Lists.{all_passing, all_there, filter_mapped, mapped_twice}
+use Rattle.mst_summary.proofs.in_use.Looking.{has_tree_at}
+use Rattle.mst_summary.proofs.in_use.Seen.{SeenPort, bridge_seen, ports_seen}
+use Rattle.mst_summary.specs.text.TreeText.{has_tree}
+use Rattle.mst_summary.proofs.roles.Named.{named}
+use Rattle.mst_summary.proofs.diff.Lists.{flat_map-same}
+use Rattle.mst_summary.proofs.diff.Named.{root_named}
 use Rattle.mst_summary.specs.Seen.{seen_on}
 use Rattle.mst_picture.specs.Bridges.{bridge_line, bridge_text, is_root, style}
 use Rattle.mst_picture.specs.Lans.{end_of, ends_on, lan_text}

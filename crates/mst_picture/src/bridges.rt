@@ -1,16 +1,16 @@
 ghost use Rattle.std.specs.Prelude.{◌≡◌, ◌++◌, OnOk};
 ghost use Rattle.std.specs.List.{flat_map};
-ghost use Rattle.mst_net.specs.Seen.{bridge_row};
+ghost use Rattle.mst_summary.specs.net.Seen.{bridge_row};
 ghost use Rattle.mst_picture.specs.Bridges.{style as style_by};
 ghost use Rattle.mst_picture.specs.Seen.{seen_is_root, seen_style, seen_bridge};
 
 use crate::pieces::push_pieces;
-use mst_changes::Planned;
-use mst_diff::root;
 use mst_ids::{Tree, push_bytes};
-use mst_lag::BridgeInView;
-use mst_lang::Power;
-use mst_trees::{bridge_id, has_tree};
+use mst_summary::changes::Planned;
+use mst_summary::diff::root;
+use mst_summary::lag::BridgeInView;
+use mst_summary::lang::Power;
+use mst_summary::trees::{bridge_id, has_tree};
 use std::alloc::AllocError;
 
 /// Whether a bridge is on.

@@ -2,10 +2,10 @@ ghost use Rattle.std.specs.Prelude.{◌≡◌, ◌&&◌, ◌++◌, OnOk};
 ghost use Rattle.mst_picture.specs.Lans.{letter as letter_of, role_letter as role_letter_of, label, is_open as is_open_end, designates as designates_of, line_end as line_end_by};
 ghost use Rattle.mst_picture.specs.Seen.{seen_end};
 
-use mst_changes::Planned;
 use mst_ids::{PortName, Tree, push_bytes};
-use mst_lag::PortInView;
-use mst_roles::{Role, role};
+use mst_summary::changes::Planned;
+use mst_summary::lag::PortInView;
+use mst_summary::roles::{Role, role};
 use std::alloc::AllocError;
 
 /// An end at a logical LAN: a logical port, and its role in the tree, if its bridge has the tree.

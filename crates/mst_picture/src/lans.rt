@@ -8,9 +8,9 @@ ghost use Rattle.mst_picture.specs.Seen.{seen_end, seen_lan};
 use crate::ends::{End, are_open, designates, end_of, is_open, line_end, push_label};
 use crate::pieces::push_pieces;
 use indexmap::IndexMap;
-use mst_changes::Planned;
 use mst_ids::{Name, Tree, push_bytes};
-use mst_lag::{LanInView, PortInView};
+use mst_summary::changes::Planned;
+use mst_summary::lag::{LanInView, PortInView};
 use mst_summary::{kept_for, ports_by_lan};
 use std::alloc::{AllocError, Global};
 

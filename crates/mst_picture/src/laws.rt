@@ -1,10 +1,10 @@
 //! The law of the picture. Its function does nothing: a caller has its clause.
 ghost use Rattle.std.specs.Prelude.{◌≡◌, ℕ};
-ghost use Rattle.mst_net.specs.Tables.{Net, IsNetwork};
-ghost use Rattle.mst_trees.specs.Outcome.{Outcome, IsOutcome};
+ghost use Rattle.mst_summary.specs.net.Tables.{Net, IsNetwork};
+ghost use Rattle.mst_summary.specs.trees.Outcome.{Outcome, IsOutcome};
 ghost use Rattle.mst_picture.specs.Picture.{picture};
 
-use mst_trees::laws::one_outcome;
+use mst_summary::trees::laws::one_outcome;
 
 /// A network has one picture with each tree, whichever settled outcome it is made by.
 pub fn one_picture()

@@ -9,4 +9,8 @@ pub mod laws;
 mod picture;
 mod pieces;
 
+pub use mst_summary as summary;
+pub use mst_summary::{
+    changes, config, diff, lag, lang, net, plan_text, roles, settle, text, trees, vector, vlan,
+};
 pub use picture::push_picture;

@@ -1,15 +1,15 @@
 ghost use Rattle.std.specs.Prelude.{◌≡◌, ◌++◌, OnOk};
-ghost use Rattle.mst_net.specs.Tables.{Net, Numbers};
-ghost use Rattle.mst_trees.specs.Agrees.{AreOf};
-ghost use Rattle.mst_trees.specs.Forest.{IsForest};
+ghost use Rattle.mst_summary.specs.net.Tables.{Net, Numbers};
+ghost use Rattle.mst_summary.specs.trees.Agrees.{AreOf};
+ghost use Rattle.mst_summary.specs.trees.Forest.{IsForest};
 ghost use Rattle.mst_picture.specs.Picture.{opening, picture};
 
 use crate::bridges::push_bridges;
 use crate::lans::push_lans;
 use crate::pieces::push_pieces;
 use itoa::Buffer;
-use mst_changes::Planned;
 use mst_ids::{Tree, push_bytes};
+use mst_summary::changes::Planned;
 use std::alloc::{AllocError, Global};
 
 /// Appends the first lines.

@@ -2,18 +2,18 @@
 use Rattle.std.proofs.Common.{◌≡◌, ℕ, List, [], ◌∷◌, ◌||◌, Bool, map, refl, sym, ap, ◌∙◌}
 use Rattle.std.specs.List.{AllByRecursion, filter, list_any, range_with_len}
 use Rattle.std.specs.FinMap as fin
-use Rattle.mst_lag.specs.Trees.{is_among}
-use Rattle.mst_lag.specs.Viewed.{Viewed, named_bridge}
-use Rattle.mst_lag.specs.declared.in_view.BridgeInView.{BridgeInView}
-use Rattle.mst_net.specs.Tables.{Net, Numbers, BridgeRow}
-use Rattle.mst_trees.specs.Agrees.{AreOf}
-use Rattle.mst_trees.specs.InUse.{is_in_use, seen_mstis}
-use Rattle.mst_trees.specs.Msti.{has_msti}
-use Rattle.mst_trees.specs.Seen.{trees_at}
-use Rattle.mst_trees.specs.Forest.{Forest}
-use Rattle.mst_trees.proofs.Entries.{all_weaker}
-use Rattle.mst_trees.proofs.Looking.{has_tree_at}
-use Rattle.mst_trees.proofs.Seen.{SeenBridge, bridges_seen}
+use Rattle.mst_text.specs.lag.Trees.{is_among}
+use Rattle.mst_text.specs.lag.Viewed.{Viewed, named_bridge}
+use Rattle.mst_text.specs.lag.declared.in_view.BridgeInView.{BridgeInView}
+use Rattle.mst_text.specs.net.Tables.{Net, Numbers, BridgeRow}
+use Rattle.mst_text.specs.trees.Agrees.{AreOf}
+use Rattle.mst_text.specs.trees.InUse.{is_in_use, seen_mstis}
+use Rattle.mst_text.specs.trees.Msti.{has_msti}
+use Rattle.mst_text.specs.trees.Seen.{trees_at}
+use Rattle.mst_text.specs.trees.Forest.{Forest}
+use Rattle.mst_text.proofs.trees.Entries.{all_weaker}
+use Rattle.mst_text.proofs.trees.Looking.{has_tree_at}
+use Rattle.mst_text.proofs.trees.Seen.{SeenBridge, bridges_seen}
 use Rattle.mst_plan_text.specs.PlanText.{is_had, mstis}
 
 any_alike : {A : Type 0} (f g : A → Bool) (xs : List A) → AllByRecursion (λ x. f x ≡ g x) xs → list_any f xs ≡ list_any g xs

@@ -5,27 +5,27 @@ use Rattle.std.specs.List.{AllByRecursion, Contains, flat_map}
 use Rattle.std.specs.Option.{option_map_or}
 use Rattle.std.specs.FinMap as fin
 use Rattle.mst_ids.specs.Vids.{has}
-use Rattle.mst_graph.specs.Islands.{AreIslands}
-use Rattle.mst_graph.proofs.Members.{from_filter}
-use Rattle.mst_graph.proofs.Splits.{kept_each}
-use Rattle.mst_net.specs.After.{table_of}
-use Rattle.mst_net.specs.ByTree.{table_in, vlans_in}
-use Rattle.mst_net.specs.Table.{tree_in}
-use Rattle.mst_net.specs.Tables.{Net, Numbers, BridgeRow}
-use Rattle.mst_lag.specs.View.{LogicalPort, view_ports}
-use Rattle.mst_lag.specs.Viewed.{Viewed}
-use Rattle.mst_lag.specs.declared.in_view.BridgeInView.{BridgeInView}
-use Rattle.mst_lag.specs.declared.in_view.PortInView.{PortInView}
-use Rattle.mst_trees.specs.Agrees.{AreOf}
-use Rattle.mst_trees.specs.Outcome.{Outcome}
-use Rattle.mst_trees.specs.Forest.{Forest}
-use Rattle.mst_trees.proofs.Entries.{all_weaker}
-use Rattle.mst_trees.proofs.Lists.{all_contained, all_there}
-use Rattle.mst_trees.proofs.Looking.{filter_alike}
-use Rattle.mst_trees.proofs.Seen.{bridge_there, port_there}
-use Rattle.mst_roles.specs.Roles.{role_in, forwards, tree_of_vid, forwards_for}
-use Rattle.mst_vlan.specs.Active.{active_ports}
-use Rattle.mst_vlan.specs.Reach.{bridges_on, lans_up, is_member, link_of, vid_links}
+use Rattle.mst_text.specs.graph.Islands.{AreIslands}
+use Rattle.mst_text.proofs.graph.Members.{from_filter}
+use Rattle.mst_text.proofs.graph.Splits.{kept_each}
+use Rattle.mst_text.specs.net.After.{table_of}
+use Rattle.mst_text.specs.net.ByTree.{table_in, vlans_in}
+use Rattle.mst_text.specs.net.Table.{tree_in}
+use Rattle.mst_text.specs.net.Tables.{Net, Numbers, BridgeRow}
+use Rattle.mst_text.specs.lag.View.{LogicalPort, view_ports}
+use Rattle.mst_text.specs.lag.Viewed.{Viewed}
+use Rattle.mst_text.specs.lag.declared.in_view.BridgeInView.{BridgeInView}
+use Rattle.mst_text.specs.lag.declared.in_view.PortInView.{PortInView}
+use Rattle.mst_text.specs.trees.Agrees.{AreOf}
+use Rattle.mst_text.specs.trees.Outcome.{Outcome}
+use Rattle.mst_text.specs.trees.Forest.{Forest}
+use Rattle.mst_text.proofs.trees.Entries.{all_weaker}
+use Rattle.mst_text.proofs.trees.Lists.{all_contained, all_there}
+use Rattle.mst_text.proofs.trees.Looking.{filter_alike}
+use Rattle.mst_text.proofs.trees.Seen.{bridge_there, port_there}
+use Rattle.mst_text.specs.roles.Roles.{role_in, forwards, tree_of_vid, forwards_for}
+use Rattle.mst_text.specs.vlan.Active.{active_ports}
+use Rattle.mst_text.specs.vlan.Reach.{bridges_on, lans_up, is_member, link_of, vid_links}
 use Rattle.mst_text.specs.VlanLines.{active_word, active_line}
 use Rattle.mst_text.specs.VlanText.{port_word, island_text, IsBody}
 

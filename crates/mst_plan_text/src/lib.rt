@@ -7,10 +7,12 @@ mod distinct;
 mod groups;
 pub mod laws;
 mod plan;
-mod trees;
+mod trees_text;
 
 pub use alike::numbers_of_vids;
 pub use bodies::copies;
 pub use distinct::{tables, vlan_sets};
 pub use groups::{set_of, vids};
+pub use mst_text as text;
+pub use mst_text::{config, graph, lag, lang, net, roles, settle, trees, vector, vlan};
 pub use plan::push_plan;

@@ -1,17 +1,17 @@
 ghost use Rattle.std.specs.Prelude.{◌≡◌, ℕ, List, ◌++◌, OnOk};
-ghost use Rattle.mst_net.specs.Tables.{Net, Numbers};
-ghost use Rattle.mst_trees.specs.Agrees.{AreOf, Known};
-ghost use Rattle.mst_trees.specs.Forest.{IsForest};
+ghost use Rattle.mst_text.specs.net.Tables.{Net, Numbers};
+ghost use Rattle.mst_text.specs.trees.Agrees.{AreOf, Known};
+ghost use Rattle.mst_text.specs.trees.Forest.{IsForest};
 ghost use Rattle.mst_plan_text.specs.PlanText.{IsPlanText, IsVidsText};
 
 use crate::alike::numbers_of_vids;
 use crate::bodies::{bodies, copies};
 use crate::distinct::{tables, vlan_sets};
 use crate::groups::{push_groups, vids};
-use crate::trees::push_trees;
-use mst_graph::{groups_by_body, number_keys};
-use mst_lag::View;
-use mst_trees::Forest;
+use crate::trees_text::push_trees;
+use mst_text::graph::{groups_by_body, number_keys};
+use mst_text::lag::View;
+use mst_text::trees::Forest;
 use std::alloc::{AllocError, Global};
 
 /// Appends the text of a plan: the texts of the CIST and of each MSTI that some bridge has, in rising order, and then

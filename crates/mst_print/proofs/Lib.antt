@@ -1,1 +1,2 @@
+pub use Rattle.mst_io.proofs as io
 pub mod Shown

@@ -1,1 +1,2 @@
+pub use Rattle.mst_io.specs as io
 pub mod Shape

@@ -2,24 +2,24 @@
 use Rattle.std.proofs.Common.{◌≡◌, ◌≢◌, ℕ, List, Option, None, Some, Result, Ok, Err, MatchOption, refl, sym, ap, subst, ◌∙◌, ◌++◌}
 use Rattle.std.specs.FinMap as fin
 use Rattle.std.specs.Option.{option_map, option_map_or}
-use Rattle.mst_lang.specs.declared.line.Query.{Query}
-use Rattle.mst_lang.specs.declared.line.Query.TheVariants.{ShowPlan, ShowLag, ShowRegions, ShowNotes, ShowTree, ShowVlan, ShowConfiguration, Changes, Save}
-use Rattle.mst_net.specs.After.{table_of}
-use Rattle.mst_net.specs.Tables.{Net, BridgeRow, IsNetwork}
-use Rattle.mst_net.specs.declared.refusal.Refusal.{Refusal}
-use Rattle.mst_net.specs.declared.refusal.Refusal.TheVariants.{E04, E16}
-use Rattle.mst_trees.specs.Outcome.{Outcome, IsOutcome}
-use Rattle.mst_changes.specs.ChangesText.{changes_text}
-use Rattle.mst_changes.specs.Kept.{entries_of}
-use Rattle.mst_changes.specs.declared.subject.Entry.{Entry}
-use Rattle.mst_text.specs.LagText.{lags_text}
+use Rattle.mst_picture.specs.lang.declared.line.Query.{Query}
+use Rattle.mst_picture.specs.lang.declared.line.Query.TheVariants.{ShowPlan, ShowLag, ShowRegions, ShowNotes, ShowTree, ShowVlan, ShowConfiguration, Changes, Save}
+use Rattle.mst_picture.specs.net.After.{table_of}
+use Rattle.mst_picture.specs.net.Tables.{Net, BridgeRow, IsNetwork}
+use Rattle.mst_picture.specs.net.declared.refusal.Refusal.{Refusal}
+use Rattle.mst_picture.specs.net.declared.refusal.Refusal.TheVariants.{E04, E16}
+use Rattle.mst_picture.specs.trees.Outcome.{Outcome, IsOutcome}
+use Rattle.mst_picture.specs.changes.ChangesText.{changes_text}
+use Rattle.mst_picture.specs.changes.Kept.{entries_of}
+use Rattle.mst_picture.specs.changes.declared.subject.Entry.{Entry}
+use Rattle.mst_picture.specs.text.LagText.{lags_text}
 use Rattle.mst_note_text.specs.NotesText.{AreNotes}
-use Rattle.mst_plan_text.specs.PlanText.{IsPlanText}
-use Rattle.mst_text.specs.ConfigurationText.{configuration_text, configuration_line, mstis_text}
-use Rattle.mst_text.specs.RegionsText.{regions_text}
+use Rattle.mst_picture.specs.plan_text.PlanText.{IsPlanText}
+use Rattle.mst_picture.specs.text.ConfigurationText.{configuration_text, configuration_line, mstis_text}
+use Rattle.mst_picture.specs.text.RegionsText.{regions_text}
 use Rattle.mst_save.specs.SaveText.{save_text}
-use Rattle.mst_text.specs.TreeText.{tree_text}
-use Rattle.mst_text.specs.VlanText.{IsVlanText}
+use Rattle.mst_picture.specs.text.TreeText.{tree_text}
+use Rattle.mst_picture.specs.text.VlanText.{IsVlanText}
 use Rattle.mst_report.specs.Answers.{Answers, TellsOutcome, TellsChanges}
 use Rattle.mst_report.specs.Refusing.{HasText}
 use Rattle.mst_report.specs.State.{State, IsState, IsMark, IsMarkNow}

@@ -3,21 +3,21 @@ use Rattle.std.proofs.Common.{◌≡◌, ◌⊎◌, inl, inr, ℕ, nat_le, Bool,
 use Rattle.std.specs.Prelude.{Result, Ok, Err}
 use Rattle.std.specs.Option.{option_map_or}
 use Rattle.std.specs.FinMap as fin
-use Rattle.mst_lang.specs.declared.line.Edit.{Edit}
-use Rattle.mst_lang.specs.declared.line.Edit.TheVariants.{AddBridge, DelBridge, SetBridge, AddPort, DelPort, SetPort, AddLan, DelLan, SetLan, Plug, Unplug, SetByTree}
-use Rattle.mst_net.specs.Tables.{Net, Numbers, IsNetwork}
-use Rattle.mst_net.specs.After.{has_bridge, mac_taken, first_of, refusal_of, effect}
-use Rattle.mst_net.specs.Contents.{Contents, IsNumbered, Commits}
-use Rattle.mst_net.specs.declared.refusal.Refusal.{Refusal}
-use Rattle.mst_net.specs.declared.refusal.Refusal.TheVariants.{E07, E08, E14}
-use Rattle.mst_net.proofs.Keyed.{get_inserted, same_keys, after_remove}
-use Rattle.mst_net.proofs.Keys.{names, name_eq}
-use Rattle.mst_vector.specs.Rules.{Rules}
-use Rattle.mst_trees.specs.Sight.{Sight, tree_of}
-use Rattle.mst_trees.specs.Outcome.{TreeOutcome, IsTreeOutcome}
-use Rattle.mst_trees.specs.Agrees.{Agrees}
-use Rattle.mst_trees.proofs.Lists.{some_is}
-use Rattle.mst_trees.proofs.Sights.{IsSight, bridge_from}
+use Rattle.mst_picture.specs.lang.declared.line.Edit.{Edit}
+use Rattle.mst_picture.specs.lang.declared.line.Edit.TheVariants.{AddBridge, DelBridge, SetBridge, AddPort, DelPort, SetPort, AddLan, DelLan, SetLan, Plug, Unplug, SetByTree}
+use Rattle.mst_picture.specs.net.Tables.{Net, Numbers, IsNetwork}
+use Rattle.mst_picture.specs.net.After.{has_bridge, mac_taken, first_of, refusal_of, effect}
+use Rattle.mst_picture.specs.net.Contents.{Contents, IsNumbered, Commits}
+use Rattle.mst_picture.specs.net.declared.refusal.Refusal.{Refusal}
+use Rattle.mst_picture.specs.net.declared.refusal.Refusal.TheVariants.{E07, E08, E14}
+use Rattle.mst_picture.proofs.net.Keyed.{get_inserted, same_keys, after_remove}
+use Rattle.mst_picture.proofs.net.Keys.{names, name_eq}
+use Rattle.mst_picture.specs.vector.Rules.{Rules}
+use Rattle.mst_picture.specs.trees.Sight.{Sight, tree_of}
+use Rattle.mst_picture.specs.trees.Outcome.{TreeOutcome, IsTreeOutcome}
+use Rattle.mst_picture.specs.trees.Agrees.{Agrees}
+use Rattle.mst_picture.proofs.trees.Lists.{some_is}
+use Rattle.mst_picture.proofs.trees.Sights.{IsSight, bridge_from}
 use Rattle.mst_report.proofs.ByName.{BridgeNumbers, GoTogether, AreOne}
 
 -- no bridge was there that an edit adds

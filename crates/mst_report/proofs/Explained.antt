@@ -6,21 +6,21 @@ use Rattle.std.specs.Option.{option_map, option_map_or}
 use Rattle.std.specs.FinMap as fin
 use Rattle.std.proofs.lemmas.Bool.{eqb-true}
 use Rattle.mst_ids.specs.declared.name.PortName.{PortName}
-use Rattle.mst_net.specs.After.{has_bridge}
-use Rattle.mst_net.specs.Tables.{Net, Numbers, BridgeRow, IsNetwork, port_eq}
-use Rattle.mst_lag.specs.Trees.{mstis_of, is_among}
-use Rattle.mst_lag.specs.View.{LogicalPort, view_ports}
-use Rattle.mst_lag.specs.Viewed.{named_port}
-use Rattle.mst_lag.specs.declared.in_view.PortInView.{PortInView}
-use Rattle.mst_trees.specs.Agrees.{AreOf}
-use Rattle.mst_trees.specs.Msti.{has_msti}
-use Rattle.mst_trees.specs.Outcome.{Outcome, IsOutcome}
-use Rattle.mst_trees.proofs.Entries.{all_weaker}
-use Rattle.mst_trees.specs.Seen.{trees_at}
-use Rattle.mst_trees.proofs.Lists.{some_is, no_some, passed, all_there, there_first, there_later}
-use Rattle.mst_trees.proofs.Seen.{port_seen}
-use Rattle.mst_trees.proofs.Looking.{has_tree_at}
-use Rattle.mst_roles.proofs.Named.{port_is, port_found, found_in}
+use Rattle.mst_picture.specs.net.After.{has_bridge}
+use Rattle.mst_picture.specs.net.Tables.{Net, Numbers, BridgeRow, IsNetwork, port_eq}
+use Rattle.mst_picture.specs.lag.Trees.{mstis_of, is_among}
+use Rattle.mst_picture.specs.lag.View.{LogicalPort, view_ports}
+use Rattle.mst_picture.specs.lag.Viewed.{named_port}
+use Rattle.mst_picture.specs.lag.declared.in_view.PortInView.{PortInView}
+use Rattle.mst_picture.specs.trees.Agrees.{AreOf}
+use Rattle.mst_picture.specs.trees.Msti.{has_msti}
+use Rattle.mst_picture.specs.trees.Outcome.{Outcome, IsOutcome}
+use Rattle.mst_picture.proofs.trees.Entries.{all_weaker}
+use Rattle.mst_picture.specs.trees.Seen.{trees_at}
+use Rattle.mst_picture.proofs.trees.Lists.{some_is, no_some, passed, all_there, there_first, there_later}
+use Rattle.mst_picture.proofs.trees.Seen.{port_seen}
+use Rattle.mst_picture.proofs.trees.Looking.{has_tree_at}
+use Rattle.mst_picture.proofs.roles.Named.{port_is, port_found, found_in}
 use Rattle.mst_explain.specs.Explained.{IsExplanation, AreExplanations, trees_of_bridge}
 use Rattle.mst_explain.specs.Planned.{IsPlanOf}
 use Rattle.mst_explain.proofs.Texts.{tree_there as among_trees}

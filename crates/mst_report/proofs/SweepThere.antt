@@ -3,16 +3,16 @@ use Rattle.std.proofs.Common.{◌≡◌, ℕ, Bool, List, [], ◌∷◌, ◌++�
 use Rattle.std.specs.List.{AllByRecursion, AllZip, filter, flat_map, count_by}
 use Rattle.std.specs.Option.{option_map_or}
 use Rattle.std.specs.FinMap as fin
-use Rattle.mst_lang.specs.Ranges.{InRange}
-use Rattle.mst_lang.specs.declared.line.Edit.{Edit}
-use Rattle.mst_net.specs.After.{after, effect, first_of}
-use Rattle.mst_net.specs.Tables.{Net, BridgeRow, LanRow, IsNetwork}
-use Rattle.mst_net.specs.declared.refusal.Refusal.TheVariants.{E04, E06}
-use Rattle.mst_net.proofs.Keys.{names}
-use Rattle.mst_trees.specs.Outcome.{Outcome, IsOutcome}
-use Rattle.mst_trees.proofs.Entries.{entries_found}
-use Rattle.mst_trees.proofs.Lists.{all_mapped, all_passing}
-use Rattle.mst_vlan.specs.Reach.{bridges_on}
+use Rattle.mst_picture.specs.lang.Ranges.{InRange}
+use Rattle.mst_picture.specs.lang.declared.line.Edit.{Edit}
+use Rattle.mst_picture.specs.net.After.{after, effect, first_of}
+use Rattle.mst_picture.specs.net.Tables.{Net, BridgeRow, LanRow, IsNetwork}
+use Rattle.mst_picture.specs.net.declared.refusal.Refusal.TheVariants.{E04, E06}
+use Rattle.mst_picture.proofs.net.Keys.{names}
+use Rattle.mst_picture.specs.trees.Outcome.{Outcome, IsOutcome}
+use Rattle.mst_picture.proofs.trees.Entries.{entries_found}
+use Rattle.mst_picture.proofs.trees.Lists.{all_mapped, all_passing}
+use Rattle.mst_picture.specs.vlan.Reach.{bridges_on}
 use Rattle.mst_sweep.specs.declared.failure.Failure.{Failure}
 use Rattle.mst_sweep.specs.declared.failure.Failure.TheVariants.{Lan, Bridge}
 use Rattle.mst_sweep.specs.Failures.{edit_of, failures}

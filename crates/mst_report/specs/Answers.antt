@@ -1,22 +1,22 @@
 -- What answers a query.
 use Rattle.std.specs.Prelude.{◌≡◌, ℕ, Bool, true, false, List, Option, None, Some, Result, Ok, Err}
 use Rattle.std.specs.Option.{option_map_or}
-use Rattle.mst_lang.specs.declared.line.Query.{Query}
-use Rattle.mst_lang.specs.declared.line.Query.TheVariants.{ShowPlan, ShowLag, ShowRegions, ShowNotes, ShowTree, ShowVlan, ShowConfiguration, Changes, Save}
-use Rattle.mst_net.specs.Tables.{Net}
-use Rattle.mst_net.specs.declared.refusal.Refusal.{Refusal}
-use Rattle.mst_net.specs.declared.refusal.Refusal.TheVariants.{E04, E16}
-use Rattle.mst_trees.specs.Outcome.{Outcome, IsOutcome}
-use Rattle.mst_changes.specs.ChangesText.{changes_text}
-use Rattle.mst_changes.specs.declared.subject.Entry.{Entry}
-use Rattle.mst_text.specs.LagText.{lags_text}
+use Rattle.mst_picture.specs.lang.declared.line.Query.{Query}
+use Rattle.mst_picture.specs.lang.declared.line.Query.TheVariants.{ShowPlan, ShowLag, ShowRegions, ShowNotes, ShowTree, ShowVlan, ShowConfiguration, Changes, Save}
+use Rattle.mst_picture.specs.net.Tables.{Net}
+use Rattle.mst_picture.specs.net.declared.refusal.Refusal.{Refusal}
+use Rattle.mst_picture.specs.net.declared.refusal.Refusal.TheVariants.{E04, E16}
+use Rattle.mst_picture.specs.trees.Outcome.{Outcome, IsOutcome}
+use Rattle.mst_picture.specs.changes.ChangesText.{changes_text}
+use Rattle.mst_picture.specs.changes.declared.subject.Entry.{Entry}
+use Rattle.mst_picture.specs.text.LagText.{lags_text}
 use Rattle.mst_note_text.specs.NotesText.{AreNotes}
-use Rattle.mst_plan_text.specs.PlanText.{IsPlanText}
-use Rattle.mst_text.specs.ConfigurationText.{configuration_text}
-use Rattle.mst_text.specs.RegionsText.{regions_text}
+use Rattle.mst_picture.specs.plan_text.PlanText.{IsPlanText}
+use Rattle.mst_picture.specs.text.ConfigurationText.{configuration_text}
+use Rattle.mst_picture.specs.text.RegionsText.{regions_text}
 use Rattle.mst_save.specs.SaveText.{save_text}
-use Rattle.mst_text.specs.TreeText.{tree_text}
-use Rattle.mst_text.specs.VlanText.{IsVlanText}
+use Rattle.mst_picture.specs.text.TreeText.{tree_text}
+use Rattle.mst_picture.specs.text.VlanText.{IsVlanText}
 use Rattle.mst_report.specs.State.{State, IsMark}
 
 -- an answer that tells the settled outcome of the network by this text

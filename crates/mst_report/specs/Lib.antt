@@ -1,3 +1,15 @@
+pub use Rattle.mst_picture.specs.lang as lang
+pub use Rattle.mst_picture.specs.net as net
+pub use Rattle.mst_save.specs as save
+pub use Rattle.mst_picture.specs.lag as lag
+pub use Rattle.mst_picture.specs.config as config
+pub use Rattle.mst_picture.specs.vector as vector
+pub use Rattle.mst_picture.specs.settle as settle
+pub use Rattle.mst_picture.specs.trees as trees
+pub use Rattle.mst_picture.specs.roles as roles
+pub use Rattle.mst_picture.specs.changes as changes
+pub use Rattle.mst_picture.specs.diff as diff
+pub use Rattle.mst_sweep.specs as sweep
 pub mod State
 pub mod Answers
 pub mod Refusing

@@ -1,7 +1,7 @@
 -- The picture of a network with one of its trees.
 use Rattle.std.specs.Prelude.{◌≡◌, ℕ, List}
-use Rattle.mst_net.specs.Tables.{Net}
-use Rattle.mst_trees.specs.Outcome.{Outcome, IsOutcome}
+use Rattle.mst_picture.specs.net.Tables.{Net}
+use Rattle.mst_picture.specs.trees.Outcome.{Outcome, IsOutcome}
 use Rattle.mst_picture.specs.Picture.{picture}
 
 -- this text is the picture of the network with the tree, by a settled outcome of it

@@ -2,11 +2,11 @@
 use Rattle.std.specs.Prelude.{ℕ, ◌==◌, List, [], Option, nat_eq, if◌then◌else◌}
 use Rattle.std.specs.Option.{option_and_then, option_map_or}
 use Rattle.std.specs.Map.{lookup}
-use Rattle.mst_vector.specs.declared.cist.CistVector.{CistVector}
-use Rattle.mst_vector.specs.declared.msti.MstiVector.{MstiVector}
-use Rattle.mst_settle.specs.Assignment.{Assignment, vector_of}
-use Rattle.mst_trees.specs.Bound.{KeepsBound}
-use Rattle.mst_trees.specs.Forest.{Forest}
+use Rattle.mst_picture.specs.vector.declared.cist.CistVector.{CistVector}
+use Rattle.mst_picture.specs.vector.declared.msti.MstiVector.{MstiVector}
+use Rattle.mst_picture.specs.settle.Assignment.{Assignment, vector_of}
+use Rattle.mst_picture.specs.trees.Bound.{KeepsBound}
+use Rattle.mst_picture.specs.trees.Forest.{Forest}
 
 -- the CIST and the MSTIs, under the numbers of records
 pub record Standing : Type 0 where

@@ -1,8 +1,8 @@
 -- The summary of a network: the text that tells its first screen.
 use Rattle.std.specs.Prelude.{ℕ, List}
-use Rattle.mst_net.specs.Tables.{Net}
-use Rattle.mst_trees.specs.Outcome.{Outcome, IsOutcome}
-use Rattle.mst_summary.specs.SummaryText.{IsSummary}
+use Rattle.mst_picture.specs.net.Tables.{Net}
+use Rattle.mst_picture.specs.trees.Outcome.{Outcome, IsOutcome}
+use Rattle.mst_picture.specs.summary.SummaryText.{IsSummary}
 
 -- this text summarizes the network, by a settled outcome of it
 pub record Summarizes (net : Net) (text : List ℕ) : Type 0 where

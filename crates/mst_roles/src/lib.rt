@@ -8,4 +8,6 @@ mod roles;
 
 pub use for_vid::{forwards, forwards_in, port_forwards, vid_tree};
 pub use kind::Role;
+pub use mst_trees as trees;
+pub use mst_trees::{config, graph, lag, lang, nested, net, settle, vector};
 pub use roles::{port_role, role};

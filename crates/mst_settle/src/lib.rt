@@ -25,6 +25,7 @@ mod touched;
 mod wiring;
 
 pub use bridges::Bridges;
+pub use mst_vector as vector;
 pub use outcome::Outcome;
 pub use settler::Settler;
 pub use topology::Topology;

@@ -10,33 +10,33 @@ use Rattle.std.proofs.lemmas.List.{length-map}
 use Rattle.std.proofs.lemmas.List.Folds.{flat_map-map}
 use Rattle.mst_ids.specs.Identifiers.{bridge_id}
 use Rattle.mst_ids.specs.Vids.{has}
-use Rattle.mst_net.specs.ByTree.{by_tree, vlans_in}
-use Rattle.mst_net.specs.Seen.{bridge_row}
-use Rattle.mst_net.specs.Tables.{Net, Numbers, BridgeRow, IsNetwork}
-use Rattle.mst_lag.specs.Aggregation.{same_name}
-use Rattle.mst_lag.specs.View.{LogicalLan, LogicalPort}
-use Rattle.mst_lag.specs.Viewed.{Viewed, named_bridge, named_lan, named_port}
-use Rattle.mst_lag.specs.declared.in_view.BridgeInView.{BridgeInView}
-use Rattle.mst_lag.specs.declared.in_view.LanInView.{LanInView}
-use Rattle.mst_lag.specs.declared.in_view.PortInView.{PortInView}
-use Rattle.mst_config.specs.Shared.{AreRegions}
-use Rattle.mst_config.specs.Regions.{region_of}
-use Rattle.mst_config.proofs.SameRegion.{has_first, HasFirst}
-use Rattle.mst_trees.specs.Agrees.{AreOf}
-use Rattle.mst_trees.specs.Forest.{Forest, IsForest}
-use Rattle.mst_trees.specs.InUse.{id_in, seen_has}
-use Rattle.mst_trees.specs.Outcome.{Outcome}
-use Rattle.mst_trees.proofs.Entries.{all_weaker}
-use Rattle.mst_trees.proofs.Lists.{all_passing, all_there, filter_mapped, kept_same, mapped_twice, some_is}
-use Rattle.mst_trees.proofs.Looking.{filter_alike, has_tree_at}
-use Rattle.mst_trees.proofs.Seen.{SeenBridge, SeenPort, bridges_seen, ports_seen}
-use Rattle.mst_text.specs.TreeText.{has_tree}
-use Rattle.mst_roles.proofs.Named.{own_role}
-use Rattle.mst_roles.proofs.Forwarded.{each_forwards}
-use Rattle.mst_vlan.specs.Reach.{is_member}
-use Rattle.mst_vlan.specs.Seen.{seen_member}
-use Rattle.mst_changes.specs.Subjects.{all_trees, bridge_names}
-use Rattle.mst_changes.proofs.Lists.{filter_map-map}
+use Rattle.mst_diff.specs.net.ByTree.{by_tree, vlans_in}
+use Rattle.mst_diff.specs.net.Seen.{bridge_row}
+use Rattle.mst_diff.specs.net.Tables.{Net, Numbers, BridgeRow, IsNetwork}
+use Rattle.mst_diff.specs.lag.Aggregation.{same_name}
+use Rattle.mst_diff.specs.lag.View.{LogicalLan, LogicalPort}
+use Rattle.mst_diff.specs.lag.Viewed.{Viewed, named_bridge, named_lan, named_port}
+use Rattle.mst_diff.specs.lag.declared.in_view.BridgeInView.{BridgeInView}
+use Rattle.mst_diff.specs.lag.declared.in_view.LanInView.{LanInView}
+use Rattle.mst_diff.specs.lag.declared.in_view.PortInView.{PortInView}
+use Rattle.mst_diff.specs.config.Shared.{AreRegions}
+use Rattle.mst_diff.specs.config.Regions.{region_of}
+use Rattle.mst_diff.proofs.config.SameRegion.{has_first, HasFirst}
+use Rattle.mst_diff.specs.trees.Agrees.{AreOf}
+use Rattle.mst_diff.specs.trees.Forest.{Forest, IsForest}
+use Rattle.mst_diff.specs.trees.InUse.{id_in, seen_has}
+use Rattle.mst_diff.specs.trees.Outcome.{Outcome}
+use Rattle.mst_diff.proofs.trees.Entries.{all_weaker}
+use Rattle.mst_diff.proofs.trees.Lists.{all_passing, all_there, filter_mapped, kept_same, mapped_twice, some_is}
+use Rattle.mst_diff.proofs.trees.Looking.{filter_alike, has_tree_at}
+use Rattle.mst_diff.proofs.trees.Seen.{SeenBridge, SeenPort, bridges_seen, ports_seen}
+use Rattle.mst_diff.specs.text.TreeText.{has_tree}
+use Rattle.mst_diff.proofs.roles.Named.{own_role}
+use Rattle.mst_diff.proofs.roles.Forwarded.{each_forwards}
+use Rattle.mst_diff.specs.vlan.Reach.{is_member}
+use Rattle.mst_diff.specs.vlan.Seen.{seen_member}
+use Rattle.mst_diff.specs.changes.Subjects.{all_trees, bridge_names}
+use Rattle.mst_diff.proofs.changes.Lists.{filter_map-map}
 use Rattle.mst_diff.proofs.Named.{names_are, root_named}
 use Rattle.mst_summary.specs.Blocked.{stops, is_blocked, blocked, blocked_line}
 use Rattle.mst_summary.specs.Carries.{ports_on, carries, carried, carries_line, carries_text}

@@ -8,34 +8,34 @@ use Rattle.std.proofs.lemmas.Bool.{eqb-true}
 use Rattle.std.proofs.lemmas.List.{get_or_default, take_all, take_more}
 use Rattle.std.proofs.lemmas.List.FromFn.{get_or-range_with_len}
 use Rattle.mst_ids.specs.Vids.{has, is_vid}
-use Rattle.mst_graph.specs.Groups.{AreGroups}
-use Rattle.mst_graph.specs.Islands.{AreIslands, Island}
-use Rattle.mst_graph.specs.Numbers.{AreNumbers, HaveBodies}
-use Rattle.mst_graph.proofs.Alike.{alike_groups}
-use Rattle.mst_net.specs.ByTree.{table_in, vlans_in}
-use Rattle.mst_net.specs.Seen.{bridge_row}
-use Rattle.mst_net.specs.Table.{tree_in}
-use Rattle.mst_net.specs.Tables.{Net, Numbers}
-use Rattle.mst_lag.specs.Aggregation.{same_name}
-use Rattle.mst_lag.specs.Viewed.{Viewed}
-use Rattle.mst_lag.specs.declared.in_view.BridgeInView.{BridgeInView}
-use Rattle.mst_lag.specs.declared.in_view.PortInView.{PortInView}
-use Rattle.mst_trees.specs.Agrees.{AreOf}
-use Rattle.mst_trees.specs.Forest.{Forest}
-use Rattle.mst_trees.specs.Outcome.{Outcome}
-use Rattle.mst_trees.proofs.Entries.{all_weaker}
-use Rattle.mst_trees.proofs.Lists.{all_contained, all_passing, all_there}
-use Rattle.mst_roles.specs.Roles.{forwards}
-use Rattle.mst_roles.specs.Seen.{seen_role, seen_tree}
-use Rattle.mst_vlan.specs.Reach.{bridges_on, lans_up}
-use Rattle.mst_vlan.specs.Seen.{seen_member}
-use Rattle.mst_vlan.specs.declared.island.Island.{Island as IslandNos}
-use Rattle.mst_plan_text.specs.Alike.{AreAlike, TellApart}
-use Rattle.mst_plan_text.specs.Bodies.{NumberEach}
-use Rattle.mst_plan_text.specs.PlanText.{all_vids}
-use Rattle.mst_plan_text.proofs.Bodied.{zip_at}
-use Rattle.mst_plan_text.proofs.Classes.{links_shared}
-use Rattle.mst_plan_text.proofs.Grouped.{place_of_vid, vids_long}
+use Rattle.mst_diff.specs.graph.Groups.{AreGroups}
+use Rattle.mst_diff.specs.graph.Islands.{AreIslands, Island}
+use Rattle.mst_diff.specs.graph.Numbers.{AreNumbers, HaveBodies}
+use Rattle.mst_diff.proofs.graph.Alike.{alike_groups}
+use Rattle.mst_diff.specs.net.ByTree.{table_in, vlans_in}
+use Rattle.mst_diff.specs.net.Seen.{bridge_row}
+use Rattle.mst_diff.specs.net.Table.{tree_in}
+use Rattle.mst_diff.specs.net.Tables.{Net, Numbers}
+use Rattle.mst_diff.specs.lag.Aggregation.{same_name}
+use Rattle.mst_diff.specs.lag.Viewed.{Viewed}
+use Rattle.mst_diff.specs.lag.declared.in_view.BridgeInView.{BridgeInView}
+use Rattle.mst_diff.specs.lag.declared.in_view.PortInView.{PortInView}
+use Rattle.mst_diff.specs.trees.Agrees.{AreOf}
+use Rattle.mst_diff.specs.trees.Forest.{Forest}
+use Rattle.mst_diff.specs.trees.Outcome.{Outcome}
+use Rattle.mst_diff.proofs.trees.Entries.{all_weaker}
+use Rattle.mst_diff.proofs.trees.Lists.{all_contained, all_passing, all_there}
+use Rattle.mst_diff.specs.roles.Roles.{forwards}
+use Rattle.mst_diff.specs.roles.Seen.{seen_role, seen_tree}
+use Rattle.mst_diff.specs.vlan.Reach.{bridges_on, lans_up}
+use Rattle.mst_diff.specs.vlan.Seen.{seen_member}
+use Rattle.mst_diff.specs.vlan.declared.island.Island.{Island as IslandNos}
+use Rattle.mst_diff.specs.plan_text.Alike.{AreAlike, TellApart}
+use Rattle.mst_diff.specs.plan_text.Bodies.{NumberEach}
+use Rattle.mst_diff.specs.plan_text.PlanText.{all_vids}
+use Rattle.mst_diff.proofs.plan_text.Bodied.{zip_at}
+use Rattle.mst_diff.proofs.plan_text.Classes.{links_shared}
+use Rattle.mst_diff.proofs.plan_text.Grouped.{place_of_vid, vids_long}
 use Rattle.mst_diff.specs.Reach.{has_any}
 use Rattle.mst_summary.specs.Kept.{count_at}
 use Rattle.mst_summary.specs.Seen.{seen_with_bridge, seen_on, seen_carries}

@@ -2,11 +2,11 @@
 use Rattle.std.specs.Prelude.{ℕ, ◌&&◌, Bool, false, not, List, [], ◌∷◌, Option, Some, None, map, filter, codes, decimal}
 use Rattle.mst_ids.specs.declared.name.PortName.{PortName}
 use Rattle.mst_ids.specs.Words.{comma_list, line, port_text}
-use Rattle.mst_net.specs.Tables.{Net}
-use Rattle.mst_lag.specs.View.{LogicalPort, view_ports}
-use Rattle.mst_trees.specs.Outcome.{Outcome}
-use Rattle.mst_roles.specs.Roles.{role_of, forwards}
-use Rattle.mst_roles.specs.declared.kind.Role.{Role}
+use Rattle.mst_diff.specs.net.Tables.{Net}
+use Rattle.mst_diff.specs.lag.View.{LogicalPort, view_ports}
+use Rattle.mst_diff.specs.trees.Outcome.{Outcome}
+use Rattle.mst_diff.specs.roles.Roles.{role_of, forwards}
+use Rattle.mst_diff.specs.roles.declared.kind.Role.{Role}
 
 -- a port that has a role in the tree, and doesn't forward. A port whose bridge hasn't the tree has none there
 abbrev pub stops : Option Role → Bool

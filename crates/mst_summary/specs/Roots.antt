@@ -4,10 +4,10 @@ use Rattle.std.specs.List.{Contains, flat_map}
 use Rattle.std.specs.Option.{option_map}
 use Rattle.std.specs.FinMap as fin
 use Rattle.mst_ids.specs.Words.{line}
-use Rattle.mst_net.specs.Tables.{Net, BridgeRow}
-use Rattle.mst_net.specs.ByTree.{ByTree, by_tree, priority_in}
-use Rattle.mst_trees.specs.InUse.{id_in}
-use Rattle.mst_trees.specs.Outcome.{Outcome}
+use Rattle.mst_diff.specs.net.Tables.{Net, BridgeRow}
+use Rattle.mst_diff.specs.net.ByTree.{ByTree, by_tree, priority_in}
+use Rattle.mst_diff.specs.trees.InUse.{id_in}
+use Rattle.mst_diff.specs.trees.Outcome.{Outcome}
 use Rattle.mst_diff.specs.Roots.{root_of}
 use Rattle.mst_diff.specs.Reach.{has_any}
 use Rattle.mst_summary.specs.declared.roots.Follower.{Follower}

@@ -1,8 +1,8 @@
 -- The first screen that an engineer sees of a network.
 use Rattle.std.specs.Prelude.{◌≡◌, ℕ, List, ◌++◌}
 use Rattle.std.specs.List.{flat_map}
-use Rattle.mst_net.specs.Tables.{Net}
-use Rattle.mst_trees.specs.Outcome.{Outcome}
+use Rattle.mst_diff.specs.net.Tables.{Net}
+use Rattle.mst_diff.specs.trees.Outcome.{Outcome}
 use Rattle.mst_summary.specs.Counts.{counts_of, counts_line, used_trees}
 use Rattle.mst_summary.specs.Roots.{root_lines}
 use Rattle.mst_summary.specs.Blocked.{blocked, blocked_line}

@@ -1,22 +1,22 @@
 ghost use Rattle.std.specs.Prelude.{◌≡◌, ◌++◌, ◌+◌, ◌<◌, ℕ, List, filter, length, vec_len, IfOk, OnOk};
 ghost use Rattle.std.specs.List.{All, AllZip, flat_map, list_all};
-ghost use Rattle.mst_net.specs.Tables.{Net, Numbers};
-ghost use Rattle.mst_trees.specs.Agrees.{AreOf};
-ghost use Rattle.mst_trees.specs.Forest.{IsForest};
-ghost use Rattle.mst_plan_text.specs.Bodies.{NumberEach};
+ghost use Rattle.mst_diff.specs.net.Tables.{Net, Numbers};
+ghost use Rattle.mst_diff.specs.trees.Agrees.{AreOf};
+ghost use Rattle.mst_diff.specs.trees.Forest.{IsForest};
+ghost use Rattle.mst_diff.specs.plan_text.Bodies.{NumberEach};
 ghost use Rattle.mst_summary.specs.Carries.{carried, carries_line, carries_text};
 ghost use Rattle.mst_summary.specs.Kept.{AreClasses, flag_at, kept_at};
 ghost use Rattle.mst_summary.specs.Seen.{seen_on, seen_carries, up_text};
 
 use crate::kept::{kept_for, ports_by_lan};
 use indexmap::IndexMap;
-use mst_changes::Planned;
-use mst_graph::Numbering;
+use mst_diff::changes::Planned;
+use mst_diff::graph::Numbering;
+use mst_diff::lag::{LanInView, PortInView};
+use mst_diff::plan_text::{set_of, vids};
+use mst_diff::roles::port_forwards;
+use mst_diff::vlan::is_member;
 use mst_ids::{Name, Vid, push_bytes, push_end, push_word};
-use mst_lag::{LanInView, PortInView};
-use mst_plan_text::{set_of, vids};
-use mst_roles::port_forwards;
-use mst_vlan::is_member;
 use std::alloc::{AllocError, Global};
 
 /// Whether a port is active for a VID and a member of its VLAN.

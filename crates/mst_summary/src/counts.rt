@@ -1,13 +1,13 @@
 ghost use Rattle.std.specs.Prelude.{◌≡◌, ◌++◌, OnOk};
 ghost use Rattle.std.specs.List.{count_by};
-ghost use Rattle.mst_net.specs.Seen.{bridge_row};
+ghost use Rattle.mst_diff.specs.net.Seen.{bridge_row};
 ghost use Rattle.mst_summary.specs.Counts.{counts_line};
 ghost use Rattle.mst_summary.specs.Seen.{seen_first, seen_counts};
 
 use itoa::Buffer;
-use mst_config::Regions;
+use mst_diff::config::Regions;
+use mst_diff::lag::{BridgeInView, PortInView, View};
 use mst_ids::{BridgeId, Tree, push_line};
-use mst_lag::{BridgeInView, PortInView, View};
 use std::alloc::AllocError;
 
 /// How much there is of a network: bridges, those that are on, logical ports, those that are enabled, regions and trees.

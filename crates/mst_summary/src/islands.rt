@@ -1,20 +1,20 @@
 ghost use Rattle.std.specs.Prelude.{◌≡◌, ◌++◌, ◌+◌, ◌<◌, ℕ, List, IfOk, OnOk, length, map, vec_len};
 ghost use Rattle.std.specs.List.{All, AllZip, flat_map};
-ghost use Rattle.mst_net.specs.Tables.{Net, Numbers};
-ghost use Rattle.mst_trees.specs.Agrees.{AreOf, Known};
-ghost use Rattle.mst_trees.specs.Forest.{IsForest};
-ghost use Rattle.mst_plan_text.specs.Bodies.{NumberEach};
+ghost use Rattle.mst_diff.specs.net.Tables.{Net, Numbers};
+ghost use Rattle.mst_diff.specs.trees.Agrees.{AreOf, Known};
+ghost use Rattle.mst_diff.specs.trees.Forest.{IsForest};
+ghost use Rattle.mst_diff.specs.plan_text.Bodies.{NumberEach};
 ghost use Rattle.mst_diff.specs.Reach.{has_any};
 ghost use Rattle.mst_summary.specs.Kept.{AreClasses, count_at};
 ghost use Rattle.mst_summary.specs.Seen.{seen_with_bridge};
 ghost use Rattle.mst_summary.specs.Vlans.{HasIslands, islands_line, group_text, IsVlansText};
 
 use itoa::Buffer;
-use mst_changes::Planned;
-use mst_graph::{Numbering, groups_by_body};
+use mst_diff::changes::Planned;
+use mst_diff::graph::{Numbering, groups_by_body};
+use mst_diff::plan_text::{set_of, vids};
+use mst_diff::vlan::{Island, reach};
 use mst_ids::{Vid, push_bytes, push_end, push_word};
-use mst_plan_text::{set_of, vids};
-use mst_vlan::{Island, reach};
 use std::alloc::{AllocError, Global};
 
 /// Whether an island has a bridge.

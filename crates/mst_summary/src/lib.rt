@@ -6,12 +6,16 @@ mod blocked;
 mod carries;
 mod classes;
 mod counts;
+mod in_use;
 mod islands;
 mod kept;
 pub mod laws;
 mod roots;
 mod summary;
-mod trees;
 
 pub use kept::{kept_for, ports_by_lan};
+pub use mst_diff as diff;
+pub use mst_diff::{
+    changes, config, lag, lang, net, plan_text, roles, settle, text, trees, vector, vlan,
+};
 pub use summary::push_summary;

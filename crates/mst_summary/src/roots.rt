@@ -1,17 +1,17 @@
 ghost use Rattle.std.specs.Prelude.{◌≡◌, ◌==◌, ◌*◌, ◌++◌, not, filter, IfOk, OnOk};
 ghost use Rattle.std.specs.List.{flat_map};
-ghost use Rattle.mst_net.specs.ByTree.{priority_in};
+ghost use Rattle.mst_diff.specs.net.ByTree.{priority_in};
 ghost use Rattle.mst_ids.specs.Words.{after_space};
 ghost use Rattle.mst_diff.specs.Reach.{has_any};
 ghost use Rattle.mst_summary.specs.Roots.{followers_of as those_of, with_lesser, least as least_of, next_of, next_words, whole_line, group_line};
 ghost use Rattle.mst_summary.specs.Seen.{seen_follower, seen_followers, seen_root_line, seen_root_lines};
 
 use itoa::Buffer;
-use mst_changes::Planned;
+use mst_diff::changes::Planned;
+use mst_diff::lag::{BridgeInView, View};
 use mst_diff::root;
+use mst_diff::trees::bridge_id;
 use mst_ids::{BridgeId, Name, Tree, push_bytes, push_end, push_word, push_words};
-use mst_lag::{BridgeInView, View};
-use mst_trees::bridge_id;
 use std::alloc::{AllocError, Global};
 
 /// A bridge that names a root in a tree: its name, its own identifier there and that of its root.

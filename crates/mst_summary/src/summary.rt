@@ -1,9 +1,9 @@
 ghost use Rattle.std.specs.Prelude.{◌≡◌, ◌++◌, ℕ, List, OnOk};
 ghost use Rattle.std.specs.List.{flat_map};
-ghost use Rattle.mst_config.specs.Shared.{AreRegions};
-ghost use Rattle.mst_net.specs.Tables.{Net, Numbers};
-ghost use Rattle.mst_trees.specs.Agrees.{AreOf, Known};
-ghost use Rattle.mst_trees.specs.Forest.{IsForest};
+ghost use Rattle.mst_diff.specs.config.Shared.{AreRegions};
+ghost use Rattle.mst_diff.specs.net.Tables.{Net, Numbers};
+ghost use Rattle.mst_diff.specs.trees.Agrees.{AreOf, Known};
+ghost use Rattle.mst_diff.specs.trees.Forest.{IsForest};
 ghost use Rattle.mst_summary.specs.Seen.{seen_tree_lines};
 ghost use Rattle.mst_summary.specs.SummaryText.{IsSummary};
 
@@ -11,11 +11,11 @@ use crate::blocked::push_blocked;
 use crate::carries::push_carries;
 use crate::classes::classes_of_vids;
 use crate::counts::{count, push_counts};
+use crate::in_use::used_trees;
 use crate::islands::push_vlans;
 use crate::roots::push_roots;
-use crate::trees::used_trees;
-use mst_changes::Planned;
-use mst_config::Regions;
+use mst_diff::changes::Planned;
+use mst_diff::config::Regions;
 use mst_ids::Tree;
 use std::alloc::{AllocError, Global};
 

@@ -2,7 +2,7 @@
 use Rattle.std.proofs.Common.{◌≡◌, ℕ, List, [], ◌∷◌, ◌++◌, codes, append_assoc, append-nil, ap, ◌∙◌}
 use Rattle.std.specs.List.{flat_map}
 use Rattle.mst_ids.specs.Words.{after_space, line}
-use Rattle.mst_changes.specs.ChangesText.{spaced}
+use Rattle.mst_diff.specs.changes.ChangesText.{spaced}
 use Rattle.mst_sweep.specs.declared.failure.Failure.{Failure}
 use Rattle.mst_sweep.specs.declared.failure.Failure.TheVariants.{Lan, Bridge}
 use Rattle.mst_sweep.specs.SweepText.{failure_words}

@@ -7,30 +7,30 @@ use Rattle.std.specs.FinMap as fin
 use Rattle.std.specs.FinMap.{len-entries}
 use Rattle.std.specs.Cmp.Lexicographic.{bytes_decides}
 use Rattle.std.proofs.lemmas.List.{length-map, get_or-map, get_or_default}
-use Rattle.mst_net.proofs.Rising.{range_more}
+use Rattle.mst_diff.proofs.net.Rising.{range_more}
 use Rattle.std.proofs.lemmas.List.Elements.{filter-append}
 use Rattle.std.proofs.lemmas.List.Sums.{count_by_more_yes, count_by_more_no, count_by-le-length, length-filter, sum_by-append, sum_by-cons}
 use Rattle.mst_ids.specs.declared.name.PortName.{PortName}
-use Rattle.mst_net.specs.Tables.{Net, Numbers, PortRow, port_eq}
-use Rattle.mst_net.specs.Seen.{bridge_row}
-use Rattle.mst_lag.specs.Aggregation.{Plug, plug_of, plugs, same_name}
-use Rattle.mst_lag.specs.View.{LogicalPort, logical_port, as_port, view_ports}
-use Rattle.mst_lag.specs.Viewed.{Viewed, named_port}
-use Rattle.mst_lag.specs.declared.in_view.BridgeInView.{BridgeInView}
-use Rattle.mst_lag.specs.declared.in_view.PortInView.{PortInView}
-use Rattle.mst_trees.specs.Agrees.{AreOf, Known}
-use Rattle.mst_trees.specs.Forest.{Forest, IsForest}
-use Rattle.mst_trees.specs.Msti.{has_msti}
-use Rattle.mst_trees.specs.Outcome.{Outcome}
-use Rattle.mst_trees.proofs.Entries.{all_weaker}
-use Rattle.mst_trees.proofs.Lists.{all_there, mapped_twice}
-use Rattle.mst_trees.proofs.Seen.{SeenPort}
-use Rattle.mst_roles.proofs.Named.{own_role}
-use Rattle.mst_roles.specs.Roles.{role_of, role_in, cist_role, msti_role}
-use Rattle.mst_roles.specs.Seen.{seen_role}
-use Rattle.mst_roles.specs.declared.kind.Role.{Role}
-use Rattle.mst_changes.specs.Subjects.{all_trees, bridge_names, port_names}
-use Rattle.mst_changes.proofs.Orders.{trees_are}
+use Rattle.mst_diff.specs.net.Tables.{Net, Numbers, PortRow, port_eq}
+use Rattle.mst_diff.specs.net.Seen.{bridge_row}
+use Rattle.mst_diff.specs.lag.Aggregation.{Plug, plug_of, plugs, same_name}
+use Rattle.mst_diff.specs.lag.View.{LogicalPort, logical_port, as_port, view_ports}
+use Rattle.mst_diff.specs.lag.Viewed.{Viewed, named_port}
+use Rattle.mst_diff.specs.lag.declared.in_view.BridgeInView.{BridgeInView}
+use Rattle.mst_diff.specs.lag.declared.in_view.PortInView.{PortInView}
+use Rattle.mst_diff.specs.trees.Agrees.{AreOf, Known}
+use Rattle.mst_diff.specs.trees.Forest.{Forest, IsForest}
+use Rattle.mst_diff.specs.trees.Msti.{has_msti}
+use Rattle.mst_diff.specs.trees.Outcome.{Outcome}
+use Rattle.mst_diff.proofs.trees.Entries.{all_weaker}
+use Rattle.mst_diff.proofs.trees.Lists.{all_there, mapped_twice}
+use Rattle.mst_diff.proofs.trees.Seen.{SeenPort}
+use Rattle.mst_diff.proofs.roles.Named.{own_role}
+use Rattle.mst_diff.specs.roles.Roles.{role_of, role_in, cist_role, msti_role}
+use Rattle.mst_diff.specs.roles.Seen.{seen_role}
+use Rattle.mst_diff.specs.roles.declared.kind.Role.{Role}
+use Rattle.mst_diff.specs.changes.Subjects.{all_trees, bridge_names, port_names}
+use Rattle.mst_diff.proofs.changes.Orders.{trees_are}
 use Rattle.mst_diff.specs.declared.both.Both.{Both}
 use Rattle.mst_diff.specs.Roots.{root_of}
 use Rattle.mst_diff.specs.Seen.{seen_in_both, seen_both}

@@ -5,19 +5,19 @@ use Rattle.std.specs.List.{Contains, filter, range_with_len}
 use Rattle.std.proofs.lemmas.Bool.{eqb-true, eqb-false}
 use Rattle.std.proofs.lemmas.List.{get_or_default}
 use Rattle.std.proofs.lemmas.List.FromFn.{length-range_with_len, get_or-range_with_len}
-use Rattle.mst_graph.proofs.Members.{here, there, in_filter}
+use Rattle.mst_diff.proofs.graph.Members.{here, there, in_filter}
 use Rattle.mst_ids.specs.declared.name.PortName.{PortName}
-use Rattle.mst_net.specs.Tables.{Net, Numbers}
-use Rattle.mst_lag.specs.Viewed.{Viewed}
-use Rattle.mst_lag.specs.declared.in_view.PortInView.{PortInView}
-use Rattle.mst_trees.specs.Agrees.{AreOf}
-use Rattle.mst_trees.specs.Forest.{Forest, IsForest}
-use Rattle.mst_trees.specs.InUse.{is_in_use, seen_mstis}
-use Rattle.mst_roles.specs.Seen.{seen_role}
-use Rattle.mst_roles.specs.declared.kind.Role.{Role}
-use Rattle.mst_roles.specs.declared.kind.Role.TheVariants.{Root, Designated, Alternate, Backup, Master, Disabled}
-use Rattle.mst_changes.specs.Subjects.{port_names}
-use Rattle.mst_changes.specs.Values.{role_number}
+use Rattle.mst_diff.specs.net.Tables.{Net, Numbers}
+use Rattle.mst_diff.specs.lag.Viewed.{Viewed}
+use Rattle.mst_diff.specs.lag.declared.in_view.PortInView.{PortInView}
+use Rattle.mst_diff.specs.trees.Agrees.{AreOf}
+use Rattle.mst_diff.specs.trees.Forest.{Forest, IsForest}
+use Rattle.mst_diff.specs.trees.InUse.{is_in_use, seen_mstis}
+use Rattle.mst_diff.specs.roles.Seen.{seen_role}
+use Rattle.mst_diff.specs.roles.declared.kind.Role.{Role}
+use Rattle.mst_diff.specs.roles.declared.kind.Role.TheVariants.{Root, Designated, Alternate, Backup, Master, Disabled}
+use Rattle.mst_diff.specs.changes.Subjects.{port_names}
+use Rattle.mst_diff.specs.changes.Values.{role_number}
 use Rattle.mst_sweep.specs.Moved.{takes_part, is_other_role, port_moved}
 use Rattle.mst_sweep.specs.Touched.{differ, AreTouched}
 use Rattle.mst_sweep.proofs.Moved.{as_many, moved_at}

@@ -2,13 +2,13 @@
 use Rattle.std.specs.Prelude.{ℕ, ◌==◌, ◌&&◌, not, Bool, true, false, List, Option, Some, None, filter}
 use Rattle.std.specs.List.{list_any, count_by, sum_by}
 use Rattle.mst_ids.specs.declared.name.PortName.{PortName}
-use Rattle.mst_net.specs.Tables.{Net}
-use Rattle.mst_trees.specs.Outcome.{Outcome}
-use Rattle.mst_roles.specs.Roles.{role_of}
-use Rattle.mst_roles.specs.declared.kind.Role.{Role}
-use Rattle.mst_roles.specs.declared.kind.Role.TheVariants.{Disabled}
-use Rattle.mst_changes.specs.Subjects.{all_trees, bridge_names, port_names}
-use Rattle.mst_changes.specs.Values.{role_number}
+use Rattle.mst_diff.specs.net.Tables.{Net}
+use Rattle.mst_diff.specs.trees.Outcome.{Outcome}
+use Rattle.mst_diff.specs.roles.Roles.{role_of}
+use Rattle.mst_diff.specs.roles.declared.kind.Role.{Role}
+use Rattle.mst_diff.specs.roles.declared.kind.Role.TheVariants.{Disabled}
+use Rattle.mst_diff.specs.changes.Subjects.{all_trees, bridge_names, port_names}
+use Rattle.mst_diff.specs.changes.Values.{role_number}
 use Rattle.mst_diff.specs.Roots.{root_of}
 
 -- there are two roots, and they aren't the same

@@ -1,10 +1,10 @@
 ghost use Rattle.std.specs.Prelude.{◌≡◌, ◌<◌, ◌+◌, ◌++◌, ℕ, List, Ok, IfOk, OnOk, length, map, filter, vec_len};
 ghost use Rattle.std.specs.List.{AllZip, flat_map, list_any};
-ghost use Rattle.mst_net.specs.After.{after};
-ghost use Rattle.mst_net.specs.Tables.{Net, Numbers};
-ghost use Rattle.mst_trees.specs.Agrees.{AreOf, Known};
-ghost use Rattle.mst_trees.specs.Forest.{IsForest};
-ghost use Rattle.mst_plan_text.specs.Bodies.{NumberEach, body_at};
+ghost use Rattle.mst_diff.specs.net.After.{after};
+ghost use Rattle.mst_diff.specs.net.Tables.{Net, Numbers};
+ghost use Rattle.mst_diff.specs.trees.Agrees.{AreOf, Known};
+ghost use Rattle.mst_diff.specs.trees.Forest.{IsForest};
+ghost use Rattle.mst_diff.specs.plan_text.Bodies.{NumberEach, body_at};
 ghost use Rattle.mst_diff.specs.Reach.{has_any};
 ghost use Rattle.mst_diff.specs.Seen.{seen_both};
 ghost use Rattle.mst_sweep.specs.declared.failure.Failure.{Failure as FailureOf};
@@ -19,13 +19,13 @@ use crate::homes::homes_of;
 use crate::links::breaks_no_link;
 use crate::parts::{push_parts, staying};
 use indexmap::IndexMap;
-use mst_changes::Planned;
 use mst_diff::Both;
-use mst_graph::groups_by_body;
-use mst_graph::laws::group_lists;
+use mst_diff::changes::Planned;
+use mst_diff::graph::groups_by_body;
+use mst_diff::graph::laws::group_lists;
+use mst_diff::plan_text::{copies, set_of, vids};
+use mst_diff::vlan::laws::islands_of_vid;
 use mst_ids::{BridgeNo, Vid, push_bytes, push_end};
-use mst_plan_text::{copies, set_of, vids};
-use mst_vlan::laws::islands_of_vid;
 use std::alloc::{AllocError, Global};
 
 /// The parts of a VID, by the places of its islands before.

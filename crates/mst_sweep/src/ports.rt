@@ -1,24 +1,24 @@
 ghost use Rattle.std.specs.Prelude.{◌≡◌, ◌≤◌, ◌<◌, ◌∷◌, Ok, length, slice_index_or};
 ghost use Rattle.std.specs.List.{Contains, count_by};
 ghost use Rattle.mst_ids.specs.declared.name.PortName.{PortName};
-ghost use Rattle.mst_net.specs.After.{after};
-ghost use Rattle.mst_net.specs.Tables.{Net, Numbers};
-ghost use Rattle.mst_trees.specs.Agrees.{AreOf, Known};
-ghost use Rattle.mst_trees.specs.Forest.{IsForest};
-ghost use Rattle.mst_trees.specs.InUse.{AreInUse, seen_mstis};
-ghost use Rattle.mst_changes.specs.Subjects.{port_names};
-ghost use Rattle.mst_changes.specs.Values.{role_number};
+ghost use Rattle.mst_diff.specs.net.After.{after};
+ghost use Rattle.mst_diff.specs.net.Tables.{Net, Numbers};
+ghost use Rattle.mst_diff.specs.trees.Agrees.{AreOf, Known};
+ghost use Rattle.mst_diff.specs.trees.Forest.{IsForest};
+ghost use Rattle.mst_diff.specs.trees.InUse.{AreInUse, seen_mstis};
+ghost use Rattle.mst_diff.specs.changes.Subjects.{port_names};
+ghost use Rattle.mst_diff.specs.changes.Values.{role_number};
 ghost use Rattle.mst_sweep.specs.declared.failure.Failure.{Failure as FailureOf};
 ghost use Rattle.mst_sweep.specs.Failures.{edit_of};
 ghost use Rattle.mst_sweep.specs.Moved.{takes_part as takes, is_other_role, port_moved as port_moved_in, moved_ports as all_moved_ports};
 ghost use Rattle.mst_sweep.specs.Seen.{seen_port_moved};
 ghost use Rattle.mst_sweep.specs.Touched.{AreTouched};
 
-use mst_changes::Planned;
+use mst_diff::changes::Planned;
+use mst_diff::lag::PortInView;
+use mst_diff::roles::{Role, port_role};
+use mst_diff::trees::{is_had, trees_in_use};
 use mst_ids::Tree;
-use mst_lag::PortInView;
-use mst_roles::{Role, port_role};
-use mst_trees::{is_had, trees_in_use};
 
 /// Whether a role is other than Disabled.
 fn takes_part(role: Role) -> bool

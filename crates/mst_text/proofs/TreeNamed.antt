@@ -8,24 +8,24 @@ use Rattle.std.proofs.lemmas.List.Folds.{flat_map-map}
 use Rattle.std.specs.FinMap as fin
 use Rattle.mst_ids.specs.Names.{name_cmp, port_cmp}
 use Rattle.mst_ids.specs.declared.name.PortName.{PortName}
-use Rattle.mst_net.specs.Tables.{Net, Numbers, BridgeRow}
-use Rattle.mst_net.specs.ByTree.{by_tree}
-use Rattle.mst_net.specs.Seen.{bridge_row}
-use Rattle.mst_lag.specs.Aggregation.{same_name}
-use Rattle.mst_lag.specs.View.{LogicalPort}
-use Rattle.mst_lag.specs.Viewed.{Viewed, named_bridge, named_port}
-use Rattle.mst_lag.specs.declared.in_view.BridgeInView.{BridgeInView}
-use Rattle.mst_lag.specs.declared.in_view.PortInView.{PortInView}
-use Rattle.mst_trees.specs.Outcome.{Outcome}
-use Rattle.mst_trees.specs.Agrees.{AreOf}
-use Rattle.mst_trees.specs.Forest.{IsForest}
-use Rattle.mst_trees.specs.Forest.{Forest}
-use Rattle.mst_trees.proofs.Entries.{all_weaker}
-use Rattle.mst_trees.proofs.Lists.{all_contained, all_passing, filter_mapped}
-use Rattle.mst_trees.proofs.Views.{names_differ}
-use Rattle.mst_trees.proofs.Seen.{SeenBridge, SeenPort, BridgesRise, PortsRise, bridges_seen, ports_seen, bridges_apart, ports_apart, bridge_there}
-use Rattle.mst_trees.proofs.Looking.{has_tree_at}
-use Rattle.mst_roles.proofs.Named.{each_same}
+use Rattle.mst_vlan.specs.net.Tables.{Net, Numbers, BridgeRow}
+use Rattle.mst_vlan.specs.net.ByTree.{by_tree}
+use Rattle.mst_vlan.specs.net.Seen.{bridge_row}
+use Rattle.mst_vlan.specs.lag.Aggregation.{same_name}
+use Rattle.mst_vlan.specs.lag.View.{LogicalPort}
+use Rattle.mst_vlan.specs.lag.Viewed.{Viewed, named_bridge, named_port}
+use Rattle.mst_vlan.specs.lag.declared.in_view.BridgeInView.{BridgeInView}
+use Rattle.mst_vlan.specs.lag.declared.in_view.PortInView.{PortInView}
+use Rattle.mst_vlan.specs.trees.Outcome.{Outcome}
+use Rattle.mst_vlan.specs.trees.Agrees.{AreOf}
+use Rattle.mst_vlan.specs.trees.Forest.{IsForest}
+use Rattle.mst_vlan.specs.trees.Forest.{Forest}
+use Rattle.mst_vlan.proofs.trees.Entries.{all_weaker}
+use Rattle.mst_vlan.proofs.trees.Lists.{all_contained, all_passing, filter_mapped}
+use Rattle.mst_vlan.proofs.trees.Views.{names_differ}
+use Rattle.mst_vlan.proofs.trees.Seen.{SeenBridge, SeenPort, BridgesRise, PortsRise, bridges_seen, ports_seen, bridges_apart, ports_apart, bridge_there}
+use Rattle.mst_vlan.proofs.trees.Looking.{has_tree_at}
+use Rattle.mst_vlan.proofs.roles.Named.{each_same}
 use Rattle.mst_text.specs.TreeLines.{heading, bridge_line, port_line}
 use Rattle.mst_text.specs.TreeSeen.{seen_port, seen_line, seen_bridge, seen_bridges, is_of}
 use Rattle.mst_text.specs.TreeText.{has_tree, ports_of, port_text, bridge_text, tree_text}

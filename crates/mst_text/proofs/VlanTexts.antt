@@ -1,8 +1,8 @@
 -- The text of a VID: there is one, and one only.
 use Rattle.std.proofs.Common.{◌≡◌, ℕ, List, ◌++◌, refl, sym, ap, ◌∙◌}
-use Rattle.mst_graph.specs.Islands.{Island}
-use Rattle.mst_net.specs.Tables.{Net}
-use Rattle.mst_trees.specs.Outcome.{Outcome}
+use Rattle.mst_vlan.specs.graph.Islands.{Island}
+use Rattle.mst_vlan.specs.net.Tables.{Net}
+use Rattle.mst_vlan.specs.trees.Outcome.{Outcome}
 use Rattle.mst_vlan.specs.Reach.{AreIslandsOf}
 use Rattle.mst_text.specs.VlanLines.{heading}
 use Rattle.mst_text.specs.VlanText.{vlan_body, IsBody, IsVlanText}

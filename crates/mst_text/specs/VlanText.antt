@@ -1,10 +1,10 @@
 -- The text of a VID, by name.
 use Rattle.std.specs.Prelude.{◌≡◌, ℕ, List, ◌++◌, map}
 use Rattle.std.specs.List.{flat_map}
-use Rattle.mst_graph.specs.Islands.{Island}
-use Rattle.mst_net.specs.Tables.{Net}
-use Rattle.mst_lag.specs.View.{LogicalPort}
-use Rattle.mst_trees.specs.Outcome.{Outcome}
+use Rattle.mst_vlan.specs.graph.Islands.{Island}
+use Rattle.mst_vlan.specs.net.Tables.{Net}
+use Rattle.mst_vlan.specs.lag.View.{LogicalPort}
+use Rattle.mst_vlan.specs.trees.Outcome.{Outcome}
 use Rattle.mst_vlan.specs.Active.{active_ports}
 use Rattle.mst_vlan.specs.Reach.{is_member, AreIslandsOf}
 use Rattle.mst_text.specs.VlanLines.{heading, active_word, active_line, island_line}

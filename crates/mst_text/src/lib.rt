@@ -22,11 +22,13 @@ mod regions;
 mod tree;
 mod tree_bridge;
 mod tree_port;
-mod vlan;
+mod vlan_text;
 
 pub use configuration::push_configuration;
 pub use islands::bridge_names;
 pub use lags::push_lags;
+pub use mst_vlan as vlan;
+pub use mst_vlan::{config, graph, lag, lang, net, roles, settle, trees, vector};
 pub use regions::push_regions;
 pub use tree::push_tree;
-pub use vlan::{push_body, push_vlan};
+pub use vlan_text::{push_body, push_vlan};

@@ -1,15 +1,15 @@
 ghost use Rattle.std.specs.Prelude.{◌≡◌, ◌++◌, OnOk};
-ghost use Rattle.mst_trees.specs.Forest.{msti_vector};
-ghost use Rattle.mst_settle.specs.Assignment.{vector_of};
+ghost use Rattle.mst_vlan.specs.trees.Forest.{msti_vector};
+ghost use Rattle.mst_vlan.specs.settle.Assignment.{vector_of};
 ghost use Rattle.mst_text.specs.TreeLines.{off_line, cist_line, msti_line, vector_line};
 ghost use Rattle.mst_text.specs.TreeSeen.{seen_line};
 
 use itoa::Buffer;
 use mst_ids::{BridgeId, Name, Tree, push_line};
-use mst_lag::{BridgeInView, View};
-use mst_lang::Power;
-use mst_trees::{Forest, bridge_id};
-use mst_vector::{CistVector, MstiVector};
+use mst_vlan::lag::{BridgeInView, View};
+use mst_vlan::lang::Power;
+use mst_vlan::trees::{Forest, bridge_id};
+use mst_vlan::vector::{CistVector, MstiVector};
 use std::alloc::AllocError;
 
 /// Appends the line of a bridge: that it is off, or its root priority vector in the tree.

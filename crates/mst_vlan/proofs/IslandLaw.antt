@@ -5,21 +5,21 @@ use Rattle.std.specs.List.{Contains}
 use Rattle.std.specs.Cmp.Lexicographic.{nat_list_cmp_total, nat_list_eq_equiv}
 use Rattle.std.specs.FinMap as fin
 use Rattle.mst_ids.specs.Names.{name_cmp}
-use Rattle.mst_graph.specs.Groups.{StandOnce}
-use Rattle.mst_graph.specs.Islands.{Island}
-use Rattle.mst_graph.specs.Renaming.{KeepApart, link_by}
-use Rattle.mst_graph.proofs.HasList.{has_islands}
-use Rattle.mst_graph.proofs.Members.{in_none, cases}
-use Rattle.mst_graph.proofs.OneList.{one_islands}
-use Rattle.mst_net.specs.Tables.{Net, BridgeRow, LanRow, IsNetwork}
-use Rattle.mst_lag.specs.Aggregation.{same_name}
-use Rattle.mst_lag.specs.View.{LogicalLan, as_lan, logical_lan, view_lans}
-use Rattle.mst_lag.proofs.Names.{same_names}
-use Rattle.mst_trees.specs.Apart.{Apart}
-use Rattle.mst_trees.specs.Outcome.{Outcome}
-use Rattle.mst_trees.proofs.Entries.{entries_apart}
-use Rattle.mst_trees.proofs.Lists.{all_contained, apart_mapped, apart_filtered}
-use Rattle.mst_trees.proofs.Views.{bridges_rise, names_differ}
+use Rattle.mst_roles.specs.graph.Groups.{StandOnce}
+use Rattle.mst_roles.specs.graph.Islands.{Island}
+use Rattle.mst_roles.specs.graph.Renaming.{KeepApart, link_by}
+use Rattle.mst_roles.proofs.graph.HasList.{has_islands}
+use Rattle.mst_roles.proofs.graph.Members.{in_none, cases}
+use Rattle.mst_roles.proofs.graph.OneList.{one_islands}
+use Rattle.mst_roles.specs.net.Tables.{Net, BridgeRow, LanRow, IsNetwork}
+use Rattle.mst_roles.specs.lag.Aggregation.{same_name}
+use Rattle.mst_roles.specs.lag.View.{LogicalLan, as_lan, logical_lan, view_lans}
+use Rattle.mst_roles.proofs.lag.Names.{same_names}
+use Rattle.mst_roles.specs.trees.Apart.{Apart}
+use Rattle.mst_roles.specs.trees.Outcome.{Outcome}
+use Rattle.mst_roles.proofs.trees.Entries.{entries_apart}
+use Rattle.mst_roles.proofs.trees.Lists.{all_contained, apart_mapped, apart_filtered}
+use Rattle.mst_roles.proofs.trees.Views.{bridges_rise, names_differ}
 use Rattle.mst_vlan.specs.Reach.{bridges_on, lans_up, vid_links, AreIslandsOf}
 use Rattle.mst_vlan.proofs.Reached.{links_have}
 use Rattle.mst_vlan.proofs.Renumbered.{numbers_have, by_things}

@@ -5,27 +5,27 @@ use Rattle.std.specs.List.{Contains}
 use Rattle.std.specs.Option.{option_map_or}
 use Rattle.std.specs.FinMap as fin
 use Rattle.mst_ids.specs.Vids.{has}
-use Rattle.mst_graph.specs.Islands.{Link, HaveEnds}
-use Rattle.mst_graph.specs.Renaming.{KeepApart, link_by}
-use Rattle.mst_graph.proofs.Members.{in_map, from_map, from_filter}
-use Rattle.mst_graph.proofs.Splits.{kept_each, map_of_map}
-use Rattle.mst_net.specs.Tables.{Net, Numbers, BridgeRow}
-use Rattle.mst_net.specs.ByTree.{vlans_in}
-use Rattle.mst_net.specs.Seen.{bridge_row}
-use Rattle.mst_lag.specs.Trees.{is_among}
-use Rattle.mst_lag.specs.View.{LogicalPort, LogicalLan}
-use Rattle.mst_lag.specs.Viewed.{Viewed, named_bridge, named_port, named_lan}
-use Rattle.mst_lag.specs.declared.in_view.BridgeInView.{BridgeInView}
-use Rattle.mst_lag.specs.declared.in_view.PortInView.{PortInView}
-use Rattle.mst_lag.specs.declared.in_view.LanInView.{LanInView}
-use Rattle.mst_trees.specs.Agrees.{AreOf}
-use Rattle.mst_trees.specs.Forest.{IsForest}
-use Rattle.mst_trees.specs.Seen.{trees_at}
-use Rattle.mst_trees.specs.Forest.{Forest}
-use Rattle.mst_trees.proofs.Entries.{all_weaker}
-use Rattle.mst_trees.proofs.Lists.{all_contained, filter_mapped}
-use Rattle.mst_trees.proofs.Looking.{filter_alike}
-use Rattle.mst_trees.proofs.Seen.{SeenPort, bridge_seen, ports_seen, port_seen, port_of_net}
+use Rattle.mst_roles.specs.graph.Islands.{Link, HaveEnds}
+use Rattle.mst_roles.specs.graph.Renaming.{KeepApart, link_by}
+use Rattle.mst_roles.proofs.graph.Members.{in_map, from_map, from_filter}
+use Rattle.mst_roles.proofs.graph.Splits.{kept_each, map_of_map}
+use Rattle.mst_roles.specs.net.Tables.{Net, Numbers, BridgeRow}
+use Rattle.mst_roles.specs.net.ByTree.{vlans_in}
+use Rattle.mst_roles.specs.net.Seen.{bridge_row}
+use Rattle.mst_roles.specs.lag.Trees.{is_among}
+use Rattle.mst_roles.specs.lag.View.{LogicalPort, LogicalLan}
+use Rattle.mst_roles.specs.lag.Viewed.{Viewed, named_bridge, named_port, named_lan}
+use Rattle.mst_roles.specs.lag.declared.in_view.BridgeInView.{BridgeInView}
+use Rattle.mst_roles.specs.lag.declared.in_view.PortInView.{PortInView}
+use Rattle.mst_roles.specs.lag.declared.in_view.LanInView.{LanInView}
+use Rattle.mst_roles.specs.trees.Agrees.{AreOf}
+use Rattle.mst_roles.specs.trees.Forest.{IsForest}
+use Rattle.mst_roles.specs.trees.Seen.{trees_at}
+use Rattle.mst_roles.specs.trees.Forest.{Forest}
+use Rattle.mst_roles.proofs.trees.Entries.{all_weaker}
+use Rattle.mst_roles.proofs.trees.Lists.{all_contained, filter_mapped}
+use Rattle.mst_roles.proofs.trees.Looking.{filter_alike}
+use Rattle.mst_roles.proofs.trees.Seen.{SeenPort, bridge_seen, ports_seen, port_seen, port_of_net}
 use Rattle.mst_roles.specs.Roles.{forwards, forwards_for}
 use Rattle.mst_roles.specs.Seen.{seen_cist_role, seen_msti_role, seen_tree, seen_forwards}
 use Rattle.mst_roles.specs.declared.kind.Role.TheVariants.{Disabled}

@@ -7,5 +7,7 @@ mod reaching;
 mod topology;
 
 pub use island::{BridgeList, Island, LanList};
+pub use mst_roles as roles;
+pub use mst_roles::{config, graph, lag, lang, net, settle, trees, vector};
 pub use reaching::{is_member, reach, reach_from};
 pub use topology::{active, active_ports};

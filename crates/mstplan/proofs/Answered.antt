@@ -5,13 +5,13 @@ use Rattle.std.specs.Io.KnownBytes.{Keeps, append_known}
 use Rattle.std.proofs.KnownBytes.{Appends-kept}
 use Rattle.mst_tool.specs.Ask.{AnswersFront, Asks, AsksFront}
 use Rattle.mst_tool.specs.Load.{LoadsEnded, LoadsFront, LoadsScript}
-use Rattle.mst_print.specs.Shape.{of_script}
-use Rattle.mst_engine.specs.Steps.{texts_of}
+use Rattle.mst_tool.specs.printing.Shape.{of_script}
+use Rattle.mst_tool.specs.engine.Steps.{texts_of}
 use Rattle.mst_tool.specs.declared.asked.Question.{Question}
-use Rattle.mst_print.specs.declared.form.Form.{Form}
-use Rattle.mst_io.specs.declared.outcome.Outcome.{Outcome}
-use Rattle.mst_io.specs.declared.outcome.RunFault.{RunFault}
-use Rattle.mst_io.specs.declared.outcome.RunFault.TheVariants.{Read, Write, Memory}
+use Rattle.mst_tool.specs.printing.declared.form.Form.{Form}
+use Rattle.mst_tool.specs.io.declared.outcome.Outcome.{Outcome}
+use Rattle.mst_tool.specs.io.declared.outcome.RunFault.{RunFault}
+use Rattle.mst_tool.specs.io.declared.outcome.RunFault.TheVariants.{Read, Write, Memory}
 use Rattle.mstplan.specs.Buffered.{EndsAsk, LoadsRead, is_broken}
 use Rattle.mstplan.proofs.Kept.{front_kept}
 

@@ -7,13 +7,13 @@ use Rattle.mst_tool.specs.Check.{Checks, ChecksFront, ChecksEnded, ComparesEnded
 use Rattle.mst_tool.specs.Diff.{Diffs, DiffsFront, DiffsEnded, DiffsScripts, LoadsNewEnded, both_texts}
 use Rattle.mst_tool.specs.Load.{LoadsEnded}
 use Rattle.mst_tool.specs.Run.{PrintsEnded}
-use Rattle.mst_print.specs.Shape.{of_old}
-use Rattle.mst_engine.specs.Steps.{texts_of}
-use Rattle.mst_print.specs.declared.form.Form.{Form}
-use Rattle.mst_print.specs.declared.form.Form.TheVariants.{Text}
-use Rattle.mst_io.specs.declared.outcome.Outcome.{Outcome}
-use Rattle.mst_io.specs.declared.outcome.RunFault.{RunFault}
-use Rattle.mst_io.specs.declared.outcome.RunFault.TheVariants.{Read, Write, Memory}
+use Rattle.mst_tool.specs.printing.Shape.{of_old}
+use Rattle.mst_tool.specs.engine.Steps.{texts_of}
+use Rattle.mst_tool.specs.printing.declared.form.Form.{Form}
+use Rattle.mst_tool.specs.printing.declared.form.Form.TheVariants.{Text}
+use Rattle.mst_tool.specs.io.declared.outcome.Outcome.{Outcome}
+use Rattle.mst_tool.specs.io.declared.outcome.RunFault.{RunFault}
+use Rattle.mst_tool.specs.io.declared.outcome.RunFault.TheVariants.{Read, Write, Memory}
 use Rattle.mstplan.specs.declared.compared.Comparison.{Comparison}
 use Rattle.mstplan.specs.declared.compared.Comparison.TheVariants.{Captures, Networks}
 use Rattle.mstplan.specs.Buffered.{is_broken}

@@ -4,8 +4,8 @@ use Rattle.std.specs.List.{list_any}
 use Rattle.std.specs.Option.{option_and_then}
 use Rattle.std.specs.Str.{bytes_eq}
 use Rattle.std.specs.declared.alloc.Global.{Global}
-use Rattle.mst_print.specs.declared.form.Form.{Form}
-use Rattle.mst_print.specs.declared.form.Form.TheVariants.{Text, Json}
+use Rattle.mst_tool.specs.printing.declared.form.Form.{Form}
+use Rattle.mst_tool.specs.printing.declared.form.Form.TheVariants.{Text, Json}
 use Rattle.mstplan.specs.Words.{Request, asked_by, names_part, run, check, explain, diff, sweep, summary, dot}
 use Rattle.mstplan.specs.declared.flags.Flags.{Flags}
 

@@ -3,7 +3,7 @@ ghost use Rattle.std.specs.Io.Buffered.{writer_buffer, writer_inner};
 ghost use Rattle.mst_tool.specs.Ask.{Asks, AsksFront};
 ghost use Rattle.mst_tool.specs.Load.{LoadsEnded, LoadsScript};
 ghost use Rattle.mst_tool.specs.Run.{Prints, PrintsFront, PrintsEnded};
-ghost use Rattle.mst_print.specs.Shape.{of_script};
+ghost use Rattle.mst_tool.specs.printing.Shape.{of_script};
 ghost use Rattle.mstplan.specs.Buffered.{Ends, EndsAsk, ReadBy, AskedBy, is_broken};
 
 use mst_tool::{

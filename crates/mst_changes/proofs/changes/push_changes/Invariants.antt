@@ -1,9 +1,9 @@
 use Rattle.std.proofs.Common.{◌≡◌, ◌++◌}
 use Rattle.std.specs.List.{flat_map, range_with_len}
-use Rattle.mst_net.specs.Tables.{Net, Numbers}
-use Rattle.mst_trees.specs.Agrees.{AreOf}
-use Rattle.mst_trees.specs.Forest.{IsForest}
-use Rattle.mst_trees.specs.Outcome.{Outcome}
+use Rattle.mst_roles.specs.net.Tables.{Net, Numbers}
+use Rattle.mst_roles.specs.trees.Agrees.{AreOf}
+use Rattle.mst_roles.specs.trees.Forest.{IsForest}
+use Rattle.mst_roles.specs.trees.Outcome.{Outcome}
 use Rattle.mst_changes.specs.Kept.{AreEntries}
 use Rattle.mst_changes.specs.TreeChanges.{tree_changes}
 use Rattle.mst_changes.proofs.changes.push_changes.Given as goal

@@ -1,5 +1,5 @@
 use Rattle.std.proofs.Common.{◌≡◌, false, sym, ap, ◌∙◌}
-use Rattle.mst_report.specs.Planned.{planned_state}
+use Rattle.mst_compare.specs.report.Planned.{planned_state}
 use Rattle.mst_engine.specs.Captures.{compared}
 use Rattle.mst_engine.specs.Engine.{shape_of, is_starved, replied}
 use Rattle.mst_engine.specs.Steps.{Step}

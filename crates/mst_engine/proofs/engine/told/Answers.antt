@@ -1,5 +1,5 @@
 use Rattle.std.proofs.Common.{Some, ap, ◌∙◌}
-use Rattle.mst_report.specs.Planned.{planned_state}
+use Rattle.mst_compare.specs.report.Planned.{planned_state}
 use Rattle.mst_print.specs.Shape.{shown}
 use Rattle.mst_engine.proofs.Told.{text_told, text_starved}
 use Rattle.mst_engine.proofs.engine.told.Goals as goal

@@ -1,6 +1,6 @@
 use Rattle.std.proofs.Common.{◌≡◌, subst}
 use Rattle.std.proofs.lemmas.Result.{on_ok_weaker, on_err_weaker}
-use Rattle.mst_report.specs.Planned.{planned_state}
+use Rattle.mst_compare.specs.report.Planned.{planned_state}
 use Rattle.mst_engine.specs.Engine.{shape_of, does, tally_of, tallied, replied}
 use Rattle.mst_engine.proofs.feed.end_line.Goals as goal
 

@@ -1,6 +1,6 @@
 use Rattle.std.proofs.Common.{◌++◌, ◌∙◌, ℕ, List, [], ◌∷◌, append_assoc}
 use Rattle.std.proofs.lemmas.Result.{on_ok_weaker}
-use Rattle.mst_trees.specs.Seen.{trees_at}
+use Rattle.mst_roles.specs.trees.Seen.{trees_at}
 use Rattle.mst_explain.proofs.Planned.{cist_can_step, msti_can_step}
 use Rattle.mst_explain.proofs.Texts.{explanations_text, all_explained}
 use Rattle.mst_explain.proofs.explained.push_explanations.Goals as goal

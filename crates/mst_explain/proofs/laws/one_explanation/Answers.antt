@@ -1,5 +1,5 @@
 use Rattle.std.proofs.Common.{sym, subst}
-use Rattle.mst_trees.specs.Outcome.{Outcome}
+use Rattle.mst_roles.specs.trees.Outcome.{Outcome}
 use Rattle.mst_explain.specs.Explained.{IsExplanation}
 use Rattle.mst_explain.proofs.OneText.{one_text}
 use Rattle.mst_explain.proofs.laws.one_explanation.Goals as goal

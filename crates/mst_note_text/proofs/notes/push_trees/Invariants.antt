@@ -1,9 +1,9 @@
 use Rattle.std.proofs.Common.{◌≡◌, ◌++◌}
 use Rattle.std.specs.List.{flat_map, range_with_len}
-use Rattle.mst_net.specs.Tables.{Net, Numbers}
-use Rattle.mst_trees.specs.Agrees.{AreOf}
-use Rattle.mst_trees.specs.Forest.{IsForest}
-use Rattle.mst_trees.specs.Outcome.{trees_of}
+use Rattle.mst_roles.specs.net.Tables.{Net, Numbers}
+use Rattle.mst_roles.specs.trees.Agrees.{AreOf}
+use Rattle.mst_roles.specs.trees.Forest.{IsForest}
+use Rattle.mst_roles.specs.trees.Outcome.{trees_of}
 use Rattle.mst_note_text.specs.AreDepths.{TreeDepths, AreDepths}
 use Rattle.mst_note_text.specs.NotesText.{tree_notes}
 use Rattle.mst_note_text.proofs.notes.push_trees.Given as goal

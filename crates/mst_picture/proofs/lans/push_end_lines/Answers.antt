@@ -1,4 +1,4 @@
-use Rattle.mst_plan_text.proofs.Texts.{text_more}
+use Rattle.mst_summary.proofs.plan_text.Texts.{text_more}
 use Rattle.mst_picture.specs.Lans.{end_line}
 use Rattle.mst_picture.proofs.lans.push_end_lines.Goals as goal
 

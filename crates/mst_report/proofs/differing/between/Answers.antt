@@ -1,5 +1,5 @@
 use Rattle.std.proofs.Common.{sym, ap, subst, ◌∙◌, ◌++◌}
-use Rattle.mst_diff.specs.DiffText.{IsDiff}
+use Rattle.mst_picture.specs.diff.DiffText.{IsDiff}
 use Rattle.mst_report.proofs.differing.between.Goals as goal
 
 pub returns : goal.returns

@@ -1,13 +1,13 @@
 use Rattle.std.proofs.Common.{subst}
-use Rattle.mst_vector.specs.Cist.{cist_rules}
-use Rattle.mst_vector.specs.Msti.{msti_rules}
-use Rattle.mst_trees.specs.Cist.{cist_sight}
-use Rattle.mst_trees.specs.Msti.{msti_sight}
-use Rattle.mst_trees.specs.Outcome.{Outcome}
-use Rattle.mst_settle.specs.Assignment.{vector_of, designated_of}
-use Rattle.mst_trees.specs.Forest.{msti_vector, msti_designated, msti_settlings}
-use Rattle.mst_trees.proofs.CistTopology.{cist_is_sight}
-use Rattle.mst_trees.proofs.MstiTopology.{msti_is_sight}
+use Rattle.mst_picture.specs.vector.Cist.{cist_rules}
+use Rattle.mst_picture.specs.vector.Msti.{msti_rules}
+use Rattle.mst_picture.specs.trees.Cist.{cist_sight}
+use Rattle.mst_picture.specs.trees.Msti.{msti_sight}
+use Rattle.mst_picture.specs.trees.Outcome.{Outcome}
+use Rattle.mst_picture.specs.settle.Assignment.{vector_of, designated_of}
+use Rattle.mst_picture.specs.trees.Forest.{msti_vector, msti_designated, msti_settlings}
+use Rattle.mst_picture.proofs.trees.CistTopology.{cist_is_sight}
+use Rattle.mst_picture.proofs.trees.MstiTopology.{msti_is_sight}
 use Rattle.mst_report.specs.ByName.{KeepsBoundByName}
 use Rattle.mst_report.proofs.ByName.{by_name}
 use Rattle.mst_report.proofs.EditNumbers.{together, are_one}

@@ -1,16 +1,16 @@
 use Rattle.std.proofs.Common.{◌≡◌, ℕ, Option, None, sym, subst}
-use Rattle.mst_vector.specs.Cist.{cist_rules}
-use Rattle.mst_vector.specs.Msti.{msti_rules}
-use Rattle.mst_vector.specs.declared.cist.CistVector.{CistVector}
-use Rattle.mst_vector.specs.declared.msti.MstiVector.{MstiVector}
-use Rattle.mst_net.specs.Contents.{Contents}
-use Rattle.mst_trees.specs.Cist.{cist_sight}
-use Rattle.mst_trees.specs.Msti.{msti_sight}
-use Rattle.mst_trees.specs.Outcome.{Outcome}
-use Rattle.mst_settle.specs.Assignment.{vector_of, designated_of}
-use Rattle.mst_trees.specs.Forest.{Forest, msti_vector, msti_designated, msti_settlings}
-use Rattle.mst_trees.proofs.CistTopology.{cist_is_sight}
-use Rattle.mst_trees.proofs.MstiTopology.{msti_is_sight}
+use Rattle.mst_picture.specs.vector.Cist.{cist_rules}
+use Rattle.mst_picture.specs.vector.Msti.{msti_rules}
+use Rattle.mst_picture.specs.vector.declared.cist.CistVector.{CistVector}
+use Rattle.mst_picture.specs.vector.declared.msti.MstiVector.{MstiVector}
+use Rattle.mst_picture.specs.net.Contents.{Contents}
+use Rattle.mst_picture.specs.trees.Cist.{cist_sight}
+use Rattle.mst_picture.specs.trees.Msti.{msti_sight}
+use Rattle.mst_picture.specs.trees.Outcome.{Outcome}
+use Rattle.mst_picture.specs.settle.Assignment.{vector_of, designated_of}
+use Rattle.mst_picture.specs.trees.Forest.{Forest, msti_vector, msti_designated, msti_settlings}
+use Rattle.mst_picture.proofs.trees.CistTopology.{cist_is_sight}
+use Rattle.mst_picture.proofs.trees.MstiTopology.{msti_is_sight}
 use Rattle.mst_report.specs.ByName.{KeepBoundsByName, KeepFirstBounds, StandsFor}
 use Rattle.mst_report.specs.Standing.{standing_of}
 use Rattle.mst_report.proofs.ByName.{AreOne, by_name}

@@ -1,5 +1,5 @@
 use Rattle.std.proofs.Common.{◌≡◌, subst}
-use Rattle.mst_diff.specs.DiffText.{IsDiff}
+use Rattle.mst_picture.specs.diff.DiffText.{IsDiff}
 use Rattle.mst_report.proofs.laws.no_difference.Goals as goal
 
 pub returns : goal.returns

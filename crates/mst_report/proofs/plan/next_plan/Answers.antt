@@ -1,9 +1,9 @@
 use Rattle.std.proofs.Common.{◌≡◌, ℕ, Option, Result, Ok, Err, IfOk, subst}
 use Rattle.std.specs.declared.alloc.AllocError.{AllocError}
-use Rattle.mst_vector.specs.declared.cist.CistVector.{CistVector}
-use Rattle.mst_vector.specs.declared.msti.MstiVector.{MstiVector}
-use Rattle.mst_settle.specs.Assignment.{vector_of}
-use Rattle.mst_trees.specs.Bound.{KeepsBound}
+use Rattle.mst_picture.specs.vector.declared.cist.CistVector.{CistVector}
+use Rattle.mst_picture.specs.vector.declared.msti.MstiVector.{MstiVector}
+use Rattle.mst_picture.specs.settle.Assignment.{vector_of}
+use Rattle.mst_picture.specs.trees.Bound.{KeepsBound}
 use Rattle.mst_report.specs.Standing.{Standing, nothing, standing_of, msti_vector, msti_settlings, KeepsBounds}
 use Rattle.mst_report.specs.declared.plan.Plan.{Plan}
 use Rattle.mst_report.proofs.plan.next_plan.Goals as goal

@@ -1,5 +1,5 @@
 use Rattle.std.proofs.Common.{sym, ap, subst, ◌∙◌, ◌++◌}
-use Rattle.mst_summary.specs.SummaryText.{IsSummary}
+use Rattle.mst_picture.specs.summary.SummaryText.{IsSummary}
 use Rattle.mst_report.proofs.summarizing.summary_of.Goals as goal
 
 pub returns : goal.returns

@@ -1,8 +1,8 @@
 use Rattle.std.proofs.Common.{◌≡◌, ◌++◌, take}
 use Rattle.std.specs.List.{flat_map}
-use Rattle.mst_net.specs.Tables.{Net, Numbers}
-use Rattle.mst_trees.specs.Agrees.{AreOf}
-use Rattle.mst_trees.specs.Forest.{IsForest}
+use Rattle.mst_diff.specs.net.Tables.{Net, Numbers}
+use Rattle.mst_diff.specs.trees.Agrees.{AreOf}
+use Rattle.mst_diff.specs.trees.Forest.{IsForest}
 use Rattle.mst_summary.specs.Seen.{up_text}
 use Rattle.mst_summary.proofs.carries.push_lans.Given as goal
 

@@ -1,6 +1,6 @@
 use Rattle.std.proofs.Common.{Bool, List, ℕ, subst}
 use Rattle.std.proofs.lemmas.Result.{IfOk-weaker}
-use Rattle.mst_plan_text.specs.Alike.{TellApart}
+use Rattle.mst_diff.specs.plan_text.Alike.{TellApart}
 use Rattle.mst_summary.proofs.classes.classes_of_vids.Goals as goal
 
 pub returns : goal.returns

@@ -1,8 +1,8 @@
 use Rattle.std.proofs.Common.{◌≡◌, ◌+◌, length, take}
 use Rattle.std.specs.List.{AllZip}
-use Rattle.mst_net.specs.Tables.{Net, Numbers}
-use Rattle.mst_trees.specs.Agrees.{AreOf}
-use Rattle.mst_trees.specs.Forest.{IsForest}
+use Rattle.mst_diff.specs.net.Tables.{Net, Numbers}
+use Rattle.mst_diff.specs.trees.Agrees.{AreOf}
+use Rattle.mst_diff.specs.trees.Forest.{IsForest}
 use Rattle.mst_summary.specs.Vlans.{HasIslands}
 use Rattle.mst_summary.proofs.islands.counts_at.Given as goal
 

@@ -1,6 +1,6 @@
 use Rattle.std.proofs.Common.{◌≡◌, ◌++◌, map, take}
 use Rattle.std.specs.List.{flat_map}
-use Rattle.mst_plan_text.specs.Bodies.{body_at}
+use Rattle.mst_diff.specs.plan_text.Bodies.{body_at}
 use Rattle.mst_sweep.specs.Cuts.{group_text}
 use Rattle.mst_sweep.proofs.cuts.push_groups.Given as goal
 

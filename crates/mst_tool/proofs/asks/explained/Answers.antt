@@ -1,5 +1,5 @@
 use Rattle.std.proofs.Common.{ap}
-use Rattle.mst_net.specs.Contents.{Contents}
+use Rattle.mst_engine.specs.net.Contents.{Contents}
 use Rattle.mst_tool.proofs.WholeLoad.{explained_shown}
 use Rattle.mst_tool.proofs.asks.explained.Goals as goal
 

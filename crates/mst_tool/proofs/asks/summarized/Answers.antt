@@ -1,5 +1,5 @@
 use Rattle.std.proofs.Common.{ap}
-use Rattle.mst_net.specs.Contents.{Contents}
+use Rattle.mst_engine.specs.net.Contents.{Contents}
 use Rattle.mst_tool.proofs.WholeLoad.{summary_shown}
 use Rattle.mst_tool.proofs.asks.summarized.Goals as goal
 

@@ -1,5 +1,5 @@
 use Rattle.std.proofs.Common.{ap}
-use Rattle.mst_net.specs.Contents.{Contents}
+use Rattle.mst_engine.specs.net.Contents.{Contents}
 use Rattle.mst_tool.proofs.WholeDiff.{difference_shown}
 use Rattle.mst_tool.proofs.diffs.what_differs.Goals as goal
 

@@ -1,8 +1,8 @@
 use Rattle.std.proofs.Common.{◌≡◌, map}
 use Rattle.std.specs.List.{flat_map, range_with_len}
-use Rattle.mst_net.specs.Tables.{Net, Numbers}
-use Rattle.mst_trees.specs.Agrees.{AreOf}
-use Rattle.mst_trees.specs.Forest.{IsForest}
+use Rattle.mst_roles.specs.net.Tables.{Net, Numbers}
+use Rattle.mst_roles.specs.trees.Agrees.{AreOf}
+use Rattle.mst_roles.specs.trees.Forest.{IsForest}
 use Rattle.mst_changes.specs.Subjects.{subjects_in, bridge_names, port_names}
 use Rattle.mst_changes.specs.Values.{value_at}
 use Rattle.mst_changes.specs.Kept.{entries_at}

@@ -1,7 +1,7 @@
 use Rattle.std.proofs.Common.{ap, refl, ◌∙◌, ◌++◌}
-use Rattle.mst_changes.specs.ChangesText.{changes_text}
-use Rattle.mst_changes.specs.Kept.{entries_of}
-use Rattle.mst_changes.specs.Stored.{kept_entries}
+use Rattle.mst_picture.specs.changes.ChangesText.{changes_text}
+use Rattle.mst_picture.specs.changes.Kept.{entries_of}
+use Rattle.mst_picture.specs.changes.Stored.{kept_entries}
 use Rattle.mst_report.specs.Planned.{planned_state}
 use Rattle.mst_report.proofs.Answering.{was_marked, changes_are}
 use Rattle.mst_report.proofs.planner.Planner.changes_from.Goals as goal

@@ -1,5 +1,5 @@
 use Rattle.std.proofs.Common.{ap, ◌∙◌, ◌++◌, Ok}
-use Rattle.mst_text.specs.LagText.{lags_text}
+use Rattle.mst_picture.specs.text.LagText.{lags_text}
 use Rattle.mst_report.proofs.planner.Planner.lags.Goals as goal
 
 pub returns : goal.returns

@@ -1,5 +1,5 @@
 use Rattle.std.proofs.Common.{Option, sym, ap, subst, ◌∙◌}
-use Rattle.mst_trees.specs.Msti.{has_msti}
+use Rattle.mst_picture.specs.trees.Msti.{has_msti}
 use Rattle.mst_report.specs.Planned.{Planned}
 use Rattle.mst_report.specs.declared.plan.Plan.{Plan}
 use Rattle.mst_report.proofs.Staying.{IsKept}

@@ -1,5 +1,5 @@
 use Rattle.std.proofs.Common.{ap, refl, ◌∙◌, ◌++◌, Ok}
-use Rattle.mst_text.specs.TreeText.{tree_text}
+use Rattle.mst_picture.specs.text.TreeText.{tree_text}
 use Rattle.mst_report.proofs.planner.Planner.tree.Goals as goal
 
 pub returns : goal.returns

@@ -1,10 +1,10 @@
 use Rattle.std.proofs.Common.{◌≡◌, ◌++◌, take}
 use Rattle.std.specs.List.{flat_map}
-use Rattle.mst_net.specs.Tables.{Net, Numbers}
-use Rattle.mst_trees.specs.Agrees.{AreOf}
-use Rattle.mst_trees.specs.Forest.{IsForest}
+use Rattle.mst_text.specs.net.Tables.{Net, Numbers}
+use Rattle.mst_text.specs.trees.Agrees.{AreOf}
+use Rattle.mst_text.specs.trees.Forest.{IsForest}
 use Rattle.mst_text.specs.TreeText.{tree_text}
-use Rattle.mst_plan_text.proofs.trees.push_mstis.Given as goal
+use Rattle.mst_plan_text.proofs.trees_text.push_mstis.Given as goal
 
 abbrev pub invariant-loop-tree : goal.invariant-loop-tree
 invariant-loop-tree l =

@@ -4,7 +4,7 @@ use Rattle.std.proofs.lemmas.Result.{IfOk-from_err, on_ok_weaker}
 use Rattle.mst_text.specs.TreeText.{tree_text}
 use Rattle.mst_plan_text.specs.PlanText.{mstis}
 use Rattle.mst_plan_text.proofs.SeenTrees.{mstis_named}
-use Rattle.mst_plan_text.proofs.trees.push_trees.Goals as goal
+use Rattle.mst_plan_text.proofs.trees_text.push_trees.Goals as goal
 
 pub returns-in_err-mstis : goal.returns-in_err-mstis
 returns-in_err-mstis c net numbers is of = IfOk-from_err c.from_residual.result _ c.from_residual.ensures.0

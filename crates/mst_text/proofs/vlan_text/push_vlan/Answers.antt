@@ -1,7 +1,7 @@
 use Rattle.std.proofs.Common.{◌++◌, refl, ap, ◌∙◌, append_assoc}
 use Rattle.std.proofs.lemmas.Result.{on_ok_weaker}
 use Rattle.mst_text.specs.VlanLines.{heading}
-use Rattle.mst_text.proofs.vlan.push_vlan.Goals as goal
+use Rattle.mst_text.proofs.vlan_text.push_vlan.Goals as goal
 
 pub returns : goal.returns
 returns c net numbers is of =

@@ -2,8 +2,8 @@ use Rattle.std.proofs.Common.{◌≡◌, ℕ, Bool, true, false, cond, [], ◌�
 use Rattle.std.specs.List.{filter, range_with_len}
 use Rattle.mst_summary.specs.Seen.{seen_used}
 use Rattle.mst_summary.proofs.Lists.{trees_more, trees_all}
-use Rattle.mst_summary.proofs.trees.used_trees.Goals as goal
-use Rattle.mst_summary.proofs.trees.used_trees.Goals.{in-Some+then-is_used+in_ok-push, in-Some+else-is_used, in_default}
+use Rattle.mst_summary.proofs.in_use.used_trees.Goals as goal
+use Rattle.mst_summary.proofs.in_use.used_trees.Goals.{in-Some+then-is_used+in_ok-push, in-Some+else-is_used, in_default}
 
 pub loop-number-preserved : goal.loop-number-preserved
 loop-number-preserved c =

@@ -1,6 +1,6 @@
 use Rattle.mst_text.specs.TreeText.{tree_text}
 use Rattle.mst_plan_text.proofs.Texts.{text_more, text_all}
-use Rattle.mst_plan_text.proofs.trees.push_mstis.Goals as goal
+use Rattle.mst_plan_text.proofs.trees_text.push_mstis.Goals as goal
 
 pub loop-tree-preserved : goal.loop-tree-preserved
 loop-tree-preserved c net numbers is of =

@@ -4,7 +4,7 @@ use Rattle.std.proofs.lemmas.Result.{on_ok_weaker}
 use Rattle.mst_vlan.specs.Seen.{seen_active}
 use Rattle.mst_text.specs.VlanSeen.{seen_active_line, seen_island_line}
 use Rattle.mst_text.proofs.VlanNamed.{is_body}
-use Rattle.mst_text.proofs.vlan.push_body.Goals as goal
+use Rattle.mst_text.proofs.vlan_text.push_body.Goals as goal
 
 pub returns : goal.returns
 returns c net numbers is of =
