@@ -24,6 +24,7 @@ CALLS = ["mst_tool::runs::run", "mst_tool::checks::check", "mst_vlan::topology::
 ASKED = ["mst_tool::asks::ask", "mst_tool::diffs::diff"]
 LOOPS = ["mst_vlan::laws::joined_without_loop"]
 IMPORT = re.compile(r"^ *(?:ghost )?use Rattle\.(\w+)\.specs\.([\w.]+?)(?:\.\{([^}]*)\}| as (\w+))?;?$", re.MULTILINE)
+GIVEN = re.compile(r"^pub use Rattle\.(\w+)\.specs(?:\.(\w+))? as (\w+)$", re.MULTILINE)
 KIND = "(?:abbrev|unfoldable|opaque|private) "
 # Four blanks stand before what is defined in a module that is in a module, and before the fields of records there.
 DEFINED = re.compile(rf"^(?: {{0,2}}|    (?={KIND}))(?:{KIND})*(?:pub )?(?:(?:record|data) )?([^\s:({{]+)(?= .*:|$)")
@@ -54,7 +55,27 @@ class Module:
 
 def imports(text):
     """Each import from a crate's definitions: the crate, the file, the names that are listed, the name for the file."""
-    return [found for found in IMPORT.findall(text) if os.path.isdir(os.path.join(TOP, found[0])) and is_file(*found[:2])]
+    found = [(*resolved(crate, module), *names) for crate, module, *names in IMPORT.findall(text) if os.path.isdir(os.path.join(TOP, crate))]
+    return [it for it in found if is_file(*it[:2])]
+
+
+def resolved(crate, module):
+    """The crate and the file that a path stands for, by way of what crates give on of those below them."""
+    first, _, rest = module.partition(".")
+    if first not in given_on(crate):
+        return crate, module
+    below, under = given_on(crate)[first]
+    return resolved(below, f"{under}.{rest}" if under else rest)
+
+
+@functools.cache
+def given_on(crate):
+    """What a crate gives on: under each name a crate below, and there the name under which that gives it on, if it does."""
+    path = path_of(crate, "Lib")
+    if not os.path.isfile(path):
+        return {}
+    with open(path, encoding="utf-8") as file:
+        return {name: (below, under) for below, under, name in GIVEN.findall(file.read())}
 
 
 def imported(text):

@@ -9,8 +9,8 @@ use Rattle.mst_ids.specs.declared.name.PortName.{PortName}
 use Rattle.mst_roles.specs.net.Tables.{Net}
 use Rattle.mst_roles.specs.declared.kind.Role.{Role}
 use Rattle.mst_roles.specs.trees.Outcome.{Outcome}
-use Rattle.mst_roles.proofs.trees.Lists.{some_is, no_some, all_kept}
-use Rattle.mst_roles.proofs.trees.Entries.{all_weaker}
+use Rattle.mst_roles.proofs.trees_lemmas.Lists.{some_is, no_some, all_kept}
+use Rattle.mst_roles.proofs.trees_lemmas.Entries.{all_weaker}
 use Rattle.mst_changes.specs.declared.subject.Item.{Item}
 use Rattle.mst_changes.specs.declared.subject.Item.TheVariants.{Port}
 use Rattle.mst_changes.specs.declared.subject.Subject.{Subject}

@@ -10,15 +10,15 @@ use Rattle.std.proofs.lemmas.List.Elements.{filter_map-append}
 use Rattle.mst_ids.specs.Names.{name_cmp, port_cmp}
 use Rattle.mst_ids.specs.declared.name.PortName.{PortName}
 use Rattle.mst_roles.specs.net.Tables.{Net, BridgeRow, port_eq}
-use Rattle.mst_roles.proofs.net.Keyed.{flipped}
-use Rattle.mst_roles.proofs.net.Keys.{names, ports}
+use Rattle.mst_roles.proofs.net_lemmas.Keyed.{flipped}
+use Rattle.mst_roles.proofs.net_lemmas.Keys.{names, ports}
 use Rattle.mst_roles.specs.lag.Trees.{mstis_of, is_among}
 use Rattle.mst_roles.specs.lag.View.{LogicalPort, view_ports}
 use Rattle.mst_roles.specs.trees.Apart.{Apart}
 use Rattle.mst_roles.specs.trees.Msti.{has_msti}
 use Rattle.mst_roles.specs.trees.Outcome.{Outcome}
-use Rattle.mst_roles.proofs.trees.Lists.{apart_mapped}
-use Rattle.mst_roles.proofs.trees.Views.{bridges_rise, ports_rise}
+use Rattle.mst_roles.proofs.trees_lemmas.Lists.{apart_mapped}
+use Rattle.mst_roles.proofs.trees_lemmas.Views.{bridges_rise, ports_rise}
 use Rattle.mst_roles.specs.Roles.{role_in}
 use Rattle.mst_changes.specs.declared.subject.Item.TheVariants.{Bridge, Port}
 use Rattle.mst_changes.specs.declared.subject.Subject.{Subject}

@@ -19,10 +19,10 @@ use Rattle.mst_roles.specs.trees.Forest.{Forest, IsForest, msti_vector}
 use Rattle.mst_roles.specs.trees.InUse.{is_in_use}
 use Rattle.mst_roles.specs.trees.Msti.{has_msti}
 use Rattle.mst_roles.specs.trees.Seen.{trees_at}
-use Rattle.mst_roles.proofs.trees.Lists.{kept_same, all_there}
-use Rattle.mst_roles.proofs.trees.Entries.{all_weaker}
-use Rattle.mst_roles.proofs.trees.Seen.{SeenBridge, bridges_seen}
-use Rattle.mst_roles.proofs.trees.Looking.{has_tree_at}
+use Rattle.mst_roles.proofs.trees_lemmas.Lists.{kept_same, all_there}
+use Rattle.mst_roles.proofs.trees_lemmas.Entries.{all_weaker}
+use Rattle.mst_roles.proofs.trees_lemmas.Seen.{SeenBridge, bridges_seen}
+use Rattle.mst_roles.proofs.trees_lemmas.Looking.{has_tree_at}
 use Rattle.mst_roles.specs.Roles.{role_of, role_in, cist_role, msti_role}
 use Rattle.mst_roles.specs.Seen.{seen_role}
 use Rattle.mst_roles.specs.declared.kind.Role.{Role}

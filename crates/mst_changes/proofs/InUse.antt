@@ -12,9 +12,9 @@ use Rattle.mst_roles.specs.trees.Agrees.{AreOf}
 use Rattle.mst_roles.specs.trees.InUse.{is_in_use}
 use Rattle.mst_roles.specs.trees.Msti.{has_msti}
 use Rattle.mst_roles.specs.trees.Seen.{trees_at}
-use Rattle.mst_roles.proofs.trees.Lists.{all_contained}
-use Rattle.mst_roles.proofs.trees.Seen.{bridge_seen, bridge_there}
-use Rattle.mst_roles.proofs.trees.Looking.{has_tree_at}
+use Rattle.mst_roles.proofs.trees_lemmas.Lists.{all_contained}
+use Rattle.mst_roles.proofs.trees_lemmas.Seen.{bridge_seen, bridge_there}
+use Rattle.mst_roles.proofs.trees_lemmas.Looking.{has_tree_at}
 
 none_pass : {A : Type 0} (test : A → Bool) (xs : List A) → list_any test xs ≡ false → AllByRecursion (λ x. test x ≡ false) xs
 none_pass test [] e = tt

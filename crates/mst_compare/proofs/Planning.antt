@@ -17,7 +17,7 @@ use Rattle.mst_report.specs.lag.Trees.{mstis_of}
 use Rattle.mst_report.specs.lag.View.{LogicalPort, view_ports}
 use Rattle.mst_report.specs.lag.Viewed.{Viewed, IsView, named_port}
 use Rattle.mst_report.specs.lag.declared.in_view.BridgeInView.{BridgeInView}
-use Rattle.mst_report.proofs.lag.Placing.{pair_found}
+use Rattle.mst_report.proofs.lag_lemmas.Placing.{pair_found}
 use Rattle.mst_report.specs.config.Regions.{region_of}
 use Rattle.mst_report.specs.trees.Sight.{named_bridge as bridge_in_sight}
 use Rattle.mst_report.specs.trees.Cist.{cist_bridge, cist_sight}
@@ -26,13 +26,13 @@ use Rattle.mst_report.specs.trees.Agrees.{AreOf}
 use Rattle.mst_report.specs.trees.Seen.{trees_at}
 use Rattle.mst_report.specs.trees.Forest.{IsForest}
 use Rattle.mst_report.specs.trees.Forest.{Forest}
-use Rattle.mst_report.proofs.trees.Lists.{some_is, kept_in, all_contained}
-use Rattle.mst_report.proofs.trees.Views.{IsPort, IsOn, ports_are, row_on, entry_there}
-use Rattle.mst_report.proofs.trees.Seen.{SeenBridge, SeenPort, bridge_seen, port_seen, port_of_net}
-use Rattle.mst_report.proofs.trees.Looking.{IsFirst, first_found}
+use Rattle.mst_report.proofs.trees_lemmas.Lists.{some_is, kept_in, all_contained}
+use Rattle.mst_report.proofs.trees_lemmas.Views.{IsPort, IsOn, ports_are, row_on, entry_there}
+use Rattle.mst_report.proofs.trees_lemmas.Seen.{SeenBridge, SeenPort, bridge_seen, port_seen, port_of_net}
+use Rattle.mst_report.proofs.trees_lemmas.Looking.{IsFirst, first_found}
 use Rattle.mst_report.specs.roles.Roles.{cist_role, role_in, role_of}
 use Rattle.mst_report.specs.roles.Seen.{seen_role}
-use Rattle.mst_report.proofs.roles.Named.{own_role, port_same}
+use Rattle.mst_report.proofs.roles_lemmas.Named.{own_role, port_same}
 use Rattle.mst_bpdu.specs.Differences.{differences_of}
 use Rattle.mst_bpdu.specs.declared.bpdu.Bpdu.{Bpdu}
 use Rattle.mst_bpdu.specs.declared.difference.Difference.{Difference}

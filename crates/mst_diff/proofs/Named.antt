@@ -11,9 +11,9 @@ use Rattle.mst_plan_text.specs.settle.Assignment.{vector_of}
 use Rattle.mst_plan_text.specs.net.Tables.{Net, Numbers, BridgeRow}
 use Rattle.mst_plan_text.specs.net.ByTree.{by_tree}
 use Rattle.mst_plan_text.specs.net.Seen.{bridge_row}
-use Rattle.mst_plan_text.proofs.net.Keyed.{flipped}
-use Rattle.mst_plan_text.proofs.net.Keys.{names}
-use Rattle.mst_plan_text.proofs.lag.Lists.{find_same}
+use Rattle.mst_plan_text.proofs.net_lemmas.Keyed.{flipped}
+use Rattle.mst_plan_text.proofs.net_lemmas.Keys.{names}
+use Rattle.mst_plan_text.proofs.lag_lemmas.Lists.{find_same}
 use Rattle.mst_plan_text.specs.lag.Aggregation.{same_name}
 use Rattle.mst_plan_text.specs.lag.Trees.{is_among, mstis_of}
 use Rattle.mst_plan_text.specs.lag.Viewed.{Viewed, named_bridge}

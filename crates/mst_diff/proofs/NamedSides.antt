@@ -9,7 +9,7 @@ use Rattle.std.proofs.lemmas.List.Elements.{filter_more}
 use Rattle.mst_ids.specs.Words.{after_space, comma_list, listed}
 use Rattle.mst_plan_text.specs.graph.Islands.{Island}
 use Rattle.mst_plan_text.specs.net.Tables.{Net, Numbers}
-use Rattle.mst_plan_text.proofs.lag.Lists.{map_itself}
+use Rattle.mst_plan_text.proofs.lag_lemmas.Lists.{map_itself}
 use Rattle.mst_plan_text.specs.lag.Aggregation.{same_name}
 use Rattle.mst_plan_text.specs.lag.Viewed.{Viewed}
 use Rattle.mst_plan_text.specs.trees.Agrees.{AreOf}
@@ -19,10 +19,10 @@ use Rattle.mst_plan_text.proofs.trees_text.Entries.{all_weaker}
 use Rattle.mst_plan_text.proofs.trees_text.Lists.{all_there}
 use Rattle.mst_plan_text.specs.vlan.Reach.{bridges_on, lans_up, vid_links, AreReached}
 use Rattle.mst_plan_text.specs.vlan.declared.island.Island.{Island as IslandNos}
-use Rattle.mst_plan_text.proofs.vlan.Renumbered.{bridge_listed}
+use Rattle.mst_plan_text.proofs.vlan_lemmas.Renumbered.{bridge_listed}
 use Rattle.mst_plan_text.specs.text.VlanSeen.{seen_bridge}
-use Rattle.mst_plan_text.proofs.text.VlanListed.{by_number}
-use Rattle.mst_plan_text.proofs.text.VlanNamed.{bridge_named}
+use Rattle.mst_plan_text.proofs.text_lemmas.VlanListed.{by_number}
+use Rattle.mst_plan_text.proofs.text_lemmas.VlanNamed.{bridge_named}
 use Rattle.mst_diff.specs.Reach.{has_any, island_words, without}
 use Rattle.mst_diff.specs.Seen.{seen_words, one_word, apart_word, joined_sides}
 

@@ -6,8 +6,8 @@ use Rattle.std.specs.List.{Contains, flat_map, count_by}
 use Rattle.std.proofs.lemmas.List.Sums.{length-filter}
 use Rattle.mst_plan_text.specs.graph.Groups.{AreGroups}
 use Rattle.mst_plan_text.specs.graph.Islands.{Island}
-use Rattle.mst_plan_text.proofs.graph.Alike.{alike_groups}
-use Rattle.mst_plan_text.proofs.graph.Members.{here, in_whole}
+use Rattle.mst_plan_text.proofs.graph_lemmas.Alike.{alike_groups}
+use Rattle.mst_plan_text.proofs.graph_lemmas.Members.{here, in_whole}
 use Rattle.mst_plan_text.specs.net.Tables.{Net}
 use Rattle.mst_plan_text.specs.trees.Outcome.{Outcome}
 use Rattle.mst_plan_text.proofs.trees_text.Entries.{all_weaker}

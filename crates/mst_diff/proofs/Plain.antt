@@ -9,14 +9,14 @@ use Rattle.mst_ids.specs.Texts.{is_name_byte}
 use Rattle.mst_ids.specs.Words.{after_comma, comma_list}
 use Rattle.mst_plan_text.specs.lang.Ranges.{IsName}
 use Rattle.mst_plan_text.specs.graph.Islands.{Island}
-use Rattle.mst_plan_text.proofs.graph.Members.{from_filter, from_map}
+use Rattle.mst_plan_text.proofs.graph_lemmas.Members.{from_filter, from_map}
 use Rattle.mst_plan_text.specs.net.Tables.{Net, BridgeRow, IsNetwork}
-use Rattle.mst_plan_text.proofs.net.Keys.{names}
+use Rattle.mst_plan_text.proofs.net_lemmas.Keys.{names}
 use Rattle.mst_plan_text.specs.trees.Outcome.{Outcome}
 use Rattle.mst_plan_text.proofs.trees_text.Entries.{all_weaker, entries_found}
 use Rattle.mst_plan_text.proofs.trees_text.Lists.{all_contained, all_mapped, all_there}
 use Rattle.mst_plan_text.specs.vlan.Reach.{AreIslandsOf, bridges_on, lans_up, vid_links}
-use Rattle.mst_plan_text.proofs.vlan.Renumbered.{bridge_listed}
+use Rattle.mst_plan_text.proofs.vlan_lemmas.Renumbered.{bridge_listed}
 use Rattle.mst_diff.specs.Reach.{has_any, island_words}
 use Rattle.mst_diff.proofs.TwoSides.{HasNo, IsPlain, ArePlain}
 

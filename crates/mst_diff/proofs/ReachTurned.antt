@@ -5,8 +5,8 @@ use Rattle.std.specs.Cmp.Lexicographic.{pointwise, bytes_decides}
 use Rattle.std.specs.List.{Contains, flat_map}
 use Rattle.std.proofs.lemmas.Grind.{flat_map-append}
 use Rattle.mst_plan_text.specs.graph.Groups.{AreGroups}
-use Rattle.mst_plan_text.proofs.graph.Alike.{alike_groups}
-use Rattle.mst_plan_text.proofs.graph.Members.{here, there, in_whole}
+use Rattle.mst_plan_text.proofs.graph_lemmas.Alike.{alike_groups}
+use Rattle.mst_plan_text.proofs.graph_lemmas.Members.{here, there, in_whole}
 use Rattle.mst_plan_text.specs.net.Tables.{Net, IsNetwork}
 use Rattle.mst_plan_text.specs.trees.Outcome.{Outcome}
 use Rattle.mst_plan_text.specs.PlanText.{all_vids}

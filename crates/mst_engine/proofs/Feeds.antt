@@ -13,7 +13,7 @@ use Rattle.mst_engine.specs.Engine.{Tally, known_after, does, RunsOn, tallied}
 use Rattle.mst_engine.specs.declared.engine.Input.{Input}
 use Rattle.mst_print.specs.io.Held.{lines_held}
 use Rattle.mst_engine.specs.Feeding.{Feeds, BreaksIn, Breaks}
-use Rattle.mst_print.proofs.io.Known.{AppendsFront-after, AppendsFront-longer}
+use Rattle.mst_print.proofs.io_lemmas.Known.{AppendsFront-after, AppendsFront-longer}
 use Rattle.mst_engine.proofs.Steps.{AlwaysRuns, left_by-append, on-first}
 
 module _ (input : Input) where

@@ -19,8 +19,8 @@ use Rattle.mst_engine.specs.Steps.{Step, RunsBy}
 use Rattle.mst_engine.specs.declared.engine.Input.{Input}
 use Rattle.mst_engine.specs.declared.engine.Input.TheVariants.{Script, Network, Captures}
 use Rattle.mst_print.specs.declared.form.Shape.{Shape}
-use Rattle.mst_print.proofs.io.Long.{held_cases, long_reading, none_held_of, one_held_of}
-use Rattle.mst_print.proofs.io.Starts.{IsHeld, IsHeld-nothing, IsHeld-push}
+use Rattle.mst_print.proofs.io_lemmas.Long.{held_cases, long_reading, none_held_of, one_held_of}
+use Rattle.mst_print.proofs.io_lemmas.Starts.{IsHeld, IsHeld-nothing, IsHeld-push}
 use Rattle.mst_engine.proofs.Skips.{skips, skips-start}
 use Rattle.mst_engine.proofs.Steps.{ServesBy, runs_alike}
 

@@ -6,7 +6,7 @@ use Rattle.std.specs.List.{find}
 use Rattle.mst_compare.specs.lang.Lines.{drop_cr}
 use Rattle.mst_compare.specs.lang.Words.{is_blank}
 use Rattle.mst_engine.specs.Captures.{is_skipped}
-use Rattle.mst_print.proofs.io.Starts.{start_of}
+use Rattle.mst_print.proofs.io_lemmas.Starts.{start_of}
 
 -- a line that begins so, without its carriage return
 abbrev pub skips : List ℕ → Bool

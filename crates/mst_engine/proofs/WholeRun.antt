@@ -15,8 +15,8 @@ use Rattle.mst_engine.specs.declared.engine.Input.{Input}
 use Rattle.mst_engine.proofs.Held.{input_held, ended_held}
 use Rattle.mst_engine.proofs.Steps.{AlwaysRuns, on-none}
 use Rattle.mst_engine.proofs.Feeds.{Feeds-nil, Feeds-join}
-use Rattle.mst_print.proofs.io.ReadBytes.{Reads-rest, Reads-all}
-use Rattle.mst_print.proofs.io.Known.{AppendsFront-after}
+use Rattle.mst_print.proofs.io_lemmas.ReadBytes.{Reads-rest, Reads-all}
+use Rattle.mst_print.proofs.io_lemmas.Known.{AppendsFront-after}
 
 -- where an input begins
 pub begins_counted : (t : Tally) (from : State) → t ≡ begun from → IsCounted t

@@ -7,15 +7,15 @@ use Rattle.mst_ids.specs.declared.name.PortName.{PortName}
 use Rattle.mst_roles.specs.vector.Rules.{Rules, IsMetric}
 use Rattle.mst_roles.specs.settle.Topology.{TreePort, Topology, IsTopology, HasBridge, HasPort}
 use Rattle.mst_roles.specs.settle.Settled.{IsDesignatedVector, IsDesignated}
-use Rattle.mst_roles.proofs.settle.Below.{one_speaker}
-use Rattle.mst_roles.proofs.settle.Orders.{both}
+use Rattle.mst_roles.proofs.settle_lemmas.Below.{one_speaker}
+use Rattle.mst_roles.proofs.settle_lemmas.Orders.{both}
 use Rattle.mst_roles.specs.net.Tables.{Net, IsNetwork}
 use Rattle.mst_roles.specs.lag.View.{LogicalPort, view_ports}
 use Rattle.mst_roles.specs.trees.Sight.{Sight, tree_port, tree_of}
 use Rattle.mst_roles.specs.trees.Outcome.{TreeOutcome, IsTreeOutcome}
-use Rattle.mst_roles.proofs.trees.Lists.{no_some, all_contained}
-use Rattle.mst_roles.proofs.trees.Views.{IsPort, ports_are}
-use Rattle.mst_roles.proofs.trees.Sights.{IsSight, bridge_in, port_in, port_from, is_topology}
+use Rattle.mst_roles.proofs.trees_lemmas.Lists.{no_some, all_contained}
+use Rattle.mst_roles.proofs.trees_lemmas.Views.{IsPort, ports_are}
+use Rattle.mst_roles.proofs.trees_lemmas.Sights.{IsSight, bridge_in, port_in, port_from, is_topology}
 use Rattle.mst_explain.specs.declared.claims.Claim.{Claim}
 use Rattle.mst_explain.specs.Claims.{told_text}
 use Rattle.mst_explain.specs.Contest.{IsFirst, IsAlone, IsDesignatedVectorOn, Gives}

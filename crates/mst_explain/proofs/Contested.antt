@@ -15,8 +15,8 @@ use Rattle.mst_roles.specs.lag.declared.in_view.PortInView.{PortInView}
 use Rattle.mst_roles.specs.trees.Sight.{Sight, tree_of, named_bridge}
 use Rattle.mst_roles.specs.trees.Outcome.{TreeOutcome, IsTreeOutcome}
 use Rattle.mst_roles.specs.trees.Agrees.{AreOf}
-use Rattle.mst_roles.proofs.trees.Sights.{IsSight}
-use Rattle.mst_roles.proofs.trees.Seen.{port_seen, port_of_net}
+use Rattle.mst_roles.proofs.trees_lemmas.Sights.{IsSight}
+use Rattle.mst_roles.proofs.trees_lemmas.Seen.{port_seen, port_of_net}
 use Rattle.mst_explain.specs.Explained.{TellsRoot, TellsContest}
 use Rattle.mst_explain.specs.Fields.{Field}
 use Rattle.mst_explain.specs.Lines.{restricted_line}

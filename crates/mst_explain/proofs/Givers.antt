@@ -10,17 +10,17 @@ use Rattle.mst_ids.specs.declared.name.PortName.{PortName}
 use Rattle.mst_roles.specs.vector.Rules.{Rules, IsMetric}
 use Rattle.mst_roles.specs.settle.Topology.{TreePort, Topology, IsTopology, HasBridge, HasPort}
 use Rattle.mst_roles.specs.settle.Settled.{Designates, IsRootPathVector, IsDesignated}
-use Rattle.mst_roles.proofs.settle.Below.{one_designated}
+use Rattle.mst_roles.proofs.settle_lemmas.Below.{one_designated}
 use Rattle.mst_roles.specs.net.Tables.{Net, Numbers}
 use Rattle.mst_roles.specs.lag.Viewed.{Viewed, named_port}
 use Rattle.mst_roles.specs.lag.declared.in_view.PortInView.{PortInView}
 use Rattle.mst_roles.specs.trees.Sight.{Sight, tree_port, tree_of}
 use Rattle.mst_roles.specs.trees.Outcome.{TreeOutcome, IsTreeOutcome}
 use Rattle.mst_roles.specs.trees.Agrees.{IsNameOf, AreOf}
-use Rattle.mst_roles.proofs.trees.Lists.{some_is, no_some, kept_in, kept_from, there_first}
-use Rattle.mst_roles.proofs.trees.Sights.{IsSight, changed_from, port_in}
-use Rattle.mst_roles.proofs.trees.Seen.{port_seen, port_of_net}
-use Rattle.mst_roles.proofs.trees.Looking.{first_found}
+use Rattle.mst_roles.proofs.trees_lemmas.Lists.{some_is, no_some, kept_in, kept_from, there_first}
+use Rattle.mst_roles.proofs.trees_lemmas.Sights.{IsSight, changed_from, port_in}
+use Rattle.mst_roles.proofs.trees_lemmas.Seen.{port_seen, port_of_net}
+use Rattle.mst_roles.proofs.trees_lemmas.Looking.{first_found}
 use Rattle.mst_explain.specs.declared.claims.Claim.{Claim}
 use Rattle.mst_explain.specs.Contest.{Gives}
 use Rattle.mst_explain.specs.Seen.{TreeSeen, designated_vector, designated_on, root_path_vector_from, heard, given, claim_of, own_claims, bridge_claim, bridge_claims}

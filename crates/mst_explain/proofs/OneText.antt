@@ -14,17 +14,17 @@ use Rattle.mst_roles.specs.vector.declared.cist.CistBridge.{CistBridge}
 use Rattle.mst_roles.specs.vector.declared.cist.CistPort.{CistPort}
 use Rattle.mst_roles.specs.settle.Topology.{TreePort, Topology, IsTopology, HasBridge, HasPort}
 use Rattle.mst_roles.specs.settle.Settled.{IsDesignatedVector, Designates, IsRootPathVector}
-use Rattle.mst_roles.proofs.settle.Below.{one_message, one_speaker, one_designated}
-use Rattle.mst_roles.proofs.settle.Orders.{both}
+use Rattle.mst_roles.proofs.settle_lemmas.Below.{one_message, one_speaker, one_designated}
+use Rattle.mst_roles.proofs.settle_lemmas.Orders.{both}
 use Rattle.mst_roles.specs.net.Tables.{Net, IsNetwork}
 use Rattle.mst_roles.specs.lag.View.{LogicalPort}
 use Rattle.mst_roles.specs.trees.Cist.{cist_sight, cist_of}
 use Rattle.mst_roles.specs.trees.Msti.{msti_sight, msti_of, is_internal}
 use Rattle.mst_roles.specs.trees.Outcome.{TreeOutcome, Outcome}
-use Rattle.mst_roles.proofs.trees.Lists.{some_is}
-use Rattle.mst_roles.proofs.trees.Sights.{has_port_ids}
-use Rattle.mst_roles.proofs.trees.CistTopology.{cist_is_sight, cist_topology}
-use Rattle.mst_roles.proofs.trees.MstiTopology.{msti_is_sight, msti_topology}
+use Rattle.mst_roles.proofs.trees_lemmas.Lists.{some_is}
+use Rattle.mst_roles.proofs.trees_lemmas.Sights.{has_port_ids}
+use Rattle.mst_roles.proofs.trees_lemmas.CistTopology.{cist_is_sight, cist_topology}
+use Rattle.mst_roles.proofs.trees_lemmas.MstiTopology.{msti_is_sight, msti_topology}
 use Rattle.mst_roles.specs.Roles.{cist_role}
 use Rattle.mst_explain.specs.Contest.{IsFirst, IsRival, IsAlone, IsDesignatedVectorOn, Gives}
 use Rattle.mst_explain.specs.Explained.{TellsRival, TellsDesignated, TellsRoot, TellsContest, TellsBoundary, TellsInMsti, TellsEnabled, TellsReason, IsExplanation}

@@ -25,10 +25,10 @@ use Rattle.mst_roles.specs.trees.Outcome.{Outcome}
 use Rattle.mst_roles.specs.trees.Agrees.{Agrees, AreOf}
 use Rattle.mst_roles.specs.trees.Seen.{seen_internal}
 use Rattle.mst_roles.specs.trees.Forest.{Forest, msti_vector, msti_designated}
-use Rattle.mst_roles.proofs.trees.CistTopology.{cist_is_sight}
-use Rattle.mst_roles.proofs.trees.MstiTopology.{msti_is_sight}
-use Rattle.mst_roles.proofs.trees.Seen.{SeenBridge, SeenPort, bridge_seen, port_seen}
-use Rattle.mst_roles.proofs.trees.Looking.{internal_same, has_tree_at}
+use Rattle.mst_roles.proofs.trees_lemmas.CistTopology.{cist_is_sight}
+use Rattle.mst_roles.proofs.trees_lemmas.MstiTopology.{msti_is_sight}
+use Rattle.mst_roles.proofs.trees_lemmas.Seen.{SeenBridge, SeenPort, bridge_seen, port_seen}
+use Rattle.mst_roles.proofs.trees_lemmas.Looking.{internal_same, has_tree_at}
 use Rattle.mst_explain.specs.Fields.{cist_fields, msti_fields}
 use Rattle.mst_explain.specs.Explained.{TellsContest}
 use Rattle.mst_explain.specs.Planned.{IsPlanOf}

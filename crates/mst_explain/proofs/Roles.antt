@@ -14,8 +14,8 @@ use Rattle.mst_roles.specs.vector.Msti.{msti_rules}
 use Rattle.mst_roles.specs.vector.MstiLaws.{msti_lawful}
 use Rattle.mst_roles.specs.settle.Topology.{TreePort, Topology, IsTopology, HasBridge, HasPort}
 use Rattle.mst_roles.specs.settle.Settled.{IsDesignatedVector, Designates, IsDesignated, IsVectorOf}
-use Rattle.mst_roles.proofs.settle.Below.{one_speaker, one_designated}
-use Rattle.mst_roles.proofs.settle.Orders.{both}
+use Rattle.mst_roles.proofs.settle_lemmas.Below.{one_speaker, one_designated}
+use Rattle.mst_roles.proofs.settle_lemmas.Orders.{both}
 use Rattle.mst_roles.specs.net.Tables.{Net, IsNetwork, port_eq}
 use Rattle.mst_roles.specs.net.ByTree.{by_tree}
 use Rattle.mst_roles.specs.lag.Aggregation.{same_name}
@@ -24,11 +24,11 @@ use Rattle.mst_roles.specs.trees.Sight.{Sight, tree_port, tree_of}
 use Rattle.mst_roles.specs.trees.Cist.{cist_port, cist_sight, cist_of}
 use Rattle.mst_roles.specs.trees.Msti.{msti_port, msti_sight, msti_of, has_msti, is_internal}
 use Rattle.mst_roles.specs.trees.Outcome.{TreeOutcome, IsTreeOutcome, Outcome, IsOutcome}
-use Rattle.mst_roles.proofs.trees.Lists.{some_is, no_some, all_contained}
-use Rattle.mst_roles.proofs.trees.Views.{IsPort, ports_are}
-use Rattle.mst_roles.proofs.trees.Sights.{IsSight, bridge_in, port_in, port_from, is_topology, has_port_ids}
-use Rattle.mst_roles.proofs.trees.CistTopology.{cist_is_sight}
-use Rattle.mst_roles.proofs.trees.MstiTopology.{msti_is_sight}
+use Rattle.mst_roles.proofs.trees_lemmas.Lists.{some_is, no_some, all_contained}
+use Rattle.mst_roles.proofs.trees_lemmas.Views.{IsPort, ports_are}
+use Rattle.mst_roles.proofs.trees_lemmas.Sights.{IsSight, bridge_in, port_in, port_from, is_topology, has_port_ids}
+use Rattle.mst_roles.proofs.trees_lemmas.CistTopology.{cist_is_sight}
+use Rattle.mst_roles.proofs.trees_lemmas.MstiTopology.{msti_is_sight}
 use Rattle.mst_roles.specs.Roles.{beside, role_by, outside, cist_role, msti_role}
 use Rattle.mst_roles.specs.declared.kind.Role.{Role}
 use Rattle.mst_roles.specs.declared.kind.Role.TheVariants.{Root, Designated, Alternate, Backup, Master, Disabled}

@@ -18,11 +18,11 @@ use Rattle.mst_roles.specs.lag.declared.in_view.PortInView.{PortInView}
 use Rattle.mst_roles.specs.trees.Sight.{Sight, tree_port, tree_of}
 use Rattle.mst_roles.specs.trees.Outcome.{TreeOutcome, IsTreeOutcome}
 use Rattle.mst_roles.specs.trees.Agrees.{Agrees, AreOf}
-use Rattle.mst_roles.proofs.trees.Lists.{some_is, no_some, apart_cases, kept_in, kept_from}
-use Rattle.mst_roles.proofs.trees.Views.{port_names_differ}
-use Rattle.mst_roles.proofs.trees.Sights.{IsSight, changed_from, bridge_from, bridge_in, port_from, port_in, is_topology}
-use Rattle.mst_roles.proofs.trees.Seen.{PortsRise, bridge_seen, port_seen, ports_apart, bridge_there, port_there, port_of_net}
-use Rattle.mst_roles.proofs.trees.Looking.{first_found}
+use Rattle.mst_roles.proofs.trees_lemmas.Lists.{some_is, no_some, apart_cases, kept_in, kept_from}
+use Rattle.mst_roles.proofs.trees_lemmas.Views.{port_names_differ}
+use Rattle.mst_roles.proofs.trees_lemmas.Sights.{IsSight, changed_from, bridge_from, bridge_in, port_from, port_in, is_topology}
+use Rattle.mst_roles.proofs.trees_lemmas.Seen.{PortsRise, bridge_seen, port_seen, ports_apart, bridge_there, port_there, port_of_net}
+use Rattle.mst_roles.proofs.trees_lemmas.Looking.{first_found}
 use Rattle.mst_roles.proofs.Named.{found_in}
 use Rattle.mst_explain.specs.declared.claims.Claim.{Claim}
 use Rattle.mst_explain.specs.Contest.{IsDesignatedVectorOn}

@@ -7,10 +7,10 @@ use Rattle.mst_ids.specs.declared.name.PortName.{PortName}
 use Rattle.mst_roles.specs.vector.Rules.{Rules, IsMetric}
 use Rattle.mst_roles.specs.settle.Topology.{TreePort, Topology, IsTopology, HasPort}
 use Rattle.mst_roles.specs.settle.Settled.{IsDesignatedVector, Designates, IsRootPathVector, IsDesignated}
-use Rattle.mst_roles.proofs.settle.Below.{one_message, one_designated}
+use Rattle.mst_roles.proofs.settle_lemmas.Below.{one_message, one_designated}
 use Rattle.mst_roles.specs.trees.Outcome.{TreeOutcome, IsTreeOutcome}
-use Rattle.mst_roles.proofs.trees.Entries.{all_weaker}
-use Rattle.mst_roles.proofs.trees.Lists.{all_there, there_first, there_later}
+use Rattle.mst_roles.proofs.trees_lemmas.Entries.{all_weaker}
+use Rattle.mst_roles.proofs.trees_lemmas.Lists.{all_there, there_first, there_later}
 use Rattle.mst_explain.specs.declared.claims.Claim.{Claim}
 use Rattle.mst_explain.specs.Contest.{IsDesignatedVectorOn, Gives}
 use Rattle.mst_explain.proofs.Firsts.{Hold}

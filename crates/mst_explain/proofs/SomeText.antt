@@ -17,9 +17,9 @@ use Rattle.mst_roles.specs.trees.Sight.{Sight, tree_of}
 use Rattle.mst_roles.specs.trees.Cist.{cist_port, cist_sight, cist_of}
 use Rattle.mst_roles.specs.trees.Msti.{msti_port, msti_sight, msti_of, has_msti, is_internal}
 use Rattle.mst_roles.specs.trees.Outcome.{TreeOutcome, IsTreeOutcome, Outcome, IsOutcome}
-use Rattle.mst_roles.proofs.trees.Sights.{IsSight, is_topology, has_port_ids}
-use Rattle.mst_roles.proofs.trees.CistTopology.{cist_is_sight}
-use Rattle.mst_roles.proofs.trees.MstiTopology.{msti_is_sight}
+use Rattle.mst_roles.proofs.trees_lemmas.Sights.{IsSight, is_topology, has_port_ids}
+use Rattle.mst_roles.proofs.trees_lemmas.CistTopology.{cist_is_sight}
+use Rattle.mst_roles.proofs.trees_lemmas.MstiTopology.{msti_is_sight}
 use Rattle.mst_roles.specs.Roles.{cist_role, msti_role, role_in}
 use Rattle.mst_roles.specs.declared.kind.Role.{Role}
 use Rattle.mst_explain.specs.declared.claims.Claim.{Claim}

@@ -18,17 +18,17 @@ use Rattle.mst_roles.specs.lag.Viewed.{Viewed, named_port, member_lan}
 use Rattle.mst_roles.specs.lag.declared.in_view.BridgeInView.{BridgeInView}
 use Rattle.mst_roles.specs.lag.declared.in_view.PortInView.{PortInView}
 use Rattle.mst_roles.specs.lag.declared.in_view.MemberLan.{MemberLan}
-use Rattle.mst_roles.proofs.lag.Placing.{pair_found}
+use Rattle.mst_roles.proofs.lag_lemmas.Placing.{pair_found}
 use Rattle.mst_roles.specs.trees.Cist.{cist_sight}
 use Rattle.mst_roles.specs.trees.Msti.{has_msti, is_internal}
 use Rattle.mst_roles.specs.trees.Outcome.{Outcome}
 use Rattle.mst_roles.specs.trees.Agrees.{AreOf}
 use Rattle.mst_roles.specs.trees.Seen.{seen_internal, trees_at}
 use Rattle.mst_roles.specs.trees.Forest.{Forest, designated_in}
-use Rattle.mst_roles.proofs.trees.Entries.{all_weaker}
-use Rattle.mst_roles.proofs.trees.Lists.{all_contained, all_there}
-use Rattle.mst_roles.proofs.trees.CistTopology.{cist_is_sight}
-use Rattle.mst_roles.proofs.trees.Seen.{SeenPort, port_seen}
+use Rattle.mst_roles.proofs.trees_lemmas.Entries.{all_weaker}
+use Rattle.mst_roles.proofs.trees_lemmas.Lists.{all_contained, all_there}
+use Rattle.mst_roles.proofs.trees_lemmas.CistTopology.{cist_is_sight}
+use Rattle.mst_roles.proofs.trees_lemmas.Seen.{SeenPort, port_seen}
 use Rattle.mst_roles.specs.Roles.{cist_role, msti_role, role_in}
 use Rattle.mst_roles.specs.Seen.{seen_role}
 use Rattle.mst_roles.specs.declared.kind.Role.{Role}

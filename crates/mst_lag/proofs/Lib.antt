@@ -1,4 +1,4 @@
-pub use Rattle.mst_net.proofs as net
+pub use Rattle.mst_net.proofs as net_lemmas
 pub mod Names
 pub mod Lists
 pub mod Entries

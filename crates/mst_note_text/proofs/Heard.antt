@@ -6,7 +6,7 @@ use Rattle.mst_ids.specs.declared.name.PortName.{PortName}
 use Rattle.mst_roles.specs.vector.Rules.{Rules, IsMetric}
 use Rattle.mst_roles.specs.settle.Topology.{TreePort}
 use Rattle.mst_roles.specs.settle.Settled.{IsDesignated, Designates}
-use Rattle.mst_roles.proofs.settle.Below.{one_designated}
+use Rattle.mst_roles.proofs.settle_lemmas.Below.{one_designated}
 use Rattle.mst_roles.specs.net.Tables.{Net, Numbers}
 use Rattle.mst_roles.specs.lag.View.{LogicalPort}
 use Rattle.mst_roles.specs.lag.Viewed.{Viewed, named_port}
@@ -14,10 +14,10 @@ use Rattle.mst_roles.specs.lag.declared.in_view.PortInView.{PortInView}
 use Rattle.mst_roles.specs.trees.Sight.{Sight, tree_of, tree_port}
 use Rattle.mst_roles.specs.trees.Outcome.{TreeOutcome, IsTreeOutcome}
 use Rattle.mst_roles.specs.trees.Agrees.{Agrees, IsNameOf, AreOf}
-use Rattle.mst_roles.proofs.trees.Lists.{some_is, no_some}
-use Rattle.mst_roles.proofs.trees.Sights.{IsSight, PortOf, port_from, port_in, is_topology}
-use Rattle.mst_roles.proofs.trees.Seen.{SeenPort, port_seen, port_there, port_of_net}
-use Rattle.mst_roles.proofs.trees.Looking.{IsThere, is_there}
+use Rattle.mst_roles.proofs.trees_lemmas.Lists.{some_is, no_some}
+use Rattle.mst_roles.proofs.trees_lemmas.Sights.{IsSight, PortOf, port_from, port_in, is_topology}
+use Rattle.mst_roles.proofs.trees_lemmas.Seen.{SeenPort, port_seen, port_there, port_of_net}
+use Rattle.mst_roles.proofs.trees_lemmas.Looking.{IsThere, is_there}
 use Rattle.mst_note_text.specs.Depths.{HasParent}
 
 module _ {B P V : Type 0} (net : Net) (numbers : Numbers) (v : Viewed) (region_ids : List (ℕ × ℕ)) (of : AreOf net numbers v region_ids) (m : Rules B P V) (law : IsMetric m) (s : Sight B P) (sight : IsSight net m s)

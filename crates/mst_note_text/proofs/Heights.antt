@@ -4,10 +4,10 @@ use Rattle.mst_roles.specs.vector.declared.cist.CistVector.{CistVector}
 use Rattle.mst_roles.specs.vector.declared.msti.MstiVector.{MstiVector}
 use Rattle.mst_roles.specs.settle.Topology.{KeyTests}
 use Rattle.mst_roles.specs.nested.Trees.{Trees, IsSettled}
-use Rattle.mst_roles.proofs.nested.Settled.{cist_tree, msti_tree}
-use Rattle.mst_roles.proofs.nested.Origins.{near_step}
-use Rattle.mst_roles.proofs.nested.Mstis.{InTree}
-use Rattle.mst_roles.proofs.nested.Facts.{at}
+use Rattle.mst_roles.proofs.nested_lemmas.Settled.{cist_tree, msti_tree}
+use Rattle.mst_roles.proofs.nested_lemmas.Origins.{near_step}
+use Rattle.mst_roles.proofs.nested_lemmas.Mstis.{InTree}
+use Rattle.mst_roles.proofs.nested_lemmas.Facts.{at}
 use Rattle.mst_note_text.specs.Chains.{ExternalChain, last, within, across}
 use Rattle.mst_note_text.specs.Depths.{ParentIn, ParentWithin, ParentBetween}
 use Rattle.mst_note_text.proofs.Chains.{AreSides}

@@ -29,11 +29,11 @@ use Rattle.mst_roles.specs.trees.Outcome.{TreeOutcome, IsTreeOutcome, Outcome, t
 use Rattle.mst_roles.specs.trees.Agrees.{Agrees, AreOf}
 use Rattle.mst_roles.specs.trees.Forest.{IsForest, msti_vector, msti_designated, designated_in}
 use Rattle.mst_roles.specs.trees.Forest.{Forest}
-use Rattle.mst_roles.proofs.trees.Seen.{bridge_seen, port_seen, bridge_there}
-use Rattle.mst_roles.proofs.trees.Sights.{IsSight, bridge_from}
-use Rattle.mst_roles.proofs.trees.Looking.{internal_same, has_tree_at}
-use Rattle.mst_roles.proofs.trees.CistTopology.{given, cist_is_sight}
-use Rattle.mst_roles.proofs.trees.MstiTopology.{msti_is_sight, msti_port_is}
+use Rattle.mst_roles.proofs.trees_lemmas.Seen.{bridge_seen, port_seen, bridge_there}
+use Rattle.mst_roles.proofs.trees_lemmas.Sights.{IsSight, bridge_from}
+use Rattle.mst_roles.proofs.trees_lemmas.Looking.{internal_same, has_tree_at}
+use Rattle.mst_roles.proofs.trees_lemmas.CistTopology.{given, cist_is_sight}
+use Rattle.mst_roles.proofs.trees_lemmas.MstiTopology.{msti_is_sight, msti_port_is}
 use Rattle.mst_roles.specs.nested.Trees.{IsSettled}
 use Rattle.mst_note_text.specs.Depths.{HasParent}
 use Rattle.mst_note_text.specs.declared.member.Member.{Member}

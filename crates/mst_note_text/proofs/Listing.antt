@@ -15,7 +15,7 @@ use Rattle.mst_roles.specs.lag.declared.in_view.BridgeInView.{BridgeInView}
 use Rattle.mst_roles.specs.lag.declared.in_view.PortInView.{PortInView}
 use Rattle.mst_roles.specs.config.Shared.{same_in}
 use Rattle.mst_roles.specs.config.Regions.{region_of}
-use Rattle.mst_roles.proofs.config.SameRegion.{told}
+use Rattle.mst_roles.proofs.config_lemmas.SameRegion.{told}
 use Rattle.mst_roles.specs.vector.Cist.{cist_rules}
 use Rattle.mst_roles.specs.vector.declared.cist.CistBridge.{CistBridge}
 use Rattle.mst_roles.specs.settle.Topology.{HasBridge}
@@ -26,10 +26,10 @@ use Rattle.mst_roles.specs.trees.Agrees.{AreOf}
 use Rattle.mst_roles.specs.trees.Forest.{designated_in}
 use Rattle.mst_roles.specs.trees.Forest.{Forest}
 use Rattle.mst_roles.specs.trees.Outcome.{Outcome, trees_of}
-use Rattle.mst_roles.proofs.trees.Lists.{some_is, all_contained, apart_kept, kept_from, kept_in}
-use Rattle.mst_roles.proofs.trees.Seen.{BridgesRise, bridge_seen, port_seen, bridges_apart}
-use Rattle.mst_roles.proofs.trees.Sights.{bridge_from}
-use Rattle.mst_roles.proofs.trees.CistTopology.{given, cist_is_sight}
+use Rattle.mst_roles.proofs.trees_lemmas.Lists.{some_is, all_contained, apart_kept, kept_from, kept_in}
+use Rattle.mst_roles.proofs.trees_lemmas.Seen.{BridgesRise, bridge_seen, port_seen, bridges_apart}
+use Rattle.mst_roles.proofs.trees_lemmas.Sights.{bridge_from}
+use Rattle.mst_roles.proofs.trees_lemmas.CistTopology.{given, cist_is_sight}
 use Rattle.mst_note_text.specs.Depths.{ParentIn}
 use Rattle.mst_note_text.specs.Places.{IsParent}
 use Rattle.mst_note_text.specs.Listed.{IsListed}

@@ -21,7 +21,7 @@ use Rattle.mst_roles.specs.net.Contents.{priority_of}
 use Rattle.mst_roles.specs.net.Seen.{bridge_row}
 use Rattle.mst_roles.specs.lag.Viewed.{Viewed, named_bridge}
 use Rattle.mst_roles.specs.lag.declared.in_view.BridgeInView.{BridgeInView}
-use Rattle.mst_roles.proofs.lag.Lists.{mapped_twice}
+use Rattle.mst_roles.proofs.lag_lemmas.Lists.{mapped_twice}
 use Rattle.mst_roles.specs.config.Regions.{region_of}
 use Rattle.mst_roles.specs.trees.Cist.{cist_bridge, cist_sight}
 use Rattle.mst_roles.specs.trees.Msti.{msti_bridge, msti_sight, has_msti}
@@ -29,12 +29,12 @@ use Rattle.mst_roles.specs.trees.Agrees.{AreOf}
 use Rattle.mst_roles.specs.trees.Forest.{IsForest, msti_vector}
 use Rattle.mst_roles.specs.trees.Forest.{Forest}
 use Rattle.mst_roles.specs.trees.Outcome.{Outcome, trees_of}
-use Rattle.mst_roles.proofs.trees.Lists.{some_is, all_contained, all_there, kept_from}
-use Rattle.mst_roles.proofs.trees.Entries.{all_weaker}
-use Rattle.mst_roles.proofs.trees.Seen.{bridge_seen, bridge_there}
-use Rattle.mst_roles.proofs.trees.Sights.{bridge_from}
-use Rattle.mst_roles.proofs.trees.CistTopology.{given, cist_is_sight}
-use Rattle.mst_roles.proofs.trees.MstiTopology.{msti_is_sight}
+use Rattle.mst_roles.proofs.trees_lemmas.Lists.{some_is, all_contained, all_there, kept_from}
+use Rattle.mst_roles.proofs.trees_lemmas.Entries.{all_weaker}
+use Rattle.mst_roles.proofs.trees_lemmas.Seen.{bridge_seen, bridge_there}
+use Rattle.mst_roles.proofs.trees_lemmas.Sights.{bridge_from}
+use Rattle.mst_roles.proofs.trees_lemmas.CistTopology.{given, cist_is_sight}
+use Rattle.mst_roles.proofs.trees_lemmas.MstiTopology.{msti_is_sight}
 use Rattle.mst_roles.specs.nested.Trees.{Trees, IsSettled, HasTree}
 use Rattle.mst_note_text.specs.Depths.{InternalDepth, ExternalDepth}
 use Rattle.mst_note_text.specs.Places.{depths_at}

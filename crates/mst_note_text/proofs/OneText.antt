@@ -15,7 +15,7 @@ use Rattle.mst_note_text.specs.Depths.{ParentWithin, ParentBetween}
 use Rattle.mst_note_text.proofs.Chains.{one_internal, one_external}
 use Rattle.mst_note_text.proofs.Regions.{one_within, cist_sides}
 use Rattle.mst_note_text.proofs.Tops.{internal_depth, external_depth}
-use Rattle.mst_roles.proofs.trees.Lists.{no_some}
+use Rattle.mst_roles.proofs.trees_lemmas.Lists.{no_some}
 use Rattle.mst_note_text.specs.AreDepths.{TreeDepths, AreDepths}
 use Rattle.mst_note_text.specs.NotesText.{hops_note, age_note, external_note, internal_note, hops_notes, age_notes, cist_notes, msti_notes, bridge_notes, tree_notes, trees_notes, restricted_notes, notes_text, AreNotes}
 use Rattle.mst_note_text.proofs.Names.{name_tests}

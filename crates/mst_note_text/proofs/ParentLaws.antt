@@ -2,10 +2,10 @@
 use Rattle.std.proofs.Common.{◌≡◌, inl, inr, refl, sym, ◌∙◌, ap, ℕ, Option, Some}
 use Rattle.mst_roles.specs.vector.Rules.{Rules}
 use Rattle.mst_roles.specs.settle.Topology.{TreePort, Topology}
-use Rattle.mst_roles.proofs.settle.Below.{one_designated}
-use Rattle.mst_roles.proofs.nested.Settled.{SettledTree}
-use Rattle.mst_roles.proofs.nested.Ports.{Placed, Heard, some_is}
-use Rattle.mst_roles.proofs.nested.Origins.{Took, took, names_port, on_same_lan}
+use Rattle.mst_roles.proofs.settle_lemmas.Below.{one_designated}
+use Rattle.mst_roles.proofs.nested_lemmas.Settled.{SettledTree}
+use Rattle.mst_roles.proofs.nested_lemmas.Ports.{Placed, Heard, some_is}
+use Rattle.mst_roles.proofs.nested_lemmas.Origins.{Took, took, names_port, on_same_lan}
 use Rattle.mst_note_text.specs.Depths.{HasParent}
 
 -- the vector that names the root port is the bridge's

@@ -12,8 +12,8 @@ use Rattle.mst_roles.specs.config.Shared.{same_in}
 use Rattle.mst_roles.specs.trees.Apart.{Apart}
 use Rattle.mst_roles.specs.trees.Forest.{designated_in}
 use Rattle.mst_roles.specs.trees.Forest.{Forest}
-use Rattle.mst_roles.proofs.trees.Lists.{some_is, no_some, all_at}
-use Rattle.mst_roles.proofs.trees.Views.{names_differ}
+use Rattle.mst_roles.proofs.trees_lemmas.Lists.{some_is, no_some, all_at}
+use Rattle.mst_roles.proofs.trees_lemmas.Views.{names_differ}
 use Rattle.mst_note_text.specs.declared.parent.Parent.{Parent}
 use Rattle.mst_note_text.specs.SeenTree.{is_root_port, designated_at, parent_by, members_in, name_at}
 use Rattle.mst_note_text.specs.SeenTree as seen_tree

@@ -15,8 +15,8 @@ use Rattle.mst_roles.specs.trees.InUse.{is_in_use}
 use Rattle.mst_roles.specs.trees.Seen.{trees_at}
 use Rattle.mst_roles.specs.trees.Forest.{Forest}
 use Rattle.mst_roles.specs.trees.Outcome.{Outcome, trees_of}
-use Rattle.mst_roles.proofs.trees.Seen.{bridge_seen}
-use Rattle.mst_roles.proofs.trees.Looking.{has_tree_at}
+use Rattle.mst_roles.proofs.trees_lemmas.Seen.{bridge_seen}
+use Rattle.mst_roles.proofs.trees_lemmas.Looking.{has_tree_at}
 use Rattle.mst_roles.specs.nested.Trees.{IsSettled}
 use Rattle.mst_note_text.specs.AreDepths.{TreeDepths}
 use Rattle.mst_note_text.specs.NotesText.{cist_notes, msti_notes, bridge_notes, tree_notes, trees_notes}

@@ -1,7 +1,7 @@
-pub use Rattle.mst_summary.proofs.net as net
-pub use Rattle.mst_summary.proofs.lag as lag
-pub use Rattle.mst_summary.proofs.trees as trees
-pub use Rattle.mst_summary.proofs.roles as roles
+pub use Rattle.mst_summary.proofs.net_lemmas as net_lemmas
+pub use Rattle.mst_summary.proofs.lag_lemmas as lag_lemmas
+pub use Rattle.mst_summary.proofs.trees_lemmas as trees_lemmas
+pub use Rattle.mst_summary.proofs.roles_lemmas as roles_lemmas
 pub mod Named
 pub mod TwoEnds
 pub mod Lines

@@ -12,7 +12,7 @@ use Rattle.mst_summary.specs.lag.Viewed.{Viewed, named_bridge, named_lan, named_
 use Rattle.mst_summary.specs.lag.declared.in_view.BridgeInView.{BridgeInView}
 use Rattle.mst_summary.specs.lag.declared.in_view.LanInView.{LanInView}
 use Rattle.mst_summary.specs.lag.declared.in_view.PortInView.{PortInView}
-use Rattle.mst_summary.proofs.lag.Lists.{same_map}
+use Rattle.mst_summary.proofs.lag_lemmas.Lists.{same_map}
 use Rattle.mst_summary.specs.trees.Agrees.{AreOf}
 use Rattle.mst_summary.specs.trees.Forest.{Forest, IsForest}
 use Rattle.mst_summary.specs.trees.InUse.{id_in, seen_has}
@@ -22,9 +22,9 @@ use Rattle.mst_summary.proofs.in_use.Lists.{all_passing, all_there, filter_mappe
 use Rattle.mst_summary.proofs.in_use.Looking.{has_tree_at}
 use Rattle.mst_summary.proofs.in_use.Seen.{SeenPort, bridge_seen, ports_seen}
 use Rattle.mst_summary.specs.text.TreeText.{has_tree}
-use Rattle.mst_summary.proofs.roles.Named.{named}
-use Rattle.mst_summary.proofs.diff.Lists.{flat_map-same}
-use Rattle.mst_summary.proofs.diff.Named.{root_named}
+use Rattle.mst_summary.proofs.roles_lemmas.Named.{named}
+use Rattle.mst_summary.proofs.diff_lemmas.Lists.{flat_map-same}
+use Rattle.mst_summary.proofs.diff_lemmas.Named.{root_named}
 use Rattle.mst_summary.specs.Seen.{seen_on}
 use Rattle.mst_picture.specs.Bridges.{bridge_line, bridge_text, is_root, style}
 use Rattle.mst_picture.specs.Lans.{end_of, ends_on, lan_text}

@@ -12,8 +12,8 @@ use Rattle.mst_text.specs.lag.Viewed.{Viewed}
 use Rattle.mst_text.specs.trees.Agrees.{AreOf}
 use Rattle.mst_text.specs.trees.Outcome.{Outcome}
 use Rattle.mst_text.specs.trees.Forest.{Forest}
-use Rattle.mst_text.proofs.trees.Entries.{all_weaker}
-use Rattle.mst_text.proofs.trees.Lists.{all_contained}
+use Rattle.mst_text.proofs.trees_lemmas.Entries.{all_weaker}
+use Rattle.mst_text.proofs.trees_lemmas.Lists.{all_contained}
 use Rattle.mst_text.specs.vlan.Reach.{vid_links}
 use Rattle.mst_text.specs.VlanText.{IsBody}
 use Rattle.mst_plan_text.specs.Alike.{AreAlike, TellApart}

@@ -3,9 +3,9 @@ use Rattle.std.proofs.Common.{◌≡◌, ℕ, ◌+◌, ◌<◌, Bool, true, List
 use Rattle.std.specs.Bool.{Decides}
 use Rattle.std.specs.List.{AllByRecursion, Contains, list_any}
 use Rattle.std.proofs.lemmas.List.{take_more}
-use Rattle.mst_text.proofs.lag.Lists.{all_pushed}
-use Rattle.mst_text.proofs.trees.Entries.{all_weaker}
-use Rattle.mst_text.proofs.trees.Lists.{passed}
+use Rattle.mst_text.proofs.lag_lemmas.Lists.{all_pushed}
+use Rattle.mst_text.proofs.trees_lemmas.Entries.{all_weaker}
+use Rattle.mst_text.proofs.trees_lemmas.Lists.{passed}
 
 -- what is the same as one of the list is in it
 pub among : {X : Type 0} (same : X → X → Bool) → ((a b : X) → Decides (same a b) (a ≡ b)) → (xs : List X) (x : X) → list_any (λ y. same y x) xs ≡ true → Contains xs x

@@ -8,7 +8,7 @@ use Rattle.std.proofs.lemmas.List.FromFn.{get_or-range_with_len, length-range_wi
 use Rattle.mst_ids.specs.Vids.{is_vid}
 use Rattle.mst_text.specs.graph.Groups.{AreGroups}
 use Rattle.mst_text.specs.graph.Numbers.{HaveBodies}
-use Rattle.mst_text.proofs.graph.Alike.{alike_groups}
+use Rattle.mst_text.proofs.graph_lemmas.Alike.{alike_groups}
 use Rattle.mst_plan_text.specs.PlanText.{all_vids}
 use Rattle.mst_plan_text.specs.Bodies.{NumberEach, body_at}
 

@@ -1,11 +1,11 @@
-pub use Rattle.mst_text.proofs.graph as graph
-pub use Rattle.mst_text.proofs.net as net
-pub use Rattle.mst_text.proofs.lag as lag
-pub use Rattle.mst_text.proofs.config as config
-pub use Rattle.mst_text.proofs.trees as trees
-pub use Rattle.mst_text.proofs.roles as roles
-pub use Rattle.mst_text.proofs.vlan as vlan
-pub use Rattle.mst_text.proofs as text
+pub use Rattle.mst_text.proofs.graph_lemmas as graph_lemmas
+pub use Rattle.mst_text.proofs.net_lemmas as net_lemmas
+pub use Rattle.mst_text.proofs.lag_lemmas as lag_lemmas
+pub use Rattle.mst_text.proofs.config_lemmas as config_lemmas
+pub use Rattle.mst_text.proofs.trees_lemmas as trees_lemmas
+pub use Rattle.mst_text.proofs.roles_lemmas as roles_lemmas
+pub use Rattle.mst_text.proofs.vlan_lemmas as vlan_lemmas
+pub use Rattle.mst_text.proofs as text_lemmas
 pub mod Gathered
 pub mod Split
 pub mod Sets

@@ -7,8 +7,8 @@ use Rattle.std.proofs.lemmas.Bool.Decides.{nat_tests}
 use Rattle.std.proofs.lemmas.List.FromFn.{get_or-range_with_len, length-range_with_len}
 use Rattle.mst_ids.specs.Vids.{is_vid}
 use Rattle.mst_text.specs.graph.Groups.{AreGroups, StandOnce}
-use Rattle.mst_text.proofs.graph.Alike.{alike_groups}
-use Rattle.mst_text.proofs.graph.Members.{here, there, in_whole}
+use Rattle.mst_text.proofs.graph_lemmas.Alike.{alike_groups}
+use Rattle.mst_text.proofs.graph_lemmas.Members.{here, there, in_whole}
 use Rattle.mst_text.specs.net.Tables.{Net}
 use Rattle.mst_text.specs.trees.Outcome.{Outcome}
 use Rattle.mst_text.specs.VlanText.{IsBody}

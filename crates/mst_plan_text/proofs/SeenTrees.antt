@@ -11,9 +11,9 @@ use Rattle.mst_text.specs.trees.InUse.{is_in_use, seen_mstis}
 use Rattle.mst_text.specs.trees.Msti.{has_msti}
 use Rattle.mst_text.specs.trees.Seen.{trees_at}
 use Rattle.mst_text.specs.trees.Forest.{Forest}
-use Rattle.mst_text.proofs.trees.Entries.{all_weaker}
-use Rattle.mst_text.proofs.trees.Looking.{has_tree_at}
-use Rattle.mst_text.proofs.trees.Seen.{SeenBridge, bridges_seen}
+use Rattle.mst_text.proofs.trees_lemmas.Entries.{all_weaker}
+use Rattle.mst_text.proofs.trees_lemmas.Looking.{has_tree_at}
+use Rattle.mst_text.proofs.trees_lemmas.Seen.{SeenBridge, bridges_seen}
 use Rattle.mst_plan_text.specs.PlanText.{is_had, mstis}
 
 any_alike : {A : Type 0} (f g : A → Bool) (xs : List A) → AllByRecursion (λ x. f x ≡ g x) xs → list_any f xs ≡ list_any g xs

@@ -6,8 +6,8 @@ use Rattle.std.specs.Option.{option_map_or}
 use Rattle.std.specs.FinMap as fin
 use Rattle.mst_ids.specs.Vids.{has}
 use Rattle.mst_text.specs.graph.Islands.{AreIslands}
-use Rattle.mst_text.proofs.graph.Members.{from_filter}
-use Rattle.mst_text.proofs.graph.Splits.{kept_each}
+use Rattle.mst_text.proofs.graph_lemmas.Members.{from_filter}
+use Rattle.mst_text.proofs.graph_lemmas.Splits.{kept_each}
 use Rattle.mst_text.specs.net.After.{table_of}
 use Rattle.mst_text.specs.net.ByTree.{table_in, vlans_in}
 use Rattle.mst_text.specs.net.Table.{tree_in}
@@ -19,10 +19,10 @@ use Rattle.mst_text.specs.lag.declared.in_view.PortInView.{PortInView}
 use Rattle.mst_text.specs.trees.Agrees.{AreOf}
 use Rattle.mst_text.specs.trees.Outcome.{Outcome}
 use Rattle.mst_text.specs.trees.Forest.{Forest}
-use Rattle.mst_text.proofs.trees.Entries.{all_weaker}
-use Rattle.mst_text.proofs.trees.Lists.{all_contained, all_there}
-use Rattle.mst_text.proofs.trees.Looking.{filter_alike}
-use Rattle.mst_text.proofs.trees.Seen.{bridge_there, port_there}
+use Rattle.mst_text.proofs.trees_lemmas.Entries.{all_weaker}
+use Rattle.mst_text.proofs.trees_lemmas.Lists.{all_contained, all_there}
+use Rattle.mst_text.proofs.trees_lemmas.Looking.{filter_alike}
+use Rattle.mst_text.proofs.trees_lemmas.Seen.{bridge_there, port_there}
 use Rattle.mst_text.specs.roles.Roles.{role_in, forwards, tree_of_vid, forwards_for}
 use Rattle.mst_text.specs.vlan.Active.{active_ports}
 use Rattle.mst_text.specs.vlan.Reach.{bridges_on, lans_up, is_member, link_of, vid_links}

@@ -1,2 +1,2 @@
-pub use Rattle.mst_io.proofs as io
+pub use Rattle.mst_io.proofs as io_lemmas
 pub mod Shown

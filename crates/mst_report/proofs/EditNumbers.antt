@@ -10,14 +10,14 @@ use Rattle.mst_picture.specs.net.After.{has_bridge, mac_taken, first_of, refusal
 use Rattle.mst_picture.specs.net.Contents.{Contents, IsNumbered, Commits}
 use Rattle.mst_picture.specs.net.declared.refusal.Refusal.{Refusal}
 use Rattle.mst_picture.specs.net.declared.refusal.Refusal.TheVariants.{E07, E08, E14}
-use Rattle.mst_picture.proofs.net.Keyed.{get_inserted, same_keys, after_remove}
-use Rattle.mst_picture.proofs.net.Keys.{names, name_eq}
+use Rattle.mst_picture.proofs.net_lemmas.Keyed.{get_inserted, same_keys, after_remove}
+use Rattle.mst_picture.proofs.net_lemmas.Keys.{names, name_eq}
 use Rattle.mst_picture.specs.vector.Rules.{Rules}
 use Rattle.mst_picture.specs.trees.Sight.{Sight, tree_of}
 use Rattle.mst_picture.specs.trees.Outcome.{TreeOutcome, IsTreeOutcome}
 use Rattle.mst_picture.specs.trees.Agrees.{Agrees}
-use Rattle.mst_picture.proofs.trees.Lists.{some_is}
-use Rattle.mst_picture.proofs.trees.Sights.{IsSight, bridge_from}
+use Rattle.mst_picture.proofs.trees_lemmas.Lists.{some_is}
+use Rattle.mst_picture.proofs.trees_lemmas.Sights.{IsSight, bridge_from}
 use Rattle.mst_report.proofs.ByName.{BridgeNumbers, GoTogether, AreOne}
 
 -- no bridge was there that an edit adds

@@ -15,12 +15,12 @@ use Rattle.mst_picture.specs.lag.declared.in_view.PortInView.{PortInView}
 use Rattle.mst_picture.specs.trees.Agrees.{AreOf}
 use Rattle.mst_picture.specs.trees.Msti.{has_msti}
 use Rattle.mst_picture.specs.trees.Outcome.{Outcome, IsOutcome}
-use Rattle.mst_picture.proofs.trees.Entries.{all_weaker}
+use Rattle.mst_picture.proofs.trees_lemmas.Entries.{all_weaker}
 use Rattle.mst_picture.specs.trees.Seen.{trees_at}
-use Rattle.mst_picture.proofs.trees.Lists.{some_is, no_some, passed, all_there, there_first, there_later}
-use Rattle.mst_picture.proofs.trees.Seen.{port_seen}
-use Rattle.mst_picture.proofs.trees.Looking.{has_tree_at}
-use Rattle.mst_picture.proofs.roles.Named.{port_is, port_found, found_in}
+use Rattle.mst_picture.proofs.trees_lemmas.Lists.{some_is, no_some, passed, all_there, there_first, there_later}
+use Rattle.mst_picture.proofs.trees_lemmas.Seen.{port_seen}
+use Rattle.mst_picture.proofs.trees_lemmas.Looking.{has_tree_at}
+use Rattle.mst_picture.proofs.roles_lemmas.Named.{port_is, port_found, found_in}
 use Rattle.mst_explain.specs.Explained.{IsExplanation, AreExplanations, trees_of_bridge}
 use Rattle.mst_explain.specs.Planned.{IsPlanOf}
 use Rattle.mst_explain.proofs.Texts.{tree_there as among_trees}

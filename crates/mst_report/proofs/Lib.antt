@@ -1,6 +1,6 @@
-pub use Rattle.mst_picture.proofs.lag as lag
-pub use Rattle.mst_picture.proofs.trees as trees
-pub use Rattle.mst_picture.proofs.roles as roles
+pub use Rattle.mst_picture.proofs.lag_lemmas as lag_lemmas
+pub use Rattle.mst_picture.proofs.trees_lemmas as trees_lemmas
+pub use Rattle.mst_picture.proofs.roles_lemmas as roles_lemmas
 pub mod Answering
 pub mod ByName
 pub mod EditNumbers

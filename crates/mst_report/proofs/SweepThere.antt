@@ -8,10 +8,10 @@ use Rattle.mst_picture.specs.lang.declared.line.Edit.{Edit}
 use Rattle.mst_picture.specs.net.After.{after, effect, first_of}
 use Rattle.mst_picture.specs.net.Tables.{Net, BridgeRow, LanRow, IsNetwork}
 use Rattle.mst_picture.specs.net.declared.refusal.Refusal.TheVariants.{E04, E06}
-use Rattle.mst_picture.proofs.net.Keys.{names}
+use Rattle.mst_picture.proofs.net_lemmas.Keys.{names}
 use Rattle.mst_picture.specs.trees.Outcome.{Outcome, IsOutcome}
-use Rattle.mst_picture.proofs.trees.Entries.{entries_found}
-use Rattle.mst_picture.proofs.trees.Lists.{all_mapped, all_passing}
+use Rattle.mst_picture.proofs.trees_lemmas.Entries.{entries_found}
+use Rattle.mst_picture.proofs.trees_lemmas.Lists.{all_mapped, all_passing}
 use Rattle.mst_picture.specs.vlan.Reach.{bridges_on}
 use Rattle.mst_sweep.specs.declared.failure.Failure.{Failure}
 use Rattle.mst_sweep.specs.declared.failure.Failure.TheVariants.{Lan, Bridge}

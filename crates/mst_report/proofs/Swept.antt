@@ -21,8 +21,8 @@ use Rattle.mst_picture.specs.lang.declared.line.LanChange.TheVariants.{State}
 use Rattle.mst_picture.specs.lang.declared.line.Power.TheVariants.{Off}
 use Rattle.mst_picture.specs.lang.declared.line.LanState.TheVariants.{Down}
 use Rattle.mst_picture.specs.lag.Viewed.{Viewed, IsView}
-use Rattle.mst_picture.proofs.lag.LanAlone as lan_alone
-use Rattle.mst_picture.proofs.lag.BridgeAlone as bridge_alone
+use Rattle.mst_picture.proofs.lag_lemmas.LanAlone as lan_alone
+use Rattle.mst_picture.proofs.lag_lemmas.BridgeAlone as bridge_alone
 use Rattle.mst_report.specs.Kept.{AreTrees}
 use Rattle.mst_report.specs.Sweeping.{AreTold, AreFailed, IsViewBut}
 

@@ -1,9 +1,9 @@
-pub use Rattle.mst_diff.proofs.net as net
-pub use Rattle.mst_diff.proofs.lag as lag
-pub use Rattle.mst_diff.proofs.trees as trees
-pub use Rattle.mst_diff.proofs.roles as roles
-pub use Rattle.mst_diff.proofs.plan_text as plan_text
-pub use Rattle.mst_diff.proofs as diff
+pub use Rattle.mst_diff.proofs.net_lemmas as net_lemmas
+pub use Rattle.mst_diff.proofs.lag_lemmas as lag_lemmas
+pub use Rattle.mst_diff.proofs.trees_lemmas as trees_lemmas
+pub use Rattle.mst_diff.proofs.roles_lemmas as roles_lemmas
+pub use Rattle.mst_diff.proofs.plan_text_lemmas as plan_text_lemmas
+pub use Rattle.mst_diff.proofs as diff_lemmas
 pub mod Lists
 pub mod Lines
 pub mod Added

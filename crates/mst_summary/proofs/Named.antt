@@ -21,22 +21,22 @@ use Rattle.mst_diff.specs.lag.declared.in_view.LanInView.{LanInView}
 use Rattle.mst_diff.specs.lag.declared.in_view.PortInView.{PortInView}
 use Rattle.mst_diff.specs.config.Shared.{AreRegions}
 use Rattle.mst_diff.specs.config.Regions.{region_of}
-use Rattle.mst_diff.proofs.config.SameRegion.{has_first, HasFirst}
+use Rattle.mst_diff.proofs.config_lemmas.SameRegion.{has_first, HasFirst}
 use Rattle.mst_diff.specs.trees.Agrees.{AreOf}
 use Rattle.mst_diff.specs.trees.Forest.{Forest, IsForest}
 use Rattle.mst_diff.specs.trees.InUse.{id_in, seen_has}
 use Rattle.mst_diff.specs.trees.Outcome.{Outcome}
-use Rattle.mst_diff.proofs.trees.Entries.{all_weaker}
-use Rattle.mst_diff.proofs.trees.Lists.{all_passing, all_there, filter_mapped, kept_same, mapped_twice, some_is}
-use Rattle.mst_diff.proofs.trees.Looking.{filter_alike, has_tree_at}
-use Rattle.mst_diff.proofs.trees.Seen.{SeenBridge, SeenPort, bridges_seen, ports_seen}
+use Rattle.mst_diff.proofs.trees_lemmas.Entries.{all_weaker}
+use Rattle.mst_diff.proofs.trees_lemmas.Lists.{all_passing, all_there, filter_mapped, kept_same, mapped_twice, some_is}
+use Rattle.mst_diff.proofs.trees_lemmas.Looking.{filter_alike, has_tree_at}
+use Rattle.mst_diff.proofs.trees_lemmas.Seen.{SeenBridge, SeenPort, bridges_seen, ports_seen}
 use Rattle.mst_diff.specs.text.TreeText.{has_tree}
-use Rattle.mst_diff.proofs.roles.Named.{own_role}
-use Rattle.mst_diff.proofs.roles.Forwarded.{each_forwards}
+use Rattle.mst_diff.proofs.roles_lemmas.Named.{own_role}
+use Rattle.mst_diff.proofs.roles_lemmas.Forwarded.{each_forwards}
 use Rattle.mst_diff.specs.vlan.Reach.{is_member}
 use Rattle.mst_diff.specs.vlan.Seen.{seen_member}
 use Rattle.mst_diff.specs.changes.Subjects.{all_trees, bridge_names}
-use Rattle.mst_diff.proofs.changes.Lists.{filter_map-map}
+use Rattle.mst_diff.proofs.changes_lemmas.Lists.{filter_map-map}
 use Rattle.mst_diff.proofs.Named.{names_are, root_named}
 use Rattle.mst_summary.specs.Blocked.{stops, is_blocked, blocked, blocked_line}
 use Rattle.mst_summary.specs.Carries.{ports_on, carries, carried, carries_line, carries_text}

@@ -5,13 +5,13 @@ use Rattle.std.specs.List.{Contains, flat_map}
 use Rattle.std.proofs.lemmas.Bool.{eqb-true}
 use Rattle.mst_diff.specs.graph.Groups.{AreGroups}
 use Rattle.mst_diff.specs.graph.Islands.{Island}
-use Rattle.mst_diff.proofs.graph.Alike.{alike_groups}
-use Rattle.mst_diff.proofs.graph.Members.{here, in_whole}
+use Rattle.mst_diff.proofs.graph_lemmas.Alike.{alike_groups}
+use Rattle.mst_diff.proofs.graph_lemmas.Members.{here, in_whole}
 use Rattle.mst_diff.specs.net.Tables.{Net}
 use Rattle.mst_diff.specs.trees.Outcome.{Outcome}
 use Rattle.mst_diff.specs.vlan.Reach.{AreIslandsOf}
 use Rattle.mst_diff.specs.plan_text.PlanText.{all_vids}
-use Rattle.mst_diff.proofs.plan_text.OnePlan.{vids_once, is_vid_there, each_text, OneGrouping}
+use Rattle.mst_diff.proofs.plan_text_lemmas.OnePlan.{vids_once, is_vid_there, each_text, OneGrouping}
 use Rattle.mst_summary.specs.Carries.{carries_text}
 use Rattle.mst_summary.specs.Counts.{counts_of, counts_line}
 use Rattle.mst_summary.specs.SummaryText.{trees_text, IsSummary}

@@ -11,7 +11,7 @@ use Rattle.mst_ids.specs.Vids.{has, is_vid}
 use Rattle.mst_diff.specs.graph.Groups.{AreGroups}
 use Rattle.mst_diff.specs.graph.Islands.{AreIslands, Island}
 use Rattle.mst_diff.specs.graph.Numbers.{AreNumbers, HaveBodies}
-use Rattle.mst_diff.proofs.graph.Alike.{alike_groups}
+use Rattle.mst_diff.proofs.graph_lemmas.Alike.{alike_groups}
 use Rattle.mst_diff.specs.net.ByTree.{table_in, vlans_in}
 use Rattle.mst_diff.specs.net.Seen.{bridge_row}
 use Rattle.mst_diff.specs.net.Table.{tree_in}
@@ -23,8 +23,8 @@ use Rattle.mst_diff.specs.lag.declared.in_view.PortInView.{PortInView}
 use Rattle.mst_diff.specs.trees.Agrees.{AreOf}
 use Rattle.mst_diff.specs.trees.Forest.{Forest}
 use Rattle.mst_diff.specs.trees.Outcome.{Outcome}
-use Rattle.mst_diff.proofs.trees.Entries.{all_weaker}
-use Rattle.mst_diff.proofs.trees.Lists.{all_contained, all_passing, all_there}
+use Rattle.mst_diff.proofs.trees_lemmas.Entries.{all_weaker}
+use Rattle.mst_diff.proofs.trees_lemmas.Lists.{all_contained, all_passing, all_there}
 use Rattle.mst_diff.specs.roles.Roles.{forwards}
 use Rattle.mst_diff.specs.roles.Seen.{seen_role, seen_tree}
 use Rattle.mst_diff.specs.vlan.Reach.{bridges_on, lans_up}
@@ -33,9 +33,9 @@ use Rattle.mst_diff.specs.vlan.declared.island.Island.{Island as IslandNos}
 use Rattle.mst_diff.specs.plan_text.Alike.{AreAlike, TellApart}
 use Rattle.mst_diff.specs.plan_text.Bodies.{NumberEach}
 use Rattle.mst_diff.specs.plan_text.PlanText.{all_vids}
-use Rattle.mst_diff.proofs.plan_text.Bodied.{zip_at}
-use Rattle.mst_diff.proofs.plan_text.Classes.{links_shared}
-use Rattle.mst_diff.proofs.plan_text.Grouped.{place_of_vid, vids_long}
+use Rattle.mst_diff.proofs.plan_text_lemmas.Bodied.{zip_at}
+use Rattle.mst_diff.proofs.plan_text_lemmas.Classes.{links_shared}
+use Rattle.mst_diff.proofs.plan_text_lemmas.Grouped.{place_of_vid, vids_long}
 use Rattle.mst_diff.specs.Reach.{has_any}
 use Rattle.mst_summary.specs.Kept.{count_at}
 use Rattle.mst_summary.specs.Seen.{seen_with_bridge, seen_on, seen_carries}

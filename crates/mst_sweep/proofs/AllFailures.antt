@@ -6,7 +6,7 @@ use Rattle.mst_diff.specs.net.Tables.{Net, Numbers, BridgeRow, LanRow}
 use Rattle.mst_diff.specs.lag.Viewed.{Viewed, IsView, member_lan, named_bridge}
 use Rattle.mst_diff.specs.lag.declared.in_view.BridgeInView.{BridgeInView}
 use Rattle.mst_diff.specs.lag.declared.in_view.MemberLan.{MemberLan}
-use Rattle.mst_diff.proofs.trees.Lists.{mapped_twice}
+use Rattle.mst_diff.proofs.trees_lemmas.Lists.{mapped_twice}
 use Rattle.mst_diff.specs.vlan.Reach.{bridges_on}
 use Rattle.mst_sweep.specs.declared.failure.Failure.{Failure}
 use Rattle.mst_sweep.specs.declared.failure.Failure.TheVariants.{Lan, Bridge}

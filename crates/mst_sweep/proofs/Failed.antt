@@ -12,12 +12,12 @@ use Rattle.mst_diff.specs.net.declared.refusal.Refusal.{Refusal}
 use Rattle.mst_diff.specs.net.After.{after, effect, refusal_of, bridge_with, lan_with}
 use Rattle.mst_diff.specs.net.ByTree.{by_tree}
 use Rattle.mst_diff.specs.net.Tables.{Net, BridgeRow, port_eq}
-use Rattle.mst_diff.proofs.net.Changed.{get_changed}
-use Rattle.mst_diff.proofs.net.Keys.{names}
-use Rattle.mst_diff.proofs.net.NamesInOrder.{names_stay}
+use Rattle.mst_diff.proofs.net_lemmas.Changed.{get_changed}
+use Rattle.mst_diff.proofs.net_lemmas.Keys.{names}
+use Rattle.mst_diff.proofs.net_lemmas.NamesInOrder.{names_stay}
 use Rattle.mst_diff.specs.lag.Aggregation.{Plug, plugs, lans_as_one, same_name}
 use Rattle.mst_diff.specs.lag.View.{LogicalPort, logical_lan, logical_port, as_port, view_ports}
-use Rattle.mst_diff.proofs.trees.Lists.{mapped_twice}
+use Rattle.mst_diff.proofs.trees_lemmas.Lists.{mapped_twice}
 use Rattle.mst_diff.specs.changes.Subjects.{bridge_names, port_names}
 use Rattle.mst_sweep.specs.declared.failure.Failure.{Failure}
 use Rattle.mst_sweep.specs.declared.failure.Failure.TheVariants.{Lan, Bridge}

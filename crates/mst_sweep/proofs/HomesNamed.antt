@@ -11,7 +11,7 @@ use Rattle.mst_diff.specs.graph.Islands.{Island}
 use Rattle.mst_diff.specs.net.Tables.{Net, Numbers}
 use Rattle.mst_diff.specs.net.Contents.{IsNumbered}
 use Rattle.mst_diff.specs.lag.Aggregation.{same_name}
-use Rattle.mst_diff.proofs.trees.Lists.{some_is}
+use Rattle.mst_diff.proofs.trees_lemmas.Lists.{some_is}
 use Rattle.mst_diff.specs.vlan.declared.island.Island.{Island as IslandNos}
 
 -- ---- names

@@ -8,7 +8,7 @@ use Rattle.std.proofs.lemmas.Bool.{eqb-true, eqb-false}
 use Rattle.std.proofs.lemmas.List.{length-map, get_or-map, get_or_default}
 use Rattle.std.proofs.lemmas.List.FromFn.{length-range_with_len, get_or-range_with_len}
 use Rattle.mst_diff.specs.graph.Islands.{Link}
-use Rattle.mst_diff.proofs.graph.Members.{here, there, in_map, from_map, in_filter, from_filter, passing}
+use Rattle.mst_diff.proofs.graph_lemmas.Members.{here, there, in_map, from_map, in_filter, from_filter, passing}
 use Rattle.mst_ids.specs.Vids.{has}
 use Rattle.mst_ids.specs.declared.name.PortName.{PortName}
 use Rattle.mst_diff.specs.net.ByTree.{by_tree, table_in, vlans_in}
@@ -24,17 +24,17 @@ use Rattle.mst_diff.specs.trees.Forest.{Forest, IsForest}
 use Rattle.mst_diff.specs.trees.InUse.{is_in_use, seen_mstis}
 use Rattle.mst_diff.specs.trees.Msti.{has_msti}
 use Rattle.mst_diff.specs.trees.Outcome.{Outcome}
-use Rattle.mst_diff.proofs.trees.Lists.{mapped_twice, some_is}
-use Rattle.mst_diff.proofs.trees.Seen.{port_of_net, port_seen, port_there}
+use Rattle.mst_diff.proofs.trees_lemmas.Lists.{mapped_twice, some_is}
+use Rattle.mst_diff.proofs.trees_lemmas.Seen.{port_of_net, port_seen, port_there}
 use Rattle.mst_diff.specs.roles.Roles.{forwards, forwards_for, cist_role, msti_role, role_in, tree_of_vid}
 use Rattle.mst_diff.specs.roles.Seen.{seen_role, seen_forwards}
-use Rattle.mst_diff.proofs.roles.Forwarded.{each_forwards}
-use Rattle.mst_diff.proofs.roles.Named.{each_same}
+use Rattle.mst_diff.proofs.roles_lemmas.Forwarded.{each_forwards}
+use Rattle.mst_diff.proofs.roles_lemmas.Named.{each_same}
 use Rattle.mst_diff.specs.vlan.Active.{active_ports}
 use Rattle.mst_diff.specs.vlan.Reach.{is_member, link_of, vid_links}
 use Rattle.mst_diff.specs.vlan.Seen.{seen_member}
 use Rattle.mst_diff.specs.changes.Subjects.{port_names}
-use Rattle.mst_diff.proofs.changes.InUse.{unused}
+use Rattle.mst_diff.proofs.changes_lemmas.InUse.{unused}
 use Rattle.mst_sweep.specs.Touched.{AreWhereTouched, BreakNoLinks, seen_is_link, seen_beside_link, seen_breaks}
 use Rattle.mst_sweep.proofs.CutApart.{both_true}
 use Rattle.mst_sweep.proofs.Failed.{AreLeft, lan_names}

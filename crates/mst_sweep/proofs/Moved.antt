@@ -7,7 +7,7 @@ use Rattle.std.specs.FinMap as fin
 use Rattle.std.specs.FinMap.{len-entries}
 use Rattle.std.specs.Cmp.Lexicographic.{bytes_decides}
 use Rattle.std.proofs.lemmas.List.{length-map, get_or-map, get_or_default}
-use Rattle.mst_diff.proofs.net.Rising.{range_more}
+use Rattle.mst_diff.proofs.net_lemmas.Rising.{range_more}
 use Rattle.std.proofs.lemmas.List.Elements.{filter-append}
 use Rattle.std.proofs.lemmas.List.Sums.{count_by_more_yes, count_by_more_no, count_by-le-length, length-filter, sum_by-append, sum_by-cons}
 use Rattle.mst_ids.specs.declared.name.PortName.{PortName}
@@ -22,15 +22,15 @@ use Rattle.mst_diff.specs.trees.Agrees.{AreOf, Known}
 use Rattle.mst_diff.specs.trees.Forest.{Forest, IsForest}
 use Rattle.mst_diff.specs.trees.Msti.{has_msti}
 use Rattle.mst_diff.specs.trees.Outcome.{Outcome}
-use Rattle.mst_diff.proofs.trees.Entries.{all_weaker}
-use Rattle.mst_diff.proofs.trees.Lists.{all_there, mapped_twice}
-use Rattle.mst_diff.proofs.trees.Seen.{SeenPort}
-use Rattle.mst_diff.proofs.roles.Named.{own_role}
+use Rattle.mst_diff.proofs.trees_lemmas.Entries.{all_weaker}
+use Rattle.mst_diff.proofs.trees_lemmas.Lists.{all_there, mapped_twice}
+use Rattle.mst_diff.proofs.trees_lemmas.Seen.{SeenPort}
+use Rattle.mst_diff.proofs.roles_lemmas.Named.{own_role}
 use Rattle.mst_diff.specs.roles.Roles.{role_of, role_in, cist_role, msti_role}
 use Rattle.mst_diff.specs.roles.Seen.{seen_role}
 use Rattle.mst_diff.specs.roles.declared.kind.Role.{Role}
 use Rattle.mst_diff.specs.changes.Subjects.{all_trees, bridge_names, port_names}
-use Rattle.mst_diff.proofs.changes.Orders.{trees_are}
+use Rattle.mst_diff.proofs.changes_lemmas.Orders.{trees_are}
 use Rattle.mst_diff.specs.declared.both.Both.{Both}
 use Rattle.mst_diff.specs.Roots.{root_of}
 use Rattle.mst_diff.specs.Seen.{seen_in_both, seen_both}

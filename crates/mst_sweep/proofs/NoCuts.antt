@@ -7,7 +7,7 @@ use Rattle.std.specs.List.{filter, flat_map, list_any}
 use Rattle.std.proofs.lemmas.Bool.{or_parts}
 use Rattle.mst_ids.specs.Vids.{is_vid}
 use Rattle.mst_diff.specs.graph.Groups.{AreGroups}
-use Rattle.mst_diff.proofs.graph.Alike.{alike_groups}
+use Rattle.mst_diff.proofs.graph_lemmas.Alike.{alike_groups}
 use Rattle.mst_diff.specs.net.Tables.{Net}
 use Rattle.mst_diff.specs.trees.Outcome.{Outcome}
 use Rattle.mst_diff.specs.plan_text.PlanText.{all_vids}

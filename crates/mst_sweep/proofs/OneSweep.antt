@@ -8,20 +8,20 @@ use Rattle.std.proofs.lemmas.List.Elements.{Contains-append_cases}
 use Rattle.mst_ids.specs.Vids.{is_vid}
 use Rattle.mst_diff.specs.graph.Groups.{AreGroups}
 use Rattle.mst_diff.specs.graph.Islands.{Island}
-use Rattle.mst_diff.proofs.graph.Alike.{alike_groups}
-use Rattle.mst_diff.proofs.graph.Members.{here, in_whole, from_map, from_filter, there}
+use Rattle.mst_diff.proofs.graph_lemmas.Alike.{alike_groups}
+use Rattle.mst_diff.proofs.graph_lemmas.Members.{here, in_whole, from_map, from_filter, there}
 use Rattle.mst_diff.specs.lang.Ranges.{InRange}
 use Rattle.mst_diff.specs.lang.declared.line.Edit.{Edit}
 use Rattle.mst_diff.specs.net.After.{after}
 use Rattle.mst_diff.specs.net.Tables.{Net, BridgeRow, LanRow, IsNetwork}
-use Rattle.mst_diff.proofs.net.Keys.{names}
+use Rattle.mst_diff.proofs.net_lemmas.Keys.{names}
 use Rattle.mst_diff.specs.trees.Outcome.{Outcome, IsOutcome}
-use Rattle.mst_diff.proofs.trees.Entries.{all_weaker, entries_found}
-use Rattle.mst_diff.proofs.trees.Lists.{all_there, all_contained}
-use Rattle.mst_diff.proofs.trees.Looking.{filter_alike}
+use Rattle.mst_diff.proofs.trees_lemmas.Entries.{all_weaker, entries_found}
+use Rattle.mst_diff.proofs.trees_lemmas.Lists.{all_there, all_contained}
+use Rattle.mst_diff.proofs.trees_lemmas.Looking.{filter_alike}
 use Rattle.mst_diff.specs.vlan.Reach.{AreIslandsOf, bridges_on}
 use Rattle.mst_diff.specs.plan_text.PlanText.{all_vids}
-use Rattle.mst_diff.proofs.plan_text.OnePlan.{vids_once, is_vid_there, each_text, OneGrouping}
+use Rattle.mst_diff.proofs.plan_text_lemmas.OnePlan.{vids_once, is_vid_there, each_text, OneGrouping}
 use Rattle.mst_diff.specs.changes.Subjects.{bridge_names}
 use Rattle.mst_diff.specs.Reach.{has_any}
 use Rattle.mst_diff.proofs.OneDiff.{OneList}

@@ -7,9 +7,9 @@ use Rattle.mst_diff.specs.net.Tables.{Net, Numbers}
 use Rattle.mst_diff.specs.lag.Aggregation.{same_name}
 use Rattle.mst_diff.specs.lag.Viewed.{Viewed, IsView}
 use Rattle.mst_diff.specs.lag.declared.in_view.BridgeInView.{BridgeInView}
-use Rattle.mst_diff.proofs.trees.Lists.{apart_cases}
-use Rattle.mst_diff.proofs.trees.Seen.{BridgesRise, bridges_apart}
-use Rattle.mst_diff.proofs.trees.Views.{names_differ}
+use Rattle.mst_diff.proofs.trees_lemmas.Lists.{apart_cases}
+use Rattle.mst_diff.proofs.trees_lemmas.Seen.{BridgesRise, bridges_apart}
+use Rattle.mst_diff.proofs.trees_lemmas.Views.{names_differ}
 use Rattle.mst_diff.specs.declared.both.Both.{Both}
 use Rattle.mst_diff.specs.Seen.{seen_in_both}
 use Rattle.mst_diff.proofs.Lists.{find-found}

@@ -13,7 +13,7 @@ use Rattle.mst_vlan.specs.lag.declared.lag.LagId.{LagId}
 use Rattle.mst_vlan.specs.lag.declared.in_view.LanInView.{LanInView}
 use Rattle.mst_vlan.specs.lag.declared.in_view.MemberLan.{MemberLan}
 use Rattle.mst_vlan.specs.lag.declared.in_view.MemberPort.{MemberPort}
-use Rattle.mst_vlan.proofs.lag.Lists.{filter_mapped, mapped_twice}
+use Rattle.mst_vlan.proofs.lag_lemmas.Lists.{filter_mapped, mapped_twice}
 use Rattle.mst_text.specs.LagText.{lag_line, lags_text}
 use Rattle.mst_text.specs.LagView.{lans_in, up_of, ports_in, lan_word, port_word, class_line, class_text, classes_text}
 use Rattle.mst_ids.specs.Words.{line, comma_list, port_text}

@@ -1,10 +1,10 @@
-pub use Rattle.mst_vlan.proofs.graph as graph
-pub use Rattle.mst_vlan.proofs.net as net
-pub use Rattle.mst_vlan.proofs.lag as lag
-pub use Rattle.mst_vlan.proofs.config as config
-pub use Rattle.mst_vlan.proofs.trees as trees
-pub use Rattle.mst_vlan.proofs.roles as roles
-pub use Rattle.mst_vlan.proofs as vlan
+pub use Rattle.mst_vlan.proofs.graph_lemmas as graph_lemmas
+pub use Rattle.mst_vlan.proofs.net_lemmas as net_lemmas
+pub use Rattle.mst_vlan.proofs.lag_lemmas as lag_lemmas
+pub use Rattle.mst_vlan.proofs.config_lemmas as config_lemmas
+pub use Rattle.mst_vlan.proofs.trees_lemmas as trees_lemmas
+pub use Rattle.mst_vlan.proofs.roles_lemmas as roles_lemmas
+pub use Rattle.mst_vlan.proofs as vlan_lemmas
 pub mod TreeNamed
 pub mod VlanListed
 pub mod VlanNamed

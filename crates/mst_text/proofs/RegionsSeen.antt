@@ -15,11 +15,11 @@ use Rattle.mst_vlan.specs.net.After.{table_of}
 use Rattle.mst_vlan.specs.lag.Aggregation.{same_name}
 use Rattle.mst_vlan.specs.lag.Viewed.{Viewed, IsView, named_bridge}
 use Rattle.mst_vlan.specs.lag.declared.in_view.BridgeInView.{BridgeInView}
-use Rattle.mst_vlan.proofs.lag.Lists.{some_is, all_both, all_weaker, filter_same, filter_mapped, mapped_twice}
-use Rattle.mst_vlan.proofs.lag.Entries.{entries_found}
+use Rattle.mst_vlan.proofs.lag_lemmas.Lists.{some_is, all_both, all_weaker, filter_same, filter_mapped, mapped_twice}
+use Rattle.mst_vlan.proofs.lag_lemmas.Entries.{entries_found}
 use Rattle.mst_vlan.specs.config.Shared.{AreRegions}
 use Rattle.mst_vlan.specs.config.Regions.{same_region, first_of_region, region_of}
-use Rattle.mst_vlan.proofs.config.SameRegion.{told, has_first, HasFirst}
+use Rattle.mst_vlan.proofs.config_lemmas.SameRegion.{told, has_first, HasFirst}
 use Rattle.mst_text.specs.Members.{is_in, names_in, seen_region}
 use Rattle.mst_text.specs.RegionsText.{region_line, bridges_of_region, region_text, regions_text}
 

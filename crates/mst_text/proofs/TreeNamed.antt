@@ -20,12 +20,12 @@ use Rattle.mst_vlan.specs.trees.Outcome.{Outcome}
 use Rattle.mst_vlan.specs.trees.Agrees.{AreOf}
 use Rattle.mst_vlan.specs.trees.Forest.{IsForest}
 use Rattle.mst_vlan.specs.trees.Forest.{Forest}
-use Rattle.mst_vlan.proofs.trees.Entries.{all_weaker}
-use Rattle.mst_vlan.proofs.trees.Lists.{all_contained, all_passing, filter_mapped}
-use Rattle.mst_vlan.proofs.trees.Views.{names_differ}
-use Rattle.mst_vlan.proofs.trees.Seen.{SeenBridge, SeenPort, BridgesRise, PortsRise, bridges_seen, ports_seen, bridges_apart, ports_apart, bridge_there}
-use Rattle.mst_vlan.proofs.trees.Looking.{has_tree_at}
-use Rattle.mst_vlan.proofs.roles.Named.{each_same}
+use Rattle.mst_vlan.proofs.trees_lemmas.Entries.{all_weaker}
+use Rattle.mst_vlan.proofs.trees_lemmas.Lists.{all_contained, all_passing, filter_mapped}
+use Rattle.mst_vlan.proofs.trees_lemmas.Views.{names_differ}
+use Rattle.mst_vlan.proofs.trees_lemmas.Seen.{SeenBridge, SeenPort, BridgesRise, PortsRise, bridges_seen, ports_seen, bridges_apart, ports_apart, bridge_there}
+use Rattle.mst_vlan.proofs.trees_lemmas.Looking.{has_tree_at}
+use Rattle.mst_vlan.proofs.roles_lemmas.Named.{each_same}
 use Rattle.mst_text.specs.TreeLines.{heading, bridge_line, port_line}
 use Rattle.mst_text.specs.TreeSeen.{seen_port, seen_line, seen_bridge, seen_bridges, is_of}
 use Rattle.mst_text.specs.TreeText.{has_tree, ports_of, port_text, bridge_text, tree_text}

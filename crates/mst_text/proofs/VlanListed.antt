@@ -6,8 +6,8 @@ use Rattle.std.proofs.lemmas.Bool.{eqb-true}
 use Rattle.std.proofs.lemmas.List.{take_more}
 use Rattle.std.proofs.lemmas.Grind.{flat_map-append}
 use Rattle.std.proofs.lemmas.List.{append-nil}
-use Rattle.mst_vlan.proofs.trees.Lists.{all_contained, some_is}
-use Rattle.mst_vlan.proofs.trees.Looking.{first_found}
+use Rattle.mst_vlan.proofs.trees_lemmas.Lists.{all_contained, some_is}
+use Rattle.mst_vlan.proofs.trees_lemmas.Looking.{first_found}
 
 -- the things of a list and the numbers that they have: what is said of each is said of all
 pub by_number : {A W : Type 0} (has : A → Option ℕ) (f : ℕ → W) (g : A → W) (ns : List ℕ) (xs : List A) → map Some ns ≡ map has xs

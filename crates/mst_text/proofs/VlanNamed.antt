@@ -4,10 +4,10 @@ use Rattle.std.specs.List.{AllByRecursion, Contains, filter, flat_map}
 use Rattle.std.specs.FinMap as fin
 use Rattle.mst_ids.specs.Vids.{has}
 use Rattle.mst_vlan.specs.graph.Islands.{Island}
-use Rattle.mst_vlan.proofs.graph.Members.{from_map, from_filter}
+use Rattle.mst_vlan.proofs.graph_lemmas.Members.{from_map, from_filter}
 use Rattle.mst_vlan.specs.net.Tables.{Net, Numbers, BridgeRow}
 use Rattle.mst_vlan.specs.net.ByTree.{vlans_in}
-use Rattle.mst_vlan.proofs.lag.Lists.{map_itself}
+use Rattle.mst_vlan.proofs.lag_lemmas.Lists.{map_itself}
 use Rattle.mst_vlan.specs.lag.View.{LogicalLan, view_lans}
 use Rattle.mst_vlan.specs.lag.Viewed.{Viewed, named_bridge, named_port, named_lan}
 use Rattle.mst_vlan.specs.lag.declared.in_view.BridgeInView.{BridgeInView}
@@ -16,8 +16,8 @@ use Rattle.mst_vlan.specs.lag.declared.in_view.LanInView.{LanInView}
 use Rattle.mst_vlan.specs.trees.Outcome.{Outcome}
 use Rattle.mst_vlan.specs.trees.Agrees.{AreOf}
 use Rattle.mst_vlan.specs.trees.Forest.{Forest, IsForest}
-use Rattle.mst_vlan.proofs.trees.Entries.{all_weaker}
-use Rattle.mst_vlan.proofs.trees.Lists.{all_there, contains_unmapped, mapped_twice}
+use Rattle.mst_vlan.proofs.trees_lemmas.Entries.{all_weaker}
+use Rattle.mst_vlan.proofs.trees_lemmas.Lists.{all_there, contains_unmapped, mapped_twice}
 use Rattle.mst_vlan.specs.Active.{active_ports}
 use Rattle.mst_vlan.specs.Reach.{bridges_on, lans_up, vid_links, AreReached}
 use Rattle.mst_vlan.specs.Seen.{seen_active}

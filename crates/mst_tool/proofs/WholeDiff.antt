@@ -18,8 +18,8 @@ use Rattle.mst_engine.specs.io.Written.{AppendsFront, Reads}
 use Rattle.mst_engine.specs.declared.engine.Input.TheVariants.{Network}
 use Rattle.mst_engine.specs.printing.declared.form.Form.{Form}
 use Rattle.mst_engine.specs.printing.declared.form.Shape.{Shape}
-use Rattle.mst_engine.proofs.io.Known.{AppendsFront-after, AppendsFront-longer}
-use Rattle.mst_engine.proofs.printing.Shown.{is_shown, one_shown}
+use Rattle.mst_engine.proofs.io_lemmas.Known.{AppendsFront-after, AppendsFront-longer}
+use Rattle.mst_engine.proofs.printing_lemmas.Shown.{is_shown, one_shown}
 use Rattle.mst_tool.proofs.WholeCheck.{reads_all}
 use Rattle.mst_tool.proofs.WholeLoad.{OneLoad, LoadsStates}
 

@@ -26,9 +26,9 @@ use Rattle.mst_tool.specs.declared.asked.Question.TheVariants.{Explain, Unread, 
 use Rattle.mst_engine.specs.declared.engine.Input.TheVariants.{Network}
 use Rattle.mst_engine.specs.printing.declared.form.Form.{Form}
 use Rattle.mst_engine.specs.printing.declared.form.Shape.{Shape}
-use Rattle.mst_engine.proofs.io.Known.{AppendsFront-after}
+use Rattle.mst_engine.proofs.io_lemmas.Known.{AppendsFront-after}
 use Rattle.mst_engine.proofs.OneRun.{none_differ}
-use Rattle.mst_engine.proofs.printing.Shown.{is_shown, one_shown, same_shown}
+use Rattle.mst_engine.proofs.printing_lemmas.Shown.{is_shown, one_shown, same_shown}
 
 -- a script loads in one way by the lines that lack memory
 abbrev pub OneLoad : Type 0

@@ -11,8 +11,8 @@ use Rattle.mst_nested.specs.vector.declared.msti.MstiPort.{MstiPort}
 use Rattle.mst_nested.specs.settle.Places.{in_map}
 use Rattle.mst_lag.specs.net.ByTree.{ByTree, AreInTrees, port_priority_in, port_cost_in}
 use Rattle.mst_lag.specs.net.TreesSet.{trees_where}
-use Rattle.mst_lag.proofs.net.SettingsLemmas.{network_in_trees}
-use Rattle.mst_lag.proofs.net.TreesListed.{all_listed, priority_told, cost_told}
+use Rattle.mst_lag.proofs.net_lemmas.SettingsLemmas.{network_in_trees}
+use Rattle.mst_lag.proofs.net_lemmas.TreesListed.{all_listed, priority_told, cost_told}
 use Rattle.mst_lag.specs.Trees.{is_among}
 use Rattle.mst_lag.specs.Viewed.{Viewed, named_port}
 use Rattle.mst_lag.specs.declared.in_view.PortInView.{PortInView}

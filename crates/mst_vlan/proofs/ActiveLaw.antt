@@ -14,7 +14,7 @@ use Rattle.mst_roles.specs.vector.declared.cist.CistPort.{CistPort}
 use Rattle.mst_roles.specs.vector.declared.msti.MstiBridge.{MstiBridge}
 use Rattle.mst_roles.specs.settle.Topology.{TreePort, HasBridge, KeyTests}
 use Rattle.mst_roles.specs.graph.Joined.{IsJoined, HasNoLoop, Other}
-use Rattle.mst_roles.proofs.graph.Members.{in_filter, from_filter}
+use Rattle.mst_roles.proofs.graph_lemmas.Members.{in_filter, from_filter}
 use Rattle.mst_roles.specs.nested.Ports.{port_ends as plug_ends}
 use Rattle.mst_roles.specs.nested.Trees.{Trees, IsSettled, IsFree, IsEnabled as IsEnabledPlug, HasTree, SameRegion}
 use Rattle.mst_roles.specs.nested.Roles.{Forwards}
@@ -23,16 +23,16 @@ use Rattle.mst_roles.specs.net.Tables.{Net, BridgeRow, IsNetwork}
 use Rattle.mst_roles.specs.net.ByTree.{by_tree}
 use Rattle.mst_roles.specs.lag.View.{LogicalPort, view_ports}
 use Rattle.mst_roles.specs.config.Regions.{same_region, region_of}
-use Rattle.mst_roles.proofs.config.SameRegion.{told}
+use Rattle.mst_roles.proofs.config_lemmas.SameRegion.{told}
 use Rattle.mst_roles.specs.trees.Sight.{tree_port}
 use Rattle.mst_roles.specs.trees.Cist.{cist_bridge, cist_port, cist_sight, cist_of}
 use Rattle.mst_roles.specs.trees.Msti.{msti_bridge, msti_sight, has_msti}
 use Rattle.mst_roles.specs.trees.Outcome.{Outcome, trees_of}
-use Rattle.mst_roles.proofs.trees.CistTopology.{given, cist_is_sight}
-use Rattle.mst_roles.proofs.trees.MstiTopology.{msti_is_sight}
-use Rattle.mst_roles.proofs.trees.Lists.{apart_cases}
-use Rattle.mst_roles.proofs.trees.Sights.{bridge_from, bridge_in, port_from}
-use Rattle.mst_roles.proofs.trees.Views.{ports_rise, port_names_differ}
+use Rattle.mst_roles.proofs.trees_lemmas.CistTopology.{given, cist_is_sight}
+use Rattle.mst_roles.proofs.trees_lemmas.MstiTopology.{msti_is_sight}
+use Rattle.mst_roles.proofs.trees_lemmas.Lists.{apart_cases}
+use Rattle.mst_roles.proofs.trees_lemmas.Sights.{bridge_from, bridge_in, port_from}
+use Rattle.mst_roles.proofs.trees_lemmas.Views.{ports_rise, port_names_differ}
 use Rattle.mst_roles.specs.Roles.{cist_role, msti_role, role_in, forwards, tree_of_vid, forwards_for}
 use Rattle.mst_roles.specs.declared.kind.Role.{Role}
 use Rattle.mst_roles.specs.declared.kind.Role.TheVariants.{Disabled}

@@ -14,10 +14,10 @@ use Rattle.mst_roles.specs.net.ByTree.{by_tree}
 use Rattle.mst_roles.specs.lag.View.{LogicalPort, view_ports}
 use Rattle.mst_roles.specs.trees.Msti.{msti_bridge, has_msti, msti_sight}
 use Rattle.mst_roles.specs.trees.Outcome.{Outcome, trees_of}
-use Rattle.mst_roles.proofs.trees.Lists.{no_some, all_contained}
-use Rattle.mst_roles.proofs.trees.MstiTopology.{msti_is_sight}
-use Rattle.mst_roles.proofs.trees.Sights.{bridge_in}
-use Rattle.mst_roles.proofs.trees.Views.{IsPort, ports_are, row_on}
+use Rattle.mst_roles.proofs.trees_lemmas.Lists.{no_some, all_contained}
+use Rattle.mst_roles.proofs.trees_lemmas.MstiTopology.{msti_is_sight}
+use Rattle.mst_roles.proofs.trees_lemmas.Sights.{bridge_in}
+use Rattle.mst_roles.proofs.trees_lemmas.Views.{IsPort, ports_are, row_on}
 use Rattle.mst_roles.specs.Roles.{cist_role, msti_role, role_in, forwards}
 use Rattle.mst_roles.specs.declared.kind.Role.{Role}
 use Rattle.mst_vlan.specs.Active.{IsEnabled}

@@ -8,18 +8,18 @@ use Rattle.mst_ids.specs.Names.{name_cmp}
 use Rattle.mst_roles.specs.graph.Groups.{StandOnce}
 use Rattle.mst_roles.specs.graph.Islands.{Island}
 use Rattle.mst_roles.specs.graph.Renaming.{KeepApart, link_by}
-use Rattle.mst_roles.proofs.graph.HasList.{has_islands}
-use Rattle.mst_roles.proofs.graph.Members.{in_none, cases}
-use Rattle.mst_roles.proofs.graph.OneList.{one_islands}
+use Rattle.mst_roles.proofs.graph_lemmas.HasList.{has_islands}
+use Rattle.mst_roles.proofs.graph_lemmas.Members.{in_none, cases}
+use Rattle.mst_roles.proofs.graph_lemmas.OneList.{one_islands}
 use Rattle.mst_roles.specs.net.Tables.{Net, BridgeRow, LanRow, IsNetwork}
 use Rattle.mst_roles.specs.lag.Aggregation.{same_name}
 use Rattle.mst_roles.specs.lag.View.{LogicalLan, as_lan, logical_lan, view_lans}
-use Rattle.mst_roles.proofs.lag.Names.{same_names}
+use Rattle.mst_roles.proofs.lag_lemmas.Names.{same_names}
 use Rattle.mst_roles.specs.trees.Apart.{Apart}
 use Rattle.mst_roles.specs.trees.Outcome.{Outcome}
-use Rattle.mst_roles.proofs.trees.Entries.{entries_apart}
-use Rattle.mst_roles.proofs.trees.Lists.{all_contained, apart_mapped, apart_filtered}
-use Rattle.mst_roles.proofs.trees.Views.{bridges_rise, names_differ}
+use Rattle.mst_roles.proofs.trees_lemmas.Entries.{entries_apart}
+use Rattle.mst_roles.proofs.trees_lemmas.Lists.{all_contained, apart_mapped, apart_filtered}
+use Rattle.mst_roles.proofs.trees_lemmas.Views.{bridges_rise, names_differ}
 use Rattle.mst_vlan.specs.Reach.{bridges_on, lans_up, vid_links, AreIslandsOf}
 use Rattle.mst_vlan.proofs.Reached.{links_have}
 use Rattle.mst_vlan.proofs.Renumbered.{numbers_have, by_things}

@@ -1,9 +1,9 @@
-pub use Rattle.mst_roles.proofs.graph as graph
-pub use Rattle.mst_roles.proofs.net as net
-pub use Rattle.mst_roles.proofs.lag as lag
-pub use Rattle.mst_roles.proofs.config as config
-pub use Rattle.mst_roles.proofs.trees as trees
-pub use Rattle.mst_roles.proofs as roles
+pub use Rattle.mst_roles.proofs.graph_lemmas as graph_lemmas
+pub use Rattle.mst_roles.proofs.net_lemmas as net_lemmas
+pub use Rattle.mst_roles.proofs.lag_lemmas as lag_lemmas
+pub use Rattle.mst_roles.proofs.config_lemmas as config_lemmas
+pub use Rattle.mst_roles.proofs.trees_lemmas as trees_lemmas
+pub use Rattle.mst_roles.proofs as roles_lemmas
 pub mod Names
 pub mod Carried
 pub mod Plugs

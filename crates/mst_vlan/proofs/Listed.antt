@@ -7,8 +7,8 @@ use Rattle.std.specs.FinMap as fin
 use Rattle.mst_ids.specs.Vids.{has}
 use Rattle.mst_roles.specs.graph.Islands.{Link, HaveEnds}
 use Rattle.mst_roles.specs.graph.Renaming.{KeepApart, link_by}
-use Rattle.mst_roles.proofs.graph.Members.{in_map, from_map, from_filter}
-use Rattle.mst_roles.proofs.graph.Splits.{kept_each, map_of_map}
+use Rattle.mst_roles.proofs.graph_lemmas.Members.{in_map, from_map, from_filter}
+use Rattle.mst_roles.proofs.graph_lemmas.Splits.{kept_each, map_of_map}
 use Rattle.mst_roles.specs.net.Tables.{Net, Numbers, BridgeRow}
 use Rattle.mst_roles.specs.net.ByTree.{vlans_in}
 use Rattle.mst_roles.specs.net.Seen.{bridge_row}
@@ -22,10 +22,10 @@ use Rattle.mst_roles.specs.trees.Agrees.{AreOf}
 use Rattle.mst_roles.specs.trees.Forest.{IsForest}
 use Rattle.mst_roles.specs.trees.Seen.{trees_at}
 use Rattle.mst_roles.specs.trees.Forest.{Forest}
-use Rattle.mst_roles.proofs.trees.Entries.{all_weaker}
-use Rattle.mst_roles.proofs.trees.Lists.{all_contained, filter_mapped}
-use Rattle.mst_roles.proofs.trees.Looking.{filter_alike}
-use Rattle.mst_roles.proofs.trees.Seen.{SeenPort, bridge_seen, ports_seen, port_seen, port_of_net}
+use Rattle.mst_roles.proofs.trees_lemmas.Entries.{all_weaker}
+use Rattle.mst_roles.proofs.trees_lemmas.Lists.{all_contained, filter_mapped}
+use Rattle.mst_roles.proofs.trees_lemmas.Looking.{filter_alike}
+use Rattle.mst_roles.proofs.trees_lemmas.Seen.{SeenPort, bridge_seen, ports_seen, port_seen, port_of_net}
 use Rattle.mst_roles.specs.Roles.{forwards, forwards_for}
 use Rattle.mst_roles.specs.Seen.{seen_cist_role, seen_msti_role, seen_tree, seen_forwards}
 use Rattle.mst_roles.specs.declared.kind.Role.TheVariants.{Disabled}

@@ -11,8 +11,8 @@ use Rattle.mst_roles.specs.net.ByTree.{by_tree}
 use Rattle.mst_roles.specs.lag.View.{LogicalPort}
 use Rattle.mst_roles.specs.trees.Sight.{tree_port}
 use Rattle.mst_roles.specs.trees.Cist.{cist_port, cist_sight, cist_of}
-use Rattle.mst_roles.proofs.trees.CistTopology.{cist_is_sight}
-use Rattle.mst_roles.proofs.trees.Sights.{port_in}
+use Rattle.mst_roles.proofs.trees_lemmas.CistTopology.{cist_is_sight}
+use Rattle.mst_roles.proofs.trees_lemmas.Sights.{port_in}
 use Rattle.mst_vlan.specs.Active.{IsEnabled}
 
 abbrev pub plug : Net → LogicalPort → TreePort (List ℕ) (List ℕ) PortName CistPort

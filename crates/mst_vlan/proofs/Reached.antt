@@ -4,8 +4,8 @@ use Rattle.std.specs.List.{Contains}
 use Rattle.std.specs.FinMap as fin
 use Rattle.mst_roles.specs.graph.Islands.{Link, Island, AreIslands, HaveEnds}
 use Rattle.mst_roles.specs.graph.Renaming.{link_by, island_by}
-use Rattle.mst_roles.proofs.graph.Members.{from_map, from_filter}
-use Rattle.mst_roles.proofs.graph.Splits.{kept_each, map_of_map}
+use Rattle.mst_roles.proofs.graph_lemmas.Members.{from_map, from_filter}
+use Rattle.mst_roles.proofs.graph_lemmas.Splits.{kept_each, map_of_map}
 use Rattle.mst_roles.specs.net.Tables.{Net, Numbers, IsNetwork}
 use Rattle.mst_roles.specs.lag.View.{view_ports}
 use Rattle.mst_roles.specs.lag.Viewed.{Viewed}

@@ -6,10 +6,10 @@ use Rattle.std.proofs.lemmas.List.Elements.{All-contains, All-contains_itself, A
 use Rattle.mst_roles.specs.graph.Walks.{Node, bridge_at, lan_at}
 use Rattle.mst_roles.specs.graph.Islands.{Link, Island, nodes, members, AreIslands, HaveEnds}
 use Rattle.mst_roles.specs.graph.Renaming.{KeepApart, link_by, island_by}
-use Rattle.mst_roles.proofs.graph.ByKeys.{by_keys}
-use Rattle.mst_roles.proofs.graph.Members.{in_map, from_map, in_whole}
-use Rattle.mst_roles.proofs.graph.Splits.{kept_each, map_of_map}
-use Rattle.mst_roles.proofs.trees.Looking.{first_found}
+use Rattle.mst_roles.proofs.graph_lemmas.ByKeys.{by_keys}
+use Rattle.mst_roles.proofs.graph_lemmas.Members.{in_map, from_map, in_whole}
+use Rattle.mst_roles.proofs.graph_lemmas.Splits.{kept_each, map_of_map}
+use Rattle.mst_roles.proofs.trees_lemmas.Looking.{first_found}
 
 unchanged : {A : Type 0} (xs : List A) → map (λ x. x) xs ≡ xs
 unchanged [] = refl

@@ -9,8 +9,8 @@ use Rattle.mst_picture.specs.trees.Msti.{msti_sight}
 use Rattle.mst_picture.specs.trees.Outcome.{Outcome}
 use Rattle.mst_picture.specs.settle.Assignment.{vector_of, designated_of}
 use Rattle.mst_picture.specs.trees.Forest.{Forest, msti_vector, msti_designated, msti_settlings}
-use Rattle.mst_picture.proofs.trees.CistTopology.{cist_is_sight}
-use Rattle.mst_picture.proofs.trees.MstiTopology.{msti_is_sight}
+use Rattle.mst_picture.proofs.trees_lemmas.CistTopology.{cist_is_sight}
+use Rattle.mst_picture.proofs.trees_lemmas.MstiTopology.{msti_is_sight}
 use Rattle.mst_report.specs.ByName.{KeepBoundsByName, KeepFirstBounds, StandsFor}
 use Rattle.mst_report.specs.Standing.{standing_of}
 use Rattle.mst_report.proofs.ByName.{AreOne, by_name}

@@ -1,11 +1,11 @@
 use Rattle.std.proofs.Common.{◌≡◌, ℕ, ◌+◌, ◌++◌, Bool, false, List, filter, ap, subst, ◌∙◌}
 use Rattle.std.specs.List.{AllZip, Contains, list_all}
 use Rattle.std.proofs.lemmas.Result.{on_ok_weaker}
-use Rattle.mst_diff.proofs.trees.Entries.{all_weaker}
-use Rattle.mst_diff.proofs.trees.Lists.{all_there}
-use Rattle.mst_diff.proofs.trees.Looking.{filter_alike}
+use Rattle.mst_diff.proofs.trees_lemmas.Entries.{all_weaker}
+use Rattle.mst_diff.proofs.trees_lemmas.Lists.{all_there}
+use Rattle.mst_diff.proofs.trees_lemmas.Looking.{filter_alike}
 use Rattle.mst_diff.specs.plan_text.PlanText.{all_vids}
-use Rattle.mst_diff.proofs.plan_text.OnePlan.{is_vid_there}
+use Rattle.mst_diff.proofs.plan_text_lemmas.OnePlan.{is_vid_there}
 use Rattle.mst_summary.specs.Carries.{carries, ports_on, carried, carries_line}
 use Rattle.mst_summary.specs.Kept.{flag_at}
 use Rattle.mst_summary.specs.Seen.{seen_on, seen_carries}

@@ -1,5 +1,5 @@
 use Rattle.mst_summary.specs.Seen.{up_text}
-use Rattle.mst_diff.proofs.plan_text.Texts.{text_more, text_all}
+use Rattle.mst_diff.proofs.plan_text_lemmas.Texts.{text_more, text_all}
 use Rattle.mst_summary.proofs.carries.push_lans.Goals as goal
 
 pub loop-lan-preserved : goal.loop-lan-preserved

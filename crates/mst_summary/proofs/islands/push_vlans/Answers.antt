@@ -2,8 +2,8 @@ use Rattle.std.proofs.Common.{◌≡◌, ℕ, ◌++◌, List, length, map, refl,
 use Rattle.std.specs.List.{flat_map}
 use Rattle.std.proofs.lemmas.Result.{on_ok_weaker}
 use Rattle.mst_diff.specs.plan_text.Bodies.{NumberEach}
-use Rattle.mst_diff.proofs.plan_text.Grouped.{vids_long}
-use Rattle.mst_diff.proofs.plan_text.Classes.{numbers_below, each_below}
+use Rattle.mst_diff.proofs.plan_text_lemmas.Grouped.{vids_long}
+use Rattle.mst_diff.proofs.plan_text_lemmas.Classes.{numbers_below, each_below}
 use Rattle.mst_summary.specs.Kept.{count_at}
 use Rattle.mst_summary.specs.Vlans.{HasIslands, group_text}
 use Rattle.mst_summary.proofs.VidClasses.{AtPlaces, things_have, islands_moved, groups_counted}

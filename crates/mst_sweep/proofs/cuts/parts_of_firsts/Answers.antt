@@ -1,7 +1,7 @@
 use Rattle.std.proofs.Common.{◌≡◌, refl, take, ◌+◌, ◌<◌, ◌≤◌, ℕ, List, ◌++◌, ◌∷◌, [], get_or, length, map, sym, ap, subst, ◌∙◌, arith, rules}
 use Rattle.std.proofs.lemmas.Grind.{common_steps}
 use Rattle.std.proofs.lemmas.List.{map-append, get_or-map}
-use Rattle.mst_diff.proofs.plan_text.Bodied.{zip_at}
+use Rattle.mst_diff.proofs.plan_text_lemmas.Bodied.{zip_at}
 use Rattle.mst_sweep.specs.Parts.{AreParts}
 use Rattle.mst_sweep.specs.Baseline.{AreHomes}
 use Rattle.mst_sweep.proofs.Placed.{AtPlaces, places_more, places_all}

@@ -3,8 +3,8 @@ use Rattle.std.specs.List.{filter, flat_map, list_any}
 use Rattle.std.proofs.lemmas.Result.{IfOk-weaker}
 use Rattle.mst_diff.specs.plan_text.Bodies.{NumberEach, body_at}
 use Rattle.mst_diff.specs.plan_text.PlanText.{all_vids}
-use Rattle.mst_diff.proofs.plan_text.Grouped.{vids_long, groups_given}
-use Rattle.mst_diff.proofs.plan_text.Classes.{numbers_below, each_below, have_bodies}
+use Rattle.mst_diff.proofs.plan_text_lemmas.Grouped.{vids_long, groups_given}
+use Rattle.mst_diff.proofs.plan_text_lemmas.Classes.{numbers_below, each_below, have_bodies}
 use Rattle.mst_diff.specs.Reach.{has_any}
 use Rattle.mst_diff.proofs.Reached.{AreTold}
 use Rattle.mst_sweep.specs.Parts.{AreParts}

@@ -10,7 +10,7 @@ use Rattle.mst_engine.specs.declared.engine.Input.TheVariants.{Network}
 use Rattle.mst_engine.specs.io.declared.outcome.Outcome.{Outcome}
 use Rattle.mst_engine.specs.io.declared.outcome.RunFault.{RunFault}
 use Rattle.mst_engine.specs.io.declared.outcome.RunFault.TheVariants.{Read, Write}
-use Rattle.mst_engine.proofs.io.Calls.{works_both, broken_after, stops_after, stops_working, works_unbroken, read_uncut}
+use Rattle.mst_engine.proofs.io_lemmas.Calls.{works_both, broken_after, stops_after, stops_working, works_unbroken, read_uncut}
 use Rattle.mst_tool.proofs.WholeDiff.{front_in_old, front_in_new, new_ended, both_scripts, both_whole, differs_front, diffs}
 use Rattle.mst_tool.proofs.WholeLoad.{loads_ended}
 use Rattle.mst_tool.proofs.diffs.diff_within.Goals as goal
