@@ -28,7 +28,7 @@ use Rattle.mst_trees.proofs.Outcomes.{OnePorts}
 use Rattle.mst_trees.proofs.Sights.{bridge_in, port_in}
 use Rattle.mst_trees.proofs.CistTopology.{cist_is_sight, cist_topology}
 use Rattle.mst_trees.proofs.MstiTopology.{msti_is_sight, msti_topology}
-use Rattle.mst_trees.proofs.Nested.{internal_told, internal_port}
+use Rattle.mst_trees.proofs.NestedTrees.{internal_told, internal_port}
 use Rattle.mst_roles.specs.Roles.{beside, role_by, outside, cist_role, msti_role, role_in, forwards}
 use Rattle.mst_roles.specs.declared.kind.Role.{Role}
 use Rattle.mst_roles.specs.declared.kind.Role.TheVariants.{Root, Designated, Alternate, Backup, Disabled}
