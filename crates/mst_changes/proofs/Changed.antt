@@ -12,8 +12,8 @@ use Rattle.mst_ids.specs.declared.name.PortName.{PortName}
 use Rattle.mst_roles.specs.net.Tables.{Net, BridgeRow, port_eq}
 use Rattle.mst_roles.proofs.net_lemmas.Keyed.{flipped}
 use Rattle.mst_roles.proofs.net_lemmas.Keys.{names, ports}
-use Rattle.mst_roles.specs.lag.Trees.{mstis_of, is_among}
-use Rattle.mst_roles.specs.lag.View.{LogicalPort, view_ports}
+use Rattle.mst_lag.specs.Trees.{mstis_of, is_among}
+use Rattle.mst_lag.specs.View.{LogicalPort, view_ports}
 use Rattle.mst_roles.specs.trees.Apart.{Apart}
 use Rattle.mst_roles.specs.trees.Msti.{has_msti}
 use Rattle.mst_roles.specs.trees.Outcome.{Outcome}

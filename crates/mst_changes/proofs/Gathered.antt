@@ -9,11 +9,11 @@ use Rattle.std.proofs.lemmas.List.Elements.{filter_map-append}
 use Rattle.mst_ids.specs.declared.name.PortName.{PortName}
 use Rattle.mst_roles.specs.settle.Assignment.{vector_of}
 use Rattle.mst_roles.specs.net.Tables.{Net, Numbers, BridgeRow}
-use Rattle.mst_roles.specs.lag.Trees.{is_among}
-use Rattle.mst_roles.specs.lag.View.{LogicalPort, view_ports}
-use Rattle.mst_roles.specs.lag.Viewed.{Viewed, named_bridge, named_port}
-use Rattle.mst_roles.specs.lag.declared.in_view.BridgeInView.{BridgeInView}
-use Rattle.mst_roles.specs.lag.declared.in_view.PortInView.{PortInView}
+use Rattle.mst_lag.specs.Trees.{is_among}
+use Rattle.mst_lag.specs.View.{LogicalPort, view_ports}
+use Rattle.mst_lag.specs.Viewed.{Viewed, named_bridge, named_port}
+use Rattle.mst_lag.specs.declared.in_view.BridgeInView.{BridgeInView}
+use Rattle.mst_lag.specs.declared.in_view.PortInView.{PortInView}
 use Rattle.mst_roles.specs.trees.Agrees.{AreOf}
 use Rattle.mst_roles.specs.trees.Forest.{Forest, IsForest, msti_vector}
 use Rattle.mst_roles.specs.trees.InUse.{is_in_use}

@@ -5,9 +5,9 @@ use Rattle.std.specs.Option.{option_map_or}
 use Rattle.std.specs.FinMap as fin
 use Rattle.std.proofs.lemmas.Bool.{or_parts}
 use Rattle.mst_roles.specs.net.Tables.{Net, Numbers, BridgeRow}
-use Rattle.mst_roles.specs.lag.Trees.{is_among, mstis_of}
-use Rattle.mst_roles.specs.lag.Viewed.{Viewed}
-use Rattle.mst_roles.specs.lag.declared.in_view.BridgeInView.{BridgeInView}
+use Rattle.mst_lag.specs.Trees.{is_among, mstis_of}
+use Rattle.mst_lag.specs.Viewed.{Viewed}
+use Rattle.mst_lag.specs.declared.in_view.BridgeInView.{BridgeInView}
 use Rattle.mst_roles.specs.trees.Agrees.{AreOf}
 use Rattle.mst_roles.specs.trees.InUse.{is_in_use}
 use Rattle.mst_roles.specs.trees.Msti.{has_msti}

@@ -4,7 +4,7 @@ use Rattle.std.specs.List.{flat_map}
 use Rattle.mst_ids.specs.Names.{port_cmp}
 use Rattle.mst_ids.specs.declared.name.PortName.{PortName}
 use Rattle.mst_roles.specs.net.Tables.{Net, Numbers}
-use Rattle.mst_roles.specs.lag.Viewed.{Viewed}
+use Rattle.mst_lag.specs.Viewed.{Viewed}
 use Rattle.mst_roles.specs.trees.Agrees.{AreOf}
 use Rattle.mst_roles.specs.trees.Forest.{Forest, IsForest}
 use Rattle.mst_roles.specs.trees.InUse.{is_in_use}

@@ -13,7 +13,7 @@ use crate::merge::push_merged;
 use crate::ports::Planned;
 use crate::rows::push_tree;
 use mst_ids::Tree;
-use mst_roles::trees::trees_in_use;
+use mst_roles::trees_in_use;
 use std::alloc::{AllocError, Global};
 
 /// Appends the lines of what has changed in one tree. It takes memory for the entries of that tree alone.

@@ -8,9 +8,8 @@ use crate::rows::vector;
 use crate::subject::{Entry, Item};
 use crate::value::VectorOrRole;
 use mst_ids::{Name, PortName, Tree};
-use mst_roles::lag::View;
-use mst_roles::trees::Forest;
-use mst_roles::{Role, port_role};
+use mst_lag::View;
+use mst_roles::{Forest, Role, port_role};
 use std::alloc::{AllocError, Global};
 
 /// What is kept of a tree: the root priority vectors of the network's bridges and the roles of its logical ports, in

@@ -5,7 +5,7 @@ ghost use Rattle.mst_roles.specs.trees.Outcome.{Outcome, IsOutcome};
 ghost use Rattle.mst_changes.specs.ChangesText.{changes_text};
 ghost use Rattle.mst_changes.specs.Kept.{entries_of};
 
-use mst_roles::trees::laws::one_outcome;
+use mst_roles::trees_laws::one_outcome;
 
 /// Two networks have one text, whichever settled outcomes it is made by.
 pub fn one_text()

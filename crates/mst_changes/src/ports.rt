@@ -7,8 +7,8 @@ ghost use Rattle.mst_changes.specs.PortChanges.{port_changes};
 use crate::merge::push_merged;
 use crate::rows::push_ports;
 use mst_ids::Tree;
-use mst_roles::lag::View;
-use mst_roles::trees::Forest;
+use mst_lag::View;
+use mst_roles::Forest;
 use std::alloc::{AllocError, Global};
 
 /// A network's view and its settled trees.

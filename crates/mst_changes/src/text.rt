@@ -8,7 +8,7 @@ use crate::value::{VectorOrRole, is_same};
 use itoa::Buffer;
 use mst_ids::{Name, PortName, Tree, push_bytes, push_end, push_word, push_words};
 use mst_roles::Role;
-use mst_roles::vector::{CistVector, MstiVector};
+use mst_vector::{CistVector, MstiVector};
 use std::alloc::AllocError;
 
 /// Appends the words that name a bridge in a tree.

@@ -7,18 +7,18 @@ use Rattle.std.specs.Map.{lookup}
 use Rattle.std.specs.FinMap as fin
 use Rattle.std.proofs.lemmas.Bool.{eqb-true}
 use Rattle.mst_ids.specs.declared.name.PortName.{PortName}
-use Rattle.mst_report.specs.vector.declared.cist.CistBridge.{CistBridge}
-use Rattle.mst_report.specs.net.Tables.{Net, Numbers, BridgeRow, IsNetwork, port_eq}
-use Rattle.mst_report.specs.net.After.{table_of}
-use Rattle.mst_report.specs.net.Contents.{Contents, IsNumbered}
-use Rattle.mst_report.specs.net.ByTree.{by_tree, table_in}
-use Rattle.mst_report.specs.net.Seen.{bridge_row}
-use Rattle.mst_report.specs.lag.Trees.{mstis_of}
-use Rattle.mst_report.specs.lag.View.{LogicalPort, view_ports}
-use Rattle.mst_report.specs.lag.Viewed.{Viewed, IsView, named_port}
-use Rattle.mst_report.specs.lag.declared.in_view.BridgeInView.{BridgeInView}
-use Rattle.mst_report.proofs.lag_lemmas.Placing.{pair_found}
-use Rattle.mst_report.specs.config.Regions.{region_of}
+use Rattle.mst_vector.specs.declared.cist.CistBridge.{CistBridge}
+use Rattle.mst_net.specs.Tables.{Net, Numbers, BridgeRow, IsNetwork, port_eq}
+use Rattle.mst_net.specs.After.{table_of}
+use Rattle.mst_net.specs.Contents.{Contents, IsNumbered}
+use Rattle.mst_net.specs.ByTree.{by_tree, table_in}
+use Rattle.mst_net.specs.Seen.{bridge_row}
+use Rattle.mst_lag.specs.Trees.{mstis_of}
+use Rattle.mst_lag.specs.View.{LogicalPort, view_ports}
+use Rattle.mst_lag.specs.Viewed.{Viewed, IsView, named_port}
+use Rattle.mst_lag.specs.declared.in_view.BridgeInView.{BridgeInView}
+use Rattle.mst_lag.proofs.Placing.{pair_found}
+use Rattle.mst_config.specs.Regions.{region_of}
 use Rattle.mst_report.specs.trees.Sight.{named_bridge as bridge_in_sight}
 use Rattle.mst_report.specs.trees.Cist.{cist_bridge, cist_sight}
 use Rattle.mst_report.specs.trees.Outcome.{Outcome, IsOutcome}

@@ -8,13 +8,13 @@ use Rattle.std.specs.Cmp.Lexicographic.{bytes_decides}
 use Rattle.std.proofs.lemmas.Bool.{and_parts}
 use Rattle.mst_ids.specs.Identifiers.{mac_of, port_number_of}
 use Rattle.mst_ids.specs.declared.name.PortName.{PortName}
-use Rattle.mst_report.specs.net.Tables.{Net, Numbers, BridgeRow}
-use Rattle.mst_report.specs.net.Seen.{bridge_row}
-use Rattle.mst_report.specs.lag.Aggregation.{same_name}
-use Rattle.mst_report.specs.lag.View.{LogicalPort, view_ports}
-use Rattle.mst_report.specs.lag.Viewed.{Viewed, IsView, named_bridge, named_port}
-use Rattle.mst_report.specs.lag.declared.in_view.BridgeInView.{BridgeInView}
-use Rattle.mst_report.specs.lag.declared.in_view.PortInView.{PortInView}
+use Rattle.mst_net.specs.Tables.{Net, Numbers, BridgeRow}
+use Rattle.mst_net.specs.Seen.{bridge_row}
+use Rattle.mst_lag.specs.Aggregation.{same_name}
+use Rattle.mst_lag.specs.View.{LogicalPort, view_ports}
+use Rattle.mst_lag.specs.Viewed.{Viewed, IsView, named_bridge, named_port}
+use Rattle.mst_lag.specs.declared.in_view.BridgeInView.{BridgeInView}
+use Rattle.mst_lag.specs.declared.in_view.PortInView.{PortInView}
 use Rattle.mst_report.proofs.trees_lemmas.Lists.{some_is, no_some}
 use Rattle.mst_report.proofs.roles_lemmas.Named.{found_in}
 use Rattle.mst_bpdu.specs.Sender.{bridge_of, port_of}

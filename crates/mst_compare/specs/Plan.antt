@@ -5,13 +5,13 @@ use Rattle.std.specs.FinMap as fin
 use Rattle.byteorder.specs.Endian.{big_bytes}
 use Rattle.mst_ids.specs.Identifiers.{bridge_id, port_id}
 use Rattle.mst_ids.specs.declared.name.PortName.{PortName}
-use Rattle.mst_report.specs.vector.declared.cist.CistVector.{CistVector}
-use Rattle.mst_report.specs.vector.declared.msti.MstiVector.{MstiVector}
-use Rattle.mst_report.specs.net.Tables.{Net, BridgeRow}
-use Rattle.mst_report.specs.net.ByTree.{ByTree, by_tree, priority_in, port_priority_in}
-use Rattle.mst_report.specs.net.After.{table_of}
-use Rattle.mst_report.specs.lag.Trees.{mstis_of}
-use Rattle.mst_report.specs.config.Digest.{digest_of}
+use Rattle.mst_vector.specs.declared.cist.CistVector.{CistVector}
+use Rattle.mst_vector.specs.declared.msti.MstiVector.{MstiVector}
+use Rattle.mst_net.specs.Tables.{Net, BridgeRow}
+use Rattle.mst_net.specs.ByTree.{ByTree, by_tree, priority_in, port_priority_in}
+use Rattle.mst_net.specs.After.{table_of}
+use Rattle.mst_lag.specs.Trees.{mstis_of}
+use Rattle.mst_config.specs.Digest.{digest_of}
 use Rattle.mst_report.specs.trees.Outcome.{Outcome}
 use Rattle.mst_report.specs.roles.Roles.{role_of, forwards as is_forwarding}
 use Rattle.mst_report.specs.roles.declared.kind.Role.{Role}

@@ -1,5 +1,5 @@
 ghost use Rattle.std.specs.Prelude.{◌≡◌, true, Some, IfOk, IfErr, IsSome};
-ghost use Rattle.mst_report.specs.net.Seen.{bridge_row};
+ghost use Rattle.mst_net.specs.Seen.{bridge_row};
 ghost use Rattle.mst_bpdu.specs.Differences.{differences_of};
 ghost use Rattle.mst_bpdu.specs.declared.planned.Planned.{Planned as PlannedOf};
 ghost use Rattle.mst_compare.specs.Sender.{sender_of};
@@ -10,10 +10,9 @@ use crate::digests::Digests;
 use crate::planned::planned;
 use crate::senders::{Origin, sender_in};
 use mst_bpdu::{Bpdu, BpduFault, Difference, differences};
-use mst_report::Planner;
-use mst_report::lag::View;
-use mst_report::net::Contents;
-use mst_report::trees::Forest;
+use mst_lag::View;
+use mst_net::Contents;
+use mst_report::{Forest, Planner};
 use std::alloc::{AllocError, Global};
 
 /// Where a BPDU differs from what the plan has for the port that sent it, in the order in which fields are compared.

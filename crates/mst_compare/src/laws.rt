@@ -1,15 +1,15 @@
 //! Laws of comparisons. Their functions do nothing: a caller has their clauses.
 ghost use Rattle.std.specs.Prelude.{◌≡◌, ℕ, List, Some};
 ghost use Rattle.mst_ids.specs.declared.name.PortName.{PortName as PortOf};
-ghost use Rattle.mst_report.specs.net.Tables.{Net, BridgeRow, IsNetwork};
-ghost use Rattle.mst_report.specs.config.Digest.{identifier};
+ghost use Rattle.mst_net.specs.Tables.{Net, BridgeRow, IsNetwork};
+ghost use Rattle.mst_config.specs.Digest.{identifier};
 ghost use Rattle.mst_bpdu.specs.declared.bpdu.Bpdu.{Bpdu};
 ghost use Rattle.mst_bpdu.specs.declared.difference.Difference.{Difference};
 ghost use Rattle.mst_compare.specs.Plan.{configuration_of, octets_of};
 ghost use Rattle.mst_compare.specs.Sender.{sender_of};
 ghost use Rattle.mst_compare.specs.Comparison.{AreDifferences};
 
-use mst_report::trees::laws::{has_outcome, one_outcome};
+use mst_report::trees_laws::{has_outcome, one_outcome};
 
 /// A BPDU that has a sender has a list of differences from the plan of a network: the network has an outcome, and each
 /// bridge that is on has a root priority vector in its CIST.

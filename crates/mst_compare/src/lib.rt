@@ -17,6 +17,8 @@ pub use digests::Digests;
 pub use mst_bpdu::{
     Bpdu, BpduFault, Difference, Field, Value, push_comparison, push_fault, read_line,
 };
-pub use mst_report as report;
-pub use mst_report::{config, lag, lang, net, roles, save, settle, trees, vector, vlan};
+pub use mst_report::{
+    Differing, Forest, Planner, Sweep, SweepPart, Unexplained, asks_plan, forwards,
+    laws as report_laws, trees_laws,
+};
 pub use senders::sender;

@@ -6,10 +6,10 @@ use Rattle.std.specs.List.{find}
 use Rattle.std.specs.Cmp.Lexicographic.{pointwise}
 use Rattle.std.specs.FinMap as fin
 use Rattle.mst_ids.specs.Identifiers.{bridge_id}
-use Rattle.mst_net.specs.lang.declared.line.Edit.{Edit}
-use Rattle.mst_net.specs.lang.declared.line.Edit.TheVariants.{AddBridge, DelBridge, SetBridge, AddPort, DelPort, SetPort, AddLan, DelLan, SetLan, Plug, Unplug, SetByTree}
-use Rattle.mst_net.specs.lang.declared.line.BridgeChange.TheVariants.{Power, Kind, SystemPriority, Configuration, MaxHops, MaxAge}
-use Rattle.mst_net.specs.lang.declared.line.TreeChange.TheVariants.{Priority, PortPriority, PortCost, Table, Vlans}
+use Rattle.mst_lang.specs.declared.line.Edit.{Edit}
+use Rattle.mst_lang.specs.declared.line.Edit.TheVariants.{AddBridge, DelBridge, SetBridge, AddPort, DelPort, SetPort, AddLan, DelLan, SetLan, Plug, Unplug, SetByTree}
+use Rattle.mst_lang.specs.declared.line.BridgeChange.TheVariants.{Power, Kind, SystemPriority, Configuration, MaxHops, MaxAge}
+use Rattle.mst_lang.specs.declared.line.TreeChange.TheVariants.{Priority, PortPriority, PortCost, Table, Vlans}
 use Rattle.mst_net.specs.ByTree.{table_in}
 use Rattle.mst_net.specs.Tables.{Net, Numbers, BridgeRow}
 use Rattle.mst_net.specs.After.{table_of, effect, refusal_of, bridge_with, change_bridge}

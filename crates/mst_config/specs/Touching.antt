@@ -1,9 +1,9 @@
 -- Which edits touch regions.
 use Rattle.std.specs.Prelude.{Bool, true, false}
-use Rattle.mst_net.specs.lang.declared.line.Edit.{Edit}
-use Rattle.mst_net.specs.lang.declared.line.Edit.TheVariants.{AddBridge, DelBridge, SetBridge, SetByTree}
-use Rattle.mst_net.specs.lang.declared.line.BridgeChange.TheVariants.{Kind, Configuration}
-use Rattle.mst_net.specs.lang.declared.line.TreeChange.TheVariants.{Table}
+use Rattle.mst_lang.specs.declared.line.Edit.{Edit}
+use Rattle.mst_lang.specs.declared.line.Edit.TheVariants.{AddBridge, DelBridge, SetBridge, SetByTree}
+use Rattle.mst_lang.specs.declared.line.BridgeChange.TheVariants.{Kind, Configuration}
+use Rattle.mst_lang.specs.declared.line.TreeChange.TheVariants.{Table}
 
 -- an edit that adds a bridge or takes one away, or sets a bridge's kind, its configuration or its table may change which
 -- bridges share a region, or their numbers. No other does

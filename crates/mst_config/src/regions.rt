@@ -12,8 +12,8 @@ ghost use Rattle.mst_config.specs.Touching.{touches_regions};
 use crate::configuration::{Configuration, note};
 use indexmap::{IndexMap, IndexSet};
 use mst_ids::{BridgeId, BridgeNo, Mac, Name};
+use mst_lang::{BridgeChange, Edit, Kind, TreeChange};
 use mst_net::Contents;
-use mst_net::lang::{BridgeChange, Edit, Kind, TreeChange};
 use std::alloc::{AllocError, Global};
 use std::marker::Model;
 

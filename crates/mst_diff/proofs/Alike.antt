@@ -7,13 +7,13 @@ use Rattle.std.specs.Option.{option_map_or}
 use Rattle.std.specs.FinMap as fin
 use Rattle.mst_ids.specs.Words.{after_space, line, listed}
 use Rattle.std.proofs.lemmas.List.Sums.{length-filter}
-use Rattle.mst_plan_text.specs.net.Tables.{Net, BridgeRow}
-use Rattle.mst_plan_text.specs.lag.Aggregation.{same_name}
+use Rattle.mst_net.specs.Tables.{Net, BridgeRow}
+use Rattle.mst_lag.specs.Aggregation.{same_name}
 use Rattle.mst_plan_text.specs.config.Regions.{first_of_region}
 use Rattle.mst_plan_text.specs.trees.Outcome.{Outcome}
 use Rattle.mst_plan_text.proofs.trees_text.Entries.{all_weaker, entries_found}
 use Rattle.mst_plan_text.proofs.trees_text.Lists.{all_kept, all_there, some_is, no_some}
-use Rattle.mst_plan_text.proofs.graph_lemmas.Members.{here, in_whole, filter_none}
+use Rattle.mst_graph.proofs.Members.{here, in_whole, filter_none}
 use Rattle.mst_plan_text.specs.PlanText.{all_vids}
 use Rattle.mst_plan_text.proofs.OnePlan.{is_vid_there}
 use Rattle.mst_changes.specs.Subjects.{all_trees, bridge_names, port_in, port_names, names_of_either}
@@ -21,7 +21,7 @@ use Rattle.mst_changes.specs.PortChanges.{port_changes}
 use Rattle.mst_changes.specs.Values.{value_at}
 use Rattle.mst_changes.proofs.Same.{none_at}
 use Rattle.mst_ids.specs.Names.{port_cmp}
-use Rattle.mst_plan_text.proofs.net_lemmas.Keys.{names}
+use Rattle.mst_net.proofs.Keys.{names}
 use Rattle.mst_diff.specs.declared.roots.RootPair.{RootPair}
 use Rattle.mst_diff.specs.Regions.{same_told, region_line, region_text, region_change, region_changes}
 use Rattle.mst_diff.specs.Roots.{root_name, paired, root_pair, same_pair, root_line, with_new, each_once, tree_roots, root_changes}

@@ -15,12 +15,12 @@ use Rattle.mst_ids.specs.Names.{port_cmp}
 use Rattle.mst_ids.specs.Vids.{is_vid}
 use Rattle.mst_ids.specs.Words.{after_space, line, listed}
 use Rattle.mst_ids.specs.declared.name.PortName.{PortName}
-use Rattle.mst_plan_text.proofs.graph_lemmas.Members.{in_none, cases, passing, in_map, in_filter, filter_none}
-use Rattle.mst_plan_text.specs.net.Tables.{Net, BridgeRow, port_eq}
-use Rattle.mst_plan_text.proofs.net_lemmas.Keyed.{flipped}
-use Rattle.mst_plan_text.proofs.net_lemmas.Keys.{names, ports}
-use Rattle.mst_plan_text.specs.lag.Aggregation.{same_name}
-use Rattle.mst_plan_text.specs.lag.View.{LogicalPort, view_ports}
+use Rattle.mst_graph.proofs.Members.{in_none, cases, passing, in_map, in_filter, filter_none}
+use Rattle.mst_net.specs.Tables.{Net, BridgeRow, port_eq}
+use Rattle.mst_net.proofs.Keyed.{flipped}
+use Rattle.mst_net.proofs.Keys.{names, ports}
+use Rattle.mst_lag.specs.Aggregation.{same_name}
+use Rattle.mst_lag.specs.View.{LogicalPort, view_ports}
 use Rattle.mst_plan_text.specs.config.Regions.{first_of_region}
 use Rattle.mst_plan_text.specs.trees.Outcome.{Outcome}
 use Rattle.mst_plan_text.proofs.trees_text.Entries.{all_weaker, entries_found}

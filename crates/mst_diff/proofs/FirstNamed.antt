@@ -6,8 +6,8 @@ use Rattle.std.specs.Map.{lookup}
 use Rattle.std.specs.Option.{option_or}
 use Rattle.std.proofs.lemmas.List.{take_more}
 use Rattle.std.proofs.lemmas.List.Folds.{find-append}
-use Rattle.mst_plan_text.specs.lag.Aggregation.{same_name}
-use Rattle.mst_plan_text.specs.lag.declared.in_view.BridgeInView.{BridgeInView}
+use Rattle.mst_lag.specs.Aggregation.{same_name}
+use Rattle.mst_lag.specs.declared.in_view.BridgeInView.{BridgeInView}
 use Rattle.mst_diff.specs.Seen.{AreByName}
 
 -- what stands first, and then what may stand there

@@ -9,10 +9,10 @@ use Rattle.std.proofs.lemmas.List.Sums.{length-filter}
 use Rattle.mst_ids.specs.Names.{port_cmp}
 use Rattle.mst_ids.specs.Vids.{set_where, vids_text}
 use Rattle.mst_ids.specs.Words.{after_space, line}
-use Rattle.mst_plan_text.proofs.graph_lemmas.Members.{in_none, here, in_whole, in_filter, filter_none}
-use Rattle.mst_plan_text.specs.net.Tables.{Net, BridgeRow}
-use Rattle.mst_plan_text.specs.lag.Aggregation.{same_name}
-use Rattle.mst_plan_text.specs.lag.Trees.{is_among}
+use Rattle.mst_graph.proofs.Members.{in_none, here, in_whole, in_filter, filter_none}
+use Rattle.mst_net.specs.Tables.{Net, BridgeRow}
+use Rattle.mst_lag.specs.Aggregation.{same_name}
+use Rattle.mst_lag.specs.Trees.{is_among}
 use Rattle.mst_plan_text.specs.config.Regions.{first_of_region}
 use Rattle.mst_plan_text.specs.trees.Outcome.{Outcome}
 use Rattle.mst_plan_text.proofs.trees_text.Entries.{all_weaker}

@@ -1,10 +1,6 @@
-pub use Rattle.mst_plan_text.proofs.graph_lemmas as graph_lemmas
-pub use Rattle.mst_plan_text.proofs.net_lemmas as net_lemmas
-pub use Rattle.mst_plan_text.proofs.lag_lemmas as lag_lemmas
-pub use Rattle.mst_plan_text.proofs.config_lemmas as config_lemmas
+pub use Rattle.mst_net.proofs as net_lemmas
 pub use Rattle.mst_plan_text.proofs.trees_lemmas as trees_lemmas
 pub use Rattle.mst_plan_text.proofs.roles_lemmas as roles_lemmas
-pub use Rattle.mst_plan_text.proofs.vlan_lemmas as vlan_lemmas
 pub use Rattle.mst_changes.proofs as changes_lemmas
 pub use Rattle.mst_plan_text.proofs as plan_text_lemmas
 pub mod Lists

@@ -2,7 +2,7 @@
 use Rattle.std.proofs.Common.{◌≡◌, ◌||◌, Bool, true, false, cond, List, [], ◌∷◌, ◌++◌, map, Option, Some, None, refl, ap, subst, ◌∙◌}
 use Rattle.std.specs.List.{AllByRecursion, Contains, find, filter_map, flat_map, cons_option, list_any}
 use Rattle.std.specs.Option.{option_map, option_map_or, option_and_then}
-use Rattle.mst_plan_text.proofs.graph_lemmas.Members.{here, there}
+use Rattle.mst_graph.proofs.Members.{here, there}
 use Rattle.mst_plan_text.proofs.trees_text.Lists.{some_is, no_some}
 
 -- the texts of what is kept

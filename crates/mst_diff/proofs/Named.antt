@@ -8,16 +8,16 @@ use Rattle.std.specs.FinMap.{get-entries}
 use Rattle.std.specs.FinMap.Entries as entries
 use Rattle.mst_ids.specs.Names.{name_cmp}
 use Rattle.mst_plan_text.specs.settle.Assignment.{vector_of}
-use Rattle.mst_plan_text.specs.net.Tables.{Net, Numbers, BridgeRow}
-use Rattle.mst_plan_text.specs.net.ByTree.{by_tree}
-use Rattle.mst_plan_text.specs.net.Seen.{bridge_row}
-use Rattle.mst_plan_text.proofs.net_lemmas.Keyed.{flipped}
-use Rattle.mst_plan_text.proofs.net_lemmas.Keys.{names}
-use Rattle.mst_plan_text.proofs.lag_lemmas.Lists.{find_same}
-use Rattle.mst_plan_text.specs.lag.Aggregation.{same_name}
-use Rattle.mst_plan_text.specs.lag.Trees.{is_among, mstis_of}
-use Rattle.mst_plan_text.specs.lag.Viewed.{Viewed, named_bridge}
-use Rattle.mst_plan_text.specs.lag.declared.in_view.BridgeInView.{BridgeInView}
+use Rattle.mst_net.specs.Tables.{Net, Numbers, BridgeRow}
+use Rattle.mst_net.specs.ByTree.{by_tree}
+use Rattle.mst_net.specs.Seen.{bridge_row}
+use Rattle.mst_net.proofs.Keyed.{flipped}
+use Rattle.mst_net.proofs.Keys.{names}
+use Rattle.mst_lag.proofs.Lists.{find_same}
+use Rattle.mst_lag.specs.Aggregation.{same_name}
+use Rattle.mst_lag.specs.Trees.{is_among, mstis_of}
+use Rattle.mst_lag.specs.Viewed.{Viewed, named_bridge}
+use Rattle.mst_lag.specs.declared.in_view.BridgeInView.{BridgeInView}
 use Rattle.mst_plan_text.specs.config.Shared.{same_in}
 use Rattle.mst_plan_text.specs.config.Regions.{same_region, first_of_region}
 use Rattle.mst_plan_text.specs.trees.Agrees.{AreOf}

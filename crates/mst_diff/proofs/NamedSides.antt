@@ -7,11 +7,11 @@ use Rattle.std.proofs.lemmas.Grind.{flat_map-append}
 use Rattle.std.proofs.lemmas.List.{map-append}
 use Rattle.std.proofs.lemmas.List.Elements.{filter_more}
 use Rattle.mst_ids.specs.Words.{after_space, comma_list, listed}
-use Rattle.mst_plan_text.specs.graph.Islands.{Island}
-use Rattle.mst_plan_text.specs.net.Tables.{Net, Numbers}
-use Rattle.mst_plan_text.proofs.lag_lemmas.Lists.{map_itself}
-use Rattle.mst_plan_text.specs.lag.Aggregation.{same_name}
-use Rattle.mst_plan_text.specs.lag.Viewed.{Viewed}
+use Rattle.mst_graph.specs.Islands.{Island}
+use Rattle.mst_net.specs.Tables.{Net, Numbers}
+use Rattle.mst_lag.proofs.Lists.{map_itself}
+use Rattle.mst_lag.specs.Aggregation.{same_name}
+use Rattle.mst_lag.specs.Viewed.{Viewed}
 use Rattle.mst_plan_text.specs.trees.Agrees.{AreOf}
 use Rattle.mst_plan_text.specs.trees.Forest.{Forest}
 use Rattle.mst_plan_text.specs.trees.Outcome.{Outcome}

@@ -4,11 +4,11 @@ use Rattle.std.specs.Cmp.{IsEquivalence}
 use Rattle.std.specs.Cmp.Lexicographic.{pointwise, bytes_decides, nat_list_eq_equiv}
 use Rattle.std.specs.List.{Contains, flat_map, count_by}
 use Rattle.std.proofs.lemmas.List.Sums.{length-filter}
-use Rattle.mst_plan_text.specs.graph.Groups.{AreGroups}
-use Rattle.mst_plan_text.specs.graph.Islands.{Island}
-use Rattle.mst_plan_text.proofs.graph_lemmas.Alike.{alike_groups}
-use Rattle.mst_plan_text.proofs.graph_lemmas.Members.{here, in_whole}
-use Rattle.mst_plan_text.specs.net.Tables.{Net}
+use Rattle.mst_graph.specs.Groups.{AreGroups}
+use Rattle.mst_graph.specs.Islands.{Island}
+use Rattle.mst_graph.proofs.Alike.{alike_groups}
+use Rattle.mst_graph.proofs.Members.{here, in_whole}
+use Rattle.mst_net.specs.Tables.{Net}
 use Rattle.mst_plan_text.specs.trees.Outcome.{Outcome}
 use Rattle.mst_plan_text.proofs.trees_text.Entries.{all_weaker}
 use Rattle.mst_plan_text.proofs.trees_text.Lists.{all_there}

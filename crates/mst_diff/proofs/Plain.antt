@@ -7,11 +7,11 @@ use Rattle.std.specs.FinMap as fin
 use Rattle.std.proofs.lemmas.Bool.{and_parts}
 use Rattle.mst_ids.specs.Texts.{is_name_byte}
 use Rattle.mst_ids.specs.Words.{after_comma, comma_list}
-use Rattle.mst_plan_text.specs.lang.Ranges.{IsName}
-use Rattle.mst_plan_text.specs.graph.Islands.{Island}
-use Rattle.mst_plan_text.proofs.graph_lemmas.Members.{from_filter, from_map}
-use Rattle.mst_plan_text.specs.net.Tables.{Net, BridgeRow, IsNetwork}
-use Rattle.mst_plan_text.proofs.net_lemmas.Keys.{names}
+use Rattle.mst_lang.specs.Ranges.{IsName}
+use Rattle.mst_graph.specs.Islands.{Island}
+use Rattle.mst_graph.proofs.Members.{from_filter, from_map}
+use Rattle.mst_net.specs.Tables.{Net, BridgeRow, IsNetwork}
+use Rattle.mst_net.proofs.Keys.{names}
 use Rattle.mst_plan_text.specs.trees.Outcome.{Outcome}
 use Rattle.mst_plan_text.proofs.trees_text.Entries.{all_weaker, entries_found}
 use Rattle.mst_plan_text.proofs.trees_text.Lists.{all_contained, all_mapped, all_there}

@@ -4,10 +4,10 @@ use Rattle.std.specs.Prelude.{if◌then◌else◌}
 use Rattle.std.specs.Cmp.Lexicographic.{pointwise, bytes_decides}
 use Rattle.std.specs.List.{Contains, flat_map}
 use Rattle.std.proofs.lemmas.Grind.{flat_map-append}
-use Rattle.mst_plan_text.specs.graph.Groups.{AreGroups}
-use Rattle.mst_plan_text.proofs.graph_lemmas.Alike.{alike_groups}
-use Rattle.mst_plan_text.proofs.graph_lemmas.Members.{here, there, in_whole}
-use Rattle.mst_plan_text.specs.net.Tables.{Net, IsNetwork}
+use Rattle.mst_graph.specs.Groups.{AreGroups}
+use Rattle.mst_graph.proofs.Alike.{alike_groups}
+use Rattle.mst_graph.proofs.Members.{here, there, in_whole}
+use Rattle.mst_net.specs.Tables.{Net, IsNetwork}
 use Rattle.mst_plan_text.specs.trees.Outcome.{Outcome}
 use Rattle.mst_plan_text.specs.PlanText.{all_vids}
 use Rattle.mst_plan_text.proofs.OnePlan.{vids_once, is_vid_there, OneGrouping}

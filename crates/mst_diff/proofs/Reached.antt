@@ -2,10 +2,10 @@
 use Rattle.std.proofs.Common.{ℕ, ◌++◌, Bool, List, subst}
 use Rattle.std.specs.List.{AllByRecursion, Contains}
 use Rattle.std.proofs.lemmas.List.Elements.{Contains-append_left, Contains-append_right}
-use Rattle.mst_plan_text.specs.graph.Islands.{AreIslands}
-use Rattle.mst_plan_text.specs.net.ByTree.{table_in, vlans_in}
-use Rattle.mst_plan_text.specs.net.Tables.{Net, Numbers}
-use Rattle.mst_plan_text.specs.lag.Viewed.{Viewed}
+use Rattle.mst_graph.specs.Islands.{AreIslands}
+use Rattle.mst_net.specs.ByTree.{table_in, vlans_in}
+use Rattle.mst_net.specs.Tables.{Net, Numbers}
+use Rattle.mst_lag.specs.Viewed.{Viewed}
 use Rattle.mst_plan_text.specs.trees.Agrees.{AreOf}
 use Rattle.mst_plan_text.specs.trees.Forest.{Forest}
 use Rattle.mst_plan_text.specs.trees.Outcome.{Outcome}

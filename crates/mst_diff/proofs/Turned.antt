@@ -17,9 +17,9 @@ use Rattle.std.proofs.lemmas.List.Folds.{flat_map-map, list_any-append}
 use Rattle.mst_ids.specs.Names.{name_cmp, port_cmp}
 use Rattle.mst_ids.specs.declared.name.PortName.{PortName}
 use Rattle.mst_ids.specs.Words.{after_space, line, listed}
-use Rattle.mst_plan_text.specs.net.Tables.{Net, BridgeRow}
-use Rattle.mst_plan_text.proofs.net_lemmas.Keys.{names, ports}
-use Rattle.mst_plan_text.specs.lag.Aggregation.{same_name}
+use Rattle.mst_net.specs.Tables.{Net, BridgeRow}
+use Rattle.mst_net.proofs.Keys.{names, ports}
+use Rattle.mst_lag.specs.Aggregation.{same_name}
 use Rattle.mst_plan_text.specs.config.Regions.{first_of_region}
 use Rattle.mst_plan_text.specs.trees.Apart.{Apart}
 use Rattle.mst_plan_text.specs.trees.Outcome.{Outcome}

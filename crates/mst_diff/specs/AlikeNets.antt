@@ -4,8 +4,8 @@ use Rattle.std.specs.List.{Contains}
 use Rattle.std.specs.FinMap as fin
 use Rattle.mst_ids.specs.Vids.{is_vid}
 use Rattle.mst_ids.specs.declared.name.PortName.{PortName}
-use Rattle.mst_plan_text.specs.graph.Islands.{Island}
-use Rattle.mst_plan_text.specs.net.Tables.{Net, BridgeRow}
+use Rattle.mst_graph.specs.Islands.{Island}
+use Rattle.mst_net.specs.Tables.{Net, BridgeRow}
 use Rattle.mst_plan_text.specs.config.Regions.{first_of_region}
 use Rattle.mst_plan_text.specs.trees.Outcome.{Outcome}
 use Rattle.mst_plan_text.specs.roles.Roles.{role_of}

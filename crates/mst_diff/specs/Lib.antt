@@ -1,13 +1,8 @@
-pub use Rattle.mst_plan_text.specs.graph as graph
-pub use Rattle.mst_plan_text.specs.lang as lang
-pub use Rattle.mst_plan_text.specs.net as net
-pub use Rattle.mst_plan_text.specs.lag as lag
-pub use Rattle.mst_plan_text.specs.config as config
+pub use Rattle.mst_net.specs as net
 pub use Rattle.mst_plan_text.specs.vector as vector
 pub use Rattle.mst_plan_text.specs.settle as settle
 pub use Rattle.mst_plan_text.specs.trees as trees
 pub use Rattle.mst_plan_text.specs.roles as roles
-pub use Rattle.mst_plan_text.specs.vlan as vlan
 pub use Rattle.mst_changes.specs as changes
 pub use Rattle.mst_plan_text.specs.text as text
 pub use Rattle.mst_plan_text.specs as plan_text

@@ -1,7 +1,7 @@
 -- The lines of logical ports whose roles are other ones.
 use Rattle.std.specs.Prelude.{ℕ, List}
 use Rattle.std.specs.List.{flat_map}
-use Rattle.mst_plan_text.specs.net.Tables.{Net}
+use Rattle.mst_net.specs.Tables.{Net}
 use Rattle.mst_plan_text.specs.trees.Outcome.{Outcome}
 use Rattle.mst_changes.specs.Subjects.{all_trees}
 use Rattle.mst_changes.specs.PortChanges.{port_changes}

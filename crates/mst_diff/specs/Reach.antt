@@ -3,11 +3,11 @@ use Rattle.std.specs.Prelude.{◌≡◌, ℕ, Bool, true, false, List, [], ◌�
 use Rattle.std.specs.List.{count_by, flat_map, list_any}
 use Rattle.mst_ids.specs.Vids.{is_vid, set_where, vids_text}
 use Rattle.mst_ids.specs.Words.{after_space, comma_list, listed}
-use Rattle.mst_plan_text.specs.graph.Groups.{AreGroups}
-use Rattle.mst_plan_text.specs.graph.Islands.{Island}
-use Rattle.mst_plan_text.specs.net.Tables.{Net}
-use Rattle.mst_plan_text.specs.lag.Aggregation.{same_name}
-use Rattle.mst_plan_text.specs.lag.Trees.{is_among}
+use Rattle.mst_graph.specs.Groups.{AreGroups}
+use Rattle.mst_graph.specs.Islands.{Island}
+use Rattle.mst_net.specs.Tables.{Net}
+use Rattle.mst_lag.specs.Aggregation.{same_name}
+use Rattle.mst_lag.specs.Trees.{is_among}
 use Rattle.mst_plan_text.specs.trees.Outcome.{Outcome}
 use Rattle.mst_plan_text.specs.vlan.Reach.{AreIslandsOf}
 use Rattle.mst_plan_text.specs.PlanText.{all_vids}

@@ -4,8 +4,8 @@ use Rattle.std.specs.List.{flat_map}
 use Rattle.std.specs.Option.{option_map_or}
 use Rattle.std.specs.FinMap as fin
 use Rattle.mst_ids.specs.Words.{line}
-use Rattle.mst_plan_text.specs.net.Tables.{Net, BridgeRow}
-use Rattle.mst_plan_text.specs.lag.Aggregation.{same_name}
+use Rattle.mst_net.specs.Tables.{Net, BridgeRow}
+use Rattle.mst_lag.specs.Aggregation.{same_name}
 use Rattle.mst_plan_text.specs.config.Regions.{first_of_region}
 
 -- both bridges are of kind rstp, or both are of kind mstp, and their configurations have one name and one revision

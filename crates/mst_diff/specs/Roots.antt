@@ -4,9 +4,9 @@ use Rattle.std.specs.List.{find, flat_map, list_any}
 use Rattle.std.specs.Option.{option_map, option_and_then}
 use Rattle.std.specs.FinMap as fin
 use Rattle.mst_ids.specs.Words.{line}
-use Rattle.mst_plan_text.specs.net.Tables.{Net}
-use Rattle.mst_plan_text.specs.net.ByTree.{by_tree}
-use Rattle.mst_plan_text.specs.lag.Aggregation.{same_name}
+use Rattle.mst_net.specs.Tables.{Net}
+use Rattle.mst_net.specs.ByTree.{by_tree}
+use Rattle.mst_lag.specs.Aggregation.{same_name}
 use Rattle.mst_plan_text.specs.trees.InUse.{id_in}
 use Rattle.mst_plan_text.specs.trees.Msti.{has_msti}
 use Rattle.mst_plan_text.specs.trees.Outcome.{Outcome}

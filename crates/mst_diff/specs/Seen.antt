@@ -4,12 +4,12 @@ use Rattle.std.specs.List.{find, flat_map, list_any}
 use Rattle.std.specs.Map.{lookup}
 use Rattle.std.specs.Option.{option_map, option_and_then, unwrap_or}
 use Rattle.mst_ids.specs.Words.{after_space, comma_list}
-use Rattle.mst_plan_text.specs.net.Seen.{bridge_row}
+use Rattle.mst_net.specs.Seen.{bridge_row}
 use Rattle.mst_plan_text.specs.settle.Assignment.{vector_of}
-use Rattle.mst_plan_text.specs.lag.Aggregation.{same_name}
-use Rattle.mst_plan_text.specs.lag.Trees.{is_among}
-use Rattle.mst_plan_text.specs.lag.Viewed.{Viewed}
-use Rattle.mst_plan_text.specs.lag.declared.in_view.BridgeInView.{BridgeInView}
+use Rattle.mst_lag.specs.Aggregation.{same_name}
+use Rattle.mst_lag.specs.Trees.{is_among}
+use Rattle.mst_lag.specs.Viewed.{Viewed}
+use Rattle.mst_lag.specs.declared.in_view.BridgeInView.{BridgeInView}
 use Rattle.mst_plan_text.specs.config.Shared.{same_in}
 use Rattle.mst_plan_text.specs.trees.Forest.{Forest, msti_vector}
 use Rattle.mst_plan_text.specs.trees.InUse.{id_in}

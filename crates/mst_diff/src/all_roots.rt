@@ -1,5 +1,5 @@
 ghost use Rattle.std.specs.Prelude.{◌≡◌, ◌++◌, OnOk};
-ghost use Rattle.mst_plan_text.specs.net.Tables.{Net, Numbers};
+ghost use Rattle.mst_net.specs.Tables.{Net, Numbers};
 ghost use Rattle.mst_plan_text.specs.trees.Agrees.{AreOf};
 ghost use Rattle.mst_plan_text.specs.trees.Forest.{IsForest};
 ghost use Rattle.mst_plan_text.specs.trees.InUse.{AreInUse};
@@ -10,7 +10,7 @@ use crate::both::Both;
 use crate::roots::push_tree;
 use mst_changes::Planned;
 use mst_ids::Tree;
-use mst_plan_text::trees::{is_had, trees_in_use};
+use mst_plan_text::{is_had, trees_in_use};
 use std::alloc::{AllocError, Global};
 
 /// Two plans, the bridges that both networks have, and the trees that each has beside the CIST.

@@ -1,5 +1,5 @@
 ghost use Rattle.std.specs.Prelude.{◌≡◌, ◌==◌, ◌&&◌, ◌++◌, ℕ, List, IfOk, OnOk};
-ghost use Rattle.mst_plan_text.specs.net.Tables.{Net, Numbers};
+ghost use Rattle.mst_net.specs.Tables.{Net, Numbers};
 ghost use Rattle.mst_plan_text.specs.trees.Agrees.{AreOf, Known};
 ghost use Rattle.mst_plan_text.specs.trees.Forest.{IsForest};
 ghost use Rattle.mst_diff.specs.DiffText.{IsDiff, diff_line, lines_in as lines_of_text};

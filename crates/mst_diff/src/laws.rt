@@ -1,6 +1,6 @@
 //! Laws of the text of what a change does. Their functions do nothing: a caller has their clauses.
 ghost use Rattle.std.specs.Prelude.{◌≡◌, ◌↔◌, ℕ, List};
-ghost use Rattle.mst_plan_text.specs.net.Tables.{Net, IsNetwork};
+ghost use Rattle.mst_net.specs.Tables.{Net, IsNetwork};
 ghost use Rattle.mst_plan_text.specs.trees.Outcome.{Outcome, IsOutcome};
 ghost use Rattle.mst_diff.specs.AlikeNets.{AreAlike};
 ghost use Rattle.mst_diff.specs.DiffText.{IsDiff, diff_line};
@@ -11,10 +11,10 @@ ghost use Rattle.mst_diff.specs.Roots.{root_changes};
 ghost use Rattle.mst_diff.specs.Turned.{AreTurned, SidesTurned, ReachTurned};
 ghost use Rattle.mst_diff.specs.declared.diff.Differing.{Differing as Counts};
 
+use mst_graph::laws::group_lists;
 use mst_ids::Vid;
-use mst_plan_text::graph::laws::group_lists;
-use mst_plan_text::trees::laws::one_outcome;
-use mst_plan_text::vlan::laws::islands_of_vid;
+use mst_plan_text::trees_laws::one_outcome;
+use mst_plan_text::vlan_laws::islands_of_vid;
 
 /// Two networks have one text and one count of what differs, whichever settled outcomes it is made by, and there is one.
 pub fn one_diff()

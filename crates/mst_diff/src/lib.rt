@@ -13,7 +13,11 @@ mod sides;
 
 pub use both::{Both, bridges_of_both};
 pub use diff::{Differing, push_diff};
-pub use mst_changes as changes;
-pub use mst_plan_text as plan_text;
-pub use mst_plan_text::{config, graph, lag, lang, net, roles, settle, text, trees, vector, vlan};
+pub use mst_changes::{Entries, Planned, laws as changes_laws, push_changes};
+pub use mst_plan_text::{
+    Forest, Island, Role, bridge_id, copies, forwards, has_tree, is_had, is_member,
+    laws as plan_text_laws, mstis_in_use, numbers_of_vids, port_forwards, port_role,
+    push_configuration, push_lags, push_plan, push_regions, push_tree, push_vlan, role, set_of,
+    tables, text_laws, trees_in_use, trees_laws, vids, vlan_laws, vlan_sets,
+};
 pub use roots::root;

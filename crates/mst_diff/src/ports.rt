@@ -1,5 +1,5 @@
 ghost use Rattle.std.specs.Prelude.{◌≡◌, ◌++◌, OnOk};
-ghost use Rattle.mst_plan_text.specs.net.Tables.{Net, Numbers};
+ghost use Rattle.mst_net.specs.Tables.{Net, Numbers};
 ghost use Rattle.mst_plan_text.specs.trees.Agrees.{AreOf};
 ghost use Rattle.mst_plan_text.specs.trees.Forest.{IsForest};
 ghost use Rattle.mst_plan_text.specs.trees.InUse.{AreInUse};
@@ -8,7 +8,7 @@ ghost use Rattle.mst_diff.specs.Ports.{ports_text};
 
 use mst_changes::{Planned, push_port_changes};
 use mst_ids::Tree;
-use mst_plan_text::trees::{is_had, trees_in_use};
+use mst_plan_text::{is_had, trees_in_use};
 use std::alloc::{AllocError, Global};
 
 /// Appends the lines of ports in a tree: none where no bridge of either network has it.

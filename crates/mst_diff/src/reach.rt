@@ -1,7 +1,7 @@
 ghost use Rattle.std.specs.Prelude.{◌≡◌, ◌++◌, ◌+◌, ◌<◌, ℕ, List, IfOk, OnOk, length, map, vec_len};
 ghost use Rattle.std.specs.List.{All, AllZip, AllByRecursion, Contains, flat_map, count_by};
-ghost use Rattle.mst_plan_text.specs.net.ByTree.{table_in, vlans_in};
-ghost use Rattle.mst_plan_text.specs.net.Tables.{Net, Numbers};
+ghost use Rattle.mst_net.specs.ByTree.{table_in, vlans_in};
+ghost use Rattle.mst_net.specs.Tables.{Net, Numbers};
 ghost use Rattle.mst_plan_text.specs.trees.Agrees.{AreOf, Known};
 ghost use Rattle.mst_plan_text.specs.trees.Forest.{IsForest};
 ghost use Rattle.mst_plan_text.specs.Bodies.{NumberEach, body_at};
@@ -9,10 +9,10 @@ ghost use Rattle.mst_diff.specs.Reach.{has_any, AreSides, whole_line, reach_line
 
 use crate::sides::sides;
 use mst_changes::Planned;
+use mst_graph::{groups_by_body, number_keys};
 use mst_ids::{Vid, VidSet, push_bytes, push_end};
-use mst_plan_text::graph::{groups_by_body, number_keys};
-use mst_plan_text::lag::View;
-use mst_plan_text::net::Table;
+use mst_lag::View;
+use mst_net::Table;
 use mst_plan_text::{copies, numbers_of_vids, set_of, tables, vids, vlan_sets};
 use std::alloc::{AllocError, Global};
 

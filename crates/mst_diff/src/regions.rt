@@ -1,7 +1,7 @@
 ghost use Rattle.std.specs.Prelude.{◌≡◌, ◌++◌, OnOk};
 ghost use Rattle.std.specs.List.{flat_map};
-ghost use Rattle.mst_plan_text.specs.net.Seen.{bridge_row};
-ghost use Rattle.mst_plan_text.specs.net.Tables.{Net, Numbers};
+ghost use Rattle.mst_net.specs.Seen.{bridge_row};
+ghost use Rattle.mst_net.specs.Tables.{Net, Numbers};
 ghost use Rattle.mst_plan_text.specs.trees.Agrees.{AreOf};
 ghost use Rattle.mst_ids.specs.Words.{after_space};
 ghost use Rattle.mst_diff.specs.Regions.{same_told, region_words, region_line, region_changes};
@@ -11,9 +11,9 @@ use crate::both::Both;
 use itoa::Buffer;
 use mst_changes::Planned;
 use mst_ids::{Name, push_bytes, push_end, push_word};
-use mst_plan_text::lag::BridgeInView;
-use mst_plan_text::lang::Kind;
-use mst_plan_text::net::Bridge;
+use mst_lag::BridgeInView;
+use mst_lang::Kind;
+use mst_net::Bridge;
 use std::alloc::AllocError;
 
 /// The first of the bridges, in byte order of names, that are in a bridge's region.

@@ -7,8 +7,8 @@ use crate::both::Both;
 use itoa::Buffer;
 use mst_changes::Planned;
 use mst_ids::{BridgeId, BridgeNo, Name, Tree, push_line};
-use mst_plan_text::lag::View;
-use mst_plan_text::trees::bridge_id;
+use mst_lag::View;
+use mst_plan_text::bridge_id;
 use std::alloc::{AllocError, Global};
 
 /// A bridge's identifier in a tree, and its name.

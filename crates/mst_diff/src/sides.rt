@@ -1,9 +1,9 @@
 ghost use Rattle.std.specs.Prelude.{◌≡◌, ◌++◌, ℕ, List, IfOk, OnOk, map};
 ghost use Rattle.std.specs.List.{flat_map, list_any};
 ghost use Rattle.mst_ids.specs.Words.{comma_list};
-ghost use Rattle.mst_plan_text.specs.lag.Aggregation.{same_name};
-ghost use Rattle.mst_plan_text.specs.graph.Islands.{Island as NamedIsland};
-ghost use Rattle.mst_plan_text.specs.net.Tables.{Net, Numbers};
+ghost use Rattle.mst_lag.specs.Aggregation.{same_name};
+ghost use Rattle.mst_graph.specs.Islands.{Island as NamedIsland};
+ghost use Rattle.mst_net.specs.Tables.{Net, Numbers};
 ghost use Rattle.mst_plan_text.specs.trees.Agrees.{AreOf, Known};
 ghost use Rattle.mst_plan_text.specs.trees.Forest.{IsForest};
 ghost use Rattle.mst_plan_text.specs.vlan.Reach.{AreIslandsOf};
@@ -13,9 +13,8 @@ ghost use Rattle.mst_diff.specs.Seen.{seen_words, one_word, apart_word, joined_s
 
 use mst_changes::Planned;
 use mst_ids::{Vid, push_bytes, push_comma_list, push_word};
-use mst_plan_text::lag::View;
-use mst_plan_text::text::bridge_names;
-use mst_plan_text::vlan::{Island, reach};
+use mst_lag::View;
+use mst_plan_text::{Island, bridge_names, reach};
 use std::alloc::{AllocError, Global};
 
 /// The word of an island: the names of its bridges.

@@ -4,16 +4,16 @@ use Rattle.std.proofs.lemmas.Grind.{flat_map-append, common_steps}
 use Rattle.std.proofs.lemmas.List.Sums.{sum_by-cons, sum_by-append}
 use Rattle.std.specs.Io.KnownBytes.{Appends}
 use Rattle.std.proofs.KnownBytes.{Appends-trans}
-use Rattle.mst_compare.specs.lang.Lines.{drop_cr, last_line}
+use Rattle.mst_lang.specs.Lines.{drop_cr, last_line}
 use Rattle.mst_compare.specs.report.State.{IsState}
-use Rattle.mst_print.specs.io.Held.{hold}
+use Rattle.mst_io.specs.Held.{hold}
 use Rattle.mst_engine.specs.Steps.{Step, left_by, texts_of}
-use Rattle.mst_print.specs.io.Written.{AppendsFront}
+use Rattle.mst_io.specs.Written.{AppendsFront}
 use Rattle.mst_engine.specs.Engine.{Tally, known_after, does, RunsOn, tallied}
 use Rattle.mst_engine.specs.declared.engine.Input.{Input}
-use Rattle.mst_print.specs.io.Held.{lines_held}
+use Rattle.mst_io.specs.Held.{lines_held}
 use Rattle.mst_engine.specs.Feeding.{Feeds, BreaksIn, Breaks}
-use Rattle.mst_print.proofs.io_lemmas.Known.{AppendsFront-after, AppendsFront-longer}
+use Rattle.mst_io.proofs.Known.{AppendsFront-after, AppendsFront-longer}
 use Rattle.mst_engine.proofs.Steps.{AlwaysRuns, left_by-append, on-first}
 
 module _ (input : Input) where

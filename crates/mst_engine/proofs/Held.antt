@@ -1,26 +1,26 @@
 -- That it is enough to hold a part of a line that is too long.
 use Rattle.std.proofs.Common.{◌≡◌, ℕ, ◌<◌, true, false, nat_eq, cond, List, [], ◌∷◌, ◌++◌, length, Result, Ok, Err, Some, None, refl, sym, ap, subst, ◌∙◌, ◌⊎◌, inl, inr}
 use Rattle.std.proofs.lemmas.Bool.{lt-ltb}
-use Rattle.mst_compare.specs.lang.Lines.{drop_cr, last_line, no_line, lines_from, lines_of, ended_lines}
-use Rattle.mst_compare.specs.lang.declared.line.Fault.{Fault}
-use Rattle.mst_compare.specs.lang.declared.line.Line.{Line}
-use Rattle.mst_compare.specs.lang.declared.line.Line.TheVariants.{Blank}
-use Rattle.mst_compare.specs.lang.declared.line.Version.{Version}
-use Rattle.mst_compare.specs.lang.declared.line.Version.TheVariants.{V1, V2}
+use Rattle.mst_lang.specs.Lines.{drop_cr, last_line, no_line, lines_from, lines_of, ended_lines}
+use Rattle.mst_lang.specs.declared.line.Fault.{Fault}
+use Rattle.mst_lang.specs.declared.line.Line.{Line}
+use Rattle.mst_lang.specs.declared.line.Line.TheVariants.{Blank}
+use Rattle.mst_lang.specs.declared.line.Version.{Version}
+use Rattle.mst_lang.specs.declared.line.Version.TheVariants.{V1, V2}
 use Rattle.mst_compare.specs.bpdu.Reading.{reading as captured, octets_of}
 use Rattle.mst_compare.specs.bpdu.declared.fault.BpduFault.TheVariants.{B01}
 use Rattle.mst_compare.specs.report.State.{State}
 use Rattle.mst_engine.specs.Captures.{ServesCapture, ServesMessage, capture_of, is_skipped}
 use Rattle.mst_engine.specs.Engine.{RunsOn}
-use Rattle.mst_print.specs.io.Held.{hold, lines_held}
+use Rattle.mst_io.specs.Held.{hold, lines_held}
 use Rattle.mst_engine.specs.Script.{ServesRead, reading_at, version_said, version_of, loading}
 use Rattle.mst_print.specs.Shape.{of_script}
 use Rattle.mst_engine.specs.Steps.{Step, RunsBy}
 use Rattle.mst_engine.specs.declared.engine.Input.{Input}
 use Rattle.mst_engine.specs.declared.engine.Input.TheVariants.{Script, Network, Captures}
 use Rattle.mst_print.specs.declared.form.Shape.{Shape}
-use Rattle.mst_print.proofs.io_lemmas.Long.{held_cases, long_reading, none_held_of, one_held_of}
-use Rattle.mst_print.proofs.io_lemmas.Starts.{IsHeld, IsHeld-nothing, IsHeld-push}
+use Rattle.mst_io.proofs.Long.{held_cases, long_reading, none_held_of, one_held_of}
+use Rattle.mst_io.proofs.Starts.{IsHeld, IsHeld-nothing, IsHeld-push}
 use Rattle.mst_engine.proofs.Skips.{skips, skips-start}
 use Rattle.mst_engine.proofs.Steps.{ServesBy, runs_alike}
 

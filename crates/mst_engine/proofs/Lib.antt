@@ -1,5 +1,3 @@
-pub use Rattle.mst_print.proofs.io_lemmas as io_lemmas
-pub use Rattle.mst_print.proofs as printing_lemmas
 pub mod Skips
 pub mod Steps
 pub mod Held

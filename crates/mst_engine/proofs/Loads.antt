@@ -1,12 +1,12 @@
 -- A script loads the network that it runs to.
 use Rattle.std.proofs.Common.{◌≡◌, ℕ, ◌+◌, Bool, true, false, List, [], ◌∷◌, Result, Ok, Err, refl, sym, ap, subst, ◌∙◌}
-use Rattle.mst_compare.specs.lang.declared.line.Line.{Line}
-use Rattle.mst_compare.specs.lang.declared.line.Line.TheVariants.{Blank, Mark, Edit as edit, Query as query}
-use Rattle.mst_compare.specs.lang.declared.line.Fault.{Fault}
-use Rattle.mst_compare.specs.lang.declared.line.Version.{Version}
-use Rattle.mst_compare.specs.net.declared.refusal.Refusal.{Refusal}
-use Rattle.mst_compare.specs.net.Tables.{Net}
-use Rattle.mst_compare.specs.net.After.{after}
+use Rattle.mst_lang.specs.declared.line.Line.{Line}
+use Rattle.mst_lang.specs.declared.line.Line.TheVariants.{Blank, Mark, Edit as edit, Query as query}
+use Rattle.mst_lang.specs.declared.line.Fault.{Fault}
+use Rattle.mst_lang.specs.declared.line.Version.{Version}
+use Rattle.mst_net.specs.declared.refusal.Refusal.{Refusal}
+use Rattle.mst_net.specs.Tables.{Net}
+use Rattle.mst_net.specs.After.{after}
 use Rattle.mst_compare.specs.changes.declared.subject.Entry.{Entry}
 use Rattle.mst_compare.specs.report.State.{State}
 use Rattle.mst_engine.specs.Script.{Serves, ServesRead, Loads, loading, unmarked, reading_at, edited, marked}

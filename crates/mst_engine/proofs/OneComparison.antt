@@ -5,7 +5,7 @@ use Rattle.mst_compare.specs.bpdu.declared.bpdu.Bpdu.{Bpdu}
 use Rattle.mst_compare.specs.bpdu.declared.difference.Difference.{Difference}
 use Rattle.mst_compare.specs.bpdu.declared.fault.BpduFault.{BpduFault}
 use Rattle.mst_compare.specs.bpdu.declared.fault.BpduFault.TheVariants.{B07}
-use Rattle.mst_compare.specs.net.Tables.{Net, IsNetwork}
+use Rattle.mst_net.specs.Tables.{Net, IsNetwork}
 use Rattle.mst_compare.specs.Comparison.{AreDifferences}
 use Rattle.mst_compare.specs.Sender.{sender_of}
 use Rattle.mst_compare.specs.report.State.{State, IsState}

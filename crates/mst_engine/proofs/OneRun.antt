@@ -1,20 +1,20 @@
 -- A script has one output by the lines that lack memory, and one without; a query's answer is the network's alone.
 use Rattle.std.proofs.Common.{◌≡◌, ℕ, ◌+◌, Bool, true, false, true≢false, cond, nat_eq, List, [], ◌∷◌, Some, Result, Ok, Err, refl, sym, ap, subst, ◌∙◌, arith}
 use Rattle.std.proofs.lemmas.List.Sums.{sum_by-cons}
-use Rattle.mst_compare.specs.lang.declared.line.Line.{Line}
-use Rattle.mst_compare.specs.lang.declared.line.Line.TheVariants.{Blank, Mark, Edit as edit, Query as query}
-use Rattle.mst_compare.specs.lang.declared.line.Edit.{Edit}
-use Rattle.mst_compare.specs.lang.declared.line.Query.{Query}
-use Rattle.mst_compare.specs.lang.declared.line.Fault.{Fault}
-use Rattle.mst_compare.specs.lang.Reading.{reading_as}
-use Rattle.mst_compare.specs.lang.declared.line.Version.{Version}
-use Rattle.mst_compare.specs.lang.declared.line.Version.TheVariants.{V1, V2}
-use Rattle.mst_compare.specs.lang.Ranges.{InRange}
-use Rattle.mst_compare.specs.lang.Faults as fault
-use Rattle.mst_compare.specs.net.declared.refusal.Refusal.{Refusal}
-use Rattle.mst_compare.specs.net.Refusals as refusal
-use Rattle.mst_compare.specs.net.Tables.{Net, IsNetwork, empty_net}
-use Rattle.mst_compare.specs.net.After.{after}
+use Rattle.mst_lang.specs.declared.line.Line.{Line}
+use Rattle.mst_lang.specs.declared.line.Line.TheVariants.{Blank, Mark, Edit as edit, Query as query}
+use Rattle.mst_lang.specs.declared.line.Edit.{Edit}
+use Rattle.mst_lang.specs.declared.line.Query.{Query}
+use Rattle.mst_lang.specs.declared.line.Fault.{Fault}
+use Rattle.mst_lang.specs.Reading.{reading_as}
+use Rattle.mst_lang.specs.declared.line.Version.{Version}
+use Rattle.mst_lang.specs.declared.line.Version.TheVariants.{V1, V2}
+use Rattle.mst_lang.specs.Ranges.{InRange}
+use Rattle.mst_lang.specs.Faults as fault
+use Rattle.mst_net.specs.declared.refusal.Refusal.{Refusal}
+use Rattle.mst_net.specs.Refusals as refusal
+use Rattle.mst_net.specs.Tables.{Net, IsNetwork, empty_net}
+use Rattle.mst_net.specs.After.{after}
 use Rattle.mst_compare.specs.changes.declared.subject.Entry.{Entry}
 use Rattle.mst_compare.specs.report.Answers.{Answers}
 use Rattle.mst_compare.specs.report.State.{State, IsState, IsMark, IsMarkNow, empty_state}

@@ -2,14 +2,14 @@
 use Rattle.std.proofs.Common.{true≢false, ◌≡◌, ℕ, ◌+◌, ◌<◌, false, cond, nat_eq, List, [], ◌∷◌, Result, Ok, Err, refl, sym, ap, subst, ◌∙◌, arith}
 use Rattle.std.proofs.lemmas.Grind.{common_steps}
 use Rattle.std.proofs.lemmas.List.Sums.{sum_by-cons}
-use Rattle.mst_compare.specs.lang.Reading.{reading_as}
-use Rattle.mst_compare.specs.lang.declared.line.Fault.{Fault}
-use Rattle.mst_compare.specs.lang.declared.line.Line.{Line}
-use Rattle.mst_compare.specs.lang.declared.line.Line.TheVariants.{Blank, Mark, Edit as edit, Query as query}
-use Rattle.mst_compare.specs.lang.declared.line.Version.TheVariants.{V1, V2}
-use Rattle.mst_compare.specs.net.Tables.{Net}
+use Rattle.mst_lang.specs.Reading.{reading_as}
+use Rattle.mst_lang.specs.declared.line.Fault.{Fault}
+use Rattle.mst_lang.specs.declared.line.Line.{Line}
+use Rattle.mst_lang.specs.declared.line.Line.TheVariants.{Blank, Mark, Edit as edit, Query as query}
+use Rattle.mst_lang.specs.declared.line.Version.TheVariants.{V1, V2}
+use Rattle.mst_net.specs.Tables.{Net}
 use Rattle.mst_compare.specs.report.State.{State, empty_state}
-use Rattle.mst_compare.specs.save.SaveText.{Makes, Leave, Restores}
+use Rattle.mst_save.specs.SaveText.{Makes, Leave, Restores}
 use Rattle.mst_engine.specs.Script.{Serves, ServesRead, Runs, reading_at, version_said, edited}
 use Rattle.mst_print.specs.Shape.{of_script}
 use Rattle.mst_engine.specs.Steps.{Step, RunsBy, silent, left_by, texts_of, refusals_of, lacks_of}

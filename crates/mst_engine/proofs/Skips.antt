@@ -3,10 +3,10 @@ use Rattle.std.proofs.Common.{◌≡◌, ℕ, Bool, true, false, nat_eq, cond, S
 use Rattle.std.specs.Prelude.{◌||◌, not}
 use Rattle.std.specs.Option.{option_map_or}
 use Rattle.std.specs.List.{find}
-use Rattle.mst_compare.specs.lang.Lines.{drop_cr}
-use Rattle.mst_compare.specs.lang.Words.{is_blank}
+use Rattle.mst_lang.specs.Lines.{drop_cr}
+use Rattle.mst_lang.specs.Words.{is_blank}
 use Rattle.mst_engine.specs.Captures.{is_skipped}
-use Rattle.mst_print.proofs.io_lemmas.Starts.{start_of}
+use Rattle.mst_io.proofs.Starts.{start_of}
 
 -- a line that begins so, without its carriage return
 abbrev pub skips : List ℕ → Bool

@@ -1,9 +1,9 @@
 -- Steps that lines can do.
 use Rattle.std.proofs.Common.{◌≡◌, ℕ, ◌+◌, Bool, true, false, cond, List, [], ◌∷◌, ◌++◌, Option, Some, None, Result, refl, sym, ap, ◌∙◌, arith}
 use Rattle.std.proofs.lemmas.List.Sums.{sum_by-cons}
-use Rattle.mst_compare.specs.lang.declared.line.Line.{Line}
-use Rattle.mst_compare.specs.lang.declared.line.Fault.{Fault}
-use Rattle.mst_compare.specs.lang.declared.line.Version.{Version}
+use Rattle.mst_lang.specs.declared.line.Line.{Line}
+use Rattle.mst_lang.specs.declared.line.Fault.{Fault}
+use Rattle.mst_lang.specs.declared.line.Version.{Version}
 use Rattle.mst_compare.specs.report.State.{State, IsState}
 use Rattle.mst_engine.specs.Captures.{ServesCapture, Compares}
 use Rattle.mst_engine.specs.Engine.{version_from, known_after, does, RunsOn}

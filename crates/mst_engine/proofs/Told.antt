@@ -1,7 +1,7 @@
 -- What a query does that a text answers.
 use Rattle.std.proofs.Common.{◌≡◌, ℕ, List, Some, Ok, ap}
-use Rattle.mst_compare.specs.lang.declared.line.Line.TheVariants.{Query as query}
-use Rattle.mst_compare.specs.lang.declared.line.Query.{Query}
+use Rattle.mst_lang.specs.declared.line.Line.TheVariants.{Query as query}
+use Rattle.mst_lang.specs.declared.line.Query.{Query}
 use Rattle.mst_compare.specs.report.Answers.{Answers}
 use Rattle.mst_compare.specs.report.State.{State}
 use Rattle.mst_engine.specs.Script.{ServesRead, starved}

@@ -3,20 +3,20 @@ use Rattle.std.proofs.Common.{◌≡◌, ℕ, List, [], ◌∷◌, ◌++◌, len
 use Rattle.std.specs.Option.{unwrap_or}
 use Rattle.std.proofs.lemmas.Grind.{flat_map-append}
 use Rattle.std.specs.Io.KnownBytes.{Appends, Consumes, IsAtEnd}
-use Rattle.mst_compare.specs.lang.Lines.{last_line, no_line, lines_of}
+use Rattle.mst_lang.specs.Lines.{last_line, no_line, lines_of}
 use Rattle.mst_compare.specs.report.State.{State, IsState}
 use Rattle.mst_engine.specs.Steps.{Step, texts_of}
-use Rattle.mst_print.specs.io.Written.{AppendsFront}
+use Rattle.mst_io.specs.Written.{AppendsFront}
 use Rattle.mst_engine.specs.Engine.{Tally, begun, RunsOn, outcome_of}
-use Rattle.mst_print.specs.io.Held.{lines_held, ending}
+use Rattle.mst_io.specs.Held.{lines_held, ending}
 use Rattle.mst_engine.specs.Feeding.{IsCounted, Feeds, Breaks}
 use Rattle.mst_engine.specs.Served.{Served, ServedFront, ServedEnded, IsFew}
 use Rattle.mst_engine.specs.declared.engine.Input.{Input}
 use Rattle.mst_engine.proofs.Held.{input_held, ended_held}
 use Rattle.mst_engine.proofs.Steps.{AlwaysRuns, on-none}
 use Rattle.mst_engine.proofs.Feeds.{Feeds-nil, Feeds-join}
-use Rattle.mst_print.proofs.io_lemmas.ReadBytes.{Reads-rest, Reads-all}
-use Rattle.mst_print.proofs.io_lemmas.Known.{AppendsFront-after}
+use Rattle.mst_io.proofs.ReadBytes.{Reads-rest, Reads-all}
+use Rattle.mst_io.proofs.Known.{AppendsFront-after}
 
 -- where an input begins
 pub begins_counted : (t : Tally) (from : State) → t ≡ begun from → IsCounted t

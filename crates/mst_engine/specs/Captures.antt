@@ -12,7 +12,7 @@ use Rattle.mst_compare.specs.bpdu.declared.fault.BpduFault.TheVariants.{B07, B99
 use Rattle.mst_compare.specs.Comparison.{AreDifferences}
 use Rattle.mst_compare.specs.Sender.{sender_of}
 use Rattle.mst_compare.specs.report.State.{State}
-use Rattle.mst_compare.specs.lang.Words.{is_blank}
+use Rattle.mst_lang.specs.Words.{is_blank}
 use Rattle.mst_engine.specs.Steps.{Step, RunsBy, silent, printed}
 
 -- a line of spaces and tabs, or one whose first other byte is `#`, is skipped, whatever its length

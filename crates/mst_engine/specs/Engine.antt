@@ -2,17 +2,17 @@
 use Rattle.std.specs.Prelude.{◌≡◌, ℕ, ◌+◌, Bool, true, false, List, [], ◌∷◌, Option, Some, None, if◌then◌else◌}
 use Rattle.mst_compare.specs.report.State.{State}
 use Rattle.mst_compare.specs.report.Planned.{planned_state}
-use Rattle.mst_compare.specs.lang.Faults as fault
-use Rattle.mst_compare.specs.lang.declared.line.Version.{Version}
-use Rattle.mst_compare.specs.net.Refusals as refusal
-use Rattle.mst_compare.specs.net.declared.refusal.Refusal.TheVariants.{E99}
+use Rattle.mst_lang.specs.Faults as fault
+use Rattle.mst_lang.specs.declared.line.Version.{Version}
+use Rattle.mst_net.specs.Refusals as refusal
+use Rattle.mst_net.specs.declared.refusal.Refusal.TheVariants.{E99}
 use Rattle.mst_compare.specs.bpdu.CaptureText.{fault_line}
 use Rattle.mst_compare.specs.bpdu.declared.fault.BpduFault.TheVariants.{B99}
 use Rattle.mst_engine.specs.Captures.{ServesCapture, Compares}
 use Rattle.mst_engine.specs.Script.{Serves, Loads, version_of}
 use Rattle.mst_print.specs.Shape.{of_script, coded}
 use Rattle.mst_engine.specs.Steps.{Step, RunsBy}
-use Rattle.mst_print.specs.io.declared.outcome.Outcome.{Outcome}
+use Rattle.mst_io.specs.declared.outcome.Outcome.{Outcome}
 use Rattle.mst_engine.specs.declared.engine.Engine.{Engine}
 use Rattle.mst_engine.specs.declared.engine.Input.{Input}
 use Rattle.mst_engine.specs.declared.engine.Input.TheVariants.{Script, Network, Captures}

@@ -1,9 +1,9 @@
 -- What was done with the bytes of an input that came so far.
 use Rattle.std.specs.Prelude.{◌≡◌, ℕ, ◌+◌, ◌≤◌, List, ◌++◌, length, Option}
-use Rattle.mst_compare.specs.lang.Lines.{last_line}
+use Rattle.mst_lang.specs.Lines.{last_line}
 use Rattle.mst_engine.specs.Steps.{Step, left_by, texts_of, refusals_of, lacks_of, differing_of}
-use Rattle.mst_print.specs.io.Held.{lines_held}
-use Rattle.mst_print.specs.io.Written.{AppendsFront}
+use Rattle.mst_io.specs.Held.{lines_held}
+use Rattle.mst_io.specs.Written.{AppendsFront}
 use Rattle.mst_engine.specs.Engine.{Tally, RunsOn}
 use Rattle.mst_engine.specs.declared.engine.Input.{Input}
 

@@ -1,20 +1,20 @@
 -- What a script prints.
 use Rattle.std.specs.Prelude.{◌≡◌, ℕ, Bool, true, false, ◌==◌, List, [], ◌∷◌, Some, None, Result, Ok, Err, if◌then◌else◌}
-use Rattle.mst_compare.specs.lang.declared.line.Edit.{Edit}
-use Rattle.mst_compare.specs.lang.declared.line.Edit.TheVariants.{AddBridge, DelBridge, SetBridge, AddPort, DelPort, SetPort, AddLan, DelLan, SetLan, Plug, Unplug, SetByTree}
-use Rattle.mst_compare.specs.lang.declared.line.Line.{Line}
-use Rattle.mst_compare.specs.lang.declared.line.Line.TheVariants.{Blank, Mark, Edit as edit, Query as query}
-use Rattle.mst_compare.specs.lang.declared.line.Fault.{Fault}
-use Rattle.mst_compare.specs.lang.declared.line.Query.{Query}
-use Rattle.mst_compare.specs.lang.declared.line.Version.{Version}
-use Rattle.mst_compare.specs.lang.declared.line.Version.TheVariants.{V1, V2}
-use Rattle.mst_compare.specs.lang.Reading.{reading_as, says_version_2}
-use Rattle.mst_compare.specs.lang.Faults as fault
-use Rattle.mst_compare.specs.net.declared.refusal.Refusal.{Refusal}
-use Rattle.mst_compare.specs.net.declared.refusal.Refusal.TheVariants.{E99}
-use Rattle.mst_compare.specs.net.Refusals as refusal
-use Rattle.mst_compare.specs.net.Tables.{Net}
-use Rattle.mst_compare.specs.net.After.{after}
+use Rattle.mst_lang.specs.declared.line.Edit.{Edit}
+use Rattle.mst_lang.specs.declared.line.Edit.TheVariants.{AddBridge, DelBridge, SetBridge, AddPort, DelPort, SetPort, AddLan, DelLan, SetLan, Plug, Unplug, SetByTree}
+use Rattle.mst_lang.specs.declared.line.Line.{Line}
+use Rattle.mst_lang.specs.declared.line.Line.TheVariants.{Blank, Mark, Edit as edit, Query as query}
+use Rattle.mst_lang.specs.declared.line.Fault.{Fault}
+use Rattle.mst_lang.specs.declared.line.Query.{Query}
+use Rattle.mst_lang.specs.declared.line.Version.{Version}
+use Rattle.mst_lang.specs.declared.line.Version.TheVariants.{V1, V2}
+use Rattle.mst_lang.specs.Reading.{reading_as, says_version_2}
+use Rattle.mst_lang.specs.Faults as fault
+use Rattle.mst_net.specs.declared.refusal.Refusal.{Refusal}
+use Rattle.mst_net.specs.declared.refusal.Refusal.TheVariants.{E99}
+use Rattle.mst_net.specs.Refusals as refusal
+use Rattle.mst_net.specs.Tables.{Net}
+use Rattle.mst_net.specs.After.{after}
 use Rattle.mst_compare.specs.changes.declared.subject.Entry.{Entry}
 use Rattle.mst_compare.specs.report.Answers.{Answers}
 use Rattle.mst_compare.specs.report.State.{State, IsMarkNow, empty_state}

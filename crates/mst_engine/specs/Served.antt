@@ -2,12 +2,12 @@
 use Rattle.std.specs.Prelude.{◌≡◌, ℕ, ◌+◌, ◌<◌, ◌^◌, List, Option, None}
 use Rattle.std.specs.Io.KnownBytes.{Appends, Consumes}
 use Rattle.mst_compare.specs.report.State.{State}
-use Rattle.mst_compare.specs.lang.Lines.{lines_of, ended_lines}
+use Rattle.mst_lang.specs.Lines.{lines_of, ended_lines}
 use Rattle.mst_engine.specs.Steps.{Step, left_by, texts_of, refusals_of, lacks_of, differing_of}
-use Rattle.mst_print.specs.io.Written.{AppendsFront, Reads}
+use Rattle.mst_io.specs.Written.{AppendsFront, Reads}
 use Rattle.mst_engine.specs.Engine.{Tally, RunsOn}
 use Rattle.mst_engine.specs.declared.engine.Input.{Input}
-use Rattle.mst_print.specs.io.declared.outcome.Outcome.{Outcome}
+use Rattle.mst_io.specs.declared.outcome.Outcome.{Outcome}
 
 -- all lines of the input were served, from this state on, and what they print was written. They were counted
 pub record Served (input : Input) (from : State) (reads written now : Option (List ℕ)) (t : Tally) : Type 0 where

@@ -7,16 +7,15 @@ ghost use Rattle.mst_compare.specs.report.State.{State};
 ghost use Rattle.mst_engine.specs.Captures.{is_skipped as skipped, ServesCapture, ServesMessage, ServesSent, compared};
 ghost use Rattle.mst_engine.specs.Engine.{shape_of, replied};
 ghost use Rattle.mst_engine.specs.declared.engine.Input.TheVariants.{Captures};
-ghost use Rattle.mst_compare.specs.lang.Words.{is_blank as blank};
+ghost use Rattle.mst_lang.specs.Words.{is_blank as blank};
 
 use crate::engine::Reply;
 use mst_compare::laws::has_list;
-use mst_compare::report::Planner;
 use mst_compare::{
-    Bpdu, BpduFault, Difference, Digests, compare_with, push_comparison, read_line, sender,
+    Bpdu, BpduFault, Difference, Digests, Planner, compare_with, push_comparison, read_line, sender,
 };
 use mst_ids::PortName;
-use mst_print::io::is_blank;
+use mst_io::is_blank;
 use std::alloc::{AllocError, Global};
 
 /// Compares a line of captures with a settled plan.

@@ -1,23 +1,22 @@
 ghost use Rattle.std.specs.Prelude.{◌≡◌, ◌^◌, ◌<◌, false, [], ◌∷◌, Ok, IfOk, OnOk, OnErr};
 ghost use Rattle.std.specs.Io.KnownBytes.{Appends};
-ghost use Rattle.mst_compare.specs.lang.declared.line.Line.TheVariants.{Mark, Query as query};
+ghost use Rattle.mst_lang.specs.declared.line.Line.TheVariants.{Mark, Query as query};
 ghost use Rattle.mst_compare.specs.report.Answers.{Answers};
 ghost use Rattle.mst_compare.specs.report.Planned.{planned_state};
 ghost use Rattle.mst_compare.specs.report.Refusing.{HasText};
 ghost use Rattle.mst_compare.specs.report.State.{empty_state};
-ghost use Rattle.mst_print.specs.io.Devices.{Works, IsStopped};
-ghost use Rattle.mst_print.specs.io.Written.{AppendsFront};
+ghost use Rattle.mst_io.specs.Devices.{Works, IsStopped};
+ghost use Rattle.mst_io.specs.Written.{AppendsFront};
 ghost use Rattle.mst_engine.specs.Script.{ServesRead, Serves, Loads, reading_at, version_said as said};
 ghost use Rattle.mst_print.specs.Shape.{of_script};
 ghost use Rattle.mst_engine.specs.Engine.{IsReady, shape_of, version_from, does, begun, tally_of, tallied, outcome_of, reply_text, replied};
 
 use crate::captures::compare_line;
-use mst_compare::lang::{Fault, Line, Query, Version, is_version_2, parse_line_as};
-use mst_compare::net::Refusal;
-use mst_compare::report::laws::entries_of_network;
-use mst_compare::report::{Planner, asks_plan};
-use mst_compare::{BpduFault, Digests};
-use mst_print::io::{Outcome, Sink, WriteFailed, put};
+use mst_compare::report_laws::entries_of_network;
+use mst_compare::{BpduFault, Digests, Planner, asks_plan};
+use mst_io::{Outcome, Sink, WriteFailed, put};
+use mst_lang::{Fault, Line, Query, Version, is_version_2, parse_line_as};
+use mst_net::Refusal;
 use mst_print::{Form, Shape, Side, put_coded, put_fault, put_refusal, query_word, show};
 use std::alloc::{AllocError, Global};
 

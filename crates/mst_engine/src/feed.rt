@@ -2,17 +2,17 @@ ghost use Rattle.std.specs.Prelude.{◌≡◌, ℕ, ◌+◌, ◌^◌, ◌<◌, B
 ghost use Rattle.std.specs.Io.KnownBytes.{Appends};
 ghost use Rattle.mst_compare.specs.report.Planned.{planned_state};
 ghost use Rattle.mst_compare.specs.report.State.{IsState};
-ghost use Rattle.mst_compare.specs.lang.Lines.{drop_cr};
+ghost use Rattle.mst_lang.specs.Lines.{drop_cr};
 ghost use Rattle.mst_engine.specs.Steps.{Step, texts_of};
-ghost use Rattle.mst_print.specs.io.Devices.{Works, IsStopped};
-ghost use Rattle.mst_print.specs.io.Written.{AppendsFront};
+ghost use Rattle.mst_io.specs.Devices.{Works, IsStopped};
+ghost use Rattle.mst_io.specs.Written.{AppendsFront};
 ghost use Rattle.mst_engine.specs.Engine.{IsReady, does, tally_of, tallied};
 ghost use Rattle.mst_engine.specs.Feeding.{IsCounted, Feeds, Breaks};
-ghost use Rattle.mst_print.specs.io.Held.{ending};
+ghost use Rattle.mst_io.specs.Held.{ending};
 
 use crate::engine::{Engine, Input, print};
 use crate::laws::has_steps;
-use mst_print::io::{HeldLine, Sink, WriteFailed};
+use mst_io::{HeldLine, Sink, WriteFailed};
 
 /// Serves the line that has come, and begins the next.
 pub(crate) fn end_line<K: Sink>(

@@ -1,15 +1,15 @@
 //! Laws of scripts and of captures. Their functions do nothing: a caller has their clauses.
 ghost use Rattle.std.specs.Prelude.{◌≡◌, ℕ, List, [], Option, Result, Ok, false};
 ghost use Rattle.std.specs.List.{AllByRecursion};
-ghost use Rattle.mst_compare.specs.lang.declared.line.Line.TheVariants.{Query as query};
-ghost use Rattle.mst_compare.specs.lang.declared.line.Query.{Query};
-ghost use Rattle.mst_compare.specs.lang.declared.line.Version.{Version};
-ghost use Rattle.mst_compare.specs.net.Tables.{Net, IsNetwork};
-ghost use Rattle.mst_compare.specs.net.declared.refusal.Refusal.{Refusal};
+ghost use Rattle.mst_lang.specs.declared.line.Line.TheVariants.{Query as query};
+ghost use Rattle.mst_lang.specs.declared.line.Query.{Query};
+ghost use Rattle.mst_lang.specs.declared.line.Version.{Version};
+ghost use Rattle.mst_net.specs.Tables.{Net, IsNetwork};
+ghost use Rattle.mst_net.specs.declared.refusal.Refusal.{Refusal};
 ghost use Rattle.mst_compare.specs.report.State.{State, IsState, empty_state};
-ghost use Rattle.mst_compare.specs.lang.Lines.{lines_of};
-ghost use Rattle.mst_compare.specs.save.Saved.{saved_edits};
-ghost use Rattle.mst_compare.specs.save.SaveText.{save_text, IsShort};
+ghost use Rattle.mst_lang.specs.Lines.{lines_of};
+ghost use Rattle.mst_save.specs.Saved.{saved_edits};
+ghost use Rattle.mst_save.specs.SaveText.{save_text, IsShort};
 ghost use Rattle.mst_engine.specs.Captures.{Compares};
 ghost use Rattle.mst_engine.specs.Script.{answered, Serves, ServesRead, Runs, Loads, LoadsAll, unmarked};
 ghost use Rattle.mst_print.specs.Shape.{of_script};
@@ -19,11 +19,11 @@ ghost use Rattle.mst_engine.specs.declared.engine.Input.{Input};
 ghost use Rattle.mst_print.specs.declared.form.Form.{Form};
 ghost use Rattle.mst_print.specs.declared.form.Shape.{Shape};
 
-use mst_compare::lang::laws::edits_in_range;
 use mst_compare::laws::{has_list, one_list};
-use mst_compare::net::laws::networks;
-use mst_compare::report::laws::{entries_of_network, has_answer, one_answer};
-use mst_compare::save::laws::restored;
+use mst_compare::report_laws::{entries_of_network, has_answer, one_answer};
+use mst_lang::laws::edits_in_range;
+use mst_net::laws::networks;
+use mst_save::laws::restored;
 
 /// Every script has a run in which no line meets want of memory, in each form, and so have any lines of each version, the
 /// first of any number, from any network on.

@@ -12,7 +12,7 @@ pub mod laws;
 mod serving;
 
 pub use engine::{Engine, Input, Reply};
-pub use mst_compare::{lang, net, report, trees};
-pub use mst_print as printing;
-pub use mst_print::io;
+pub use mst_compare::{
+    Difference, Differing, Planner, Sweep, SweepPart, Unexplained, report_laws, trees_laws,
+};
 pub use serving::serve_input;

@@ -1,13 +1,13 @@
 ghost use Rattle.std.specs.Prelude.{◌≡◌, ◌≢◌, ◌≤◌, ◌^◌, false, Err, OnOk, OnErr};
 ghost use Rattle.mst_compare.specs.report.Planned.{planned_state};
-ghost use Rattle.mst_print.specs.io.Devices.{IsCalled, Stops, StopsAtZero, stopped_by};
+ghost use Rattle.mst_io.specs.Devices.{IsCalled, Stops, StopsAtZero, stopped_by};
 ghost use Rattle.mst_engine.specs.Engine.{IsReady, begun, tally_of, outcome_of};
 ghost use Rattle.mst_engine.specs.Served.{Served, ServedFront, ServedEnded, IsFew};
 
 use crate::engine::{Engine, Input};
 use crate::feed::{feed, finish};
 use crate::laws::has_steps;
-use mst_print::io::{HeldLine, RunFault, Sink, Source};
+use mst_io::{HeldLine, RunFault, Sink, Source};
 
 /// Serves all lines of an input, of which nothing is counted yet.
 pub fn serve_input<S: Source, K: Sink>(

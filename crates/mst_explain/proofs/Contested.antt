@@ -5,13 +5,13 @@ use Rattle.std.specs.List.{Contains, cons_option}
 use Rattle.std.specs.FinMap as fin
 use Rattle.std.specs.FinMap.{len-entries}
 use Rattle.mst_ids.specs.declared.name.PortName.{PortName}
-use Rattle.mst_roles.specs.vector.Rules.{Rules, IsMetric}
-use Rattle.mst_roles.specs.settle.Topology.{Topology, IsTopology}
-use Rattle.mst_roles.specs.settle.Settled.{Settled}
+use Rattle.mst_vector.specs.Rules.{Rules, IsMetric}
+use Rattle.mst_settle.specs.Topology.{Topology, IsTopology}
+use Rattle.mst_settle.specs.Settled.{Settled}
 use Rattle.mst_roles.specs.net.Tables.{Net, Numbers}
-use Rattle.mst_roles.specs.lag.View.{LogicalPort, view_ports}
-use Rattle.mst_roles.specs.lag.Viewed.{Viewed, named_port}
-use Rattle.mst_roles.specs.lag.declared.in_view.PortInView.{PortInView}
+use Rattle.mst_lag.specs.View.{LogicalPort, view_ports}
+use Rattle.mst_lag.specs.Viewed.{Viewed, named_port}
+use Rattle.mst_lag.specs.declared.in_view.PortInView.{PortInView}
 use Rattle.mst_roles.specs.trees.Sight.{Sight, tree_of, named_bridge}
 use Rattle.mst_roles.specs.trees.Outcome.{TreeOutcome, IsTreeOutcome}
 use Rattle.mst_roles.specs.trees.Agrees.{AreOf}

@@ -5,15 +5,15 @@ use Rattle.std.specs.Ordering.{nat_cmp, is_gt, ordering_then, MatchOrdering}
 use Rattle.std.specs.Cmp.Lexicographic.{slice_cmp}
 use Rattle.std.proofs.lemmas.Cmp.{ranked}
 use Rattle.mst_ids.specs.declared.name.PortName.{PortName}
-use Rattle.mst_roles.specs.vector.Rules.{Rules, IsMetric}
-use Rattle.mst_roles.specs.vector.Cist.{cist_rules}
-use Rattle.mst_roles.specs.vector.CistLaws.{cist_lawful}
-use Rattle.mst_roles.specs.vector.Msti.{msti_rules}
-use Rattle.mst_roles.specs.vector.MstiLaws.{msti_lawful}
-use Rattle.mst_roles.specs.vector.declared.cist.CistVector.{CistVector}
-use Rattle.mst_roles.specs.vector.declared.cist.CistBridge.{CistBridge}
-use Rattle.mst_roles.specs.vector.declared.msti.MstiVector.{MstiVector}
-use Rattle.mst_roles.specs.vector.declared.msti.MstiBridge.{MstiBridge}
+use Rattle.mst_vector.specs.Rules.{Rules, IsMetric}
+use Rattle.mst_vector.specs.Cist.{cist_rules}
+use Rattle.mst_vector.specs.CistLaws.{cist_lawful}
+use Rattle.mst_vector.specs.Msti.{msti_rules}
+use Rattle.mst_vector.specs.MstiLaws.{msti_lawful}
+use Rattle.mst_vector.specs.declared.cist.CistVector.{CistVector}
+use Rattle.mst_vector.specs.declared.cist.CistBridge.{CistBridge}
+use Rattle.mst_vector.specs.declared.msti.MstiVector.{MstiVector}
+use Rattle.mst_vector.specs.declared.msti.MstiBridge.{MstiBridge}
 use Rattle.mst_roles.specs.net.Tables.{Net, IsNetwork}
 use Rattle.mst_roles.specs.trees.Cist.{cist_sight, cist_of}
 use Rattle.mst_roles.specs.trees.Msti.{msti_sight, msti_of}

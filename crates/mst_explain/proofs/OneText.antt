@@ -4,20 +4,20 @@ use Rattle.std.specs.Prelude.{◌≢◌, codes, nat_eq, if◌then◌else◌}
 use Rattle.std.specs.Ordering.{is_gt}
 use Rattle.std.specs.Cmp.Lexicographic.{pointwise, bytes_decides}
 use Rattle.mst_ids.specs.declared.name.PortName.{PortName}
-use Rattle.mst_roles.specs.vector.Rules.{Rules, IsMetric}
-use Rattle.mst_roles.specs.vector.Cist.{cist_rules, within_region, between_regions}
-use Rattle.mst_roles.specs.vector.CistLaws.{cist_lawful}
-use Rattle.mst_roles.specs.vector.Msti.{msti_rules}
-use Rattle.mst_roles.specs.vector.MstiLaws.{msti_lawful}
-use Rattle.mst_roles.specs.vector.declared.cist.CistVector.{CistVector}
-use Rattle.mst_roles.specs.vector.declared.cist.CistBridge.{CistBridge}
-use Rattle.mst_roles.specs.vector.declared.cist.CistPort.{CistPort}
-use Rattle.mst_roles.specs.settle.Topology.{TreePort, Topology, IsTopology, HasBridge, HasPort}
-use Rattle.mst_roles.specs.settle.Settled.{IsDesignatedVector, Designates, IsRootPathVector}
-use Rattle.mst_roles.proofs.settle_lemmas.Below.{one_message, one_speaker, one_designated}
-use Rattle.mst_roles.proofs.settle_lemmas.Orders.{both}
+use Rattle.mst_vector.specs.Rules.{Rules, IsMetric}
+use Rattle.mst_vector.specs.Cist.{cist_rules, within_region, between_regions}
+use Rattle.mst_vector.specs.CistLaws.{cist_lawful}
+use Rattle.mst_vector.specs.Msti.{msti_rules}
+use Rattle.mst_vector.specs.MstiLaws.{msti_lawful}
+use Rattle.mst_vector.specs.declared.cist.CistVector.{CistVector}
+use Rattle.mst_vector.specs.declared.cist.CistBridge.{CistBridge}
+use Rattle.mst_vector.specs.declared.cist.CistPort.{CistPort}
+use Rattle.mst_settle.specs.Topology.{TreePort, Topology, IsTopology, HasBridge, HasPort}
+use Rattle.mst_settle.specs.Settled.{IsDesignatedVector, Designates, IsRootPathVector}
+use Rattle.mst_settle.proofs.Below.{one_message, one_speaker, one_designated}
+use Rattle.mst_settle.proofs.Orders.{both}
 use Rattle.mst_roles.specs.net.Tables.{Net, IsNetwork}
-use Rattle.mst_roles.specs.lag.View.{LogicalPort}
+use Rattle.mst_lag.specs.View.{LogicalPort}
 use Rattle.mst_roles.specs.trees.Cist.{cist_sight, cist_of}
 use Rattle.mst_roles.specs.trees.Msti.{msti_sight, msti_of, is_internal}
 use Rattle.mst_roles.specs.trees.Outcome.{TreeOutcome, Outcome}

@@ -4,21 +4,21 @@ use Rattle.std.specs.Prelude.{if◌then◌else◌}
 use Rattle.std.specs.List.{Contains}
 use Rattle.std.specs.Option.{option_map, option_and_then}
 use Rattle.std.specs.FinMap as fin
-use Rattle.mst_roles.specs.vector.Cist.{cist_rules}
-use Rattle.mst_roles.specs.vector.Msti.{msti_rules}
-use Rattle.mst_roles.specs.vector.CistLaws.{cist_lawful}
-use Rattle.mst_roles.specs.vector.MstiLaws.{msti_lawful}
-use Rattle.mst_roles.specs.vector.declared.cist.CistBridge.{CistBridge}
-use Rattle.mst_roles.specs.vector.declared.msti.MstiBridge.{MstiBridge}
-use Rattle.mst_roles.specs.vector.declared.msti.MstiPort.{MstiPort}
-use Rattle.mst_roles.specs.vector.declared.msti.MstiVector.{MstiVector}
-use Rattle.mst_roles.specs.settle.Assignment.{vector_of, designated_of}
+use Rattle.mst_vector.specs.Cist.{cist_rules}
+use Rattle.mst_vector.specs.Msti.{msti_rules}
+use Rattle.mst_vector.specs.CistLaws.{cist_lawful}
+use Rattle.mst_vector.specs.MstiLaws.{msti_lawful}
+use Rattle.mst_vector.specs.declared.cist.CistBridge.{CistBridge}
+use Rattle.mst_vector.specs.declared.msti.MstiBridge.{MstiBridge}
+use Rattle.mst_vector.specs.declared.msti.MstiPort.{MstiPort}
+use Rattle.mst_vector.specs.declared.msti.MstiVector.{MstiVector}
+use Rattle.mst_settle.specs.Assignment.{vector_of, designated_of}
 use Rattle.mst_roles.specs.net.Tables.{Net, Numbers, BridgeRow}
 use Rattle.mst_roles.specs.net.ByTree.{by_tree}
 use Rattle.mst_roles.specs.net.Seen.{bridge_row}
-use Rattle.mst_roles.specs.lag.Viewed.{Viewed, named_port}
-use Rattle.mst_roles.specs.lag.declared.in_view.BridgeInView.{BridgeInView}
-use Rattle.mst_roles.specs.lag.declared.in_view.PortInView.{PortInView}
+use Rattle.mst_lag.specs.Viewed.{Viewed, named_port}
+use Rattle.mst_lag.specs.declared.in_view.BridgeInView.{BridgeInView}
+use Rattle.mst_lag.specs.declared.in_view.PortInView.{PortInView}
 use Rattle.mst_roles.specs.trees.Cist.{cist_bridge, cist_port, cist_sight, cist_of}
 use Rattle.mst_roles.specs.trees.Msti.{msti_bridge, msti_port, msti_sight, msti_of, has_msti, is_internal}
 use Rattle.mst_roles.specs.trees.Outcome.{Outcome}

@@ -7,19 +7,19 @@ use Rattle.std.specs.Ordering.{is_gt}
 use Rattle.std.specs.Cmp.Lexicographic.{bytes_decides}
 use Rattle.std.proofs.lemmas.Bool.{eqb-true}
 use Rattle.mst_ids.specs.declared.name.PortName.{PortName}
-use Rattle.mst_roles.specs.vector.Rules.{Rules, IsMetric}
-use Rattle.mst_roles.specs.vector.Cist.{cist_rules}
-use Rattle.mst_roles.specs.vector.CistLaws.{cist_lawful}
-use Rattle.mst_roles.specs.vector.Msti.{msti_rules}
-use Rattle.mst_roles.specs.vector.MstiLaws.{msti_lawful}
-use Rattle.mst_roles.specs.settle.Topology.{TreePort, Topology, IsTopology, HasBridge, HasPort}
-use Rattle.mst_roles.specs.settle.Settled.{IsDesignatedVector, Designates, IsDesignated, IsVectorOf}
-use Rattle.mst_roles.proofs.settle_lemmas.Below.{one_speaker, one_designated}
-use Rattle.mst_roles.proofs.settle_lemmas.Orders.{both}
+use Rattle.mst_vector.specs.Rules.{Rules, IsMetric}
+use Rattle.mst_vector.specs.Cist.{cist_rules}
+use Rattle.mst_vector.specs.CistLaws.{cist_lawful}
+use Rattle.mst_vector.specs.Msti.{msti_rules}
+use Rattle.mst_vector.specs.MstiLaws.{msti_lawful}
+use Rattle.mst_settle.specs.Topology.{TreePort, Topology, IsTopology, HasBridge, HasPort}
+use Rattle.mst_settle.specs.Settled.{IsDesignatedVector, Designates, IsDesignated, IsVectorOf}
+use Rattle.mst_settle.proofs.Below.{one_speaker, one_designated}
+use Rattle.mst_settle.proofs.Orders.{both}
 use Rattle.mst_roles.specs.net.Tables.{Net, IsNetwork, port_eq}
 use Rattle.mst_roles.specs.net.ByTree.{by_tree}
-use Rattle.mst_roles.specs.lag.Aggregation.{same_name}
-use Rattle.mst_roles.specs.lag.View.{LogicalPort, view_ports}
+use Rattle.mst_lag.specs.Aggregation.{same_name}
+use Rattle.mst_lag.specs.View.{LogicalPort, view_ports}
 use Rattle.mst_roles.specs.trees.Sight.{Sight, tree_port, tree_of}
 use Rattle.mst_roles.specs.trees.Cist.{cist_port, cist_sight, cist_of}
 use Rattle.mst_roles.specs.trees.Msti.{msti_port, msti_sight, msti_of, has_msti, is_internal}

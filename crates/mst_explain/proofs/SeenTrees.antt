@@ -6,15 +6,15 @@ use Rattle.std.specs.Option.{option_map, option_and_then}
 use Rattle.std.specs.FinMap as fin
 use Rattle.std.proofs.lemmas.Bool.{eqb-true}
 use Rattle.mst_ids.specs.declared.name.PortName.{PortName}
-use Rattle.mst_roles.specs.vector.Rules.{Rules, IsMetric}
-use Rattle.mst_roles.specs.settle.Topology.{TreePort, Topology, IsTopology, HasBridge, HasPort}
-use Rattle.mst_roles.specs.settle.Settled.{IsDesignatedVector}
+use Rattle.mst_vector.specs.Rules.{Rules, IsMetric}
+use Rattle.mst_settle.specs.Topology.{TreePort, Topology, IsTopology, HasBridge, HasPort}
+use Rattle.mst_settle.specs.Settled.{IsDesignatedVector}
 use Rattle.mst_roles.specs.net.Tables.{Net, Numbers, BridgeRow}
 use Rattle.mst_roles.specs.net.Seen.{bridge_row}
-use Rattle.mst_roles.specs.lag.View.{LogicalPort}
-use Rattle.mst_roles.specs.lag.Viewed.{Viewed, named_port}
-use Rattle.mst_roles.specs.lag.declared.in_view.BridgeInView.{BridgeInView}
-use Rattle.mst_roles.specs.lag.declared.in_view.PortInView.{PortInView}
+use Rattle.mst_lag.specs.View.{LogicalPort}
+use Rattle.mst_lag.specs.Viewed.{Viewed, named_port}
+use Rattle.mst_lag.specs.declared.in_view.BridgeInView.{BridgeInView}
+use Rattle.mst_lag.specs.declared.in_view.PortInView.{PortInView}
 use Rattle.mst_roles.specs.trees.Sight.{Sight, tree_port, tree_of}
 use Rattle.mst_roles.specs.trees.Outcome.{TreeOutcome, IsTreeOutcome}
 use Rattle.mst_roles.specs.trees.Agrees.{Agrees, AreOf}

@@ -4,10 +4,10 @@ use Rattle.std.specs.Prelude.{◌≢◌, ℕ, nat_eq}
 use Rattle.std.specs.List.{AllByRecursion, Contains}
 use Rattle.std.specs.Cmp.Lexicographic.{pointwise, bytes_decides}
 use Rattle.mst_ids.specs.declared.name.PortName.{PortName}
-use Rattle.mst_roles.specs.vector.Rules.{Rules, IsMetric}
-use Rattle.mst_roles.specs.settle.Topology.{TreePort, Topology, IsTopology, HasPort}
-use Rattle.mst_roles.specs.settle.Settled.{IsDesignatedVector, Designates, IsRootPathVector, IsDesignated}
-use Rattle.mst_roles.proofs.settle_lemmas.Below.{one_message, one_designated}
+use Rattle.mst_vector.specs.Rules.{Rules, IsMetric}
+use Rattle.mst_settle.specs.Topology.{TreePort, Topology, IsTopology, HasPort}
+use Rattle.mst_settle.specs.Settled.{IsDesignatedVector, Designates, IsRootPathVector, IsDesignated}
+use Rattle.mst_settle.proofs.Below.{one_message, one_designated}
 use Rattle.mst_roles.specs.trees.Outcome.{TreeOutcome, IsTreeOutcome}
 use Rattle.mst_roles.proofs.trees_lemmas.Entries.{all_weaker}
 use Rattle.mst_roles.proofs.trees_lemmas.Lists.{all_there, there_first, there_later}

@@ -4,15 +4,15 @@ use Rattle.std.specs.Prelude.{◌≢◌, ℕ, codes, nat_eq, if◌then◌else◌
 use Rattle.std.specs.List.{AllByRecursion, Contains}
 use Rattle.std.specs.Cmp.Lexicographic.{pointwise, bytes_decides}
 use Rattle.mst_ids.specs.declared.name.PortName.{PortName}
-use Rattle.mst_roles.specs.vector.Rules.{Rules, IsMetric}
-use Rattle.mst_roles.specs.vector.Cist.{cist_rules}
-use Rattle.mst_roles.specs.vector.CistLaws.{cist_lawful}
-use Rattle.mst_roles.specs.vector.Msti.{msti_rules}
-use Rattle.mst_roles.specs.vector.MstiLaws.{msti_lawful}
-use Rattle.mst_roles.specs.settle.Topology.{Topology}
+use Rattle.mst_vector.specs.Rules.{Rules, IsMetric}
+use Rattle.mst_vector.specs.Cist.{cist_rules}
+use Rattle.mst_vector.specs.CistLaws.{cist_lawful}
+use Rattle.mst_vector.specs.Msti.{msti_rules}
+use Rattle.mst_vector.specs.MstiLaws.{msti_lawful}
+use Rattle.mst_settle.specs.Topology.{Topology}
 use Rattle.mst_roles.specs.net.Tables.{Net, IsNetwork}
 use Rattle.mst_roles.specs.net.ByTree.{by_tree}
-use Rattle.mst_roles.specs.lag.View.{LogicalPort, view_ports, is_on, is_up}
+use Rattle.mst_lag.specs.View.{LogicalPort, view_ports, is_on, is_up}
 use Rattle.mst_roles.specs.trees.Sight.{Sight, tree_of}
 use Rattle.mst_roles.specs.trees.Cist.{cist_port, cist_sight, cist_of}
 use Rattle.mst_roles.specs.trees.Msti.{msti_port, msti_sight, msti_of, has_msti, is_internal}

@@ -5,20 +5,20 @@ use Rattle.std.specs.List.{AllByRecursion, Contains, filter, flat_map, list_any}
 use Rattle.std.specs.Option.{option_map, option_map_or, option_and_then, unwrap_or}
 use Rattle.std.specs.Map.{lookup}
 use Rattle.std.specs.FinMap as fin
-use Rattle.mst_roles.specs.vector.Cist.{cist_rules}
-use Rattle.mst_roles.specs.vector.Msti.{msti_rules}
-use Rattle.mst_roles.specs.vector.CistLaws.{cist_lawful}
-use Rattle.mst_roles.specs.settle.Assignment.{designated_of}
+use Rattle.mst_vector.specs.Cist.{cist_rules}
+use Rattle.mst_vector.specs.Msti.{msti_rules}
+use Rattle.mst_vector.specs.CistLaws.{cist_lawful}
+use Rattle.mst_settle.specs.Assignment.{designated_of}
 use Rattle.mst_roles.specs.net.Tables.{Net, Numbers, BridgeRow, LanRow}
 use Rattle.mst_roles.specs.net.Seen.{bridge_row}
-use Rattle.mst_roles.specs.lag.Aggregation.{same_name}
-use Rattle.mst_roles.specs.lag.Trees.{mstis_of, is_among}
-use Rattle.mst_roles.specs.lag.View.{logical_lan, is_on, is_up}
-use Rattle.mst_roles.specs.lag.Viewed.{Viewed, named_port, member_lan}
-use Rattle.mst_roles.specs.lag.declared.in_view.BridgeInView.{BridgeInView}
-use Rattle.mst_roles.specs.lag.declared.in_view.PortInView.{PortInView}
-use Rattle.mst_roles.specs.lag.declared.in_view.MemberLan.{MemberLan}
-use Rattle.mst_roles.proofs.lag_lemmas.Placing.{pair_found}
+use Rattle.mst_lag.specs.Aggregation.{same_name}
+use Rattle.mst_lag.specs.Trees.{mstis_of, is_among}
+use Rattle.mst_lag.specs.View.{logical_lan, is_on, is_up}
+use Rattle.mst_lag.specs.Viewed.{Viewed, named_port, member_lan}
+use Rattle.mst_lag.specs.declared.in_view.BridgeInView.{BridgeInView}
+use Rattle.mst_lag.specs.declared.in_view.PortInView.{PortInView}
+use Rattle.mst_lag.specs.declared.in_view.MemberLan.{MemberLan}
+use Rattle.mst_lag.proofs.Placing.{pair_found}
 use Rattle.mst_roles.specs.trees.Cist.{cist_sight}
 use Rattle.mst_roles.specs.trees.Msti.{has_msti, is_internal}
 use Rattle.mst_roles.specs.trees.Outcome.{Outcome}

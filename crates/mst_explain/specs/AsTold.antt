@@ -1,9 +1,9 @@
 -- What a reader may take from an explanation: that the lower vector is told to be lower, and the port's role.
 use Rattle.std.specs.Prelude.{◌≡◌, ◌≢◌, ◌↔◌, ℕ, List, Option, Some}
 use Rattle.mst_ids.specs.declared.name.PortName.{PortName}
-use Rattle.mst_roles.specs.vector.Rules.{Rules}
-use Rattle.mst_roles.specs.settle.Topology.{Topology, HasBridge}
-use Rattle.mst_roles.specs.lag.View.{LogicalPort}
+use Rattle.mst_vector.specs.Rules.{Rules}
+use Rattle.mst_settle.specs.Topology.{Topology, HasBridge}
+use Rattle.mst_lag.specs.View.{LogicalPort}
 use Rattle.mst_roles.specs.trees.Outcome.{TreeOutcome}
 use Rattle.mst_roles.specs.declared.kind.Role.{Role}
 use Rattle.mst_roles.specs.declared.kind.Role.TheVariants.{Root, Designated, Alternate, Backup}

@@ -1,9 +1,9 @@
 -- Who is first among some that have vectors, and whom one is told against.
 use Rattle.std.specs.Prelude.{◌≡◌, ◌≢◌, Option, None, Some, false}
 use Rattle.std.specs.Ordering.{is_gt}
-use Rattle.mst_roles.specs.vector.Rules.{Rules}
-use Rattle.mst_roles.specs.settle.Topology.{TreePort, Topology}
-use Rattle.mst_roles.specs.settle.Settled.{IsDesignatedVector, IsRootPathVector}
+use Rattle.mst_vector.specs.Rules.{Rules}
+use Rattle.mst_settle.specs.Topology.{TreePort, Topology}
+use Rattle.mst_settle.specs.Settled.{IsDesignatedVector, IsRootPathVector}
 
 module _ {K B P V : Type 0} (m : Rules B P V) (Has : K → V → Type 0) where
   -- c has the vector x, and none has a lower one

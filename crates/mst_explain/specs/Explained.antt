@@ -3,13 +3,13 @@ use Rattle.std.specs.Prelude.{◌≡◌, ◌≢◌, ◌⊎◌, ℕ, ◌==◌, Bo
 use Rattle.std.specs.Option.{option_map_or}
 use Rattle.std.specs.FinMap as fin
 use Rattle.mst_ids.specs.declared.name.PortName.{PortName}
-use Rattle.mst_roles.specs.vector.Rules.{Rules}
-use Rattle.mst_roles.specs.vector.Cist.{cist_rules}
-use Rattle.mst_roles.specs.vector.Msti.{msti_rules}
-use Rattle.mst_roles.specs.settle.Topology.{Topology, HasBridge}
+use Rattle.mst_vector.specs.Rules.{Rules}
+use Rattle.mst_vector.specs.Cist.{cist_rules}
+use Rattle.mst_vector.specs.Msti.{msti_rules}
+use Rattle.mst_settle.specs.Topology.{Topology, HasBridge}
 use Rattle.mst_roles.specs.net.Tables.{Net}
-use Rattle.mst_roles.specs.lag.Trees.{mstis_of}
-use Rattle.mst_roles.specs.lag.View.{LogicalPort, is_on, is_up}
+use Rattle.mst_lag.specs.Trees.{mstis_of}
+use Rattle.mst_lag.specs.View.{LogicalPort, is_on, is_up}
 use Rattle.mst_roles.specs.trees.Cist.{cist_of}
 use Rattle.mst_roles.specs.trees.Msti.{msti_of, is_internal}
 use Rattle.mst_roles.specs.trees.Outcome.{Outcome, TreeOutcome}

@@ -1,8 +1,8 @@
 -- A plan that explanations are of.
 use Rattle.std.specs.Prelude.{ℕ, List}
 use Rattle.mst_roles.specs.net.Tables.{Net, Numbers}
-use Rattle.mst_roles.specs.lag.Viewed.{Viewed}
-use Rattle.mst_roles.specs.config.Shared.{AreRegions}
+use Rattle.mst_lag.specs.Viewed.{Viewed}
+use Rattle.mst_config.specs.Shared.{AreRegions}
 use Rattle.mst_roles.specs.trees.Agrees.{AreOf}
 use Rattle.mst_roles.specs.trees.Forest.{Forest, IsForest}
 

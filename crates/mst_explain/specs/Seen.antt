@@ -2,9 +2,9 @@
 use Rattle.std.specs.Prelude.{◌≡◌, ℕ, ◌==◌, ◌≤◌, ◌^◌, List, [], ◌∷◌, ◌++◌, Option, Some, None, IsTrue, filter_map, codes, if◌then◌else◌}
 use Rattle.std.specs.List.{Contains, find}
 use Rattle.std.specs.Option.{option_map, option_map_or, option_and_then}
-use Rattle.mst_roles.specs.vector.Rules.{Rules}
-use Rattle.mst_roles.specs.lag.Viewed.{Viewed}
-use Rattle.mst_roles.specs.lag.declared.in_view.PortInView.{PortInView}
+use Rattle.mst_vector.specs.Rules.{Rules}
+use Rattle.mst_lag.specs.Viewed.{Viewed}
+use Rattle.mst_lag.specs.declared.in_view.PortInView.{PortInView}
 use Rattle.mst_explain.specs.declared.claims.Claim.{Claim}
 use Rattle.mst_explain.specs.Claims.{told_text}
 use Rattle.mst_explain.specs.Fields.{Field}

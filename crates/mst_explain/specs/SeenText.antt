@@ -2,13 +2,13 @@
 use Rattle.std.specs.Prelude.{ℕ, ◌==◌, ◌&&◌, Bool, false, List, [], ◌++◌, Option, if◌then◌else◌}
 use Rattle.std.specs.List.{find, list_any}
 use Rattle.std.specs.Option.{option_map_or, option_and_then}
-use Rattle.mst_roles.specs.vector.Cist.{cist_rules}
-use Rattle.mst_roles.specs.vector.Msti.{msti_rules}
-use Rattle.mst_roles.specs.settle.Assignment.{designated_of}
+use Rattle.mst_vector.specs.Cist.{cist_rules}
+use Rattle.mst_vector.specs.Msti.{msti_rules}
+use Rattle.mst_settle.specs.Assignment.{designated_of}
 use Rattle.mst_roles.specs.net.Seen.{bridge_row}
-use Rattle.mst_roles.specs.lag.Aggregation.{same_name}
-use Rattle.mst_roles.specs.lag.Viewed.{Viewed}
-use Rattle.mst_roles.specs.lag.declared.in_view.PortInView.{PortInView}
+use Rattle.mst_lag.specs.Aggregation.{same_name}
+use Rattle.mst_lag.specs.Viewed.{Viewed}
+use Rattle.mst_lag.specs.declared.in_view.PortInView.{PortInView}
 use Rattle.mst_roles.specs.trees.Seen.{seen_internal}
 use Rattle.mst_roles.specs.trees.Forest.{Forest, designated_in}
 use Rattle.mst_roles.specs.Seen.{seen_role}

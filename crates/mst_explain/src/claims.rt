@@ -2,7 +2,7 @@ ghost use Rattle.std.specs.Prelude.{◌≡◌, None};
 ghost use Rattle.mst_explain.specs.Claims.{same_key as is_same_key, is_in, better as better_of, better_among as better_of_those, first_from, rivals_of as rivals};
 
 use mst_ids::PortName;
-use mst_roles::vector::Metric;
+use mst_vector::Metric;
 
 /// A vector, and the port that it is of: what the port says on its LAN, or what it gives its bridge. A bridge's own
 /// vector is of no port.

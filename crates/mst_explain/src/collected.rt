@@ -5,7 +5,7 @@ ghost use Rattle.mst_explain.specs.Seen.{CanStep, designated_vector as seen_desi
 use crate::claims::Claim;
 use crate::in_tree::{InTree, TreePlan};
 use mst_ids::{BridgeNo, LanNo};
-use mst_roles::lag::PortInView;
+use mst_lag::PortInView;
 use std::alloc::{AllocError, Global};
 
 /// The designated priority vector of a port of the tree, which it says on its LAN.

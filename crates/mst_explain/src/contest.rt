@@ -8,7 +8,7 @@ use crate::collected::{bridge_claims, lan_claims};
 use crate::in_tree::{InTree, TreePlan};
 use crate::lines::{push_alone, push_over, push_restricted};
 use mst_ids::PortName;
-use mst_roles::lag::PortInView;
+use mst_lag::PortInView;
 use std::alloc::{AllocError, Global};
 
 /// Appends the line of the first of some claims, against its rival, if there is one.

@@ -1,6 +1,6 @@
 ghost use Rattle.std.specs.Prelude.{◌≡◌, ℕ, List};
 ghost use Rattle.std.specs.Option.{option_copied};
-ghost use Rattle.mst_roles.specs.lag.Viewed.{Viewed};
+ghost use Rattle.mst_lag.specs.Viewed.{Viewed};
 ghost use Rattle.mst_roles.specs.trees.Forest.{Forest as ForestSeen};
 ghost use Rattle.mst_explain.specs.Fields.{Field, cist_fields, msti_fields, decided};
 ghost use Rattle.mst_explain.specs.Seen.{TreeSeen, designated_on as seen_designated};
@@ -9,11 +9,11 @@ ghost use Rattle.mst_explain.specs.TreesSeen.{cist_seen, msti_seen};
 
 use crate::field::{Difference, cist_difference, msti_difference};
 use crate::settings::{cist_bridge, cist_port, msti_bridge, msti_port};
+use mst_config::Regions;
 use mst_ids::{BridgeNo, Tree};
-use mst_roles::config::Regions;
-use mst_roles::lag::{PortInView, View};
-use mst_roles::trees::Forest;
-use mst_roles::vector::{CistMetric, Metric, MstiMetric};
+use mst_lag::{PortInView, View};
+use mst_roles::Forest;
+use mst_vector::{CistMetric, Metric, MstiMetric};
 
 /// The plan that an explanation is of, and the tree: a network's view, its regions and its settled trees.
 #[derive(Clone, Copy)]

@@ -2,14 +2,14 @@
 ghost use Rattle.std.specs.Prelude.{◌≡◌, ℕ, ◌==◌, ◌||◌, List, true};
 ghost use Rattle.std.specs.List.{AllByRecursion, Contains};
 ghost use Rattle.std.specs.declared.cmp.Ordering.TheVariants.{Less};
-ghost use Rattle.mst_roles.specs.vector.Cist.{cist_rules};
-ghost use Rattle.mst_roles.specs.vector.Msti.{msti_rules};
-ghost use Rattle.mst_roles.specs.vector.declared.cist.CistVector.{CistVector as Cist};
-ghost use Rattle.mst_roles.specs.vector.declared.cist.CistBridge.{CistBridge};
-ghost use Rattle.mst_roles.specs.vector.declared.msti.MstiBridge.{MstiBridge};
-ghost use Rattle.mst_roles.specs.vector.declared.msti.MstiVector.{MstiVector as Msti};
+ghost use Rattle.mst_vector.specs.Cist.{cist_rules};
+ghost use Rattle.mst_vector.specs.Msti.{msti_rules};
+ghost use Rattle.mst_vector.specs.declared.cist.CistVector.{CistVector as Cist};
+ghost use Rattle.mst_vector.specs.declared.cist.CistBridge.{CistBridge};
+ghost use Rattle.mst_vector.specs.declared.msti.MstiBridge.{MstiBridge};
+ghost use Rattle.mst_vector.specs.declared.msti.MstiVector.{MstiVector as Msti};
 ghost use Rattle.mst_roles.specs.net.Tables.{Net, IsNetwork};
-ghost use Rattle.mst_roles.specs.lag.View.{LogicalPort, view_ports};
+ghost use Rattle.mst_lag.specs.View.{LogicalPort, view_ports};
 ghost use Rattle.mst_roles.specs.trees.Outcome.{Outcome, IsOutcome};
 ghost use Rattle.mst_roles.specs.trees.Cist.{cist_of};
 ghost use Rattle.mst_roles.specs.trees.Msti.{msti_of, has_msti, is_internal};
@@ -19,7 +19,7 @@ ghost use Rattle.mst_explain.specs.Contest.{IsDesignatedVectorOn, Gives};
 ghost use Rattle.mst_explain.specs.Explained.{IsExplanation, AreExplanations};
 ghost use Rattle.mst_explain.specs.Fields.{cist_fields, msti_fields, decided, TellsLower};
 
-use mst_roles::trees::laws::one_outcome;
+use mst_roles::trees_laws::one_outcome;
 
 /// A port has one explanation in a tree, whichever settled outcome it is made by.
 pub fn one_explanation()

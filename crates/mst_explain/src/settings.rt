@@ -1,11 +1,11 @@
 ghost use Rattle.std.specs.Prelude.{◌≡◌};
 ghost use Rattle.mst_explain.specs.TreesSeen.{cist_bridge_in, cist_port_in, msti_bridge_in, msti_port_in};
 
+use mst_config::Regions;
 use mst_ids::Tree;
-use mst_roles::config::Regions;
-use mst_roles::lag::{BridgeInView, PortInView, View};
-use mst_roles::trees::Forest;
-use mst_roles::vector::{CistBridge, CistPort, MstiBridge, MstiPort};
+use mst_lag::{BridgeInView, PortInView, View};
+use mst_roles::Forest;
+use mst_vector::{CistBridge, CistPort, MstiBridge, MstiPort};
 
 /// What the CIST has of a bridge that is on: its identifier, its region and its kind.
 pub(crate) fn cist_bridge(
@@ -15,7 +15,7 @@ pub(crate) fn cist_bridge(
 ) -> Option<CistBridge>
     ensures { result ≡ cist_bridge_in view.now.settings regions.now bridge.now }
 {
-    let (_, settings) = mst_roles::trees::cist_bridge(view.settings(), regions, bridge)?;
+    let (_, settings) = mst_roles::cist_bridge(view.settings(), regions, bridge)?;
     Some(settings)
 }
 
@@ -26,14 +26,14 @@ pub(crate) fn cist_port(view: &View, port: &PortInView) -> Option<CistPort>
     if !port.is_enabled {
         return None;
     }
-    Some(mst_roles::trees::cist_port(view.settings(), port))
+    Some(mst_roles::cist_port(view.settings(), port))
 }
 
 /// What an MSTI has of a bridge that is on and has it: its identifier in the tree.
 pub(crate) fn msti_bridge(view: &View, tree: Tree, bridge: &BridgeInView) -> Option<MstiBridge>
     ensures { result ≡ msti_bridge_in view.now tree bridge.now }
 {
-    let (_, settings) = mst_roles::trees::msti_bridge(view, tree, bridge)?;
+    let (_, settings) = mst_roles::msti_bridge(view, tree, bridge)?;
     Some(settings)
 }
 
@@ -49,5 +49,5 @@ pub(crate) fn msti_port(
     if !forest.is_internal(view, port) || !view.has_tree(port.bridge, tree) {
         return None;
     }
-    Some(mst_roles::trees::msti_port(view.settings(), tree, port))
+    Some(mst_roles::msti_port(view.settings(), tree, port))
 }

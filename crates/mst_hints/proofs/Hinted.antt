@@ -5,22 +5,22 @@ use Rattle.std.specs.Prelude.{Result}
 use Rattle.std.specs.Result.{is_ok, is_err}
 use Rattle.std.specs.Option.{option_map, option_map_or}
 use Rattle.std.specs.List.{list_all}
-use Rattle.mst_net.specs.lang.Words.{words, is_plain}
-use Rattle.mst_net.specs.lang.Arguments.{with, none_of, one, two, three, four, name, mac, port_number, bridge_priority, port_priority, cost, sixteen_bits, limit, speed, conf_name, power, kind, lan_state, yes_or_no, tree, vid, vids, members}
-use Rattle.mst_net.specs.lang.Reading.{reading_as, worded, says_as, command_of, is_comment, port, set_bridge, set_port, set_lan}
-use Rattle.mst_net.specs.lang.declared.line.Version.{Version}
-use Rattle.mst_net.specs.lang.declared.line.Line.{Line}
-use Rattle.mst_net.specs.lang.declared.line.Line.TheVariants as lines
-use Rattle.mst_net.specs.lang.declared.line.Edit.TheVariants as edits
-use Rattle.mst_net.specs.lang.declared.line.BridgeChange.TheVariants as bridges
-use Rattle.mst_net.specs.lang.declared.line.PortChange.TheVariants as ports
-use Rattle.mst_net.specs.lang.declared.line.LanChange.TheVariants as lans
-use Rattle.mst_net.specs.lang.declared.line.TreeChange.TheVariants as trees
-use Rattle.mst_net.specs.lang.declared.line.Query.TheVariants as queries
-use Rattle.mst_net.specs.lang.declared.line.Command.{Command}
-use Rattle.mst_net.specs.lang.declared.line.Command.TheVariants.{AddBridge, DelBridge, Bridge, Kind, AddPort, DelPort, AddLan, DelLan, Lan, Speed, Plug, Unplug, SetKey, SetSysPri, SetTreePrio, SetTreePortPrio, SetPortPathCost, SetPortRestrRole, SetTreePortCost, SetMstConfId, SetVidToMstId, SetMaxHops, SetMaxAge, SetPortVlans, ShowPlan, ShowLag, ShowRegions, ShowNotes, ShowTree, ShowVlan, ShowMstConfId, Mark, Changes, Save}
-use Rattle.mst_net.specs.lang.declared.line.Fault.{Fault}
-use Rattle.mst_net.specs.lang.declared.line.Fault.TheVariants.{E01}
+use Rattle.mst_lang.specs.Words.{words, is_plain}
+use Rattle.mst_lang.specs.Arguments.{with, none_of, one, two, three, four, name, mac, port_number, bridge_priority, port_priority, cost, sixteen_bits, limit, speed, conf_name, power, kind, lan_state, yes_or_no, tree, vid, vids, members}
+use Rattle.mst_lang.specs.Reading.{reading_as, worded, says_as, command_of, is_comment, port, set_bridge, set_port, set_lan}
+use Rattle.mst_lang.specs.declared.line.Version.{Version}
+use Rattle.mst_lang.specs.declared.line.Line.{Line}
+use Rattle.mst_lang.specs.declared.line.Line.TheVariants as lines
+use Rattle.mst_lang.specs.declared.line.Edit.TheVariants as edits
+use Rattle.mst_lang.specs.declared.line.BridgeChange.TheVariants as bridges
+use Rattle.mst_lang.specs.declared.line.PortChange.TheVariants as ports
+use Rattle.mst_lang.specs.declared.line.LanChange.TheVariants as lans
+use Rattle.mst_lang.specs.declared.line.TreeChange.TheVariants as trees
+use Rattle.mst_lang.specs.declared.line.Query.TheVariants as queries
+use Rattle.mst_lang.specs.declared.line.Command.{Command}
+use Rattle.mst_lang.specs.declared.line.Command.TheVariants.{AddBridge, DelBridge, Bridge, Kind, AddPort, DelPort, AddLan, DelLan, Lan, Speed, Plug, Unplug, SetKey, SetSysPri, SetTreePrio, SetTreePortPrio, SetPortPathCost, SetPortRestrRole, SetTreePortCost, SetMstConfId, SetVidToMstId, SetMaxHops, SetMaxAge, SetPortVlans, ShowPlan, ShowLag, ShowRegions, ShowNotes, ShowTree, ShowVlan, ShowMstConfId, Mark, Changes, Save}
+use Rattle.mst_lang.specs.declared.line.Fault.{Fault}
+use Rattle.mst_lang.specs.declared.line.Fault.TheVariants.{E01}
 use Rattle.mst_hints.specs.declared.form.Argument.{Argument}
 use Rattle.mst_hints.specs.Forms.{form_of, is_right}
 use Rattle.mst_hints.specs.Hints.{first_wrong, form_hint, command_hint, worded_hint, hint_of, too_long, bad_byte, wrong_text, number_text}

@@ -1,9 +1,9 @@
 -- The table of forms, as the code keeps it and as the grammar's table of commands gives it.
 use Rattle.std.proofs.Common.{◌≡◌, ◌∙◌, ℕ, Bool, true, false, cond, List, [], ◌∷◌, Option, Some, None, find, map, Bor, refl, sym, ap}
 use Rattle.std.specs.Option.{option_map}
-use Rattle.mst_net.specs.lang.Arguments.{is_text}
-use Rattle.mst_net.specs.lang.Reading.{commands, command_of}
-use Rattle.mst_net.specs.lang.declared.line.Command.{Command}
+use Rattle.mst_lang.specs.Arguments.{is_text}
+use Rattle.mst_lang.specs.Reading.{commands, command_of}
+use Rattle.mst_lang.specs.declared.line.Command.{Command}
 use Rattle.mst_hints.specs.declared.form.Argument.{Argument}
 use Rattle.mst_hints.specs.Forms.{form_of}
 use Rattle.mst_hints.specs.Hints.{command_where}

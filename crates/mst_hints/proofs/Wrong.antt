@@ -1,8 +1,8 @@
 -- Steps of the code along the definitions of hints.
 use Rattle.std.proofs.Common.{◌≡◌, ℕ, List, [], ◌∷◌, Option, Some, None, is_some, true, false, refl, ap, true≢false, sym}
 use Rattle.std.specs.Option.{option_map, unwrap_or}
-use Rattle.mst_net.specs.lang.declared.line.Version.{Version}
-use Rattle.mst_net.specs.lang.declared.line.Command.{Command}
+use Rattle.mst_lang.specs.declared.line.Version.{Version}
+use Rattle.mst_lang.specs.declared.line.Command.{Command}
 use Rattle.mst_hints.specs.declared.form.Argument.{Argument}
 use Rattle.mst_hints.specs.Forms.{form_of}
 use Rattle.mst_hints.specs.Hints.{first_wrong, form_hint, command_hint, unknown_text}

@@ -1,11 +1,11 @@
 -- What stands in the places of each command's line, and what is right there.
 use Rattle.std.specs.Prelude.{ℕ, Bool, List, [], ◌∷◌, Option, None, codes}
 use Rattle.std.specs.Result.{is_ok, result_ok}
-use Rattle.mst_net.specs.lang.Arguments.{name, mac, port_number, bridge_priority, port_priority, cost, sixteen_bits, limit, speed, conf_name, power, kind, lan_state, yes_or_no, tree, vid, vids, members}
-use Rattle.mst_net.specs.lang.declared.line.Version.{Version}
-use Rattle.mst_net.specs.lang.declared.line.Version.TheVariants.{V1, V2}
-use Rattle.mst_net.specs.lang.declared.line.Command.{Command}
-use Rattle.mst_net.specs.lang.declared.line.Command.TheVariants.{AddBridge, DelBridge, Bridge, Kind, AddPort, DelPort, AddLan, DelLan, Lan, Speed, Plug, Unplug, SetKey, SetSysPri, SetTreePrio, SetTreePortPrio, SetPortPathCost, SetPortRestrRole, SetTreePortCost, SetMstConfId, SetVidToMstId, SetMaxHops, SetMaxAge, SetPortVlans, ShowPlan, ShowLag, ShowRegions, ShowNotes, ShowTree, ShowVlan, ShowMstConfId, Mark, Changes, Save}
+use Rattle.mst_lang.specs.Arguments.{name, mac, port_number, bridge_priority, port_priority, cost, sixteen_bits, limit, speed, conf_name, power, kind, lan_state, yes_or_no, tree, vid, vids, members}
+use Rattle.mst_lang.specs.declared.line.Version.{Version}
+use Rattle.mst_lang.specs.declared.line.Version.TheVariants.{V1, V2}
+use Rattle.mst_lang.specs.declared.line.Command.{Command}
+use Rattle.mst_lang.specs.declared.line.Command.TheVariants.{AddBridge, DelBridge, Bridge, Kind, AddPort, DelPort, AddLan, DelLan, Lan, Speed, Plug, Unplug, SetKey, SetSysPri, SetTreePrio, SetTreePortPrio, SetPortPathCost, SetPortRestrRole, SetTreePortCost, SetMstConfId, SetVidToMstId, SetMaxHops, SetMaxAge, SetPortVlans, ShowPlan, ShowLag, ShowRegions, ShowNotes, ShowTree, ShowVlan, ShowMstConfId, Mark, Changes, Save}
 use Rattle.mst_hints.specs.declared.form.Argument.{Argument}
 use Rattle.mst_hints.specs.declared.form.Argument.TheVariants.{BridgeName, LanName, MacAddress, PortNumber, TreeNumber, BridgePriority, PortPriority, PathCost, PortKey, SystemPriority, Revision, LimitNumber, SpeedNumber, ConfigurationName, OnOrOff, BridgeKind, UpOrDown, YesOrNo, OneVid, VidList, MemberList}
 

@@ -3,10 +3,10 @@ use Rattle.std.specs.Prelude.{ℕ, ◌==◌, Bool, List, [], ◌∷◌, ◌++◌
 use Rattle.std.specs.Option.{option_map, option_map_or, option_or}
 use Rattle.std.specs.List.{flat_map, list_all}
 use Rattle.mst_ids.specs.Words.{after_space}
-use Rattle.mst_net.specs.lang.Words.{words, is_plain}
-use Rattle.mst_net.specs.lang.Reading.{commands, command_of, is_comment}
-use Rattle.mst_net.specs.lang.declared.line.Version.{Version}
-use Rattle.mst_net.specs.lang.declared.line.Command.{Command}
+use Rattle.mst_lang.specs.Words.{words, is_plain}
+use Rattle.mst_lang.specs.Reading.{commands, command_of, is_comment}
+use Rattle.mst_lang.specs.declared.line.Version.{Version}
+use Rattle.mst_lang.specs.declared.line.Command.{Command}
 use Rattle.mst_hints.specs.declared.form.Argument.{Argument}
 use Rattle.mst_hints.specs.Forms.{form_of, word_of, is_right, range_of, step_of}
 use Rattle.mst_hints.specs.Near.{is_within_one, is_within_two}

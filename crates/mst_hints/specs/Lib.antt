@@ -1,4 +1,4 @@
-pub use Rattle.mst_net.specs.lang as lang
+pub use Rattle.mst_lang.specs as lang
 pub mod Forms
 pub mod Near
 pub mod Hints

@@ -2,7 +2,7 @@
 -- one becomes the other. Another letter in the place of one counts 2, since it is put in and the one is left out. No
 -- letter that was exchanged is touched again.
 use Rattle.std.specs.Prelude.{ℕ, Bool, false, ◌==◌, ◌||◌, ◌&&◌, List, [], ◌∷◌}
-use Rattle.mst_net.specs.lang.Arguments.{is_text}
+use Rattle.mst_lang.specs.Arguments.{is_text}
 
 -- two words that are `near` without the first letter of the one
 abbrev pub left_out : (List ℕ → List ℕ → Bool) → List ℕ → List ℕ → Bool

@@ -3,16 +3,16 @@ use Rattle.std.specs.Prelude.{ℕ, Bool, false, List, [], ◌∷◌, length, nat
 use Rattle.std.specs.Option.{option_map, option_and_then}
 use Rattle.std.specs.Result.{result_ok}
 use Rattle.mst_ids.specs.declared.name.PortName.{PortName}
-use Rattle.mst_net.specs.lang.Arguments.{is_text, name, port_number}
-use Rattle.mst_net.specs.lang.Reading.{command_of, is_comment, port}
-use Rattle.mst_net.specs.lang.Words.{words}
-use Rattle.mst_net.specs.lang.declared.line.Line.{Line}
-use Rattle.mst_net.specs.lang.declared.line.Line.TheVariants as lines
-use Rattle.mst_net.specs.lang.declared.line.Edit.{Edit}
-use Rattle.mst_net.specs.lang.declared.line.Edit.TheVariants.{AddBridge, DelBridge, SetBridge, AddPort, DelPort, SetPort, AddLan, DelLan, SetLan, Plug, Unplug, SetByTree}
-use Rattle.mst_net.specs.lang.declared.line.Query.TheVariants.{ShowConfiguration}
-use Rattle.mst_net.specs.lang.declared.line.TreeChange.{TreeChange}
-use Rattle.mst_net.specs.lang.declared.line.TreeChange.TheVariants.{Priority, PortPriority, PortCost, Table, Vlans}
+use Rattle.mst_lang.specs.Arguments.{is_text, name, port_number}
+use Rattle.mst_lang.specs.Reading.{command_of, is_comment, port}
+use Rattle.mst_lang.specs.Words.{words}
+use Rattle.mst_lang.specs.declared.line.Line.{Line}
+use Rattle.mst_lang.specs.declared.line.Line.TheVariants as lines
+use Rattle.mst_lang.specs.declared.line.Edit.{Edit}
+use Rattle.mst_lang.specs.declared.line.Edit.TheVariants.{AddBridge, DelBridge, SetBridge, AddPort, DelPort, SetPort, AddLan, DelLan, SetLan, Plug, Unplug, SetByTree}
+use Rattle.mst_lang.specs.declared.line.Query.TheVariants.{ShowConfiguration}
+use Rattle.mst_lang.specs.declared.line.TreeChange.{TreeChange}
+use Rattle.mst_lang.specs.declared.line.TreeChange.TheVariants.{Priority, PortPriority, PortCost, Table, Vlans}
 use Rattle.mst_net.specs.Tables.{port_eq}
 use Rattle.mst_net.specs.declared.refusal.Refusal.{Refusal}
 use Rattle.mst_net.specs.declared.refusal.Refusal.TheVariants.{E04, E05, E06}

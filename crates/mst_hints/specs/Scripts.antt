@@ -4,13 +4,13 @@ use Rattle.std.specs.Option.{option_map, option_map_or, option_flatten, unwrap_o
 use Rattle.std.specs.Result.{result_ok}
 use Rattle.std.specs.Map.{lookup}
 use Rattle.mst_ids.specs.Words.{port_text}
-use Rattle.mst_net.specs.lang.Reading.{reading_as, says_version_2}
-use Rattle.mst_net.specs.lang.declared.line.Fault.{Fault}
-use Rattle.mst_net.specs.lang.declared.line.Line.{Line}
-use Rattle.mst_net.specs.lang.declared.line.Line.TheVariants.{Blank, Edit as edit, Query as query}
-use Rattle.mst_net.specs.lang.declared.line.Query.TheVariants.{ShowConfiguration}
-use Rattle.mst_net.specs.lang.declared.line.Version.{Version}
-use Rattle.mst_net.specs.lang.declared.line.Version.TheVariants.{V1, V2}
+use Rattle.mst_lang.specs.Reading.{reading_as, says_version_2}
+use Rattle.mst_lang.specs.declared.line.Fault.{Fault}
+use Rattle.mst_lang.specs.declared.line.Line.{Line}
+use Rattle.mst_lang.specs.declared.line.Line.TheVariants.{Blank, Edit as edit, Query as query}
+use Rattle.mst_lang.specs.declared.line.Query.TheVariants.{ShowConfiguration}
+use Rattle.mst_lang.specs.declared.line.Version.{Version}
+use Rattle.mst_lang.specs.declared.line.Version.TheVariants.{V1, V2}
 use Rattle.mst_net.specs.After.{after, has_bridge}
 use Rattle.mst_net.specs.Tables.{Net, empty_net}
 use Rattle.mst_net.specs.declared.refusal.Refusal.{Refusal}

@@ -1,8 +1,8 @@
 ghost use Rattle.std.specs.Prelude.{◌≡◌};
 ghost use Rattle.std.specs.Option.{option_map};
 ghost use Rattle.std.specs.Result.{result_ok};
-ghost use Rattle.mst_net.specs.lang.Arguments as forms;
-ghost use Rattle.mst_net.specs.lang.Words.{words};
+ghost use Rattle.mst_lang.specs.Arguments as forms;
+ghost use Rattle.mst_lang.specs.Words.{words};
 ghost use Rattle.mst_hints.specs.Records.{added_of as added_of_line, added_in as added_in_words, added_by as added_by_words, added_bridge as bridge_of_words, added_port as port_of_words, added_lan as lan_of_words, command_meant as command_of_word};
 
 use crate::form::form_of;
@@ -10,7 +10,7 @@ use crate::hint::{LONGEST, nearest};
 use crate::record::Record;
 use crate::words::next_word;
 use mst_ids::{Name, PortName, PortNumber};
-use mst_net::lang::parse_number;
+use mst_lang::parse_number;
 
 /// The record that a line was to add: the one that the words after `addbridge`, `addport` or `addlan` name, or after a
 /// word that is no command and nearest to one of these, whatever else is wrong with the line. None for a line that is

@@ -1,13 +1,13 @@
 ghost use Rattle.std.specs.Prelude.{◌≡◌, find};
 ghost use Rattle.std.specs.Option.{option_map};
-ghost use Rattle.mst_net.specs.lang.Arguments.{is_text};
-ghost use Rattle.mst_net.specs.lang.Reading.{command_of};
+ghost use Rattle.mst_lang.specs.Arguments.{is_text};
+ghost use Rattle.mst_lang.specs.Reading.{command_of};
 ghost use Rattle.mst_hints.specs.Forms.{form_of as form_of_command, word_of, range_of};
 ghost use Rattle.mst_hints.specs.Hints.{command_where};
 ghost use Rattle.mst_hints.specs.Near.{is_within_one as within_one, is_within_two as within_two};
 
 use crate::near::{is_within_one, is_within_two};
-use mst_net::lang::Version;
+use mst_lang::Version;
 
 /// What stands in a place of a command's line.
 #[derive(Clone, Copy)]

@@ -1,14 +1,14 @@
 ghost use Rattle.std.specs.Prelude.{◌≡◌, ◌++◌, ◌∷◌, [], true, Some, IfOk, OnOk, is_some, codes, decimal};
 ghost use Rattle.std.specs.Option.{option_map, option_map_or};
-ghost use Rattle.mst_net.specs.lang.Reading.{command_of};
-ghost use Rattle.mst_net.specs.lang.Words.{words};
+ghost use Rattle.mst_lang.specs.Reading.{command_of};
+ghost use Rattle.mst_lang.specs.Words.{words};
 ghost use Rattle.mst_hints.specs.Hints.{hint_of, hint_line, too_long, bad_byte, unknown_text as unknown_of, number_text, wrong_text, form_hint, command_hint, form_text as form_text_of, takes_text as takes_text_of, count_text as count_text_of, step_text as step_text_of, asked as asked_of, nearest as nearest_of};
 
 use crate::form::{Argument, command_by_one, command_by_two, form_of};
 use crate::right::{first_wrong, step_of};
 use crate::words::{are_plain, next_word, word_count};
 use mst_ids::{push_bytes, push_decimal, push_end, push_word};
-use mst_net::lang::Version;
+use mst_lang::Version;
 use std::alloc::AllocError;
 
 /// The most bytes that a line may have.

@@ -1,8 +1,8 @@
 //! A law of hints. Its function does nothing: a caller has its clause.
 ghost use Rattle.std.specs.Prelude.{◌≡◌, ℕ, List, is_some};
 ghost use Rattle.std.specs.Result.{is_err};
-ghost use Rattle.mst_net.specs.lang.declared.line.Version.{Version};
-ghost use Rattle.mst_net.specs.lang.Reading.{reading_as};
+ghost use Rattle.mst_lang.specs.declared.line.Version.{Version};
+ghost use Rattle.mst_lang.specs.Reading.{reading_as};
 ghost use Rattle.mst_hints.specs.Hints.{hint_of};
 
 /// There is a hint exactly where the line isn't read.

@@ -1,5 +1,5 @@
 ghost use Rattle.std.specs.Prelude.{◌≡◌};
-ghost use Rattle.mst_net.specs.lang.Arguments.{is_text};
+ghost use Rattle.mst_lang.specs.Arguments.{is_text};
 ghost use Rattle.mst_hints.specs.Near.{one_change, is_within_one as within_one, is_within_two as within_two};
 
 /// Whether one word becomes the other by at most one change: a letter put in, left out, or exchanged with its

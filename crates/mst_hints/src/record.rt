@@ -4,8 +4,8 @@ ghost use Rattle.mst_hints.specs.Records.{missing_for as missing_of_edit, missin
 ghost use Rattle.mst_hints.specs.declared.record.Record.{Record as Declared};
 
 use mst_ids::{Name, PortName};
+use mst_lang::{Edit, Line, Query, TreeChange};
 use mst_net::Refusal;
-use mst_net::lang::{Edit, Line, Query, TreeChange};
 
 /// A bridge, a port or a LAN, by its name.
 #[derive(Clone, Copy, PartialEq, Eq, Hash)]

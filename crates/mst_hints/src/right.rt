@@ -1,16 +1,16 @@
 ghost use Rattle.std.specs.Prelude.{◌≡◌, ◌&&◌, ◌||◌, ◌<◌, true, false, nat_le};
 ghost use Rattle.std.specs.Result.{is_ok, result_ok};
 ghost use Rattle.std.specs.Option.{option_map, option_map_or};
-ghost use Rattle.mst_net.specs.lang.Arguments.{number_value};
-ghost use Rattle.mst_net.specs.lang.Arguments as forms;
-ghost use Rattle.mst_net.specs.lang.Words.{words};
+ghost use Rattle.mst_lang.specs.Arguments.{number_value};
+ghost use Rattle.mst_lang.specs.Arguments as forms;
+ghost use Rattle.mst_lang.specs.Words.{words};
 ghost use Rattle.mst_hints.specs.Forms.{is_right as right_of, step_of as step_of_word};
 ghost use Rattle.mst_hints.specs.Hints.{first_wrong as first_wrong_of};
 
 use crate::form::Argument;
 use crate::words::next_word;
 use mst_ids::{ConfName, Name, parse_mac, parse_vids};
-use mst_net::lang::{Version, parse_number};
+use mst_lang::{Version, parse_number};
 
 /// The first argument that isn't in its form, and the word that stands there.
 #[tactic(auto, using(crate::proofs::Wrong::none_left))]

@@ -9,7 +9,7 @@ use crate::adds::Adds;
 use crate::hint::{push_hint, push_start};
 use crate::record::{Record, missing_of};
 use mst_ids::{push_bytes, push_decimal, push_end};
-use mst_net::lang::{Edit, Fault, Line, Query, Version, is_version_2, parse_line_as};
+use mst_lang::{Edit, Fault, Line, Query, Version, is_version_2, parse_line_as};
 use mst_net::{Contents, Network, Refusal};
 use std::alloc::{AllocError, Global};
 

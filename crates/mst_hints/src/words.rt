@@ -1,6 +1,6 @@
 ghost use Rattle.std.specs.Prelude.{◌≡◌, ℕ, ◌∷◌, [], ◌<◌, ◌≤◌, length, MatchOption, slice_index, false};
 ghost use Rattle.std.specs.List.{list_all};
-ghost use Rattle.mst_net.specs.lang.Words.{is_blank as blank_byte, is_plain as plain_byte, words};
+ghost use Rattle.mst_lang.specs.Words.{is_blank as blank_byte, is_plain as plain_byte, words};
 
 fn is_blank(byte: u8) -> bool
     ensures { result ≡ blank_byte byte }

@@ -3,9 +3,9 @@ use Rattle.std.proofs.Common.{◌≡◌, ℕ, Bool, true, false, cond, List, Opt
 use Rattle.std.specs.Prelude.{Ok, Err, Result}
 use Rattle.std.specs.Option.{option_map, option_map_or}
 use Rattle.std.specs.FinMap as fin
-use Rattle.mst_net.specs.lang.declared.line.Edit.TheVariants.{SetBridge}
-use Rattle.mst_net.specs.lang.declared.line.BridgeChange.{BridgeChange}
-use Rattle.mst_net.specs.lang.declared.line.BridgeChange.TheVariants.{Power, Kind, SystemPriority, Configuration, MaxHops, MaxAge}
+use Rattle.mst_lang.specs.declared.line.Edit.TheVariants.{SetBridge}
+use Rattle.mst_lang.specs.declared.line.BridgeChange.{BridgeChange}
+use Rattle.mst_lang.specs.declared.line.BridgeChange.TheVariants.{Power, Kind, SystemPriority, Configuration, MaxHops, MaxAge}
 use Rattle.mst_net.specs.Tables.{Net, Numbers, BridgeRow}
 use Rattle.mst_net.specs.After.{after, change as changed, effect, bridge_with, refusal_of}
 use Rattle.mst_net.specs.Contents.{Contents, Commits, numbers_after}

@@ -1,4 +1,3 @@
-pub use Rattle.mst_net.proofs as net_lemmas
 pub mod Names
 pub mod Lists
 pub mod Entries

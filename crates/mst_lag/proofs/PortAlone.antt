@@ -4,9 +4,9 @@ use Rattle.std.specs.Prelude.{Ok, Err, Result}
 use Rattle.std.specs.Option.{option_map, option_map_or}
 use Rattle.std.specs.FinMap as fin
 use Rattle.mst_ids.specs.declared.name.PortName.{PortName}
-use Rattle.mst_net.specs.lang.declared.line.Edit.TheVariants.{SetPort}
-use Rattle.mst_net.specs.lang.declared.line.PortChange.{PortChange}
-use Rattle.mst_net.specs.lang.declared.line.PortChange.TheVariants.{Key, PathCost, RestrictedRole}
+use Rattle.mst_lang.specs.declared.line.Edit.TheVariants.{SetPort}
+use Rattle.mst_lang.specs.declared.line.PortChange.{PortChange}
+use Rattle.mst_lang.specs.declared.line.PortChange.TheVariants.{Key, PathCost, RestrictedRole}
 use Rattle.mst_net.specs.Tables.{Net, Numbers, PortRow, IsNetwork, port_eq}
 use Rattle.mst_net.specs.After.{after, change as changed, effect, port_with, refusal_of}
 use Rattle.mst_net.specs.Contents.{Contents, Commits, IsNumbered}

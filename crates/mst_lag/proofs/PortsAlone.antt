@@ -5,9 +5,9 @@ use Rattle.std.specs.Option.{option_map_or}
 use Rattle.std.specs.FinMap as fin
 use Rattle.mst_ids.specs.Names.{port_cmp}
 use Rattle.mst_ids.specs.declared.name.PortName.{PortName}
-use Rattle.mst_net.specs.lang.declared.line.Edit.{Edit}
-use Rattle.mst_net.specs.lang.declared.line.Edit.TheVariants.{SetPort, Plug, Unplug}
-use Rattle.mst_net.specs.lang.declared.line.PortChange.{PortChange}
+use Rattle.mst_lang.specs.declared.line.Edit.{Edit}
+use Rattle.mst_lang.specs.declared.line.Edit.TheVariants.{SetPort, Plug, Unplug}
+use Rattle.mst_lang.specs.declared.line.PortChange.{PortChange}
 use Rattle.mst_net.specs.Tables.{Net, Numbers, PortRow}
 use Rattle.mst_net.specs.After.{after, change as changed, effect, in_lan, port_with, refusal_of}
 use Rattle.mst_net.specs.Contents.{Contents, Commits}

@@ -1,11 +1,11 @@
 //! Laws of views. Their functions do nothing: a caller has their clauses.
 ghost use Rattle.std.specs.Prelude.{◌≡◌, List, ℕ, true};
-ghost use Rattle.mst_net.specs.lang.declared.line.Edit.TheVariants.{SetBridge, SetLan, SetPort, SetByTree, Plug, Unplug};
-ghost use Rattle.mst_net.specs.lang.declared.line.BridgeChange.{BridgeChange};
-ghost use Rattle.mst_net.specs.lang.declared.line.LanChange.{LanChange};
+ghost use Rattle.mst_lang.specs.declared.line.Edit.TheVariants.{SetBridge, SetLan, SetPort, SetByTree, Plug, Unplug};
+ghost use Rattle.mst_lang.specs.declared.line.BridgeChange.{BridgeChange};
+ghost use Rattle.mst_lang.specs.declared.line.LanChange.{LanChange};
 ghost use Rattle.mst_ids.specs.declared.name.PortName.{PortName};
-ghost use Rattle.mst_net.specs.lang.declared.line.PortChange.{PortChange};
-ghost use Rattle.mst_net.specs.lang.declared.line.TreeChange.{TreeChange};
+ghost use Rattle.mst_lang.specs.declared.line.PortChange.{PortChange};
+ghost use Rattle.mst_lang.specs.declared.line.TreeChange.{TreeChange};
 ghost use Rattle.mst_net.specs.Tables.{Net, Numbers, IsNetwork};
 ghost use Rattle.mst_net.specs.After.{effect};
 ghost use Rattle.mst_net.specs.Contents.{Contents, Commits, IsNumbered};

@@ -13,7 +13,7 @@ use crate::listed::Listed;
 use crate::members::{LanSeen, Total, total_at, totals};
 use crate::viewed::{Links, links_now, listed_bridges, listed_trees};
 use mst_ids::{Name, PortName};
-use mst_net::lang::{BridgeChange, LanState, PortChange, TreeChange};
+use mst_lang::{BridgeChange, LanState, PortChange, TreeChange};
 use mst_net::{Contents, PortSettings};
 use std::alloc::{AllocError, Global};
 

@@ -6,8 +6,8 @@ ghost use Rattle.mst_lag.specs.Viewed.{bridge_trees};
 
 use crate::in_view::BridgeInView;
 use mst_ids::{BridgeNo, Tree};
+use mst_lang::Kind;
 use mst_net::Contents;
-use mst_net::lang::Kind;
 use std::alloc::{AllocError, Global};
 use std::marker::Model;
 

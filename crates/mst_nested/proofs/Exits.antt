@@ -1,9 +1,9 @@
 -- A part has an exit, or holds the root of the CIST.
 use Rattle.std.proofs.Common.{◌≡◌, ◌⊎◌, inl, inr, refl, sym, ◌∙◌, ap, subst, ℕ, Some, [], ◌∷◌, arith}
-use Rattle.mst_settle.specs.vector.Cist.{cist_bridge_vector, cist_components}
-use Rattle.mst_settle.specs.vector.declared.cist.CistVector.{CistVector}
-use Rattle.mst_settle.specs.vector.declared.cist.CistBridge.{CistBridge}
-use Rattle.mst_settle.specs.vector.declared.cist.CistPort.{CistPort}
+use Rattle.mst_vector.specs.Cist.{cist_bridge_vector, cist_components}
+use Rattle.mst_vector.specs.declared.cist.CistVector.{CistVector}
+use Rattle.mst_vector.specs.declared.cist.CistBridge.{CistBridge}
+use Rattle.mst_vector.specs.declared.cist.CistPort.{CistPort}
 use Rattle.mst_settle.specs.Topology.{TreePort, HasBridge, KeyTests}
 use Rattle.mst_graph.specs.Walks.{bridge_at, stay, along}
 use Rattle.mst_nested.specs.Ports.{port_ends}

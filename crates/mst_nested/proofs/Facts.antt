@@ -1,12 +1,12 @@
 -- What the vectors of a part's bridges name, as laws say it.
 use Rattle.std.proofs.Common.{◌≡◌, inl, inr, refl, sym, ◌∙◌, ap, ℕ, zero, suc, ◌<◌, ◌≤◌, [], ◌∷◌, Some, false, arith}
 use Rattle.std.specs.Ordering.{is_gt}
-use Rattle.mst_settle.specs.vector.Cist.{cist_rules, cist_bridge_vector}
-use Rattle.mst_settle.specs.vector.declared.cist.CistVector.{CistVector}
-use Rattle.mst_settle.specs.vector.declared.cist.CistBridge.{CistBridge}
-use Rattle.mst_settle.specs.vector.declared.cist.CistPort.{CistPort}
-use Rattle.mst_settle.specs.vector.declared.msti.MstiVector.{MstiVector}
-use Rattle.mst_settle.specs.vector.declared.msti.MstiBridge.{MstiBridge}
+use Rattle.mst_vector.specs.Cist.{cist_rules, cist_bridge_vector}
+use Rattle.mst_vector.specs.declared.cist.CistVector.{CistVector}
+use Rattle.mst_vector.specs.declared.cist.CistBridge.{CistBridge}
+use Rattle.mst_vector.specs.declared.cist.CistPort.{CistPort}
+use Rattle.mst_vector.specs.declared.msti.MstiVector.{MstiVector}
+use Rattle.mst_vector.specs.declared.msti.MstiBridge.{MstiBridge}
 use Rattle.mst_settle.specs.Topology.{TreePort, HasBridge, KeyTests}
 use Rattle.mst_graph.specs.Walks.{Walk, bridge_at, lan_at, along}
 use Rattle.mst_nested.specs.Ports.{port_ends}

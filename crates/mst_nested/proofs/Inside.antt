@@ -1,8 +1,8 @@
 -- In each tree the ports that forward inside a part join it without a loop.
 use Rattle.std.proofs.Common.{◌≡◌, ◌⊎◌, inl, inr, refl, sym, ◌∙◌, subst, ℕ, zero, suc, Option, Some, None}
-use Rattle.mst_settle.specs.vector.declared.cist.CistBridge.{CistBridge}
-use Rattle.mst_settle.specs.vector.declared.cist.CistPort.{CistPort}
-use Rattle.mst_settle.specs.vector.declared.msti.MstiBridge.{MstiBridge}
+use Rattle.mst_vector.specs.declared.cist.CistBridge.{CistBridge}
+use Rattle.mst_vector.specs.declared.cist.CistPort.{CistPort}
+use Rattle.mst_vector.specs.declared.msti.MstiBridge.{MstiBridge}
 use Rattle.mst_settle.specs.Topology.{TreePort, HasBridge, KeyTests}
 use Rattle.mst_settle.proofs.Offers.{bridge_among, found, lost}
 use Rattle.mst_graph.specs.Walks.{Walk, Node, bridge_at, lan_at}

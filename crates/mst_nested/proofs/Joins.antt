@@ -1,8 +1,8 @@
 -- The active ports of a VID join what is enabled.
 use Rattle.std.proofs.Common.{◌≡◌, ◌⊎◌, inl, inr, refl, sym, ◌∙◌, ap, subst, ℕ, zero, suc}
-use Rattle.mst_settle.specs.vector.declared.cist.CistVector.{CistVector}
-use Rattle.mst_settle.specs.vector.declared.cist.CistBridge.{CistBridge}
-use Rattle.mst_settle.specs.vector.declared.cist.CistPort.{CistPort}
+use Rattle.mst_vector.specs.declared.cist.CistVector.{CistVector}
+use Rattle.mst_vector.specs.declared.cist.CistBridge.{CistBridge}
+use Rattle.mst_vector.specs.declared.cist.CistPort.{CistPort}
 use Rattle.mst_settle.specs.Topology.{TreePort, KeyTests}
 use Rattle.mst_graph.specs.Walks.{bridge_at}
 use Rattle.mst_nested.specs.Ports.{port_ends}

@@ -1,5 +1,3 @@
-pub use Rattle.mst_graph.proofs as graph_lemmas
-pub use Rattle.mst_settle.proofs as settle_lemmas
 pub mod Orders
 pub mod Within
 pub mod Settled

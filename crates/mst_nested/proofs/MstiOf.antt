@@ -1,11 +1,11 @@
 -- An MSTI made from the settled CIST and what is set for it.
 use Rattle.std.proofs.Common.{◌≡◌, ◌⊎◌, inl, inr, refl, sym, ◌∙◌, ap, subst, List, [], ◌∷◌, Option, Some, None, Bool, true, false}
-use Rattle.mst_settle.specs.vector.Cist.{cist_rules}
-use Rattle.mst_settle.specs.vector.declared.cist.CistVector.{CistVector}
-use Rattle.mst_settle.specs.vector.declared.cist.CistBridge.{CistBridge}
-use Rattle.mst_settle.specs.vector.declared.cist.CistPort.{CistPort}
-use Rattle.mst_settle.specs.vector.declared.msti.MstiBridge.{MstiBridge}
-use Rattle.mst_settle.specs.vector.declared.msti.MstiPort.{MstiPort}
+use Rattle.mst_vector.specs.Cist.{cist_rules}
+use Rattle.mst_vector.specs.declared.cist.CistVector.{CistVector}
+use Rattle.mst_vector.specs.declared.cist.CistBridge.{CistBridge}
+use Rattle.mst_vector.specs.declared.cist.CistPort.{CistPort}
+use Rattle.mst_vector.specs.declared.msti.MstiBridge.{MstiBridge}
+use Rattle.mst_vector.specs.declared.msti.MstiPort.{MstiPort}
 use Rattle.mst_settle.specs.Topology.{TreePort, Topology, HasBridge, HasPort, KeyTests}
 use Rattle.mst_settle.proofs.Rank.{Among, among-contains, contains-among}
 use Rattle.mst_settle.proofs.Unique.{cons_option}

@@ -1,10 +1,10 @@
 -- An MSTI in the parts of its regions.
 use Rattle.std.proofs.Common.{◌≡◌, ◌⊎◌, inl, inr, refl, sym, ◌∙◌, ap, ℕ, suc, ◌≤◌, [], ◌∷◌, Option, Some, None, true, false}
 use Rattle.std.specs.Ordering.{is_gt}
-use Rattle.mst_settle.specs.vector.Msti.{msti_rules, msti_bridge_vector}
-use Rattle.mst_settle.specs.vector.declared.cist.CistPort.{CistPort}
-use Rattle.mst_settle.specs.vector.declared.msti.MstiVector.{MstiVector}
-use Rattle.mst_settle.specs.vector.declared.msti.MstiPort.{MstiPort}
+use Rattle.mst_vector.specs.Msti.{msti_rules, msti_bridge_vector}
+use Rattle.mst_vector.specs.declared.cist.CistPort.{CistPort}
+use Rattle.mst_vector.specs.declared.msti.MstiVector.{MstiVector}
+use Rattle.mst_vector.specs.declared.msti.MstiPort.{MstiPort}
 use Rattle.mst_settle.specs.Topology.{TreePort, KeyTests}
 use Rattle.mst_graph.specs.Walks.{Node, Walk, bridge_at, lan_at, stay, along}
 use Rattle.mst_nested.specs.Ports.{port_ends}

@@ -1,8 +1,8 @@
 -- Each port of a settled tree has one role.
 use Rattle.std.proofs.Common.{◌≡◌, ◌≢◌, ◌⊎◌, inl, inr, refl, sym, ◌∙◌, ap, subst, Option, Some, None, Bool, true, false}
-use Rattle.mst_settle.specs.vector.Rules.{Rules, IsMetric}
-use Rattle.mst_settle.specs.vector.declared.cist.CistBridge.{CistBridge}
-use Rattle.mst_settle.specs.vector.declared.cist.CistPort.{CistPort}
+use Rattle.mst_vector.specs.Rules.{Rules, IsMetric}
+use Rattle.mst_vector.specs.declared.cist.CistBridge.{CistBridge}
+use Rattle.mst_vector.specs.declared.cist.CistPort.{CistPort}
 use Rattle.mst_settle.specs.Topology.{TreePort, Topology, IsTopology, KeyTests}
 use Rattle.mst_settle.specs.Settled.{Designates, IsDesignated}
 use Rattle.mst_settle.proofs.Below.{one_designated}

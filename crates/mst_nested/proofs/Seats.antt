@@ -1,7 +1,7 @@
 -- Each bridge and LAN with a vector is in the part of a bridge, and the regional root tells the part.
 use Rattle.std.proofs.Common.{◌≡◌, ◌≢◌, ◌⊎◌, inl, inr, refl, sym, ◌∙◌, ap, ℕ, suc, Option, Some, None}
-use Rattle.mst_settle.specs.vector.declared.cist.CistVector.{CistVector}
-use Rattle.mst_settle.specs.vector.declared.cist.CistPort.{CistPort}
+use Rattle.mst_vector.specs.declared.cist.CistVector.{CistVector}
+use Rattle.mst_vector.specs.declared.cist.CistPort.{CistPort}
 use Rattle.mst_settle.specs.Topology.{TreePort, KeyTests}
 use Rattle.mst_graph.specs.Walks.{Node, bridge_at, lan_at, stay, along}
 use Rattle.mst_nested.specs.Ports.{port_ends}

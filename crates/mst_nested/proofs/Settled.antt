@@ -1,16 +1,16 @@
 -- A settled tree with what its lemmas ask of it.
 use Rattle.std.specs.Prelude.{ℕ, suc, Option}
-use Rattle.mst_settle.specs.vector.Rules.{Rules, IsMetric}
-use Rattle.mst_settle.specs.vector.Cist.{cist_rules}
-use Rattle.mst_settle.specs.vector.CistLaws.{cist_lawful}
-use Rattle.mst_settle.specs.vector.Msti.{msti_rules}
-use Rattle.mst_settle.specs.vector.MstiLaws.{msti_lawful}
-use Rattle.mst_settle.specs.vector.declared.cist.CistVector.{CistVector}
-use Rattle.mst_settle.specs.vector.declared.cist.CistBridge.{CistBridge}
-use Rattle.mst_settle.specs.vector.declared.cist.CistPort.{CistPort}
-use Rattle.mst_settle.specs.vector.declared.msti.MstiVector.{MstiVector}
-use Rattle.mst_settle.specs.vector.declared.msti.MstiBridge.{MstiBridge}
-use Rattle.mst_settle.specs.vector.declared.msti.MstiPort.{MstiPort}
+use Rattle.mst_vector.specs.Rules.{Rules, IsMetric}
+use Rattle.mst_vector.specs.Cist.{cist_rules}
+use Rattle.mst_vector.specs.CistLaws.{cist_lawful}
+use Rattle.mst_vector.specs.Msti.{msti_rules}
+use Rattle.mst_vector.specs.MstiLaws.{msti_lawful}
+use Rattle.mst_vector.specs.declared.cist.CistVector.{CistVector}
+use Rattle.mst_vector.specs.declared.cist.CistBridge.{CistBridge}
+use Rattle.mst_vector.specs.declared.cist.CistPort.{CistPort}
+use Rattle.mst_vector.specs.declared.msti.MstiVector.{MstiVector}
+use Rattle.mst_vector.specs.declared.msti.MstiBridge.{MstiBridge}
+use Rattle.mst_vector.specs.declared.msti.MstiPort.{MstiPort}
 use Rattle.mst_settle.specs.Topology.{Topology, KeyTests}
 use Rattle.mst_nested.specs.Trees.{Trees, IsTree, IsSettled}
 use Rattle.mst_nested.proofs.Within.{Within, IsWithin, cist_within, cist_is_within, msti_within, msti_is_within}

@@ -1,15 +1,15 @@
 -- A network has an outcome.
 use Rattle.std.proofs.Common.{◌≡◌, ◌≢◌, refl, sym, ◌∙◌, ap, subst, ℕ, suc, Option, Some, IsTrue}
-use Rattle.mst_settle.specs.vector.Cist.{cist_rules}
-use Rattle.mst_settle.specs.vector.CistLaws.{cist_lawful}
-use Rattle.mst_settle.specs.vector.Msti.{msti_rules}
-use Rattle.mst_settle.specs.vector.MstiLaws.{msti_lawful}
-use Rattle.mst_settle.specs.vector.declared.cist.CistVector.{CistVector}
-use Rattle.mst_settle.specs.vector.declared.cist.CistBridge.{CistBridge}
-use Rattle.mst_settle.specs.vector.declared.cist.CistPort.{CistPort}
-use Rattle.mst_settle.specs.vector.declared.msti.MstiVector.{MstiVector}
-use Rattle.mst_settle.specs.vector.declared.msti.MstiBridge.{MstiBridge}
-use Rattle.mst_settle.specs.vector.declared.msti.MstiPort.{MstiPort}
+use Rattle.mst_vector.specs.Cist.{cist_rules}
+use Rattle.mst_vector.specs.CistLaws.{cist_lawful}
+use Rattle.mst_vector.specs.Msti.{msti_rules}
+use Rattle.mst_vector.specs.MstiLaws.{msti_lawful}
+use Rattle.mst_vector.specs.declared.cist.CistVector.{CistVector}
+use Rattle.mst_vector.specs.declared.cist.CistBridge.{CistBridge}
+use Rattle.mst_vector.specs.declared.cist.CistPort.{CistPort}
+use Rattle.mst_vector.specs.declared.msti.MstiVector.{MstiVector}
+use Rattle.mst_vector.specs.declared.msti.MstiBridge.{MstiBridge}
+use Rattle.mst_vector.specs.declared.msti.MstiPort.{MstiPort}
 use Rattle.mst_settle.specs.Topology.{TreePort, Topology, IsTopology, HasBridge, HasPort, KeyTests}
 use Rattle.mst_settle.proofs.Exists.{exists}
 use Rattle.mst_nested.specs.Trees.{Trees, IsTree, IsSamePort, IsInternal, IsNested}

@@ -1,12 +1,12 @@
 -- Root and designated ports inside parts, tree by tree.
 use Rattle.std.proofs.Common.{◌≡◌, ◌⊎◌, inl, inr, refl, sym, ◌∙◌, ap, subst, ℕ, zero, suc, ◌<◌, Bool, true, false, ◌==◌, Some, eqb-true, arith}
-use Rattle.mst_settle.specs.vector.Cist.{cist_rules, cist_bridge_vector}
-use Rattle.mst_settle.specs.vector.CistLaws.{cist_lawful}
-use Rattle.mst_settle.specs.vector.Msti.{msti_rules, msti_bridge_vector}
-use Rattle.mst_settle.specs.vector.MstiLaws.{msti_lawful}
-use Rattle.mst_settle.specs.vector.declared.cist.CistVector.{CistVector}
-use Rattle.mst_settle.specs.vector.declared.cist.CistPort.{CistPort}
-use Rattle.mst_settle.specs.vector.declared.msti.MstiPort.{MstiPort}
+use Rattle.mst_vector.specs.Cist.{cist_rules, cist_bridge_vector}
+use Rattle.mst_vector.specs.CistLaws.{cist_lawful}
+use Rattle.mst_vector.specs.Msti.{msti_rules, msti_bridge_vector}
+use Rattle.mst_vector.specs.MstiLaws.{msti_lawful}
+use Rattle.mst_vector.specs.declared.cist.CistVector.{CistVector}
+use Rattle.mst_vector.specs.declared.cist.CistPort.{CistPort}
+use Rattle.mst_vector.specs.declared.msti.MstiPort.{MstiPort}
 use Rattle.mst_settle.specs.Topology.{TreePort, KeyTests}
 use Rattle.mst_settle.specs.Settled.{Designates}
 use Rattle.mst_settle.proofs.Below.{one_designated}

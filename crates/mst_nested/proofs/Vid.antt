@@ -1,9 +1,9 @@
 -- The active ports of a VID have the roles of a forest of parts.
 use Rattle.std.proofs.Common.{◌≡◌, ◌⊎◌, inl, inr, sym, ◌∙◌, ap, subst, ℕ, ◌<◌, arith}
-use Rattle.mst_settle.specs.vector.Cist.{cist_rules}
-use Rattle.mst_settle.specs.vector.CistLaws.{cist_lawful}
-use Rattle.mst_settle.specs.vector.declared.cist.CistVector.{CistVector}
-use Rattle.mst_settle.specs.vector.declared.cist.CistPort.{CistPort}
+use Rattle.mst_vector.specs.Cist.{cist_rules}
+use Rattle.mst_vector.specs.CistLaws.{cist_lawful}
+use Rattle.mst_vector.specs.declared.cist.CistVector.{CistVector}
+use Rattle.mst_vector.specs.declared.cist.CistPort.{CistPort}
 use Rattle.mst_settle.specs.Topology.{TreePort, KeyTests}
 use Rattle.mst_settle.specs.Settled.{Designates, IsSilent}
 use Rattle.mst_settle.proofs.Below.{one_designated}

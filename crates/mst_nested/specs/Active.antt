@@ -1,7 +1,7 @@
 -- The active topology of a VID: the ports that forward in their own bridge's tree of the VID.
 use Rattle.std.specs.Prelude.{◌≡◌, ℕ}
-use Rattle.mst_settle.specs.vector.declared.cist.CistBridge.{CistBridge}
-use Rattle.mst_settle.specs.vector.declared.cist.CistPort.{CistPort}
+use Rattle.mst_vector.specs.declared.cist.CistBridge.{CistBridge}
+use Rattle.mst_vector.specs.declared.cist.CistPort.{CistPort}
 use Rattle.mst_settle.specs.Topology.{TreePort, HasBridge}
 use Rattle.mst_nested.specs.Trees.{Trees, IsEnabled, HasTree, SameRegion}
 use Rattle.mst_nested.specs.Roles.{Forwards}

@@ -1,6 +1,4 @@
 pub use Rattle.mst_graph.specs as graph
-pub use Rattle.mst_settle.specs.vector as vector
-pub use Rattle.mst_settle.specs as settle
 pub mod Ports
 pub mod Trees
 pub mod Costs

@@ -1,10 +1,10 @@
 -- The outcome of a network: its trees, settled, from the CIST's topology and what is set for the MSTIs.
 use Rattle.std.specs.Prelude.{◌≡◌, ◌≢◌, ℕ, suc, Option, Some, IsTrue}
-use Rattle.mst_settle.specs.vector.Msti.{msti_rules}
-use Rattle.mst_settle.specs.vector.declared.cist.CistBridge.{CistBridge}
-use Rattle.mst_settle.specs.vector.declared.cist.CistPort.{CistPort}
-use Rattle.mst_settle.specs.vector.declared.msti.MstiBridge.{MstiBridge}
-use Rattle.mst_settle.specs.vector.declared.msti.MstiPort.{MstiPort}
+use Rattle.mst_vector.specs.Msti.{msti_rules}
+use Rattle.mst_vector.specs.declared.cist.CistBridge.{CistBridge}
+use Rattle.mst_vector.specs.declared.cist.CistPort.{CistPort}
+use Rattle.mst_vector.specs.declared.msti.MstiBridge.{MstiBridge}
+use Rattle.mst_vector.specs.declared.msti.MstiPort.{MstiPort}
 use Rattle.mst_settle.specs.Topology.{TreePort, Topology, HasBridge, HasPort}
 use Rattle.mst_nested.specs.Trees.{Trees, TakesPart, IsSamePort, IsSettled}
 

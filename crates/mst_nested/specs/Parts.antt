@@ -1,9 +1,9 @@
 -- What a part has in common, and where its vectors come from.
 use Rattle.std.specs.Prelude.{◌≡◌, ℕ, ◌≤◌}
-use Rattle.mst_settle.specs.vector.declared.cist.CistVector.{CistVector}
-use Rattle.mst_settle.specs.vector.declared.cist.CistBridge.{CistBridge}
-use Rattle.mst_settle.specs.vector.declared.msti.MstiVector.{MstiVector}
-use Rattle.mst_settle.specs.vector.declared.msti.MstiBridge.{MstiBridge}
+use Rattle.mst_vector.specs.declared.cist.CistVector.{CistVector}
+use Rattle.mst_vector.specs.declared.cist.CistBridge.{CistBridge}
+use Rattle.mst_vector.specs.declared.msti.MstiVector.{MstiVector}
+use Rattle.mst_vector.specs.declared.msti.MstiBridge.{MstiBridge}
 use Rattle.mst_settle.specs.Topology.{HasBridge}
 use Rattle.mst_graph.specs.Walks.{Walk, bridge_at}
 use Rattle.mst_nested.specs.Ports.{port_ends}

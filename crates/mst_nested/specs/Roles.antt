@@ -1,10 +1,10 @@
 -- Which ports forward in a tree (802.1Q-2022, 13.12): Root, Designated and Master ports.
 use Rattle.std.specs.Prelude.{◌≡◌, ◌≢◌, ◌⊎◌, ℕ, zero, suc, Option, Some}
-use Rattle.mst_settle.specs.vector.Rules.{Rules}
-use Rattle.mst_settle.specs.vector.Cist.{cist_rules}
-use Rattle.mst_settle.specs.vector.Msti.{msti_rules}
-use Rattle.mst_settle.specs.vector.declared.cist.CistPort.{CistPort}
-use Rattle.mst_settle.specs.vector.declared.msti.MstiPort.{MstiPort}
+use Rattle.mst_vector.specs.Rules.{Rules}
+use Rattle.mst_vector.specs.Cist.{cist_rules}
+use Rattle.mst_vector.specs.Msti.{msti_rules}
+use Rattle.mst_vector.specs.declared.cist.CistPort.{CistPort}
+use Rattle.mst_vector.specs.declared.msti.MstiPort.{MstiPort}
 use Rattle.mst_settle.specs.Topology.{TreePort, Topology}
 use Rattle.mst_settle.specs.Settled.{Designates}
 use Rattle.mst_nested.specs.Trees.{Trees, TakesPart, IsSamePort, IsInternal, IsBoundary, HasTree}

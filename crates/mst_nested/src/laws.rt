@@ -2,26 +2,26 @@
 //! functions do nothing: a caller has their clauses. Bridges, LANs and ports go by keys of any types N, L and
 //! K, as names or numbers.
 ghost use Rattle.std.specs.Prelude.{◌≡◌, ◌≢◌, false, ℕ, suc, Option, Some, ◌⊎◌};
-ghost use Rattle.mst_settle.specs.vector.declared.cist.CistVector.{CistVector};
-ghost use Rattle.mst_settle.specs.vector.declared.cist.CistBridge.{CistBridge};
-ghost use Rattle.mst_settle.specs.vector.declared.cist.CistPort.{CistPort};
-ghost use Rattle.mst_settle.specs.vector.declared.msti.MstiVector.{MstiVector};
+ghost use Rattle.mst_vector.specs.declared.cist.CistVector.{CistVector};
+ghost use Rattle.mst_vector.specs.declared.cist.CistBridge.{CistBridge};
+ghost use Rattle.mst_vector.specs.declared.cist.CistPort.{CistPort};
+ghost use Rattle.mst_vector.specs.declared.msti.MstiVector.{MstiVector};
 ghost use Rattle.mst_settle.specs.Topology.{TreePort, Topology, IsTopology, HasBridge, HasPort, KeyTests};
-ghost use Rattle.mst_settle.specs.vector.Cist.{cist_rules};
-ghost use Rattle.mst_settle.specs.vector.Msti.{msti_rules};
+ghost use Rattle.mst_vector.specs.Cist.{cist_rules};
+ghost use Rattle.mst_vector.specs.Msti.{msti_rules};
 ghost use Rattle.mst_settle.specs.Settled.{IsDesignated};
 ghost use Rattle.mst_graph.specs.Walks.{Node, bridge_at, lan_at, Walk};
 ghost use Rattle.mst_nested.specs.Ports.{port_ends};
 ghost use Rattle.mst_nested.specs.Trees.{Trees, IsSettled, IsFree, IsEnabled, SameRegion, SamePart, TakesPart, IsBoundary, HasTree};
 ghost use Rattle.mst_nested.specs.Outcome.{MstiSettings, CanNest, IsOutcome};
 ghost use Rattle.mst_nested.specs.Parts.{SameRoots, HasRoot, HasRegionalRoot, HasMstiRoot};
-ghost use Rattle.mst_settle.specs.vector.declared.msti.MstiPort.{MstiPort};
+ghost use Rattle.mst_vector.specs.declared.msti.MstiPort.{MstiPort};
 ghost use Rattle.mst_nested.specs.Roles.{IsDesignatedPort, HasOneRole, IsCistRoot, IsCistAlternate, IsMstiRoot, Forwards, ForwardsInside};
 ghost use Rattle.mst_nested.specs.Active.{IsTreeOfVid, IsActive};
 ghost use Rattle.mst_nested.specs.Exits.{IsCrossing, IsExit, HoldsRoot, HasOneExit};
 ghost use Rattle.mst_graph.specs.Joined.{IsJoined, HasNoLoop};
 
-use mst_settle::vector::Metric;
+use mst_vector::Metric;
 
 /// A network has one outcome: there are settled trees, nested, for the CIST's topology and what is set for
 /// the MSTIs, and these determine their vectors and designated ports.

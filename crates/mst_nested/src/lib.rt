@@ -4,7 +4,3 @@
 #![tactic(auto)]
 
 pub mod laws;
-
-pub use mst_graph as graph;
-pub use mst_settle as settle;
-pub use mst_settle::vector;

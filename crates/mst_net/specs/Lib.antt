@@ -1,4 +1,3 @@
-pub use Rattle.mst_lang.specs as lang
 pub mod Table
 pub mod KeptTables
 pub mod Tables

@@ -17,7 +17,6 @@ mod trees;
 
 pub use ahead::Ahead;
 pub use contents::{Bridge, Contents, Lan, Port};
-pub use mst_lang as lang;
 pub use network::{Network, Ready};
 pub use refusal::Refusal;
 pub use settings::PortSettings;

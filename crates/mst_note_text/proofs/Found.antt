@@ -3,7 +3,7 @@ use Rattle.std.proofs.Common.{◌≡◌, ℕ, ◌<◌, List, length, Option, sub
 use Rattle.std.specs.Prelude.{Result, Ok, Err}
 use Rattle.std.specs.Result.{IfOk}
 use Rattle.mst_roles.specs.net.Tables.{Net, Numbers}
-use Rattle.mst_roles.specs.lag.Viewed.{Viewed}
+use Rattle.mst_lag.specs.Viewed.{Viewed}
 use Rattle.mst_roles.specs.trees.Agrees.{AreOf}
 use Rattle.mst_roles.specs.trees.Forest.{IsForest}
 use Rattle.mst_roles.specs.trees.Forest.{Forest}

@@ -3,14 +3,14 @@ use Rattle.std.proofs.Common.{◌≡◌, ℕ, ◌==◌, List, Option, Some, None
 use Rattle.std.specs.List.{Contains, find}
 use Rattle.std.specs.FinMap as fin
 use Rattle.mst_ids.specs.declared.name.PortName.{PortName}
-use Rattle.mst_roles.specs.vector.Rules.{Rules, IsMetric}
+use Rattle.mst_vector.specs.Rules.{Rules, IsMetric}
 use Rattle.mst_roles.specs.settle.Topology.{TreePort}
 use Rattle.mst_roles.specs.settle.Settled.{IsDesignated, Designates}
 use Rattle.mst_roles.proofs.settle_lemmas.Below.{one_designated}
 use Rattle.mst_roles.specs.net.Tables.{Net, Numbers}
-use Rattle.mst_roles.specs.lag.View.{LogicalPort}
-use Rattle.mst_roles.specs.lag.Viewed.{Viewed, named_port}
-use Rattle.mst_roles.specs.lag.declared.in_view.PortInView.{PortInView}
+use Rattle.mst_lag.specs.View.{LogicalPort}
+use Rattle.mst_lag.specs.Viewed.{Viewed, named_port}
+use Rattle.mst_lag.specs.declared.in_view.PortInView.{PortInView}
 use Rattle.mst_roles.specs.trees.Sight.{Sight, tree_of, tree_port}
 use Rattle.mst_roles.specs.trees.Outcome.{TreeOutcome, IsTreeOutcome}
 use Rattle.mst_roles.specs.trees.Agrees.{Agrees, IsNameOf, AreOf}

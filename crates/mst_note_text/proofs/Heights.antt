@@ -1,7 +1,7 @@
 -- A number that falls along parents: how many they are, or in an MSTI the internal root path cost.
 use Rattle.std.proofs.Common.{◌≡◌, inl, inr, refl, sym, ◌∙◌, ap, subst, ℕ, zero, suc, ◌<◌, Option, Some, None, arith}
-use Rattle.mst_roles.specs.vector.declared.cist.CistVector.{CistVector}
-use Rattle.mst_roles.specs.vector.declared.msti.MstiVector.{MstiVector}
+use Rattle.mst_vector.specs.declared.cist.CistVector.{CistVector}
+use Rattle.mst_vector.specs.declared.msti.MstiVector.{MstiVector}
 use Rattle.mst_roles.specs.settle.Topology.{KeyTests}
 use Rattle.mst_roles.specs.nested.Trees.{Trees, IsSettled}
 use Rattle.mst_roles.proofs.nested_lemmas.Settled.{cist_tree, msti_tree}

@@ -10,14 +10,14 @@ use Rattle.std.proofs.lemmas.Option.{get_or_from_slice_get}
 use Rattle.mst_ids.specs.Names.{name_cmp}
 use Rattle.mst_roles.specs.net.Tables.{Net, Numbers}
 use Rattle.mst_roles.specs.net.ByTree.{by_tree}
-use Rattle.mst_roles.specs.lag.Viewed.{Viewed}
-use Rattle.mst_roles.specs.lag.declared.in_view.BridgeInView.{BridgeInView}
-use Rattle.mst_roles.specs.lag.declared.in_view.PortInView.{PortInView}
+use Rattle.mst_lag.specs.Viewed.{Viewed}
+use Rattle.mst_lag.specs.declared.in_view.BridgeInView.{BridgeInView}
+use Rattle.mst_lag.specs.declared.in_view.PortInView.{PortInView}
 use Rattle.mst_roles.specs.config.Shared.{same_in}
 use Rattle.mst_roles.specs.config.Regions.{region_of}
 use Rattle.mst_roles.proofs.config_lemmas.SameRegion.{told}
-use Rattle.mst_roles.specs.vector.Cist.{cist_rules}
-use Rattle.mst_roles.specs.vector.declared.cist.CistBridge.{CistBridge}
+use Rattle.mst_vector.specs.Cist.{cist_rules}
+use Rattle.mst_vector.specs.declared.cist.CistBridge.{CistBridge}
 use Rattle.mst_roles.specs.settle.Topology.{HasBridge}
 use Rattle.mst_roles.specs.nested.Trees.{HasTree, SameRegion}
 use Rattle.mst_roles.specs.trees.Apart.{Apart}

@@ -8,20 +8,20 @@ use Rattle.std.specs.FinMap as fin
 use Rattle.std.proofs.lemmas.Option.{get_or_from_slice_get}
 use Rattle.mst_ids.specs.Identifiers.{bridge_id, mac_of}
 use Rattle.mst_ids.specs.declared.name.PortName.{PortName}
-use Rattle.mst_roles.specs.vector.Cist.{cist_rules}
-use Rattle.mst_roles.specs.vector.Msti.{msti_rules}
-use Rattle.mst_roles.specs.vector.declared.cist.CistVector.{CistVector}
-use Rattle.mst_roles.specs.vector.declared.cist.CistBridge.{CistBridge}
-use Rattle.mst_roles.specs.vector.declared.msti.MstiVector.{MstiVector}
-use Rattle.mst_roles.specs.vector.declared.msti.MstiBridge.{MstiBridge}
+use Rattle.mst_vector.specs.Cist.{cist_rules}
+use Rattle.mst_vector.specs.Msti.{msti_rules}
+use Rattle.mst_vector.specs.declared.cist.CistVector.{CistVector}
+use Rattle.mst_vector.specs.declared.cist.CistBridge.{CistBridge}
+use Rattle.mst_vector.specs.declared.msti.MstiVector.{MstiVector}
+use Rattle.mst_vector.specs.declared.msti.MstiBridge.{MstiBridge}
 use Rattle.mst_roles.specs.settle.Assignment.{vector_of}
 use Rattle.mst_roles.specs.net.Tables.{Net, Numbers, BridgeRow}
 use Rattle.mst_roles.specs.net.ByTree.{by_tree}
 use Rattle.mst_roles.specs.net.Contents.{priority_of}
 use Rattle.mst_roles.specs.net.Seen.{bridge_row}
-use Rattle.mst_roles.specs.lag.Viewed.{Viewed, named_bridge}
-use Rattle.mst_roles.specs.lag.declared.in_view.BridgeInView.{BridgeInView}
-use Rattle.mst_roles.proofs.lag_lemmas.Lists.{mapped_twice}
+use Rattle.mst_lag.specs.Viewed.{Viewed, named_bridge}
+use Rattle.mst_lag.specs.declared.in_view.BridgeInView.{BridgeInView}
+use Rattle.mst_lag.proofs.Lists.{mapped_twice}
 use Rattle.mst_roles.specs.config.Regions.{region_of}
 use Rattle.mst_roles.specs.trees.Cist.{cist_bridge, cist_sight}
 use Rattle.mst_roles.specs.trees.Msti.{msti_bridge, msti_sight, has_msti}

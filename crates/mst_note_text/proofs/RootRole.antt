@@ -3,12 +3,12 @@ use Rattle.std.proofs.Common.{◌≡◌, ℕ, ◌==◌, ◌&&◌, Bool, true, fa
 use Rattle.std.specs.Prelude.{if◌then◌else◌}
 use Rattle.std.specs.List.{find}
 use Rattle.std.specs.Option.{option_map, option_map_or}
-use Rattle.mst_roles.specs.vector.declared.cist.CistVector.{CistVector}
-use Rattle.mst_roles.specs.vector.declared.msti.MstiVector.{MstiVector}
+use Rattle.mst_vector.specs.declared.cist.CistVector.{CistVector}
+use Rattle.mst_vector.specs.declared.msti.MstiVector.{MstiVector}
 use Rattle.mst_roles.specs.settle.Assignment.{vector_of, designated_of}
-use Rattle.mst_roles.specs.lag.Trees.{is_among}
-use Rattle.mst_roles.specs.lag.Viewed.{Viewed, named_port}
-use Rattle.mst_roles.specs.lag.declared.in_view.PortInView.{PortInView}
+use Rattle.mst_lag.specs.Trees.{is_among}
+use Rattle.mst_lag.specs.Viewed.{Viewed, named_port}
+use Rattle.mst_lag.specs.declared.in_view.PortInView.{PortInView}
 use Rattle.mst_roles.specs.trees.Cist.{cist_port}
 use Rattle.mst_roles.specs.trees.Msti.{msti_port}
 use Rattle.mst_roles.specs.trees.Seen.{trees_at, seen_internal}

@@ -1,10 +1,10 @@
 -- The depths of bridges in settled trees, and the roots where their chains end.
 use Rattle.std.proofs.Common.{◌≡◌, inl, inr, sym, ◌∙◌, ap, subst, ℕ, zero, suc, ◌+◌, ◌<◌, Some, arith}
-use Rattle.mst_roles.specs.vector.Cist.{cist_bridge_vector}
-use Rattle.mst_roles.specs.vector.declared.cist.CistVector.{CistVector}
-use Rattle.mst_roles.specs.vector.declared.cist.CistBridge.{CistBridge}
-use Rattle.mst_roles.specs.vector.declared.msti.MstiVector.{MstiVector}
-use Rattle.mst_roles.specs.vector.declared.msti.MstiBridge.{MstiBridge}
+use Rattle.mst_vector.specs.Cist.{cist_bridge_vector}
+use Rattle.mst_vector.specs.declared.cist.CistVector.{CistVector}
+use Rattle.mst_vector.specs.declared.cist.CistBridge.{CistBridge}
+use Rattle.mst_vector.specs.declared.msti.MstiVector.{MstiVector}
+use Rattle.mst_vector.specs.declared.msti.MstiBridge.{MstiBridge}
 use Rattle.mst_roles.specs.settle.Topology.{HasBridge, KeyTests}
 use Rattle.mst_roles.specs.nested.Trees.{Trees, IsSettled, HasTree}
 use Rattle.mst_roles.proofs.nested_lemmas.Settled.{cist_tree, msti_tree}

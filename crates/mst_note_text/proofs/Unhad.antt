@@ -5,10 +5,10 @@ use Rattle.std.specs.List.{Contains, list_any, flat_map, range_with_len}
 use Rattle.std.specs.Option.{option_map_or}
 use Rattle.std.specs.FinMap as fin
 use Rattle.mst_roles.specs.net.Tables.{Net, Numbers}
-use Rattle.mst_roles.specs.vector.declared.msti.MstiVector.{MstiVector}
-use Rattle.mst_roles.specs.lag.Trees.{is_among}
-use Rattle.mst_roles.specs.lag.Viewed.{Viewed}
-use Rattle.mst_roles.specs.lag.declared.in_view.BridgeInView.{BridgeInView}
+use Rattle.mst_vector.specs.declared.msti.MstiVector.{MstiVector}
+use Rattle.mst_lag.specs.Trees.{is_among}
+use Rattle.mst_lag.specs.Viewed.{Viewed}
+use Rattle.mst_lag.specs.declared.in_view.BridgeInView.{BridgeInView}
 use Rattle.mst_roles.specs.trees.Agrees.{AreOf}
 use Rattle.mst_roles.specs.trees.Forest.{IsForest}
 use Rattle.mst_roles.specs.trees.InUse.{is_in_use}

@@ -1,9 +1,9 @@
 -- Parents of bridges in a tree, and how deep a bridge lies in it: within its region and below the CIST root.
 use Rattle.std.specs.Prelude.{◌≡◌, ℕ, zero, suc, Option}
-use Rattle.mst_roles.specs.vector.Rules.{Rules}
-use Rattle.mst_roles.specs.vector.Cist.{cist_rules}
-use Rattle.mst_roles.specs.vector.Msti.{msti_rules}
-use Rattle.mst_roles.specs.vector.declared.cist.CistBridge.{CistBridge}
+use Rattle.mst_vector.specs.Rules.{Rules}
+use Rattle.mst_vector.specs.Cist.{cist_rules}
+use Rattle.mst_vector.specs.Msti.{msti_rules}
+use Rattle.mst_vector.specs.declared.cist.CistBridge.{CistBridge}
 use Rattle.mst_roles.specs.settle.Topology.{TreePort, Topology, HasBridge}
 use Rattle.mst_roles.specs.settle.Settled.{Designates}
 use Rattle.mst_roles.specs.nested.Trees.{Trees, HasTree, SameRegion}

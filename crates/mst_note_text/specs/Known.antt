@@ -1,6 +1,6 @@
 -- A forest and a view of one network.
 use Rattle.mst_roles.specs.net.Tables.{Net, Numbers}
-use Rattle.mst_roles.specs.lag.Viewed.{Viewed}
+use Rattle.mst_lag.specs.Viewed.{Viewed}
 use Rattle.mst_roles.specs.trees.Agrees.{AreOf}
 use Rattle.mst_roles.specs.trees.Forest.{IsForest}
 use Rattle.mst_roles.specs.trees.Forest.{Forest}

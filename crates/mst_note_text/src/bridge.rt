@@ -7,7 +7,7 @@ use crate::member::{Member, RootPath};
 use crate::parent::Depths;
 use crate::places::Macs;
 use mst_ids::{BridgeId, Tree};
-use mst_roles::lag::BridgeInView;
+use mst_lag::BridgeInView;
 use std::alloc::AllocError;
 
 /// The bridge that an identifier names.

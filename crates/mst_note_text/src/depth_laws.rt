@@ -1,10 +1,10 @@
 //! Laws of parents and depths in the settled trees of a network. Their functions do nothing: a caller has
 //! their clauses. Bridges, LANs and ports go by keys of any types N, L and K, as names or numbers.
 ghost use Rattle.std.specs.Prelude.{◌≡◌, ◌⊎◌, ℕ, suc, ◌<◌, List, length, Option, Some};
-ghost use Rattle.mst_roles.specs.vector.declared.cist.CistVector.{CistVector};
-ghost use Rattle.mst_roles.specs.vector.declared.cist.CistBridge.{CistBridge};
-ghost use Rattle.mst_roles.specs.vector.declared.msti.MstiVector.{MstiVector};
-ghost use Rattle.mst_roles.specs.vector.declared.msti.MstiBridge.{MstiBridge};
+ghost use Rattle.mst_vector.specs.declared.cist.CistVector.{CistVector};
+ghost use Rattle.mst_vector.specs.declared.cist.CistBridge.{CistBridge};
+ghost use Rattle.mst_vector.specs.declared.msti.MstiVector.{MstiVector};
+ghost use Rattle.mst_vector.specs.declared.msti.MstiBridge.{MstiBridge};
 ghost use Rattle.mst_roles.specs.settle.Topology.{HasBridge, KeyTests};
 ghost use Rattle.mst_roles.specs.nested.Trees.{Trees, IsSettled, HasTree, SameRegion};
 ghost use Rattle.mst_note_text.specs.declared.parent.Parent.{Parent};

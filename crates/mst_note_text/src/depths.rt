@@ -14,9 +14,9 @@ use crate::parent::Depths;
 use crate::parents::parents_of;
 use crate::places::places_of;
 use mst_ids::Tree;
-use mst_roles::lag::View;
-use mst_roles::trees::Forest;
-use mst_roles::trees::laws::nested;
+use mst_lag::View;
+use mst_roles::Forest;
+use mst_roles::trees_laws::nested;
 use std::alloc::{AllocError, Global};
 
 /// The depths of the bridges of a tree.

@@ -4,7 +4,7 @@ ghost use Rattle.mst_roles.specs.net.Tables.{Net, IsNetwork};
 ghost use Rattle.mst_roles.specs.trees.Outcome.{Outcome, IsOutcome};
 ghost use Rattle.mst_note_text.specs.NotesText.{AreNotes};
 
-use mst_roles::trees::laws::nested;
+use mst_roles::trees_laws::nested;
 
 /// The notes on a settled outcome of a network are one text: there is one, and no other.
 pub fn notes()

@@ -1,10 +1,10 @@
 ghost use Rattle.std.specs.Prelude.{◌≡◌, ◌++◌, OnOk};
-ghost use Rattle.mst_roles.specs.lag.Viewed.{named_port};
+ghost use Rattle.mst_lag.specs.Viewed.{named_port};
 ghost use Rattle.mst_note_text.specs.NotesText.{hops_note, age_note, external_note, internal_note, restricted_line, restricted_note};
 
 use itoa::Buffer;
 use mst_ids::{MaxAge, MaxHops, Name, PortName, Tree, push_line};
-use mst_roles::lag::PortInView;
+use mst_lag::PortInView;
 use std::alloc::AllocError;
 
 /// The greatest path cost that 32 bits hold, as in a BPDU.

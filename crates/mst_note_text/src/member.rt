@@ -2,9 +2,9 @@ ghost use Rattle.std.specs.Prelude.{◌≡◌, IfOk};
 ghost use Rattle.mst_note_text.specs.SeenTree.{cist_member as cist_member_of, msti_member as msti_member_of, seen_member, members_in};
 
 use mst_ids::{BridgeId, BridgeNo, Name, Tree};
-use mst_roles::lag::{BridgeInView, View};
-use mst_roles::trees::Forest;
-use mst_roles::vector::{CistVector, MstiVector};
+use mst_lag::{BridgeInView, View};
+use mst_roles::Forest;
+use mst_vector::{CistVector, MstiVector};
 use std::alloc::{AllocError, Global};
 
 /// A bridge that is in a tree, with what is noted of its root priority vector there.

@@ -1,7 +1,7 @@
 ghost use Rattle.std.specs.List.{flat_map};
 ghost use Rattle.std.specs.Prelude.{◌≡◌, ◌<◌, ◌++◌, ℕ, List, false, length, OnOk, slice_index_or};
-ghost use Rattle.mst_roles.specs.lag.declared.in_view.BridgeInView.{BridgeInView as BridgeOf};
-ghost use Rattle.mst_roles.specs.lag.Viewed.{named_port};
+ghost use Rattle.mst_lag.specs.declared.in_view.BridgeInView.{BridgeInView as BridgeOf};
+ghost use Rattle.mst_lag.specs.Viewed.{named_port};
 ghost use Rattle.mst_roles.specs.net.Tables.{Net, Numbers};
 ghost use Rattle.mst_roles.specs.trees.Agrees.{AreOf};
 ghost use Rattle.mst_roles.specs.trees.Forest.{IsForest};
@@ -17,9 +17,9 @@ use crate::lines::push_restricted;
 use crate::places::{Macs, macs_of};
 use crate::tree::push_tree;
 use mst_ids::Tree;
-use mst_roles::lag::{PortInView, View};
-use mst_roles::trees::laws::nested;
-use mst_roles::trees::{Forest, trees_in_use};
+use mst_lag::{PortInView, View};
+use mst_roles::trees_laws::nested;
+use mst_roles::{Forest, trees_in_use};
 use std::alloc::{AllocError, Global};
 
 /// Appends the notes on a network, by its view and its settled trees: for each tree in rising order, and each

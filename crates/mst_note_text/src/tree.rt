@@ -1,5 +1,5 @@
 ghost use Rattle.std.specs.Prelude.{◌≡◌, ◌++◌, OnOk};
-ghost use Rattle.mst_roles.specs.lag.declared.in_view.BridgeInView.{BridgeInView as BridgeOf};
+ghost use Rattle.mst_lag.specs.declared.in_view.BridgeInView.{BridgeInView as BridgeOf};
 ghost use Rattle.mst_roles.specs.net.Tables.{Net, Numbers};
 ghost use Rattle.mst_roles.specs.trees.Agrees.{AreOf};
 ghost use Rattle.mst_roles.specs.trees.Forest.{IsForest};
@@ -14,9 +14,9 @@ use crate::depths::depths_in;
 use crate::member::members_of;
 use crate::places::Macs;
 use mst_ids::Tree;
-use mst_roles::lag::View;
-use mst_roles::trees::Forest;
-use mst_roles::trees::laws::nested;
+use mst_lag::View;
+use mst_roles::Forest;
+use mst_roles::trees_laws::nested;
 use std::alloc::{AllocError, Global};
 
 /// Appends the notes on a tree. It goes once over the view's bridges and once over its ports.

@@ -1,5 +1,3 @@
-pub use Rattle.mst_summary.proofs.net_lemmas as net_lemmas
-pub use Rattle.mst_summary.proofs.lag_lemmas as lag_lemmas
 pub use Rattle.mst_summary.proofs.trees_lemmas as trees_lemmas
 pub use Rattle.mst_summary.proofs.roles_lemmas as roles_lemmas
 pub mod Named

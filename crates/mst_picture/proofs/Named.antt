@@ -6,13 +6,13 @@ use Rattle.std.specs.FinMap as fin
 use Rattle.std.proofs.lemmas.List.Folds.{flat_map-map}
 use Rattle.mst_summary.specs.net.Seen.{bridge_row}
 use Rattle.mst_summary.specs.net.Tables.{Net, Numbers, BridgeRow}
-use Rattle.mst_summary.specs.lag.Aggregation.{same_name}
-use Rattle.mst_summary.specs.lag.View.{LogicalLan, LogicalPort, view_lans}
-use Rattle.mst_summary.specs.lag.Viewed.{Viewed, named_bridge, named_lan, named_port}
-use Rattle.mst_summary.specs.lag.declared.in_view.BridgeInView.{BridgeInView}
-use Rattle.mst_summary.specs.lag.declared.in_view.LanInView.{LanInView}
-use Rattle.mst_summary.specs.lag.declared.in_view.PortInView.{PortInView}
-use Rattle.mst_summary.proofs.lag_lemmas.Lists.{same_map}
+use Rattle.mst_lag.specs.Aggregation.{same_name}
+use Rattle.mst_lag.specs.View.{LogicalLan, LogicalPort, view_lans}
+use Rattle.mst_lag.specs.Viewed.{Viewed, named_bridge, named_lan, named_port}
+use Rattle.mst_lag.specs.declared.in_view.BridgeInView.{BridgeInView}
+use Rattle.mst_lag.specs.declared.in_view.LanInView.{LanInView}
+use Rattle.mst_lag.specs.declared.in_view.PortInView.{PortInView}
+use Rattle.mst_lag.proofs.Lists.{same_map}
 use Rattle.mst_summary.specs.trees.Agrees.{AreOf}
 use Rattle.mst_summary.specs.trees.Forest.{Forest, IsForest}
 use Rattle.mst_summary.specs.trees.InUse.{id_in, seen_has}

@@ -3,7 +3,7 @@ use Rattle.std.specs.Prelude.{ℕ, ◌&&◌, Bool, true, false, List, [], ◌∷
 use Rattle.std.specs.List.{flat_map}
 use Rattle.std.specs.Option.{option_map_or}
 use Rattle.mst_summary.specs.net.Tables.{Net}
-use Rattle.mst_summary.specs.lag.View.{LogicalPort}
+use Rattle.mst_lag.specs.View.{LogicalPort}
 use Rattle.mst_summary.specs.trees.Outcome.{Outcome}
 use Rattle.mst_summary.specs.roles.Roles.{role_of, forwards}
 use Rattle.mst_summary.specs.roles.declared.kind.Role.{Role}

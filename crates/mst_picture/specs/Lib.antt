@@ -1,7 +1,3 @@
-pub use Rattle.mst_summary.specs.lang as lang
-pub use Rattle.mst_summary.specs.net as net
-pub use Rattle.mst_summary.specs.lag as lag
-pub use Rattle.mst_summary.specs.config as config
 pub use Rattle.mst_summary.specs.vector as vector
 pub use Rattle.mst_summary.specs.settle as settle
 pub use Rattle.mst_summary.specs.trees as trees

@@ -3,7 +3,7 @@ use Rattle.std.specs.Prelude.{ℕ, List, [], ◌∷◌, ◌++◌, codes, decimal
 use Rattle.std.specs.List.{flat_map}
 use Rattle.std.specs.FinMap as fin
 use Rattle.mst_summary.specs.net.Tables.{Net}
-use Rattle.mst_summary.specs.lag.View.{view_lans}
+use Rattle.mst_lag.specs.View.{view_lans}
 use Rattle.mst_summary.specs.trees.Outcome.{Outcome}
 use Rattle.mst_picture.specs.Bridges.{bridge_text}
 use Rattle.mst_picture.specs.Lans.{ends_on, lan_text}

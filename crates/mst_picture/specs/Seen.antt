@@ -3,10 +3,10 @@ use Rattle.std.specs.Prelude.{ℕ, ◌==◌, ◌++◌, Bool, false, List, map}
 use Rattle.std.specs.List.{find, flat_map}
 use Rattle.std.specs.Option.{option_map_or, option_and_then}
 use Rattle.mst_summary.specs.net.Seen.{bridge_row}
-use Rattle.mst_summary.specs.lag.Viewed.{Viewed}
-use Rattle.mst_summary.specs.lag.declared.in_view.BridgeInView.{BridgeInView}
-use Rattle.mst_summary.specs.lag.declared.in_view.LanInView.{LanInView}
-use Rattle.mst_summary.specs.lag.declared.in_view.PortInView.{PortInView}
+use Rattle.mst_lag.specs.Viewed.{Viewed}
+use Rattle.mst_lag.specs.declared.in_view.BridgeInView.{BridgeInView}
+use Rattle.mst_lag.specs.declared.in_view.LanInView.{LanInView}
+use Rattle.mst_lag.specs.declared.in_view.PortInView.{PortInView}
 use Rattle.mst_summary.specs.trees.Forest.{Forest}
 use Rattle.mst_summary.specs.trees.InUse.{id_in, seen_has}
 use Rattle.mst_summary.specs.roles.Seen.{seen_role}

@@ -6,11 +6,9 @@ ghost use Rattle.mst_picture.specs.Seen.{seen_is_root, seen_style, seen_bridge};
 
 use crate::pieces::push_pieces;
 use mst_ids::{Tree, push_bytes};
-use mst_summary::changes::Planned;
-use mst_summary::diff::root;
-use mst_summary::lag::BridgeInView;
-use mst_summary::lang::Power;
-use mst_summary::trees::{bridge_id, has_tree};
+use mst_lag::BridgeInView;
+use mst_lang::Power;
+use mst_summary::{Planned, bridge_id, has_tree, root};
 use std::alloc::AllocError;
 
 /// Whether a bridge is on.

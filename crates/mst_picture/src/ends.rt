@@ -3,9 +3,8 @@ ghost use Rattle.mst_picture.specs.Lans.{letter as letter_of, role_letter as rol
 ghost use Rattle.mst_picture.specs.Seen.{seen_end};
 
 use mst_ids::{PortName, Tree, push_bytes};
-use mst_summary::changes::Planned;
-use mst_summary::lag::PortInView;
-use mst_summary::roles::{Role, role};
+use mst_lag::PortInView;
+use mst_summary::{Planned, Role, role};
 use std::alloc::AllocError;
 
 /// An end at a logical LAN: a logical port, and its role in the tree, if its bridge has the tree.

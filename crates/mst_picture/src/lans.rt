@@ -9,9 +9,8 @@ use crate::ends::{End, are_open, designates, end_of, is_open, line_end, push_lab
 use crate::pieces::push_pieces;
 use indexmap::IndexMap;
 use mst_ids::{Name, Tree, push_bytes};
-use mst_summary::changes::Planned;
-use mst_summary::lag::{LanInView, PortInView};
-use mst_summary::{kept_for, ports_by_lan};
+use mst_lag::{LanInView, PortInView};
+use mst_summary::{Planned, kept_for, ports_by_lan};
 use std::alloc::{AllocError, Global};
 
 /// Appends the line from one end of a LAN to the other.

@@ -4,7 +4,7 @@ ghost use Rattle.mst_summary.specs.net.Tables.{Net, IsNetwork};
 ghost use Rattle.mst_summary.specs.trees.Outcome.{Outcome, IsOutcome};
 ghost use Rattle.mst_picture.specs.Picture.{picture};
 
-use mst_summary::trees::laws::one_outcome;
+use mst_summary::trees_laws::one_outcome;
 
 /// A network has one picture with each tree, whichever settled outcome it is made by.
 pub fn one_picture()

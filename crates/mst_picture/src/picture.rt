@@ -9,7 +9,7 @@ use crate::lans::push_lans;
 use crate::pieces::push_pieces;
 use itoa::Buffer;
 use mst_ids::{Tree, push_bytes};
-use mst_summary::changes::Planned;
+use mst_summary::Planned;
 use std::alloc::{AllocError, Global};
 
 /// Appends the first lines.

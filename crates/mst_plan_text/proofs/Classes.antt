@@ -4,11 +4,11 @@ use Rattle.std.specs.List.{AllByRecursion, Contains}
 use Rattle.std.proofs.lemmas.Bool.{eqb-true}
 use Rattle.std.proofs.lemmas.List.{get_or_default}
 use Rattle.mst_ids.specs.Vids.{has, is_vid}
-use Rattle.mst_text.specs.graph.Numbers.{AreNumbers}
-use Rattle.mst_text.specs.net.ByTree.{table_in, vlans_in}
-use Rattle.mst_text.specs.net.Table.{tree_in}
-use Rattle.mst_text.specs.net.Tables.{Net, Numbers}
-use Rattle.mst_text.specs.lag.Viewed.{Viewed}
+use Rattle.mst_graph.specs.Numbers.{AreNumbers}
+use Rattle.mst_net.specs.ByTree.{table_in, vlans_in}
+use Rattle.mst_net.specs.Table.{tree_in}
+use Rattle.mst_net.specs.Tables.{Net, Numbers}
+use Rattle.mst_lag.specs.Viewed.{Viewed}
 use Rattle.mst_text.specs.trees.Agrees.{AreOf}
 use Rattle.mst_text.specs.trees.Outcome.{Outcome}
 use Rattle.mst_text.specs.trees.Forest.{Forest}

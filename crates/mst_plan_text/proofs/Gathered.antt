@@ -3,7 +3,7 @@ use Rattle.std.proofs.Common.{◌≡◌, ℕ, ◌+◌, ◌<◌, Bool, true, List
 use Rattle.std.specs.Bool.{Decides}
 use Rattle.std.specs.List.{AllByRecursion, Contains, list_any}
 use Rattle.std.proofs.lemmas.List.{take_more}
-use Rattle.mst_text.proofs.lag_lemmas.Lists.{all_pushed}
+use Rattle.mst_lag.proofs.Lists.{all_pushed}
 use Rattle.mst_text.proofs.trees_lemmas.Entries.{all_weaker}
 use Rattle.mst_text.proofs.trees_lemmas.Lists.{passed}
 

@@ -6,9 +6,9 @@ use Rattle.std.proofs.lemmas.Bool.Decides.{nat_tests}
 use Rattle.std.proofs.lemmas.List.{get_or_default, get_or-map}
 use Rattle.std.proofs.lemmas.List.FromFn.{get_or-range_with_len, length-range_with_len}
 use Rattle.mst_ids.specs.Vids.{is_vid}
-use Rattle.mst_text.specs.graph.Groups.{AreGroups}
-use Rattle.mst_text.specs.graph.Numbers.{HaveBodies}
-use Rattle.mst_text.proofs.graph_lemmas.Alike.{alike_groups}
+use Rattle.mst_graph.specs.Groups.{AreGroups}
+use Rattle.mst_graph.specs.Numbers.{HaveBodies}
+use Rattle.mst_graph.proofs.Alike.{alike_groups}
 use Rattle.mst_plan_text.specs.PlanText.{all_vids}
 use Rattle.mst_plan_text.specs.Bodies.{NumberEach, body_at}
 

@@ -1,7 +1,3 @@
-pub use Rattle.mst_text.proofs.graph_lemmas as graph_lemmas
-pub use Rattle.mst_text.proofs.net_lemmas as net_lemmas
-pub use Rattle.mst_text.proofs.lag_lemmas as lag_lemmas
-pub use Rattle.mst_text.proofs.config_lemmas as config_lemmas
 pub use Rattle.mst_text.proofs.trees_lemmas as trees_lemmas
 pub use Rattle.mst_text.proofs.roles_lemmas as roles_lemmas
 pub use Rattle.mst_text.proofs.vlan_lemmas as vlan_lemmas

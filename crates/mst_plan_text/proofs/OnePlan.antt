@@ -6,10 +6,10 @@ use Rattle.std.specs.List.{Contains, flat_map, range_with_len}
 use Rattle.std.proofs.lemmas.Bool.Decides.{nat_tests}
 use Rattle.std.proofs.lemmas.List.FromFn.{get_or-range_with_len, length-range_with_len}
 use Rattle.mst_ids.specs.Vids.{is_vid}
-use Rattle.mst_text.specs.graph.Groups.{AreGroups, StandOnce}
-use Rattle.mst_text.proofs.graph_lemmas.Alike.{alike_groups}
-use Rattle.mst_text.proofs.graph_lemmas.Members.{here, there, in_whole}
-use Rattle.mst_text.specs.net.Tables.{Net}
+use Rattle.mst_graph.specs.Groups.{AreGroups, StandOnce}
+use Rattle.mst_graph.proofs.Alike.{alike_groups}
+use Rattle.mst_graph.proofs.Members.{here, there, in_whole}
+use Rattle.mst_net.specs.Tables.{Net}
 use Rattle.mst_text.specs.trees.Outcome.{Outcome}
 use Rattle.mst_text.specs.VlanText.{IsBody}
 use Rattle.mst_plan_text.specs.PlanText.{all_vids, group_heading, group_text, trees_text, IsVidsText, IsPlanText}

@@ -2,10 +2,10 @@
 use Rattle.std.proofs.Common.{◌≡◌, ℕ, List, [], ◌∷◌, ◌||◌, Bool, map, refl, sym, ap, ◌∙◌}
 use Rattle.std.specs.List.{AllByRecursion, filter, list_any, range_with_len}
 use Rattle.std.specs.FinMap as fin
-use Rattle.mst_text.specs.lag.Trees.{is_among}
-use Rattle.mst_text.specs.lag.Viewed.{Viewed, named_bridge}
-use Rattle.mst_text.specs.lag.declared.in_view.BridgeInView.{BridgeInView}
-use Rattle.mst_text.specs.net.Tables.{Net, Numbers, BridgeRow}
+use Rattle.mst_lag.specs.Trees.{is_among}
+use Rattle.mst_lag.specs.Viewed.{Viewed, named_bridge}
+use Rattle.mst_lag.specs.declared.in_view.BridgeInView.{BridgeInView}
+use Rattle.mst_net.specs.Tables.{Net, Numbers, BridgeRow}
 use Rattle.mst_text.specs.trees.Agrees.{AreOf}
 use Rattle.mst_text.specs.trees.InUse.{is_in_use, seen_mstis}
 use Rattle.mst_text.specs.trees.Msti.{has_msti}

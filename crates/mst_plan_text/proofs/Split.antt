@@ -4,9 +4,9 @@ use Rattle.std.specs.List.{AllByRecursion}
 use Rattle.std.proofs.lemmas.List.{take_more, get_or_default}
 use Rattle.std.proofs.lemmas.List.FromFn.{map-range_with_len_more, get_or-map-range_with_len, length-map-range_with_len}
 use Rattle.mst_ids.specs.Vids.{has}
-use Rattle.mst_text.specs.graph.Numbers.{AreNumbers}
-use Rattle.mst_text.proofs.lag_lemmas.Lists.{all_pushed}
-use Rattle.mst_text.specs.net.Table.{tree_in}
+use Rattle.mst_graph.specs.Numbers.{AreNumbers}
+use Rattle.mst_lag.proofs.Lists.{all_pushed}
+use Rattle.mst_net.specs.Table.{tree_in}
 use Rattle.mst_plan_text.specs.Alike.{TellApart, IsSplit, SplitBySets, keys_to}
 
 -- one more key

@@ -5,17 +5,17 @@ use Rattle.std.specs.List.{AllByRecursion, Contains, flat_map}
 use Rattle.std.specs.Option.{option_map_or}
 use Rattle.std.specs.FinMap as fin
 use Rattle.mst_ids.specs.Vids.{has}
-use Rattle.mst_text.specs.graph.Islands.{AreIslands}
-use Rattle.mst_text.proofs.graph_lemmas.Members.{from_filter}
-use Rattle.mst_text.proofs.graph_lemmas.Splits.{kept_each}
-use Rattle.mst_text.specs.net.After.{table_of}
-use Rattle.mst_text.specs.net.ByTree.{table_in, vlans_in}
-use Rattle.mst_text.specs.net.Table.{tree_in}
-use Rattle.mst_text.specs.net.Tables.{Net, Numbers, BridgeRow}
-use Rattle.mst_text.specs.lag.View.{LogicalPort, view_ports}
-use Rattle.mst_text.specs.lag.Viewed.{Viewed}
-use Rattle.mst_text.specs.lag.declared.in_view.BridgeInView.{BridgeInView}
-use Rattle.mst_text.specs.lag.declared.in_view.PortInView.{PortInView}
+use Rattle.mst_graph.specs.Islands.{AreIslands}
+use Rattle.mst_graph.proofs.Members.{from_filter}
+use Rattle.mst_graph.proofs.Splits.{kept_each}
+use Rattle.mst_net.specs.After.{table_of}
+use Rattle.mst_net.specs.ByTree.{table_in, vlans_in}
+use Rattle.mst_net.specs.Table.{tree_in}
+use Rattle.mst_net.specs.Tables.{Net, Numbers, BridgeRow}
+use Rattle.mst_lag.specs.View.{LogicalPort, view_ports}
+use Rattle.mst_lag.specs.Viewed.{Viewed}
+use Rattle.mst_lag.specs.declared.in_view.BridgeInView.{BridgeInView}
+use Rattle.mst_lag.specs.declared.in_view.PortInView.{PortInView}
 use Rattle.mst_text.specs.trees.Agrees.{AreOf}
 use Rattle.mst_text.specs.trees.Outcome.{Outcome}
 use Rattle.mst_text.specs.trees.Forest.{Forest}

@@ -1,7 +1,7 @@
 -- The bodies of VIDs by numbers. The VID at a place, counted from 0, is one more than the place.
 use Rattle.std.specs.Prelude.{◌≡◌, ℕ, ◌+◌, ◌-◌, ◌<◌, List, [], length, slice_index, slice_index_or}
 use Rattle.std.specs.List.{AllZip}
-use Rattle.mst_text.specs.net.Tables.{Net}
+use Rattle.mst_net.specs.Tables.{Net}
 use Rattle.mst_text.specs.trees.Outcome.{Outcome}
 use Rattle.mst_text.specs.VlanText.{IsBody}
 

@@ -1,7 +1,3 @@
-pub use Rattle.mst_text.specs.graph as graph
-pub use Rattle.mst_text.specs.lang as lang
-pub use Rattle.mst_text.specs.net as net
-pub use Rattle.mst_text.specs.lag as lag
 pub use Rattle.mst_text.specs.config as config
 pub use Rattle.mst_text.specs.vector as vector
 pub use Rattle.mst_text.specs.settle as settle

@@ -4,9 +4,9 @@ use Rattle.std.specs.List.{flat_map, list_any, range_with_len}
 use Rattle.std.specs.FinMap as fin
 use Rattle.mst_ids.specs.Vids.{is_vid, set_where, vids_text}
 use Rattle.mst_ids.specs.Words.{line}
-use Rattle.mst_text.specs.graph.Groups.{AreGroups}
-use Rattle.mst_text.specs.net.Tables.{Net}
-use Rattle.mst_text.specs.lag.Trees.{is_among}
+use Rattle.mst_graph.specs.Groups.{AreGroups}
+use Rattle.mst_net.specs.Tables.{Net}
+use Rattle.mst_lag.specs.Trees.{is_among}
 use Rattle.mst_text.specs.trees.Msti.{has_msti}
 use Rattle.mst_text.specs.trees.Outcome.{Outcome}
 use Rattle.mst_text.specs.TreeText.{tree_text}

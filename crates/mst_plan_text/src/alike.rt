@@ -1,11 +1,11 @@
 ghost use Rattle.std.specs.Prelude.{◌≡◌, [], IfOk, length};
 ghost use Rattle.mst_ids.specs.Vids.{has};
-ghost use Rattle.mst_text.specs.net.Table.{tree_in};
+ghost use Rattle.mst_net.specs.Table.{tree_in};
 ghost use Rattle.mst_plan_text.specs.Alike.{IsSplit, TellApart, SplitBySets};
 
+use mst_graph::{Numbering, number_keys};
 use mst_ids::VidSet;
-use mst_text::graph::{Numbering, number_keys};
-use mst_text::net::Table;
+use mst_net::Table;
 use std::alloc::{AllocError, Global};
 
 /// A number for each of the VIDs 1 to 4094. Two of one number have one tree in each of these tables and are in the same

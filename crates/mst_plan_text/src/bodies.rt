@@ -1,15 +1,14 @@
 ghost use Rattle.std.specs.Prelude.{◌≡◌, ◌<◌, IfOk, length, map, vec_len};
 ghost use Rattle.std.specs.List.{All};
-ghost use Rattle.mst_text.specs.net.Tables.{Net, Numbers};
+ghost use Rattle.mst_net.specs.Tables.{Net, Numbers};
 ghost use Rattle.mst_text.specs.trees.Agrees.{AreOf, Known};
 ghost use Rattle.mst_text.specs.trees.Forest.{IsForest};
 ghost use Rattle.mst_text.specs.VlanText.{IsBody};
 ghost use Rattle.mst_plan_text.specs.Bodies.{AreBodiesAt};
 
 use mst_ids::Vid;
-use mst_text::lag::View;
-use mst_text::push_body;
-use mst_text::trees::Forest;
+use mst_lag::View;
+use mst_text::{Forest, push_body};
 use std::alloc::{AllocError, Global};
 
 /// The bodies of the VIDs at these places, which are counted from 0.

@@ -2,11 +2,11 @@ ghost use Rattle.std.specs.Prelude.{◌≡◌, nat_eq, IfOk};
 ghost use Rattle.std.specs.Bool.{beq};
 ghost use Rattle.std.specs.Cmp.Lexicographic.{pointwise};
 ghost use Rattle.std.specs.List.{AllByRecursion, Contains, list_any};
-ghost use Rattle.mst_text.specs.net.ByTree.{table_in, vlans_in};
+ghost use Rattle.mst_net.specs.ByTree.{table_in, vlans_in};
 
 use mst_ids::VidSet;
-use mst_text::lag::View;
-use mst_text::net::Table;
+use mst_lag::View;
+use mst_net::Table;
 use std::alloc::{AllocError, Global};
 
 /// The tables of the bridges, each once. `AllocError`: memory was wanted and refused.

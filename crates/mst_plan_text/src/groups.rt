@@ -1,7 +1,7 @@
 ghost use Rattle.std.specs.Prelude.{◌≡◌, ◌++◌, OnOk, IfOk, length, map};
 ghost use Rattle.std.specs.List.{flat_map};
 ghost use Rattle.mst_ids.specs.Vids.{set_where};
-ghost use Rattle.mst_text.specs.lag.Trees.{is_among};
+ghost use Rattle.mst_lag.specs.Trees.{is_among};
 ghost use Rattle.mst_plan_text.specs.PlanText.{all_vids, group_heading, group_text};
 ghost use Rattle.mst_plan_text.specs.Bodies.{NumberEach, body_at};
 

@@ -1,10 +1,10 @@
 //! Laws of the text of a plan. Their functions do nothing: a caller has their clauses.
 ghost use Rattle.std.specs.Prelude.{◌≡◌, ℕ, List};
-ghost use Rattle.mst_text.specs.net.Tables.{Net, IsNetwork};
+ghost use Rattle.mst_net.specs.Tables.{Net, IsNetwork};
 ghost use Rattle.mst_text.specs.trees.Outcome.{Outcome};
 ghost use Rattle.mst_plan_text.specs.PlanText.{IsPlanText};
 
-use mst_text::graph::laws::group_lists;
+use mst_graph::laws::group_lists;
 use mst_text::laws::{has_text, one_text};
 
 /// Each network has a text of its plan.

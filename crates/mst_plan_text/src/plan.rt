@@ -1,5 +1,5 @@
 ghost use Rattle.std.specs.Prelude.{◌≡◌, ℕ, List, ◌++◌, OnOk};
-ghost use Rattle.mst_text.specs.net.Tables.{Net, Numbers};
+ghost use Rattle.mst_net.specs.Tables.{Net, Numbers};
 ghost use Rattle.mst_text.specs.trees.Agrees.{AreOf, Known};
 ghost use Rattle.mst_text.specs.trees.Forest.{IsForest};
 ghost use Rattle.mst_plan_text.specs.PlanText.{IsPlanText, IsVidsText};
@@ -9,9 +9,9 @@ use crate::bodies::{bodies, copies};
 use crate::distinct::{tables, vlan_sets};
 use crate::groups::{push_groups, vids};
 use crate::trees_text::push_trees;
-use mst_text::graph::{groups_by_body, number_keys};
-use mst_text::lag::View;
-use mst_text::trees::Forest;
+use mst_graph::{groups_by_body, number_keys};
+use mst_lag::View;
+use mst_text::Forest;
 use std::alloc::{AllocError, Global};
 
 /// Appends the text of a plan: the texts of the CIST and of each MSTI that some bridge has, in rising order, and then

@@ -1,15 +1,14 @@
 ghost use Rattle.std.specs.Prelude.{◌≡◌, ◌++◌, OnOk};
 ghost use Rattle.std.specs.List.{flat_map};
-ghost use Rattle.mst_text.specs.net.Tables.{Net, Numbers};
+ghost use Rattle.mst_net.specs.Tables.{Net, Numbers};
 ghost use Rattle.mst_text.specs.trees.Agrees.{AreOf};
 ghost use Rattle.mst_text.specs.trees.Forest.{IsForest};
 ghost use Rattle.mst_text.specs.TreeText.{tree_text};
 ghost use Rattle.mst_plan_text.specs.PlanText.{trees_text};
 
 use mst_ids::Tree;
-use mst_text::lag::View;
-use mst_text::push_tree;
-use mst_text::trees::{Forest, mstis_in_use};
+use mst_lag::View;
+use mst_text::{Forest, mstis_in_use, push_tree};
 use std::alloc::{AllocError, Global};
 
 /// Appends the texts of the CIST and of each MSTI that some bridge has, in rising order.

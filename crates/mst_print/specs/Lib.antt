@@ -1,2 +1,1 @@
-pub use Rattle.mst_io.specs as io
 pub mod Shape

@@ -2,8 +2,8 @@
 use Rattle.std.specs.Prelude.{◌≡◌, ℕ, List, ◌++◌, Option, None, Some, codes, decimal}
 use Rattle.mst_json.specs.AnswerJson.{answer_json}
 use Rattle.mst_json.specs.RefusalJson.{refusal_json, unanswered_json}
-use Rattle.mst_net.specs.lang.declared.line.Query.{Query}
-use Rattle.mst_net.specs.lang.declared.line.Query.TheVariants.{ShowPlan, ShowLag, ShowRegions, ShowNotes, ShowTree, ShowVlan, ShowConfiguration, Changes, Save}
+use Rattle.mst_lang.specs.declared.line.Query.{Query}
+use Rattle.mst_lang.specs.declared.line.Query.TheVariants.{ShowPlan, ShowLag, ShowRegions, ShowNotes, ShowTree, ShowVlan, ShowConfiguration, Changes, Save}
 use Rattle.mst_print.specs.declared.form.Form.{Form}
 use Rattle.mst_print.specs.declared.form.Form.TheVariants.{Text, Json}
 use Rattle.mst_print.specs.declared.form.Side.{Side}

@@ -2,7 +2,7 @@ ghost use Rattle.std.specs.Prelude.{◌≡◌, OnOk};
 ghost use Rattle.mst_print.specs.Shape.{shown, query_word as word_of_query};
 
 use mst_json::push_answer;
-use mst_net::lang::Query;
+use mst_lang::Query;
 use std::alloc::AllocError;
 
 /// What is printed: texts, or their lines as JSON.

@@ -9,6 +9,5 @@ mod refused;
 mod unanswered;
 
 pub use form::{Form, Shape, Side, query_word, show};
-pub use mst_io as io;
 pub use refused::{put_coded, put_fault, put_refusal};
 pub use unanswered::put_unanswered;

@@ -2,7 +2,7 @@
 use Rattle.std.proofs.Common.{◌≡◌, ℕ, ◌≤◌, List, [], length, Option, Some, None, refl, sym, ◌∙◌, subst, arith}
 use Rattle.std.specs.List.{Contains}
 use Rattle.std.specs.Prelude.{◌↔◌}
-use Rattle.mst_settle.specs.vector.Rules.{Rules}
+use Rattle.mst_vector.specs.Rules.{Rules}
 use Rattle.mst_settle.specs.Topology.{TreePort, Topology, IsTopology, HasPort}
 use Rattle.mst_settle.specs.Assignment.{Assignment, vector_of, designated_of, IsSettledFor, HasSpaceFor, KeepsOutcome}
 use Rattle.mst_settle.specs.Slots.{HasRoom}

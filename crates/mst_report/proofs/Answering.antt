@@ -2,12 +2,12 @@
 use Rattle.std.proofs.Common.{◌≡◌, ◌≢◌, ℕ, List, Option, None, Some, Result, Ok, Err, MatchOption, refl, sym, ap, subst, ◌∙◌, ◌++◌}
 use Rattle.std.specs.FinMap as fin
 use Rattle.std.specs.Option.{option_map, option_map_or}
-use Rattle.mst_picture.specs.lang.declared.line.Query.{Query}
-use Rattle.mst_picture.specs.lang.declared.line.Query.TheVariants.{ShowPlan, ShowLag, ShowRegions, ShowNotes, ShowTree, ShowVlan, ShowConfiguration, Changes, Save}
-use Rattle.mst_picture.specs.net.After.{table_of}
-use Rattle.mst_picture.specs.net.Tables.{Net, BridgeRow, IsNetwork}
-use Rattle.mst_picture.specs.net.declared.refusal.Refusal.{Refusal}
-use Rattle.mst_picture.specs.net.declared.refusal.Refusal.TheVariants.{E04, E16}
+use Rattle.mst_lang.specs.declared.line.Query.{Query}
+use Rattle.mst_lang.specs.declared.line.Query.TheVariants.{ShowPlan, ShowLag, ShowRegions, ShowNotes, ShowTree, ShowVlan, ShowConfiguration, Changes, Save}
+use Rattle.mst_net.specs.After.{table_of}
+use Rattle.mst_net.specs.Tables.{Net, BridgeRow, IsNetwork}
+use Rattle.mst_net.specs.declared.refusal.Refusal.{Refusal}
+use Rattle.mst_net.specs.declared.refusal.Refusal.TheVariants.{E04, E16}
 use Rattle.mst_picture.specs.trees.Outcome.{Outcome, IsOutcome}
 use Rattle.mst_picture.specs.changes.ChangesText.{changes_text}
 use Rattle.mst_picture.specs.changes.Kept.{entries_of}

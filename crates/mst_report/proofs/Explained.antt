@@ -6,12 +6,12 @@ use Rattle.std.specs.Option.{option_map, option_map_or}
 use Rattle.std.specs.FinMap as fin
 use Rattle.std.proofs.lemmas.Bool.{eqb-true}
 use Rattle.mst_ids.specs.declared.name.PortName.{PortName}
-use Rattle.mst_picture.specs.net.After.{has_bridge}
-use Rattle.mst_picture.specs.net.Tables.{Net, Numbers, BridgeRow, IsNetwork, port_eq}
-use Rattle.mst_picture.specs.lag.Trees.{mstis_of, is_among}
-use Rattle.mst_picture.specs.lag.View.{LogicalPort, view_ports}
-use Rattle.mst_picture.specs.lag.Viewed.{named_port}
-use Rattle.mst_picture.specs.lag.declared.in_view.PortInView.{PortInView}
+use Rattle.mst_net.specs.After.{has_bridge}
+use Rattle.mst_net.specs.Tables.{Net, Numbers, BridgeRow, IsNetwork, port_eq}
+use Rattle.mst_lag.specs.Trees.{mstis_of, is_among}
+use Rattle.mst_lag.specs.View.{LogicalPort, view_ports}
+use Rattle.mst_lag.specs.Viewed.{named_port}
+use Rattle.mst_lag.specs.declared.in_view.PortInView.{PortInView}
 use Rattle.mst_picture.specs.trees.Agrees.{AreOf}
 use Rattle.mst_picture.specs.trees.Msti.{has_msti}
 use Rattle.mst_picture.specs.trees.Outcome.{Outcome, IsOutcome}

@@ -1,4 +1,3 @@
-pub use Rattle.mst_picture.proofs.lag_lemmas as lag_lemmas
 pub use Rattle.mst_picture.proofs.trees_lemmas as trees_lemmas
 pub use Rattle.mst_picture.proofs.roles_lemmas as roles_lemmas
 pub mod Answering

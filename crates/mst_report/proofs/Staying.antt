@@ -2,13 +2,13 @@
 use Rattle.std.proofs.Common.{◌≡◌, ℕ, Bool, true, false, not, List, Option, Some, None, Result, Ok, Err, is_some, refl, sym, ap, subst, ◌∙◌}
 use Rattle.std.specs.Option.{option_map, option_map_or, ForSome}
 use Rattle.std.proofs.lemmas.Option.{none-some}
-use Rattle.mst_picture.specs.config.Shared.{AreRegions}
-use Rattle.mst_picture.specs.lang.declared.line.Edit.{Edit}
-use Rattle.mst_picture.specs.net.After.{after, effect, refusal_of}
-use Rattle.mst_picture.specs.net.declared.refusal.Refusal.{Refusal}
-use Rattle.mst_picture.specs.net.Tables.{Net, Numbers}
-use Rattle.mst_picture.specs.net.Contents.{Contents, Tables, SameContents}
-use Rattle.mst_picture.specs.lag.Viewed.{Viewed, IsView}
+use Rattle.mst_config.specs.Shared.{AreRegions}
+use Rattle.mst_lang.specs.declared.line.Edit.{Edit}
+use Rattle.mst_net.specs.After.{after, effect, refusal_of}
+use Rattle.mst_net.specs.declared.refusal.Refusal.{Refusal}
+use Rattle.mst_net.specs.Tables.{Net, Numbers}
+use Rattle.mst_net.specs.Contents.{Contents, Tables, SameContents}
+use Rattle.mst_lag.specs.Viewed.{Viewed, IsView}
 use Rattle.mst_picture.specs.changes.declared.entries.Entries.{Entries}
 use Rattle.mst_picture.specs.trees.Forest.{Forest}
 use Rattle.mst_report.specs.Standing.{standing_of}

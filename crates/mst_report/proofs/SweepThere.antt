@@ -3,12 +3,12 @@ use Rattle.std.proofs.Common.{◌≡◌, ℕ, Bool, List, [], ◌∷◌, ◌++�
 use Rattle.std.specs.List.{AllByRecursion, AllZip, filter, flat_map, count_by}
 use Rattle.std.specs.Option.{option_map_or}
 use Rattle.std.specs.FinMap as fin
-use Rattle.mst_picture.specs.lang.Ranges.{InRange}
-use Rattle.mst_picture.specs.lang.declared.line.Edit.{Edit}
-use Rattle.mst_picture.specs.net.After.{after, effect, first_of}
-use Rattle.mst_picture.specs.net.Tables.{Net, BridgeRow, LanRow, IsNetwork}
-use Rattle.mst_picture.specs.net.declared.refusal.Refusal.TheVariants.{E04, E06}
-use Rattle.mst_picture.proofs.net_lemmas.Keys.{names}
+use Rattle.mst_lang.specs.Ranges.{InRange}
+use Rattle.mst_lang.specs.declared.line.Edit.{Edit}
+use Rattle.mst_net.specs.After.{after, effect, first_of}
+use Rattle.mst_net.specs.Tables.{Net, BridgeRow, LanRow, IsNetwork}
+use Rattle.mst_net.specs.declared.refusal.Refusal.TheVariants.{E04, E06}
+use Rattle.mst_net.proofs.Keys.{names}
 use Rattle.mst_picture.specs.trees.Outcome.{Outcome, IsOutcome}
 use Rattle.mst_picture.proofs.trees_lemmas.Entries.{entries_found}
 use Rattle.mst_picture.proofs.trees_lemmas.Lists.{all_mapped, all_passing}

@@ -4,25 +4,25 @@ use Rattle.std.specs.List.{AllZip, count_by, flat_map}
 use Rattle.std.proofs.lemmas.Grind.{flat_map-append}
 use Rattle.std.proofs.lemmas.List.Sums.{sum_by-append}
 use Rattle.std.specs.Option.{option_map_or}
-use Rattle.mst_picture.specs.lang.declared.line.Edit.{Edit}
-use Rattle.mst_picture.specs.net.After.{after, effect, refusal_of}
-use Rattle.mst_picture.specs.net.Tables.{Net, Numbers}
-use Rattle.mst_picture.specs.net.Contents.{Contents, PerKind, Tables, SameContents, numbers_after}
-use Rattle.mst_picture.specs.config.Shared.{AreRegions}
-use Rattle.mst_picture.specs.config.Touching.{touches_regions}
+use Rattle.mst_lang.specs.declared.line.Edit.{Edit}
+use Rattle.mst_net.specs.After.{after, effect, refusal_of}
+use Rattle.mst_net.specs.Tables.{Net, Numbers}
+use Rattle.mst_net.specs.Contents.{Contents, PerKind, Tables, SameContents, numbers_after}
+use Rattle.mst_config.specs.Shared.{AreRegions}
+use Rattle.mst_config.specs.Touching.{touches_regions}
 use Rattle.mst_picture.specs.trees.Forest.{Forest, IsForest}
 use Rattle.mst_picture.specs.trees.Outcome.{Outcome}
 use Rattle.mst_sweep.specs.declared.failure.Failure.{Failure}
 use Rattle.mst_sweep.specs.declared.failure.Failure.TheVariants.{Lan, Bridge}
 use Rattle.mst_sweep.specs.Failures.{edit_of}
 use Rattle.mst_sweep.specs.SweepText.{Told, IsTold, IsSweepOf, sweep_line}
-use Rattle.mst_picture.specs.lang.declared.line.BridgeChange.TheVariants.{Power}
-use Rattle.mst_picture.specs.lang.declared.line.LanChange.TheVariants.{State}
-use Rattle.mst_picture.specs.lang.declared.line.Power.TheVariants.{Off}
-use Rattle.mst_picture.specs.lang.declared.line.LanState.TheVariants.{Down}
-use Rattle.mst_picture.specs.lag.Viewed.{Viewed, IsView}
-use Rattle.mst_picture.proofs.lag_lemmas.LanAlone as lan_alone
-use Rattle.mst_picture.proofs.lag_lemmas.BridgeAlone as bridge_alone
+use Rattle.mst_lang.specs.declared.line.BridgeChange.TheVariants.{Power}
+use Rattle.mst_lang.specs.declared.line.LanChange.TheVariants.{State}
+use Rattle.mst_lang.specs.declared.line.Power.TheVariants.{Off}
+use Rattle.mst_lang.specs.declared.line.LanState.TheVariants.{Down}
+use Rattle.mst_lag.specs.Viewed.{Viewed, IsView}
+use Rattle.mst_lag.proofs.LanAlone as lan_alone
+use Rattle.mst_lag.proofs.BridgeAlone as bridge_alone
 use Rattle.mst_report.specs.Kept.{AreTrees}
 use Rattle.mst_report.specs.Sweeping.{AreTold, AreFailed, IsViewBut}
 

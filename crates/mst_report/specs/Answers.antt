@@ -1,11 +1,11 @@
 -- What answers a query.
 use Rattle.std.specs.Prelude.{◌≡◌, ℕ, Bool, true, false, List, Option, None, Some, Result, Ok, Err}
 use Rattle.std.specs.Option.{option_map_or}
-use Rattle.mst_picture.specs.lang.declared.line.Query.{Query}
-use Rattle.mst_picture.specs.lang.declared.line.Query.TheVariants.{ShowPlan, ShowLag, ShowRegions, ShowNotes, ShowTree, ShowVlan, ShowConfiguration, Changes, Save}
-use Rattle.mst_picture.specs.net.Tables.{Net}
-use Rattle.mst_picture.specs.net.declared.refusal.Refusal.{Refusal}
-use Rattle.mst_picture.specs.net.declared.refusal.Refusal.TheVariants.{E04, E16}
+use Rattle.mst_lang.specs.declared.line.Query.{Query}
+use Rattle.mst_lang.specs.declared.line.Query.TheVariants.{ShowPlan, ShowLag, ShowRegions, ShowNotes, ShowTree, ShowVlan, ShowConfiguration, Changes, Save}
+use Rattle.mst_net.specs.Tables.{Net}
+use Rattle.mst_net.specs.declared.refusal.Refusal.{Refusal}
+use Rattle.mst_net.specs.declared.refusal.Refusal.TheVariants.{E04, E16}
 use Rattle.mst_picture.specs.trees.Outcome.{Outcome, IsOutcome}
 use Rattle.mst_picture.specs.changes.ChangesText.{changes_text}
 use Rattle.mst_picture.specs.changes.declared.subject.Entry.{Entry}

@@ -1,6 +1,6 @@
 -- What a change does: the text of what differs between two networks, and how much of each does.
 use Rattle.std.specs.Prelude.{ℕ, List}
-use Rattle.mst_picture.specs.net.Tables.{Net}
+use Rattle.mst_net.specs.Tables.{Net}
 use Rattle.mst_picture.specs.trees.Outcome.{Outcome, IsOutcome}
 use Rattle.mst_picture.specs.diff.DiffText.{IsDiff}
 use Rattle.mst_picture.specs.diff.declared.diff.Differing.{Differing}

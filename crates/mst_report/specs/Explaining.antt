@@ -3,9 +3,9 @@ use Rattle.std.specs.Prelude.{◌≡◌, ℕ, ◌==◌, ◌||◌, Bool, true, no
 use Rattle.std.specs.List.{find}
 use Rattle.std.specs.Option.{option_map_or}
 use Rattle.mst_ids.specs.declared.name.PortName.{PortName}
-use Rattle.mst_picture.specs.net.After.{has_bridge}
-use Rattle.mst_picture.specs.net.Tables.{Net, port_eq}
-use Rattle.mst_picture.specs.lag.View.{LogicalPort, view_ports}
+use Rattle.mst_net.specs.After.{has_bridge}
+use Rattle.mst_net.specs.Tables.{Net, port_eq}
+use Rattle.mst_lag.specs.View.{LogicalPort, view_ports}
 use Rattle.mst_picture.specs.trees.Msti.{has_msti}
 use Rattle.mst_picture.specs.trees.Outcome.{Outcome, IsOutcome}
 use Rattle.mst_explain.specs.Explained.{AreExplanations, trees_of_bridge}

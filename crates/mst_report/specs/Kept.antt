@@ -1,11 +1,11 @@
 -- What a planner keeps of its network.
 use Rattle.std.specs.Prelude.{◌≡◌, ℕ, Bool, true, false, List, Option, Some, None, MatchOption}
 use Rattle.std.specs.Option.{option_map, ForSome}
-use Rattle.mst_picture.specs.net.Tables.{Net, Numbers, IsNetwork}
-use Rattle.mst_picture.specs.net.Contents.{Contents, Commits, IsNumbered}
-use Rattle.mst_picture.specs.lang.declared.line.Edit.{Edit}
-use Rattle.mst_picture.specs.lag.Viewed.{Viewed, IsView}
-use Rattle.mst_picture.specs.config.Shared.{AreRegions}
+use Rattle.mst_net.specs.Tables.{Net, Numbers, IsNetwork}
+use Rattle.mst_net.specs.Contents.{Contents, Commits, IsNumbered}
+use Rattle.mst_lang.specs.declared.line.Edit.{Edit}
+use Rattle.mst_lag.specs.Viewed.{Viewed, IsView}
+use Rattle.mst_config.specs.Shared.{AreRegions}
 use Rattle.mst_picture.specs.trees.Agrees.{AreOf}
 use Rattle.mst_picture.specs.trees.Forest.{Forest, IsForest}
 use Rattle.mst_picture.specs.changes.declared.subject.Entry.{Entry}

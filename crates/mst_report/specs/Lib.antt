@@ -1,9 +1,3 @@
-pub use Rattle.mst_picture.specs.lang as lang
-pub use Rattle.mst_picture.specs.net as net
-pub use Rattle.mst_save.specs as save
-pub use Rattle.mst_picture.specs.lag as lag
-pub use Rattle.mst_picture.specs.config as config
-pub use Rattle.mst_picture.specs.vector as vector
 pub use Rattle.mst_picture.specs.settle as settle
 pub use Rattle.mst_picture.specs.trees as trees
 pub use Rattle.mst_picture.specs.roles as roles

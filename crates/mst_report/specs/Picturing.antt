@@ -1,6 +1,6 @@
 -- The picture of a network with one of its trees.
 use Rattle.std.specs.Prelude.{◌≡◌, ℕ, List}
-use Rattle.mst_picture.specs.net.Tables.{Net}
+use Rattle.mst_net.specs.Tables.{Net}
 use Rattle.mst_picture.specs.trees.Outcome.{Outcome, IsOutcome}
 use Rattle.mst_picture.specs.Picture.{picture}
 

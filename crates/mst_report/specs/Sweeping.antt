@@ -1,16 +1,16 @@
 -- What each single failure of a network does, and the plan of a network that failed.
 use Rattle.std.specs.Prelude.{◌≡◌, ℕ, List, Ok}
 use Rattle.std.specs.List.{AllZip, count_by, flat_map, range_with_len}
-use Rattle.mst_picture.specs.net.After.{after}
-use Rattle.mst_picture.specs.net.Tables.{Net, Numbers}
+use Rattle.mst_net.specs.After.{after}
+use Rattle.mst_net.specs.Tables.{Net, Numbers}
 use Rattle.mst_picture.specs.trees.Outcome.{Outcome, IsOutcome}
 use Rattle.mst_sweep.specs.declared.failure.Failure.{Failure}
 use Rattle.mst_sweep.specs.Failures.{edit_of}
 use Rattle.mst_sweep.specs.SweepText.{Told, IsTold, IsSweep}
 use Rattle.mst_sweep.specs.SweepParts.{PartOf, ToldOfPart, IsSweepPart}
 use Rattle.mst_sweep.specs.declared.failure.Failure.TheVariants.{Lan, Bridge}
-use Rattle.mst_picture.specs.lag.Viewed.{Viewed}
-use Rattle.mst_picture.specs.lag.Renewed.{IsViewButLan, IsViewButBridge}
+use Rattle.mst_lag.specs.Viewed.{Viewed}
+use Rattle.mst_lag.specs.Renewed.{IsViewButLan, IsViewButBridge}
 use Rattle.mst_picture.specs.trees.Agrees.{AreOf}
 use Rattle.mst_picture.specs.trees.Forest.{Forest, IsForest}
 

@@ -1,5 +1,5 @@
 ghost use Rattle.std.specs.Prelude.{◌≡◌, ◌≢◌, true, Ok, Err, IfOk, IfErr};
-ghost use Rattle.mst_picture.specs.lang.declared.line.Query.TheVariants.{ShowConfiguration, Changes};
+ghost use Rattle.mst_lang.specs.declared.line.Query.TheVariants.{ShowConfiguration, Changes};
 ghost use Rattle.mst_report.specs.Answers.{Answers, asks_plan as is_of_plan};
 ghost use Rattle.mst_report.specs.Planned.{planned_state};
 ghost use Rattle.mst_report.specs.Refusing.{HasText, IsRefusal};
@@ -7,8 +7,8 @@ ghost use Rattle.mst_report.specs.Refusing.{HasText, IsRefusal};
 use crate::laws::has_answer;
 use crate::planner::Planner;
 use mst_ids::Name;
-use mst_picture::lang::Query;
-use mst_picture::net::{Contents, Refusal};
+use mst_lang::Query;
+use mst_net::{Contents, Refusal};
 
 /// Whether a query is asked of a settled plan: all are but `save`, whose text goes by the records of the network.
 pub fn asks_plan(query: &Query) -> bool

@@ -1,13 +1,12 @@
 ghost use Rattle.std.specs.Prelude.{◌≡◌, true, IfOk};
-ghost use Rattle.mst_picture.specs.net.Tables.{Net, Numbers};
+ghost use Rattle.mst_net.specs.Tables.{Net, Numbers};
 ghost use Rattle.mst_picture.specs.trees.Agrees.{Known};
 ghost use Rattle.mst_report.specs.Differing.{Differs};
 ghost use Rattle.mst_report.specs.Kept.{IsPlan};
 
 use crate::plan::Plan;
 use crate::planner::Planner;
-use mst_picture::changes::Planned;
-use mst_picture::diff::{Differing, push_diff};
+use mst_picture::{Differing, Planned, push_diff};
 use std::alloc::{AllocError, Global};
 
 /// What a change does: the text, and how much differs.

@@ -1,8 +1,8 @@
 ghost use Rattle.std.specs.Prelude.{◌≡◌, ◌≢◌, true, not, if◌then◌else◌, None, Some, MatchOption, Err, IfOk, IfErr};
 ghost use Rattle.std.specs.List.{Contains, find};
 ghost use Rattle.std.specs.Option.{option_copied};
-ghost use Rattle.mst_picture.specs.net.After.{has_bridge};
-ghost use Rattle.mst_picture.specs.net.Tables.{port_eq};
+ghost use Rattle.mst_net.specs.After.{has_bridge};
+ghost use Rattle.mst_net.specs.Tables.{port_eq};
 ghost use Rattle.mst_report.specs.Explaining.{Explains, has_tree as has_tree_in, has_asked, unexplained_of, code_of, text_of};
 ghost use Rattle.mst_report.specs.Kept.{IsPlan};
 
@@ -10,9 +10,9 @@ use crate::plan::Plan;
 use crate::planner::Planner;
 use mst_explain::{push_explanation, push_explanations};
 use mst_ids::{PortName, Tree};
-use mst_picture::lag::{PortInView, View};
-use mst_picture::net::Contents;
-use mst_picture::trees::has_tree;
+use mst_lag::{PortInView, View};
+use mst_net::Contents;
+use mst_picture::has_tree;
 use std::alloc::AllocError;
 use thiserror::Error;
 

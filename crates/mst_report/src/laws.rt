@@ -2,11 +2,11 @@
 ghost use Rattle.std.specs.Prelude.{◌≡◌, ◌↔◌, ◌≤◌, ℕ, List, None, Option, Result};
 ghost use Rattle.std.specs.List.{flat_map, sum_by};
 ghost use Rattle.mst_ids.specs.declared.name.PortName.{PortName};
-ghost use Rattle.mst_picture.specs.lang.declared.line.Query.{Query};
-ghost use Rattle.mst_picture.specs.lang.declared.line.Edit.{Edit};
-ghost use Rattle.mst_picture.specs.net.Tables.{Net, IsNetwork};
-ghost use Rattle.mst_picture.specs.net.Contents.{Contents, IsNumbered, Commits};
-ghost use Rattle.mst_picture.specs.net.declared.refusal.Refusal.{Refusal};
+ghost use Rattle.mst_lang.specs.declared.line.Query.{Query};
+ghost use Rattle.mst_lang.specs.declared.line.Edit.{Edit};
+ghost use Rattle.mst_net.specs.Tables.{Net, IsNetwork};
+ghost use Rattle.mst_net.specs.Contents.{Contents, IsNumbered, Commits};
+ghost use Rattle.mst_net.specs.declared.refusal.Refusal.{Refusal};
 ghost use Rattle.mst_picture.specs.trees.Forest.{Forest as ForestOf, IsForest};
 ghost use Rattle.mst_picture.specs.trees.Outcome.{Outcome, IsOutcome};
 ghost use Rattle.mst_picture.specs.diff.AlikeNets.{AreAlike};
@@ -25,12 +25,12 @@ ghost use Rattle.mst_report.specs.State.{State, IsState, IsMark, IsMarkNow};
 ghost use Rattle.mst_picture.specs.changes.declared.subject.Entry.{Entry};
 
 use mst_explain::laws;
+use mst_net::laws::networks;
 use mst_note_text::laws::notes;
-use mst_picture::changes::laws::entries_tell;
-use mst_picture::net::laws::networks;
-use mst_picture::plan_text::laws::{has_plan, one_plan};
-use mst_picture::text::laws::{has_text, one_text};
-use mst_picture::trees::laws::{has_outcome, one_outcome};
+use mst_picture::changes_laws::entries_tell;
+use mst_picture::plan_text_laws::{has_plan, one_plan};
+use mst_picture::text_laws::{has_text, one_text};
+use mst_picture::trees_laws::{has_outcome, one_outcome};
 use mst_sweep::laws::one_failure;
 
 /// Each query has an answer in each state, a text or a refusal.
@@ -138,7 +138,7 @@ pub fn one_difference()
     ensures some { (a b : Net) → IsNetwork a → IsNetwork b → (c : Counts) × (text : List ℕ) × Differs a b c text }
 {
     has_outcome();
-    mst_picture::diff::laws::one_diff();
+    mst_picture::diff_laws::one_diff();
 }
 
 /// A network differs from itself in nothing: the text is the last line alone.
@@ -147,7 +147,7 @@ pub fn no_difference()
         → (text ≡ diff_line c) × (c ≡ record { regions = 0; roots = 0; ports = 0; vlans = 0 }) }
 {
     one_outcome();
-    mst_picture::diff::laws::no_difference();
+    mst_picture::diff_laws::no_difference();
 }
 
 /// The last line stands alone exactly where nothing is counted, and that is exactly where the networks are alike.
@@ -156,7 +156,7 @@ pub fn last_line()
         → (c ≡ record { regions = 0; roots = 0; ports = 0; vlans = 0 }) ↔ (text ≡ diff_line c) }
     ensures same { (a b : Net) (c : Counts) (text : List ℕ) → (x : Differs a b c text) → (text ≡ diff_line c) ↔ AreAlike a x.old b x.new }
 {
-    mst_picture::diff::laws::last_line();
+    mst_picture::diff_laws::last_line();
 }
 
 /// The change back: as much differs. That the lines are the same with their sides changed over, [`mst_diff::laws::turned`]
@@ -165,7 +165,7 @@ pub fn turned()
     ensures { (a b : Net) (c d : Counts) (text other : List ℕ) → IsNetwork a → IsNetwork b → Differs a b c text → Differs b a d other → c ≡ d }
 {
     one_outcome();
-    mst_picture::diff::laws::turned();
+    mst_picture::diff_laws::turned();
 }
 
 /// A network has one summary, which the network alone settles.
@@ -174,7 +174,7 @@ pub fn one_summary()
     ensures one { (net : Net) (text other : List ℕ) → IsNetwork net → Summarizes net text → Summarizes net other → text ≡ other }
 {
     has_outcome();
-    mst_picture::summary::laws::one_summary();
+    mst_picture::summary_laws::one_summary();
 }
 
 /// A network has one picture with each tree, which the network alone settles.

@@ -1,13 +1,12 @@
 ghost use Rattle.std.specs.Prelude.{◌≡◌, true, IfOk};
-ghost use Rattle.mst_picture.specs.net.Tables.{Net, Numbers};
+ghost use Rattle.mst_net.specs.Tables.{Net, Numbers};
 ghost use Rattle.mst_report.specs.Kept.{IsPlan};
 ghost use Rattle.mst_report.specs.Picturing.{Depicts};
 
 use crate::plan::Plan;
 use crate::planner::Planner;
 use mst_ids::Tree;
-use mst_picture::changes::Planned;
-use mst_picture::push_picture;
+use mst_picture::{Planned, push_picture};
 use std::alloc::{AllocError, Global};
 
 /// The picture of the network of a plan with a tree.

@@ -1,17 +1,17 @@
 ghost use Rattle.std.specs.Prelude.{◌≡◌, true, is_some, IfOk, OnOk, OnErr};
 ghost use Rattle.std.specs.Option.{option_map, ForSome};
-ghost use Rattle.mst_picture.specs.config.Shared.{AreRegions};
+ghost use Rattle.mst_config.specs.Shared.{AreRegions};
 ghost use Rattle.mst_report.specs.Kept.{IsPlan, AreTrees, HasPlan, HasRegions, HasView, WasViewed, standing_in};
-ghost use Rattle.mst_picture.specs.lag.Viewed.{IsView};
+ghost use Rattle.mst_lag.specs.Viewed.{IsView};
 ghost use Rattle.mst_report.specs.Standing.{standing_of, msti_settlings, KeepsBounds};
 ghost use Rattle.mst_picture.specs.trees.Forest.{SettlesNoUnused};
 
-use mst_picture::config::{Regions, regions_of};
-use mst_picture::lag::laws::{bridge_alone, lan_alone, port_alone, ports_alone, set_alone};
-use mst_picture::lag::{View, leaves_key, leaves_links, leaves_tables, view};
-use mst_picture::lang::Edit;
-use mst_picture::net::{Contents, Network};
-use mst_picture::trees::Forest;
+use mst_config::{Regions, regions_of};
+use mst_lag::laws::{bridge_alone, lan_alone, port_alone, ports_alone, set_alone};
+use mst_lag::{View, leaves_key, leaves_links, leaves_tables, view};
+use mst_lang::Edit;
+use mst_net::{Contents, Network};
+use mst_picture::Forest;
 use std::alloc::{AllocError, Global};
 
 /// What follows from a network: its view, its regions, and its trees, settled.

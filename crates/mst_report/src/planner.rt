@@ -1,24 +1,23 @@
 ghost use Rattle.std.specs.Prelude.{◌≡◌, ◌≢◌, true, false, Err, IsOk, IfOk, IfErr, OnOk, OnErr, IsTrue};
-ghost use Rattle.mst_picture.specs.net.After.{after};
-ghost use Rattle.mst_picture.specs.net.Contents.{SameContents, CanCommit, Commits, room_for};
+ghost use Rattle.mst_net.specs.After.{after};
+ghost use Rattle.mst_net.specs.Contents.{SameContents, CanCommit, Commits, room_for};
 ghost use Rattle.std.specs.Option.{option_map};
 ghost use Rattle.mst_picture.specs.trees.Agrees.{AreOf};
 ghost use Rattle.mst_picture.specs.trees.Forest.{IsForest, SettlesNoUnused};
-ghost use Rattle.mst_picture.specs.lag.Viewed.{IsView};
+ghost use Rattle.mst_lag.specs.Viewed.{IsView};
 ghost use Rattle.mst_picture.specs.changes.Stored.{kept_entries};
 ghost use Rattle.mst_report.specs.Sweeping.{Sweeps, SweepsPart};
 
 use crate::laws::{entries_of_network, sweep_parts};
 use crate::plan::{Plan, next_plan, renew_plan, settle_plan};
 use crate::sweeping::{Sweep, sweep_network};
+use mst_config::laws::regions_stay;
+use mst_config::touches_regions;
 use mst_ids::Tree;
-use mst_picture::changes::Entries;
-use mst_picture::config::laws::regions_stay;
-use mst_picture::config::touches_regions;
-use mst_picture::lag::View;
-use mst_picture::lang::Edit;
-use mst_picture::net::{Contents, Network, Refusal};
-use mst_picture::trees::Forest;
+use mst_lag::View;
+use mst_lang::Edit;
+use mst_net::{Contents, Network, Refusal};
+use mst_picture::{Entries, Forest};
 use mst_sweep::SweepPart;
 use std::alloc::{AllocError, Global};
 use std::marker::Model;
@@ -63,7 +62,7 @@ impl Model for Planner {
     ghost Value = { Planned };
 
     ghost use Rattle.std.specs.Coded.{codes};
-    ghost use Rattle.mst_picture.specs.net.Contents.{contents_code};
+    ghost use Rattle.mst_net.specs.Contents.{contents_code};
 
     ghost coded = { Prim.hlevel (codes, contents_code) };
 

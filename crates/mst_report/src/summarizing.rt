@@ -1,13 +1,12 @@
 ghost use Rattle.std.specs.Prelude.{◌≡◌, true, IfOk};
-ghost use Rattle.mst_picture.specs.net.Tables.{Net, Numbers};
+ghost use Rattle.mst_net.specs.Tables.{Net, Numbers};
 ghost use Rattle.mst_picture.specs.trees.Agrees.{Known};
 ghost use Rattle.mst_report.specs.Kept.{IsPlan};
 ghost use Rattle.mst_report.specs.Summarizing.{Summarizes};
 
 use crate::plan::Plan;
 use crate::planner::Planner;
-use mst_picture::changes::Planned;
-use mst_picture::summary::push_summary;
+use mst_picture::{Planned, push_summary};
 use std::alloc::{AllocError, Global};
 
 /// The summary of the network of a plan.

@@ -1,20 +1,19 @@
 ghost use Rattle.std.specs.Prelude.{◌≡◌, ◌++◌, List, ℕ, IfOk, OnOk};
-ghost use Rattle.mst_picture.specs.net.Contents.{SameContents, CanCommit, ahead_of};
-ghost use Rattle.mst_picture.specs.config.Shared.{AreRegions};
+ghost use Rattle.mst_net.specs.Contents.{SameContents, CanCommit, ahead_of};
+ghost use Rattle.mst_config.specs.Shared.{AreRegions};
 ghost use Rattle.mst_picture.specs.trees.Agrees.{Known};
 ghost use Rattle.mst_picture.specs.trees.Forest.{IsForest};
 ghost use Rattle.mst_sweep.specs.Baseline.{IsBaseline};
 ghost use Rattle.mst_sweep.specs.SweepText.{IsTold};
-ghost use Rattle.mst_picture.specs.lag.Viewed.{IsView};
+ghost use Rattle.mst_lag.specs.Viewed.{IsView};
 ghost use Rattle.mst_report.specs.Kept.{IsPlan, AreTrees};
 ghost use Rattle.mst_report.specs.Sweeping.{SweepsPart, AreTold, AreFailed, IsViewBut};
 
 use crate::plan::Plan;
-use mst_picture::changes::Planned;
-use mst_picture::config::laws::regions_stay;
-use mst_picture::lag::{View, view};
-use mst_picture::net::{Contents, Network, Ready};
-use mst_picture::trees::Forest;
+use mst_config::laws::regions_stay;
+use mst_lag::{View, view};
+use mst_net::{Contents, Network, Ready};
+use mst_picture::{Forest, Planned};
 use mst_sweep::{Baseline, Failure, SweepPart, failures, push_failure, push_last};
 use std::alloc::{AllocError, Global};
 

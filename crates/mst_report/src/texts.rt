@@ -1,5 +1,5 @@
 ghost use Rattle.std.specs.Prelude.{◌≡◌, true, Ok, Some, IfOk};
-ghost use Rattle.mst_picture.specs.lang.declared.line.Query.TheVariants.{ShowPlan, ShowTree, ShowVlan, ShowNotes, ShowLag, ShowRegions, ShowConfiguration, Changes, Save};
+ghost use Rattle.mst_lang.specs.declared.line.Query.TheVariants.{ShowPlan, ShowTree, ShowVlan, ShowNotes, ShowLag, ShowRegions, ShowConfiguration, Changes, Save};
 ghost use Rattle.mst_picture.specs.changes.Stored.{kept_entries};
 ghost use Rattle.mst_report.specs.Answers.{Answers, asks_plan as is_of_plan};
 ghost use Rattle.mst_report.specs.Planned.{planned_state};
@@ -7,11 +7,12 @@ ghost use Rattle.mst_report.specs.Refusing.{HasText};
 
 use crate::planner::Planner;
 use mst_ids::{Name, Tree, Vid};
+use mst_lang::Query;
 use mst_note_text::push_notes;
-use mst_picture::changes::{Entries, Planned, push_changes};
-use mst_picture::lang::Query;
-use mst_picture::plan_text::push_plan;
-use mst_picture::text::{push_configuration, push_lags, push_regions, push_tree, push_vlan};
+use mst_picture::{
+    Entries, Planned, push_changes, push_configuration, push_lags, push_plan, push_regions,
+    push_tree, push_vlan,
+};
 use mst_save::save_text;
 use std::alloc::AllocError;
 

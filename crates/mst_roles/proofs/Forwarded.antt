@@ -11,10 +11,10 @@ use Rattle.mst_trees.specs.net.ByTree.{table_in}
 use Rattle.mst_trees.specs.net.Seen.{bridge_row}
 use Rattle.mst_trees.specs.net.Table.{tree_in}
 use Rattle.mst_trees.specs.net.After.{table_of}
-use Rattle.mst_trees.specs.lag.View.{view_ports}
-use Rattle.mst_trees.specs.lag.Viewed.{Viewed, named_port}
-use Rattle.mst_trees.specs.lag.declared.in_view.BridgeInView.{BridgeInView}
-use Rattle.mst_trees.specs.lag.declared.in_view.PortInView.{PortInView}
+use Rattle.mst_lag.specs.View.{view_ports}
+use Rattle.mst_lag.specs.Viewed.{Viewed, named_port}
+use Rattle.mst_lag.specs.declared.in_view.BridgeInView.{BridgeInView}
+use Rattle.mst_lag.specs.declared.in_view.PortInView.{PortInView}
 use Rattle.mst_trees.specs.Agrees.{AreOf}
 use Rattle.mst_trees.specs.Forest.{IsForest}
 use Rattle.mst_trees.specs.Forest.{Forest}

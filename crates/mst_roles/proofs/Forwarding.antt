@@ -5,19 +5,19 @@ use Rattle.std.specs.List.{Contains}
 use Rattle.std.specs.Option.{option_map, option_map_or}
 use Rattle.std.proofs.lemmas.Bool.{eqb-true}
 use Rattle.mst_ids.specs.declared.name.PortName.{PortName}
-use Rattle.mst_trees.specs.vector.Rules.{Rules}
-use Rattle.mst_trees.specs.vector.Cist.{cist_rules}
-use Rattle.mst_trees.specs.vector.Msti.{msti_rules}
-use Rattle.mst_trees.specs.vector.declared.cist.CistPort.{CistPort}
-use Rattle.mst_trees.specs.vector.declared.msti.MstiPort.{MstiPort}
-use Rattle.mst_trees.specs.settle.Topology.{TreePort, Topology, IsTopology, HasPort}
-use Rattle.mst_trees.specs.settle.Settled.{IsDesignated}
-use Rattle.mst_trees.specs.nested.Trees.{Trees, TakesPart, IsEnabled, IsInternal, HasTree}
-use Rattle.mst_trees.specs.nested.Roles.{IsRootPort, IsDesignatedPort, IsMstiRoot, IsMstiDesignated, ForwardsInRegion, Forwards}
+use Rattle.mst_vector.specs.Rules.{Rules}
+use Rattle.mst_vector.specs.Cist.{cist_rules}
+use Rattle.mst_vector.specs.Msti.{msti_rules}
+use Rattle.mst_vector.specs.declared.cist.CistPort.{CistPort}
+use Rattle.mst_vector.specs.declared.msti.MstiPort.{MstiPort}
+use Rattle.mst_settle.specs.Topology.{TreePort, Topology, IsTopology, HasPort}
+use Rattle.mst_settle.specs.Settled.{IsDesignated}
+use Rattle.mst_nested.specs.Trees.{Trees, TakesPart, IsEnabled, IsInternal, HasTree}
+use Rattle.mst_nested.specs.Roles.{IsRootPort, IsDesignatedPort, IsMstiRoot, IsMstiDesignated, ForwardsInRegion, Forwards}
 use Rattle.mst_trees.specs.net.Tables.{Net, IsNetwork, port_eq}
 use Rattle.mst_trees.specs.net.ByTree.{by_tree}
-use Rattle.mst_trees.specs.lag.Aggregation.{same_name}
-use Rattle.mst_trees.specs.lag.View.{LogicalPort, view_ports}
+use Rattle.mst_lag.specs.Aggregation.{same_name}
+use Rattle.mst_lag.specs.View.{LogicalPort, view_ports}
 use Rattle.mst_trees.specs.Sight.{tree_port}
 use Rattle.mst_trees.specs.Cist.{cist_port, cist_sight, cist_of}
 use Rattle.mst_trees.specs.Msti.{msti_bridge, msti_port, msti_sight, msti_of, has_msti, is_internal}

@@ -8,17 +8,17 @@ use Rattle.std.specs.Cmp.Lexicographic.{pointwise, bytes_decides}
 use Rattle.std.proofs.lemmas.Bool.{eqb-true, and_parts, and_from}
 use Rattle.mst_ids.specs.Names.{port_cmp}
 use Rattle.mst_ids.specs.declared.name.PortName.{PortName}
-use Rattle.mst_trees.specs.vector.Rules.{Rules}
-use Rattle.mst_trees.specs.vector.Cist.{cist_rules}
-use Rattle.mst_trees.specs.vector.Msti.{msti_rules}
-use Rattle.mst_trees.specs.settle.Assignment.{vector_of, designated_of}
+use Rattle.mst_vector.specs.Rules.{Rules}
+use Rattle.mst_vector.specs.Cist.{cist_rules}
+use Rattle.mst_vector.specs.Msti.{msti_rules}
+use Rattle.mst_settle.specs.Assignment.{vector_of, designated_of}
 use Rattle.mst_trees.specs.net.Tables.{Net, Numbers, port_eq}
 use Rattle.mst_trees.specs.net.ByTree.{by_tree}
-use Rattle.mst_trees.specs.lag.Aggregation.{same_name}
-use Rattle.mst_trees.specs.lag.Trees.{is_among}
-use Rattle.mst_trees.specs.lag.View.{LogicalPort, view_ports}
-use Rattle.mst_trees.specs.lag.Viewed.{Viewed, named_port}
-use Rattle.mst_trees.specs.lag.declared.in_view.PortInView.{PortInView}
+use Rattle.mst_lag.specs.Aggregation.{same_name}
+use Rattle.mst_lag.specs.Trees.{is_among}
+use Rattle.mst_lag.specs.View.{LogicalPort, view_ports}
+use Rattle.mst_lag.specs.Viewed.{Viewed, named_port}
+use Rattle.mst_lag.specs.declared.in_view.PortInView.{PortInView}
 use Rattle.mst_trees.specs.Sight.{Sight, tree_of}
 use Rattle.mst_trees.specs.Cist.{cist_port, cist_sight}
 use Rattle.mst_trees.specs.Msti.{msti_port, msti_sight, has_msti, is_internal}

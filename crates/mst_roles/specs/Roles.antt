@@ -8,8 +8,8 @@ use Rattle.mst_trees.specs.net.Table.{tree_in}
 use Rattle.mst_trees.specs.net.After.{table_of}
 use Rattle.mst_trees.specs.net.Tables.{Net, port_eq}
 use Rattle.mst_trees.specs.net.ByTree.{by_tree}
-use Rattle.mst_trees.specs.lag.Aggregation.{same_name}
-use Rattle.mst_trees.specs.lag.View.{LogicalPort, view_ports}
+use Rattle.mst_lag.specs.Aggregation.{same_name}
+use Rattle.mst_lag.specs.View.{LogicalPort, view_ports}
 use Rattle.mst_trees.specs.Cist.{cist_port}
 use Rattle.mst_trees.specs.Msti.{msti_port, has_msti, is_internal}
 use Rattle.mst_trees.specs.Outcome.{Outcome}

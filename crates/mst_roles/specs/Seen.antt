@@ -2,13 +2,13 @@
 use Rattle.std.specs.Prelude.{ℕ, ◌==◌, Bool, false, Option, Some, None, if◌then◌else◌}
 use Rattle.std.specs.List.{find}
 use Rattle.std.specs.Option.{option_map, option_map_or}
-use Rattle.mst_trees.specs.settle.Assignment.{vector_of, designated_of}
+use Rattle.mst_settle.specs.Assignment.{vector_of, designated_of}
 use Rattle.mst_trees.specs.net.ByTree.{table_in}
 use Rattle.mst_trees.specs.net.Seen.{bridge_row}
 use Rattle.mst_trees.specs.net.Table.{tree_in}
-use Rattle.mst_trees.specs.lag.Trees.{is_among}
-use Rattle.mst_trees.specs.lag.Viewed.{Viewed, named_port}
-use Rattle.mst_trees.specs.lag.declared.in_view.PortInView.{PortInView}
+use Rattle.mst_lag.specs.Trees.{is_among}
+use Rattle.mst_lag.specs.Viewed.{Viewed, named_port}
+use Rattle.mst_lag.specs.declared.in_view.PortInView.{PortInView}
 use Rattle.mst_trees.specs.Cist.{cist_port}
 use Rattle.mst_trees.specs.Msti.{msti_port}
 use Rattle.mst_trees.specs.Seen.{trees_at, seen_internal}

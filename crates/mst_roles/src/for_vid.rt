@@ -7,8 +7,8 @@ ghost use Rattle.mst_trees.specs.net.ByTree.{table_in};
 ghost use Rattle.mst_trees.specs.net.Seen.{bridge_row};
 ghost use Rattle.mst_trees.specs.net.Table.{tree_in};
 ghost use Rattle.mst_trees.specs.net.Tables.{Net, Numbers, port_eq};
-ghost use Rattle.mst_trees.specs.lag.View.{view_ports};
-ghost use Rattle.mst_trees.specs.lag.Viewed.{named_port};
+ghost use Rattle.mst_lag.specs.View.{view_ports};
+ghost use Rattle.mst_lag.specs.Viewed.{named_port};
 ghost use Rattle.mst_trees.specs.Agrees.{AreOf};
 ghost use Rattle.mst_trees.specs.Forest.{IsForest};
 ghost use Rattle.mst_roles.specs.Roles.{forwards as is_forwarding, forwards_for};
@@ -16,9 +16,9 @@ ghost use Rattle.mst_roles.specs.Seen.{seen_role, seen_tree, seen_forwards};
 
 use crate::roles::port_role;
 use mst_ids::{BridgeNo, PortNo, Tree, Vid};
+use mst_lag::{BridgeInView, PortInView, View};
+use mst_lang::Kind;
 use mst_trees::Forest;
-use mst_trees::lag::{BridgeInView, PortInView, View};
-use mst_trees::lang::Kind;
 
 /// The tree that a bridge of the view has a VID in.
 fn tree_of(view: &View, bridge: &BridgeInView, vid: Vid) -> Tree

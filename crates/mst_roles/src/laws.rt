@@ -3,8 +3,8 @@ ghost use Rattle.std.specs.Prelude.{◌≡◌, ◌≢◌, ◌↔◌, ℕ, true, 
 ghost use Rattle.std.specs.List.{Contains};
 ghost use Rattle.mst_trees.specs.net.Tables.{Net, IsNetwork};
 ghost use Rattle.mst_trees.specs.net.ByTree.{by_tree};
-ghost use Rattle.mst_trees.specs.lag.View.{LogicalPort, view_ports};
-ghost use Rattle.mst_trees.specs.nested.Roles.{Forwards};
+ghost use Rattle.mst_lag.specs.View.{LogicalPort, view_ports};
+ghost use Rattle.mst_nested.specs.Roles.{Forwards};
 ghost use Rattle.mst_trees.specs.Sight.{tree_port};
 ghost use Rattle.mst_trees.specs.Cist.{cist_port};
 ghost use Rattle.mst_trees.specs.Outcome.{Outcome, IsOutcome, trees_of};
@@ -13,10 +13,10 @@ ghost use Rattle.mst_roles.specs.declared.kind.Role.{Role as RoleOf};
 ghost use Rattle.mst_roles.specs.declared.kind.Role.TheVariants.{Root, Master};
 
 use mst_ids::{Name, PortName};
+use mst_nested::laws::{designated_by_key, restricted as none_restricted};
+use mst_settle::laws::one_outcome;
 use mst_trees::laws::nested;
-use mst_trees::nested::laws::{designated_by_key, restricted as none_restricted};
-use mst_trees::settle::laws::one_outcome;
-use mst_trees::vector::{CistMetric, MstiMetric};
+use mst_vector::{CistMetric, MstiMetric};
 
 /// The enabled ports whose roles are Root, Designated or Master are those that forward in the nested trees of the
 /// outcome. So what is proved of these there holds of roles.

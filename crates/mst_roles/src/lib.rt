@@ -8,6 +8,8 @@ mod roles;
 
 pub use for_vid::{forwards, forwards_in, port_forwards, vid_tree};
 pub use kind::Role;
-pub use mst_trees as trees;
-pub use mst_trees::{config, graph, lag, lang, nested, net, settle, vector};
+pub use mst_trees::{
+    Forest, bridge_id, cist_bridge, cist_port, has_tree, is_had, laws as trees_laws, msti_bridge,
+    msti_port, mstis_in_use, trees_in_use,
+};
 pub use roles::{port_role, role};

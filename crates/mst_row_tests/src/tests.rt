@@ -3,11 +3,11 @@ mod rows;
 mod version;
 
 use mst_ids::BadText;
-use mst_tool::lang::Fault;
-use mst_tool::net::Refusal;
-use mst_tool::report::laws as answers;
-use mst_tool::trees::laws as outcomes;
-use mst_tool::{Outcome, RunFault, laws, run, status};
+use mst_lang::Fault;
+use mst_net::Refusal;
+use mst_tool::{
+    Outcome, RunFault, laws, report_laws as answers, run, status, trees_laws as outcomes,
+};
 use mst_trials::{Sink, Source};
 use std::alloc::Global;
 use std::test::Fail;

@@ -11,13 +11,13 @@ use Rattle.std.proofs.lemmas.List.{ext_get_or, length-replicate, get_or_past}
 use Rattle.mst_ids.specs.Texts.{mac_text}
 use Rattle.mst_ids.specs.Vids.{has, is_vid, runs_from}
 use Rattle.mst_ids.specs.VidBits.{has-set_where, length-set_where}
-use Rattle.mst_net.specs.lang.Ranges.{IsName}
-use Rattle.mst_net.specs.lang.declared.line.Edit.{Edit}
-use Rattle.mst_net.specs.lang.declared.line.Edit.TheVariants.{AddBridge, SetBridge, SetByTree}
-use Rattle.mst_net.specs.lang.declared.line.BridgeChange.TheVariants.{Power as PowerOf, Kind as KindOf, SystemPriority, Configuration, MaxHops, MaxAge}
-use Rattle.mst_net.specs.lang.declared.line.TreeChange.TheVariants.{Priority, Table}
-use Rattle.mst_net.specs.lang.declared.line.Kind.TheVariants.{Rstp}
-use Rattle.mst_net.specs.lang.declared.line.Power.TheVariants.{Off}
+use Rattle.mst_lang.specs.Ranges.{IsName}
+use Rattle.mst_lang.specs.declared.line.Edit.{Edit}
+use Rattle.mst_lang.specs.declared.line.Edit.TheVariants.{AddBridge, SetBridge, SetByTree}
+use Rattle.mst_lang.specs.declared.line.BridgeChange.TheVariants.{Power as PowerOf, Kind as KindOf, SystemPriority, Configuration, MaxHops, MaxAge}
+use Rattle.mst_lang.specs.declared.line.TreeChange.TheVariants.{Priority, Table}
+use Rattle.mst_lang.specs.declared.line.Kind.TheVariants.{Rstp}
+use Rattle.mst_lang.specs.declared.line.Power.TheVariants.{Off}
 use Rattle.mst_net.specs.Table.{no_table, tree_in, mapped, has_tree, mstis_in}
 use Rattle.mst_net.specs.Tables.{Net, IsNetwork, BridgeRow}
 use Rattle.mst_net.specs.After.{effect, table_of, new_bridge, bridge_with}

@@ -8,7 +8,7 @@ use Rattle.mst_ids.specs.Vids.{has, is_vid, IsVidSet, is_within, runs_from, run_
 use Rattle.mst_ids.specs.VidBits.{length-set_where, has-set_where}
 use Rattle.mst_ids.proofs.VidSetLemmas.{or_assoc}
 use Rattle.mst_ids.proofs.VidRangeLemmas.{is_vid_set}
-use Rattle.mst_net.specs.lang.Ranges.{IsName}
+use Rattle.mst_lang.specs.Ranges.{IsName}
 use Rattle.mst_save.proofs.Short.{spaced_short, name_short, number_short, run_short}
 use Rattle.mst_net.specs.Table.{tree_in}
 use Rattle.mst_save.specs.EditLine.{no_vids, line_of}

@@ -3,7 +3,7 @@ use Rattle.std.proofs.Common.{◌≡◌, ℕ, ◌+◌, ◌-◌, ◌<◌, ◌≤�
 use Rattle.std.specs.Prelude.{if◌then◌else◌}
 use Rattle.std.proofs.lemmas.Bool.{le-leb, lt-leb}
 use Rattle.mst_ids.specs.Vids.{IsVidSet, runs_from, run_text, runs_text}
-use Rattle.mst_net.specs.lang.declared.line.Edit.{Edit}
+use Rattle.mst_lang.specs.declared.line.Edit.{Edit}
 use Rattle.mst_save.specs.EditLine.{spaced, line_of}
 use Rattle.mst_save.specs.Runs.{AreRuns}
 use Rattle.mst_save.specs.Saved.{mapping, fits, cut_from, cut}

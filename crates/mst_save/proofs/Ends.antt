@@ -11,10 +11,10 @@ use Rattle.std.specs.Cmp.Lexicographic.{pointwise, pointwise_decides}
 use Rattle.std.proofs.lemmas.Bool.{and_left, eqb-true}
 use Rattle.mst_ids.specs.Names.{name_cmp, port_cmp}
 use Rattle.mst_ids.specs.declared.name.PortName.{PortName}
-use Rattle.mst_net.specs.lang.declared.line.Edit.{Edit}
-use Rattle.mst_net.specs.lang.declared.line.Edit.TheVariants.{SetBridge, SetPort, AddLan, SetLan, Plug, SetByTree}
-use Rattle.mst_net.specs.lang.declared.line.LanChange.{LanChange}
-use Rattle.mst_net.specs.lang.declared.line.TreeChange.TheVariants.{Priority, PortPriority, PortCost, Table, Vlans}
+use Rattle.mst_lang.specs.declared.line.Edit.{Edit}
+use Rattle.mst_lang.specs.declared.line.Edit.TheVariants.{SetBridge, SetPort, AddLan, SetLan, Plug, SetByTree}
+use Rattle.mst_lang.specs.declared.line.LanChange.{LanChange}
+use Rattle.mst_lang.specs.declared.line.TreeChange.TheVariants.{Priority, PortPriority, PortCost, Table, Vlans}
 use Rattle.mst_net.specs.Table.{no_table}
 use Rattle.mst_net.specs.Tables.{Net, IsNetwork, BridgeRow, PortRow, LanRow, bridge_tree_cmp, port_tree_cmp, port_eq, empty_net}
 use Rattle.mst_net.specs.After.{has_bridge, has_port, vlans_of, all_vids, in_lan}

@@ -10,16 +10,16 @@ use Rattle.std.proofs.lemmas.Bool.{leb-true}
 use Rattle.mst_ids.specs.Vids.{runs_from, is_vid, IsVidSet}
 use Rattle.mst_ids.proofs.VidRangeLemmas.{is_vid_set}
 use Rattle.mst_ids.specs.declared.name.PortName.{PortName}
-use Rattle.mst_net.specs.lang.Ranges.{InRange, IsName, IsPort}
-use Rattle.mst_net.specs.lang.declared.line.Edit.{Edit}
-use Rattle.mst_net.specs.lang.declared.line.Edit.TheVariants.{AddBridge, SetBridge, AddPort, SetPort, AddLan, SetLan, Plug, SetByTree}
-use Rattle.mst_net.specs.lang.declared.line.BridgeChange.TheVariants.{Power as PowerOf, Kind as KindOf, SystemPriority, Configuration, MaxHops, MaxAge}
-use Rattle.mst_net.specs.lang.declared.line.PortChange.TheVariants.{Key, PathCost, RestrictedRole}
-use Rattle.mst_net.specs.lang.declared.line.LanChange.TheVariants.{State, Speed}
-use Rattle.mst_net.specs.lang.declared.line.TreeChange.TheVariants.{Priority, PortPriority, PortCost, Vlans}
-use Rattle.mst_net.specs.lang.declared.line.Kind.TheVariants.{Rstp}
-use Rattle.mst_net.specs.lang.declared.line.Power.TheVariants.{Off}
-use Rattle.mst_net.specs.lang.declared.line.LanState.TheVariants.{Down}
+use Rattle.mst_lang.specs.Ranges.{InRange, IsName, IsPort}
+use Rattle.mst_lang.specs.declared.line.Edit.{Edit}
+use Rattle.mst_lang.specs.declared.line.Edit.TheVariants.{AddBridge, SetBridge, AddPort, SetPort, AddLan, SetLan, Plug, SetByTree}
+use Rattle.mst_lang.specs.declared.line.BridgeChange.TheVariants.{Power as PowerOf, Kind as KindOf, SystemPriority, Configuration, MaxHops, MaxAge}
+use Rattle.mst_lang.specs.declared.line.PortChange.TheVariants.{Key, PathCost, RestrictedRole}
+use Rattle.mst_lang.specs.declared.line.LanChange.TheVariants.{State, Speed}
+use Rattle.mst_lang.specs.declared.line.TreeChange.TheVariants.{Priority, PortPriority, PortCost, Vlans}
+use Rattle.mst_lang.specs.declared.line.Kind.TheVariants.{Rstp}
+use Rattle.mst_lang.specs.declared.line.Power.TheVariants.{Off}
+use Rattle.mst_lang.specs.declared.line.LanState.TheVariants.{Down}
 use Rattle.mst_net.specs.Table.{mstis_in, has_tree}
 use Rattle.mst_net.specs.Tables.{Net, IsNetwork, BridgeRow, PortRow, LanRow}
 use Rattle.mst_net.specs.After.{table_of, vlans_of, all_vids}

@@ -9,12 +9,12 @@ use Rattle.std.proofs.lemmas.Bool.{lt-leb, le-ltb, eqb-true}
 use Rattle.mst_ids.specs.Names.{name_cmp, port_cmp}
 use Rattle.mst_ids.specs.Vids.{has}
 use Rattle.mst_ids.specs.declared.name.PortName.{PortName}
-use Rattle.mst_net.specs.lang.Ranges.{InRange}
-use Rattle.mst_net.specs.lang.declared.line.Edit.{Edit}
-use Rattle.mst_net.specs.lang.declared.line.Edit.TheVariants.{AddBridge, DelBridge, SetBridge, AddPort, DelPort, SetPort, AddLan, DelLan, SetLan, Plug, Unplug, SetByTree}
-use Rattle.mst_net.specs.lang.declared.line.BridgeChange.{BridgeChange}
-use Rattle.mst_net.specs.lang.declared.line.BridgeChange.TheVariants.{Power as PowerOf, Kind as KindOf, SystemPriority, Configuration, MaxHops, MaxAge}
-use Rattle.mst_net.specs.lang.declared.line.TreeChange.TheVariants.{Priority, PortPriority, PortCost, Table, Vlans}
+use Rattle.mst_lang.specs.Ranges.{InRange}
+use Rattle.mst_lang.specs.declared.line.Edit.{Edit}
+use Rattle.mst_lang.specs.declared.line.Edit.TheVariants.{AddBridge, DelBridge, SetBridge, AddPort, DelPort, SetPort, AddLan, DelLan, SetLan, Plug, Unplug, SetByTree}
+use Rattle.mst_lang.specs.declared.line.BridgeChange.{BridgeChange}
+use Rattle.mst_lang.specs.declared.line.BridgeChange.TheVariants.{Power as PowerOf, Kind as KindOf, SystemPriority, Configuration, MaxHops, MaxAge}
+use Rattle.mst_lang.specs.declared.line.TreeChange.TheVariants.{Priority, PortPriority, PortCost, Table, Vlans}
 use Rattle.mst_net.specs.declared.refusal.Refusal.TheVariants.{E04, E05, E06, E07, E08, E09, E10, E14, E15}
 use Rattle.mst_net.specs.ByTree.{table_in}
 use Rattle.mst_net.specs.Table.{no_table, tree_in, mapped, tree_count}

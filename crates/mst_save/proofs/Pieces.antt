@@ -6,15 +6,15 @@ use Rattle.std.specs.List.{flat_map}
 use Rattle.std.specs.FinMap as fin
 use Rattle.std.specs.Cmp.Lexicographic.{pointwise}
 use Rattle.mst_ids.specs.declared.name.PortName.{PortName}
-use Rattle.mst_net.specs.lang.declared.line.Edit.{Edit}
-use Rattle.mst_net.specs.lang.declared.line.Edit.TheVariants.{AddBridge, SetBridge, AddPort, SetPort, AddLan, SetLan, SetByTree}
-use Rattle.mst_net.specs.lang.declared.line.BridgeChange.TheVariants.{Power as PowerOf, Kind as KindOf, SystemPriority, Configuration, MaxHops, MaxAge}
-use Rattle.mst_net.specs.lang.declared.line.PortChange.TheVariants.{Key, PathCost, RestrictedRole}
-use Rattle.mst_net.specs.lang.declared.line.LanChange.TheVariants.{State, Speed}
-use Rattle.mst_net.specs.lang.declared.line.TreeChange.TheVariants.{Priority, PortPriority, PortCost, Vlans}
-use Rattle.mst_net.specs.lang.declared.line.Kind.TheVariants.{Rstp}
-use Rattle.mst_net.specs.lang.declared.line.Power.TheVariants.{Off}
-use Rattle.mst_net.specs.lang.declared.line.LanState.TheVariants.{Down}
+use Rattle.mst_lang.specs.declared.line.Edit.{Edit}
+use Rattle.mst_lang.specs.declared.line.Edit.TheVariants.{AddBridge, SetBridge, AddPort, SetPort, AddLan, SetLan, SetByTree}
+use Rattle.mst_lang.specs.declared.line.BridgeChange.TheVariants.{Power as PowerOf, Kind as KindOf, SystemPriority, Configuration, MaxHops, MaxAge}
+use Rattle.mst_lang.specs.declared.line.PortChange.TheVariants.{Key, PathCost, RestrictedRole}
+use Rattle.mst_lang.specs.declared.line.LanChange.TheVariants.{State, Speed}
+use Rattle.mst_lang.specs.declared.line.TreeChange.TheVariants.{Priority, PortPriority, PortCost, Vlans}
+use Rattle.mst_lang.specs.declared.line.Kind.TheVariants.{Rstp}
+use Rattle.mst_lang.specs.declared.line.Power.TheVariants.{Off}
+use Rattle.mst_lang.specs.declared.line.LanState.TheVariants.{Down}
 use Rattle.mst_net.specs.Tables.{Net, BridgeRow, PortRow, LanRow}
 use Rattle.mst_net.specs.After.{all_vids, table_of, vlans_of}
 use Rattle.mst_net.specs.Contents.{priority_of, port_priority_of, port_cost_of}

@@ -9,12 +9,12 @@ use Rattle.std.specs.Cmp.{unsigned_Decides, booleans_Decides}
 use Rattle.std.specs.Cmp.Lexicographic.{pointwise, pointwise_decides}
 use Rattle.std.proofs.lemmas.Bool.{and_left, eqb-true}
 use Rattle.mst_ids.specs.declared.name.PortName.{PortName}
-use Rattle.mst_net.specs.lang.declared.line.Edit.{Edit}
-use Rattle.mst_net.specs.lang.declared.line.Edit.TheVariants.{AddPort, SetPort, AddLan, SetLan, Plug, SetByTree}
-use Rattle.mst_net.specs.lang.declared.line.PortChange.TheVariants.{Key, PathCost, RestrictedRole}
-use Rattle.mst_net.specs.lang.declared.line.LanChange.TheVariants.{State, Speed}
-use Rattle.mst_net.specs.lang.declared.line.TreeChange.TheVariants.{PortPriority, PortCost, Vlans}
-use Rattle.mst_net.specs.lang.declared.line.LanState.TheVariants.{Down}
+use Rattle.mst_lang.specs.declared.line.Edit.{Edit}
+use Rattle.mst_lang.specs.declared.line.Edit.TheVariants.{AddPort, SetPort, AddLan, SetLan, Plug, SetByTree}
+use Rattle.mst_lang.specs.declared.line.PortChange.TheVariants.{Key, PathCost, RestrictedRole}
+use Rattle.mst_lang.specs.declared.line.LanChange.TheVariants.{State, Speed}
+use Rattle.mst_lang.specs.declared.line.TreeChange.TheVariants.{PortPriority, PortCost, Vlans}
+use Rattle.mst_lang.specs.declared.line.LanState.TheVariants.{Down}
 use Rattle.mst_net.specs.Tables.{Net, IsNetwork, PortRow, LanRow, port_eq}
 use Rattle.mst_net.specs.After.{effect, vlans_of, all_vids, new_settings, new_port, new_lan, in_lan, port_with, lan_with}
 use Rattle.mst_net.specs.Contents.{port_priority_of, port_cost_of}

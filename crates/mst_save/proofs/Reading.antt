@@ -12,26 +12,26 @@ use Rattle.std.proofs.lemmas.Fmt.{decimal_nonempty}
 use Rattle.mst_ids.specs.Texts.{is_name, is_name_byte, is_conf_name, is_conf_name_byte, mac_text}
 use Rattle.mst_ids.specs.Vids.{IsVidSet, runs_from, runs_text, vids_text, vids_value}
 use Rattle.mst_ids.proofs.ConfNameLemmas.{is_conf_name-mac_text}
-use Rattle.mst_net.specs.lang.Arguments as forms
-use Rattle.mst_net.specs.lang.Arguments.{is_text, number_of, with, none_of, one, two, three, four}
-use Rattle.mst_net.specs.lang.Reading.{reading_as, worded, edit as said}
-use Rattle.mst_net.specs.lang.Ranges.{InRange, IsName}
-use Rattle.mst_net.specs.lang.declared.line.Version.TheVariants.{V2}
-use Rattle.mst_net.specs.lang.declared.line.Line.TheVariants.{Edit as edit}
-use Rattle.mst_net.specs.lang.declared.line.Edit.{Edit}
-use Rattle.mst_net.specs.lang.declared.line.Edit.TheVariants.{AddBridge, DelBridge, SetBridge, AddPort, DelPort, SetPort, AddLan, DelLan, SetLan, Plug, Unplug, SetByTree}
-use Rattle.mst_net.specs.lang.declared.line.BridgeChange.TheVariants.{Power as PowerOf, Kind as KindOf, SystemPriority, Configuration, MaxHops, MaxAge}
-use Rattle.mst_net.specs.lang.declared.line.PortChange.TheVariants.{Key, PathCost, RestrictedRole}
-use Rattle.mst_net.specs.lang.declared.line.LanChange.TheVariants.{State, Speed}
-use Rattle.mst_net.specs.lang.declared.line.TreeChange.TheVariants.{Priority, PortPriority, PortCost, Table, Vlans}
-use Rattle.mst_net.specs.lang.declared.line.Kind.{Kind}
-use Rattle.mst_net.specs.lang.declared.line.Kind.TheVariants.{Mstp, Rstp}
-use Rattle.mst_net.specs.lang.declared.line.Power.{Power}
-use Rattle.mst_net.specs.lang.declared.line.Power.TheVariants.{On, Off}
-use Rattle.mst_net.specs.lang.declared.line.LanState.{LanState}
-use Rattle.mst_net.specs.lang.declared.line.LanState.TheVariants.{Up, Down}
-use Rattle.mst_net.specs.lang.declared.line.Fault.{Fault}
-use Rattle.mst_net.specs.lang.declared.line.Fault.TheVariants.{E02, E03}
+use Rattle.mst_lang.specs.Arguments as forms
+use Rattle.mst_lang.specs.Arguments.{is_text, number_of, with, none_of, one, two, three, four}
+use Rattle.mst_lang.specs.Reading.{reading_as, worded, edit as said}
+use Rattle.mst_lang.specs.Ranges.{InRange, IsName}
+use Rattle.mst_lang.specs.declared.line.Version.TheVariants.{V2}
+use Rattle.mst_lang.specs.declared.line.Line.TheVariants.{Edit as edit}
+use Rattle.mst_lang.specs.declared.line.Edit.{Edit}
+use Rattle.mst_lang.specs.declared.line.Edit.TheVariants.{AddBridge, DelBridge, SetBridge, AddPort, DelPort, SetPort, AddLan, DelLan, SetLan, Plug, Unplug, SetByTree}
+use Rattle.mst_lang.specs.declared.line.BridgeChange.TheVariants.{Power as PowerOf, Kind as KindOf, SystemPriority, Configuration, MaxHops, MaxAge}
+use Rattle.mst_lang.specs.declared.line.PortChange.TheVariants.{Key, PathCost, RestrictedRole}
+use Rattle.mst_lang.specs.declared.line.LanChange.TheVariants.{State, Speed}
+use Rattle.mst_lang.specs.declared.line.TreeChange.TheVariants.{Priority, PortPriority, PortCost, Table, Vlans}
+use Rattle.mst_lang.specs.declared.line.Kind.{Kind}
+use Rattle.mst_lang.specs.declared.line.Kind.TheVariants.{Mstp, Rstp}
+use Rattle.mst_lang.specs.declared.line.Power.{Power}
+use Rattle.mst_lang.specs.declared.line.Power.TheVariants.{On, Off}
+use Rattle.mst_lang.specs.declared.line.LanState.{LanState}
+use Rattle.mst_lang.specs.declared.line.LanState.TheVariants.{Up, Down}
+use Rattle.mst_lang.specs.declared.line.Fault.{Fault}
+use Rattle.mst_lang.specs.declared.line.Fault.TheVariants.{E02, E03}
 use Rattle.mst_save.specs.EditLine.{words_of, line_of, spaced, IsSayable, kind_text, power_text, state_text, yes_text, cost_text, no_vids, vlans_text}
 use Rattle.mst_save.specs.Runs.{vids_of, AreRuns}
 use Rattle.mst_save.proofs.Numbers.{number_of_read, priority_read}

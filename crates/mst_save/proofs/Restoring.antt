@@ -4,13 +4,13 @@ use Rattle.std.specs.Prelude.{◌==◌, if◌then◌else◌}
 use Rattle.std.specs.List.{list_all, flat_map, AllByRecursion}
 use Rattle.std.proofs.lemmas.Bool.{and_parts, ne_eqb}
 use Rattle.std.proofs.lemmas.List.{append-nil}
-use Rattle.mst_net.specs.lang.Words.{is_plain}
-use Rattle.mst_net.specs.lang.declared.line.Edit.{Edit}
+use Rattle.mst_lang.specs.Words.{is_plain}
+use Rattle.mst_lang.specs.declared.line.Edit.{Edit}
 use Rattle.mst_net.specs.Tables.{Net, IsNetwork, empty_net}
 use Rattle.mst_net.specs.After.{effect}
 use Rattle.mst_net.proofs.AfterLemmas.{after_accepted, no_network}
 use Rattle.mst_save.specs.EditLine.{line_of, words_of}
-use Rattle.mst_net.specs.lang.Lines.{drop_cr, last_line, lines_from, lines_of}
+use Rattle.mst_lang.specs.Lines.{drop_cr, last_line, lines_from, lines_of}
 use Rattle.mst_save.specs.Making.{made, Accepted}
 use Rattle.mst_save.specs.Saved.{saved_edits}
 use Rattle.mst_save.specs.SaveText.{saved_lines, ended, save_text, Makes, Leave, Restores, IsShort}

@@ -10,19 +10,19 @@ use Rattle.mst_ids.specs.Texts.{is_name_byte, is_conf_name, is_conf_name_byte, m
 use Rattle.mst_ids.specs.Vids.{run_text}
 use Rattle.mst_ids.proofs.ConfNameLemmas.{is_conf_name-mac_text}
 use Rattle.mst_ids.specs.Words.{after_space}
-use Rattle.mst_net.specs.lang.Ranges.{InRange, IsName}
-use Rattle.mst_net.specs.lang.declared.line.Edit.{Edit}
-use Rattle.mst_net.specs.lang.declared.line.Edit.TheVariants.{AddBridge, DelBridge, SetBridge, AddPort, DelPort, SetPort, AddLan, DelLan, SetLan, Plug, Unplug, SetByTree}
-use Rattle.mst_net.specs.lang.declared.line.BridgeChange.TheVariants.{Power as PowerOf, Kind as KindOf, SystemPriority, Configuration, MaxHops, MaxAge}
-use Rattle.mst_net.specs.lang.declared.line.PortChange.TheVariants.{Key, PathCost, RestrictedRole}
-use Rattle.mst_net.specs.lang.declared.line.LanChange.TheVariants.{State, Speed}
-use Rattle.mst_net.specs.lang.declared.line.TreeChange.TheVariants.{Priority, PortPriority, PortCost, Table, Vlans}
-use Rattle.mst_net.specs.lang.declared.line.Kind.{Kind}
-use Rattle.mst_net.specs.lang.declared.line.Kind.TheVariants.{Mstp, Rstp}
-use Rattle.mst_net.specs.lang.declared.line.Power.{Power}
-use Rattle.mst_net.specs.lang.declared.line.Power.TheVariants.{On, Off}
-use Rattle.mst_net.specs.lang.declared.line.LanState.{LanState}
-use Rattle.mst_net.specs.lang.declared.line.LanState.TheVariants.{Up, Down}
+use Rattle.mst_lang.specs.Ranges.{InRange, IsName}
+use Rattle.mst_lang.specs.declared.line.Edit.{Edit}
+use Rattle.mst_lang.specs.declared.line.Edit.TheVariants.{AddBridge, DelBridge, SetBridge, AddPort, DelPort, SetPort, AddLan, DelLan, SetLan, Plug, Unplug, SetByTree}
+use Rattle.mst_lang.specs.declared.line.BridgeChange.TheVariants.{Power as PowerOf, Kind as KindOf, SystemPriority, Configuration, MaxHops, MaxAge}
+use Rattle.mst_lang.specs.declared.line.PortChange.TheVariants.{Key, PathCost, RestrictedRole}
+use Rattle.mst_lang.specs.declared.line.LanChange.TheVariants.{State, Speed}
+use Rattle.mst_lang.specs.declared.line.TreeChange.TheVariants.{Priority, PortPriority, PortCost, Table, Vlans}
+use Rattle.mst_lang.specs.declared.line.Kind.{Kind}
+use Rattle.mst_lang.specs.declared.line.Kind.TheVariants.{Mstp, Rstp}
+use Rattle.mst_lang.specs.declared.line.Power.{Power}
+use Rattle.mst_lang.specs.declared.line.Power.TheVariants.{On, Off}
+use Rattle.mst_lang.specs.declared.line.LanState.{LanState}
+use Rattle.mst_lang.specs.declared.line.LanState.TheVariants.{Up, Down}
 use Rattle.mst_save.specs.EditLine.{spaced, words_of, line_of, kind_text, power_text, state_text, yes_text, cost_text}
 
 abbrev pub AreShort : List (List ℕ) → Type 0

@@ -6,15 +6,15 @@ use Rattle.std.specs.List.{AllByRecursion}
 use Rattle.std.specs.Cmp.Lexicographic.{pointwise}
 use Rattle.mst_ids.specs.Vids.{runs_from}
 use Rattle.mst_ids.specs.declared.name.PortName.{PortName}
-use Rattle.mst_net.specs.lang.declared.line.Edit.{Edit}
-use Rattle.mst_net.specs.lang.declared.line.Edit.TheVariants.{SetBridge, SetPort, SetLan, SetByTree}
-use Rattle.mst_net.specs.lang.declared.line.BridgeChange.TheVariants.{Power as PowerOf, Kind as KindOf, SystemPriority, Configuration, MaxHops, MaxAge}
-use Rattle.mst_net.specs.lang.declared.line.PortChange.TheVariants.{Key, PathCost, RestrictedRole}
-use Rattle.mst_net.specs.lang.declared.line.LanChange.TheVariants.{State, Speed}
-use Rattle.mst_net.specs.lang.declared.line.TreeChange.TheVariants.{Priority, PortPriority, PortCost, Table, Vlans}
-use Rattle.mst_net.specs.lang.declared.line.Kind.TheVariants.{Rstp}
-use Rattle.mst_net.specs.lang.declared.line.Power.TheVariants.{Off}
-use Rattle.mst_net.specs.lang.declared.line.LanState.TheVariants.{Down}
+use Rattle.mst_lang.specs.declared.line.Edit.{Edit}
+use Rattle.mst_lang.specs.declared.line.Edit.TheVariants.{SetBridge, SetPort, SetLan, SetByTree}
+use Rattle.mst_lang.specs.declared.line.BridgeChange.TheVariants.{Power as PowerOf, Kind as KindOf, SystemPriority, Configuration, MaxHops, MaxAge}
+use Rattle.mst_lang.specs.declared.line.PortChange.TheVariants.{Key, PathCost, RestrictedRole}
+use Rattle.mst_lang.specs.declared.line.LanChange.TheVariants.{State, Speed}
+use Rattle.mst_lang.specs.declared.line.TreeChange.TheVariants.{Priority, PortPriority, PortCost, Table, Vlans}
+use Rattle.mst_lang.specs.declared.line.Kind.TheVariants.{Rstp}
+use Rattle.mst_lang.specs.declared.line.Power.TheVariants.{Off}
+use Rattle.mst_lang.specs.declared.line.LanState.TheVariants.{Down}
 use Rattle.mst_net.specs.Table.{mstis_in}
 use Rattle.mst_net.specs.Tables.{Net, BridgeRow, LanRow}
 use Rattle.mst_net.specs.declared.settings.PortSettings.{PortSettings}

@@ -7,22 +7,22 @@ use Rattle.mst_ids.specs.Texts.{mac_text}
 use Rattle.mst_ids.specs.Vids.{set_where, vids_text}
 use Rattle.mst_ids.specs.declared.name.PortName.{PortName}
 use Rattle.mst_ids.specs.Words.{after_space}
-use Rattle.mst_net.specs.lang.declared.line.Edit.{Edit}
-use Rattle.mst_net.specs.lang.declared.line.Edit.TheVariants.{AddBridge, DelBridge, SetBridge, AddPort, DelPort, SetPort, AddLan, DelLan, SetLan, Plug, Unplug, SetByTree}
-use Rattle.mst_net.specs.lang.declared.line.BridgeChange.{BridgeChange}
-use Rattle.mst_net.specs.lang.declared.line.BridgeChange.TheVariants.{Power as PowerOf, Kind as KindOf, SystemPriority, Configuration, MaxHops, MaxAge}
-use Rattle.mst_net.specs.lang.declared.line.PortChange.{PortChange}
-use Rattle.mst_net.specs.lang.declared.line.PortChange.TheVariants.{Key, PathCost, RestrictedRole}
-use Rattle.mst_net.specs.lang.declared.line.LanChange.{LanChange}
-use Rattle.mst_net.specs.lang.declared.line.LanChange.TheVariants.{State, Speed}
-use Rattle.mst_net.specs.lang.declared.line.TreeChange.{TreeChange}
-use Rattle.mst_net.specs.lang.declared.line.TreeChange.TheVariants.{Priority, PortPriority, PortCost, Table, Vlans}
-use Rattle.mst_net.specs.lang.declared.line.Kind.{Kind}
-use Rattle.mst_net.specs.lang.declared.line.Kind.TheVariants.{Mstp, Rstp}
-use Rattle.mst_net.specs.lang.declared.line.Power.{Power}
-use Rattle.mst_net.specs.lang.declared.line.Power.TheVariants.{On, Off}
-use Rattle.mst_net.specs.lang.declared.line.LanState.{LanState}
-use Rattle.mst_net.specs.lang.declared.line.LanState.TheVariants.{Up, Down}
+use Rattle.mst_lang.specs.declared.line.Edit.{Edit}
+use Rattle.mst_lang.specs.declared.line.Edit.TheVariants.{AddBridge, DelBridge, SetBridge, AddPort, DelPort, SetPort, AddLan, DelLan, SetLan, Plug, Unplug, SetByTree}
+use Rattle.mst_lang.specs.declared.line.BridgeChange.{BridgeChange}
+use Rattle.mst_lang.specs.declared.line.BridgeChange.TheVariants.{Power as PowerOf, Kind as KindOf, SystemPriority, Configuration, MaxHops, MaxAge}
+use Rattle.mst_lang.specs.declared.line.PortChange.{PortChange}
+use Rattle.mst_lang.specs.declared.line.PortChange.TheVariants.{Key, PathCost, RestrictedRole}
+use Rattle.mst_lang.specs.declared.line.LanChange.{LanChange}
+use Rattle.mst_lang.specs.declared.line.LanChange.TheVariants.{State, Speed}
+use Rattle.mst_lang.specs.declared.line.TreeChange.{TreeChange}
+use Rattle.mst_lang.specs.declared.line.TreeChange.TheVariants.{Priority, PortPriority, PortCost, Table, Vlans}
+use Rattle.mst_lang.specs.declared.line.Kind.{Kind}
+use Rattle.mst_lang.specs.declared.line.Kind.TheVariants.{Mstp, Rstp}
+use Rattle.mst_lang.specs.declared.line.Power.{Power}
+use Rattle.mst_lang.specs.declared.line.Power.TheVariants.{On, Off}
+use Rattle.mst_lang.specs.declared.line.LanState.{LanState}
+use Rattle.mst_lang.specs.declared.line.LanState.TheVariants.{Up, Down}
 
 abbrev pub kind_text : Kind → List ℕ
 kind_text Mstp = codes "mstp"

@@ -1,14 +1,14 @@
 -- The text of a saved network, and what reading it does.
 use Rattle.std.specs.Prelude.{◌≡◌, true, ℕ, List, [], ◌∷◌, ◌++◌, map, length, ⊤, Result, Ok, codes, ◌≤◌}
 use Rattle.std.specs.List.{flat_map}
-use Rattle.mst_net.specs.lang.Reading.{reading_as, says_version_2}
-use Rattle.mst_net.specs.lang.declared.line.Version.TheVariants.{V2}
-use Rattle.mst_net.specs.lang.declared.line.Fault.{Fault}
-use Rattle.mst_net.specs.lang.declared.line.Line.{Line}
-use Rattle.mst_net.specs.lang.declared.line.Line.TheVariants.{Edit as edit}
-use Rattle.mst_net.specs.lang.declared.line.Edit.{Edit}
-use Rattle.mst_net.specs.lang.declared.line.Edit.TheVariants.{SetByTree}
-use Rattle.mst_net.specs.lang.declared.line.TreeChange.TheVariants.{Vlans}
+use Rattle.mst_lang.specs.Reading.{reading_as, says_version_2}
+use Rattle.mst_lang.specs.declared.line.Version.TheVariants.{V2}
+use Rattle.mst_lang.specs.declared.line.Fault.{Fault}
+use Rattle.mst_lang.specs.declared.line.Line.{Line}
+use Rattle.mst_lang.specs.declared.line.Line.TheVariants.{Edit as edit}
+use Rattle.mst_lang.specs.declared.line.Edit.{Edit}
+use Rattle.mst_lang.specs.declared.line.Edit.TheVariants.{SetByTree}
+use Rattle.mst_lang.specs.declared.line.TreeChange.TheVariants.{Vlans}
 use Rattle.mst_net.specs.Tables.{Net, empty_net}
 use Rattle.mst_net.specs.After.{after}
 use Rattle.mst_save.specs.EditLine.{line_of}

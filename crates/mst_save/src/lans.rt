@@ -2,16 +2,16 @@ ghost use Rattle.std.specs.Prelude.{◌≡◌, ◌==◌, ◌++◌, ◌∷◌, []
 ghost use Rattle.std.specs.List.{flat_map};
 ghost use Rattle.std.specs.Option.{option_map_or};
 ghost use Rattle.std.specs.FinMap as fin;
-ghost use Rattle.mst_net.specs.lang.declared.line.Edit.TheVariants.{AddLan, SetLan};
-ghost use Rattle.mst_net.specs.lang.declared.line.LanChange.TheVariants.{State, Speed};
-ghost use Rattle.mst_net.specs.lang.declared.line.LanState.TheVariants.{Down};
+ghost use Rattle.mst_lang.specs.declared.line.Edit.TheVariants.{AddLan, SetLan};
+ghost use Rattle.mst_lang.specs.declared.line.LanChange.TheVariants.{State, Speed};
+ghost use Rattle.mst_lang.specs.declared.line.LanState.TheVariants.{Down};
 ghost use Rattle.mst_net.specs.Seen.{lan_row};
 ghost use Rattle.mst_save.specs.Saved.{when, lan_settings, lan_edits};
 ghost use Rattle.mst_save.specs.SaveText.{edit_text, edits_text};
 
 use crate::line::{push_named, push_number};
 use mst_ids::{Name, push_line};
-use mst_net::lang::LanState;
+use mst_lang::LanState;
 use mst_net::{Contents, Lan};
 use std::alloc::{AllocError, Global};
 

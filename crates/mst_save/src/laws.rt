@@ -1,12 +1,12 @@
 //! Laws of saved networks. Their functions do nothing: a caller has their clauses.
 ghost use Rattle.std.specs.Prelude.{◌≡◌, ◌≤◌, Ok, length};
 ghost use Rattle.std.specs.List.{AllByRecursion};
-ghost use Rattle.mst_net.specs.lang.declared.line.Edit.{Edit};
-ghost use Rattle.mst_net.specs.lang.declared.line.Line.TheVariants.{Edit as edit};
-ghost use Rattle.mst_net.specs.lang.declared.line.Version.TheVariants.{V2};
-ghost use Rattle.mst_net.specs.lang.Ranges.{InRange};
-ghost use Rattle.mst_net.specs.lang.Lines.{lines_of};
-ghost use Rattle.mst_net.specs.lang.Reading.{reading_as};
+ghost use Rattle.mst_lang.specs.declared.line.Edit.{Edit};
+ghost use Rattle.mst_lang.specs.declared.line.Line.TheVariants.{Edit as edit};
+ghost use Rattle.mst_lang.specs.declared.line.Version.TheVariants.{V2};
+ghost use Rattle.mst_lang.specs.Ranges.{InRange};
+ghost use Rattle.mst_lang.specs.Lines.{lines_of};
+ghost use Rattle.mst_lang.specs.Reading.{reading_as};
 ghost use Rattle.mst_net.specs.Tables.{Net, IsNetwork, empty_net};
 ghost use Rattle.mst_save.specs.EditLine.{line_of, IsSayable};
 ghost use Rattle.mst_save.specs.Making.{made, Accepted};

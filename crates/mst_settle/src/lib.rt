@@ -25,7 +25,6 @@ mod touched;
 mod wiring;
 
 pub use bridges::Bridges;
-pub use mst_vector as vector;
 pub use outcome::Outcome;
 pub use settler::Settler;
 pub use topology::Topology;

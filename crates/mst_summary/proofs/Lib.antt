@@ -1,5 +1,3 @@
-pub use Rattle.mst_diff.proofs.net_lemmas as net_lemmas
-pub use Rattle.mst_diff.proofs.lag_lemmas as lag_lemmas
 pub use Rattle.mst_diff.proofs.trees_lemmas as trees_lemmas
 pub use Rattle.mst_diff.proofs.roles_lemmas as roles_lemmas
 pub use Rattle.mst_diff.proofs.plan_text_lemmas as plan_text_lemmas

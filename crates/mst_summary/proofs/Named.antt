@@ -13,15 +13,15 @@ use Rattle.mst_ids.specs.Vids.{has}
 use Rattle.mst_diff.specs.net.ByTree.{by_tree, vlans_in}
 use Rattle.mst_diff.specs.net.Seen.{bridge_row}
 use Rattle.mst_diff.specs.net.Tables.{Net, Numbers, BridgeRow, IsNetwork}
-use Rattle.mst_diff.specs.lag.Aggregation.{same_name}
-use Rattle.mst_diff.specs.lag.View.{LogicalLan, LogicalPort}
-use Rattle.mst_diff.specs.lag.Viewed.{Viewed, named_bridge, named_lan, named_port}
-use Rattle.mst_diff.specs.lag.declared.in_view.BridgeInView.{BridgeInView}
-use Rattle.mst_diff.specs.lag.declared.in_view.LanInView.{LanInView}
-use Rattle.mst_diff.specs.lag.declared.in_view.PortInView.{PortInView}
-use Rattle.mst_diff.specs.config.Shared.{AreRegions}
-use Rattle.mst_diff.specs.config.Regions.{region_of}
-use Rattle.mst_diff.proofs.config_lemmas.SameRegion.{has_first, HasFirst}
+use Rattle.mst_lag.specs.Aggregation.{same_name}
+use Rattle.mst_lag.specs.View.{LogicalLan, LogicalPort}
+use Rattle.mst_lag.specs.Viewed.{Viewed, named_bridge, named_lan, named_port}
+use Rattle.mst_lag.specs.declared.in_view.BridgeInView.{BridgeInView}
+use Rattle.mst_lag.specs.declared.in_view.LanInView.{LanInView}
+use Rattle.mst_lag.specs.declared.in_view.PortInView.{PortInView}
+use Rattle.mst_config.specs.Shared.{AreRegions}
+use Rattle.mst_config.specs.Regions.{region_of}
+use Rattle.mst_config.proofs.SameRegion.{has_first, HasFirst}
 use Rattle.mst_diff.specs.trees.Agrees.{AreOf}
 use Rattle.mst_diff.specs.trees.Forest.{Forest, IsForest}
 use Rattle.mst_diff.specs.trees.InUse.{id_in, seen_has}
@@ -33,8 +33,8 @@ use Rattle.mst_diff.proofs.trees_lemmas.Seen.{SeenBridge, SeenPort, bridges_seen
 use Rattle.mst_diff.specs.text.TreeText.{has_tree}
 use Rattle.mst_diff.proofs.roles_lemmas.Named.{own_role}
 use Rattle.mst_diff.proofs.roles_lemmas.Forwarded.{each_forwards}
-use Rattle.mst_diff.specs.vlan.Reach.{is_member}
-use Rattle.mst_diff.specs.vlan.Seen.{seen_member}
+use Rattle.mst_vlan.specs.Reach.{is_member}
+use Rattle.mst_vlan.specs.Seen.{seen_member}
 use Rattle.mst_diff.specs.changes.Subjects.{all_trees, bridge_names}
 use Rattle.mst_diff.proofs.changes_lemmas.Lists.{filter_map-map}
 use Rattle.mst_diff.proofs.Named.{names_are, root_named}

@@ -3,13 +3,13 @@ use Rattle.std.proofs.Common.{◌≡◌, ℕ, ◌++◌, ◌∷◌, [], nat_eq, B
 use Rattle.std.specs.Cmp.{IsEquivalence, nat_eq_equiv}
 use Rattle.std.specs.List.{Contains, flat_map}
 use Rattle.std.proofs.lemmas.Bool.{eqb-true}
-use Rattle.mst_diff.specs.graph.Groups.{AreGroups}
-use Rattle.mst_diff.specs.graph.Islands.{Island}
-use Rattle.mst_diff.proofs.graph_lemmas.Alike.{alike_groups}
-use Rattle.mst_diff.proofs.graph_lemmas.Members.{here, in_whole}
+use Rattle.mst_graph.specs.Groups.{AreGroups}
+use Rattle.mst_graph.specs.Islands.{Island}
+use Rattle.mst_graph.proofs.Alike.{alike_groups}
+use Rattle.mst_graph.proofs.Members.{here, in_whole}
 use Rattle.mst_diff.specs.net.Tables.{Net}
 use Rattle.mst_diff.specs.trees.Outcome.{Outcome}
-use Rattle.mst_diff.specs.vlan.Reach.{AreIslandsOf}
+use Rattle.mst_vlan.specs.Reach.{AreIslandsOf}
 use Rattle.mst_diff.specs.plan_text.PlanText.{all_vids}
 use Rattle.mst_diff.proofs.plan_text_lemmas.OnePlan.{vids_once, is_vid_there, each_text, OneGrouping}
 use Rattle.mst_summary.specs.Carries.{carries_text}

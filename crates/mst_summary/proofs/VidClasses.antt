@@ -8,18 +8,18 @@ use Rattle.std.proofs.lemmas.Bool.{eqb-true}
 use Rattle.std.proofs.lemmas.List.{get_or_default, take_all, take_more}
 use Rattle.std.proofs.lemmas.List.FromFn.{get_or-range_with_len}
 use Rattle.mst_ids.specs.Vids.{has, is_vid}
-use Rattle.mst_diff.specs.graph.Groups.{AreGroups}
-use Rattle.mst_diff.specs.graph.Islands.{AreIslands, Island}
-use Rattle.mst_diff.specs.graph.Numbers.{AreNumbers, HaveBodies}
-use Rattle.mst_diff.proofs.graph_lemmas.Alike.{alike_groups}
+use Rattle.mst_graph.specs.Groups.{AreGroups}
+use Rattle.mst_graph.specs.Islands.{AreIslands, Island}
+use Rattle.mst_graph.specs.Numbers.{AreNumbers, HaveBodies}
+use Rattle.mst_graph.proofs.Alike.{alike_groups}
 use Rattle.mst_diff.specs.net.ByTree.{table_in, vlans_in}
 use Rattle.mst_diff.specs.net.Seen.{bridge_row}
 use Rattle.mst_diff.specs.net.Table.{tree_in}
 use Rattle.mst_diff.specs.net.Tables.{Net, Numbers}
-use Rattle.mst_diff.specs.lag.Aggregation.{same_name}
-use Rattle.mst_diff.specs.lag.Viewed.{Viewed}
-use Rattle.mst_diff.specs.lag.declared.in_view.BridgeInView.{BridgeInView}
-use Rattle.mst_diff.specs.lag.declared.in_view.PortInView.{PortInView}
+use Rattle.mst_lag.specs.Aggregation.{same_name}
+use Rattle.mst_lag.specs.Viewed.{Viewed}
+use Rattle.mst_lag.specs.declared.in_view.BridgeInView.{BridgeInView}
+use Rattle.mst_lag.specs.declared.in_view.PortInView.{PortInView}
 use Rattle.mst_diff.specs.trees.Agrees.{AreOf}
 use Rattle.mst_diff.specs.trees.Forest.{Forest}
 use Rattle.mst_diff.specs.trees.Outcome.{Outcome}
@@ -27,9 +27,9 @@ use Rattle.mst_diff.proofs.trees_lemmas.Entries.{all_weaker}
 use Rattle.mst_diff.proofs.trees_lemmas.Lists.{all_contained, all_passing, all_there}
 use Rattle.mst_diff.specs.roles.Roles.{forwards}
 use Rattle.mst_diff.specs.roles.Seen.{seen_role, seen_tree}
-use Rattle.mst_diff.specs.vlan.Reach.{bridges_on, lans_up}
-use Rattle.mst_diff.specs.vlan.Seen.{seen_member}
-use Rattle.mst_diff.specs.vlan.declared.island.Island.{Island as IslandNos}
+use Rattle.mst_vlan.specs.Reach.{bridges_on, lans_up}
+use Rattle.mst_vlan.specs.Seen.{seen_member}
+use Rattle.mst_vlan.specs.declared.island.Island.{Island as IslandNos}
 use Rattle.mst_diff.specs.plan_text.Alike.{AreAlike, TellApart}
 use Rattle.mst_diff.specs.plan_text.Bodies.{NumberEach}
 use Rattle.mst_diff.specs.plan_text.PlanText.{all_vids}

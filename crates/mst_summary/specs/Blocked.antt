@@ -3,7 +3,7 @@ use Rattle.std.specs.Prelude.{ℕ, ◌&&◌, Bool, false, not, List, [], ◌∷�
 use Rattle.mst_ids.specs.declared.name.PortName.{PortName}
 use Rattle.mst_ids.specs.Words.{comma_list, line, port_text}
 use Rattle.mst_diff.specs.net.Tables.{Net}
-use Rattle.mst_diff.specs.lag.View.{LogicalPort, view_ports}
+use Rattle.mst_lag.specs.View.{LogicalPort, view_ports}
 use Rattle.mst_diff.specs.trees.Outcome.{Outcome}
 use Rattle.mst_diff.specs.roles.Roles.{role_of, forwards}
 use Rattle.mst_diff.specs.roles.declared.kind.Role.{Role}

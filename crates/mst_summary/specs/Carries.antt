@@ -4,12 +4,12 @@ use Rattle.std.specs.List.{flat_map, list_all}
 use Rattle.mst_ids.specs.Vids.{set_where, vids_text}
 use Rattle.mst_ids.specs.Words.{line}
 use Rattle.mst_diff.specs.net.Tables.{Net}
-use Rattle.mst_diff.specs.lag.Aggregation.{same_name}
-use Rattle.mst_diff.specs.lag.Trees.{is_among}
-use Rattle.mst_diff.specs.lag.View.{LogicalPort, view_ports}
+use Rattle.mst_lag.specs.Aggregation.{same_name}
+use Rattle.mst_lag.specs.Trees.{is_among}
+use Rattle.mst_lag.specs.View.{LogicalPort, view_ports}
 use Rattle.mst_diff.specs.trees.Outcome.{Outcome}
 use Rattle.mst_diff.specs.roles.Roles.{forwards_for}
-use Rattle.mst_diff.specs.vlan.Reach.{is_member, lans_up}
+use Rattle.mst_vlan.specs.Reach.{is_member, lans_up}
 use Rattle.mst_diff.specs.plan_text.PlanText.{all_vids}
 
 -- the logical ports of a logical LAN

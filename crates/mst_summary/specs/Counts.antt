@@ -4,9 +4,9 @@ use Rattle.std.specs.List.{count_by, list_any}
 use Rattle.std.specs.FinMap as fin
 use Rattle.mst_ids.specs.Words.{line}
 use Rattle.mst_diff.specs.net.Tables.{Net}
-use Rattle.mst_diff.specs.lag.Aggregation.{same_name}
-use Rattle.mst_diff.specs.lag.View.{view_ports}
-use Rattle.mst_diff.specs.config.Regions.{first_of_region}
+use Rattle.mst_lag.specs.Aggregation.{same_name}
+use Rattle.mst_lag.specs.View.{view_ports}
+use Rattle.mst_config.specs.Regions.{first_of_region}
 use Rattle.mst_diff.specs.text.TreeText.{has_tree}
 use Rattle.mst_diff.specs.changes.Subjects.{all_trees, bridge_names}
 use Rattle.mst_summary.specs.declared.counts.Counts.{Counts}

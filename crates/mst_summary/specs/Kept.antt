@@ -4,12 +4,12 @@ use Rattle.std.specs.List.{AllByRecursion, Contains}
 use Rattle.std.specs.Option.{option_map_or}
 use Rattle.std.specs.HashMap.{HashMap, get}
 use Rattle.std.specs.declared.alloc.Global.{Global}
-use Rattle.mst_diff.specs.graph.Numbers.{AreNumbers}
-use Rattle.mst_diff.specs.graph.declared.keys.Numbering.{Numbering}
+use Rattle.mst_graph.specs.Numbers.{AreNumbers}
+use Rattle.mst_graph.specs.declared.keys.Numbering.{Numbering}
 use Rattle.mst_diff.specs.net.ByTree.{table_in, vlans_in}
-use Rattle.mst_diff.specs.lag.Aggregation.{same_name}
-use Rattle.mst_diff.specs.lag.Viewed.{Viewed}
-use Rattle.mst_diff.specs.lag.declared.in_view.PortInView.{PortInView}
+use Rattle.mst_lag.specs.Aggregation.{same_name}
+use Rattle.mst_lag.specs.Viewed.{Viewed}
+use Rattle.mst_lag.specs.declared.in_view.PortInView.{PortInView}
 use Rattle.mst_diff.specs.plan_text.Alike.{TellApart}
 
 -- the ports that are kept for a logical LAN, none where nothing is kept

@@ -1,12 +1,9 @@
-pub use Rattle.mst_diff.specs.lang as lang
 pub use Rattle.mst_diff.specs.net as net
-pub use Rattle.mst_diff.specs.lag as lag
-pub use Rattle.mst_diff.specs.config as config
 pub use Rattle.mst_diff.specs.vector as vector
 pub use Rattle.mst_diff.specs.settle as settle
 pub use Rattle.mst_diff.specs.trees as trees
 pub use Rattle.mst_diff.specs.roles as roles
-pub use Rattle.mst_diff.specs.vlan as vlan
+pub use Rattle.mst_vlan.specs as vlan
 pub use Rattle.mst_diff.specs.changes as changes
 pub use Rattle.mst_diff.specs.text as text
 pub use Rattle.mst_diff.specs.plan_text as plan_text

@@ -7,17 +7,17 @@ use Rattle.mst_ids.specs.Identifiers.{bridge_id}
 use Rattle.mst_ids.specs.declared.name.PortName.{PortName}
 use Rattle.mst_diff.specs.net.Seen.{bridge_row}
 use Rattle.mst_diff.specs.net.Tables.{Net}
-use Rattle.mst_diff.specs.lag.Aggregation.{same_name}
-use Rattle.mst_diff.specs.lag.Viewed.{Viewed}
-use Rattle.mst_diff.specs.lag.declared.in_view.BridgeInView.{BridgeInView}
-use Rattle.mst_diff.specs.lag.declared.in_view.LanInView.{LanInView}
-use Rattle.mst_diff.specs.lag.declared.in_view.PortInView.{PortInView}
+use Rattle.mst_lag.specs.Aggregation.{same_name}
+use Rattle.mst_lag.specs.Viewed.{Viewed}
+use Rattle.mst_lag.specs.declared.in_view.BridgeInView.{BridgeInView}
+use Rattle.mst_lag.specs.declared.in_view.LanInView.{LanInView}
+use Rattle.mst_lag.specs.declared.in_view.PortInView.{PortInView}
 use Rattle.mst_diff.specs.trees.Forest.{Forest}
 use Rattle.mst_diff.specs.trees.InUse.{id_in, seen_has}
 use Rattle.mst_diff.specs.trees.Outcome.{Outcome}
 use Rattle.mst_diff.specs.roles.Seen.{seen_role, seen_forwards}
-use Rattle.mst_diff.specs.vlan.Seen.{seen_member}
-use Rattle.mst_diff.specs.vlan.declared.island.Island.{Island}
+use Rattle.mst_vlan.specs.Seen.{seen_member}
+use Rattle.mst_vlan.specs.declared.island.Island.{Island}
 use Rattle.mst_diff.specs.changes.Subjects.{all_trees}
 use Rattle.mst_diff.specs.Reach.{has_any}
 use Rattle.mst_diff.specs.Seen.{seen_root}

@@ -3,12 +3,12 @@ use Rattle.std.specs.Prelude.{◌≡◌, ℕ, true, List, [], ◌∷◌, codes, 
 use Rattle.std.specs.List.{count_by, flat_map}
 use Rattle.mst_ids.specs.Vids.{is_vid, set_where, vids_text}
 use Rattle.mst_ids.specs.Words.{line}
-use Rattle.mst_diff.specs.graph.Groups.{AreGroups}
-use Rattle.mst_diff.specs.graph.Islands.{Island}
+use Rattle.mst_graph.specs.Groups.{AreGroups}
+use Rattle.mst_graph.specs.Islands.{Island}
 use Rattle.mst_diff.specs.net.Tables.{Net}
-use Rattle.mst_diff.specs.lag.Trees.{is_among}
+use Rattle.mst_lag.specs.Trees.{is_among}
 use Rattle.mst_diff.specs.trees.Outcome.{Outcome}
-use Rattle.mst_diff.specs.vlan.Reach.{AreIslandsOf}
+use Rattle.mst_vlan.specs.Reach.{AreIslandsOf}
 use Rattle.mst_diff.specs.plan_text.PlanText.{all_vids}
 use Rattle.mst_diff.specs.Reach.{has_any}
 

@@ -3,10 +3,9 @@ ghost use Rattle.mst_summary.specs.Blocked.{stops as stops_of, blocked_line};
 ghost use Rattle.mst_summary.specs.Seen.{seen_is_blocked, seen_blocked};
 
 use itoa::Buffer;
-use mst_diff::changes::Planned;
-use mst_diff::lag::PortInView;
-use mst_diff::roles::{Role, port_role};
+use mst_diff::{Planned, Role, port_role};
 use mst_ids::{PortName, Tree, push_bytes, push_comma_list, push_end, push_word};
+use mst_lag::PortInView;
 use std::alloc::{AllocError, Global};
 
 /// Whether there is a role, and it doesn't forward.

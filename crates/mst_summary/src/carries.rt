@@ -10,13 +10,10 @@ ghost use Rattle.mst_summary.specs.Seen.{seen_on, seen_carries, up_text};
 
 use crate::kept::{kept_for, ports_by_lan};
 use indexmap::IndexMap;
-use mst_diff::changes::Planned;
-use mst_diff::graph::Numbering;
-use mst_diff::lag::{LanInView, PortInView};
-use mst_diff::plan_text::{set_of, vids};
-use mst_diff::roles::port_forwards;
-use mst_diff::vlan::is_member;
+use mst_diff::{Planned, is_member, port_forwards, set_of, vids};
+use mst_graph::Numbering;
 use mst_ids::{Name, Vid, push_bytes, push_end, push_word};
+use mst_lag::{LanInView, PortInView};
 use std::alloc::{AllocError, Global};
 
 /// Whether a port is active for a VID and a member of its VLAN.

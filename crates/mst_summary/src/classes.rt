@@ -1,9 +1,9 @@
 ghost use Rattle.std.specs.Prelude.{IfOk};
 ghost use Rattle.mst_summary.specs.Kept.{AreClasses};
 
-use mst_diff::graph::{Numbering, number_keys};
-use mst_diff::lag::View;
-use mst_diff::plan_text::{numbers_of_vids, tables, vlan_sets};
+use mst_diff::{numbers_of_vids, tables, vlan_sets};
+use mst_graph::{Numbering, number_keys};
+use mst_lag::View;
 use std::alloc::{AllocError, Global};
 
 /// The classes of VIDs that no table and no set of VLANs of a port tells apart.

@@ -5,9 +5,9 @@ ghost use Rattle.mst_summary.specs.Counts.{counts_line};
 ghost use Rattle.mst_summary.specs.Seen.{seen_first, seen_counts};
 
 use itoa::Buffer;
-use mst_diff::config::Regions;
-use mst_diff::lag::{BridgeInView, PortInView, View};
+use mst_config::Regions;
 use mst_ids::{BridgeId, Tree, push_line};
+use mst_lag::{BridgeInView, PortInView, View};
 use std::alloc::AllocError;
 
 /// How much there is of a network: bridges, those that are on, logical ports, those that are enabled, regions and trees.

@@ -10,11 +10,10 @@ ghost use Rattle.mst_summary.specs.Seen.{seen_with_bridge};
 ghost use Rattle.mst_summary.specs.Vlans.{HasIslands, islands_line, group_text, IsVlansText};
 
 use itoa::Buffer;
-use mst_diff::changes::Planned;
-use mst_diff::graph::{Numbering, groups_by_body};
-use mst_diff::plan_text::{set_of, vids};
-use mst_diff::vlan::{Island, reach};
+use mst_diff::{Planned, set_of, vids};
+use mst_graph::{Numbering, groups_by_body};
 use mst_ids::{Vid, push_bytes, push_end, push_word};
+use mst_vlan::{Island, reach};
 use std::alloc::{AllocError, Global};
 
 /// Whether an island has a bridge.

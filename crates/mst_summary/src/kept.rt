@@ -1,12 +1,12 @@
 ghost use Rattle.std.specs.Prelude.{◌≡◌, ◌++◌, ◌∷◌, [], List, ℕ, IfOk, OnOk, None, cond};
 ghost use Rattle.indexmap.specs.IndexMap.{get};
-ghost use Rattle.mst_diff.specs.lag.Aggregation.{same_name};
+ghost use Rattle.mst_lag.specs.Aggregation.{same_name};
 ghost use Rattle.mst_summary.specs.Kept.{kept_at};
 ghost use Rattle.mst_summary.specs.Seen.{seen_on};
 
 use indexmap::IndexMap;
-use mst_diff::lag::{PortInView, View};
 use mst_ids::Name;
+use mst_lag::{PortInView, View};
 use std::alloc::{AllocError, Global};
 use std::slice::from_ref;
 

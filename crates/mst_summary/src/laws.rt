@@ -7,9 +7,9 @@ ghost use Rattle.mst_summary.specs.declared.roots.Follower.{Follower};
 ghost use Rattle.mst_summary.specs.Roots.{next_of, IsNext};
 ghost use Rattle.mst_summary.specs.SummaryText.{IsSummary};
 
-use mst_diff::graph::laws::group_lists;
-use mst_diff::trees::laws::one_outcome;
-use mst_diff::vlan::laws::islands_of_vid;
+use mst_diff::trees_laws::one_outcome;
+use mst_diff::vlan_laws::islands_of_vid;
+use mst_graph::laws::group_lists;
 use mst_ids::Vid;
 
 /// A network has one summary, whichever settled outcomes it is made by, and there is one.

@@ -14,8 +14,9 @@ mod roots;
 mod summary;
 
 pub use kept::{kept_for, ports_by_lan};
-pub use mst_diff as diff;
 pub use mst_diff::{
-    changes, config, lag, lang, net, plan_text, roles, settle, text, trees, vector, vlan,
+    Differing, Entries, Forest, Planned, Role, bridge_id, changes_laws, forwards, has_tree,
+    laws as diff_laws, plan_text_laws, port_role, push_changes, push_configuration, push_diff,
+    push_lags, push_plan, push_regions, push_tree, push_vlan, role, root, text_laws, trees_laws,
 };
 pub use summary::push_summary;

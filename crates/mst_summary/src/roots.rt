@@ -7,11 +7,9 @@ ghost use Rattle.mst_summary.specs.Roots.{followers_of as those_of, with_lesser,
 ghost use Rattle.mst_summary.specs.Seen.{seen_follower, seen_followers, seen_root_line, seen_root_lines};
 
 use itoa::Buffer;
-use mst_diff::changes::Planned;
-use mst_diff::lag::{BridgeInView, View};
-use mst_diff::root;
-use mst_diff::trees::bridge_id;
+use mst_diff::{Planned, bridge_id, root};
 use mst_ids::{BridgeId, Name, Tree, push_bytes, push_end, push_word, push_words};
+use mst_lag::{BridgeInView, View};
 use std::alloc::{AllocError, Global};
 
 /// A bridge that names a root in a tree: its name, its own identifier there and that of its root.

@@ -1,6 +1,6 @@
 ghost use Rattle.std.specs.Prelude.{◌≡◌, ◌++◌, ℕ, List, OnOk};
 ghost use Rattle.std.specs.List.{flat_map};
-ghost use Rattle.mst_diff.specs.config.Shared.{AreRegions};
+ghost use Rattle.mst_config.specs.Shared.{AreRegions};
 ghost use Rattle.mst_diff.specs.net.Tables.{Net, Numbers};
 ghost use Rattle.mst_diff.specs.trees.Agrees.{AreOf, Known};
 ghost use Rattle.mst_diff.specs.trees.Forest.{IsForest};
@@ -14,8 +14,8 @@ use crate::counts::{count, push_counts};
 use crate::in_use::used_trees;
 use crate::islands::push_vlans;
 use crate::roots::push_roots;
-use mst_diff::changes::Planned;
-use mst_diff::config::Regions;
+use mst_config::Regions;
+use mst_diff::Planned;
 use mst_ids::Tree;
 use std::alloc::{AllocError, Global};
 

@@ -1,13 +1,13 @@
 -- The failures of a view are those of its network.
 use Rattle.std.proofs.Common.{◌≡◌, ℕ, Bool, true, false, cond, List, [], ◌∷◌, ◌++◌, map, filter, refl, sym, ap, ◌∙◌}
 use Rattle.std.specs.FinMap as fin
-use Rattle.mst_diff.specs.net.Seen.{bridge_row}
-use Rattle.mst_diff.specs.net.Tables.{Net, Numbers, BridgeRow, LanRow}
-use Rattle.mst_diff.specs.lag.Viewed.{Viewed, IsView, member_lan, named_bridge}
-use Rattle.mst_diff.specs.lag.declared.in_view.BridgeInView.{BridgeInView}
-use Rattle.mst_diff.specs.lag.declared.in_view.MemberLan.{MemberLan}
+use Rattle.mst_net.specs.Seen.{bridge_row}
+use Rattle.mst_net.specs.Tables.{Net, Numbers, BridgeRow, LanRow}
+use Rattle.mst_lag.specs.Viewed.{Viewed, IsView, member_lan, named_bridge}
+use Rattle.mst_lag.specs.declared.in_view.BridgeInView.{BridgeInView}
+use Rattle.mst_lag.specs.declared.in_view.MemberLan.{MemberLan}
 use Rattle.mst_diff.proofs.trees_lemmas.Lists.{mapped_twice}
-use Rattle.mst_diff.specs.vlan.Reach.{bridges_on}
+use Rattle.mst_vlan.specs.Reach.{bridges_on}
 use Rattle.mst_sweep.specs.declared.failure.Failure.{Failure}
 use Rattle.mst_sweep.specs.declared.failure.Failure.TheVariants.{Lan, Bridge}
 use Rattle.mst_sweep.specs.Failures.{failures}

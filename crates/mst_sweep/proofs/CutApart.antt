@@ -7,22 +7,22 @@ use Rattle.std.specs.List.{Contains, find, flat_map, list_any}
 use Rattle.std.specs.Option.{option_map, option_map_or, option_and_then}
 use Rattle.std.proofs.lemmas.Bool.{eqb-true, eq-eqb}
 use Rattle.mst_ids.specs.Words.{after_space, comma_list}
-use Rattle.mst_diff.specs.graph.Islands.{Island, Link, AreJoined, link_ends}
-use Rattle.mst_diff.specs.graph.Walks.{Walk, Node, bridge_at, lan_at}
-use Rattle.mst_diff.proofs.graph_lemmas.Members.{in_map, from_map, in_filter, from_filter, passing}
-use Rattle.mst_diff.specs.lang.declared.line.Edit.{Edit}
-use Rattle.mst_diff.specs.net.After.{after, effect, refusal_of}
-use Rattle.mst_diff.specs.net.Tables.{Net, IsNetwork, BridgeRow, port_eq}
-use Rattle.mst_diff.specs.net.declared.refusal.Refusal.{Refusal}
-use Rattle.mst_diff.specs.lag.Aggregation.{Plug, plugs, same_name}
-use Rattle.mst_diff.specs.lag.View.{LogicalPort, IsUnrestricted, logical_port, as_port, view_ports}
+use Rattle.mst_graph.specs.Islands.{Island, Link, AreJoined, link_ends}
+use Rattle.mst_graph.specs.Walks.{Walk, Node, bridge_at, lan_at}
+use Rattle.mst_graph.proofs.Members.{in_map, from_map, in_filter, from_filter, passing}
+use Rattle.mst_lang.specs.declared.line.Edit.{Edit}
+use Rattle.mst_net.specs.After.{after, effect, refusal_of}
+use Rattle.mst_net.specs.Tables.{Net, IsNetwork, BridgeRow, port_eq}
+use Rattle.mst_net.specs.declared.refusal.Refusal.{Refusal}
+use Rattle.mst_lag.specs.Aggregation.{Plug, plugs, same_name}
+use Rattle.mst_lag.specs.View.{LogicalPort, IsUnrestricted, logical_port, as_port, view_ports}
 use Rattle.mst_diff.specs.trees.Outcome.{Outcome, IsOutcome}
 use Rattle.mst_diff.proofs.trees_lemmas.Lists.{kept_in, kept_from, no_some, some_is}
 use Rattle.mst_diff.specs.roles.Roles.{forwards_for}
-use Rattle.mst_diff.specs.vlan.Active.{active_ports, port_ends, IsEnabled}
-use Rattle.mst_diff.specs.vlan.Reach.{bridges_on, is_member, link_of, vid_links, AreIslandsOf}
-use Rattle.mst_diff.proofs.vlan_lemmas.ActiveLaw.{active_enabled}
-use Rattle.mst_diff.proofs.vlan_lemmas.Carried.{carried}
+use Rattle.mst_vlan.specs.Active.{active_ports, port_ends, IsEnabled}
+use Rattle.mst_vlan.specs.Reach.{bridges_on, is_member, link_of, vid_links, AreIslandsOf}
+use Rattle.mst_vlan.proofs.ActiveLaw.{active_enabled}
+use Rattle.mst_vlan.proofs.Carried.{carried}
 use Rattle.mst_diff.specs.changes.Subjects.{bridge_names}
 use Rattle.mst_diff.specs.Reach.{has_any}
 use Rattle.mst_diff.proofs.Lists.{find-found}

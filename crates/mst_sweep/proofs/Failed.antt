@@ -3,20 +3,20 @@ use Rattle.std.proofs.Common.{◌≡◌, ℕ, Bool, true, false, cond, List, map
 use Rattle.std.specs.FinMap as fin
 use Rattle.std.specs.List.{find}
 use Rattle.std.specs.Option.{option_map, option_map_or, unwrap_or}
-use Rattle.mst_diff.specs.lang.declared.line.Edit.{Edit}
-use Rattle.mst_diff.specs.lang.declared.line.BridgeChange.TheVariants.{Power}
-use Rattle.mst_diff.specs.lang.declared.line.LanChange.TheVariants.{State}
-use Rattle.mst_diff.specs.lang.declared.line.LanState.TheVariants.{Down}
-use Rattle.mst_diff.specs.lang.declared.line.Power.TheVariants.{Off}
-use Rattle.mst_diff.specs.net.declared.refusal.Refusal.{Refusal}
-use Rattle.mst_diff.specs.net.After.{after, effect, refusal_of, bridge_with, lan_with}
-use Rattle.mst_diff.specs.net.ByTree.{by_tree}
-use Rattle.mst_diff.specs.net.Tables.{Net, BridgeRow, port_eq}
-use Rattle.mst_diff.proofs.net_lemmas.Changed.{get_changed}
-use Rattle.mst_diff.proofs.net_lemmas.Keys.{names}
-use Rattle.mst_diff.proofs.net_lemmas.NamesInOrder.{names_stay}
-use Rattle.mst_diff.specs.lag.Aggregation.{Plug, plugs, lans_as_one, same_name}
-use Rattle.mst_diff.specs.lag.View.{LogicalPort, logical_lan, logical_port, as_port, view_ports}
+use Rattle.mst_lang.specs.declared.line.Edit.{Edit}
+use Rattle.mst_lang.specs.declared.line.BridgeChange.TheVariants.{Power}
+use Rattle.mst_lang.specs.declared.line.LanChange.TheVariants.{State}
+use Rattle.mst_lang.specs.declared.line.LanState.TheVariants.{Down}
+use Rattle.mst_lang.specs.declared.line.Power.TheVariants.{Off}
+use Rattle.mst_net.specs.declared.refusal.Refusal.{Refusal}
+use Rattle.mst_net.specs.After.{after, effect, refusal_of, bridge_with, lan_with}
+use Rattle.mst_net.specs.ByTree.{by_tree}
+use Rattle.mst_net.specs.Tables.{Net, BridgeRow, port_eq}
+use Rattle.mst_net.proofs.Changed.{get_changed}
+use Rattle.mst_net.proofs.Keys.{names}
+use Rattle.mst_net.proofs.NamesInOrder.{names_stay}
+use Rattle.mst_lag.specs.Aggregation.{Plug, plugs, lans_as_one, same_name}
+use Rattle.mst_lag.specs.View.{LogicalPort, logical_lan, logical_port, as_port, view_ports}
 use Rattle.mst_diff.proofs.trees_lemmas.Lists.{mapped_twice}
 use Rattle.mst_diff.specs.changes.Subjects.{bridge_names, port_names}
 use Rattle.mst_sweep.specs.declared.failure.Failure.{Failure}

@@ -7,12 +7,12 @@ use Rattle.std.specs.FinMap as fin
 use Rattle.std.proofs.lemmas.Bool.{eqb-true}
 use Rattle.std.proofs.lemmas.List.{take_more}
 use Rattle.std.proofs.lemmas.List.Folds.{list_any-append}
-use Rattle.mst_diff.specs.graph.Islands.{Island}
-use Rattle.mst_diff.specs.net.Tables.{Net, Numbers}
-use Rattle.mst_diff.specs.net.Contents.{IsNumbered}
-use Rattle.mst_diff.specs.lag.Aggregation.{same_name}
+use Rattle.mst_graph.specs.Islands.{Island}
+use Rattle.mst_net.specs.Tables.{Net, Numbers}
+use Rattle.mst_net.specs.Contents.{IsNumbered}
+use Rattle.mst_lag.specs.Aggregation.{same_name}
 use Rattle.mst_diff.proofs.trees_lemmas.Lists.{some_is}
-use Rattle.mst_diff.specs.vlan.declared.island.Island.{Island as IslandNos}
+use Rattle.mst_vlan.specs.declared.island.Island.{Island as IslandNos}
 
 -- ---- names
 module _ (net : Net) (numbers : Numbers) (numbered : IsNumbered net numbers) (name : List ℕ) (n : ℕ) (has : fin.get numbers.bridges name ≡ Some n) where

@@ -3,15 +3,15 @@ use Rattle.std.proofs.Common.{◌≡◌, ℕ, Bool, true, false, List, map, Some
 use Rattle.std.specs.Cmp.Lexicographic.{bytes_decides}
 use Rattle.std.specs.List.{Contains, list_any}
 use Rattle.std.proofs.lemmas.List.Elements.{Contains-append_left, Contains-append_cases}
-use Rattle.mst_diff.specs.graph.Islands.{Island, AreJoined, link_ends, members, nodes}
-use Rattle.mst_diff.specs.graph.Walks.{Node, bridge_at, lan_at}
-use Rattle.mst_diff.proofs.graph_lemmas.Members.{in_map, from_map, passing}
-use Rattle.mst_diff.proofs.graph_lemmas.Walks.{back}
-use Rattle.mst_diff.specs.net.Tables.{Net}
-use Rattle.mst_diff.specs.lag.Aggregation.{same_name}
+use Rattle.mst_graph.specs.Islands.{Island, AreJoined, link_ends, members, nodes}
+use Rattle.mst_graph.specs.Walks.{Node, bridge_at, lan_at}
+use Rattle.mst_graph.proofs.Members.{in_map, from_map, passing}
+use Rattle.mst_graph.proofs.Walks.{back}
+use Rattle.mst_net.specs.Tables.{Net}
+use Rattle.mst_lag.specs.Aggregation.{same_name}
 use Rattle.mst_diff.specs.trees.Outcome.{Outcome}
-use Rattle.mst_diff.specs.vlan.Reach.{bridges_on, lans_up, vid_links, AreIslandsOf}
-use Rattle.mst_diff.proofs.vlan_lemmas.Renumbered.{bridge_listed}
+use Rattle.mst_vlan.specs.Reach.{bridges_on, lans_up, vid_links, AreIslandsOf}
+use Rattle.mst_vlan.proofs.Renumbered.{bridge_listed}
 use Rattle.mst_sweep.specs.Parts.{home}
 use Rattle.mst_sweep.proofs.Positions.{any_passes, both_pass, has_place, same_place}
 

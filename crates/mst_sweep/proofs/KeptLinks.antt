@@ -7,18 +7,18 @@ use Rattle.std.specs.FinMap as fin
 use Rattle.std.proofs.lemmas.Bool.{eqb-true, eqb-false}
 use Rattle.std.proofs.lemmas.List.{length-map, get_or-map, get_or_default}
 use Rattle.std.proofs.lemmas.List.FromFn.{length-range_with_len, get_or-range_with_len}
-use Rattle.mst_diff.specs.graph.Islands.{Link}
-use Rattle.mst_diff.proofs.graph_lemmas.Members.{here, there, in_map, from_map, in_filter, from_filter, passing}
+use Rattle.mst_graph.specs.Islands.{Link}
+use Rattle.mst_graph.proofs.Members.{here, there, in_map, from_map, in_filter, from_filter, passing}
 use Rattle.mst_ids.specs.Vids.{has}
 use Rattle.mst_ids.specs.declared.name.PortName.{PortName}
-use Rattle.mst_diff.specs.net.ByTree.{by_tree, table_in, vlans_in}
-use Rattle.mst_diff.specs.net.Table.{tree_in, has_tree, mstis_in}
-use Rattle.mst_diff.specs.net.After.{table_of}
-use Rattle.mst_diff.specs.net.Tables.{Net, Numbers, BridgeRow}
-use Rattle.mst_diff.specs.lag.Trees.{is_among, mstis_of}
-use Rattle.mst_diff.specs.lag.View.{LogicalPort, view_ports}
-use Rattle.mst_diff.specs.lag.Viewed.{Viewed, named_port}
-use Rattle.mst_diff.specs.lag.declared.in_view.PortInView.{PortInView}
+use Rattle.mst_net.specs.ByTree.{by_tree, table_in, vlans_in}
+use Rattle.mst_net.specs.Table.{tree_in, has_tree, mstis_in}
+use Rattle.mst_net.specs.After.{table_of}
+use Rattle.mst_net.specs.Tables.{Net, Numbers, BridgeRow}
+use Rattle.mst_lag.specs.Trees.{is_among, mstis_of}
+use Rattle.mst_lag.specs.View.{LogicalPort, view_ports}
+use Rattle.mst_lag.specs.Viewed.{Viewed, named_port}
+use Rattle.mst_lag.specs.declared.in_view.PortInView.{PortInView}
 use Rattle.mst_diff.specs.trees.Agrees.{AreOf}
 use Rattle.mst_diff.specs.trees.Forest.{Forest, IsForest}
 use Rattle.mst_diff.specs.trees.InUse.{is_in_use, seen_mstis}
@@ -30,9 +30,9 @@ use Rattle.mst_diff.specs.roles.Roles.{forwards, forwards_for, cist_role, msti_r
 use Rattle.mst_diff.specs.roles.Seen.{seen_role, seen_forwards}
 use Rattle.mst_diff.proofs.roles_lemmas.Forwarded.{each_forwards}
 use Rattle.mst_diff.proofs.roles_lemmas.Named.{each_same}
-use Rattle.mst_diff.specs.vlan.Active.{active_ports}
-use Rattle.mst_diff.specs.vlan.Reach.{is_member, link_of, vid_links}
-use Rattle.mst_diff.specs.vlan.Seen.{seen_member}
+use Rattle.mst_vlan.specs.Active.{active_ports}
+use Rattle.mst_vlan.specs.Reach.{is_member, link_of, vid_links}
+use Rattle.mst_vlan.specs.Seen.{seen_member}
 use Rattle.mst_diff.specs.changes.Subjects.{port_names}
 use Rattle.mst_diff.proofs.changes_lemmas.InUse.{unused}
 use Rattle.mst_sweep.specs.Touched.{AreWhereTouched, BreakNoLinks, seen_is_link, seen_beside_link, seen_breaks}

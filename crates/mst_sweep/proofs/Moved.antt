@@ -7,17 +7,17 @@ use Rattle.std.specs.FinMap as fin
 use Rattle.std.specs.FinMap.{len-entries}
 use Rattle.std.specs.Cmp.Lexicographic.{bytes_decides}
 use Rattle.std.proofs.lemmas.List.{length-map, get_or-map, get_or_default}
-use Rattle.mst_diff.proofs.net_lemmas.Rising.{range_more}
+use Rattle.mst_net.proofs.Rising.{range_more}
 use Rattle.std.proofs.lemmas.List.Elements.{filter-append}
 use Rattle.std.proofs.lemmas.List.Sums.{count_by_more_yes, count_by_more_no, count_by-le-length, length-filter, sum_by-append, sum_by-cons}
 use Rattle.mst_ids.specs.declared.name.PortName.{PortName}
-use Rattle.mst_diff.specs.net.Tables.{Net, Numbers, PortRow, port_eq}
-use Rattle.mst_diff.specs.net.Seen.{bridge_row}
-use Rattle.mst_diff.specs.lag.Aggregation.{Plug, plug_of, plugs, same_name}
-use Rattle.mst_diff.specs.lag.View.{LogicalPort, logical_port, as_port, view_ports}
-use Rattle.mst_diff.specs.lag.Viewed.{Viewed, named_port}
-use Rattle.mst_diff.specs.lag.declared.in_view.BridgeInView.{BridgeInView}
-use Rattle.mst_diff.specs.lag.declared.in_view.PortInView.{PortInView}
+use Rattle.mst_net.specs.Tables.{Net, Numbers, PortRow, port_eq}
+use Rattle.mst_net.specs.Seen.{bridge_row}
+use Rattle.mst_lag.specs.Aggregation.{Plug, plug_of, plugs, same_name}
+use Rattle.mst_lag.specs.View.{LogicalPort, logical_port, as_port, view_ports}
+use Rattle.mst_lag.specs.Viewed.{Viewed, named_port}
+use Rattle.mst_lag.specs.declared.in_view.BridgeInView.{BridgeInView}
+use Rattle.mst_lag.specs.declared.in_view.PortInView.{PortInView}
 use Rattle.mst_diff.specs.trees.Agrees.{AreOf, Known}
 use Rattle.mst_diff.specs.trees.Forest.{Forest, IsForest}
 use Rattle.mst_diff.specs.trees.Msti.{has_msti}

@@ -6,9 +6,9 @@ use Rattle.std.specs.Cmp.Lexicographic.{pointwise, bytes_decides, nat_list_eq_eq
 use Rattle.std.specs.List.{filter, flat_map, list_any}
 use Rattle.std.proofs.lemmas.Bool.{or_parts}
 use Rattle.mst_ids.specs.Vids.{is_vid}
-use Rattle.mst_diff.specs.graph.Groups.{AreGroups}
-use Rattle.mst_diff.proofs.graph_lemmas.Alike.{alike_groups}
-use Rattle.mst_diff.specs.net.Tables.{Net}
+use Rattle.mst_graph.specs.Groups.{AreGroups}
+use Rattle.mst_graph.proofs.Alike.{alike_groups}
+use Rattle.mst_net.specs.Tables.{Net}
 use Rattle.mst_diff.specs.trees.Outcome.{Outcome}
 use Rattle.mst_diff.specs.plan_text.PlanText.{all_vids}
 use Rattle.mst_diff.specs.Reach.{has_any}

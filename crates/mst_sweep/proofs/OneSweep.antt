@@ -6,20 +6,20 @@ use Rattle.std.specs.List.{AllZip, Contains, filter, flat_map, count_by}
 use Rattle.std.specs.FinMap as fin
 use Rattle.std.proofs.lemmas.List.Elements.{Contains-append_cases}
 use Rattle.mst_ids.specs.Vids.{is_vid}
-use Rattle.mst_diff.specs.graph.Groups.{AreGroups}
-use Rattle.mst_diff.specs.graph.Islands.{Island}
-use Rattle.mst_diff.proofs.graph_lemmas.Alike.{alike_groups}
-use Rattle.mst_diff.proofs.graph_lemmas.Members.{here, in_whole, from_map, from_filter, there}
-use Rattle.mst_diff.specs.lang.Ranges.{InRange}
-use Rattle.mst_diff.specs.lang.declared.line.Edit.{Edit}
-use Rattle.mst_diff.specs.net.After.{after}
-use Rattle.mst_diff.specs.net.Tables.{Net, BridgeRow, LanRow, IsNetwork}
-use Rattle.mst_diff.proofs.net_lemmas.Keys.{names}
+use Rattle.mst_graph.specs.Groups.{AreGroups}
+use Rattle.mst_graph.specs.Islands.{Island}
+use Rattle.mst_graph.proofs.Alike.{alike_groups}
+use Rattle.mst_graph.proofs.Members.{here, in_whole, from_map, from_filter, there}
+use Rattle.mst_lang.specs.Ranges.{InRange}
+use Rattle.mst_lang.specs.declared.line.Edit.{Edit}
+use Rattle.mst_net.specs.After.{after}
+use Rattle.mst_net.specs.Tables.{Net, BridgeRow, LanRow, IsNetwork}
+use Rattle.mst_net.proofs.Keys.{names}
 use Rattle.mst_diff.specs.trees.Outcome.{Outcome, IsOutcome}
 use Rattle.mst_diff.proofs.trees_lemmas.Entries.{all_weaker, entries_found}
 use Rattle.mst_diff.proofs.trees_lemmas.Lists.{all_there, all_contained}
 use Rattle.mst_diff.proofs.trees_lemmas.Looking.{filter_alike}
-use Rattle.mst_diff.specs.vlan.Reach.{AreIslandsOf, bridges_on}
+use Rattle.mst_vlan.specs.Reach.{AreIslandsOf, bridges_on}
 use Rattle.mst_diff.specs.plan_text.PlanText.{all_vids}
 use Rattle.mst_diff.proofs.plan_text_lemmas.OnePlan.{vids_once, is_vid_there, each_text, OneGrouping}
 use Rattle.mst_diff.specs.changes.Subjects.{bridge_names}

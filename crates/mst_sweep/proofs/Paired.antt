@@ -3,10 +3,10 @@ use Rattle.std.proofs.Common.{◌≡◌, ℕ, Bool, List, Option, Some, sym, ap,
 use Rattle.std.specs.Cmp.Lexicographic.{bytes_decides}
 use Rattle.std.specs.List.{Contains, find}
 use Rattle.std.specs.Option.{option_map}
-use Rattle.mst_diff.specs.net.Tables.{Net, Numbers}
-use Rattle.mst_diff.specs.lag.Aggregation.{same_name}
-use Rattle.mst_diff.specs.lag.Viewed.{Viewed, IsView}
-use Rattle.mst_diff.specs.lag.declared.in_view.BridgeInView.{BridgeInView}
+use Rattle.mst_net.specs.Tables.{Net, Numbers}
+use Rattle.mst_lag.specs.Aggregation.{same_name}
+use Rattle.mst_lag.specs.Viewed.{Viewed, IsView}
+use Rattle.mst_lag.specs.declared.in_view.BridgeInView.{BridgeInView}
 use Rattle.mst_diff.proofs.trees_lemmas.Lists.{apart_cases}
 use Rattle.mst_diff.proofs.trees_lemmas.Seen.{BridgesRise, bridges_apart}
 use Rattle.mst_diff.proofs.trees_lemmas.Views.{names_differ}

@@ -5,25 +5,25 @@ use Rattle.std.specs.Map.{lookup}
 use Rattle.std.specs.Option.{option_map, option_and_then}
 use Rattle.std.specs.FinMap as fin
 use Rattle.std.specs.Cmp.Lexicographic.{bytes_decides}
-use Rattle.mst_diff.specs.graph.Islands.{Island, AreIslands}
-use Rattle.mst_diff.proofs.graph_lemmas.Members.{from_map, from_filter}
-use Rattle.mst_diff.specs.net.ByTree.{ByTree, by_tree, table_in, vlans_in}
-use Rattle.mst_diff.specs.net.Seen.{bridge_row}
-use Rattle.mst_diff.specs.net.Tables.{Net, Numbers, BridgeRow}
+use Rattle.mst_graph.specs.Islands.{Island, AreIslands}
+use Rattle.mst_graph.proofs.Members.{from_map, from_filter}
+use Rattle.mst_net.specs.ByTree.{ByTree, by_tree, table_in, vlans_in}
+use Rattle.mst_net.specs.Seen.{bridge_row}
+use Rattle.mst_net.specs.Tables.{Net, Numbers, BridgeRow}
 use Rattle.mst_ids.specs.declared.name.PortName.{PortName}
-use Rattle.mst_diff.specs.lag.Aggregation.{same_name}
-use Rattle.mst_diff.specs.lag.View.{LogicalPort}
-use Rattle.mst_diff.specs.lag.Viewed.{Viewed, named_port}
-use Rattle.mst_diff.specs.lag.declared.in_view.BridgeInView.{BridgeInView}
-use Rattle.mst_diff.specs.lag.declared.in_view.PortInView.{PortInView}
+use Rattle.mst_lag.specs.Aggregation.{same_name}
+use Rattle.mst_lag.specs.View.{LogicalPort}
+use Rattle.mst_lag.specs.Viewed.{Viewed, named_port}
+use Rattle.mst_lag.specs.declared.in_view.BridgeInView.{BridgeInView}
+use Rattle.mst_lag.specs.declared.in_view.PortInView.{PortInView}
 use Rattle.mst_diff.specs.trees.Agrees.{AreOf}
 use Rattle.mst_diff.specs.trees.Forest.{Forest}
 use Rattle.mst_diff.specs.trees.Outcome.{Outcome}
 use Rattle.mst_diff.proofs.trees_lemmas.Entries.{all_weaker, entries_found}
 use Rattle.mst_diff.proofs.trees_lemmas.Lists.{all_there, all_contained, all_mapped, all_unmapped, kept_same, mapped_twice, no_some}
 use Rattle.mst_diff.proofs.trees_lemmas.Seen.{bridge_seen}
-use Rattle.mst_diff.specs.vlan.Reach.{bridges_on, lans_up, vid_links, AreIslandsOf}
-use Rattle.mst_diff.proofs.vlan_lemmas.Renumbered.{bridge_listed}
+use Rattle.mst_vlan.specs.Reach.{bridges_on, lans_up, vid_links, AreIslandsOf}
+use Rattle.mst_vlan.proofs.Renumbered.{bridge_listed}
 use Rattle.mst_diff.specs.plan_text.Alike.{AreAlike}
 use Rattle.mst_diff.proofs.plan_text_lemmas.Classes.{links_shared}
 use Rattle.mst_diff.specs.changes.Subjects.{bridge_names, port_names}
@@ -33,7 +33,7 @@ use Rattle.mst_diff.specs.Seen.{seen_in_both, seen_both}
 use Rattle.mst_diff.proofs.Lists.{filter_map-filter_map, find-found}
 use Rattle.mst_diff.proofs.Named.{found_named, names_are}
 use Rattle.mst_diff.proofs.Reached.{AreTold}
-use Rattle.mst_diff.proofs.net_lemmas.Keys.{names}
+use Rattle.mst_net.proofs.Keys.{names}
 use Rattle.mst_sweep.specs.declared.parts.Stays.{Stays}
 use Rattle.mst_sweep.specs.Parts.{home, stays_at, staying, AreParts}
 use Rattle.mst_sweep.specs.Seen.{seen_stays}

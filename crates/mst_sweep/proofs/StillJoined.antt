@@ -2,13 +2,13 @@
 use Rattle.std.proofs.Common.{◌≡◌, ℕ, ◌==◌, not, true, List, [], ◌∷◌, ◌⊎◌, inl, inr, refl, sym, ap, subst, ◌∙◌, Some}
 use Rattle.std.specs.List.{Contains}
 use Rattle.std.proofs.lemmas.Bool.{eqb-true, eq-eqb}
-use Rattle.mst_diff.specs.graph.Islands.{Island, Link, AreJoined, link_ends}
-use Rattle.mst_diff.specs.graph.Walks.{Node, bridge_at, lan_at, stay, along}
-use Rattle.mst_diff.proofs.graph_lemmas.Walks.{joined_to, stays}
-use Rattle.mst_diff.specs.net.Tables.{Net}
+use Rattle.mst_graph.specs.Islands.{Island, Link, AreJoined, link_ends}
+use Rattle.mst_graph.specs.Walks.{Node, bridge_at, lan_at, stay, along}
+use Rattle.mst_graph.proofs.Walks.{joined_to, stays}
+use Rattle.mst_net.specs.Tables.{Net}
 use Rattle.mst_diff.specs.trees.Outcome.{Outcome}
 use Rattle.mst_diff.proofs.trees_lemmas.Lists.{kept_from, some_is}
-use Rattle.mst_diff.specs.vlan.Reach.{vid_links, AreIslandsOf}
+use Rattle.mst_vlan.specs.Reach.{vid_links, AreIslandsOf}
 use Rattle.mst_diff.specs.changes.Subjects.{bridge_names}
 use Rattle.mst_diff.specs.Reach.{has_any}
 use Rattle.mst_sweep.specs.Parts.{stays_at, staying, parts_text}

@@ -8,8 +8,8 @@ use Rattle.std.proofs.lemmas.List.Elements.{Contains-append_left, Contains-appen
 use Rattle.std.proofs.lemmas.List.Sums.{sum_by-append, sum_by-cons}
 use Rattle.mst_ids.specs.Vids.{set_where, vids_text}
 use Rattle.mst_ids.specs.Words.{after_space, comma_list}
-use Rattle.mst_diff.specs.net.Tables.{Net}
-use Rattle.mst_diff.specs.lag.Trees.{is_among}
+use Rattle.mst_net.specs.Tables.{Net}
+use Rattle.mst_lag.specs.Trees.{is_among}
 use Rattle.mst_diff.specs.trees.Outcome.{Outcome}
 use Rattle.mst_diff.specs.Reach.{has_any}
 use Rattle.mst_sweep.specs.declared.failure.Failure.{Failure}

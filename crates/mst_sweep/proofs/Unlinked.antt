@@ -2,12 +2,12 @@
 use Rattle.std.proofs.Common.{◌≡◌, ℕ, ◌<◌, Bool, true, false, List, [], length, get_or, refl, sym, ap, subst, ◌∙◌}
 use Rattle.std.specs.List.{Contains}
 use Rattle.std.proofs.lemmas.List.{get_or_default}
-use Rattle.mst_diff.specs.graph.Islands.{Island}
-use Rattle.mst_diff.specs.net.Tables.{Net, Numbers}
-use Rattle.mst_diff.specs.lag.Viewed.{Viewed}
+use Rattle.mst_graph.specs.Islands.{Island}
+use Rattle.mst_net.specs.Tables.{Net, Numbers}
+use Rattle.mst_lag.specs.Viewed.{Viewed}
 use Rattle.mst_diff.specs.trees.Agrees.{AreOf}
 use Rattle.mst_diff.specs.trees.Forest.{Forest, IsForest}
-use Rattle.mst_diff.specs.vlan.Reach.{vid_links, AreIslandsOf}
+use Rattle.mst_vlan.specs.Reach.{vid_links, AreIslandsOf}
 use Rattle.mst_sweep.specs.Parts.{AreParts}
 use Rattle.mst_sweep.specs.Touched.{AreTouched, ArePlaces, AreWhereTouched, BreakNoLinks}
 use Rattle.mst_sweep.proofs.Failed.{AreLeft}

@@ -5,11 +5,11 @@ use Rattle.std.specs.List.{Contains, filter, range_with_len}
 use Rattle.std.proofs.lemmas.Bool.{eqb-true, eqb-false}
 use Rattle.std.proofs.lemmas.List.{get_or_default}
 use Rattle.std.proofs.lemmas.List.FromFn.{length-range_with_len, get_or-range_with_len}
-use Rattle.mst_diff.proofs.graph_lemmas.Members.{here, there, in_filter}
+use Rattle.mst_graph.proofs.Members.{here, there, in_filter}
 use Rattle.mst_ids.specs.declared.name.PortName.{PortName}
-use Rattle.mst_diff.specs.net.Tables.{Net, Numbers}
-use Rattle.mst_diff.specs.lag.Viewed.{Viewed}
-use Rattle.mst_diff.specs.lag.declared.in_view.PortInView.{PortInView}
+use Rattle.mst_net.specs.Tables.{Net, Numbers}
+use Rattle.mst_lag.specs.Viewed.{Viewed}
+use Rattle.mst_lag.specs.declared.in_view.PortInView.{PortInView}
 use Rattle.mst_diff.specs.trees.Agrees.{AreOf}
 use Rattle.mst_diff.specs.trees.Forest.{Forest, IsForest}
 use Rattle.mst_diff.specs.trees.InUse.{is_in_use, seen_mstis}

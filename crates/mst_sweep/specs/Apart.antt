@@ -1,11 +1,11 @@
 -- Bridges that a change takes apart: the enabled ports linked them before, and don't afterwards.
 use Rattle.std.specs.Prelude.{◌≡◌, ℕ, true, List}
 use Rattle.std.specs.List.{Contains}
-use Rattle.mst_diff.specs.graph.Walks.{Walk, bridge_at}
-use Rattle.mst_diff.specs.net.Tables.{Net}
-use Rattle.mst_diff.specs.lag.View.{LogicalPort, view_ports}
-use Rattle.mst_diff.specs.vlan.Active.{port_ends, IsEnabled}
-use Rattle.mst_diff.specs.vlan.Reach.{bridges_on, is_member}
+use Rattle.mst_graph.specs.Walks.{Walk, bridge_at}
+use Rattle.mst_net.specs.Tables.{Net}
+use Rattle.mst_lag.specs.View.{LogicalPort, view_ports}
+use Rattle.mst_vlan.specs.Active.{port_ends, IsEnabled}
+use Rattle.mst_vlan.specs.Reach.{bridges_on, is_member}
 
 -- every logical port is a member of the VLAN
 abbrev pub AllAreMembers : Net → ℕ → Type 0

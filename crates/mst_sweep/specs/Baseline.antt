@@ -3,15 +3,15 @@ use Rattle.std.specs.Prelude.{◌≡◌, ℕ, ◌+◌, Bool, List, length, map, 
 use Rattle.std.specs.List.{AllByRecursion, AllZip, Contains}
 use Rattle.std.specs.Map.{lookup}
 use Rattle.std.specs.FinMap as fin
-use Rattle.mst_diff.specs.graph.Islands.{Island}
-use Rattle.mst_diff.specs.graph.Numbers.{AreNumbers}
-use Rattle.mst_diff.specs.net.ByTree.{table_in, vlans_in}
-use Rattle.mst_diff.specs.net.Tables.{Net, Numbers}
-use Rattle.mst_diff.specs.lag.Viewed.{Viewed}
+use Rattle.mst_graph.specs.Islands.{Island}
+use Rattle.mst_graph.specs.Numbers.{AreNumbers}
+use Rattle.mst_net.specs.ByTree.{table_in, vlans_in}
+use Rattle.mst_net.specs.Tables.{Net, Numbers}
+use Rattle.mst_lag.specs.Viewed.{Viewed}
 use Rattle.mst_diff.specs.trees.Agrees.{AreOf}
 use Rattle.mst_diff.specs.trees.Forest.{Forest, IsForest}
 use Rattle.mst_diff.specs.trees.Outcome.{Outcome}
-use Rattle.mst_diff.specs.vlan.Reach.{AreIslandsOf}
+use Rattle.mst_vlan.specs.Reach.{AreIslandsOf}
 use Rattle.mst_diff.specs.plan_text.Alike.{TellApart}
 use Rattle.mst_sweep.specs.Parts.{home}
 use Rattle.mst_sweep.specs.declared.baseline.Baseline.{Baseline}

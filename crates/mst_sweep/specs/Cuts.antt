@@ -3,9 +3,9 @@ use Rattle.std.specs.Prelude.{◌≡◌, ℕ, true, List, [], ◌∷◌, ◌++�
 use Rattle.std.specs.List.{flat_map}
 use Rattle.mst_ids.specs.Vids.{is_vid, set_where, vids_text}
 use Rattle.mst_ids.specs.Words.{after_space}
-use Rattle.mst_diff.specs.graph.Groups.{AreGroups}
-use Rattle.mst_diff.specs.net.Tables.{Net}
-use Rattle.mst_diff.specs.lag.Trees.{is_among}
+use Rattle.mst_graph.specs.Groups.{AreGroups}
+use Rattle.mst_net.specs.Tables.{Net}
+use Rattle.mst_lag.specs.Trees.{is_among}
 use Rattle.mst_diff.specs.trees.Outcome.{Outcome}
 use Rattle.mst_diff.specs.plan_text.PlanText.{all_vids}
 use Rattle.mst_diff.specs.Reach.{has_any}

@@ -1,14 +1,14 @@
 -- The single failures of a network.
 use Rattle.std.specs.Prelude.{List, ◌++◌, map, filter}
 use Rattle.std.specs.FinMap as fin
-use Rattle.mst_diff.specs.lang.declared.line.Edit.{Edit}
-use Rattle.mst_diff.specs.lang.declared.line.Edit.TheVariants.{SetBridge, SetLan}
-use Rattle.mst_diff.specs.lang.declared.line.BridgeChange.TheVariants.{Power}
-use Rattle.mst_diff.specs.lang.declared.line.LanChange.TheVariants.{State}
-use Rattle.mst_diff.specs.lang.declared.line.Power.TheVariants.{Off}
-use Rattle.mst_diff.specs.lang.declared.line.LanState.TheVariants.{Down}
-use Rattle.mst_diff.specs.net.Tables.{Net}
-use Rattle.mst_diff.specs.vlan.Reach.{bridges_on}
+use Rattle.mst_lang.specs.declared.line.Edit.{Edit}
+use Rattle.mst_lang.specs.declared.line.Edit.TheVariants.{SetBridge, SetLan}
+use Rattle.mst_lang.specs.declared.line.BridgeChange.TheVariants.{Power}
+use Rattle.mst_lang.specs.declared.line.LanChange.TheVariants.{State}
+use Rattle.mst_lang.specs.declared.line.Power.TheVariants.{Off}
+use Rattle.mst_lang.specs.declared.line.LanState.TheVariants.{Down}
+use Rattle.mst_net.specs.Tables.{Net}
+use Rattle.mst_vlan.specs.Reach.{bridges_on}
 use Rattle.mst_sweep.specs.declared.failure.Failure.{Failure}
 use Rattle.mst_sweep.specs.declared.failure.Failure.TheVariants.{Lan, Bridge}
 

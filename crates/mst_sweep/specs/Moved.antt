@@ -2,7 +2,7 @@
 use Rattle.std.specs.Prelude.{ℕ, ◌==◌, ◌&&◌, not, Bool, true, false, List, Option, Some, None, filter}
 use Rattle.std.specs.List.{list_any, count_by, sum_by}
 use Rattle.mst_ids.specs.declared.name.PortName.{PortName}
-use Rattle.mst_diff.specs.net.Tables.{Net}
+use Rattle.mst_net.specs.Tables.{Net}
 use Rattle.mst_diff.specs.trees.Outcome.{Outcome}
 use Rattle.mst_diff.specs.roles.Roles.{role_of}
 use Rattle.mst_diff.specs.roles.declared.kind.Role.{Role}

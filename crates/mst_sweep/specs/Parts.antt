@@ -3,11 +3,11 @@ use Rattle.std.specs.Prelude.{◌≡◌, ℕ, ◌==◌, ◌&&◌, not, Bool, fal
 use Rattle.std.specs.List.{find, flat_map, list_any, position_from}
 use Rattle.std.specs.Option.{option_map, option_map_or, option_and_then}
 use Rattle.mst_ids.specs.Words.{after_space, comma_list}
-use Rattle.mst_diff.specs.graph.Islands.{Island}
-use Rattle.mst_diff.specs.net.Tables.{Net}
-use Rattle.mst_diff.specs.lag.Aggregation.{same_name}
+use Rattle.mst_graph.specs.Islands.{Island}
+use Rattle.mst_net.specs.Tables.{Net}
+use Rattle.mst_lag.specs.Aggregation.{same_name}
 use Rattle.mst_diff.specs.trees.Outcome.{Outcome}
-use Rattle.mst_diff.specs.vlan.Reach.{AreIslandsOf}
+use Rattle.mst_vlan.specs.Reach.{AreIslandsOf}
 use Rattle.mst_diff.specs.changes.Subjects.{bridge_names}
 use Rattle.mst_sweep.specs.declared.parts.Stays.{Stays}
 

@@ -3,11 +3,11 @@ use Rattle.std.specs.Prelude.{ℕ, Bool, List, Option, nat_eq}
 use Rattle.std.specs.List.{list_any, position_from}
 use Rattle.std.specs.Map.{lookup}
 use Rattle.std.specs.Option.{option_map, option_and_then}
-use Rattle.mst_diff.specs.lag.Viewed.{Viewed}
-use Rattle.mst_diff.specs.lag.declared.in_view.PortInView.{PortInView}
+use Rattle.mst_lag.specs.Viewed.{Viewed}
+use Rattle.mst_lag.specs.declared.in_view.PortInView.{PortInView}
 use Rattle.mst_diff.specs.trees.Forest.{Forest}
 use Rattle.mst_diff.specs.roles.Seen.{seen_role}
-use Rattle.mst_diff.specs.vlan.declared.island.Island.{Island}
+use Rattle.mst_vlan.specs.declared.island.Island.{Island}
 use Rattle.mst_diff.specs.declared.both.Both.{Both}
 use Rattle.mst_diff.specs.Seen.{seen_root}
 use Rattle.mst_sweep.specs.declared.parts.Stays.{Stays}

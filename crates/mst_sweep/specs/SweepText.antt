@@ -3,9 +3,9 @@ use Rattle.std.specs.Prelude.{◌≡◌, ℕ, Bool, true, false, List, [], ◌�
 use Rattle.std.specs.List.{AllZip, count_by, flat_map}
 use Rattle.mst_ids.specs.Vids.{set_where, vids_text}
 use Rattle.mst_ids.specs.Words.{comma_list, line}
-use Rattle.mst_diff.specs.net.After.{after}
-use Rattle.mst_diff.specs.net.Tables.{Net}
-use Rattle.mst_diff.specs.lag.Trees.{is_among}
+use Rattle.mst_net.specs.After.{after}
+use Rattle.mst_net.specs.Tables.{Net}
+use Rattle.mst_lag.specs.Trees.{is_among}
 use Rattle.mst_diff.specs.trees.Outcome.{Outcome, IsOutcome}
 use Rattle.mst_diff.specs.Reach.{has_any}
 use Rattle.mst_sweep.specs.declared.failure.Failure.{Failure}

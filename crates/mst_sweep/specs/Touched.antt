@@ -1,13 +1,13 @@
 -- Ports whose roles a failure changes, by their places in the view, and links that it takes away.
 use Rattle.std.specs.Prelude.{◌≡◌, ℕ, ◌<◌, ◌==◌, ◌&&◌, not, Bool, true, false, List, ◌∷◌, length, slice_index_or, Option, Some, None}
 use Rattle.std.specs.List.{Contains, list_any}
-use Rattle.mst_diff.specs.lag.Viewed.{Viewed}
-use Rattle.mst_diff.specs.lag.declared.in_view.PortInView.{PortInView}
+use Rattle.mst_lag.specs.Viewed.{Viewed}
+use Rattle.mst_lag.specs.declared.in_view.PortInView.{PortInView}
 use Rattle.mst_diff.specs.trees.Forest.{Forest}
 use Rattle.mst_diff.specs.trees.InUse.{seen_mstis}
 use Rattle.mst_diff.specs.roles.Seen.{seen_role, seen_forwards}
 use Rattle.mst_diff.specs.roles.declared.kind.Role.{Role}
-use Rattle.mst_diff.specs.vlan.Seen.{seen_member}
+use Rattle.mst_vlan.specs.Seen.{seen_member}
 use Rattle.mst_diff.specs.changes.Values.{role_number}
 
 -- ---- roles

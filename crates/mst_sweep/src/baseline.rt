@@ -1,15 +1,14 @@
 ghost use Rattle.std.specs.Prelude.{◌≡◌, ◌<◌, ◌+◌, IfOk, length, map, vec_len};
 ghost use Rattle.std.specs.List.{All, AllZip};
-ghost use Rattle.mst_diff.specs.net.Tables.{Net, Numbers};
+ghost use Rattle.mst_net.specs.Tables.{Net, Numbers};
 ghost use Rattle.mst_diff.specs.trees.Agrees.{AreOf, Known};
 ghost use Rattle.mst_diff.specs.trees.Forest.{IsForest};
 ghost use Rattle.mst_sweep.specs.Baseline.{AreHomes, IsBaseline};
 
 use crate::homes::homes_of;
 use indexmap::IndexMap;
-use mst_diff::changes::Planned;
-use mst_diff::graph::{Numbering, number_keys};
-use mst_diff::plan_text::{numbers_of_vids, tables, vlan_sets};
+use mst_diff::{Planned, numbers_of_vids, tables, vlan_sets};
+use mst_graph::{Numbering, number_keys};
 use mst_ids::{BridgeNo, Vid};
 use std::alloc::{AllocError, Global};
 

@@ -1,7 +1,7 @@
 ghost use Rattle.std.specs.Prelude.{◌≡◌, ◌<◌, ◌+◌, ◌++◌, ℕ, List, Ok, IfOk, OnOk, length, map, filter, vec_len};
 ghost use Rattle.std.specs.List.{AllZip, flat_map, list_any};
-ghost use Rattle.mst_diff.specs.net.After.{after};
-ghost use Rattle.mst_diff.specs.net.Tables.{Net, Numbers};
+ghost use Rattle.mst_net.specs.After.{after};
+ghost use Rattle.mst_net.specs.Tables.{Net, Numbers};
 ghost use Rattle.mst_diff.specs.trees.Agrees.{AreOf, Known};
 ghost use Rattle.mst_diff.specs.trees.Forest.{IsForest};
 ghost use Rattle.mst_diff.specs.plan_text.Bodies.{NumberEach, body_at};
@@ -19,12 +19,10 @@ use crate::homes::homes_of;
 use crate::links::breaks_no_link;
 use crate::parts::{push_parts, staying};
 use indexmap::IndexMap;
-use mst_diff::Both;
-use mst_diff::changes::Planned;
-use mst_diff::graph::groups_by_body;
-use mst_diff::graph::laws::group_lists;
-use mst_diff::plan_text::{copies, set_of, vids};
-use mst_diff::vlan::laws::islands_of_vid;
+use mst_diff::vlan_laws::islands_of_vid;
+use mst_diff::{Both, Planned, copies, set_of, vids};
+use mst_graph::groups_by_body;
+use mst_graph::laws::group_lists;
 use mst_ids::{BridgeNo, Vid, push_bytes, push_end};
 use std::alloc::{AllocError, Global};
 

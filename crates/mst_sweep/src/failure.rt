@@ -1,12 +1,12 @@
 ghost use Rattle.std.specs.Prelude.{◌≡◌, IfOk, map, filter};
-ghost use Rattle.mst_diff.specs.net.Seen.{bridge_row};
-ghost use Rattle.mst_diff.specs.net.Tables.{Net, Numbers};
-ghost use Rattle.mst_diff.specs.lag.Viewed.{IsView};
+ghost use Rattle.mst_net.specs.Seen.{bridge_row};
+ghost use Rattle.mst_net.specs.Tables.{Net, Numbers};
+ghost use Rattle.mst_lag.specs.Viewed.{IsView};
 ghost use Rattle.mst_sweep.specs.Failures.{edit_of, failures as all_failures};
 
-use mst_diff::lag::{BridgeInView, MemberLan, View};
-use mst_diff::lang::{BridgeChange, Edit, LanChange, LanState, Power};
 use mst_ids::Name;
+use mst_lag::{BridgeInView, MemberLan, View};
+use mst_lang::{BridgeChange, Edit, LanChange, LanState, Power};
 use std::alloc::{AllocError, Global};
 
 /// A single failure.

@@ -2,16 +2,16 @@ ghost use Rattle.std.specs.Prelude.{◌≡◌, ℕ, IfOk, OnOk, Some, None, nat_
 ghost use Rattle.std.specs.List.{list_any};
 ghost use Rattle.std.specs.Option.{option_or};
 ghost use Rattle.indexmap.specs.IndexMap.{get};
-ghost use Rattle.mst_diff.specs.net.Tables.{Net, Numbers};
+ghost use Rattle.mst_net.specs.Tables.{Net, Numbers};
 ghost use Rattle.mst_diff.specs.trees.Agrees.{AreOf, Known};
 ghost use Rattle.mst_diff.specs.trees.Forest.{IsForest};
 ghost use Rattle.mst_sweep.specs.Seen.{seen_home};
 ghost use Rattle.mst_sweep.specs.Baseline.{AreHomes};
 
 use indexmap::IndexMap;
-use mst_diff::changes::Planned;
-use mst_diff::vlan::{Island, reach};
+use mst_diff::Planned;
 use mst_ids::{BridgeNo, Vid};
+use mst_vlan::{Island, reach};
 use std::alloc::{AllocError, Global};
 
 /// Adds the place of an island for those of its bridges that have none yet.

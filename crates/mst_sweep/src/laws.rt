@@ -1,9 +1,9 @@
 //! Laws of the text of what each single failure does. Their functions do nothing: a caller has their clauses.
 ghost use Rattle.std.specs.Prelude.{◌≡◌, ◌↔◌, ◌+◌, ◌/◌, ◌≤◌, ℕ, Bool, true, List, length, Ok};
 ghost use Rattle.std.specs.List.{flat_map, sum_by};
-ghost use Rattle.mst_diff.specs.net.After.{after};
-ghost use Rattle.mst_diff.specs.net.Tables.{Net, IsNetwork};
-ghost use Rattle.mst_diff.specs.lag.View.{IsUnrestricted};
+ghost use Rattle.mst_net.specs.After.{after};
+ghost use Rattle.mst_net.specs.Tables.{Net, IsNetwork};
+ghost use Rattle.mst_lag.specs.View.{IsUnrestricted};
 ghost use Rattle.mst_diff.specs.trees.Outcome.{Outcome, IsOutcome};
 ghost use Rattle.mst_diff.specs.Reach.{has_any};
 ghost use Rattle.mst_sweep.specs.Apart.{AllAreMembers, ComeApart};
@@ -13,11 +13,11 @@ ghost use Rattle.mst_sweep.specs.declared.failure.Failure.{Failure as FailureOf}
 ghost use Rattle.mst_sweep.specs.SweepText.{IsFailureText, IsSweep};
 ghost use Rattle.mst_sweep.specs.SweepParts.{PartOf, IsPart, ToldOfPart, whole_part, part_of, IsSweepPart, AreSweepParts, but_last_line};
 
-use mst_diff::graph::laws::group_lists;
-use mst_diff::net::laws::networks;
-use mst_diff::trees::laws::one_outcome;
-use mst_diff::vlan::laws::{islands_of_vid, joined_without_loop};
+use mst_diff::trees_laws::one_outcome;
+use mst_diff::vlan_laws::{islands_of_vid, joined_without_loop};
+use mst_graph::laws::group_lists;
 use mst_ids::Vid;
+use mst_net::laws::networks;
 
 /// A failure has one text, whichever settled outcomes it is made by, and cuts some VID by each or by none; and there is one.
 pub fn one_failure()

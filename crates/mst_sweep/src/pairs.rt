@@ -1,11 +1,10 @@
 ghost use Rattle.std.specs.Prelude.{◌≡◌, Some, IfOk, IfSome};
-ghost use Rattle.mst_diff.specs.lag.Aggregation.{same_name};
+ghost use Rattle.mst_lag.specs.Aggregation.{same_name};
 ghost use Rattle.mst_diff.specs.trees.Agrees.{Known};
 ghost use Rattle.mst_diff.specs.Seen.{seen_both, seen_in_both};
 
-use mst_diff::Both;
-use mst_diff::changes::Planned;
-use mst_diff::lag::BridgeInView;
+use mst_diff::{Both, Planned};
+use mst_lag::BridgeInView;
 use std::alloc::{AllocError, Global};
 
 /// Whether a bridge has the name of another.

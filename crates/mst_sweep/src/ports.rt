@@ -1,8 +1,8 @@
 ghost use Rattle.std.specs.Prelude.{◌≡◌, ◌≤◌, ◌<◌, ◌∷◌, Ok, length, slice_index_or};
 ghost use Rattle.std.specs.List.{Contains, count_by};
 ghost use Rattle.mst_ids.specs.declared.name.PortName.{PortName};
-ghost use Rattle.mst_diff.specs.net.After.{after};
-ghost use Rattle.mst_diff.specs.net.Tables.{Net, Numbers};
+ghost use Rattle.mst_net.specs.After.{after};
+ghost use Rattle.mst_net.specs.Tables.{Net, Numbers};
 ghost use Rattle.mst_diff.specs.trees.Agrees.{AreOf, Known};
 ghost use Rattle.mst_diff.specs.trees.Forest.{IsForest};
 ghost use Rattle.mst_diff.specs.trees.InUse.{AreInUse, seen_mstis};
@@ -14,11 +14,9 @@ ghost use Rattle.mst_sweep.specs.Moved.{takes_part as takes, is_other_role, port
 ghost use Rattle.mst_sweep.specs.Seen.{seen_port_moved};
 ghost use Rattle.mst_sweep.specs.Touched.{AreTouched};
 
-use mst_diff::changes::Planned;
-use mst_diff::lag::PortInView;
-use mst_diff::roles::{Role, port_role};
-use mst_diff::trees::{is_had, trees_in_use};
+use mst_diff::{Planned, Role, is_had, port_role, trees_in_use};
 use mst_ids::Tree;
+use mst_lag::PortInView;
 
 /// Whether a role is other than Disabled.
 fn takes_part(role: Role) -> bool

@@ -1,6 +1,6 @@
 ghost use Rattle.std.specs.Prelude.{◌≡◌, IfOk};
 ghost use Rattle.std.specs.List.{list_any};
-ghost use Rattle.mst_diff.specs.net.Tables.{Net, Numbers};
+ghost use Rattle.mst_net.specs.Tables.{Net, Numbers};
 ghost use Rattle.mst_diff.specs.trees.Agrees.{AreOf};
 ghost use Rattle.mst_diff.specs.trees.Forest.{IsForest};
 ghost use Rattle.mst_diff.specs.trees.InUse.{AreInUse};
@@ -9,9 +9,7 @@ ghost use Rattle.mst_diff.specs.Seen.{seen_both};
 ghost use Rattle.mst_sweep.specs.Moved.{is_other_root, root_moved as root_moved_in, moved_roots as all_moved_roots};
 ghost use Rattle.mst_sweep.specs.Seen.{seen_root_moved};
 
-use mst_diff::changes::Planned;
-use mst_diff::trees::{is_had, trees_in_use};
-use mst_diff::{Both, root};
+use mst_diff::{Both, Planned, is_had, root, trees_in_use};
 use mst_ids::{BridgeId, Tree};
 use std::alloc::{AllocError, Global};
 

@@ -1,8 +1,8 @@
 ghost use Rattle.std.specs.Prelude.{◌≡◌, ◌++◌, ℕ, List, Ok, IfOk, OnOk};
 ghost use Rattle.std.specs.List.{count_by};
 ghost use Rattle.mst_diff.specs.changes.ChangesText.{spaced};
-ghost use Rattle.mst_diff.specs.net.After.{after};
-ghost use Rattle.mst_diff.specs.net.Tables.{Net, Numbers};
+ghost use Rattle.mst_net.specs.After.{after};
+ghost use Rattle.mst_net.specs.Tables.{Net, Numbers};
 ghost use Rattle.mst_diff.specs.trees.Agrees.{AreOf, Known};
 ghost use Rattle.mst_diff.specs.trees.Forest.{IsForest};
 ghost use Rattle.mst_diff.specs.Reach.{has_any};
@@ -18,8 +18,7 @@ use crate::ports::moved_ports;
 use crate::roots::moved_roots;
 use crate::touched::{places_of, touched};
 use itoa::Buffer;
-use mst_diff::changes::Planned;
-use mst_diff::plan_text::set_of;
+use mst_diff::{Planned, set_of};
 use mst_ids::{Tree, Vid, push_bytes, push_comma_list, push_end, push_line, push_word};
 use std::alloc::{AllocError, Global};
 

@@ -3,11 +3,9 @@ ghost use Rattle.mst_diff.specs.trees.InUse.{seen_mstis};
 ghost use Rattle.mst_diff.specs.roles.Seen.{seen_role};
 ghost use Rattle.mst_sweep.specs.Touched.{differ, KeepsRoles, HaveSameRoles, AreTouched, ArePlaces};
 
-use mst_diff::changes::Planned;
-use mst_diff::lag::PortInView;
-use mst_diff::roles::{Role, port_role};
-use mst_diff::trees::mstis_in_use;
+use mst_diff::{Planned, Role, mstis_in_use, port_role};
 use mst_ids::Tree;
+use mst_lag::PortInView;
 use std::alloc::{AllocError, Global};
 
 /// Whether two roles aren't the same, or just one of them is there.

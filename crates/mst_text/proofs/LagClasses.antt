@@ -4,16 +4,16 @@ use Rattle.std.specs.List.{flat_map}
 use Rattle.std.specs.Option.{option_map_or}
 use Rattle.std.proofs.lemmas.List.Folds.{flat_map-map}
 use Rattle.std.specs.FinMap as fin
-use Rattle.mst_vlan.specs.net.Tables.{Net, Numbers}
-use Rattle.mst_vlan.specs.lag.Aggregation.{plugs, same_name}
-use Rattle.mst_vlan.specs.lag.Lag.{lag_id_text}
-use Rattle.mst_vlan.specs.lag.View.{LogicalLan, members, up_members, member_plugs}
-use Rattle.mst_vlan.specs.lag.Viewed.{Viewed, IsView, named_lan, member_lan, member_port}
-use Rattle.mst_vlan.specs.lag.declared.lag.LagId.{LagId}
-use Rattle.mst_vlan.specs.lag.declared.in_view.LanInView.{LanInView}
-use Rattle.mst_vlan.specs.lag.declared.in_view.MemberLan.{MemberLan}
-use Rattle.mst_vlan.specs.lag.declared.in_view.MemberPort.{MemberPort}
-use Rattle.mst_vlan.proofs.lag_lemmas.Lists.{filter_mapped, mapped_twice}
+use Rattle.mst_net.specs.Tables.{Net, Numbers}
+use Rattle.mst_lag.specs.Aggregation.{plugs, same_name}
+use Rattle.mst_lag.specs.Lag.{lag_id_text}
+use Rattle.mst_lag.specs.View.{LogicalLan, members, up_members, member_plugs}
+use Rattle.mst_lag.specs.Viewed.{Viewed, IsView, named_lan, member_lan, member_port}
+use Rattle.mst_lag.specs.declared.lag.LagId.{LagId}
+use Rattle.mst_lag.specs.declared.in_view.LanInView.{LanInView}
+use Rattle.mst_lag.specs.declared.in_view.MemberLan.{MemberLan}
+use Rattle.mst_lag.specs.declared.in_view.MemberPort.{MemberPort}
+use Rattle.mst_lag.proofs.Lists.{filter_mapped, mapped_twice}
 use Rattle.mst_text.specs.LagText.{lag_line, lags_text}
 use Rattle.mst_text.specs.LagView.{lans_in, up_of, ports_in, lan_word, port_word, class_line, class_text, classes_text}
 use Rattle.mst_ids.specs.Words.{line, comma_list, port_text}

@@ -9,7 +9,7 @@ use Rattle.std.specs.declared.alloc.Global.{Global}
 use Rattle.std.proofs.lemmas.Grind.{flat_map-append}
 use Rattle.std.proofs.lemmas.List.{map-append}
 use Rattle.std.proofs.lemmas.List.Elements.{filter_more}
-use Rattle.mst_vlan.specs.lag.Aggregation.{same_name}
+use Rattle.mst_lag.specs.Aggregation.{same_name}
 use Rattle.mst_text.specs.KeptWords.{kept_at}
 use Rattle.mst_ids.specs.Words.{after_comma}
 

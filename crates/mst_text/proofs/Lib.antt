@@ -1,7 +1,3 @@
-pub use Rattle.mst_vlan.proofs.graph_lemmas as graph_lemmas
-pub use Rattle.mst_vlan.proofs.net_lemmas as net_lemmas
-pub use Rattle.mst_vlan.proofs.lag_lemmas as lag_lemmas
-pub use Rattle.mst_vlan.proofs.config_lemmas as config_lemmas
 pub use Rattle.mst_vlan.proofs.trees_lemmas as trees_lemmas
 pub use Rattle.mst_vlan.proofs.roles_lemmas as roles_lemmas
 pub use Rattle.mst_vlan.proofs as vlan_lemmas

@@ -8,18 +8,18 @@ use Rattle.std.specs.Cmp.Lexicographic.{bytes_decides, nat_list_cmp_total}
 use Rattle.std.proofs.lemmas.Bool.{eqb-true}
 use Rattle.std.proofs.lemmas.Bool.Decides.{nat_tests}
 use Rattle.mst_ids.specs.Identifiers.{bridge_id}
-use Rattle.mst_vlan.specs.net.ByTree.{ByTree, table_in}
-use Rattle.mst_vlan.specs.net.Seen.{bridge_row}
-use Rattle.mst_vlan.specs.net.Tables.{Net, Numbers, BridgeRow, IsNetwork}
-use Rattle.mst_vlan.specs.net.After.{table_of}
-use Rattle.mst_vlan.specs.lag.Aggregation.{same_name}
-use Rattle.mst_vlan.specs.lag.Viewed.{Viewed, IsView, named_bridge}
-use Rattle.mst_vlan.specs.lag.declared.in_view.BridgeInView.{BridgeInView}
-use Rattle.mst_vlan.proofs.lag_lemmas.Lists.{some_is, all_both, all_weaker, filter_same, filter_mapped, mapped_twice}
-use Rattle.mst_vlan.proofs.lag_lemmas.Entries.{entries_found}
-use Rattle.mst_vlan.specs.config.Shared.{AreRegions}
-use Rattle.mst_vlan.specs.config.Regions.{same_region, first_of_region, region_of}
-use Rattle.mst_vlan.proofs.config_lemmas.SameRegion.{told, has_first, HasFirst}
+use Rattle.mst_net.specs.ByTree.{ByTree, table_in}
+use Rattle.mst_net.specs.Seen.{bridge_row}
+use Rattle.mst_net.specs.Tables.{Net, Numbers, BridgeRow, IsNetwork}
+use Rattle.mst_net.specs.After.{table_of}
+use Rattle.mst_lag.specs.Aggregation.{same_name}
+use Rattle.mst_lag.specs.Viewed.{Viewed, IsView, named_bridge}
+use Rattle.mst_lag.specs.declared.in_view.BridgeInView.{BridgeInView}
+use Rattle.mst_lag.proofs.Lists.{some_is, all_both, all_weaker, filter_same, filter_mapped, mapped_twice}
+use Rattle.mst_lag.proofs.Entries.{entries_found}
+use Rattle.mst_config.specs.Shared.{AreRegions}
+use Rattle.mst_config.specs.Regions.{same_region, first_of_region, region_of}
+use Rattle.mst_config.proofs.SameRegion.{told, has_first, HasFirst}
 use Rattle.mst_text.specs.Members.{is_in, names_in, seen_region}
 use Rattle.mst_text.specs.RegionsText.{region_line, bridges_of_region, region_text, regions_text}
 

@@ -2,8 +2,8 @@
 use Rattle.std.proofs.Common.{◌≡◌, ℕ, List, [], ◌++◌, Some, ap, ◌∙◌, append_assoc}
 use Rattle.std.specs.Option.{option_map, unwrap_or}
 use Rattle.std.specs.FinMap as fin
-use Rattle.mst_vlan.specs.net.Tables.{Net, BridgeRow}
-use Rattle.mst_vlan.specs.net.After.{table_of}
+use Rattle.mst_net.specs.Tables.{Net, BridgeRow}
+use Rattle.mst_net.specs.After.{table_of}
 use Rattle.mst_text.specs.ConfigurationText.{configuration_line, mstis_text, configuration_text}
 
 pub shown : (net : Net) (name : List ℕ) (row : BridgeRow) (table first now next : List ℕ) → Some row ≡ fin.get net.bridges name → table ≡ table_of net name → now ≡ first ++ configuration_line name row table

@@ -8,14 +8,14 @@ use Rattle.std.proofs.lemmas.List.Folds.{flat_map-map}
 use Rattle.std.specs.FinMap as fin
 use Rattle.mst_ids.specs.Names.{name_cmp, port_cmp}
 use Rattle.mst_ids.specs.declared.name.PortName.{PortName}
-use Rattle.mst_vlan.specs.net.Tables.{Net, Numbers, BridgeRow}
-use Rattle.mst_vlan.specs.net.ByTree.{by_tree}
-use Rattle.mst_vlan.specs.net.Seen.{bridge_row}
-use Rattle.mst_vlan.specs.lag.Aggregation.{same_name}
-use Rattle.mst_vlan.specs.lag.View.{LogicalPort}
-use Rattle.mst_vlan.specs.lag.Viewed.{Viewed, named_bridge, named_port}
-use Rattle.mst_vlan.specs.lag.declared.in_view.BridgeInView.{BridgeInView}
-use Rattle.mst_vlan.specs.lag.declared.in_view.PortInView.{PortInView}
+use Rattle.mst_net.specs.Tables.{Net, Numbers, BridgeRow}
+use Rattle.mst_net.specs.ByTree.{by_tree}
+use Rattle.mst_net.specs.Seen.{bridge_row}
+use Rattle.mst_lag.specs.Aggregation.{same_name}
+use Rattle.mst_lag.specs.View.{LogicalPort}
+use Rattle.mst_lag.specs.Viewed.{Viewed, named_bridge, named_port}
+use Rattle.mst_lag.specs.declared.in_view.BridgeInView.{BridgeInView}
+use Rattle.mst_lag.specs.declared.in_view.PortInView.{PortInView}
 use Rattle.mst_vlan.specs.trees.Outcome.{Outcome}
 use Rattle.mst_vlan.specs.trees.Agrees.{AreOf}
 use Rattle.mst_vlan.specs.trees.Forest.{IsForest}

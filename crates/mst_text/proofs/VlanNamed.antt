@@ -5,14 +5,14 @@ use Rattle.std.specs.FinMap as fin
 use Rattle.mst_ids.specs.Vids.{has}
 use Rattle.mst_vlan.specs.graph.Islands.{Island}
 use Rattle.mst_vlan.proofs.graph_lemmas.Members.{from_map, from_filter}
-use Rattle.mst_vlan.specs.net.Tables.{Net, Numbers, BridgeRow}
-use Rattle.mst_vlan.specs.net.ByTree.{vlans_in}
-use Rattle.mst_vlan.proofs.lag_lemmas.Lists.{map_itself}
-use Rattle.mst_vlan.specs.lag.View.{LogicalLan, view_lans}
-use Rattle.mst_vlan.specs.lag.Viewed.{Viewed, named_bridge, named_port, named_lan}
-use Rattle.mst_vlan.specs.lag.declared.in_view.BridgeInView.{BridgeInView}
-use Rattle.mst_vlan.specs.lag.declared.in_view.PortInView.{PortInView}
-use Rattle.mst_vlan.specs.lag.declared.in_view.LanInView.{LanInView}
+use Rattle.mst_net.specs.Tables.{Net, Numbers, BridgeRow}
+use Rattle.mst_net.specs.ByTree.{vlans_in}
+use Rattle.mst_lag.proofs.Lists.{map_itself}
+use Rattle.mst_lag.specs.View.{LogicalLan, view_lans}
+use Rattle.mst_lag.specs.Viewed.{Viewed, named_bridge, named_port, named_lan}
+use Rattle.mst_lag.specs.declared.in_view.BridgeInView.{BridgeInView}
+use Rattle.mst_lag.specs.declared.in_view.PortInView.{PortInView}
+use Rattle.mst_lag.specs.declared.in_view.LanInView.{LanInView}
 use Rattle.mst_vlan.specs.trees.Outcome.{Outcome}
 use Rattle.mst_vlan.specs.trees.Agrees.{AreOf}
 use Rattle.mst_vlan.specs.trees.Forest.{Forest, IsForest}

@@ -1,7 +1,7 @@
 -- The text of a VID: there is one, and one only.
 use Rattle.std.proofs.Common.{◌≡◌, ℕ, List, ◌++◌, refl, sym, ap, ◌∙◌}
 use Rattle.mst_vlan.specs.graph.Islands.{Island}
-use Rattle.mst_vlan.specs.net.Tables.{Net}
+use Rattle.mst_net.specs.Tables.{Net}
 use Rattle.mst_vlan.specs.trees.Outcome.{Outcome}
 use Rattle.mst_vlan.specs.Reach.{AreIslandsOf}
 use Rattle.mst_text.specs.VlanLines.{heading}

@@ -6,10 +6,10 @@ use Rattle.std.specs.FinMap as fin
 use Rattle.hex.specs.Hex.{encode_lower}
 use Rattle.mst_ids.specs.Vids.{is_vid, set_where, vids_text}
 use Rattle.mst_ids.specs.Words.{line}
-use Rattle.mst_vlan.specs.net.Table.{tree_in, mstis_in}
-use Rattle.mst_vlan.specs.net.Tables.{Net, BridgeRow}
-use Rattle.mst_vlan.specs.net.After.{table_of}
-use Rattle.mst_vlan.specs.config.Digest.{digest_of}
+use Rattle.mst_net.specs.Table.{tree_in, mstis_in}
+use Rattle.mst_net.specs.Tables.{Net, BridgeRow}
+use Rattle.mst_net.specs.After.{table_of}
+use Rattle.mst_config.specs.Digest.{digest_of}
 
 -- the VIDs that a table maps to a tree
 abbrev pub vids_in : List ℕ → ℕ → List Bool

@@ -2,10 +2,10 @@
 use Rattle.std.specs.Prelude.{ℕ, List, [], ◌∷◌, map, codes, decimal}
 use Rattle.std.specs.List.{flat_map}
 use Rattle.std.specs.Option.{option_map_or}
-use Rattle.mst_vlan.specs.net.Tables.{Net}
-use Rattle.mst_vlan.specs.lag.Lag.{lag_id_text}
-use Rattle.mst_vlan.specs.lag.View.{LogicalLan, members, up_members, member_plugs, view_lans}
-use Rattle.mst_vlan.specs.lag.declared.lag.LagId.{LagId}
+use Rattle.mst_net.specs.Tables.{Net}
+use Rattle.mst_lag.specs.Lag.{lag_id_text}
+use Rattle.mst_lag.specs.View.{LogicalLan, members, up_members, member_plugs, view_lans}
+use Rattle.mst_lag.specs.declared.lag.LagId.{LagId}
 use Rattle.mst_ids.specs.Words.{line, comma_list, port_text}
 
 -- `lag LAN LAGID speed S up UP lans LANS ports PORTS`: the members that are up, all members, and their ports

@@ -2,13 +2,13 @@
 use Rattle.std.specs.Prelude.{ℕ, List, [], ◌∷◌, map, filter, codes, decimal}
 use Rattle.std.specs.List.{flat_map}
 use Rattle.std.specs.Option.{option_map_or}
-use Rattle.mst_vlan.specs.lag.Aggregation.{same_name}
-use Rattle.mst_vlan.specs.lag.Lag.{lag_id_text}
-use Rattle.mst_vlan.specs.lag.Viewed.{Viewed}
-use Rattle.mst_vlan.specs.lag.declared.lag.LagId.{LagId}
-use Rattle.mst_vlan.specs.lag.declared.in_view.LanInView.{LanInView}
-use Rattle.mst_vlan.specs.lag.declared.in_view.MemberLan.{MemberLan}
-use Rattle.mst_vlan.specs.lag.declared.in_view.MemberPort.{MemberPort}
+use Rattle.mst_lag.specs.Aggregation.{same_name}
+use Rattle.mst_lag.specs.Lag.{lag_id_text}
+use Rattle.mst_lag.specs.Viewed.{Viewed}
+use Rattle.mst_lag.specs.declared.lag.LagId.{LagId}
+use Rattle.mst_lag.specs.declared.in_view.LanInView.{LanInView}
+use Rattle.mst_lag.specs.declared.in_view.MemberLan.{MemberLan}
+use Rattle.mst_lag.specs.declared.in_view.MemberPort.{MemberPort}
 use Rattle.mst_ids.specs.Words.{line, comma_list, port_text}
 
 -- the members of a logical LAN, those that are up, and the ports

@@ -1,9 +1,5 @@
-pub use Rattle.mst_vlan.specs.graph as graph
-pub use Rattle.mst_vlan.specs.lang as lang
-pub use Rattle.mst_vlan.specs.net as net
-pub use Rattle.mst_vlan.specs.lag as lag
-pub use Rattle.mst_vlan.specs.config as config
-pub use Rattle.mst_vlan.specs.vector as vector
+pub use Rattle.mst_config.specs as config
+pub use Rattle.mst_vector.specs as vector
 pub use Rattle.mst_vlan.specs.settle as settle
 pub use Rattle.mst_vlan.specs.trees as trees
 pub use Rattle.mst_vlan.specs.roles as roles

@@ -6,10 +6,10 @@ use Rattle.std.specs.Map.{lookup}
 use Rattle.std.specs.BTreeMap.{BTreeMap, get}
 use Rattle.std.specs.declared.alloc.Global.{Global}
 use Rattle.mst_ids.specs.Identifiers.{bridge_id}
-use Rattle.mst_vlan.specs.net.ByTree.{table_in}
-use Rattle.mst_vlan.specs.net.Seen.{bridge_row}
-use Rattle.mst_vlan.specs.lag.Viewed.{Viewed}
-use Rattle.mst_vlan.specs.lag.declared.in_view.BridgeInView.{BridgeInView}
+use Rattle.mst_net.specs.ByTree.{table_in}
+use Rattle.mst_net.specs.Seen.{bridge_row}
+use Rattle.mst_lag.specs.Viewed.{Viewed}
+use Rattle.mst_lag.specs.declared.in_view.BridgeInView.{BridgeInView}
 use Rattle.mst_text.specs.RegionsText.{region_line}
 
 -- the bridge is in the region of this identifier

@@ -4,11 +4,11 @@ use Rattle.std.specs.List.{flat_map}
 use Rattle.std.specs.FinMap as fin
 use Rattle.hex.specs.Hex.{encode_lower}
 use Rattle.mst_ids.specs.Words.{line}
-use Rattle.mst_vlan.specs.net.Tables.{Net, BridgeRow}
-use Rattle.mst_vlan.specs.net.After.{table_of}
-use Rattle.mst_vlan.specs.lag.Aggregation.{same_name}
-use Rattle.mst_vlan.specs.config.Digest.{digest_of}
-use Rattle.mst_vlan.specs.config.Regions.{same_region, first_of_region}
+use Rattle.mst_net.specs.Tables.{Net, BridgeRow}
+use Rattle.mst_net.specs.After.{table_of}
+use Rattle.mst_lag.specs.Aggregation.{same_name}
+use Rattle.mst_config.specs.Digest.{digest_of}
+use Rattle.mst_config.specs.Regions.{same_region, first_of_region}
 
 -- `mstp CNAME REV DIGEST` or `rstp`
 abbrev pub kind_words : BridgeRow → List ℕ → List (List ℕ)

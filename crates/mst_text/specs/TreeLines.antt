@@ -3,13 +3,13 @@ use Rattle.std.specs.Prelude.{ℕ, ◌==◌, List, [], ◌∷◌, ◌++◌, Opti
 use Rattle.std.specs.Option.{option_map_or}
 use Rattle.mst_ids.specs.Texts.{bridge_id_text, port_id_text}
 use Rattle.mst_ids.specs.Words.{line}
-use Rattle.mst_vlan.specs.vector.declared.cist.CistPort.{CistPort}
-use Rattle.mst_vlan.specs.vector.declared.cist.CistVector.{CistVector}
-use Rattle.mst_vlan.specs.vector.declared.msti.MstiPort.{MstiPort}
-use Rattle.mst_vlan.specs.vector.declared.msti.MstiVector.{MstiVector}
-use Rattle.mst_vlan.specs.net.Tables.{BridgeRow}
-use Rattle.mst_vlan.specs.net.ByTree.{ByTree}
-use Rattle.mst_vlan.specs.lag.View.{LogicalPort}
+use Rattle.mst_vector.specs.declared.cist.CistPort.{CistPort}
+use Rattle.mst_vector.specs.declared.cist.CistVector.{CistVector}
+use Rattle.mst_vector.specs.declared.msti.MstiPort.{MstiPort}
+use Rattle.mst_vector.specs.declared.msti.MstiVector.{MstiVector}
+use Rattle.mst_net.specs.Tables.{BridgeRow}
+use Rattle.mst_net.specs.ByTree.{ByTree}
+use Rattle.mst_lag.specs.View.{LogicalPort}
 use Rattle.mst_vlan.specs.trees.Cist.{cist_port}
 use Rattle.mst_vlan.specs.trees.InUse.{id_in}
 use Rattle.mst_vlan.specs.trees.Msti.{msti_port}

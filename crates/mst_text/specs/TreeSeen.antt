@@ -3,11 +3,11 @@ use Rattle.std.specs.Prelude.{ℕ, Bool, List, [], ◌∷◌, ◌++◌, take, dr
 use Rattle.std.specs.List.{flat_map, prefix_len}
 use Rattle.std.specs.Option.{option_map_or}
 use Rattle.mst_vlan.specs.settle.Assignment.{vector_of}
-use Rattle.mst_vlan.specs.net.Seen.{bridge_row}
-use Rattle.mst_vlan.specs.lag.Aggregation.{same_name}
-use Rattle.mst_vlan.specs.lag.Viewed.{Viewed, named_port}
-use Rattle.mst_vlan.specs.lag.declared.in_view.BridgeInView.{BridgeInView}
-use Rattle.mst_vlan.specs.lag.declared.in_view.PortInView.{PortInView}
+use Rattle.mst_net.specs.Seen.{bridge_row}
+use Rattle.mst_lag.specs.Aggregation.{same_name}
+use Rattle.mst_lag.specs.Viewed.{Viewed, named_port}
+use Rattle.mst_lag.specs.declared.in_view.BridgeInView.{BridgeInView}
+use Rattle.mst_lag.specs.declared.in_view.PortInView.{PortInView}
 use Rattle.mst_vlan.specs.trees.Forest.{Forest, msti_vector}
 use Rattle.mst_vlan.specs.trees.InUse.{seen_has}
 use Rattle.mst_vlan.specs.roles.Seen.{seen_role}

@@ -2,8 +2,8 @@
 use Rattle.std.specs.Prelude.{ℕ, ◌==◌, List, [], map}
 use Rattle.std.specs.List.{find}
 use Rattle.std.specs.Option.{option_map_or}
-use Rattle.mst_vlan.specs.lag.Viewed.{Viewed}
-use Rattle.mst_vlan.specs.lag.declared.in_view.PortInView.{PortInView}
+use Rattle.mst_lag.specs.Viewed.{Viewed}
+use Rattle.mst_lag.specs.declared.in_view.PortInView.{PortInView}
 use Rattle.mst_vlan.specs.Seen.{seen_member}
 use Rattle.mst_vlan.specs.declared.island.Island.{Island}
 use Rattle.mst_text.specs.VlanLines.{active_word, active_line, island_line}

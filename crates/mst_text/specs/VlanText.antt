@@ -2,8 +2,8 @@
 use Rattle.std.specs.Prelude.{◌≡◌, ℕ, List, ◌++◌, map}
 use Rattle.std.specs.List.{flat_map}
 use Rattle.mst_vlan.specs.graph.Islands.{Island}
-use Rattle.mst_vlan.specs.net.Tables.{Net}
-use Rattle.mst_vlan.specs.lag.View.{LogicalPort}
+use Rattle.mst_net.specs.Tables.{Net}
+use Rattle.mst_lag.specs.View.{LogicalPort}
 use Rattle.mst_vlan.specs.trees.Outcome.{Outcome}
 use Rattle.mst_vlan.specs.Active.{active_ports}
 use Rattle.mst_vlan.specs.Reach.{is_member, AreIslandsOf}

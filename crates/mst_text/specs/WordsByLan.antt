@@ -1,7 +1,7 @@
 -- The words of the members of each logical LAN.
 use Rattle.std.specs.Prelude.{◌≡◌, ℕ, List, map}
 use Rattle.std.specs.List.{flat_map}
-use Rattle.mst_vlan.specs.lag.Viewed.{Viewed}
+use Rattle.mst_lag.specs.Viewed.{Viewed}
 use Rattle.mst_text.specs.KeptWords.{kept_at}
 use Rattle.mst_text.specs.LagView.{lans_in, up_of, ports_in, lan_word, port_word}
 use Rattle.mst_ids.specs.Words.{after_comma}

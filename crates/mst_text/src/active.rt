@@ -5,8 +5,8 @@ ghost use Rattle.mst_text.specs.VlanLines.{active_word};
 ghost use Rattle.mst_text.specs.VlanSeen.{seen_word, seen_active_line};
 
 use mst_ids::{PortName, Vid, push_bytes, push_end, push_word};
+use mst_lag::{PortInView, View};
 use mst_vlan::is_member;
-use mst_vlan::lag::{PortInView, View};
 use std::alloc::AllocError;
 
 /// Appends the line of the active ports of a VID.

@@ -1,7 +1,7 @@
 ghost use Rattle.std.specs.Prelude.{◌≡◌, ◌++◌, [], List, ℕ, map, IfOk, OnOk, None, cond, if◌then◌else◌};
 ghost use Rattle.std.specs.List.{flat_map};
 ghost use Rattle.indexmap.specs.IndexMap.{get};
-ghost use Rattle.mst_vlan.specs.lag.Aggregation.{same_name};
+ghost use Rattle.mst_lag.specs.Aggregation.{same_name};
 ghost use Rattle.mst_text.specs.KeptWords.{kept_at};
 ghost use Rattle.mst_text.specs.LagView.{lans_in, up_of as up_members, ports_in, lan_word, port_word};
 ghost use Rattle.mst_ids.specs.Words.{after_comma, port_text};
@@ -9,7 +9,7 @@ ghost use Rattle.mst_text.specs.WordsByLan.{AreWords};
 
 use indexmap::IndexMap;
 use mst_ids::{Name, PortName, push_bytes};
-use mst_vlan::lag::{MemberLan, MemberPort, View};
+use mst_lag::{MemberLan, MemberPort, View};
 use std::alloc::{AllocError, Global};
 
 /// By the names of logical LANs the names of the members that are up, of all members and of their ports, each

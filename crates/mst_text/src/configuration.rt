@@ -1,11 +1,11 @@
 ghost use Rattle.std.specs.Prelude.{◌≡◌, ◌++◌, [], ◌∷◌, IfOk, OnOk, is_some, unwrap_or, codes, decimal};
-ghost use Rattle.mst_vlan.specs.net.Seen.{bridge_row};
+ghost use Rattle.mst_net.specs.Seen.{bridge_row};
 ghost use Rattle.mst_text.specs.ConfigurationText.{vids_in, msti_line, mstis_text, configuration_line, configuration_text};
 
 use crate::digits::digest_digits;
 use itoa::Buffer;
 use mst_ids::{Name, Tree, Vid, VidSet, push_bytes, push_end, push_line, push_word};
-use mst_vlan::net::{Bridge, Contents, Table};
+use mst_net::{Bridge, Contents, Table};
 use std::alloc::{AllocError, Global};
 
 /// Appends the text of the MST configuration that a bridge keeps (802.1Q-2022, 13.8), and answers whether there

@@ -3,8 +3,8 @@ ghost use Rattle.std.specs.List.{flat_map};
 ghost use Rattle.mst_text.specs.VlanSeen.{seen_bridge, seen_lan, seen_island_line};
 
 use mst_ids::{BridgeNo, LanNo, push_bytes, push_end, push_listed};
+use mst_lag::View;
 use mst_vlan::Island;
-use mst_vlan::lag::View;
 use std::alloc::{AllocError, Global};
 
 /// Appends a line for each island.

@@ -1,7 +1,7 @@
 ghost use Rattle.std.specs.Prelude.{◌≡◌, ◌++◌, List, ℕ, OnOk};
 ghost use Rattle.std.specs.List.{flat_map};
-ghost use Rattle.mst_vlan.specs.net.Tables.{Net, Numbers};
-ghost use Rattle.mst_vlan.specs.lag.Viewed.{IsView};
+ghost use Rattle.mst_net.specs.Tables.{Net, Numbers};
+ghost use Rattle.mst_lag.specs.Viewed.{IsView};
 ghost use Rattle.mst_ids.specs.Words.{after_comma, comma_list};
 ghost use Rattle.mst_text.specs.LagText.{lags_text};
 ghost use Rattle.mst_text.specs.LagView.{class_line, class_text, classes_text};
@@ -10,7 +10,7 @@ ghost use Rattle.mst_text.specs.WordsByLan.{AreWords};
 use crate::by_lan::{Words, kept_for, words_of};
 use itoa::Buffer;
 use mst_ids::push_line;
-use mst_vlan::lag::{LagId, LanInView, View, lag_text};
+use mst_lag::{LagId, LanInView, View, lag_text};
 use std::alloc::{AllocError, Global};
 
 /// Appends the text of the classes of links, by the view of a network: for each class its identifier, its speed, its

@@ -1,22 +1,22 @@
 ghost use Rattle.std.specs.Prelude.{◌≡◌, ◌++◌, ◌∷◌, [], ℕ, OnOk, map, codes};
 ghost use Rattle.std.specs.List.{flat_map};
 ghost use Rattle.mst_ids.specs.Words.{after_space};
-ghost use Rattle.mst_vlan.specs.net.Seen.{bridge_row};
-ghost use Rattle.mst_vlan.specs.net.Tables.{Net, Numbers};
-ghost use Rattle.mst_vlan.specs.net.Tables.{IsNetwork};
-ghost use Rattle.mst_vlan.specs.lag.Viewed.{IsView};
-ghost use Rattle.mst_vlan.specs.config.Shared.{AreRegions};
+ghost use Rattle.mst_net.specs.Seen.{bridge_row};
+ghost use Rattle.mst_net.specs.Tables.{Net, Numbers};
+ghost use Rattle.mst_net.specs.Tables.{IsNetwork};
+ghost use Rattle.mst_lag.specs.Viewed.{IsView};
+ghost use Rattle.mst_config.specs.Shared.{AreRegions};
 ghost use Rattle.mst_text.specs.Members.{kept_for, names_in, seen_region};
 ghost use Rattle.mst_text.specs.RegionsText.{kind_words, region_line, regions_text};
 
 use crate::digits::digest_digits;
 use crate::members::{Members, members_of, names_of};
 use itoa::Buffer;
+use mst_config::{Regions, Table};
 use mst_ids::{BridgeId, Name, push_bytes, push_end, push_word, push_words};
-use mst_vlan::config::{Regions, Table};
-use mst_vlan::lag::{BridgeInView, View};
-use mst_vlan::lang::Kind;
-use mst_vlan::net::Bridge;
+use mst_lag::{BridgeInView, View};
+use mst_lang::Kind;
+use mst_net::Bridge;
 use std::alloc::{AllocError, Global};
 
 /// Appends the text of a network's regions (802.1Q-2022, 13.8), by its view and its regions: a line for each

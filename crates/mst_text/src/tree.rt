@@ -1,6 +1,6 @@
 ghost use Rattle.std.specs.Prelude.{◌≡◌, ◌++◌, OnOk};
 ghost use Rattle.std.specs.List.{flat_map};
-ghost use Rattle.mst_vlan.specs.net.Tables.{Net, Numbers};
+ghost use Rattle.mst_net.specs.Tables.{Net, Numbers};
 ghost use Rattle.mst_vlan.specs.trees.Agrees.{AreOf};
 ghost use Rattle.mst_vlan.specs.trees.Forest.{IsForest};
 ghost use Rattle.mst_text.specs.TreeLines.{heading};
@@ -11,8 +11,8 @@ use crate::tree_bridge::push_own_line;
 use crate::tree_port::push_port;
 use itoa::Buffer;
 use mst_ids::{Name, Tree, push_line};
-use mst_vlan::lag::{BridgeInView, PortInView, View};
-use mst_vlan::trees::{Forest, has_tree};
+use mst_lag::{BridgeInView, PortInView, View};
+use mst_vlan::{Forest, has_tree};
 use std::alloc::AllocError;
 
 /// Appends the text of a tree, by the view of a network and the forest that was settled of it: a heading, then for each

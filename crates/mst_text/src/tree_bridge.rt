@@ -6,10 +6,10 @@ ghost use Rattle.mst_text.specs.TreeSeen.{seen_line};
 
 use itoa::Buffer;
 use mst_ids::{BridgeId, Name, Tree, push_line};
-use mst_vlan::lag::{BridgeInView, View};
-use mst_vlan::lang::Power;
-use mst_vlan::trees::{Forest, bridge_id};
-use mst_vlan::vector::{CistVector, MstiVector};
+use mst_lag::{BridgeInView, View};
+use mst_lang::Power;
+use mst_vector::{CistVector, MstiVector};
+use mst_vlan::{Forest, bridge_id};
 use std::alloc::AllocError;
 
 /// Appends the line of a bridge: that it is off, or its root priority vector in the tree.

@@ -1,5 +1,5 @@
 ghost use Rattle.std.specs.Prelude.{◌≡◌, ◌++◌, ◌∷◌, [], OnOk, codes, decimal};
-ghost use Rattle.mst_vlan.specs.lag.Viewed.{named_port};
+ghost use Rattle.mst_lag.specs.Viewed.{named_port};
 ghost use Rattle.mst_vlan.specs.roles.Names.{role_text};
 ghost use Rattle.mst_ids.specs.Words.{line};
 ghost use Rattle.mst_text.specs.TreeLines.{cist_words, msti_words, port_line};
@@ -7,11 +7,10 @@ ghost use Rattle.mst_text.specs.TreeSeen.{seen_port};
 
 use itoa::Buffer;
 use mst_ids::{Tree, push_line};
-use mst_vlan::lag::{PortInView, View};
-use mst_vlan::net::TreeSettings;
-use mst_vlan::roles::{Role, port_role};
-use mst_vlan::trees::{Forest, cist_port, msti_port};
-use mst_vlan::vector::{CistPort, MstiPort};
+use mst_lag::{PortInView, View};
+use mst_net::TreeSettings;
+use mst_vector::{CistPort, MstiPort};
+use mst_vlan::{Forest, Role, cist_port, msti_port, port_role};
 use std::alloc::AllocError;
 
 /// Appends the line of a logical port, if its bridge has the tree.

@@ -1,5 +1,5 @@
 ghost use Rattle.std.specs.Prelude.{◌≡◌, ℕ, List, ◌++◌, OnOk};
-ghost use Rattle.mst_vlan.specs.net.Tables.{Net, Numbers};
+ghost use Rattle.mst_net.specs.Tables.{Net, Numbers};
 ghost use Rattle.mst_vlan.specs.trees.Agrees.{AreOf, Known};
 ghost use Rattle.mst_vlan.specs.trees.Forest.{IsForest};
 ghost use Rattle.mst_text.specs.VlanLines.{heading};
@@ -9,9 +9,8 @@ use crate::active::push_active;
 use crate::islands::push_islands;
 use itoa::Buffer;
 use mst_ids::{Vid, push_line};
-use mst_vlan::lag::View;
-use mst_vlan::trees::Forest;
-use mst_vlan::{active_ports, reach_from};
+use mst_lag::View;
+use mst_vlan::{Forest, active_ports, reach_from};
 use std::alloc::{AllocError, Global};
 
 /// Appends the text of a VID: a heading, and then its body.

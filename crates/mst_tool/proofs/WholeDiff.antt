@@ -4,22 +4,22 @@ use Rattle.std.specs.Io.KnownBytes.{Appends}
 use Rattle.std.specs.Option.{unwrap_or}
 use Rattle.std.proofs.KnownBytes.{Appends-trans}
 use Rattle.mst_engine.specs.diff.declared.diff.Differing.{Differing}
-use Rattle.mst_engine.specs.lang.Lines.{lines_of, ended_lines}
+use Rattle.mst_lang.specs.Lines.{lines_of, ended_lines}
 use Rattle.mst_engine.specs.net.Tables.{Net, IsNetwork}
 use Rattle.mst_engine.specs.report.Differing.{Differs}
 use Rattle.mst_engine.specs.report.State.{State, empty_state}
 use Rattle.mst_tool.specs.Diff.{LoadsBoth, both_texts, old_net, new_net, TellsDifference, Diffs, DiffsFront, LoadsNewEnded, DiffsScripts, counted_both}
 use Rattle.mst_engine.specs.Engine.{Tally, outcome_of}
 use Rattle.mst_engine.specs.Script.{LoadsAll}
-use Rattle.mst_engine.specs.printing.Shape.{of_old, of_new, shown}
+use Rattle.mst_print.specs.Shape.{of_old, of_new, shown}
 use Rattle.mst_engine.specs.Served.{Served, ServedFront, ServedEnded}
 use Rattle.mst_engine.specs.Steps.{Step, texts_of, lacks_of}
-use Rattle.mst_engine.specs.io.Written.{AppendsFront, Reads}
+use Rattle.mst_io.specs.Written.{AppendsFront, Reads}
 use Rattle.mst_engine.specs.declared.engine.Input.TheVariants.{Network}
-use Rattle.mst_engine.specs.printing.declared.form.Form.{Form}
-use Rattle.mst_engine.specs.printing.declared.form.Shape.{Shape}
-use Rattle.mst_engine.proofs.io_lemmas.Known.{AppendsFront-after, AppendsFront-longer}
-use Rattle.mst_engine.proofs.printing_lemmas.Shown.{is_shown, one_shown}
+use Rattle.mst_print.specs.declared.form.Form.{Form}
+use Rattle.mst_print.specs.declared.form.Shape.{Shape}
+use Rattle.mst_io.proofs.Known.{AppendsFront-after, AppendsFront-longer}
+use Rattle.mst_print.proofs.Shown.{is_shown, one_shown}
 use Rattle.mst_tool.proofs.WholeCheck.{reads_all}
 use Rattle.mst_tool.proofs.WholeLoad.{OneLoad, LoadsStates}
 

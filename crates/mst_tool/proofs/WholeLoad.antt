@@ -3,7 +3,7 @@ use Rattle.std.proofs.Common.{◌≡◌, ℕ, ◌+◌, List, [], Option, None, S
 use Rattle.std.specs.Io.KnownBytes.{Appends}
 use Rattle.std.proofs.KnownBytes.{Appends-trans}
 use Rattle.mst_ids.specs.declared.name.PortName.{PortName}
-use Rattle.mst_engine.specs.lang.Lines.{lines_of, ended_lines}
+use Rattle.mst_lang.specs.Lines.{lines_of, ended_lines}
 use Rattle.mst_engine.specs.net.Tables.{Net, IsNetwork}
 use Rattle.mst_engine.specs.report.Explaining.{Explains, unexplained_of}
 use Rattle.mst_engine.specs.report.Picturing.{Depicts}
@@ -17,18 +17,18 @@ use Rattle.mst_engine.specs.Engine.{Tally, outcome_of}
 use Rattle.mst_tool.specs.Load.{LoadsFront, LoadsEnded, LoadsScript}
 use Rattle.mst_engine.specs.Script.{LoadsAll, version_of, loading}
 use Rattle.mst_engine.specs.Served.{Served, ServedFront, ServedEnded}
-use Rattle.mst_engine.specs.printing.Shape.{of_script, shown}
+use Rattle.mst_print.specs.Shape.{of_script, shown}
 use Rattle.mst_engine.specs.Steps.{Step, left_by, texts_of, lacking_of, differing_of}
-use Rattle.mst_engine.specs.io.Written.{AppendsFront}
+use Rattle.mst_io.specs.Written.{AppendsFront}
 use Rattle.mst_tool.specs.declared.asked.Asked.{Asked}
 use Rattle.mst_tool.specs.declared.asked.Question.{Question}
 use Rattle.mst_tool.specs.declared.asked.Question.TheVariants.{Explain, Unread, Sweep, Summary, Picture, Undrawn}
 use Rattle.mst_engine.specs.declared.engine.Input.TheVariants.{Network}
-use Rattle.mst_engine.specs.printing.declared.form.Form.{Form}
-use Rattle.mst_engine.specs.printing.declared.form.Shape.{Shape}
-use Rattle.mst_engine.proofs.io_lemmas.Known.{AppendsFront-after}
+use Rattle.mst_print.specs.declared.form.Form.{Form}
+use Rattle.mst_print.specs.declared.form.Shape.{Shape}
+use Rattle.mst_io.proofs.Known.{AppendsFront-after}
 use Rattle.mst_engine.proofs.OneRun.{none_differ}
-use Rattle.mst_engine.proofs.printing_lemmas.Shown.{is_shown, one_shown, same_shown}
+use Rattle.mst_print.proofs.Shown.{is_shown, one_shown, same_shown}
 
 -- a script loads in one way by the lines that lack memory
 abbrev pub OneLoad : Type 0

@@ -2,10 +2,10 @@
 use Rattle.std.specs.Prelude.{◌≡◌, ◌+◌, ◌++◌, ◌⊎◌, ◌==◌, ℕ, List, Option, None, Some, Result, Ok, Err, codes, if◌then◌else◌}
 use Rattle.std.specs.Io.KnownBytes.{Appends}
 use Rattle.std.specs.Option.{option_map}
-use Rattle.mst_engine.specs.lang.Arguments.{tree}
-use Rattle.mst_engine.specs.lang.Faults as fault
-use Rattle.mst_engine.specs.lang.Lines.{lines_of}
-use Rattle.mst_engine.specs.lang.declared.line.Fault.{Fault}
+use Rattle.mst_lang.specs.Arguments.{tree}
+use Rattle.mst_lang.specs.Faults as fault
+use Rattle.mst_lang.specs.Lines.{lines_of}
+use Rattle.mst_lang.specs.declared.line.Fault.{Fault}
 use Rattle.mst_engine.specs.net.Tables.{Net}
 use Rattle.mst_engine.specs.report.Explaining.{Explains, unexplained_of}
 use Rattle.mst_engine.specs.report.Explaining as unexplained
@@ -18,16 +18,16 @@ use Rattle.mst_engine.specs.report.declared.explaining.Unexplained.{Unexplained}
 use Rattle.mst_tool.specs.Asked.{asked_of, part_value}
 use Rattle.mst_tool.specs.Load.{LoadsFront}
 use Rattle.mst_engine.specs.Script.{LoadsAll}
-use Rattle.mst_engine.specs.printing.Shape.{of_script, IsShown, unanswered}
+use Rattle.mst_print.specs.Shape.{of_script, IsShown, unanswered}
 use Rattle.mst_engine.specs.Steps.{Step, left_by, texts_of, refusals_of, lacks_of, lacking_of}
-use Rattle.mst_engine.specs.io.Written.{AppendsFront, Reads}
+use Rattle.mst_io.specs.Written.{AppendsFront, Reads}
 use Rattle.mst_tool.specs.declared.asked.Asked.{Asked}
 use Rattle.mst_tool.specs.declared.asked.Question.{Question}
 use Rattle.mst_tool.specs.declared.asked.Question.TheVariants.{Explain, Unread as unread_question, Sweep, Summary, Picture, Undrawn as undrawn_question}
 use Rattle.mst_tool.specs.declared.asks.Answer.{Answer}
 use Rattle.mst_tool.specs.declared.asks.Answer.TheVariants.{Text, Unread, Refused, Swept, Undrawn}
-use Rattle.mst_engine.specs.printing.declared.form.Form.{Form}
-use Rattle.mst_engine.specs.io.declared.outcome.Outcome.{Outcome}
+use Rattle.mst_print.specs.declared.form.Form.{Form}
+use Rattle.mst_io.specs.declared.outcome.Outcome.{Outcome}
 
 -- what words for a bridge, a port and, where there is one, a tree ask: to explain the port. Or they ask nothing, by their fault
 abbrev pub question_of : Result Asked Fault → Question

@@ -1,8 +1,8 @@
 -- Which port is to be explained, and which part of a sweep to be told: what words ask for.
 use Rattle.std.specs.Prelude.{ℕ, ◌+◌, ◌==◌, List, take, drop, position, Option, None, Some, Result, Ok, Err}
 use Rattle.std.specs.Option.{option_map, option_and_then}
-use Rattle.mst_engine.specs.lang.Arguments.{name, number_value, port_number, tree}
-use Rattle.mst_engine.specs.lang.declared.line.Fault.{Fault}
+use Rattle.mst_lang.specs.Arguments.{name, number_value, port_number, tree}
+use Rattle.mst_lang.specs.declared.line.Fault.{Fault}
 use Rattle.mst_engine.specs.sweep.SweepParts.{PartOf, part_at}
 use Rattle.mst_tool.specs.declared.asked.Asked.{Asked}
 

@@ -2,17 +2,17 @@
 use Rattle.std.specs.Prelude.{◌≡◌, ◌+◌, ◌++◌, ◌⊎◌, ◌==◌, ◌&&◌, ℕ, Bool, List, Option, codes, if◌then◌else◌}
 use Rattle.std.specs.Io.KnownBytes.{Appends, Consumes}
 use Rattle.mst_engine.specs.diff.declared.diff.Differing.{Differing}
-use Rattle.mst_engine.specs.lang.Lines.{lines_of, ended_lines}
+use Rattle.mst_lang.specs.Lines.{lines_of, ended_lines}
 use Rattle.mst_engine.specs.net.Tables.{Net}
 use Rattle.mst_engine.specs.report.Differing.{Differs}
 use Rattle.mst_engine.specs.report.State.{empty_state}
 use Rattle.mst_tool.specs.Load.{LoadsEnded}
 use Rattle.mst_engine.specs.Script.{LoadsAll}
-use Rattle.mst_engine.specs.printing.Shape.{of_old, of_new, IsShown}
+use Rattle.mst_print.specs.Shape.{of_old, of_new, IsShown}
 use Rattle.mst_engine.specs.Steps.{Step, left_by, texts_of, refusals_of, lacks_of, lacking_of}
-use Rattle.mst_engine.specs.io.Written.{AppendsFront, Reads}
-use Rattle.mst_engine.specs.printing.declared.form.Form.{Form}
-use Rattle.mst_engine.specs.io.declared.outcome.Outcome.{Outcome}
+use Rattle.mst_io.specs.Written.{AppendsFront, Reads}
+use Rattle.mst_print.specs.declared.form.Form.{Form}
+use Rattle.mst_io.specs.declared.outcome.Outcome.{Outcome}
 
 -- whether nothing differs
 abbrev pub is_nothing : Differing → Bool

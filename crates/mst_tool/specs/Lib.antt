@@ -1,7 +1,6 @@
-pub use Rattle.mst_engine.specs.io as io
-pub use Rattle.mst_engine.specs.printing as printing
 pub use Rattle.mst_hinting.specs as hinting
 pub use Rattle.mst_engine.specs as engine
+pub use Rattle.mst_print.specs as printing
 pub mod Run
 pub mod Check
 pub mod Load

@@ -1,11 +1,11 @@
 -- What loading the network of a script promises. A script has no other steps that lack memory at the same lines.
 use Rattle.std.specs.Prelude.{◌≡◌, ℕ, List, Option}
 use Rattle.std.specs.Io.KnownBytes.{Appends, Consumes}
-use Rattle.mst_engine.specs.lang.Lines.{lines_of, ended_lines}
+use Rattle.mst_lang.specs.Lines.{lines_of, ended_lines}
 use Rattle.mst_engine.specs.Script.{LoadsAll}
 use Rattle.mst_engine.specs.Steps.{Step, texts_of, lacking_of}
-use Rattle.mst_engine.specs.io.Written.{AppendsFront, Reads}
-use Rattle.mst_engine.specs.printing.declared.form.Shape.{Shape}
+use Rattle.mst_io.specs.Written.{AppendsFront, Reads}
+use Rattle.mst_print.specs.declared.form.Shape.{Shape}
 
 -- a front of what the script's lines print was written, where it has this shape
 pub record LoadsFront (shape : Shape) (reads written now : Option (List ℕ)) : Type 0 where

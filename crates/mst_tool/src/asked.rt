@@ -1,12 +1,12 @@
 ghost use Rattle.std.specs.Prelude.{◌≡◌, ◌<◌, ◌==◌, length, position, IfSome};
 ghost use Rattle.std.specs.Option.{option_map};
-ghost use Rattle.mst_engine.specs.lang.Arguments as forms;
+ghost use Rattle.mst_lang.specs.Arguments as forms;
 ghost use Rattle.mst_tool.specs.Ask.{explain_question, picture_question, sweep_question};
 ghost use Rattle.mst_tool.specs.Asked.{asked_of, asked_tree, halves_of, part_value};
 
-use mst_engine::lang::{Fault, parse_number};
-use mst_engine::report::SweepPart;
+use mst_engine::SweepPart;
 use mst_ids::{Name, PortName, PortNumber, Tree};
+use mst_lang::{Fault, parse_number};
 
 /// What is asked of the network that a script leaves.
 #[derive(Clone, Copy)]

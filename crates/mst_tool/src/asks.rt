@@ -2,22 +2,21 @@ ghost use Rattle.std.specs.Prelude.{◌≡◌, ◌≤◌, ◌↔◌, ◌^◌, �
 ghost use Rattle.std.specs.Io.KnownBytes.{Appends};
 ghost use Rattle.mst_engine.specs.report.Planned.{planned_state};
 ghost use Rattle.mst_tool.specs.Ask.{Asks, AsksFront, IsAnswer, answer_text, told_of, counted_with};
-ghost use Rattle.mst_engine.specs.io.Devices.{Works, IsBroken, IsCut, IsRead, IsCalled, IsStopped, StopsAtZero};
+ghost use Rattle.mst_io.specs.Devices.{Works, IsBroken, IsCut, IsRead, IsCalled, IsStopped, StopsAtZero};
 ghost use Rattle.mst_tool.specs.Load.{LoadsEnded, LoadsScript};
 ghost use Rattle.mst_engine.specs.Served.{IsFew};
-ghost use Rattle.mst_engine.specs.printing.Shape.{of_script};
-ghost use Rattle.mst_engine.specs.io.Written.{AppendsFront};
+ghost use Rattle.mst_print.specs.Shape.{of_script};
+ghost use Rattle.mst_io.specs.Written.{AppendsFront};
 ghost use Rattle.mst_tool.specs.declared.asked.Question.TheVariants.{Explain};
 
 use crate::asked::{Asked, Question};
-use mst_engine::io::{FromRead, Outcome, RunFault, Sink, Source, TURNS, ToWrite, WriteFailed, put};
-use mst_engine::lang::Fault;
 use mst_engine::laws::{one_load, states};
-use mst_engine::printing::{Form, Shape, Side, put_unanswered, show};
-use mst_engine::report::laws::{one_explanation, one_picture, one_summary, sweep_parts};
-use mst_engine::report::{Planner, Sweep, SweepPart, Unexplained};
-use mst_engine::{Engine, Input, serve_input};
+use mst_engine::report_laws::{one_explanation, one_picture, one_summary, sweep_parts};
+use mst_engine::{Engine, Input, Planner, Sweep, SweepPart, Unexplained, serve_input};
 use mst_ids::Tree;
+use mst_io::{FromRead, Outcome, RunFault, Sink, Source, TURNS, ToWrite, WriteFailed, put};
+use mst_lang::Fault;
+use mst_print::{Form, Shape, Side, put_unanswered, show};
 use std::alloc::{AllocError, Global};
 use std::io::{Read, Write};
 

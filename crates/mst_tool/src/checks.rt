@@ -1,15 +1,15 @@
 ghost use Rattle.std.specs.Prelude.{◌≡◌, ◌+◌, ◌^◌, ◌<◌, ◌≤◌, ◌↔◌, ◌⊎◌, ℕ, false, List, Option, Ok, Err, IfOk, IsOk, OnOk, OnErr};
 ghost use Rattle.mst_engine.specs.report.Planned.{planned_state};
 ghost use Rattle.mst_tool.specs.Check.{Checks, ChecksFront, ChecksEnded, ChecksScript};
-ghost use Rattle.mst_engine.specs.io.Devices.{Works, IsBroken, IsCut, IsRead, IsCalled, Stops, StopsAtZero, stopped_by};
+ghost use Rattle.mst_io.specs.Devices.{Works, IsBroken, IsCut, IsRead, IsCalled, Stops, StopsAtZero, stopped_by};
 ghost use Rattle.mst_engine.specs.Engine.{tally_of, outcome_of};
 ghost use Rattle.mst_engine.specs.Served.{Served, ServedFront, ServedEnded, IsFew, both};
 ghost use Rattle.mst_engine.specs.declared.engine.Input.TheVariants.{Captures};
 
-use mst_engine::io::{FromRead, Outcome, RunFault, Sink, Source, TURNS, ToWrite};
 use mst_engine::laws::{has_steps, one_comparison, one_run, states};
-use mst_engine::printing::Form;
 use mst_engine::{Engine, Input, serve_input};
+use mst_io::{FromRead, Outcome, RunFault, Sink, Source, TURNS, ToWrite};
+use mst_print::Form;
 use std::alloc::Global;
 use std::io::{Read, Write};
 

@@ -1,15 +1,14 @@
 ghost use Rattle.std.specs.Prelude.{◌≡◌, ◌≤◌, ◌↔◌, ◌⊎◌, ◌^◌, ℕ, false, List, Option, Ok, Err, IfOk, IsOk, OnErr};
 ghost use Rattle.mst_engine.specs.report.Planned.{planned_state};
-ghost use Rattle.mst_engine.specs.io.Devices.{Works, IsBroken, IsCut, IsRead, IsCalled, StopsAtZero};
+ghost use Rattle.mst_io.specs.Devices.{Works, IsBroken, IsCut, IsRead, IsCalled, StopsAtZero};
 ghost use Rattle.mst_tool.specs.Diff.{Diffs, DiffsFront, DiffsEnded, DiffsScripts, TellsDifference, counted_both};
 ghost use Rattle.mst_engine.specs.Served.{IsFew};
 
-use mst_engine::io::{FromRead, Outcome, RunFault, Sink, Source, TURNS, ToWrite, put};
 use mst_engine::laws::{has_load, one_load, states};
-use mst_engine::printing::{Form, Shape, Side, show};
-use mst_engine::report::laws::one_difference;
-use mst_engine::report::{Difference, Differing, Planner};
-use mst_engine::{Engine, Input, serve_input};
+use mst_engine::report_laws::one_difference;
+use mst_engine::{Difference, Differing, Engine, Input, Planner, serve_input};
+use mst_io::{FromRead, Outcome, RunFault, Sink, Source, TURNS, ToWrite, put};
+use mst_print::{Form, Shape, Side, show};
 use std::alloc::{AllocError, Global};
 use std::io::{Read, Write};
 

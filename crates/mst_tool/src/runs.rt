@@ -1,11 +1,11 @@
 ghost use Rattle.std.specs.Prelude.{◌≡◌, ◌≢◌, ◌↔◌, ◌≤◌, ◌^◌, ℕ, false, List, Option, Err, IfOk, IsOk, OnErr};
-ghost use Rattle.mst_engine.specs.io.Devices.{Works, IsBroken, IsCut, IsRead, IsCalled, StopsAtZero};
+ghost use Rattle.mst_io.specs.Devices.{Works, IsBroken, IsCut, IsRead, IsCalled, StopsAtZero};
 ghost use Rattle.mst_tool.specs.Run.{Prints, PrintsFront, PrintsEnded, status_of};
 
-use mst_engine::io::{FromRead, Outcome, RunFault, Sink, Source, TURNS, ToWrite};
 use mst_engine::laws::one_run;
-use mst_engine::printing::Form;
 use mst_engine::{Engine, Input, serve_input};
+use mst_io::{FromRead, Outcome, RunFault, Sink, Source, TURNS, ToWrite};
+use mst_print::Form;
 use std::alloc::Global;
 use std::io::{Read, Write};
 

@@ -3,13 +3,13 @@ use Rattle.std.proofs.Common.{◌≡◌, ℕ, List, Option, Some, None, refl, sy
 use Rattle.std.specs.Option.{unwrap_or}
 use Rattle.std.specs.FinMap as fin
 use Rattle.mst_ids.specs.declared.name.PortName.{PortName}
-use Rattle.mst_nested.specs.vector.Rules.{Rules}
-use Rattle.mst_nested.specs.settle.Topology.{TreePort, Topology, IsTopology, HasBridge, HasPort}
-use Rattle.mst_nested.specs.settle.Settled.{Settled, IsDesignated}
-use Rattle.mst_nested.specs.settle.Renamed.{Renaming, IsRenamed}
-use Rattle.mst_nested.specs.settle.Assignment.{Assignment, vector_of, designated_of, IsSettledFor}
-use Rattle.mst_lag.specs.net.Tables.{Net, Numbers, IsNetwork}
-use Rattle.mst_lag.specs.net.Contents.{IsNumbered}
+use Rattle.mst_vector.specs.Rules.{Rules}
+use Rattle.mst_settle.specs.Topology.{TreePort, Topology, IsTopology, HasBridge, HasPort}
+use Rattle.mst_settle.specs.Settled.{Settled, IsDesignated}
+use Rattle.mst_settle.specs.Renamed.{Renaming, IsRenamed}
+use Rattle.mst_settle.specs.Assignment.{Assignment, vector_of, designated_of, IsSettledFor}
+use Rattle.mst_net.specs.Tables.{Net, Numbers, IsNetwork}
+use Rattle.mst_net.specs.Contents.{IsNumbered}
 use Rattle.mst_lag.specs.Viewed.{Viewed, IsView}
 use Rattle.mst_trees.specs.Sight.{Sight, tree_of}
 use Rattle.mst_trees.specs.Outcome.{TreeOutcome, IsTreeOutcome}

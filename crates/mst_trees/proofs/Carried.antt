@@ -1,14 +1,14 @@
 -- Trees that are nested stay so where their keys are replaced.
 use Rattle.std.proofs.Common.{◌≡◌, ℕ, suc, Option, Some, None, IsTrue, MatchOption, refl, sym, ap, subst, ◌∙◌}
-use Rattle.mst_nested.specs.vector.Rules.{Rules}
-use Rattle.mst_nested.specs.vector.Cist.{cist_rules}
-use Rattle.mst_nested.specs.vector.declared.cist.CistBridge.{CistBridge}
-use Rattle.mst_nested.specs.vector.declared.cist.CistPort.{CistPort}
-use Rattle.mst_nested.specs.vector.declared.msti.MstiBridge.{MstiBridge}
-use Rattle.mst_nested.specs.vector.declared.msti.MstiPort.{MstiPort}
-use Rattle.mst_nested.specs.settle.Topology.{TreePort, Topology, IsTopology, HasBridge, HasPort}
-use Rattle.mst_nested.specs.settle.Settled.{Designates, IsDesignated}
-use Rattle.mst_nested.specs.settle.Renamed.{Renaming, renamed, IsRenamed}
+use Rattle.mst_vector.specs.Rules.{Rules}
+use Rattle.mst_vector.specs.Cist.{cist_rules}
+use Rattle.mst_vector.specs.declared.cist.CistBridge.{CistBridge}
+use Rattle.mst_vector.specs.declared.cist.CistPort.{CistPort}
+use Rattle.mst_vector.specs.declared.msti.MstiBridge.{MstiBridge}
+use Rattle.mst_vector.specs.declared.msti.MstiPort.{MstiPort}
+use Rattle.mst_settle.specs.Topology.{TreePort, Topology, IsTopology, HasBridge, HasPort}
+use Rattle.mst_settle.specs.Settled.{Designates, IsDesignated}
+use Rattle.mst_settle.specs.Renamed.{Renaming, renamed, IsRenamed}
 use Rattle.mst_nested.specs.Trees.{Trees, IsLanOf, IsInternal, HasTree, IsNested}
 use Rattle.mst_trees.proofs.Lists.{some_is, no_some}
 

@@ -5,16 +5,16 @@ use Rattle.std.specs.Map.{lookup}
 use Rattle.std.specs.FinMap as fin
 use Rattle.std.proofs.lemmas.Bool.{and_parts}
 use Rattle.mst_ids.specs.declared.name.PortName.{PortName}
-use Rattle.mst_nested.specs.vector.Cist.{cist_rules}
-use Rattle.mst_nested.specs.vector.Msti.{msti_rules}
-use Rattle.mst_nested.specs.vector.declared.cist.CistVector.{CistVector}
-use Rattle.mst_nested.specs.vector.declared.msti.MstiVector.{MstiVector}
-use Rattle.mst_nested.specs.vector.declared.msti.MstiBridge.{MstiBridge}
-use Rattle.mst_nested.specs.settle.Topology.{HasBridge}
-use Rattle.mst_nested.specs.settle.Settled.{IsDesignated}
-use Rattle.mst_nested.specs.settle.Assignment.{Assignment, vector_of, designated_of, IsSettledFor}
-use Rattle.mst_lag.specs.net.Tables.{Net, Numbers, BridgeRow}
-use Rattle.mst_lag.specs.net.ByTree.{by_tree}
+use Rattle.mst_vector.specs.Cist.{cist_rules}
+use Rattle.mst_vector.specs.Msti.{msti_rules}
+use Rattle.mst_vector.specs.declared.cist.CistVector.{CistVector}
+use Rattle.mst_vector.specs.declared.msti.MstiVector.{MstiVector}
+use Rattle.mst_vector.specs.declared.msti.MstiBridge.{MstiBridge}
+use Rattle.mst_settle.specs.Topology.{HasBridge}
+use Rattle.mst_settle.specs.Settled.{IsDesignated}
+use Rattle.mst_settle.specs.Assignment.{Assignment, vector_of, designated_of, IsSettledFor}
+use Rattle.mst_net.specs.Tables.{Net, Numbers, BridgeRow}
+use Rattle.mst_net.specs.ByTree.{by_tree}
 use Rattle.mst_lag.specs.Viewed.{Viewed}
 use Rattle.mst_lag.specs.declared.in_view.BridgeInView.{BridgeInView}
 use Rattle.mst_lag.specs.declared.in_view.PortInView.{PortInView}

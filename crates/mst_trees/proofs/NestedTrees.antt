@@ -7,19 +7,19 @@ use Rattle.std.specs.Cmp.Lexicographic.{pointwise, bytes_decides}
 use Rattle.std.specs.FinMap as fin
 use Rattle.std.proofs.lemmas.Bool.{and_parts, eqb-true}
 use Rattle.mst_ids.specs.declared.name.PortName.{PortName}
-use Rattle.mst_nested.specs.vector.Cist.{cist_rules}
-use Rattle.mst_nested.specs.vector.Msti.{msti_rules}
-use Rattle.mst_nested.specs.vector.declared.cist.CistBridge.{CistBridge}
-use Rattle.mst_nested.specs.vector.declared.cist.CistPort.{CistPort}
-use Rattle.mst_nested.specs.vector.declared.msti.MstiBridge.{MstiBridge}
-use Rattle.mst_nested.specs.vector.declared.msti.MstiPort.{MstiPort}
-use Rattle.mst_nested.specs.settle.Topology.{TreePort, HasBridge, HasPort}
-use Rattle.mst_nested.specs.settle.Settled.{IsDesignated}
-use Rattle.mst_lag.specs.net.Tables.{Net, BridgeRow, IsNetwork}
-use Rattle.mst_lag.specs.net.After.{table_of}
-use Rattle.mst_lag.specs.net.ByTree.{by_tree}
+use Rattle.mst_vector.specs.Cist.{cist_rules}
+use Rattle.mst_vector.specs.Msti.{msti_rules}
+use Rattle.mst_vector.specs.declared.cist.CistBridge.{CistBridge}
+use Rattle.mst_vector.specs.declared.cist.CistPort.{CistPort}
+use Rattle.mst_vector.specs.declared.msti.MstiBridge.{MstiBridge}
+use Rattle.mst_vector.specs.declared.msti.MstiPort.{MstiPort}
+use Rattle.mst_settle.specs.Topology.{TreePort, HasBridge, HasPort}
+use Rattle.mst_settle.specs.Settled.{IsDesignated}
+use Rattle.mst_net.specs.Tables.{Net, BridgeRow, IsNetwork}
+use Rattle.mst_net.specs.After.{table_of}
+use Rattle.mst_net.specs.ByTree.{by_tree}
 use Rattle.mst_lag.specs.View.{LogicalPort, view_ports, IsUnrestricted}
-use Rattle.mst_lag.specs.net.Table.{mstis_in}
+use Rattle.mst_net.specs.Table.{mstis_in}
 use Rattle.mst_lag.specs.Trees.{mstis_of, is_among}
 use Rattle.mst_config.specs.Regions.{same_region, same_configuration, region_of}
 use Rattle.mst_config.proofs.SameRegion.{told}

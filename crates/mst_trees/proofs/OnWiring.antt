@@ -5,22 +5,22 @@ use Rattle.std.specs.List.{AllByRecursion, Contains, filter_map}
 use Rattle.std.specs.Map.{lookup}
 use Rattle.std.specs.declared.alloc.AllocError.{AllocError}
 use Rattle.std.proofs.lemmas.Bool.{and_parts, eqb-true}
-use Rattle.mst_nested.specs.vector.Rules.{Rules}
-use Rattle.mst_nested.specs.vector.Cist.{cist_rules}
-use Rattle.mst_nested.specs.vector.Msti.{msti_rules}
-use Rattle.mst_nested.specs.vector.declared.cist.CistBridge.{CistBridge}
-use Rattle.mst_nested.specs.vector.declared.cist.CistPort.{CistPort}
-use Rattle.mst_nested.specs.vector.declared.msti.MstiBridge.{MstiBridge}
-use Rattle.mst_nested.specs.vector.declared.msti.MstiPort.{MstiPort}
-use Rattle.mst_nested.specs.settle.Topology.{TreePort, Topology, IsTopology, HasBridge, HasPort}
-use Rattle.mst_nested.specs.settle.Settled.{Settled, IsDesignated}
-use Rattle.mst_nested.specs.settle.Assignment.{vector_of, designated_of, IsSettledFor}
-use Rattle.mst_nested.specs.settle.Repair.{WithinBounds}
-use Rattle.mst_nested.specs.settle.Parts.{SameParts}
-use Rattle.mst_nested.specs.settle.Wiring.{settings_in, port_in, topology_of}
+use Rattle.mst_vector.specs.Rules.{Rules}
+use Rattle.mst_vector.specs.Cist.{cist_rules}
+use Rattle.mst_vector.specs.Msti.{msti_rules}
+use Rattle.mst_vector.specs.declared.cist.CistBridge.{CistBridge}
+use Rattle.mst_vector.specs.declared.cist.CistPort.{CistPort}
+use Rattle.mst_vector.specs.declared.msti.MstiBridge.{MstiBridge}
+use Rattle.mst_vector.specs.declared.msti.MstiPort.{MstiPort}
+use Rattle.mst_settle.specs.Topology.{TreePort, Topology, IsTopology, HasBridge, HasPort}
+use Rattle.mst_settle.specs.Settled.{Settled, IsDesignated}
+use Rattle.mst_settle.specs.Assignment.{vector_of, designated_of, IsSettledFor}
+use Rattle.mst_settle.specs.Repair.{WithinBounds}
+use Rattle.mst_settle.specs.Parts.{SameParts}
+use Rattle.mst_settle.specs.Wiring.{settings_in, port_in, topology_of}
 use Rattle.mst_repair.specs.Held.{Tree, IsHeld}
-use Rattle.mst_lag.specs.net.Tables.{Net, Numbers}
-use Rattle.mst_lag.specs.net.Seen.{bridge_row}
+use Rattle.mst_net.specs.Tables.{Net, Numbers}
+use Rattle.mst_net.specs.Seen.{bridge_row}
 use Rattle.mst_lag.specs.Trees.{is_among}
 use Rattle.mst_lag.specs.Viewed.{Viewed, named_port}
 use Rattle.mst_lag.specs.declared.in_view.PortInView.{PortInView}

@@ -3,15 +3,15 @@ use Rattle.std.proofs.Common.{◌≡◌, ◌≢◌, ℕ, suc, nat_eq, List, Opti
 use Rattle.std.specs.Option.{option_and_then}
 use Rattle.std.specs.Map.{lookup}
 use Rattle.mst_ids.specs.declared.name.PortName.{PortName}
-use Rattle.mst_nested.specs.vector.Rules.{Rules}
-use Rattle.mst_nested.specs.vector.Cist.{cist_rules}
-use Rattle.mst_nested.specs.vector.Msti.{msti_rules}
-use Rattle.mst_nested.specs.vector.declared.msti.MstiVector.{MstiVector}
-use Rattle.mst_nested.specs.settle.Topology.{TreePort, Topology, IsTopology}
-use Rattle.mst_nested.specs.settle.Settled.{Settled}
-use Rattle.mst_nested.specs.settle.Renamed.{Renaming, IsRenamed}
-use Rattle.mst_nested.specs.settle.Assignment.{Assignment, vector_of, designated_of, IsSettledFor}
-use Rattle.mst_lag.specs.net.Tables.{Net, Numbers}
+use Rattle.mst_vector.specs.Rules.{Rules}
+use Rattle.mst_vector.specs.Cist.{cist_rules}
+use Rattle.mst_vector.specs.Msti.{msti_rules}
+use Rattle.mst_vector.specs.declared.msti.MstiVector.{MstiVector}
+use Rattle.mst_settle.specs.Topology.{TreePort, Topology, IsTopology}
+use Rattle.mst_settle.specs.Settled.{Settled}
+use Rattle.mst_settle.specs.Renamed.{Renaming, IsRenamed}
+use Rattle.mst_settle.specs.Assignment.{Assignment, vector_of, designated_of, IsSettledFor}
+use Rattle.mst_net.specs.Tables.{Net, Numbers}
 use Rattle.mst_lag.specs.Viewed.{Viewed}
 use Rattle.mst_lag.specs.declared.in_view.PortInView.{PortInView}
 use Rattle.mst_trees.specs.Cist.{cist_sight, cist_of}

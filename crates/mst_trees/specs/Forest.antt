@@ -2,10 +2,10 @@
 use Rattle.std.specs.Prelude.{◌≡◌, ℕ, ◌==◌, false, List, Option, nat_eq, if◌then◌else◌}
 use Rattle.std.specs.Option.{option_and_then, option_map_or}
 use Rattle.std.specs.Map.{lookup}
-use Rattle.mst_nested.specs.vector.declared.msti.MstiVector.{MstiVector}
-use Rattle.mst_nested.specs.settle.Assignment.{Assignment, vector_of, designated_of}
-use Rattle.mst_nested.specs.settle.Repair.{CountsVectors}
-use Rattle.mst_lag.specs.net.Tables.{Net, Numbers}
+use Rattle.mst_vector.specs.declared.msti.MstiVector.{MstiVector}
+use Rattle.mst_settle.specs.Assignment.{Assignment, vector_of, designated_of}
+use Rattle.mst_settle.specs.Repair.{CountsVectors}
+use Rattle.mst_net.specs.Tables.{Net, Numbers}
 use Rattle.mst_lag.specs.Viewed.{Viewed}
 use Rattle.mst_config.specs.Shared.{AreRegions}
 use Rattle.mst_trees.specs.Outcome.{Outcome, IsOutcome}
@@ -14,7 +14,7 @@ use Rattle.mst_trees.specs.Seen.{cist_seen, internal_seen, msti_seen}
 use Rattle.mst_trees.specs.Bound.{KeepsBound}
 use Rattle.mst_trees.specs.Msti.{has_msti}
 use Rattle.mst_nested.specs.Trees.{Trees}
-use Rattle.mst_nested.specs.vector.declared.cist.CistVector.{CistVector}
+use Rattle.mst_vector.specs.declared.cist.CistVector.{CistVector}
 
 -- what is seen of a forest: the region of each bridge, and the outcomes of the CIST and of the MSTIs that some bridge has
 pub record Forest : Type 0 where

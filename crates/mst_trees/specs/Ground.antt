@@ -1,8 +1,8 @@
 -- What the MSTIs of a network after an edit are made of.
 use Rattle.std.specs.Prelude.{◌≡◌, ℕ, List, []}
 use Rattle.std.specs.BTreeMap.{BTreeMap}
-use Rattle.mst_nested.specs.vector.declared.msti.MstiPort.{MstiPort}
-use Rattle.mst_nested.specs.settle.Topology.{TreePort}
+use Rattle.mst_vector.specs.declared.msti.MstiPort.{MstiPort}
+use Rattle.mst_settle.specs.Topology.{TreePort}
 use Rattle.mst_repair.specs.Differences.{Wirings}
 use Rattle.mst_lag.specs.Viewed.{Viewed}
 use Rattle.mst_lag.specs.declared.in_view.PortInView.{PortInView}

@@ -1,11 +1,6 @@
 pub use Rattle.mst_nested.specs.graph as graph
-pub use Rattle.mst_lag.specs.lang as lang
-pub use Rattle.mst_lag.specs.net as net
-pub use Rattle.mst_lag.specs as lag
+pub use Rattle.mst_net.specs as net
 pub use Rattle.mst_config.specs as config
-pub use Rattle.mst_nested.specs.vector as vector
-pub use Rattle.mst_nested.specs.settle as settle
-pub use Rattle.mst_nested.specs as nested
 pub mod Sight
 pub mod Cist
 pub mod Msti

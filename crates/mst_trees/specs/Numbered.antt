@@ -1,10 +1,10 @@
 -- One tree under the numbers of records: what the settling of its bridges and ports needs and gives.
 use Rattle.std.specs.Prelude.{◌≡◌, ◌≢◌, ℕ, ◌≤◌, true, List, Option, IsTrue, length}
 use Rattle.std.specs.List.{AllByRecursion, Contains}
-use Rattle.mst_nested.specs.vector.Rules.{Rules}
-use Rattle.mst_nested.specs.settle.Topology.{TreePort, Topology}
-use Rattle.mst_nested.specs.settle.Assignment.{Assignment, vector_of, IsSettledFor}
-use Rattle.mst_nested.specs.settle.Repair.{WithinBounds}
+use Rattle.mst_vector.specs.Rules.{Rules}
+use Rattle.mst_settle.specs.Topology.{TreePort, Topology}
+use Rattle.mst_settle.specs.Assignment.{Assignment, vector_of, IsSettledFor}
+use Rattle.mst_settle.specs.Repair.{WithinBounds}
 use Rattle.mst_trees.specs.Apart.{Apart}
 
 -- these bridges and ports

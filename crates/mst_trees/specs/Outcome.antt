@@ -1,14 +1,14 @@
 -- The settled outcome of a network, by name: the CIST and the MSTIs.
 use Rattle.std.specs.Prelude.{ℕ, List, Option}
 use Rattle.mst_ids.specs.declared.name.PortName.{PortName}
-use Rattle.mst_nested.specs.vector.Rules.{Rules}
-use Rattle.mst_nested.specs.vector.Cist.{cist_rules}
-use Rattle.mst_nested.specs.vector.Msti.{msti_rules}
-use Rattle.mst_nested.specs.vector.declared.cist.CistVector.{CistVector}
-use Rattle.mst_nested.specs.vector.declared.msti.MstiVector.{MstiVector}
-use Rattle.mst_nested.specs.settle.Topology.{Topology}
-use Rattle.mst_nested.specs.settle.Settled.{Settled, IsDesignated}
-use Rattle.mst_lag.specs.net.Tables.{Net}
+use Rattle.mst_vector.specs.Rules.{Rules}
+use Rattle.mst_vector.specs.Cist.{cist_rules}
+use Rattle.mst_vector.specs.Msti.{msti_rules}
+use Rattle.mst_vector.specs.declared.cist.CistVector.{CistVector}
+use Rattle.mst_vector.specs.declared.msti.MstiVector.{MstiVector}
+use Rattle.mst_settle.specs.Topology.{Topology}
+use Rattle.mst_settle.specs.Settled.{Settled, IsDesignated}
+use Rattle.mst_net.specs.Tables.{Net}
 use Rattle.mst_trees.specs.Cist.{cist_of}
 use Rattle.mst_trees.specs.Msti.{msti_of}
 use Rattle.mst_nested.specs.Trees.{Trees}

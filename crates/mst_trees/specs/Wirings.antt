@@ -6,12 +6,12 @@ use Rattle.std.specs.Map.{lookup}
 use Rattle.std.specs.BTreeMap.{BTreeMap}
 use Rattle.mst_ids.specs.Identifiers.{port_id}
 use Rattle.mst_ids.specs.Costs.{automatic_cost}
-use Rattle.mst_nested.specs.vector.declared.cist.CistBridge.{CistBridge}
-use Rattle.mst_nested.specs.vector.declared.cist.CistPort.{CistPort}
-use Rattle.mst_nested.specs.vector.declared.msti.MstiBridge.{MstiBridge}
-use Rattle.mst_nested.specs.vector.declared.msti.MstiPort.{MstiPort}
-use Rattle.mst_nested.specs.settle.Topology.{TreePort}
-use Rattle.mst_nested.specs.settle.Wiring.{settings_in}
+use Rattle.mst_vector.specs.declared.cist.CistBridge.{CistBridge}
+use Rattle.mst_vector.specs.declared.cist.CistPort.{CistPort}
+use Rattle.mst_vector.specs.declared.msti.MstiBridge.{MstiBridge}
+use Rattle.mst_vector.specs.declared.msti.MstiPort.{MstiPort}
+use Rattle.mst_settle.specs.Topology.{TreePort}
+use Rattle.mst_settle.specs.Wiring.{settings_in}
 use Rattle.mst_lag.specs.Viewed.{Viewed, named_port}
 use Rattle.mst_lag.specs.declared.in_view.PortInView.{PortInView}
 use Rattle.mst_trees.specs.Apart.{Apart}

@@ -3,8 +3,8 @@ ghost use Rattle.mst_trees.specs.Apart.{Apart};
 ghost use Rattle.mst_trees.specs.Wirings.{HaveNumbers};
 
 use mst_ids::BridgeNo;
-use mst_nested::settle::{Bridges, TreePort, Wiring};
-use mst_nested::vector::Metric;
+use mst_settle::{Bridges, TreePort, Wiring};
+use mst_vector::Metric;
 use std::alloc::{AllocError, Global};
 
 /// The wiring of these ports.

@@ -1,8 +1,8 @@
 ghost use Rattle.std.specs.Prelude.{◌≡◌, ℕ, IfOk, None};
-ghost use Rattle.mst_nested.specs.vector.Cist.{cist_rules};
-ghost use Rattle.mst_nested.specs.settle.Assignment.{vector_of, designated_of};
+ghost use Rattle.mst_vector.specs.Cist.{cist_rules};
+ghost use Rattle.mst_settle.specs.Assignment.{vector_of, designated_of};
 ghost use Rattle.mst_repair.specs.Held.{IsHeld};
-ghost use Rattle.mst_lag.specs.net.Tables.{Net, Numbers};
+ghost use Rattle.mst_net.specs.Tables.{Net, Numbers};
 ghost use Rattle.mst_config.specs.Shared.{same_in};
 ghost use Rattle.mst_trees.specs.Agrees.{AreOf, Known, KnownInternal};
 ghost use Rattle.mst_trees.specs.Forest.{IsForest, IsSettledOnce, KeepsBounds, SettlesNoUnused, msti_vector, msti_settlings, designated_in, settlings_in, trees_seen};
@@ -20,10 +20,10 @@ use indexmap::IndexMap;
 use mst_config::Regions;
 use mst_ids::{BridgeNo, LanNo, Name, PortName, PortNo, Tree};
 use mst_lag::{PortInView, View};
-use mst_nested::settle::Wiring;
-use mst_nested::settle::laws::renamed;
-use mst_nested::vector::{CistMetric, CistPort, CistVector, MstiMetric, MstiPort, MstiVector};
 use mst_repair::SpanningTree;
+use mst_settle::Wiring;
+use mst_settle::laws::renamed;
+use mst_vector::{CistMetric, CistPort, CistVector, MstiMetric, MstiPort, MstiVector};
 use std::alloc::{AllocError, Global};
 use std::marker::Model;
 
@@ -52,7 +52,7 @@ impl Drop for Forest {
 }
 
 impl Model for Forest {
-    ghost use Rattle.mst_nested.specs.vector.Cist.{cist_rules};
+    ghost use Rattle.mst_vector.specs.Cist.{cist_rules};
     ghost use Rattle.mst_repair.specs.Held.{IsHeld};
     ghost use Rattle.mst_trees.specs.Forest.{Forest as ForestSeen};
     ghost use Rattle.mst_trees.specs.Mstis.{outcomes, AreHeld};

@@ -1,13 +1,13 @@
 //! Laws of outcomes. Their functions do nothing: a caller has their clauses.
 ghost use Rattle.std.specs.Prelude.{◌≡◌};
-ghost use Rattle.mst_lag.specs.net.Tables.{Net, IsNetwork};
+ghost use Rattle.mst_net.specs.Tables.{Net, IsNetwork};
 ghost use Rattle.mst_lag.specs.View.{IsUnrestricted};
 ghost use Rattle.mst_trees.specs.Outcome.{Outcome, IsOutcome, trees_of};
 ghost use Rattle.mst_nested.specs.Trees.{IsSettled, IsFree};
 
 use mst_ids::{Name, PortName};
-use mst_nested::settle::laws;
-use mst_nested::vector::{CistMetric, MstiMetric};
+use mst_settle::laws;
+use mst_vector::{CistMetric, MstiMetric};
 
 /// Each network has a settled outcome.
 pub fn has_outcome()

@@ -1,5 +1,5 @@
 ghost use Rattle.std.specs.Prelude.{ℕ, ◌==◌, IfOk, OnOk};
-ghost use Rattle.mst_lag.specs.net.ByTree.{AreInTrees};
+ghost use Rattle.mst_net.specs.ByTree.{AreInTrees};
 ghost use Rattle.mst_lag.specs.Trees.{is_among};
 ghost use Rattle.mst_trees.specs.Agrees.{KnownInternal};
 ghost use Rattle.mst_trees.specs.Own.{is_set, IsNoted};
@@ -9,7 +9,7 @@ use crate::settings::msti_port;
 use indexmap::IndexMap;
 use mst_ids::Tree;
 use mst_lag::{PortInView, View};
-use mst_nested::vector::MstiPort;
+use mst_vector::MstiPort;
 use std::alloc::{AllocError, Global};
 use std::collections::BTreeMap;
 

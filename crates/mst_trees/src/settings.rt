@@ -1,16 +1,16 @@
 ghost use Rattle.std.specs.Prelude.{◌≡◌};
 ghost use Rattle.mst_ids.specs.Identifiers.{port_id as id_of};
-ghost use Rattle.mst_lag.specs.net.ByTree.{port_priority_in};
-ghost use Rattle.mst_lag.specs.net.Seen.{bridge_row};
+ghost use Rattle.mst_net.specs.ByTree.{port_priority_in};
+ghost use Rattle.mst_net.specs.Seen.{bridge_row};
 ghost use Rattle.mst_lag.specs.Viewed.{named_port};
 ghost use Rattle.mst_trees.specs.Cist.{cist_port as port_in_cist};
 ghost use Rattle.mst_trees.specs.InUse.{id_in};
 ghost use Rattle.mst_trees.specs.Msti.{msti_port as port_in_msti};
 
 use mst_ids::{BridgeId, PortId, Tree, auto_cost};
-use mst_lag::net::TreeSettings;
 use mst_lag::{BridgeInView, PortInView};
-use mst_nested::vector::{CistPort, MstiPort};
+use mst_net::TreeSettings;
+use mst_vector::{CistPort, MstiPort};
 
 /// The identifier of a bridge in a tree: its priority there, the tree and its MAC.
 pub fn bridge_id(settings: &TreeSettings, tree: Tree, bridge: &BridgeInView) -> BridgeId

@@ -13,15 +13,15 @@ use Rattle.mst_roles.specs.vector.declared.cist.CistBridge.{CistBridge}
 use Rattle.mst_roles.specs.vector.declared.cist.CistPort.{CistPort}
 use Rattle.mst_roles.specs.vector.declared.msti.MstiBridge.{MstiBridge}
 use Rattle.mst_roles.specs.settle.Topology.{TreePort, HasBridge, KeyTests}
-use Rattle.mst_roles.specs.graph.Joined.{IsJoined, HasNoLoop, Other}
-use Rattle.mst_roles.proofs.graph_lemmas.Members.{in_filter, from_filter}
-use Rattle.mst_roles.specs.nested.Ports.{port_ends as plug_ends}
-use Rattle.mst_roles.specs.nested.Trees.{Trees, IsSettled, IsFree, IsEnabled as IsEnabledPlug, HasTree, SameRegion}
-use Rattle.mst_roles.specs.nested.Roles.{Forwards}
-use Rattle.mst_roles.specs.nested.Active.{IsTreeOfVid, IsActive}
+use Rattle.mst_graph.specs.Joined.{IsJoined, HasNoLoop, Other}
+use Rattle.mst_graph.proofs.Members.{in_filter, from_filter}
+use Rattle.mst_nested.specs.Ports.{port_ends as plug_ends}
+use Rattle.mst_nested.specs.Trees.{Trees, IsSettled, IsFree, IsEnabled as IsEnabledPlug, HasTree, SameRegion}
+use Rattle.mst_nested.specs.Roles.{Forwards}
+use Rattle.mst_nested.specs.Active.{IsTreeOfVid, IsActive}
 use Rattle.mst_roles.specs.net.Tables.{Net, BridgeRow, IsNetwork}
 use Rattle.mst_roles.specs.net.ByTree.{by_tree}
-use Rattle.mst_roles.specs.lag.View.{LogicalPort, view_ports}
+use Rattle.mst_lag.specs.View.{LogicalPort, view_ports}
 use Rattle.mst_roles.specs.config.Regions.{same_region, region_of}
 use Rattle.mst_roles.proofs.config_lemmas.SameRegion.{told}
 use Rattle.mst_roles.specs.trees.Sight.{tree_port}

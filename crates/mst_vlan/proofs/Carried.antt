@@ -1,6 +1,6 @@
 -- Walks over other edges with the same ends.
 use Rattle.std.proofs.Common.{◌≡◌, inl, inr, ◌∙◌}
-use Rattle.mst_roles.specs.graph.Walks.{Ends, Links, Walk, stay, along}
+use Rattle.mst_graph.specs.Walks.{Ends, Links, Walk, stay, along}
 
 module _ {N E F : Type 0} (g : Ends N E) (h : Ends N F) where
   same_links : (e : E) (d : F) (a b : N) → h.from d ≡ g.from e → h.to d ≡ g.to e → Links g e a b → Links h d a b

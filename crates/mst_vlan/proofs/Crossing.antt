@@ -5,13 +5,13 @@ use Rattle.mst_ids.specs.declared.name.PortName.{PortName}
 use Rattle.mst_roles.specs.vector.Msti.{msti_rules}
 use Rattle.mst_roles.specs.vector.declared.cist.CistPort.{CistPort}
 use Rattle.mst_roles.specs.settle.Topology.{TreePort}
-use Rattle.mst_roles.specs.graph.Walks.{bridge_at, lan_at}
-use Rattle.mst_roles.specs.nested.Exits.{IsCrossing, IsExit}
-use Rattle.mst_roles.specs.nested.Roles.{Forwards}
-use Rattle.mst_roles.specs.nested.Trees.{IsSettled, SamePart, HasTree}
+use Rattle.mst_graph.specs.Walks.{bridge_at, lan_at}
+use Rattle.mst_nested.specs.Exits.{IsCrossing, IsExit}
+use Rattle.mst_nested.specs.Roles.{Forwards}
+use Rattle.mst_nested.specs.Trees.{IsSettled, SamePart, HasTree}
 use Rattle.mst_roles.specs.net.Tables.{Net, IsNetwork}
 use Rattle.mst_roles.specs.net.ByTree.{by_tree}
-use Rattle.mst_roles.specs.lag.View.{LogicalPort, view_ports}
+use Rattle.mst_lag.specs.View.{LogicalPort, view_ports}
 use Rattle.mst_roles.specs.trees.Msti.{msti_bridge, has_msti, msti_sight}
 use Rattle.mst_roles.specs.trees.Outcome.{Outcome, trees_of}
 use Rattle.mst_roles.proofs.trees_lemmas.Lists.{no_some, all_contained}

@@ -8,11 +8,11 @@ use Rattle.std.specs.FinMap.{contains_key-keys}
 use Rattle.std.proofs.lemmas.Bool.{and_parts}
 use Rattle.mst_ids.specs.Names.{name_cmp}
 use Rattle.mst_ids.specs.declared.name.PortName.{PortName}
-use Rattle.mst_roles.proofs.graph_lemmas.Members.{in_map, from_map, in_filter, from_filter, passing}
+use Rattle.mst_graph.proofs.Members.{in_map, from_map, in_filter, from_filter, passing}
 use Rattle.mst_roles.specs.net.Tables.{Net, BridgeRow, PortRow, IsNetwork, port_eq}
-use Rattle.mst_roles.specs.lag.Aggregation.{Plug, plug_of, plugs}
-use Rattle.mst_roles.specs.lag.View.{LogicalPort, logical_lan, logical_port, as_port, is_on, is_up, view_ports}
-use Rattle.mst_roles.proofs.lag_lemmas.Names.{name_is, tied}
+use Rattle.mst_lag.specs.Aggregation.{Plug, plug_of, plugs}
+use Rattle.mst_lag.specs.View.{LogicalPort, logical_lan, logical_port, as_port, is_on, is_up, view_ports}
+use Rattle.mst_lag.proofs.Names.{name_is, tied}
 use Rattle.mst_roles.proofs.trees_lemmas.Entries.{entries_found}
 use Rattle.mst_roles.proofs.trees_lemmas.Lists.{some_is, no_some, all_contained, kept_from}
 use Rattle.mst_roles.proofs.trees_lemmas.Views.{ports_total, entry_there, row_on}

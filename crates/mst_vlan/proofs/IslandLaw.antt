@@ -5,16 +5,16 @@ use Rattle.std.specs.List.{Contains}
 use Rattle.std.specs.Cmp.Lexicographic.{nat_list_cmp_total, nat_list_eq_equiv}
 use Rattle.std.specs.FinMap as fin
 use Rattle.mst_ids.specs.Names.{name_cmp}
-use Rattle.mst_roles.specs.graph.Groups.{StandOnce}
-use Rattle.mst_roles.specs.graph.Islands.{Island}
-use Rattle.mst_roles.specs.graph.Renaming.{KeepApart, link_by}
-use Rattle.mst_roles.proofs.graph_lemmas.HasList.{has_islands}
-use Rattle.mst_roles.proofs.graph_lemmas.Members.{in_none, cases}
-use Rattle.mst_roles.proofs.graph_lemmas.OneList.{one_islands}
+use Rattle.mst_graph.specs.Groups.{StandOnce}
+use Rattle.mst_graph.specs.Islands.{Island}
+use Rattle.mst_graph.specs.Renaming.{KeepApart, link_by}
+use Rattle.mst_graph.proofs.HasList.{has_islands}
+use Rattle.mst_graph.proofs.Members.{in_none, cases}
+use Rattle.mst_graph.proofs.OneList.{one_islands}
 use Rattle.mst_roles.specs.net.Tables.{Net, BridgeRow, LanRow, IsNetwork}
-use Rattle.mst_roles.specs.lag.Aggregation.{same_name}
-use Rattle.mst_roles.specs.lag.View.{LogicalLan, as_lan, logical_lan, view_lans}
-use Rattle.mst_roles.proofs.lag_lemmas.Names.{same_names}
+use Rattle.mst_lag.specs.Aggregation.{same_name}
+use Rattle.mst_lag.specs.View.{LogicalLan, as_lan, logical_lan, view_lans}
+use Rattle.mst_lag.proofs.Names.{same_names}
 use Rattle.mst_roles.specs.trees.Apart.{Apart}
 use Rattle.mst_roles.specs.trees.Outcome.{Outcome}
 use Rattle.mst_roles.proofs.trees_lemmas.Entries.{entries_apart}

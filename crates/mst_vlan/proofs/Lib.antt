@@ -1,7 +1,4 @@
-pub use Rattle.mst_roles.proofs.graph_lemmas as graph_lemmas
-pub use Rattle.mst_roles.proofs.net_lemmas as net_lemmas
-pub use Rattle.mst_roles.proofs.lag_lemmas as lag_lemmas
-pub use Rattle.mst_roles.proofs.config_lemmas as config_lemmas
+pub use Rattle.mst_graph.proofs as graph_lemmas
 pub use Rattle.mst_roles.proofs.trees_lemmas as trees_lemmas
 pub use Rattle.mst_roles.proofs as roles_lemmas
 pub mod Names

@@ -5,19 +5,19 @@ use Rattle.std.specs.List.{Contains}
 use Rattle.std.specs.Option.{option_map_or}
 use Rattle.std.specs.FinMap as fin
 use Rattle.mst_ids.specs.Vids.{has}
-use Rattle.mst_roles.specs.graph.Islands.{Link, HaveEnds}
-use Rattle.mst_roles.specs.graph.Renaming.{KeepApart, link_by}
-use Rattle.mst_roles.proofs.graph_lemmas.Members.{in_map, from_map, from_filter}
-use Rattle.mst_roles.proofs.graph_lemmas.Splits.{kept_each, map_of_map}
+use Rattle.mst_graph.specs.Islands.{Link, HaveEnds}
+use Rattle.mst_graph.specs.Renaming.{KeepApart, link_by}
+use Rattle.mst_graph.proofs.Members.{in_map, from_map, from_filter}
+use Rattle.mst_graph.proofs.Splits.{kept_each, map_of_map}
 use Rattle.mst_roles.specs.net.Tables.{Net, Numbers, BridgeRow}
 use Rattle.mst_roles.specs.net.ByTree.{vlans_in}
 use Rattle.mst_roles.specs.net.Seen.{bridge_row}
-use Rattle.mst_roles.specs.lag.Trees.{is_among}
-use Rattle.mst_roles.specs.lag.View.{LogicalPort, LogicalLan}
-use Rattle.mst_roles.specs.lag.Viewed.{Viewed, named_bridge, named_port, named_lan}
-use Rattle.mst_roles.specs.lag.declared.in_view.BridgeInView.{BridgeInView}
-use Rattle.mst_roles.specs.lag.declared.in_view.PortInView.{PortInView}
-use Rattle.mst_roles.specs.lag.declared.in_view.LanInView.{LanInView}
+use Rattle.mst_lag.specs.Trees.{is_among}
+use Rattle.mst_lag.specs.View.{LogicalPort, LogicalLan}
+use Rattle.mst_lag.specs.Viewed.{Viewed, named_bridge, named_port, named_lan}
+use Rattle.mst_lag.specs.declared.in_view.BridgeInView.{BridgeInView}
+use Rattle.mst_lag.specs.declared.in_view.PortInView.{PortInView}
+use Rattle.mst_lag.specs.declared.in_view.LanInView.{LanInView}
 use Rattle.mst_roles.specs.trees.Agrees.{AreOf}
 use Rattle.mst_roles.specs.trees.Forest.{IsForest}
 use Rattle.mst_roles.specs.trees.Seen.{trees_at}

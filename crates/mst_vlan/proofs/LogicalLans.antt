@@ -6,15 +6,15 @@ use Rattle.std.specs.Cmp.{nat_eq_equiv}
 use Rattle.std.specs.Cmp.Lexicographic.{nat_list_eq_equiv}
 use Rattle.std.specs.FinMap as fin
 use Rattle.std.proofs.lemmas.Bool.{and_parts, eqb-true}
-use Rattle.mst_roles.proofs.graph_lemmas.Members.{in_map, in_filter}
+use Rattle.mst_graph.proofs.Members.{in_map, in_filter}
 use Rattle.mst_roles.specs.net.Tables.{Net}
-use Rattle.mst_roles.specs.lag.Aggregation.{Side, sides, same_name, same_sides, lans_as_one}
-use Rattle.mst_roles.specs.lag.View.{logical_lan, LogicalLan, as_lan, view_lans, is_up}
-use Rattle.mst_roles.specs.lag.Seen.{kept_class, class_eq}
-use Rattle.mst_roles.specs.lag.declared.classes.Class.{Class}
-use Rattle.mst_roles.proofs.lag_lemmas.Lists.{some_is, no_some, all_of, find_same, found_passes}
-use Rattle.mst_roles.proofs.lag_lemmas.Names.{same_names}
-use Rattle.mst_roles.proofs.lag_lemmas.Sides.{lan_sides_in_order, same_class}
+use Rattle.mst_lag.specs.Aggregation.{Side, sides, same_name, same_sides, lans_as_one}
+use Rattle.mst_lag.specs.View.{logical_lan, LogicalLan, as_lan, view_lans, is_up}
+use Rattle.mst_lag.specs.Seen.{kept_class, class_eq}
+use Rattle.mst_lag.specs.declared.classes.Class.{Class}
+use Rattle.mst_lag.proofs.Lists.{some_is, no_some, all_of, find_same, found_passes}
+use Rattle.mst_lag.proofs.Names.{same_names}
+use Rattle.mst_lag.proofs.Sides.{lan_sides_in_order, same_class}
 use Rattle.mst_roles.proofs.trees_lemmas.Looking.{IsFirst, first_found}
 use Rattle.mst_vlan.specs.Reach.{lans_up}
 

@@ -5,10 +5,10 @@ use Rattle.mst_ids.specs.declared.name.PortName.{PortName}
 use Rattle.mst_roles.specs.vector.Cist.{cist_rules}
 use Rattle.mst_roles.specs.vector.declared.cist.CistPort.{CistPort}
 use Rattle.mst_roles.specs.settle.Topology.{TreePort}
-use Rattle.mst_roles.specs.nested.Trees.{TakesPart}
+use Rattle.mst_nested.specs.Trees.{TakesPart}
 use Rattle.mst_roles.specs.net.Tables.{Net, IsNetwork}
 use Rattle.mst_roles.specs.net.ByTree.{by_tree}
-use Rattle.mst_roles.specs.lag.View.{LogicalPort}
+use Rattle.mst_lag.specs.View.{LogicalPort}
 use Rattle.mst_roles.specs.trees.Sight.{tree_port}
 use Rattle.mst_roles.specs.trees.Cist.{cist_port, cist_sight, cist_of}
 use Rattle.mst_roles.proofs.trees_lemmas.CistTopology.{cist_is_sight}

@@ -2,13 +2,13 @@
 use Rattle.std.proofs.Common.{◌≡◌, ℕ, List, [], map, filter, Some, sym, ap, subst, ◌∙◌}
 use Rattle.std.specs.List.{Contains}
 use Rattle.std.specs.FinMap as fin
-use Rattle.mst_roles.specs.graph.Islands.{Link, Island, AreIslands, HaveEnds}
-use Rattle.mst_roles.specs.graph.Renaming.{link_by, island_by}
-use Rattle.mst_roles.proofs.graph_lemmas.Members.{from_map, from_filter}
-use Rattle.mst_roles.proofs.graph_lemmas.Splits.{kept_each, map_of_map}
+use Rattle.mst_graph.specs.Islands.{Link, Island, AreIslands, HaveEnds}
+use Rattle.mst_graph.specs.Renaming.{link_by, island_by}
+use Rattle.mst_graph.proofs.Members.{from_map, from_filter}
+use Rattle.mst_graph.proofs.Splits.{kept_each, map_of_map}
 use Rattle.mst_roles.specs.net.Tables.{Net, Numbers, IsNetwork}
-use Rattle.mst_roles.specs.lag.View.{view_ports}
-use Rattle.mst_roles.specs.lag.Viewed.{Viewed}
+use Rattle.mst_lag.specs.View.{view_ports}
+use Rattle.mst_lag.specs.Viewed.{Viewed}
 use Rattle.mst_roles.specs.trees.Outcome.{Outcome}
 use Rattle.mst_roles.specs.trees.Agrees.{AreOf}
 use Rattle.mst_roles.specs.trees.Forest.{IsForest}

@@ -3,12 +3,12 @@ use Rattle.std.proofs.Common.{◌≡◌, ℕ, ◌==◌, List, [], ◌∷◌, map
 use Rattle.std.specs.List.{All, Contains, find}
 use Rattle.std.proofs.lemmas.Bool.{eqb-true}
 use Rattle.std.proofs.lemmas.List.Elements.{All-contains, All-contains_itself, All-weaker, Contains-append_cases, Contains-append_left, Contains-append_right}
-use Rattle.mst_roles.specs.graph.Walks.{Node, bridge_at, lan_at}
-use Rattle.mst_roles.specs.graph.Islands.{Link, Island, nodes, members, AreIslands, HaveEnds}
-use Rattle.mst_roles.specs.graph.Renaming.{KeepApart, link_by, island_by}
-use Rattle.mst_roles.proofs.graph_lemmas.ByKeys.{by_keys}
-use Rattle.mst_roles.proofs.graph_lemmas.Members.{in_map, from_map, in_whole}
-use Rattle.mst_roles.proofs.graph_lemmas.Splits.{kept_each, map_of_map}
+use Rattle.mst_graph.specs.Walks.{Node, bridge_at, lan_at}
+use Rattle.mst_graph.specs.Islands.{Link, Island, nodes, members, AreIslands, HaveEnds}
+use Rattle.mst_graph.specs.Renaming.{KeepApart, link_by, island_by}
+use Rattle.mst_graph.proofs.ByKeys.{by_keys}
+use Rattle.mst_graph.proofs.Members.{in_map, from_map, in_whole}
+use Rattle.mst_graph.proofs.Splits.{kept_each, map_of_map}
 use Rattle.mst_roles.proofs.trees_lemmas.Looking.{first_found}
 
 unchanged : {A : Type 0} (xs : List A) → map (λ x. x) xs ≡ xs

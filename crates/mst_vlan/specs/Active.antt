@@ -1,10 +1,10 @@
 -- The active topology of a VID, by name.
 use Rattle.std.specs.Prelude.{◌≡◌, ℕ, true, List, filter}
 use Rattle.std.specs.List.{Contains}
-use Rattle.mst_roles.specs.graph.Walks.{Ends, Node, bridge_at, lan_at}
-use Rattle.mst_roles.specs.graph.Joined.{IsJoined, HasNoLoop}
+use Rattle.mst_graph.specs.Walks.{Ends, Node, bridge_at, lan_at}
+use Rattle.mst_graph.specs.Joined.{IsJoined, HasNoLoop}
 use Rattle.mst_roles.specs.net.Tables.{Net}
-use Rattle.mst_roles.specs.lag.View.{LogicalPort, view_ports}
+use Rattle.mst_lag.specs.View.{LogicalPort, view_ports}
 use Rattle.mst_roles.specs.trees.Outcome.{Outcome}
 use Rattle.mst_roles.specs.Roles.{forwards_for}
 

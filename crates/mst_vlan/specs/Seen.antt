@@ -1,11 +1,11 @@
 -- The active ports of a VID and what they link, under the numbers of records.
 use Rattle.std.specs.Prelude.{ℕ, Bool, List, map, filter}
 use Rattle.mst_ids.specs.Vids.{has}
-use Rattle.mst_roles.specs.graph.Islands.{Link, Island}
+use Rattle.mst_graph.specs.Islands.{Link, Island}
 use Rattle.mst_roles.specs.net.ByTree.{vlans_in}
 use Rattle.mst_roles.specs.net.Seen.{bridge_row}
-use Rattle.mst_roles.specs.lag.Viewed.{Viewed}
-use Rattle.mst_roles.specs.lag.declared.in_view.PortInView.{PortInView}
+use Rattle.mst_lag.specs.Viewed.{Viewed}
+use Rattle.mst_lag.specs.declared.in_view.PortInView.{PortInView}
 use Rattle.mst_roles.specs.trees.Forest.{Forest}
 use Rattle.mst_roles.specs.Seen.{seen_forwards}
 use Rattle.mst_vlan.specs.declared.island.Island.{Island as IslandNos}

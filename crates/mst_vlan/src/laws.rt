@@ -9,17 +9,17 @@ ghost use Rattle.mst_roles.specs.vector.declared.cist.CistPort.{CistPort};
 ghost use Rattle.mst_roles.specs.vector.declared.cist.CistVector.{CistVector};
 ghost use Rattle.mst_roles.specs.vector.declared.msti.MstiVector.{MstiVector};
 ghost use Rattle.mst_roles.specs.settle.Topology.{TreePort, HasBridge};
-ghost use Rattle.mst_roles.specs.graph.Islands.{Island};
-ghost use Rattle.mst_roles.specs.graph.Joined.{HasNoLoop};
-ghost use Rattle.mst_roles.specs.graph.Walks.{Node, Walk, bridge_at, lan_at};
-ghost use Rattle.mst_roles.specs.nested.Exits.{IsCrossing, IsExit, HoldsRoot, HasOneExit};
-ghost use Rattle.mst_roles.specs.nested.Parts.{SameRoots, HasRoot, HasRegionalRoot, HasMstiRoot};
-ghost use Rattle.mst_roles.specs.nested.Ports.{port_ends as plug_ends};
-ghost use Rattle.mst_roles.specs.nested.Roles.{Forwards, ForwardsInside};
-ghost use Rattle.mst_roles.specs.nested.Trees.{SamePart, SameRegion, HasTree};
+ghost use Rattle.mst_graph.specs.Islands.{Island};
+ghost use Rattle.mst_graph.specs.Joined.{HasNoLoop};
+ghost use Rattle.mst_graph.specs.Walks.{Node, Walk, bridge_at, lan_at};
+ghost use Rattle.mst_nested.specs.Exits.{IsCrossing, IsExit, HoldsRoot, HasOneExit};
+ghost use Rattle.mst_nested.specs.Parts.{SameRoots, HasRoot, HasRegionalRoot, HasMstiRoot};
+ghost use Rattle.mst_nested.specs.Ports.{port_ends as plug_ends};
+ghost use Rattle.mst_nested.specs.Roles.{Forwards, ForwardsInside};
+ghost use Rattle.mst_nested.specs.Trees.{SamePart, SameRegion, HasTree};
 ghost use Rattle.mst_roles.specs.net.Tables.{Net, IsNetwork};
 ghost use Rattle.mst_roles.specs.net.ByTree.{by_tree};
-ghost use Rattle.mst_roles.specs.lag.View.{LogicalPort, IsUnrestricted};
+ghost use Rattle.mst_lag.specs.View.{LogicalPort, IsUnrestricted};
 ghost use Rattle.mst_roles.specs.trees.Cist.{cist_of, cist_port};
 ghost use Rattle.mst_roles.specs.trees.Sight.{tree_port};
 ghost use Rattle.mst_roles.specs.trees.Outcome.{Outcome, IsOutcome, trees_of};
@@ -29,9 +29,9 @@ ghost use Rattle.mst_vlan.specs.Active.{active_ports, port_ends, IsEnabled, Join
 ghost use Rattle.mst_vlan.specs.Reach.{AreIslandsOf};
 
 use mst_ids::{Name, PortName};
+use mst_nested::laws;
 use mst_roles::laws::forwarding;
-use mst_roles::nested::laws;
-use mst_roles::trees::laws::nested;
+use mst_roles::trees_laws::nested;
 
 /// Where no logical port's role is restricted, the active ports of a VID join what is enabled and make no loop, whatever
 /// trees the regions map the VID to: a

@@ -7,7 +7,9 @@ mod reaching;
 mod topology;
 
 pub use island::{BridgeList, Island, LanList};
-pub use mst_roles as roles;
-pub use mst_roles::{config, graph, lag, lang, net, settle, trees, vector};
+pub use mst_roles::{
+    Forest, Role, bridge_id, cist_port, forwards, has_tree, is_had, msti_port, mstis_in_use,
+    port_forwards, port_role, role, trees_in_use, trees_laws,
+};
 pub use reaching::{is_member, reach, reach_from};
 pub use topology::{active, active_ports};

@@ -1,5 +1,5 @@
 ghost use Rattle.std.specs.Prelude.{◌≡◌, IfOk, map, filter};
-ghost use Rattle.mst_roles.specs.graph.Islands.{AreIslands};
+ghost use Rattle.mst_graph.specs.Islands.{AreIslands};
 ghost use Rattle.mst_ids.specs.Vids.{has};
 ghost use Rattle.mst_roles.specs.net.Tables.{Net, Numbers};
 ghost use Rattle.mst_roles.specs.trees.Agrees.{AreOf, Known};
@@ -9,10 +9,10 @@ ghost use Rattle.mst_vlan.specs.Seen.{seen_active, seen_bridges, seen_lans, seen
 
 use crate::island::{BridgeList, Island, LanList};
 use crate::topology::active_ports;
+use mst_graph::{Link, islands};
 use mst_ids::{BridgeNo, LanNo, Vid};
-use mst_roles::graph::{Link, islands};
-use mst_roles::lag::{PortInView, View};
-use mst_roles::trees::Forest;
+use mst_lag::{PortInView, View};
+use mst_roles::Forest;
 use std::alloc::{AllocError, Global};
 
 /// The bridges that are on.
@@ -70,7 +70,7 @@ fn joined(
     forest: &Forest,
     active: &[PortInView],
     vid: Vid,
-) -> Result<Vec<mst_roles::graph::Island>, AllocError>
+) -> Result<Vec<mst_graph::Island>, AllocError>
     requires known { Known view.now forest.now.regions }
     requires active { active.now ≡ seen_active view.now forest.now vid }
     ensures { IfOk result (λ joined. AreIslands (seen_bridges view.now) (seen_lans view.now) (seen_links view.now forest.now vid) joined.items) }
@@ -82,7 +82,7 @@ fn joined(
 }
 
 /// The same islands, each list of a type of its own.
-fn listed(alloc: Global, joined: &[mst_roles::graph::Island]) -> Result<Vec<Island>, AllocError>
+fn listed(alloc: Global, joined: &[mst_graph::Island]) -> Result<Vec<Island>, AllocError>
     ensures { IfOk result (λ islands. map as_island islands.items ≡ joined.now) }
 {
     let mut islands = Vec::new(alloc);

@@ -2,8 +2,8 @@ ghost use Rattle.std.specs.Prelude.{◌≡◌, Some, IfOk, map};
 ghost use Rattle.std.specs.FinMap as fin;
 ghost use Rattle.std.specs.Option.{ForSome};
 ghost use Rattle.mst_roles.specs.net.Tables.{Net, Numbers};
-ghost use Rattle.mst_roles.specs.lag.View.{IsUnrestricted};
-ghost use Rattle.mst_roles.specs.lag.Viewed.{named_port};
+ghost use Rattle.mst_lag.specs.View.{IsUnrestricted};
+ghost use Rattle.mst_lag.specs.Viewed.{named_port};
 ghost use Rattle.mst_roles.specs.trees.Agrees.{AreOf};
 ghost use Rattle.mst_roles.specs.trees.Forest.{IsForest};
 ghost use Rattle.mst_roles.specs.Seen.{seen_tree};
@@ -12,9 +12,8 @@ ghost use Rattle.mst_vlan.specs.Seen.{seen_active};
 
 use crate::laws::joined_without_loop;
 use mst_ids::{BridgeNo, PortNo, Tree, Vid};
-use mst_roles::lag::{PortInView, View};
-use mst_roles::trees::Forest;
-use mst_roles::{forwards_in, vid_tree};
+use mst_lag::{PortInView, View};
+use mst_roles::{Forest, forwards_in, vid_tree};
 use std::alloc::{AllocError, Global};
 
 /// The active topology of a VID: the logical ports that forward in their own bridge's tree of it, in the order of

@@ -9,9 +9,9 @@ use Rattle.mst_tool.specs.printing.Shape.{of_script}
 use Rattle.mst_tool.specs.engine.Steps.{texts_of}
 use Rattle.mst_tool.specs.declared.asked.Question.{Question}
 use Rattle.mst_tool.specs.printing.declared.form.Form.{Form}
-use Rattle.mst_tool.specs.io.declared.outcome.Outcome.{Outcome}
-use Rattle.mst_tool.specs.io.declared.outcome.RunFault.{RunFault}
-use Rattle.mst_tool.specs.io.declared.outcome.RunFault.TheVariants.{Read, Write, Memory}
+use Rattle.mst_io.specs.declared.outcome.Outcome.{Outcome}
+use Rattle.mst_io.specs.declared.outcome.RunFault.{RunFault}
+use Rattle.mst_io.specs.declared.outcome.RunFault.TheVariants.{Read, Write, Memory}
 use Rattle.mstplan.specs.Buffered.{EndsAsk, LoadsRead, is_broken}
 use Rattle.mstplan.proofs.Kept.{front_kept}
 

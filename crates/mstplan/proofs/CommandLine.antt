@@ -15,7 +15,7 @@ use Rattle.clap.specs.Simple.{entered, names_of}
 use Rattle.clap.proofs.FaultLemmas.{stopped_fault}
 use Rattle.clap.proofs.OnLiterals.{clap_on_literals}
 use Rattle.clap.proofs.WalkLemmas.{walk_stopped}
-use Rattle.mst_tool.specs.io.declared.outcome.RunFault.TheVariants.{Memory, Write}
+use Rattle.mst_io.specs.declared.outcome.RunFault.TheVariants.{Memory, Write}
 use Rattle.mstplan.specs.declared.endings.Stop.{Stop}
 use Rattle.mstplan.specs.declared.endings.Stop.TheVariants.{Told, Fault}
 use Rattle.mstplan.specs.Words.{IsAnswer, IsRefusal, Request, asked_by, asked_of, by_one, by_one_or_two, by_port, by_two, check, diff, dot, explain, is_help, is_plain, is_version, program, request_of, run, summary, sweep}

@@ -11,9 +11,9 @@ use Rattle.mst_tool.specs.printing.Shape.{of_old}
 use Rattle.mst_tool.specs.engine.Steps.{texts_of}
 use Rattle.mst_tool.specs.printing.declared.form.Form.{Form}
 use Rattle.mst_tool.specs.printing.declared.form.Form.TheVariants.{Text}
-use Rattle.mst_tool.specs.io.declared.outcome.Outcome.{Outcome}
-use Rattle.mst_tool.specs.io.declared.outcome.RunFault.{RunFault}
-use Rattle.mst_tool.specs.io.declared.outcome.RunFault.TheVariants.{Read, Write, Memory}
+use Rattle.mst_io.specs.declared.outcome.Outcome.{Outcome}
+use Rattle.mst_io.specs.declared.outcome.RunFault.{RunFault}
+use Rattle.mst_io.specs.declared.outcome.RunFault.TheVariants.{Read, Write, Memory}
 use Rattle.mstplan.specs.declared.compared.Comparison.{Comparison}
 use Rattle.mstplan.specs.declared.compared.Comparison.TheVariants.{Captures, Networks}
 use Rattle.mstplan.specs.Buffered.{is_broken}

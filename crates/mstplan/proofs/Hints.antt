@@ -2,8 +2,8 @@
 use Rattle.std.proofs.Common.{◌≡◌, ℕ, Bool, true, false, List, [], Option, Some, None, Result, is_some, refl, sym, ap, subst}
 use Rattle.std.specs.Option.{option_map, unwrap_or}
 use Rattle.std.proofs.KnownBytes.{Appends-nil}
-use Rattle.mst_tool.specs.io.Devices.{Told}
-use Rattle.mst_tool.specs.io.Written.{AppendsFront}
+use Rattle.mst_io.specs.Devices.{Told}
+use Rattle.mst_io.specs.Written.{AppendsFront}
 use Rattle.mst_tool.specs.hinting.Hinted.{HintsFront}
 use Rattle.mst_tool.proofs.WholeCheck.{reads_all}
 use Rattle.mstplan.specs.declared.endings.Stop.{Stop}

@@ -2,7 +2,7 @@
 use Rattle.std.proofs.Common.{◌≡◌, ℕ, List, [], ◌++◌, Option, Some, None, refl, ap, ◌∙◌, append-nil}
 use Rattle.std.specs.Io.KnownBytes.{Keeps, append_known}
 use Rattle.std.proofs.KnownBytes.{Appends-kept}
-use Rattle.mst_tool.specs.io.Written.{AppendsFront}
+use Rattle.mst_io.specs.Written.{AppendsFront}
 
 -- nothing is held back
 pub append_known-nothing : (a : Option (List ℕ)) (held : List ℕ) → held ≡ [] → append_known a held ≡ a

@@ -3,11 +3,11 @@
 use Rattle.std.specs.Prelude.{ℕ, ◌^◌, ◌⊎◌, List, Option, Result, Ok, Err}
 use Rattle.std.specs.Io.KnownBytes.{append_known}
 use Rattle.mst_tool.specs.Check.{Checks, ChecksFront, ChecksEnded, ChecksScript}
-use Rattle.mst_tool.specs.io.Devices.{Told, IsCut, IsRead}
+use Rattle.mst_io.specs.Devices.{Told, IsCut, IsRead}
 use Rattle.mst_tool.specs.Diff.{Diffs, DiffsFront, DiffsEnded, DiffsScripts}
-use Rattle.mst_tool.specs.io.declared.outcome.Outcome.{Outcome}
-use Rattle.mst_tool.specs.io.declared.outcome.RunFault.{RunFault}
-use Rattle.mst_tool.specs.io.declared.outcome.RunFault.TheVariants.{Read, Write, Memory}
+use Rattle.mst_io.specs.declared.outcome.Outcome.{Outcome}
+use Rattle.mst_io.specs.declared.outcome.RunFault.{RunFault}
+use Rattle.mst_io.specs.declared.outcome.RunFault.TheVariants.{Read, Write, Memory}
 use Rattle.mstplan.specs.declared.compared.Comparison.{Comparison}
 use Rattle.mstplan.specs.declared.compared.Comparison.TheVariants.{Captures, Networks}
 

@@ -1,8 +1,8 @@
 -- How the program ends: its exit status, and what is told on standard error.
 use Rattle.std.specs.Prelude.{ℕ, ◌==◌, ◌++◌, List, [], Option, Some, None, Result, Ok, Err, codes, option_map, if◌then◌else◌}
-use Rattle.mst_tool.specs.io.declared.outcome.Outcome.{Outcome}
-use Rattle.mst_tool.specs.io.declared.outcome.RunFault.{RunFault}
-use Rattle.mst_tool.specs.io.declared.outcome.RunFault.TheVariants.{Read, Write, Memory}
+use Rattle.mst_io.specs.declared.outcome.Outcome.{Outcome}
+use Rattle.mst_io.specs.declared.outcome.RunFault.{RunFault}
+use Rattle.mst_io.specs.declared.outcome.RunFault.TheVariants.{Read, Write, Memory}
 use Rattle.mstplan.specs.declared.endings.Stop.{Stop}
 use Rattle.mstplan.specs.declared.endings.Stop.TheVariants.{Told, Unopened, Fault}
 

@@ -1,7 +1,7 @@
 -- Which script is run, and which two inputs are compared.
 use Rattle.std.specs.Prelude.{◌≡◌, ◌≢◌, ◌⊎◌, ℕ, List, [], Option, Some, codes}
 use Rattle.std.specs.Borrow.{Bor}
-use Rattle.mst_tool.specs.io.declared.outcome.RunFault.TheVariants.{Memory}
+use Rattle.mst_io.specs.declared.outcome.RunFault.TheVariants.{Memory}
 use Rattle.mstplan.specs.declared.endings.Stop.{Stop}
 use Rattle.mstplan.specs.declared.endings.Stop.TheVariants.{Told, Unopened, Fault}
 

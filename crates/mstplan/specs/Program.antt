@@ -6,8 +6,8 @@ use Rattle.mst_tool.specs.Run.{status_of}
 use Rattle.mst_tool.specs.declared.asked.Question.{Question}
 use Rattle.mst_tool.specs.declared.asked.Question.TheVariants as question
 use Rattle.mst_tool.specs.printing.declared.form.Form.{Form}
-use Rattle.mst_tool.specs.io.declared.outcome.Outcome.{Outcome}
-use Rattle.mst_tool.specs.io.declared.outcome.RunFault.{RunFault}
+use Rattle.mst_io.specs.declared.outcome.Outcome.{Outcome}
+use Rattle.mst_io.specs.declared.outcome.RunFault.{RunFault}
 use Rattle.mstplan.specs.declared.endings.Stop.{Stop}
 use Rattle.mstplan.specs.declared.words.Asked.{Asked}
 use Rattle.mstplan.specs.declared.words.Asked.TheVariants.{Run, Check, Explain, Diff, Sweep, Summary, Dot}

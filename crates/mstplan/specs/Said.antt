@@ -1,8 +1,8 @@
 -- What standard error gets.
 use Rattle.std.specs.Prelude.{◌≡◌, ◌⊎◌, ℕ, true, false, List, Option}
 use Rattle.std.specs.Io.KnownBytes.{Appends}
-use Rattle.mst_tool.specs.io.Devices.{Told, Works, IsStopped}
-use Rattle.mst_tool.specs.io.Written.{AppendsFront}
+use Rattle.mst_io.specs.Devices.{Told, Works, IsStopped}
+use Rattle.mst_io.specs.Written.{AppendsFront}
 
 -- what standard error tells of its calls, and what it holds, as far as it tells
 pub record Errors : Type 0 where

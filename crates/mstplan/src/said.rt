@@ -2,8 +2,8 @@ ghost use Rattle.std.specs.Prelude.{◌≡◌, false, true};
 ghost use Rattle.std.specs.List.{flat_map};
 ghost use Rattle.mstplan.specs.Said.{IsSaid};
 
+use mst_io::put_parts;
 use mst_tool::Sink;
-use mst_tool::io::put_parts;
 
 /// Writes the parts of what is to be said on standard error, unless that has failed before. Whatever becomes of it, the program
 /// goes on.

@@ -5,8 +5,8 @@ use hex::encode;
 use md5::{Digest, Md5};
 use mst_config::{Table, digest, hmac_md5, mcid};
 use mst_ids::{ConfName, Name};
-use mst_save::lang::{Edit, Line, parse_line};
-use mst_save::net::{Contents, Network, Refusal};
+use mst_lang::{Edit, Line, parse_line};
+use mst_net::{Contents, Network, Refusal};
 use std::alloc::Global;
 use std::test::Fail;
 

@@ -1,5 +1,5 @@
 use mst_hints::{ScriptHints, push_hint};
-use mst_save::lang::Version;
+use mst_lang::Version;
 use std::rt::HostRuntime;
 use std::test::Fail;
 

@@ -1,6 +1,6 @@
 use mst_ids::push_decimal;
-use mst_save::lang::{Line, Version, is_version_2, parse_line_as};
-use mst_save::net::Network;
+use mst_lang::{Line, Version, is_version_2, parse_line_as};
+use mst_net::Network;
 use mst_save::save_text;
 use std::alloc::Global;
 use std::rt::HostRuntime;

@@ -3,17 +3,14 @@
 
 use super::edits::{name, network_of};
 use super::repairs::{EACH_ITS_OWN_REGION, TRIANGLE, is_staged, planner_of};
-use mst_compare::config::regions_of;
-use mst_compare::lag::{View, view};
-use mst_compare::net::{Contents, Network};
-use mst_compare::report::Planner;
-use mst_compare::roles::forwards;
-use mst_compare::settle::{Bridges, Settler, Topology, Wiring};
-use mst_compare::trees::Forest;
-use mst_compare::vector::{CistBridge, CistMetric};
-use mst_compare::vlan::active;
-use mst_compare::{compare, read_line};
+use mst_compare::{Forest, Planner, compare, forwards, read_line};
+use mst_config::regions_of;
 use mst_ids::{BridgeId, BridgeNo, Name, PortNo, Priority, Tree, Vid, parse_mac};
+use mst_lag::{View, view};
+use mst_net::{Contents, Network};
+use mst_settle::{Bridges, Settler, Topology, Wiring};
+use mst_vector::{CistBridge, CistMetric};
+use mst_vlan::active;
 use std::alloc::{AllocError, Global};
 use std::collections::BTreeMap;
 use std::test::Fail;

@@ -1,9 +1,9 @@
 //! Groups of links, by the numbers of LANs.
 
 use super::edits::{name, network_of};
-use mst_compare::lag::{lag_text, view};
-use mst_compare::net::Contents;
 use mst_ids::LanNo;
+use mst_lag::{lag_text, view};
+use mst_net::Contents;
 use mst_trials::links::PAIR;
 use std::alloc::Global;
 use std::test::Fail;

@@ -1,11 +1,11 @@
 //! Networks that lines make, and a network as it will be once an edit is made.
 
 use super::edits::{code_of, edit_of, name, network_of};
-use mst_compare::config::regions_of;
-use mst_compare::lag::view;
-use mst_compare::lang::Edit;
-use mst_compare::net::{Contents, Network, Table, laws};
+use mst_config::regions_of;
 use mst_ids::{Tree, Vid};
+use mst_lag::view;
+use mst_lang::Edit;
+use mst_net::{Contents, Network, Table, laws};
 use std::alloc::Global;
 use std::test::Fail;
 

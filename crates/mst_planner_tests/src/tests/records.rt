@@ -1,13 +1,13 @@
 //! What a network holds, and that an edit which is prepared and then dropped, or abandoned, leaves it, also where memory
 //! is refused once (`examples/refuse-memory.py`).
 
-ghost use Rattle.mst_compare.specs.net.Contents.{CanCommit};
+ghost use Rattle.mst_net.specs.Contents.{CanCommit};
 ghost use Rattle.std.specs.Prelude.{IfOk, IfSome};
 
 use super::refused::{Broken, twice};
-use mst_compare::lang::{Edit, Line, parse_line};
-use mst_compare::net::{Contents, Network, Ready, Refusal};
-use mst_compare::save::save_text;
+use mst_lang::{Edit, Line, parse_line};
+use mst_net::{Contents, Network, Ready, Refusal};
+use mst_save::save_text;
 use mst_trials::regions::ONE_VID_TWO_TREES;
 use std::alloc::{AllocError, Global};
 

@@ -4,10 +4,10 @@
 //! and `examples/refuse-memory.py` each in turn: then each of them has to pass, whatever N is.
 
 use super::records::held_again;
-use mst_compare::lang::{Line, Query, parse_line};
-use mst_compare::net::Refusal;
-use mst_compare::report::Planner;
+use mst_compare::Planner;
 use mst_ids::Tree;
+use mst_lang::{Line, Query, parse_line};
+use mst_net::Refusal;
 use mst_trials::rows::Row;
 use mst_trials::{plans, regions, rows};
 use std::alloc::{AllocError, Global};

@@ -2,9 +2,9 @@
 //! planner that is made anew answers.
 
 use super::edits::edit_of;
-use mst_compare::lang::{Edit, Query};
-use mst_compare::report::Planner;
+use mst_compare::Planner;
 use mst_ids::{Tree, Vid};
+use mst_lang::{Edit, Query};
 use std::alloc::{AllocError, Global};
 use std::test::Fail;
 

@@ -1,6 +1,6 @@
 use Rattle.std.proofs.Common.{◌≡◌, ◌++◌}
 use Rattle.std.specs.List.{flat_map, range_with_len}
-use Rattle.mst_plan_text.specs.net.Tables.{Net, Numbers}
+use Rattle.mst_net.specs.Tables.{Net, Numbers}
 use Rattle.mst_plan_text.specs.trees.Agrees.{AreOf}
 use Rattle.mst_plan_text.specs.trees.Forest.{IsForest}
 use Rattle.mst_changes.specs.PortChanges.{port_changes}

@@ -1,7 +1,7 @@
 use Rattle.std.proofs.Common.{ℕ, ◌++◌, List, sym, ap, subst, ◌∙◌}
 use Rattle.std.specs.List.{AllByRecursion, Contains}
-use Rattle.mst_plan_text.specs.net.ByTree.{table_in}
-use Rattle.mst_plan_text.specs.lag.declared.in_view.BridgeInView.{BridgeInView}
+use Rattle.mst_net.specs.ByTree.{table_in}
+use Rattle.mst_lag.specs.declared.in_view.BridgeInView.{BridgeInView}
 use Rattle.mst_diff.proofs.Reached.{in_first, in_second}
 use Rattle.mst_diff.proofs.reach.both_tables.Goals as goal
 

@@ -1,7 +1,7 @@
 use Rattle.std.proofs.Common.{◌≡◌, ℕ, List, [], ◌∷◌, ◌++◌, codes, ap, ◌∙◌, append_assoc}
 use Rattle.std.proofs.lemmas.Result.{on_ok_weaker}
 use Rattle.mst_ids.specs.Vids.{set_where, vids_text}
-use Rattle.mst_plan_text.specs.lag.Trees.{is_among}
+use Rattle.mst_lag.specs.Trees.{is_among}
 use Rattle.mst_diff.proofs.reach.push_line.Goals as goal
 
 regrouped : (out word vids sides end : List ℕ) → (((out ++ word) ++ vids) ++ sides) ++ end ≡ out ++ (((word ++ vids) ++ sides) ++ end)

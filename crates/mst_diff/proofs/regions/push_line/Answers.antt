@@ -1,7 +1,7 @@
 use Rattle.std.proofs.Common.{◌++◌, ◌∷◌, [], codes, ap, ◌∙◌}
 use Rattle.std.specs.List.{flat_map}
 use Rattle.std.proofs.lemmas.Result.{on_ok_weaker}
-use Rattle.mst_plan_text.specs.net.Seen.{bridge_row}
+use Rattle.mst_net.specs.Seen.{bridge_row}
 use Rattle.mst_ids.specs.Words.{after_space}
 use Rattle.mst_diff.specs.Regions.{region_words}
 use Rattle.mst_diff.proofs.Lines.{line_of}

@@ -1,5 +1,5 @@
 use Rattle.std.proofs.Common.{sym, ◌∙◌}
-use Rattle.mst_plan_text.specs.lag.Aggregation.{same_name}
+use Rattle.mst_lag.specs.Aggregation.{same_name}
 use Rattle.mst_diff.proofs.Lists.{list_any-map}
 use Rattle.mst_diff.proofs.sides.is_among.Goals as goal
 

@@ -4,7 +4,7 @@ use Rattle.std.proofs.lemmas.Result.{err_from_is_err_and}
 use Rattle.mst_engine.specs.Engine.{tally_of}
 use Rattle.mst_engine.specs.Feeding.{Feeds, Breaks}
 use Rattle.mst_engine.proofs.Feeds.{Feeds-join, Breaks-after, Breaks-longer, texts_join}
-use Rattle.mst_print.proofs.io_lemmas.Calls.{works_both}
+use Rattle.mst_io.proofs.Calls.{works_both}
 use Rattle.mst_engine.proofs.feed.feed.Goals as goal
 
 pub loop-byte-preserved : goal.loop-byte-preserved

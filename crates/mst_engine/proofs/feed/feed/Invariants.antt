@@ -2,7 +2,7 @@ use Rattle.std.proofs.Common.{◌≡◌, List, take}
 use Rattle.std.specs.Io.KnownBytes.{Appends}
 use Rattle.mst_engine.specs.Steps.{Step, texts_of}
 use Rattle.mst_engine.specs.Engine.{IsReady, tally_of}
-use Rattle.mst_print.specs.io.Devices.{Works}
+use Rattle.mst_io.specs.Devices.{Works}
 use Rattle.mst_engine.specs.Feeding.{IsCounted, Feeds}
 use Rattle.mst_engine.proofs.feed.feed.Given as goal
 

@@ -1,5 +1,5 @@
 use Rattle.mst_compare.specs.report.State.{empty_state}
-use Rattle.mst_compare.specs.lang.Lines.{lines_of}
+use Rattle.mst_lang.specs.Lines.{lines_of}
 use Rattle.mst_engine.specs.Script.{version_of}
 use Rattle.mst_print.specs.Shape.{of_script}
 use Rattle.mst_engine.proofs.OneRun.{Laws, as_it_stands, empty_is, full_run}

@@ -2,10 +2,10 @@ use Rattle.std.proofs.Common.{◌++◌, [], arith, take, refl, ap, ◌∙◌}
 use Rattle.std.proofs.KnownBytes.{Consumes-nil, Appends-nil, Consumes-trans}
 use Rattle.mst_compare.specs.report.Planned.{planned_state}
 use Rattle.mst_engine.specs.Engine.{tally_of, begun}
-use Rattle.mst_print.proofs.io_lemmas.Calls.{works_on, works_both}
+use Rattle.mst_io.proofs.Calls.{works_on, works_both}
 use Rattle.mst_engine.proofs.Feeds.{Feeds-join, Breaks-after, texts_join}
 use Rattle.mst_engine.proofs.WholeRun.{run_served, run_few, run_broken, run_broken_last, run_cut, begins, begins_counted, run_ended}
-use Rattle.mst_print.proofs.io_lemmas.ReadBytes.{few_more, Consumes-kept, Consumes-none}
+use Rattle.mst_io.proofs.ReadBytes.{few_more, Consumes-kept, Consumes-none}
 use Rattle.mst_engine.proofs.serving.serve_input.Goals as goal
 
 pub turns-init : goal.turns-init

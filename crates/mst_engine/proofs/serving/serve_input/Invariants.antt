@@ -2,7 +2,7 @@ use Rattle.std.proofs.Common.{◌≡◌, ℕ, ◌+◌, List, [], length, ◌≤�
 use Rattle.std.specs.Io.KnownBytes.{Appends, Consumes}
 use Rattle.mst_compare.specs.report.Planned.{planned_state}
 use Rattle.mst_engine.specs.Steps.{Step, texts_of}
-use Rattle.mst_print.specs.io.Devices.{Works}
+use Rattle.mst_io.specs.Devices.{Works}
 use Rattle.mst_engine.specs.Engine.{IsReady, begun, tally_of}
 use Rattle.mst_engine.specs.Feeding.{IsCounted, Feeds}
 use Rattle.mst_engine.proofs.serving.serve_input.Given as goal

@@ -1,7 +1,7 @@
 use Rattle.std.proofs.Common.{◌∙◌, ◌≡◌, List, ℕ, Bor, map, ap}
 use Rattle.std.specs.Option.{option_map}
 use Rattle.std.specs.Prelude.{Option}
-use Rattle.mst_net.specs.lang.Reading.{commands}
+use Rattle.mst_lang.specs.Reading.{commands}
 use Rattle.mst_hints.specs.Near.{is_within_two}
 use Rattle.mst_hints.proofs.Tables.{entry_of, row_entry, text_found}
 use Rattle.mst_hints.proofs.form.command_by_two.Goals as goal

@@ -1,7 +1,7 @@
 use Rattle.std.proofs.Common.{◌∙◌, ◌≡◌, List, Bor, map, ap}
 use Rattle.std.specs.Option.{option_map}
 use Rattle.std.specs.Prelude.{Option}
-use Rattle.mst_net.specs.lang.Reading.{commands}
+use Rattle.mst_lang.specs.Reading.{commands}
 use Rattle.mst_hints.specs.declared.form.Argument.{Argument}
 use Rattle.mst_hints.proofs.Tables.{entry_of, row_entry, form_named}
 use Rattle.mst_hints.proofs.form.form_of.Goals as goal

@@ -1,5 +1,5 @@
 use Rattle.std.proofs.Common.{◌≡◌, drop}
-use Rattle.mst_net.specs.lang.Words.{words}
+use Rattle.mst_lang.specs.Words.{words}
 use Rattle.mst_hints.specs.Hints.{first_wrong}
 use Rattle.mst_hints.proofs.right.first_wrong.Given as goal
 

@@ -1,5 +1,5 @@
 use Rattle.std.proofs.Common.{◌≡◌, take, drop}
-use Rattle.mst_net.specs.lang.Words.{words, words_from}
+use Rattle.mst_lang.specs.Words.{words, words_from}
 use Rattle.mst_hints.proofs.words.first_word.Given as goal
 
 abbrev pub invariant-loop-i : goal.invariant-loop-i

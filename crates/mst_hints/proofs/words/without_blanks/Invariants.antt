@@ -1,5 +1,5 @@
 use Rattle.std.proofs.Common.{◌≡◌, drop}
-use Rattle.mst_net.specs.lang.Words.{words}
+use Rattle.mst_lang.specs.Words.{words}
 use Rattle.mst_hints.proofs.words.without_blanks.Given as goal
 
 abbrev pub invariant-loop-i : goal.invariant-loop-i

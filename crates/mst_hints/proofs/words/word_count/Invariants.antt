@@ -1,5 +1,5 @@
 use Rattle.std.proofs.Common.{◌≡◌, ◌+◌, ◌≤◌, length}
-use Rattle.mst_net.specs.lang.Words.{words}
+use Rattle.mst_lang.specs.Words.{words}
 use Rattle.mst_hints.proofs.words.word_count.Given as goal
 
 abbrev pub invariant-loop-others : goal.invariant-loop-others

@@ -1,7 +1,7 @@
 use Rattle.std.proofs.Common.{◌≡◌, ◌++◌, ℕ, List, ap, sym, ◌∙◌, append_assoc, refl}
 use Rattle.std.specs.List.{flat_map, AllByRecursion}
-use Rattle.mst_roles.specs.lag.Viewed.{named_port}
-use Rattle.mst_roles.specs.lag.declared.in_view.PortInView.{PortInView}
+use Rattle.mst_lag.specs.Viewed.{named_port}
+use Rattle.mst_lag.specs.declared.in_view.PortInView.{PortInView}
 use Rattle.mst_note_text.specs.NotesText.{AreNotes, trees_notes, restricted_note, notes_text}
 use Rattle.mst_note_text.proofs.Flat.{of_mapped}
 use Rattle.mst_note_text.proofs.Found.{if_ok}

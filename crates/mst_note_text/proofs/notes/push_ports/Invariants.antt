@@ -1,6 +1,6 @@
 use Rattle.std.proofs.Common.{◌≡◌, ◌++◌, take}
 use Rattle.std.specs.List.{flat_map}
-use Rattle.mst_roles.specs.lag.Viewed.{named_port}
+use Rattle.mst_lag.specs.Viewed.{named_port}
 use Rattle.mst_note_text.specs.NotesText.{restricted_note}
 use Rattle.mst_note_text.proofs.notes.push_ports.Given as goal
 

@@ -1,6 +1,6 @@
 use Rattle.std.proofs.Common.{◌≡◌, ℕ, ◌+◌, length, get_or, nat_eq, ◌&&◌, refl, ap, ◌∙◌, arith}
 use Rattle.std.proofs.lemmas.Bool.{and_parts, eqb-true}
-use Rattle.mst_text.specs.net.Table.{tree_in}
+use Rattle.mst_net.specs.Table.{tree_in}
 use Rattle.mst_plan_text.proofs.Split.{key_pushed, tree_at, is_split}
 use Rattle.mst_plan_text.proofs.alike.split_by_table.Goals as goal
 

@@ -1,5 +1,5 @@
 use Rattle.std.proofs.Common.{◌≡◌}
-use Rattle.mst_text.specs.net.Table.{tree_in}
+use Rattle.mst_net.specs.Table.{tree_in}
 use Rattle.mst_plan_text.specs.Alike.{keys_to}
 use Rattle.mst_plan_text.proofs.alike.split_by_table.Given as goal
 

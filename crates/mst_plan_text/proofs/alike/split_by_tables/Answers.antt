@@ -1,5 +1,5 @@
 use Rattle.std.proofs.Common.{subst}
-use Rattle.mst_text.specs.net.Table.{tree_in}
+use Rattle.mst_net.specs.Table.{tree_in}
 use Rattle.mst_plan_text.specs.Alike.{IsSplit}
 use Rattle.mst_plan_text.proofs.Split.{tables_more}
 use Rattle.mst_plan_text.proofs.alike.split_by_tables.Goals as goal

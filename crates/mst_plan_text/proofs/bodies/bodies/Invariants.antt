@@ -1,5 +1,5 @@
 use Rattle.std.proofs.Common.{◌≡◌, length, map, take}
-use Rattle.mst_text.specs.net.Tables.{Net, Numbers}
+use Rattle.mst_net.specs.Tables.{Net, Numbers}
 use Rattle.mst_text.specs.trees.Agrees.{AreOf}
 use Rattle.mst_text.specs.trees.Forest.{IsForest}
 use Rattle.mst_plan_text.specs.Bodies.{AreBodiesAt}

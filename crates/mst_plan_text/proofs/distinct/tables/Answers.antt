@@ -2,8 +2,8 @@ use Rattle.std.proofs.Common.{◌≡◌, ◌<◌, ◌+◌, ℕ, ◌++◌, ◌∷
 use Rattle.std.specs.List.{AllByRecursion, Contains, list_any}
 use Rattle.std.specs.Cmp.Lexicographic.{pointwise, bytes_decides}
 use Rattle.std.proofs.lemmas.List.Elements.{Contains-append_left, Contains-push}
-use Rattle.mst_text.specs.net.ByTree.{ByTree, table_in}
-use Rattle.mst_text.specs.lag.declared.in_view.BridgeInView.{BridgeInView}
+use Rattle.mst_net.specs.ByTree.{ByTree, table_in}
+use Rattle.mst_lag.specs.declared.in_view.BridgeInView.{BridgeInView}
 use Rattle.mst_plan_text.proofs.Gathered.{among, met_more}
 use Rattle.mst_plan_text.proofs.distinct.tables.Goals as goal
 use Rattle.mst_plan_text.proofs.distinct.tables.Goals.{then-not-is_table_among+in_ok-push, else-not-is_table_among}

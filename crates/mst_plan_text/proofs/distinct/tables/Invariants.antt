@@ -1,6 +1,6 @@
 use Rattle.std.proofs.Common.{take}
 use Rattle.std.specs.List.{AllByRecursion, Contains}
-use Rattle.mst_text.specs.net.ByTree.{table_in}
+use Rattle.mst_net.specs.ByTree.{table_in}
 use Rattle.mst_plan_text.proofs.distinct.tables.Given as goal
 
 abbrev pub invariant-loop-bridge : goal.invariant-loop-bridge

@@ -4,8 +4,8 @@ use Rattle.std.specs.Bool.{beq}
 use Rattle.std.specs.Cmp.{booleans_Decides}
 use Rattle.std.specs.Cmp.Lexicographic.{pointwise, pointwise_decides}
 use Rattle.std.proofs.lemmas.List.Elements.{Contains-append_left, Contains-push}
-use Rattle.mst_text.specs.net.ByTree.{ByTree, vlans_in}
-use Rattle.mst_text.specs.lag.declared.in_view.PortInView.{PortInView}
+use Rattle.mst_net.specs.ByTree.{ByTree, vlans_in}
+use Rattle.mst_lag.specs.declared.in_view.PortInView.{PortInView}
 use Rattle.mst_plan_text.proofs.Gathered.{among, met_more}
 use Rattle.mst_plan_text.proofs.distinct.vlan_sets.Goals as goal
 use Rattle.mst_plan_text.proofs.distinct.vlan_sets.Goals.{then-not-is_set_among+in_ok-push, else-not-is_set_among}

@@ -1,6 +1,6 @@
 use Rattle.std.proofs.Common.{take}
 use Rattle.std.specs.List.{AllByRecursion, Contains}
-use Rattle.mst_text.specs.net.ByTree.{vlans_in}
+use Rattle.mst_net.specs.ByTree.{vlans_in}
 use Rattle.mst_plan_text.proofs.distinct.vlan_sets.Given as goal
 
 abbrev pub invariant-loop-port : goal.invariant-loop-port

@@ -1,6 +1,6 @@
 use Rattle.std.proofs.Common.{◌≡◌, ◌++◌, take}
 use Rattle.std.specs.List.{flat_map}
-use Rattle.mst_text.specs.net.Tables.{Net, Numbers}
+use Rattle.mst_net.specs.Tables.{Net, Numbers}
 use Rattle.mst_text.specs.trees.Agrees.{AreOf}
 use Rattle.mst_text.specs.trees.Forest.{IsForest}
 use Rattle.mst_text.specs.TreeText.{tree_text}

@@ -3,7 +3,7 @@ use Rattle.mst_picture.specs.vector.Cist.{cist_rules}
 use Rattle.mst_picture.specs.vector.Msti.{msti_rules}
 use Rattle.mst_picture.specs.vector.declared.cist.CistVector.{CistVector}
 use Rattle.mst_picture.specs.vector.declared.msti.MstiVector.{MstiVector}
-use Rattle.mst_picture.specs.net.Contents.{Contents}
+use Rattle.mst_net.specs.Contents.{Contents}
 use Rattle.mst_picture.specs.trees.Cist.{cist_sight}
 use Rattle.mst_picture.specs.trees.Msti.{msti_sight}
 use Rattle.mst_picture.specs.trees.Outcome.{Outcome}

@@ -1,9 +1,9 @@
 use Rattle.std.proofs.Common.{◌≡◌, IfOk, sym, subst, ◌∙◌}
 use Rattle.std.proofs.lemmas.Result.{on_ok_weaker}
-use Rattle.mst_picture.specs.lang.declared.line.Edit.{Edit}
-use Rattle.mst_picture.specs.net.Contents.{CanCommit, ahead_of}
-use Rattle.mst_picture.specs.config.Shared.{AreRegions}
-use Rattle.mst_picture.specs.lag.Viewed.{IsView}
+use Rattle.mst_lang.specs.declared.line.Edit.{Edit}
+use Rattle.mst_net.specs.Contents.{CanCommit, ahead_of}
+use Rattle.mst_config.specs.Shared.{AreRegions}
+use Rattle.mst_lag.specs.Viewed.{IsView}
 use Rattle.mst_report.specs.Kept.{AreTrees}
 use Rattle.mst_report.specs.Sweeping.{AreFailed, IsViewBut}
 use Rattle.mst_report.proofs.Swept.{if_ok, regions_ahead, seen_ahead, seen_back, failed_is}

@@ -1,6 +1,6 @@
 use Rattle.std.proofs.Common.{◌≤◌, take}
-use Rattle.mst_picture.specs.net.Contents.{SameContents}
-use Rattle.mst_picture.specs.lag.Viewed.{IsView}
+use Rattle.mst_net.specs.Contents.{SameContents}
+use Rattle.mst_lag.specs.Viewed.{IsView}
 use Rattle.mst_picture.specs.trees.Forest.{IsForest}
 use Rattle.mst_report.specs.Sweeping.{AreTold}
 use Rattle.mst_report.proofs.sweeping.sweep_failures.Given as goal

@@ -1,5 +1,5 @@
-use Rattle.mst_net.specs.lang.declared.line.Edit.TheVariants.{SetByTree}
-use Rattle.mst_net.specs.lang.declared.line.TreeChange.TheVariants.{Priority}
+use Rattle.mst_lang.specs.declared.line.Edit.TheVariants.{SetByTree}
+use Rattle.mst_lang.specs.declared.line.TreeChange.TheVariants.{Priority}
 use Rattle.mst_net.specs.Contents.{priority_of}
 use Rattle.mst_save.proofs.Texts.{text_more}
 use Rattle.mst_save.proofs.bridges.push_priorities.Goals as goal

@@ -1,6 +1,6 @@
 use Rattle.std.proofs.Common.{◌≡◌, ◌++◌, map, take}
-use Rattle.mst_net.specs.lang.declared.line.Edit.TheVariants.{SetByTree}
-use Rattle.mst_net.specs.lang.declared.line.TreeChange.TheVariants.{Priority}
+use Rattle.mst_lang.specs.declared.line.Edit.TheVariants.{SetByTree}
+use Rattle.mst_lang.specs.declared.line.TreeChange.TheVariants.{Priority}
 use Rattle.mst_net.specs.Contents.{priority_of}
 use Rattle.mst_save.specs.SaveText.{edits_text}
 use Rattle.mst_save.proofs.bridges.push_priorities.Given as goal

@@ -1,6 +1,6 @@
 use Rattle.std.proofs.Common.{◌++◌, ap, ◌∙◌}
-use Rattle.mst_net.specs.lang.declared.line.Edit.TheVariants.{SetByTree}
-use Rattle.mst_net.specs.lang.declared.line.TreeChange.TheVariants.{PortCost}
+use Rattle.mst_lang.specs.declared.line.Edit.TheVariants.{SetByTree}
+use Rattle.mst_lang.specs.declared.line.TreeChange.TheVariants.{PortCost}
 use Rattle.mst_net.specs.Contents.{port_cost_of}
 use Rattle.mst_save.specs.SaveText.{edit_text}
 use Rattle.mst_save.proofs.Texts.{text_more}

@@ -1,7 +1,7 @@
 use Rattle.std.proofs.Common.{◌≡◌, ◌++◌, is_some, sym, subst}
 use Rattle.std.specs.Prelude.{OnOk}
-use Rattle.mst_net.specs.lang.declared.line.Edit.TheVariants.{SetPort}
-use Rattle.mst_net.specs.lang.declared.line.PortChange.TheVariants.{PathCost}
+use Rattle.mst_lang.specs.declared.line.Edit.TheVariants.{SetPort}
+use Rattle.mst_lang.specs.declared.line.PortChange.TheVariants.{PathCost}
 use Rattle.mst_save.specs.Saved.{when}
 use Rattle.mst_save.specs.SaveText.{edits_text}
 use Rattle.mst_save.proofs.ports.push_external.Goals as goal

@@ -1,8 +1,8 @@
 use Rattle.std.proofs.Common.{◌++◌, ◌∷◌, [], codes, decimal, not, ap, ◌∙◌}
 use Rattle.std.specs.Bool.{beq}
 use Rattle.std.specs.Cmp.Lexicographic.{pointwise}
-use Rattle.mst_net.specs.lang.declared.line.Edit.TheVariants.{SetByTree}
-use Rattle.mst_net.specs.lang.declared.line.TreeChange.TheVariants.{Vlans}
+use Rattle.mst_lang.specs.declared.line.Edit.TheVariants.{SetByTree}
+use Rattle.mst_lang.specs.declared.line.TreeChange.TheVariants.{Vlans}
 use Rattle.mst_net.specs.After.{all_vids}
 use Rattle.mst_net.specs.Seen.{port_row}
 use Rattle.mst_save.specs.EditLine.{spaced}

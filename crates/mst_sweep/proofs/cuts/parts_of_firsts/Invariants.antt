@@ -1,7 +1,7 @@
 use Rattle.std.proofs.Common.{◌≡◌, ◌+◌, length, map, take, Ok}
 use Rattle.std.specs.List.{AllZip}
-use Rattle.mst_diff.specs.net.After.{after}
-use Rattle.mst_diff.specs.net.Tables.{Net, Numbers}
+use Rattle.mst_net.specs.After.{after}
+use Rattle.mst_net.specs.Tables.{Net, Numbers}
 use Rattle.mst_diff.specs.trees.Agrees.{AreOf}
 use Rattle.mst_diff.specs.trees.Forest.{IsForest}
 use Rattle.mst_sweep.specs.declared.failure.Failure.{Failure}

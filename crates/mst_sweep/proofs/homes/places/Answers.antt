@@ -2,7 +2,7 @@ use Rattle.std.proofs.Common.{◌≡◌, ℕ, ◌+◌, ◌<◌, ◌≤◌, nat_e
 use Rattle.std.specs.List.{list_any}
 use Rattle.std.specs.Option.{option_or}
 use Rattle.std.proofs.lemmas.List.{length-take-le}
-use Rattle.mst_diff.specs.vlan.declared.island.Island.{Island}
+use Rattle.mst_vlan.specs.declared.island.Island.{Island}
 use Rattle.mst_sweep.proofs.HomesNamed.{position_more}
 use Rattle.mst_sweep.proofs.homes.places.Goals as goal
 

@@ -1,7 +1,7 @@
 use Rattle.std.proofs.Common.{◌≡◌, ◌≤◌, ◌*◌, Ok}
 use Rattle.std.specs.List.{count_by, sum_by, range_with_len}
-use Rattle.mst_diff.specs.net.After.{after}
-use Rattle.mst_diff.specs.net.Tables.{Net, Numbers}
+use Rattle.mst_net.specs.After.{after}
+use Rattle.mst_net.specs.Tables.{Net, Numbers}
 use Rattle.mst_diff.specs.trees.Agrees.{AreOf}
 use Rattle.mst_diff.specs.trees.Forest.{IsForest}
 use Rattle.mst_diff.specs.changes.Subjects.{port_names}

@@ -1,6 +1,6 @@
 use Rattle.std.proofs.Common.{◌≡◌, ℕ, get_or, sym, subst, ◌∙◌, inl, inr, arith, below_more}
 use Rattle.std.proofs.lemmas.List.{get_or_default}
-use Rattle.mst_diff.proofs.graph_lemmas.Members.{cases}
+use Rattle.mst_graph.proofs.Members.{cases}
 use Rattle.mst_diff.specs.roles.Seen.{seen_role}
 use Rattle.mst_sweep.proofs.Untouched.{of_listed}
 use Rattle.mst_sweep.proofs.touched.has_any_other.Goals as goal

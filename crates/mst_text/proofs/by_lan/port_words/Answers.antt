@@ -1,6 +1,6 @@
 use Rattle.std.proofs.Common.{◌++◌, ◌∙◌, ap, cond, []}
-use Rattle.mst_vlan.specs.lag.Aggregation.{same_name}
-use Rattle.mst_vlan.specs.lag.declared.in_view.MemberPort.{MemberPort}
+use Rattle.mst_lag.specs.Aggregation.{same_name}
+use Rattle.mst_lag.specs.declared.in_view.MemberPort.{MemberPort}
 use Rattle.mst_text.specs.KeptWords.{kept_at}
 use Rattle.mst_text.specs.LagView.{port_word}
 use Rattle.mst_ids.specs.Words.{after_comma}

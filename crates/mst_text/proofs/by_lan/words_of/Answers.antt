@@ -1,8 +1,8 @@
 use Rattle.std.proofs.Common.{◌∙◌, ℕ, List, ap, map}
 use Rattle.std.specs.List.{flat_map}
-use Rattle.mst_vlan.specs.lag.Aggregation.{same_name}
-use Rattle.mst_vlan.specs.lag.declared.in_view.MemberLan.{MemberLan}
-use Rattle.mst_vlan.specs.lag.declared.in_view.MemberPort.{MemberPort}
+use Rattle.mst_lag.specs.Aggregation.{same_name}
+use Rattle.mst_lag.specs.declared.in_view.MemberLan.{MemberLan}
+use Rattle.mst_lag.specs.declared.in_view.MemberPort.{MemberPort}
 use Rattle.mst_text.specs.LagView.{lans_in, ports_in, up_of, lan_word, port_word}
 use Rattle.mst_ids.specs.Words.{after_comma}
 use Rattle.mst_text.proofs.LagsByLan.{filters_swapped}

@@ -1,4 +1,4 @@
-use Rattle.mst_vlan.specs.net.Seen.{bridge_row}
+use Rattle.mst_net.specs.Seen.{bridge_row}
 use Rattle.mst_text.proofs.Shown.{shown}
 use Rattle.mst_text.proofs.configuration.push_configuration.Goals as goal
 

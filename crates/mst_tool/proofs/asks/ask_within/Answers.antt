@@ -1,12 +1,12 @@
 use Rattle.std.proofs.Common.{◌≡◌, Result, Err, refl, sym, subst, ◌∙◌, inl}
 use Rattle.mst_engine.specs.Engine.{tally_of}
 use Rattle.mst_tool.specs.Ask.{Asks, answer_text, counted_with, told_of}
-use Rattle.mst_engine.specs.printing.Shape.{of_script}
+use Rattle.mst_print.specs.Shape.{of_script}
 use Rattle.mst_engine.specs.Served.{Served, ServedFront, ServedEnded}
 use Rattle.mst_engine.specs.declared.engine.Input.TheVariants.{Network}
-use Rattle.mst_engine.specs.io.declared.outcome.Outcome.{Outcome}
-use Rattle.mst_engine.specs.io.declared.outcome.RunFault.{RunFault}
-use Rattle.mst_engine.specs.io.declared.outcome.RunFault.TheVariants.{Read}
+use Rattle.mst_io.specs.declared.outcome.Outcome.{Outcome}
+use Rattle.mst_io.specs.declared.outcome.RunFault.{RunFault}
+use Rattle.mst_io.specs.declared.outcome.RunFault.TheVariants.{Read}
 use Rattle.mst_tool.proofs.WholeLoad.{loads_front, loads_ended, loads_script, loads_whole, asks, answers_front}
 use Rattle.mst_tool.proofs.asks.ask_within.Goals as goal
 

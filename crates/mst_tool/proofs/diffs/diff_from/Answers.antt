@@ -1,6 +1,6 @@
 use Rattle.std.proofs.Common.{rules, subst}
 use Rattle.mst_tool.specs.Diff.{DiffsScripts}
-use Rattle.mst_engine.specs.printing.declared.form.Form.TheVariants.{Text}
+use Rattle.mst_print.specs.declared.form.Form.TheVariants.{Text}
 use Rattle.mst_tool.proofs.diffs.diff_from.Goals as goal
 
 pub returns-clause-memory : goal.returns-clause-memory

@@ -1,16 +1,16 @@
 use Rattle.std.proofs.Common.{◌≡◌, ◌⊎◌, Result, Ok, Err, refl, sym, subst, ◌∙◌, inl, inr}
 use Rattle.std.specs.Io.KnownBytes.{Appends}
-use Rattle.mst_engine.specs.io.Devices.{IsCut}
+use Rattle.mst_io.specs.Devices.{IsCut}
 use Rattle.mst_tool.specs.Diff.{Diffs, counted_both}
 use Rattle.mst_engine.specs.Engine.{tally_of}
-use Rattle.mst_engine.specs.printing.Shape.{of_old, of_new}
+use Rattle.mst_print.specs.Shape.{of_old, of_new}
 use Rattle.mst_engine.specs.Served.{Served, ServedFront, ServedEnded}
-use Rattle.mst_engine.specs.io.Written.{AppendsFront}
+use Rattle.mst_io.specs.Written.{AppendsFront}
 use Rattle.mst_engine.specs.declared.engine.Input.TheVariants.{Network}
-use Rattle.mst_engine.specs.io.declared.outcome.Outcome.{Outcome}
-use Rattle.mst_engine.specs.io.declared.outcome.RunFault.{RunFault}
-use Rattle.mst_engine.specs.io.declared.outcome.RunFault.TheVariants.{Read, Write}
-use Rattle.mst_engine.proofs.io_lemmas.Calls.{works_both, broken_after, stops_after, stops_working, works_unbroken, read_uncut}
+use Rattle.mst_io.specs.declared.outcome.Outcome.{Outcome}
+use Rattle.mst_io.specs.declared.outcome.RunFault.{RunFault}
+use Rattle.mst_io.specs.declared.outcome.RunFault.TheVariants.{Read, Write}
+use Rattle.mst_io.proofs.Calls.{works_both, broken_after, stops_after, stops_working, works_unbroken, read_uncut}
 use Rattle.mst_tool.proofs.WholeDiff.{front_in_old, front_in_new, new_ended, both_scripts, both_whole, differs_front, diffs}
 use Rattle.mst_tool.proofs.WholeLoad.{loads_ended}
 use Rattle.mst_tool.proofs.diffs.diff_within.Goals as goal

@@ -1,6 +1,6 @@
 use Rattle.std.proofs.Common.{IfOk, sym, subst, ap, ◌∙◌}
-use Rattle.mst_nested.specs.vector.Msti.{msti_rules}
-use Rattle.mst_nested.specs.settle.Assignment.{vector_of}
+use Rattle.mst_vector.specs.Msti.{msti_rules}
+use Rattle.mst_settle.specs.Assignment.{vector_of}
 use Rattle.mst_repair.specs.Held.{IsHeld}
 use Rattle.mst_trees.specs.Ground.{Ground, rewiring_of}
 use Rattle.mst_trees.specs.Mstis.{IsSettledFrom}

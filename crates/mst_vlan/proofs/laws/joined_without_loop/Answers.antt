@@ -1,4 +1,4 @@
-use Rattle.mst_roles.proofs.graph_lemmas.Walks.{replaced}
+use Rattle.mst_graph.proofs.Walks.{replaced}
 use Rattle.mst_vlan.specs.Active.{port_ends}
 use Rattle.mst_vlan.proofs.ActiveLaw.{joined_without_loop}
 use Rattle.mst_vlan.proofs.laws.joined_without_loop.Goals as goal

@@ -1,5 +1,5 @@
 use Rattle.std.proofs.Common.{◌≡◌, map, filter, sym, ap, subst, ◌∙◌}
-use Rattle.mst_roles.specs.graph.Islands.{HaveEnds}
+use Rattle.mst_graph.specs.Islands.{HaveEnds}
 use Rattle.mst_vlan.specs.Seen.{seen_bridges, seen_lans, seen_link, seen_links, seen_member}
 use Rattle.mst_vlan.proofs.Listed.{seen_have}
 use Rattle.mst_vlan.proofs.reaching.joined.Goals as goal

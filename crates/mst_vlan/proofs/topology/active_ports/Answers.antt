@@ -1,6 +1,6 @@
 use Rattle.std.proofs.Common.{map, sym, ap, subst, ◌∙◌}
 use Rattle.std.proofs.lemmas.Result.{IfOk-weaker}
-use Rattle.mst_roles.specs.lag.Viewed.{named_port}
+use Rattle.mst_lag.specs.Viewed.{named_port}
 use Rattle.mst_vlan.specs.Active.{JoinWithoutLoop}
 use Rattle.mst_vlan.proofs.Listed.{active_listed}
 use Rattle.mst_vlan.proofs.topology.active_ports.Goals as goal

@@ -1,6 +1,6 @@
 use Rattle.std.proofs.Common.{ap, sym, ◌∙◌}
 use Rattle.std.specs.Option.{option_map}
-use Rattle.mst_picture.specs.lang.declared.line.Query.TheVariants.{Changes}
+use Rattle.mst_lang.specs.declared.line.Query.TheVariants.{Changes}
 use Rattle.mst_picture.specs.changes.Stored.{kept_entries}
 use Rattle.mst_report.specs.Planned.{planned_state}
 use Rattle.mst_report.proofs.Answering.{changes_have_text}

@@ -1,7 +1,7 @@
 use Rattle.std.proofs.Common.{Some, is_some, sym, ap, ◌∙◌}
 use Rattle.std.specs.FinMap as fin
 use Rattle.std.specs.Option.{option_map}
-use Rattle.mst_picture.specs.net.Seen.{bridge_row}
+use Rattle.mst_net.specs.Seen.{bridge_row}
 use Rattle.mst_report.specs.declared.explaining.Unexplained.TheVariants.{NoBridge}
 use Rattle.mst_report.proofs.Explained.{without_bridge, as_found}
 use Rattle.mst_report.proofs.planner.Planner.unexplained.Goals as goal

@@ -1,7 +1,7 @@
 use Rattle.std.proofs.Common.{ap, ◌∙◌}
 use Rattle.std.specs.Option.{option_and_then}
-use Rattle.mst_nested.specs.settle.Assignment.{Assignment, vector_of}
-use Rattle.mst_nested.specs.vector.declared.msti.MstiVector.{MstiVector}
+use Rattle.mst_settle.specs.Assignment.{Assignment, vector_of}
+use Rattle.mst_vector.specs.declared.msti.MstiVector.{MstiVector}
 use Rattle.mst_trees.specs.Forest.{Forest, msti_vector}
 use Rattle.mst_trees.proofs.Gathering.{found_some, found_none}
 use Rattle.mst_trees.proofs.forest.Forest.msti.Goals as goal
