@@ -1,9 +1,7 @@
-ghost use Rattle.std.specs.Prelude.{◌≡◌, ◌==◌, not, is_some, IfOk};
-ghost use Rattle.std.specs.List.{filter};
-ghost use Rattle.mst_net.specs.Contents.{priority_of, port_priority_of, port_cost_of};
+ghost use Rattle.std.specs.Prelude.{◌≡◌};
 ghost use Rattle.std.specs.Option.{option_map};
 ghost use Rattle.mst_net.specs.After.{bridge_with, port_with, lan_with, in_lan};
-ghost use Rattle.mst_net.specs.Foreseen.{bridge_row_after, port_row_after, lan_row_after, bridge_number_after, port_number_after, lan_number_after, bridge_name_after, port_name_after, lan_name_after, priority_after, port_priority_after, port_cost_after, table_after, vlans_after};
+ghost use Rattle.mst_net.specs.Foreseen.{bridge_row_after, port_row_after, lan_row_after, bridge_number_after, port_number_after, lan_number_after, bridge_name_after, table_after};
 
 use crate::contents::{Bridge, Contents, Lan, Port};
 use crate::names::{with_name, without_name};
@@ -11,8 +9,7 @@ use crate::network::{Network, kept_bridge, kept_lan, kept_port};
 use crate::settings::{BridgeSettings, KeptPort, LanSettings};
 use crate::table::Table;
 use crate::tree_settings::TreeSettings;
-use crate::trees::every_tree;
-use mst_ids::{BridgeNo, Cost, LanNo, Name, PortName, PortNo, Priority, Tree, VidSet};
+use mst_ids::{BridgeNo, Name, PortName, Tree};
 use mst_lang::{BridgeChange, Edit, LanChange, PortChange, TreeChange};
 use mst_records::Record;
 use std::alloc::{AllocError, Global};
@@ -86,26 +83,6 @@ impl Contents for Ahead<'_> {
         )
     }
 
-    fn port_name(&self, number: PortNo) -> Option<PortName> {
-        self.network.known();
-        port_name_ahead(
-            self.edit,
-            PortNo(self.network.next_port()),
-            number,
-            self.network.port_name(number),
-        )
-    }
-
-    fn lan_name(&self, number: LanNo) -> Option<Name> {
-        self.network.known();
-        lan_name_ahead(
-            self.edit,
-            LanNo(self.network.next_lan()),
-            number,
-            self.network.lan_name(number),
-        )
-    }
-
     fn bridge_names(&self, alloc: Global) -> Result<Vec<Name>, AllocError> {
         let names = self.network.bridge_names(alloc)?;
         match *self.edit {
@@ -133,44 +110,6 @@ impl Contents for Ahead<'_> {
         }
     }
 
-    fn tree_priority(&self, bridge: &Name, tree: Tree) -> Priority {
-        tree_priority_ahead(
-            self.edit,
-            bridge,
-            tree,
-            self.network.tree_priority(bridge, tree),
-        )
-    }
-
-    fn port_priority(&self, port: &PortName, tree: Tree) -> Priority {
-        port_priority_ahead(
-            self.edit,
-            port,
-            tree,
-            self.network.port_priority(port, tree),
-        )
-    }
-
-    fn port_cost(&self, port: &PortName, tree: Tree) -> Option<Cost> {
-        port_cost_ahead(self.edit, port, tree, self.network.port_cost(port, tree))
-    }
-
-    // Each tree is looked at: a network that is yet to be is asked once, if ever.
-    fn priority_trees(&self, bridge: &Name, alloc: Global) -> Result<Vec<Tree>, AllocError> {
-        let trees = every_tree(alloc)?;
-        with_priority(self, bridge, &trees, alloc)
-    }
-
-    fn port_priority_trees(&self, port: &PortName, alloc: Global) -> Result<Vec<Tree>, AllocError> {
-        let trees = every_tree(alloc)?;
-        with_port_priority(self, port, &trees, alloc)
-    }
-
-    fn port_cost_trees(&self, port: &PortName, alloc: Global) -> Result<Vec<Tree>, AllocError> {
-        let trees = every_tree(alloc)?;
-        with_port_cost(self, port, &trees, alloc)
-    }
-
     fn mstis(&self, bridge: &Name, alloc: Global) -> Result<Vec<Tree>, AllocError> {
         let table = self.table(bridge);
         table.mstis(alloc)
@@ -180,10 +119,6 @@ impl Contents for Ahead<'_> {
         table_ahead(self.edit, bridge, self.network.table(bridge))
     }
 
-    fn port_vlans(&self, port: &PortName) -> VidSet {
-        port_vlans_ahead(self.edit, port, self.network.port_vlans(port))
-    }
-
     fn settings(&self) -> Result<TreeSettings, AllocError> {
         self.network.known();
         let mut settings = self.network.settings()?;
@@ -191,54 +126,6 @@ impl Contents for Ahead<'_> {
         settings.make(self.edit);
         Ok(settings)
     }
-}
-
-/// Those of the trees in which a bridge has another priority than 8.
-fn with_priority(
-    ahead: &Ahead<'_>,
-    bridge: &Name,
-    trees: &[Tree],
-    alloc: Global,
-) -> Result<Vec<Tree>, AllocError>
-    ensures { IfOk result (λ kept. kept.items ≡ filter (λ tree. not (priority_of ahead.now.net bridge.now tree == 8)) trees.now) }
-{
-    trees
-        .iter()
-        .copied()
-        .filter(|tree| ahead.tree_priority(bridge, *tree).step() != Priority::DEFAULT)
-        .collect(alloc)
-}
-
-/// Those of the trees in which a port has another priority than 8.
-fn with_port_priority(
-    ahead: &Ahead<'_>,
-    port: &PortName,
-    trees: &[Tree],
-    alloc: Global,
-) -> Result<Vec<Tree>, AllocError>
-    ensures { IfOk result (λ kept. kept.items ≡ filter (λ tree. not (port_priority_of ahead.now.net port.now tree == 8)) trees.now) }
-{
-    trees
-        .iter()
-        .copied()
-        .filter(|tree| ahead.port_priority(port, *tree).step() != Priority::DEFAULT)
-        .collect(alloc)
-}
-
-/// Those of the trees in which the internal path cost of a port isn't automatic.
-fn with_port_cost(
-    ahead: &Ahead<'_>,
-    port: &PortName,
-    trees: &[Tree],
-    alloc: Global,
-) -> Result<Vec<Tree>, AllocError>
-    ensures { IfOk result (λ kept. kept.items ≡ filter (λ tree. is_some (port_cost_of ahead.now.net port.now tree)) trees.now) }
-{
-    trees
-        .iter()
-        .copied()
-        .filter(|tree| ahead.port_cost(port, *tree).is_some())
-        .collect(alloc)
 }
 
 /// What the edit makes of the record of the bridge of this name.
@@ -376,79 +263,6 @@ fn bridge_name_ahead(
     }
 }
 
-/// What the edit makes of the name of the port that has a number.
-fn port_name_ahead(
-    edit: &Edit,
-    next: PortNo,
-    number: PortNo,
-    there: Option<PortName>,
-) -> Option<PortName>
-    ensures { result ≡ port_name_after edit.now next number there }
-{
-    match *edit {
-        Edit::AddPort { port } if next == number => Some(port),
-        Edit::DelPort { port } if there == Some(port) => None,
-        _ => there,
-    }
-}
-
-/// What the edit makes of the name of the LAN that has a number.
-fn lan_name_ahead(edit: &Edit, next: LanNo, number: LanNo, there: Option<Name>) -> Option<Name>
-    ensures { result ≡ lan_name_after edit.now next number there }
-{
-    match *edit {
-        Edit::AddLan { lan } if next == number => Some(lan),
-        Edit::DelLan { lan } if there == Some(lan) => None,
-        _ => there,
-    }
-}
-
-/// What the edit makes of the priority of a bridge in a tree.
-fn tree_priority_ahead(edit: &Edit, name: &Name, other: Tree, there: Priority) -> Priority
-    ensures { result ≡ priority_after edit.now name.now other there }
-{
-    match *edit {
-        Edit::DelBridge { bridge } if bridge == *name => Priority::default(),
-        Edit::SetByTree(
-            TreeChange::Priority {
-                bridge,
-                tree,
-                priority,
-            },
-        ) if bridge == *name && tree == other => priority,
-        _ => there,
-    }
-}
-
-/// What the edit makes of the priority of a port in a tree.
-fn port_priority_ahead(edit: &Edit, name: &PortName, other: Tree, there: Priority) -> Priority
-    ensures { result ≡ port_priority_after edit.now name.now other there }
-{
-    match *edit {
-        Edit::DelPort { port } if port == *name => Priority::default(),
-        Edit::SetByTree(
-            TreeChange::PortPriority {
-                port,
-                tree,
-                priority,
-            },
-        ) if port == *name && tree == other => priority,
-        _ => there,
-    }
-}
-
-/// What the edit makes of the internal path cost of a port in a tree.
-fn port_cost_ahead(edit: &Edit, name: &PortName, other: Tree, there: Option<Cost>) -> Option<Cost>
-    ensures { result ≡ port_cost_after edit.now name.now other there }
-{
-    match *edit {
-        Edit::DelPort { port } if port == *name => None,
-        Edit::SetByTree(TreeChange::PortCost { port, tree, cost })
-            if port == *name && tree == other => { cost }
-        _ => there,
-    }
-}
-
 /// What the edit makes of the table of a bridge.
 fn table_ahead(edit: &Edit, name: &Name, there: Table) -> Table
     ensures { result ≡ table_after edit.now name.now there }
@@ -460,17 +274,6 @@ fn table_ahead(edit: &Edit, name: &Name, there: Table) -> Table
             table.map(&vids, tree);
             table
         }
-        _ => there,
-    }
-}
-
-/// What the edit makes of the VLANs of a port.
-fn port_vlans_ahead(edit: &Edit, name: &PortName, there: VidSet) -> VidSet
-    ensures { result ≡ vlans_after edit.now name.now there }
-{
-    match *edit {
-        Edit::DelPort { port } if port == *name => VidSet::all(),
-        Edit::SetByTree(TreeChange::Vlans { port, vids }) if port == *name => vids,
         _ => there,
     }
 }

@@ -3,19 +3,16 @@ ghost use Rattle.std.specs.Option.{option_map, ForSome};
 ghost use Rattle.std.specs.FinMap as fin;
 ghost use Rattle.mst_net.specs.ByTree.{by_tree};
 ghost use Rattle.mst_net.specs.Tables.{IsNetwork};
-ghost use Rattle.mst_net.specs.Contents.{Tables, IsNumbered, priority_of, port_priority_of, port_cost_of};
-ghost use Rattle.mst_ids.specs.declared.name.PortName.{PortName};
-ghost use Rattle.mst_net.specs.After.{table_of, vlans_of};
+ghost use Rattle.mst_net.specs.Contents.{Tables, IsNumbered};
+ghost use Rattle.mst_net.specs.After.{table_of};
 ghost use Rattle.mst_net.specs.Table.{mstis_in};
-ghost use Rattle.mst_net.specs.TreesSet.{priority_trees, port_priority_trees, port_cost_trees};
 ghost use Rattle.mst_net.specs.Seen.{bridge_row, port_row, lan_row};
 
 use crate::settings::{BridgeSettings, KeptPort, LanSettings, PortSettings};
 use crate::table::Table;
 use crate::tree_settings::TreeSettings;
 use mst_ids::{
-    BridgeNo, ConfName, Cost, LanNo, Mac, MaxAge, MaxHops, Name, PortName, PortNo, Priority, Speed,
-    Tree, VidSet,
+    BridgeNo, ConfName, LanNo, Mac, MaxAge, MaxHops, Name, PortName, PortNo, Speed, Tree,
 };
 use mst_lang::{Kind, LanState, Power};
 use std::alloc::{AllocError, Global};
@@ -96,16 +93,6 @@ pub trait Contents {
         ensures found { ForSome result (λ name. fin.get (tables self.now).numbers.bridges name ≡ Some number) }
         ensures none { result ≡ None → (name : List ℕ) → fin.get (tables self.now).numbers.bridges name ≡ Some number → ⊥ };
 
-    /// The name of the port that has the number.
-    fn port_name(&self, number: PortNo) -> Option<PortName>
-        ensures found { ForSome result (λ name. fin.get (tables self.now).numbers.ports name ≡ Some number) }
-        ensures none { result ≡ None → (name : PortName) → fin.get (tables self.now).numbers.ports name ≡ Some number → ⊥ };
-
-    /// The name of the LAN that has the number.
-    fn lan_name(&self, number: LanNo) -> Option<Name>
-        ensures found { ForSome result (λ name. fin.get (tables self.now).numbers.lans name ≡ Some number) }
-        ensures none { result ≡ None → (name : List ℕ) → fin.get (tables self.now).numbers.lans name ≡ Some number → ⊥ };
-
     /// The names of the bridges, in the order of their bytes. It takes memory, as every list does.
     fn bridge_names(&self, alloc: Global) -> Result<Vec<Name>, AllocError>
         ensures { IfOk result (λ names. names.items ≡ fin.keys (tables self.now).net.bridges) };
@@ -118,30 +105,6 @@ pub trait Contents {
     fn lan_names(&self, alloc: Global) -> Result<Vec<Name>, AllocError>
         ensures { IfOk result (λ names. names.items ≡ fin.keys (tables self.now).net.lans) };
 
-    /// The priority of a bridge in a tree, 8 where none is set.
-    fn tree_priority(&self, bridge: &Name, tree: Tree) -> Priority
-        ensures { result ≡ priority_of (tables self.now).net bridge.now tree };
-
-    /// The priority of a port in a tree, 8 where none is set.
-    fn port_priority(&self, port: &PortName, tree: Tree) -> Priority
-        ensures { result ≡ port_priority_of (tables self.now).net port.now tree };
-
-    /// The internal path cost of a port in a tree, or none where it is automatic.
-    fn port_cost(&self, port: &PortName, tree: Tree) -> Option<Cost>
-        ensures { result ≡ port_cost_of (tables self.now).net port.now tree };
-
-    /// The trees in which a bridge has another priority than 8, in rising order. It takes memory.
-    fn priority_trees(&self, bridge: &Name, alloc: Global) -> Result<Vec<Tree>, AllocError>
-        ensures { IfOk result (λ trees. trees.items ≡ priority_trees (tables self.now).net bridge.now) };
-
-    /// The trees in which a port has another priority than 8, in rising order. It takes memory.
-    fn port_priority_trees(&self, port: &PortName, alloc: Global) -> Result<Vec<Tree>, AllocError>
-        ensures { IfOk result (λ trees. trees.items ≡ port_priority_trees (tables self.now).net port.now) };
-
-    /// The trees in which the internal path cost of a port isn't automatic, in rising order. It takes memory.
-    fn port_cost_trees(&self, port: &PortName, alloc: Global) -> Result<Vec<Tree>, AllocError>
-        ensures { IfOk result (λ trees. trees.items ≡ port_cost_trees (tables self.now).net port.now) };
-
     /// The MSTIs of the table of a bridge, in rising order, none where it maps all VIDs to the CIST. It takes
     /// memory.
     fn mstis(&self, bridge: &Name, alloc: Global) -> Result<Vec<Tree>, AllocError>
@@ -150,10 +113,6 @@ pub trait Contents {
     /// The table of a bridge, with all VIDs in the CIST where it maps none to another tree.
     fn table(&self, bridge: &Name) -> Table
         ensures { result ≡ table_of (tables self.now).net bridge.now };
-
-    /// The VLANs that a port is a member of, all where none were set.
-    fn port_vlans(&self, port: &PortName) -> VidSet
-        ensures { result ≡ vlans_of (tables self.now).net port.now };
 
     /// A copy of what is set by tree or VID. It takes memory.
     fn settings(&self) -> Result<TreeSettings, AllocError>

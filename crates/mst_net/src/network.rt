@@ -10,6 +10,7 @@ ghost use Rattle.mst_net.specs.Contents.{SameContents, CanCommit, Commits, ahead
 use crate::Refusal;
 use crate::ahead::Ahead;
 use crate::contents::{Bridge, Contents, Lan, Port, seen_bridge, seen_lan, seen_port};
+use crate::saved::Saved;
 use crate::settings::{BridgeSettings, KeptPort, LanSettings};
 use crate::table::Table;
 use crate::tree_settings::TreeSettings;
@@ -322,14 +323,6 @@ impl Contents for Network {
         self.bridges.key(number.0)
     }
 
-    fn port_name(&self, number: PortNo) -> Option<PortName> {
-        self.ports.key(number.0)
-    }
-
-    fn lan_name(&self, number: LanNo) -> Option<Name> {
-        self.lans.key(number.0)
-    }
-
     fn bridge_names(&self, alloc: Global) -> Result<Vec<Name>, AllocError> {
         let mut names = self.bridges.keys(alloc)?;
         names.sort()?;
@@ -348,6 +341,20 @@ impl Contents for Network {
         Ok(names)
     }
 
+    fn mstis(&self, bridge: &Name, alloc: Global) -> Result<Vec<Tree>, AllocError> {
+        self.settings.mstis(bridge, alloc)
+    }
+
+    fn table(&self, bridge: &Name) -> Table {
+        self.settings.table(bridge)
+    }
+
+    fn settings(&self) -> Result<TreeSettings, AllocError> {
+        self.settings.copy()
+    }
+}
+
+impl Saved for Network {
     fn tree_priority(&self, bridge: &Name, tree: Tree) -> Priority {
         self.settings.tree_priority(bridge, tree)
     }
@@ -372,20 +379,8 @@ impl Contents for Network {
         self.settings.port_cost_trees(port, alloc)
     }
 
-    fn mstis(&self, bridge: &Name, alloc: Global) -> Result<Vec<Tree>, AllocError> {
-        self.settings.mstis(bridge, alloc)
-    }
-
-    fn table(&self, bridge: &Name) -> Table {
-        self.settings.table(bridge)
-    }
-
     fn port_vlans(&self, port: &PortName) -> VidSet {
         self.settings.port_vlans(port)
-    }
-
-    fn settings(&self) -> Result<TreeSettings, AllocError> {
-        self.settings.copy()
     }
 }
 

@@ -1,4 +1,4 @@
-ghost use Rattle.std.specs.Prelude.{◌≡◌, IfOk, true};
+ghost use Rattle.std.specs.Prelude.{◌≡◌, IfOk};
 ghost use Rattle.mst_records.specs.Blocks.{in_block, is_marked};
 ghost use Rattle.mst_net.specs.TreesSet.{trees_where};
 
@@ -7,17 +7,6 @@ use mst_ids::Tree;
 use mst_records::Blocks;
 use std::alloc::{AllocError, Global};
 use std::hash::Hash;
-
-/// Every tree, from the CIST to 4094.
-pub(crate) fn every_tree(alloc: Global) -> Result<Vec<Tree>, AllocError>
-    ensures { IfOk result (λ trees. trees.items ≡ trees_where (λ _. true)) }
-{
-    let mut trees = Vec::new(alloc);
-    for number in 0..4095u64 {
-        trees.push(Tree::new(number).unwrap())?;
-    }
-    Ok(trees)
-}
 
 /// The trees that are marked for the key, in rising order.
 pub(crate) fn marked_trees<K: Copy + Eq + Hash>(

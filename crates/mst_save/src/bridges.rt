@@ -21,7 +21,7 @@ use crate::mappings::push_mappings;
 use crate::ports::push_ports;
 use mst_ids::{ConfName, Mac, MaxAge, MaxHops, Name, Tree, push_bytes, push_end, push_word};
 use mst_lang::{Kind, Power};
-use mst_net::{Bridge, Contents};
+use mst_net::{Bridge, Saved};
 use std::alloc::{AllocError, Global};
 
 /// The system priority, and the limits of hops and of age, of a bridge where none was set.
@@ -30,7 +30,7 @@ const SYSTEM_PRIORITY: u16 = 32_768;
 const LIMIT: u64 = 20;
 
 /// Appends the lines of each bridge and its ports, by name and number.
-pub(crate) fn push_bridges<C: Contents>(
+pub(crate) fn push_bridges<C: Saved>(
     alloc: Global,
     contents: &C,
     homes: &Homes,
@@ -46,7 +46,7 @@ pub(crate) fn push_bridges<C: Contents>(
     Ok(())
 }
 
-fn push_part<C: Contents>(
+fn push_part<C: Saved>(
     alloc: Global,
     contents: &C,
     homes: &Homes,
@@ -61,7 +61,7 @@ fn push_part<C: Contents>(
 }
 
 /// Appends the lines of a bridge, if it is there.
-fn push_bridge<C: Contents>(
+fn push_bridge<C: Saved>(
     alloc: Global,
     contents: &C,
     name: &Name,
@@ -75,7 +75,7 @@ fn push_bridge<C: Contents>(
     }
 }
 
-fn push_settings<C: Contents>(
+fn push_settings<C: Saved>(
     alloc: Global,
     contents: &C,
     name: &Name,
@@ -181,7 +181,7 @@ fn push_max_age(name: &Name, limit: MaxAge, out: &mut Vec<u8>) -> Result<(), All
     push_number(b"setmaxage", name, limit, out)
 }
 
-fn push_priorities<C: Contents>(
+fn push_priorities<C: Saved>(
     alloc: Global,
     contents: &C,
     name: &Name,
@@ -196,7 +196,7 @@ fn push_priorities<C: Contents>(
     Ok(())
 }
 
-fn push_priority<C: Contents>(
+fn push_priority<C: Saved>(
     contents: &C,
     name: &Name,
     tree: Tree,

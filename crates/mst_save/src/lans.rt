@@ -12,14 +12,14 @@ ghost use Rattle.mst_save.specs.SaveText.{edit_text, edits_text};
 use crate::line::{push_named, push_number};
 use mst_ids::{Name, push_line};
 use mst_lang::LanState;
-use mst_net::{Contents, Lan};
+use mst_net::{Lan, Saved};
 use std::alloc::{AllocError, Global};
 
 /// The speed of a LAN where none was set, in kb/s.
 const STANDARD: u64 = 1_000_000;
 
 /// Appends the lines of each LAN, by name.
-pub(crate) fn push_lans<C: Contents>(
+pub(crate) fn push_lans<C: Saved>(
     alloc: Global,
     contents: &C,
     out: &mut Vec<u8>,
@@ -34,7 +34,7 @@ pub(crate) fn push_lans<C: Contents>(
 }
 
 /// Appends the lines of a LAN, if it is there.
-fn push_lan<C: Contents>(contents: &C, name: &Name, out: &mut Vec<u8>) -> Result<(), AllocError>
+fn push_lan<C: Saved>(contents: &C, name: &Name, out: &mut Vec<u8>) -> Result<(), AllocError>
     ensures { OnOk result (out.new.items ≡ out.old.items ++ edits_text (lan_edits (C.tables contents.now).net name.now)) }
 {
     match contents.lan(name) {

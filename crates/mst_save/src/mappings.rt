@@ -8,7 +8,7 @@ ghost use Rattle.mst_save.specs.SaveText.{edits_text};
 use crate::runs::{push_run, run_from};
 use itoa::Buffer;
 use mst_ids::{Name, Tree, push_bytes, push_end, push_word};
-use mst_net::{Contents, Table};
+use mst_net::{Saved, Table};
 use std::alloc::{AllocError, Global};
 
 /// The most bytes that a line may have.
@@ -16,7 +16,7 @@ const LONGEST: usize = 4096;
 
 /// Appends the lines that map the VIDs of a bridge's table to its trees. A bridge that maps none costs no copy of
 /// a table.
-pub(crate) fn push_mappings<C: Contents>(
+pub(crate) fn push_mappings<C: Saved>(
     alloc: Global,
     contents: &C,
     name: &Name,

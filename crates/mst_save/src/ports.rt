@@ -18,11 +18,11 @@ ghost use Rattle.mst_save.specs.SaveText.{edit_text, edits_text};
 use crate::line::{push_number, push_number_word, push_numbers, push_port_numbers};
 use itoa::Buffer;
 use mst_ids::{Cost, Name, PortName, Tree, VidSet, push_bytes, push_end, push_line, push_word};
-use mst_net::{Contents, Port};
+use mst_net::{Port, Saved};
 use std::alloc::{AllocError, Global};
 
 /// Appends the lines of ports, in their order.
-pub(crate) fn push_ports<C: Contents>(
+pub(crate) fn push_ports<C: Saved>(
     alloc: Global,
     contents: &C,
     ports: &[PortName],
@@ -37,7 +37,7 @@ pub(crate) fn push_ports<C: Contents>(
 }
 
 /// Appends the lines of a port, if it is there.
-fn push_port<C: Contents>(
+fn push_port<C: Saved>(
     alloc: Global,
     contents: &C,
     name: &PortName,
@@ -51,7 +51,7 @@ fn push_port<C: Contents>(
     }
 }
 
-fn push_settings<C: Contents>(
+fn push_settings<C: Saved>(
     alloc: Global,
     contents: &C,
     name: &PortName,
@@ -100,7 +100,7 @@ fn push_own_external(name: &PortName, cost: Cost, out: &mut Vec<u8>) -> Result<(
     push_numbers(b"setportpathcost", &name.bridge, number, cost.value(), out)
 }
 
-fn push_costs<C: Contents>(
+fn push_costs<C: Saved>(
     alloc: Global,
     contents: &C,
     name: &PortName,
@@ -137,7 +137,7 @@ fn push_cost(
     }
 }
 
-fn push_priorities<C: Contents>(
+fn push_priorities<C: Saved>(
     alloc: Global,
     contents: &C,
     name: &PortName,
@@ -152,7 +152,7 @@ fn push_priorities<C: Contents>(
     Ok(())
 }
 
-fn push_priority<C: Contents>(
+fn push_priority<C: Saved>(
     contents: &C,
     name: &PortName,
     tree: Tree,
@@ -217,7 +217,7 @@ fn push_vids(vids: &VidSet, out: &mut Vec<u8>) -> Result<(), AllocError>
 }
 
 /// Appends the lines of the plugs of ports, in their order.
-pub(crate) fn push_plugs<C: Contents>(
+pub(crate) fn push_plugs<C: Saved>(
     contents: &C,
     ports: &[PortName],
     out: &mut Vec<u8>,
@@ -230,11 +230,7 @@ pub(crate) fn push_plugs<C: Contents>(
     Ok(())
 }
 
-fn push_plug<C: Contents>(
-    contents: &C,
-    name: &PortName,
-    out: &mut Vec<u8>,
-) -> Result<(), AllocError>
+fn push_plug<C: Saved>(contents: &C, name: &PortName, out: &mut Vec<u8>) -> Result<(), AllocError>
     ensures { OnOk result (out.new.items ≡ out.old.items ++ edits_text (plug_edits (C.tables contents.now).net name.now)) }
 {
     match contents.port(name) {
