@@ -12,6 +12,7 @@ import json
 import os
 import pty
 import re
+import select
 import subprocess
 import sys
 import tempfile
@@ -762,6 +763,32 @@ def check_terminal(program, words, typed, status, out, err):
     return False
 
 
+def told_within(pipe, length):
+    """What a program writes to a pipe, up to so many bytes, in ten seconds at most."""
+    told = b""
+    while len(told) < length and select.select([pipe], [], [], 10)[0]:
+        part = os.read(pipe.fileno(), length - len(told))
+        if not part:
+            break
+        told += part
+    return told
+
+
+def check_answered(program):
+    """Lines that come through a pipe while it stays open: each is answered before the next one is given."""
+    lines = [(b"no\n", REFUSED), (b"addlan x\nshowtree 0\n", TREE), (b"showplan", b""), (b"\n", b"tree 0\nvlan 1-4094\nactive -\nisland lans x\n")]
+    with subprocess.Popen([program, "run", "-"], stdin=subprocess.PIPE, stdout=subprocess.PIPE, bufsize=0) as ran:
+        for given, answer in lines:
+            ran.stdin.write(given)
+            told = told_within(ran.stdout, len(answer))
+            if told != answer:
+                ran.kill()
+                print(f"FAILED {given!r} isn't answered before the next line: {told!r}")
+                return False
+        ran.stdin.close()
+        return ran.wait(60) == 1 and ran.stdout.read() == b""
+
+
 INVITED = b"mstplan: reading a script from the terminal, until Ctrl-D; --help tells of its commands\n"
 
 
@@ -850,6 +877,7 @@ def main():
             check_terminal(program, [], b"showtree 0\n", 0, TREE, INVITED),
             check_terminal(program, [], b"", 0, b"", INVITED),
             check_terminal(program, ["run", "-"], b"no\n", 1, REFUSED, b""),
+            check_answered(program),
             check_sample(program),
             check_pipe(program, folder, ["run", "--hints", "pipe"]),
             check_pipe(program, folder, ["check", "--hints", "pipe", os.devnull]),

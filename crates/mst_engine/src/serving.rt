@@ -9,7 +9,8 @@ use crate::feed::{feed, finish};
 use crate::laws::has_steps;
 use mst_io::{HeldLine, RunFault, Sink, Source};
 
-/// Serves all lines of an input, of which nothing is counted yet.
+/// Serves all lines of an input, of which nothing is counted yet. Whenever it asks for more bytes, what the lines before print
+/// has gone out.
 pub fn serve_input<S: Source, K: Sink>(
     input: Input,
     engine: &mut Engine,
@@ -38,6 +39,10 @@ pub fn serve_input<S: Source, K: Sink>(
     let mut chunk = [0; 4096];
     'turns: for turn in 0..turns {
         engine.planner.known();
+        match sink.flush() {
+            Err(_) => return Err(RunFault::Write),
+            Ok(()) => {}
+        }
         let count = match source.fill(&mut chunk) {
             Err(_) => return Err(RunFault::Read),
             Ok(count) => count,

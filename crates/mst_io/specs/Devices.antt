@@ -39,6 +39,10 @@ called old result size = record {
   at_zero = is_zero result size;
 }
 
+-- after what a sink held back was sent on: that is no call
+abbrev pub flushed : {A : Type 0} → Told → Result A Failed → Told
+flushed old result = record old { failed = is_err result }
+
 -- what a count tells
 abbrev pub told_by : Count → Told
 told_by c = record { failed = c.is_broken || c.calls == 2 ^ 64 - 1; calls = c.calls; bytes = c.bytes; zeros = c.zeros; at_zero = c.at_zero }

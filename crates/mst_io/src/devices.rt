@@ -1,8 +1,8 @@
 ghost use Rattle.std.specs.Prelude.{◌≡◌, ℕ, false, List, length, Option, None};
 ghost use Rattle.std.specs.Borrow.{GName};
 ghost use Rattle.std.specs.Io.{ReadsAtMost, WritesAtMost};
-ghost use Rattle.std.specs.Io.KnownBytes.{ReadConsumes, WriteAppends};
-ghost use Rattle.mst_io.specs.Devices.{Told, called};
+ghost use Rattle.std.specs.Io.KnownBytes.{Keeps, ReadConsumes, WriteAppends};
+ghost use Rattle.mst_io.specs.Devices.{Told, called, flushed};
 
 /// The device has failed. It isn't called again.
 #[derive(Clone, Copy, Debug, PartialEq, Eq)]
@@ -56,5 +56,13 @@ pub trait Sink {
         ensures bound { WritesAtMost result part.now }
         ensures bytes { WriteAppends (contents self.old) (contents self.new) result part.now }
         ensures told { told self.new ≡ called (told self.old) result (length part.now) }
+        ensures lent { lent self.new ≡ lent self.old };
+
+    /// Sends on what it has taken and still holds back, if it does that: all that was put has gone out then. It isn't
+    /// counted among the calls.
+    fn flush(&mut self) -> Result<(), Failed>
+        requires working { (told self.old).failed ≡ false }
+        ensures bytes { Keeps (contents self.old) (contents self.new) }
+        ensures told { told self.new ≡ flushed (told self.old) result }
         ensures lent { lent self.new ≡ lent self.old };
 }

@@ -21,7 +21,7 @@ struct Count {
 
 impl Count {
     ghost use Rattle.std.specs.Prelude.{◌≡◌, ◌==◌, ◌||◌, ◌<◌, ◌+◌, ◌-◌, ◌^◌, nat_lt, true, false, IsOk, IfOk, Err};
-    ghost use Rattle.mst_io.specs.Devices.{told_by, uncalled, called};
+    ghost use Rattle.mst_io.specs.Devices.{told_by, uncalled, called, flushed};
 
     /// Of a device that was not called yet.
     fn new() -> Count
@@ -71,6 +71,14 @@ impl Count {
             zeros: if at_zero { self.zeros + 1 } else { self.zeros },
             at_zero,
         };
+    }
+
+    /// Notes whether what was held back could be sent on.
+    fn note(&mut self, answer: Result<(), Failed>)
+        requires { (told_by self.old).failed ≡ false }
+        ensures { told_by self.new ≡ flushed (told_by self.old) answer }
+    {
+        self.is_broken = answer.is_err();
     }
 }
 
@@ -128,8 +136,8 @@ impl<R: Read> Source for FromRead<'_, R> {
     }
 }
 
-/// A writer as a sink, of the same bytes. An error of any kind is its failure, an interrupted call included. It isn't
-/// flushed.
+/// A writer as a sink, of the same bytes. An error of any kind is its failure, an interrupted call included. It is
+/// flushed where the sink is.
 ///
 /// It counts its calls and their bytes, and gives up as failed before there are 2^64 of either.
 #[derive(Drop)]
@@ -179,6 +187,15 @@ impl<W: Write> Sink for ToWrite<'_, W> {
             }
         };
         self.count.add(answer, part.len());
+        answer
+    }
+
+    fn flush(&mut self) -> Result<(), Failed> {
+        let answer = match self.writer.flush() {
+            Ok(()) => Ok(()),
+            Err(_) => Err(Failed),
+        };
+        self.count.note(answer);
         answer
     }
 }

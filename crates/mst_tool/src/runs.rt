@@ -18,8 +18,8 @@ use std::io::{Read, Write};
 /// version 1.
 ///
 /// The reader is called with a buffer of 4,096 bytes, up to 2^32 times, and its first answer of 0
-/// bytes is the script's end. The writer is called again where it took some bytes and not all, and not
-/// flushed. After a fault the run calls neither again.
+/// bytes is the script's end. The writer is called again where it took some bytes and not all, and is
+/// flushed before the reader is asked for more. After a fault the run calls neither again.
 ///
 /// After [`RunFault::Read`] all that the complete lines print has gone out, of what was read: a line
 /// that no LF had ended prints nothing then. After [`RunFault::Write`] a front of what the script

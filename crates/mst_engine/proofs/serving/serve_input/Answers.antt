@@ -1,5 +1,5 @@
 use Rattle.std.proofs.Common.{◌++◌, [], arith, take, refl, ap, ◌∙◌}
-use Rattle.std.proofs.KnownBytes.{Consumes-nil, Appends-nil, Consumes-trans}
+use Rattle.std.proofs.KnownBytes.{Consumes-nil, Appends-nil, Appends-kept, Consumes-trans}
 use Rattle.mst_compare.specs.report.Planned.{planned_state}
 use Rattle.mst_engine.specs.Engine.{tally_of, begun}
 use Rattle.mst_io.proofs.Calls.{works_on, works_both}
