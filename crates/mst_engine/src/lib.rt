@@ -13,6 +13,6 @@ mod serving;
 
 pub use engine::{Engine, Input, Reply};
 pub use mst_compare::{
-    Difference, Differing, Planner, Sweep, SweepPart, Unexplained, report_laws, trees_laws,
+    Differing, NetworkDifference, Planner, Sweep, SweepPart, Unexplained, report_laws, trees_laws,
 };
 pub use serving::serve_input;

@@ -6,7 +6,7 @@ ghost use Rattle.mst_engine.specs.Served.{IsFew};
 
 use mst_engine::laws::{has_load, one_load, states};
 use mst_engine::report_laws::one_difference;
-use mst_engine::{Difference, Differing, Engine, Input, Planner, serve_input};
+use mst_engine::{Differing, Engine, Input, NetworkDifference as Difference, Planner, serve_input};
 use mst_io::{FromRead, Outcome, RunFault, Sink, Source, TURNS, ToWrite, put};
 use mst_print::{Form, Shape, Side, show};
 use std::alloc::{AllocError, Global};
