@@ -18,7 +18,7 @@ pub use mst_bpdu::{
     Bpdu, BpduFault, Difference, Field, Value, push_comparison, push_fault, read_line,
 };
 pub use mst_report::{
-    Differing, Forest, Planner, Sweep, SweepPart, Unexplained, asks_plan, forwards,
+    Differing, Forest, Planner, Settled, Sweep, SweepPart, Unexplained, asks_plan, forwards,
     laws as report_laws, trees_laws,
 };
 pub use senders::sender;

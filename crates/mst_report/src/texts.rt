@@ -42,9 +42,10 @@ impl Planner {
         requires { self.now.is_settled ≡ true }
         ensures { IfOk result (λ text. Answers ShowPlan (planned_state self.now) (Ok text.items)) }
     {
-        let plan = self.plan();
+        let plan = self.settled();
+        plan.known();
         let mut text = Vec::new(self.alloc());
-        push_plan(self.alloc(), &plan.view, &plan.forest, &mut text)?;
+        push_plan(self.alloc(), &plan, &mut text)?;
         Ok(text)
     }
 
@@ -53,9 +54,10 @@ impl Planner {
         requires { self.now.is_settled ≡ true }
         ensures { IfOk result (λ text. Answers (ShowTree tree) (planned_state self.now) (Ok text.items)) }
     {
-        let plan = self.plan();
+        let plan = self.settled();
+        plan.known();
         let mut text = Vec::new(self.alloc());
-        push_tree(&plan.view, &plan.forest, tree, &mut text)?;
+        push_tree(&plan, tree, &mut text)?;
         Ok(text)
     }
 
@@ -64,9 +66,10 @@ impl Planner {
         requires { self.now.is_settled ≡ true }
         ensures { IfOk result (λ text. Answers (ShowVlan vid) (planned_state self.now) (Ok text.items)) }
     {
-        let plan = self.plan();
+        let plan = self.settled();
+        plan.known();
         let mut text = Vec::new(self.alloc());
-        push_vlan(self.alloc(), &plan.view, &plan.forest, vid, &mut text)?;
+        push_vlan(self.alloc(), &plan, vid, &mut text)?;
         Ok(text)
     }
 
