@@ -78,9 +78,10 @@ impl Planner {
         requires { self.now.is_settled ≡ true }
         ensures { IfOk result (λ text. Answers ShowNotes (planned_state self.now) (Ok text.items)) }
     {
-        let plan = self.plan();
+        let plan = self.settled();
+        plan.known();
         let mut text = Vec::new(self.alloc());
-        push_notes(self.alloc(), &plan.view, &plan.forest, &mut text)?;
+        push_notes(self.alloc(), &plan, &mut text)?;
         Ok(text)
     }
 
