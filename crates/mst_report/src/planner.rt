@@ -313,8 +313,9 @@ impl Planner {
         requires { self.now.is_settled ≡ true }
         ensures { IfOk result (λ entries. IsMarkNow self.now.contents.net (kept_entries entries)) }
     {
-        let plan = self.plan();
-        let entries = Entries::new(self.alloc, &plan.view, &plan.forest)?;
+        let plan = self.settled();
+        plan.known();
+        let entries = Entries::new(self.alloc, &plan)?;
         Ok(entries)
     }
 

@@ -10,8 +10,8 @@ use mst_ids::{Name, Tree, Vid};
 use mst_lang::Query;
 use mst_note_text::push_notes;
 use mst_picture::{
-    Entries, Planned, push_changes, push_configuration, push_lags, push_plan, push_regions,
-    push_tree, push_vlan,
+    Entries, push_changes, push_configuration, push_lags, push_plan, push_regions, push_tree,
+    push_vlan,
 };
 use mst_save::save_text;
 use std::alloc::AllocError;
@@ -142,13 +142,10 @@ impl Planner {
         requires text { HasText Changes (planned_state self.now) }
         ensures { IfOk result (λ text. Answers Changes (planned_state self.now) (Ok text.items)) }
     {
-        let plan = self.plan();
-        let now = Planned {
-            view: &plan.view,
-            forest: &plan.forest,
-        };
+        let plan = self.settled();
+        plan.known();
         let mut text = Vec::new(self.alloc());
-        push_changes(self.alloc(), mark, now, &mut text)?;
+        push_changes(self.alloc(), mark, &plan, &mut text)?;
         Ok(text)
     }
 }
