@@ -1,5 +1,5 @@
 -- What is said of a settled network answers a query of its tables.
-use Rattle.std.proofs.Common.{◌≡◌, ℕ, List, [], ◌++◌, refl, sym, ap, subst, ◌∙◌}
+use Rattle.std.proofs.Common.{◌≡◌, ℕ, List, [], ◌++◌, ap, subst, ◌∙◌}
 use Rattle.std.specs.Prelude.{Ok}
 use Rattle.mst_net.specs.Tables.{Net}
 use Rattle.mst_picture.specs.trees.Outcome.{Outcome}

@@ -1,5 +1,5 @@
 -- A settled network: its tables, its view and its trees, of which it is known that they belong together.
-use Rattle.std.specs.Prelude.{◌≡◌, ℕ, ◌==◌, List, Option}
+use Rattle.std.specs.Prelude.{ℕ, ◌==◌, Option}
 use Rattle.std.specs.List.{find}
 use Rattle.std.specs.Option.{option_map, option_map_or, option_and_then}
 use Rattle.std.specs.FinMap as fin

@@ -1,9 +1,9 @@
-use Rattle.std.proofs.Common.{◌≡◌, ◌++◌, ℕ, List, ap, sym, ◌∙◌, append_assoc, refl}
-use Rattle.std.specs.List.{flat_map, AllByRecursion}
+use Rattle.std.proofs.Common.{◌≡◌, ◌++◌, ℕ, List, ap, sym, ◌∙◌, append_assoc}
+use Rattle.std.specs.List.{flat_map}
 use Rattle.mst_lag.specs.Viewed.{named_port}
 use Rattle.mst_lag.specs.declared.in_view.PortInView.{PortInView}
 use Rattle.mst_roles.specs.trees.Settled.{outcome_of}
-use Rattle.mst_note_text.specs.NotesText.{AreNotes, trees_notes, restricted_note, notes_text}
+use Rattle.mst_note_text.specs.NotesText.{AreNotes, trees_notes, restricted_note}
 use Rattle.mst_note_text.proofs.Flat.{of_mapped}
 use Rattle.mst_note_text.proofs.Found.{if_ok}
 use Rattle.mst_note_text.proofs.notes.push_notes.Goals as goal

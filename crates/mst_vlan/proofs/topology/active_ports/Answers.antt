@@ -1,9 +1,9 @@
-use Rattle.std.proofs.Common.{◌≡◌, map, sym, ap, subst, ◌∙◌}
+use Rattle.std.proofs.Common.{map, sym, ap, subst, ◌∙◌}
 use Rattle.std.proofs.lemmas.Result.{IfOk-weaker}
 use Rattle.mst_lag.specs.Viewed.{named_port}
 use Rattle.mst_roles.specs.trees.Settled.{outcome_of}
 use Rattle.mst_roles.proofs.trees_lemmas.SettledNet.{forest_of}
-use Rattle.mst_vlan.specs.Active.{active_ports, JoinWithoutLoop}
+use Rattle.mst_vlan.specs.Active.{JoinWithoutLoop}
 use Rattle.mst_vlan.specs.Seen.{seen_active}
 use Rattle.mst_vlan.proofs.Listed.{active_listed}
 use Rattle.mst_vlan.proofs.topology.active_ports.Goals as goal

@@ -1,4 +1,4 @@
-use Rattle.std.proofs.Common.{◌≡◌, ap, refl, subst, ◌∙◌, ◌++◌}
+use Rattle.std.proofs.Common.{ap, refl, subst, ◌∙◌, ◌++◌}
 use Rattle.std.specs.Prelude.{Ok}
 use Rattle.mst_net.specs.Tables.{Net}
 use Rattle.mst_picture.specs.changes.ChangesText.{changes_text}

@@ -1,4 +1,4 @@
-use Rattle.std.proofs.Common.{◌≡◌, subst}
+use Rattle.std.proofs.Common.{subst}
 use Rattle.mst_net.specs.Tables.{Net}
 use Rattle.mst_picture.specs.changes.Stored.{kept_entries}
 use Rattle.mst_picture.specs.trees.Settled.{outcome_of}

@@ -1,4 +1,4 @@
-use Rattle.std.proofs.Common.{◌∙◌, ◌==◌, ◌||◌, sym, ap}
+use Rattle.std.proofs.Common.{◌∙◌, ◌==◌, ◌||◌, ap}
 use Rattle.mst_trees.specs.InUse.{seen_has}
 use Rattle.mst_trees.proofs.Seen.{bridge_seen}
 use Rattle.mst_trees.proofs.Looking.{has_tree_at}
