@@ -1,44 +1,41 @@
 ghost use Rattle.std.specs.Prelude.{◌≡◌, ◌<◌, ◌++◌, OnOk};
-ghost use Rattle.mst_roles.specs.net.Tables.{Net, Numbers};
-ghost use Rattle.mst_roles.specs.trees.Agrees.{AreOf};
-ghost use Rattle.mst_roles.specs.trees.Forest.{IsForest};
+ghost use Rattle.mst_roles.specs.net.Tables.{Net};
 ghost use Rattle.mst_roles.specs.trees.InUse.{AreInUse};
 ghost use Rattle.mst_roles.specs.trees.Outcome.{Outcome};
+ghost use Rattle.mst_roles.specs.trees.Settled.{outcome_of};
 ghost use Rattle.mst_changes.specs.Kept.{AreEntries};
 ghost use Rattle.mst_changes.specs.ChangesText.{changes_text};
 ghost use Rattle.mst_changes.specs.TreeChanges.{tree_changes};
 
 use crate::entries::Entries;
 use crate::merge::push_merged;
-use crate::ports::Planned;
 use crate::rows::push_tree;
 use mst_ids::Tree;
-use mst_roles::trees_in_use;
+use mst_roles::{Settled, trees_in_use};
 use std::alloc::{AllocError, Global};
 
 /// Appends the lines of what has changed in one tree. It takes memory for the entries of that tree alone.
 fn push_tree_changes(
     alloc: Global,
     old: &Entries,
-    new: Planned,
+    new: &Settled,
     used: &[bool; 4095],
     tree: Tree,
     out: &mut Vec<u8>,
 ) -> Result<(), AllocError>
-    requires used { AreInUse new.view.now used.now }
+    requires used { AreInUse new.now.view used.now }
     requires tree { tree < 4095 }
-    ensures { OnOk result ((a b : Net) (o : Outcome) (numbers : Numbers) (is : IsForest b numbers new.entry.forest.now) → AreEntries a o old.now → AreOf b numbers new.entry.view.now new.entry.forest.now.regions
-        → out.new.items ≡ out.old.items ++ tree_changes a o b is.outcome tree) }
+    ensures { OnOk result ((a : Net) (o : Outcome) → AreEntries a o old.now → out.new.items ≡ out.old.items ++ tree_changes a o new.now.net (outcome_of new.now) tree) }
 {
     let mut olds = Vec::new(alloc);
     old.push_tree(tree, &mut olds)?;
     let mut news = Vec::new(alloc);
-    push_tree(new.view, new.forest, used, tree, &mut news)?;
+    push_tree(new, used, tree, &mut news)?;
     push_merged(olds.as_slice(), news.as_slice(), out)
 }
 
-/// Appends the text of what has changed from one network's outcome, by what is kept of it, to another's, by its view and
-/// its forest. Of equal outcomes it is empty. `AllocError`: memory was wanted and refused; part of the text may have been
+/// Appends the text of what has changed from one network's outcome, by what is kept of it, to that of a settled network.
+/// Of equal outcomes it is empty. `AllocError`: memory was wanted and refused; part of the text may have been
 /// appended.
 ///
 /// For each tree that some bridge has it goes once over what is kept of it and once over the bridges and the logical
@@ -46,13 +43,12 @@ fn push_tree_changes(
 pub fn push_changes(
     alloc: Global,
     old: &Entries,
-    new: Planned,
+    new: &Settled,
     out: &mut Vec<u8>,
 ) -> Result<(), AllocError>
-    ensures { OnOk result ((a b : Net) (o : Outcome) (numbers : Numbers) (is : IsForest b numbers new.entry.forest.now) → AreEntries a o old.now → AreOf b numbers new.entry.view.now new.entry.forest.now.regions
-        → out.new.items ≡ out.old.items ++ changes_text a o b is.outcome) }
+    ensures { OnOk result ((a : Net) (o : Outcome) → AreEntries a o old.now → out.new.items ≡ out.old.items ++ changes_text a o new.now.net (outcome_of new.now)) }
 {
-    let used = trees_in_use(new.view);
+    let used = trees_in_use(new.view());
     for number in 0..4095 {
         if let Some(tree) = Tree::new(number) {
             push_tree_changes(alloc, old, new, &used, tree, out)?;

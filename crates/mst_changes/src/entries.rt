@@ -1,19 +1,13 @@
-ghost use Rattle.std.specs.Prelude.{◌≡◌, ◌++◌, ◌==◌, map, IfOk, OnOk, filter};
-ghost use Rattle.std.specs.List.{flat_map};
-ghost use Rattle.mst_roles.specs.net.Tables.{Net, Numbers};
-ghost use Rattle.mst_roles.specs.trees.Agrees.{AreOf};
-ghost use Rattle.mst_roles.specs.trees.Forest.{IsForest};
+ghost use Rattle.std.specs.Prelude.{◌≡◌, ◌++◌, ◌==◌, IfOk, OnOk, filter};
 ghost use Rattle.mst_roles.specs.trees.InUse.{AreInUse};
-ghost use Rattle.mst_changes.specs.Subjects.{subjects_in, bridge_names as names_of_bridges, port_names as names_of_ports};
-ghost use Rattle.mst_changes.specs.Values.{value_at};
-ghost use Rattle.mst_changes.specs.Kept.{AreEntries, entries_at};
-ghost use Rattle.mst_changes.specs.Stored.{kept_in, kept_entries};
+ghost use Rattle.mst_roles.specs.trees.Settled.{outcome_of};
+ghost use Rattle.mst_changes.specs.Kept.{AreEntries, entries_in};
+ghost use Rattle.mst_changes.specs.Stored.{kept_of, kept_entries};
 
 use crate::kept::{TreeEntries, bridge_names, port_names, push_kept, tree_entries};
 use crate::subject::Entry;
 use mst_ids::{Name, PortName, Tree};
-use mst_lag::View;
-use mst_roles::{Forest, is_had, trees_in_use};
+use mst_roles::{Settled, is_had, trees_in_use};
 use std::alloc::{AllocError, Global};
 
 /// What is kept of a network's outcome, by names: the root priority vectors of bridges and the roles of logical ports in
@@ -38,17 +32,17 @@ impl Drop for Entries {
 /// Adds what is kept of a tree: nothing where no bridge has it.
 fn keep_tree(
     alloc: Global,
-    view: &View,
-    forest: &Forest,
+    plan: &Settled,
     used: &[bool; 4095],
     tree: Tree,
     trees: &mut Vec<TreeEntries>,
 ) -> Result<(), AllocError>
-    requires { AreInUse view.now used.now }
-    ensures { OnOk result ((net : Net) (numbers : Numbers) (is : IsForest net numbers forest.now) → AreOf net numbers view.now forest.now.regions
-        → flat_map (kept_in (map (λ b. b.name) view.now.bridges) (map (λ p. p.name) view.now.ports)) trees.new.items
-        ≡ flat_map (kept_in (map (λ b. b.name) view.now.bridges) (map (λ p. p.name) view.now.ports)) trees.old.items ++ entries_at (value_at net is.outcome) (subjects_in (names_of_bridges net) (names_of_ports net) tree)) }
+    requires { AreInUse plan.now.view used.now }
+    ensures { OnOk result (kept_of plan.now.view trees.new.items ≡ kept_of plan.now.view trees.old.items ++ entries_in plan.now.net (outcome_of plan.now) tree) }
 {
+    plan.known();
+    let view = plan.view();
+    let forest = plan.forest();
     if !is_had(used, tree) {
         return Ok(());
     }
@@ -58,19 +52,20 @@ fn keep_tree(
 }
 
 impl Entries {
-    /// What is kept of a network's outcome, by its view and its forest. `AllocError`: memory was wanted and refused.
+    /// What is kept of a settled network's outcome. `AllocError`: memory was wanted and refused.
     ///
     /// For each tree that some bridge has it goes once over the bridges and once over the logical ports.
-    pub fn new(alloc: Global, view: &View, forest: &Forest) -> Result<Entries, AllocError>
-        ensures { IfOk result (λ entries. (net : Net) (numbers : Numbers) (is : IsForest net numbers forest.now) → AreOf net numbers view.now forest.now.regions → AreEntries net is.outcome entries) }
+    pub fn new(alloc: Global, plan: &Settled) -> Result<Entries, AllocError>
+        ensures { IfOk result (λ entries. AreEntries plan.now.net (outcome_of plan.now) entries) }
     {
+        let view = plan.view();
         let used = trees_in_use(view);
         let bridges = bridge_names(alloc, view)?;
         let ports = port_names(alloc, view)?;
         let mut trees = Vec::new(alloc);
         for number in 0..4095 {
             if let Some(tree) = Tree::new(number) {
-                keep_tree(alloc, view, forest, &used, tree, &mut trees)?;
+                keep_tree(alloc, plan, &used, tree, &mut trees)?;
             }
         }
         Ok(Entries {

@@ -1,19 +1,15 @@
-//! The entries of a network's outcome, by its view and its forest.
+//! The entries of a network's outcome.
 ghost use Rattle.std.specs.Prelude.{◌≡◌, ◌++◌, OnOk, filter_map};
-ghost use Rattle.mst_roles.specs.net.Tables.{Net, Numbers};
-ghost use Rattle.mst_roles.specs.trees.Agrees.{AreOf};
-ghost use Rattle.mst_roles.specs.trees.Forest.{IsForest};
 ghost use Rattle.mst_roles.specs.trees.InUse.{AreInUse};
-ghost use Rattle.mst_changes.specs.Subjects.{subjects_in, bridge_names, port_names};
-ghost use Rattle.mst_changes.specs.Values.{value_at};
-ghost use Rattle.mst_changes.specs.Kept.{entries_at};
+ghost use Rattle.mst_roles.specs.trees.Settled.{outcome_of};
+ghost use Rattle.mst_changes.specs.Kept.{entries_in};
 ghost use Rattle.mst_changes.specs.Seen.{seen_vector, seen_bridge_entry, seen_port_entry};
 
 use crate::subject::{Entry, Item};
 use crate::value::VectorOrRole;
 use mst_ids::{BridgeNo, Tree};
 use mst_lag::{BridgeInView, PortInView, View};
-use mst_roles::{Forest, is_had, port_role};
+use mst_roles::{Forest, Settled, is_had, port_role};
 use std::alloc::AllocError;
 
 /// The root priority vector of a bridge in a tree, where the bridge is on and has the tree.
@@ -87,16 +83,17 @@ pub(crate) fn push_ports(
 
 /// Appends the entries of a tree: none where no bridge has it.
 pub(crate) fn push_tree(
-    view: &View,
-    forest: &Forest,
+    plan: &Settled,
     used: &[bool; 4095],
     tree: Tree,
     entries: &mut Vec<Entry>,
 ) -> Result<(), AllocError>
-    requires { AreInUse view.now used.now }
-    ensures { OnOk result ((net : Net) (numbers : Numbers) (is : IsForest net numbers forest.now) → AreOf net numbers view.now forest.now.regions
-        → entries.new.items ≡ entries.old.items ++ entries_at (value_at net is.outcome) (subjects_in (bridge_names net) (port_names net) tree)) }
+    requires { AreInUse plan.now.view used.now }
+    ensures { OnOk result (entries.new.items ≡ entries.old.items ++ entries_in plan.now.net (outcome_of plan.now) tree) }
 {
+    plan.known();
+    let view = plan.view();
+    let forest = plan.forest();
     if !is_had(used, tree) {
         return Ok(());
     }

@@ -18,7 +18,7 @@ pub use mst_bpdu::{
     Bpdu, BpduFault, Difference, Field, Value, push_comparison, push_fault, read_line,
 };
 pub use mst_report::{
-    Difference as NetworkDifference, Differing, Forest, Planner, Sweep, SweepPart, Unexplained,
-    asks_plan, forwards, laws as report_laws, trees_laws,
+    Difference as NetworkDifference, Differing, Forest, Planner, Settled, Sweep, SweepPart,
+    Unexplained, asks_plan, forwards, laws as report_laws, trees_laws,
 };
 pub use senders::sender;

@@ -23,9 +23,9 @@ use Rattle.mst_lag.specs.Aggregation.{same_name}
 use Rattle.mst_lag.specs.View.{LogicalPort, view_ports}
 use Rattle.mst_plan_text.specs.config.Regions.{first_of_region}
 use Rattle.mst_plan_text.specs.trees.Outcome.{Outcome}
-use Rattle.mst_plan_text.proofs.trees_text.Entries.{all_weaker, entries_found}
-use Rattle.mst_plan_text.proofs.trees_text.Lists.{all_contained, all_kept, all_there, some_is, no_some}
-use Rattle.mst_plan_text.proofs.trees_text.Views.{entry_there}
+use Rattle.mst_plan_text.proofs.trees_lemmas.Entries.{all_weaker, entries_found}
+use Rattle.mst_plan_text.proofs.trees_lemmas.Lists.{all_contained, all_kept, all_there, some_is, no_some}
+use Rattle.mst_plan_text.proofs.trees_lemmas.Views.{entry_there}
 use Rattle.mst_plan_text.specs.roles.Roles.{role_in, role_of}
 use Rattle.mst_plan_text.specs.roles.declared.kind.Role.{Role}
 use Rattle.mst_plan_text.specs.roles.declared.kind.Role.TheVariants.{Root, Designated, Alternate, Backup, Master, Disabled}

@@ -15,8 +15,8 @@ use Rattle.mst_lag.specs.Aggregation.{same_name}
 use Rattle.mst_lag.specs.Trees.{is_among}
 use Rattle.mst_plan_text.specs.config.Regions.{first_of_region}
 use Rattle.mst_plan_text.specs.trees.Outcome.{Outcome}
-use Rattle.mst_plan_text.proofs.trees_text.Entries.{all_weaker}
-use Rattle.mst_plan_text.proofs.trees_text.Lists.{all_there, all_contained}
+use Rattle.mst_plan_text.proofs.trees_lemmas.Entries.{all_weaker}
+use Rattle.mst_plan_text.proofs.trees_lemmas.Lists.{all_there, all_contained}
 use Rattle.mst_plan_text.specs.PlanText.{all_vids}
 use Rattle.mst_changes.specs.Subjects.{all_trees, bridge_names, port_in, port_names, names_of_either}
 use Rattle.mst_changes.specs.PortChanges.{port_changes}

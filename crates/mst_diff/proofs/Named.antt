@@ -26,10 +26,10 @@ use Rattle.mst_plan_text.specs.trees.InUse.{id_in}
 use Rattle.mst_plan_text.specs.trees.Msti.{has_msti}
 use Rattle.mst_plan_text.specs.trees.Outcome.{Outcome}
 use Rattle.mst_plan_text.specs.trees.Seen.{trees_at}
-use Rattle.mst_plan_text.proofs.trees_text.Entries.{all_weaker}
-use Rattle.mst_plan_text.proofs.trees_text.Lists.{mapped_twice}
-use Rattle.mst_plan_text.proofs.trees_text.Looking.{has_tree_at}
-use Rattle.mst_plan_text.proofs.trees_text.Seen.{SeenBridge, bridge_seen, bridges_seen}
+use Rattle.mst_plan_text.proofs.trees_lemmas.Entries.{all_weaker}
+use Rattle.mst_plan_text.proofs.trees_lemmas.Lists.{mapped_twice}
+use Rattle.mst_plan_text.proofs.trees_lemmas.Looking.{has_tree_at}
+use Rattle.mst_plan_text.proofs.trees_lemmas.Seen.{SeenBridge, bridge_seen, bridges_seen}
 use Rattle.mst_changes.specs.Subjects.{bridge_names}
 use Rattle.mst_diff.specs.declared.roots.Identified.{Identified}
 use Rattle.mst_diff.specs.Roots.{root_of, named_by, root_name}

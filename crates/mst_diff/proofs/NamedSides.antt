@@ -15,8 +15,8 @@ use Rattle.mst_lag.specs.Viewed.{Viewed}
 use Rattle.mst_plan_text.specs.trees.Agrees.{AreOf}
 use Rattle.mst_plan_text.specs.trees.Forest.{Forest}
 use Rattle.mst_plan_text.specs.trees.Outcome.{Outcome}
-use Rattle.mst_plan_text.proofs.trees_text.Entries.{all_weaker}
-use Rattle.mst_plan_text.proofs.trees_text.Lists.{all_there}
+use Rattle.mst_plan_text.proofs.trees_lemmas.Entries.{all_weaker}
+use Rattle.mst_plan_text.proofs.trees_lemmas.Lists.{all_there}
 use Rattle.mst_plan_text.specs.vlan.Reach.{bridges_on, lans_up, vid_links, AreReached}
 use Rattle.mst_plan_text.specs.vlan.declared.island.Island.{Island as IslandNos}
 use Rattle.mst_plan_text.proofs.vlan_lemmas.Renumbered.{bridge_listed}

@@ -13,8 +13,8 @@ use Rattle.mst_graph.proofs.Members.{from_filter, from_map}
 use Rattle.mst_net.specs.Tables.{Net, BridgeRow, IsNetwork}
 use Rattle.mst_net.proofs.Keys.{names}
 use Rattle.mst_plan_text.specs.trees.Outcome.{Outcome}
-use Rattle.mst_plan_text.proofs.trees_text.Entries.{all_weaker, entries_found}
-use Rattle.mst_plan_text.proofs.trees_text.Lists.{all_contained, all_mapped, all_there}
+use Rattle.mst_plan_text.proofs.trees_lemmas.Entries.{all_weaker, entries_found}
+use Rattle.mst_plan_text.proofs.trees_lemmas.Lists.{all_contained, all_mapped, all_there}
 use Rattle.mst_plan_text.specs.vlan.Reach.{AreIslandsOf, bridges_on, lans_up, vid_links}
 use Rattle.mst_plan_text.proofs.vlan_lemmas.Renumbered.{bridge_listed}
 use Rattle.mst_diff.specs.Reach.{has_any, island_words}

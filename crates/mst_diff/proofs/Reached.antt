@@ -9,7 +9,7 @@ use Rattle.mst_lag.specs.Viewed.{Viewed}
 use Rattle.mst_plan_text.specs.trees.Agrees.{AreOf}
 use Rattle.mst_plan_text.specs.trees.Forest.{Forest}
 use Rattle.mst_plan_text.specs.trees.Outcome.{Outcome}
-use Rattle.mst_plan_text.proofs.trees_text.Entries.{all_weaker}
+use Rattle.mst_plan_text.proofs.trees_lemmas.Entries.{all_weaker}
 use Rattle.mst_plan_text.specs.vlan.Reach.{bridges_on, lans_up}
 use Rattle.mst_plan_text.specs.Alike.{AreAlike}
 use Rattle.mst_plan_text.proofs.Classes.{links_shared}

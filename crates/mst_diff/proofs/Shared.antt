@@ -14,8 +14,8 @@ use Rattle.mst_plan_text.specs.config.Regions.{first_of_region}
 use Rattle.mst_plan_text.specs.trees.Agrees.{AreOf}
 use Rattle.mst_plan_text.specs.trees.Forest.{Forest, IsForest}
 use Rattle.mst_plan_text.specs.trees.Msti.{has_msti}
-use Rattle.mst_plan_text.proofs.trees_text.Entries.{all_weaker}
-use Rattle.mst_plan_text.proofs.trees_text.Lists.{all_there, kept_same}
+use Rattle.mst_plan_text.proofs.trees_lemmas.Entries.{all_weaker}
+use Rattle.mst_plan_text.proofs.trees_lemmas.Lists.{all_there, kept_same}
 use Rattle.mst_changes.specs.Subjects.{bridge_names}
 use Rattle.mst_changes.proofs.Lists.{filter_map-map}
 use Rattle.mst_diff.specs.declared.both.Both.{Both}

@@ -23,9 +23,9 @@ use Rattle.mst_lag.specs.Aggregation.{same_name}
 use Rattle.mst_plan_text.specs.config.Regions.{first_of_region}
 use Rattle.mst_plan_text.specs.trees.Apart.{Apart}
 use Rattle.mst_plan_text.specs.trees.Outcome.{Outcome}
-use Rattle.mst_plan_text.proofs.trees_text.Entries.{all_weaker, entries_found}
-use Rattle.mst_plan_text.proofs.trees_text.Lists.{apart_mapped}
-use Rattle.mst_plan_text.proofs.trees_text.Views.{bridges_rise}
+use Rattle.mst_plan_text.proofs.trees_lemmas.Entries.{all_weaker, entries_found}
+use Rattle.mst_plan_text.proofs.trees_lemmas.Lists.{apart_mapped}
+use Rattle.mst_plan_text.proofs.trees_lemmas.Views.{bridges_rise}
 use Rattle.mst_plan_text.specs.roles.Roles.{role_of}
 use Rattle.mst_plan_text.specs.roles.declared.kind.Role.{Role}
 use Rattle.mst_plan_text.specs.PlanText.{all_vids}

@@ -4,8 +4,8 @@ use Rattle.std.specs.Prelude.{if◌then◌else◌}
 use Rattle.std.specs.List.{AllByRecursion, Contains, flat_map}
 use Rattle.mst_ids.specs.Words.{after_space, listed}
 use Rattle.mst_graph.proofs.Members.{from_filter}
-use Rattle.mst_plan_text.proofs.trees_text.Entries.{all_weaker}
-use Rattle.mst_plan_text.proofs.trees_text.Lists.{all_contained, all_there}
+use Rattle.mst_plan_text.proofs.trees_lemmas.Entries.{all_weaker}
+use Rattle.mst_plan_text.proofs.trees_lemmas.Lists.{all_contained, all_there}
 use Rattle.mst_diff.specs.Reach.{has_any, without, sides_text}
 use Rattle.mst_diff.proofs.LastLine.{no_more}
 

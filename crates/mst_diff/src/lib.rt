@@ -15,7 +15,7 @@ pub use both::{Both, bridges_of_both};
 pub use diff::{Differing, push_diff};
 pub use mst_changes::{Entries, Planned, laws as changes_laws, push_changes};
 pub use mst_plan_text::{
-    Forest, Island, Role, bridge_id, copies, forwards, has_tree, is_had, is_member,
+    Forest, Island, Role, Settled, bridge_id, copies, forwards, has_tree, is_had, is_member,
     laws as plan_text_laws, mstis_in_use, numbers_of_vids, port_forwards, port_role,
     push_configuration, push_lags, push_plan, push_regions, push_tree, push_vlan, role, set_of,
     tables, text_laws, trees_in_use, trees_laws, vids, vlan_laws, vlan_sets,

@@ -9,4 +9,3 @@ pub mod Placed
 pub mod Parents
 pub mod SeenNotes
 pub mod SeenTree
-pub mod Known

@@ -2,12 +2,9 @@ ghost use Rattle.std.specs.List.{flat_map};
 ghost use Rattle.std.specs.Prelude.{◌≡◌, ◌<◌, ◌++◌, ℕ, List, false, length, OnOk, slice_index_or};
 ghost use Rattle.mst_lag.specs.declared.in_view.BridgeInView.{BridgeInView as BridgeOf};
 ghost use Rattle.mst_lag.specs.Viewed.{named_port};
-ghost use Rattle.mst_roles.specs.net.Tables.{Net, Numbers};
-ghost use Rattle.mst_roles.specs.trees.Agrees.{AreOf};
-ghost use Rattle.mst_roles.specs.trees.Forest.{IsForest};
 ghost use Rattle.mst_roles.specs.trees.Outcome.{trees_of};
+ghost use Rattle.mst_roles.specs.trees.Settled.{outcome_of};
 ghost use Rattle.mst_note_text.specs.AreDepths.{TreeDepths, AreDepths};
-ghost use Rattle.mst_note_text.specs.Known.{KnownForest};
 ghost use Rattle.mst_note_text.specs.NotesText.{trees_notes, restricted_note, AreNotes};
 ghost use Rattle.mst_note_text.specs.Placed.{ArePlaces};
 ghost use Rattle.mst_note_text.specs.SeenNotes.{is_had};
@@ -19,29 +16,23 @@ use crate::tree::push_tree;
 use mst_ids::Tree;
 use mst_lag::{PortInView, View};
 use mst_roles::trees_laws::nested;
-use mst_roles::{Forest, trees_in_use};
+use mst_roles::{Settled, trees_in_use};
 use std::alloc::{AllocError, Global};
 
-/// Appends the notes on a network, by its view and its settled trees: for each tree in rising order, and each
-/// bridge that is on and has it, in byte order of names, where hops bind, where age binds, and the external and
-/// internal path costs that 32 bits don't hold; then each logical port whose role is restricted. The view and the trees
-/// are to be of one network.
+/// Appends the notes on a settled network: for each tree in rising order, and each bridge that is on and has it, in byte
+/// order of names, where hops bind, where age binds, and the external and internal path costs that 32 bits don't hold;
+/// then each logical port whose role is restricted.
 ///
 /// `AllocError`: memory was wanted and refused; part of the notes may have been appended. For each tree that some
 /// bridge has it goes once over the bridges and once over the ports.
-pub fn push_notes(
-    alloc: Global,
-    view: &View,
-    forest: &Forest,
-    out: &mut Vec<u8>,
-) -> Result<(), AllocError>
-    requires { KnownForest view.now forest.now }
-    ensures { (net : Net) (numbers : Numbers) (is : IsForest net numbers forest.now) → AreOf net numbers view.now forest.now.regions
-        → OnOk result ((text : List ℕ) × AreNotes net is.outcome text × (out.new.items ≡ out.old.items ++ text)) }
+pub fn push_notes(alloc: Global, plan: &Settled, out: &mut Vec<u8>) -> Result<(), AllocError>
+    ensures { OnOk result ((text : List ℕ) × AreNotes plan.now.net (outcome_of plan.now) text × (out.new.items ≡ out.old.items ++ text)) }
 {
+    plan.known();
     notes();
+    let view = plan.view();
     let macs = macs_of(alloc, view.bridges())?;
-    push_trees(alloc, view, forest, &macs, &trees_of_view(view), out)?;
+    push_trees(alloc, plan, &macs, &trees_of_view(view), out)?;
     push_ports(view.ports(), out)
 }
 
@@ -58,24 +49,22 @@ fn push_ports(ports: &[PortInView], out: &mut Vec<u8>) -> Result<(), AllocError>
 /// Appends the notes on each tree that has a flag.
 fn push_trees(
     alloc: Global,
-    view: &View,
-    forest: &Forest,
+    plan: &Settled,
     macs: &Macs,
     had: &[bool],
     out: &mut Vec<u8>,
 ) -> Result<(), AllocError>
-    requires known { KnownForest view.now forest.now }
-    requires macs { ArePlaces (λ (b : BridgeOf). b.bridge.mac) view.now.bridges macs.now.entries }
+    requires macs { ArePlaces (λ (b : BridgeOf). b.bridge.mac) plan.now.view.bridges macs.now.entries }
     requires long { length had.now ≡ 4095 }
-    requires had { (tree : ℕ) → tree < 4095 → slice_index_or had.now tree false ≡ is_had view.now tree }
-    ensures { (net : Net) (numbers : Numbers) (is : IsForest net numbers forest.now) → AreOf net numbers view.now forest.now.regions
-        → (d : TreeDepths) → AreDepths (trees_of net is.outcome) d → OnOk result (out.new.items ≡ out.old.items ++ trees_notes net is.outcome d) }
+    requires had { (tree : ℕ) → tree < 4095 → slice_index_or had.now tree false ≡ is_had plan.now.view tree }
+    ensures { (d : TreeDepths) → AreDepths (trees_of plan.now.net (outcome_of plan.now)) d → OnOk result (out.new.items ≡ out.old.items ++ trees_notes plan.now.net (outcome_of plan.now) d) }
 {
+    plan.known();
     nested();
     for number in 0..4095 {
         if had[number] {
             let tree = Tree::new(number as u64).unwrap();
-            push_tree(alloc, view, forest, macs, tree, out)?;
+            push_tree(alloc, plan, macs, tree, out)?;
         }
     }
     Ok(())

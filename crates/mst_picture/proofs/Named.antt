@@ -17,10 +17,10 @@ use Rattle.mst_summary.specs.trees.Agrees.{AreOf}
 use Rattle.mst_summary.specs.trees.Forest.{Forest, IsForest}
 use Rattle.mst_summary.specs.trees.InUse.{id_in, seen_has}
 use Rattle.mst_summary.specs.trees.Outcome.{Outcome}
-use Rattle.mst_summary.proofs.in_use.Entries.{all_weaker}
-use Rattle.mst_summary.proofs.in_use.Lists.{all_passing, all_there, filter_mapped, mapped_twice}
-use Rattle.mst_summary.proofs.in_use.Looking.{has_tree_at}
-use Rattle.mst_summary.proofs.in_use.Seen.{SeenPort, bridge_seen, ports_seen}
+use Rattle.mst_summary.proofs.trees_lemmas.Entries.{all_weaker}
+use Rattle.mst_summary.proofs.trees_lemmas.Lists.{all_passing, all_there, filter_mapped, mapped_twice}
+use Rattle.mst_summary.proofs.trees_lemmas.Looking.{has_tree_at}
+use Rattle.mst_summary.proofs.trees_lemmas.Seen.{SeenPort, bridge_seen, ports_seen}
 use Rattle.mst_summary.specs.text.TreeText.{has_tree}
 use Rattle.mst_summary.proofs.roles_lemmas.Named.{named}
 use Rattle.mst_summary.proofs.diff_lemmas.Lists.{flat_map-same}

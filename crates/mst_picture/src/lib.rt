@@ -10,8 +10,9 @@ mod picture;
 mod pieces;
 
 pub use mst_summary::{
-    Differing, Entries, Forest, Planned, Role, changes_laws, diff_laws, forwards, has_tree,
-    laws as summary_laws, plan_text_laws, port_role, push_changes, push_configuration, push_diff,
-    push_lags, push_plan, push_regions, push_summary, push_tree, push_vlan, text_laws, trees_laws,
+    Differing, Entries, Forest, Planned, Role, Settled, changes_laws, diff_laws, forwards,
+    has_tree, laws as summary_laws, plan_text_laws, port_role, push_changes, push_configuration,
+    push_diff, push_lags, push_plan, push_regions, push_summary, push_tree, push_vlan, text_laws,
+    trees_laws,
 };
 pub use picture::push_picture;

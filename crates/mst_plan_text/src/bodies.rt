@@ -1,45 +1,37 @@
 ghost use Rattle.std.specs.Prelude.{◌≡◌, ◌<◌, IfOk, length, map, vec_len};
 ghost use Rattle.std.specs.List.{All};
-ghost use Rattle.mst_net.specs.Tables.{Net, Numbers};
-ghost use Rattle.mst_text.specs.trees.Agrees.{AreOf, Known};
-ghost use Rattle.mst_text.specs.trees.Forest.{IsForest};
+ghost use Rattle.mst_text.specs.trees.Settled.{outcome_of};
 ghost use Rattle.mst_text.specs.VlanText.{IsBody};
 ghost use Rattle.mst_plan_text.specs.Bodies.{AreBodiesAt};
 
 use mst_ids::Vid;
-use mst_lag::View;
-use mst_text::{Forest, push_body};
+use mst_text::{Settled, push_body};
 use std::alloc::{AllocError, Global};
 
 /// The bodies of the VIDs at these places, which are counted from 0.
 pub(crate) fn bodies(
     alloc: Global,
-    view: &View,
-    forest: &Forest,
+    plan: &Settled,
     places: &[usize],
 ) -> Result<Vec<Vec<u8>>, AllocError>
-    requires known { Known view.now forest.now.regions }
-    requires vids { All (λ place. place < 4094) places.now }
+    requires { All (λ place. place < 4094) places.now }
     ensures as_long { IfOk result (λ bodies. vec_len bodies ≡ length places.now) }
-    ensures bodies { IfOk result (λ bodies. (net : Net) (numbers : Numbers) (is : IsForest net numbers forest.now) → AreOf net numbers view.now forest.now.regions
-        → AreBodiesAt net is.outcome places.now (map (λ body. body.items) bodies.items)) }
+    ensures bodies { IfOk result (λ bodies. AreBodiesAt plan.now.net (outcome_of plan.now) places.now (map (λ body. body.items) bodies.items)) }
 {
     let mut bodies = Vec::new(alloc);
     for place in places {
         let vid = Vid::new(*place as u64 + 1).unwrap();
-        bodies.push(body(alloc, view, forest, vid)?)?;
+        bodies.push(body(alloc, plan, vid)?)?;
     }
     Ok(bodies)
 }
 
 /// The body of a VID.
-fn body(alloc: Global, view: &View, forest: &Forest, vid: Vid) -> Result<Vec<u8>, AllocError>
-    requires { Known view.now forest.now.regions }
-    ensures { IfOk result (λ text. (net : Net) (numbers : Numbers) (is : IsForest net numbers forest.now) → AreOf net numbers view.now forest.now.regions
-        → IsBody net is.outcome vid text.items) }
+fn body(alloc: Global, plan: &Settled, vid: Vid) -> Result<Vec<u8>, AllocError>
+    ensures { IfOk result (λ text. IsBody plan.now.net (outcome_of plan.now) vid text.items) }
 {
     let mut body = Vec::new(alloc);
-    push_body(alloc, view, forest, vid, &mut body)?;
+    push_body(alloc, plan, vid, &mut body)?;
     Ok(body)
 }
 

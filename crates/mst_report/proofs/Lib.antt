@@ -8,3 +8,4 @@ pub mod Staying
 pub mod SweepThere
 pub mod Swept
 pub mod SweptParts
+pub mod Told

@@ -15,7 +15,7 @@ mod texts;
 pub use answers::asks_plan;
 pub use differing::Difference;
 pub use explaining::Unexplained;
-pub use mst_picture::{Differing, Forest, Role, forwards, port_role, trees_laws};
+pub use mst_picture::{Differing, Forest, Role, Settled, forwards, port_role, trees_laws};
 pub use mst_sweep::SweepPart;
 pub use planner::Planner;
 pub use sweeping::Sweep;

@@ -17,7 +17,7 @@ use mst_ids::Tree;
 use mst_lag::View;
 use mst_lang::Edit;
 use mst_net::{Contents, Network, Refusal};
-use mst_picture::{Entries, Forest};
+use mst_picture::{Entries, Forest, Settled};
 use mst_sweep::SweepPart;
 use std::alloc::{AllocError, Global};
 use std::marker::Model;
@@ -131,6 +131,15 @@ impl Planner {
         ensures standing { standing_of result.now ≡ self.now.standing }
     {
         &self.plan().forest
+    }
+
+    /// The network with its view and its trees, settled, as one value: what is told of the network takes it.
+    pub fn settled(&self) -> Settled<'_>
+        requires { self.now.is_settled ≡ true }
+        ensures { result.net ≡ self.now.contents.net }
+    {
+        let plan = self.plan();
+        Settled::new(self.network(), &plan.view, &plan.forest)
     }
 
     /// How often a bridge was settled in a tree when the plan was brought up to the network last, and 0 where it never
@@ -304,8 +313,9 @@ impl Planner {
         requires { self.now.is_settled ≡ true }
         ensures { IfOk result (λ entries. IsMarkNow self.now.contents.net (kept_entries entries)) }
     {
-        let plan = self.plan();
-        let entries = Entries::new(self.alloc, &plan.view, &plan.forest)?;
+        let plan = self.settled();
+        plan.known();
+        let entries = Entries::new(self.alloc, &plan)?;
         Ok(entries)
     }
 

@@ -10,8 +10,8 @@ use mst_ids::{Name, Tree, Vid};
 use mst_lang::Query;
 use mst_note_text::push_notes;
 use mst_picture::{
-    Entries, Planned, push_changes, push_configuration, push_lags, push_plan, push_regions,
-    push_tree, push_vlan,
+    Entries, push_changes, push_configuration, push_lags, push_plan, push_regions, push_tree,
+    push_vlan,
 };
 use mst_save::save_text;
 use std::alloc::AllocError;
@@ -42,9 +42,10 @@ impl Planner {
         requires { self.now.is_settled ≡ true }
         ensures { IfOk result (λ text. Answers ShowPlan (planned_state self.now) (Ok text.items)) }
     {
-        let plan = self.plan();
+        let plan = self.settled();
+        plan.known();
         let mut text = Vec::new(self.alloc());
-        push_plan(self.alloc(), &plan.view, &plan.forest, &mut text)?;
+        push_plan(self.alloc(), &plan, &mut text)?;
         Ok(text)
     }
 
@@ -53,9 +54,10 @@ impl Planner {
         requires { self.now.is_settled ≡ true }
         ensures { IfOk result (λ text. Answers (ShowTree tree) (planned_state self.now) (Ok text.items)) }
     {
-        let plan = self.plan();
+        let plan = self.settled();
+        plan.known();
         let mut text = Vec::new(self.alloc());
-        push_tree(&plan.view, &plan.forest, tree, &mut text)?;
+        push_tree(&plan, tree, &mut text)?;
         Ok(text)
     }
 
@@ -64,9 +66,10 @@ impl Planner {
         requires { self.now.is_settled ≡ true }
         ensures { IfOk result (λ text. Answers (ShowVlan vid) (planned_state self.now) (Ok text.items)) }
     {
-        let plan = self.plan();
+        let plan = self.settled();
+        plan.known();
         let mut text = Vec::new(self.alloc());
-        push_vlan(self.alloc(), &plan.view, &plan.forest, vid, &mut text)?;
+        push_vlan(self.alloc(), &plan, vid, &mut text)?;
         Ok(text)
     }
 
@@ -75,9 +78,10 @@ impl Planner {
         requires { self.now.is_settled ≡ true }
         ensures { IfOk result (λ text. Answers ShowNotes (planned_state self.now) (Ok text.items)) }
     {
-        let plan = self.plan();
+        let plan = self.settled();
+        plan.known();
         let mut text = Vec::new(self.alloc());
-        push_notes(self.alloc(), &plan.view, &plan.forest, &mut text)?;
+        push_notes(self.alloc(), &plan, &mut text)?;
         Ok(text)
     }
 
@@ -138,13 +142,10 @@ impl Planner {
         requires text { HasText Changes (planned_state self.now) }
         ensures { IfOk result (λ text. Answers Changes (planned_state self.now) (Ok text.items)) }
     {
-        let plan = self.plan();
-        let now = Planned {
-            view: &plan.view,
-            forest: &plan.forest,
-        };
+        let plan = self.settled();
+        plan.known();
         let mut text = Vec::new(self.alloc());
-        push_changes(self.alloc(), mark, now, &mut text)?;
+        push_changes(self.alloc(), mark, &plan, &mut text)?;
         Ok(text)
     }
 }

@@ -15,8 +15,9 @@ mod summary;
 
 pub use kept::{kept_for, ports_by_lan};
 pub use mst_diff::{
-    Differing, Entries, Forest, Planned, Role, bridge_id, changes_laws, forwards, has_tree,
-    laws as diff_laws, plan_text_laws, port_role, push_changes, push_configuration, push_diff,
-    push_lags, push_plan, push_regions, push_tree, push_vlan, role, root, text_laws, trees_laws,
+    Differing, Entries, Forest, Planned, Role, Settled, bridge_id, changes_laws, forwards,
+    has_tree, laws as diff_laws, plan_text_laws, port_role, push_changes, push_configuration,
+    push_diff, push_lags, push_plan, push_regions, push_tree, push_vlan, role, root, text_laws,
+    trees_laws,
 };
 pub use summary::push_summary;

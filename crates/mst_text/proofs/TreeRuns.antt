@@ -75,13 +75,13 @@ module _ {A B : Type 0} (of : A → B → Bool) (Before : A → A → Type 0) (B
           }
 
   -- a text of each owner with its run at the front of what is left is that of each with all that it owns
-  pub by_runs : (text : A → List B → List ℕ) (all : List A → List B → List ℕ) → ((ps : List B) → all [] ps ≡ [])
+  pub runs_of : (text : A → List B → List ℕ) (all : List A → List B → List ℕ) → ((ps : List B) → all [] ps ≡ [])
       → ((b : A) (bs : List A) (ps : List B) → all (b ∷ bs) ps ≡ text b (take (prefix_len (of b) ps) ps) ++ all bs (drop (prefix_len (of b) ps) ps))
       → (bs : List A) (ps : List B) → Apart Before bs → AllByRecursion (Owned bs) ps → Apart Behind ps → all bs ps ≡ flat_map (λ b. text b (filter (of b) ps)) bs
-  by_runs text all none more [] ps rise owned turn = none ps
-  by_runs text all none more (b ∷ bs) ps rise owned turn =
+  runs_of text all none more [] ps rise owned turn = none ps
+  runs_of text all none more (b ∷ bs) ps rise owned turn =
       let r = is_run b bs ps rise owned turn in
       let rest = drop (prefix_len (of b) ps) ps in
-      let others = by_runs text all none more bs rest rise.1 r.owned r.apart
+      let others = runs_of text all none more bs rest rise.1 r.owned r.apart
       ∙ flat_map_alike (λ c. text c (filter (of c) rest)) (λ c. text c (filter (of c) ps)) bs (all_weaker _ _ (λ c e. ap (text c) e) bs r.others) in
       more b bs ps ∙ (λ i. text b (r.own i) ++ others i)

@@ -6,7 +6,7 @@ pub use Rattle.mst_vlan.specs.roles as roles
 pub use Rattle.mst_vlan.specs as vlan
 pub mod TreeLines
 pub mod TreeText
-pub mod TreeSeen
+pub mod TreeRuns
 pub mod VlanLines
 pub mod VlanText
 pub mod VlanSeen

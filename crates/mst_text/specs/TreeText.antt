@@ -25,9 +25,11 @@ abbrev pub port_text : Net → Outcome → ℕ → LogicalPort → List ℕ
 port_text net o tree p = option_map_or (port_line (by_tree net) tree p) (role_in net o tree p) []
 
 -- the lines of a bridge: its own, and one for each of its logical ports
+abbrev pub own_line : Net → Outcome → ℕ → List ℕ × BridgeRow → List ℕ
+own_line net o tree e = bridge_line (by_tree net) tree e.0 e.1 (o.cist.vector e.0) ((o.msti tree).vector e.0)
+
 abbrev pub bridge_text : Net → Outcome → ℕ → List ℕ × BridgeRow → List ℕ
-bridge_text net o tree e =
-    bridge_line (by_tree net) tree e.0 e.1 (o.cist.vector e.0) ((o.msti tree).vector e.0) ++ flat_map (port_text net o tree) (ports_of net e.0)
+bridge_text net o tree e = own_line net o tree e ++ flat_map (port_text net o tree) (ports_of net e.0)
 
 -- the heading, and the lines of each bridge that has the tree, in byte order of names
 abbrev pub tree_text : Net → Outcome → ℕ → List ℕ

@@ -28,8 +28,9 @@ pub use configuration::push_configuration;
 pub use islands::bridge_names;
 pub use lags::push_lags;
 pub use mst_vlan::{
-    Forest, Island, Role, bridge_id, forwards, has_tree, is_had, is_member, laws as vlan_laws,
-    mstis_in_use, port_forwards, port_role, reach, role, trees_in_use, trees_laws,
+    Forest, Island, Role, Settled, bridge_id, forwards, has_tree, is_had, is_member,
+    laws as vlan_laws, mstis_in_use, port_forwards, port_role, reach, role, trees_in_use,
+    trees_laws,
 };
 pub use regions::push_regions;
 pub use tree::push_tree;

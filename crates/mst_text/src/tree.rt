@@ -1,37 +1,30 @@
 ghost use Rattle.std.specs.Prelude.{◌≡◌, ◌++◌, OnOk};
-ghost use Rattle.std.specs.List.{flat_map};
-ghost use Rattle.mst_net.specs.Tables.{Net, Numbers};
-ghost use Rattle.mst_vlan.specs.trees.Agrees.{AreOf};
-ghost use Rattle.mst_vlan.specs.trees.Forest.{IsForest};
+ghost use Rattle.std.specs.List.{AllByRecursion, Contains, flat_map};
+ghost use Rattle.mst_vlan.specs.trees.Settled.{outcome_of};
 ghost use Rattle.mst_text.specs.TreeLines.{heading};
-ghost use Rattle.mst_text.specs.TreeSeen.{run_of, seen_bridge, seen_bridges, seen_port};
+ghost use Rattle.mst_text.specs.TreeRuns.{run_of, bridge_with, by_runs, port_of};
 ghost use Rattle.mst_text.specs.TreeText.{tree_text};
 
 use crate::tree_bridge::push_own_line;
 use crate::tree_port::push_port;
 use itoa::Buffer;
 use mst_ids::{Name, Tree, push_line};
-use mst_lag::{BridgeInView, PortInView, View};
-use mst_vlan::{Forest, has_tree};
+use mst_lag::{BridgeInView, PortInView};
+use mst_vlan::Settled;
 use std::alloc::AllocError;
 
-/// Appends the text of a tree, by the view of a network and the forest that was settled of it: a heading, then for each
-/// bridge that has the tree, in byte order of names, its root priority vector, and the roles of its logical ports by
-/// number. Of a tree that no bridge has it is the heading alone.
+/// Appends the text of a tree of a settled network: a heading, then for each bridge that has the tree, in byte order of
+/// names, its root priority vector, and the roles of its logical ports by number. Of a tree that no bridge has it is the
+/// heading alone.
 ///
 /// It goes over the bridges and the ports once. `AllocError`: memory was wanted and refused; part of the text may have
 /// been appended.
-pub fn push_tree(
-    view: &View,
-    forest: &Forest,
-    tree: Tree,
-    out: &mut Vec<u8>,
-) -> Result<(), AllocError>
-    ensures { (net : Net) (numbers : Numbers) (is : IsForest net numbers forest.now) → AreOf net numbers view.now forest.now.regions
-        → OnOk result (out.new.items ≡ out.old.items ++ tree_text net is.outcome tree) }
+pub fn push_tree(plan: &Settled, tree: Tree, out: &mut Vec<u8>) -> Result<(), AllocError>
+    ensures { OnOk result (out.new.items ≡ out.old.items ++ tree_text plan.now.net (outcome_of plan.now) tree) }
 {
+    plan.known();
     push_heading(tree, out)?;
-    push_bridges(view, forest, tree, out)
+    push_bridges(plan, tree, out)
 }
 
 /// Appends the heading of a tree's text.
@@ -45,18 +38,13 @@ fn push_heading(tree: Tree, out: &mut Vec<u8>) -> Result<(), AllocError>
 
 /// Appends the lines of the bridges that have the tree. The ports of a bridge are a run of the view's ports, since
 /// these come by the names of their bridges.
-fn push_bridges(
-    view: &View,
-    forest: &Forest,
-    tree: Tree,
-    out: &mut Vec<u8>,
-) -> Result<(), AllocError>
-    ensures { OnOk result (out.new.items ≡ out.old.items ++ seen_bridges view.now forest.now tree view.now.bridges view.now.ports) }
+fn push_bridges(plan: &Settled, tree: Tree, out: &mut Vec<u8>) -> Result<(), AllocError>
+    ensures { OnOk result (out.new.items ≡ out.old.items ++ by_runs (bridge_with plan.now tree) plan.now.view.bridges plan.now.view.ports) }
 {
-    let mut rest = view.ports();
-    for bridge in view.bridges() {
+    let mut rest = plan.view().ports();
+    for bridge in plan.view().bridges() {
         let (own, others) = rest.split_at(run(&bridge.name, rest));
-        push_bridge(view, forest, tree, bridge, own, out)?;
+        push_bridge(plan, tree, bridge, own, out)?;
         rest = others;
     }
     Ok(())
@@ -74,34 +62,35 @@ fn run(bridge: &Name, ports: &[PortInView]) -> usize
 
 /// Appends the lines of a bridge and of these ports, if the bridge has the tree.
 fn push_bridge(
-    view: &View,
-    forest: &Forest,
+    plan: &Settled,
     tree: Tree,
     bridge: &BridgeInView,
     ports: &[PortInView],
     out: &mut Vec<u8>,
 ) -> Result<(), AllocError>
-    ensures { OnOk result (out.new.items ≡ out.old.items ++ seen_bridge view.now forest.now tree bridge.now ports.now) }
+    requires bridge { Contains plan.now.view.bridges bridge.now }
+    requires ports { AllByRecursion (Contains plan.now.view.ports) ports.now }
+    ensures { OnOk result (out.new.items ≡ out.old.items ++ bridge_with plan.now tree bridge.now ports.now) }
 {
-    if !has_tree(view, bridge.bridge.number, tree) {
+    if !plan.has_tree(tree, bridge) {
         return Ok(());
     }
-    push_own_line(view, forest, tree, bridge, out)?;
-    push_ports(view, forest, tree, ports, out)
+    push_own_line(plan, tree, bridge, out)?;
+    push_ports(plan, tree, ports, out)
 }
 
 /// Appends the lines of these ports.
 fn push_ports(
-    view: &View,
-    forest: &Forest,
+    plan: &Settled,
     tree: Tree,
     ports: &[PortInView],
     out: &mut Vec<u8>,
 ) -> Result<(), AllocError>
-    ensures { OnOk result (out.new.items ≡ out.old.items ++ flat_map (seen_port view.now forest.now tree) ports.now) }
+    requires { AllByRecursion (Contains plan.now.view.ports) ports.now }
+    ensures { OnOk result (out.new.items ≡ out.old.items ++ flat_map (port_of plan.now tree) ports.now) }
 {
     for port in ports {
-        push_port(view, forest, tree, port, out)?;
+        push_port(plan, tree, port, out)?;
     }
     Ok(())
 }

@@ -1,32 +1,33 @@
 ghost use Rattle.std.specs.Prelude.{◌≡◌, ◌++◌, OnOk};
-ghost use Rattle.mst_vlan.specs.trees.Forest.{msti_vector};
-ghost use Rattle.mst_vlan.specs.settle.Assignment.{vector_of};
+ghost use Rattle.std.specs.List.{Contains};
+ghost use Rattle.mst_lag.specs.Viewed.{named_bridge};
+ghost use Rattle.mst_vlan.specs.trees.Settled.{outcome_of};
 ghost use Rattle.mst_text.specs.TreeLines.{off_line, cist_line, msti_line, vector_line};
-ghost use Rattle.mst_text.specs.TreeSeen.{seen_line};
+ghost use Rattle.mst_text.specs.TreeText.{own_line};
 
 use itoa::Buffer;
 use mst_ids::{BridgeId, Name, Tree, push_line};
-use mst_lag::{BridgeInView, View};
+use mst_lag::BridgeInView;
 use mst_lang::Power;
 use mst_vector::{CistVector, MstiVector};
-use mst_vlan::{Forest, bridge_id};
+use mst_vlan::{Settled, bridge_id};
 use std::alloc::AllocError;
 
 /// Appends the line of a bridge: that it is off, or its root priority vector in the tree.
 pub(crate) fn push_own_line(
-    view: &View,
-    forest: &Forest,
+    plan: &Settled,
     tree: Tree,
     bridge: &BridgeInView,
     out: &mut Vec<u8>,
 ) -> Result<(), AllocError>
-    ensures { OnOk result (out.new.items ≡ out.old.items ++ seen_line view.now forest.now tree bridge.now) }
+    requires { Contains plan.now.view.bridges bridge.now }
+    ensures { OnOk result (out.new.items ≡ out.old.items ++ own_line plan.now.net (outcome_of plan.now) tree (named_bridge bridge.now)) }
 {
     match bridge.bridge.power {
         Power::Off => push_off(&bridge.name, out),
         Power::On => {
-            let id = bridge_id(view.settings(), tree, bridge);
-            push_vector(forest, tree, bridge, id, out)
+            let id = bridge_id(plan.settings(), tree, bridge);
+            push_vector(plan, tree, bridge, id, out)
         }
     }
 }
@@ -41,22 +42,22 @@ fn push_off(bridge: &Name, out: &mut Vec<u8>) -> Result<(), AllocError>
 
 /// Appends the line of a bridge of this identifier with its root priority vector.
 fn push_vector(
-    forest: &Forest,
+    plan: &Settled,
     tree: Tree,
     bridge: &BridgeInView,
     id: BridgeId,
     out: &mut Vec<u8>,
 ) -> Result<(), AllocError>
-    ensures { OnOk result (out.new.items ≡ out.old.items ++ vector_line tree bridge.now.name id (vector_of forest.now.cist bridge.now.bridge.number) (msti_vector forest.now tree bridge.now.bridge.number)) }
+    requires { Contains plan.now.view.bridges bridge.now }
+    ensures { OnOk result (out.new.items ≡ out.old.items ++ vector_line tree bridge.now.name id ((outcome_of plan.now).cist.vector bridge.now.name) (((outcome_of plan.now).msti tree).vector bridge.now.name)) }
 {
-    let number = bridge.bridge.number;
     if tree.value() == 0 {
-        match forest.cist(number) {
+        match plan.cist(bridge) {
             None => Ok(()),
             Some(vector) => push_in_cist(&bridge.name, id, &vector, out),
         }
     } else {
-        match forest.msti(tree, number) {
+        match plan.msti(tree, bridge) {
             None => Ok(()),
             Some(vector) => push_in_msti(&bridge.name, id, &vector, out),
         }

@@ -1,31 +1,32 @@
 ghost use Rattle.std.specs.Prelude.{◌≡◌, ◌++◌, ◌∷◌, [], OnOk, codes, decimal};
+ghost use Rattle.std.specs.List.{Contains};
 ghost use Rattle.mst_lag.specs.Viewed.{named_port};
 ghost use Rattle.mst_vlan.specs.roles.Names.{role_text};
 ghost use Rattle.mst_ids.specs.Words.{line};
 ghost use Rattle.mst_text.specs.TreeLines.{cist_words, msti_words, port_line};
-ghost use Rattle.mst_text.specs.TreeSeen.{seen_port};
+ghost use Rattle.mst_text.specs.TreeRuns.{port_of};
 
 use itoa::Buffer;
 use mst_ids::{Tree, push_line};
-use mst_lag::{PortInView, View};
+use mst_lag::PortInView;
 use mst_net::TreeSettings;
 use mst_vector::{CistPort, MstiPort};
-use mst_vlan::{Forest, Role, cist_port, msti_port, port_role};
+use mst_vlan::{Role, Settled, cist_port, msti_port, role_of};
 use std::alloc::AllocError;
 
 /// Appends the line of a logical port, if its bridge has the tree.
 pub(crate) fn push_port(
-    view: &View,
-    forest: &Forest,
+    plan: &Settled,
     tree: Tree,
     port: &PortInView,
     out: &mut Vec<u8>,
 ) -> Result<(), AllocError>
-    ensures { OnOk result (out.new.items ≡ out.old.items ++ seen_port view.now forest.now tree port.now) }
+    requires { Contains plan.now.view.ports port.now }
+    ensures { OnOk result (out.new.items ≡ out.old.items ++ port_of plan.now tree port.now) }
 {
-    match port_role(view, forest, port, tree) {
+    match role_of(plan, port, tree) {
         None => Ok(()),
-        Some(role) => push_with_role(view.settings(), tree, port, role, out),
+        Some(role) => push_with_role(plan.settings(), tree, port, role, out),
     }
 }
 

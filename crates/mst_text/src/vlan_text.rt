@@ -1,7 +1,5 @@
 ghost use Rattle.std.specs.Prelude.{◌≡◌, ℕ, List, ◌++◌, OnOk};
-ghost use Rattle.mst_net.specs.Tables.{Net, Numbers};
-ghost use Rattle.mst_vlan.specs.trees.Agrees.{AreOf, Known};
-ghost use Rattle.mst_vlan.specs.trees.Forest.{IsForest};
+ghost use Rattle.mst_vlan.specs.trees.Settled.{outcome_of};
 ghost use Rattle.mst_text.specs.VlanLines.{heading};
 ghost use Rattle.mst_text.specs.VlanText.{IsBody, IsVlanText};
 
@@ -9,8 +7,7 @@ use crate::active::push_active;
 use crate::islands::push_islands;
 use itoa::Buffer;
 use mst_ids::{Vid, push_line};
-use mst_lag::View;
-use mst_vlan::{Forest, active_ports, reach_from};
+use mst_vlan::{Settled, active_ports, reach_from};
 use std::alloc::{AllocError, Global};
 
 /// Appends the text of a VID: a heading, and then its body.
@@ -19,17 +16,14 @@ use std::alloc::{AllocError, Global};
 /// been appended.
 pub fn push_vlan(
     alloc: Global,
-    view: &View,
-    forest: &Forest,
+    plan: &Settled,
     vid: Vid,
     out: &mut Vec<u8>,
 ) -> Result<(), AllocError>
-    requires { Known view.now forest.now.regions }
-    ensures { (net : Net) (numbers : Numbers) (is : IsForest net numbers forest.now) → AreOf net numbers view.now forest.now.regions
-        → OnOk result ((text : List ℕ) × IsVlanText net is.outcome vid text × (out.new.items ≡ out.old.items ++ text)) }
+    ensures { OnOk result ((text : List ℕ) × IsVlanText plan.now.net (outcome_of plan.now) vid text × (out.new.items ≡ out.old.items ++ text)) }
 {
     push_heading(vid, out)?;
-    push_body(alloc, view, forest, vid, out)
+    push_body(alloc, plan, vid, out)
 }
 
 /// Appends the heading of a VID's text.
@@ -48,17 +42,16 @@ fn push_heading(vid: Vid, out: &mut Vec<u8>) -> Result<(), AllocError>
 /// been appended.
 pub fn push_body(
     alloc: Global,
-    view: &View,
-    forest: &Forest,
+    plan: &Settled,
     vid: Vid,
     out: &mut Vec<u8>,
 ) -> Result<(), AllocError>
-    requires { Known view.now forest.now.regions }
-    ensures { (net : Net) (numbers : Numbers) (is : IsForest net numbers forest.now) → AreOf net numbers view.now forest.now.regions
-        → OnOk result ((body : List ℕ) × IsBody net is.outcome vid body × (out.new.items ≡ out.old.items ++ body)) }
+    ensures { OnOk result ((body : List ℕ) × IsBody plan.now.net (outcome_of plan.now) vid body × (out.new.items ≡ out.old.items ++ body)) }
 {
-    let ports = active_ports(alloc, view, forest, vid)?;
+    plan.known();
+    let view = plan.view();
+    let ports = active_ports(alloc, plan, vid)?;
     push_active(view, vid, ports.as_slice(), out)?;
-    let islands = reach_from(alloc, view, forest, ports.as_slice(), vid)?;
+    let islands = reach_from(alloc, plan, ports.as_slice(), vid)?;
     push_islands(alloc, view, islands.as_slice(), out)
 }

@@ -16,3 +16,4 @@ pub mod Ground
 pub mod Mstis
 pub mod Bound
 pub mod Forest
+pub mod Settled

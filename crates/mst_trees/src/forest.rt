@@ -200,6 +200,13 @@ impl Forest {
         self.regions.same(a, b)
     }
 
+    /// The regions for which the trees are settled.
+    pub fn regions(&self) -> &Regions
+        ensures { result.now ≡ self.now.regions }
+    {
+        &self.regions
+    }
+
     /// Whether a port of the view is enabled and its LAN belongs to the region of its bridge, by the regions and the
     /// CIST of this forest: then MSTIs have it.
     pub fn is_internal(&self, view: &View, port: &PortInView) -> bool

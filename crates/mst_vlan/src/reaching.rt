@@ -4,15 +4,16 @@ ghost use Rattle.mst_ids.specs.Vids.{has};
 ghost use Rattle.mst_roles.specs.net.Tables.{Net, Numbers};
 ghost use Rattle.mst_roles.specs.trees.Agrees.{AreOf, Known};
 ghost use Rattle.mst_roles.specs.trees.Forest.{IsForest};
+ghost use Rattle.mst_roles.specs.trees.Settled.{outcome_of};
 ghost use Rattle.mst_vlan.specs.Reach.{AreReached};
 ghost use Rattle.mst_vlan.specs.Seen.{seen_active, seen_bridges, seen_lans, seen_link, seen_member, seen_links, as_island};
 
 use crate::island::{BridgeList, Island, LanList};
-use crate::topology::active_ports;
+use crate::topology::forwarding_ports;
 use mst_graph::{Link, islands};
 use mst_ids::{BridgeNo, LanNo, Vid};
 use mst_lag::{PortInView, View};
-use mst_roles::Forest;
+use mst_roles::{Forest, Settled};
 use std::alloc::{AllocError, Global};
 
 /// The bridges that are on.
@@ -107,23 +108,25 @@ pub fn reach(
     requires { Known view.now forest.now.regions }
     ensures { IfOk result (λ islands. (net : Net) (numbers : Numbers) (is : IsForest net numbers forest.now) → AreOf net numbers view.now forest.now.regions → AreReached net numbers is.outcome vid islands.items) }
 {
-    let active = active_ports(alloc, view, forest, vid)?;
-    reach_from(alloc, view, forest, active.as_slice(), vid)
+    let active = forwarding_ports(alloc, view, forest, vid)?;
+    let joined = joined(alloc, view, forest, active.as_slice(), vid)?;
+    listed(alloc, joined.as_slice())
 }
 
-/// The islands of a VID, as `reach` gives them, where these are its active ports. `AllocError`: memory was wanted and
-/// refused.
+/// The islands of a VID in a settled network, as `reach` gives them, where these are its active ports. `AllocError`:
+/// memory was wanted and refused.
 pub fn reach_from(
     alloc: Global,
-    view: &View,
-    forest: &Forest,
+    plan: &Settled,
     active: &[PortInView],
     vid: Vid,
 ) -> Result<Vec<Island>, AllocError>
-    requires known { Known view.now forest.now.regions }
-    requires active { active.now ≡ seen_active view.now forest.now vid }
-    ensures { IfOk result (λ islands. (net : Net) (numbers : Numbers) (is : IsForest net numbers forest.now) → AreOf net numbers view.now forest.now.regions → AreReached net numbers is.outcome vid islands.items) }
+    requires { active.now ≡ seen_active plan.now.view plan.now.forest vid }
+    ensures { IfOk result (λ islands. AreReached plan.now.net plan.now.numbers (outcome_of plan.now) vid islands.items) }
 {
+    plan.known();
+    let view = plan.view();
+    let forest = plan.forest();
     let joined = joined(alloc, view, forest, active, vid)?;
     listed(alloc, joined.as_slice())
 }

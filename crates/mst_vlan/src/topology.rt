@@ -1,11 +1,9 @@
 ghost use Rattle.std.specs.Prelude.{◌≡◌, Some, IfOk, map};
 ghost use Rattle.std.specs.FinMap as fin;
 ghost use Rattle.std.specs.Option.{ForSome};
-ghost use Rattle.mst_roles.specs.net.Tables.{Net, Numbers};
 ghost use Rattle.mst_lag.specs.View.{IsUnrestricted};
 ghost use Rattle.mst_lag.specs.Viewed.{named_port};
-ghost use Rattle.mst_roles.specs.trees.Agrees.{AreOf};
-ghost use Rattle.mst_roles.specs.trees.Forest.{IsForest};
+ghost use Rattle.mst_roles.specs.trees.Settled.{outcome_of};
 ghost use Rattle.mst_roles.specs.Seen.{seen_tree};
 ghost use Rattle.mst_vlan.specs.Active.{active_ports as active_in, JoinWithoutLoop};
 ghost use Rattle.mst_vlan.specs.Seen.{seen_active};
@@ -13,26 +11,20 @@ ghost use Rattle.mst_vlan.specs.Seen.{seen_active};
 use crate::laws::joined_without_loop;
 use mst_ids::{BridgeNo, PortNo, Tree, Vid};
 use mst_lag::{PortInView, View};
-use mst_roles::{Forest, forwards_in, vid_tree};
+use mst_roles::{Forest, Settled, forwards_in, vid_tree};
 use std::alloc::{AllocError, Global};
 
-/// The active topology of a VID: the logical ports that forward in their own bridge's tree of it, in the order of
-/// the view. Where no port's role is restricted they join what is enabled, without a loop (802.1Q-2022, 8.4).
+/// The active topology of a VID in a settled network: the logical ports that forward in their own bridge's tree of it, in
+/// the order of the view. Where no port's role is restricted they join what is enabled, without a loop (802.1Q-2022, 8.4).
 /// For n ports it takes n steps. `AllocError`: memory was wanted and refused.
-pub fn active_ports(
-    alloc: Global,
-    view: &View,
-    forest: &Forest,
-    vid: Vid,
-) -> Result<Vec<PortInView>, AllocError>
-    ensures seen { IfOk result (λ ports. ports.items ≡ seen_active view.now forest.now vid) }
-    ensures named { IfOk result (λ ports. (net : Net) (numbers : Numbers) (is : IsForest net numbers forest.now) → AreOf net numbers view.now forest.now.regions
-        → map named_port ports.items ≡ active_in net is.outcome vid) }
-    ensures joined { IfOk result (λ ports. (net : Net) (numbers : Numbers) → IsForest net numbers forest.now → AreOf net numbers view.now forest.now.regions
-        → IsUnrestricted net → JoinWithoutLoop net (map named_port ports.items)) }
+pub fn active_ports(alloc: Global, plan: &Settled, vid: Vid) -> Result<Vec<PortInView>, AllocError>
+    ensures seen { IfOk result (λ ports. ports.items ≡ seen_active plan.now.view plan.now.forest vid) }
+    ensures named { IfOk result (λ ports. map named_port ports.items ≡ active_in plan.now.net (outcome_of plan.now) vid) }
+    ensures joined { IfOk result (λ ports. IsUnrestricted plan.now.net → JoinWithoutLoop plan.now.net (map named_port ports.items)) }
 {
+    plan.known();
     joined_without_loop();
-    forwarding_ports(alloc, view, forest, vid)
+    forwarding_ports(alloc, plan.view(), plan.forest(), vid)
 }
 
 /// The tree that a bridge has a VID in, where that of one bridge is known, if it is this one.
@@ -54,7 +46,7 @@ fn tree_beside(view: &View, known: Option<(BridgeNo, Tree)>, bridge: BridgeNo, v
 
 /// The ports of the view that forward for a VID. The ports of a bridge come one after another, so its tree of the VID is
 /// looked up once.
-fn forwarding_ports(
+pub(crate) fn forwarding_ports(
     alloc: Global,
     view: &View,
     forest: &Forest,
@@ -83,19 +75,13 @@ fn numbers_of(alloc: Global, ports: &[PortInView]) -> Result<Vec<PortNo>, AllocE
 
 /// The active topology of a VID, as `active_ports` gives it, by the numbers of ports. For n ports it takes n steps.
 /// `AllocError`: memory was wanted and refused.
-pub fn active(
-    alloc: Global,
-    view: &View,
-    forest: &Forest,
-    vid: Vid,
-) -> Result<Vec<PortNo>, AllocError>
-    ensures seen { IfOk result (λ ports. ports.items ≡ map (λ p. p.number) (seen_active view.now forest.now vid)) }
-    ensures named { IfOk result (λ ports. (net : Net) (numbers : Numbers) (is : IsForest net numbers forest.now) → AreOf net numbers view.now forest.now.regions
-        → map Some ports.items ≡ map (λ p. fin.get numbers.ports p.name) (active_in net is.outcome vid)) }
-    ensures joined { IfOk result (λ _. (net : Net) (numbers : Numbers) (is : IsForest net numbers forest.now) → AreOf net numbers view.now forest.now.regions
-        → IsUnrestricted net → JoinWithoutLoop net (active_in net is.outcome vid)) }
+pub fn active(alloc: Global, plan: &Settled, vid: Vid) -> Result<Vec<PortNo>, AllocError>
+    ensures seen { IfOk result (λ ports. ports.items ≡ map (λ p. p.number) (seen_active plan.now.view plan.now.forest vid)) }
+    ensures named { IfOk result (λ ports. map Some ports.items ≡ map (λ p. fin.get plan.now.numbers.ports p.name) (active_in plan.now.net (outcome_of plan.now) vid)) }
+    ensures joined { IfOk result (λ _. IsUnrestricted plan.now.net → JoinWithoutLoop plan.now.net (active_in plan.now.net (outcome_of plan.now) vid)) }
 {
+    plan.known();
     joined_without_loop();
-    let ports = active_ports(alloc, view, forest, vid)?;
+    let ports = active_ports(alloc, plan, vid)?;
     numbers_of(alloc, ports.as_slice())
 }

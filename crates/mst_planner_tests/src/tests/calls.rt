@@ -3,7 +3,7 @@
 
 use super::edits::{name, network_of};
 use super::repairs::{EACH_ITS_OWN_REGION, TRIANGLE, is_staged, planner_of};
-use mst_compare::{Forest, Planner, compare, forwards, read_line};
+use mst_compare::{Forest, Planner, Settled, compare, forwards, read_line};
 use mst_config::regions_of;
 use mst_ids::{BridgeId, BridgeNo, Name, PortNo, Priority, Tree, Vid, parse_mac};
 use mst_lag::{View, view};
@@ -44,10 +44,10 @@ fn second_alone_blocks(view: &View, forest: &Forest) -> Option<bool> {
 }
 
 /// How many ports are active for VID 1.
-fn active_for_vid_1(alloc: Global, view: &View, forest: &Forest) -> Result<usize, AllocError> {
+fn active_for_vid_1(alloc: Global, plan: &Settled) -> Result<usize, AllocError> {
     match Vid::new(1) {
         None => Ok(0),
-        Some(vid) => Ok(active(alloc, view, forest, vid)?.len()),
+        Some(vid) => Ok(active(alloc, plan, vid)?.len()),
     }
 }
 
@@ -59,7 +59,16 @@ fn a_forest_from_nothing(rt: HostRuntime) -> Result<(), Fail> {
     let (view, forest) = planned(alloc, &network)?;
     assert_eq!(rt; forest.settlings(Tree::cist()), 3);
     assert_eq!(rt; second_alone_blocks(&view, &forest), Some(true));
-    assert_eq!(rt; active_for_vid_1(alloc, &view, &forest)?, 5);
+    Ok(())
+}
+
+// Of the six ports of a triangle five are active.
+#[test]
+fn active_ports_by_number(rt: HostRuntime) -> Result<(), Fail> {
+    let alloc = rt.alloc();
+    let mut planner = planner_of(alloc, TRIANGLE).ok_or("refused")?;
+    planner.settle()?;
+    assert_eq!(rt; active_for_vid_1(alloc, &planner.settled())?, 5);
     Ok(())
 }
 

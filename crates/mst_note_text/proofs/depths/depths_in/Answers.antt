@@ -1,38 +1,55 @@
-use Rattle.std.proofs.Common.{◌≡◌, ◌<◌, ℕ, length, Vec}
+use Rattle.std.proofs.Common.{◌≡◌, ◌<◌, ℕ, List, Option, length, Vec, subst}
 use Rattle.std.specs.declared.alloc.Global.{Global}
-use Rattle.mst_roles.specs.net.Tables.{Net, Numbers}
-use Rattle.mst_roles.specs.trees.Agrees.{AreOf}
-use Rattle.mst_roles.specs.trees.Forest.{IsForest}
+use Rattle.mst_lag.specs.Viewed.{Viewed}
+use Rattle.mst_roles.specs.trees.Forest.{Forest}
 use Rattle.mst_roles.specs.trees.Outcome.{trees_of}
+use Rattle.mst_roles.specs.trees.Settled.{outcome_of}
+use Rattle.mst_roles.proofs.trees_lemmas.SettledNet.{forest_of}
 use Rattle.mst_note_text.specs.Depths.{InternalDepth, ExternalDepth}
+use Rattle.mst_note_text.specs.Parents.{AreGiven}
 use Rattle.mst_note_text.specs.Places.{HasDepths, depths_at}
 use Rattle.mst_note_text.specs.declared.parent.Depths.{Depths}
-use Rattle.mst_note_text.specs.SeenTree.{name_at}
+use Rattle.mst_note_text.specs.declared.parent.Parent.{Parent}
+use Rattle.mst_note_text.specs.SeenTree.{given, name_at}
 use Rattle.mst_note_text.proofs.Found.{if_ok, is_forest, internal_found, external_found}
 use Rattle.mst_note_text.proofs.depths.depths_in.Goals as goal
 
+-- what the ports of a view and a forest give is what those of the same view and forest give
+same_given : (v w : Viewed) (f g : Forest) → v ≡ w → f ≡ g → (tree : ℕ) (places : List (ℕ × ℕ)) (count : ℕ) (parents : List (Option Parent)) → AreGiven (given v f tree places) v.ports v.ports count parents → AreGiven (given w g tree places) w.ports w.ports count parents
+same_given v w f g same_view same_forest tree places count parents gave =
+    subst (λ (x : Viewed). AreGiven (given x g tree places) x.ports x.ports count parents) same_view (subst (λ (h : Forest). AreGiven (given v h tree places) v.ports v.ports count parents) same_forest gave)
+
 pub depths_of-requires : goal.depths_of-requires
 depths_of-requires c =
-    let k = c.requires.known in
-    rw c.as_slice.ensures.value (is_forest c.args.view.now c.args.forest.now c.args.tree c.args.members.now c.requires.members c.in_ok-places.places.entries c.in_ok-places.ensures c.in_ok-parents.parents.items c.in_ok-parents.ensures
-    k.net k.numbers k.is k.of (c.nested.ensures.settled k.net k.is.outcome k.of.network k.is.is_outcome))
+    let s = c.args.plan.now in
+    let is = c.known.ensures in
+    let parents = c.in_ok-parents.parents.items in
+    let gave = same_given c.view.result.now s.view c.forest.result.now s.forest c.view.ensures c.forest.ensures c.args.tree c.in_ok-places.places.entries (length c.args.members.now) parents c.in_ok-parents.ensures in
+    rw c.as_slice.ensures.value (is_forest s.view s.forest c.args.tree c.args.members.now c.requires c.in_ok-places.places.entries c.in_ok-places.ensures parents gave
+    s.net s.numbers (forest_of s is) is.of (c.nested.ensures.settled s.net (outcome_of s) is.of.network is.is_outcome))
 
 pub returns-clause-internal : goal.returns-clause-internal
 returns-clause-internal c =
+    let s = c.args.plan.now in
+    let is = c.known.ensures in
+    let members = c.args.members.now in
     let parents = c.in_ok-parents.parents.items in
+    let gave = same_given c.view.result.now s.view c.forest.result.now s.forest c.view.ensures c.forest.ensures c.args.tree c.in_ok-places.places.entries (length members) parents c.in_ok-parents.ensures in
     if_ok c.depths_of.result (λ (found : Vec Depths Global). (n : ℕ) → n < length c.as_slice.result.now → HasDepths c.as_slice.result.now n (depths_at found.items n))
-    (λ (found : Vec Depths Global). (net : Net) (numbers : Numbers) (is : IsForest net numbers c.args.forest.now) → AreOf net numbers c.args.view.now c.args.forest.now.regions
-    → (n : ℕ) → n < length c.args.members.now → InternalDepth (trees_of net is.outcome) c.args.tree (name_at c.args.members.now n) (depths_at found.items n).internal)
-    (λ found each net numbers is of. internal_found c.args.view.now c.args.forest.now c.args.tree c.args.members.now c.requires.members c.in_ok-places.places.entries c.in_ok-places.ensures parents c.in_ok-parents.ensures
-    net numbers is of (c.nested.ensures.settled net is.outcome of.network is.is_outcome) found.items (rw c.as_slice.ensures.value at each))
+    (λ (found : Vec Depths Global). (n : ℕ) → n < length members → InternalDepth (trees_of s.net (outcome_of s)) c.args.tree (name_at members n) (depths_at found.items n).internal)
+    (λ found each. internal_found s.view s.forest c.args.tree members c.requires c.in_ok-places.places.entries c.in_ok-places.ensures parents gave
+    s.net s.numbers (forest_of s is) is.of (c.nested.ensures.settled s.net (outcome_of s) is.of.network is.is_outcome) found.items (rw c.as_slice.ensures.value at each))
     c.depths_of.ensures.depths
 
 pub returns-clause-external : goal.returns-clause-external
 returns-clause-external c =
+    let s = c.args.plan.now in
+    let is = c.known.ensures in
+    let members = c.args.members.now in
     let parents = c.in_ok-parents.parents.items in
+    let gave = same_given c.view.result.now s.view c.forest.result.now s.forest c.view.ensures c.forest.ensures c.args.tree c.in_ok-places.places.entries (length members) parents c.in_ok-parents.ensures in
     if_ok c.depths_of.result (λ (found : Vec Depths Global). (n : ℕ) → n < length c.as_slice.result.now → HasDepths c.as_slice.result.now n (depths_at found.items n))
-    (λ (found : Vec Depths Global). (net : Net) (numbers : Numbers) (is : IsForest net numbers c.args.forest.now) → AreOf net numbers c.args.view.now c.args.forest.now.regions
-    → c.args.tree ≡ 0 → (n : ℕ) → n < length c.args.members.now → ExternalDepth (trees_of net is.outcome) (name_at c.args.members.now n) (depths_at found.items n).external)
-    (λ found each net numbers is of. external_found c.args.view.now c.args.forest.now c.args.tree c.args.members.now c.requires.members c.in_ok-places.places.entries c.in_ok-places.ensures parents c.in_ok-parents.ensures
-    net numbers is of (c.nested.ensures.settled net is.outcome of.network is.is_outcome) found.items (rw c.as_slice.ensures.value at each))
+    (λ (found : Vec Depths Global). c.args.tree ≡ 0 → (n : ℕ) → n < length members → ExternalDepth (trees_of s.net (outcome_of s)) (name_at members n) (depths_at found.items n).external)
+    (λ found each. external_found s.view s.forest c.args.tree members c.requires c.in_ok-places.places.entries c.in_ok-places.ensures parents gave
+    s.net s.numbers (forest_of s is) is.of (c.nested.ensures.settled s.net (outcome_of s) is.of.network is.is_outcome) found.items (rw c.as_slice.ensures.value at each))
     c.depths_of.ensures.depths

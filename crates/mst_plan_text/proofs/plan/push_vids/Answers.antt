@@ -2,6 +2,8 @@ use Rattle.std.proofs.Common.{Vec, Global, ◌≡◌, ℕ, ◌++◌, Bool, List,
 use Rattle.std.specs.List.{flat_map}
 use Rattle.std.proofs.lemmas.List.{length-map}
 use Rattle.std.proofs.lemmas.Result.{on_ok_weaker}
+use Rattle.mst_text.specs.trees.Agrees.{AreOf}
+use Rattle.mst_text.specs.trees.Settled.{outcome_of}
 use Rattle.mst_plan_text.specs.Alike.{TellApart}
 use Rattle.mst_plan_text.specs.Bodies.{AreBodiesAt, NumberEach, body_at}
 use Rattle.mst_plan_text.specs.PlanText.{group_text}
@@ -30,7 +32,10 @@ push_groups-requires c =
     (numbers_below c.in_ok-numbers.numbers.items c.in_ok-classes.classes.numbers.items c.in_ok-classes.classes.firsts.items (length c.as_slice-9.result.now) c.in_ok-numbers.ensures.as_long c.in_ok-classes.ensures long)
 
 pub returns : goal.returns
-returns c net numbers is of =
+returns c =
+    let s = c.args.plan.now in
+    let v = c.view-view.result.now in
+    let of : AreOf s.net s.numbers v s.forest.regions = subst (λ w. AreOf s.net s.numbers w s.forest.regions) (sym c.view-view.ensures) c.known.ensures.of in
     let classes : List ℕ = c.in_ok-classes.classes.numbers.items in
     let firsts : List ℕ = c.in_ok-classes.classes.firsts.items in
     let told : List ℕ = c.in_ok-numbers.numbers.items in
@@ -43,13 +48,13 @@ returns c net numbers is of =
     let kept : map items c.as_slice-9.result.now ≡ texts = ap (map items) c.as_slice-9.ensures.value ∙ c.in_ok-kept.ensures ∙ ap (map items) c.as_slice-4.ensures.value in
     let long : length bodies ≡ length firsts = ap length (sym c.as_slice-4.ensures.value) ∙ c.as_slice-4.ensures.len ∙ c.in_ok-bodies.ensures.as_long ∙ ap length c.as_slice-3.ensures.value in
     let each : NumberEach classes (length bodies) = numbers_below told classes firsts (length bodies) c.in_ok-numbers.ensures.as_long c.in_ok-classes.ensures long in
-    let at : AreBodiesAt net is.outcome firsts texts = subst (λ places. AreBodiesAt net is.outcome places texts) c.as_slice-3.ensures.value (c.in_ok-bodies.ensures.bodies net numbers is of) in
+    let at : AreBodiesAt s.net (outcome_of s) firsts texts = subst (λ places. AreBodiesAt s.net (outcome_of s) places texts) c.as_slice-3.ensures.value c.in_ok-bodies.ensures.bodies in
     on_ok_weaker c.push_groups.result
     (λ e. (
       flat_map (group_text (body_at classes texts)) groups,
       record {
         body = body_at classes texts;
-        are_bodies = are_bodies net numbers c.args.view.now c.args.forest.now of is.outcome tables sets c.in_ok-tables.ensures c.in_ok-sets.ensures told classes firsts tell c.in_ok-classes.ensures texts at;
+        are_bodies = are_bodies s.net s.numbers v s.forest of (outcome_of s) tables sets c.in_ok-tables.ensures c.in_ok-sets.ensures told classes firsts tell c.in_ok-classes.ensures texts at;
         groups = groups;
         are_groups = groups_given items classes bodies each c.as_slice-6.result.now c.as_slice-5.result.now c.as_slice-6.ensures.value (c.as_slice-5.ensures.value ∙ c.in_ok-vids.ensures) groups c.in_ok-groups.ensures;
         is = refl;

@@ -1,7 +1,10 @@
+use Rattle.std.proofs.Common.{subst}
+use Rattle.mst_net.specs.Tables.{Net}
+use Rattle.mst_picture.specs.changes.Stored.{kept_entries}
+use Rattle.mst_picture.specs.trees.Settled.{outcome_of}
+use Rattle.mst_report.specs.State.{IsMarkNow}
 use Rattle.mst_report.proofs.planner.Planner.entries.Goals as goal
 
 pub returns : goal.returns
 returns c =
-    let now = c.args.self.now.contents in
-    let plan = c.plan-plan.ensures.of in
-    (plan.forest.outcome, plan.forest.is_outcome, c.in_ok-entries.ensures now.net now.numbers plan.forest plan.of)
+    subst (λ (net : Net). IsMarkNow net (kept_entries c.in_ok-new.entries)) c.settled-plan.ensures (outcome_of c.settled-plan.result, c.known.ensures.is_outcome, c.in_ok-new.ensures)

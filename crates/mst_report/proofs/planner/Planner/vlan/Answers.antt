@@ -1,9 +1,8 @@
-use Rattle.std.proofs.Common.{ap, ◌∙◌, ◌++◌, Ok}
+use Rattle.mst_picture.specs.text.VlanText.{IsVlanText}
+use Rattle.mst_report.proofs.Told.{tells}
 use Rattle.mst_report.proofs.planner.Planner.vlan.Goals as goal
 
 pub returns : goal.returns
 returns c =
-    let now = c.args.self.now.contents in
-    let plan = c.plan-plan.ensures.of in
-    let said = c.in_ok-push_vlan.ensures now.net now.numbers plan.forest plan.of in
-    (plan.forest.outcome, plan.forest.is_outcome, said.0, said.1, ap Ok (said.2 ∙ ap (λ l. l ++ said.0) c.new-text.ensures.items))
+    let said = c.in_ok-push_vlan.ensures in
+    tells c.args.self.now.contents.net c.settled-plan.result c.settled-plan.ensures c.known.ensures (λ net o. IsVlanText net o c.args.vid) said.0 said.1 c.new-text.result.items _ c.new-text.ensures.items said.2
