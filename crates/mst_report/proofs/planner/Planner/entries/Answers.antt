@@ -7,4 +7,4 @@ use Rattle.mst_report.proofs.planner.Planner.entries.Goals as goal
 
 pub returns : goal.returns
 returns c =
-    subst (λ (net : Net). IsMarkNow net (kept_entries c.in_ok-new.entries)) c.settled-plan.ensures (outcome_of c.settled-plan.result, c.known.ensures.is_outcome, c.in_ok-new.ensures)
+    subst (λ (net : Net). IsMarkNow net (kept_entries c.in_ok-entries.entries)) c.settled-plan.ensures (outcome_of c.settled-plan.result, c.known.ensures.is_outcome, c.in_ok-entries.ensures)
