@@ -8,3 +8,4 @@ pub mod Loads
 pub mod OneComparison
 pub mod Saved
 pub mod Told
+pub mod Sent
