@@ -333,14 +333,43 @@ def failure_lines(what, name, old, new):
     return [first, *(f"cut {list_of(vids)} parts {told}" for told, vids in groups.items())], bool(groups)
 
 
+def failures_of(lans, bridges):
+    return [("lan", name, f"lan {name} down") for name in lans] + [("bridge", name, f"bridge {name} off") for name in bridges]
+
+
 def swept(program, script, text, lans, bridges):
     lines, cuts = [], 0
-    failures = [("lan", name, f"lan {name} down") for name in lans] + [("bridge", name, f"bridge {name} off") for name in bridges]
+    failures = failures_of(lans, bridges)
     for what, name, edit in failures:
         told, is_cut = failure_lines(what, name, text, text_of(program, [*script, edit]))
         lines += told
         cuts += is_cut
     return [*lines, f"sweep lans {len(lans)} bridges {len(bridges)} cuts {cuts}"]
+
+
+def cut_by(old, new):
+    """The parts of each VID that is cut."""
+    told = {vid: parts(old.islands[vid], new.islands[vid]) for vid in range(1, 4095)}
+    return {vid: cut for vid, cut in told.items() if cut}
+
+
+def paired(program, script, text, lans, bridges):
+    """What pairs of failures cut that neither cuts alone."""
+    failures = failures_of(lans, bridges)
+    alone = [cut_by(text, text_of(program, [*script, edit])) for _, _, edit in failures]
+    lines, cuts = [], 0
+    for (one, first), (other, second) in itertools.combinations(list(zip(failures, alone)), 2):
+        both = cut_by(text, text_of(program, [*script, one[2], other[2]]))
+        groups = {}
+        for vid, told in both.items():
+            if vid not in first and vid not in second:
+                groups.setdefault(told, []).append(vid)
+        if groups:
+            cuts += 1
+            cut = list_of(itertools.chain.from_iterable(groups.values()))
+            lines.append(f"pair {one[0]} {one[1]} {other[0]} {other[1]} cut {cut}")
+            lines += [f"cut {list_of(vids)} parts {told}" for told, vids in groups.items()]
+    return [*lines, f"sweep pairs {len(failures) * (len(failures) - 1) // 2} cuts {cuts}"]
 
 
 # ---- summary
@@ -534,12 +563,20 @@ def diffs(program, script, other, text, folder):
     return faults
 
 
-def in_parts(program, number, script, wanted, refused_lines):
+def in_parts(program, number, script, words, wanted, refused_lines):
     """The parts of a sweep, of 1 to 12 of them, have its lines one after another, the refused lines once, and but for their last."""
     count = number % 12 + 1
-    parts = [run(program, ["sweep", "-", f"{part}/{count}"], script)[0].splitlines() for part in range(1, count + 1)]
+    parts = [run(program, ["sweep", "-", *words, f"{part}/{count}"], script)[0].splitlines() for part in range(1, count + 1)]
     told = [*parts[0][:refused_lines], *itertools.chain.from_iterable(part[refused_lines:-1] for part in parts)]
-    return [] if told == wanted else [f"network {number}: {count} parts of its sweep aren't the sweep"]
+    return [] if told == wanted else [f"network {number}: {count} parts of its sweep{' of pairs' if words else ''} aren't the sweep"]
+
+
+def pairs(program, number, script, text, lines):
+    bridges, lans, off, down, _ = states_of(text.saved)
+    wanted = paired(program, script, text, [it for it in lans if it not in down], [it for it in bridges if it not in off])
+    cuts = not wanted[-1].endswith(" cuts 0")
+    faults = differing(program, ["sweep", "-", "pairs"], script, [*lines, *wanted], 1 if lines or cuts else 0)
+    return faults + in_parts(program, number, script, ["pairs"], [*lines, *wanted[:-1]], len(lines))
 
 
 def faults_of(program, number, script):
@@ -555,7 +592,8 @@ def faults_of(program, number, script):
     wanted = swept(program, script, text, ups, ons)
     cuts = not wanted[-1].endswith(" cuts 0")
     faults += differing(program, ["sweep", "-"], script, [*lines, *wanted], 1 if lines or cuts else 0)
-    return faults + in_parts(program, number, script, [*lines, *wanted[:-1]], len(lines))
+    faults += in_parts(program, number, script, [], [*lines, *wanted[:-1]], len(lines))
+    return faults + (pairs(program, number, script, text, lines) if len(ups) + len(ons) <= 16 else [])
 
 
 def lines_of(path):

@@ -292,7 +292,7 @@ def diff_cases(folder):
 
 # Words that name no part of a sweep, and what is told of them.
 NO_PARTS = ("0/1", "2/1", "0/0", "1/0", "1/65537", "1", "1/", "/1", "/", "", "1/2/3", "a/b", "+1/2", "1 /2", "1/99999999999", "1:2")
-NO_PART = b"error: PART is K/N, two numbers in decimal with 1 <= K <= N <= 65536\n"
+NO_PART = b"error: PART is K/N, two numbers in decimal with 1 <= K <= N <= 65536, and pairs or nothing stands before it\n"
 
 # What each single failure does, worked out by hand.
 NO_FAILURE = b"sweep lans 0 bridges 0 cuts 0\n"
@@ -360,6 +360,31 @@ bridge B roots - ports 0 cut -
 sweep lans 2 bridges 2 cuts 1
 """
 
+# What pairs of failures of a triangle cut: two sides, or a side and the bridge opposite.
+TRIANGLE_IN_PAIRS = b"""pair lan ab lan ac cut 1-4094
+cut 1-4094 parts A B,C
+pair lan ab lan bc cut 1-4094
+cut 1-4094 parts A,C B
+pair lan ab bridge C cut 1-4094
+cut 1-4094 parts A B
+pair lan ac lan bc cut 1-4094
+cut 1-4094 parts A,B C
+pair lan ac bridge B cut 1-4094
+cut 1-4094 parts A C
+pair lan bc bridge A cut 1-4094
+cut 1-4094 parts B C
+sweep pairs 15 cuts 6
+"""
+# The second of three parts of the 15 pairs: from that of ac and bc to that of bc and A.
+SECOND_OF_PAIRS = b"""pair lan ac lan bc cut 1-4094
+cut 1-4094 parts A,B C
+pair lan ac bridge B cut 1-4094
+cut 1-4094 parts A C
+pair lan bc bridge A cut 1-4094
+cut 1-4094 parts B C
+sweep pairs 5 cuts 3
+"""
+
 
 def sweep_cases(folder):
     """Each case: its name, the words, standard input, the status, standard output and standard error."""
@@ -380,7 +405,14 @@ def sweep_cases(folder):
         ("sweep, what is down and off", ["sweep", "-"], C_IS_OFF, 1, OF_C_IS_OFF, b""),
         ("sweep with no file", ["sweep"], b"", 2, b"", USAGE),
         ("sweep with a word that names no part", ["sweep", script, script], b"", 2, b"", NO_PART),
-        ("sweep with a third word", ["sweep", script, "1/2", "2/2"], b"", 2, b"", USAGE),
+        ("sweep with a word behind a part", ["sweep", script, "1/2", "2/2"], b"", 2, b"", NO_PART),
+        ("sweep with a fourth word", ["sweep", script, "pairs", "2/2", "2/2"], b"", 2, b"", USAGE),
+        ("sweep pairs", ["sweep", script, "pairs"], b"no\n", 1, TRIANGLE_IN_PAIRS, b""),
+        ("sweep pairs -, a refused line", ["sweep", "-", "pairs", "1/1"], b"no\n" + TRIANGLE, 1, REFUSED + TRIANGLE_IN_PAIRS, b""),
+        ("sweep pairs, a part", ["sweep", script, "pairs", "2/3"], b"", 1, SECOND_OF_PAIRS, b""),
+        ("sweep pairs, nothing to read", ["sweep", "-", "pairs"], b"", 0, b"sweep pairs 0 cuts 0\n", b""),
+        ("sweep pairs, what is cut alone", ["sweep", "-", "pairs"], PAIRED, 0, b"sweep pairs 3 cuts 0\n", b""),
+        ("sweep pairs with a word that names no part", ["sweep", script, "pairs", "pairs"], b"", 2, b"", NO_PART),
         ("sweep, a file that isn't there", ["sweep", absent], b"", 3, b"", cannot),
         ("sweep, a folder", ["sweep", folder], b"", 3, b"", b"mstplan: read fault\n"),
         ("sweep, a part of a script that isn't there", ["sweep", absent, "1/2"], b"", 3, b"", cannot),
@@ -776,7 +808,7 @@ def told_within(pipe, length):
 
 def check_answered(program):
     """Lines that come through a pipe while it stays open: each is answered before the next one is given."""
-    lines = [(b"no\n", REFUSED), (b"addlan x\nshowtree 0\n", TREE), (b"showplan", b""), (b"\n", b"tree 0\nvlan 1-4094\nactive -\nisland bridges - lans x\n")]
+    lines = [(b"no\n", REFUSED), (b"addlan x\nshowtree 0\n", TREE), (b"showplan", b""), (b"\n", b"tree 0\nvlan 1-4094\nactive -\nisland lans x\n")]
     with subprocess.Popen([program, "run", "-"], stdin=subprocess.PIPE, stdout=subprocess.PIPE, bufsize=0) as ran:
         for given, answer in lines:
             ran.stdin.write(given)

@@ -138,7 +138,7 @@ any_last : (p : List ℕ → Bool) (xs : List (List ℕ)) (x : List ℕ) → p x
 any_last p [] x h = ap (λ c. c || false) h
 any_last p (y ∷ xs) x h = or_last (p y) (list_any p (xs ++ x ∷ [])) (any_last p xs x h)
 
-last_form : take 50 forms ++ codes "@words" ∷ [] ≡ forms
+last_form : take 54 forms ++ codes "@words" ∷ [] ≡ forms
 unfolding forms
 last_form = refl
 
@@ -154,7 +154,7 @@ fits_last line =
 
 some_fits : (line : List ℕ) → list_any (λ form. fits (words form) (words line)) forms ≡ true
 some_fits line =
-    ap (list_any (λ form. fits (words form) (words line))) (sym last_form) ∙ any_last (λ form. fits (words form) (words line)) (take 50 forms) (codes "@words") (fits_last line)
+    ap (list_any (λ form. fits (words form) (words line))) (sym last_form) ∙ any_last (λ form. fits (words form) (words line)) (take 54 forms) (codes "@words") (fits_last line)
 
 form_chosen : (line : List ℕ) → Chosen (λ form. fits (words form) (words line)) is_found (form_of line)
 unfolding form_of

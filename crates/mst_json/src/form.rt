@@ -24,7 +24,7 @@ pub(crate) enum Field {
 }
 
 /// The forms of lines: each line has the first of them that it fits.
-const FORMS: [&[u8]; 51] = [
+const FORMS: [&[u8]; 55] = [
     b"tree #tree",
     b"bridge $bridge !off",
     b"bridge $bridge $id root $root ext #ext regional $regional int #int from $from $from_port at $at",
@@ -64,6 +64,10 @@ const FORMS: [&[u8]; 51] = [
     b"bridge $bridge roots ,roots ports #ports cut $cut",
     b"cut $cut parts @parts",
     b"!sweep lans #lans bridges #bridges cuts #cuts",
+    b"!pair lan $lan lan $other_lan cut $cut",
+    b"!pair lan $lan bridge $bridge cut $cut",
+    b"!pair bridge $bridge bridge $other_bridge cut $cut",
+    b"!sweep pairs #pairs cuts #cuts",
     b"bridges #bridges on #on ports #ports enabled #enabled regions #regions trees #trees",
     b"tree #tree root $root #priority of #of next $next #next_priority",
     b"tree #tree root $root #priority of #of next $next",

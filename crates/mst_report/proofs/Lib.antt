@@ -8,4 +8,5 @@ pub mod Staying
 pub mod SweepThere
 pub mod Swept
 pub mod SweptParts
+pub mod Paired
 pub mod Told

@@ -20,16 +20,16 @@ use Rattle.mst_sweep.specs.SweepText.{IsFailureText, Told, IsTold, sweep_line, I
 use Rattle.mst_sweep.specs.SweepParts.{PartOf, part_of}
 use Rattle.mst_report.specs.Sweeping.{Sweeps, SweepsPart}
 
-all_joined : {A : Type 0} (P : A → Type 0) (xs ys : List A) → AllByRecursion P xs → AllByRecursion P ys → AllByRecursion P (xs ++ ys)
+pub all_joined : {A : Type 0} (P : A → Type 0) (xs ys : List A) → AllByRecursion P xs → AllByRecursion P ys → AllByRecursion P (xs ++ ys)
 all_joined P [] ys h k = k
 all_joined P (x ∷ xs) ys h k = (h.0, all_joined P xs ys h.1 k)
 
-all_taken : {A : Type 0} (P : A → Type 0) (n : ℕ) (xs : List A) → AllByRecursion P xs → AllByRecursion P (take n xs)
+pub all_taken : {A : Type 0} (P : A → Type 0) (n : ℕ) (xs : List A) → AllByRecursion P xs → AllByRecursion P (take n xs)
 all_taken P zero xs h = tt
 all_taken P (suc n) [] h = tt
 all_taken P (suc n) (x ∷ xs) h = (h.0, all_taken P n xs h.1)
 
-all_dropped : {A : Type 0} (P : A → Type 0) (n : ℕ) (xs : List A) → AllByRecursion P xs → AllByRecursion P (drop n xs)
+pub all_dropped : {A : Type 0} (P : A → Type 0) (n : ℕ) (xs : List A) → AllByRecursion P xs → AllByRecursion P (drop n xs)
 all_dropped P zero xs h = h
 all_dropped P (suc n) [] h = tt
 all_dropped P (suc n) (x ∷ xs) h = all_dropped P n xs h.1

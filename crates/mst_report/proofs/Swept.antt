@@ -15,7 +15,7 @@ use Rattle.mst_picture.specs.trees.Outcome.{Outcome}
 use Rattle.mst_sweep.specs.declared.failure.Failure.{Failure}
 use Rattle.mst_sweep.specs.declared.failure.Failure.TheVariants.{Lan, Bridge}
 use Rattle.mst_sweep.specs.Failures.{edit_of}
-use Rattle.mst_sweep.specs.SweepText.{Told, IsTold, IsSweepOf, sweep_line}
+use Rattle.mst_sweep.specs.SweepText.{Told, IsTextOf}
 use Rattle.mst_lang.specs.declared.line.BridgeChange.TheVariants.{Power}
 use Rattle.mst_lang.specs.declared.line.LanChange.TheVariants.{State}
 use Rattle.mst_lang.specs.declared.line.Power.TheVariants.{Off}
@@ -24,7 +24,7 @@ use Rattle.mst_lag.specs.Viewed.{Viewed, IsView}
 use Rattle.mst_lag.proofs.LanAlone as lan_alone
 use Rattle.mst_lag.proofs.BridgeAlone as bridge_alone
 use Rattle.mst_report.specs.Kept.{AreTrees}
-use Rattle.mst_report.specs.Sweeping.{AreTold, AreFailed, IsViewBut}
+use Rattle.mst_report.specs.Sweeping.{AreToldBy, AreFailed, IsViewBut}
 
 -- what is as it was stays so
 pub same_then : (a b c : Contents) → SameContents a b → SameContents b c → SameContents a c
@@ -40,6 +40,13 @@ zip_more R [] (b ∷ ys) x y h r = absurd h
 zip_more R (a ∷ xs) [] x y h r = absurd h
 zip_more R (a ∷ xs) (b ∷ ys) x y h r = (h.0, zip_more R xs ys x y h.1 r)
 
+-- and all of two lists and two others
+zip_then : {A B : Type 0} (R : A → B → Type 0) (xs ys : List A) (us vs : List B) → AllZip R xs us → AllZip R ys vs → AllZip R (xs ++ ys) (us ++ vs)
+zip_then R [] ys [] vs h k = k
+zip_then R [] ys (u ∷ us) vs h k = absurd h
+zip_then R (x ∷ xs) ys [] vs h k = absurd h
+zip_then R (x ∷ xs) ys (u ∷ us) vs h k = (h.0, zip_then R xs ys us vs h.1 k)
+
 -- one more that is counted, or isn't
 abbrev pub counts : Bool → ℕ
 counts b = cond b 1 0
@@ -53,30 +60,39 @@ count_more told t =
     let one : 0 + counts t.cuts ≡ counts t.cuts = omega arith in
     sum_by-append (λ t. counts t.cuts) told (t ∷ []) ∙ ap (λ n. count_by (λ t. t.cuts) told + n) one
 
-module _ (net : Net) (o : Outcome) where
+module _ {A : Type 0} (Tells : A → Told → Type 0) where
   -- at first none is told of
-  pub none_told : AreTold net o [] 0 []
+  pub none_told : AreToldBy Tells [] 0 []
   none_told = record { told = []; each = tt; counted = refl; is = refl }
 
   -- one more
-  pub more_told : (fs : List Failure) (f : Failure) (cuts : ℕ) (text words : List ℕ) (b : Bool) → AreTold net o fs cuts text → IsTold net o f (record { text = words; cuts = b })
-      → (gs : List Failure) → gs ≡ fs ++ f ∷ [] → (n : ℕ) → n ≡ cuts + counts b → (whole : List ℕ) → whole ≡ text ++ words → AreTold net o gs n whole
-  more_told fs f cuts text words b are is gs gs_are n n_is whole whole_is =
+  pub more_told : (xs : List A) (x : A) (cuts : ℕ) (text words : List ℕ) (b : Bool) → AreToldBy Tells xs cuts text → Tells x (record { text = words; cuts = b })
+      → (ys : List A) → ys ≡ xs ++ x ∷ [] → (n : ℕ) → n ≡ cuts + counts b → (whole : List ℕ) → whole ≡ text ++ words → AreToldBy Tells ys n whole
+  more_told xs x cuts text words b are is ys ys_are n n_is whole whole_is =
       let t : Told = record { text = words; cuts = b } in
       record {
         told = are.told ++ t ∷ [];
-        each = subst (λ l. AllZip (IsTold net o) l (are.told ++ t ∷ [])) (sym gs_are) (zip_more (IsTold net o) fs are.told f t are.each is);
+        each = subst (λ l. AllZip Tells l (are.told ++ t ∷ [])) (sym ys_are) (zip_more Tells xs are.told x t are.each is);
         counted = n_is ∙ ap (λ n. n + counts b) are.counted ∙ sym (count_more are.told t);
         is = whole_is ∙ ap (λ l. l ++ words) are.is ∙ ap (λ l. flat_map (λ t. t.text) are.told ++ l) (sym (append-nil words)) ∙ sym (flat_map-append (λ t. t.text) are.told (t ∷ []));
       }
 
+  -- some, and then others
+  pub told_then : (xs ys : List A) (cuts more : ℕ) (text words : List ℕ) → AreToldBy Tells xs cuts text → AreToldBy Tells ys more words → AreToldBy Tells (xs ++ ys) (cuts + more) (text ++ words)
+  told_then xs ys cuts more text words x y = record {
+    told = x.told ++ y.told;
+    each = zip_then Tells xs ys x.told y.told x.each y.each;
+    counted = (λ i. x.counted i + y.counted i) ∙ sym (sum_by-append (λ (t : Told). counts t.cuts) x.told y.told);
+    is = (λ i. x.is i ++ y.is i) ∙ sym (flat_map-append (λ (t : Told). t.text) x.told y.told);
+  }
+
   -- and all of these, with the last line
-  pub swept : (fs gs : List Failure) → fs ≡ gs → (cuts : ℕ) (text whole : List ℕ) → AreTold net o fs cuts text → whole ≡ text ++ sweep_line fs cuts → IsSweepOf net o gs whole cuts
-  swept fs gs e cuts text whole are is = record {
+  pub swept : (last : List A → ℕ → List ℕ) (xs ys : List A) → xs ≡ ys → (cuts : ℕ) (text whole : List ℕ) → AreToldBy Tells xs cuts text → whole ≡ text ++ last xs cuts → IsTextOf Tells last ys whole cuts
+  swept last xs ys e cuts text whole are is = record {
     told = are.told;
-    each = subst (λ l. AllZip (IsTold net o) l are.told) e are.each;
+    each = subst (λ l. AllZip Tells l are.told) e are.each;
     counted = are.counted;
-    is = is ∙ (λ i. are.is i ++ sweep_line (e i) cuts);
+    is = is ∙ (λ i. are.is i ++ last (e i) cuts);
   }
 
 -- what follows of the value where there is one
@@ -90,15 +106,15 @@ as_before old now same f Q h = subst (λ (t : Tables). (is : IsForest t.net t.nu
 
 -- ---- the plan of a network that failed
 -- no failure touches a region
-untouched : (f : Failure) → touches_regions (edit_of f) ≡ false
+pub untouched : (f : Failure) → touches_regions (edit_of f) ≡ false
 untouched (Lan lan) = refl
 untouched (Bridge bridge) = refl
 
-alone_ahead : (f : Failure) (net : Net) (numbers : Numbers) (next : PerKind) (v : Viewed) → IsView net numbers v → IsViewBut f (effect (edit_of f) net) (numbers_after (edit_of f) next numbers) v
+pub alone_ahead : (f : Failure) (net : Net) (numbers : Numbers) (next : PerKind) (v : Viewed) → IsView net numbers v → IsViewBut f (effect (edit_of f) net) (numbers_after (edit_of f) next numbers) v
 alone_ahead (Lan lan) net numbers next v view = lan_alone.alone_ahead lan (State Down) net numbers v view
 alone_ahead (Bridge bridge) net numbers next v view = bridge_alone.alone_ahead bridge (Power Off) net numbers v refl view
 
-alone_back : (f : Failure) (net : Net) (numbers : Numbers) (next : PerKind) (v : Viewed) → IsView (effect (edit_of f) net) (numbers_after (edit_of f) next numbers) v → IsViewBut f net numbers v
+pub alone_back : (f : Failure) (net : Net) (numbers : Numbers) (next : PerKind) (v : Viewed) → IsView (effect (edit_of f) net) (numbers_after (edit_of f) next numbers) v → IsViewBut f net numbers v
 alone_back (Lan lan) net numbers next v view = lan_alone.alone_back lan (State Down) net numbers v view
 alone_back (Bridge bridge) net numbers next v view = bridge_alone.alone_back bridge (Power Off) net numbers v refl view
 

@@ -13,6 +13,7 @@ pub mod Kept
 pub mod ByName
 pub mod Explaining
 pub mod Sweeping
+pub mod Pairing
 pub mod Differing
 pub mod Summarizing
 pub mod Picturing

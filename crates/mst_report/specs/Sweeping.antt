@@ -31,12 +31,16 @@ pub record SweepsPart (part : PartOf) (net : Net) (cuts : ℕ) (text : List ℕ)
 abbrev pub SweepParts : Net → ℕ → List ToldOfPart → Type 0
 SweepParts net count parts = AllZip (λ number part. SweepsPart (record { number = number; count = count }) net part.cuts part.text) (range_with_len 1 count) parts
 
--- these failures have this text, one after another, and this many of them cut some VID
-pub record AreTold (net : Net) (o : Outcome) (failures : List Failure) (cuts : ℕ) (text : List ℕ) : Type 0 where
+-- where this is told of a thing, these have this text, one after another, and this many of them cut some VID
+pub record AreToldBy {A : Type 0} (Tells : A → Told → Type 0) (things : List A) (cuts : ℕ) (text : List ℕ) : Type 0 where
   pub told : List Told
-  pub each : AllZip (IsTold net o) failures told
+  pub each : AllZip Tells things told
   pub counted : cuts ≡ count_by (λ t. t.cuts) told
   pub is : text ≡ flat_map (λ t. t.text) told
+
+-- so do these failures
+abbrev pub AreTold : Net → Outcome → List Failure → ℕ → List ℕ → Type 0
+AreTold net o failures cuts text = AreToldBy (IsTold net o) failures cuts text
 
 -- the trees, by this view, are those of the network that a failure makes
 pub record AreFailed (net : Net) (failure : Failure) (v : Viewed) (f : Forest) : Type 0 where

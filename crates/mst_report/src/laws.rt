@@ -19,6 +19,7 @@ ghost use Rattle.mst_report.specs.Differing.{Differs};
 ghost use Rattle.mst_report.specs.Explaining.{Explains, unexplained_of};
 ghost use Rattle.mst_report.specs.Picturing.{Depicts};
 ghost use Rattle.mst_report.specs.Summarizing.{Summarizes};
+ghost use Rattle.mst_report.specs.Pairing.{SweepsPairs, SweepPairsParts};
 ghost use Rattle.mst_report.specs.Sweeping.{Sweeps, SweepsPart, SweepParts};
 ghost use Rattle.mst_sweep.specs.SweepParts.{PartOf, ToldOfPart, whole_part, but_last_line};
 ghost use Rattle.mst_report.specs.State.{State, IsState, IsMark, IsMarkNow};
@@ -129,6 +130,19 @@ pub fn sweep_parts()
     networks();
     one_failure();
     mst_sweep::laws::sweep_parts();
+}
+
+/// Pairs of failures in parts: each part has a text and a number of pairs that cut some VID which neither failure cuts alone, and one
+/// of each. So many parts, each without its last line, are one after another the whole's text without its last line, and their
+/// numbers have the whole's as their sum: that is the only part of one.
+pub fn pair_parts()
+    ensures some { (net : Net) (part : PartOf) → IsNetwork net → (cuts : ℕ) × (text : List ℕ) × SweepsPairs part net cuts text }
+    ensures one { (net : Net) (part : PartOf) (text other : List ℕ) (c d : ℕ) → IsNetwork net → SweepsPairs part net c text → SweepsPairs part net d other → (text ≡ other) × (c ≡ d) }
+    ensures joined { (net : Net) (count : ℕ) (parts : List ToldOfPart) (text : List ℕ) (cuts : ℕ) → IsNetwork net → 1 ≤ count → SweepPairsParts net count parts → SweepsPairs whole_part net cuts text
+        → (flat_map (λ part. but_last_line part.text) parts ≡ but_last_line text) × (sum_by (λ part. part.cuts) parts ≡ cuts) }
+{
+    one_outcome();
+    mst_sweep::laws::pairs();
 }
 
 /// What the change from one network to another does: there is one text and one count of what differs, which the networks

@@ -5,6 +5,7 @@ mod answers;
 mod differing;
 mod explaining;
 pub mod laws;
+mod pairing;
 mod picturing;
 mod plan;
 mod planner;

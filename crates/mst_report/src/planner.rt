@@ -6,9 +6,11 @@ ghost use Rattle.mst_picture.specs.trees.Agrees.{AreOf};
 ghost use Rattle.mst_picture.specs.trees.Forest.{IsForest, SettlesNoUnused};
 ghost use Rattle.mst_lag.specs.Viewed.{IsView};
 ghost use Rattle.mst_picture.specs.changes.Stored.{kept_entries};
+ghost use Rattle.mst_report.specs.Pairing.{SweepsPairs};
 ghost use Rattle.mst_report.specs.Sweeping.{Sweeps, SweepsPart};
 
 use crate::laws::{entries_of_network, sweep_parts};
+use crate::pairing::sweep_pairs;
 use crate::plan::{Plan, next_plan, renew_plan, settle_plan};
 use crate::sweeping::{Sweep, sweep_network};
 use mst_config::laws::regions_stay;
@@ -279,6 +281,19 @@ impl Planner {
     {
         let plan = self.plan.as_ref().unwrap();
         sweep_network(self.alloc, &mut self.network, plan, part)
+    }
+
+    /// What each pair of a part of those of the network's failures does: in the order of the failures of a sweep, each with each
+    /// behind it, by the first and then by the second. For those pairs that cut some VIDs together which neither failure cuts alone a
+    /// line with these VIDs, and the lines of their parts; and a last line that counts the pairs and those of them.
+    ///
+    /// `AllocError`: memory was wanted and refused. The planner is as it was in either case.
+    pub fn sweep_pairs(&self, part: SweepPart) -> Result<Sweep, AllocError>
+        requires { self.now.is_settled ≡ true }
+        ensures { IfOk result (λ told. SweepsPairs part self.now.contents.net told.cuts told.text.items) }
+    {
+        let plan = self.plan.as_ref().unwrap();
+        sweep_pairs(self.alloc, &self.network, plan, part)
     }
 
     /// What the texts take memory from.

@@ -10,6 +10,7 @@ ghost use Rattle.mst_report.specs.Kept.{IsPlan, AreTrees};
 ghost use Rattle.mst_report.specs.Sweeping.{SweepsPart, AreTold, AreFailed, IsViewBut};
 
 use crate::plan::Plan;
+use mst_config::Regions;
 use mst_config::laws::regions_stay;
 use mst_lag::{View, view};
 use mst_net::{Contents, Network, Ready};
@@ -17,13 +18,13 @@ use mst_picture::{Forest, Planned};
 use mst_sweep::{Baseline, Failure, SweepPart, failures, push_failure, push_last};
 use std::alloc::{AllocError, Global};
 
-/// What each single failure of a network does, or each of a part of them.
+/// What each single failure of a network does, or what pairs of them do, or each of a part of these.
 #[derive(Drop)]
 pub struct Sweep {
-    /// A line for each LAN that is up and then for each bridge that is on, each with the parts of what its failure cuts, and
-    /// a last line that counts them.
+    /// A line for each LAN that is up and then for each bridge that is on, each with the parts of what its failure cuts, or a
+    /// line for each pair that cuts what neither failure cuts alone, with the parts; and a last line that counts them.
     pub text: Vec<u8>,
-    /// How many of the failures cut some VID.
+    /// How many of the failures, or of the pairs, cut some VID.
     pub cuts: u64,
 }
 
@@ -49,7 +50,7 @@ pub(crate) fn sweep_network(
 }
 
 /// What stays the same for all failures.
-fn baseline_of(alloc: Global, plan: &Plan) -> Result<Baseline, AllocError>
+pub(crate) fn baseline_of(alloc: Global, plan: &Plan) -> Result<Baseline, AllocError>
     requires { Known plan.now.view plan.now.forest.regions }
     ensures { IfOk result (IsBaseline plan.now.view plan.now.forest) }
 {
@@ -118,7 +119,7 @@ fn push_failed(
 }
 
 /// Renews a view that is the network's but for what fails.
-fn renew<C: Contents>(
+pub(crate) fn renew<C: Contents>(
     alloc: Global,
     contents: &C,
     failure: &Failure,
@@ -171,25 +172,33 @@ fn trees_after(
     ensures seen { OnOk result (IsView (ahead_of network.old ready).net (ahead_of network.old ready).numbers seen.new) }
     ensures same { SameContents network.old network.new }
 {
-    let trees = trees_ahead(alloc, &network.ahead(&ready), plan, failure, seen);
+    let trees = trees_ahead(
+        alloc,
+        &network.ahead(&ready),
+        &plan.forest,
+        &plan.regions,
+        failure,
+        seen,
+    );
     network.abandon(ready);
     trees
 }
 
-/// The trees of a network whose view is this one but for what fails: the view is renewed for that.
-fn trees_ahead<C: Contents>(
+/// The trees of a network whose view is this one but for what fails, repaired from these: the view is renewed for that.
+pub(crate) fn trees_ahead<C: Contents>(
     alloc: Global,
     contents: &C,
-    plan: &Plan,
+    from: &Forest,
+    regions: &Regions,
     failure: &Failure,
     seen: &mut View,
 ) -> Result<Forest, AllocError>
     requires seen { IsViewBut failure.now (C.tables contents.now).net (C.tables contents.now).numbers seen.old }
-    requires regions { AreRegions (C.tables contents.now).net (C.tables contents.now).numbers plan.now.regions }
-    ensures trees { IfOk result (AreTrees (C.tables contents.now).net (C.tables contents.now).numbers seen.new plan.now.regions) }
+    requires regions { AreRegions (C.tables contents.now).net (C.tables contents.now).numbers regions.now }
+    ensures trees { IfOk result (AreTrees (C.tables contents.now).net (C.tables contents.now).numbers seen.new regions.now) }
     ensures seen { OnOk result (IsView (C.tables contents.now).net (C.tables contents.now).numbers seen.new) }
 {
     contents.known();
     renew(alloc, contents, failure, seen)?;
-    plan.forest.repaired(alloc, seen, &plan.regions)
+    from.repaired(alloc, seen, regions)
 }

@@ -22,22 +22,7 @@ use Rattle.mst_diff.specs.changes.Subjects.{bridge_names, port_names}
 use Rattle.mst_sweep.specs.declared.failure.Failure.{Failure}
 use Rattle.mst_sweep.specs.declared.failure.Failure.TheVariants.{Lan, Bridge}
 use Rattle.mst_sweep.specs.Failures.{edit_of}
-
--- the kind of the bridge of a name
-abbrev pub kind_in : Net → List ℕ → Option Bool
-kind_in net name = option_map (λ row. row.is_rstp) (fin.get net.bridges name)
-
--- the LANs of the logical ports
-abbrev pub lan_names : Net → List (List ℕ)
-lan_names net = map (λ p. p.lan) (view_ports net)
-
--- the names and kinds of bridges, the names of logical ports and of their LANs, and what is set by tree or VID
-pub record AreLeft (a b : Net) : Type 0 where
-  pub bridges : bridge_names a ≡ bridge_names b
-  pub kinds : (name : List ℕ) → kind_in a name ≡ kind_in b name
-  pub ports : port_names a ≡ port_names b
-  pub lans : lan_names a ≡ lan_names b
-  pub settings : by_tree a ≡ by_tree b
+use Rattle.mst_sweep.specs.Left.{AreLeft, lan_names}
 
 -- the names of logical ports are those of plugs
 names_of_plugs : (net : Net) → port_names net ≡ map (λ (p : Plug). p.port) (filter (λ p. port_eq (logical_port net p).port p.port) (plugs net))
@@ -57,7 +42,7 @@ kind_stays true None = refl
 kind_stays true (Some row) = refl
 kind_stays false o = refl
 
-left_by : (failure : Failure) (a : Net) → AreLeft a (effect (edit_of failure) a)
+pub left_by : (failure : Failure) (a : Net) → AreLeft a (effect (edit_of failure) a)
 left_by (Lan lan) a = record {
   bridges = refl;
   kinds = λ name. refl;

@@ -37,7 +37,7 @@ use Rattle.mst_diff.specs.changes.Subjects.{port_names}
 use Rattle.mst_diff.proofs.changes_lemmas.InUse.{unused}
 use Rattle.mst_sweep.specs.Touched.{AreWhereTouched, BreakNoLinks, seen_is_link, seen_beside_link, seen_breaks}
 use Rattle.mst_sweep.proofs.CutApart.{both_true}
-use Rattle.mst_sweep.proofs.Failed.{AreLeft, lan_names}
+use Rattle.mst_sweep.specs.Left.{AreLeft, lan_names}
 use Rattle.mst_sweep.proofs.Positions.{any_passes}
 use Rattle.mst_sweep.proofs.StillJoined.{IsAlone}
 use Rattle.mst_sweep.proofs.Untouched.{had_listed}

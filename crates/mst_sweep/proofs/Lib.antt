@@ -15,7 +15,12 @@ pub mod StillJoined
 pub mod Untouched
 pub mod KeptLinks
 pub mod Unlinked
+pub mod CutsBy
 pub mod NoCuts
+pub mod Together
+pub mod Windows
+pub mod PairParts
+pub mod OnePairs
 pub mod PartsJoined
 pub mod LastLine
 pub mod SweptParts

@@ -1,19 +1,15 @@
 -- Where no VID has parts, none is cut and there are no lines.
-use Rattle.std.proofs.Common.{Vec, Global, ◌≡◌, ℕ, zero, suc, ◌||◌, nat_eq, Bool, true, false, cond, List, [], ◌∷◌, ◌++◌, map, get_or, refl, sym, ap, ◌∙◌}
+use Rattle.std.proofs.Common.{Vec, Global, ◌≡◌, ℕ, zero, suc, ◌||◌, Bool, true, false, cond, List, [], ◌∷◌, ◌++◌, map, get_or, refl, sym, ap, ◌∙◌}
 use Rattle.std.specs.Prelude.{if◌then◌else◌}
 use Rattle.std.specs.Cmp.{IsEquivalence}
-use Rattle.std.specs.Cmp.Lexicographic.{pointwise, bytes_decides, nat_list_eq_equiv}
 use Rattle.std.specs.List.{filter, flat_map, list_any}
 use Rattle.std.proofs.lemmas.Bool.{or_parts}
 use Rattle.mst_ids.specs.Vids.{is_vid}
 use Rattle.mst_graph.specs.Groups.{AreGroups}
-use Rattle.mst_graph.proofs.Alike.{alike_groups}
-use Rattle.mst_net.specs.Tables.{Net}
-use Rattle.mst_diff.specs.trees.Outcome.{Outcome}
 use Rattle.mst_diff.specs.plan_text.PlanText.{all_vids}
 use Rattle.mst_diff.specs.Reach.{has_any}
-use Rattle.mst_sweep.specs.Parts.{AreParts}
-use Rattle.mst_sweep.specs.Cuts.{cut_line, group_text, AreCuts}
+use Rattle.mst_sweep.specs.Cuts.{cut_line, group_text, AreCutsBy}
+use Rattle.mst_sweep.proofs.CutsBy.{some_cuts}
 
 -- ---- lists
 none_left : (test : ℕ → Bool) (xs : List ℕ) → ((x : ℕ) → test x ≡ false) → filter test xs ≡ []
@@ -36,25 +32,15 @@ module _ (parts : ℕ → List ℕ) (none : (vid : ℕ) → has_any (parts vid) 
   no_lines [] = refl
   no_lines (group ∷ groups) = λ i. no_text group i ++ no_lines groups i
 
-  abbrev test : ℕ → ℕ → Bool
-  test x y = pointwise nat_eq (parts x) (parts y)
-
-  equivalence : IsEquivalence test
-  equivalence = record {
-    refl = λ x. nat_list_eq_equiv.refl (parts x);
-    symm = λ x y. nat_list_eq_equiv.symm (parts x) (parts y);
-    congr = λ x y z. nat_list_eq_equiv.congr (parts x) (parts y) (parts z);
-  }
-
-  pub no_cuts : (a b : Net) (o p : Outcome) → ((same : ℕ → ℕ → Bool) (things : List ℕ) → IsEquivalence same → (groups : List (List ℕ)) × AreGroups (λ x y. same x y ≡ true) things groups)
-      → ((vid : ℕ) → is_vid vid ≡ true → AreParts a o b p vid (parts vid)) → AreCuts a o b p [] []
-  no_cuts a b o p grouping are =
-      let grouped = grouping test all_vids equivalence in
+  pub no_cuts : (R : ℕ → List ℕ → Type 0) → ((same : ℕ → ℕ → Bool) (things : List ℕ) → IsEquivalence same → (groups : List (List ℕ)) × AreGroups (λ x y. same x y ≡ true) things groups)
+      → ((vid : ℕ) → is_vid vid ≡ true → R vid (parts vid)) → AreCutsBy R [] []
+  no_cuts R grouping are =
+      let cuts = some_cuts R parts are grouping in
       record {
         parts = parts;
         are_parts = are;
-        groups = grouped.0;
-        are_groups = alike_groups (λ x y. test x y ≡ true) (λ x y. parts x ≡ parts y) all_vids grouped.0 (λ x y _ _. ((bytes_decides (parts x) (parts y)).0, (bytes_decides (parts x) (parts y)).1)) grouped.1;
+        groups = cuts.groups;
+        are_groups = cuts.are_groups;
         cut = sym (none_left (λ vid. has_any (parts vid)) all_vids none);
-        is = sym (no_lines grouped.0);
+        is = sym (no_lines cuts.groups);
       }

@@ -1,27 +1,22 @@
 -- The text of each failure, and of all of a network: there is one, and one only.
-use Rattle.std.proofs.Common.{◌≡◌, ℕ, ◌++◌, ◌∷◌, [], nat_eq, Bool, true, List, map, refl, sym, ap, subst, ◌∙◌, Some, Ok, inl, inr}
+use Rattle.std.proofs.Common.{◌≡◌, ℕ, ◌++◌, ◌∷◌, [], Bool, true, List, map, refl, sym, ap, subst, ◌∙◌, Some, Ok, inl, inr}
 use Rattle.std.specs.Cmp.{IsEquivalence}
-use Rattle.std.specs.Cmp.Lexicographic.{pointwise, bytes_decides, nat_list_eq_equiv}
 use Rattle.std.specs.List.{AllZip, Contains, filter, flat_map, count_by}
 use Rattle.std.specs.FinMap as fin
 use Rattle.std.proofs.lemmas.List.Elements.{Contains-append_cases}
-use Rattle.mst_ids.specs.Vids.{is_vid}
 use Rattle.mst_graph.specs.Groups.{AreGroups}
 use Rattle.mst_graph.specs.Islands.{Island}
-use Rattle.mst_graph.proofs.Alike.{alike_groups}
-use Rattle.mst_graph.proofs.Members.{here, in_whole, from_map, from_filter, there}
+use Rattle.mst_graph.proofs.Members.{here, from_map, from_filter, there}
 use Rattle.mst_lang.specs.Ranges.{InRange}
 use Rattle.mst_lang.specs.declared.line.Edit.{Edit}
 use Rattle.mst_net.specs.After.{after}
 use Rattle.mst_net.specs.Tables.{Net, BridgeRow, LanRow, IsNetwork}
 use Rattle.mst_net.proofs.Keys.{names}
 use Rattle.mst_diff.specs.trees.Outcome.{Outcome, IsOutcome}
-use Rattle.mst_diff.proofs.trees_lemmas.Entries.{all_weaker, entries_found}
-use Rattle.mst_diff.proofs.trees_lemmas.Lists.{all_there, all_contained}
-use Rattle.mst_diff.proofs.trees_lemmas.Looking.{filter_alike}
+use Rattle.mst_diff.proofs.trees_lemmas.Entries.{entries_found}
+use Rattle.mst_diff.proofs.trees_lemmas.Lists.{all_contained}
 use Rattle.mst_vlan.specs.Reach.{AreIslandsOf, bridges_on}
-use Rattle.mst_diff.specs.plan_text.PlanText.{all_vids}
-use Rattle.mst_diff.proofs.plan_text_lemmas.OnePlan.{vids_once, is_vid_there, each_text, OneGrouping}
+use Rattle.mst_diff.proofs.plan_text_lemmas.OnePlan.{OneGrouping}
 use Rattle.mst_diff.specs.changes.Subjects.{bridge_names}
 use Rattle.mst_diff.specs.Reach.{has_any}
 use Rattle.mst_diff.proofs.OneDiff.{OneList}
@@ -30,57 +25,25 @@ use Rattle.mst_sweep.specs.declared.failure.Failure.TheVariants.{Lan, Bridge}
 use Rattle.mst_sweep.specs.Failures.{edit_of, failures}
 use Rattle.mst_sweep.specs.Moved.{moved_roots, moved_ports}
 use Rattle.mst_sweep.specs.Parts.{staying, parts_text, AreParts}
-use Rattle.mst_sweep.specs.Cuts.{group_line, group_text, AreCuts}
-use Rattle.mst_sweep.specs.SweepText.{failure_line, IsFailureText, Told, IsTold, sweep_line, IsSweepOf}
+use Rattle.mst_sweep.proofs.CutsBy.{one_lines, one_cut, cut_vids, cut_lines, some_cuts}
+use Rattle.mst_sweep.specs.SweepText.{failure_line, IsFailureText, Told, IsTold, IsTextOf, sweep_line, IsSweepOf}
 
 -- ---- one failure
-module _ (a b : Net) (o p : Outcome) (one : OneList) (grouping : OneGrouping) where
-  one_parts : (vid : ℕ) (text other : List ℕ) → AreParts a o b p vid text → AreParts a o b p vid other → text ≡ other
+module _ (a b : Net) (o p : Outcome) (one : OneList) where
+  pub one_parts : (vid : ℕ) (text other : List ℕ) → AreParts a o b p vid text → AreParts a o b p vid other → text ≡ other
   one_parts vid text other s t =
       let olds = one a o vid s.0 t.0 s.2 t.2 in
       let news = one b p vid s.1 t.1 s.3 t.3 in
       s.4 ∙ (λ i. parts_text (staying (olds i) (news i) (bridge_names a))) ∙ sym t.4
 
-  module _ (us vs text other : List ℕ) (x : AreCuts a o b p us text) (y : AreCuts a o b p vs other) where
-    abbrev same : ℕ → ℕ → Bool
-    same u v = pointwise nat_eq (x.parts u) (x.parts v)
-
-    parts_same : (vid : ℕ) → Contains all_vids vid → x.parts vid ≡ y.parts vid
-    parts_same vid h = let v = is_vid_there vid h in one_parts vid (x.parts vid) (y.parts vid) (x.are_parts vid v) (y.are_parts vid v)
-
-    first : AreGroups (λ u v. same u v ≡ true) all_vids x.groups
-    first =
-        alike_groups (λ u v. x.parts u ≡ x.parts v) (λ u v. same u v ≡ true) all_vids x.groups
-        (λ u v _ _. ((bytes_decides (x.parts u) (x.parts v)).1, (bytes_decides (x.parts u) (x.parts v)).0)) x.are_groups
-
-    second : AreGroups (λ u v. same u v ≡ true) all_vids y.groups
-    second =
-        alike_groups (λ u v. y.parts u ≡ y.parts v) (λ u v. same u v ≡ true) all_vids y.groups
-        (λ u v h k. (
-          λ e. (bytes_decides (x.parts u) (x.parts v)).1 (parts_same u h ∙ e ∙ sym (parts_same v k)),
-          λ e. sym (parts_same u h) ∙ (bytes_decides (x.parts u) (x.parts v)).0 e ∙ parts_same v k,
-        )) y.are_groups
-
-    group_same : (group : List ℕ) → Contains x.groups group → group_text x.parts group ≡ group_text y.parts group
-    group_same [] h = refl
-    group_same (vid ∷ vids) h = ap (group_line (vid ∷ vids)) (parts_same vid (in_whole (x.are_groups.in_order (vid ∷ vids) h) vid (here vid vids)))
-
-    one_lines : text ≡ other
-    one_lines =
-        x.is ∙ each_text (group_text x.parts) (group_text y.parts) x.groups group_same ∙ ap (flat_map (group_text y.parts)) (grouping same all_vids x.groups y.groups vids_once first second) ∙ sym y.is
-
-    one_cut : us ≡ vs
-    one_cut =
-        x.cut ∙ filter_alike (λ vid. has_any (x.parts vid)) (λ vid. has_any (y.parts vid)) all_vids
-        (all_weaker (Contains all_vids) _ (λ vid h. ap has_any (parts_same vid h)) all_vids (all_there all_vids)) ∙ sym y.cut
-
+module _ (a b : Net) (o p : Outcome) (one : OneList) (grouping : OneGrouping) where
   module _ (failure : Failure) (text other : List ℕ) (c d : Bool) (x : IsFailureText a o b p failure text c) (y : IsFailureText a o b p failure other d) where
     abbrev cut : x.vids ≡ y.vids
-    cut = one_cut x.vids y.vids x.lines y.lines x.are_cuts y.are_cuts
+    cut = one_cut (AreParts a o b p) (one_parts a b o p one) grouping x.vids y.vids x.lines y.lines x.are_cuts y.are_cuts
 
     pub one_failure : text ≡ other
     one_failure =
-        x.is ∙ (λ i. failure_line failure (moved_roots a o b p) (moved_ports a o b p) (cut i) ++ one_lines x.vids y.vids x.lines y.lines x.are_cuts y.are_cuts i) ∙ sym y.is
+        x.is ∙ (λ i. failure_line failure (moved_roots a o b p) (moved_ports a o b p) (cut i) ++ one_lines (AreParts a o b p) (one_parts a b o p one) grouping x.vids y.vids x.lines y.lines x.are_cuts y.are_cuts i) ∙ sym y.is
 
     pub cuts_alike : c ≡ d
     cuts_alike = x.some ∙ ap has_any cut ∙ sym y.some
@@ -91,48 +54,25 @@ module _ (a b : Net) (o p : Outcome) (olds : (vid : ℕ) → (islands : List (Is
   abbrev parts : ℕ → List ℕ
   parts vid = parts_text (staying (olds vid).0 (news vid).0 (bridge_names a))
 
-  abbrev test : ℕ → ℕ → Bool
-  test x y = pointwise nat_eq (parts x) (parts y)
-
-  equivalence : IsEquivalence test
-  equivalence = record {
-    refl = λ x. nat_list_eq_equiv.refl (parts x);
-    symm = λ x y. nat_list_eq_equiv.symm (parts x) (parts y);
-    congr = λ x y z. nat_list_eq_equiv.congr (parts x) (parts y) (parts z);
-  }
-
-  abbrev groups : List (List ℕ)
-  groups = (grouping test all_vids equivalence).0
+  are_parts : (vid : ℕ) → AreParts a o b p vid (parts vid)
+  are_parts vid = ((olds vid).0, (news vid).0, (olds vid).1, (news vid).1, refl)
 
   abbrev vids : List ℕ
-  vids = filter (λ vid. has_any (parts vid)) all_vids
+  vids = cut_vids (AreParts a o b p) parts (λ vid _. are_parts vid) grouping
 
   abbrev lines : List ℕ
-  lines = flat_map (group_text parts) groups
+  lines = cut_lines (AreParts a o b p) parts (λ vid _. are_parts vid) grouping
 
   pub has_failure : (c : Bool) × (text : List ℕ) × IsFailureText a o b p failure text c
   has_failure = (
     has_any vids,
     failure_line failure (moved_roots a o b p) (moved_ports a o b p) vids ++ lines,
-    record {
-      vids = vids;
-      lines = lines;
-      are_cuts = record {
-        parts = parts;
-        are_parts = λ vid _. ((olds vid).0, (news vid).0, (olds vid).1, (news vid).1, refl);
-        groups = groups;
-        are_groups = alike_groups (λ x y. test x y ≡ true) (λ x y. parts x ≡ parts y) all_vids groups (λ x y _ _. ((bytes_decides (parts x) (parts y)).0, (bytes_decides (parts x) (parts y)).1)) (grouping test all_vids equivalence).1;
-        cut = refl;
-        is = refl;
-      };
-      some = refl;
-      is = refl;
-    },
+    record { vids = vids; lines = lines; are_cuts = some_cuts (AreParts a o b p) parts (λ vid _. are_parts vid) grouping; some = refl; is = refl },
   )
 
 -- ---- all failures
 -- two lists of what is told of things, each of which tells one only
-zip_same : {A B : Type 0} (R S : A → B → Type 0) (xs : List A) (ys zs : List B) → ((x : A) → Contains xs x → (y z : B) → R x y → S x z → y ≡ z) → AllZip R xs ys → AllZip S xs zs → ys ≡ zs
+pub zip_same : {A B : Type 0} (R S : A → B → Type 0) (xs : List A) (ys zs : List B) → ((x : A) → Contains xs x → (y z : B) → R x y → S x z → y ≡ z) → AllZip R xs ys → AllZip S xs zs → ys ≡ zs
 zip_same R S [] [] [] one h k = refl
 zip_same R S [] (y ∷ ys) zs one h k = absurd h
 zip_same R S [] [] (z ∷ zs) one h k = absurd k
@@ -142,6 +82,18 @@ zip_same R S (x ∷ xs) (y ∷ ys) (z ∷ zs) one h k =
     let first = one x (here x xs) y z h.0 k.0 in
     let others = zip_same R S xs ys zs (λ w c. one w (there x w xs c)) h.1 k.1 in
     λ i. first i ∷ others i
+
+-- so the text of things is one, where of each one only is told
+module _ {A : Type 0} (Tells : A → Told → Type 0) (last : List A → ℕ → List ℕ) (all : List A) (one : (told others : List Told) → AllZip Tells all told → AllZip Tells all others → told ≡ others)
+    (text other : List ℕ) (c d : ℕ) (x : IsTextOf Tells last all text c) (y : IsTextOf Tells last all other d) where
+  all_same : x.told ≡ y.told
+  all_same = one x.told y.told x.each y.each
+
+  pub one_count : c ≡ d
+  one_count = x.counted ∙ ap (count_by (λ (t : Told). t.cuts)) all_same ∙ sym y.counted
+
+  pub one_text : text ≡ other
+  one_text = x.is ∙ (λ i. flat_map (λ (t : Told). t.text) (all_same i) ++ last all (one_count i)) ∙ sym y.is
 
 -- the edits of failures are in their ranges
 in_range : (net : Net) → IsNetwork net → (failure : Failure) → Contains (failures net) failure → InRange (edit_of failure)
@@ -181,11 +133,8 @@ module _ (one : OneList) (grouping : OneGrouping) (single : (net : Net) (o p : O
     all_told told others x y = zip_same (IsTold net o) (IsTold net o) fs told others (λ f h. told_same f (own f h)) x y
 
     module _ (text other : List ℕ) (c d : ℕ) (x : IsSweepOf net o fs text c) (y : IsSweepOf net o fs other d) where
-      all_same : x.told ≡ y.told
-      all_same = all_told x.told y.told x.each y.each
-
       pub count_same : c ≡ d
-      count_same = x.counted ∙ ap (count_by (λ (t : Told). t.cuts)) all_same ∙ sym y.counted
+      count_same = one_count (IsTold net o) sweep_line fs all_told text other c d x y
 
       pub one_sweep : text ≡ other
-      one_sweep = x.is ∙ (λ i. flat_map (λ (t : Told). t.text) (all_same i) ++ sweep_line fs (count_same i)) ∙ sym y.is
+      one_sweep = one_text (IsTold net o) sweep_line fs all_told text other c d x y

@@ -86,7 +86,27 @@ module _ (count len : ℕ) (some : 0 < count) where
       let less = div_below ((j + 1) * len) count ((len / count + 1) + (j * len / count + 1)) some (omega (arith, one, before, sides, further)) in
       omega (arith, less)
 
--- a part is as long as its ends are apart, so that two of them differ by 1 at most
+-- a part ends behind its beginning, and is as long as these are apart
+pub ends_rise : (chosen : PartOf) (len : ℕ) → 1 ≤ chosen.number → chosen.number ≤ chosen.count → end_of (chosen.number - 1) chosen.count len ≤ end_of chosen.number chosen.count len
+ends_rise chosen len least most =
+    let next : (chosen.number - 1) + 1 ≡ chosen.number = omega (arith, least) in
+    subst (λ k. end_of (chosen.number - 1) chosen.count len ≤ end_of k chosen.count len) next (rising chosen.count (omega (arith, least, most)) (chosen.number - 1) len)
+
+pub length_part : {A : Type 0} (all : List A) (chosen : PartOf) → 1 ≤ chosen.number → chosen.number ≤ chosen.count
+    → length (part_of chosen all) ≡ end_of chosen.number chosen.count (length all) - end_of (chosen.number - 1) chosen.count (length all)
+length_part all chosen least most =
+    let count = chosen.count in
+    let number = chosen.number in
+    let len = length all in
+    let some : 0 < count = omega (arith, least, most) in
+    let begin = end_of (number - 1) count len in
+    let end = end_of number count len in
+    let rest : number + (count - number) ≡ count = omega (arith, most) in
+    let within : end ≤ len = subst (λ n. end ≤ n) (last count some len) (subst (λ k. end ≤ end_of k count len) rest (risen count some number (count - number) len)) in
+    let long : length (part_of chosen all) ≡ min (end - begin) (len - begin) = length-take (end - begin) (drop begin all) ∙ ap (min (end - begin)) (length-drop begin all) in
+    long ∙ min-eq_left (omega (arith, within))
+
+-- so that the lengths of two of them differ by 1 at most
 pub lengths_near : {A : Type 0} (all : List A) (part : PartOf) → 1 ≤ part.number → part.number ≤ part.count
     → (length all / part.count ≤ length (part_of part all)) × (length (part_of part all) ≤ length all / part.count + 1)
 lengths_near all chosen least most =
@@ -99,8 +119,5 @@ lengths_near all chosen least most =
     let next : (number - 1) + 1 ≡ number = omega (arith, least) in
     let low : len / count + begin ≤ end = subst (λ k. len / count + begin ≤ end_of k count len) next (at_least count len some (number - 1)) in
     let high : end ≤ len / count + 1 + begin = subst (λ k. end_of k count len ≤ len / count + 1 + begin) next (at_most count len some (number - 1)) in
-    let rest : number + (count - number) ≡ count = omega (arith, most) in
-    let within : end ≤ len = subst (λ n. end ≤ n) (last count some len) (subst (λ k. end ≤ end_of k count len) rest (risen count some number (count - number) len)) in
-    let long : length (part_of chosen all) ≡ min (end - begin) (len - begin) = length-take (end - begin) (drop begin all) ∙ ap (min (end - begin)) (length-drop begin all) in
-    let is : length (part_of chosen all) ≡ end - begin = long ∙ min-eq_left (omega (arith, within)) in
+    let is : length (part_of chosen all) ≡ end - begin = length_part all chosen least most in
     (subst (λ n. len / count ≤ n) (sym is) (omega (arith, low)), subst (λ n. n ≤ len / count + 1) (sym is) (omega (arith, low, high)))

@@ -37,7 +37,7 @@ use Rattle.mst_net.proofs.Keys.{names}
 use Rattle.mst_sweep.specs.declared.parts.Stays.{Stays}
 use Rattle.mst_sweep.specs.Parts.{home, stays_at, staying, AreParts}
 use Rattle.mst_sweep.specs.Seen.{seen_stays}
-use Rattle.mst_sweep.proofs.Failed.{AreLeft}
+use Rattle.mst_sweep.specs.Left.{AreLeft}
 
 -- ---- a bridge that isn't there is in no island
 no_home_from : (k : ℕ) (islands : List (Island (List ℕ) (List ℕ))) (name : List ℕ) → AllByRecursion (λ (j : Island (List ℕ) (List ℕ)). list_any (same_name name) j.bridges ≡ false) islands

@@ -1,5 +1,5 @@
 -- The parts of a sweep, one after another, are the sweep.
-use Rattle.std.proofs.Common.{◌≡◌, ℕ, ◌+◌, ◌<◌, Bool, true, false, cond, List, [], ◌∷◌, ◌++◌, codes, decimal, map, take, drop, refl, sym, ap, subst, ◌∙◌, append-nil, arith}
+use Rattle.std.proofs.Common.{◌≡◌, ℕ, ◌+◌, ◌<◌, Bool, true, false, cond, List, [], ◌∷◌, ◌++◌, codes, decimal, length, map, take, drop, refl, sym, ap, subst, ◌∙◌, append-nil, arith}
 use Rattle.std.specs.List.{AllByRecursion, AllZip, Contains, flat_map, count_by, sum_by, range_with_len}
 use Rattle.std.specs.Prelude.{if◌then◌else◌}
 use Rattle.std.proofs.lemmas.Grind.{flat_map-append}
@@ -63,45 +63,45 @@ failed_ended : (failure : Failure) (roots : List ℕ) (ports : ℕ) (vids : List
 failed_ended failure roots ports vids =
     are_line (failure_words failure ++ codes "roots" ∷ comma_list (map decimal roots) ∷ codes "ports" ∷ decimal ports ∷ codes "cut" ∷ vids_text (set_where (is_among vids)) ∷ [])
 
-module _ (net : Net) (o : Outcome) where
-  told_lines : (failure : Failure) (told : Told) → IsTold net o failure told → AreLines told.text
-  told_lines failure told is =
-      let cuts = is.is.are_cuts in
-      let lines : AreLines is.is.lines = subst AreLines (sym cuts.is) (all_lines (group_text cuts.parts) cuts.groups (each_group cuts.parts cuts.groups)) in
-      let roots = moved_roots net o is.failed is.outcome in
-      let ports = moved_ports net o is.failed is.outcome in
-      subst AreLines (sym is.is.is) (lines_joined (failure_line failure roots ports is.is.vids) is.is.lines (failed_ended failure roots ports is.is.vids) lines)
+told_lines : (net : Net) (o : Outcome) (failure : Failure) (told : Told) → IsTold net o failure told → AreLines told.text
+told_lines net o failure told is =
+    let cuts = is.is.are_cuts in
+    let lines : AreLines is.is.lines = subst AreLines (sym cuts.is) (all_lines (group_text cuts.parts) cuts.groups (each_group cuts.parts cuts.groups)) in
+    let roots = moved_roots net o is.failed is.outcome in
+    let ports = moved_ports net o is.failed is.outcome in
+    subst AreLines (sym is.is.is) (lines_joined (failure_line failure roots ports is.is.vids) is.is.lines (failed_ended failure roots ports is.is.vids) lines)
 
-  each_told : (fs : List Failure) (told : List Told) → AllZip (IsTold net o) fs told → AllByRecursion (λ (t : Told). AreLines t.text) told
+-- ---- parts of any things
+zip_joined : {A B : Type 0} (R : A → B → Type 0) (xs ys : List A) (us vs : List B) → AllZip R xs us → AllZip R ys vs → AllZip R (xs ++ ys) (us ++ vs)
+zip_joined R [] ys [] vs h k = k
+zip_joined R [] ys (u ∷ us) vs h k = absurd h
+zip_joined R (x ∷ xs) ys [] vs h k = absurd h
+zip_joined R (x ∷ xs) ys (u ∷ us) vs h k = (h.0, zip_joined R xs ys us vs h.1 k)
+
+module _ {A : Type 0} (Tells : A → Told → Type 0) (last : List A → ℕ → List ℕ) (lines : (x : A) (t : Told) → Tells x t → AreLines t.text) (ended : (xs : List A) (cuts : ℕ) → ends (last xs cuts) ≡ 1) where
+  each_told : (xs : List A) (told : List Told) → AllZip Tells xs told → AllByRecursion (λ (t : Told). AreLines t.text) told
   each_told [] [] h = tt
   each_told [] (t ∷ told) h = absurd h
-  each_told (f ∷ fs) [] h = absurd h
-  each_told (f ∷ fs) (t ∷ told) h = (told_lines f t h.0, each_told fs told h.1)
+  each_told (x ∷ xs) [] h = absurd h
+  each_told (x ∷ xs) (t ∷ told) h = (lines x t h.0, each_told xs told h.1)
 
-  -- without the last of them
-  without_last : (fs : List Failure) (text : List ℕ) (cuts : ℕ) (x : IsSweepOf net o fs text cuts) → but_last_line text ≡ flat_map (λ (t : Told). t.text) x.told
-  without_last fs text cuts x =
-      ap but_last_line x.is ∙ but_last (flat_map (λ (t : Told). t.text) x.told) (sweep_line fs cuts) (all_lines (λ (t : Told). t.text) x.told (each_told fs x.told x.each)) (last_one fs cuts)
-
-  -- ---- all parts
-  zip_joined : {A B : Type 0} (R : A → B → Type 0) (xs ys : List A) (us vs : List B) → AllZip R xs us → AllZip R ys vs → AllZip R (xs ++ ys) (us ++ vs)
-  zip_joined R [] ys [] vs h k = k
-  zip_joined R [] ys (u ∷ us) vs h k = absurd h
-  zip_joined R (x ∷ xs) ys [] vs h k = absurd h
-  zip_joined R (x ∷ xs) ys (u ∷ us) vs h k = (h.0, zip_joined R xs ys us vs h.1 k)
+  -- without the last line
+  without_last : (xs : List A) (text : List ℕ) (cuts : ℕ) (x : IsTextOf Tells last xs text cuts) → but_last_line text ≡ flat_map (λ (t : Told). t.text) x.told
+  without_last xs text cuts x =
+      ap but_last_line x.is ∙ but_last (flat_map (λ (t : Told). t.text) x.told) (last xs cuts) (all_lines (λ (t : Told). t.text) x.told (each_told xs x.told x.each)) (ended xs cuts)
 
   -- what is told of parts of a list, one after another
-  module _ (all : List Failure) (count : ℕ) where
-    abbrev numbered : ℕ → List Failure
+  module _ (all : List A) (count : ℕ) where
+    abbrev numbered : ℕ → List A
     numbered number = part_of (record { number = number; count = count }) all
 
     record Together (numbers : List ℕ) (parts : List ToldOfPart) : Type 0 where
       told : List Told
-      each : AllZip (IsTold net o) (flat_map numbered numbers) told
+      each : AllZip Tells (flat_map numbered numbers) told
       texts : flat_map (λ (p : ToldOfPart). but_last_line p.text) parts ≡ flat_map (λ (t : Told). t.text) told
       cuts : sum_by (λ (p : ToldOfPart). p.cuts) parts ≡ count_by (λ (t : Told). t.cuts) told
 
-    together : (numbers : List ℕ) (parts : List ToldOfPart) → AllZip (λ number (part : ToldOfPart). IsSweepOf net o (numbered number) part.text part.cuts) numbers parts → Together numbers parts
+    together : (numbers : List ℕ) (parts : List ToldOfPart) → AllZip (λ number (part : ToldOfPart). IsTextOf Tells last (numbered number) part.text part.cuts) numbers parts → Together numbers parts
     together [] [] h = record { told = []; each = tt; texts = refl; cuts = refl }
     together [] (part ∷ parts) h = absurd h
     together (n ∷ numbers) [] h = absurd h
@@ -111,18 +111,48 @@ module _ (net : Net) (o : Outcome) where
         let first = without_last (numbered n) part.text part.cuts x in
         record {
           told = x.told ++ rest.told;
-          each = zip_joined (IsTold net o) (numbered n) (flat_map numbered numbers) x.told rest.told x.each rest.each;
+          each = zip_joined Tells (numbered n) (flat_map numbered numbers) x.told rest.told x.each rest.each;
           texts = (λ i. first i ++ rest.texts i) ∙ sym (flat_map-append (λ (t : Told). t.text) x.told rest.told);
           cuts = sum_by-cons (λ (p : ToldOfPart). p.cuts) part parts ∙ (λ i. x.counted i + rest.cuts i) ∙ sym (sum_by-append (λ (t : Told). cond t.cuts 1 0) x.told rest.told);
         }
 
-  pub joined : ((told others : List Told) → AllZip (IsTold net o) (failures net) told → AllZip (IsTold net o) (failures net) others → told ≡ others)
-      → (count : ℕ) → 0 < count → (parts : List ToldOfPart) (text : List ℕ) (cuts : ℕ) → AreSweepParts net o count parts → IsSweep net o text cuts
+  -- all parts
+  pub all_joined : (all : List A) → ((told others : List Told) → AllZip Tells all told → AllZip Tells all others → told ≡ others) → (count : ℕ) → 0 < count → (parts : List ToldOfPart) (text : List ℕ) (cuts : ℕ)
+      → AllZip (λ number (part : ToldOfPart). IsTextOf Tells last (part_of (record { number = number; count = count }) all) part.text part.cuts) (range_with_len 1 count) parts → IsTextOf Tells last all text cuts
       → (flat_map (λ (p : ToldOfPart). but_last_line p.text) parts ≡ but_last_line text) × (sum_by (λ (p : ToldOfPart). p.cuts) parts ≡ cuts)
-  joined one count some parts text cuts are x =
-      let t = together (failures net) count (range_with_len 1 count) parts are in
-      let each : AllZip (IsTold net o) (failures net) t.told = subst (λ l. AllZip (IsTold net o) l t.told) (all_parts count some (failures net)) t.each in
+  all_joined all one count some parts text cuts are x =
+      let t = together all count (range_with_len 1 count) parts are in
+      let each : AllZip Tells all t.told = subst (λ l. AllZip Tells l t.told) (all_parts count some all) t.each in
       let same : t.told ≡ x.told = one t.told x.told each x.each in (
-        t.texts ∙ ap (flat_map (λ (t : Told). t.text)) same ∙ sym (without_last (failures net) text cuts x),
+        t.texts ∙ ap (flat_map (λ (t : Told). t.text)) same ∙ sym (without_last all text cuts x),
         t.cuts ∙ ap (count_by (λ (t : Told). t.cuts)) same ∙ sym x.counted,
       )
+
+-- of the failures of a network
+pub joined : (net : Net) (o : Outcome) → ((told others : List Told) → AllZip (IsTold net o) (failures net) told → AllZip (IsTold net o) (failures net) others → told ≡ others)
+    → (count : ℕ) → 0 < count → (parts : List ToldOfPart) (text : List ℕ) (cuts : ℕ) → AreSweepParts net o count parts → IsSweep net o text cuts
+    → (flat_map (λ (p : ToldOfPart). but_last_line p.text) parts ≡ but_last_line text) × (sum_by (λ (p : ToldOfPart). p.cuts) parts ≡ cuts)
+joined net o one count some parts text cuts are x = all_joined (IsTold net o) sweep_line (told_lines net o) last_one (failures net) one count some parts text cuts are x
+
+-- and of pairs of them
+pair_lines : (net : Net) (o : Outcome) (pair : Pair) (told : Told) → IsPairTold net o pair told → AreLines told.text
+pair_lines net o pair told is =
+    let cuts = is.is.are_cuts in
+    let lines : AreLines is.is.lines = subst AreLines (sym cuts.is) (all_lines (group_text cuts.parts) cuts.groups (each_group cuts.parts cuts.groups)) in
+    subst AreLines (sym is.is.is) (go (has_any is.is.vids) is.is.vids is.is.lines lines)
+  where
+    go : (some : Bool) (vids lines : List ℕ) → AreLines lines → AreLines (if some then pair_line pair vids ++ lines else [])
+    go true vids lines h =
+        lines_joined (pair_line pair vids) lines
+        (are_line (codes "pair" ∷ (failure_words pair.first ++ failure_words pair.second ++ codes "cut" ∷ vids_text (set_where (is_among vids)) ∷ []))) h
+    go false vids lines h = tt
+
+last_pairs : (all : List Pair) (cuts : ℕ) → ends (last_of_pairs all cuts) ≡ 1
+last_pairs all cuts =
+    one_line (codes "sweep" ∷ codes "pairs" ∷ decimal (length all) ∷ codes "cuts" ∷ decimal cuts ∷ [])
+    (refl, (refl, (decimal_word (length all), (refl, (decimal_word cuts, tt)))))
+
+pub pairs_joined : (net : Net) (o : Outcome) → ((told others : List Told) → AllZip (IsPairTold net o) (pairs_of (failures net)) told → AllZip (IsPairTold net o) (pairs_of (failures net)) others → told ≡ others)
+    → (count : ℕ) → 0 < count → (parts : List ToldOfPart) (text : List ℕ) (cuts : ℕ) → ArePairsParts net o count parts → IsPairs net o text cuts
+    → (flat_map (λ (p : ToldOfPart). but_last_line p.text) parts ≡ but_last_line text) × (sum_by (λ (p : ToldOfPart). p.cuts) parts ≡ cuts)
+pairs_joined net o one count some parts text cuts are x = all_joined (IsPairTold net o) last_of_pairs (pair_lines net o) last_pairs (pairs_of (failures net)) one count some parts text cuts are x

@@ -10,7 +10,7 @@ use Rattle.mst_diff.specs.trees.Forest.{Forest, IsForest}
 use Rattle.mst_vlan.specs.Reach.{vid_links, AreIslandsOf}
 use Rattle.mst_sweep.specs.Parts.{AreParts}
 use Rattle.mst_sweep.specs.Touched.{AreTouched, ArePlaces, AreWhereTouched, BreakNoLinks}
-use Rattle.mst_sweep.proofs.Failed.{AreLeft}
+use Rattle.mst_sweep.specs.Left.{AreLeft}
 use Rattle.mst_sweep.proofs.KeptLinks.{kept_or_alone}
 use Rattle.mst_sweep.proofs.StillJoined.{no_parts, still_joined}
 

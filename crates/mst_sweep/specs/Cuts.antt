@@ -1,4 +1,4 @@
--- The VIDs that a failure cuts, and their parts.
+-- The VIDs that failures cut, and their parts.
 use Rattle.std.specs.Prelude.{◌≡◌, ℕ, true, List, [], ◌∷◌, ◌++◌, filter, codes, if◌then◌else◌}
 use Rattle.std.specs.List.{flat_map}
 use Rattle.mst_ids.specs.Vids.{is_vid, set_where, vids_text}
@@ -22,11 +22,16 @@ abbrev pub group_text : (ℕ → List ℕ) → List ℕ → List ℕ
 group_text parts [] = []
 group_text parts (vid ∷ others) = group_line (vid ∷ others) (parts vid)
 
--- these are the VIDs that are cut, and this is the text of the groups of VIDs of equal parts, by the least VID
-pub record AreCuts (a : Net) (o : Outcome) (b : Net) (p : Outcome) (vids : List ℕ) (text : List ℕ) : Type 0 where
+-- Where each VID has parts by this relation, these are the VIDs that have some, and this is the text of the groups of VIDs of equal
+-- parts, by the least VID
+pub record AreCutsBy (HasParts : ℕ → List ℕ → Type 0) (vids : List ℕ) (text : List ℕ) : Type 0 where
   pub parts : ℕ → List ℕ
-  pub are_parts : (vid : ℕ) → is_vid vid ≡ true → AreParts a o b p vid (parts vid)
+  pub are_parts : (vid : ℕ) → is_vid vid ≡ true → HasParts vid (parts vid)
   pub groups : List (List ℕ)
   pub are_groups : AreGroups (λ x y. parts x ≡ parts y) all_vids groups
   pub cut : vids ≡ filter (λ vid. has_any (parts vid)) all_vids
   pub is : text ≡ flat_map (group_text parts) groups
+
+-- these are the VIDs that a change cuts, and this is their text
+abbrev pub AreCuts : Net → Outcome → Net → Outcome → List ℕ → List ℕ → Type 0
+AreCuts a o b p vids text = AreCutsBy (AreParts a o b p) vids text

@@ -59,13 +59,17 @@ abbrev pub sweep_line : List Failure → ℕ → List ℕ
 sweep_line all cuts =
     line (codes "sweep" ∷ codes "lans" ∷ decimal (count_by is_lan all) ∷ codes "bridges" ∷ decimal (count_by is_bridge all) ∷ codes "cuts" ∷ decimal cuts ∷ [])
 
--- this is the text of these failures, one after another, with a last line that counts them, and this the number of those that
--- cut some VID
-pub record IsSweepOf (net : Net) (o : Outcome) (all : List Failure) (text : List ℕ) (cuts : ℕ) : Type 0 where
+-- where this is told of a thing, this is the text of all of these, one after another, with a last line, and this the number of those
+-- that cut some VID
+pub record IsTextOf {A : Type 0} (Tells : A → Told → Type 0) (last : List A → ℕ → List ℕ) (all : List A) (text : List ℕ) (cuts : ℕ) : Type 0 where
   pub told : List Told
-  pub each : AllZip (IsTold net o) all told
+  pub each : AllZip Tells all told
   pub counted : cuts ≡ count_by (λ t. t.cuts) told
-  pub is : text ≡ flat_map (λ t. t.text) told ++ sweep_line all cuts
+  pub is : text ≡ flat_map (λ t. t.text) told ++ last all cuts
+
+-- of these failures, with a last line that counts them
+abbrev pub IsSweepOf : Net → Outcome → List Failure → List ℕ → ℕ → Type 0
+IsSweepOf net o all text cuts = IsTextOf (IsTold net o) sweep_line all text cuts
 
 -- and of all failures of the network
 abbrev pub IsSweep : Net → Outcome → List ℕ → ℕ → Type 0

@@ -1,16 +1,15 @@
-ghost use Rattle.std.specs.Prelude.{◌≡◌, ◌<◌, ◌+◌, ◌++◌, ℕ, List, Ok, IfOk, OnOk, length, map, filter, vec_len};
+ghost use Rattle.std.specs.Prelude.{◌≡◌, ◌<◌, ◌+◌, ◌++◌, ℕ, List, IfOk, OnOk, length, map, filter, slice_index, vec_len};
 ghost use Rattle.std.specs.List.{AllZip, flat_map, list_any};
-ghost use Rattle.mst_net.specs.After.{after};
 ghost use Rattle.mst_net.specs.Tables.{Net, Numbers};
 ghost use Rattle.mst_diff.specs.trees.Agrees.{AreOf, Known};
 ghost use Rattle.mst_diff.specs.trees.Forest.{IsForest};
 ghost use Rattle.mst_diff.specs.plan_text.Bodies.{NumberEach, body_at};
 ghost use Rattle.mst_diff.specs.Reach.{has_any};
 ghost use Rattle.mst_diff.specs.Seen.{seen_both};
-ghost use Rattle.mst_sweep.specs.declared.failure.Failure.{Failure as FailureOf};
-ghost use Rattle.mst_sweep.specs.Failures.{edit_of};
+ghost use Rattle.mst_sweep.specs.Left.{AreLeft};
 ghost use Rattle.mst_sweep.specs.Parts.{AreParts};
-ghost use Rattle.mst_sweep.specs.Cuts.{cut_line, group_line, group_text, AreCuts};
+ghost use Rattle.mst_sweep.specs.Cuts.{cut_line, group_line, group_text, AreCuts, AreCutsBy};
+ghost use Rattle.mst_sweep.specs.CutClasses.{AreClasses};
 ghost use Rattle.mst_sweep.specs.Baseline.{AreHomes, IsBaseline};
 ghost use Rattle.mst_sweep.specs.Touched.{AreWhereTouched};
 
@@ -21,8 +20,8 @@ use crate::parts::{push_parts, staying};
 use indexmap::IndexMap;
 use mst_diff::vlan_laws::islands_of_vid;
 use mst_diff::{Both, Planned, copies, set_of, vids};
-use mst_graph::groups_by_body;
 use mst_graph::laws::group_lists;
+use mst_graph::{Numbering, groups_by_body};
 use mst_ids::{BridgeNo, Vid, push_bytes, push_end};
 use std::alloc::{AllocError, Global};
 
@@ -60,8 +59,8 @@ fn parts_if_cut(
     requires new { Known new.now.view.now new.now.forest.now.regions }
     requires both { both.now ≡ seen_both old.now.view.now new.now.view.now }
     requires touched { AreWhereTouched old.now.view.now old.now.forest.now new.now.view.now new.now.forest.now touched.now }
-    ensures { IfOk result (λ text. (failure : FailureOf) (a b : Net) (n k : Numbers) (is : IsForest a n old.now.forest.now) (are : IsForest b k new.now.forest.now) → AreOf a n old.now.view.now old.now.forest.now.regions → AreOf b k new.now.view.now new.now.forest.now.regions
-        → after (edit_of failure) a ≡ Ok b → AreHomes a n is.outcome vid homes.now.entries → AreParts a is.outcome b are.outcome vid text.items) }
+    ensures { IfOk result (λ text. (a b : Net) (n k : Numbers) (is : IsForest a n old.now.forest.now) (are : IsForest b k new.now.forest.now) → AreOf a n old.now.view.now old.now.forest.now.regions → AreOf b k new.now.view.now new.now.forest.now.regions
+        → AreLeft a b → AreHomes a n is.outcome vid homes.now.entries → AreParts a is.outcome b are.outcome vid text.items) }
 {
     islands_of_vid();
     if breaks_no_link(old, new, vid, touched) {
@@ -70,8 +69,32 @@ fn parts_if_cut(
     parts(alloc, old, new, homes, both, vid)
 }
 
+/// The parts of the first VID of a class.
+pub(crate) fn parts_at(
+    alloc: Global,
+    old: &Planned,
+    new: &Planned,
+    baseline: &Baseline,
+    both: &[Both],
+    touched: &[usize],
+    class: usize,
+) -> Result<Vec<u8>, AllocError>
+    requires new { Known new.now.view.now new.now.forest.now.regions }
+    requires both { both.now ≡ seen_both old.now.view.now new.now.view.now }
+    requires touched { AreWhereTouched old.now.view.now old.now.forest.now new.now.view.now new.now.forest.now touched.now }
+    requires baseline { IsBaseline old.now.view.now old.now.forest.now baseline.now }
+    requires there { class < length baseline.now.classes.firsts.items }
+    ensures { IfOk result (λ text. (a b : Net) (n k : Numbers) (is : IsForest a n old.now.forest.now) (are : IsForest b k new.now.forest.now) → AreOf a n old.now.view.now old.now.forest.now.regions → AreOf b k new.now.view.now new.now.forest.now.regions
+        → AreLeft a b → AreParts a is.outcome b are.outcome (slice_index baseline.now.classes.firsts.items class + 1) text.items) }
+{
+    let firsts = baseline.classes.firsts.as_slice();
+    let homes = baseline.homes.as_slice();
+    let vid = Vid::new(firsts[class] as u64 + 1).unwrap();
+    parts_if_cut(alloc, old, new, &homes[class], both, touched, vid)
+}
+
 /// The parts of the first VID of each class.
-fn parts_of_firsts(
+pub(crate) fn parts_of_firsts(
     alloc: Global,
     old: &Planned,
     new: &Planned,
@@ -84,22 +107,18 @@ fn parts_of_firsts(
     requires touched { AreWhereTouched old.now.view.now old.now.forest.now new.now.view.now new.now.forest.now touched.now }
     requires baseline { IsBaseline old.now.view.now old.now.forest.now baseline.now }
     ensures as_long { IfOk result (λ texts. vec_len texts ≡ length baseline.now.classes.firsts.items) }
-    ensures parts { IfOk result (λ texts. (failure : FailureOf) (a b : Net) (n k : Numbers) (is : IsForest a n old.now.forest.now) (are : IsForest b k new.now.forest.now) → AreOf a n old.now.view.now old.now.forest.now.regions → AreOf b k new.now.view.now new.now.forest.now.regions
-        → after (edit_of failure) a ≡ Ok b → AllZip (λ place text. AreParts a is.outcome b are.outcome (place + 1) text) baseline.now.classes.firsts.items (map (λ text. text.items) texts.items)) }
+    ensures parts { IfOk result (λ texts. (a b : Net) (n k : Numbers) (is : IsForest a n old.now.forest.now) (are : IsForest b k new.now.forest.now) → AreOf a n old.now.view.now old.now.forest.now.regions → AreOf b k new.now.view.now new.now.forest.now.regions
+        → AreLeft a b → AllZip (λ place text. AreParts a is.outcome b are.outcome (place + 1) text) baseline.now.classes.firsts.items (map (λ text. text.items) texts.items)) }
 {
-    let firsts = baseline.classes.firsts.as_slice();
-    let homes = baseline.homes.as_slice();
     let mut texts = Vec::new(alloc);
-    for class in 0..firsts.len() {
-        let vid = Vid::new(firsts[class] as u64 + 1).unwrap();
-        let text = parts_if_cut(alloc, old, new, &homes[class], both, touched, vid)?;
-        texts.push(text)?;
+    for class in 0..baseline.classes.firsts.len() {
+        texts.push(parts_at(alloc, old, new, baseline, both, touched, class)?)?;
     }
     Ok(texts)
 }
 
 /// Whether there are parts.
-fn is_any(parts: &[u8]) -> bool
+pub(crate) fn is_any(parts: &[u8]) -> bool
     ensures { result ≡ has_any parts.now }
 {
     match parts {
@@ -197,6 +216,31 @@ fn cut_of(
     Ok(cut)
 }
 
+/// Appends the lines of the VIDs that have parts, VIDs of equal parts in one line, by the parts of the first VID of each class, and
+/// answers these VIDs. `AllocError`: memory was wanted and refused; part of them may have been appended.
+pub(crate) fn push_bodies(
+    alloc: Global,
+    classes: &Numbering,
+    bodies: Vec<Vec<u8>>,
+    out: &mut Vec<u8>,
+) -> Result<Vec<Vid>, AllocError>
+    requires classes { AreClasses classes.now }
+    requires as_long { vec_len bodies ≡ length classes.now.firsts.items }
+    ensures { IfOk result (λ cut. (text : List ℕ) × AreCutsBy (λ vid parts. parts ≡ body_at classes.now.numbers.items (map (λ body. body.items) bodies.items) vid) cut.items text × (out.new.items ≡ out.old.items ++ text)) }
+{
+    group_lists::<Vid>();
+    let texts = bodies.as_slice();
+    if !are_any(texts) {
+        return Ok(Vec::new(alloc));
+    }
+    let kept = copies(alloc, bodies.as_slice())?;
+    let vids = vids(alloc)?;
+    let numbers = classes.numbers.as_slice();
+    let groups = groups_by_body(alloc, vids.as_slice(), numbers, bodies)?;
+    push_groups(groups.as_slice(), numbers, kept.as_slice(), out)?;
+    cut_of(alloc, vids.as_slice(), numbers, kept.as_slice())
+}
+
 /// Appends the lines of VIDs that a failure cuts, VIDs of equal parts in one line, and answers these VIDs. `AllocError`:
 /// memory was wanted and refused; part of them may have been appended.
 ///
@@ -215,19 +259,9 @@ pub(crate) fn push_cuts(
     requires both { both.now ≡ seen_both old.now.view.now new.now.view.now }
     requires touched { AreWhereTouched old.now.view.now old.now.forest.now new.now.view.now new.now.forest.now touched.now }
     requires baseline { IsBaseline old.now.view.now old.now.forest.now baseline.now }
-    ensures { IfOk result (λ cut. (failure : FailureOf) (a b : Net) (n k : Numbers) (is : IsForest a n old.now.forest.now) (are : IsForest b k new.now.forest.now) → AreOf a n old.now.view.now old.now.forest.now.regions → AreOf b k new.now.view.now new.now.forest.now.regions
-        → after (edit_of failure) a ≡ Ok b → (text : List ℕ) × AreCuts a is.outcome b are.outcome cut.items text × (out.new.items ≡ out.old.items ++ text)) }
+    ensures { IfOk result (λ cut. (a b : Net) (n k : Numbers) (is : IsForest a n old.now.forest.now) (are : IsForest b k new.now.forest.now) → AreOf a n old.now.view.now old.now.forest.now.regions → AreOf b k new.now.view.now new.now.forest.now.regions
+        → AreLeft a b → (text : List ℕ) × AreCuts a is.outcome b are.outcome cut.items text × (out.new.items ≡ out.old.items ++ text)) }
 {
-    group_lists::<Vid>();
     let bodies = parts_of_firsts(alloc, old, new, baseline, both, touched)?;
-    let texts = bodies.as_slice();
-    if !are_any(texts) {
-        return Ok(Vec::new(alloc));
-    }
-    let kept = copies(alloc, bodies.as_slice())?;
-    let vids = vids(alloc)?;
-    let numbers = baseline.classes.numbers.as_slice();
-    let groups = groups_by_body(alloc, vids.as_slice(), numbers, bodies)?;
-    push_groups(groups.as_slice(), numbers, kept.as_slice(), out)?;
-    cut_of(alloc, vids.as_slice(), numbers, kept.as_slice())
+    push_bodies(alloc, &baseline.classes, bodies, out)
 }

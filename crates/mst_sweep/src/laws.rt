@@ -1,5 +1,5 @@
 //! Laws of the text of what each single failure does. Their functions do nothing: a caller has their clauses.
-ghost use Rattle.std.specs.Prelude.{◌≡◌, ◌↔◌, ◌+◌, ◌/◌, ◌≤◌, ℕ, Bool, true, List, length, Ok};
+ghost use Rattle.std.specs.Prelude.{◌≡◌, ◌↔◌, ◌+◌, ◌-◌, ◌*◌, ◌/◌, ◌≤◌, ℕ, Bool, true, List, length, Ok};
 ghost use Rattle.std.specs.List.{flat_map, sum_by};
 ghost use Rattle.mst_net.specs.After.{after};
 ghost use Rattle.mst_net.specs.Tables.{Net, IsNetwork};
@@ -8,12 +8,13 @@ ghost use Rattle.mst_diff.specs.trees.Outcome.{Outcome, IsOutcome};
 ghost use Rattle.mst_diff.specs.Reach.{has_any};
 ghost use Rattle.mst_sweep.specs.Apart.{AllAreMembers, ComeApart};
 ghost use Rattle.mst_sweep.specs.Failures.{edit_of, failures};
+ghost use Rattle.mst_sweep.specs.Pairs.{pairs_of, IsPairs, IsPairsPart, ArePairsParts};
 ghost use Rattle.mst_sweep.specs.Parts.{AreParts};
 ghost use Rattle.mst_sweep.specs.declared.failure.Failure.{Failure as FailureOf};
 ghost use Rattle.mst_sweep.specs.SweepText.{IsFailureText, IsSweep};
 ghost use Rattle.mst_sweep.specs.SweepParts.{PartOf, IsPart, ToldOfPart, whole_part, part_of, IsSweepPart, AreSweepParts, but_last_line};
 
-use mst_diff::trees_laws::one_outcome;
+use mst_diff::trees_laws::{has_outcome, one_outcome};
 use mst_diff::vlan_laws::{islands_of_vid, joined_without_loop};
 use mst_graph::laws::group_lists;
 use mst_ids::Vid;
@@ -56,6 +57,25 @@ pub fn sweep_parts()
     islands_of_vid();
     group_lists::<Vid>();
     networks();
+}
+
+/// What pairs of failures do is one text and one number of pairs that cut some VID together, too, of each part of the pairs, and
+/// there is one. The parts are the whole: so many of them, each without its last line, are one after another its text without its
+/// last line, and their numbers have its number as their sum. A part has as many pairs as all over the number of parts, rounded
+/// down, or one more; and twice as many as there are in all are each failure with each other.
+pub fn pairs()
+    ensures one { (net : Net) (o p : Outcome) (part : PartOf) (text other : List ℕ) (c d : ℕ) → IsNetwork net → IsOutcome net o → IsOutcome net p → IsPairsPart part net o text c → IsPairsPart part net p other d → (text ≡ other) × (c ≡ d) }
+    ensures some { (net : Net) (part : PartOf) → IsNetwork net → (o : Outcome) × (text : List ℕ) × (cuts : ℕ) × IsOutcome net o × IsPairsPart part net o text cuts }
+    ensures joined { (net : Net) (o : Outcome) (count : ℕ) (parts : List ToldOfPart) (text : List ℕ) (cuts : ℕ) → IsNetwork net → 1 ≤ count → ArePairsParts net o count parts → IsPairs net o text cuts
+        → (flat_map (λ part. but_last_line part.text) parts ≡ but_last_line text) × (sum_by (λ part. part.cuts) parts ≡ cuts) }
+    ensures lengths { (net : Net) (part : PartOf) → IsPart part → (length (pairs_of (failures net)) / part.count ≤ length (part_of part (pairs_of (failures net)))) × (length (part_of part (pairs_of (failures net))) ≤ length (pairs_of (failures net)) / part.count + 1) }
+    ensures many { (net : Net) → 2 * length (pairs_of (failures net)) ≡ length (failures net) * (length (failures net) - 1) }
+    ensures whole { (net : Net) (o : Outcome) (text : List ℕ) (cuts : ℕ) → IsPairsPart whole_part net o text cuts ↔ IsPairs net o text cuts }
+{
+    has_outcome();
+    one_outcome();
+    islands_of_vid();
+    group_lists::<Vid>();
 }
 
 /// Where no logical port's role is restricted, a VID of which every logical port is a member is cut by a failure exactly

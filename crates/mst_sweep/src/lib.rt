@@ -1,9 +1,11 @@
 //! What each single failure of a network does: a LAN that goes down, or a bridge that goes off. Which trees' roots move, how
-//! many roles, and which VIDs are cut into which parts.
+//! many roles, and which VIDs are cut into which parts. And which VIDs each pair of failures cuts that neither cuts alone.
 #![tactic(auto)]
 
 mod baseline;
+mod both_failed;
 mod cuts;
+mod failing;
 mod failure;
 mod homes;
 pub mod laws;
@@ -18,6 +20,8 @@ mod touched;
 mod whole;
 
 pub use baseline::Baseline;
+pub use both_failed::{Single, cut_classes, push_last_of_pairs, push_pair};
+pub use failing::Failing;
 pub use failure::{Failure, failures};
 pub use sweep::{push_failure, push_last};
 pub use sweep_part::SweepPart;

@@ -1,5 +1,5 @@
-ghost use Rattle.std.specs.Prelude.{◌≡◌, ◌≤◌};
-ghost use Rattle.mst_sweep.specs.SweepParts.{end_of as end_of_parts, part_at, part_of, whole_part};
+ghost use Rattle.std.specs.Prelude.{◌≡◌, ◌≤◌, ◌-◌};
+ghost use Rattle.mst_sweep.specs.SweepParts.{end_of as end_of_parts, part_at, part_of, whole_part, IsPart};
 
 use crate::failure::Failure;
 use std::marker::Model;
@@ -49,9 +49,24 @@ impl SweepPart {
     pub fn of<'a>(self, failures: &'a [Failure]) -> &'a [Failure]
         ensures { result.now ≡ part_of self failures.now }
     {
-        let begin = end_of(self.number - 1, self.count, failures.len());
-        let end = end_of(self.number, self.count, failures.len());
+        let begin = self.begin(failures.len());
+        let end = self.end(failures.len());
         &failures[begin..end]
+    }
+
+    /// The place in a list of this length at which this part of it begins, counted from 0.
+    pub fn begin(self, len: usize) -> usize
+        ensures { result ≡ end_of_parts (self.number - 1) self.count len }
+    {
+        end_of(self.number - 1, self.count, len)
+    }
+
+    /// The place in a list of this length at which this part of it ends. A part is one of so many.
+    pub fn end(self, len: usize) -> usize
+        ensures end { result ≡ end_of_parts self.number self.count len }
+        ensures part { IsPart self }
+    {
+        end_of(self.number, self.count, len)
     }
 }
 

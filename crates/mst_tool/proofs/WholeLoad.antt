@@ -6,6 +6,7 @@ use Rattle.mst_ids.specs.declared.name.PortName.{PortName}
 use Rattle.mst_lang.specs.Lines.{lines_of, ended_lines}
 use Rattle.mst_engine.specs.net.Tables.{Net, IsNetwork}
 use Rattle.mst_engine.specs.report.Explaining.{Explains, unexplained_of}
+use Rattle.mst_engine.specs.report.Pairing.{SweepsPairs}
 use Rattle.mst_engine.specs.report.Picturing.{Depicts}
 use Rattle.mst_engine.specs.report.State.{State, IsState, empty_state}
 use Rattle.mst_engine.specs.report.Summarizing.{Summarizes}
@@ -22,7 +23,7 @@ use Rattle.mst_engine.specs.Steps.{Step, left_by, texts_of, lacking_of, differin
 use Rattle.mst_io.specs.Written.{AppendsFront}
 use Rattle.mst_tool.specs.declared.asked.Asked.{Asked}
 use Rattle.mst_tool.specs.declared.asked.Question.{Question}
-use Rattle.mst_tool.specs.declared.asked.Question.TheVariants.{Explain, Unread, Sweep, Summary, Picture, Undrawn}
+use Rattle.mst_tool.specs.declared.asked.Question.TheVariants.{Explain, Unread, Sweep, Pairs, Summary, Picture, Undrawn}
 use Rattle.mst_engine.specs.declared.engine.Input.TheVariants.{Network}
 use Rattle.mst_print.specs.declared.form.Form.{Form}
 use Rattle.mst_print.specs.declared.form.Shape.{Shape}
@@ -46,6 +47,10 @@ OneExplanation = (net : Net) (name : PortName) (tree : Option ℕ) (text other :
 abbrev pub OneSweep : Type 0
 OneSweep = (net : Net) (part : PartOf) (text other : List ℕ) (c d : ℕ) → IsNetwork net → SweepsPart part net c text → SweepsPart part net d other → (text ≡ other) × (c ≡ d)
 
+-- and what pairs of failures of a part do
+abbrev pub OnePairs : Type 0
+OnePairs = (net : Net) (part : PartOf) (text other : List ℕ) (c d : ℕ) → IsNetwork net → SweepsPairs part net c text → SweepsPairs part net d other → (text ≡ other) × (c ≡ d)
+
 -- and the summary is one
 abbrev pub OneSummary : Type 0
 OneSummary = (net : Net) (text other : List ℕ) → IsNetwork net → Summarizes net text → Summarizes net other → text ≡ other
@@ -55,15 +60,18 @@ abbrev pub OnePicture : Type 0
 OnePicture = (net : Net) (tree : ℕ) (text other : List ℕ) → IsNetwork net → Depicts net tree text → Depicts net tree other → text ≡ other
 
 -- so what is asked has one answer
-one_answer : OneExplanation → OneSweep → OneSummary → OnePicture → (form : Form) (net : Net) (question : Question) (x y : Told) (a b : List ℕ) → IsNetwork net → IsAnswer form net question x a → IsAnswer form net question y b → (y ≡ x) × (b ≡ a)
-one_answer one sweep summary picture form net (Unread f) x y a b is h k = (k.0 ∙ sym h.0, k.1 ∙ sym h.1)
-one_answer one sweep summary picture form net (Sweep part) x y a b is h k =
+one_answer : OneExplanation → OneSweep → OnePairs → OneSummary → OnePicture → (form : Form) (net : Net) (question : Question) (x y : Told) (a b : List ℕ) → IsNetwork net → IsAnswer form net question x a → IsAnswer form net question y b → (y ≡ x) × (b ≡ a)
+one_answer one sweep pairs summary picture form net (Unread f) x y a b is h k = (k.0 ∙ sym h.0, k.1 ∙ sym h.1)
+one_answer one sweep pairs summary picture form net (Sweep part) x y a b is h k =
     let same = one_shown form (codes "sweep") (SweepsPart part net k.0) (SweepsPart part net h.0) (k.0 ≡ h.0) (λ text other p q. sweep net part text other k.0 h.0 is p q) b a k.1 h.1 in
     (k.2 ∙ ap swept same.1 ∙ sym h.2, same.0)
-one_answer one sweep summary picture form net Summary x y a b is h k = (k.0 ∙ sym h.0, same_shown form (codes "summary") (Summarizes net) (λ text other p q. summary net text other is p q) b a k.1 h.1)
-one_answer one sweep summary picture form net (Picture n) x y a b is h k = (k.0 ∙ sym h.0, same_shown form (codes "dot") (Depicts net n) (λ text other p q. picture net n text other is p q) b a k.1 h.1)
-one_answer one sweep summary picture form net (Undrawn f) x y a b is h k = (k.0 ∙ sym h.0, k.1 ∙ sym h.1)
-one_answer one sweep summary picture form net (Explain asked) x y a b is h k = by (unexplained_of net asked.port asked.tree) h k
+one_answer one sweep pairs summary picture form net (Pairs part) x y a b is h k =
+    let same = one_shown form (codes "sweep") (SweepsPairs part net k.0) (SweepsPairs part net h.0) (k.0 ≡ h.0) (λ text other p q. pairs net part text other k.0 h.0 is p q) b a k.1 h.1 in
+    (k.2 ∙ ap swept same.1 ∙ sym h.2, same.0)
+one_answer one sweep pairs summary picture form net Summary x y a b is h k = (k.0 ∙ sym h.0, same_shown form (codes "summary") (Summarizes net) (λ text other p q. summary net text other is p q) b a k.1 h.1)
+one_answer one sweep pairs summary picture form net (Picture n) x y a b is h k = (k.0 ∙ sym h.0, same_shown form (codes "dot") (Depicts net n) (λ text other p q. picture net n text other is p q) b a k.1 h.1)
+one_answer one sweep pairs summary picture form net (Undrawn f) x y a b is h k = (k.0 ∙ sym h.0, k.1 ∙ sym h.1)
+one_answer one sweep pairs summary picture form net (Explain asked) x y a b is h k = by (unexplained_of net asked.port asked.tree) h k
   where
     by : (why : Option Unexplained) → Tells form net asked why x a → Tells form net asked why y b → (y ≡ x) × (b ≡ a)
     by (Some why) h k = (k.0 ∙ sym h.0, k.1 ∙ sym h.1)
@@ -75,10 +83,14 @@ explained_shown form net settled asked text printed same none h e =
     subst (λ net. IsAnswer form net (Explain asked) given printed) same
     (subst (λ why. Tells form settled asked why given printed) (sym none) (refl, is_shown form (codes "explain") (Explains settled asked.port asked.tree) text printed h e))
 
--- what tells of single failures, and what summarizes
+-- what tells of single failures and of pairs, and what summarizes
 pub swept_shown : (form : Form) (part : PartOf) (net settled : Net) (cuts : ℕ) (text printed : List ℕ) → settled ≡ net → SweepsPart part settled cuts text → printed ≡ shown form None (codes "sweep") text → IsAnswer form net (Sweep part) (swept cuts) printed
 swept_shown form part net settled cuts text printed same h e =
     subst (λ net. IsAnswer form net (Sweep part) (swept cuts) printed) same (cuts, is_shown form (codes "sweep") (SweepsPart part settled cuts) text printed h e, refl)
+
+pub paired_shown : (form : Form) (part : PartOf) (net settled : Net) (cuts : ℕ) (text printed : List ℕ) → settled ≡ net → SweepsPairs part settled cuts text → printed ≡ shown form None (codes "sweep") text → IsAnswer form net (Pairs part) (swept cuts) printed
+paired_shown form part net settled cuts text printed same h e =
+    subst (λ net. IsAnswer form net (Pairs part) (swept cuts) printed) same (cuts, is_shown form (codes "sweep") (SweepsPairs part settled cuts) text printed h e, refl)
 
 pub summary_shown : (form : Form) (net settled : Net) (text printed : List ℕ) → settled ≡ net → Summarizes settled text → printed ≡ shown form None (codes "summary") text → IsAnswer form net Summary given printed
 summary_shown form net settled text printed same h e =
@@ -119,9 +131,9 @@ answer_left : (form : Form) (question : Question) (reads written mid : Option (L
     → IsAnswer form t.state.net question told text → IsAnswer form (left_by empty_state s.steps).net question told text
 answer_left form question reads written mid t told text s h = subst (λ (now : State). IsAnswer form now.net question told text) s.state h
 
-pub asks : OneLoad → LoadsStates → OneExplanation → OneSweep → OneSummary → OnePicture → (form : Form) (question : Question) (reads written mid now : Option (List ℕ)) (t : Tally) (told : Told) (text : List ℕ) → Served (Network (of_script form)) empty_state reads written mid t
+pub asks : OneLoad → LoadsStates → OneExplanation → OneSweep → OnePairs → OneSummary → OnePicture → (form : Form) (question : Question) (reads written mid now : Option (List ℕ)) (t : Tally) (told : Told) (text : List ℕ) → Served (Network (of_script form)) empty_state reads written mid t
     → IsAnswer form t.state.net question told text → Appends mid now text → Asks form question reads written now (counted_with (outcome_of t) told)
-asks one states one_explained one_swept one_summarized one_depicted form question reads written mid now t told text s h went =
+asks one states one_explained one_swept one_paired one_summarized one_depicted form question reads written mid now t told text s h went =
     let answer = answer_left form question reads written mid t told text s h in
     record {
       script = s.bytes;
@@ -136,12 +148,12 @@ asks one states one_explained one_swept one_summarized one_depicted form questio
       refused = ap (λ n. n + told.refused) s.refused;
       differing = omega (arith, s.differing, loads_same (of_script form) reads written mid t s);
       only = λ others loads. one (of_script form) (lines_of s.bytes) others s.steps loads s.runs;
-      only_answer = λ also other k. one_answer one_explained one_swept one_summarized one_depicted form (left_by empty_state s.steps).net question told also text other (states (of_script form) (lines_of s.bytes) s.steps s.runs).network answer k;
+      only_answer = λ also other k. one_answer one_explained one_swept one_paired one_summarized one_depicted form (left_by empty_state s.steps).net question told also text other (states (of_script form) (lines_of s.bytes) s.steps s.runs).network answer k;
     }
 
-pub answers_front : OneLoad → LoadsStates → OneExplanation → OneSweep → OneSummary → OnePicture → (form : Form) (question : Question) (reads written mid now : Option (List ℕ)) (t : Tally) (told : Told) (text : List ℕ) → Served (Network (of_script form)) empty_state reads written mid t
+pub answers_front : OneLoad → LoadsStates → OneExplanation → OneSweep → OnePairs → OneSummary → OnePicture → (form : Form) (question : Question) (reads written mid now : Option (List ℕ)) (t : Tally) (told : Told) (text : List ℕ) → Served (Network (of_script form)) empty_state reads written mid t
     → IsAnswer form t.state.net question told text → AppendsFront mid now text → AsksFront form question reads written now
-answers_front one states one_explained one_swept one_summarized one_depicted form question reads written mid now t told text s h went =
+answers_front one states one_explained one_swept one_paired one_summarized one_depicted form question reads written mid now t told text s h went =
     let answer = answer_left form question reads written mid t told text s h in
     inr (record {
       script = s.bytes;
@@ -153,5 +165,5 @@ answers_front one states one_explained one_swept one_summarized one_depicted for
       answers = answer;
       printed = AppendsFront-after written mid now (texts_of s.steps) text s.printed went;
       only = λ others loads. one (of_script form) (lines_of s.bytes) others s.steps loads s.runs;
-      only_answer = λ also other k. one_answer one_explained one_swept one_summarized one_depicted form (left_by empty_state s.steps).net question told also text other (states (of_script form) (lines_of s.bytes) s.steps s.runs).network answer k;
+      only_answer = λ also other k. one_answer one_explained one_swept one_paired one_summarized one_depicted form (left_by empty_state s.steps).net question told also text other (states (of_script form) (lines_of s.bytes) s.steps s.runs).network answer k;
     })

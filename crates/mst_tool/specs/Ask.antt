@@ -2,6 +2,7 @@
 use Rattle.std.specs.Prelude.{◌≡◌, ◌+◌, ◌++◌, ◌⊎◌, ◌==◌, ℕ, List, Option, None, Some, Result, Ok, Err, codes, if◌then◌else◌}
 use Rattle.std.specs.Io.KnownBytes.{Appends}
 use Rattle.std.specs.Option.{option_map}
+use Rattle.std.specs.Str.{bytes_eq}
 use Rattle.mst_lang.specs.Arguments.{tree}
 use Rattle.mst_lang.specs.Faults as fault
 use Rattle.mst_lang.specs.Lines.{lines_of}
@@ -12,6 +13,7 @@ use Rattle.mst_engine.specs.report.Explaining as unexplained
 use Rattle.mst_engine.specs.report.Picturing.{Depicts}
 use Rattle.mst_engine.specs.report.State.{empty_state}
 use Rattle.mst_engine.specs.report.Summarizing.{Summarizes}
+use Rattle.mst_engine.specs.report.Pairing.{SweepsPairs}
 use Rattle.mst_engine.specs.report.Sweeping.{SweepsPart}
 use Rattle.mst_engine.specs.sweep.SweepParts.{whole_part}
 use Rattle.mst_engine.specs.report.declared.explaining.Unexplained.{Unexplained}
@@ -23,7 +25,7 @@ use Rattle.mst_engine.specs.Steps.{Step, left_by, texts_of, refusals_of, lacks_o
 use Rattle.mst_io.specs.Written.{AppendsFront, Reads}
 use Rattle.mst_tool.specs.declared.asked.Asked.{Asked}
 use Rattle.mst_tool.specs.declared.asked.Question.{Question}
-use Rattle.mst_tool.specs.declared.asked.Question.TheVariants.{Explain, Unread as unread_question, Sweep, Summary, Picture, Undrawn as undrawn_question}
+use Rattle.mst_tool.specs.declared.asked.Question.TheVariants.{Explain, Unread as unread_question, Sweep, Pairs, Summary, Picture, Undrawn as undrawn_question}
 use Rattle.mst_tool.specs.declared.asks.Answer.{Answer}
 use Rattle.mst_tool.specs.declared.asks.Answer.TheVariants.{Text, Unread, Refused, Swept, Undrawn}
 use Rattle.mst_print.specs.declared.form.Form.{Form}
@@ -45,11 +47,24 @@ drawn_of (Ok n) = Picture n
 abbrev pub picture_question : List ℕ → Question
 picture_question word = drawn_of (tree word)
 
--- what a word for a part, if there is one, asks: what single failures of the part do, or of all. A word that is none asks
--- nothing
-abbrev pub sweep_question : Option (List ℕ) → Option Question
-sweep_question None = Some (Sweep whole_part)
-sweep_question (Some word) = option_map Sweep (part_value word)
+-- what a word for a part, if there is one, asks behind `pairs`: what pairs of failures of the part do, or all. A word that is none
+-- asks nothing
+abbrev pub pairs_question : Option (List ℕ) → Option Question
+pairs_question None = Some (Pairs whole_part)
+pairs_question (Some word) = option_map Pairs (part_value word)
+
+-- what a word for a part asks, if no other stands behind it: what single failures of the part do
+abbrev pub part_asked : List ℕ → Option (List ℕ) → Option Question
+part_asked word None = option_map Sweep (part_value word)
+part_asked word (Some other) = None
+
+-- what words behind a script ask, where there are some: pairs, or a part of single failures. Without a word it is all of these
+abbrev pub sweep_by_word : List ℕ → Option (List ℕ) → Option Question
+sweep_by_word word behind = if bytes_eq word (codes "pairs") then pairs_question behind else part_asked word behind
+
+abbrev pub sweep_question : Option (List ℕ) → Option (List ℕ) → Option Question
+sweep_question None behind = Some (Sweep whole_part)
+sweep_question (Some word) behind = sweep_by_word word behind
 
 -- what an answer counts: as a refused line, and as one that tells of a difference
 pub record Told : Type 0 where
@@ -63,7 +78,7 @@ given = record { refused = 0; differing = 0 }
 abbrev pub not_given : Told
 not_given = record { refused = 1; differing = 0 }
 
--- one that tells of so many failures that cut some VID
+-- one that tells of so many failures that cut some VID, or of so many pairs
 abbrev pub swept : ℕ → Told
 swept cuts = record { refused = 0; differing = if cuts == 0 then 0 else 1 }
 
@@ -84,6 +99,7 @@ abbrev pub IsAnswer : Form → Net → Question → Told → List ℕ → Type 0
 IsAnswer form net (unread_question f) told text = (told ≡ not_given) × (text ≡ unexplained_in form (fault.code_of f) (fault.text_of f))
 IsAnswer form net (Explain asked) told text = Tells form net asked (unexplained_of net asked.port asked.tree) told text
 IsAnswer form net (Sweep part) told text = (cuts : ℕ) × IsShown form (codes "sweep") (SweepsPart part net cuts) text × (told ≡ swept cuts)
+IsAnswer form net (Pairs part) told text = (cuts : ℕ) × IsShown form (codes "sweep") (SweepsPairs part net cuts) text × (told ≡ swept cuts)
 IsAnswer form net Summary told text = (told ≡ given) × IsShown form (codes "summary") (Summarizes net) text
 IsAnswer form net (Picture n) told text = (told ≡ given) × IsShown form (codes "dot") (Depicts net n) text
 IsAnswer form net (undrawn_question f) told text = (told ≡ not_given) × (text ≡ undrawn_in form (fault.code_of f) (fault.text_of f))

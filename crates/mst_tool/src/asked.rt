@@ -1,7 +1,7 @@
 ghost use Rattle.std.specs.Prelude.{◌≡◌, ◌<◌, ◌==◌, length, position, IfSome};
 ghost use Rattle.std.specs.Option.{option_map};
 ghost use Rattle.mst_lang.specs.Arguments as forms;
-ghost use Rattle.mst_tool.specs.Ask.{explain_question, picture_question, sweep_question};
+ghost use Rattle.mst_tool.specs.Ask.{explain_question, pairs_question, picture_question, sweep_by_word, sweep_question};
 ghost use Rattle.mst_tool.specs.Asked.{asked_of, asked_tree, halves_of, part_value};
 
 use mst_engine::SweepPart;
@@ -17,6 +17,8 @@ pub enum Question {
     Unread(Fault),
     /// What each single failure of this part does: each LAN that is up going down, and each bridge that is on going off.
     Sweep(SweepPart),
+    /// What each pair of failures of this part does: which VIDs both together cut, and neither alone.
+    Pairs(SweepPart),
     /// The first screen: how much there is, roots, ports that block, islands of VIDs and what LANs carry.
     Summary,
     /// The picture of the network with this tree, as a text for Graphviz.
@@ -38,18 +40,15 @@ impl Question {
         }
     }
 
-    /// What the word PART asks, where there is one: what each single failure of the K-th of N equal parts does, the word being
-    /// `K/N`, of two numbers in decimal. Without a word it is what each of all does. Nothing for another word: also where K is
-    /// 0 or above N, or N above 65,536.
-    pub fn sweep(part: Option<&[u8]>) -> Option<Question>
-        ensures { result ≡ sweep_question (option_map (λ word. word.now) part.entry) }
+    /// What the words behind a script ask, where there are any: what each single failure of the K-th of N equal parts does, the word
+    /// being `K/N`, of two numbers in decimal, or, behind the word `pairs`, what each pair of such a part does. Without a word for
+    /// the part it is what each of all does. Nothing for other words: also where K is 0 or above N, or N above 65,536.
+    pub fn sweep(word: Option<&[u8]>, behind: Option<&[u8]>) -> Option<Question>
+        ensures { result ≡ sweep_question (option_map (λ word. word.now) word.entry) (option_map (λ word. word.now) behind.entry) }
     {
-        match part {
+        match word {
             None => Some(Question::Sweep(SweepPart::whole())),
-            Some(word) => match sweep_part(word) {
-                Some(part) => Some(Question::Sweep(part)),
-                None => None,
-            },
+            Some(word) => sweep_by(word, behind),
         }
     }
 
@@ -126,6 +125,29 @@ fn tree(word: &[u8]) -> Result<Tree, Fault>
 {
     let number = parse_number(word).ok_or(Fault::E03)?;
     Tree::new(number).ok_or(Fault::E03)
+}
+
+/// What a word behind a script asks, and another behind that, if there is one.
+fn sweep_by(word: &[u8], behind: Option<&[u8]>) -> Option<Question>
+    ensures { result ≡ sweep_by_word word.now (option_map (λ word. word.now) behind.entry) }
+{
+    if word == b"pairs".as_slice() {
+        return pairs_by(behind);
+    }
+    match behind {
+        None => Some(Question::Sweep(sweep_part(word)?)),
+        Some(_) => None,
+    }
+}
+
+/// What a word behind `pairs` asks, if there is one.
+fn pairs_by(part: Option<&[u8]>) -> Option<Question>
+    ensures { result ≡ pairs_question (option_map (λ word. word.now) part.entry) }
+{
+    match part {
+        None => Some(Question::Pairs(SweepPart::whole())),
+        Some(word) => Some(Question::Pairs(sweep_part(word)?)),
+    }
 }
 
 /// The part that a word `K/N` names.

@@ -11,7 +11,7 @@ ghost use Rattle.mst_tool.specs.declared.asked.Question.TheVariants.{Explain};
 
 use crate::asked::{Asked, Question};
 use mst_engine::laws::{one_load, states};
-use mst_engine::report_laws::{one_explanation, one_picture, one_summary, sweep_parts};
+use mst_engine::report_laws::{one_explanation, one_picture, one_summary, pair_parts, sweep_parts};
 use mst_engine::{Engine, Input, Planner, Sweep, SweepPart, Unexplained, serve_input};
 use mst_ids::Tree;
 use mst_io::{FromRead, Outcome, RunFault, Sink, Source, TURNS, ToWrite, WriteFailed, put};
@@ -29,7 +29,7 @@ pub(crate) enum Answer {
     Unread(Fault),
     /// The port isn't explained, for another reason than want of memory.
     Refused(Unexplained),
-    /// What each single failure of a part does.
+    /// What each single failure of a part does, or each pair.
     Swept(Sweep),
     /// The word names no tree.
     Undrawn(Fault),
@@ -43,7 +43,8 @@ pub(crate) enum Answer {
 /// that its bridge has. Where that isn't told, a line `explain CODE TEXT` says why, by the first of these: the fault of the
 /// words, where they ask for nothing, or why the port [isn't explained](Unexplained). That counts as one refused line more.
 /// For [`Question::Sweep`] it is what each single failure of the part does, and counts as one that differs where some failure of it
-/// cuts a VID.
+/// cuts a VID, and for [`Question::Pairs`] what each pair of failures of the part does, and counts so where some pair of it cuts a
+/// VID that neither failure cuts alone.
 /// For [`Question::Summary`] it is the summary of the network, and for [`Question::Picture`] its picture with the tree. Where the
 /// word for the tree has a fault, a line `dot CODE TEXT` says so, and counts as one refused line more.
 ///
@@ -113,6 +114,7 @@ pub fn ask_within<S: Source, K: Sink>(
     one_load();
     one_explanation();
     sweep_parts();
+    pair_parts();
     one_summary();
     one_picture();
     let mut engine = Engine::new(alloc);
@@ -143,6 +145,7 @@ fn answer_to(planner: &mut Planner, form: Form, question: &Question) -> Result<A
         Question::Explain(asked) => explained(planner, form, asked),
         Question::Unread(fault) => Ok(Answer::Unread(*fault)),
         Question::Sweep(part) => swept(planner, form, *part),
+        Question::Pairs(part) => paired(planner, form, *part),
         Question::Summary => summarized(planner, form),
         Question::Picture(tree) => depicted(planner, form, *tree),
         Question::Undrawn(fault) => Ok(Answer::Undrawn(*fault)),
@@ -170,6 +173,16 @@ fn swept(planner: &mut Planner, form: Form, part: SweepPart) -> Result<Answer, A
 {
     planner.settle()?;
     let mut sweep = planner.sweep_part(part)?;
+    show(form, None, "sweep", &mut sweep.text)?;
+    Ok(Answer::Swept(sweep))
+}
+
+/// What each pair of failures of a part does, once the plan is settled. `AllocError`: memory was wanted and refused.
+fn paired(planner: &mut Planner, form: Form, part: SweepPart) -> Result<Answer, AllocError>
+    ensures { IfOk result (λ answer. IsAnswer form (planned_state planner.old).net (Question.Pairs part) (told_of answer) (answer_text form answer)) }
+{
+    planner.settle()?;
+    let mut sweep = planner.sweep_pairs(part)?;
     show(form, None, "sweep", &mut sweep.text)?;
     Ok(Answer::Swept(sweep))
 }

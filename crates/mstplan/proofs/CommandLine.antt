@@ -18,8 +18,8 @@ use Rattle.clap.proofs.WalkLemmas.{walk_stopped}
 use Rattle.mst_io.specs.declared.outcome.RunFault.TheVariants.{Memory, Write}
 use Rattle.mstplan.specs.declared.endings.Stop.{Stop}
 use Rattle.mstplan.specs.declared.endings.Stop.TheVariants.{Told, Fault}
-use Rattle.mstplan.specs.Words.{IsAnswer, IsRefusal, Request, asked_by, asked_of, by_one, by_one_or_two, by_port, by_two, check, diff, dot, explain, is_help, is_plain, is_version, program, request_of, run, summary, sweep}
-use Rattle.mstplan.proofs.Leaves.{TakesOne, TakesOneOrTwo, TakesTwo, fits_one, fits_one_or_two, fits_two}
+use Rattle.mstplan.specs.Words.{IsAnswer, IsRefusal, Request, asked_by, asked_of, by_one, by_one_to_three, by_port, by_two, check, diff, dot, explain, is_help, is_plain, is_version, program, request_of, run, summary, sweep}
+use Rattle.mstplan.proofs.Leaves.{TakesOne, TakesOneToThree, TakesTwo, fits_one, fits_one_to_three, fits_two}
 use Rattle.mstplan.proofs.PlainWords.{Fits, Passes, at, both_so, found_end, head_plain, is_no_help, leaf, leaf_end, leaf_found, leaf_stray, level, passes_next, passes_none, plain_turn, refuses, step}
 
 -- ---- run
@@ -191,19 +191,23 @@ diff_takes = record {
 abbrev sweep_leaf : Shape
 sweep_leaf = unwrap_or (slice_get (built program).subs 4) (built program).top
 
-sweep_takes : TakesOneOrTwo sweep_leaf sweep
+sweep_takes : TakesOneToThree sweep_leaf sweep
 unfolding clap_on_literals
 sweep_takes = record {
   free = refl;
   goes = λ f. refl;
   free_next = λ f. refl;
   goes_on = λ f p. refl;
+  free_third = λ f p. refl;
+  goes_further = λ f p k. refl;
   none = refl;
   one = λ f. refl;
   finds_one = λ f. refl;
   two = λ f p. refl;
-  finds = λ f p. refl;
-  full = λ f p later end. refl;
+  finds_two = λ f p. refl;
+  three = λ f p k. refl;
+  finds = λ f p k. refl;
+  full = λ f p k later end. refl;
 }
 
 -- ---- summary
@@ -365,7 +369,7 @@ asks_none command rest other =
     ∙ unless (bytes_eq (codes "check") command) (by_two check rest) _ other.not_check
     ∙ unless (bytes_eq (codes "explain") command) (by_port rest) _ other.not_explain
     ∙ unless (bytes_eq (codes "diff") command) (by_two diff rest) _ other.not_diff
-    ∙ unless (bytes_eq (codes "sweep") command) (by_one_or_two sweep rest) _ other.not_sweep
+    ∙ unless (bytes_eq (codes "sweep") command) (by_one_to_three sweep rest) _ other.not_sweep
     ∙ unless (bytes_eq (codes "summary") command) (by_one summary rest) _ other.not_summary
     ∙ unless (bytes_eq (codes "dot") command) (by_two dot rest) _ other.not_dot
 
@@ -395,7 +399,7 @@ words_fit (command ∷ rest) h =
     (λ r. is_or_not (codes "check") command rest (fits_command (codes "check") check_leaf rest check_command (fits_two check_leaf check check_takes rest plain.1))
     (λ c. is_or_not (codes "explain") command rest (fits_command (codes "explain") explain_leaf rest explain_command (explain_fits rest plain.1))
     (λ e. is_or_not (codes "diff") command rest (fits_command (codes "diff") diff_leaf rest diff_command (fits_two diff_leaf diff diff_takes rest plain.1))
-    (λ d. is_or_not (codes "sweep") command rest (fits_command (codes "sweep") sweep_leaf rest sweep_command (fits_one_or_two sweep_leaf sweep sweep_takes rest plain.1))
+    (λ d. is_or_not (codes "sweep") command rest (fits_command (codes "sweep") sweep_leaf rest sweep_command (fits_one_to_three sweep_leaf sweep sweep_takes rest plain.1))
     (λ s. is_or_not (codes "summary") command rest (fits_command (codes "summary") summary_leaf rest summary_command (fits_one summary_leaf summary summary_takes rest plain.1))
     (λ m. is_or_not (codes "dot") command rest (fits_command (codes "dot") dot_leaf rest dot_command (fits_two dot_leaf dot dot_takes rest plain.1))
     (λ p. fits_other command rest plain.0 (record { not_run = r; not_check = c; not_explain = e; not_diff = d; not_sweep = s; not_summary = m; not_dot = p }))))))))

@@ -37,7 +37,7 @@ has_json (run script) = true
 has_json (check script captures) = false
 has_json (explain script bridge port tree) = true
 has_json (diff old new) = true
-has_json (sweep script part) = true
+has_json (sweep script word behind) = true
 has_json (summary script) = true
 has_json (dot script tree) = false
 
@@ -47,7 +47,7 @@ has_hints (run script) = not (bytes_eq script (codes "-"))
 has_hints (check script captures) = not (bytes_eq script (codes "-"))
 has_hints (explain script bridge port tree) = false
 has_hints (diff old new) = false
-has_hints (sweep script part) = false
+has_hints (sweep script word behind) = false
 has_hints (summary script) = false
 has_hints (dot script tree) = false
 
@@ -55,6 +55,6 @@ has_hints (dot script tree) = false
 abbrev pub takes : Flags → Request → Bool
 takes flags request = (not flags.json || has_json request) && (not flags.hints || has_hints request)
 
--- what words that aren't options ask for with these flags, where a word for a part of a sweep names one
+-- what words that aren't options ask for with these flags, where words for a part of a sweep name one
 abbrev pub asked_with : Flags → List (List ℕ) → Option Request
 asked_with flags words = option_and_then (λ request. if names_part request && takes flags request then Some request else None) (asked_by words)

@@ -43,7 +43,7 @@ IsHinted IsFile IsUnopened true (Ok (Run script)) errors now end = AreGiven IsFi
 IsHinted IsFile IsUnopened true (Ok (Check script captures)) errors now end = AreGiven IsFile IsUnopened script.now errors now end
 IsHinted IsFile IsUnopened true (Ok (Explain script port)) errors now end = AreNone errors now end
 IsHinted IsFile IsUnopened true (Ok (Diff old new)) errors now end = AreNone errors now end
-IsHinted IsFile IsUnopened true (Ok (Sweep script part)) errors now end = AreNone errors now end
+IsHinted IsFile IsUnopened true (Ok (Sweep script word behind)) errors now end = AreNone errors now end
 IsHinted IsFile IsUnopened true (Ok (Summary script)) errors now end = AreNone errors now end
 IsHinted IsFile IsUnopened true (Ok (Dot script tree)) errors now end = AreNone errors now end
 

@@ -30,29 +30,29 @@ use Rattle.mstplan.specs.declared.endings.Stop.TheVariants.{Told as told_stop}
 abbrev pub port_question : PortWords → Question
 port_question port = explain_question port.bridge.now port.number.now (tree_word port)
 
--- what the word for a part of a sweep, if there is one, asks of it: nothing, where it names none
-abbrev pub part_question : Option (Bor (List ℕ)) → Option Question
-part_question part = sweep_question (option_map (λ word. word.now) part)
+-- what the words for a part of a sweep, if there are some, ask of it: nothing, where they name none
+abbrev pub part_question : Option (Bor (List ℕ)) → Option (Bor (List ℕ)) → Option Question
+part_question word behind = sweep_question (option_map (λ word. word.now) word) (option_map (λ word. word.now) behind)
 
--- single failures of the script of this name were told of, by the question that the word for a part asks
-abbrev pub ServesSweep : (Option (List ℕ) → Type 0) → (List ℕ → Option (List ℕ) → Type 0) → Form → Bor (List ℕ) → Option (Bor (List ℕ)) → Option (List ℕ) → Option (List ℕ) → Result Outcome RunFault → Type 0
-ServesSweep IsGiven IsFile form script part written now answer =
-    (question : Question) × (part_question part ≡ Some question) × (reads : Option (List ℕ)) × IsNamed IsGiven IsFile script.now reads × EndsAsk form question reads written now answer
+-- failures of the script of this name were told of, by the question that the words for a part ask
+abbrev pub ServesSweep : (Option (List ℕ) → Type 0) → (List ℕ → Option (List ℕ) → Type 0) → Form → Bor (List ℕ) → Option (Bor (List ℕ)) → Option (Bor (List ℕ)) → Option (List ℕ) → Option (List ℕ) → Result Outcome RunFault → Type 0
+ServesSweep IsGiven IsFile form script word behind written now answer =
+    (question : Question) × (part_question word behind ≡ Some question) × (reads : Option (List ℕ)) × IsNamed IsGiven IsFile script.now reads × EndsAsk form question reads written now answer
 
 -- What the words ask for was done in this form, of the inputs that they name, this came to the writer, and this was answered: the script
--- was run; or the captures were compared with its plan; or the network that it leaves was asked of the port, of its single
--- failures, for its summary or for its picture; or the networks of two scripts were told apart
+-- was run; or the captures were compared with its plan; or the network that it leaves was asked of the port, of its failures or
+-- pairs of them, for its summary or for its picture; or the networks of two scripts were told apart
 abbrev pub Serves : (Option (List ℕ) → Type 0) → (List ℕ → Option (List ℕ) → Type 0) → Form → Asked → Option (List ℕ) → Option (List ℕ) → Result Outcome RunFault → Type 0
 Serves IsGiven IsFile form (Run script) written now answer = (reads : Option (List ℕ)) × IsNamed IsGiven IsFile script.now reads × Ends form reads written now answer
 Serves IsGiven IsFile form (Check script captures) written now answer =
     (reads captured : Option (List ℕ)) × AreNamed IsGiven IsFile script.now captures.now reads captured × EndsComparison Captures reads captured written now answer
 Serves IsGiven IsFile form (Explain script port) written now answer = (reads : Option (List ℕ)) × IsNamed IsGiven IsFile script.now reads × EndsAsk form (port_question port) reads written now answer
 Serves IsGiven IsFile form (Diff old new) written now answer = (olds news : Option (List ℕ)) × AreNamed IsGiven IsFile old.now new.now olds news × EndsComparison (Networks form) olds news written now answer
-Serves IsGiven IsFile form (Sweep script part) written now answer = ServesSweep IsGiven IsFile form script part written now answer
+Serves IsGiven IsFile form (Sweep script word behind) written now answer = ServesSweep IsGiven IsFile form script word behind written now answer
 Serves IsGiven IsFile form (Summary script) written now answer = (reads : Option (List ℕ)) × IsNamed IsGiven IsFile script.now reads × EndsAsk form question.Summary reads written now answer
 Serves IsGiven IsFile form (Dot script tree) written now answer = (reads : Option (List ℕ)) × IsNamed IsGiven IsFile script.now reads × EndsAsk form (picture_question tree.now) reads written now answer
 
--- why no single failures of the script of this name were told of: the word for a part names none, which is told with status 2,
+-- why no failures of the script of this name were told of: the words for a part name none, which is told with status 2,
 -- or the script wasn't opened
 abbrev pub IsWhyUnswept : (List ℕ → Type 0) → Bor (List ℕ) → Option Question → Stop → Type 0
 IsWhyUnswept IsUnopened script None stop = stop ≡ told_stop 2
@@ -64,7 +64,7 @@ IsWhyUnserved IsUnopened (Run script) stop = IsWhyNot IsUnopened script stop
 IsWhyUnserved IsUnopened (Check script captures) stop = IsWhyNeither IsUnopened script captures stop
 IsWhyUnserved IsUnopened (Explain script port) stop = IsWhyNot IsUnopened script stop
 IsWhyUnserved IsUnopened (Diff old new) stop = IsWhyNeither IsUnopened old new stop
-IsWhyUnserved IsUnopened (Sweep script part) stop = IsWhyUnswept IsUnopened script (part_question part) stop
+IsWhyUnserved IsUnopened (Sweep script word behind) stop = IsWhyUnswept IsUnopened script (part_question word behind) stop
 IsWhyUnserved IsUnopened (Summary script) stop = IsWhyNot IsUnopened script stop
 IsWhyUnserved IsUnopened (Dot script tree) stop = IsWhyNot IsUnopened script stop
 
@@ -114,7 +114,7 @@ hinted_script (Run script) = Some script.now
 hinted_script (Check script captures) = Some script.now
 hinted_script (Explain script port) = None
 hinted_script (Diff old new) = None
-hinted_script (Sweep script part) = None
+hinted_script (Sweep script word behind) = None
 hinted_script (Summary script) = None
 hinted_script (Dot script tree) = None
 

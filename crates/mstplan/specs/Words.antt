@@ -15,14 +15,14 @@ use Rattle.mstplan.specs.declared.words.Asked.TheVariants.{Run, Check, Explain, 
 -- what words ask for: to run the script of this name; to compare the captures of the second name with the plan of the
 -- script of the first; to explain, in the network that the script leaves, the role of a port, which these words name:
 -- its bridge, its number and, if there is one, a tree; to tell how the network of the first script differs from that of
--- the second; to tell what each single failure does to the network of the script, or each of the part that the second word
--- names; to summarize it; or to draw it with the tree that the second word names
+-- the second; to tell what each single failure does to the network of the script, or each pair, or each of the part that the words
+-- behind it name; to summarize it; or to draw it with the tree that the second word names
 pub data Request : Type 0 where
   run : List ℕ → Request
   check : List ℕ → List ℕ → Request
   explain : List ℕ → List ℕ → List ℕ → Option (List ℕ) → Request
   diff : List ℕ → List ℕ → Request
-  sweep : List ℕ → Option (List ℕ) → Request
+  sweep : List ℕ → Option (List ℕ) → Option (List ℕ) → Request
   summary : List ℕ → Request
   dot : List ℕ → List ℕ → Request
 
@@ -35,7 +35,7 @@ words_of (Run script) = run script.now
 words_of (Check script captures) = check script.now captures.now
 words_of (Explain script port) = explain script.now port.bridge.now port.number.now (tree_word port)
 words_of (Diff old new) = diff old.now new.now
-words_of (Sweep script part) = sweep script.now (option_map (λ word. word.now) part)
+words_of (Sweep script word behind) = sweep script.now (option_map (λ word. word.now) word) (option_map (λ word. word.now) behind)
 words_of (Summary script) = summary script.now
 words_of (Dot script tree) = dot script.now tree.now
 
@@ -49,7 +49,7 @@ request_of command rows =
     if bytes_eq command (codes "check") then check (value_of (codes "FILE") rows) (value_of (codes "CAPTURES") rows)
     else if bytes_eq command (codes "explain") then explain (value_of (codes "FILE") rows) (value_of (codes "B") rows) (value_of (codes "P") rows) (first_of (codes "TREE") rows)
     else if bytes_eq command (codes "diff") then diff (value_of (codes "OLD") rows) (value_of (codes "NEW") rows)
-    else if bytes_eq command (codes "sweep") then sweep (value_of (codes "FILE") rows) (first_of (codes "PART") rows)
+    else if bytes_eq command (codes "sweep") then sweep (value_of (codes "FILE") rows) (first_of (codes "PART") rows) (first_of (codes "OF_PAIRS") rows)
     else if bytes_eq command (codes "summary") then summary (value_of (codes "FILE") rows)
     else if bytes_eq command (codes "dot") then dot (value_of (codes "FILE") rows) (value_of (codes "TREE") rows)
     else run (value_of (codes "FILE") rows)
@@ -82,11 +82,12 @@ abbrev pub by_two : (List ℕ → List ℕ → Request) → List (List ℕ) → 
 by_two asks (word ∷ other ∷ []) = Some (asks word other)
 by_two asks words = None
 
--- and behind one that takes one and may take a second
-abbrev pub by_one_or_two : (List ℕ → Option (List ℕ) → Request) → List (List ℕ) → Option Request
-by_one_or_two asks (word ∷ []) = Some (asks word None)
-by_one_or_two asks (word ∷ other ∷ []) = Some (asks word (Some other))
-by_one_or_two asks words = None
+-- and behind one that takes one and may take two more
+abbrev pub by_one_to_three : (List ℕ → Option (List ℕ) → Option (List ℕ) → Request) → List (List ℕ) → Option Request
+by_one_to_three asks (word ∷ []) = Some (asks word None None)
+by_one_to_three asks (word ∷ other ∷ []) = Some (asks word (Some other) None)
+by_one_to_three asks (word ∷ other ∷ third ∷ []) = Some (asks word (Some other) (Some third))
+by_one_to_three asks words = None
 
 -- what they ask for behind `explain`: FILE B P, or FILE B P TREE
 abbrev pub by_port : List (List ℕ) → Option Request
@@ -95,7 +96,8 @@ by_port (script ∷ bridge ∷ port ∷ tree ∷ []) = Some (explain script brid
 by_port words = None
 
 -- What words ask for that aren't options, behind the program's name: none for the script on standard input, `run FILE` for
--- that of a file, `check FILE CAPTURES`, `explain FILE B P`, with or without TREE, `diff OLD NEW`, `sweep FILE`, with or without PART,
+-- that of a file, `check FILE CAPTURES`, `explain FILE B P`, with or without TREE, `diff OLD NEW`, `sweep FILE`, with or without PART or
+-- `pairs`, and behind that with or without PART,
 -- `summary FILE` and `dot FILE TREE`.
 -- What is asked for are the words themselves. Any other words ask for nothing
 abbrev pub asked_by : List (List ℕ) → Option Request
@@ -105,18 +107,18 @@ asked_by (command ∷ words) =
     else if bytes_eq (codes "check") command then by_two check words
     else if bytes_eq (codes "explain") command then by_port words
     else if bytes_eq (codes "diff") command then by_two diff words
-    else if bytes_eq (codes "sweep") command then by_one_or_two sweep words
+    else if bytes_eq (codes "sweep") command then by_one_to_three sweep words
     else if bytes_eq (codes "summary") command then by_one summary words
     else if bytes_eq (codes "dot") command then by_two dot words
     else None
 
--- where they ask for a part of a sweep, its word names one
+-- where they ask for a part of a sweep, its words name one
 abbrev pub names_part : Request → Bool
 names_part (run script) = true
 names_part (check script captures) = true
 names_part (explain script bridge port tree) = true
 names_part (diff old new) = true
-names_part (sweep script part) = is_some (sweep_question part)
+names_part (sweep script word behind) = is_some (sweep_question word behind)
 names_part (summary script) = true
 names_part (dot script tree) = true
 
@@ -158,7 +160,7 @@ abbrev pub diff_app : App
 diff_app = with_rule (with_rule (new_app (codes "diff")) (wanted_rule (codes "OLD"))) (wanted_rule (codes "NEW"))
 
 abbrev pub sweep_app : App
-sweep_app = with_rule (with_rule (new_app (codes "sweep")) (wanted_rule (codes "FILE"))) (new_rule (codes "PART"))
+sweep_app = with_rule (with_rule (with_rule (new_app (codes "sweep")) (wanted_rule (codes "FILE"))) (new_rule (codes "PART"))) (new_rule (codes "OF_PAIRS"))
 
 abbrev pub summary_app : App
 summary_app = with_rule (new_app (codes "summary")) (wanted_rule (codes "FILE"))

@@ -50,7 +50,7 @@ Flags, anywhere among the words:
 Exit statuses:
   0  nothing of the below
   1  a line or a capture was refused, a capture differs from the plan, a port isn't explained, two networks differ, or a
-     failure cuts a VLAN
+     failure cuts a VLAN, or a pair of failures
   2  the program's words are wrong
   3  a file couldn't be opened, a read or a write failed, or memory was wanted and refused
 

@@ -51,7 +51,11 @@ fn serve<'a, S: Sources, W: Write + Drop>(
         Asked::Diff { old, new } => {
             compare_named(alloc, sources, Comparison::Networks(form), old, new, output)
         }
-        Asked::Sweep { script, part } => { sweep_named(alloc, sources, form, script, part, output) }
+        Asked::Sweep {
+            script,
+            word,
+            behind,
+        } => sweep_named(alloc, sources, form, script, word, behind, output),
         Asked::Summary { script } => {
             ask_named(alloc, sources, form, &Question::Summary, script, output)
         }
@@ -62,20 +66,21 @@ fn serve<'a, S: Sources, W: Write + Drop>(
     }
 }
 
-/// Tells what each single failure does to the network of a script, or each of the part that the word names. A word that names
-/// none is told with status 2.
+/// Tells what each single failure does to the network of a script, or each pair, or each of the part that the words name. Words that
+/// name none are told with status 2.
 fn sweep_named<'a, S: Sources, W: Write + Drop>(
     alloc: Global,
     sources: &S,
     form: Form,
     script: &'a str,
-    part: Option<&'a str>,
+    word: Option<&'a str>,
+    behind: Option<&'a str>,
     output: W,
 ) -> Result<Ran<W>, Stop<'a>>
-    ensures ran { IfOk result (λ ran. ServesSweep (S.is_given sources.now) (S.is_file sources.now) form script.entry part.entry (W.contents output) (W.contents ran.writer) ran.ended) }
-    ensures stopped { IfErr result (IsWhyUnswept (S.is_unopened sources.now) script.entry (part_question part.entry)) }
+    ensures ran { IfOk result (λ ran. ServesSweep (S.is_given sources.now) (S.is_file sources.now) form script.entry word.entry behind.entry (W.contents output) (W.contents ran.writer) ran.ended) }
+    ensures stopped { IfErr result (IsWhyUnswept (S.is_unopened sources.now) script.entry (part_question word.entry behind.entry)) }
 {
-    match Question::sweep(bytes_of(part)) {
+    match Question::sweep(bytes_of(word), bytes_of(behind)) {
         Some(question) => ask_named(alloc, sources, form, &question, script, output),
         None => Err(Stop::Told(2)),
     }

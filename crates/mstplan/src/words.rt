@@ -35,11 +35,12 @@ pub(crate) enum Asked<'a> {
         old: &'a str,
         new: &'a str,
     },
-    /// To tell what each single failure does to the network of a script, or each of a part of them. Nothing has looked at what
-    /// the word for the part says.
+    /// To tell what each single failure does to the network of a script, or each pair, or each of a part of them. Nothing has
+    /// looked at what the words behind the script say.
     Sweep {
         script: &'a str,
-        part: Option<&'a str>,
+        word: Option<&'a str>,
+        behind: Option<&'a str>,
     },
     /// To summarize the network of a script.
     Summary {
@@ -71,7 +72,10 @@ const PORT: &str = "The port's number";
 
 const TREE: &str = "The tree, 0 to 4094. Without it, each that the bridge has";
 
-const PART: &str = "K/N, the K-th of N equal parts of the failures. Without it, all of them";
+const PART: &str =
+    "K/N, the K-th of N equal parts of the failures, or pairs. Without it, all failures";
+
+const OF_PAIRS: &str = "K/N, the K-th of N equal parts of the pairs. Without it, all of them";
 
 const DRAWN: &str = "The tree, 0 to 4094";
 
@@ -102,12 +106,14 @@ pub(crate) fn given_words<R: Env + Eprint + AllocGlobal>(
     }
 }
 
-/// Whether the word for a part of a sweep, if there is one, names a part.
+/// Whether the words for a part of a sweep, if there are some, name a part.
 fn names_part(asked: &Asked<'_>) -> bool
     ensures { result ≡ part_named (words_of asked.now) }
 {
     match asked {
-        Asked::Sweep { part, .. } => Question::sweep(bytes_of(*part)).is_some(),
+        Asked::Sweep { word, behind, .. } => {
+            Question::sweep(bytes_of(*word), bytes_of(*behind)).is_some()
+        }
         _ => true,
     }
 }
@@ -129,7 +135,7 @@ pub(crate) fn asked_for<'a, R: Print + Eprint + AllocGlobal>(
         Err(stop) => Err(stop),
         Ok(asked) if !names_part(&asked) => {
             let _ = eprintln!(rt;
-                "error: PART is K/N, two numbers in decimal with 1 <= K <= N <= 65536"
+                "error: PART is K/N, two numbers in decimal with 1 <= K <= N <= 65536, and pairs or nothing stands before it"
             );
             Err(Stop::Told(2))
         }
@@ -198,9 +204,12 @@ fn with_sweep<'a>(alloc: Global, before: Command<'a>) -> Result<Command<'a>, All
     ensures { IfOk result (λ command. app_of command ≡ with_subcommand (app_of before.entry) sweep_app.top) }
 {
     let sweep = Command::new(alloc, "sweep")
-        .about("Makes the network of a script, and tells what each single failure does to it")
+        .about(
+            "Makes the network of a script, and tells what each single failure does to it, or each pair",
+        )
         .arg(wanted(alloc, "FILE", SCRIPT))?
-        .arg(Arg::new(alloc, "PART").help(PART))?;
+        .arg(Arg::new(alloc, "PART").help(PART))?
+        .arg(Arg::new(alloc, "OF_PAIRS").help(OF_PAIRS))?;
     before.subcommand(sweep)
 }
 
@@ -279,7 +288,8 @@ fn asked_of_command<'a>(command: &str, found: &ArgMatches<'a>) -> Asked<'a>
         },
         "sweep" => Asked::Sweep {
             script: value_in(found, "FILE"),
-            part: word_in(found, "PART"),
+            word: word_in(found, "PART"),
+            behind: word_in(found, "OF_PAIRS"),
         },
         "summary" => Asked::Summary {
             script: value_in(found, "FILE"),

@@ -1,9 +1,9 @@
 //! Calls that a tool may make and the program doesn't: a forest from nothing, whether a port forwards by its number, the
-//! numbers of active ports, a sweep of all failures, one BPDU compared, a topology settled from scratch.
+//! numbers of active ports, a sweep of all failures and of pairs, one BPDU compared, a topology settled from scratch.
 
 use super::edits::{name, network_of};
 use super::repairs::{EACH_ITS_OWN_REGION, TRIANGLE, is_staged, planner_of};
-use mst_compare::{Forest, Planner, Settled, compare, forwards, read_line};
+use mst_compare::{Forest, Planner, Settled, SweepPart, compare, forwards, read_line};
 use mst_config::regions_of;
 use mst_ids::{BridgeId, BridgeNo, Name, PortNo, Priority, Tree, Vid, parse_mac};
 use mst_lag::{View, view};
@@ -84,6 +84,17 @@ fn a_sweep_of_all_failures(rt: HostRuntime) -> Result<(), Fail> {
             .as_slice()
             .ends_with(b"sweep lans 3 bridges 3 cuts 0\n")
     );
+    Ok(())
+}
+
+// Two of its sides do, and a side and the bridge opposite: these are the second of three parts of its pairs.
+#[test]
+fn a_sweep_of_pairs(rt: HostRuntime) -> Result<(), Fail> {
+    let mut planner = planner_of(rt.alloc(), TRIANGLE).ok_or("refused")?;
+    planner.settle()?;
+    let told = planner.sweep_pairs(SweepPart::new(2, 3).ok_or("no part")?)?;
+    assert_eq!(rt; told.cuts, 3);
+    assert!(rt; told.text.as_slice().ends_with(b"sweep pairs 5 cuts 3\n"));
     Ok(())
 }
 

@@ -146,6 +146,26 @@ fn sweeps_a_part(rt: HostRuntime) -> Result<(), Fail> {
     Ok(())
 }
 
+// Of two bridges on a LAN, which is cut by itself, no pair cuts more; of a triangle, two sides do, or a side and the bridge opposite.
+#[test]
+fn sweeps_pairs(rt: HostRuntime) -> Result<(), Fail> {
+    let expected: &[u8] = b"line 10 E07 name taken\n\
+        sweep pairs 6 cuts 0\n";
+    let mut written = Vec::new(rt.alloc());
+    let question = Question::sweep(Some(b"pairs"), None).ok_or("no question")?;
+    let ran = ask(rt.alloc(), &question, SCRIPT, &mut written);
+    assert_eq!(rt; written.as_slice(), expected);
+    assert_eq!(rt;
+        ran,
+        Ok(Outcome {
+            refused: 1,
+            memory: 0,
+            differing: 0,
+        })
+    );
+    Ok(())
+}
+
 #[test]
 fn draws_networks(rt: HostRuntime) -> Result<(), Fail> {
     let drawn: &[u8] = b"line 10 E07 name taken\n\

@@ -23,7 +23,7 @@ loop-failure-preserved c =
       same = same_then old c.loop-failure.network c.push_failed.new.network before.same made.same;
       told = λ is.
           let told = as_before old c.loop-failure.network before.same c.args.plan.now.forest (λ net o. (words : List ℕ) × IsTold net o f (record { text = words; cuts = cut }) × (whole ≡ text ++ words)) made.told is in
-          more_told old.net is.outcome (take i fs) f c.loop-failure.cuts text told.0 cut (before.told is) told.1
+          more_told (IsTold old.net is.outcome) (take i fs) f c.loop-failure.cuts text told.0 cut (before.told is) told.1
           (take (i + 1) fs) (take_more fs i f c.loop-failure-test.true ∙ ap (λ x. take i fs ++ x ∷ []) (sym c.failure-item.is))
           c.if-branch.cuts cuts_are whole told.2;
       few = omega (arith, cuts_are, before.few, counts_few cut);

@@ -2,6 +2,7 @@ use Rattle.std.proofs.Common.{List, ap, ◌∙◌}
 use Rattle.mst_sweep.specs.declared.failure.Failure.{Failure}
 use Rattle.mst_sweep.specs.Failures.{failures}
 use Rattle.mst_sweep.specs.SweepParts.{part_of}
+use Rattle.mst_sweep.specs.SweepText.{IsTold, sweep_line}
 use Rattle.mst_report.proofs.Swept.{swept}
 use Rattle.mst_report.proofs.sweeping.sweep_network.Goals as goal
 
@@ -16,5 +17,5 @@ returns-clause-told c =
     record {
       outcome = is.outcome;
       is_outcome = is.is_outcome;
-      told = swept old.net is.outcome c.of-failures.result.now (part_of part (failures old.net)) fs_are told.cuts told.text.items c.push_last.new.out.items (c.in_ok-told.ensures.told is) c.in_ok-push_last.ensures;
+      told = swept (IsTold old.net is.outcome) sweep_line c.of-failures.result.now (part_of part (failures old.net)) fs_are told.cuts told.text.items c.push_last.new.out.items (c.in_ok-told.ensures.told is) c.in_ok-push_last.ensures;
     }

@@ -1,11 +1,9 @@
-use Rattle.std.proofs.Common.{◌≡◌, ◌+◌, length, map, take, Ok}
+use Rattle.std.proofs.Common.{◌≡◌, ◌+◌, length, map, take}
 use Rattle.std.specs.List.{AllZip}
-use Rattle.mst_net.specs.After.{after}
 use Rattle.mst_net.specs.Tables.{Net, Numbers}
 use Rattle.mst_diff.specs.trees.Agrees.{AreOf}
 use Rattle.mst_diff.specs.trees.Forest.{IsForest}
-use Rattle.mst_sweep.specs.declared.failure.Failure.{Failure}
-use Rattle.mst_sweep.specs.Failures.{edit_of}
+use Rattle.mst_sweep.specs.Left.{AreLeft}
 use Rattle.mst_sweep.specs.Parts.{AreParts}
 use Rattle.mst_sweep.proofs.cuts.parts_of_firsts.Given as goal
 
@@ -13,6 +11,6 @@ use Rattle.mst_sweep.proofs.cuts.parts_of_firsts.Given as goal
 abbrev pub invariant-loop-class : goal.invariant-loop-class
 invariant-loop-class l = record {
   as_long : length l.texts.items ≡ l.class;
-  parts : (failure : Failure) (a b : Net) (n k : Numbers) (is : IsForest a n l.fn.old.forest.now) (are : IsForest b k l.fn.new.forest.now) → AreOf a n l.fn.old.view.now l.fn.old.forest.now.regions → AreOf b k l.fn.new.view.now l.fn.new.forest.now.regions
-      → after (edit_of failure) a ≡ Ok b → AllZip (λ place text. AreParts a is.outcome b are.outcome (place + 1) text) (take l.class l.fn.baseline.classes.firsts.items) (map (λ text. text.items) l.texts.items);
+  parts : (a b : Net) (n k : Numbers) (is : IsForest a n l.fn.old.forest.now) (are : IsForest b k l.fn.new.forest.now) → AreOf a n l.fn.old.view.now l.fn.old.forest.now.regions → AreOf b k l.fn.new.view.now l.fn.new.forest.now.regions
+      → AreLeft a b → AllZip (λ place text. AreParts a is.outcome b are.outcome (place + 1) text) (take l.class l.fn.baseline.classes.firsts.items) (map (λ text. text.items) l.texts.items);
 }

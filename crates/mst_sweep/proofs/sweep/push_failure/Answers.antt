@@ -3,6 +3,7 @@ use Rattle.mst_diff.specs.Reach.{has_any}
 use Rattle.mst_sweep.specs.Moved.{moved_roots, moved_ports}
 use Rattle.mst_sweep.specs.SweepText.{failure_line}
 use Rattle.mst_sweep.specs.Touched.{AreTouched, ArePlaces, AreWhereTouched}
+use Rattle.mst_sweep.proofs.Failed.{are_left}
 use Rattle.mst_sweep.proofs.Unlinked.{where_touched}
 use Rattle.mst_sweep.proofs.sweep.push_failure.Goals as goal
 
@@ -11,7 +12,7 @@ returns c a b n k is are of so e =
     let out = c.args.out.now.items in
     let failure = c.args.failure.now in
     let vids : List ℕ = c.in_ok-cut.cut.items in
-    let cuts = c.in_ok-cut.ensures failure a b n k is are of so e in
+    let cuts = c.in_ok-cut.ensures a b n k is are of so (are_left failure a b e) in
     let R : List ℕ = moved_roots a is.outcome b are.outcome in
     let P : ℕ = moved_ports a is.outcome b are.outcome in
     let roots : c.as_slice-3.result.now ≡ R = c.as_slice-3.ensures.value ∙ c.in_ok-roots.ensures a b n k is are of so in

@@ -1,0 +1,100 @@
+-- The text of pairs of failures: there is one, and one only.
+use Rattle.std.proofs.Common.{◌≡◌, ℕ, ◌||◌, Bool, true, false, cond, List, [], ◌∷◌, ◌++◌, refl, sym, ap, subst, ◌∙◌}
+use Rattle.std.specs.Bool.{MatchBool}
+use Rattle.std.specs.Cmp.{IsEquivalence}
+use Rattle.std.specs.List.{AllZip, Contains, count_by, flat_map}
+use Rattle.mst_graph.specs.Groups.{AreGroups}
+use Rattle.mst_graph.specs.Islands.{Island}
+use Rattle.mst_net.specs.Tables.{Net, IsNetwork}
+use Rattle.mst_diff.specs.trees.Outcome.{Outcome, IsOutcome}
+use Rattle.mst_vlan.specs.Reach.{AreIslandsOf}
+use Rattle.mst_diff.proofs.plan_text_lemmas.OnePlan.{OneGrouping}
+use Rattle.mst_diff.specs.changes.Subjects.{bridge_names}
+use Rattle.mst_diff.specs.Reach.{has_any}
+use Rattle.mst_diff.proofs.OneDiff.{OneList}
+use Rattle.mst_sweep.specs.declared.failure.Failure.{Failure}
+use Rattle.mst_sweep.specs.Parts.{staying, parts_text, AreParts}
+use Rattle.mst_sweep.specs.Pairs.{Pair, Outcomes, AreOutcomes, ArePairParts, IsPairText, IsPairTold, IsPairsOf, failed, last_of_pairs, pair_text}
+use Rattle.mst_sweep.specs.SweepText.{Told}
+use Rattle.mst_sweep.proofs.CutsBy.{one_lines, one_cut, cut_vids, cut_lines, some_cuts}
+use Rattle.mst_sweep.proofs.OneSweep.{zip_same}
+use Rattle.mst_sweep.proofs.PairParts.{one_pair_parts}
+use Rattle.mst_sweep.proofs.Together.{failed_network}
+
+module _ (one : OneList) (grouping : OneGrouping) (single : (net : Net) (o p : Outcome) → IsNetwork net → IsOutcome net o → IsOutcome net p → o ≡ p) (net : Net) (o : Outcome) (is : IsNetwork net) where
+  pair_same : (pair : Pair) (t u : Told) → IsPairTold net o pair t → IsPairTold net o pair u → t ≡ u
+  pair_same pair t u x y =
+      let none : y.outcomes.none ≡ x.outcomes.none = y.none ∙ sym x.none in
+      let first : y.outcomes.first ≡ x.outcomes.first = single (failed (pair.first ∷ []) net) y.outcomes.first x.outcomes.first (failed_network (pair.first ∷ []) net is) y.are_outcomes.first x.are_outcomes.first in
+      let second : y.outcomes.second ≡ x.outcomes.second = single (failed (pair.second ∷ []) net) y.outcomes.second x.outcomes.second (failed_network (pair.second ∷ []) net is) y.are_outcomes.second x.are_outcomes.second in
+      let both : y.outcomes.both ≡ x.outcomes.both =
+      single (failed (pair.first ∷ pair.second ∷ []) net) y.outcomes.both x.outcomes.both (failed_network (pair.first ∷ pair.second ∷ []) net is) y.are_outcomes.both x.are_outcomes.both in
+      let same : y.outcomes ≡ x.outcomes = λ i. record { none = none i; first = first i; second = second i; both = both i } in
+      let w : IsPairText net pair x.outcomes t.text t.cuts = x.is in
+      let z : IsPairText net pair x.outcomes u.text u.cuts = subst (λ of. IsPairText net pair of u.text u.cuts) same y.is in
+      let cut : w.vids ≡ z.vids = one_cut (ArePairParts net pair x.outcomes) (one_pair_parts net pair x.outcomes one) grouping w.vids z.vids w.lines z.lines w.are_cuts z.are_cuts in
+      let lines : w.lines ≡ z.lines = one_lines (ArePairParts net pair x.outcomes) (one_pair_parts net pair x.outcomes one) grouping w.vids z.vids w.lines z.lines w.are_cuts z.are_cuts in
+      let text : t.text ≡ u.text = w.is ∙ (λ i. pair_text pair (cut i) (lines i)) ∙ sym z.is in
+      let cuts : t.cuts ≡ u.cuts = w.some ∙ ap has_any cut ∙ sym z.some in
+      λ i. record { text = text i; cuts = cuts i }
+
+  pub all_pairs_told : (all : List Pair) (told others : List Told) → AllZip (IsPairTold net o) all told → AllZip (IsPairTold net o) all others → told ≡ others
+  all_pairs_told all told others x y = zip_same (IsPairTold net o) (IsPairTold net o) all told others (λ pair h. pair_same pair) x y
+
+-- ---- and there is one
+module _ (islands : (net : Net) (o : Outcome) (vid : ℕ) → IsNetwork net → (islands : List (Island (List ℕ) (List ℕ))) × AreIslandsOf net o vid islands)
+    (grouping : (same : ℕ → ℕ → Bool) (things : List ℕ) → IsEquivalence same → (groups : List (List ℕ)) × AreGroups (λ x y. same x y ≡ true) things groups)
+    (outcomes : (net : Net) → IsNetwork net → (o : Outcome) × IsOutcome net o) (net : Net) (is : IsNetwork net) where
+  parts_there : (o : Outcome) (fs : List Failure) (p : Outcome) (vid : ℕ) → (text : List ℕ) × AreParts net o (failed fs net) p vid text
+  parts_there o fs p vid =
+      let olds = islands net o vid is in
+      let news = islands (failed fs net) p vid (failed_network fs net is) in
+      (parts_text (staying olds.0 news.0 (bridge_names net)), (olds.0, news.0, olds.1, news.1, refl))
+
+  module _ (pair : Pair) (of : Outcomes) where
+    pair_parts_there : (vid : ℕ) → (text : List ℕ) × ArePairParts net pair of vid text
+    pair_parts_there vid =
+        let first = parts_there of.none (pair.first ∷ []) of.first vid in
+        let second = parts_there of.none (pair.second ∷ []) of.second vid in
+        let both = parts_there of.none (pair.first ∷ pair.second ∷ []) of.both vid in
+        let flag : Bool = has_any first.0 || has_any second.0 in
+        (cond flag [] both.0, record { one = first.0; other = second.0; by_first = first.1; by_second = second.1; by_both = by flag both.0 both.1 })
+      where
+        by : (flag : Bool) (text : List ℕ) → AreParts net of.none (failed (pair.first ∷ pair.second ∷ []) net) of.both vid text
+            → MatchBool flag (cond flag [] text ≡ []) (AreParts net of.none (failed (pair.first ∷ pair.second ∷ []) net) of.both vid (cond flag [] text))
+        by true text h = refl
+        by false text h = h
+
+    pair_text_there : (cuts : Bool) × (text : List ℕ) × IsPairText net pair of text cuts
+    pair_text_there =
+        let R : ℕ → List ℕ → Type 0 = ArePairParts net pair of in
+        let vids = cut_vids R (λ vid. (pair_parts_there vid).0) (λ vid _. (pair_parts_there vid).1) grouping in
+        let lines = cut_lines R (λ vid. (pair_parts_there vid).0) (λ vid _. (pair_parts_there vid).1) grouping in (
+          has_any vids,
+          pair_text pair vids lines,
+          record { vids = vids; lines = lines; are_cuts = some_cuts R (λ vid. (pair_parts_there vid).0) (λ vid _. (pair_parts_there vid).1) grouping; some = refl; is = refl },
+        )
+
+  abbrev pub none : Outcome
+  none = (outcomes net is).0
+
+  pair_there : (pair : Pair) → (told : Told) × IsPairTold net none pair told
+  pair_there pair =
+      let first = outcomes (failed (pair.first ∷ []) net) (failed_network (pair.first ∷ []) net is) in
+      let second = outcomes (failed (pair.second ∷ []) net) (failed_network (pair.second ∷ []) net is) in
+      let both = outcomes (failed (pair.first ∷ pair.second ∷ []) net) (failed_network (pair.first ∷ pair.second ∷ []) net is) in
+      let of : Outcomes = record { none = none; first = first.0; second = second.0; both = both.0 } in
+      let t = pair_text_there pair of in (
+        record { text = t.1; cuts = t.0 },
+        record { outcomes = of; none = refl; are_outcomes = record { none = (outcomes net is).1; first = first.1; second = second.1; both = both.1 }; is = t.2 },
+      )
+
+  pairs_told : (all : List Pair) → (told : List Told) × AllZip (IsPairTold net none) all told
+  pairs_told [] = ([], tt)
+  pairs_told (pair ∷ pairs) = let first = pair_there pair in let others = pairs_told pairs in (first.0 ∷ others.0, (first.1, others.1))
+
+  pub pairs_there : (all : List Pair) → (cuts : ℕ) × (text : List ℕ) × IsPairsOf net none all text cuts
+  pairs_there all =
+      let told = pairs_told all in
+      let cuts : ℕ = count_by (λ (t : Told). t.cuts) told.0 in
+      (cuts, flat_map (λ (t : Told). t.text) told.0 ++ last_of_pairs all cuts, record { told = told.0; each = told.1; counted = refl; is = refl })

@@ -1,0 +1,124 @@
+-- What pairs of failures of a network do: the VIDs that both together cut, and neither alone.
+use Rattle.std.specs.Prelude.{◌≡◌, ℕ, ◌||◌, Bool, true, List, [], ◌∷◌, ◌++◌, codes, decimal, length, map, if◌then◌else◌}
+use Rattle.std.specs.Bool.{MatchBool}
+use Rattle.std.specs.List.{AllZip, range_with_len}
+use Rattle.std.specs.FinMap as fin
+use Rattle.mst_ids.specs.Names.{name_cmp}
+use Rattle.mst_ids.specs.Vids.{set_where, vids_text}
+use Rattle.mst_ids.specs.Words.{line}
+use Rattle.mst_lang.specs.declared.line.BridgeChange.TheVariants.{Power}
+use Rattle.mst_lang.specs.declared.line.LanChange.TheVariants.{State}
+use Rattle.mst_lang.specs.declared.line.Power.TheVariants.{Off}
+use Rattle.mst_lang.specs.declared.line.LanState.TheVariants.{Down}
+use Rattle.mst_net.specs.After.{change, bridge_with, lan_with}
+use Rattle.mst_net.specs.Tables.{Net, BridgeRow, LanRow}
+use Rattle.mst_lag.specs.Trees.{is_among}
+use Rattle.mst_diff.specs.trees.Outcome.{Outcome, IsOutcome}
+use Rattle.mst_diff.specs.Reach.{has_any}
+use Rattle.mst_sweep.specs.declared.failure.Failure.{Failure}
+use Rattle.mst_sweep.specs.declared.failure.Failure.TheVariants.{Lan, Bridge}
+use Rattle.mst_sweep.specs.Failures.{failures}
+use Rattle.mst_sweep.specs.Parts.{AreParts}
+use Rattle.mst_sweep.specs.Cuts.{AreCutsBy}
+use Rattle.mst_sweep.specs.SweepText.{Told, IsTextOf, failure_words}
+use Rattle.mst_sweep.specs.SweepParts.{PartOf, ToldOfPart, part_of}
+
+-- ---- failures together
+-- LANs of which those that fail are down, and bridges of which those that fail are off
+abbrev pub lans_failed : List Failure → fin.FinMap name_cmp LanRow → fin.FinMap name_cmp LanRow
+lans_failed [] lans = lans
+lans_failed (Lan lan ∷ others) lans = lans_failed others (change lans lan (lan_with (State Down)))
+lans_failed (Bridge bridge ∷ others) lans = lans_failed others lans
+
+abbrev pub bridges_failed : List Failure → fin.FinMap name_cmp BridgeRow → fin.FinMap name_cmp BridgeRow
+bridges_failed [] bridges = bridges
+bridges_failed (Lan lan ∷ others) bridges = bridges_failed others bridges
+bridges_failed (Bridge bridge ∷ others) bridges = bridges_failed others (change bridges bridge (bridge_with (Power Off)))
+
+-- a network with these failures
+abbrev pub failed : List Failure → Net → Net
+failed all net = record net { lans = lans_failed all net.lans; bridges = bridges_failed all net.bridges }
+
+-- ---- pairs
+pub record Pair : Type 0 where
+  pub first : Failure
+  pub second : Failure
+
+-- each of some failures with each behind it, by the first and then by the second
+abbrev pub with_each : Failure → List Failure → List Pair
+with_each first others = map (λ second. record { first = first; second = second }) others
+
+abbrev pub pairs_of : List Failure → List Pair
+pairs_of [] = []
+pairs_of (first ∷ others) = with_each first others ++ pairs_of others
+
+-- the settled outcomes of a network, of it with the one and with the other failure of a pair, and with both
+pub record Outcomes : Type 0 where
+  pub none : Outcome
+  pub first : Outcome
+  pub second : Outcome
+  pub both : Outcome
+
+pub record AreOutcomes (net : Net) (pair : Pair) (of : Outcomes) : Type 0 where
+  pub none : IsOutcome net of.none
+  pub first : IsOutcome (failed (pair.first ∷ []) net) of.first
+  pub second : IsOutcome (failed (pair.second ∷ []) net) of.second
+  pub both : IsOutcome (failed (pair.first ∷ pair.second ∷ []) net) of.both
+
+-- the parts that both failures together make of a VID: none where one of them alone makes some
+pub record ArePairParts (net : Net) (pair : Pair) (of : Outcomes) (vid : ℕ) (text : List ℕ) : Type 0 where
+  pub one : List ℕ
+  pub other : List ℕ
+  pub by_first : AreParts net of.none (failed (pair.first ∷ []) net) of.first vid one
+  pub by_second : AreParts net of.none (failed (pair.second ∷ []) net) of.second vid other
+  pub by_both : MatchBool (has_any one || has_any other) (text ≡ []) (AreParts net of.none (failed (pair.first ∷ pair.second ∷ []) net) of.both vid text)
+
+-- ---- the text
+-- `pair lan L bridge B cut VIDS`, and the lines of the parts of these VIDs: nothing where there is no such VID
+abbrev pub pair_line : Pair → List ℕ → List ℕ
+pair_line pair vids = line (codes "pair" ∷ (failure_words pair.first ++ failure_words pair.second ++ codes "cut" ∷ vids_text (set_where (is_among vids)) ∷ []))
+
+abbrev pub pair_text : Pair → List ℕ → List ℕ → List ℕ
+pair_text pair vids lines = if has_any vids then pair_line pair vids ++ lines else []
+
+-- the VIDs that a pair of failures cuts by these outcomes, whether there are some, and the text of them
+pub record IsPairText (net : Net) (pair : Pair) (of : Outcomes) (text : List ℕ) (cuts : Bool) : Type 0 where
+  pub vids : List ℕ
+  pub lines : List ℕ
+  pub are_cuts : AreCutsBy (ArePairParts net pair of) vids lines
+  pub some : cuts ≡ has_any vids
+  pub is : text ≡ pair_text pair vids lines
+
+-- this is told of a pair of failures of a network with this outcome
+pub record IsPairTold (net : Net) (o : Outcome) (pair : Pair) (told : Told) : Type 0 where
+  pub outcomes : Outcomes
+  pub none : outcomes.none ≡ o
+  pub are_outcomes : AreOutcomes net pair outcomes
+  pub is : IsPairText net pair outcomes told.text told.cuts
+
+-- `sweep pairs N cuts K`
+abbrev pub pairs_line : ℕ → ℕ → List ℕ
+pairs_line pairs cuts = line (codes "sweep" ∷ codes "pairs" ∷ decimal pairs ∷ codes "cuts" ∷ decimal cuts ∷ [])
+
+abbrev pub last_of_pairs : List Pair → ℕ → List ℕ
+last_of_pairs all cuts = pairs_line (length all) cuts
+
+-- this is the text of these pairs, one after another, with a last line that counts them, and this the number of those that cut
+-- some VID together
+abbrev pub IsPairsOf : Net → Outcome → List Pair → List ℕ → ℕ → Type 0
+IsPairsOf net o all text cuts = IsTextOf (IsPairTold net o) last_of_pairs all text cuts
+
+-- of all pairs of the failures of a network, and of a part of them
+abbrev pub IsPairs : Net → Outcome → List ℕ → ℕ → Type 0
+IsPairs net o text cuts = IsPairsOf net o (pairs_of (failures net)) text cuts
+
+abbrev pub IsPairsPart : PartOf → Net → Outcome → List ℕ → ℕ → Type 0
+IsPairsPart part net o text cuts = IsPairsOf net o (part_of part (pairs_of (failures net))) text cuts
+
+-- this is told of each of so many parts, by their numbers
+abbrev pub ArePairsParts : Net → Outcome → ℕ → List ToldOfPart → Type 0
+ArePairsParts net o count parts = AllZip (λ number part. IsPairsPart (record { number = number; count = count }) net o part.text part.cuts) (range_with_len 1 count) parts
+
+-- the text of a pair stands behind what stood there before
+abbrev pub PushesPair : Net → Pair → Outcomes → List ℕ → List ℕ → Bool → Type 0
+PushesPair net pair of before now cuts = (text : List ℕ) × IsPairText net pair of text cuts × (now ≡ before ++ text)
