@@ -22,7 +22,7 @@ line_is first second out vids =
     let y = flat_map after_space other in
     let words : flat_map after_space ((one ++ other) ++ codes "cut" ∷ vids ∷ []) ≡ (x ++ y) ++ (codes " cut " ++ vids) =
     flat_map-append after_space (one ++ other) (codes "cut" ∷ vids ∷ [])
-    ∙ (λ i. flat_map-append after_space one other i ++ codes " cut " ++ append-nil vids i) in
+    ∙ (λ i. flat_map-append after_space one other i ++ (codes " cut " ++ append-nil vids i)) in
     gather out (codes "pair") x y (codes " cut ") vids (10 ∷ []) ∙ ap (λ l. out ++ ((codes "pair" ++ l) ++ 10 ∷ [])) (sym words)
 
 pub returns : goal.returns
