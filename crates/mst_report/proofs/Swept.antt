@@ -16,6 +16,7 @@ use Rattle.mst_sweep.specs.declared.failure.Failure.{Failure}
 use Rattle.mst_sweep.specs.declared.failure.Failure.TheVariants.{Lan, Bridge}
 use Rattle.mst_sweep.specs.Failures.{edit_of}
 use Rattle.mst_sweep.specs.SweepText.{Told, IsTextOf}
+use Rattle.mst_sweep.proofs.SweptParts.{zip_joined}
 use Rattle.mst_lang.specs.declared.line.BridgeChange.TheVariants.{Power}
 use Rattle.mst_lang.specs.declared.line.LanChange.TheVariants.{State}
 use Rattle.mst_lang.specs.declared.line.Power.TheVariants.{Off}
@@ -33,20 +34,6 @@ same_then a b c x y = record { net = y.net ∙ x.net; numbers = y.numbers ∙ x.
 pub same_all : (a : Contents) → SameContents a a
 same_all a = record { net = refl; numbers = refl; next = refl }
 
--- one more of each of two lists
-zip_more : {A B : Type 0} (R : A → B → Type 0) (xs : List A) (ys : List B) (x : A) (y : B) → AllZip R xs ys → R x y → AllZip R (xs ++ x ∷ []) (ys ++ y ∷ [])
-zip_more R [] [] x y h r = (r, tt)
-zip_more R [] (b ∷ ys) x y h r = absurd h
-zip_more R (a ∷ xs) [] x y h r = absurd h
-zip_more R (a ∷ xs) (b ∷ ys) x y h r = (h.0, zip_more R xs ys x y h.1 r)
-
--- and all of two lists and two others
-zip_then : {A B : Type 0} (R : A → B → Type 0) (xs ys : List A) (us vs : List B) → AllZip R xs us → AllZip R ys vs → AllZip R (xs ++ ys) (us ++ vs)
-zip_then R [] ys [] vs h k = k
-zip_then R [] ys (u ∷ us) vs h k = absurd h
-zip_then R (x ∷ xs) ys [] vs h k = absurd h
-zip_then R (x ∷ xs) ys (u ∷ us) vs h k = (h.0, zip_then R xs ys us vs h.1 k)
-
 -- one more that is counted, or isn't
 abbrev pub counts : Bool → ℕ
 counts b = cond b 1 0
@@ -55,36 +42,29 @@ pub counts_few : (b : Bool) → counts b ≤ 1
 counts_few true = omega arith
 counts_few false = omega arith
 
-count_more : (told : List Told) (t : Told) → count_by (λ t. t.cuts) (told ++ t ∷ []) ≡ count_by (λ t. t.cuts) told + counts t.cuts
-count_more told t =
-    let one : 0 + counts t.cuts ≡ counts t.cuts = omega arith in
-    sum_by-append (λ t. counts t.cuts) told (t ∷ []) ∙ ap (λ n. count_by (λ t. t.cuts) told + n) one
-
 module _ {A : Type 0} (Tells : A → Told → Type 0) where
   -- at first none is told of
   pub none_told : AreToldBy Tells [] 0 []
   none_told = record { told = []; each = tt; counted = refl; is = refl }
 
-  -- one more
-  pub more_told : (xs : List A) (x : A) (cuts : ℕ) (text words : List ℕ) (b : Bool) → AreToldBy Tells xs cuts text → Tells x (record { text = words; cuts = b })
-      → (ys : List A) → ys ≡ xs ++ x ∷ [] → (n : ℕ) → n ≡ cuts + counts b → (whole : List ℕ) → whole ≡ text ++ words → AreToldBy Tells ys n whole
-  more_told xs x cuts text words b are is ys ys_are n n_is whole whole_is =
-      let t : Told = record { text = words; cuts = b } in
-      record {
-        told = are.told ++ t ∷ [];
-        each = subst (λ l. AllZip Tells l (are.told ++ t ∷ [])) (sym ys_are) (zip_more Tells xs are.told x t are.each is);
-        counted = n_is ∙ ap (λ n. n + counts b) are.counted ∙ sym (count_more are.told t);
-        is = whole_is ∙ ap (λ l. l ++ words) are.is ∙ ap (λ l. flat_map (λ t. t.text) are.told ++ l) (sym (append-nil words)) ∙ sym (flat_map-append (λ t. t.text) are.told (t ∷ []));
-      }
-
   -- some, and then others
   pub told_then : (xs ys : List A) (cuts more : ℕ) (text words : List ℕ) → AreToldBy Tells xs cuts text → AreToldBy Tells ys more words → AreToldBy Tells (xs ++ ys) (cuts + more) (text ++ words)
   told_then xs ys cuts more text words x y = record {
     told = x.told ++ y.told;
-    each = zip_then Tells xs ys x.told y.told x.each y.each;
+    each = zip_joined Tells xs ys x.told y.told x.each y.each;
     counted = (λ i. x.counted i + y.counted i) ∙ sym (sum_by-append (λ (t : Told). counts t.cuts) x.told y.told);
     is = (λ i. x.is i ++ y.is i) ∙ sym (flat_map-append (λ (t : Told). t.text) x.told y.told);
   }
+
+  -- one more
+  one_told : (x : A) (words : List ℕ) (b : Bool) → Tells x (record { text = words; cuts = b }) → AreToldBy Tells (x ∷ []) (counts b) words
+  one_told x words b is = record { told = record { text = words; cuts = b } ∷ []; each = (is, tt); counted = omega arith; is = sym (append-nil words) }
+
+  pub more_told : (xs : List A) (x : A) (cuts : ℕ) (text words : List ℕ) (b : Bool) → AreToldBy Tells xs cuts text → Tells x (record { text = words; cuts = b })
+      → (ys : List A) → ys ≡ xs ++ x ∷ [] → (n : ℕ) → n ≡ cuts + counts b → (whole : List ℕ) → whole ≡ text ++ words → AreToldBy Tells ys n whole
+  more_told xs x cuts text words b are is ys ys_are n n_is whole whole_is =
+      let all = told_then xs (x ∷ []) cuts (counts b) text words are (one_told x words b is) in
+      record { told = all.told; each = subst (λ l. AllZip Tells l all.told) (sym ys_are) all.each; counted = n_is ∙ all.counted; is = whole_is ∙ all.is }
 
   -- and all of these, with the last line
   pub swept : (last : List A → ℕ → List ℕ) (xs ys : List A) → xs ≡ ys → (cuts : ℕ) (text whole : List ℕ) → AreToldBy Tells xs cuts text → whole ≡ text ++ last xs cuts → IsTextOf Tells last ys whole cuts

@@ -72,7 +72,7 @@ told_lines net o failure told is =
     subst AreLines (sym is.is.is) (lines_joined (failure_line failure roots ports is.is.vids) is.is.lines (failed_ended failure roots ports is.is.vids) lines)
 
 -- ---- parts of any things
-zip_joined : {A B : Type 0} (R : A → B → Type 0) (xs ys : List A) (us vs : List B) → AllZip R xs us → AllZip R ys vs → AllZip R (xs ++ ys) (us ++ vs)
+pub zip_joined : {A B : Type 0} (R : A → B → Type 0) (xs ys : List A) (us vs : List B) → AllZip R xs us → AllZip R ys vs → AllZip R (xs ++ ys) (us ++ vs)
 zip_joined R [] ys [] vs h k = k
 zip_joined R [] ys (u ∷ us) vs h k = absurd h
 zip_joined R (x ∷ xs) ys [] vs h k = absurd h

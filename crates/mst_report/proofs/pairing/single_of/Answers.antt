@@ -5,7 +5,7 @@ use Rattle.mst_report.proofs.Paired.{first_back}
 use Rattle.mst_report.proofs.pairing.single_of.Goals as goal
 
 pub renew-requires : goal.renew-requires
-renew-requires c = first_back c.args.failure.now c.args.network.now.net c.args.network.now.numbers c.trees_of_first-forest.new.seen c.in_ok-forest.ensures.seen
+renew-requires c = first_back c.args.failure.now c.args.network.now.net c.args.network.now.numbers c.trees_of_first.new.seen c.in_ok-forest.ensures.seen
 
 pub returns-clause-single : goal.returns-clause-single
 returns-clause-single c = λ is.
