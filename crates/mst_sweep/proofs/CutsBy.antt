@@ -66,14 +66,14 @@ module _ (R : ℕ → List ℕ → Type 0) (parts : ℕ → List ℕ) (are : (vi
   abbrev test : ℕ → ℕ → Bool
   test x y = pointwise nat_eq (parts x) (parts y)
 
-  equivalence : IsEquivalence test
+  pub equivalence : IsEquivalence test
   equivalence = record {
     refl = λ x. nat_list_eq_equiv.refl (parts x);
     symm = λ x y. nat_list_eq_equiv.symm (parts x) (parts y);
     congr = λ x y z. nat_list_eq_equiv.congr (parts x) (parts y) (parts z);
   }
 
-  abbrev groups : List (List ℕ)
+  abbrev pub groups : List (List ℕ)
   groups = (grouping test all_vids equivalence).0
 
   abbrev pub cut_vids : List ℕ

@@ -1,5 +1,5 @@
 -- Where no VID has parts, none is cut and there are no lines.
-use Rattle.std.proofs.Common.{Vec, Global, ◌≡◌, ℕ, zero, suc, ◌||◌, Bool, true, false, cond, List, [], ◌∷◌, ◌++◌, map, get_or, refl, sym, ap, ◌∙◌}
+use Rattle.std.proofs.Common.{Vec, Global, ◌≡◌, ℕ, zero, suc, ◌||◌, Bool, true, false, cond, List, [], ◌∷◌, ◌++◌, map, get_or, refl, sym, ap, subst, ◌∙◌}
 use Rattle.std.specs.Prelude.{if◌then◌else◌}
 use Rattle.std.specs.Cmp.{IsEquivalence}
 use Rattle.std.specs.List.{filter, flat_map, list_any}
@@ -9,7 +9,7 @@ use Rattle.mst_graph.specs.Groups.{AreGroups}
 use Rattle.mst_diff.specs.plan_text.PlanText.{all_vids}
 use Rattle.mst_diff.specs.Reach.{has_any}
 use Rattle.mst_sweep.specs.Cuts.{cut_line, group_text, AreCutsBy}
-use Rattle.mst_sweep.proofs.CutsBy.{some_cuts}
+use Rattle.mst_sweep.proofs.CutsBy.{cut_lines, groups, some_cuts}
 
 -- ---- lists
 none_left : (test : ℕ → Bool) (xs : List ℕ) → ((x : ℕ) → test x ≡ false) → filter test xs ≡ []
@@ -35,12 +35,6 @@ module _ (parts : ℕ → List ℕ) (none : (vid : ℕ) → has_any (parts vid) 
   pub no_cuts : (R : ℕ → List ℕ → Type 0) → ((same : ℕ → ℕ → Bool) (things : List ℕ) → IsEquivalence same → (groups : List (List ℕ)) × AreGroups (λ x y. same x y ≡ true) things groups)
       → ((vid : ℕ) → is_vid vid ≡ true → R vid (parts vid)) → AreCutsBy R [] []
   no_cuts R grouping are =
-      let cuts = some_cuts R parts are grouping in
-      record {
-        parts = parts;
-        are_parts = are;
-        groups = cuts.groups;
-        are_groups = cuts.are_groups;
-        cut = sym (none_left (λ vid. has_any (parts vid)) all_vids none);
-        is = sym (no_lines cuts.groups);
-      }
+      let lines = cut_lines R parts are grouping in
+      subst (AreCutsBy R []) (no_lines (groups R parts are grouping))
+      (subst (λ vids. AreCutsBy R vids lines) (none_left (λ vid. has_any (parts vid)) all_vids none) (some_cuts R parts are grouping))

@@ -16,7 +16,8 @@ use Rattle.mst_sweep.specs.declared.failure.Failure.{Failure}
 use Rattle.mst_sweep.specs.Failures.{failures}
 use Rattle.mst_sweep.specs.Moved.{moved_roots, moved_ports}
 use Rattle.mst_sweep.specs.Cuts.{cut_line, group_text}
-use Rattle.mst_sweep.specs.SweepText.{failure_words, failure_line, Told, IsTold, is_lan, is_bridge, sweep_line, IsSweep, IsSweepOf}
+use Rattle.mst_sweep.specs.SweepText.{failure_words, failure_line, Told, IsTold, is_lan, is_bridge, sweep_line, IsSweep, IsTextOf}
+use Rattle.mst_sweep.specs.Pairs.{Pair, pairs_of, pair_line, last_of_pairs, IsPairTold, IsPairs, ArePairsParts}
 use Rattle.mst_sweep.specs.SweepParts.{PartOf, whole_part, part_of, ToldOfPart, AreSweepParts, but_last_line}
 use Rattle.mst_sweep.proofs.PartsJoined.{all_parts}
 use Rattle.mst_sweep.proofs.LastLine.{ends, AreLines, lines_joined, lines_ended, are_line, all_lines, one_line, decimal_word, but_last}
