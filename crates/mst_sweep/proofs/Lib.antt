@@ -19,6 +19,7 @@ pub mod CutsBy
 pub mod NoCuts
 pub mod Together
 pub mod Windows
+pub mod ButFlagged
 pub mod PairParts
 pub mod OnePairs
 pub mod PartsJoined

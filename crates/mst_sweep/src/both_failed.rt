@@ -1,4 +1,4 @@
-ghost use Rattle.std.specs.Prelude.{◌≡◌, ◌++◌, ◌<◌, [], IfOk, OnOk, length, map, slice_index, vec_len, ◌+◌, ◌∷◌};
+ghost use Rattle.std.specs.Prelude.{◌≡◌, ◌++◌, ◌<◌, ◌||◌, false, [], IfOk, OnOk, length, map, slice_index, slice_index_or, vec_len, ◌+◌, ◌∷◌};
 ghost use Rattle.std.specs.Bool.{MatchBool};
 ghost use Rattle.std.specs.List.{flat_map};
 ghost use Rattle.mst_ids.specs.Words.{after_space};
@@ -102,6 +102,15 @@ fn parts_unless(
     parts_at(alloc, old, new, baseline, both, touched, class)
 }
 
+/// Whether a class has one of two flags.
+fn is_flagged(one: &[bool], other: &[bool], class: usize) -> bool
+    requires one { class < length one.now }
+    requires other { class < length other.now }
+    ensures { result ≡ (slice_index_or one.now class false || slice_index_or other.now class false) }
+{
+    one[class] || other[class]
+}
+
 /// The parts of the first VID of each class, and none where the class has one of two flags.
 fn parts_but(
     alloc: Global,
@@ -125,7 +134,7 @@ fn parts_but(
     let touched = places.as_slice();
     let mut texts = Vec::new(alloc);
     for class in 0..one.len() {
-        let flag = one[class] || other[class];
+        let flag = is_flagged(one, other, class);
         let text = parts_unless(alloc, old, new, baseline, pairs, touched, class, flag)?;
         texts.push(text)?;
     }

@@ -1,4 +1,4 @@
-use Rattle.std.proofs.Common.{Vec, Global, ◌≡◌, ℕ, List, length, map, sym, ap, ◌∙◌}
+use Rattle.std.proofs.Common.{Vec, Global, ◌≡◌, ℕ, List, length, map, sym, ap, subst, ◌∙◌}
 use Rattle.std.proofs.lemmas.Result.{IfOk-weaker}
 use Rattle.mst_diff.specs.Reach.{has_any}
 use Rattle.mst_diff.proofs.Reached.{AreTold}
@@ -6,7 +6,12 @@ use Rattle.mst_diff.proofs.plan_text_lemmas.Classes.{have_bodies}
 use Rattle.mst_sweep.specs.Parts.{AreParts}
 use Rattle.mst_sweep.proofs.Stay.{parts_moved}
 use Rattle.mst_sweep.proofs.PairParts.{classes_cut}
+use Rattle.mst_sweep.specs.Touched.{AreWhereTouched}
 use Rattle.mst_sweep.proofs.both_failed.cut_classes.Goals as goal
+
+pub parts_of_firsts-requires-clause-touched : goal.parts_of_firsts-requires-clause-touched
+parts_of_firsts-requires-clause-touched c =
+    subst (AreWhereTouched c.args.old.now.view.now c.args.old.now.forest.now c.args.new.now.view.now c.args.new.now.forest.now) (sym c.as_slice-2.ensures.value) c.in_ok-places.ensures
 
 pub returns : goal.returns
 returns c = IfOk-weaker c.any_each.result _ _

@@ -13,7 +13,7 @@ loop-class-preserved c = record {
       let i : ℕ = c.loop-class.class in
       let firsts : List ℕ = c.args.baseline.now.classes.firsts.items in
       let place : ℕ = get_or firsts i 0 in
-      let below : i < length firsts = c.parts_at-requires-there in
+      let below : i < length firsts = omega (arith, c.loop-class-test.true, c.len-class-end.ensures) in
       let pushed = ap (map (λ text. text.items)) c.in_ok-push.ensures.items ∙ map-append (λ text. text.items) c.loop-class.texts.items (c.in_ok-parts_at.field-0 ∷ []) in
       subst (AtPlaces (AreParts a is.outcome b are.outcome) (take (i + 1) firsts)) (sym pushed)
       (places_more (AreParts a is.outcome b are.outcome) firsts i place (place + 1) below refl refl (map (λ text. text.items) c.loop-class.texts.items) c.in_ok-parts_at.field-0.items
@@ -23,5 +23,5 @@ loop-class-preserved c = record {
 pub returns-clause-parts : goal.returns-clause-parts
 returns-clause-parts c a b n k is are of so left =
     let firsts : List ℕ = c.args.baseline.now.classes.firsts.items in
-    let past : length firsts ≤ c.loop-class.class = ? in
+    let past : length firsts ≤ c.loop-class.class = omega (arith, c.loop-class-test.false, c.len-class-end.ensures) in
     places_all (AreParts a is.outcome b are.outcome) firsts c.loop-class.class past (map (λ text. text.items) c.loop-class.texts.items) (c.loop-class.invariant.parts a b n k is are of so left)

@@ -1,0 +1,27 @@
+-- The parts of classes of VIDs that have no flag, one class more at a time.
+use Rattle.std.proofs.Common.{◌≡◌, ◌+◌, ◌<◌, ℕ, ◌||◌, Bool, false, List, [], ◌∷◌, ◌++◌, length, get_or, sym, subst, ap, ◌∙◌, arith, inl, inr}
+use Rattle.std.specs.Bool.{MatchBool}
+use Rattle.std.proofs.lemmas.Bool.{cases_lt}
+use Rattle.std.proofs.lemmas.List.{get_or_append_left}
+use Rattle.std.proofs.Math.Seq.{get_or-append_seam}
+use Rattle.mst_net.specs.Tables.{Net}
+use Rattle.mst_diff.specs.trees.Outcome.{Outcome}
+use Rattle.mst_sweep.specs.Parts.{AreParts}
+
+module _ (a : Net) (o : Outcome) (b : Net) (p : Outcome) (firsts : List ℕ) (one other : List Bool) where
+  -- a text of a class: its parts, or nothing where it has a flag
+  abbrev pub IsUnless : ℕ → List ℕ → Type 0
+  IsUnless class text = MatchBool (get_or one class false || get_or other class false) (text ≡ []) (AreParts a o b p (get_or firsts class 0 + 1) text)
+
+  -- so it is with so many classes
+  abbrev pub AreUnless : ℕ → List (List ℕ) → Type 0
+  AreUnless count texts = (class : ℕ) → class < count → IsUnless class (get_or texts class [])
+
+  pub one_more : (count : ℕ) (texts : List (List ℕ)) (text : List ℕ) → length texts ≡ count → AreUnless count texts → IsUnless count text → AreUnless (count + 1) (texts ++ text ∷ [])
+  one_more count texts text long are is class below = elim (cases_lt class count) [
+    | inl h ↦ subst (IsUnless class) (sym (get_or_append_left texts (text ∷ []) [] class (omega (arith, long, h)))) (are class h)
+    | inr h ↦
+        let same : count ≡ class = omega (arith, h, below) in
+        let there : get_or (texts ++ text ∷ []) count [] ≡ text = subst (λ k. get_or (texts ++ text ∷ []) k [] ≡ text) long (get_or-append_seam texts text [] []) in
+        subst (λ k. IsUnless k (get_or (texts ++ text ∷ []) k [])) same (subst (IsUnless count) (sym there) is)
+  ]
