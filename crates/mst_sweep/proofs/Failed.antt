@@ -10,15 +10,14 @@ use Rattle.mst_lang.specs.declared.line.LanState.TheVariants.{Down}
 use Rattle.mst_lang.specs.declared.line.Power.TheVariants.{Off}
 use Rattle.mst_net.specs.declared.refusal.Refusal.{Refusal}
 use Rattle.mst_net.specs.After.{after, effect, refusal_of, bridge_with, lan_with}
-use Rattle.mst_net.specs.ByTree.{by_tree}
 use Rattle.mst_net.specs.Tables.{Net, BridgeRow, port_eq}
 use Rattle.mst_net.proofs.Changed.{get_changed}
 use Rattle.mst_net.proofs.Keys.{names}
 use Rattle.mst_net.proofs.NamesInOrder.{names_stay}
 use Rattle.mst_lag.specs.Aggregation.{Plug, plugs, lans_as_one, same_name}
-use Rattle.mst_lag.specs.View.{LogicalPort, logical_lan, logical_port, as_port, view_ports}
+use Rattle.mst_lag.specs.View.{LogicalPort, logical_lan, logical_port, as_port}
 use Rattle.mst_diff.proofs.trees_lemmas.Lists.{mapped_twice}
-use Rattle.mst_diff.specs.changes.Subjects.{bridge_names, port_names}
+use Rattle.mst_diff.specs.changes.Subjects.{port_names}
 use Rattle.mst_sweep.specs.declared.failure.Failure.{Failure}
 use Rattle.mst_sweep.specs.declared.failure.Failure.TheVariants.{Lan, Bridge}
 use Rattle.mst_sweep.specs.Failures.{edit_of}

@@ -1,6 +1,5 @@
 -- The line of a failure, of its pieces.
 use Rattle.std.proofs.Common.{◌≡◌, ℕ, List, [], ◌∷◌, ◌++◌, codes, append_assoc, append-nil, ap, ◌∙◌}
-use Rattle.std.specs.List.{flat_map}
 use Rattle.mst_ids.specs.Words.{after_space, line}
 use Rattle.mst_diff.specs.changes.ChangesText.{spaced}
 use Rattle.mst_sweep.specs.declared.failure.Failure.{Failure}

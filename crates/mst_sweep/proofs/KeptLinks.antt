@@ -1,17 +1,17 @@
 -- Which links of a VID a failure leaves, by the ports that have other roles afterwards.
-use Rattle.std.proofs.Common.{◌≡◌, ℕ, ◌+◌, ◌-◌, ◌<◌, ◌≤◌, ◌==◌, ◌&&◌, ◌||◌, not, nat_eq, Bool, true, false, List, [], ◌∷◌, map, length, get_or, Option, Some, None, ◌⊎◌, inl, inr, refl, sym, ap, subst, ◌∙◌, true≢false, arith, eq-eqb}
+use Rattle.std.proofs.Common.{◌≡◌, ℕ, ◌+◌, ◌<◌, ◌==◌, ◌&&◌, ◌||◌, not, nat_eq, Bool, true, false, List, [], ◌∷◌, map, length, get_or, Option, Some, None, ◌⊎◌, inl, inr, refl, sym, ap, subst, ◌∙◌, true≢false, arith, eq-eqb}
 use Rattle.std.specs.Prelude.{if◌then◌else◌}
 use Rattle.std.specs.List.{Contains, list_any, filter, range_with_len}
 use Rattle.std.specs.Option.{option_map, option_map_or}
 use Rattle.std.specs.FinMap as fin
-use Rattle.std.proofs.lemmas.Bool.{eqb-true, eqb-false}
+use Rattle.std.proofs.lemmas.Bool.{eqb-true}
 use Rattle.std.proofs.lemmas.List.{length-map, get_or-map, get_or_default}
 use Rattle.std.proofs.lemmas.List.FromFn.{length-range_with_len, get_or-range_with_len}
 use Rattle.mst_graph.specs.Islands.{Link}
-use Rattle.mst_graph.proofs.Members.{here, there, in_map, from_map, in_filter, from_filter, passing}
+use Rattle.mst_graph.proofs.Members.{in_map, from_map, in_filter, from_filter, passing}
 use Rattle.mst_ids.specs.Vids.{has}
 use Rattle.mst_ids.specs.declared.name.PortName.{PortName}
-use Rattle.mst_net.specs.ByTree.{by_tree, table_in, vlans_in}
+use Rattle.mst_net.specs.ByTree.{table_in, vlans_in}
 use Rattle.mst_net.specs.Table.{tree_in, has_tree, mstis_in}
 use Rattle.mst_net.specs.After.{table_of}
 use Rattle.mst_net.specs.Tables.{Net, Numbers, BridgeRow}
@@ -33,11 +33,9 @@ use Rattle.mst_diff.proofs.roles_lemmas.Named.{each_same}
 use Rattle.mst_vlan.specs.Active.{active_ports}
 use Rattle.mst_vlan.specs.Reach.{is_member, link_of, vid_links}
 use Rattle.mst_vlan.specs.Seen.{seen_member}
-use Rattle.mst_diff.specs.changes.Subjects.{port_names}
 use Rattle.mst_diff.proofs.changes_lemmas.InUse.{unused}
-use Rattle.mst_sweep.specs.Touched.{AreWhereTouched, BreakNoLinks, seen_is_link, seen_beside_link, seen_breaks}
-use Rattle.mst_sweep.proofs.CutApart.{both_true}
-use Rattle.mst_sweep.specs.Left.{AreLeft, lan_names}
+use Rattle.mst_sweep.specs.Touched.{AreWhereTouched, BreakNoLinks, seen_is_link, seen_beside_link}
+use Rattle.mst_sweep.specs.Left.{AreLeft}
 use Rattle.mst_sweep.proofs.Positions.{any_passes}
 use Rattle.mst_sweep.proofs.StillJoined.{IsAlone}
 use Rattle.mst_sweep.proofs.Untouched.{had_listed}

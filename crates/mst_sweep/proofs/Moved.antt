@@ -1,5 +1,5 @@
 -- Roots and roles that are other ones, under names.
-use Rattle.std.proofs.Common.{◌≡◌, ℕ, ◌+◌, ◌*◌, ◌<◌, ◌≤◌, ◌==◌, ◌||◌, Bool, true, false, cond, List, [], ◌∷◌, ◌++◌, length, take, get_or, map, Option, Some, None, refl, sym, ap, subst, ◌∙◌, arith}
+use Rattle.std.proofs.Common.{◌≡◌, ℕ, ◌+◌, ◌<◌, ◌≤◌, ◌==◌, ◌||◌, Bool, true, false, cond, List, [], ◌∷◌, ◌++◌, length, take, get_or, map, Option, Some, None, refl, sym, ap, subst, ◌∙◌, arith}
 use Rattle.std.specs.Prelude.{if◌then◌else◌}
 use Rattle.std.specs.List.{AllByRecursion, Contains, filter, filter_map, find, list_any, count_by, sum_by, range_with_len, cons_option}
 use Rattle.std.specs.Option.{option_map, option_map_or, option_and_then}
@@ -11,24 +11,22 @@ use Rattle.mst_net.proofs.Rising.{range_more}
 use Rattle.std.proofs.lemmas.List.Elements.{filter-append}
 use Rattle.std.proofs.lemmas.List.Sums.{count_by_more_yes, count_by_more_no, count_by-le-length, length-filter, sum_by-append, sum_by-cons}
 use Rattle.mst_ids.specs.declared.name.PortName.{PortName}
-use Rattle.mst_net.specs.Tables.{Net, Numbers, PortRow, port_eq}
+use Rattle.mst_net.specs.Tables.{Net, Numbers, port_eq}
 use Rattle.mst_net.specs.Seen.{bridge_row}
 use Rattle.mst_lag.specs.Aggregation.{Plug, plug_of, plugs, same_name}
 use Rattle.mst_lag.specs.View.{LogicalPort, logical_port, as_port, view_ports}
 use Rattle.mst_lag.specs.Viewed.{Viewed, named_port}
 use Rattle.mst_lag.specs.declared.in_view.BridgeInView.{BridgeInView}
 use Rattle.mst_lag.specs.declared.in_view.PortInView.{PortInView}
-use Rattle.mst_diff.specs.trees.Agrees.{AreOf, Known}
+use Rattle.mst_diff.specs.trees.Agrees.{AreOf}
 use Rattle.mst_diff.specs.trees.Forest.{Forest, IsForest}
 use Rattle.mst_diff.specs.trees.Msti.{has_msti}
 use Rattle.mst_diff.specs.trees.Outcome.{Outcome}
 use Rattle.mst_diff.proofs.trees_lemmas.Entries.{all_weaker}
 use Rattle.mst_diff.proofs.trees_lemmas.Lists.{all_there, mapped_twice}
-use Rattle.mst_diff.proofs.trees_lemmas.Seen.{SeenPort}
 use Rattle.mst_diff.proofs.roles_lemmas.Named.{own_role}
 use Rattle.mst_diff.specs.roles.Roles.{role_of, role_in, cist_role, msti_role}
 use Rattle.mst_diff.specs.roles.Seen.{seen_role}
-use Rattle.mst_diff.specs.roles.declared.kind.Role.{Role}
 use Rattle.mst_diff.specs.changes.Subjects.{all_trees, bridge_names, port_names}
 use Rattle.mst_diff.proofs.changes_lemmas.Orders.{trees_are}
 use Rattle.mst_diff.specs.declared.both.Both.{Both}

@@ -2,7 +2,7 @@
 use Rattle.std.proofs.Common.{◌≡◌, ℕ, ◌||◌, Bool, true, false, cond, List, [], ◌∷◌, ◌++◌, refl, sym, ap, subst, ◌∙◌}
 use Rattle.std.specs.Bool.{MatchBool}
 use Rattle.std.specs.Cmp.{IsEquivalence}
-use Rattle.std.specs.List.{AllZip, Contains, count_by, flat_map}
+use Rattle.std.specs.List.{AllZip, count_by, flat_map}
 use Rattle.mst_graph.specs.Groups.{AreGroups}
 use Rattle.mst_graph.specs.Islands.{Island}
 use Rattle.mst_net.specs.Tables.{Net, IsNetwork}
@@ -14,7 +14,7 @@ use Rattle.mst_diff.specs.Reach.{has_any}
 use Rattle.mst_diff.proofs.OneDiff.{OneList}
 use Rattle.mst_sweep.specs.declared.failure.Failure.{Failure}
 use Rattle.mst_sweep.specs.Parts.{staying, parts_text, AreParts}
-use Rattle.mst_sweep.specs.Pairs.{Pair, Outcomes, AreOutcomes, ArePairParts, IsPairText, IsPairTold, IsPairsOf, failed, last_of_pairs, pair_text}
+use Rattle.mst_sweep.specs.Pairs.{Pair, Outcomes, ArePairParts, IsPairText, IsPairTold, IsPairsOf, failed, last_of_pairs, pair_text}
 use Rattle.mst_sweep.specs.SweepText.{Told}
 use Rattle.mst_sweep.proofs.CutsBy.{one_lines, one_cut, cut_vids, cut_lines, some_cuts}
 use Rattle.mst_sweep.proofs.OneSweep.{zip_same}

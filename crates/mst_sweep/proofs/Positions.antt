@@ -1,5 +1,5 @@
 -- Positions in lists, and lists of parts that have something.
-use Rattle.std.proofs.Common.{◌≡◌, ℕ, ◌+◌, ◌≤◌, ◌||◌, Bool, true, false, cond, List, [], ◌∷◌, ◌++◌, Option, Some, None, refl, sym, ap, ◌∙◌, true≢false, arith, inl, inr}
+use Rattle.std.proofs.Common.{◌≡◌, ℕ, ◌+◌, ◌≤◌, ◌||◌, Bool, true, false, cond, List, [], ◌∷◌, ◌++◌, Some, refl, sym, ap, ◌∙◌, true≢false, arith, inl, inr}
 use Rattle.std.specs.List.{Contains, find, flat_map, list_any, position_from}
 use Rattle.mst_graph.proofs.Members.{in_none, here, there, cases}
 use Rattle.mst_diff.proofs.trees_lemmas.Lists.{no_some, some_is}

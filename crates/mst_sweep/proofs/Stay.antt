@@ -1,5 +1,5 @@
 -- The bridges that stay and what tells VIDs apart, under names.
-use Rattle.std.proofs.Common.{◌≡◌, ℕ, ◌+◌, ◌||◌, nat_eq, Bool, true, false, cond, List, [], ◌∷◌, map, Option, Some, None, refl, sym, ap, subst, ◌∙◌, true≢false}
+use Rattle.std.proofs.Common.{◌≡◌, ℕ, ◌+◌, ◌||◌, nat_eq, Bool, true, false, cond, List, [], ◌∷◌, map, Option, Some, None, refl, sym, ap, subst, ◌∙◌}
 use Rattle.std.specs.List.{AllByRecursion, Contains, filter, filter_map, find, list_any, position_from}
 use Rattle.std.specs.Map.{lookup}
 use Rattle.std.specs.Option.{option_map, option_and_then}
@@ -7,7 +7,7 @@ use Rattle.std.specs.FinMap as fin
 use Rattle.std.specs.Cmp.Lexicographic.{bytes_decides}
 use Rattle.mst_graph.specs.Islands.{Island, AreIslands}
 use Rattle.mst_graph.proofs.Members.{from_map, from_filter}
-use Rattle.mst_net.specs.ByTree.{ByTree, by_tree, table_in, vlans_in}
+use Rattle.mst_net.specs.ByTree.{ByTree, table_in, vlans_in}
 use Rattle.mst_net.specs.Seen.{bridge_row}
 use Rattle.mst_net.specs.Tables.{Net, Numbers, BridgeRow}
 use Rattle.mst_ids.specs.declared.name.PortName.{PortName}
@@ -26,9 +26,8 @@ use Rattle.mst_vlan.specs.Reach.{bridges_on, lans_up, vid_links, AreIslandsOf}
 use Rattle.mst_vlan.proofs.Renumbered.{bridge_listed}
 use Rattle.mst_diff.specs.plan_text.Alike.{AreAlike}
 use Rattle.mst_diff.proofs.plan_text_lemmas.Classes.{links_shared}
-use Rattle.mst_diff.specs.changes.Subjects.{bridge_names, port_names}
+use Rattle.mst_diff.specs.changes.Subjects.{bridge_names}
 use Rattle.mst_diff.proofs.changes_lemmas.Lists.{filter_map-map}
-use Rattle.mst_diff.specs.declared.both.Both.{Both}
 use Rattle.mst_diff.specs.Seen.{seen_in_both, seen_both}
 use Rattle.mst_diff.proofs.Lists.{filter_map-filter_map, find-found}
 use Rattle.mst_diff.proofs.Named.{found_named, names_are}

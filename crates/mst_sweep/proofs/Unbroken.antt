@@ -8,7 +8,7 @@ use Rattle.mst_diff.proofs.changes_lemmas.Lists.{all_append}
 use Rattle.mst_diff.specs.Reach.{has_any}
 use Rattle.mst_diff.proofs.trees_lemmas.Entries.{all_weaker}
 use Rattle.mst_diff.proofs.trees_lemmas.Lists.{all_contained, some_is}
-use Rattle.mst_sweep.specs.Parts.{came_apart, parts_text}
+use Rattle.mst_sweep.specs.Parts.{parts_text}
 use Rattle.mst_sweep.specs.declared.parts.Stays.{Stays}
 use Rattle.mst_sweep.proofs.CutApart.{two_apart, both_true, not_true}
 

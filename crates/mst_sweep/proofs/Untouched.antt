@@ -9,7 +9,6 @@ use Rattle.mst_graph.proofs.Members.{here, there, in_filter}
 use Rattle.mst_ids.specs.declared.name.PortName.{PortName}
 use Rattle.mst_net.specs.Tables.{Net, Numbers}
 use Rattle.mst_lag.specs.Viewed.{Viewed}
-use Rattle.mst_lag.specs.declared.in_view.PortInView.{PortInView}
 use Rattle.mst_diff.specs.trees.Agrees.{AreOf}
 use Rattle.mst_diff.specs.trees.Forest.{Forest, IsForest}
 use Rattle.mst_diff.specs.trees.InUse.{is_in_use, seen_mstis}

@@ -1,11 +1,10 @@
 -- Pieces of lists that follow one another, and how many pairs there are.
-use Rattle.std.proofs.Common.{◌≡◌, ℕ, ◌+◌, ◌-◌, ◌*◌, ◌/◌, ◌≤◌, ◌<◌, zero, suc, Bool, true, false, List, [], ◌∷◌, ◌++◌, length, map, take, drop, get_or, min, refl, sym, ap, ap₂, subst, ◌∙◌, arith, length-append, append-nil, inl, inr, drop-cons}
-use Rattle.std.specs.Prelude.{◌⊎◌}
-use Rattle.std.proofs.lemmas.List.{take_all, drop_all, take-append-le, drop-append-le, length-take, length-drop, length-map}
+use Rattle.std.proofs.Common.{◌≡◌, ℕ, ◌+◌, ◌-◌, ◌*◌, ◌≤◌, zero, suc, List, [], ◌∷◌, ◌++◌, length, map, take, drop, min, refl, sym, ap, ◌∙◌, arith, length-append, append-nil, inl, inr}
+use Rattle.std.proofs.lemmas.List.{take_all, drop_all, take-append-le, drop-append-le, length-drop, length-map}
 use Rattle.std.proofs.Math.Seq.{take-append-add, drop-append-add}
 use Rattle.std.proofs.lemmas.Bool.{cases_lt}
 use Rattle.mst_sweep.specs.declared.failure.Failure.{Failure}
-use Rattle.mst_sweep.specs.Pairs.{Pair, with_each, pairs_of}
+use Rattle.mst_sweep.specs.Pairs.{with_each, pairs_of}
 
 -- what stands in a list from one place to another
 abbrev pub piece : {A : Type 0} → ℕ → ℕ → List A → List A

@@ -1,5 +1,5 @@
 -- Roots and roles that are other ones after a failure.
-use Rattle.std.specs.Prelude.{ℕ, ◌==◌, ◌&&◌, not, Bool, true, false, List, Option, Some, None, filter}
+use Rattle.std.specs.Prelude.{ℕ, ◌==◌, ◌&&◌, not, Bool, true, false, List, Option, Some, filter}
 use Rattle.std.specs.List.{list_any, count_by, sum_by}
 use Rattle.mst_ids.specs.declared.name.PortName.{PortName}
 use Rattle.mst_net.specs.Tables.{Net}

@@ -1,4 +1,4 @@
-use Rattle.std.proofs.Common.{◌≡◌, ℕ, List, ◌++◌, ap, ◌∙◌}
+use Rattle.std.proofs.Common.{ℕ, List, ◌++◌, ap, ◌∙◌}
 use Rattle.std.specs.List.{filter_map}
 use Rattle.mst_sweep.specs.Parts.{parts_text}
 use Rattle.mst_sweep.specs.Seen.{seen_stays}

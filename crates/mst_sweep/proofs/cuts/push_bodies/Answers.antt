@@ -1,4 +1,4 @@
-use Rattle.std.proofs.Common.{Vec, Global, ◌≡◌, ℕ, ◌-◌, ◌++◌, Bool, false, List, [], get_or, length, map, refl, sym, ap, subst, ◌∙◌, append-nil}
+use Rattle.std.proofs.Common.{Vec, Global, ◌≡◌, ℕ, ◌-◌, ◌++◌, false, List, [], get_or, length, map, refl, sym, ap, subst, ◌∙◌, append-nil}
 use Rattle.std.specs.List.{filter, flat_map, list_any}
 use Rattle.std.proofs.lemmas.Result.{IfOk-weaker}
 use Rattle.mst_diff.specs.plan_text.Bodies.{NumberEach, body_at}

@@ -1,4 +1,4 @@
-use Rattle.std.proofs.Common.{◌≡◌, ◌++◌, List, map, filter, ap, ◌∙◌}
+use Rattle.std.proofs.Common.{◌++◌, List, map, filter, ap, ◌∙◌}
 use Rattle.mst_net.specs.Seen.{bridge_row}
 use Rattle.mst_lag.specs.declared.in_view.BridgeInView.{BridgeInView}
 use Rattle.mst_lag.specs.declared.in_view.MemberLan.{MemberLan}

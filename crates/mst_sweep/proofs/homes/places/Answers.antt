@@ -1,4 +1,4 @@
-use Rattle.std.proofs.Common.{◌≡◌, ℕ, ◌+◌, ◌<◌, ◌≤◌, nat_eq, Bool, Some, None, cond, sym, ap, ◌∙◌, arith, get_or, length, take}
+use Rattle.std.proofs.Common.{◌<◌, ◌≤◌, nat_eq, Bool, Some, None, cond, sym, ap, ◌∙◌, arith, length}
 use Rattle.std.specs.List.{list_any}
 use Rattle.std.specs.Option.{option_or}
 use Rattle.std.proofs.lemmas.List.{length-take-le}

@@ -1,9 +1,8 @@
 use Rattle.std.proofs.Common.{◌≡◌, List, sym, subst}
-use Rattle.mst_diff.specs.trees.Outcome.{Outcome}
 use Rattle.mst_sweep.specs.Failures.{failures}
 use Rattle.mst_sweep.specs.Pairs.{Pair, pairs_of, IsPairsOf, IsPairsPart, IsPairTold, last_of_pairs}
 use Rattle.mst_sweep.specs.SweepParts.{part_of}
-use Rattle.mst_sweep.proofs.OnePairs.{all_pairs_told, pairs_there, none}
+use Rattle.mst_sweep.proofs.OnePairs.{all_pairs_told, pairs_there}
 use Rattle.mst_sweep.proofs.OneSweep.{one_text, one_count}
 use Rattle.mst_sweep.proofs.PartsJoined.{lengths_near}
 use Rattle.mst_sweep.proofs.SweptParts.{pairs_joined, whole_is}

@@ -1,4 +1,4 @@
-use Rattle.std.proofs.Common.{◌≡◌, ◌<◌, ◌≤◌, length, sym, ap, ◌∙◌, arith}
+use Rattle.std.proofs.Common.{◌≡◌, ◌<◌, ◌≤◌, length, sym, ◌∙◌, arith}
 use Rattle.mst_diff.specs.changes.Subjects.{port_names}
 use Rattle.mst_diff.proofs.changes_lemmas.InUse.{unused, unused_by}
 use Rattle.mst_sweep.proofs.Moved.{few_ports, none_counted}

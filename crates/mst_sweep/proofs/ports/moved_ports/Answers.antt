@@ -1,5 +1,5 @@
-use Rattle.std.proofs.Common.{◌≡◌, ℕ, ◌+◌, ◌*◌, ◌≤◌, sym, ap, ◌∙◌, arith}
-use Rattle.std.specs.List.{count_by, sum_by, range_with_len}
+use Rattle.std.proofs.Common.{◌≡◌, ℕ, ◌+◌, sym, ap, ◌∙◌, arith}
+use Rattle.std.specs.List.{count_by}
 use Rattle.mst_diff.specs.changes.Subjects.{port_names}
 use Rattle.mst_sweep.specs.Moved.{port_moved}
 use Rattle.mst_sweep.proofs.Moved.{sums_more, sums_all}

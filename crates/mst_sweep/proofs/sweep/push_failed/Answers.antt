@@ -1,10 +1,8 @@
-use Rattle.std.proofs.Common.{◌≡◌, ℕ, List, [], ◌∷◌, ◌++◌, codes, decimal, map, ap, ◌∙◌}
+use Rattle.std.proofs.Common.{ℕ, List, [], ◌∷◌, ◌++◌, codes, decimal, map, ap, ◌∙◌}
 use Rattle.std.proofs.lemmas.Result.{on_ok_weaker}
 use Rattle.mst_ids.specs.Vids.{set_where, vids_text}
 use Rattle.mst_ids.specs.Words.{after_space, comma_list}
-use Rattle.mst_diff.specs.changes.ChangesText.{spaced}
 use Rattle.mst_lag.specs.Trees.{is_among}
-use Rattle.mst_sweep.specs.SweepText.{failure_words}
 use Rattle.mst_sweep.proofs.FailedLine.{failed_line}
 use Rattle.mst_sweep.proofs.sweep.push_failed.Goals as goal
 

@@ -1,4 +1,4 @@
-use Rattle.std.proofs.Common.{◌≡◌, ℕ, get_or, sym, subst, ◌∙◌, inl, inr, arith, below_more}
+use Rattle.std.proofs.Common.{◌≡◌, ℕ, get_or, subst, ◌∙◌, inl, inr, arith, below_more}
 use Rattle.std.proofs.lemmas.List.{get_or_default}
 use Rattle.mst_graph.proofs.Members.{cases}
 use Rattle.mst_diff.specs.roles.Seen.{seen_role}

@@ -1,4 +1,4 @@
-use Rattle.std.proofs.Common.{◌≡◌, ◌+◌, ℕ, Bool, List, length, map, ap, subst, ◌∙◌}
+use Rattle.std.proofs.Common.{◌+◌, ℕ, Bool, List, length, map, ap, subst, ◌∙◌}
 use Rattle.std.specs.List.{AllZip}
 use Rattle.mst_diff.specs.plan_text.Alike.{TellApart}
 use Rattle.mst_sweep.specs.Baseline.{AreHomes}
