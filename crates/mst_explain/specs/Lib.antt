@@ -8,4 +8,3 @@ pub mod Claims
 pub mod Seen
 pub mod TreesSeen
 pub mod SeenText
-pub mod Planned

@@ -1,4 +1,4 @@
--- The text of an explanation, under the numbers of records.
+-- The text of an explanation of a settled network, under the numbers of records.
 use Rattle.std.specs.Prelude.{ℕ, ◌==◌, ◌&&◌, Bool, false, List, [], ◌++◌, Option, if◌then◌else◌}
 use Rattle.std.specs.List.{find, list_any}
 use Rattle.std.specs.Option.{option_map_or, option_and_then}
@@ -7,11 +7,12 @@ use Rattle.mst_vector.specs.Msti.{msti_rules}
 use Rattle.mst_settle.specs.Assignment.{designated_of}
 use Rattle.mst_roles.specs.net.Seen.{bridge_row}
 use Rattle.mst_lag.specs.Aggregation.{same_name}
-use Rattle.mst_lag.specs.Viewed.{Viewed}
+use Rattle.mst_lag.specs.Viewed.{Viewed, named_port}
 use Rattle.mst_lag.specs.declared.in_view.PortInView.{PortInView}
 use Rattle.mst_roles.specs.trees.Seen.{seen_internal}
-use Rattle.mst_roles.specs.trees.Forest.{Forest, designated_in}
-use Rattle.mst_roles.specs.Seen.{seen_role}
+use Rattle.mst_roles.specs.trees.Forest.{designated_in}
+use Rattle.mst_roles.specs.trees.Settled.{SettledNet, outcome_of}
+use Rattle.mst_roles.specs.Roles.{role_in}
 use Rattle.mst_explain.specs.Fields.{cist_fields, msti_fields}
 use Rattle.mst_explain.specs.Lines.{explain_line, boundary_line, disabled_lines}
 use Rattle.mst_explain.specs.Seen.{contest_text}
@@ -31,20 +32,20 @@ abbrev pub off_text : Viewed → PortInView → List ℕ
 off_text v p = disabled_lines (bridge_is_on v p.bridge) p.name.bridge (lan_is_up v p.lan) p.lan
 
 -- of a port that has received external information
-abbrev pub outside_text : Viewed → Forest → PortInView → List ℕ
-outside_text v f p =
-    option_map_or (λ role. option_map_or (λ q. boundary_line role q.name) (option_and_then (port_found v) (designated_in f 0 p.lan_number)) []) (seen_role v f 0 p) []
+abbrev pub outside_text : SettledNet → PortInView → List ℕ
+outside_text s p =
+    option_map_or (λ role. option_map_or (λ q. boundary_line role q.name) (option_and_then (port_found s.view) (designated_in s.forest 0 p.lan_number)) []) (role_in s.net (outcome_of s) 0 (named_port p)) []
 
 -- of any port
-module _ (v : Viewed) (region_ids : List (ℕ × ℕ)) (f : Forest) (tree : ℕ) (p : PortInView) where
+module _ (s : SettledNet) (tree : ℕ) (p : PortInView) where
   abbrev pub msti_text : List ℕ
-  msti_text = if seen_internal v f.regions (designated_of f.cist) p then contest_text msti_rules v (msti_seen v region_ids f tree) msti_fields p else outside_text v f p
+  msti_text = if seen_internal s.view s.forest.regions (designated_of s.forest.cist) p then contest_text msti_rules s.view (msti_seen s tree) msti_fields p else outside_text s p
 
   abbrev pub enabled_text : List ℕ
-  enabled_text = if tree == 0 then contest_text cist_rules v (cist_seen v region_ids f tree) cist_fields p else msti_text
+  enabled_text = if tree == 0 then contest_text cist_rules s.view (cist_seen s tree) cist_fields p else msti_text
 
   abbrev pub reason_text : List ℕ
-  reason_text = if p.is_enabled then enabled_text else off_text v p
+  reason_text = if p.is_enabled then enabled_text else off_text s.view p
 
   abbrev pub explanation_text : List ℕ
-  explanation_text = option_map_or (λ role. explain_line tree p.name p.lan role ++ reason_text) (seen_role v f tree p) []
+  explanation_text = option_map_or (λ role. explain_line tree p.name p.lan role ++ reason_text) (role_in s.net (outcome_of s) tree (named_port p)) []

@@ -7,14 +7,14 @@ use Rattle.std.specs.FinMap as fin
 use Rattle.std.proofs.lemmas.Bool.{eqb-true}
 use Rattle.mst_ids.specs.declared.name.PortName.{PortName}
 use Rattle.mst_net.specs.After.{has_bridge}
-use Rattle.mst_net.specs.Tables.{Net, Numbers, BridgeRow, IsNetwork, port_eq}
+use Rattle.mst_net.specs.Tables.{Net, BridgeRow, IsNetwork, port_eq}
 use Rattle.mst_lag.specs.Trees.{mstis_of, is_among}
 use Rattle.mst_lag.specs.View.{LogicalPort, view_ports}
 use Rattle.mst_lag.specs.Viewed.{named_port}
 use Rattle.mst_lag.specs.declared.in_view.PortInView.{PortInView}
-use Rattle.mst_picture.specs.trees.Agrees.{AreOf}
 use Rattle.mst_picture.specs.trees.Msti.{has_msti}
 use Rattle.mst_picture.specs.trees.Outcome.{Outcome, IsOutcome}
+use Rattle.mst_picture.specs.trees.Settled.{SettledNet, outcome_of, IsSettledNet}
 use Rattle.mst_picture.proofs.trees_lemmas.Entries.{all_weaker}
 use Rattle.mst_picture.specs.trees.Seen.{trees_at}
 use Rattle.mst_picture.proofs.trees_lemmas.Lists.{some_is, no_some, passed, all_there, there_first, there_later}
@@ -22,13 +22,10 @@ use Rattle.mst_picture.proofs.trees_lemmas.Seen.{port_seen}
 use Rattle.mst_picture.proofs.trees_lemmas.Looking.{has_tree_at}
 use Rattle.mst_picture.proofs.roles_lemmas.Named.{port_is, port_found, found_in}
 use Rattle.mst_explain.specs.Explained.{IsExplanation, AreExplanations, trees_of_bridge}
-use Rattle.mst_explain.specs.Planned.{IsPlanOf}
 use Rattle.mst_explain.proofs.Texts.{tree_there as among_trees}
 use Rattle.mst_report.specs.Explaining.{logical_port_of, has_tree, has_asked, unexplained_of, asked_trees, Explains}
-use Rattle.mst_report.specs.Kept.{IsPlan}
 use Rattle.mst_report.specs.declared.explaining.Unexplained.{Unexplained}
 use Rattle.mst_report.specs.declared.explaining.Unexplained.TheVariants.{NoBridge, NoPort, NoTree, Memory}
-use Rattle.mst_report.specs.declared.plan.Plan.{Plan}
 
 -- ---- what applies first
 abbrev first_of : Bool → Bool → Bool → Option Unexplained
@@ -139,54 +136,48 @@ find_changed {A} {B} test f (x ∷ xs) = go (test (f x)) (find_changed test f xs
     go true e = refl
     go false e = e
 
-module _ (net : Net) (numbers : Numbers) (plan : Plan) (is : IsPlan net numbers plan) where
-  of : AreOf net numbers plan.view plan.forest.regions
-  of = is.of
-
-  abbrev pub as_told : IsPlanOf net numbers plan.view plan.regions plan.forest
-  as_told = record { of = is.of; regions = is.regions; forest = is.forest }
-
+module _ (s : SettledNet) (is : IsSettledNet s) where
   -- ---- the logical port of a name
-  pub by_name : (name : PortName) → option_map named_port (find (λ p. port_eq p.name name) plan.view.ports) ≡ logical_port_of net name
-  by_name name = sym (find_changed (λ (p : LogicalPort). port_eq p.name name) named_port plan.view.ports) ∙ ap (find (λ (p : LogicalPort). port_eq p.name name)) of.view.ports
+  by_name : (name : PortName) → option_map named_port (find (λ p. port_eq p.name name) s.view.ports) ≡ logical_port_of s.net name
+  by_name name = sym (find_changed (λ (p : LogicalPort). port_eq p.name name) named_port s.view.ports) ∙ ap (find (λ (p : LogicalPort). port_eq p.name name)) is.of.view.ports
 
-  pub not_found : (name : PortName) → find (λ p. port_eq p.name name) plan.view.ports ≡ None → is_some (logical_port_of net name) ≡ false
+  pub not_found : (name : PortName) → find (λ p. port_eq p.name name) s.view.ports ≡ None → is_some (logical_port_of s.net name) ≡ false
   not_found name e = ap is_some (sym (by_name name) ∙ ap (option_map named_port) e)
 
-  module _ (name : PortName) (p : PortInView) (e : find (λ p. port_eq p.name name) plan.view.ports ≡ Some p) where
-    pub is_found : is_some (logical_port_of net name) ≡ true
+  module _ (name : PortName) (p : PortInView) (e : find (λ p. port_eq p.name name) s.view.ports ≡ Some p) where
+    pub is_found : is_some (logical_port_of s.net name) ≡ true
     is_found = ap is_some (sym (by_name name) ∙ ap (option_map named_port) e)
 
-    pub found_there : Contains plan.view.ports p
-    found_there = found_in (λ (p : PortInView). port_eq p.name name) plan.view.ports p e
+    pub found_there : Contains s.view.ports p
+    found_there = found_in (λ (p : PortInView). port_eq p.name name) s.view.ports p e
 
-  module _ (port : PortInView) (there : Contains plan.view.ports port) where
+  module _ (port : PortInView) (there : Contains s.view.ports port) where
     -- it is the logical port of its name
-    is_port : logical_port_of net port.name ≡ Some (named_port port)
-    is_port = port_found net numbers plan.view plan.forest.regions of port there
+    is_port : logical_port_of s.net port.name ≡ Some (named_port port)
+    is_port = port_found s.net s.numbers s.view s.forest.regions is.of port there
 
     -- the trees of its bridge
-    pub has_tree_by_number : (tree : ℕ) → (tree == 0 || is_among (trees_at plan.view port.bridge) tree) ≡ has_tree net port.name.bridge tree
+    pub has_tree_by_number : (tree : ℕ) → (tree == 0 || is_among (trees_at s.view port.bridge) tree) ≡ has_tree s.net port.name.bridge tree
     has_tree_by_number tree =
-        let own = (port_seen net numbers plan.view of.view port there).has_numbers in
-        ap (λ b. tree == 0 || b) (has_tree_at net numbers plan.view plan.forest.regions of tree port.name.bridge port.bridge own.bridge)
+        let own = (port_seen s.net s.numbers s.view is.of.view port there).has_numbers in
+        ap (λ b. tree == 0 || b) (has_tree_at s.net s.numbers s.view s.forest.regions is.of tree port.name.bridge port.bridge own.bridge)
 
     -- ---- its text
-    pub told_in_each : (text items : List ℕ) → AreExplanations net is.forest.outcome (named_port port) (trees_of_bridge net port.name.bridge) text → items ≡ text → Explains net port.name None items
+    pub told_in_each : (text items : List ℕ) → AreExplanations s.net (outcome_of s) (named_port port) (trees_of_bridge s.net port.name.bridge) text → items ≡ text → Explains s.net port.name None items
     told_in_each text items told e = record {
       port = named_port port;
       is_port = is_port;
-      outcome = is.forest.outcome;
-      is_outcome = is.forest.is_outcome;
-      told = subst (AreExplanations net is.forest.outcome (named_port port) (trees_of_bridge net port.name.bridge)) (sym e) told;
+      outcome = outcome_of s;
+      is_outcome = is.is_outcome;
+      told = subst (AreExplanations s.net (outcome_of s) (named_port port) (trees_of_bridge s.net port.name.bridge)) (sym e) told;
     }
 
-    pub told_in : (tree : ℕ) (text items : List ℕ) → IsExplanation net is.forest.outcome tree (named_port port) text → items ≡ text → Explains net port.name (Some tree) items
+    pub told_in : (tree : ℕ) (text items : List ℕ) → IsExplanation s.net (outcome_of s) tree (named_port port) text → items ≡ text → Explains s.net port.name (Some tree) items
     told_in tree text items told e = record {
       port = named_port port;
       is_port = is_port;
-      outcome = is.forest.outcome;
-      is_outcome = is.forest.is_outcome;
+      outcome = outcome_of s;
+      is_outcome = is.is_outcome;
       told = (text, [], told, refl, e ∙ sym (append-nil text));
     }
 

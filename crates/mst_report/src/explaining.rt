@@ -4,16 +4,14 @@ ghost use Rattle.std.specs.Option.{option_copied};
 ghost use Rattle.mst_net.specs.After.{has_bridge};
 ghost use Rattle.mst_net.specs.Tables.{port_eq};
 ghost use Rattle.mst_report.specs.Explaining.{Explains, has_tree as has_tree_in, has_asked, unexplained_of, code_of, text_of};
-ghost use Rattle.mst_report.specs.Kept.{IsPlan};
 
-use crate::plan::Plan;
 use crate::planner::Planner;
 use mst_explain::{push_explanation, push_explanations};
 use mst_ids::{PortName, Tree};
-use mst_lag::{PortInView, View};
+use mst_lag::PortInView;
 use mst_net::Contents;
-use mst_picture::has_tree;
-use std::alloc::AllocError;
+use mst_picture::Settled;
+use std::alloc::{AllocError, Global};
 use thiserror::Error;
 
 /// Why a port isn't explained: the first of these that applies. It is displayed as its [`text`](Unexplained::text).
@@ -57,11 +55,11 @@ impl Unexplained {
     }
 }
 
-/// The logical port of this name in a view.
-fn port_named<'a>(view: &'a View, name: &PortName) -> Option<&'a PortInView>
-    ensures { option_copied result ≡ find (λ port. port_eq port.name name.now) view.now.ports }
+/// The logical port of this name of a settled network.
+fn port_named<'a>(plan: &'a Settled, name: &PortName) -> Option<&'a PortInView>
+    ensures { option_copied result ≡ find (λ port. port_eq port.name name.now) plan.now.view.ports }
 {
-    view.ports().iter().find(|port| port.name == *name)
+    plan.view().ports().iter().find(|port| port.name == *name)
 }
 
 impl Planner {
@@ -75,132 +73,123 @@ impl Planner {
         ensures refused { IfErr result (λ why. why ≢ Unexplained.Memory → unexplained_of self.now.contents.net port.now tree ≡ Some why) }
         ensures memory { result ≡ Err Unexplained.Memory → unexplained_of self.now.contents.net port.now tree ≡ None }
     {
-        let plan = self.plan();
-        if let Some(why) = self.unexplained(plan, port, &tree) {
+        let plan = self.settled();
+        if let Some(why) = self.unexplained(&plan, port, &tree) {
             return Err(why);
         }
-        match self.explained(plan, port, &tree) {
+        match explained(self.alloc(), &plan, port, &tree) {
             Ok(text) => Ok(text),
             Err(_) => Err(Unexplained::Memory),
         }
     }
 
-    /// Why a port isn't explained, if it isn't. It takes no memory.
-    fn unexplained(&self, plan: &Plan, port: &PortName, tree: &Option<Tree>) -> Option<Unexplained>
-        requires { IsPlan self.now.contents.net self.now.contents.numbers plan.now }
+    /// Why a port isn't explained, if it isn't, by the network and its plan. It takes no memory.
+    fn unexplained(
+        &self,
+        plan: &Settled,
+        port: &PortName,
+        tree: &Option<Tree>,
+    ) -> Option<Unexplained>
+        requires { plan.now.net ≡ self.now.contents.net }
         ensures { MatchOption result (unexplained_of self.now.contents.net port.now tree.now ≡ None) (λ why. (why ≢ Unexplained.Memory) × (unexplained_of self.now.contents.net port.now tree.now ≡ Some why)) }
     {
         match self.network().bridge(&port.bridge) {
             None => Some(Unexplained::NoBridge),
-            Some(_) => self.no_port(plan, port, tree),
+            Some(_) => no_port(plan, port, tree),
         }
     }
+}
 
-    /// Why a port isn't explained, if it isn't, where its bridge is there.
-    fn no_port(&self, plan: &Plan, name: &PortName, tree: &Option<Tree>) -> Option<Unexplained>
-        requires of { IsPlan self.now.contents.net self.now.contents.numbers plan.now }
-        requires bridge { has_bridge name.now.bridge self.now.contents.net ≡ true }
-        ensures { result ≡ unexplained_of self.now.contents.net name.now tree.now }
-    {
-        match port_named(&plan.view, name) {
-            None => Some(Unexplained::NoPort),
-            Some(port) => self.no_tree(plan, port, tree),
-        }
+/// Why a port isn't explained, if it isn't, where its bridge is there.
+fn no_port(plan: &Settled, name: &PortName, tree: &Option<Tree>) -> Option<Unexplained>
+    requires { has_bridge name.now.bridge plan.now.net ≡ true }
+    ensures { result ≡ unexplained_of plan.now.net name.now tree.now }
+{
+    plan.known();
+    match port_named(plan, name) {
+        None => Some(Unexplained::NoPort),
+        Some(port) => no_tree(plan, port, tree),
     }
+}
 
-    /// That the bridge of a logical port doesn't have the tree that is asked, if it doesn't.
-    fn no_tree(&self, plan: &Plan, port: &PortInView, tree: &Option<Tree>) -> Option<Unexplained>
-        requires of { IsPlan self.now.contents.net self.now.contents.numbers plan.now }
-        requires there { Contains plan.now.view.ports port.now }
-        ensures { result ≡ if not (has_asked self.now.contents.net port.now.name.bridge tree.now) then Some Unexplained.NoTree else None }
-    {
-        match tree {
-            Some(tree) if !self.has_tree(plan, port, *tree) => Some(Unexplained::NoTree),
-            _ => None,
-        }
+/// That the bridge of a logical port doesn't have the tree that is asked, if it doesn't.
+fn no_tree(plan: &Settled, port: &PortInView, tree: &Option<Tree>) -> Option<Unexplained>
+    requires { Contains plan.now.view.ports port.now }
+    ensures { result ≡ if not (has_asked plan.now.net port.now.name.bridge tree.now) then Some Unexplained.NoTree else None }
+{
+    match tree {
+        Some(tree) if !has_tree(plan, port, *tree) => Some(Unexplained::NoTree),
+        _ => None,
     }
+}
 
-    /// Whether the bridge of a logical port has a tree.
-    fn has_tree(&self, plan: &Plan, port: &PortInView, tree: Tree) -> bool
-        requires of { IsPlan self.now.contents.net self.now.contents.numbers plan.now }
-        requires there { Contains plan.now.view.ports port.now }
-        ensures { result ≡ has_tree_in self.now.contents.net port.now.name.bridge tree }
-    {
-        has_tree(&plan.view, port.bridge, tree)
-    }
+/// Whether the bridge of a logical port has a tree.
+fn has_tree(plan: &Settled, port: &PortInView, tree: Tree) -> bool
+    requires { Contains plan.now.view.ports port.now }
+    ensures { result ≡ has_tree_in plan.now.net port.now.name.bridge tree }
+{
+    plan.known();
+    mst_picture::has_tree(plan.view(), port.bridge, tree)
+}
 
-    /// The text of a port that is explained.
-    fn explained(
-        &self,
-        plan: &Plan,
-        name: &PortName,
-        tree: &Option<Tree>,
-    ) -> Result<Vec<u8>, AllocError>
-        requires of { IsPlan self.now.contents.net self.now.contents.numbers plan.now }
-        requires there { unexplained_of self.now.contents.net name.now tree.now ≡ None }
-        ensures { IfOk result (λ text. Explains self.now.contents.net name.now tree.now text.items) }
-    {
-        match port_named(&plan.view, name) {
-            None => Ok(Vec::new(self.alloc())),
-            Some(port) => self.in_trees(plan, port, tree),
-        }
+/// The text of a port that is explained.
+fn explained(
+    alloc: Global,
+    plan: &Settled,
+    name: &PortName,
+    tree: &Option<Tree>,
+) -> Result<Vec<u8>, AllocError>
+    requires { unexplained_of plan.now.net name.now tree.now ≡ None }
+    ensures { IfOk result (λ text. Explains plan.now.net name.now tree.now text.items) }
+{
+    plan.known();
+    match port_named(plan, name) {
+        None => Ok(Vec::new(alloc)),
+        Some(port) => in_trees(alloc, plan, port, tree),
     }
+}
 
-    /// The text of a logical port, in the tree that is asked or in each of its bridge.
-    fn in_trees(
-        &self,
-        plan: &Plan,
-        port: &PortInView,
-        tree: &Option<Tree>,
-    ) -> Result<Vec<u8>, AllocError>
-        requires of { IsPlan self.now.contents.net self.now.contents.numbers plan.now }
-        requires there { Contains plan.now.view.ports port.now }
-        requires tree { has_asked self.now.contents.net port.now.name.bridge tree.now ≡ true }
-        ensures { IfOk result (λ text. Explains self.now.contents.net port.now.name tree.now text.items) }
-    {
-        match tree {
-            None => self.in_each_tree(plan, port),
-            Some(tree) => self.in_tree(plan, port, *tree),
-        }
+/// The text of a logical port, in the tree that is asked or in each of its bridge.
+fn in_trees(
+    alloc: Global,
+    plan: &Settled,
+    port: &PortInView,
+    tree: &Option<Tree>,
+) -> Result<Vec<u8>, AllocError>
+    requires there { Contains plan.now.view.ports port.now }
+    requires tree { has_asked plan.now.net port.now.name.bridge tree.now ≡ true }
+    ensures { IfOk result (λ text. Explains plan.now.net port.now.name tree.now text.items) }
+{
+    match tree {
+        None => in_each_tree(alloc, plan, port),
+        Some(tree) => in_tree(alloc, plan, port, *tree),
     }
+}
 
-    /// The text of a logical port in each tree that its bridge has.
-    fn in_each_tree(&self, plan: &Plan, port: &PortInView) -> Result<Vec<u8>, AllocError>
-        requires of { IsPlan self.now.contents.net self.now.contents.numbers plan.now }
-        requires there { Contains plan.now.view.ports port.now }
-        ensures { IfOk result (λ text. Explains self.now.contents.net port.now.name None text.items) }
-    {
-        let alloc = self.alloc();
-        let mut text = Vec::new(alloc);
-        push_explanations(
-            alloc,
-            &plan.view,
-            &plan.regions,
-            &plan.forest,
-            port,
-            &mut text,
-        )?;
-        Ok(text)
-    }
+/// The text of a logical port in each tree that its bridge has.
+fn in_each_tree(alloc: Global, plan: &Settled, port: &PortInView) -> Result<Vec<u8>, AllocError>
+    requires { Contains plan.now.view.ports port.now }
+    ensures { IfOk result (λ text. Explains plan.now.net port.now.name None text.items) }
+{
+    plan.known();
+    let mut text = Vec::new(alloc);
+    push_explanations(alloc, plan, port, &mut text)?;
+    Ok(text)
+}
 
-    /// The text of a logical port in a tree that its bridge has.
-    fn in_tree(&self, plan: &Plan, port: &PortInView, tree: Tree) -> Result<Vec<u8>, AllocError>
-        requires of { IsPlan self.now.contents.net self.now.contents.numbers plan.now }
-        requires there { Contains plan.now.view.ports port.now }
-        requires tree { has_tree_in self.now.contents.net port.now.name.bridge tree ≡ true }
-        ensures { IfOk result (λ text. Explains self.now.contents.net port.now.name (Some tree) text.items) }
-    {
-        let alloc = self.alloc();
-        let mut text = Vec::new(alloc);
-        push_explanation(
-            alloc,
-            &plan.view,
-            &plan.regions,
-            &plan.forest,
-            tree,
-            port,
-            &mut text,
-        )?;
-        Ok(text)
-    }
+/// The text of a logical port in a tree that its bridge has.
+fn in_tree(
+    alloc: Global,
+    plan: &Settled,
+    port: &PortInView,
+    tree: Tree,
+) -> Result<Vec<u8>, AllocError>
+    requires there { Contains plan.now.view.ports port.now }
+    requires tree { has_tree_in plan.now.net port.now.name.bridge tree ≡ true }
+    ensures { IfOk result (λ text. Explains plan.now.net port.now.name (Some tree) text.items) }
+{
+    plan.known();
+    let mut text = Vec::new(alloc);
+    push_explanation(alloc, plan, tree, port, &mut text)?;
+    Ok(text)
 }

@@ -5,5 +5,5 @@ use Rattle.mst_explain.proofs.collected.lan_claims.Given as goal
 -- what was collected yet, and what the ports that are left claim
 abbrev pub invariant-loop-port : goal.invariant-loop-port
 invariant-loop-port g l =
-    let seen = g.M.InTree.seen l.plan.view.now l.plan.regions.now l.plan.forest.now l.plan.tree in
-    l.claims.items ++ filter_map (lan_claim g.M.Metric.rules l.plan.view.now seen l.lan) (drop l.port-index l.plan.view.now.ports) ≡ lan_claims g.M.Metric.rules l.plan.view.now seen l.lan
+    let seen = g.M.InTree.seen l.plan l.tree in
+    l.claims.items ++ filter_map (lan_claim g.M.Metric.rules l.plan.view seen l.lan) (drop l.port-index l.plan.view.ports) ≡ lan_claims g.M.Metric.rules l.plan.view seen l.lan
