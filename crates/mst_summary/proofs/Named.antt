@@ -1,8 +1,8 @@
 -- What is seen of a summary, under names.
 use Rattle.std.proofs.Common.{◌≡◌, ℕ, ◌==◌, ◌&&◌, ◌||◌, Bool, true, false, true≢false, cond, List, [], ◌∷◌, ◌++◌, map, length, Some, refl, sym, ap, ◌∙◌, eq-eqb, arith}
 use Rattle.std.specs.Prelude.{if◌then◌else◌}
-use Rattle.std.specs.List.{Contains, filter, filter_map, flat_map, list_all, list_any, count_by}
-use Rattle.std.specs.Option.{option_map, option_map_or, unwrap_or}
+use Rattle.std.specs.List.{filter, filter_map, flat_map, list_all, list_any, count_by}
+use Rattle.std.specs.Option.{option_map_or, unwrap_or}
 use Rattle.std.specs.FinMap as fin
 use Rattle.std.specs.Cmp.Lexicographic.{bytes_decides}
 use Rattle.std.proofs.lemmas.Bool.{eqb-true}
@@ -12,38 +12,36 @@ use Rattle.mst_ids.specs.Identifiers.{bridge_id}
 use Rattle.mst_ids.specs.Vids.{has}
 use Rattle.mst_diff.specs.net.ByTree.{by_tree, vlans_in}
 use Rattle.mst_diff.specs.net.Seen.{bridge_row}
-use Rattle.mst_diff.specs.net.Tables.{Net, Numbers, BridgeRow, IsNetwork}
+use Rattle.mst_diff.specs.net.Tables.{Net, BridgeRow, IsNetwork}
 use Rattle.mst_lag.specs.Aggregation.{same_name}
 use Rattle.mst_lag.specs.View.{LogicalLan, LogicalPort}
-use Rattle.mst_lag.specs.Viewed.{Viewed, named_bridge, named_lan, named_port}
+use Rattle.mst_lag.specs.Viewed.{named_bridge, named_lan, named_port}
 use Rattle.mst_lag.specs.declared.in_view.BridgeInView.{BridgeInView}
 use Rattle.mst_lag.specs.declared.in_view.LanInView.{LanInView}
 use Rattle.mst_lag.specs.declared.in_view.PortInView.{PortInView}
 use Rattle.mst_config.specs.Shared.{AreRegions}
 use Rattle.mst_config.specs.Regions.{region_of}
 use Rattle.mst_config.proofs.SameRegion.{has_first, HasFirst}
-use Rattle.mst_diff.specs.trees.Agrees.{AreOf}
-use Rattle.mst_diff.specs.trees.Forest.{Forest, IsForest}
 use Rattle.mst_diff.specs.trees.InUse.{id_in, seen_has}
 use Rattle.mst_diff.specs.trees.Outcome.{Outcome}
+use Rattle.mst_diff.specs.trees.Settled.{SettledNet, outcome_of, IsSettledNet}
 use Rattle.mst_diff.proofs.trees_lemmas.Entries.{all_weaker}
-use Rattle.mst_diff.proofs.trees_lemmas.Lists.{all_passing, all_there, filter_mapped, kept_same, mapped_twice, some_is}
-use Rattle.mst_diff.proofs.trees_lemmas.Looking.{filter_alike, has_tree_at}
+use Rattle.mst_diff.proofs.trees_lemmas.Lists.{all_passing, filter_mapped, mapped_twice, some_is}
+use Rattle.mst_diff.proofs.trees_lemmas.Looking.{has_tree_at}
 use Rattle.mst_diff.proofs.trees_lemmas.Seen.{SeenBridge, SeenPort, bridges_seen, ports_seen}
+use Rattle.mst_diff.proofs.trees_lemmas.SettledNet.{forest_of}
 use Rattle.mst_diff.specs.text.TreeText.{has_tree}
-use Rattle.mst_diff.proofs.roles_lemmas.Named.{own_role}
 use Rattle.mst_diff.proofs.roles_lemmas.Forwarded.{each_forwards}
 use Rattle.mst_vlan.specs.Reach.{is_member}
 use Rattle.mst_vlan.specs.Seen.{seen_member}
 use Rattle.mst_diff.specs.changes.Subjects.{all_trees, bridge_names}
 use Rattle.mst_diff.proofs.changes_lemmas.Lists.{filter_map-map}
-use Rattle.mst_diff.proofs.Named.{names_are, root_named}
-use Rattle.mst_summary.specs.Blocked.{stops, is_blocked, blocked, blocked_line}
+use Rattle.mst_diff.proofs.Named.{names_are}
+use Rattle.mst_summary.specs.Blocked.{is_blocked, blocked}
 use Rattle.mst_summary.specs.Carries.{ports_on, carries, carried, carries_line, carries_text}
 use Rattle.mst_summary.specs.Counts.{is_first, is_used, used_trees, counts_of}
 use Rattle.mst_summary.specs.Roots.{follower, followers, root_line, root_lines}
-use Rattle.mst_summary.specs.Seen.{seen_used, seen_trees, seen_first, seen_counts, seen_follower, seen_followers, seen_root_lines, seen_is_blocked, seen_blocked, seen_on, seen_carries, seen_tree_lines, up_text}
-use Rattle.mst_summary.specs.SummaryText.{tree_lines, trees_text}
+use Rattle.mst_summary.specs.Seen.{seen_used, seen_trees, seen_first, seen_counts, seen_root_line, seen_on, seen_carries, up_text}
 use Rattle.mst_summary.proofs.Lists.{count_mapped, count_alike, all_mapped, all_alike, any_mapped, any_alike}
 
 same_mac : (m n : ℕ) → bridge_id 0 0 m ≡ bridge_id 0 0 n → m ≡ n
@@ -68,7 +66,13 @@ first_told net ok a x row =
             let macs = same_mac f.row.mac x.mac (eqb-true (bridge_id 0 0 f.row.mac) (bridge_id 0 0 x.mac) k) in
             absurd (true≢false (sym ((bytes_decides f.first a).1 (ok.bridges.macs_differ f.first a f.row x f.has_row row macs)) ∙ e))
 
-module _ (net : Net) (numbers : Numbers) (v : Viewed) (f : Forest) (of : AreOf net numbers v f.regions) where
+module _ (s : SettledNet) (is : IsSettledNet s) where
+  open s use {net, numbers, view as v, forest as f}
+  open is use {of}
+
+  abbrev o : Outcome
+  o = outcome_of s
+
   -- ---- trees
   used_named : (tree : ℕ) → seen_used v tree ≡ is_used net tree
   used_named tree =
@@ -103,74 +107,52 @@ module _ (net : Net) (numbers : Numbers) (v : Viewed) (f : Forest) (of : AreOf n
       trees = length (trees_named i);
     }
 
-  module _ (is : IsForest net numbers f) where
-    abbrev o : Outcome
-    o = is.outcome
+  module _ (tree : ℕ) where
+    -- ---- roots
+    pub followers_named : filter_map (λ b. follower net o tree (named_bridge b)) v.bridges ≡ followers net o tree
+    followers_named = sym (filter_map-map (follower net o tree) named_bridge v.bridges) ∙ ap (filter_map (follower net o tree)) of.view.bridges
 
-    module _ (tree : ℕ) where
-      -- ---- roots
-      follower_named : (b : BridgeInView) → Contains v.bridges b → seen_follower v f tree b ≡ follower net o tree (named_bridge b)
-      follower_named b there = λ i.
-          option_map (λ root. record { name = b.name; id = id_in (of.view.settings i) tree b.name (bridge_row b.bridge); root = root }) (root_named net numbers v f of is tree b there i)
+    pub roots_named : flat_map (seen_root_line v tree (followers net o tree)) v.bridges ≡ root_lines net o tree
+    roots_named =
+        (λ i. flat_map (λ (b : BridgeInView). root_line (of.view.settings i) tree (followers net o tree) b.name (id_in (of.view.settings i) tree b.name (bridge_row b.bridge))) v.bridges)
+        ∙ sym (flat_map-map (λ (e : List ℕ × BridgeRow). root_line (by_tree net) tree (followers net o tree) e.0 (id_in (by_tree net) tree e.0 e.1)) named_bridge v.bridges)
+        ∙ ap (flat_map (λ (e : List ℕ × BridgeRow). root_line (by_tree net) tree (followers net o tree) e.0 (id_in (by_tree net) tree e.0 e.1))) of.view.bridges
 
-      followers_named : seen_followers v f tree ≡ followers net o tree
-      followers_named =
-          kept_same (seen_follower v f tree) (λ (b : BridgeInView). follower net o tree (named_bridge b)) v.bridges (all_weaker (Contains v.bridges) _ follower_named v.bridges (all_there v.bridges))
-          ∙ sym (filter_map-map (follower net o tree) named_bridge v.bridges)
-          ∙ ap (filter_map (follower net o tree)) of.view.bridges
+    -- ---- ports that block
+    pub blocked_named : map (λ p. p.name) (filter (λ p. is_blocked net o tree (named_port p)) v.ports) ≡ blocked net o tree
+    blocked_named =
+        sym (mapped_twice (λ (p : LogicalPort). p.name) named_port (filter (λ (p : PortInView). is_blocked net o tree (named_port p)) v.ports))
+        ∙ ap (map (λ (p : LogicalPort). p.name)) (sym (filter_mapped (is_blocked net o tree) named_port v.ports) ∙ ap (filter (is_blocked net o tree)) of.view.ports)
 
-      roots_named : seen_root_lines v f tree ≡ root_lines net o tree
-      roots_named =
-          (λ i. flat_map (λ (b : BridgeInView). root_line (of.view.settings i) tree (followers_named i) b.name (id_in (of.view.settings i) tree b.name (bridge_row b.bridge))) v.bridges)
-          ∙ sym (flat_map-map (λ (e : List ℕ × BridgeRow). root_line (by_tree net) tree (followers net o tree) e.0 (id_in (by_tree net) tree e.0 e.1)) named_bridge v.bridges)
-          ∙ ap (flat_map (λ (e : List ℕ × BridgeRow). root_line (by_tree net) tree (followers net o tree) e.0 (id_in (by_tree net) tree e.0 e.1))) of.view.bridges
+  -- ---- what ports carry
+  carries_named : (vid : ℕ) (p : PortInView) → SeenPort net numbers p → seen_carries v f vid p ≡ carries net o vid (named_port p)
+  carries_named vid p seen = λ i. each_forwards net numbers v f of (forest_of s is) vid p seen i && member vid p i
+    where
+      member : (vid : ℕ) (p : PortInView) → seen_member v vid p ≡ is_member net vid (named_port p)
+      member vid p = λ i. has (vlans_in (of.view.settings i).vlans p.name) vid
 
-      -- ---- ports that block
-      blocks_named : (p : PortInView) → Contains v.ports p → seen_is_blocked v f tree p ≡ is_blocked net o tree (named_port p)
-      blocks_named p there = ap (λ r. p.is_enabled && stops r) (own_role net numbers v f of is tree p there)
+  pub all_carry_named : (lan : List ℕ) (vid : ℕ) → list_all (seen_carries v f vid) (seen_on v lan) ≡ list_all (carries net o vid) (ports_on net lan)
+  all_carry_named lan vid =
+      all_alike (seen_carries v f vid) (λ (p : PortInView). carries net o vid (named_port p)) (seen_on v lan)
+      (all_passing (SeenPort net numbers) _ (λ (p : PortInView). same_name p.lan lan) (λ p seen _. carries_named vid p seen) v.ports (ports_seen net numbers v of.view))
+      ∙ sym (all_mapped (carries net o vid) named_port (seen_on v lan))
+      ∙ ap (list_all (carries net o vid)) (sym (filter_mapped (λ (p : LogicalPort). same_name p.lan lan) named_port v.ports) ∙ ap (filter (λ (p : LogicalPort). same_name p.lan lan)) of.view.ports)
 
-      blocked_named : seen_blocked v f tree ≡ blocked net o tree
-      blocked_named =
-          ap (map (λ (p : PortInView). p.name))
-          (filter_alike (seen_is_blocked v f tree) (λ (p : PortInView). is_blocked net o tree (named_port p)) v.ports (all_weaker (Contains v.ports) _ blocks_named v.ports (all_there v.ports)))
-          ∙ sym (mapped_twice (λ (p : LogicalPort). p.name) named_port (filter (λ (p : PortInView). is_blocked net o tree (named_port p)) v.ports))
-          ∙ ap (map (λ (p : LogicalPort). p.name)) (sym (filter_mapped (is_blocked net o tree) named_port v.ports) ∙ ap (filter (is_blocked net o tree)) of.view.ports)
+  -- the lines of LANs
+  pub lans_named : flat_map (up_text net o) v.lans ≡ carries_text net o
+  lans_named = go v.lans ∙ ap (λ lans. flat_map g (map (λ (l : LogicalLan). l.name) (filter (λ (l : LogicalLan). l.is_up) lans))) of.view.lans
+    where
+      g : List ℕ → List ℕ
+      g lan = carries_line lan (carried net o lan)
 
-      lines_named : seen_tree_lines v f tree ≡ tree_lines net o tree
-      lines_named = λ i. roots_named i ++ blocked_line tree (blocked_named i)
+      go : (lans : List LanInView) → flat_map (up_text net o) lans ≡ flat_map g (map (λ (l : LogicalLan). l.name) (filter (λ (l : LogicalLan). l.is_up) (map named_lan lans)))
+      go [] = refl
+      go (l ∷ ls) = one l.is_up (go ls)
+        where
+          rest : List LogicalLan
+          rest = filter (λ (l : LogicalLan). l.is_up) (map named_lan ls)
 
-    pub all_lines_named : flat_map (seen_tree_lines v f) (seen_trees v) ≡ trees_text net o
-    all_lines_named = λ i. flat_map (λ tree. lines_named tree i) (trees_named i)
-
-    -- ---- what ports carry
-    carries_named : (vid : ℕ) (p : PortInView) → SeenPort net numbers p → seen_carries v f vid p ≡ carries net o vid (named_port p)
-    carries_named vid p seen = λ i. each_forwards net numbers v f of is vid p seen i && member vid p i
-      where
-        member : (vid : ℕ) (p : PortInView) → seen_member v vid p ≡ is_member net vid (named_port p)
-        member vid p = λ i. has (vlans_in (of.view.settings i).vlans p.name) vid
-
-    pub all_carry_named : (lan : List ℕ) (vid : ℕ) → list_all (seen_carries v f vid) (seen_on v lan) ≡ list_all (carries net o vid) (ports_on net lan)
-    all_carry_named lan vid =
-        all_alike (seen_carries v f vid) (λ (p : PortInView). carries net o vid (named_port p)) (seen_on v lan)
-        (all_passing (SeenPort net numbers) _ (λ (p : PortInView). same_name p.lan lan) (λ p seen _. carries_named vid p seen) v.ports (ports_seen net numbers v of.view))
-        ∙ sym (all_mapped (carries net o vid) named_port (seen_on v lan))
-        ∙ ap (list_all (carries net o vid)) (sym (filter_mapped (λ (p : LogicalPort). same_name p.lan lan) named_port v.ports) ∙ ap (filter (λ (p : LogicalPort). same_name p.lan lan)) of.view.ports)
-
-    -- the lines of LANs
-    pub lans_named : flat_map (up_text net o) v.lans ≡ carries_text net o
-    lans_named = go v.lans ∙ ap (λ lans. flat_map g (map (λ (l : LogicalLan). l.name) (filter (λ (l : LogicalLan). l.is_up) lans))) of.view.lans
-      where
-        g : List ℕ → List ℕ
-        g lan = carries_line lan (carried net o lan)
-
-        go : (lans : List LanInView) → flat_map (up_text net o) lans ≡ flat_map g (map (λ (l : LogicalLan). l.name) (filter (λ (l : LogicalLan). l.is_up) (map named_lan lans)))
-        go [] = refl
-        go (l ∷ ls) = one l.is_up (go ls)
-          where
-            rest : List LogicalLan
-            rest = filter (λ (l : LogicalLan). l.is_up) (map named_lan ls)
-
-            one : (b : Bool) → flat_map (up_text net o) ls ≡ flat_map g (map (λ (l : LogicalLan). l.name) rest)
-                → (if b then g l.name else []) ++ flat_map (up_text net o) ls ≡ flat_map g (map (λ (l : LogicalLan). l.name) (cond b (named_lan l ∷ rest) rest))
-            one true e = ap (λ t. g l.name ++ t) e
-            one false e = e
+          one : (b : Bool) → flat_map (up_text net o) ls ≡ flat_map g (map (λ (l : LogicalLan). l.name) rest)
+              → (if b then g l.name else []) ++ flat_map (up_text net o) ls ≡ flat_map g (map (λ (l : LogicalLan). l.name) (cond b (named_lan l ∷ rest) rest))
+          one true e = ap (λ t. g l.name ++ t) e
+          one false e = e

@@ -10,19 +10,19 @@ use Rattle.std.proofs.lemmas.List.FromFn.{get_or-range_with_len}
 use Rattle.mst_ids.specs.Vids.{has, is_vid}
 use Rattle.mst_graph.specs.Groups.{AreGroups}
 use Rattle.mst_graph.specs.Islands.{AreIslands, Island}
-use Rattle.mst_graph.specs.Numbers.{AreNumbers, HaveBodies}
+use Rattle.mst_graph.specs.Numbers.{HaveBodies}
+use Rattle.mst_graph.specs.declared.keys.Numbering.{Numbering}
 use Rattle.mst_graph.proofs.Alike.{alike_groups}
 use Rattle.mst_diff.specs.net.ByTree.{table_in, vlans_in}
 use Rattle.mst_diff.specs.net.Seen.{bridge_row}
 use Rattle.mst_diff.specs.net.Table.{tree_in}
-use Rattle.mst_diff.specs.net.Tables.{Net, Numbers}
+use Rattle.mst_diff.specs.net.Tables.{Numbers}
 use Rattle.mst_lag.specs.Aggregation.{same_name}
 use Rattle.mst_lag.specs.Viewed.{Viewed}
 use Rattle.mst_lag.specs.declared.in_view.BridgeInView.{BridgeInView}
 use Rattle.mst_lag.specs.declared.in_view.PortInView.{PortInView}
-use Rattle.mst_diff.specs.trees.Agrees.{AreOf}
 use Rattle.mst_diff.specs.trees.Forest.{Forest}
-use Rattle.mst_diff.specs.trees.Outcome.{Outcome}
+use Rattle.mst_diff.specs.trees.Settled.{SettledNet, outcome_of, IsSettledNet}
 use Rattle.mst_diff.proofs.trees_lemmas.Entries.{all_weaker}
 use Rattle.mst_diff.proofs.trees_lemmas.Lists.{all_contained, all_passing, all_there}
 use Rattle.mst_diff.specs.roles.Roles.{forwards}
@@ -30,14 +30,14 @@ use Rattle.mst_diff.specs.roles.Seen.{seen_role, seen_tree}
 use Rattle.mst_vlan.specs.Reach.{bridges_on, lans_up}
 use Rattle.mst_vlan.specs.Seen.{seen_member}
 use Rattle.mst_vlan.specs.declared.island.Island.{Island as IslandNos}
-use Rattle.mst_diff.specs.plan_text.Alike.{AreAlike, TellApart}
+use Rattle.mst_diff.specs.plan_text.Alike.{AreAlike}
 use Rattle.mst_diff.specs.plan_text.Bodies.{NumberEach}
 use Rattle.mst_diff.specs.plan_text.PlanText.{all_vids}
 use Rattle.mst_diff.proofs.plan_text_lemmas.Bodied.{zip_at}
 use Rattle.mst_diff.proofs.plan_text_lemmas.Classes.{links_shared}
 use Rattle.mst_diff.proofs.plan_text_lemmas.Grouped.{place_of_vid, vids_long}
 use Rattle.mst_diff.specs.Reach.{has_any}
-use Rattle.mst_summary.specs.Kept.{count_at}
+use Rattle.mst_summary.specs.Kept.{AreClasses, count_at}
 use Rattle.mst_summary.specs.Seen.{seen_with_bridge, seen_on, seen_carries}
 use Rattle.mst_summary.specs.Vlans.{with_bridge, HasIslands}
 use Rattle.mst_summary.proofs.Lists.{all_alike, count_mapped, count_alike}
@@ -65,8 +65,16 @@ module _ {A : Type 0} (R : ℕ → A → Type 0) where
   all_at places i l things are = subst (λ ps. AtPlaces ps things) (take_all i places l) are
 
   -- that alike VIDs share
-  module _ (d : A) (tables : List (List ℕ)) (sets : List (List Bool)) (moved : (x y : ℕ) → AreAlike tables sets x y → (a : A) → R x a → R y a)
-      (told classes firsts : List ℕ) (tell : TellApart tables sets told) (are : AreNumbers nat_eq told classes firsts) (things : List A) (at : AtPlaces firsts things) where
+  module _ (d : A) (v : Viewed) (c : Numbering) (k : AreClasses v c) (moved : (x y : ℕ) → AreAlike k.tables k.sets x y → (a : A) → R x a → R y a)
+      (things : List A) (at : AtPlaces c.firsts.items things) where
+    open k use {numbers as told, tell, classes as are}
+
+    abbrev classes : List ℕ
+    classes = c.numbers.items
+
+    abbrev firsts : List ℕ
+    firsts = c.firsts.items
+
     thing_there : (i : ℕ) → i < 4094 → R (i + 1) (get_or things (get_or classes i 0) d)
     thing_there i l =
         let n : ℕ = get_or classes i 0 in
@@ -129,13 +137,14 @@ islands_counted numbers islands named e =
     counted_as (λ (i : IslandNos). i.bridges) Some islands ∙ ap (count_by has_any) e ∙ sym (counted_as (λ (i : Island (List ℕ) (List ℕ)). i.bridges) (fin.get numbers.bridges) named)
 
 -- ---- alike VIDs
-module _ (v : Viewed) (tables : List (List ℕ)) (sets : List (List Bool))
-    (have_table : AllByRecursion (λ b. Contains tables (table_in v.settings.tables b.name)) v.bridges)
-    (have_set : AllByRecursion (λ p. Contains sets (vlans_in v.settings.vlans p.name)) v.ports) where
-  -- they have the same islands
-  pub islands_moved : (net : Net) (numbers : Numbers) (f : Forest) → AreOf net numbers v f.regions → (o : Outcome) (x y : ℕ) → AreAlike tables sets x y → (count : ℕ) → HasIslands net o x count → HasIslands net o y count
-  islands_moved net numbers f of o x y alike count h =
-      (h.0, subst (λ ks. AreIslands (bridges_on net) (lans_up net) ks h.0) (links_shared net numbers v f of o tables sets have_table have_set x y alike) h.1, h.2)
+-- they have the same islands
+pub islands_moved : (s : SettledNet) → IsSettledNet s → (c : Numbering) (k : AreClasses s.view c) (x y : ℕ) → AreAlike k.tables k.sets x y → (count : ℕ)
+    → HasIslands s.net (outcome_of s) x count → HasIslands s.net (outcome_of s) y count
+islands_moved s is c k x y alike count h =
+    (h.0, subst (λ ks. AreIslands (bridges_on s.net) (lans_up s.net) ks h.0) (links_shared s.net s.numbers s.view s.forest is.of (outcome_of s) k.tables k.sets k.have_tables k.have_sets x y alike) h.1, h.2)
+
+module _ (v : Viewed) (c : Numbering) (k : AreClasses v c) where
+  open k use {tables, sets, have_tables, have_sets}
 
   module _ (x y : ℕ) (a : AreAlike tables sets x y) where
     row_alike : (b : BridgeInView) → Contains tables (table_in v.settings.tables b.name)
@@ -152,12 +161,12 @@ module _ (v : Viewed) (tables : List (List ℕ)) (sets : List (List Bool))
 
     -- one tree at each bridge, and the same member ports
     tree_alike : (bridge : ℕ) → seen_tree v bridge x ≡ seen_tree v bridge y
-    tree_alike bridge = found_alike _ _ (λ (b : BridgeInView). bridge == b.bridge.number) v.bridges (all_weaker _ _ row_alike v.bridges have_table)
+    tree_alike bridge = found_alike _ _ (λ (b : BridgeInView). bridge == b.bridge.number) v.bridges (all_weaker _ _ row_alike v.bridges have_tables)
 
     pub carries_alike : (f : Forest) (p : PortInView) → Contains v.ports p → seen_carries v f x p ≡ seen_carries v f y p
     carries_alike f p there =
         let member : seen_member v x p ≡ seen_member v y p =
-        all_contained (λ set. has set x ≡ has set y) sets (vlans_in v.settings.vlans p.name) a.same_sets (all_contained (λ (q : PortInView). Contains sets (vlans_in v.settings.vlans q.name)) v.ports p have_set there) in
+        all_contained (λ set. has set x ≡ has set y) sets (vlans_in v.settings.vlans p.name) a.same_sets (all_contained (λ (q : PortInView). Contains sets (vlans_in v.settings.vlans q.name)) v.ports p have_sets there) in
         λ i. option_map_or forwards (seen_role v f (tree_alike p.bridge i) p) false && member i
 
     pub all_carry_alike : (f : Forest) (lan : List ℕ) → list_all (seen_carries v f x) (seen_on v lan) ≡ list_all (seen_carries v f y) (seen_on v lan)

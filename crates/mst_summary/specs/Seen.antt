@@ -1,10 +1,9 @@
 -- What is seen of a summary in a view with its forest, under the numbers of records.
-use Rattle.std.specs.Prelude.{ℕ, ◌==◌, ◌&&◌, ◌++◌, Bool, false, List, [], Option, map, filter, filter_map, length, nat_eq, if◌then◌else◌}
-use Rattle.std.specs.List.{count_by, flat_map, list_any}
+use Rattle.std.specs.Prelude.{ℕ, ◌==◌, ◌&&◌, Bool, false, List, [], filter, length, nat_eq, if◌then◌else◌}
+use Rattle.std.specs.List.{count_by, list_any}
 use Rattle.std.specs.Map.{lookup}
-use Rattle.std.specs.Option.{option_map, option_map_or}
+use Rattle.std.specs.Option.{option_map_or}
 use Rattle.mst_ids.specs.Identifiers.{bridge_id}
-use Rattle.mst_ids.specs.declared.name.PortName.{PortName}
 use Rattle.mst_diff.specs.net.Seen.{bridge_row}
 use Rattle.mst_diff.specs.net.Tables.{Net}
 use Rattle.mst_lag.specs.Aggregation.{same_name}
@@ -15,17 +14,15 @@ use Rattle.mst_lag.specs.declared.in_view.PortInView.{PortInView}
 use Rattle.mst_diff.specs.trees.Forest.{Forest}
 use Rattle.mst_diff.specs.trees.InUse.{id_in, seen_has}
 use Rattle.mst_diff.specs.trees.Outcome.{Outcome}
-use Rattle.mst_diff.specs.roles.Seen.{seen_role, seen_forwards}
+use Rattle.mst_diff.specs.roles.Seen.{seen_forwards}
 use Rattle.mst_vlan.specs.Seen.{seen_member}
 use Rattle.mst_vlan.specs.declared.island.Island.{Island}
 use Rattle.mst_diff.specs.changes.Subjects.{all_trees}
 use Rattle.mst_diff.specs.Reach.{has_any}
-use Rattle.mst_diff.specs.Seen.{seen_root}
 use Rattle.mst_summary.specs.declared.roots.Follower.{Follower}
 use Rattle.mst_summary.specs.declared.counts.Counts.{Counts}
 use Rattle.mst_summary.specs.Roots.{root_line}
 use Rattle.mst_summary.specs.Carries.{carried, carries_line}
-use Rattle.mst_summary.specs.Blocked.{stops, blocked_line}
 
 -- ---- counts
 -- some bridge has the tree
@@ -50,24 +47,8 @@ seen_counts v classes trees = record {
 }
 
 -- ---- roots
-abbrev pub seen_follower : Viewed → Forest → ℕ → BridgeInView → Option Follower
-seen_follower v f tree b = option_map (λ root. record { name = b.name; id = id_in v.settings tree b.name (bridge_row b.bridge); root = root }) (seen_root v f tree b.bridge.number)
-
-abbrev pub seen_followers : Viewed → Forest → ℕ → List Follower
-seen_followers v f tree = filter_map (seen_follower v f tree) v.bridges
-
 abbrev pub seen_root_line : Viewed → ℕ → List Follower → BridgeInView → List ℕ
 seen_root_line v tree all b = root_line v.settings tree all b.name (id_in v.settings tree b.name (bridge_row b.bridge))
-
-abbrev pub seen_root_lines : Viewed → Forest → ℕ → List ℕ
-seen_root_lines v f tree = flat_map (seen_root_line v tree (seen_followers v f tree)) v.bridges
-
--- ---- ports that block
-abbrev pub seen_is_blocked : Viewed → Forest → ℕ → PortInView → Bool
-seen_is_blocked v f tree p = p.is_enabled && stops (seen_role v f tree p)
-
-abbrev pub seen_blocked : Viewed → Forest → ℕ → List PortName
-seen_blocked v f tree = map (λ p. p.name) (filter (seen_is_blocked v f tree) v.ports)
 
 -- ---- islands that have a bridge
 abbrev pub seen_with_bridge : List Island → ℕ
@@ -83,7 +64,3 @@ seen_carries v f vid p = seen_forwards v f vid p && seen_member v vid p
 -- the line of a logical LAN, where it is up
 abbrev pub up_text : Net → Outcome → LanInView → List ℕ
 up_text net o l = if l.is_up then carries_line l.name (carried net o l.name) else []
-
--- ---- trees
-abbrev pub seen_tree_lines : Viewed → Forest → ℕ → List ℕ
-seen_tree_lines v f tree = seen_root_lines v f tree ++ blocked_line tree (seen_blocked v f tree)

@@ -1,9 +1,12 @@
-ghost use Rattle.std.specs.Prelude.{◌≡◌, ◌++◌, IfOk, OnOk};
-ghost use Rattle.mst_summary.specs.Blocked.{stops as stops_of, blocked_line};
-ghost use Rattle.mst_summary.specs.Seen.{seen_is_blocked, seen_blocked};
+ghost use Rattle.std.specs.Prelude.{◌≡◌, ◌++◌, map, filter, IfOk, OnOk};
+ghost use Rattle.std.specs.List.{Contains};
+ghost use Rattle.mst_lag.specs.Viewed.{named_port};
+ghost use Rattle.mst_diff.specs.trees.Settled.{outcome_of};
+ghost use Rattle.mst_summary.specs.Blocked.{stops as stops_of, is_blocked as blocks, blocked as blocked_ports, blocked_line};
 
+use crate::looked_up::role;
 use itoa::Buffer;
-use mst_diff::{Planned, Role, port_role};
+use mst_diff::{Role, Settled};
 use mst_ids::{PortName, Tree, push_bytes, push_comma_list, push_end, push_word};
 use mst_lag::PortInView;
 use std::alloc::{AllocError, Global};
@@ -19,17 +22,18 @@ fn stops(role: Option<Role>) -> bool
 }
 
 /// Whether a port is an enabled one of the tree and doesn't forward.
-fn is_blocked(plan: &Planned, tree: Tree, port: &PortInView) -> bool
-    ensures { result ≡ seen_is_blocked plan.now.view.now plan.now.forest.now tree port.now }
+fn is_blocked(plan: &Settled, tree: Tree, port: &PortInView) -> bool
+    requires { Contains plan.now.view.ports port.now }
+    ensures { result ≡ blocks plan.now.net (outcome_of plan.now) tree (named_port port.now) }
 {
-    port.is_enabled && stops(port_role(plan.view, plan.forest, port, tree))
+    port.is_enabled && stops(role(plan, tree, port))
 }
 
 /// The enabled ports of a tree that don't forward.
-fn blocked(alloc: Global, plan: &Planned, tree: Tree) -> Result<Vec<PortName>, AllocError>
-    ensures { IfOk result (λ names. names.items ≡ seen_blocked plan.now.view.now plan.now.forest.now tree) }
+fn blocked(alloc: Global, plan: &Settled, tree: Tree) -> Result<Vec<PortName>, AllocError>
+    ensures { IfOk result (λ names. names.items ≡ map (λ p. p.name) (filter (λ p. blocks plan.now.net (outcome_of plan.now) tree (named_port p)) plan.now.view.ports)) }
 {
-    plan.view
+    plan.view()
         .ports()
         .iter()
         .filter(|port| is_blocked(plan, tree, port))
@@ -52,12 +56,13 @@ fn push_line(tree: Tree, ports: &[PortName], out: &mut Vec<u8>) -> Result<(), Al
 /// Appends the line of the enabled ports of a tree that don't forward.
 pub(crate) fn push_blocked(
     alloc: Global,
-    plan: &Planned,
+    plan: &Settled,
     tree: Tree,
     out: &mut Vec<u8>,
 ) -> Result<(), AllocError>
-    ensures { OnOk result (out.new.items ≡ out.old.items ++ blocked_line tree (seen_blocked plan.now.view.now plan.now.forest.now tree)) }
+    ensures { OnOk result (out.new.items ≡ out.old.items ++ blocked_line tree (blocked_ports plan.now.net (outcome_of plan.now) tree)) }
 {
+    plan.known();
     let ports = blocked(alloc, plan, tree)?;
     push_line(tree, ports.as_slice(), out)
 }

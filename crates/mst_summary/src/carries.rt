@@ -1,8 +1,6 @@
 ghost use Rattle.std.specs.Prelude.{◌≡◌, ◌++◌, ◌+◌, ◌<◌, ℕ, List, filter, length, vec_len, IfOk, OnOk};
 ghost use Rattle.std.specs.List.{All, AllZip, flat_map, list_all};
-ghost use Rattle.mst_diff.specs.net.Tables.{Net, Numbers};
-ghost use Rattle.mst_diff.specs.trees.Agrees.{AreOf};
-ghost use Rattle.mst_diff.specs.trees.Forest.{IsForest};
+ghost use Rattle.mst_diff.specs.trees.Settled.{outcome_of};
 ghost use Rattle.mst_diff.specs.plan_text.Bodies.{NumberEach};
 ghost use Rattle.mst_summary.specs.Carries.{carried, carries_line, carries_text};
 ghost use Rattle.mst_summary.specs.Kept.{AreClasses, flag_at, kept_at};
@@ -10,22 +8,22 @@ ghost use Rattle.mst_summary.specs.Seen.{seen_on, seen_carries, up_text};
 
 use crate::kept::{kept_for, ports_by_lan};
 use indexmap::IndexMap;
-use mst_diff::{Planned, is_member, port_forwards, set_of, vids};
+use mst_diff::{Settled, is_member, port_forwards, set_of, vids};
 use mst_graph::Numbering;
 use mst_ids::{Name, Vid, push_bytes, push_end, push_word};
 use mst_lag::{LanInView, PortInView};
 use std::alloc::{AllocError, Global};
 
 /// Whether a port is active for a VID and a member of its VLAN.
-fn carries(plan: &Planned, vid: Vid, port: &PortInView) -> bool
-    ensures { result ≡ seen_carries plan.now.view.now plan.now.forest.now vid port.now }
+fn carries(plan: &Settled, vid: Vid, port: &PortInView) -> bool
+    ensures { result ≡ seen_carries plan.now.view plan.now.forest vid port.now }
 {
-    port_forwards(plan.view, plan.forest, port, vid) && is_member(plan.view, port, vid)
+    port_forwards(plan.view(), plan.forest(), port, vid) && is_member(plan.view(), port, vid)
 }
 
 /// Whether all of these ports are so.
-fn all_carry(plan: &Planned, vid: Vid, ports: &[PortInView]) -> bool
-    ensures { result ≡ list_all (seen_carries plan.now.view.now plan.now.forest.now vid) ports.now }
+fn all_carry(plan: &Settled, vid: Vid, ports: &[PortInView]) -> bool
+    ensures { result ≡ list_all (seen_carries plan.now.view plan.now.forest vid) ports.now }
 {
     ports.iter().all(|port| carries(plan, vid, port))
 }
@@ -33,13 +31,13 @@ fn all_carry(plan: &Planned, vid: Vid, ports: &[PortInView]) -> bool
 /// Whether all of these ports are so for the VIDs at these places, which are counted from 0.
 fn flags_at(
     alloc: Global,
-    plan: &Planned,
+    plan: &Settled,
     ports: &[PortInView],
     places: &[usize],
 ) -> Result<Vec<bool>, AllocError>
     requires { All (λ place. place < 4094) places.now }
     ensures as_long { IfOk result (λ flags. vec_len flags ≡ length places.now) }
-    ensures flags { IfOk result (λ flags. AllZip (λ place flag. flag ≡ list_all (seen_carries plan.now.view.now plan.now.forest.now (place + 1)) ports.now) places.now flags.items) }
+    ensures flags { IfOk result (λ flags. AllZip (λ place flag. flag ≡ list_all (seen_carries plan.now.view plan.now.forest (place + 1)) ports.now) places.now flags.items) }
 {
     let mut flags = Vec::new(alloc);
     for place in places {
@@ -85,17 +83,17 @@ fn push_line(lan: &Name, vids: &[Vid], out: &mut Vec<u8>) -> Result<(), AllocErr
 /// Appends the line of a logical LAN that has these ports, if it doesn't carry all VIDs.
 fn push_lan(
     alloc: Global,
-    plan: &Planned,
+    plan: &Settled,
     classes: &Numbering,
     lan: &Name,
     ports: &[PortInView],
     out: &mut Vec<u8>,
 ) -> Result<(), AllocError>
-    requires classes { AreClasses plan.now.view.now classes.now }
-    requires ports { ports.now ≡ seen_on plan.now.view.now lan.now }
-    ensures { (net : Net) (numbers : Numbers) (is : IsForest net numbers plan.now.forest.now) → AreOf net numbers plan.now.view.now plan.now.forest.now.regions
-        → OnOk result (out.new.items ≡ out.old.items ++ carries_line lan.now (carried net is.outcome lan.now)) }
+    requires classes { AreClasses plan.now.view classes.now }
+    requires ports { ports.now ≡ seen_on plan.now.view lan.now }
+    ensures { OnOk result (out.new.items ≡ out.old.items ++ carries_line lan.now (carried plan.now.net (outcome_of plan.now) lan.now)) }
 {
+    plan.known();
     let flags = flags_at(alloc, plan, ports, classes.firsts.as_slice())?;
     let vids = vids(alloc)?;
     let carried = flagged(
@@ -110,16 +108,15 @@ fn push_lan(
 /// Appends the line of a logical LAN, by the ports that are kept for each, if it is up and doesn't carry all VIDs.
 fn push_up(
     alloc: Global,
-    plan: &Planned,
+    plan: &Settled,
     classes: &Numbering,
     kept: &IndexMap<Name, Vec<PortInView>>,
     lan: &LanInView,
     out: &mut Vec<u8>,
 ) -> Result<(), AllocError>
-    requires classes { AreClasses plan.now.view.now classes.now }
-    requires kept { (name : List ℕ) → kept_at kept.now name ≡ seen_on plan.now.view.now name }
-    ensures { (net : Net) (numbers : Numbers) (is : IsForest net numbers plan.now.forest.now) → AreOf net numbers plan.now.view.now plan.now.forest.now.regions
-        → OnOk result (out.new.items ≡ out.old.items ++ up_text net is.outcome lan.now) }
+    requires classes { AreClasses plan.now.view classes.now }
+    requires kept { (name : List ℕ) → kept_at kept.now name ≡ seen_on plan.now.view name }
+    ensures { OnOk result (out.new.items ≡ out.old.items ++ up_text plan.now.net (outcome_of plan.now) lan.now) }
 {
     if !lan.is_up {
         return Ok(());
@@ -137,16 +134,15 @@ fn push_up(
 /// Appends the lines of those of these logical LANs that are up and don't carry all VIDs.
 fn push_lans(
     alloc: Global,
-    plan: &Planned,
+    plan: &Settled,
     classes: &Numbering,
     kept: &IndexMap<Name, Vec<PortInView>>,
     lans: &[LanInView],
     out: &mut Vec<u8>,
 ) -> Result<(), AllocError>
-    requires classes { AreClasses plan.now.view.now classes.now }
-    requires kept { (name : List ℕ) → kept_at kept.now name ≡ seen_on plan.now.view.now name }
-    ensures { (net : Net) (numbers : Numbers) (is : IsForest net numbers plan.now.forest.now) → AreOf net numbers plan.now.view.now plan.now.forest.now.regions
-        → OnOk result (out.new.items ≡ out.old.items ++ flat_map (up_text net is.outcome) lans.now) }
+    requires classes { AreClasses plan.now.view classes.now }
+    requires kept { (name : List ℕ) → kept_at kept.now name ≡ seen_on plan.now.view name }
+    ensures { OnOk result (out.new.items ≡ out.old.items ++ flat_map (up_text plan.now.net (outcome_of plan.now)) lans.now) }
 {
     for lan in lans {
         push_up(alloc, plan, classes, kept, lan, out)?;
@@ -159,14 +155,15 @@ fn push_lans(
 /// It asks each port once for each class of VIDs.
 pub(crate) fn push_carries(
     alloc: Global,
-    plan: &Planned,
+    plan: &Settled,
     classes: &Numbering,
     out: &mut Vec<u8>,
 ) -> Result<(), AllocError>
-    requires { AreClasses plan.now.view.now classes.now }
-    ensures { (net : Net) (numbers : Numbers) (is : IsForest net numbers plan.now.forest.now) → AreOf net numbers plan.now.view.now plan.now.forest.now.regions
-        → OnOk result (out.new.items ≡ out.old.items ++ carries_text net is.outcome) }
+    requires { AreClasses plan.now.view classes.now }
+    ensures { OnOk result (out.new.items ≡ out.old.items ++ carries_text plan.now.net (outcome_of plan.now)) }
 {
-    let kept = ports_by_lan(alloc, plan.view)?;
-    push_lans(alloc, plan, classes, &kept, plan.view.lans(), out)
+    plan.known();
+    let view = plan.view();
+    let kept = ports_by_lan(alloc, view)?;
+    push_lans(alloc, plan, classes, &kept, view.lans(), out)
 }

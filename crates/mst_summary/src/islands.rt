@@ -1,8 +1,6 @@
 ghost use Rattle.std.specs.Prelude.{◌≡◌, ◌++◌, ◌+◌, ◌<◌, ℕ, List, IfOk, OnOk, length, map, vec_len};
 ghost use Rattle.std.specs.List.{All, AllZip, flat_map};
-ghost use Rattle.mst_diff.specs.net.Tables.{Net, Numbers};
-ghost use Rattle.mst_diff.specs.trees.Agrees.{AreOf, Known};
-ghost use Rattle.mst_diff.specs.trees.Forest.{IsForest};
+ghost use Rattle.mst_diff.specs.trees.Settled.{outcome_of};
 ghost use Rattle.mst_diff.specs.plan_text.Bodies.{NumberEach};
 ghost use Rattle.mst_diff.specs.Reach.{has_any};
 ghost use Rattle.mst_summary.specs.Kept.{AreClasses, count_at};
@@ -10,10 +8,10 @@ ghost use Rattle.mst_summary.specs.Seen.{seen_with_bridge};
 ghost use Rattle.mst_summary.specs.Vlans.{HasIslands, islands_line, group_text, IsVlansText};
 
 use itoa::Buffer;
-use mst_diff::{Planned, set_of, vids};
+use mst_diff::{Settled, set_of, vids};
 use mst_graph::{Numbering, groups_by_body};
 use mst_ids::{Vid, push_bytes, push_end, push_word};
-use mst_vlan::{Island, reach};
+use mst_vlan::{Island, active_ports, reach_from};
 use std::alloc::{AllocError, Global};
 
 /// Whether an island has a bridge.
@@ -34,22 +32,19 @@ fn with_bridge(islands: &[Island]) -> u64
 }
 
 /// How many islands with a bridge a VID has.
-fn islands_of(alloc: Global, plan: &Planned, vid: Vid) -> Result<u64, AllocError>
-    requires { Known plan.now.view.now plan.now.forest.now.regions }
-    ensures { IfOk result (λ count. (net : Net) (numbers : Numbers) (is : IsForest net numbers plan.now.forest.now) → AreOf net numbers plan.now.view.now plan.now.forest.now.regions
-        → HasIslands net is.outcome vid count) }
+fn islands_of(alloc: Global, plan: &Settled, vid: Vid) -> Result<u64, AllocError>
+    ensures { IfOk result (HasIslands plan.now.net (outcome_of plan.now) vid) }
 {
-    let islands = reach(alloc, plan.view, plan.forest, vid)?;
+    let active = active_ports(alloc, plan, vid)?;
+    let islands = reach_from(alloc, plan, active.as_slice(), vid)?;
     Ok(with_bridge(islands.as_slice()))
 }
 
 /// How many the VIDs at these places have, which are counted from 0.
-fn counts_at(alloc: Global, plan: &Planned, places: &[usize]) -> Result<Vec<u64>, AllocError>
-    requires known { Known plan.now.view.now plan.now.forest.now.regions }
-    requires vids { All (λ place. place < 4094) places.now }
+fn counts_at(alloc: Global, plan: &Settled, places: &[usize]) -> Result<Vec<u64>, AllocError>
+    requires { All (λ place. place < 4094) places.now }
     ensures as_long { IfOk result (λ counts. vec_len counts ≡ length places.now) }
-    ensures counts { IfOk result (λ counts. (net : Net) (numbers : Numbers) (is : IsForest net numbers plan.now.forest.now) → AreOf net numbers plan.now.view.now plan.now.forest.now.regions
-        → AllZip (λ place count. HasIslands net is.outcome (place + 1) count) places.now counts.items) }
+    ensures counts { IfOk result (λ counts. AllZip (λ place count. HasIslands plan.now.net (outcome_of plan.now) (place + 1) count) places.now counts.items) }
 {
     let mut counts = Vec::new(alloc);
     for place in places {
@@ -109,15 +104,14 @@ fn push_groups(
 /// Islands are made once for each class of VIDs.
 pub(crate) fn push_vlans(
     alloc: Global,
-    plan: &Planned,
+    plan: &Settled,
     classes: &Numbering,
     out: &mut Vec<u8>,
 ) -> Result<(), AllocError>
-    requires known { Known plan.now.view.now plan.now.forest.now.regions }
-    requires classes { AreClasses plan.now.view.now classes.now }
-    ensures { (net : Net) (numbers : Numbers) (is : IsForest net numbers plan.now.forest.now) → AreOf net numbers plan.now.view.now plan.now.forest.now.regions
-        → OnOk result ((text : List ℕ) × IsVlansText net is.outcome text × (out.new.items ≡ out.old.items ++ text)) }
+    requires { AreClasses plan.now.view classes.now }
+    ensures { OnOk result ((text : List ℕ) × IsVlansText plan.now.net (outcome_of plan.now) text × (out.new.items ≡ out.old.items ++ text)) }
 {
+    plan.known();
     let counts = counts_at(alloc, plan, classes.firsts.as_slice())?;
     let kept = Vec::from_slice(alloc, counts.as_slice())?;
     let vids = vids(alloc)?;

@@ -1,13 +1,16 @@
 ghost use Rattle.std.specs.Prelude.{◌≡◌, ◌==◌, ◌*◌, ◌++◌, not, filter, IfOk, OnOk};
-ghost use Rattle.std.specs.List.{flat_map};
+ghost use Rattle.std.specs.List.{Contains, flat_map};
+ghost use Rattle.mst_lag.specs.Viewed.{named_bridge};
 ghost use Rattle.mst_diff.specs.net.ByTree.{priority_in};
 ghost use Rattle.mst_ids.specs.Words.{after_space};
 ghost use Rattle.mst_diff.specs.Reach.{has_any};
-ghost use Rattle.mst_summary.specs.Roots.{followers_of as those_of, with_lesser, least as least_of, next_of, next_words, whole_line, group_line};
-ghost use Rattle.mst_summary.specs.Seen.{seen_follower, seen_followers, seen_root_line, seen_root_lines};
+ghost use Rattle.mst_diff.specs.trees.Settled.{outcome_of};
+ghost use Rattle.mst_summary.specs.Roots.{follower as follower_of, followers as followers_in, followers_of as those_of, with_lesser, least as least_of, next_of, next_words, whole_line, group_line, root_lines};
+ghost use Rattle.mst_summary.specs.Seen.{seen_root_line};
 
+use crate::looked_up::root;
 use itoa::Buffer;
-use mst_diff::{Planned, bridge_id, root};
+use mst_diff::{Settled, bridge_id};
 use mst_ids::{BridgeId, Name, Tree, push_bytes, push_end, push_word, push_words};
 use mst_lag::{BridgeInView, View};
 use std::alloc::{AllocError, Global};
@@ -21,26 +24,28 @@ pub(crate) struct Follower {
 }
 
 /// A bridge with the root that it names in a tree, if it names one.
-fn as_follower(plan: &Planned, tree: Tree, bridge: &BridgeInView) -> Option<Follower>
-    ensures { result ≡ seen_follower plan.now.view.now plan.now.forest.now tree bridge.now }
+fn as_follower(plan: &Settled, tree: Tree, bridge: &BridgeInView) -> Option<Follower>
+    requires { Contains plan.now.view.bridges bridge.now }
+    ensures { result ≡ follower_of plan.now.net (outcome_of plan.now) tree (named_bridge bridge.now) }
 {
-    let root = root(plan, tree, bridge.bridge.number)?;
+    let root = root(plan, tree, bridge)?;
     Some(Follower {
         name: bridge.name,
-        id: bridge_id(plan.view.settings(), tree, bridge),
+        id: bridge_id(plan.settings(), tree, bridge),
         root,
     })
 }
 
 /// Appends the bridges that name a root in a tree.
 fn push_followers(
-    plan: &Planned,
+    plan: &Settled,
     tree: Tree,
     followers: &mut Vec<Follower>,
 ) -> Result<(), AllocError>
-    ensures { OnOk result (followers.new.items ≡ followers.old.items ++ seen_followers plan.now.view.now plan.now.forest.now tree) }
+    ensures { OnOk result (followers.new.items ≡ followers.old.items ++ followers_in plan.now.net (outcome_of plan.now) tree) }
 {
-    let bridges = plan.view.bridges().iter();
+    plan.known();
+    let bridges = plan.view().bridges().iter();
     followers.extend(bridges.filter_map(|bridge| as_follower(plan, tree, bridge)))
 }
 
@@ -231,13 +236,14 @@ fn push_each(
 /// It goes over the bridges that have the tree once for each bridge.
 pub(crate) fn push_roots(
     alloc: Global,
-    plan: &Planned,
+    plan: &Settled,
     tree: Tree,
     out: &mut Vec<u8>,
 ) -> Result<(), AllocError>
-    ensures { OnOk result (out.new.items ≡ out.old.items ++ seen_root_lines plan.now.view.now plan.now.forest.now tree) }
+    ensures { OnOk result (out.new.items ≡ out.old.items ++ root_lines plan.now.net (outcome_of plan.now) tree) }
 {
+    plan.known();
     let mut followers = Vec::new(alloc);
     push_followers(plan, tree, &mut followers)?;
-    push_each(alloc, plan.view, tree, followers.as_slice(), out)
+    push_each(alloc, plan.view(), tree, followers.as_slice(), out)
 }

@@ -1,11 +1,8 @@
 ghost use Rattle.std.specs.Prelude.{◌≡◌, ◌++◌, ℕ, List, OnOk};
 ghost use Rattle.std.specs.List.{flat_map};
 ghost use Rattle.mst_config.specs.Shared.{AreRegions};
-ghost use Rattle.mst_diff.specs.net.Tables.{Net, Numbers};
-ghost use Rattle.mst_diff.specs.trees.Agrees.{AreOf, Known};
-ghost use Rattle.mst_diff.specs.trees.Forest.{IsForest};
-ghost use Rattle.mst_summary.specs.Seen.{seen_tree_lines};
-ghost use Rattle.mst_summary.specs.SummaryText.{IsSummary};
+ghost use Rattle.mst_diff.specs.trees.Settled.{outcome_of};
+ghost use Rattle.mst_summary.specs.SummaryText.{tree_lines, IsSummary};
 
 use crate::blocked::push_blocked;
 use crate::carries::push_carries;
@@ -15,13 +12,13 @@ use crate::in_use::used_trees;
 use crate::islands::push_vlans;
 use crate::roots::push_roots;
 use mst_config::Regions;
-use mst_diff::Planned;
+use mst_diff::Settled;
 use mst_ids::Tree;
 use std::alloc::{AllocError, Global};
 
 /// Appends the lines of a tree.
-fn push_tree(alloc: Global, plan: &Planned, tree: Tree, out: &mut Vec<u8>) -> Result<(), AllocError>
-    ensures { OnOk result (out.new.items ≡ out.old.items ++ seen_tree_lines plan.now.view.now plan.now.forest.now tree) }
+fn push_tree(alloc: Global, plan: &Settled, tree: Tree, out: &mut Vec<u8>) -> Result<(), AllocError>
+    ensures { OnOk result (out.new.items ≡ out.old.items ++ tree_lines plan.now.net (outcome_of plan.now) tree) }
 {
     push_roots(alloc, plan, tree, out)?;
     push_blocked(alloc, plan, tree, out)
@@ -30,11 +27,11 @@ fn push_tree(alloc: Global, plan: &Planned, tree: Tree, out: &mut Vec<u8>) -> Re
 /// Appends the lines of these trees.
 fn push_trees(
     alloc: Global,
-    plan: &Planned,
+    plan: &Settled,
     trees: &[Tree],
     out: &mut Vec<u8>,
 ) -> Result<(), AllocError>
-    ensures { OnOk result (out.new.items ≡ out.old.items ++ flat_map (seen_tree_lines plan.now.view.now plan.now.forest.now) trees.now) }
+    ensures { OnOk result (out.new.items ≡ out.old.items ++ flat_map (tree_lines plan.now.net (outcome_of plan.now)) trees.now) }
 {
     for tree in trees {
         push_tree(alloc, plan, *tree, out)?;
@@ -42,7 +39,7 @@ fn push_trees(
     Ok(())
 }
 
-/// Appends the summary of a network, by its plan and its regions: how much there is, for each tree that some bridge has
+/// Appends the summary of a settled network, by its regions too: how much there is, for each tree that some bridge has
 /// its roots with their followers and the enabled ports that don't forward, how many islands VIDs have, and the logical
 /// LANs that are up and don't carry all VIDs. `AllocError`: memory was wanted and refused; part of the text may have been
 /// appended.
@@ -51,19 +48,20 @@ fn push_trees(
 /// apart, and makes islands once for each class.
 pub fn push_summary(
     alloc: Global,
-    plan: &Planned,
+    plan: &Settled,
     regions: &Regions,
     out: &mut Vec<u8>,
 ) -> Result<(), AllocError>
-    requires { Known plan.now.view.now plan.now.forest.now.regions }
-    ensures { (net : Net) (numbers : Numbers) (is : IsForest net numbers plan.now.forest.now) → AreOf net numbers plan.now.view.now plan.now.forest.now.regions → AreRegions net numbers regions.now
-        → OnOk result ((text : List ℕ) × IsSummary net is.outcome text × (out.new.items ≡ out.old.items ++ text)) }
+    requires { AreRegions plan.now.net plan.now.numbers regions.now }
+    ensures { OnOk result ((text : List ℕ) × IsSummary plan.now.net (outcome_of plan.now) text × (out.new.items ≡ out.old.items ++ text)) }
 {
-    let trees = used_trees(alloc, plan.view)?;
-    let counts = count(plan.view, regions, trees.as_slice());
+    plan.known();
+    let view = plan.view();
+    let trees = used_trees(alloc, view)?;
+    let counts = count(view, regions, trees.as_slice());
     push_counts(&counts, out)?;
     push_trees(alloc, plan, trees.as_slice(), out)?;
-    let numbering = classes_of_vids(alloc, plan.view)?;
+    let numbering = classes_of_vids(alloc, view)?;
     push_vlans(alloc, plan, &numbering, out)?;
     push_carries(alloc, plan, &numbering, out)
 }

@@ -9,7 +9,7 @@ pub loop-place-preserved : goal.loop-place-preserved
 loop-place-preserved c = record {
   as_long = grind (arith, common_steps);
   flags =
-      let R : ℕ → Bool → Type 0 = λ vid flag. flag ≡ list_all (seen_carries c.args.plan.now.view.now c.args.plan.now.forest.now vid) c.args.ports.now in
+      let R : ℕ → Bool → Type 0 = λ vid flag. flag ≡ list_all (seen_carries c.args.plan.now.view c.args.plan.now.forest vid) c.args.ports.now in
       let i : ℕ = c.loop-place.place-index in
       let places = c.args.places.now in
       let place : ℕ = get_or places i 0 in
@@ -20,5 +20,5 @@ loop-place-preserved c = record {
 
 pub returns-clause-flags : goal.returns-clause-flags
 returns-clause-flags c =
-    all_at (λ vid flag. flag ≡ list_all (seen_carries c.args.plan.now.view.now c.args.plan.now.forest.now vid) c.args.ports.now) c.args.places.now c.loop-place.place-index c.loop-place-test.false c.loop-place.flags.items
+    all_at (λ vid flag. flag ≡ list_all (seen_carries c.args.plan.now.view c.args.plan.now.forest vid) c.args.ports.now) c.args.places.now c.loop-place.place-index c.loop-place-test.false c.loop-place.flags.items
     c.loop-place.invariant.flags

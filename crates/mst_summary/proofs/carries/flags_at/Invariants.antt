@@ -7,5 +7,5 @@ use Rattle.mst_summary.proofs.carries.flags_at.Given as goal
 abbrev pub invariant-loop-place : goal.invariant-loop-place
 invariant-loop-place l = record {
   as_long : length l.flags.items ≡ l.place-index;
-  flags : AllZip (λ place flag. flag ≡ list_all (seen_carries l.plan.view.now l.plan.forest.now (place + 1)) l.ports) (take l.place-index l.places) l.flags.items;
+  flags : AllZip (λ place flag. flag ≡ list_all (seen_carries l.plan.view l.plan.forest (place + 1)) l.ports) (take l.place-index l.places) l.flags.items;
 }

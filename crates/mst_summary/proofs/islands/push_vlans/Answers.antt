@@ -1,6 +1,7 @@
 use Rattle.std.proofs.Common.{◌≡◌, ℕ, ◌++◌, List, length, map, refl, sym, ap, subst, ◌∙◌}
 use Rattle.std.specs.List.{flat_map}
 use Rattle.std.proofs.lemmas.Result.{on_ok_weaker}
+use Rattle.mst_diff.specs.trees.Settled.{outcome_of}
 use Rattle.mst_diff.specs.plan_text.Bodies.{NumberEach}
 use Rattle.mst_diff.proofs.plan_text_lemmas.Grouped.{vids_long}
 use Rattle.mst_diff.proofs.plan_text_lemmas.Classes.{numbers_below, each_below}
@@ -11,16 +12,16 @@ use Rattle.mst_summary.proofs.islands.push_vlans.Goals as goal
 
 pub groups_by_body-requires-clause-as_long : goal.groups_by_body-requires-clause-as_long
 groups_by_body-requires-clause-as_long c =
-    ap length c.as_slice-4.ensures.value ∙ c.requires.classes.classes.as_long ∙ c.requires.classes.tell.as_long ∙ sym (ap length (c.as_slice-3.ensures.value ∙ c.in_ok-vids.ensures) ∙ vids_long)
+    ap length c.as_slice-4.ensures.value ∙ c.requires.classes.as_long ∙ c.requires.tell.as_long ∙ sym (ap length (c.as_slice-3.ensures.value ∙ c.in_ok-vids.ensures) ∙ vids_long)
 
 pub groups_by_body-requires-clause-below : goal.groups_by_body-requires-clause-below
 groups_by_body-requires-clause-below c =
-    let k = c.requires.classes in
+    let k = c.requires in
     each_below k.numbers c.args.classes.now.numbers.items c.args.classes.now.firsts.items _ k.classes (c.in_ok-counts.ensures.as_long ∙ ap length c.as_slice.ensures.value) c.as_slice-4.result.now c.as_slice-4.ensures.value
 
 pub push_groups-requires : goal.push_groups-requires
 push_groups-requires c =
-    let k = c.requires.classes in
+    let k = c.requires in
     let firsts : List ℕ = c.args.classes.now.firsts.items in
     let long : length c.as_slice-7.result.now ≡ length firsts =
     ap length (c.as_slice-7.ensures.value ∙ c.in_ok-kept.ensures.items) ∙ c.as_slice-2.ensures.len ∙ c.in_ok-counts.ensures.as_long ∙ ap length c.as_slice.ensures.value in
@@ -28,24 +29,25 @@ push_groups-requires c =
     (numbers_below k.numbers c.args.classes.now.numbers.items firsts (length c.as_slice-7.result.now) k.tell.as_long k.classes long)
 
 pub returns : goal.returns
-returns c net numbers is of =
-    let k = c.requires.classes in
-    let v = c.args.plan.now.view.now in
-    let classes : List ℕ = c.args.classes.now.numbers.items in
-    let firsts : List ℕ = c.args.classes.now.firsts.items in
+returns c =
+    let s = c.args.plan.now in
+    let k = c.requires in
+    let cs = c.args.classes.now in
+    let classes : List ℕ = cs.numbers.items in
+    let firsts : List ℕ = cs.firsts.items in
     let counts : List ℕ = c.in_ok-counts.counts.items in
     let groups : List (List ℕ) = map (λ group. group.items) c.in_ok-groups.groups.items in
     let kept : c.as_slice-7.result.now ≡ counts = c.as_slice-7.ensures.value ∙ c.in_ok-kept.ensures.items ∙ c.as_slice-2.ensures.value in
     let long : length counts ≡ length firsts = ap length (sym c.as_slice-2.ensures.value) ∙ c.as_slice-2.ensures.len ∙ c.in_ok-counts.ensures.as_long ∙ ap length c.as_slice.ensures.value in
     let each : NumberEach classes (length counts) = numbers_below k.numbers classes firsts (length counts) k.tell.as_long k.classes long in
-    let R : ℕ → ℕ → Type 0 = HasIslands net is.outcome in
-    let at : AtPlaces R firsts counts = subst (λ places. AtPlaces R places counts) c.as_slice.ensures.value (c.in_ok-counts.ensures.counts net numbers is of) in
+    let R : ℕ → ℕ → Type 0 = HasIslands s.net (outcome_of s) in
+    let at : AtPlaces R firsts counts = subst (λ places. AtPlaces R places counts) c.as_slice.ensures.value c.in_ok-counts.ensures.counts in
     on_ok_weaker c.push_groups.result
     (λ last. (
       flat_map (group_text (count_at classes counts)) groups,
       record {
         count = count_at classes counts;
-        counted = things_have R 0 k.tables k.sets (islands_moved v k.tables k.sets k.have_tables k.have_sets net numbers c.args.plan.now.forest.now of is.outcome) k.numbers classes firsts k.tell k.classes counts at;
+        counted = things_have R 0 s.view cs k (islands_moved s c.known.ensures cs k) counts at;
         groups = groups;
         are_groups = groups_counted classes counts each c.as_slice-4.result.now c.as_slice-3.result.now c.as_slice-4.ensures.value (c.as_slice-3.ensures.value ∙ c.in_ok-vids.ensures) groups c.in_ok-groups.ensures;
         is = refl;
