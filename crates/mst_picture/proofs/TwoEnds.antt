@@ -1,5 +1,5 @@
 -- The two ends of a logical LAN.
-use Rattle.std.proofs.Common.{◌≡◌, ℕ, List, [], ◌∷◌, length, get_or, sym, arith}
+use Rattle.std.proofs.Common.{◌≡◌, List, [], ◌∷◌, length, get_or, sym, arith}
 use Rattle.mst_picture.specs.declared.ends.End.{End}
 
 -- a list of two is made of the first and the second

@@ -12,4 +12,4 @@ pub mod Pieces
 pub mod Bridges
 pub mod Lans
 pub mod Picture
-pub mod Seen
+pub mod InView

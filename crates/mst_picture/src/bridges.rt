@@ -1,14 +1,16 @@
 ghost use Rattle.std.specs.Prelude.{◌≡◌, ◌++◌, OnOk};
-ghost use Rattle.std.specs.List.{flat_map};
+ghost use Rattle.std.specs.List.{Contains, flat_map};
+ghost use Rattle.mst_lag.specs.Viewed.{named_bridge};
 ghost use Rattle.mst_summary.specs.net.Seen.{bridge_row};
-ghost use Rattle.mst_picture.specs.Bridges.{style as style_by};
-ghost use Rattle.mst_picture.specs.Seen.{seen_is_root, seen_style, seen_bridge};
+ghost use Rattle.mst_summary.specs.trees.Settled.{outcome_of};
+ghost use Rattle.mst_picture.specs.Bridges.{is_root as is_root_in, style as style_by};
+ghost use Rattle.mst_picture.specs.InView.{style_of as style_in, bridge_of};
 
 use crate::pieces::push_pieces;
 use mst_ids::{Tree, push_bytes};
 use mst_lag::BridgeInView;
 use mst_lang::Power;
-use mst_summary::{Planned, bridge_id, has_tree, root};
+use mst_summary::{Settled, bridge_id, root};
 use std::alloc::AllocError;
 
 /// Whether a bridge is on.
@@ -19,12 +21,13 @@ fn is_on(bridge: &BridgeInView) -> bool
 }
 
 /// Whether a bridge names itself as its root in a tree, in an MSTI as its regional root.
-fn is_root(plan: &Planned, tree: Tree, bridge: &BridgeInView) -> bool
-    ensures { result ≡ seen_is_root plan.now.view.now plan.now.forest.now tree bridge.now }
+fn is_root(plan: &Settled, tree: Tree, bridge: &BridgeInView) -> bool
+    requires { Contains plan.now.view.bridges bridge.now }
+    ensures { result ≡ is_root_in plan.now.net (outcome_of plan.now) tree (named_bridge bridge.now) }
 {
-    match root(plan, tree, bridge.bridge.number) {
+    match root(plan, tree, bridge) {
         None => false,
-        Some(root) => root == bridge_id(plan.view.settings(), tree, bridge),
+        Some(root) => root == bridge_id(plan.settings(), tree, bridge),
     }
 }
 
@@ -44,24 +47,26 @@ fn style(is_on: bool, has_tree: bool, is_root: bool) -> &'static str
 }
 
 /// How a bridge is drawn with a tree.
-fn style_of(plan: &Planned, tree: Tree, bridge: &BridgeInView) -> &'static str
-    ensures { result.now ≡ seen_style plan.now.view.now plan.now.forest.now tree bridge.now }
+fn style_of(plan: &Settled, tree: Tree, bridge: &BridgeInView) -> &'static str
+    requires { Contains plan.now.view.bridges bridge.now }
+    ensures { result.now ≡ style_in plan.now tree bridge.now }
 {
     style(
         is_on(bridge),
-        has_tree(plan.view, bridge.bridge.number, tree),
+        plan.has_tree(tree, bridge),
         is_root(plan, tree, bridge),
     )
 }
 
 /// Appends the node of a bridge.
 fn push_bridge(
-    plan: &Planned,
+    plan: &Settled,
     tree: Tree,
     bridge: &BridgeInView,
     out: &mut Vec<u8>,
 ) -> Result<(), AllocError>
-    ensures { OnOk result (out.new.items ≡ out.old.items ++ seen_bridge plan.now.view.now plan.now.forest.now tree bridge.now) }
+    requires { Contains plan.now.view.bridges bridge.now }
+    ensures { OnOk result (out.new.items ≡ out.old.items ++ bridge_of plan.now tree bridge.now) }
 {
     let pieces: [&[u8]; 3] = [b"  \"", bridge.name.as_bytes(), b"\""];
     push_pieces(&pieces, out)?;
@@ -70,10 +75,10 @@ fn push_bridge(
 }
 
 /// Appends the nodes of the bridges, by their names.
-pub(crate) fn push_bridges(plan: &Planned, tree: Tree, out: &mut Vec<u8>) -> Result<(), AllocError>
-    ensures { OnOk result (out.new.items ≡ out.old.items ++ flat_map (seen_bridge plan.now.view.now plan.now.forest.now tree) plan.now.view.now.bridges) }
+pub(crate) fn push_bridges(plan: &Settled, tree: Tree, out: &mut Vec<u8>) -> Result<(), AllocError>
+    ensures { OnOk result (out.new.items ≡ out.old.items ++ flat_map (bridge_of plan.now tree) plan.now.view.bridges) }
 {
-    for bridge in plan.view.bridges() {
+    for bridge in plan.view().bridges() {
         push_bridge(plan, tree, bridge, out)?;
     }
     Ok(())

@@ -1,10 +1,11 @@
 ghost use Rattle.std.specs.Prelude.{◌≡◌, ◌&&◌, ◌++◌, OnOk};
+ghost use Rattle.std.specs.List.{Contains};
 ghost use Rattle.mst_picture.specs.Lans.{letter as letter_of, role_letter as role_letter_of, label, is_open as is_open_end, designates as designates_of, line_end as line_end_by};
-ghost use Rattle.mst_picture.specs.Seen.{seen_end};
+ghost use Rattle.mst_picture.specs.InView.{end_at};
 
 use mst_ids::{PortName, Tree, push_bytes};
 use mst_lag::PortInView;
-use mst_summary::{Planned, Role, role};
+use mst_summary::{Role, Settled, role};
 use std::alloc::AllocError;
 
 /// An end at a logical LAN: a logical port, and its role in the tree, if its bridge has the tree.
@@ -14,13 +15,14 @@ pub(crate) struct End {
     pub(crate) role: Option<Role>,
 }
 
-/// The end that a port is.
-pub(crate) fn end_of(plan: &Planned, tree: Tree, port: &PortInView) -> End
-    ensures { result ≡ seen_end plan.now.view.now plan.now.forest.now tree port.now }
+/// The end that a port of the view is.
+pub(crate) fn end_of(plan: &Settled, tree: Tree, port: &PortInView) -> End
+    requires { Contains plan.now.view.ports port.now }
+    ensures { result ≡ end_at plan.now tree port.now }
 {
     End {
         port: port.name,
-        role: role(plan.view, plan.forest, port.number, tree),
+        role: role(plan, tree, port),
     }
 }
 

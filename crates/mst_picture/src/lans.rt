@@ -1,16 +1,17 @@
 ghost use Rattle.std.specs.Prelude.{◌≡◌, ◌++◌, ℕ, List, map, IfOk, OnOk};
 ghost use Rattle.std.specs.List.{flat_map};
+ghost use Rattle.mst_summary.specs.trees.Settled.{outcome_of};
 ghost use Rattle.mst_summary.specs.Kept.{kept_at};
 ghost use Rattle.mst_summary.specs.Seen.{seen_on};
-ghost use Rattle.mst_picture.specs.Lans.{link_line, link_text, box_line, down_line, up_line, end_line, box_text, lan_text};
-ghost use Rattle.mst_picture.specs.Seen.{seen_end, seen_lan};
+ghost use Rattle.mst_picture.specs.Lans.{link_line, link_text, box_line, down_line, up_line, end_line, box_text, ends_on, lan_text};
+ghost use Rattle.mst_picture.specs.InView.{AreAmong, end_at, lan_of};
 
 use crate::ends::{End, are_open, designates, end_of, is_open, line_end, push_label};
 use crate::pieces::push_pieces;
 use indexmap::IndexMap;
 use mst_ids::{Name, Tree, push_bytes};
 use mst_lag::{LanInView, PortInView};
-use mst_summary::{Planned, kept_for, ports_by_lan};
+use mst_summary::{Settled, kept_for, ports_by_lan};
 use std::alloc::{AllocError, Global};
 
 /// Appends the line from one end of a LAN to the other.
@@ -129,14 +130,15 @@ fn push_by_ends(lan: &Name, ends: &[End], out: &mut Vec<u8>) -> Result<(), Alloc
     }
 }
 
-/// The ends that these ports are.
+/// The ends that these ports of the view are.
 fn ends_of(
     alloc: Global,
-    plan: &Planned,
+    plan: &Settled,
     tree: Tree,
     ports: &[PortInView],
 ) -> Result<Vec<End>, AllocError>
-    ensures { IfOk result (λ ends. ends.items ≡ map (seen_end plan.now.view.now plan.now.forest.now tree) ports.now) }
+    requires { AreAmong plan.now.view.ports ports.now }
+    ensures { IfOk result (λ ends. ends.items ≡ map (end_at plan.now tree) ports.now) }
 {
     ports
         .iter()
@@ -147,14 +149,16 @@ fn ends_of(
 /// Appends a LAN of these ports.
 fn push_by_ports(
     alloc: Global,
-    plan: &Planned,
+    plan: &Settled,
     tree: Tree,
     lan: &Name,
     ports: &[PortInView],
     out: &mut Vec<u8>,
 ) -> Result<(), AllocError>
-    ensures { OnOk result (out.new.items ≡ out.old.items ++ lan_text lan.now (map (seen_end plan.now.view.now plan.now.forest.now tree) ports.now)) }
+    requires { ports.now ≡ seen_on plan.now.view lan.now }
+    ensures { OnOk result (out.new.items ≡ out.old.items ++ lan_text lan.now (ends_on plan.now.net (outcome_of plan.now) tree lan.now)) }
 {
+    plan.known();
     let ends = ends_of(alloc, plan, tree, ports)?;
     push_by_ends(lan, ends.as_slice(), out)
 }
@@ -162,14 +166,14 @@ fn push_by_ports(
 /// Appends a LAN, by the ports that are kept for each.
 fn push_lan(
     alloc: Global,
-    plan: &Planned,
+    plan: &Settled,
     tree: Tree,
     kept: &IndexMap<Name, Vec<PortInView>>,
     lan: &LanInView,
     out: &mut Vec<u8>,
 ) -> Result<(), AllocError>
-    requires { (name : List ℕ) → kept_at kept.now name ≡ seen_on plan.now.view.now name }
-    ensures { OnOk result (out.new.items ≡ out.old.items ++ seen_lan plan.now.view.now plan.now.forest.now tree lan.now) }
+    requires { (name : List ℕ) → kept_at kept.now name ≡ seen_on plan.now.view name }
+    ensures { OnOk result (out.new.items ≡ out.old.items ++ lan_of plan.now tree lan.now) }
 {
     push_by_ports(alloc, plan, tree, &lan.name, kept_for(kept, &lan.name), out)
 }
@@ -177,15 +181,15 @@ fn push_lan(
 /// Appends these LANs, by the ports that are kept for each.
 fn push_each(
     alloc: Global,
-    plan: &Planned,
+    plan: &Settled,
     tree: Tree,
     kept: &IndexMap<Name, Vec<PortInView>>,
     out: &mut Vec<u8>,
 ) -> Result<(), AllocError>
-    requires { (name : List ℕ) → kept_at kept.now name ≡ seen_on plan.now.view.now name }
-    ensures { OnOk result (out.new.items ≡ out.old.items ++ flat_map (seen_lan plan.now.view.now plan.now.forest.now tree) plan.now.view.now.lans) }
+    requires { (name : List ℕ) → kept_at kept.now name ≡ seen_on plan.now.view name }
+    ensures { OnOk result (out.new.items ≡ out.old.items ++ flat_map (lan_of plan.now tree) plan.now.view.lans) }
 {
-    for lan in plan.view.lans() {
+    for lan in plan.view().lans() {
         push_lan(alloc, plan, tree, kept, lan, out)?;
     }
     Ok(())
@@ -194,12 +198,12 @@ fn push_each(
 /// Appends the logical LANs, by their names. It goes over the ports once, and once over those of each LAN.
 pub(crate) fn push_lans(
     alloc: Global,
-    plan: &Planned,
+    plan: &Settled,
     tree: Tree,
     out: &mut Vec<u8>,
 ) -> Result<(), AllocError>
-    ensures { OnOk result (out.new.items ≡ out.old.items ++ flat_map (seen_lan plan.now.view.now plan.now.forest.now tree) plan.now.view.now.lans) }
+    ensures { OnOk result (out.new.items ≡ out.old.items ++ flat_map (lan_of plan.now tree) plan.now.view.lans) }
 {
-    let kept = ports_by_lan(alloc, plan.view)?;
+    let kept = ports_by_lan(alloc, plan.view())?;
     push_each(alloc, plan, tree, &kept, out)
 }

@@ -1,7 +1,5 @@
 ghost use Rattle.std.specs.Prelude.{◌≡◌, ◌++◌, OnOk};
-ghost use Rattle.mst_summary.specs.net.Tables.{Net, Numbers};
-ghost use Rattle.mst_summary.specs.trees.Agrees.{AreOf};
-ghost use Rattle.mst_summary.specs.trees.Forest.{IsForest};
+ghost use Rattle.mst_summary.specs.trees.Settled.{outcome_of};
 ghost use Rattle.mst_picture.specs.Picture.{opening, picture};
 
 use crate::bridges::push_bridges;
@@ -9,7 +7,7 @@ use crate::lans::push_lans;
 use crate::pieces::push_pieces;
 use itoa::Buffer;
 use mst_ids::{Tree, push_bytes};
-use mst_summary::Planned;
+use mst_summary::Settled;
 use std::alloc::{AllocError, Global};
 
 /// Appends the first lines.
@@ -30,7 +28,7 @@ fn push_opening(tree: Tree, out: &mut Vec<u8>) -> Result<(), AllocError>
     push_pieces(&pieces, out)
 }
 
-/// Appends the picture of a network with a tree, by its plan: a text for Graphviz. Bridges are nodes, the root or the regional
+/// Appends the picture of a settled network with a tree: a text for Graphviz. Bridges are nodes, the root or the regional
 /// roots with two borders; a logical LAN of two logical ports is a line between their bridges, from the designated port, and
 /// any other a box with a line to each port's bridge. The ends of the lines have the ports' numbers and the letters of their
 /// roles, and a line is dashed where an end of it doesn't forward. Where no bridge has the tree the bridges are drawn without
@@ -39,13 +37,13 @@ fn push_opening(tree: Tree, out: &mut Vec<u8>) -> Result<(), AllocError>
 /// It goes over the ports twice.
 pub fn push_picture(
     alloc: Global,
-    plan: &Planned,
+    plan: &Settled,
     tree: Tree,
     out: &mut Vec<u8>,
 ) -> Result<(), AllocError>
-    ensures { (net : Net) (numbers : Numbers) (is : IsForest net numbers plan.now.forest.now) → AreOf net numbers plan.now.view.now plan.now.forest.now.regions
-        → OnOk result (out.new.items ≡ out.old.items ++ picture net is.outcome tree) }
+    ensures { OnOk result (out.new.items ≡ out.old.items ++ picture plan.now.net (outcome_of plan.now) tree) }
 {
+    plan.known();
     push_opening(tree, out)?;
     push_bridges(plan, tree, out)?;
     push_lans(alloc, plan, tree, out)?;

@@ -1,4 +1,4 @@
-use Rattle.std.proofs.Common.{ap, sym}
+use Rattle.std.proofs.Common.{ap}
 use Rattle.mst_picture.specs.Picture.{picture}
 use Rattle.mst_picture.proofs.laws.one_picture.Goals as goal
 
