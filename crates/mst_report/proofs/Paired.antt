@@ -1,5 +1,5 @@
 -- What pairs of failures do: views and regions of the networks that fail, and what is told of pairs one after another.
-use Rattle.std.proofs.Common.{◌≡◌, ℕ, ◌+◌, ◌-◌, ◌*◌, ◌/◌, ◌≤◌, ◌<◌, zero, suc, Bool, true, false, cond, List, [], ◌∷◌, ◌++◌, length, map, take, drop, get_or, min, None, refl, sym, ap, subst, ◌∙◌, arith, drop-cons, length-append}
+use Rattle.std.proofs.Common.{◌≡◌, ℕ, ◌+◌, ◌-◌, ◌*◌, ◌/◌, ◌≤◌, ◌<◌, zero, suc, Bool, true, false, cond, List, [], ◌∷◌, ◌++◌, length, map, take, drop, get_or, min, refl, sym, ap, subst, ◌∙◌, arith, drop-cons, length-append}
 use Rattle.std.specs.FinMap as fin
 use Rattle.std.specs.List.{AllByRecursion, filter}
 use Rattle.std.proofs.lemmas.List.{length-map, length-drop, map-append, get_or-map, drop-drop}
@@ -24,7 +24,7 @@ use Rattle.mst_sweep.specs.declared.failure.Failure.{Failure}
 use Rattle.mst_sweep.specs.declared.failure.Failure.TheVariants.{Lan, Bridge}
 use Rattle.mst_sweep.specs.declared.both_failed.Single.{Single}
 use Rattle.mst_sweep.specs.Failures.{failures, edit_of}
-use Rattle.mst_sweep.specs.Pairs.{Pair, failed, pairs_of, with_each}
+use Rattle.mst_sweep.specs.Pairs.{failed, pairs_of, with_each}
 use Rattle.mst_sweep.proofs.Windows.{piece, piece_joined, piece_mapped, twice}
 use Rattle.mst_report.specs.Pairing.{IsSingle, AreSingles, HasFlags}
 use Rattle.mst_report.specs.Sweeping.{IsViewBut}

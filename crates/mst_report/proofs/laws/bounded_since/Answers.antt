@@ -1,4 +1,4 @@
-use Rattle.std.proofs.Common.{◌≡◌, ℕ, Option, None, sym, subst}
+use Rattle.std.proofs.Common.{ℕ, None, subst}
 use Rattle.mst_picture.specs.vector.Cist.{cist_rules}
 use Rattle.mst_picture.specs.vector.Msti.{msti_rules}
 use Rattle.mst_picture.specs.vector.declared.cist.CistVector.{CistVector}

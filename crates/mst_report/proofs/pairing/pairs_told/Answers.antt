@@ -1,4 +1,4 @@
-use Rattle.std.proofs.Common.{◌≡◌, ◌≤◌, ◌<◌, ◌+◌, ◌-◌, ◌*◌, zero, suc, ◌∷◌, [], ◌++◌, ℕ, List, length, map, take, drop, min, get_or, refl, sym, ap, subst, ◌∙◌, append_assoc, append-nil, arith}
+use Rattle.std.proofs.Common.{◌≡◌, ◌≤◌, ◌<◌, ◌+◌, ◌-◌, zero, suc, [], ◌++◌, ℕ, List, length, map, take, drop, min, get_or, refl, sym, ap, subst, ◌∙◌, append_assoc, append-nil, arith}
 use Rattle.std.proofs.lemmas.List.{drop_all, length-take, length-drop, length-map}
 use Rattle.mst_sweep.specs.declared.both_failed.Single.{Single}
 use Rattle.mst_sweep.specs.Failures.{failures}

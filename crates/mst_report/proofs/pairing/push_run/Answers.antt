@@ -1,9 +1,8 @@
-use Rattle.std.proofs.Common.{◌≡◌, ◌≤◌, ◌+◌, ◌∷◌, [], ◌++◌, ℕ, List, map, take, refl, sym, ap, subst, ◌∙◌, append_assoc, append-nil, arith}
-use Rattle.std.specs.List.{AllByRecursion}
+use Rattle.std.proofs.Common.{◌≡◌, ◌+◌, ◌∷◌, [], ◌++◌, map, take, refl, sym, ap, subst, ◌∙◌, append_assoc, append-nil, arith}
 use Rattle.std.proofs.lemmas.List.{take_all, take_more, map-append}
 use Rattle.mst_sweep.specs.declared.both_failed.Single.{Single}
 use Rattle.mst_sweep.specs.declared.failure.Failure.{Failure}
-use Rattle.mst_sweep.specs.Pairs.{Pair, IsPairTold, with_each}
+use Rattle.mst_sweep.specs.Pairs.{IsPairTold, with_each}
 use Rattle.mst_report.specs.Pairing.{ArePairsTold, IsSingle}
 use Rattle.mst_report.proofs.Paired.{at_place}
 use Rattle.mst_report.proofs.Swept.{counts, counts_few, none_told, more_told}

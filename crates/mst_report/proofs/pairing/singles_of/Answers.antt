@@ -1,7 +1,7 @@
 use Rattle.std.proofs.Common.{◌+◌, ◌∷◌, [], ◌++◌, take, sym, ap, subst, ◌∙◌}
 use Rattle.std.proofs.lemmas.List.{take_all, take_more}
 use Rattle.mst_report.specs.Pairing.{AreSingles}
-use Rattle.mst_report.proofs.Paired.{no_singles, more_singles}
+use Rattle.mst_report.proofs.Paired.{more_singles}
 use Rattle.mst_report.proofs.pairing.singles_of.Goals as goal
 
 pub loop-failure-preserved : goal.loop-failure-preserved

@@ -1,6 +1,5 @@
-use Rattle.std.proofs.Common.{◌≡◌, IfOk, false, sym, ap, subst, ◌∙◌}
-use Rattle.mst_lang.specs.declared.line.Edit.{Edit}
-use Rattle.mst_net.specs.Contents.{CanCommit, Tables}
+use Rattle.std.proofs.Common.{◌≡◌, false, sym, ap, subst, ◌∙◌}
+use Rattle.mst_net.specs.Contents.{Tables}
 use Rattle.mst_net.specs.Tables.{Net}
 use Rattle.mst_picture.specs.trees.Msti.{has_msti}
 use Rattle.mst_report.proofs.Staying.{kept_so, effect_made}
