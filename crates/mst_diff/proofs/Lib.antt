@@ -8,7 +8,6 @@ pub mod Named
 pub mod Shared
 pub mod Lines
 pub mod Once
-pub mod TreeLines
 pub mod NamedSides
 pub mod Reached
 pub mod OneDiff

@@ -33,7 +33,7 @@ use Rattle.mst_plan_text.proofs.trees_lemmas.Seen.{SeenBridge, bridge_seen, brid
 use Rattle.mst_changes.specs.Subjects.{bridge_names}
 use Rattle.mst_diff.specs.declared.roots.Identified.{Identified}
 use Rattle.mst_diff.specs.Roots.{root_of, named_by, root_name}
-use Rattle.mst_diff.specs.Seen.{seen_first, seen_root, seen_named, name_by, seen_root_name}
+use Rattle.mst_diff.specs.Seen.{seen_first, seen_root, seen_named, name_by}
 use Rattle.mst_diff.proofs.Lists.{find-map, option_map-twice}
 
 -- what a name finds among bridges of these rows
@@ -106,7 +106,3 @@ module _ (net : Net) (numbers : Numbers) (v : Viewed) (f : Forest) (of : AreOf n
             ∙ sym (ap (λ (t : Bool). if t then option_map (λ v. v.root) (is.outcome.cist.vector b.name) else None) there)
         go false = λ i.
             if has_tree_at net numbers v f.regions of tree b.name b.bridge.number seen.has_number i then option_map (λ v. v.regional) ((is.mstis tree).vectors b.name b.bridge.number seen.has_number i) else None
-
-    -- the name of a bridge's root
-    pub root_name_named : (b : BridgeInView) → Contains v.bridges b → seen_root_name v f (seen_named v tree) tree b.bridge.number ≡ root_name net is.outcome tree b.name
-    root_name_named b there = λ i. option_and_then (λ id. id_named tree id i) (root_named b there i)

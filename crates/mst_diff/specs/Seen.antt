@@ -1,27 +1,31 @@
--- What differs between two views with their forests, under the numbers of records.
+-- What differs between two views with their forests.
 use Rattle.std.specs.Prelude.{◌≡◌, ℕ, ◌==◌, ◌||◌, List, [], ◌∷◌, ◌++◌, Option, None, Some, map, filter, filter_map, codes, if◌then◌else◌}
-use Rattle.std.specs.List.{find, flat_map, list_any}
+use Rattle.std.specs.List.{Contains, find, list_any}
 use Rattle.std.specs.Map.{lookup}
-use Rattle.std.specs.Option.{option_map, option_and_then, unwrap_or}
+use Rattle.std.specs.Option.{option_map, unwrap_or}
 use Rattle.mst_ids.specs.Words.{after_space, comma_list}
 use Rattle.mst_net.specs.Seen.{bridge_row}
+use Rattle.mst_net.specs.Tables.{Net}
 use Rattle.mst_plan_text.specs.settle.Assignment.{vector_of}
 use Rattle.mst_lag.specs.Aggregation.{same_name}
 use Rattle.mst_lag.specs.Trees.{is_among}
 use Rattle.mst_lag.specs.Viewed.{Viewed}
 use Rattle.mst_lag.specs.declared.in_view.BridgeInView.{BridgeInView}
+use Rattle.mst_plan_text.specs.config.Regions.{first_of_region}
 use Rattle.mst_plan_text.specs.config.Shared.{same_in}
 use Rattle.mst_plan_text.specs.trees.Forest.{Forest, msti_vector}
 use Rattle.mst_plan_text.specs.trees.InUse.{id_in}
 use Rattle.mst_plan_text.specs.trees.Seen.{trees_at}
+use Rattle.mst_plan_text.specs.trees.Settled.{SettledNet, outcome_of}
 use Rattle.mst_plan_text.specs.vlan.declared.island.Island.{Island}
 use Rattle.mst_plan_text.specs.text.VlanSeen.{seen_bridge}
+use Rattle.mst_changes.specs.PortChanges.{port_changes}
 use Rattle.mst_diff.specs.declared.both.Both.{Both}
 use Rattle.mst_diff.specs.declared.roots.Identified.{Identified}
 use Rattle.mst_diff.specs.declared.roots.RootPair.{RootPair}
 use Rattle.mst_diff.specs.Regions.{region_text}
-use Rattle.mst_diff.specs.Roots.{paired, same_pair, with_new, each_once, root_line}
-use Rattle.mst_diff.specs.Reach.{has_any}
+use Rattle.mst_diff.specs.Roots.{root_pair, same_pair, with_new, tree_roots}
+use Rattle.mst_diff.specs.Reach.{has_any, AreSides}
 
 -- ---- bridges
 -- a bridge of one view, if one of that name is in the other, too
@@ -35,6 +39,12 @@ seen_both v w = filter_map (seen_in_both w) v.bridges
 abbrev pub AreByName : List BridgeInView → List (List ℕ × BridgeInView) → Type 0
 AreByName bridges entries = (name : List ℕ) → lookup (same_name name) entries ≡ find (λ y. same_name y.name name) bridges
 
+-- a bridge that two views have
+pub record IsBoth (v w : Viewed) (both : Both) : Type 0 where
+  pub old : Contains v.bridges both.old
+  pub new : Contains w.bridges both.new
+  pub same : both.new.name ≡ both.old.name
+
 -- ---- regions
 -- the first bridge of a bridge's region
 abbrev pub seen_found : Viewed → List (ℕ × ℕ) → BridgeInView → Option (List ℕ)
@@ -43,9 +53,9 @@ seen_found v classes b = option_map (λ c. c.name) (find (λ c. same_in classes 
 abbrev pub seen_first : Viewed → List (ℕ × ℕ) → BridgeInView → List ℕ
 seen_first v classes b = unwrap_or (seen_found v classes b) b.name
 
-abbrev pub seen_region : Viewed → Forest → Viewed → Forest → Both → List ℕ
-seen_region v f w g both =
-    region_text both.old.name (bridge_row both.old.bridge) (seen_first v f.regions both.old) (bridge_row both.new.bridge) (seen_first w g.regions both.new)
+-- the line of a bridge of two networks, by its name
+abbrev pub region_of : Net → Net → Both → List ℕ
+region_of a b both = region_text both.old.name (bridge_row both.old.bridge) (first_of_region a both.old.name) (bridge_row both.new.bridge) (first_of_region b both.old.name)
 
 -- ---- roots
 abbrev pub seen_root : Viewed → Forest → ℕ → ℕ → Option ℕ
@@ -59,21 +69,27 @@ seen_named v tree = map (λ b. record { id = id_in v.settings tree b.name (bridg
 abbrev pub name_by : List Identified → ℕ → Option (List ℕ)
 name_by named id = option_map (λ n. n.name) (find (λ n. n.id == id) named)
 
-abbrev pub seen_root_name : Viewed → Forest → List Identified → ℕ → ℕ → Option (List ℕ)
-seen_root_name v f named tree bridge = option_and_then (name_by named) (seen_root v f tree bridge)
+-- the names before and after of the root of a bridge of two networks, by its name
+abbrev pub pair_of : SettledNet → SettledNet → ℕ → Both → Option RootPair
+pair_of s t tree both = root_pair s.net (outcome_of s) t.net (outcome_of t) tree both.old.name
 
-abbrev pub seen_pair : Viewed → Forest → List Identified → Viewed → Forest → List Identified → ℕ → Both → Option RootPair
-seen_pair v f olds w g news tree both = paired (seen_root_name v f olds tree both.old.bridge.number) (seen_root_name w g news tree both.new.bridge.number)
+-- the lines of a tree
+abbrev pub roots_of : SettledNet → SettledNet → ℕ → List ℕ
+roots_of s t = tree_roots s.net (outcome_of s) t.net (outcome_of t)
 
 -- pairs with one more, if there is one
 abbrev pub with_pair : List RootPair → Option RootPair → List RootPair
 with_pair kept None = kept
 with_pair kept (Some pair) = with_new same_pair kept pair
 
-abbrev pub seen_roots : Viewed → Forest → Viewed → Forest → ℕ → List Both → List ℕ
-seen_roots v f w g tree both = flat_map (root_line tree) (each_once same_pair (filter_map (seen_pair v f (seen_named v tree) w g (seen_named w tree) tree) both))
+-- ---- ports
+abbrev pub ports_of : SettledNet → SettledNet → ℕ → List ℕ
+ports_of s t = port_changes s.net (outcome_of s) t.net (outcome_of t)
 
 -- ---- islands
+abbrev pub AreSidesOf : SettledNet → SettledNet → ℕ → List ℕ → Type 0
+AreSidesOf s t = AreSides s.net (outcome_of s) t.net (outcome_of t)
+
 abbrev pub seen_words : Viewed → List Island → List (List ℕ)
 seen_words v islands = map (λ i. comma_list (map (seen_bridge v) i.bridges)) (filter (λ i. has_any i.bridges) islands)
 

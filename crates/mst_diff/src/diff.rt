@@ -1,17 +1,16 @@
 ghost use Rattle.std.specs.Prelude.{◌≡◌, ◌==◌, ◌&&◌, ◌++◌, ℕ, List, IfOk, OnOk};
-ghost use Rattle.mst_net.specs.Tables.{Net, Numbers};
-ghost use Rattle.mst_plan_text.specs.trees.Agrees.{AreOf, Known};
-ghost use Rattle.mst_plan_text.specs.trees.Forest.{IsForest};
+ghost use Rattle.mst_plan_text.specs.trees.Settled.{outcome_of};
 ghost use Rattle.mst_diff.specs.DiffText.{IsDiff, diff_line, lines_in as lines_of_text};
 
 use crate::all_roots::push_roots;
 use crate::both::bridges_of_both;
+use crate::change::Change;
 use crate::ports::push_ports;
 use crate::reach::push_reach;
 use crate::regions::push_regions;
 use itoa::Buffer;
-use mst_changes::Planned;
 use mst_ids::{push_bytes, push_line};
+use mst_plan_text::{Settled, trees_in_use};
 use std::alloc::{AllocError, Global};
 
 /// How much differs: lines of regions, of roots and of ports, and VIDs.
@@ -61,39 +60,22 @@ fn push_counts(differing: &Differing, out: &mut Vec<u8>) -> Result<(), AllocErro
     push_line(&words, out)
 }
 
-/// Appends the text of what a change does, from one network to another: the bridges of both whose region is another one,
-/// the roots, the roles of logical ports and the islands of VIDs that are, and a last line of how much of each, which it
-/// answers, too. `AllocError`: memory was wanted and refused; part of the text may have been appended.
-///
-/// It goes over the bridges and the logical ports of both once in each tree, and makes islands once for VIDs that are
-/// alike in both.
-pub fn push_diff(
-    alloc: Global,
-    old: &Planned,
-    new: &Planned,
-    out: &mut Vec<u8>,
-) -> Result<Differing, AllocError>
-    requires old { Known old.now.view.now old.now.forest.now.regions }
-    requires new { Known new.now.view.now new.now.forest.now.regions }
-    ensures { IfOk result (λ differing. (a b : Net) (n k : Numbers) (is : IsForest a n old.now.forest.now) (are : IsForest b k new.now.forest.now) → AreOf a n old.now.view.now old.now.forest.now.regions → AreOf b k new.now.view.now new.now.forest.now.regions
-        → (text : List ℕ) × IsDiff a is.outcome b are.outcome differing text × (out.new.items ≡ out.old.items ++ text)) }
+/// Appends the text of what a change does, and answers how much of each.
+fn push_change(alloc: Global, change: &Change, out: &mut Vec<u8>) -> Result<Differing, AllocError>
+    ensures { IfOk result (λ differing. (text : List ℕ) × IsDiff change.now.old.now.net (outcome_of change.now.old.now) change.now.new.now.net (outcome_of change.now.new.now) differing text × (out.new.items ≡ out.old.items ++ text)) }
 {
-    let both = bridges_of_both(alloc, old.view, new.view)?;
     let mut regions = Vec::new(alloc);
-    push_regions(old, new, both.as_slice(), &mut regions)?;
+    push_regions(change, &mut regions)?;
     let mut roots = Vec::new(alloc);
-    push_roots(alloc, old, new, both.as_slice(), &mut roots)?;
+    push_roots(alloc, change, &mut roots)?;
     let mut ports = Vec::new(alloc);
-    push_ports(alloc, old, new, &mut ports)?;
+    push_ports(alloc, change, &mut ports)?;
     let mut reach = Vec::new(alloc);
-    let vlans = push_reach(alloc, old, new, &mut reach)?;
-    let region_lines = lines_in(regions.as_slice());
-    let root_lines = lines_in(roots.as_slice());
-    let port_lines = lines_in(ports.as_slice());
+    let vlans = push_reach(alloc, change.old, change.new, &mut reach)?;
     let differing = Differing {
-        regions: region_lines,
-        roots: root_lines,
-        ports: port_lines,
+        regions: lines_in(regions.as_slice()),
+        roots: lines_in(roots.as_slice()),
+        ports: lines_in(ports.as_slice()),
         vlans,
     };
     push_bytes(regions.as_slice(), out)?;
@@ -102,4 +84,31 @@ pub fn push_diff(
     push_bytes(reach.as_slice(), out)?;
     push_counts(&differing, out)?;
     Ok(differing)
+}
+
+/// Appends the text of what a change does, from one settled network to another: the bridges of both whose region is
+/// another one, the roots, the roles of logical ports and the islands of VIDs that are, and a last line of how much of
+/// each, which it answers, too. `AllocError`: memory was wanted and refused; part of the text may have been appended.
+///
+/// It goes over the bridges and the logical ports of both once in each tree, and makes islands once for VIDs that are
+/// alike in both.
+pub fn push_diff(
+    alloc: Global,
+    old: &Settled,
+    new: &Settled,
+    out: &mut Vec<u8>,
+) -> Result<Differing, AllocError>
+    ensures { IfOk result (λ differing. (text : List ℕ) × IsDiff old.now.net (outcome_of old.now) new.now.net (outcome_of new.now) differing text × (out.new.items ≡ out.old.items ++ text)) }
+{
+    let both = bridges_of_both(alloc, old.view(), new.view())?;
+    let used = trees_in_use(old.view());
+    let used_too = trees_in_use(new.view());
+    let change = Change {
+        old,
+        new,
+        both: both.as_slice(),
+        used: &used,
+        used_too: &used_too,
+    };
+    push_change(alloc, &change, out)
 }

@@ -3,6 +3,7 @@
 
 mod all_roots;
 mod both;
+mod change;
 mod diff;
 pub mod laws;
 mod ports;
@@ -20,4 +21,4 @@ pub use mst_plan_text::{
     push_configuration, push_lags, push_plan, push_regions, push_tree, push_vlan, role, set_of,
     tables, text_laws, trees_in_use, trees_laws, vids, vlan_laws, vlan_sets,
 };
-pub use roots::root;
+pub use roots::{root, root_of};

@@ -1,34 +1,29 @@
 ghost use Rattle.std.specs.Prelude.{◌≡◌, ◌++◌, ◌+◌, ◌<◌, ℕ, List, IfOk, OnOk, length, map, vec_len};
 ghost use Rattle.std.specs.List.{All, AllZip, AllByRecursion, Contains, flat_map, count_by};
 ghost use Rattle.mst_net.specs.ByTree.{table_in, vlans_in};
-ghost use Rattle.mst_net.specs.Tables.{Net, Numbers};
-ghost use Rattle.mst_plan_text.specs.trees.Agrees.{AreOf, Known};
-ghost use Rattle.mst_plan_text.specs.trees.Forest.{IsForest};
+ghost use Rattle.mst_plan_text.specs.trees.Settled.{outcome_of};
 ghost use Rattle.mst_plan_text.specs.Bodies.{NumberEach, body_at};
-ghost use Rattle.mst_diff.specs.Reach.{has_any, AreSides, whole_line, reach_line, group_text, IsReachText};
+ghost use Rattle.mst_diff.specs.Reach.{has_any, whole_line, reach_line, group_text, IsReachText};
+ghost use Rattle.mst_diff.specs.Seen.{AreSidesOf};
 
 use crate::sides::sides;
-use mst_changes::Planned;
 use mst_graph::{groups_by_body, number_keys};
 use mst_ids::{Vid, VidSet, push_bytes, push_end};
 use mst_lag::View;
 use mst_net::Table;
-use mst_plan_text::{copies, numbers_of_vids, set_of, tables, vids, vlan_sets};
+use mst_plan_text::{Settled, copies, numbers_of_vids, set_of, tables, vids, vlan_sets};
 use std::alloc::{AllocError, Global};
 
 /// The sides of the VIDs at these places, which are counted from 0.
 fn sides_at(
     alloc: Global,
-    old: &Planned,
-    new: &Planned,
+    old: &Settled,
+    new: &Settled,
     places: &[usize],
 ) -> Result<Vec<Vec<u8>>, AllocError>
-    requires old { Known old.now.view.now old.now.forest.now.regions }
-    requires new { Known new.now.view.now new.now.forest.now.regions }
-    requires vids { All (λ place. place < 4094) places.now }
+    requires { All (λ place. place < 4094) places.now }
     ensures as_long { IfOk result (λ sides. vec_len sides ≡ length places.now) }
-    ensures sides { IfOk result (λ sides. (a b : Net) (n k : Numbers) (is : IsForest a n old.now.forest.now) (are : IsForest b k new.now.forest.now) → AreOf a n old.now.view.now old.now.forest.now.regions → AreOf b k new.now.view.now new.now.forest.now.regions
-        → AllZip (λ place text. AreSides a is.outcome b are.outcome (place + 1) text) places.now (map (λ text. text.items) sides.items)) }
+    ensures sides { IfOk result (λ sides. AllZip (λ place text. AreSidesOf old.now new.now (place + 1) text) places.now (map (λ text. text.items) sides.items)) }
 {
     let mut texts = Vec::new(alloc);
     for place in places {
@@ -152,17 +147,18 @@ fn count(vids: &[Vid], numbers: &[usize], texts: &[Vec<u8>]) -> u64
 /// Islands are made once for VIDs that no table and no set of VLANs of either network tells apart.
 pub(crate) fn push_reach(
     alloc: Global,
-    old: &Planned,
-    new: &Planned,
+    old: &Settled,
+    new: &Settled,
     out: &mut Vec<u8>,
 ) -> Result<u64, AllocError>
-    requires old { Known old.now.view.now old.now.forest.now.regions }
-    requires new { Known new.now.view.now new.now.forest.now.regions }
-    ensures { IfOk result (λ vlans. (a b : Net) (n k : Numbers) (is : IsForest a n old.now.forest.now) (are : IsForest b k new.now.forest.now) → AreOf a n old.now.view.now old.now.forest.now.regions → AreOf b k new.now.view.now new.now.forest.now.regions
-        → (text : List ℕ) × IsReachText a is.outcome b are.outcome text vlans × (out.new.items ≡ out.old.items ++ text)) }
+    ensures { IfOk result (λ vlans. (text : List ℕ) × IsReachText old.now.net (outcome_of old.now) new.now.net (outcome_of new.now) text vlans × (out.new.items ≡ out.old.items ++ text)) }
 {
-    let tables = both_tables(alloc, old.view, new.view)?;
-    let sets = both_sets(alloc, old.view, new.view)?;
+    old.known();
+    new.known();
+    let before = old.view();
+    let after = new.view();
+    let tables = both_tables(alloc, before, after)?;
+    let sets = both_sets(alloc, before, after)?;
     let numbers = numbers_of_vids(alloc, tables.as_slice(), sets.as_slice())?;
     let classes = number_keys(alloc, numbers)?;
     let bodies = sides_at(alloc, old, new, classes.firsts.as_slice())?;

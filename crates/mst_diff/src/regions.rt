@@ -1,39 +1,40 @@
 ghost use Rattle.std.specs.Prelude.{◌≡◌, ◌++◌, OnOk};
-ghost use Rattle.std.specs.List.{flat_map};
+ghost use Rattle.std.specs.List.{AllByRecursion, Contains, flat_map};
 ghost use Rattle.mst_net.specs.Seen.{bridge_row};
-ghost use Rattle.mst_net.specs.Tables.{Net, Numbers};
-ghost use Rattle.mst_plan_text.specs.trees.Agrees.{AreOf};
+ghost use Rattle.mst_plan_text.specs.config.Regions.{first_of_region};
 ghost use Rattle.mst_ids.specs.Words.{after_space};
 ghost use Rattle.mst_diff.specs.Regions.{same_told, region_words, region_line, region_changes};
-ghost use Rattle.mst_diff.specs.Seen.{seen_both, seen_found, seen_first, seen_region};
+ghost use Rattle.mst_diff.specs.Seen.{IsBoth, seen_found, region_of};
 
 use crate::both::Both;
+use crate::change::Change;
 use itoa::Buffer;
-use mst_changes::Planned;
 use mst_ids::{Name, push_bytes, push_end, push_word};
-use mst_lag::BridgeInView;
+use mst_lag::{BridgeInView, View};
 use mst_lang::Kind;
 use mst_net::Bridge;
+use mst_plan_text::{Forest, Settled};
 use std::alloc::AllocError;
 
 /// The first of the bridges, in byte order of names, that are in a bridge's region.
-fn found_first(plan: &Planned, bridge: &BridgeInView) -> Option<Name>
-    ensures { result ≡ seen_found plan.now.view.now plan.now.forest.now.regions bridge.now }
+fn found_first(view: &View, forest: &Forest, bridge: &BridgeInView) -> Option<Name>
+    ensures { result ≡ seen_found view.now forest.now.regions bridge.now }
 {
     let number = bridge.bridge.number;
-    let found = plan
-        .view
+    let found = view
         .bridges()
         .iter()
-        .find(|other| plan.forest.same(number, other.bridge.number))?;
+        .find(|other| forest.same(number, other.bridge.number))?;
     Some(found.name)
 }
 
 /// The first bridge of a bridge's region.
-fn first_of(plan: &Planned, bridge: &BridgeInView) -> Name
-    ensures { result ≡ seen_first plan.now.view.now plan.now.forest.now.regions bridge.now }
+fn first_of(plan: &Settled, bridge: &BridgeInView) -> Name
+    requires { Contains plan.now.view.bridges bridge.now }
+    ensures { result ≡ first_of_region plan.now.net bridge.now.name }
 {
-    found_first(plan, bridge).unwrap_or(bridge.name)
+    plan.known();
+    found_first(plan.view(), plan.forest(), bridge).unwrap_or(bridge.name)
 }
 
 /// Whether two bridges are of one kind, and their configurations of one name and one revision where they are of kind
@@ -82,12 +83,13 @@ fn push_line(bridge: &Both, first: &Name, other: &Name, out: &mut Vec<u8>) -> Re
 
 /// Appends the line of a bridge, if its region is another one.
 fn push_region(
-    old: &Planned,
-    new: &Planned,
+    old: &Settled,
+    new: &Settled,
     bridge: &Both,
     out: &mut Vec<u8>,
 ) -> Result<(), AllocError>
-    ensures { OnOk result (out.new.items ≡ out.old.items ++ seen_region old.now.view.now old.now.forest.now new.now.view.now new.now.forest.now bridge.now) }
+    requires { IsBoth old.now.view new.now.view bridge.now }
+    ensures { OnOk result (out.new.items ≡ out.old.items ++ region_of old.now.net new.now.net bridge.now) }
 {
     let first = first_of(old, &bridge.old);
     let other = first_of(new, &bridge.new);
@@ -99,12 +101,13 @@ fn push_region(
 
 /// Appends the lines of those of these bridges whose region is another one.
 fn push_each(
-    old: &Planned,
-    new: &Planned,
+    old: &Settled,
+    new: &Settled,
     both: &[Both],
     out: &mut Vec<u8>,
 ) -> Result<(), AllocError>
-    ensures { OnOk result (out.new.items ≡ out.old.items ++ flat_map (seen_region old.now.view.now old.now.forest.now new.now.view.now new.now.forest.now) both.now) }
+    requires { AllByRecursion (IsBoth old.now.view new.now.view) both.now }
+    ensures { OnOk result (out.new.items ≡ out.old.items ++ flat_map (region_of old.now.net new.now.net) both.now) }
 {
     for bridge in both {
         push_region(old, new, bridge, out)?;
@@ -114,15 +117,10 @@ fn push_each(
 
 /// Appends the lines of the bridges of both networks whose region is another one, by name. `AllocError`: memory was
 /// wanted and refused; part of them may have been appended.
-pub(crate) fn push_regions(
-    old: &Planned,
-    new: &Planned,
-    both: &[Both],
-    out: &mut Vec<u8>,
-) -> Result<(), AllocError>
-    requires { both.now ≡ seen_both old.now.view.now new.now.view.now }
-    ensures { (a b : Net) (n k : Numbers) → AreOf a n old.now.view.now old.now.forest.now.regions → AreOf b k new.now.view.now new.now.forest.now.regions
-        → OnOk result (out.new.items ≡ out.old.items ++ region_changes a b) }
+pub(crate) fn push_regions(change: &Change, out: &mut Vec<u8>) -> Result<(), AllocError>
+    ensures { OnOk result (out.new.items ≡ out.old.items ++ region_changes change.now.old.now.net change.now.new.now.net) }
 {
-    push_each(old, new, both, out)
+    change.old.known();
+    change.new.known();
+    push_each(change.old, change.new, change.both, out)
 }

@@ -1,14 +1,16 @@
 ghost use Rattle.std.specs.Prelude.{◌≡◌, ◌++◌, IfOk, OnOk, filter_map};
-ghost use Rattle.std.specs.List.{flat_map, list_any};
-ghost use Rattle.mst_diff.specs.Roots.{paired, same_pair, with_new, each_once, root_line};
-ghost use Rattle.mst_diff.specs.Seen.{seen_root, seen_named, name_by, seen_root_name, seen_pair, with_pair, seen_roots};
+ghost use Rattle.std.specs.List.{AllByRecursion, Contains, flat_map, list_any};
+ghost use Rattle.mst_plan_text.specs.trees.Settled.{outcome_of};
+ghost use Rattle.mst_diff.specs.Roots.{root_of as root_in, root_name as root_name_in, same_pair, with_new, each_once, root_line};
+ghost use Rattle.mst_diff.specs.Seen.{IsBoth, seen_root, seen_named, name_by, pair_of, with_pair, roots_of};
 
 use crate::both::Both;
+use crate::change::Change;
 use itoa::Buffer;
 use mst_changes::Planned;
 use mst_ids::{BridgeId, BridgeNo, Name, Tree, push_line};
-use mst_lag::View;
-use mst_plan_text::bridge_id;
+use mst_lag::{BridgeInView, View};
+use mst_plan_text::{Settled, bridge_id};
 use std::alloc::{AllocError, Global};
 
 /// A bridge's identifier in a tree, and its name.
@@ -25,11 +27,16 @@ pub(crate) struct RootPair {
     pub(crate) new: Name,
 }
 
-/// A network's plan, and its bridges with their identifiers in a tree.
+/// Two settled networks, a tree, and the bridges of each with their identifiers in it.
 #[derive(Clone, Copy)]
-struct Side<'a> {
-    plan: Planned<'a>,
-    named: &'a [Identified],
+struct InTree<'a> {
+    old: &'a Settled<'a>,
+    new: &'a Settled<'a>,
+    tree: Tree,
+    olds: &'a [Identified],
+    news: &'a [Identified],
+    ghost are_olds: { olds.now ≡ seen_named old.now.view tree },
+    ghost are_news: { news.now ≡ seen_named new.now.view tree },
 }
 
 /// The bridges of a view with their identifiers in a tree.
@@ -67,20 +74,45 @@ pub fn root(plan: &Planned, tree: Tree, bridge: BridgeNo) -> Option<BridgeId>
     }
 }
 
-/// The name of a bridge's root.
-fn root_name(side: &Side, tree: Tree, bridge: BridgeNo) -> Option<Name>
-    ensures { result ≡ seen_root_name side.now.plan.view.now side.now.plan.forest.now side.now.named.now tree bridge }
+/// The identifier of the root of a bridge of the view in the CIST, or of its regional root in an MSTI.
+pub fn root_of(plan: &Settled, tree: Tree, bridge: &BridgeInView) -> Option<BridgeId>
+    requires { Contains plan.now.view.bridges bridge.now }
+    ensures { result ≡ root_in plan.now.net (outcome_of plan.now) tree bridge.now.name }
 {
-    let id = root(&side.plan, tree, bridge)?;
-    name_of(side.named, id)
+    plan.known();
+    if tree.value() == 0 {
+        return plan.cist(bridge).map(|vector| vector.root);
+    }
+    if plan.has_tree(tree, bridge) {
+        plan.msti(tree, bridge).map(|vector| vector.regional)
+    } else {
+        None
+    }
+}
+
+/// The name of the root of a bridge, where these are the bridges with their identifiers in the tree.
+fn root_name(
+    plan: &Settled,
+    named: &[Identified],
+    tree: Tree,
+    bridge: &BridgeInView,
+) -> Option<Name>
+    requires named { named.now ≡ seen_named plan.now.view tree }
+    requires bridge { Contains plan.now.view.bridges bridge.now }
+    ensures { result ≡ root_name_in plan.now.net (outcome_of plan.now) tree bridge.now.name }
+{
+    plan.known();
+    let id = root_of(plan, tree, bridge)?;
+    name_of(named, id)
 }
 
 /// The names of a bridge's root before and after, where it has both.
-fn pair(old: &Side, new: &Side, tree: Tree, bridge: &Both) -> Option<RootPair>
-    ensures { result ≡ seen_pair old.now.plan.view.now old.now.plan.forest.now old.now.named.now new.now.plan.view.now new.now.plan.forest.now new.now.named.now tree bridge.now }
+fn pair(shared: &InTree, bridge: &Both) -> Option<RootPair>
+    requires { IsBoth shared.now.old.now.view shared.now.new.now.view bridge.now }
+    ensures { result ≡ pair_of shared.now.old.now shared.now.new.now shared.now.tree bridge.now }
 {
-    let before = root_name(old, tree, bridge.old.bridge.number)?;
-    let after = root_name(new, tree, bridge.new.bridge.number)?;
+    let before = root_name(shared.old, shared.olds, shared.tree, &bridge.old)?;
+    let after = root_name(shared.new, shared.news, shared.tree, &bridge.new)?;
     Some(RootPair {
         old: before,
         new: after,
@@ -108,34 +140,24 @@ fn add(pair: &RootPair, pairs: &mut Vec<RootPair>) -> Result<(), AllocError>
 }
 
 /// Puts the pair of a bridge, if it has one, behind these, unless it is among them.
-fn add_pair(
-    old: &Side,
-    new: &Side,
-    tree: Tree,
-    bridge: &Both,
-    pairs: &mut Vec<RootPair>,
-) -> Result<(), AllocError>
-    ensures { OnOk result (pairs.new.items ≡ with_pair pairs.old.items (seen_pair old.now.plan.view.now old.now.plan.forest.now old.now.named.now new.now.plan.view.now new.now.plan.forest.now new.now.named.now tree bridge.now)) }
+fn add_pair(shared: &InTree, bridge: &Both, pairs: &mut Vec<RootPair>) -> Result<(), AllocError>
+    requires { IsBoth shared.now.old.now.view shared.now.new.now.view bridge.now }
+    ensures { OnOk result (pairs.new.items ≡ with_pair pairs.old.items (pair_of shared.now.old.now shared.now.new.now shared.now.tree bridge.now)) }
 {
-    match pair(old, new, tree, bridge) {
+    match pair(shared, bridge) {
         None => Ok(()),
         Some(pair) => add(&pair, pairs),
     }
 }
 
 /// The pairs that these bridges have, each once, in the order in which they come first.
-fn pairs(
-    alloc: Global,
-    old: &Side,
-    new: &Side,
-    tree: Tree,
-    both: &[Both],
-) -> Result<Vec<RootPair>, AllocError>
-    ensures { IfOk result (λ pairs. pairs.items ≡ each_once same_pair (filter_map (seen_pair old.now.plan.view.now old.now.plan.forest.now old.now.named.now new.now.plan.view.now new.now.plan.forest.now new.now.named.now tree) both.now)) }
+fn pairs(alloc: Global, shared: &InTree, both: &[Both]) -> Result<Vec<RootPair>, AllocError>
+    requires { AllByRecursion (IsBoth shared.now.old.now.view shared.now.new.now.view) both.now }
+    ensures { IfOk result (λ pairs. pairs.items ≡ each_once same_pair (filter_map (pair_of shared.now.old.now shared.now.new.now shared.now.tree) both.now)) }
 {
     let mut pairs = Vec::new(alloc);
     for bridge in both {
-        add_pair(old, new, tree, bridge, &mut pairs)?;
+        add_pair(shared, bridge, &mut pairs)?;
     }
     Ok(pairs)
 }
@@ -168,28 +190,27 @@ fn push_pairs(tree: Tree, pairs: &[RootPair], out: &mut Vec<u8>) -> Result<(), A
     Ok(())
 }
 
-/// Appends the lines of a tree: each pair of roots, in an MSTI of regional roots, that differ and that some of these
-/// bridges has before and after, once.
+/// Appends the lines of a tree: each pair of roots, in an MSTI of regional roots, that differ and that some of the
+/// bridges of both has before and after, once.
 pub(crate) fn push_tree(
     alloc: Global,
-    old: &Planned,
-    new: &Planned,
+    change: &Change,
     tree: Tree,
-    both: &[Both],
     out: &mut Vec<u8>,
 ) -> Result<(), AllocError>
-    ensures { OnOk result (out.new.items ≡ out.old.items ++ seen_roots old.now.view.now old.now.forest.now new.now.view.now new.now.forest.now tree both.now) }
+    ensures { OnOk result (out.new.items ≡ out.old.items ++ roots_of change.now.old.now change.now.new.now tree) }
 {
-    let olds = named(alloc, old.view, tree)?;
-    let news = named(alloc, new.view, tree)?;
-    let before = Side {
-        plan: *old,
-        named: olds.as_slice(),
+    change.old.known();
+    change.new.known();
+    let olds = named(alloc, change.old.view(), tree)?;
+    let news = named(alloc, change.new.view(), tree)?;
+    let shared = InTree {
+        old: change.old,
+        new: change.new,
+        tree,
+        olds: olds.as_slice(),
+        news: news.as_slice(),
     };
-    let after = Side {
-        plan: *new,
-        named: news.as_slice(),
-    };
-    let pairs = pairs(alloc, &before, &after, tree, both)?;
+    let pairs = pairs(alloc, &shared, change.both)?;
     push_pairs(tree, pairs.as_slice(), out)
 }

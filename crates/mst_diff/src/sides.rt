@@ -3,18 +3,16 @@ ghost use Rattle.std.specs.List.{flat_map, list_any};
 ghost use Rattle.mst_ids.specs.Words.{comma_list};
 ghost use Rattle.mst_lag.specs.Aggregation.{same_name};
 ghost use Rattle.mst_graph.specs.Islands.{Island as NamedIsland};
-ghost use Rattle.mst_net.specs.Tables.{Net, Numbers};
-ghost use Rattle.mst_plan_text.specs.trees.Agrees.{AreOf, Known};
-ghost use Rattle.mst_plan_text.specs.trees.Forest.{IsForest};
+ghost use Rattle.mst_plan_text.specs.trees.Settled.{outcome_of};
 ghost use Rattle.mst_plan_text.specs.vlan.Reach.{AreIslandsOf};
 ghost use Rattle.mst_plan_text.specs.text.VlanSeen.{seen_bridge};
-ghost use Rattle.mst_diff.specs.Reach.{has_any, island_words, AreSides};
-ghost use Rattle.mst_diff.specs.Seen.{seen_words, one_word, apart_word, joined_sides, side_text};
+ghost use Rattle.mst_diff.specs.Reach.{has_any, island_words};
+ghost use Rattle.mst_diff.specs.Seen.{seen_words, one_word, apart_word, joined_sides, side_text, AreSidesOf};
 
-use mst_changes::Planned;
 use mst_ids::{Vid, push_bytes, push_comma_list, push_word};
 use mst_lag::View;
-use mst_plan_text::{Island, bridge_names, reach};
+use mst_plan_text::{Island, Settled, bridge_names};
+use mst_vlan::{active_ports, reach_from};
 use std::alloc::{AllocError, Global};
 
 /// The word of an island: the names of its bridges.
@@ -66,13 +64,13 @@ fn words(alloc: Global, view: &View, islands: &[Island]) -> Result<Vec<Vec<u8>>,
 }
 
 /// The words of the islands of a VID that have a bridge, by their first bridges.
-fn words_of(alloc: Global, plan: &Planned, vid: Vid) -> Result<Vec<Vec<u8>>, AllocError>
-    requires { Known plan.now.view.now plan.now.forest.now.regions }
-    ensures { IfOk result (λ words. (net : Net) (numbers : Numbers) (is : IsForest net numbers plan.now.forest.now) → AreOf net numbers plan.now.view.now plan.now.forest.now.regions
-        → (islands : List (NamedIsland (List ℕ) (List ℕ))) × AreIslandsOf net is.outcome vid islands × (map (λ word. word.items) words.items ≡ island_words islands)) }
+fn words_of(alloc: Global, plan: &Settled, vid: Vid) -> Result<Vec<Vec<u8>>, AllocError>
+    ensures { IfOk result (λ words. (islands : List (NamedIsland (List ℕ) (List ℕ))) × AreIslandsOf plan.now.net (outcome_of plan.now) vid islands × (map (λ word. word.items) words.items ≡ island_words islands)) }
 {
-    let islands = reach(alloc, plan.view, plan.forest, vid)?;
-    words(alloc, plan.view, islands.as_slice())
+    plan.known();
+    let ports = active_ports(alloc, plan, vid)?;
+    let islands = reach_from(alloc, plan, ports.as_slice(), vid)?;
+    words(alloc, plan.view(), islands.as_slice())
 }
 
 /// Whether one of these is a word.
@@ -138,14 +136,11 @@ fn push_sides(gone: &[u8], come: &[u8], out: &mut Vec<u8>) -> Result<(), AllocEr
 /// are at most 1,024.
 pub(crate) fn sides(
     alloc: Global,
-    old: &Planned,
-    new: &Planned,
+    old: &Settled,
+    new: &Settled,
     vid: Vid,
 ) -> Result<Vec<u8>, AllocError>
-    requires old { Known old.now.view.now old.now.forest.now.regions }
-    requires new { Known new.now.view.now new.now.forest.now.regions }
-    ensures { IfOk result (λ text. (a b : Net) (n k : Numbers) (is : IsForest a n old.now.forest.now) (are : IsForest b k new.now.forest.now) → AreOf a n old.now.view.now old.now.forest.now.regions → AreOf b k new.now.view.now new.now.forest.now.regions
-        → AreSides a is.outcome b are.outcome vid text.items) }
+    ensures { IfOk result (λ text. AreSidesOf old.now new.now vid text.items) }
 {
     let olds = words_of(alloc, old, vid)?;
     let news = words_of(alloc, new, vid)?;

@@ -1,7 +1,9 @@
-use Rattle.std.proofs.Common.{map, ap, ◌++◌, ◌∙◌}
+use Rattle.std.proofs.Common.{map, ◌++◌, ◌∙◌}
 use Rattle.std.specs.List.{filter_map}
 use Rattle.std.proofs.lemmas.Result.{on_ok_weaker}
 use Rattle.mst_ids.specs.Names.{port_cmp}
+use Rattle.mst_roles.specs.trees.Settled.{outcome_of}
+use Rattle.mst_roles.proofs.trees_lemmas.SettledNet.{forest_of}
 use Rattle.mst_changes.specs.Subjects.{port_in, port_names, names_of_either}
 use Rattle.mst_changes.specs.Seen.{seen_port_entry}
 use Rattle.mst_changes.specs.Values.{value_at}
@@ -10,14 +12,16 @@ use Rattle.mst_changes.proofs.Gathered.{ports_same}
 use Rattle.mst_changes.proofs.ports.push_port_changes.Goals as goal
 
 pub returns : goal.returns
-returns c = λ a b n k is are of so.
+returns c =
     let tree = c.args.tree in
-    let subjects = map (port_in tree) (names_of_either port_cmp (port_names a) (port_names b)) in
-    let old = c.args.old in
-    let new = c.args.new in
-    let olds = filter_map (seen_port_entry old.view.now old.forest.now tree) old.view.now.ports in
-    let news = filter_map (seen_port_entry new.view.now new.forest.now tree) new.view.now.ports in
+    let s = c.args.old.now in
+    let t = c.args.new.now in
+    let is = c.known.ensures in
+    let are = c.known-2.ensures in
+    let subjects = map (port_in tree) (names_of_either port_cmp (port_names s.net) (port_names t.net)) in
     on_ok_weaker c.push_merged.result (λ merged.
-    merged subjects (value_at a is.outcome) (value_at b are.outcome) (either_ports_rise a b tree)
-    (c.as_slice.ensures.value ∙ c.in_ok-push_ports.ensures {u = tt} ∙ ap (λ l. l ++ olds) c.new-olds.ensures.items ∙ ports_same a n old.view.now old.forest.now of is tree ∙ ports_left a is.outcome b tree)
-    (c.as_slice-2.ensures.value ∙ c.in_ok-push_ports-2.ensures {u = tt} ∙ ap (λ l. l ++ news) c.new-news.ensures.items ∙ ports_same b k new.view.now new.forest.now so are tree ∙ ports_right b are.outcome a tree)) c.push_merged.ensures
+    merged subjects (value_at s.net (outcome_of s)) (value_at t.net (outcome_of t)) (either_ports_rise s.net t.net tree)
+    (c.as_slice.ensures.value ∙ c.in_ok-push_ports.ensures {u = tt} ∙ (λ i. c.new-olds.ensures.items i ++ filter_map (seen_port_entry (c.view.ensures i) (c.forest.ensures i) tree) (c.view.ensures i).ports)
+    ∙ ports_same s.net s.numbers s.view s.forest is.of (forest_of s is) tree ∙ ports_left s.net (outcome_of s) t.net tree)
+    (c.as_slice-2.ensures.value ∙ c.in_ok-push_ports-2.ensures {u = tt} ∙ (λ i. c.new-news.ensures.items i ++ filter_map (seen_port_entry (c.view-2.ensures i) (c.forest-2.ensures i) tree) (c.view-2.ensures i).ports)
+    ∙ ports_same t.net t.numbers t.view t.forest are.of (forest_of t are) tree ∙ ports_right t.net (outcome_of t) s.net tree)) c.push_merged.ensures

@@ -1,12 +1,8 @@
 use Rattle.std.proofs.Common.{◌≡◌, ◌++◌}
 use Rattle.std.specs.List.{flat_map, range_with_len}
-use Rattle.mst_net.specs.Tables.{Net, Numbers}
-use Rattle.mst_plan_text.specs.trees.Agrees.{AreOf}
-use Rattle.mst_plan_text.specs.trees.Forest.{IsForest}
-use Rattle.mst_diff.specs.Roots.{tree_roots}
+use Rattle.mst_diff.specs.Seen.{roots_of}
 use Rattle.mst_diff.proofs.all_roots.push_roots.Given as goal
 
 -- the lines of the trees so far
 abbrev pub invariant-loop-number : goal.invariant-loop-number
-invariant-loop-number l = (a b : Net) (n k : Numbers) (is : IsForest a n l.fn.old.forest.now) (are : IsForest b k l.fn.new.forest.now) → AreOf a n l.fn.old.view.now l.fn.old.forest.now.regions → AreOf b k l.fn.new.view.now l.fn.new.forest.now.regions
-    → l.out.items ≡ l.fn.out.items ++ flat_map (tree_roots a is.outcome b are.outcome) (range_with_len 0 l.number)
+invariant-loop-number l = l.out.items ≡ l.fn.out.items ++ flat_map (roots_of l.change.old.now l.change.new.now) (range_with_len 0 l.number)

@@ -7,7 +7,8 @@ use Rattle.mst_plan_text.specs.PlanText.{all_vids}
 use Rattle.mst_plan_text.proofs.Bodied.{AtPlaces}
 use Rattle.mst_plan_text.proofs.Grouped.{vids_long, groups_given}
 use Rattle.mst_plan_text.proofs.Classes.{numbers_below, each_below, have_bodies}
-use Rattle.mst_diff.specs.Reach.{has_any, AreSides, group_text}
+use Rattle.mst_diff.specs.Reach.{has_any, group_text}
+use Rattle.mst_diff.specs.Seen.{AreSidesOf}
 use Rattle.mst_diff.proofs.Reached.{AreTold, sides_moved}
 use Rattle.mst_diff.proofs.reach.push_reach.Goals as goal
 
@@ -40,14 +41,14 @@ count-requires c =
     (numbers_below c.in_ok-numbers.numbers.items c.in_ok-classes.classes.numbers.items c.in_ok-classes.classes.firsts.items (length c.as_slice-12.result.now) c.in_ok-numbers.ensures.as_long c.in_ok-classes.ensures long)
 
 pub returns : goal.returns
-returns c a b n k is are of so =
+returns c =
+    let s = c.args.old.now in
+    let t = c.args.new.now in
     let classes : List ℕ = c.in_ok-classes.classes.numbers.items in
     let firsts : List ℕ = c.in_ok-classes.classes.firsts.items in
     let told : List ℕ = c.in_ok-numbers.numbers.items in
     let tables : List (List ℕ) = c.in_ok-tables.tables.items in
     let sets : List (List Bool) = c.in_ok-sets.sets.items in
-    let v = c.args.old.now.view.now in
-    let w = c.args.new.now.view.now in
     let tell : TellApart tables sets told = subst (λ ts. TellApart ts sets told) c.as_slice.ensures.value (subst (λ ss. TellApart c.as_slice.result.now ss told) c.as_slice-2.ensures.value c.in_ok-numbers.ensures) in
     let bodies : List (Vec ℕ Global) = c.in_ok-bodies.bodies.items in
     let groups : List (List ℕ) = map (λ group. group.items) c.in_ok-groups.groups.items in
@@ -57,15 +58,15 @@ returns c a b n k is are of so =
     let counted : map items c.as_slice-12.result.now ≡ texts = ap (map items) c.as_slice-12.ensures.value ∙ copied in
     let long : length bodies ≡ length firsts = ap length (sym c.as_slice-4.ensures.value) ∙ c.as_slice-4.ensures.len ∙ c.in_ok-bodies.ensures.as_long ∙ ap length c.as_slice-3.ensures.value in
     let each : NumberEach classes (length bodies) = numbers_below told classes firsts (length bodies) c.in_ok-numbers.ensures.as_long c.in_ok-classes.ensures long in
-    let R : ℕ → List ℕ → Type 0 = AreSides a is.outcome b are.outcome in
-    let at : AtPlaces R firsts texts = subst (λ places. AtPlaces R places texts) c.as_slice-3.ensures.value (c.in_ok-bodies.ensures.sides a b n k is are of so) in
-    let first : AreTold v tables sets = record { tables = c.in_ok-tables.ensures.old; sets = c.in_ok-sets.ensures.old } in
-    let second : AreTold w tables sets = record { tables = c.in_ok-tables.ensures.new; sets = c.in_ok-sets.ensures.new } in
+    let R : ℕ → List ℕ → Type 0 = AreSidesOf s t in
+    let at : AtPlaces R firsts texts = subst (λ places. AtPlaces R places texts) c.as_slice-3.ensures.value c.in_ok-bodies.ensures.sides in
+    let first : AreTold s.view tables sets = subst (λ v. AreTold v tables sets) c.view-before.ensures (record { tables = c.in_ok-tables.ensures.old; sets = c.in_ok-sets.ensures.old }) in
+    let second : AreTold t.view tables sets = subst (λ v. AreTold v tables sets) c.view-after.ensures (record { tables = c.in_ok-tables.ensures.new; sets = c.in_ok-sets.ensures.new }) in
     let all : c.as_slice-10.result.now ≡ all_vids = c.as_slice-10.ensures.value ∙ c.in_ok-vids.ensures in (
       flat_map (group_text (body_at classes texts)) groups,
       record {
         sides = body_at classes texts;
-        are_sides = have_bodies R tables sets (sides_moved a b n k v w c.args.old.now.forest.now c.args.new.now.forest.now of so is.outcome are.outcome tables sets first second) told classes firsts tell c.in_ok-classes.ensures texts at;
+        are_sides = have_bodies R tables sets (sides_moved s t c.known.ensures c.known-2.ensures tables sets first second) told classes firsts tell c.in_ok-classes.ensures texts at;
         groups = groups;
         are_groups = groups_given items classes bodies each c.as_slice-6.result.now c.as_slice-5.result.now c.as_slice-6.ensures.value (c.as_slice-5.ensures.value ∙ c.in_ok-vids.ensures) groups c.in_ok-groups.ensures;
         is = refl;

@@ -2,13 +2,14 @@ use Rattle.std.proofs.Common.{Vec, Global, ◌≡◌, refl, take, ◌+◌, ℕ, 
 use Rattle.std.proofs.lemmas.Grind.{common_steps}
 use Rattle.std.proofs.lemmas.List.{map-append}
 use Rattle.mst_plan_text.proofs.Bodied.{AtPlaces, bodies_more, bodies_all}
-use Rattle.mst_diff.specs.Reach.{AreSides}
+use Rattle.mst_diff.specs.Seen.{AreSidesOf}
 use Rattle.mst_diff.proofs.reach.sides_at.Goals as goal
 
 pub loop-place-preserved : goal.loop-place-preserved
 loop-place-preserved c = record {
   as_long = grind (arith, common_steps);
-  sides = λ a b n k is are of so.
+  sides =
+      let R = AreSidesOf c.args.old.now c.args.new.now in
       let items : Vec ℕ Global → List ℕ = λ text. text.items in
       let i : ℕ = c.loop-place.place-index in
       let places = c.args.places.now in
@@ -16,11 +17,10 @@ loop-place-preserved c = record {
       let vid : c.unwrap-vid.result ≡ place + 1 = first_of (grind (arith, common_steps), search (rules, common_steps)) in
       let pushed : map items c.push.new.self.items ≡ map items c.loop-place.texts.items ++ c.in_ok-sides.field-0.items ∷ [] =
       ap (map items) c.in_ok-push.ensures.items ∙ map-append items c.loop-place.texts.items (c.in_ok-sides.field-0 ∷ []) in
-      subst (AtPlaces (AreSides a is.outcome b are.outcome) (take (i + 1) places)) (sym pushed)
-      (bodies_more (AreSides a is.outcome b are.outcome) places i place c.unwrap-vid.result c.loop-place-test.true refl vid (map items c.loop-place.texts.items) c.in_ok-sides.field-0.items
-      (c.loop-place.invariant.sides a b n k is are of so) (c.in_ok-sides.ensures a b n k is are of so));
+      subst (AtPlaces R (take (i + 1) places)) (sym pushed)
+      (bodies_more R places i place c.unwrap-vid.result c.loop-place-test.true refl vid (map items c.loop-place.texts.items) c.in_ok-sides.field-0.items c.loop-place.invariant.sides c.in_ok-sides.ensures);
 }
 
 pub returns-clause-sides : goal.returns-clause-sides
-returns-clause-sides c a b n k is are of so =
-    bodies_all (AreSides a is.outcome b are.outcome) c.args.places.now c.loop-place.place-index c.loop-place-test.false (map (λ text. text.items) c.loop-place.texts.items) (c.loop-place.invariant.sides a b n k is are of so)
+returns-clause-sides c =
+    bodies_all (AreSidesOf c.args.old.now c.args.new.now) c.args.places.now c.loop-place.place-index c.loop-place-test.false (map (λ text. text.items) c.loop-place.texts.items) c.loop-place.invariant.sides

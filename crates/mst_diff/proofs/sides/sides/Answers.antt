@@ -10,9 +10,9 @@ abbrev items : Vec ℕ Global → List ℕ
 items word = word.items
 
 pub returns : goal.returns
-returns c a b n k is are of so =
-    let olds = c.in_ok-olds.ensures a n is of in
-    let news = c.in_ok-news.ensures b k are so in
+returns c =
+    let olds = c.in_ok-olds.ensures in
+    let news = c.in_ok-news.ensures in
     let before : List (List ℕ) = island_words olds.0 in
     let after : List (List ℕ) = island_words news.0 in
     let old : map items c.as_slice.result.now ≡ before = ap (map items) c.as_slice.ensures.value ∙ olds.2 in
