@@ -8,9 +8,8 @@ ghost use Rattle.mst_diff.specs.trees.Settled.{outcome_of};
 ghost use Rattle.mst_summary.specs.Roots.{follower as follower_of, followers as followers_in, followers_of as those_of, with_lesser, least as least_of, next_of, next_words, whole_line, group_line};
 ghost use Rattle.mst_summary.specs.Seen.{root_line_of};
 
-use crate::looked_up::root;
 use itoa::Buffer;
-use mst_diff::{Settled, bridge_id};
+use mst_diff::{Settled, bridge_id, root_of};
 use mst_ids::{BridgeId, Name, Tree, push_bytes, push_end, push_word, push_words};
 use mst_lag::BridgeInView;
 use std::alloc::{AllocError, Global};
@@ -28,7 +27,7 @@ fn as_follower(plan: &Settled, tree: Tree, bridge: &BridgeInView) -> Option<Foll
     requires { Contains plan.now.view.bridges bridge.now }
     ensures { result ≡ follower_of plan.now.net (outcome_of plan.now) tree (named_bridge bridge.now) }
 {
-    let root = root(plan, tree, bridge)?;
+    let root = root_of(plan, tree, bridge)?;
     Some(Follower {
         name: bridge.name,
         id: bridge_id(plan.settings(), tree, bridge),
