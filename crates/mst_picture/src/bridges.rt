@@ -10,7 +10,7 @@ use crate::pieces::push_pieces;
 use mst_ids::{Tree, push_bytes};
 use mst_lag::BridgeInView;
 use mst_lang::Power;
-use mst_summary::{Settled, bridge_id, root};
+use mst_summary::{Settled, bridge_id, root_of};
 use std::alloc::AllocError;
 
 /// Whether a bridge is on.
@@ -25,7 +25,7 @@ fn is_root(plan: &Settled, tree: Tree, bridge: &BridgeInView) -> bool
     requires { Contains plan.now.view.bridges bridge.now }
     ensures { result ≡ is_root_in plan.now.net (outcome_of plan.now) tree (named_bridge bridge.now) }
 {
-    match root(plan, tree, bridge) {
+    match root_of(plan, tree, bridge) {
         None => false,
         Some(root) => root == bridge_id(plan.settings(), tree, bridge),
     }

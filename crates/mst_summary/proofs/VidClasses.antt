@@ -69,29 +69,23 @@ module _ {A : Type 0} (R : ℕ → A → Type 0) where
       (things : List A) (at : AtPlaces c.firsts.items things) where
     open k use {numbers as told, tell, classes as are}
 
-    abbrev classes : List ℕ
-    classes = c.numbers.items
-
-    abbrev firsts : List ℕ
-    firsts = c.firsts.items
-
-    thing_there : (i : ℕ) → i < 4094 → R (i + 1) (get_or things (get_or classes i 0) d)
+    thing_there : (i : ℕ) → i < 4094 → R (i + 1) (get_or things (get_or c.numbers.items i 0) d)
     thing_there i l =
-        let n : ℕ = get_or classes i 0 in
+        let n : ℕ = get_or c.numbers.items i 0 in
         let l_told : i < length told = subst (λ k. i < k) (sym tell.as_long) l in
-        let below : n < length firsts = are.below i l_told in
+        let below : n < length c.firsts.items = are.below i l_told in
         let first = are.first n below in
-        let k : ℕ = get_or firsts n 0 in
+        let k : ℕ = get_or c.firsts.items n 0 in
         let k_below : k < 4094 = subst (λ m. k < m) tell.as_long first.0 in
         let same : get_or told k 0 ≡ get_or told i 0 = eqb-true (get_or told k 0) (get_or told i 0) ((are.equal k i 0 first.0 l_told).0 first.1) in
-        moved (k + 1) (i + 1) (tell.alike k i k_below l same) (get_or things n d) (zip_at (λ place a. R (place + 1) a) firsts things n 0 d at below)
+        moved (k + 1) (i + 1) (tell.alike k i k_below l same) (get_or things n d) (zip_at (λ place a. R (place + 1) a) c.firsts.items things n 0 d at below)
 
-    pub things_have : (vid : ℕ) → is_vid vid ≡ true → R vid (get_or things (get_or classes (vid - 1) 0) d)
+    pub things_have : (vid : ℕ) → is_vid vid ≡ true → R vid (get_or things (get_or c.numbers.items (vid - 1) 0) d)
     things_have vid e =
         let p = place_of_vid vid e in
         let is : p.place + 1 ≡ vid = p.is in
         let place : p.place ≡ vid - 1 = omega arith in
-        subst (λ i. R vid (get_or things (get_or classes i 0) d)) place (subst (λ vid. R vid (get_or things (get_or classes p.place 0) d)) is (thing_there p.place p.below))
+        subst (λ i. R vid (get_or things (get_or c.numbers.items i 0) d)) place (subst (λ vid. R vid (get_or things (get_or c.numbers.items p.place 0) d)) is (thing_there p.place p.below))
 
 -- ---- groups of VIDs by counts
 vid_at : (i d : ℕ) → i < 4094 → get_or all_vids i d ≡ 1 + i

@@ -1,19 +1,20 @@
--- What is seen of a summary in a view with its forest, under the numbers of records.
-use Rattle.std.specs.Prelude.{ℕ, ◌==◌, ◌&&◌, Bool, false, List, [], filter, length, nat_eq, if◌then◌else◌}
-use Rattle.std.specs.List.{count_by, list_any}
+-- What is seen of a summary in the view of a settled network.
+use Rattle.std.specs.Prelude.{ℕ, ◌==◌, ◌&&◌, ◌++◌, Bool, false, List, [], filter, length, map, nat_eq, if◌then◌else◌}
+use Rattle.std.specs.List.{count_by, flat_map, list_any}
 use Rattle.std.specs.Map.{lookup}
 use Rattle.std.specs.Option.{option_map_or}
 use Rattle.mst_ids.specs.Identifiers.{bridge_id}
+use Rattle.mst_ids.specs.declared.name.PortName.{PortName}
+use Rattle.mst_diff.specs.net.ByTree.{by_tree}
 use Rattle.mst_diff.specs.net.Seen.{bridge_row}
-use Rattle.mst_diff.specs.net.Tables.{Net}
 use Rattle.mst_lag.specs.Aggregation.{same_name}
-use Rattle.mst_lag.specs.Viewed.{Viewed}
+use Rattle.mst_lag.specs.Viewed.{Viewed, named_port}
 use Rattle.mst_lag.specs.declared.in_view.BridgeInView.{BridgeInView}
 use Rattle.mst_lag.specs.declared.in_view.LanInView.{LanInView}
 use Rattle.mst_lag.specs.declared.in_view.PortInView.{PortInView}
 use Rattle.mst_diff.specs.trees.Forest.{Forest}
 use Rattle.mst_diff.specs.trees.InUse.{id_in, seen_has}
-use Rattle.mst_diff.specs.trees.Outcome.{Outcome}
+use Rattle.mst_diff.specs.trees.Settled.{SettledNet, outcome_of}
 use Rattle.mst_diff.specs.roles.Seen.{seen_forwards}
 use Rattle.mst_vlan.specs.Seen.{seen_member}
 use Rattle.mst_vlan.specs.declared.island.Island.{Island}
@@ -21,7 +22,8 @@ use Rattle.mst_diff.specs.changes.Subjects.{all_trees}
 use Rattle.mst_diff.specs.Reach.{has_any}
 use Rattle.mst_summary.specs.declared.roots.Follower.{Follower}
 use Rattle.mst_summary.specs.declared.counts.Counts.{Counts}
-use Rattle.mst_summary.specs.Roots.{root_line}
+use Rattle.mst_summary.specs.Blocked.{is_blocked, blocked_line}
+use Rattle.mst_summary.specs.Roots.{followers, root_line}
 use Rattle.mst_summary.specs.Carries.{carried, carries_line}
 
 -- ---- counts
@@ -47,8 +49,16 @@ seen_counts v classes trees = record {
 }
 
 -- ---- roots
-abbrev pub seen_root_line : Viewed → ℕ → List Follower → BridgeInView → List ℕ
-seen_root_line v tree all b = root_line v.settings tree all b.name (id_in v.settings tree b.name (bridge_row b.bridge))
+abbrev pub root_line_of : SettledNet → ℕ → List Follower → BridgeInView → List ℕ
+root_line_of s tree all b = root_line (by_tree s.net) tree all b.name (id_in (by_tree s.net) tree b.name (bridge_row b.bridge))
+
+-- ---- ports that block
+abbrev pub blocked_of : SettledNet → ℕ → List PortName
+blocked_of s tree = map (λ p. p.name) (filter (λ p. is_blocked s.net (outcome_of s) tree (named_port p)) s.view.ports)
+
+-- ---- trees
+abbrev pub lines_of : SettledNet → ℕ → List ℕ
+lines_of s tree = flat_map (root_line_of s tree (followers s.net (outcome_of s) tree)) s.view.bridges ++ blocked_line tree (blocked_of s tree)
 
 -- ---- islands that have a bridge
 abbrev pub seen_with_bridge : List Island → ℕ
@@ -62,5 +72,5 @@ abbrev pub seen_carries : Viewed → Forest → ℕ → PortInView → Bool
 seen_carries v f vid p = seen_forwards v f vid p && seen_member v vid p
 
 -- the line of a logical LAN, where it is up
-abbrev pub up_text : Net → Outcome → LanInView → List ℕ
-up_text net o l = if l.is_up then carries_line l.name (carried net o l.name) else []
+abbrev pub up_text : SettledNet → LanInView → List ℕ
+up_text s l = if l.is_up then carries_line l.name (carried s.net (outcome_of s) l.name) else []

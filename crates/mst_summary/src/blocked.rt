@@ -1,8 +1,9 @@
-ghost use Rattle.std.specs.Prelude.{◌≡◌, ◌++◌, map, filter, IfOk, OnOk};
+ghost use Rattle.std.specs.Prelude.{◌≡◌, ◌++◌, IfOk, OnOk};
 ghost use Rattle.std.specs.List.{Contains};
 ghost use Rattle.mst_lag.specs.Viewed.{named_port};
 ghost use Rattle.mst_diff.specs.trees.Settled.{outcome_of};
-ghost use Rattle.mst_summary.specs.Blocked.{stops as stops_of, is_blocked as blocks, blocked as blocked_ports, blocked_line};
+ghost use Rattle.mst_summary.specs.Blocked.{stops as stops_of, is_blocked as blocks, blocked_line};
+ghost use Rattle.mst_summary.specs.Seen.{blocked_of};
 
 use crate::looked_up::role;
 use itoa::Buffer;
@@ -31,7 +32,7 @@ fn is_blocked(plan: &Settled, tree: Tree, port: &PortInView) -> bool
 
 /// The enabled ports of a tree that don't forward.
 fn blocked(alloc: Global, plan: &Settled, tree: Tree) -> Result<Vec<PortName>, AllocError>
-    ensures { IfOk result (λ names. names.items ≡ map (λ p. p.name) (filter (λ p. blocks plan.now.net (outcome_of plan.now) tree (named_port p)) plan.now.view.ports)) }
+    ensures { IfOk result (λ names. names.items ≡ blocked_of plan.now tree) }
 {
     plan.view()
         .ports()
@@ -60,9 +61,8 @@ pub(crate) fn push_blocked(
     tree: Tree,
     out: &mut Vec<u8>,
 ) -> Result<(), AllocError>
-    ensures { OnOk result (out.new.items ≡ out.old.items ++ blocked_line tree (blocked_ports plan.now.net (outcome_of plan.now) tree)) }
+    ensures { OnOk result (out.new.items ≡ out.old.items ++ blocked_line tree (blocked_of plan.now tree)) }
 {
-    plan.known();
     let ports = blocked(alloc, plan, tree)?;
     push_line(tree, ports.as_slice(), out)
 }

@@ -116,7 +116,7 @@ fn push_up(
 ) -> Result<(), AllocError>
     requires classes { AreClasses plan.now.view classes.now }
     requires kept { (name : List ℕ) → kept_at kept.now name ≡ seen_on plan.now.view name }
-    ensures { OnOk result (out.new.items ≡ out.old.items ++ up_text plan.now.net (outcome_of plan.now) lan.now) }
+    ensures { OnOk result (out.new.items ≡ out.old.items ++ up_text plan.now lan.now) }
 {
     if !lan.is_up {
         return Ok(());
@@ -142,7 +142,7 @@ fn push_lans(
 ) -> Result<(), AllocError>
     requires classes { AreClasses plan.now.view classes.now }
     requires kept { (name : List ℕ) → kept_at kept.now name ≡ seen_on plan.now.view name }
-    ensures { OnOk result (out.new.items ≡ out.old.items ++ flat_map (up_text plan.now.net (outcome_of plan.now)) lans.now) }
+    ensures { OnOk result (out.new.items ≡ out.old.items ++ flat_map (up_text plan.now) lans.now) }
 {
     for lan in lans {
         push_up(alloc, plan, classes, kept, lan, out)?;

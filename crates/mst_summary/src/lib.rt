@@ -15,10 +15,11 @@ mod roots;
 mod summary;
 
 pub use kept::{kept_for, ports_by_lan};
-pub use looked_up::{role, root};
+pub use looked_up::role;
 pub use mst_diff::{
     Differing, Entries, Forest, Planned, Role, Settled, bridge_id, changes_laws, forwards,
     has_tree, laws as diff_laws, plan_text_laws, port_role, push_changes, push_configuration,
-    push_diff, push_lags, push_plan, push_regions, push_tree, push_vlan, text_laws, trees_laws,
+    push_diff, push_lags, push_plan, push_regions, push_tree, push_vlan, root_of, text_laws,
+    trees_laws,
 };
 pub use summary::push_summary;

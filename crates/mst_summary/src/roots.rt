@@ -1,18 +1,17 @@
 ghost use Rattle.std.specs.Prelude.{◌≡◌, ◌==◌, ◌*◌, ◌++◌, not, filter, IfOk, OnOk};
 ghost use Rattle.std.specs.List.{Contains, flat_map};
 ghost use Rattle.mst_lag.specs.Viewed.{named_bridge};
-ghost use Rattle.mst_diff.specs.net.ByTree.{priority_in};
+ghost use Rattle.mst_diff.specs.net.ByTree.{by_tree, priority_in};
 ghost use Rattle.mst_ids.specs.Words.{after_space};
 ghost use Rattle.mst_diff.specs.Reach.{has_any};
 ghost use Rattle.mst_diff.specs.trees.Settled.{outcome_of};
-ghost use Rattle.mst_summary.specs.Roots.{follower as follower_of, followers as followers_in, followers_of as those_of, with_lesser, least as least_of, next_of, next_words, whole_line, group_line, root_lines};
-ghost use Rattle.mst_summary.specs.Seen.{seen_root_line};
+ghost use Rattle.mst_summary.specs.Roots.{follower as follower_of, followers as followers_in, followers_of as those_of, with_lesser, least as least_of, next_of, next_words, whole_line, group_line};
+ghost use Rattle.mst_summary.specs.Seen.{root_line_of};
 
-use crate::looked_up::root;
 use itoa::Buffer;
-use mst_diff::{Settled, bridge_id};
+use mst_diff::{Settled, bridge_id, root_of};
 use mst_ids::{BridgeId, Name, Tree, push_bytes, push_end, push_word, push_words};
-use mst_lag::{BridgeInView, View};
+use mst_lag::BridgeInView;
 use std::alloc::{AllocError, Global};
 
 /// A bridge that names a root in a tree: its name, its own identifier there and that of its root.
@@ -28,7 +27,7 @@ fn as_follower(plan: &Settled, tree: Tree, bridge: &BridgeInView) -> Option<Foll
     requires { Contains plan.now.view.bridges bridge.now }
     ensures { result ≡ follower_of plan.now.net (outcome_of plan.now) tree (named_bridge bridge.now) }
 {
-    let root = root(plan, tree, bridge)?;
+    let root = root_of(plan, tree, bridge)?;
     Some(Follower {
         name: bridge.name,
         id: bridge_id(plan.settings(), tree, bridge),
@@ -111,20 +110,20 @@ fn next(alloc: Global, id: BridgeId, followers: &[Follower]) -> Result<Option<Fo
 }
 
 /// The priority of a bridge in a tree as a number.
-fn priority(view: &View, tree: Tree, bridge: &Name) -> u64
-    ensures { result ≡ priority_in view.now.settings.priorities bridge.now tree * 4096 }
+fn priority(plan: &Settled, tree: Tree, bridge: &Name) -> u64
+    ensures { result ≡ priority_in (by_tree plan.now.net).priorities bridge.now tree * 4096 }
 {
-    u64::from(view.settings().tree_priority(bridge, tree).step()) * 4096
+    u64::from(plan.settings().tree_priority(bridge, tree).step()) * 4096
 }
 
 /// Appends the name of the next bridge and its priority, or `-` where there is none, each after a space.
 fn push_next(
-    view: &View,
+    plan: &Settled,
     tree: Tree,
     next: Option<Follower>,
     out: &mut Vec<u8>,
 ) -> Result<(), AllocError>
-    ensures { OnOk result (out.new.items ≡ out.old.items ++ flat_map after_space (next_words view.now.settings tree next)) }
+    ensures { OnOk result (out.new.items ≡ out.old.items ++ flat_map after_space (next_words (by_tree plan.now.net) tree next)) }
 {
     match next {
         None => push_word(b"-", out),
@@ -132,7 +131,7 @@ fn push_next(
             let mut number = Buffer::new();
             let words: [&[u8]; 2] = [
                 next.name.as_bytes(),
-                number.format(priority(view, tree, &next.name)).as_bytes(),
+                number.format(priority(plan, tree, &next.name)).as_bytes(),
             ];
             push_words(&words, out)
         }
@@ -142,14 +141,14 @@ fn push_next(
 /// Appends the line of a root of this name and this identifier, with its followers.
 fn push_whole(
     alloc: Global,
-    view: &View,
+    plan: &Settled,
     tree: Tree,
     name: &Name,
     id: BridgeId,
     group: &[Follower],
     out: &mut Vec<u8>,
 ) -> Result<(), AllocError>
-    ensures { OnOk result (out.new.items ≡ out.old.items ++ whole_line view.now.settings tree name.now id group.now) }
+    ensures { OnOk result (out.new.items ≡ out.old.items ++ whole_line (by_tree plan.now.net) tree name.now id group.now) }
 {
     let next = next(alloc, id, group)?;
     let mut number = Buffer::new();
@@ -159,14 +158,14 @@ fn push_whole(
         number.format(tree.value()).as_bytes(),
         b"root",
         name.as_bytes(),
-        own.format(priority(view, tree, name)).as_bytes(),
+        own.format(priority(plan, tree, name)).as_bytes(),
         b"of",
         count.format(group.len() as u64).as_bytes(),
         b"next",
     ];
     push_bytes(b"tree", out)?;
     push_words(&words, out)?;
-    push_next(view, tree, next, out)?;
+    push_next(plan, tree, next, out)?;
     push_end(out)
 }
 
@@ -183,17 +182,17 @@ fn is_any(followers: &[Follower]) -> bool
 /// Appends the line of a bridge with its followers, if it has one.
 fn push_group(
     alloc: Global,
-    view: &View,
+    plan: &Settled,
     tree: Tree,
     name: &Name,
     id: BridgeId,
     group: &[Follower],
     out: &mut Vec<u8>,
 ) -> Result<(), AllocError>
-    ensures { OnOk result (out.new.items ≡ out.old.items ++ group_line view.now.settings tree name.now id group.now) }
+    ensures { OnOk result (out.new.items ≡ out.old.items ++ group_line (by_tree plan.now.net) tree name.now id group.now) }
 {
     if is_any(group) {
-        return push_whole(alloc, view, tree, name, id, group, out);
+        return push_whole(alloc, plan, tree, name, id, group, out);
     }
     Ok(())
 }
@@ -201,31 +200,31 @@ fn push_group(
 /// Appends the line of a bridge, if it is the root of one of these.
 fn push_root(
     alloc: Global,
-    view: &View,
+    plan: &Settled,
     tree: Tree,
     followers: &[Follower],
     bridge: &BridgeInView,
     out: &mut Vec<u8>,
 ) -> Result<(), AllocError>
-    ensures { OnOk result (out.new.items ≡ out.old.items ++ seen_root_line view.now tree followers.now bridge.now) }
+    ensures { OnOk result (out.new.items ≡ out.old.items ++ root_line_of plan.now tree followers.now bridge.now) }
 {
-    let id = bridge_id(view.settings(), tree, bridge);
+    let id = bridge_id(plan.settings(), tree, bridge);
     let group = followers_of(alloc, id, followers)?;
-    push_group(alloc, view, tree, &bridge.name, id, group.as_slice(), out)
+    push_group(alloc, plan, tree, &bridge.name, id, group.as_slice(), out)
 }
 
 /// Appends the lines of the bridges that are the root of one of these.
 fn push_each(
     alloc: Global,
-    view: &View,
+    plan: &Settled,
     tree: Tree,
     followers: &[Follower],
     out: &mut Vec<u8>,
 ) -> Result<(), AllocError>
-    ensures { OnOk result (out.new.items ≡ out.old.items ++ flat_map (seen_root_line view.now tree followers.now) view.now.bridges) }
+    ensures { OnOk result (out.new.items ≡ out.old.items ++ flat_map (root_line_of plan.now tree followers.now) plan.now.view.bridges) }
 {
-    for bridge in view.bridges() {
-        push_root(alloc, view, tree, followers, bridge, out)?;
+    for bridge in plan.view().bridges() {
+        push_root(alloc, plan, tree, followers, bridge, out)?;
     }
     Ok(())
 }
@@ -240,10 +239,9 @@ pub(crate) fn push_roots(
     tree: Tree,
     out: &mut Vec<u8>,
 ) -> Result<(), AllocError>
-    ensures { OnOk result (out.new.items ≡ out.old.items ++ root_lines plan.now.net (outcome_of plan.now) tree) }
+    ensures { OnOk result (out.new.items ≡ out.old.items ++ flat_map (root_line_of plan.now tree (followers_in plan.now.net (outcome_of plan.now) tree)) plan.now.view.bridges) }
 {
-    plan.known();
     let mut followers = Vec::new(alloc);
     push_followers(plan, tree, &mut followers)?;
-    push_each(alloc, plan.view(), tree, followers.as_slice(), out)
+    push_each(alloc, plan, tree, followers.as_slice(), out)
 }

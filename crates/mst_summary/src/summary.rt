@@ -2,7 +2,8 @@ ghost use Rattle.std.specs.Prelude.{◌≡◌, ◌++◌, ℕ, List, OnOk};
 ghost use Rattle.std.specs.List.{flat_map};
 ghost use Rattle.mst_config.specs.Shared.{AreRegions};
 ghost use Rattle.mst_diff.specs.trees.Settled.{outcome_of};
-ghost use Rattle.mst_summary.specs.SummaryText.{tree_lines, IsSummary};
+ghost use Rattle.mst_summary.specs.Seen.{lines_of};
+ghost use Rattle.mst_summary.specs.SummaryText.{IsSummary};
 
 use crate::blocked::push_blocked;
 use crate::carries::push_carries;
@@ -18,7 +19,7 @@ use std::alloc::{AllocError, Global};
 
 /// Appends the lines of a tree.
 fn push_tree(alloc: Global, plan: &Settled, tree: Tree, out: &mut Vec<u8>) -> Result<(), AllocError>
-    ensures { OnOk result (out.new.items ≡ out.old.items ++ tree_lines plan.now.net (outcome_of plan.now) tree) }
+    ensures { OnOk result (out.new.items ≡ out.old.items ++ lines_of plan.now tree) }
 {
     push_roots(alloc, plan, tree, out)?;
     push_blocked(alloc, plan, tree, out)
@@ -31,7 +32,7 @@ fn push_trees(
     trees: &[Tree],
     out: &mut Vec<u8>,
 ) -> Result<(), AllocError>
-    ensures { OnOk result (out.new.items ≡ out.old.items ++ flat_map (tree_lines plan.now.net (outcome_of plan.now)) trees.now) }
+    ensures { OnOk result (out.new.items ≡ out.old.items ++ flat_map (lines_of plan.now) trees.now) }
 {
     for tree in trees {
         push_tree(alloc, plan, *tree, out)?;

@@ -1,4 +1,4 @@
-use Rattle.std.proofs.Common.{◌≡◌, refl, take, ◌+◌, ℕ, Bool, get_or, sym, subst, arith, rules}
+use Rattle.std.proofs.Common.{◌≡◌, refl, take, ◌+◌, ℕ, Bool, List, get_or, sym, subst, arith, rules}
 use Rattle.std.specs.List.{list_all}
 use Rattle.std.proofs.lemmas.Grind.{common_steps}
 use Rattle.mst_summary.specs.Seen.{seen_carries}
@@ -14,7 +14,7 @@ loop-place-preserved c = record {
       let places = c.args.places.now in
       let place : ℕ = get_or places i 0 in
       let vid : c.unwrap-vid.result ≡ place + 1 = first_of (grind (arith, common_steps), search (rules, common_steps)) in
-      subst (AtPlaces R (take (i + 1) places)) (sym c.in_ok-push.ensures.items)
+      subst (AtPlaces R (take (i + 1) places)) (sym {A = List Bool} c.in_ok-push.ensures.items)
       (more_at R places i place c.unwrap-vid.result c.loop-place-test.true refl vid c.loop-place.flags.items c.all_carry.result c.loop-place.invariant.flags c.all_carry.ensures);
 }
 

@@ -1,4 +1,4 @@
-use Rattle.std.proofs.Common.{◌≡◌, refl, take, ◌+◌, ℕ, get_or, sym, subst, arith, rules}
+use Rattle.std.proofs.Common.{◌≡◌, refl, take, ◌+◌, ℕ, List, get_or, sym, subst, arith, rules}
 use Rattle.std.proofs.lemmas.Grind.{common_steps}
 use Rattle.mst_diff.specs.trees.Settled.{outcome_of}
 use Rattle.mst_summary.specs.Vlans.{HasIslands}
@@ -14,7 +14,7 @@ loop-place-preserved c = record {
       let places = c.args.places.now in
       let place : ℕ = get_or places i 0 in
       let vid : c.unwrap-vid.result ≡ place + 1 = first_of (grind (arith, common_steps), search (rules, common_steps)) in
-      subst (AtPlaces R (take (i + 1) places)) (sym c.in_ok-push.ensures.items)
+      subst (AtPlaces R (take (i + 1) places)) (sym {A = List ℕ} c.in_ok-push.ensures.items)
       (more_at R places i place c.unwrap-vid.result c.loop-place-test.true refl vid c.loop-place.counts.items c.in_ok-islands_of.field-0
       c.loop-place.invariant.counts c.in_ok-islands_of.ensures);
 }

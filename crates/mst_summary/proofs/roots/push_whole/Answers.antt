@@ -2,6 +2,7 @@ use Rattle.std.proofs.Common.{◌≡◌, ℕ, List, [], ◌∷◌, ◌++◌, len
 use Rattle.std.specs.List.{flat_map}
 use Rattle.std.proofs.lemmas.Result.{on_ok_weaker}
 use Rattle.mst_ids.specs.Words.{after_space}
+use Rattle.mst_diff.specs.net.ByTree.{by_tree}
 use Rattle.mst_summary.specs.Roots.{priority_word, next_of, next_words}
 use Rattle.mst_summary.proofs.Lines.{line_of_more}
 use Rattle.mst_summary.proofs.roots.push_whole.Goals as goal
@@ -9,7 +10,7 @@ use Rattle.mst_summary.proofs.roots.push_whole.Goals as goal
 pub returns : goal.returns
 returns c =
     let out = c.args.out.now.items in
-    let set = c.args.view.now.settings in
+    let set = by_tree c.args.plan.now.net in
     let tree = c.args.tree in
     let group = c.args.group.now in
     let words : List (List ℕ) = decimal tree ∷ codes "root" ∷ c.args.name.now ∷ priority_word set tree c.args.name.now ∷ codes "of" ∷ decimal (length group) ∷ codes "next" ∷ [] in
