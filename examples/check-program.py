@@ -808,7 +808,7 @@ def told_within(pipe, length):
 
 def check_answered(program):
     """Lines that come through a pipe while it stays open: each is answered before the next one is given."""
-    lines = [(b"no\n", REFUSED), (b"addlan x\nshowtree 0\n", TREE), (b"showplan", b""), (b"\n", b"tree 0\nvlan 1-4094\nactive -\nisland lans x\n")]
+    lines = [(b"no\n", REFUSED), (b"addlan x\nshowtree 0\n", TREE), (b"showplan", b""), (b"\n", b"tree 0\nvlan 1-4094\nactive -\nisland bridges - lans x\n")]
     with subprocess.Popen([program, "run", "-"], stdin=subprocess.PIPE, stdout=subprocess.PIPE, bufsize=0) as ran:
         for given, answer in lines:
             ran.stdin.write(given)
