@@ -1,0 +1,6 @@
+mod Escapes
+mod JsonText
+mod OneMore
+mod Ports
+mod PrintedLaws
+mod ReadsBack

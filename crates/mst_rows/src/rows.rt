@@ -1,0 +1,23 @@
+ghost use Rattle.std.specs.Prelude.{List, [], ◌∷◌, ◌++◌, OnOk, map};
+ghost use Rattle.mst_rows.specs.Rows.{Row, cell, row_of};
+
+use crate::kind::Kind;
+use crate::value::Value;
+use std::alloc::AllocError;
+
+/// What rows are put into.
+pub trait Rows {
+    /// How it was first, how it is, and the rows that were put between.
+    ghost grew: { Self → Self → List Row → Type 0 };
+
+    /// Puts one row more. `AllocError`: memory was wanted and refused; part of the row may have been put.
+    fn row(&mut self, kind: Kind, values: &[Value<'_>]) -> Result<(), AllocError>
+        ensures { (first : Self) (rows : List Row) → grew first self.old rows → OnOk result (grew first self.new (rows ++ row_of kind (map cell values.now) ∷ [])) };
+}
+
+/// Puts a row: what a text calls with an array of its values.
+pub fn put<R: Rows>(kind: Kind, values: &[Value<'_>], rows: &mut R) -> Result<(), AllocError>
+    ensures { (first : R) (before : List Row) → R.grew first rows.old before → OnOk result (R.grew first rows.new (before ++ row_of kind (map cell values.now) ∷ [])) }
+{
+    rows.row(kind, values)
+}
