@@ -1,6 +1,7 @@
+mod Cells
 mod Escapes
 mod JsonText
+mod Maps
 mod OneMore
-mod Ports
 mod PrintedLaws
 mod ReadsBack

@@ -1,9 +1,9 @@
 -- The records of a row more.
-use Rattle.std.proofs.Common.{◌≡◌, ◌∙◌, Bool, true, List, [], ◌∷◌, ◌++◌, refl, sym, ap, append_assoc}
+use Rattle.std.proofs.Common.{◌≡◌, ◌∙◌, Bool, true, List, [], ◌∷◌, ◌++◌, map, refl, sym, ap, append_assoc}
 use Rattle.std.proofs.lemmas.List.{append-nil}
 use Rattle.mst_rows.specs.Printed.{comma}
 use Rattle.mst_rows.specs.Rows.{Row}
-use Rattle.mst_rows.specs.Records.{follow, record_text, records_text}
+use Rattle.mst_rows.specs.Answers.{follow, record_text, records_text}
 
 follow-true : (rows : List Row) → follow true rows ≡ true
 follow-true [] = refl

@@ -99,3 +99,7 @@ json_text-null = refl
 pub json_text-true : json_text (boolean true) ≡ codes "true"
 unfolding print_from json_text
 json_text-true = refl
+
+pub json_text-false : json_text (boolean false) ≡ codes "false"
+unfolding print_from json_text
+json_text-false = refl

@@ -1,5 +1,8 @@
+pub use Rattle.mst_kinds.specs as kinds
 pub mod Rows
-pub mod Kinds
+pub mod Objects
 pub mod Lines
 pub mod Printed
 pub mod Records
+pub mod Answers
+pub mod Small

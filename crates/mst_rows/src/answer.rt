@@ -1,16 +1,19 @@
-ghost use Rattle.std.specs.Prelude.{◌≡◌, ◌++◌, ◌∷◌, [], ◌<◌, OnOk, IfOk, map, false, codes, decimal};
+ghost use Rattle.std.specs.Prelude.{◌≡◌, ◌++◌, ◌∷◌, [], OnOk, IfOk, map, false, codes, decimal};
 ghost use Rattle.json.specs.Print.{quoted};
+ghost use Rattle.mst_kinds.specs.Words.{key_text};
 ghost use Rattle.mst_rows.specs.Printed.{comma};
-ghost use Rattle.mst_rows.specs.Kinds.{key_text};
-ghost use Rattle.mst_rows.specs.Rows.{cell, row_of};
-ghost use Rattle.mst_rows.specs.Records.{follow, head_text, line_text, member_text, named_json, names_json, part_json, parts_json, port_json, ports_json, record_text, records_text, value_text};
+ghost use Rattle.mst_rows.specs.Rows.{cell, first_cell, row_of};
+ghost use Rattle.mst_rows.specs.Answers.{active_json, bridge_text, flag_text, follow, head_text, line_text, named, number_text, part_json, parts_json, place_text, port_json, record_text, records_text, row_json, value_text};
 
+use crate::array::{push_array, push_groups};
 use crate::escape::push_quoted;
-use crate::kind::{Key, Kind, Part};
+use crate::field::push_fields;
 use crate::rows::Rows;
+use crate::runs::push_runs;
 use crate::text::left;
-use crate::value::Value;
-use mst_ids::{Name, PortName, PortNumber, push_bytes, push_decimal};
+use crate::value::{ActivePort, Value};
+use mst_ids::{ConfName, Name, PortName, Tree, push_bytes, push_decimal};
+use mst_kinds::{Key, Kind, Part};
 use std::alloc::AllocError;
 
 /// The records of an answer, one object of JSON on one line.
@@ -26,7 +29,8 @@ impl Rows for Json {
     ghost grew = { λ first now rows. (now.out.items ≡ first.out.items ++ records_text first.follows rows) × (now.follows ≡ follow first.follows rows) };
 
     fn row(&mut self, kind: Kind, values: &[Value<'_>]) -> Result<(), AllocError> {
-        push_row(self.follows, kind, values, &mut self.out)?;
+        push_comma(self.follows, &mut self.out)?;
+        push_record(kind, values, &mut self.out)?;
         self.follows = true;
         Ok(())
     }
@@ -45,7 +49,7 @@ impl Json {
         let mut out = out;
         push_bytes(b"{", &mut out)?;
         push_line(line, &mut out)?;
-        push_named(b"query", query, words, &mut out)?;
+        push_row(b"query", query, words, &mut out)?;
         push_bytes(b",", &mut out)?;
         push_quoted(b"records", &mut out)?;
         push_bytes(b":[", &mut out)?;
@@ -71,15 +75,13 @@ fn push_line(line: Option<u64>, out: &mut Vec<u8>) -> Result<(), AllocError>
     match line {
         None => Ok(()),
         Some(number) => {
-            push_quoted(b"line", out)?;
-            push_bytes(b":", out)?;
-            push_decimal(number, out)?;
+            push_number(b"line", number, out)?;
             push_bytes(b",", out)
         }
     }
 }
 
-fn push_comma(follows: bool, out: &mut Vec<u8>) -> Result<(), AllocError>
+pub(crate) fn push_comma(follows: bool, out: &mut Vec<u8>) -> Result<(), AllocError>
     ensures { OnOk result (out.new.items ≡ out.old.items ++ comma follows) }
 {
     if follows {
@@ -89,40 +91,25 @@ fn push_comma(follows: bool, out: &mut Vec<u8>) -> Result<(), AllocError>
     }
 }
 
-/// Appends the record of a row, which may follow another.
-fn push_row(
-    follows: bool,
-    kind: Kind,
-    values: &[Value<'_>],
-    out: &mut Vec<u8>,
-) -> Result<(), AllocError>
-    ensures { OnOk result (out.new.items ≡ out.old.items ++ (comma follows ++ record_text (row_of kind (map cell values.now)))) }
-{
-    push_comma(follows, out)?;
-    push_record(kind, values, out)
-}
-
 /// Appends the record of a row.
 fn push_record(kind: Kind, values: &[Value<'_>], out: &mut Vec<u8>) -> Result<(), AllocError>
     ensures { OnOk result (out.new.items ≡ out.old.items ++ record_text (row_of kind (map cell values.now))) }
 {
     push_bytes(b"{", out)?;
-    push_named(b"kind", kind, values, out)?;
+    push_row(b"kind", kind, values, out)?;
     push_bytes(b"}", out)
 }
 
-/// Appends a member of this key that says the kind, and those of the values.
-fn push_named(
+/// Appends a member of this key that says the first word, and those of the parts.
+fn push_row(
     key: &[u8],
     kind: Kind,
     values: &[Value<'_>],
     out: &mut Vec<u8>,
 ) -> Result<(), AllocError>
-    ensures { OnOk result (out.new.items ≡ out.old.items ++ named_json key.now (row_of kind (map cell values.now))) }
+    ensures { OnOk result (out.new.items ≡ out.old.items ++ row_json key.now (row_of kind (map cell values.now))) }
 {
-    push_quoted(key, out)?;
-    push_bytes(b":", out)?;
-    push_quoted(kind.first().text(), out)?;
+    push_string(key, kind.first().text(), out)?;
     push_parts(kind.parts(), values, out)
 }
 
@@ -147,20 +134,69 @@ fn push_part(part: Part, values: &[Value<'_>], out: &mut Vec<u8>) -> Result<(), 
     match part {
         Part::Mark(_) => Ok(()),
         Part::Key(key) => push_member(key, values, out),
+        Part::Commas(key) => push_member(key, values, out),
         Part::Above(key) => push_member(key, values, out),
+        Part::Said(key, mark) => push_next_string(key.text(), mark.text(), out),
+        Part::Told(key, mark) => push_next_string(key.text(), mark.text(), out),
+        Part::Port => push_first_place(values, out),
+        Part::AbovePort => push_first_place(values, out),
     }
 }
 
+/// Appends a member behind others: a key and the first of these values.
+#[tactic(auto, unfolding(crate::specs::Answers::named))]
 fn push_member(key: Key, values: &[Value<'_>], out: &mut Vec<u8>) -> Result<(), AllocError>
-    ensures { OnOk result (out.new.items ≡ out.old.items ++ member_text (key_text key) (map cell values.now)) }
+    ensures { OnOk result (out.new.items ≡ out.old.items ++ 44 ∷ named (key_text key) (value_text (first_cell (map cell values.now)))) }
 {
     push_bytes(b",", out)?;
-    push_quoted(key.text(), out)?;
-    push_bytes(b":", out)?;
+    push_key(key.text(), out)?;
     match values {
         [value, ..] => push_value(value, out),
         [] => push_bytes(b"null", out),
     }
+}
+
+/// Appends a member behind others: a key and a string.
+fn push_next_string(key: &[u8], text: &[u8], out: &mut Vec<u8>) -> Result<(), AllocError>
+    ensures { OnOk result (out.new.items ≡ out.old.items ++ 44 ∷ named key.now (quoted text.now)) }
+{
+    push_bytes(b",", out)?;
+    push_string(key, text, out)
+}
+
+/// Appends a key, and its colon.
+pub(crate) fn push_key(key: &[u8], out: &mut Vec<u8>) -> Result<(), AllocError>
+    ensures { OnOk result (out.new.items ≡ out.old.items ++ (quoted key.now ++ 58 ∷ [])) }
+{
+    push_quoted(key, out)?;
+    push_bytes(b":", out)
+}
+
+/// Appends a member: a key and a string.
+#[tactic(auto, unfolding(crate::specs::Answers::named))]
+fn push_string(key: &[u8], text: &[u8], out: &mut Vec<u8>) -> Result<(), AllocError>
+    ensures { OnOk result (out.new.items ≡ out.old.items ++ named key.now (quoted text.now)) }
+{
+    push_key(key, out)?;
+    push_quoted(text, out)
+}
+
+/// Appends a member: a key and a number.
+#[tactic(auto, unfolding(crate::specs::Answers::named))]
+fn push_number(key: &[u8], number: u64, out: &mut Vec<u8>) -> Result<(), AllocError>
+    ensures { OnOk result (out.new.items ≡ out.old.items ++ named key.now (decimal number)) }
+{
+    push_key(key, out)?;
+    push_decimal(number, out)
+}
+
+/// Appends a member: a key and null.
+#[tactic(auto, unfolding(crate::specs::Answers::named))]
+fn push_null(key: &[u8], out: &mut Vec<u8>) -> Result<(), AllocError>
+    ensures { OnOk result (out.new.items ≡ out.old.items ++ named key.now (codes "null")) }
+{
+    push_key(key, out)?;
+    push_bytes(b"null", out)
 }
 
 fn push_value(value: &Value<'_>, out: &mut Vec<u8>) -> Result<(), AllocError>
@@ -168,82 +204,107 @@ fn push_value(value: &Value<'_>, out: &mut Vec<u8>) -> Result<(), AllocError>
 {
     match *value {
         Value::Absent => push_bytes(b"null", out),
+        Value::Own => push_bytes(b"null", out),
         Value::Word(word) => push_quoted(word, out),
-        Value::Name(name) => push_quoted(name, out),
+        Value::Name(name) => push_quoted(name.as_bytes(), out),
         Value::Number(number) => push_decimal(number, out),
         Value::BridgeId(id) => push_quoted(&id.text(), out),
         Value::PortId(id) => push_quoted(&id.text(), out),
+        Value::Mac(mac) => push_quoted(ConfName::of_mac(mac).as_bytes(), out),
         Value::Port(port) => push_port(port, out),
-        Value::Names(names) => push_names(names, out),
-        Value::Ports(ports) => push_ports(ports, out),
+        Value::Vids(vids) => push_runs(vids, out),
+        Value::Names(names) => push_array::<Name>(names, out),
+        Value::Ports(ports) => push_array::<PortName>(ports, out),
+        Value::Trees(trees) => push_array::<Tree>(trees, out),
+        Value::Groups(groups) => push_groups(groups, out),
+        Value::Active(ports) => push_array::<ActivePort>(ports, out),
+        Value::Object(fields) => {
+            push_bytes(b"{", out)?;
+            push_fields(fields, out)?;
+            push_bytes(b"}", out)
+        }
+        Value::FailedLan(lan) => push_failed(b"lan", lan, out),
+        Value::FailedBridge(bridge) => push_failed(b"bridge", bridge, out),
     }
 }
 
-/// Appends the object of a port.
-fn push_port(port: &PortName, out: &mut Vec<u8>) -> Result<(), AllocError>
-    ensures { OnOk result (out.new.items ≡ out.old.items ++ port_json port.now) }
+/// Appends the object of what fails.
+fn push_failed(key: &[u8], name: &Name, out: &mut Vec<u8>) -> Result<(), AllocError>
+    ensures { OnOk result (out.new.items ≡ out.old.items ++ 123 ∷ (named key.now (quoted name.now) ++ 125 ∷ [])) }
 {
-    push_bridge(&port.bridge, out)?;
-    push_bytes(b",", out)?;
-    push_number(port.number, out)?;
+    push_bytes(b"{", out)?;
+    push_string(key, name.as_bytes(), out)?;
     push_bytes(b"}", out)
 }
 
-fn push_bridge(bridge: &Name, out: &mut Vec<u8>) -> Result<(), AllocError>
-    ensures { OnOk result (out.new.items ≡ out.old.items ++ 123 ∷ (quoted (codes "bridge") ++ 58 ∷ quoted bridge.now)) }
+/// Appends the object of a port.
+pub(crate) fn push_port(port: &PortName, out: &mut Vec<u8>) -> Result<(), AllocError>
+    ensures { OnOk result (out.new.items ≡ out.old.items ++ port_json port.now) }
 {
     push_bytes(b"{", out)?;
-    push_quoted(b"bridge", out)?;
-    push_bytes(b":", out)?;
-    push_quoted(bridge.as_bytes(), out)
+    push_place(port, out)?;
+    push_bytes(b"}", out)
 }
 
-fn push_number(number: PortNumber, out: &mut Vec<u8>) -> Result<(), AllocError>
-    ensures { OnOk result (out.new.items ≡ out.old.items ++ (quoted (codes "port") ++ 58 ∷ decimal number)) }
+/// Appends the object of an active port.
+pub(crate) fn push_active(port: &ActivePort, out: &mut Vec<u8>) -> Result<(), AllocError>
+    ensures { OnOk result (out.new.items ≡ out.old.items ++ active_json port.now) }
 {
-    push_quoted(b"port", out)?;
-    push_bytes(b":", out)?;
-    push_decimal(u64::from(number.value()), out)
+    push_bytes(b"{", out)?;
+    push_place(&port.port, out)?;
+    push_bytes(b",", out)?;
+    push_flag(b"member", port.is_member, out)?;
+    push_bytes(b"}", out)
 }
 
-/// Appends an array of names.
-fn push_names(names: &[Name], out: &mut Vec<u8>) -> Result<(), AllocError>
-    ensures { OnOk result (out.new.items ≡ out.old.items ++ 91 ∷ (names_json false names.now ++ 93 ∷ [])) }
+/// Appends a member: a key and whether something is so.
+#[tactic(auto, unfolding(crate::specs::Answers::named))]
+fn push_flag(key: &[u8], flag: bool, out: &mut Vec<u8>) -> Result<(), AllocError>
+    ensures { OnOk result (out.new.items ≡ out.old.items ++ named key.now (flag_text flag)) }
 {
-    push_bytes(b"[", out)?;
-    push_name_items(names, out)?;
-    push_bytes(b"]", out)
-}
-
-fn push_name_items(names: &[Name], out: &mut Vec<u8>) -> Result<(), AllocError>
-    ensures { OnOk result (out.new.items ≡ out.old.items ++ names_json false names.now) }
-{
-    let mut follows = false;
-    for name in names {
-        push_comma(follows, out)?;
-        push_quoted(name.as_bytes(), out)?;
-        follows = true;
+    push_key(key, out)?;
+    if flag {
+        push_bytes(b"true", out)
+    } else {
+        push_bytes(b"false", out)
     }
-    Ok(())
 }
 
-/// Appends an array of ports.
-fn push_ports(ports: &[PortName], out: &mut Vec<u8>) -> Result<(), AllocError>
-    ensures { OnOk result (out.new.items ≡ out.old.items ++ 91 ∷ (ports_json false ports.now ++ 93 ∷ [])) }
+/// Appends the members of a port.
+fn push_place(port: &PortName, out: &mut Vec<u8>) -> Result<(), AllocError>
+    ensures { OnOk result (out.new.items ≡ out.old.items ++ place_text (quoted port.now.bridge) (decimal port.now.number)) }
 {
-    push_bytes(b"[", out)?;
-    push_port_items(ports, out)?;
-    push_bytes(b"]", out)
+    push_string(b"bridge", port.bridge.as_bytes(), out)?;
+    push_bytes(b",", out)?;
+    push_number(b"port", u64::from(port.number.value()), out)
 }
 
-fn push_port_items(ports: &[PortName], out: &mut Vec<u8>) -> Result<(), AllocError>
-    ensures { OnOk result (out.new.items ≡ out.old.items ++ ports_json false ports.now) }
+/// Appends the members of no port.
+fn push_no_place(out: &mut Vec<u8>) -> Result<(), AllocError>
+    ensures { OnOk result (out.new.items ≡ out.old.items ++ place_text (codes "null") (codes "null")) }
 {
-    let mut follows = false;
-    for port in ports {
-        push_comma(follows, out)?;
-        push_port(port, out)?;
-        follows = true;
+    push_null(b"bridge", out)?;
+    push_bytes(b",", out)?;
+    push_null(b"port", out)
+}
+
+/// Appends, behind others, the members of the first of these values, which is a port.
+fn push_first_place(values: &[Value<'_>], out: &mut Vec<u8>) -> Result<(), AllocError>
+    ensures { OnOk result (out.new.items ≡ out.old.items ++ 44 ∷ place_text (bridge_text (first_cell (map cell values.now))) (number_text (first_cell (map cell values.now)))) }
+{
+    push_bytes(b",", out)?;
+    match values {
+        [value, ..] => push_place_of(value, out),
+        [] => push_no_place(out),
     }
-    Ok(())
+}
+
+/// Appends the members of a value that is a port.
+fn push_place_of(value: &Value<'_>, out: &mut Vec<u8>) -> Result<(), AllocError>
+    ensures { OnOk result (out.new.items ≡ out.old.items ++ place_text (bridge_text (cell value.now)) (number_text (cell value.now))) }
+{
+    match *value {
+        Value::Port(port) => push_place(port, out),
+        _ => push_no_place(out),
+    }
 }

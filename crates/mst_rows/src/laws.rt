@@ -1,14 +1,17 @@
 //! Laws of rows. Their functions do nothing: a caller has their clauses.
 ghost use Rattle.std.specs.Prelude.{◌≡◌, ◌<◌, ◌^◌, ℕ, ◌∷◌, [], ◌++◌, List, Option, Some};
+ghost use Rattle.std.specs.List.{AllByRecursion};
 ghost use Rattle.std.specs.Option.{ForSome};
 ghost use Rattle.json.specs.Json.{document};
 ghost use Rattle.mst_rows.specs.Printed.{json_text};
-ghost use Rattle.mst_rows.specs.Records.{answer_text, answer_value, AreSmall, RowsAreSmall};
+ghost use Rattle.mst_rows.specs.Answers.{answer_text};
+ghost use Rattle.mst_rows.specs.Records.{answer_value};
 ghost use Rattle.mst_rows.specs.Rows.{Row};
+ghost use Rattle.mst_rows.specs.Small.{RowIsSmall};
 
 /// What is printed of an answer is a value's text and LF, and the text reads back as that value, where its numbers have 64 bits.
 pub fn answer_reads_back()
     ensures line { (line : Option ℕ) (query : Row) (rows : List Row) → json_text (answer_value line query rows) ++ 10 ∷ [] ≡ answer_text line query rows }
-    ensures value { (line : Option ℕ) (query : Row) (rows : List Row) → ForSome line (λ number. number < 2 ^ 64) → AreSmall query.cells → RowsAreSmall rows
+    ensures value { (line : Option ℕ) (query : Row) (rows : List Row) → ForSome line (λ number. number < 2 ^ 64) → RowIsSmall query → AllByRecursion RowIsSmall rows
         → document (json_text (answer_value line query rows)) ≡ Some (answer_value line query rows) }
 {}

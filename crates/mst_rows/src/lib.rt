@@ -1,18 +1,25 @@
 //! Rows: what a text says, before it is printed.
 //!
-//! A text hands over rows, each of a [`Kind`] with its [`Value`]s, to what implements [`Rows`]: lines (a `Vec<u8>`), or the
-//! records of [`Json`]. What the words, keys and types of a kind are stands once, in [`Kind::parts`] and `specs/Kinds.antt`.
+//! A text hands over rows, each of a [`Kind`](mst_kinds::Kind) with its [`Value`]s, to what implements [`Rows`]: lines (a `Vec<u8>`), or the
+//! records of [`Json`]. What the words and the keys of a kind are stands once, in the table of `mst_kinds`.
+//!
+//! A value of several words is an object where it stands for one thing: the vectors and the regions of a side (`specs/Objects.antt`
+//! has their forms), and what fails. An island or a part of one is an array of names, and several are an array of these.
 #![tactic(auto)]
 
+mod active;
 mod answer;
+mod array;
 mod escape;
-mod kind;
+mod field;
 pub mod laws;
+mod object;
 mod rows;
+mod runs;
 mod text;
 mod value;
 
 pub use answer::Json;
-pub use kind::{Key, Kind, Mark, Part};
+pub use object::{cist_vector, msti_vector, mstp_region, rstp_region};
 pub use rows::{Rows, put};
-pub use value::Value;
+pub use value::{ActivePort, Field, Simple, Value};

@@ -1,8 +1,8 @@
 ghost use Rattle.std.specs.Prelude.{List, [], ◌∷◌, ◌++◌, OnOk, map};
-ghost use Rattle.mst_rows.specs.Rows.{Row, cell, row_of};
+ghost use Rattle.mst_rows.specs.Rows.{AreCells, Cell, Row, cell, row_of};
 
-use crate::kind::Kind;
 use crate::value::Value;
+use mst_kinds::Kind;
 use std::alloc::AllocError;
 
 /// What rows are put into.
@@ -15,9 +15,11 @@ pub trait Rows {
         ensures { (first : Self) (rows : List Row) → grew first self.old rows → OnOk result (grew first self.new (rows ++ row_of kind (map cell values.now) ∷ [])) };
 }
 
-/// Puts a row: what a text calls with an array of its values.
+/// Puts a row: what a text calls with an array of its values. They are as many as the parts of the kind that take one, and each is
+/// of its key's type.
 pub fn put<R: Rows>(kind: Kind, values: &[Value<'_>], rows: &mut R) -> Result<(), AllocError>
-    ensures { (first : R) (before : List Row) → R.grew first rows.old before → OnOk result (R.grew first rows.new (before ++ row_of kind (map cell values.now) ∷ [])) }
+    ensures { (first : R) (before : List Row) (cells : List Cell) → AreCells values.now cells → R.grew first rows.old before
+        → OnOk result (R.grew first rows.new (before ++ row_of kind cells ∷ [])) }
 {
     rows.row(kind, values)
 }

@@ -1,6 +1,6 @@
 use Rattle.std.proofs.Common.{◌≡◌, ◌++◌, drop, map}
 use Rattle.mst_rows.specs.Rows.{cell}
-use Rattle.mst_rows.specs.Records.{parts_json}
+use Rattle.mst_rows.specs.Answers.{parts_json}
 use Rattle.mst_rows.proofs.answer.push_parts.Given as goal
 
 abbrev pub invariant-loop-part : goal.invariant-loop-part

@@ -1,0 +1,105 @@
+ghost use Rattle.std.specs.Prelude.{◌≡◌};
+ghost use Rattle.mst_kinds.specs.Kinds.{first_of_query, parts_of_query};
+
+use crate::key::Key;
+use crate::mark::Mark;
+use crate::part::Part;
+
+/// A query, with its words.
+#[derive(Clone, Copy)]
+pub enum Query {
+    /// `showtree T`
+    ShowTree,
+    /// `showplan`
+    ShowPlan,
+    /// `showvlan V`
+    ShowVlan,
+    /// `showlag`
+    ShowLag,
+    /// `showregions`
+    ShowRegions,
+    /// `showmstconfid B`
+    ShowMstconfid,
+    /// `shownotes`
+    ShowNotes,
+    /// `changes`
+    Changes,
+    /// `save`
+    Save,
+    /// `explain B P`
+    Explain,
+    /// `explain B P TREE`
+    ExplainIn,
+    /// `diff`
+    Diff,
+    /// `sweep`
+    Sweep,
+    /// `sweep K N`: the part K of N
+    SweepPart,
+    /// `sweep pairs`
+    SweepPairs,
+    /// `sweep pairs K N`: the part K of N
+    SweepPairsPart,
+    /// `summary`
+    Summary,
+}
+
+impl Query {
+    /// The first word.
+    pub fn first(self) -> Mark
+        ensures { result ≡ first_of_query self }
+    {
+        match self {
+            Query::ShowTree => Mark::ShowTree,
+            Query::ShowPlan => Mark::ShowPlan,
+            Query::ShowVlan => Mark::ShowVlan,
+            Query::ShowLag => Mark::ShowLag,
+            Query::ShowRegions => Mark::ShowRegions,
+            Query::ShowMstconfid => Mark::ShowMstconfid,
+            Query::ShowNotes => Mark::ShowNotes,
+            Query::Changes => Mark::Changes,
+            Query::Save => Mark::Save,
+            Query::Explain => Mark::Explain,
+            Query::ExplainIn => Mark::Explain,
+            Query::Diff => Mark::Diff,
+            Query::Sweep => Mark::Sweep,
+            Query::SweepPart => Mark::Sweep,
+            Query::SweepPairs => Mark::Sweep,
+            Query::SweepPairsPart => Mark::Sweep,
+            Query::Summary => Mark::Summary,
+        }
+    }
+
+    /// What stands behind it.
+    pub fn parts(self) -> &'static [Part]
+        ensures { result.now ≡ parts_of_query self }
+    {
+        match self {
+            Query::ShowTree => &[Part::Key(Key::Tree)],
+            Query::ShowPlan => &[],
+            Query::ShowVlan => &[Part::Key(Key::Vid)],
+            Query::ShowLag => &[],
+            Query::ShowRegions => &[],
+            Query::ShowMstconfid => &[Part::Key(Key::Bridge)],
+            Query::ShowNotes => &[],
+            Query::Changes => &[],
+            Query::Save => &[],
+            Query::Explain => &[Part::Key(Key::Bridge), Part::Key(Key::Port)],
+            Query::ExplainIn => &[
+                Part::Key(Key::Bridge),
+                Part::Key(Key::Port),
+                Part::Key(Key::Tree),
+            ],
+            Query::Diff => &[],
+            Query::Sweep => &[],
+            Query::SweepPart => &[Part::Key(Key::Part), Part::Key(Key::PartCount)],
+            Query::SweepPairs => &[Part::Said(Key::Of, Mark::Pairs)],
+            Query::SweepPairsPart => &[
+                Part::Said(Key::Of, Mark::Pairs),
+                Part::Key(Key::Part),
+                Part::Key(Key::PartCount),
+            ],
+            Query::Summary => &[],
+        }
+    }
+}

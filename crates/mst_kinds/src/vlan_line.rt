@@ -1,0 +1,47 @@
+ghost use Rattle.std.specs.Prelude.{◌≡◌};
+ghost use Rattle.mst_kinds.specs.Kinds.{first_of_vlan_line, parts_of_vlan_line};
+
+use crate::key::Key;
+use crate::mark::Mark;
+use crate::part::Part;
+
+/// A line of what VLANs reach.
+#[derive(Clone, Copy)]
+pub enum VlanLine {
+    /// `vlan VIDS`
+    Heading,
+    /// `active B:P [B:P] ..`
+    Active,
+    /// `island bridges B .. lans L ..`
+    Island,
+}
+
+impl VlanLine {
+    /// The first word.
+    pub fn first(self) -> Mark
+        ensures { result ≡ first_of_vlan_line self }
+    {
+        match self {
+            VlanLine::Heading => Mark::Vlan,
+            VlanLine::Active => Mark::Active,
+            VlanLine::Island => Mark::Island,
+        }
+    }
+
+    /// What stands behind it.
+    pub fn parts(self) -> &'static [Part]
+        ensures { result.now ≡ parts_of_vlan_line self }
+    {
+        match self {
+            VlanLine::Heading => &[Part::Key(Key::Vids)],
+            VlanLine::Active => &[Part::Above(Key::Vids), Part::Key(Key::Active)],
+            VlanLine::Island => &[
+                Part::Above(Key::Vids),
+                Part::Mark(Mark::Bridges),
+                Part::Key(Key::Bridges),
+                Part::Mark(Mark::Lans),
+                Part::Key(Key::Lans),
+            ],
+        }
+    }
+}
