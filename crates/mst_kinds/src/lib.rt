@@ -13,6 +13,7 @@ mod contest_line;
 mod explain_line;
 mod key;
 mod kind;
+pub mod laws;
 mod mark;
 mod note_line;
 mod part;

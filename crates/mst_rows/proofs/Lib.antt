@@ -1,6 +1,7 @@
 mod Cells
 mod Escapes
 mod JsonText
+pub mod Loops
 mod Maps
 mod OneMore
 mod PrintedLaws
