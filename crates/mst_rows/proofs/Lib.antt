@@ -6,3 +6,5 @@ mod Maps
 mod OneMore
 mod PrintedLaws
 mod ReadsBack
+mod SameCells
+mod SameRows

@@ -6,3 +6,4 @@ pub mod Printed
 pub mod Records
 pub mod Answers
 pub mod Small
+pub mod Fits
