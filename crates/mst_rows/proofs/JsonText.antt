@@ -1,20 +1,26 @@
 -- The JSON of an answer is the text of its value.
-use Rattle.std.proofs.Common.{◌≡◌, ◌∙◌, ℕ, Bool, true, false, List, [], ◌∷◌, ◌++◌, Option, Some, None, map, refl, sym, ap, append_assoc}
+use Rattle.std.proofs.Common.{◌≡◌, ◌∙◌, ℕ, Bool, true, false, List, [], ◌∷◌, ◌++◌, Option, Some, None, map, drop, refl, sym, ap, append_assoc}
 use Rattle.std.specs.Prelude.{codes, decimal}
 use Rattle.json.specs.Json.{Json, null, boolean, string, array, Items, no_items, item, Members, no_members, member}
 use Rattle.json.specs.Json as json
 use Rattle.json.specs.Print.{quoted}
 use Rattle.mst_ids.specs.declared.name.PortName.{PortName}
-use Rattle.mst_kinds.specs.Kinds.{first_of, parts_of}
+use Rattle.mst_kinds.specs.Kinds.{first_of, parts_of, parts_of_refusal_line}
 use Rattle.mst_kinds.specs.Words.{key_text, mark_text}
 use Rattle.mst_kinds.specs.declared.key.Key.{Key}
+use Rattle.mst_kinds.specs.declared.key.Key.TheVariants as key
+use Rattle.mst_kinds.specs.declared.kind.Kind.TheVariants as kind
+use Rattle.mst_kinds.specs.declared.mark.Mark.{Mark}
+use Rattle.mst_kinds.specs.declared.mark.Mark.TheVariants as mark
 use Rattle.mst_kinds.specs.declared.part.Part.{Part}
 use Rattle.mst_kinds.specs.declared.part.Part.TheVariants as part
+use Rattle.mst_kinds.specs.declared.refusal_line.RefusalLine.{RefusalLine}
+use Rattle.mst_kinds.specs.declared.refusal_line.RefusalLine.TheVariants as refused
 use Rattle.mst_rows.specs.declared.value.ActivePort.{ActivePort}
 use Rattle.mst_rows.specs.Printed.{comma, json_text, items_text, members_text}
-use Rattle.mst_rows.specs.Rows.{Bare, nothing, text, count, Cell, absent, own, word, number, port, vids, names, ports, trees, groups, active, object, failed_lan, failed_bridge, Row, first_cell, left_cells}
-use Rattle.mst_rows.specs.Records.{natural, items_of, list_value, place, port_value, active_value, run_value, names_value, bare_value, fields, cell_value, bridge_value, number_value, parts_members, row_members, record_value, with_line, answer_value}
-use Rattle.mst_rows.specs.Answers.{named, joined, array_text, place_text, port_json, flag_text, active_json, run_json, names_json, bare_json, field_json, value_text, bridge_text, number_text, parts_json, row_json, record_text, records_text, line_text, answer_text}
+use Rattle.mst_rows.specs.Rows.{Bare, nothing, text, count, Cell, absent, own, word, number, port, vids, names, ports, trees, groups, active, object, failed_lan, failed_bridge, Row, row_of, first_cell, left_cells}
+use Rattle.mst_rows.specs.Records.{natural, items_of, list_value, place, port_value, active_value, run_value, names_value, bare_value, fields, cell_value, bridge_value, number_value, parts_members, row_members, record_value, with_line, answer_value, refusal_value, unanswered_value}
+use Rattle.mst_rows.specs.Answers.{named, joined, array_text, place_text, port_json, flag_text, active_json, run_json, names_json, bare_json, field_json, value_text, bridge_text, number_text, parts_json, row_json, record_text, records_text, line_text, answer_text, record_line, front_json, refusal_line, unanswered_line}
 use Rattle.mst_rows.proofs.PrintedLaws.{members_text-member, members_text-none, json_text-object, items_text-item, items_text-none, json_text-array, json_text-string, json_text-number, json_text-null, json_text-true, json_text-false}
 
 -- ---- members and items
@@ -211,3 +217,42 @@ answer_is line query rows =
     ap (λ l. l ++ 10 ∷ []) (json_text-object (with_line line ms) ∙ ap (λ l. 123 ∷ l) all)
     ∙ ap (λ l. 123 ∷ l) (append_assoc (line_text line) z (10 ∷ []) ∙ ap (λ l. line_text line ++ l) (tail_is h (codes "records") t)
     ∙ sym (append_assoc (line_text line) (h ++ 44 ∷ (quoted (codes "records") ++ 58 ∷ 91 ∷ [])) (t ++ 93 ∷ 125 ∷ 10 ∷ [])))
+
+-- ---- refusals
+-- a member at the front, and those of the parts behind it
+front_is : (k : List ℕ) (j : Json) (t : List ℕ) (ps : List Part) (cs : List Cell) → json_text j ≡ t → json_text (json.object (member k j (parts_members ps cs no_members))) ++ 10 ∷ [] ≡ 123 ∷ ((named k t ++ parts_json ps cs) ++ codes "}\n")
+front_is k j t ps cs is =
+    let first = named k t in
+    let others = parts_json ps cs in
+    let ms = parts_members ps cs no_members in
+    ap (λ l. l ++ 10 ∷ []) (json_text-object (member k j ms)
+    ∙ ap (λ l. 123 ∷ l) (member_is false k j t ms is ∙ ap (λ l. first ++ l) (parts_are ps cs no_members ∙ ap (λ l. others ++ l) (members_text-none true))))
+    ∙ ap (λ l. 123 ∷ l) (append_assoc first (others ++ 125 ∷ []) (10 ∷ [])
+    ∙ ap (λ l. first ++ l) (append_assoc others (125 ∷ []) (10 ∷ []))
+    ∙ sym (append_assoc first others (125 ∷ 10 ∷ [])))
+
+key_front : (k : Key) (ps : List Part) (cs : List Cell) → json_text (json.object (parts_members (part.Key k ∷ ps) cs no_members)) ++ 10 ∷ [] ≡ 123 ∷ (front_json (part.Key k ∷ ps) cs ++ codes "}\n")
+key_front k ps cs = front_is (key_text k) (cell_value (first_cell cs)) (value_text (first_cell cs)) ps (left_cells (part.Key k) cs) (value_is (first_cell cs))
+
+told_front : (k : Key) (m : Mark) (ps : List Part) (cs : List Cell) → json_text (json.object (parts_members (part.Told k m ∷ ps) cs no_members)) ++ 10 ∷ [] ≡ 123 ∷ (front_json (part.Told k m ∷ ps) cs ++ codes "}\n")
+told_front k m ps cs = front_is (key_text k) (string (mark_text m)) (quoted (mark_text m)) ps cs (json_text-string (mark_text m))
+
+pub refusal_is : (line : RefusalLine) (cs : List Cell) → json_text (refusal_value (row_of (kind.Refusal line) cs)) ++ 10 ∷ [] ≡ refusal_line (row_of (kind.Refusal line) cs)
+refusal_is refused.Line cs = key_front key.Line (drop 1 (parts_of_refusal_line refused.Line)) cs
+refusal_is refused.Hinted cs = key_front key.Line (drop 1 (parts_of_refusal_line refused.Hinted)) cs
+refusal_is refused.OldLine cs = told_front key.Side mark.Old (drop 1 (parts_of_refusal_line refused.OldLine)) cs
+refusal_is refused.NewLine cs = told_front key.Side mark.New (drop 1 (parts_of_refusal_line refused.NewLine)) cs
+refusal_is refused.Explain cs = key_front key.Error (drop 1 (parts_of_refusal_line refused.Explain)) cs
+refusal_is refused.Dot cs = key_front key.Error (drop 1 (parts_of_refusal_line refused.Dot)) cs
+
+pub unanswered_is : (query refusal : Row) → json_text (unanswered_value query refusal) ++ 10 ∷ [] ≡ unanswered_line query refusal
+unanswered_is query refusal =
+    let h = row_json (codes "query") query in
+    let others = parts_json (parts_of refusal.kind) refusal.cells in
+    let ms = parts_members (parts_of refusal.kind) refusal.cells no_members in
+    ap (λ l. l ++ 10 ∷ []) (json_text-object (row_members (codes "query") query ms)
+    ∙ ap (λ l. 123 ∷ l) (row_is false (codes "query") query ms ∙ ap (λ l. h ++ l) (parts_are (parts_of refusal.kind) refusal.cells no_members ∙ ap (λ l. others ++ l) (members_text-none true))))
+    ∙ ap (λ l. 123 ∷ l) (append_assoc h (others ++ 125 ∷ []) (10 ∷ []) ∙ ap (λ l. h ++ l) (append_assoc others (125 ∷ []) (10 ∷ [])))
+
+pub line_of_record : (row : Row) → json_text (record_value row) ++ 10 ∷ [] ≡ record_line row
+line_of_record row = ap (λ l. l ++ 10 ∷ []) (record_is row)

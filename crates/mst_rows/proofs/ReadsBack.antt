@@ -18,7 +18,7 @@ use Rattle.mst_kinds.specs.declared.part.Part.TheVariants as part
 use Rattle.mst_rows.specs.declared.value.ActivePort.{ActivePort}
 use Rattle.mst_rows.specs.Printed.{json_text}
 use Rattle.mst_rows.specs.Rows.{Bare, nothing, text, count, Cell, absent, own, word, number, port, vids, names, ports, trees, groups, active, object, failed_lan, failed_bridge, Row, first_cell, other_cells}
-use Rattle.mst_rows.specs.Records.{natural, items_of, list_value, place, port_value, active_value, run_value, names_value, bare_value, fields, cell_value, bridge_value, number_value, parts_members, row_members, record_value, answer_value}
+use Rattle.mst_rows.specs.Records.{natural, items_of, list_value, place, port_value, active_value, run_value, names_value, bare_value, fields, cell_value, bridge_value, number_value, parts_members, row_members, record_value, answer_value, refusal_value, unanswered_value}
 use Rattle.mst_rows.specs.Small.{Fits64, HasSmall, IsSmall, RowIsSmall}
 
 -- ---- all numbers are, and nothing nests deep
@@ -186,3 +186,21 @@ unfolding json_text
 answer_again line query rows h words small =
     let flat = flat_answer line query rows h words small in
     document-print (answer_value line query rows) flat.numbers (omega (arith, flat.flat))
+
+-- ---- records alone, and refusals
+pub record_again : (row : Row) → RowIsSmall row → document (json_text (record_value row)) ≡ Some (record_value row)
+unfolding json_text
+record_again row small = let flat = flat_record row small in document-print (record_value row) flat.numbers (omega (arith, flat.flat))
+
+pub refusal_again : (row : Row) → RowIsSmall row → document (json_text (refusal_value row)) ≡ Some (refusal_value row)
+unfolding json_text
+refusal_again row small =
+    let flat = flat_object 2 _ (flat_parts 2 (omega arith) (parts_of row.kind) row.cells no_members small (flat_nothing 2)) in
+    document-print (refusal_value row) flat.numbers (omega (arith, flat.flat))
+
+pub unanswered_again : (query refusal : Row) → RowIsSmall query → RowIsSmall refusal → document (json_text (unanswered_value query refusal)) ≡ Some (unanswered_value query refusal)
+unfolding json_text
+unanswered_again query refusal words small =
+    let others = flat_parts 2 (omega arith) (parts_of refusal.kind) refusal.cells no_members small (flat_nothing 2) in
+    let flat = flat_object 2 _ (flat_row 2 (omega arith) (codes "query") query _ words others) in
+    document-print (unanswered_value query refusal) flat.numbers (omega (arith, flat.flat))

@@ -1,5 +1,5 @@
 -- The texts of records and of answers.
-use Rattle.std.specs.Prelude.{ℕ, Bool, true, false, List, [], ◌∷◌, ◌++◌, map, Option, Some, None, codes, decimal, if◌then◌else◌}
+use Rattle.std.specs.Prelude.{ℕ, Bool, true, false, List, [], ◌∷◌, ◌++◌, map, drop, Option, Some, None, codes, decimal, if◌then◌else◌}
 use Rattle.json.specs.Print.{quoted}
 use Rattle.mst_ids.specs.declared.name.PortName.{PortName}
 use Rattle.mst_kinds.specs.Kinds.{first_of, parts_of}
@@ -98,6 +98,10 @@ row_json key row = named key (quoted (mark_text (first_of row.kind))) ++ parts_j
 abbrev pub record_text : Row → List ℕ
 record_text row = 123 ∷ (row_json (codes "kind") row ++ 125 ∷ [])
 
+-- a record on a line of its own
+abbrev pub record_line : Row → List ℕ
+record_line row = record_text row ++ 10 ∷ []
+
 -- records behind others or none, and whether there are some
 abbrev pub records_text : Bool → List Row → List ℕ
 records_text follows rows = joined follows (map record_text rows)
@@ -117,3 +121,18 @@ head_text line query = 123 ∷ (line_text line ++ (row_json (codes "query") quer
 
 abbrev pub answer_text : Option ℕ → Row → List Row → List ℕ
 answer_text line query rows = head_text line query ++ (records_text false rows ++ codes "]}\n")
+
+-- ---- refusals
+-- the members of a part at the front, without the `,` that stands before them
+abbrev pub first_json : Part → List Cell → List ℕ
+first_json p cs = drop 1 (part_json p cs)
+
+abbrev pub front_json : List Part → List Cell → List ℕ
+front_json [] cs = []
+front_json (p ∷ ps) cs = first_json p cs ++ parts_json ps (left_cells p cs)
+
+abbrev pub refusal_line : Row → List ℕ
+refusal_line row = 123 ∷ (front_json (parts_of row.kind) row.cells ++ codes "}\n")
+
+abbrev pub unanswered_line : Row → Row → List ℕ
+unanswered_line query refusal = 123 ∷ (row_json (codes "query") query ++ (parts_json (parts_of refusal.kind) refusal.cells ++ codes "}\n"))

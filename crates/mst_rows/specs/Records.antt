@@ -106,3 +106,12 @@ with_line (Some line) others = member (codes "line") (natural line) others
 abbrev pub answer_value : Option ℕ → Row → List Row → Json
 answer_value line query rows =
     json.object (with_line line (row_members (codes "query") query (member (codes "records") (list_value (map record_value rows)) no_members)))
+
+-- ---- refusals
+-- the object of a refusal: the members of its parts, without a kind
+abbrev pub refusal_value : Row → Json
+refusal_value row = json.object (parts_members (parts_of row.kind) row.cells no_members)
+
+-- of a question that isn't answered: the query with its words, and the members of the refusal
+abbrev pub unanswered_value : Row → Row → Json
+unanswered_value query refusal = json.object (row_members (codes "query") query (parts_members (parts_of refusal.kind) refusal.cells no_members))

@@ -3,7 +3,7 @@ ghost use Rattle.json.specs.Print.{quoted};
 ghost use Rattle.mst_kinds.specs.Words.{key_text};
 ghost use Rattle.mst_rows.specs.Printed.{comma};
 ghost use Rattle.mst_rows.specs.Rows.{cell, first_cell, row_of};
-ghost use Rattle.mst_rows.specs.Answers.{active_json, bridge_text, flag_text, follow, head_text, line_text, named, number_text, part_json, parts_json, place_text, port_json, record_text, records_text, row_json, value_text};
+ghost use Rattle.mst_rows.specs.Answers.{active_json, bridge_text, first_json, flag_text, follow, head_text, line_text, named, number_text, part_json, parts_json, place_text, port_json, record_text, records_text, row_json, value_text};
 
 use crate::array::{push_array, push_groups};
 use crate::escape::push_quoted;
@@ -92,7 +92,11 @@ pub(crate) fn push_comma(follows: bool, out: &mut Vec<u8>) -> Result<(), AllocEr
 }
 
 /// Appends the record of a row.
-fn push_record(kind: Kind, values: &[Value<'_>], out: &mut Vec<u8>) -> Result<(), AllocError>
+pub(crate) fn push_record(
+    kind: Kind,
+    values: &[Value<'_>],
+    out: &mut Vec<u8>,
+) -> Result<(), AllocError>
     ensures { OnOk result (out.new.items ≡ out.old.items ++ record_text (row_of kind (map cell values.now))) }
 {
     push_bytes(b"{", out)?;
@@ -101,7 +105,7 @@ fn push_record(kind: Kind, values: &[Value<'_>], out: &mut Vec<u8>) -> Result<()
 }
 
 /// Appends a member of this key that says the first word, and those of the parts.
-fn push_row(
+pub(crate) fn push_row(
     key: &[u8],
     kind: Kind,
     values: &[Value<'_>],
@@ -113,7 +117,7 @@ fn push_row(
     push_parts(kind.parts(), values, out)
 }
 
-fn push_parts<'a, 'b>(
+pub(crate) fn push_parts<'a, 'b>(
     parts: &[Part],
     values: &'a [Value<'b>],
     out: &mut Vec<u8>,
@@ -128,40 +132,49 @@ fn push_parts<'a, 'b>(
     Ok(())
 }
 
+/// Appends the members of a part, each behind others.
 fn push_part(part: Part, values: &[Value<'_>], out: &mut Vec<u8>) -> Result<(), AllocError>
     ensures { OnOk result (out.new.items ≡ out.old.items ++ part_json part (map cell values.now)) }
+{
+    match part {
+        Part::Mark(_) => Ok(()),
+        _ => {
+            push_bytes(b",", out)?;
+            push_first(part, values, out)
+        }
+    }
+}
+
+/// Appends the members of a part at the front.
+pub(crate) fn push_first(
+    part: Part,
+    values: &[Value<'_>],
+    out: &mut Vec<u8>,
+) -> Result<(), AllocError>
+    ensures { OnOk result (out.new.items ≡ out.old.items ++ first_json part (map cell values.now)) }
 {
     match part {
         Part::Mark(_) => Ok(()),
         Part::Key(key) => push_member(key, values, out),
         Part::Commas(key) => push_member(key, values, out),
         Part::Above(key) => push_member(key, values, out),
-        Part::Said(key, mark) => push_next_string(key.text(), mark.text(), out),
-        Part::Told(key, mark) => push_next_string(key.text(), mark.text(), out),
+        Part::Said(key, mark) => push_string(key.text(), mark.text(), out),
+        Part::Told(key, mark) => push_string(key.text(), mark.text(), out),
         Part::Port => push_first_place(values, out),
         Part::AbovePort => push_first_place(values, out),
     }
 }
 
-/// Appends a member behind others: a key and the first of these values.
+/// Appends a member: a key and the first of these values.
 #[tactic(auto, unfolding(crate::specs::Answers::named))]
 fn push_member(key: Key, values: &[Value<'_>], out: &mut Vec<u8>) -> Result<(), AllocError>
-    ensures { OnOk result (out.new.items ≡ out.old.items ++ 44 ∷ named (key_text key) (value_text (first_cell (map cell values.now)))) }
+    ensures { OnOk result (out.new.items ≡ out.old.items ++ named (key_text key) (value_text (first_cell (map cell values.now)))) }
 {
-    push_bytes(b",", out)?;
     push_key(key.text(), out)?;
     match values {
         [value, ..] => push_value(value, out),
         [] => push_bytes(b"null", out),
     }
-}
-
-/// Appends a member behind others: a key and a string.
-fn push_next_string(key: &[u8], text: &[u8], out: &mut Vec<u8>) -> Result<(), AllocError>
-    ensures { OnOk result (out.new.items ≡ out.old.items ++ 44 ∷ named key.now (quoted text.now)) }
-{
-    push_bytes(b",", out)?;
-    push_string(key, text, out)
 }
 
 /// Appends a key, and its colon.
@@ -288,11 +301,10 @@ fn push_no_place(out: &mut Vec<u8>) -> Result<(), AllocError>
     push_null(b"port", out)
 }
 
-/// Appends, behind others, the members of the first of these values, which is a port.
+/// Appends the members of the first of these values, which is a port.
 fn push_first_place(values: &[Value<'_>], out: &mut Vec<u8>) -> Result<(), AllocError>
-    ensures { OnOk result (out.new.items ≡ out.old.items ++ 44 ∷ place_text (bridge_text (first_cell (map cell values.now))) (number_text (first_cell (map cell values.now)))) }
+    ensures { OnOk result (out.new.items ≡ out.old.items ++ place_text (bridge_text (first_cell (map cell values.now))) (number_text (first_cell (map cell values.now)))) }
 {
-    push_bytes(b",", out)?;
     match values {
         [value, ..] => push_place_of(value, out),
         [] => push_no_place(out),

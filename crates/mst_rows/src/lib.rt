@@ -10,16 +10,22 @@
 mod active;
 mod answer;
 mod array;
+mod counts;
 mod escape;
 mod field;
+mod json_lines;
 pub mod laws;
 mod object;
+mod refusal;
 mod rows;
 mod runs;
 mod text;
 mod value;
 
 pub use answer::Json;
+pub use counts::Counts;
+pub use json_lines::JsonLines;
 pub use object::{cist_vector, msti_vector, mstp_region, rstp_region};
+pub use refusal::{push_refusal, push_unanswered};
 pub use rows::{Rows, put};
 pub use value::{ActivePort, Field, Simple, Value};
