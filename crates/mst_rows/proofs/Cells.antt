@@ -1,7 +1,8 @@
 -- What values say, one by one and all together.
 use Rattle.std.proofs.Common.{◌≡◌, ◌∙◌, List, [], ◌∷◌, map, refl, ap}
 use Rattle.mst_rows.specs.declared.value.Value.{Value}
-use Rattle.mst_rows.specs.Rows.{AreCells, Cell, cell}
+use Rattle.mst_rows.specs.Cells.{Cell}
+use Rattle.mst_rows.specs.Rows.{AreCells, cell}
 
 pub cells_are : (values : List Value) (cells : List Cell) → AreCells values cells → map cell values ≡ cells
 cells_are [] [] are = refl

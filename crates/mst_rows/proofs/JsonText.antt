@@ -18,7 +18,8 @@ use Rattle.mst_kinds.specs.declared.refusal_line.RefusalLine.{RefusalLine}
 use Rattle.mst_kinds.specs.declared.refusal_line.RefusalLine.TheVariants as refused
 use Rattle.mst_rows.specs.declared.value.ActivePort.{ActivePort}
 use Rattle.mst_rows.specs.Printed.{comma, json_text, items_text, members_text}
-use Rattle.mst_rows.specs.Rows.{Bare, nothing, text, count, Cell, absent, own, word, number, port, vids, names, ports, trees, groups, active, object, failed_lan, failed_bridge, Row, row_of, first_cell, left_cells}
+use Rattle.mst_rows.specs.Cells.{Bare, nothing, text, count, Cell, absent, own, word, number, port, vids, names, ports, trees, groups, active, object, failed_lan, failed_bridge}
+use Rattle.mst_rows.specs.Rows.{Row, row_of, first_cell, left_cells}
 use Rattle.mst_rows.specs.Records.{natural, items_of, list_value, place, port_value, active_value, run_value, names_value, bare_value, fields, cell_value, bridge_value, number_value, parts_members, row_members, record_value, with_line, answer_value, refusal_value, unanswered_value}
 use Rattle.mst_rows.specs.Answers.{named, joined, array_text, place_text, port_json, flag_text, active_json, run_json, names_json, bare_json, field_json, value_text, bridge_text, number_text, parts_json, row_json, record_text, records_text, line_text, answer_text, record_line, front_json, refusal_line, unanswered_line}
 use Rattle.mst_rows.proofs.PrintedLaws.{members_text-member, members_text-none, json_text-object, items_text-item, items_text-none, json_text-array, json_text-string, json_text-number, json_text-null, json_text-true, json_text-false}

@@ -17,7 +17,8 @@ use Rattle.mst_kinds.specs.declared.part.Part.{Part}
 use Rattle.mst_kinds.specs.declared.part.Part.TheVariants as part
 use Rattle.mst_rows.specs.declared.value.ActivePort.{ActivePort}
 use Rattle.mst_rows.specs.Printed.{json_text}
-use Rattle.mst_rows.specs.Rows.{Bare, nothing, text, count, Cell, absent, own, word, number, port, vids, names, ports, trees, groups, active, object, failed_lan, failed_bridge, Row, first_cell, other_cells}
+use Rattle.mst_rows.specs.Cells.{Bare, nothing, text, count, Cell, absent, own, word, number, port, vids, names, ports, trees, groups, active, object, failed_lan, failed_bridge}
+use Rattle.mst_rows.specs.Rows.{Row, first_cell, other_cells}
 use Rattle.mst_rows.specs.Records.{natural, items_of, list_value, place, port_value, active_value, run_value, names_value, bare_value, fields, cell_value, bridge_value, number_value, parts_members, row_members, record_value, answer_value, refusal_value, unanswered_value}
 use Rattle.mst_rows.specs.Small.{Fits64, HasSmall, IsSmall, RowIsSmall}
 

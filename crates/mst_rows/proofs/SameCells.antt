@@ -12,7 +12,7 @@ use Rattle.mst_kinds.specs.Sorts as sort
 use Rattle.mst_kinds.specs.declared.key.Key.{Key}
 use Rattle.mst_kinds.proofs.Table.{keys_differ}
 use Rattle.mst_rows.specs.declared.value.ActivePort.{ActivePort}
-use Rattle.mst_rows.specs.Rows.{Bare, nothing, text, count, Cell, absent, own, word, number, port, vids, names, ports, trees, groups, active, object, failed_lan, failed_bridge}
+use Rattle.mst_rows.specs.Cells.{Bare, nothing, text, count, Cell, absent, own, word, number, port, vids, names, ports, trees, groups, active, object, failed_lan, failed_bridge}
 use Rattle.mst_rows.specs.Records.{natural, items_of, list_value, port_value, active_value, run_value, names_value, bare_value, fields, cell_value, bridge_value, number_value}
 use Rattle.mst_rows.specs.Small.{Fits64, HasSmall, IsSmall}
 use Rattle.mst_rows.specs.Fits.{IsOf}

@@ -13,7 +13,8 @@ use Rattle.mst_kinds.specs.declared.kind.Kind.{Kind}
 use Rattle.mst_kinds.specs.declared.part.Part.{Part}
 use Rattle.mst_kinds.specs.declared.part.Part.TheVariants as part
 use Rattle.mst_kinds.proofs.Table.{kinds_differ, words_kept}
-use Rattle.mst_rows.specs.Rows.{Cell, Row, row_of, first_cell, left_cells}
+use Rattle.mst_rows.specs.Cells.{Cell}
+use Rattle.mst_rows.specs.Rows.{Row, row_of, first_cell, left_cells}
 use Rattle.mst_rows.specs.Records.{bridge_value, cell_value, list_value, number_value, parts_members, record_value}
 use Rattle.mst_rows.specs.Small.{IsSmall}
 use Rattle.mst_rows.specs.Fits.{Fits, IsOf}

@@ -3,7 +3,8 @@ use Rattle.std.specs.Prelude.{ℕ, List, ⊤}
 use Rattle.std.specs.List.{AllZip}
 use Rattle.mst_kinds.specs.Sorts.{Sort, sorts_of}
 use Rattle.mst_kinds.specs.Sorts as sort
-use Rattle.mst_rows.specs.Rows.{Cell, absent, own, word, number, port, vids, names, ports, trees, groups, active, object, failed_lan, failed_bridge, Row}
+use Rattle.mst_rows.specs.Cells.{Cell, absent, own, word, number, port, vids, names, ports, trees, groups, active, object, failed_lan, failed_bridge}
+use Rattle.mst_rows.specs.Rows.{Row}
 use Rattle.mst_rows.specs.Small.{RowIsSmall}
 
 -- a value of a type, or nothing; in place of a giver stands a bridge's own vector, and a record's own port is always there

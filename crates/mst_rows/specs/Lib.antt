@@ -1,6 +1,8 @@
 pub use Rattle.mst_kinds.specs as kinds
-pub mod Rows
+pub mod Cells
+pub mod Fields
 pub mod Objects
+pub mod Rows
 pub mod Lines
 pub mod Printed
 pub mod Records

@@ -8,7 +8,8 @@ use Rattle.mst_kinds.specs.Words.{mark_text}
 use Rattle.mst_kinds.specs.declared.part.Part.{Part}
 use Rattle.mst_kinds.specs.declared.part.Part.TheVariants as part
 use Rattle.mst_rows.specs.declared.value.ActivePort.{ActivePort}
-use Rattle.mst_rows.specs.Rows.{Bare, nothing, text, count, Cell, absent, own, word, number, port, vids, names, ports, trees, groups, active, object, failed_lan, failed_bridge, Row, first_cell, left_cells}
+use Rattle.mst_rows.specs.Cells.{Bare, nothing, text, count, Cell, absent, own, word, number, port, vids, names, ports, trees, groups, active, object, failed_lan, failed_bridge}
+use Rattle.mst_rows.specs.Rows.{Row, first_cell, left_cells}
 
 -- an active port, in brackets where it is no member
 abbrev pub active_text : ActivePort → List ℕ

@@ -1,53 +1,36 @@
 -- Rows, as they are said.
-use Rattle.std.specs.Prelude.{◌≡◌, ℕ, List, [], ◌∷◌, map, ⊤}
+use Rattle.std.specs.Prelude.{◌≡◌, ℕ, List, [], ◌∷◌, Option, Some, None, map, ⊤}
 use Rattle.mst_ids.specs.Texts.{bridge_id_text, port_id_text, mac_text}
 use Rattle.mst_ids.specs.Vids.{runs_from}
 use Rattle.mst_ids.specs.declared.name.PortName.{PortName}
-use Rattle.mst_kinds.specs.declared.kind.Kind.{Kind}
 use Rattle.mst_kinds.specs.declared.key.Key.{Key}
+use Rattle.mst_kinds.specs.declared.kind.Kind.{Kind}
 use Rattle.mst_kinds.specs.declared.part.Part.{Part}
 use Rattle.mst_kinds.specs.declared.part.Part.TheVariants as part
-use Rattle.mst_rows.specs.declared.value.ActivePort.{ActivePort}
-use Rattle.mst_rows.specs.declared.value.Field.{Field}
-use Rattle.mst_rows.specs.declared.value.Simple.{Simple}
-use Rattle.mst_rows.specs.declared.value.Simple.TheVariants as simple
+use Rattle.mst_rows.specs.declared.value.RegionSide.{RegionSide}
+use Rattle.mst_rows.specs.declared.value.Vector.{Vector}
 use Rattle.mst_rows.specs.declared.value.Value.{Value}
 use Rattle.mst_rows.specs.declared.value.Value.TheVariants as value
+use Rattle.mst_rows.specs.Cells.{Bare, Cell, absent, own, word, number, port, vids, names, ports, trees, groups, active, object, failed_lan, failed_bridge}
+use Rattle.mst_rows.specs.Objects.{cist_vector, msti_vector, mstp_region, rstp_region}
 
--- what a field of an object says
-pub data Bare : Type 0 where
-  nothing : Bare
-  text : List ℕ → Bare
-  count : ℕ → Bare
+-- a port, or a bridge's own vector
+abbrev pub giver : Option PortName → Cell
+giver (Some p) = port p
+giver None = own
 
--- what a value says: an identifier is the word that it is written as, and VIDs are their longest runs
-pub data Cell : Type 0 where
-  absent : Cell
-  own : Cell
-  word : List ℕ → Cell
-  number : ℕ → Cell
-  port : PortName → Cell
-  vids : List (ℕ × ℕ) → Cell
-  names : List (List ℕ) → Cell
-  ports : List PortName → Cell
-  trees : List ℕ → Cell
-  groups : List (List (List ℕ)) → Cell
-  active : List ActivePort → Cell
-  object : List (Key × Bare) → Cell
-  failed_lan : List ℕ → Cell
-  failed_bridge : List ℕ → Cell
+-- a priority vector, by its root and its external cost if it is one of the CIST
+abbrev pub vector : Option (ℕ × ℕ) → Vector → List (Key × Bare)
+vector (Some root) v = cist_vector (bridge_id_text root.0) root.1 (bridge_id_text v.regional) v.int (bridge_id_text v.designated) (port_id_text v.port) (port_id_text v.receiver)
+vector None v = msti_vector (bridge_id_text v.regional) v.int (bridge_id_text v.designated) (port_id_text v.port) (port_id_text v.receiver)
 
-abbrev pub bare : Simple → Bare
-bare simple.Absent = nothing
-bare (simple.Word w) = text w.now
-bare (simple.Number n) = count n
-
-abbrev pub field : Field → Key × Bare
-field f = (f.key, bare f.value)
+-- what tells a region, by its name and its revision if it is of kind mstp
+abbrev pub region : Option (List ℕ × ℕ) → List ℕ → List (Key × Bare)
+region (Some configuration) first = mstp_region configuration.0 configuration.1 first
+region None first = rstp_region first
 
 abbrev pub cell : Value → Cell
 cell value.Absent = absent
-cell value.Own = own
 cell (value.Word w) = word w.now
 cell (value.Name n) = word n.now
 cell (value.Number n) = number n
@@ -61,7 +44,9 @@ cell (value.Ports ps) = ports ps.now
 cell (value.Trees ts) = trees ts.now
 cell (value.Groups gs) = groups (map (λ g. g.items) gs.now)
 cell (value.Active ps) = active ps.now
-cell (value.Object fs) = object (map field fs.now)
+cell (value.Giver p) = giver p.now
+cell (value.Vector v) = object (vector v.now.root v.now)
+cell (value.Region r) = object (region r.now.configuration r.now.first)
 cell (value.FailedLan n) = failed_lan n.now
 cell (value.FailedBridge n) = failed_bridge n.now
 

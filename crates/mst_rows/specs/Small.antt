@@ -3,7 +3,8 @@ use Rattle.std.specs.Prelude.{ℕ, ◌<◌, ◌^◌, List, ⊤}
 use Rattle.std.specs.List.{AllByRecursion}
 use Rattle.mst_ids.specs.declared.name.PortName.{PortName}
 use Rattle.mst_kinds.specs.declared.key.Key.{Key}
-use Rattle.mst_rows.specs.Rows.{Bare, nothing, text, count, Cell, absent, own, word, number, port, vids, names, ports, trees, groups, active, object, failed_lan, failed_bridge, Row}
+use Rattle.mst_rows.specs.Cells.{Bare, nothing, text, count, Cell, absent, own, word, number, port, vids, names, ports, trees, groups, active, object, failed_lan, failed_bridge}
+use Rattle.mst_rows.specs.Rows.{Row}
 
 abbrev pub Fits64 : ℕ → Type 0
 Fits64 n = n < 2 ^ 64

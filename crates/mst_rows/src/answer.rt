@@ -2,12 +2,12 @@ ghost use Rattle.std.specs.Prelude.{◌≡◌, ◌++◌, ◌∷◌, [], OnOk, If
 ghost use Rattle.json.specs.Print.{quoted};
 ghost use Rattle.mst_kinds.specs.Words.{key_text};
 ghost use Rattle.mst_rows.specs.Printed.{comma};
-ghost use Rattle.mst_rows.specs.Rows.{cell, first_cell, row_of};
+ghost use Rattle.mst_rows.specs.Rows.{cell, first_cell, giver, row_of};
 ghost use Rattle.mst_rows.specs.Answers.{active_json, bridge_text, first_json, flag_text, follow, head_text, line_text, named, number_text, part_json, parts_json, place_text, port_json, record_text, records_text, row_json, value_text};
 
 use crate::array::{push_array, push_groups};
 use crate::escape::push_quoted;
-use crate::field::push_fields;
+use crate::field::{push_region, push_vector};
 use crate::rows::Rows;
 use crate::runs::push_runs;
 use crate::text::left;
@@ -217,7 +217,6 @@ fn push_value(value: &Value<'_>, out: &mut Vec<u8>) -> Result<(), AllocError>
 {
     match *value {
         Value::Absent => push_bytes(b"null", out),
-        Value::Own => push_bytes(b"null", out),
         Value::Word(word) => push_quoted(word, out),
         Value::Name(name) => push_quoted(name.as_bytes(), out),
         Value::Number(number) => push_decimal(number, out),
@@ -231,13 +230,21 @@ fn push_value(value: &Value<'_>, out: &mut Vec<u8>) -> Result<(), AllocError>
         Value::Trees(trees) => push_array::<Tree>(trees, out),
         Value::Groups(groups) => push_groups(groups, out),
         Value::Active(ports) => push_array::<ActivePort>(ports, out),
-        Value::Object(fields) => {
-            push_bytes(b"{", out)?;
-            push_fields(fields, out)?;
-            push_bytes(b"}", out)
-        }
+        Value::Giver(port) => push_giver(port, out),
+        Value::Vector(vector) => push_vector(vector, out),
+        Value::Region(region) => push_region(region, out),
         Value::FailedLan(lan) => push_failed(b"lan", lan, out),
         Value::FailedBridge(bridge) => push_failed(b"bridge", bridge, out),
+    }
+}
+
+/// Appends the object of a port, or null for a bridge's own vector.
+fn push_giver(port: &Option<PortName>, out: &mut Vec<u8>) -> Result<(), AllocError>
+    ensures { OnOk result (out.new.items ≡ out.old.items ++ value_text (giver port.now)) }
+{
+    match port {
+        None => push_bytes(b"null", out),
+        Some(port) => push_port(port, out),
     }
 }
 
@@ -317,6 +324,16 @@ fn push_place_of(value: &Value<'_>, out: &mut Vec<u8>) -> Result<(), AllocError>
 {
     match *value {
         Value::Port(port) => push_place(port, out),
+        Value::Giver(port) => push_place_if(port, out),
         _ => push_no_place(out),
+    }
+}
+
+fn push_place_if(port: &Option<PortName>, out: &mut Vec<u8>) -> Result<(), AllocError>
+    ensures { OnOk result (out.new.items ≡ out.old.items ++ place_text (bridge_text (giver port.now)) (number_text (giver port.now))) }
+{
+    match port {
+        None => push_no_place(out),
+        Some(port) => push_place(port, out),
     }
 }

@@ -9,7 +9,8 @@ ghost use Rattle.mst_rows.specs.Printed.{json_text};
 ghost use Rattle.mst_rows.specs.Answers.{answer_text, record_line, refusal_line, unanswered_line};
 ghost use Rattle.mst_rows.specs.Fits.{Fits};
 ghost use Rattle.mst_rows.specs.Records.{answer_value, list_value, record_value, refusal_value, unanswered_value};
-ghost use Rattle.mst_rows.specs.Rows.{Cell, Row, row_of};
+ghost use Rattle.mst_rows.specs.Cells.{Cell};
+ghost use Rattle.mst_rows.specs.Rows.{Row, row_of};
 ghost use Rattle.mst_rows.specs.Small.{RowIsSmall};
 
 /// What is printed of an answer is a value's text and LF, and the text reads back as that value, where its numbers have 64 bits.

@@ -25,7 +25,6 @@ mod value;
 pub use answer::Json;
 pub use counts::Counts;
 pub use json_lines::JsonLines;
-pub use object::{cist_vector, msti_vector, mstp_region, rstp_region};
 pub use refusal::{push_refusal, push_unanswered};
 pub use rows::{Rows, put};
-pub use value::{ActivePort, Field, Simple, Value};
+pub use value::{ActivePort, RegionSide, Value, Vector};

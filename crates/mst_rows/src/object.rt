@@ -1,12 +1,29 @@
 ghost use Rattle.std.specs.Prelude.{◌≡◌, map};
-ghost use Rattle.mst_rows.specs.Rows.{field, object};
+ghost use Rattle.mst_rows.specs.Fields.{field};
 ghost use Rattle.mst_rows.specs.Objects.{cist_vector as cist_of, msti_vector as msti_of, mstp_region as mstp_of, rstp_region as rstp_of};
 
-use crate::value::{Field, Simple};
 use mst_kinds::Key;
 
+/// A field of an object: in a line its value alone.
+#[derive(Clone, Copy)]
+pub(crate) struct Field<'a> {
+    pub(crate) key: Key,
+    pub(crate) value: Simple<'a>,
+}
+
+/// The value of a field.
+#[derive(Clone, Copy)]
+pub(crate) enum Simple<'a> {
+    /// Nothing: `-` in a line.
+    Absent,
+    /// A word, a name or an identifier.
+    Word(&'a [u8]),
+    /// A number.
+    Number(u64),
+}
+
 /// The fields of a priority vector of the CIST, by the texts of its identifiers and its costs.
-pub fn cist_vector<'a>(
+pub(crate) fn cist_vector<'a>(
     root: &'a [u8],
     ext: u64,
     regional: &'a [u8],
@@ -15,7 +32,7 @@ pub fn cist_vector<'a>(
     port: &'a [u8],
     receiver: &'a [u8],
 ) -> [Field<'a>; 7]
-    ensures { object (map field result) ≡ cist_of root.now ext regional.now int designated.now port.now receiver.now }
+    ensures { map field result ≡ cist_of root.now ext regional.now int designated.now port.now receiver.now }
 {
     [
         Field {
@@ -50,14 +67,14 @@ pub fn cist_vector<'a>(
 }
 
 /// The fields of a priority vector of an MSTI, by the texts of its identifiers and its cost.
-pub fn msti_vector<'a>(
+pub(crate) fn msti_vector<'a>(
     regional: &'a [u8],
     int: u64,
     designated: &'a [u8],
     port: &'a [u8],
     receiver: &'a [u8],
 ) -> [Field<'a>; 5]
-    ensures { object (map field result) ≡ msti_of regional.now int designated.now port.now receiver.now }
+    ensures { map field result ≡ msti_of regional.now int designated.now port.now receiver.now }
 {
     [
         Field {
@@ -84,8 +101,8 @@ pub fn msti_vector<'a>(
 }
 
 /// The fields of a region of kind mstp: its name, its revision and its first bridge.
-pub fn mstp_region<'a>(name: &'a [u8], revision: u64, first: &'a [u8]) -> [Field<'a>; 3]
-    ensures { object (map field result) ≡ mstp_of name.now revision first.now }
+pub(crate) fn mstp_region<'a>(name: &'a [u8], revision: u64, first: &'a [u8]) -> [Field<'a>; 3]
+    ensures { map field result ≡ mstp_of name.now revision first.now }
 {
     [
         Field {
@@ -104,8 +121,8 @@ pub fn mstp_region<'a>(name: &'a [u8], revision: u64, first: &'a [u8]) -> [Field
 }
 
 /// The fields of a region of kind rstp: its bridge.
-pub fn rstp_region<'a>(first: &'a [u8]) -> [Field<'a>; 3]
-    ensures { object (map field result) ≡ rstp_of first.now }
+pub(crate) fn rstp_region<'a>(first: &'a [u8]) -> [Field<'a>; 3]
+    ensures { map field result ≡ rstp_of first.now }
 {
     [
         Field {

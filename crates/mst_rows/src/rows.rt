@@ -1,5 +1,6 @@
 ghost use Rattle.std.specs.Prelude.{List, [], ◌∷◌, ◌++◌, OnOk, map};
-ghost use Rattle.mst_rows.specs.Rows.{AreCells, Cell, Row, cell, row_of};
+ghost use Rattle.mst_rows.specs.Cells.{Cell};
+ghost use Rattle.mst_rows.specs.Rows.{AreCells, Row, cell, row_of};
 
 use crate::value::Value;
 use mst_kinds::Kind;

@@ -1,14 +1,18 @@
 ghost use Rattle.std.specs.Prelude.{◌≡◌, ◌++◌, OnOk, map, decimal, codes};
 ghost use Rattle.std.specs.List.{flat_map};
 ghost use Rattle.mst_ids.specs.Words.{after_space, comma_list, listed, port_text};
-ghost use Rattle.mst_rows.specs.Rows.{bare, cell, field, first_cell, left_cells, row_of};
+ghost use Rattle.mst_rows.specs.Rows.{cell, first_cell, giver, left_cells, region as region_of, row_of, vector as vector_of};
+ghost use Rattle.mst_rows.specs.Cells.{object};
+ghost use Rattle.mst_rows.specs.Fields.{bare, field};
+ghost use Rattle.mst_rows.specs.Objects.{mstp_region as mstp_of};
 ghost use Rattle.mst_rows.specs.Lines.{bare_text, cell_text, comma_text, part_text, parts_text, row_line};
 
+use crate::object::{Field, Simple, cist_vector, msti_vector, mstp_region, rstp_region};
 use crate::rows::Rows;
-use crate::value::{ActivePort, Field, Simple, Value};
+use crate::value::{ActivePort, RegionSide, Value, Vector};
 use mst_ids::{
-    Name, PortName, Tree, VidSet, push_bytes, push_comma_list, push_decimal, push_end, push_listed,
-    push_word,
+    ConfName, Name, PortName, Tree, VidSet, push_bytes, push_comma_list, push_decimal, push_end,
+    push_listed, push_word,
 };
 use mst_kinds::{Kind, Part};
 use std::alloc::AllocError;
@@ -123,7 +127,6 @@ fn push_value(value: &Value<'_>, out: &mut Vec<u8>) -> Result<(), AllocError>
 {
     match *value {
         Value::Absent => push_word(b"-", out),
-        Value::Own => push_word(b"own", out),
         Value::Word(word) => push_word(word, out),
         Value::Name(name) => push_word(name.as_bytes(), out),
         Value::Number(number) => push_number(number, out),
@@ -146,7 +149,9 @@ fn push_value(value: &Value<'_>, out: &mut Vec<u8>) -> Result<(), AllocError>
         Value::Trees(trees) => push_listed::<Tree>(trees, out),
         Value::Groups(groups) => push_groups(groups, out),
         Value::Active(ports) => push_listed::<ActivePort>(ports, out),
-        Value::Object(fields) => push_fields(fields, out),
+        Value::Giver(port) => push_giver(port, out),
+        Value::Vector(vector) => push_vector(vector, out),
+        Value::Region(region) => push_region(region, out),
         Value::FailedLan(lan) => {
             push_word(b"lan", out)?;
             push_word(lan.as_bytes(), out)
@@ -177,6 +182,77 @@ fn push_groups(groups: &[Vec<Name>], out: &mut Vec<u8>) -> Result<(), AllocError
         push_comma_list::<Name>(group.as_slice(), out)?;
     }
     Ok(())
+}
+
+/// Appends a port, or `own` for a bridge's own vector, after a space.
+fn push_giver(port: &Option<PortName>, out: &mut Vec<u8>) -> Result<(), AllocError>
+    ensures { OnOk result (out.new.items ≡ out.old.items ++ cell_text (giver port.now)) }
+{
+    match port {
+        None => push_word(b"own", out),
+        Some(port) => {
+            push_bytes(b" ", out)?;
+            port.push_text(out)
+        }
+    }
+}
+
+/// Appends the components of a priority vector, each after a space.
+fn push_vector(vector: &Vector, out: &mut Vec<u8>) -> Result<(), AllocError>
+    ensures { OnOk result (out.new.items ≡ out.old.items ++ cell_text (object (vector_of vector.now.root vector.now))) }
+{
+    let regional = vector.regional.text();
+    let designated = vector.designated.text();
+    let port = vector.port.text();
+    let receiver = vector.receiver.text();
+    match vector.root {
+        None => {
+            let fields = msti_vector(&regional, vector.int, &designated, &port, &receiver);
+            push_object(&fields, out)
+        }
+        Some((root, ext)) => {
+            let root = root.text();
+            let fields = cist_vector(
+                &root,
+                ext,
+                &regional,
+                vector.int,
+                &designated,
+                &port,
+                &receiver,
+            );
+            push_object(&fields, out)
+        }
+    }
+}
+
+/// Appends what tells a region, each word after a space.
+fn push_region(region: &RegionSide, out: &mut Vec<u8>) -> Result<(), AllocError>
+    ensures { OnOk result (out.new.items ≡ out.old.items ++ cell_text (object (region_of region.now.configuration region.now.first))) }
+{
+    match &region.configuration {
+        None => push_object(&rstp_region(region.first.as_bytes()), out),
+        Some((name, revision)) => push_mstp(name, *revision, &region.first, out),
+    }
+}
+
+fn push_mstp<'a>(
+    name: &'a ConfName,
+    revision: u16,
+    first: &'a Name,
+    out: &mut Vec<u8>,
+) -> Result<(), AllocError>
+    ensures { OnOk result (out.new.items ≡ out.old.items ++ cell_text (object (mstp_of name.now revision first.now))) }
+{
+    let fields = mstp_region(name.as_bytes(), u64::from(revision), first.as_bytes());
+    push_object(&fields, out)
+}
+
+/// Appends the words of an object, each after a space.
+fn push_object(fields: &[Field<'_>], out: &mut Vec<u8>) -> Result<(), AllocError>
+    ensures { OnOk result (out.new.items ≡ out.old.items ++ cell_text (object (map field fields.now))) }
+{
+    push_fields(fields, out)
 }
 
 /// Appends the value of each field after a space.

@@ -1,13 +1,10 @@
-use mst_ids::{BridgeId, Mac, Name, PortId, PortName, Tree, VidSet};
-use mst_kinds::Key;
+use mst_ids::{BridgeId, ConfName, Mac, Name, PortId, PortName, Tree, VidSet};
 
 /// A value that stands in a row.
 #[derive(Clone, Copy)]
 pub enum Value<'a> {
     /// Nothing: `-` in a line, `null` in a record.
     Absent,
-    /// A bridge's own vector, where a port may stand: `own` in a line, `null` in a record.
-    Own,
     /// A word of a fixed set, as a role, or the name of a configuration.
     Word(&'a [u8]),
     /// A name.
@@ -34,8 +31,12 @@ pub enum Value<'a> {
     Groups(&'a [Vec<Name>]),
     /// Active ports, one word each, or `-` where there is none.
     Active(&'a [ActivePort]),
-    /// An object of several words.
-    Object(&'a [Field<'a>]),
+    /// A port, or a bridge's own vector: `own` in a line, `null` in a record.
+    Giver(&'a Option<PortName>),
+    /// A priority vector: its components in a line, and an object in a record.
+    Vector(&'a Vector),
+    /// What tells a region: a name, a revision and its first bridge in a line, or `rstp`, `-` and its bridge; in a record an object.
+    Region(&'a RegionSide),
     /// A LAN that fails: `lan L` in a line, and an object in a record.
     FailedLan(&'a Name),
     /// A bridge that fails: `bridge B` in a line, and an object in a record.
@@ -49,20 +50,23 @@ pub struct ActivePort {
     pub is_member: bool,
 }
 
-/// A field of an object: in a line its value alone.
+/// A priority vector.
 #[derive(Clone, Copy)]
-pub struct Field<'a> {
-    pub key: Key,
-    pub value: Simple<'a>,
+pub struct Vector {
+    /// The root, and the external root path cost; in an MSTI nothing.
+    pub root: Option<(BridgeId, u64)>,
+    pub regional: BridgeId,
+    pub int: u64,
+    pub designated: BridgeId,
+    pub port: PortId,
+    pub receiver: PortId,
 }
 
-/// The value of a field.
+/// What tells a region.
 #[derive(Clone, Copy)]
-pub enum Simple<'a> {
-    /// Nothing: `-` in a line.
-    Absent,
-    /// A word, a name or an identifier.
-    Word(&'a [u8]),
-    /// A number.
-    Number(u64),
+pub struct RegionSide {
+    /// The name and the revision of its configuration; nothing in a region of kind rstp.
+    pub configuration: Option<(ConfName, u16)>,
+    /// Its first bridge.
+    pub first: Name,
 }

@@ -1,5 +1,5 @@
 use Rattle.std.proofs.Common.{◌≡◌, ◌++◌, drop, map, false}
-use Rattle.mst_rows.specs.Rows.{field}
+use Rattle.mst_rows.specs.Fields.{field}
 use Rattle.mst_rows.specs.Answers.{field_json, joined}
 use Rattle.mst_rows.proofs.field.push_fields.Given as goal
 

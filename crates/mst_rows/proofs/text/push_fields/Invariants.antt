@@ -1,7 +1,7 @@
 use Rattle.std.proofs.Common.{◌≡◌, ◌++◌, drop, map}
 use Rattle.std.specs.List.{flat_map}
 use Rattle.mst_ids.specs.Words.{after_space}
-use Rattle.mst_rows.specs.Rows.{field}
+use Rattle.mst_rows.specs.Fields.{field}
 use Rattle.mst_rows.specs.Lines.{bare_text}
 use Rattle.mst_rows.proofs.text.push_fields.Given as goal
 
