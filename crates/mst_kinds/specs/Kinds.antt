@@ -83,11 +83,11 @@ parts_of_query query.ExplainIn = part.Key key.Bridge ∷ part.Key key.Port ∷ p
 parts_of_query query.Diff = []
 -- `sweep`
 parts_of_query query.Sweep = []
--- `sweep K N`: the part K of N
+-- `sweep K/N`
 parts_of_query query.SweepPart = part.Key key.Part ∷ part.Key key.PartCount ∷ []
 -- `sweep pairs`
 parts_of_query query.SweepPairs = part.Said key.Of mark.Pairs ∷ []
--- `sweep pairs K N`: the part K of N
+-- `sweep pairs K/N`
 parts_of_query query.SweepPairsPart = part.Said key.Of mark.Pairs ∷ part.Key key.Part ∷ part.Key key.PartCount ∷ []
 -- `summary`
 parts_of_query query.Summary = []

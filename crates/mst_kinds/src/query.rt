@@ -34,11 +34,11 @@ pub enum Query {
     Diff,
     /// `sweep`
     Sweep,
-    /// `sweep K N`: the part K of N
+    /// `sweep K/N`
     SweepPart,
     /// `sweep pairs`
     SweepPairs,
-    /// `sweep pairs K N`: the part K of N
+    /// `sweep pairs K/N`
     SweepPairsPart,
     /// `summary`
     Summary,
