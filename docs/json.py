@@ -42,14 +42,19 @@ def texts(text, enum):
     return dict(re.findall(rf'{enum}::(\w+) => b"(.*?)"', text))
 
 
-def member(part, words, names, marks):
-    """What a record has of a part of a line."""
-    if part in ("Port", "AbovePort"):
-        return f"`bridge{'^' * (part != 'Port')}` `port{'^' * (part != 'Port')}`"
-    keys = re.findall(r"Key::(\w+)", words)
-    if part in ("Said", "Told"):
-        return f'`{names[keys[0]]}{"^" * (part == "Told")}` "{marks[re.search(r"Mark::(.*)", words).group(1)]}"'
-    return f"`{names[keys[0]]}{'^' * (part == 'Above')}`"
+def member(part, names, marks):
+    """What a record has of a part of a line: `^` where the line hasn't it."""
+    place, *words = part.split()
+    above = "^" if place in ("Above", "AbovePort", "Told") else ""
+    if not words:
+        return f"`bridge{above}` `port{above}`"
+    word = f' "{marks[words[1]]}"' if place in ("Said", "Told") else ""
+    return f"`{names[words[0]]}{above}`{word}"
+
+
+def fixed(first, parts, marks):
+    """The fixed words of a line, in their order."""
+    return [marks[first]] + [marks[part.split()[-1]] for part in parts if part.startswith(("Mark", "Said"))]
 
 
 def kinds():
@@ -60,9 +65,11 @@ def kinds():
         text = read("src", re.sub(r"(?<!^)(?=[A-Z])", "_", enum).lower() + ".rt")
         yield f"\n**{told}**\n\n| Line | Keys |\n|---|---|"
         for line, variant in variants(text, enum):
-            parts = re.search(rf"{enum}::{variant} => &\[(.*?)\],?\n", text.split("fn parts")[1], re.DOTALL).group(1)
-            found = re.findall(r"Part::(\w+)(?:\(([^)]*)\))?", parts)
-            yield f"| {line} | {' '.join(member(*part, names, marks) for part in found if part[0] != 'Mark')} |"
+            parts = re.search(rf"{enum}::{variant} =>\s+parts!\[(.*?)\]", text).group(1).split(", ")
+            words = iter(line.split("`")[1].split())
+            if not all(word in words for word in fixed(re.search(rf"{enum}::{variant} => Mark::(\w+)", text).group(1), parts, marks)):
+                sys.exit(f"{enum}::{variant}: {line} hasn't the words of its parts")
+            yield f"| {line} | {' '.join(member(part, names, marks) for part in parts if part and not part.startswith('Mark'))} |"
 
 
 def keys():

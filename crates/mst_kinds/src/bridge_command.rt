@@ -1,9 +1,8 @@
 ghost use Rattle.std.specs.Prelude.{◌≡◌};
 ghost use Rattle.mst_kinds.specs.Kinds.{first_of_bridge_command, parts_of_bridge_command};
 
-use crate::key::Key;
 use crate::mark::Mark;
-use crate::part::Part;
+use crate::part::{Part, parts};
 
 /// A line of a saved network that is of a bridge, and its first line.
 #[derive(Clone, Copy)]
@@ -54,34 +53,16 @@ impl BridgeCommand {
         ensures { result.now ≡ parts_of_bridge_command self }
     {
         match self {
-            BridgeCommand::Version => &[Part::Key(Key::Version)],
-            BridgeCommand::Add => &[Part::Key(Key::Bridge), Part::Key(Key::Mac)],
-            BridgeCommand::Off => &[Part::Key(Key::Bridge), Part::Said(Key::Power, Mark::Off)],
-            BridgeCommand::Rstp => &[
-                Part::Key(Key::Bridge),
-                Part::Said(Key::BridgeKind, Mark::Rstp),
-            ],
-            BridgeCommand::SystemPriority => &[
-                Part::Key(Key::Bridge),
-                Part::Key(Key::SystemPriority),
-            ],
-            BridgeCommand::Configuration => &[
-                Part::Key(Key::Bridge),
-                Part::Key(Key::Revision),
-                Part::Key(Key::Name),
-            ],
-            BridgeCommand::Msti => &[
-                Part::Key(Key::Bridge),
-                Part::Key(Key::Tree),
-                Part::Key(Key::Vids),
-            ],
-            BridgeCommand::MaxHops => &[Part::Key(Key::Bridge), Part::Key(Key::MaxHops)],
-            BridgeCommand::MaxAge => &[Part::Key(Key::Bridge), Part::Key(Key::MaxAge)],
-            BridgeCommand::Priority => &[
-                Part::Key(Key::Bridge),
-                Part::Key(Key::Tree),
-                Part::Key(Key::Priority),
-            ],
+            BridgeCommand::Version => parts![Key Version],
+            BridgeCommand::Add => parts![Key Bridge, Key Mac],
+            BridgeCommand::Off => parts![Key Bridge, Said Power Off],
+            BridgeCommand::Rstp => parts![Key Bridge, Said BridgeKind Rstp],
+            BridgeCommand::SystemPriority => parts![Key Bridge, Key SystemPriority],
+            BridgeCommand::Configuration => parts![Key Bridge, Key Revision, Key Name],
+            BridgeCommand::Msti => parts![Key Bridge, Key Tree, Key Vids],
+            BridgeCommand::MaxHops => parts![Key Bridge, Key MaxHops],
+            BridgeCommand::MaxAge => parts![Key Bridge, Key MaxAge],
+            BridgeCommand::Priority => parts![Key Bridge, Key Tree, Key Priority],
         }
     }
 }

@@ -1,9 +1,8 @@
 ghost use Rattle.std.specs.Prelude.{◌≡◌};
 ghost use Rattle.mst_kinds.specs.Kinds.{first_of_capture_line, parts_of_capture_line};
 
-use crate::key::Key;
 use crate::mark::Mark;
-use crate::part::Part;
+use crate::part::{Part, parts};
 
 /// A line of what a capture has.
 #[derive(Clone, Copy)]
@@ -51,81 +50,22 @@ impl CaptureLine {
         ensures { result.now ≡ parts_of_capture_line self }
     {
         match self {
-            CaptureLine::Agrees => &[
-                Part::Key(Key::Line),
-                Part::Port,
-                Part::Said(Key::Result, Mark::Agrees),
-            ],
-            CaptureLine::Number => &[
-                Part::Key(Key::Line),
-                Part::Port,
-                Part::Told(Key::TreeKind, Mark::Cist),
-                Part::Above(Key::Tree),
-                Part::Key(Key::Field),
-                Part::Mark(Mark::Plan),
-                Part::Key(Key::Plan),
-                Part::Mark(Mark::Capture),
-                Part::Key(Key::Captured),
-            ],
-            CaptureLine::Text => &[
-                Part::Key(Key::Line),
-                Part::Port,
-                Part::Told(Key::TreeKind, Mark::Cist),
-                Part::Above(Key::Tree),
-                Part::Key(Key::Field),
-                Part::Mark(Mark::Plan),
-                Part::Key(Key::PlanText),
-                Part::Mark(Mark::Capture),
-                Part::Key(Key::CapturedText),
-            ],
-            CaptureLine::MstiNumber => &[
-                Part::Key(Key::Line),
-                Part::Port,
-                Part::Said(Key::TreeKind, Mark::Msti),
-                Part::Key(Key::Tree),
-                Part::Key(Key::Field),
-                Part::Mark(Mark::Plan),
-                Part::Key(Key::Plan),
-                Part::Mark(Mark::Capture),
-                Part::Key(Key::Captured),
-            ],
-            CaptureLine::MstiText => &[
-                Part::Key(Key::Line),
-                Part::Port,
-                Part::Said(Key::TreeKind, Mark::Msti),
-                Part::Key(Key::Tree),
-                Part::Key(Key::Field),
-                Part::Mark(Mark::Plan),
-                Part::Key(Key::PlanText),
-                Part::Mark(Mark::Capture),
-                Part::Key(Key::CapturedText),
-            ],
-            CaptureLine::Unplanned => &[
-                Part::Key(Key::Line),
-                Part::Port,
-                Part::Said(Key::TreeKind, Mark::Msti),
-                Part::Key(Key::Tree),
-                Part::Said(Key::Result, Mark::Unplanned),
-            ],
-            CaptureLine::Repeated => &[
-                Part::Key(Key::Line),
-                Part::Port,
-                Part::Said(Key::TreeKind, Mark::Msti),
-                Part::Key(Key::Tree),
-                Part::Said(Key::Result, Mark::Repeated),
-            ],
-            CaptureLine::Missing => &[
-                Part::Key(Key::Line),
-                Part::Port,
-                Part::Said(Key::TreeKind, Mark::Msti),
-                Part::Key(Key::Tree),
-                Part::Said(Key::Result, Mark::Missing),
-            ],
-            CaptureLine::Unread => &[
-                Part::Key(Key::Line),
-                Part::Key(Key::Error),
-                Part::Key(Key::Text),
-            ],
+            CaptureLine::Agrees => parts![Key Line, Port, Said Result Agrees],
+            CaptureLine::Number =>
+                parts![Key Line, Port, Told TreeKind Cist, Above Tree, Key Field, Mark Plan, Key Plan, Mark Capture, Key Captured],
+            CaptureLine::Text =>
+                parts![Key Line, Port, Told TreeKind Cist, Above Tree, Key Field, Mark Plan, Key PlanText, Mark Capture, Key CapturedText],
+            CaptureLine::MstiNumber =>
+                parts![Key Line, Port, Said TreeKind Msti, Key Tree, Key Field, Mark Plan, Key Plan, Mark Capture, Key Captured],
+            CaptureLine::MstiText =>
+                parts![Key Line, Port, Said TreeKind Msti, Key Tree, Key Field, Mark Plan, Key PlanText, Mark Capture, Key CapturedText],
+            CaptureLine::Unplanned =>
+                parts![Key Line, Port, Said TreeKind Msti, Key Tree, Said Result Unplanned],
+            CaptureLine::Repeated =>
+                parts![Key Line, Port, Said TreeKind Msti, Key Tree, Said Result Repeated],
+            CaptureLine::Missing =>
+                parts![Key Line, Port, Said TreeKind Msti, Key Tree, Said Result Missing],
+            CaptureLine::Unread => parts![Key Line, Key Error, Key Text],
         }
     }
 }

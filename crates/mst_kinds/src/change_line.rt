@@ -1,9 +1,8 @@
 ghost use Rattle.std.specs.Prelude.{◌≡◌};
 ghost use Rattle.mst_kinds.specs.Kinds.{first_of_change_line, parts_of_change_line};
 
-use crate::key::Key;
 use crate::mark::Mark;
-use crate::part::Part;
+use crate::part::{Part, parts};
 
 /// A line of how two networks differ.
 #[derive(Clone, Copy)]
@@ -42,49 +41,15 @@ impl ChangeLine {
         ensures { result.now ≡ parts_of_change_line self }
     {
         match self {
-            ChangeLine::Bridge => &[
-                Part::Key(Key::Tree),
-                Part::Key(Key::Bridge),
-                Part::Key(Key::OldVector),
-                Part::Mark(Mark::Arrow),
-                Part::Key(Key::NewVector),
-            ],
-            ChangeLine::Port => &[
-                Part::Key(Key::Tree),
-                Part::Key(Key::Bridge),
-                Part::Key(Key::Port),
-                Part::Key(Key::OldRole),
-                Part::Mark(Mark::Arrow),
-                Part::Key(Key::NewRole),
-            ],
-            ChangeLine::Region => &[
-                Part::Key(Key::Bridge),
-                Part::Key(Key::OldRegion),
-                Part::Mark(Mark::Arrow),
-                Part::Key(Key::NewRegion),
-            ],
-            ChangeLine::Root => &[
-                Part::Key(Key::Tree),
-                Part::Key(Key::OldRoot),
-                Part::Mark(Mark::Arrow),
-                Part::Key(Key::NewRoot),
-            ],
-            ChangeLine::Reach => &[
-                Part::Key(Key::Vids),
-                Part::Key(Key::OldIslands),
-                Part::Mark(Mark::Arrow),
-                Part::Key(Key::NewIslands),
-            ],
-            ChangeLine::Counts => &[
-                Part::Mark(Mark::Regions),
-                Part::Key(Key::RegionCount),
-                Part::Mark(Mark::Roots),
-                Part::Key(Key::RootCount),
-                Part::Mark(Mark::Ports),
-                Part::Key(Key::PortCount),
-                Part::Mark(Mark::Vlans),
-                Part::Key(Key::VlanCount),
-            ],
+            ChangeLine::Bridge =>
+                parts![Key Tree, Key Bridge, Key OldVector, Mark Arrow, Key NewVector],
+            ChangeLine::Port =>
+                parts![Key Tree, Key Bridge, Key Port, Key OldRole, Mark Arrow, Key NewRole],
+            ChangeLine::Region => parts![Key Bridge, Key OldRegion, Mark Arrow, Key NewRegion],
+            ChangeLine::Root => parts![Key Tree, Key OldRoot, Mark Arrow, Key NewRoot],
+            ChangeLine::Reach => parts![Key Vids, Key OldIslands, Mark Arrow, Key NewIslands],
+            ChangeLine::Counts =>
+                parts![Mark Regions, Key RegionCount, Mark Roots, Key RootCount, Mark Ports, Key PortCount, Mark Vlans, Key VlanCount],
         }
     }
 }

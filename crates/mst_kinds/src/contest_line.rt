@@ -1,9 +1,8 @@
 ghost use Rattle.std.specs.Prelude.{◌≡◌};
 ghost use Rattle.mst_kinds.specs.Kinds.{first_of_contest_line, parts_of_contest_line};
 
-use crate::key::Key;
 use crate::mark::Mark;
-use crate::part::Part;
+use crate::part::{Part, parts};
 
 /// A line of what won over what, for the role of a port.
 #[derive(Clone, Copy)]
@@ -48,72 +47,20 @@ impl ContestLine {
         ensures { result.now ≡ parts_of_contest_line self }
     {
         match self {
-            ContestLine::DesignatedAlone => &[
-                Part::Above(Key::Tree),
-                Part::AbovePort,
-                Part::Key(Key::Winner),
-                Part::Mark(Mark::Alone),
-            ],
-            ContestLine::DesignatedOver => &[
-                Part::Above(Key::Tree),
-                Part::AbovePort,
-                Part::Key(Key::Winner),
-                Part::Mark(Mark::Over),
-                Part::Key(Key::Loser),
-            ],
-            ContestLine::DesignatedByCost => &[
-                Part::Above(Key::Tree),
-                Part::AbovePort,
-                Part::Key(Key::Winner),
-                Part::Mark(Mark::Over),
-                Part::Key(Key::Loser),
-                Part::Key(Key::Field),
-                Part::Key(Key::Value),
-                Part::Key(Key::LoserValue),
-            ],
-            ContestLine::DesignatedById => &[
-                Part::Above(Key::Tree),
-                Part::AbovePort,
-                Part::Key(Key::Winner),
-                Part::Mark(Mark::Over),
-                Part::Key(Key::Loser),
-                Part::Key(Key::Field),
-                Part::Key(Key::ValueId),
-                Part::Key(Key::LoserId),
-            ],
-            ContestLine::RootAlone => &[
-                Part::Above(Key::Tree),
-                Part::AbovePort,
-                Part::Key(Key::Winner),
-                Part::Mark(Mark::Alone),
-            ],
-            ContestLine::RootOver => &[
-                Part::Above(Key::Tree),
-                Part::AbovePort,
-                Part::Key(Key::Winner),
-                Part::Mark(Mark::Over),
-                Part::Key(Key::Loser),
-            ],
-            ContestLine::RootByCost => &[
-                Part::Above(Key::Tree),
-                Part::AbovePort,
-                Part::Key(Key::Winner),
-                Part::Mark(Mark::Over),
-                Part::Key(Key::Loser),
-                Part::Key(Key::Field),
-                Part::Key(Key::Value),
-                Part::Key(Key::LoserValue),
-            ],
-            ContestLine::RootById => &[
-                Part::Above(Key::Tree),
-                Part::AbovePort,
-                Part::Key(Key::Winner),
-                Part::Mark(Mark::Over),
-                Part::Key(Key::Loser),
-                Part::Key(Key::Field),
-                Part::Key(Key::ValueId),
-                Part::Key(Key::LoserId),
-            ],
+            ContestLine::DesignatedAlone => parts![Above Tree, AbovePort, Key Winner, Mark Alone],
+            ContestLine::DesignatedOver =>
+                parts![Above Tree, AbovePort, Key Winner, Mark Over, Key Loser],
+            ContestLine::DesignatedByCost =>
+                parts![Above Tree, AbovePort, Key Winner, Mark Over, Key Loser, Key Field, Key Value, Key LoserValue],
+            ContestLine::DesignatedById =>
+                parts![Above Tree, AbovePort, Key Winner, Mark Over, Key Loser, Key Field, Key ValueId, Key LoserId],
+            ContestLine::RootAlone => parts![Above Tree, AbovePort, Key Winner, Mark Alone],
+            ContestLine::RootOver =>
+                parts![Above Tree, AbovePort, Key Winner, Mark Over, Key Loser],
+            ContestLine::RootByCost =>
+                parts![Above Tree, AbovePort, Key Winner, Mark Over, Key Loser, Key Field, Key Value, Key LoserValue],
+            ContestLine::RootById =>
+                parts![Above Tree, AbovePort, Key Winner, Mark Over, Key Loser, Key Field, Key ValueId, Key LoserId],
         }
     }
 }

@@ -1,9 +1,8 @@
 ghost use Rattle.std.specs.Prelude.{◌≡◌};
 ghost use Rattle.mst_kinds.specs.Kinds.{first_of_explain_line, parts_of_explain_line};
 
-use crate::key::Key;
 use crate::mark::Mark;
-use crate::part::Part;
+use crate::part::{Part, parts};
 
 /// A line of why a port has its role.
 #[derive(Clone, Copy)]
@@ -39,30 +38,12 @@ impl ExplainLine {
         ensures { result.now ≡ parts_of_explain_line self }
     {
         match self {
-            ExplainLine::Port => &[
-                Part::Key(Key::Tree),
-                Part::Port,
-                Part::Key(Key::Lan),
-                Part::Key(Key::Role),
-            ],
-            ExplainLine::Restricted => &[Part::Above(Key::Tree), Part::AbovePort],
-            ExplainLine::Boundary => &[
-                Part::Above(Key::Tree),
-                Part::AbovePort,
-                Part::Key(Key::Role),
-                Part::Mark(Mark::Designated),
-                Part::Key(Key::Designated),
-            ],
-            ExplainLine::BridgeOff => &[
-                Part::Above(Key::Tree),
-                Part::AbovePort,
-                Part::Key(Key::OffBridge),
-            ],
-            ExplainLine::LanDown => &[
-                Part::Above(Key::Tree),
-                Part::AbovePort,
-                Part::Key(Key::DownLan),
-            ],
+            ExplainLine::Port => parts![Key Tree, Port, Key Lan, Key Role],
+            ExplainLine::Restricted => parts![Above Tree, AbovePort],
+            ExplainLine::Boundary =>
+                parts![Above Tree, AbovePort, Key Role, Mark Designated, Key Designated],
+            ExplainLine::BridgeOff => parts![Above Tree, AbovePort, Key OffBridge],
+            ExplainLine::LanDown => parts![Above Tree, AbovePort, Key DownLan],
         }
     }
 }

@@ -1,9 +1,8 @@
 ghost use Rattle.std.specs.Prelude.{◌≡◌};
 ghost use Rattle.mst_kinds.specs.Kinds.{first_of_note_line, parts_of_note_line};
 
-use crate::key::Key;
 use crate::mark::Mark;
-use crate::part::Part;
+use crate::part::{Part, parts};
 
 /// A note.
 #[derive(Clone, Copy)]
@@ -39,43 +38,15 @@ impl NoteLine {
         ensures { result.now ≡ parts_of_note_line self }
     {
         match self {
-            NoteLine::Hops => &[
-                Part::Said(Key::Note, Mark::Hops),
-                Part::Key(Key::Tree),
-                Part::Key(Key::Bridge),
-                Part::Mark(Mark::Depth),
-                Part::Key(Key::Depth),
-                Part::Mark(Mark::Limit),
-                Part::Key(Key::Limit),
-            ],
-            NoteLine::Age => &[
-                Part::Said(Key::Note, Mark::Age),
-                Part::Above(Key::Tree),
-                Part::Key(Key::Bridge),
-                Part::Mark(Mark::Depth),
-                Part::Key(Key::Depth),
-                Part::Mark(Mark::Limit),
-                Part::Key(Key::Limit),
-            ],
-            NoteLine::ExternalCost => &[
-                Part::Said(Key::Note, Mark::Cost),
-                Part::Key(Key::Tree),
-                Part::Key(Key::Bridge),
-                Part::Mark(Mark::Ext),
-                Part::Key(Key::Ext),
-            ],
-            NoteLine::InternalCost => &[
-                Part::Said(Key::Note, Mark::Cost),
-                Part::Key(Key::Tree),
-                Part::Key(Key::Bridge),
-                Part::Mark(Mark::Int),
-                Part::Key(Key::Int),
-            ],
-            NoteLine::Restricted => &[
-                Part::Said(Key::Note, Mark::Restricted),
-                Part::Key(Key::Bridge),
-                Part::Key(Key::Port),
-            ],
+            NoteLine::Hops =>
+                parts![Said Note Hops, Key Tree, Key Bridge, Mark Depth, Key Depth, Mark Limit, Key Limit],
+            NoteLine::Age =>
+                parts![Said Note Age, Above Tree, Key Bridge, Mark Depth, Key Depth, Mark Limit, Key Limit],
+            NoteLine::ExternalCost =>
+                parts![Said Note Cost, Key Tree, Key Bridge, Mark Ext, Key Ext],
+            NoteLine::InternalCost =>
+                parts![Said Note Cost, Key Tree, Key Bridge, Mark Int, Key Int],
+            NoteLine::Restricted => parts![Said Note Restricted, Key Bridge, Key Port],
         }
     }
 }

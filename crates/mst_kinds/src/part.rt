@@ -21,3 +21,35 @@ pub enum Part {
     /// The same, of the record alone.
     AbovePort,
 }
+
+/// A part, by its words.
+macro_rules! part {
+    (Port) => {
+        $crate::part::Part::Port
+    };
+    (AbovePort) => {
+        $crate::part::Part::AbovePort
+    };
+    (Mark $mark:ident) => {
+        $crate::part::Part::Mark($crate::mark::Mark::$mark)
+    };
+    (Said $key:ident $mark:ident) => {
+        $crate::part::Part::Said($crate::key::Key::$key, $crate::mark::Mark::$mark)
+    };
+    (Told $key:ident $mark:ident) => {
+        $crate::part::Part::Told($crate::key::Key::$key, $crate::mark::Mark::$mark)
+    };
+    ($part:ident $key:ident) => {
+        $crate::part::Part::$part($crate::key::Key::$key)
+    };
+}
+
+/// Parts, as `Key Bridge, Mark Root, Said Power Off`.
+macro_rules! parts {
+    ($($($word:ident)+),*) => {
+        &[$($crate::part::part!($($word)+)),*]
+    };
+}
+
+pub(crate) use part;
+pub(crate) use parts;

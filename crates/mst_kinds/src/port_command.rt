@@ -1,9 +1,8 @@
 ghost use Rattle.std.specs.Prelude.{◌≡◌};
 ghost use Rattle.mst_kinds.specs.Kinds.{first_of_port_command, parts_of_port_command};
 
-use crate::key::Key;
 use crate::mark::Mark;
-use crate::part::Part;
+use crate::part::{Part, parts};
 
 /// A line of a saved network that is of a port or of a LAN.
 #[derive(Clone, Copy)]
@@ -60,53 +59,18 @@ impl PortCommand {
         ensures { result.now ≡ parts_of_port_command self }
     {
         match self {
-            PortCommand::Add => &[Part::Key(Key::Bridge), Part::Key(Key::Port)],
-            PortCommand::Key => &[
-                Part::Key(Key::Bridge),
-                Part::Key(Key::Port),
-                Part::Key(Key::AggregationKey),
-            ],
-            PortCommand::ExternalCost => &[
-                Part::Key(Key::Bridge),
-                Part::Key(Key::Port),
-                Part::Key(Key::Ext),
-            ],
-            PortCommand::InternalCost => &[
-                Part::Key(Key::Bridge),
-                Part::Key(Key::Port),
-                Part::Key(Key::Tree),
-                Part::Key(Key::Int),
-            ],
-            PortCommand::Priority => &[
-                Part::Key(Key::Bridge),
-                Part::Key(Key::Port),
-                Part::Key(Key::Tree),
-                Part::Key(Key::PortPriority),
-            ],
-            PortCommand::Vlans => &[
-                Part::Key(Key::Bridge),
-                Part::Key(Key::Port),
-                Part::Key(Key::Vids),
-            ],
-            PortCommand::NoVlans => &[
-                Part::Key(Key::Bridge),
-                Part::Key(Key::Port),
-                Part::Said(Key::Vlans, Mark::None),
-                Part::Above(Key::Vids),
-            ],
-            PortCommand::Restricted => &[
-                Part::Key(Key::Bridge),
-                Part::Key(Key::Port),
-                Part::Said(Key::Restricted, Mark::Yes),
-            ],
-            PortCommand::Plug => &[
-                Part::Key(Key::Bridge),
-                Part::Key(Key::Port),
-                Part::Key(Key::Lan),
-            ],
-            PortCommand::AddLan => &[Part::Key(Key::Lan)],
-            PortCommand::LanDown => &[Part::Key(Key::Lan), Part::Said(Key::State, Mark::Down)],
-            PortCommand::Speed => &[Part::Key(Key::Lan), Part::Key(Key::Speed)],
+            PortCommand::Add => parts![Key Bridge, Key Port],
+            PortCommand::Key => parts![Key Bridge, Key Port, Key AggregationKey],
+            PortCommand::ExternalCost => parts![Key Bridge, Key Port, Key Ext],
+            PortCommand::InternalCost => parts![Key Bridge, Key Port, Key Tree, Key Int],
+            PortCommand::Priority => parts![Key Bridge, Key Port, Key Tree, Key PortPriority],
+            PortCommand::Vlans => parts![Key Bridge, Key Port, Key Vids],
+            PortCommand::NoVlans => parts![Key Bridge, Key Port, Said Vlans None, Above Vids],
+            PortCommand::Restricted => parts![Key Bridge, Key Port, Said Restricted Yes],
+            PortCommand::Plug => parts![Key Bridge, Key Port, Key Lan],
+            PortCommand::AddLan => parts![Key Lan],
+            PortCommand::LanDown => parts![Key Lan, Said State Down],
+            PortCommand::Speed => parts![Key Lan, Key Speed],
         }
     }
 }

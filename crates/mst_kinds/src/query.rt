@@ -1,9 +1,8 @@
 ghost use Rattle.std.specs.Prelude.{◌≡◌};
 ghost use Rattle.mst_kinds.specs.Kinds.{first_of_query, parts_of_query};
 
-use crate::key::Key;
 use crate::mark::Mark;
-use crate::part::Part;
+use crate::part::{Part, parts};
 
 /// A query, with its words.
 #[derive(Clone, Copy)]
@@ -75,31 +74,23 @@ impl Query {
         ensures { result.now ≡ parts_of_query self }
     {
         match self {
-            Query::ShowTree => &[Part::Key(Key::Tree)],
-            Query::ShowPlan => &[],
-            Query::ShowVlan => &[Part::Key(Key::Vid)],
-            Query::ShowLag => &[],
-            Query::ShowRegions => &[],
-            Query::ShowMstconfid => &[Part::Key(Key::Bridge)],
-            Query::ShowNotes => &[],
-            Query::Changes => &[],
-            Query::Save => &[],
-            Query::Explain => &[Part::Key(Key::Bridge), Part::Key(Key::Port)],
-            Query::ExplainIn => &[
-                Part::Key(Key::Bridge),
-                Part::Key(Key::Port),
-                Part::Key(Key::Tree),
-            ],
-            Query::Diff => &[],
-            Query::Sweep => &[],
-            Query::SweepPart => &[Part::Key(Key::Part), Part::Key(Key::PartCount)],
-            Query::SweepPairs => &[Part::Said(Key::Of, Mark::Pairs)],
-            Query::SweepPairsPart => &[
-                Part::Said(Key::Of, Mark::Pairs),
-                Part::Key(Key::Part),
-                Part::Key(Key::PartCount),
-            ],
-            Query::Summary => &[],
+            Query::ShowTree => parts![Key Tree],
+            Query::ShowPlan => parts![],
+            Query::ShowVlan => parts![Key Vid],
+            Query::ShowLag => parts![],
+            Query::ShowRegions => parts![],
+            Query::ShowMstconfid => parts![Key Bridge],
+            Query::ShowNotes => parts![],
+            Query::Changes => parts![],
+            Query::Save => parts![],
+            Query::Explain => parts![Key Bridge, Key Port],
+            Query::ExplainIn => parts![Key Bridge, Key Port, Key Tree],
+            Query::Diff => parts![],
+            Query::Sweep => parts![],
+            Query::SweepPart => parts![Key Part, Key PartCount],
+            Query::SweepPairs => parts![Said Of Pairs],
+            Query::SweepPairsPart => parts![Said Of Pairs, Key Part, Key PartCount],
+            Query::Summary => parts![],
         }
     }
 }

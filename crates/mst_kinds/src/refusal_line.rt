@@ -1,9 +1,8 @@
 ghost use Rattle.std.specs.Prelude.{◌≡◌};
 ghost use Rattle.mst_kinds.specs.Kinds.{first_of_refusal_line, parts_of_refusal_line};
 
-use crate::key::Key;
 use crate::mark::Mark;
-use crate::part::Part;
+use crate::part::{Part, parts};
 
 /// A line that says what is refused.
 #[derive(Clone, Copy)]
@@ -42,33 +41,12 @@ impl RefusalLine {
         ensures { result.now ≡ parts_of_refusal_line self }
     {
         match self {
-            RefusalLine::Line => &[
-                Part::Key(Key::Line),
-                Part::Key(Key::Error),
-                Part::Key(Key::Text),
-            ],
-            RefusalLine::Hinted => &[
-                Part::Key(Key::Line),
-                Part::Key(Key::Error),
-                Part::Key(Key::Text),
-                Part::Above(Key::Hint),
-            ],
-            RefusalLine::OldLine => &[
-                Part::Told(Key::Side, Mark::Old),
-                Part::Mark(Mark::Line),
-                Part::Key(Key::Line),
-                Part::Key(Key::Error),
-                Part::Key(Key::Text),
-            ],
-            RefusalLine::NewLine => &[
-                Part::Told(Key::Side, Mark::New),
-                Part::Mark(Mark::Line),
-                Part::Key(Key::Line),
-                Part::Key(Key::Error),
-                Part::Key(Key::Text),
-            ],
-            RefusalLine::Explain => &[Part::Key(Key::Error), Part::Key(Key::Text)],
-            RefusalLine::Dot => &[Part::Key(Key::Error), Part::Key(Key::Text)],
+            RefusalLine::Line => parts![Key Line, Key Error, Key Text],
+            RefusalLine::Hinted => parts![Key Line, Key Error, Key Text, Above Hint],
+            RefusalLine::OldLine => parts![Told Side Old, Mark Line, Key Line, Key Error, Key Text],
+            RefusalLine::NewLine => parts![Told Side New, Mark Line, Key Line, Key Error, Key Text],
+            RefusalLine::Explain => parts![Key Error, Key Text],
+            RefusalLine::Dot => parts![Key Error, Key Text],
         }
     }
 }

@@ -1,9 +1,8 @@
 ghost use Rattle.std.specs.Prelude.{◌≡◌};
 ghost use Rattle.mst_kinds.specs.Kinds.{first_of_region_line, parts_of_region_line};
 
-use crate::key::Key;
 use crate::mark::Mark;
-use crate::part::Part;
+use crate::part::{Part, parts};
 
 /// A line of regions, of an MST configuration or of a class of links.
 #[derive(Clone, Copy)]
@@ -39,48 +38,15 @@ impl RegionLine {
         ensures { result.now ≡ parts_of_region_line self }
     {
         match self {
-            RegionLine::Mstp => &[
-                Part::Above(Key::Region),
-                Part::Said(Key::RegionKind, Mark::Mstp),
-                Part::Key(Key::Name),
-                Part::Key(Key::Revision),
-                Part::Key(Key::Digest),
-                Part::Mark(Mark::Bridges),
-                Part::Key(Key::Bridges),
-            ],
-            RegionLine::Rstp => &[
-                Part::Above(Key::Region),
-                Part::Said(Key::RegionKind, Mark::Rstp),
-                Part::Mark(Mark::Bridges),
-                Part::Key(Key::Bridges),
-            ],
-            RegionLine::Configuration => &[
-                Part::Key(Key::Bridge),
-                Part::Mark(Mark::Name),
-                Part::Key(Key::Name),
-                Part::Mark(Mark::Revision),
-                Part::Key(Key::Revision),
-                Part::Mark(Mark::Digest),
-                Part::Key(Key::Digest),
-            ],
-            RegionLine::Msti => &[
-                Part::Above(Key::Bridge),
-                Part::Key(Key::Tree),
-                Part::Mark(Mark::Vids),
-                Part::Key(Key::Vids),
-            ],
-            RegionLine::Lag => &[
-                Part::Key(Key::Lan),
-                Part::Key(Key::LagId),
-                Part::Mark(Mark::Speed),
-                Part::Key(Key::Speed),
-                Part::Mark(Mark::Up),
-                Part::Commas(Key::Up),
-                Part::Mark(Mark::Lans),
-                Part::Commas(Key::Lans),
-                Part::Mark(Mark::Ports),
-                Part::Commas(Key::Ports),
-            ],
+            RegionLine::Mstp =>
+                parts![Above Region, Said RegionKind Mstp, Key Name, Key Revision, Key Digest, Mark Bridges, Key Bridges],
+            RegionLine::Rstp =>
+                parts![Above Region, Said RegionKind Rstp, Mark Bridges, Key Bridges],
+            RegionLine::Configuration =>
+                parts![Key Bridge, Mark Name, Key Name, Mark Revision, Key Revision, Mark Digest, Key Digest],
+            RegionLine::Msti => parts![Above Bridge, Key Tree, Mark Vids, Key Vids],
+            RegionLine::Lag =>
+                parts![Key Lan, Key LagId, Mark Speed, Key Speed, Mark Up, Commas Up, Mark Lans, Commas Lans, Mark Ports, Commas Ports],
         }
     }
 }

@@ -1,9 +1,8 @@
 ghost use Rattle.std.specs.Prelude.{◌≡◌};
 ghost use Rattle.mst_kinds.specs.Kinds.{first_of_summary_line, parts_of_summary_line};
 
-use crate::key::Key;
 use crate::mark::Mark;
-use crate::part::Part;
+use crate::part::{Part, parts};
 
 /// A line of a summary.
 #[derive(Clone, Copy)]
@@ -42,47 +41,15 @@ impl SummaryLine {
         ensures { result.now ≡ parts_of_summary_line self }
     {
         match self {
-            SummaryLine::Counts => &[
-                Part::Key(Key::BridgeCount),
-                Part::Mark(Mark::On),
-                Part::Key(Key::OnCount),
-                Part::Mark(Mark::Ports),
-                Part::Key(Key::PortCount),
-                Part::Mark(Mark::Enabled),
-                Part::Key(Key::EnabledCount),
-                Part::Mark(Mark::Regions),
-                Part::Key(Key::RegionCount),
-                Part::Mark(Mark::Trees),
-                Part::Key(Key::TreeCount),
-            ],
-            SummaryLine::Root => &[
-                Part::Key(Key::Tree),
-                Part::Mark(Mark::Root),
-                Part::Key(Key::Root),
-                Part::Key(Key::Priority),
-                Part::Mark(Mark::Of),
-                Part::Key(Key::BridgeCount),
-                Part::Mark(Mark::Next),
-                Part::Key(Key::Next),
-                Part::Key(Key::NextPriority),
-            ],
-            SummaryLine::RootAlone => &[
-                Part::Key(Key::Tree),
-                Part::Mark(Mark::Root),
-                Part::Key(Key::Root),
-                Part::Key(Key::Priority),
-                Part::Mark(Mark::Of),
-                Part::Key(Key::BridgeCount),
-                Part::Mark(Mark::Next),
-                Part::Key(Key::Next),
-            ],
-            SummaryLine::Blocked => &[Part::Key(Key::Tree), Part::Commas(Key::Ports)],
-            SummaryLine::Vlan => &[
-                Part::Key(Key::Vids),
-                Part::Mark(Mark::Islands),
-                Part::Key(Key::IslandCount),
-            ],
-            SummaryLine::Carries => &[Part::Key(Key::Lan), Part::Key(Key::Vids)],
+            SummaryLine::Counts =>
+                parts![Key BridgeCount, Mark On, Key OnCount, Mark Ports, Key PortCount, Mark Enabled, Key EnabledCount, Mark Regions, Key RegionCount, Mark Trees, Key TreeCount],
+            SummaryLine::Root =>
+                parts![Key Tree, Mark Root, Key Root, Key Priority, Mark Of, Key BridgeCount, Mark Next, Key Next, Key NextPriority],
+            SummaryLine::RootAlone =>
+                parts![Key Tree, Mark Root, Key Root, Key Priority, Mark Of, Key BridgeCount, Mark Next, Key Next],
+            SummaryLine::Blocked => parts![Key Tree, Commas Ports],
+            SummaryLine::Vlan => parts![Key Vids, Mark Islands, Key IslandCount],
+            SummaryLine::Carries => parts![Key Lan, Key Vids],
         }
     }
 }

@@ -1,9 +1,8 @@
 ghost use Rattle.std.specs.Prelude.{◌≡◌};
 ghost use Rattle.mst_kinds.specs.Kinds.{first_of_sweep_line, parts_of_sweep_line};
 
-use crate::key::Key;
 use crate::mark::Mark;
-use crate::part::Part;
+use crate::part::{Part, parts};
 
 /// A line of what failures do.
 #[derive(Clone, Copy)]
@@ -45,59 +44,17 @@ impl SweepLine {
         ensures { result.now ≡ parts_of_sweep_line self }
     {
         match self {
-            SweepLine::Lan => &[
-                Part::Above(Key::Failure),
-                Part::Key(Key::Lan),
-                Part::Mark(Mark::Roots),
-                Part::Commas(Key::Trees),
-                Part::Mark(Mark::Ports),
-                Part::Key(Key::PortCount),
-                Part::Mark(Mark::Cut),
-                Part::Key(Key::Vids),
-            ],
-            SweepLine::Bridge => &[
-                Part::Above(Key::Failure),
-                Part::Key(Key::Bridge),
-                Part::Mark(Mark::Roots),
-                Part::Commas(Key::Trees),
-                Part::Mark(Mark::Ports),
-                Part::Key(Key::PortCount),
-                Part::Mark(Mark::Cut),
-                Part::Key(Key::Vids),
-            ],
-            SweepLine::Cut => &[
-                Part::Above(Key::Failure),
-                Part::Key(Key::Vids),
-                Part::Mark(Mark::Parts),
-                Part::Key(Key::Parts),
-            ],
-            SweepLine::Counts => &[
-                Part::Mark(Mark::Lans),
-                Part::Key(Key::LanCount),
-                Part::Mark(Mark::Bridges),
-                Part::Key(Key::BridgeCount),
-                Part::Mark(Mark::Cuts),
-                Part::Key(Key::CutCount),
-            ],
-            SweepLine::Pair => &[
-                Part::Key(Key::Failure),
-                Part::Key(Key::OtherFailure),
-                Part::Mark(Mark::Cut),
-                Part::Key(Key::Vids),
-            ],
-            SweepLine::CutByPair => &[
-                Part::Above(Key::Failure),
-                Part::Above(Key::OtherFailure),
-                Part::Key(Key::Vids),
-                Part::Mark(Mark::Parts),
-                Part::Key(Key::Parts),
-            ],
-            SweepLine::PairCounts => &[
-                Part::Mark(Mark::Pairs),
-                Part::Key(Key::PairCount),
-                Part::Mark(Mark::Cuts),
-                Part::Key(Key::CutCount),
-            ],
+            SweepLine::Lan =>
+                parts![Above Failure, Key Lan, Mark Roots, Commas Trees, Mark Ports, Key PortCount, Mark Cut, Key Vids],
+            SweepLine::Bridge =>
+                parts![Above Failure, Key Bridge, Mark Roots, Commas Trees, Mark Ports, Key PortCount, Mark Cut, Key Vids],
+            SweepLine::Cut => parts![Above Failure, Key Vids, Mark Parts, Key Parts],
+            SweepLine::Counts =>
+                parts![Mark Lans, Key LanCount, Mark Bridges, Key BridgeCount, Mark Cuts, Key CutCount],
+            SweepLine::Pair => parts![Key Failure, Key OtherFailure, Mark Cut, Key Vids],
+            SweepLine::CutByPair =>
+                parts![Above Failure, Above OtherFailure, Key Vids, Mark Parts, Key Parts],
+            SweepLine::PairCounts => parts![Mark Pairs, Key PairCount, Mark Cuts, Key CutCount],
         }
     }
 }

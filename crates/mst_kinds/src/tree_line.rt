@@ -1,9 +1,8 @@
 ghost use Rattle.std.specs.Prelude.{◌≡◌};
 ghost use Rattle.mst_kinds.specs.Kinds.{first_of_tree_line, parts_of_tree_line};
 
-use crate::key::Key;
 use crate::mark::Mark;
-use crate::part::Part;
+use crate::part::{Part, parts};
 
 /// A line of the text of a tree.
 #[derive(Clone, Copy)]
@@ -45,73 +44,17 @@ impl TreeLine {
         ensures { result.now ≡ parts_of_tree_line self }
     {
         match self {
-            TreeLine::Heading => &[Part::Key(Key::Tree)],
-            TreeLine::BridgeOff => &[
-                Part::Above(Key::Tree),
-                Part::Key(Key::Bridge),
-                Part::Said(Key::Power, Mark::Off),
-            ],
-            TreeLine::BridgeInCist => &[
-                Part::Above(Key::Tree),
-                Part::Key(Key::Bridge),
-                Part::Key(Key::BridgeId),
-                Part::Mark(Mark::Root),
-                Part::Key(Key::RootId),
-                Part::Mark(Mark::Ext),
-                Part::Key(Key::Ext),
-                Part::Mark(Mark::Regional),
-                Part::Key(Key::RegionalId),
-                Part::Mark(Mark::Int),
-                Part::Key(Key::Int),
-                Part::Mark(Mark::From),
-                Part::Key(Key::DesignatedId),
-                Part::Key(Key::DesignatedPortId),
-                Part::Mark(Mark::At),
-                Part::Key(Key::ReceiverId),
-            ],
-            TreeLine::BridgeInMsti => &[
-                Part::Above(Key::Tree),
-                Part::Key(Key::Bridge),
-                Part::Key(Key::BridgeId),
-                Part::Mark(Mark::Regional),
-                Part::Key(Key::RegionalId),
-                Part::Mark(Mark::Int),
-                Part::Key(Key::Int),
-                Part::Mark(Mark::From),
-                Part::Key(Key::DesignatedId),
-                Part::Key(Key::DesignatedPortId),
-                Part::Mark(Mark::At),
-                Part::Key(Key::ReceiverId),
-            ],
-            TreeLine::PortDisabled => &[
-                Part::Above(Key::Tree),
-                Part::Key(Key::Bridge),
-                Part::Key(Key::Port),
-                Part::Key(Key::Lan),
-                Part::Key(Key::Role),
-            ],
-            TreeLine::PortInCist => &[
-                Part::Above(Key::Tree),
-                Part::Key(Key::Bridge),
-                Part::Key(Key::Port),
-                Part::Key(Key::Lan),
-                Part::Key(Key::PortId),
-                Part::Mark(Mark::Ext),
-                Part::Key(Key::Ext),
-                Part::Mark(Mark::Int),
-                Part::Key(Key::Int),
-                Part::Key(Key::Role),
-            ],
-            TreeLine::PortInMsti => &[
-                Part::Above(Key::Tree),
-                Part::Key(Key::Bridge),
-                Part::Key(Key::Port),
-                Part::Key(Key::Lan),
-                Part::Key(Key::PortId),
-                Part::Mark(Mark::Int),
-                Part::Key(Key::Int),
-                Part::Key(Key::Role),
-            ],
+            TreeLine::Heading => parts![Key Tree],
+            TreeLine::BridgeOff => parts![Above Tree, Key Bridge, Said Power Off],
+            TreeLine::BridgeInCist =>
+                parts![Above Tree, Key Bridge, Key BridgeId, Mark Root, Key RootId, Mark Ext, Key Ext, Mark Regional, Key RegionalId, Mark Int, Key Int, Mark From, Key DesignatedId, Key DesignatedPortId, Mark At, Key ReceiverId],
+            TreeLine::BridgeInMsti =>
+                parts![Above Tree, Key Bridge, Key BridgeId, Mark Regional, Key RegionalId, Mark Int, Key Int, Mark From, Key DesignatedId, Key DesignatedPortId, Mark At, Key ReceiverId],
+            TreeLine::PortDisabled => parts![Above Tree, Key Bridge, Key Port, Key Lan, Key Role],
+            TreeLine::PortInCist =>
+                parts![Above Tree, Key Bridge, Key Port, Key Lan, Key PortId, Mark Ext, Key Ext, Mark Int, Key Int, Key Role],
+            TreeLine::PortInMsti =>
+                parts![Above Tree, Key Bridge, Key Port, Key Lan, Key PortId, Mark Int, Key Int, Key Role],
         }
     }
 }

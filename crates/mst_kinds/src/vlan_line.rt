@@ -1,9 +1,8 @@
 ghost use Rattle.std.specs.Prelude.{◌≡◌};
 ghost use Rattle.mst_kinds.specs.Kinds.{first_of_vlan_line, parts_of_vlan_line};
 
-use crate::key::Key;
 use crate::mark::Mark;
-use crate::part::Part;
+use crate::part::{Part, parts};
 
 /// A line of what VLANs reach.
 #[derive(Clone, Copy)]
@@ -33,15 +32,9 @@ impl VlanLine {
         ensures { result.now ≡ parts_of_vlan_line self }
     {
         match self {
-            VlanLine::Heading => &[Part::Key(Key::Vids)],
-            VlanLine::Active => &[Part::Above(Key::Vids), Part::Key(Key::Active)],
-            VlanLine::Island => &[
-                Part::Above(Key::Vids),
-                Part::Mark(Mark::Bridges),
-                Part::Key(Key::Bridges),
-                Part::Mark(Mark::Lans),
-                Part::Key(Key::Lans),
-            ],
+            VlanLine::Heading => parts![Key Vids],
+            VlanLine::Active => parts![Above Vids, Key Active],
+            VlanLine::Island => parts![Above Vids, Mark Bridges, Key Bridges, Mark Lans, Key Lans],
         }
     }
 }
