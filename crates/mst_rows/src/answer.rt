@@ -1,8 +1,9 @@
-ghost use Rattle.std.specs.Prelude.{◌≡◌, ◌++◌, ◌∷◌, [], OnOk, IfOk, map, false, codes, decimal};
+ghost use Rattle.std.specs.Prelude.{◌≡◌, ◌++◌, ◌∷◌, [], List, OnOk, IfOk, map, false, codes, decimal};
 ghost use Rattle.json.specs.Print.{quoted};
 ghost use Rattle.mst_kinds.specs.Words.{key_text};
 ghost use Rattle.mst_rows.specs.Printed.{comma};
-ghost use Rattle.mst_rows.specs.Rows.{cell, first_cell, giver, row_of};
+ghost use Rattle.mst_rows.specs.Cells.{Cell};
+ghost use Rattle.mst_rows.specs.Rows.{AreCells, cell, first_cell, giver, row_of};
 ghost use Rattle.mst_rows.specs.Answers.{active_json, bridge_text, first_json, flag_text, follow, head_text, line_text, named, number_text, part_json, parts_json, place_text, port_json, record_text, records_text, row_json, value_text};
 
 use crate::array::{push_array, push_groups};
@@ -39,6 +40,17 @@ impl Rows for Json {
 impl Json {
     /// Begins an answer behind what `out` has: the number of the line that asks, where one does, and the query with its words.
     pub fn open(
+        line: Option<u64>,
+        query: Kind,
+        words: &[Value<'_>],
+        out: Vec<u8>,
+    ) -> Result<Json, AllocError>
+        ensures { (cells : List Cell) → AreCells words.now cells → IfOk result (λ j. (j.out.items ≡ out.items ++ head_text line (row_of query cells)) × (j.follows ≡ false)) }
+    {
+        Json::begun(line, query, words, out)
+    }
+
+    fn begun(
         line: Option<u64>,
         query: Kind,
         words: &[Value<'_>],
