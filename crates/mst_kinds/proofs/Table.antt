@@ -4,7 +4,6 @@ use Rattle.std.proofs.lemmas.Bool.{and_parts}
 use Rattle.std.specs.Prelude.{◌==◌, if◌then◌else◌, fold}
 use Rattle.std.specs.List.{list_all}
 use Rattle.mst_kinds.specs.Words.{key_text}
-use Rattle.mst_kinds.specs.Kinds.{parts_of}
 use Rattle.mst_kinds.specs.Shapes.{has_keys_once, keeps_all_words, shape_of, worded}
 use Rattle.mst_kinds.specs.declared.key.Key.{Key}
 use Rattle.mst_kinds.specs.declared.key.Key.TheVariants as key
@@ -168,7 +167,7 @@ keys_differ k l e =
 
 -- ---- kinds
 all_kinds : List Kind
-all_kinds = kind.Query query.ShowTree ∷ kind.Query query.ShowPlan ∷ kind.Query query.ShowVlan ∷ kind.Query query.ShowLag ∷ kind.Query query.ShowRegions ∷ kind.Query query.ShowMstconfid ∷ kind.Query query.ShowNotes ∷ kind.Query query.Changes ∷ kind.Query query.Save ∷ kind.Query query.Explain ∷ kind.Query query.ExplainIn ∷ kind.Query query.Diff ∷ kind.Query query.Sweep ∷ kind.Query query.SweepPart ∷ kind.Query query.SweepPairs ∷ kind.Query query.SweepPairsPart ∷ kind.Query query.Summary ∷ kind.Tree tree_line.Heading ∷ kind.Tree tree_line.BridgeOff ∷ kind.Tree tree_line.BridgeInCist ∷ kind.Tree tree_line.BridgeInMsti ∷ kind.Tree tree_line.PortDisabled ∷ kind.Tree tree_line.PortInCist ∷ kind.Tree tree_line.PortInMsti ∷ kind.Vlan vlan_line.Heading ∷ kind.Vlan vlan_line.Active ∷ kind.Vlan vlan_line.Island ∷ kind.Region region_line.Mstp ∷ kind.Region region_line.Rstp ∷ kind.Region region_line.Configuration ∷ kind.Region region_line.Msti ∷ kind.Region region_line.Lag ∷ kind.Note note_line.Hops ∷ kind.Note note_line.Age ∷ kind.Note note_line.ExternalCost ∷ kind.Note note_line.InternalCost ∷ kind.Note note_line.Restricted ∷ kind.Change change_line.Bridge ∷ kind.Change change_line.Port ∷ kind.Change change_line.Region ∷ kind.Change change_line.Root ∷ kind.Change change_line.Reach ∷ kind.Change change_line.Counts ∷ kind.OfBridge bridge_command.Version ∷ kind.OfBridge bridge_command.Add ∷ kind.OfBridge bridge_command.Off ∷ kind.OfBridge bridge_command.Rstp ∷ kind.OfBridge bridge_command.SystemPriority ∷ kind.OfBridge bridge_command.Configuration ∷ kind.OfBridge bridge_command.Msti ∷ kind.OfBridge bridge_command.MaxHops ∷ kind.OfBridge bridge_command.MaxAge ∷ kind.OfBridge bridge_command.Priority ∷ kind.OfPort port_command.Add ∷ kind.OfPort port_command.Key ∷ kind.OfPort port_command.ExternalCost ∷ kind.OfPort port_command.InternalCost ∷ kind.OfPort port_command.Priority ∷ kind.OfPort port_command.Vlans ∷ kind.OfPort port_command.NoVlans ∷ kind.OfPort port_command.Restricted ∷ kind.OfPort port_command.Plug ∷ kind.OfPort port_command.AddLan ∷ kind.OfPort port_command.LanDown ∷ kind.OfPort port_command.Speed ∷ kind.Explain explain_line.Port ∷ kind.Explain explain_line.Restricted ∷ kind.Explain explain_line.Boundary ∷ kind.Explain explain_line.BridgeOff ∷ kind.Explain explain_line.LanDown ∷ kind.Contest contest_line.DesignatedAlone ∷ kind.Contest contest_line.DesignatedOver ∷ kind.Contest contest_line.DesignatedByCost ∷ kind.Contest contest_line.DesignatedById ∷ kind.Contest contest_line.RootAlone ∷ kind.Contest contest_line.RootOver ∷ kind.Contest contest_line.RootByCost ∷ kind.Contest contest_line.RootById ∷ kind.Sweep sweep_line.Lan ∷ kind.Sweep sweep_line.Bridge ∷ kind.Sweep sweep_line.Cut ∷ kind.Sweep sweep_line.Counts ∷ kind.Sweep sweep_line.Pair ∷ kind.Sweep sweep_line.CutByPair ∷ kind.Sweep sweep_line.PairCounts ∷ kind.Summary summary_line.Counts ∷ kind.Summary summary_line.Root ∷ kind.Summary summary_line.RootAlone ∷ kind.Summary summary_line.Blocked ∷ kind.Summary summary_line.Vlan ∷ kind.Summary summary_line.Carries ∷ kind.Capture capture_line.Agrees ∷ kind.Capture capture_line.Number ∷ kind.Capture capture_line.Text ∷ kind.Capture capture_line.MstiNumber ∷ kind.Capture capture_line.MstiText ∷ kind.Capture capture_line.Unplanned ∷ kind.Capture capture_line.Repeated ∷ kind.Capture capture_line.Missing ∷ kind.Capture capture_line.Unread ∷ kind.Refusal refusal_line.Line ∷ kind.Refusal refusal_line.Hinted ∷ kind.Refusal refusal_line.OldLine ∷ kind.Refusal refusal_line.NewLine ∷ kind.Refusal refusal_line.Explain ∷ kind.Refusal refusal_line.Dot ∷ []
+all_kinds = kind.Query query.ShowTree ∷ kind.Query query.ShowPlan ∷ kind.Query query.ShowVlan ∷ kind.Query query.ShowLag ∷ kind.Query query.ShowRegions ∷ kind.Query query.ShowMstconfid ∷ kind.Query query.ShowNotes ∷ kind.Query query.Changes ∷ kind.Query query.Save ∷ kind.Query query.Explain ∷ kind.Query query.ExplainIn ∷ kind.Query query.Diff ∷ kind.Query query.Sweep ∷ kind.Query query.SweepPart ∷ kind.Query query.SweepPairs ∷ kind.Query query.SweepPairsPart ∷ kind.Query query.Summary ∷ kind.Query query.Check ∷ kind.Tree tree_line.Heading ∷ kind.Tree tree_line.BridgeOff ∷ kind.Tree tree_line.BridgeInCist ∷ kind.Tree tree_line.BridgeInMsti ∷ kind.Tree tree_line.PortDisabled ∷ kind.Tree tree_line.PortInCist ∷ kind.Tree tree_line.PortInMsti ∷ kind.Vlan vlan_line.Heading ∷ kind.Vlan vlan_line.Active ∷ kind.Vlan vlan_line.Island ∷ kind.Region region_line.Mstp ∷ kind.Region region_line.Rstp ∷ kind.Region region_line.Configuration ∷ kind.Region region_line.Msti ∷ kind.Region region_line.Lag ∷ kind.Note note_line.Hops ∷ kind.Note note_line.Age ∷ kind.Note note_line.ExternalCost ∷ kind.Note note_line.InternalCost ∷ kind.Note note_line.Restricted ∷ kind.Change change_line.Bridge ∷ kind.Change change_line.Port ∷ kind.Change change_line.Region ∷ kind.Change change_line.Root ∷ kind.Change change_line.Reach ∷ kind.Change change_line.Counts ∷ kind.OfBridge bridge_command.Version ∷ kind.OfBridge bridge_command.Add ∷ kind.OfBridge bridge_command.Off ∷ kind.OfBridge bridge_command.Rstp ∷ kind.OfBridge bridge_command.SystemPriority ∷ kind.OfBridge bridge_command.Configuration ∷ kind.OfBridge bridge_command.Msti ∷ kind.OfBridge bridge_command.MaxHops ∷ kind.OfBridge bridge_command.MaxAge ∷ kind.OfBridge bridge_command.Priority ∷ kind.OfPort port_command.Add ∷ kind.OfPort port_command.Key ∷ kind.OfPort port_command.ExternalCost ∷ kind.OfPort port_command.InternalCost ∷ kind.OfPort port_command.Priority ∷ kind.OfPort port_command.Vlans ∷ kind.OfPort port_command.NoVlans ∷ kind.OfPort port_command.Restricted ∷ kind.OfPort port_command.Plug ∷ kind.OfPort port_command.AddLan ∷ kind.OfPort port_command.LanDown ∷ kind.OfPort port_command.Speed ∷ kind.Explain explain_line.Port ∷ kind.Explain explain_line.Restricted ∷ kind.Explain explain_line.Boundary ∷ kind.Explain explain_line.BridgeOff ∷ kind.Explain explain_line.LanDown ∷ kind.Contest contest_line.DesignatedAlone ∷ kind.Contest contest_line.DesignatedOver ∷ kind.Contest contest_line.DesignatedByCost ∷ kind.Contest contest_line.DesignatedById ∷ kind.Contest contest_line.RootAlone ∷ kind.Contest contest_line.RootOver ∷ kind.Contest contest_line.RootByCost ∷ kind.Contest contest_line.RootById ∷ kind.Sweep sweep_line.Lan ∷ kind.Sweep sweep_line.Bridge ∷ kind.Sweep sweep_line.Cut ∷ kind.Sweep sweep_line.Counts ∷ kind.Sweep sweep_line.Pair ∷ kind.Sweep sweep_line.CutByPair ∷ kind.Sweep sweep_line.PairCounts ∷ kind.Summary summary_line.Counts ∷ kind.Summary summary_line.Root ∷ kind.Summary summary_line.RootAlone ∷ kind.Summary summary_line.Blocked ∷ kind.Summary summary_line.Vlan ∷ kind.Summary summary_line.Carries ∷ kind.Capture capture_line.Agrees ∷ kind.Capture capture_line.Number ∷ kind.Capture capture_line.Text ∷ kind.Capture capture_line.MstiNumber ∷ kind.Capture capture_line.MstiText ∷ kind.Capture capture_line.Unplanned ∷ kind.Capture capture_line.Repeated ∷ kind.Capture capture_line.Missing ∷ kind.Capture capture_line.Unread ∷ kind.Refusal refusal_line.Line ∷ kind.Refusal refusal_line.Hinted ∷ kind.Refusal refusal_line.OldLine ∷ kind.Refusal refusal_line.NewLine ∷ kind.Refusal refusal_line.Explain ∷ kind.Refusal refusal_line.Dot ∷ []
 
 numbered_kinds : List (ℕ × Kind)
 unfolding all_kinds
@@ -193,6 +192,7 @@ query_found query.SweepPart = refl
 query_found query.SweepPairs = refl
 query_found query.SweepPairsPart = refl
 query_found query.Summary = refl
+query_found query.Check = refl
 
 tree_line_found : (l : TreeLine) → found (shape_number (shape_of (kind.Tree l))) numbered_kinds ≡ Some (kind.Tree l)
 unfolding all_kinds numbered_kinds

@@ -55,6 +55,7 @@ first_of_query query.SweepPart = mark.Sweep
 first_of_query query.SweepPairs = mark.Sweep
 first_of_query query.SweepPairsPart = mark.Sweep
 first_of_query query.Summary = mark.Summary
+first_of_query query.Check = mark.Check
 
 abbrev pub parts_of_query : Query → List Part
 -- `showtree T`
@@ -91,6 +92,8 @@ parts_of_query query.SweepPairs = part.Said key.Of mark.Pairs ∷ []
 parts_of_query query.SweepPairsPart = part.Said key.Of mark.Pairs ∷ part.Key key.Part ∷ part.Key key.PartCount ∷ []
 -- `summary`
 parts_of_query query.Summary = []
+-- `check`
+parts_of_query query.Check = []
 
 -- ---- a line of the text of a tree
 abbrev pub first_of_tree_line : TreeLine → Mark

@@ -1,5 +1,5 @@
 -- What a record says beside its values.
-use Rattle.std.specs.Prelude.{ℕ, Bool, false, List, [], ◌∷◌, ◌||◌, ◌&&◌, ◌==◌, true, not, map, codes}
+use Rattle.std.specs.Prelude.{ℕ, Bool, false, List, [], ◌∷◌, ◌&&◌, ◌==◌, true, not, map, codes}
 use Rattle.std.specs.List.{flat_map, list_all, list_any}
 use Rattle.mst_kinds.specs.declared.kind.Kind.{Kind}
 use Rattle.mst_kinds.specs.declared.part.Part.{Part}

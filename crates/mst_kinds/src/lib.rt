@@ -2,8 +2,12 @@
 //!
 //! A row is of a [`Kind`], which is a line of one text. Of each kind [`Kind::first`] is the first word of its lines, which is the
 //! `kind` of its records, and [`Kind::parts`] is what stands behind it: words, and places of values. A value has the name of a
-//! [`Key`], which has one meaning and one type. Two kinds of one first word differ in their keys, or in the words that they have
-//! for them ([`Part::Said`], [`Part::Told`]). What is written of a row is in `mst_rows`.
+//! [`Key`], which has one meaning and one type (`specs/Sorts.antt`). What is written of a row is in `mst_rows`.
+//!
+//! So that a record tells its row, two kinds of one first word differ in their keys, or in the words that they have for them
+//! ([`Part::Said`], [`Part::Told`]): a note says which one it is, and a difference of a capture in which part of the message it is.
+//! What a line has on both sides of `->` has two keys (`old_role`, `new_role`), each of the type of its side, and so have the values
+//! of a contest: a cost is a number (`value`), an identifier a string (`value_id`). A key that a form of a line hasn't is left out.
 #![tactic(auto)]
 
 mod bridge_command;

@@ -41,6 +41,8 @@ pub enum Query {
     SweepPairsPart,
     /// `summary`
     Summary,
+    /// `check`
+    Check,
 }
 
 impl Query {
@@ -66,6 +68,7 @@ impl Query {
             Query::SweepPairs => Mark::Sweep,
             Query::SweepPairsPart => Mark::Sweep,
             Query::Summary => Mark::Summary,
+            Query::Check => Mark::Check,
         }
     }
 
@@ -91,6 +94,7 @@ impl Query {
             Query::SweepPairs => parts![Said Of Pairs],
             Query::SweepPairsPart => parts![Said Of Pairs, Key Part, Key PartCount],
             Query::Summary => parts![],
+            Query::Check => parts![],
         }
     }
 }

@@ -4,6 +4,7 @@ mod JsonText
 pub mod Loops
 mod Maps
 mod OneMore
+pub mod Printers
 mod PrintedLaws
 mod ReadsBack
 mod SameCells

@@ -1,5 +1,5 @@
 -- Two rows that fit and have one JSON are one.
-use Rattle.std.proofs.Common.{◌≡◌, ◌∙◌, ℕ, Bool, true, false, List, [], ◌∷◌, ◌++◌, map, refl, sym, ap, ap₂, subst}
+use Rattle.std.proofs.Common.{◌≡◌, ◌∙◌, ℕ, Bool, true, false, List, [], ◌∷◌, map, refl, sym, ap, ap₂, subst}
 use Rattle.std.proofs.lemmas.Bool.{and_parts}
 use Rattle.std.specs.List.{AllByRecursion, AllZip, flat_map, list_all}
 use Rattle.std.specs.Prelude.{codes, if◌then◌else◌, not}
@@ -8,13 +8,13 @@ use Rattle.json.specs.Json as json
 use Rattle.mst_kinds.specs.Kinds.{first_of, parts_of}
 use Rattle.mst_kinds.specs.Words.{key_text, mark_text}
 use Rattle.mst_kinds.specs.Shapes.{is_worded, keeps_words, shape_at, shape_of}
-use Rattle.mst_kinds.specs.Sorts.{sort_of, sorts_at, sorts_of}
+use Rattle.mst_kinds.specs.Sorts.{sort_of, sorts_at}
 use Rattle.mst_kinds.specs.declared.kind.Kind.{Kind}
 use Rattle.mst_kinds.specs.declared.part.Part.{Part}
 use Rattle.mst_kinds.specs.declared.part.Part.TheVariants as part
 use Rattle.mst_kinds.proofs.Table.{kinds_differ, words_kept}
 use Rattle.mst_rows.specs.Cells.{Cell}
-use Rattle.mst_rows.specs.Rows.{Row, row_of, first_cell, left_cells}
+use Rattle.mst_rows.specs.Rows.{Row, row_of, left_cells}
 use Rattle.mst_rows.specs.Records.{bridge_value, cell_value, list_value, number_value, parts_members, record_value}
 use Rattle.mst_rows.specs.Small.{IsSmall}
 use Rattle.mst_rows.specs.Fits.{Fits, IsOf}

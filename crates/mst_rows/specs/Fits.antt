@@ -1,5 +1,5 @@
 -- Rows that have as many values as the parts of their kind take, each of its key's type.
-use Rattle.std.specs.Prelude.{ℕ, List, ⊤}
+use Rattle.std.specs.Prelude.{⊤}
 use Rattle.std.specs.List.{AllZip}
 use Rattle.mst_kinds.specs.Sorts.{Sort, sorts_of}
 use Rattle.mst_kinds.specs.Sorts as sort

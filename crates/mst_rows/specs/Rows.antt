@@ -7,7 +7,6 @@ use Rattle.mst_kinds.specs.declared.key.Key.{Key}
 use Rattle.mst_kinds.specs.declared.kind.Kind.{Kind}
 use Rattle.mst_kinds.specs.declared.part.Part.{Part}
 use Rattle.mst_kinds.specs.declared.part.Part.TheVariants as part
-use Rattle.mst_rows.specs.declared.value.RegionSide.{RegionSide}
 use Rattle.mst_rows.specs.declared.value.Vector.{Vector}
 use Rattle.mst_rows.specs.declared.value.Value.{Value}
 use Rattle.mst_rows.specs.declared.value.Value.TheVariants as value

@@ -1,7 +1,6 @@
 -- Rows whose numbers have 64 bits.
-use Rattle.std.specs.Prelude.{ℕ, ◌<◌, ◌^◌, List, ⊤}
+use Rattle.std.specs.Prelude.{ℕ, ◌<◌, ◌^◌, ⊤}
 use Rattle.std.specs.List.{AllByRecursion}
-use Rattle.mst_ids.specs.declared.name.PortName.{PortName}
 use Rattle.mst_kinds.specs.declared.key.Key.{Key}
 use Rattle.mst_rows.specs.Cells.{Bare, nothing, text, count, Cell, absent, own, word, number, port, vids, names, ports, trees, groups, active, object, failed_lan, failed_bridge}
 use Rattle.mst_rows.specs.Rows.{Row}

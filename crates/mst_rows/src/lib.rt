@@ -1,10 +1,12 @@
 //! Rows: what a text says, before it is printed.
 //!
-//! A text hands over rows, each of a [`Kind`](mst_kinds::Kind) with its [`Value`]s, to what implements [`Rows`]: lines (a `Vec<u8>`), or the
-//! records of [`Json`]. What the words and the keys of a kind are stands once, in the table of `mst_kinds`.
+//! A text hands over rows, each of a [`Kind`](mst_kinds::Kind) with its [`Value`]s, to what implements [`Rows`]: lines (a `Vec<u8>`), the
+//! records of an answer ([`Json`]) or each on a line of its own ([`JsonLines`]), or a count ([`Counts`]). What the words and the keys of a
+//! kind are stands once, in the table of `mst_kinds`.
 //!
-//! A value of several words is an object where it stands for one thing: the vectors and the regions of a side (`specs/Objects.antt`
-//! has their forms), and what fails. An island or a part of one is an array of names, and several are an array of these.
+//! A value of several words is an object where it stands for one thing: a vector, what tells a region (`specs/Objects.antt` has their
+//! fields), what fails. An island or a part of one is an array of names, and several are an array of these. What a value says
+//! (`specs/Cells.antt`) has no references, an identifier as the word that it is written as, and VIDs as their longest runs.
 #![tactic(auto)]
 
 mod active;

@@ -18,6 +18,15 @@ pub trait Rows {
 
 /// Puts a row: what a text calls with an array of its values. They are as many as the parts of the kind that take one, and each is
 /// of its key's type.
+///
+/// ```text
+/// let values = [Value::Number(u64::from(tree.value())), Value::Name(&bridge.name)];
+/// put::<R>(Kind::Tree(TreeLine::BridgeOff), &values, out)
+/// ```
+///
+/// A function that does so ensures of its printer, for any first and rows before, that it grew by its row. Over a loop of such calls the
+/// invariant says the same of the elements so far (`proofs/Loops.antt`). Where the printer is a `Vec<u8>`, that is the text of the rows
+/// behind what it had (`proofs/Printers.antt`).
 pub fn put<R: Rows>(kind: Kind, values: &[Value<'_>], rows: &mut R) -> Result<(), AllocError>
     ensures { (first : R) (before : List Row) (cells : List Cell) → AreCells values.now cells → R.grew first rows.old before
         → OnOk result (R.grew first rows.new (before ++ row_of kind cells ∷ [])) }

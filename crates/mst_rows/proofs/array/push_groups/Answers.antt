@@ -1,5 +1,3 @@
-use Rattle.std.proofs.Common.{◌≡◌, ◌++◌, List, ℕ, map}
-use Rattle.mst_rows.specs.Answers.{array_text, names_json}
 use Rattle.mst_rows.proofs.Maps.{map_map}
 use Rattle.mst_rows.proofs.array.push_groups.Goals as goal
 

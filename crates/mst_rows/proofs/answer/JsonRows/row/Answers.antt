@@ -1,4 +1,4 @@
-use Rattle.std.proofs.Common.{◌≡◌, ◌∙◌, ◌++◌, List, ℕ, Bool, map, sym, ap, append_assoc}
+use Rattle.std.proofs.Common.{◌∙◌, ◌++◌, List, ℕ, Bool, map, sym, ap, append_assoc}
 use Rattle.mst_rows.specs.Printed.{comma}
 use Rattle.mst_rows.specs.Rows.{cell, row_of}
 use Rattle.mst_rows.specs.Answers.{follow, record_text, records_text}
