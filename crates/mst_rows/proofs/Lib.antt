@@ -3,6 +3,7 @@ mod Escapes
 mod JsonText
 pub mod Loops
 mod Maps
+mod ObjectsFit
 mod OneMore
 pub mod Printers
 mod PrintedLaws

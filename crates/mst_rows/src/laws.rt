@@ -7,10 +7,11 @@ ghost use Rattle.mst_kinds.specs.declared.kind.Kind.TheVariants.{Refusal as OfRe
 ghost use Rattle.mst_kinds.specs.declared.refusal_line.RefusalLine.{RefusalLine};
 ghost use Rattle.mst_rows.specs.Printed.{json_text};
 ghost use Rattle.mst_rows.specs.Answers.{answer_text, record_line, refusal_line, unanswered_line};
-ghost use Rattle.mst_rows.specs.Fits.{Fits};
+ghost use Rattle.mst_rows.specs.Fits.{Fits, IsField};
 ghost use Rattle.mst_rows.specs.Records.{answer_value, list_value, record_value, refusal_value, unanswered_value};
 ghost use Rattle.mst_rows.specs.Cells.{Cell};
-ghost use Rattle.mst_rows.specs.Rows.{Row, row_of};
+ghost use Rattle.mst_rows.specs.Rows.{Row, region, row_of, vector};
+ghost use Rattle.mst_rows.specs.declared.value.Vector.{Vector};
 ghost use Rattle.mst_rows.specs.Small.{RowIsSmall};
 
 /// What is printed of an answer is a value's text and LF, and the text reads back as that value, where its numbers have 64 bits.
@@ -36,4 +37,10 @@ pub fn records_differ()
     ensures row { (row other : Row) → Fits row → Fits other → record_value row ≡ record_value other → row ≡ other }
     ensures rows { (rows others : List Row) → AllByRecursion Fits rows → AllByRecursion Fits others
         → list_value (map record_value rows) ≡ list_value (map record_value others) → rows ≡ others }
+{}
+
+/// The fields of a vector, and those of what tells a region, have the types of their keys.
+pub fn objects_fit()
+    ensures vector { (root : Option (ℕ × ℕ)) (v : Vector) → AllByRecursion IsField (vector root v) }
+    ensures region { (configuration : Option (List ℕ × ℕ)) (first : List ℕ) → AllByRecursion IsField (region configuration first) }
 {}
