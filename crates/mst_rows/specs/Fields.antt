@@ -11,4 +11,4 @@ bare (Word w) = text w.now
 bare (Number n) = count n
 
 abbrev pub field : Field → Key × Bare
-field f = (f.key, bare f.value)
+field f = (f.0, bare f.1)

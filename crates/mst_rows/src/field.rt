@@ -89,8 +89,8 @@ fn push_fields(fields: &[Field<'_>], out: &mut Vec<u8>) -> Result<(), AllocError
 fn push_field(field: &Field<'_>, out: &mut Vec<u8>) -> Result<(), AllocError>
     ensures { OnOk result (out.new.items ≡ out.old.items ++ field_json (field_of field.now)) }
 {
-    push_key(field.key.text(), out)?;
-    push_simple(&field.value, out)
+    push_key(field.0.text(), out)?;
+    push_simple(&field.1, out)
 }
 
 fn push_simple(value: &Simple<'_>, out: &mut Vec<u8>) -> Result<(), AllocError>

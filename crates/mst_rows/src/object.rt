@@ -4,12 +4,9 @@ ghost use Rattle.mst_rows.specs.Objects.{cist_vector as cist_of, msti_vector as 
 
 use mst_kinds::Key;
 
-/// A field of an object: in a line its value alone.
+/// A field of an object: its key, and its value, which stands in a line alone.
 #[derive(Clone, Copy)]
-pub(crate) struct Field<'a> {
-    pub(crate) key: Key,
-    pub(crate) value: Simple<'a>,
-}
+pub(crate) struct Field<'a>(pub(crate) Key, pub(crate) Simple<'a>);
 
 /// The value of a field.
 #[derive(Clone, Copy)]
@@ -35,34 +32,13 @@ pub(crate) fn cist_vector<'a>(
     ensures { map field result ≡ cist_of root.now ext regional.now int designated.now port.now receiver.now }
 {
     [
-        Field {
-            key: Key::RootId,
-            value: Simple::Word(root),
-        },
-        Field {
-            key: Key::Ext,
-            value: Simple::Number(ext),
-        },
-        Field {
-            key: Key::RegionalId,
-            value: Simple::Word(regional),
-        },
-        Field {
-            key: Key::Int,
-            value: Simple::Number(int),
-        },
-        Field {
-            key: Key::DesignatedId,
-            value: Simple::Word(designated),
-        },
-        Field {
-            key: Key::DesignatedPortId,
-            value: Simple::Word(port),
-        },
-        Field {
-            key: Key::ReceiverId,
-            value: Simple::Word(receiver),
-        },
+        Field(Key::RootId, Simple::Word(root)),
+        Field(Key::Ext, Simple::Number(ext)),
+        Field(Key::RegionalId, Simple::Word(regional)),
+        Field(Key::Int, Simple::Number(int)),
+        Field(Key::DesignatedId, Simple::Word(designated)),
+        Field(Key::DesignatedPortId, Simple::Word(port)),
+        Field(Key::ReceiverId, Simple::Word(receiver)),
     ]
 }
 
@@ -77,26 +53,11 @@ pub(crate) fn msti_vector<'a>(
     ensures { map field result ≡ msti_of regional.now int designated.now port.now receiver.now }
 {
     [
-        Field {
-            key: Key::RegionalId,
-            value: Simple::Word(regional),
-        },
-        Field {
-            key: Key::Int,
-            value: Simple::Number(int),
-        },
-        Field {
-            key: Key::DesignatedId,
-            value: Simple::Word(designated),
-        },
-        Field {
-            key: Key::DesignatedPortId,
-            value: Simple::Word(port),
-        },
-        Field {
-            key: Key::ReceiverId,
-            value: Simple::Word(receiver),
-        },
+        Field(Key::RegionalId, Simple::Word(regional)),
+        Field(Key::Int, Simple::Number(int)),
+        Field(Key::DesignatedId, Simple::Word(designated)),
+        Field(Key::DesignatedPortId, Simple::Word(port)),
+        Field(Key::ReceiverId, Simple::Word(receiver)),
     ]
 }
 
@@ -105,18 +66,9 @@ pub(crate) fn mstp_region<'a>(name: &'a [u8], revision: u64, first: &'a [u8]) ->
     ensures { map field result ≡ mstp_of name.now revision first.now }
 {
     [
-        Field {
-            key: Key::Name,
-            value: Simple::Word(name),
-        },
-        Field {
-            key: Key::Revision,
-            value: Simple::Number(revision),
-        },
-        Field {
-            key: Key::Region,
-            value: Simple::Word(first),
-        },
+        Field(Key::Name, Simple::Word(name)),
+        Field(Key::Revision, Simple::Number(revision)),
+        Field(Key::Region, Simple::Word(first)),
     ]
 }
 
@@ -125,17 +77,8 @@ pub(crate) fn rstp_region<'a>(first: &'a [u8]) -> [Field<'a>; 3]
     ensures { map field result ≡ rstp_of first.now }
 {
     [
-        Field {
-            key: Key::RegionKind,
-            value: Simple::Word(b"rstp"),
-        },
-        Field {
-            key: Key::Revision,
-            value: Simple::Absent,
-        },
-        Field {
-            key: Key::Region,
-            value: Simple::Word(first),
-        },
+        Field(Key::RegionKind, Simple::Word(b"rstp")),
+        Field(Key::Revision, Simple::Absent),
+        Field(Key::Region, Simple::Word(first)),
     ]
 }

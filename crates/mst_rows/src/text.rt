@@ -260,7 +260,7 @@ fn push_fields(fields: &[Field<'_>], out: &mut Vec<u8>) -> Result<(), AllocError
     ensures { OnOk result (out.new.items ≡ out.old.items ++ flat_map (λ f. after_space (bare_text f.1)) (map field fields.now)) }
 {
     for field in fields {
-        push_simple(&field.value, out)?;
+        push_simple(&field.1, out)?;
     }
     Ok(())
 }
