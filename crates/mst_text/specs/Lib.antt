@@ -4,7 +4,7 @@ pub use Rattle.mst_vlan.specs.settle as settle
 pub use Rattle.mst_vlan.specs.trees as trees
 pub use Rattle.mst_vlan.specs.roles as roles
 pub use Rattle.mst_vlan.specs as vlan
-pub mod TreeLines
+pub mod TreeRows
 pub mod TreeText
 pub mod TreeRuns
 pub mod VlanLines

@@ -33,5 +33,5 @@ pub use mst_vlan::{
     trees_laws,
 };
 pub use regions::push_regions;
-pub use tree::push_tree;
+pub use tree::{push_tree, put_tree};
 pub use vlan_text::{push_body, push_vlan};
