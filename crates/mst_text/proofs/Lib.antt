@@ -12,4 +12,5 @@ mod Keeping
 mod RegionsSeen
 mod Shown
 mod TreeRuns
+mod VidAlone
 mod VidsOf

@@ -7,7 +7,7 @@ pub use Rattle.mst_vlan.specs as vlan
 pub mod TreeRows
 pub mod TreeText
 pub mod TreeRuns
-pub mod VlanLines
+pub mod VlanRows
 pub mod VlanText
 pub mod VlanSeen
 pub mod LagText

@@ -34,4 +34,4 @@ pub use mst_vlan::{
 };
 pub use regions::push_regions;
 pub use tree::{push_tree, put_tree};
-pub use vlan_text::{push_body, push_vlan};
+pub use vlan_text::{push_body, push_vlan, put_body, put_heading, put_vlan};

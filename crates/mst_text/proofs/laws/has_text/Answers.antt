@@ -5,7 +5,4 @@ pub returns-clause-body : goal.returns-clause-body
 returns-clause-body c net o vid ok = let islands = c.islands_of_vid.ensures.some net o vid ok in has_body net o vid islands.0 islands.1
 
 pub returns-clause-text : goal.returns-clause-text
-returns-clause-text c net o vid ok =
-    let islands = c.islands_of_vid.ensures.some net o vid ok in
-    let body = has_body net o vid islands.0 islands.1 in
-    has_text net o vid body.0 body.1
+returns-clause-text c net o vid ok = let islands = c.islands_of_vid.ensures.some net o vid ok in has_text net o vid islands.0 islands.1

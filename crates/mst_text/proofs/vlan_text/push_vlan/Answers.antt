@@ -1,14 +1,11 @@
-use Rattle.std.proofs.Common.{◌++◌, refl, ap, ◌∙◌, append_assoc}
+use Rattle.std.proofs.Common.{[], refl}
 use Rattle.std.proofs.lemmas.Result.{on_ok_weaker}
-use Rattle.mst_text.specs.VlanLines.{heading}
+use Rattle.std.specs.List.{flat_map}
+use Rattle.mst_rows.specs.Lines.{row_line}
+use Rattle.mst_rows.proofs.Printers.{nothing_yet}
 use Rattle.mst_text.proofs.vlan_text.push_vlan.Goals as goal
 
 pub returns : goal.returns
 returns c =
-    on_ok_weaker c.push_body.result
-    (λ e. (
-      heading c.args.vid ++ e.0,
-      (e.0, e.1, refl),
-      e.2 ∙ ap (λ t. t ++ e.0) c.in_ok-push_heading.ensures ∙ append_assoc c.args.out.now.items (heading c.args.vid) e.0,
-    ))
-    c.push_body.ensures
+    on_ok_weaker c.put_vlan.result (λ own. (flat_map row_line own.0, (own.0, own.1, refl), own.2))
+    (c.put_vlan.ensures c.args.out.now [] (nothing_yet c.args.out.now.items))
