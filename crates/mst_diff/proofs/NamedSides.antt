@@ -1,7 +1,7 @@
 -- The sides of a VID under names.
 use Rattle.std.proofs.Common.{◌≡◌, ℕ, ◌+◌, ◌<◌, length, take, get_or, Bool, true, false, cond, not, List, [], ◌∷◌, ◌++◌, map, Option, Some, refl, sym, ap, ◌∙◌, append_assoc, true≢false, codes}
 use Rattle.std.specs.Prelude.{if◌then◌else◌}
-use Rattle.std.specs.List.{AllByRecursion, Contains, filter, flat_map, list_any}
+use Rattle.std.specs.List.{AllByRecursion, Contains, filter, filter_map, flat_map, list_any}
 use Rattle.std.specs.FinMap as fin
 use Rattle.std.proofs.lemmas.Grind.{flat_map-append}
 use Rattle.std.proofs.lemmas.List.{map-append}
@@ -72,7 +72,7 @@ module _ (net : Net) (numbers : Numbers) (v : Viewed) (f : Forest) (of : AreOf n
   abbrev AreOn : Island (List ℕ) (List ℕ) → Type 0
   AreOn j = (a : List ℕ) → Contains j.bridges a → Contains (bridges_on net) a
 
-  names_same : (i : IslandNos) (j : Island (List ℕ) (List ℕ)) → map Some i.bridges ≡ map (fin.get numbers.bridges) j.bridges → AreOn j → map (seen_bridge v) i.bridges ≡ j.bridges
+  names_same : (i : IslandNos) (j : Island (List ℕ) (List ℕ)) → map Some i.bridges ≡ map (fin.get numbers.bridges) j.bridges → AreOn j → filter_map (seen_bridge v) i.bridges ≡ j.bridges
   names_same i j e on = by_number (fin.get numbers.bridges) (seen_bridge v) (λ a. a) i.bridges j.bridges e (each_of _ j.bridges (λ a h. bridge_named net numbers v f of a (on a h))) ∙ map_itself j.bridges
 
   each_word : (islands : List IslandNos) (named : List (Island (List ℕ) (List ℕ)))
@@ -86,8 +86,8 @@ module _ (net : Net) (numbers : Numbers) (v : Viewed) (f : Forest) (of : AreOf n
       let others : map (λ (i : IslandNos). map Some i.bridges) islands ≡ map (λ (j : Island (List ℕ) (List ℕ)). map (fin.get numbers.bridges) j.bridges) named = cc in
       go (has_any i.bridges) (has_any j.bridges) (any_same (fin.get numbers.bridges) i.bridges j.bridges first) (names_same i j first h.0) (each_word islands named others h.1)
     where
-      go : (b d : Bool) → b ≡ d → map (seen_bridge v) i.bridges ≡ j.bridges → seen_words v islands ≡ island_words named
-          → map (λ (i : IslandNos). comma_list (map (seen_bridge v) i.bridges)) (cond b (i ∷ left islands) (left islands)) ≡ map (λ (j : Island (List ℕ) (List ℕ)). comma_list j.bridges) (cond d (j ∷ right named) (right named))
+      go : (b d : Bool) → b ≡ d → filter_map (seen_bridge v) i.bridges ≡ j.bridges → seen_words v islands ≡ island_words named
+          → map (λ (i : IslandNos). comma_list (filter_map (seen_bridge v) i.bridges)) (cond b (i ∷ left islands) (left islands)) ≡ map (λ (j : Island (List ℕ) (List ℕ)). comma_list j.bridges) (cond d (j ∷ right named) (right named))
       go true true e names rest = λ k. comma_list (names k) ∷ rest k
       go true false e names rest = absurd (true≢false e)
       go false true e names rest = absurd (true≢false (sym e))
@@ -100,7 +100,7 @@ module _ (net : Net) (numbers : Numbers) (v : Viewed) (f : Forest) (of : AreOf n
 
 -- ---- one more island
 abbrev word_of : Viewed → IslandNos → List ℕ
-word_of v j = comma_list (map (seen_bridge v) j.bridges)
+word_of v j = comma_list (filter_map (seen_bridge v) j.bridges)
 
 pub words_more : (v : Viewed) (islands : List IslandNos) (i : ℕ) (x : IslandNos) → i < length islands → x ≡ get_or islands i x
     → seen_words v (take (i + 1) islands) ≡ seen_words v (take i islands) ++ one_word v x
@@ -109,6 +109,6 @@ words_more v islands i x l is =
     ∙ ap (λ (j : IslandNos). seen_words v (take i islands) ++ map (word_of v) (cond (has_any j.bridges) (j ∷ []) [])) (sym is)
     ∙ ap (λ t. seen_words v (take i islands) ++ t) (go (has_any x.bridges))
   where
-    go : (b : Bool) → map (λ (j : IslandNos). comma_list (map (seen_bridge v) j.bridges)) (cond b (x ∷ []) []) ≡ (if b then comma_list (map (seen_bridge v) x.bridges) ∷ [] else [])
+    go : (b : Bool) → map (λ (j : IslandNos). comma_list (filter_map (seen_bridge v) j.bridges)) (cond b (x ∷ []) []) ≡ (if b then comma_list (filter_map (seen_bridge v) x.bridges) ∷ [] else [])
     go true = refl
     go false = refl

@@ -91,11 +91,11 @@ abbrev pub AreSidesOf : SettledNet → SettledNet → ℕ → List ℕ → Type 
 AreSidesOf s t = AreSides s.net (outcome_of s) t.net (outcome_of t)
 
 abbrev pub seen_words : Viewed → List Island → List (List ℕ)
-seen_words v islands = map (λ i. comma_list (map (seen_bridge v) i.bridges)) (filter (λ i. has_any i.bridges) islands)
+seen_words v islands = map (λ i. comma_list (filter_map (seen_bridge v) i.bridges)) (filter (λ i. has_any i.bridges) islands)
 
 -- the word of an island, if it has a bridge
 abbrev pub one_word : Viewed → Island → List (List ℕ)
-one_word v i = if has_any i.bridges then comma_list (map (seen_bridge v) i.bridges) ∷ [] else []
+one_word v i = if has_any i.bridges then comma_list (filter_map (seen_bridge v) i.bridges) ∷ [] else []
 
 -- a word after a space, unless it is among others
 abbrev pub apart_word : List (List ℕ) → List ℕ → List ℕ

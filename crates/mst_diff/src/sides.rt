@@ -1,4 +1,4 @@
-ghost use Rattle.std.specs.Prelude.{◌≡◌, ◌++◌, ℕ, List, IfOk, OnOk, map};
+ghost use Rattle.std.specs.Prelude.{◌≡◌, ◌++◌, ℕ, List, IfOk, OnOk, filter_map, map};
 ghost use Rattle.std.specs.List.{flat_map, list_any};
 ghost use Rattle.mst_ids.specs.Words.{comma_list};
 ghost use Rattle.mst_lag.specs.Aggregation.{same_name};
@@ -17,7 +17,7 @@ use std::alloc::{AllocError, Global};
 
 /// The word of an island: the names of its bridges.
 fn word(alloc: Global, view: &View, island: &Island) -> Result<Vec<u8>, AllocError>
-    ensures { IfOk result (λ word. word.items ≡ comma_list (map (seen_bridge view.now) island.now.bridges)) }
+    ensures { IfOk result (λ word. word.items ≡ comma_list (filter_map (seen_bridge view.now) island.now.bridges)) }
 {
     let names = bridge_names(alloc, view, island.bridges.as_slice())?;
     let mut word = Vec::new(alloc);
