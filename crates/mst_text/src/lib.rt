@@ -24,7 +24,7 @@ mod tree_bridge;
 mod tree_port;
 mod vlan_text;
 
-pub use configuration::push_configuration;
+pub use configuration::{push_configuration, put_configuration};
 pub use islands::bridge_names;
 pub use lags::push_lags;
 pub use mst_vlan::{
