@@ -7,7 +7,6 @@ pub mod VlanNamed
 pub mod VlanTexts
 pub mod LagsByLan
 pub mod LagClasses
-mod Flat
 mod Keeping
 mod RegionsSeen
 mod Shown

@@ -31,11 +31,13 @@ mstis_rows bridge table = map (λ tree. msti_row bridge tree (vids_in table tree
 abbrev pub configuration_row : List ℕ → BridgeRow → List ℕ → Row
 configuration_row bridge row digest = row_of (kind.Region region_line.Configuration) (word bridge ∷ word row.conf_name ∷ number row.revision ∷ word digest ∷ [])
 
--- of the bridge of this name, if there is one: its configuration, and the trees of its table. One of kind rstp
--- shows what it keeps
+-- of a bridge: its configuration, and the trees of its table. One of kind rstp shows what it keeps
+abbrev pub rows_of_bridge : List ℕ → BridgeRow → List ℕ → List Row
+rows_of_bridge bridge row table = configuration_row bridge row (encode_lower (digest_of table)) ∷ mstis_rows bridge table
+
+-- of the bridge of this name, if there is one
 abbrev pub configuration_rows : Net → List ℕ → Option (List Row)
-configuration_rows net bridge =
-    option_map (λ row. configuration_row bridge row (encode_lower (digest_of (table_of net bridge))) ∷ mstis_rows bridge (table_of net bridge)) (fin.get net.bridges bridge)
+configuration_rows net bridge = option_map (λ row. rows_of_bridge bridge row (table_of net bridge)) (fin.get net.bridges bridge)
 
 -- their lines
 abbrev pub configuration_text : Net → List ℕ → Option (List ℕ)

@@ -4,6 +4,7 @@ pub use Rattle.mst_vlan.specs.settle as settle
 pub use Rattle.mst_vlan.specs.trees as trees
 pub use Rattle.mst_vlan.specs.roles as roles
 pub use Rattle.mst_vlan.specs as vlan
+pub use Rattle.mst_rows.specs as rows
 pub mod TreeRows
 pub mod TreeText
 pub mod TreeRuns

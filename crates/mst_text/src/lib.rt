@@ -32,6 +32,6 @@ pub use mst_vlan::{
     laws as vlan_laws, mstis_in_use, port_forwards, port_role, reach, role, trees_in_use,
     trees_laws,
 };
-pub use regions::push_regions;
+pub use regions::{push_regions, put_regions};
 pub use tree::{push_tree, put_tree};
 pub use vlan_text::{push_body, push_vlan, put_body, put_heading, put_vlan};
