@@ -1,12 +1,12 @@
 pub use Rattle.mst_vlan.proofs.trees_lemmas as trees_lemmas
 pub use Rattle.mst_vlan.proofs.roles_lemmas as roles_lemmas
 pub use Rattle.mst_vlan.proofs as vlan_lemmas
-pub mod TreeNamed
+mod TreeNamed
 pub mod VlanListed
 pub mod VlanNamed
-pub mod VlanTexts
-pub mod LagsByLan
-pub mod LagClasses
+mod VlanTexts
+mod LagsByLan
+mod LagClasses
 mod Keeping
 mod RegionsSeen
 mod Shown

@@ -8,7 +8,7 @@ use Rattle.mst_rows.specs.Rows.{Row}
 use Rattle.mst_vlan.specs.trees.Outcome.{Outcome}
 use Rattle.mst_vlan.specs.Reach.{AreIslandsOf}
 use Rattle.mst_text.specs.VlanRows.{heading}
-use Rattle.mst_text.specs.VlanText.{body_rows, alone, AreBodyRows, AreVlanRows, IsBody, IsVlanText}
+use Rattle.mst_text.specs.VlanText.{body_rows, alone, AreBodyRows, IsBody, IsVlanText}
 
 module _ (net : Net) (o : Outcome) (vid : ℕ) where
   -- a VID has these islands, and one list only

@@ -13,8 +13,8 @@ pub mod VlanText
 pub mod VlanSeen
 pub mod LagText
 pub mod LagView
-pub mod KeptWords
-pub mod WordsByLan
+pub mod KeptByLan
+pub mod MembersByLan
 pub mod ConfigurationText
 pub mod Members
 pub mod RegionsText

@@ -1,5 +1,5 @@
 -- The rows of a VID, under the numbers of records.
-use Rattle.std.specs.Prelude.{ℕ, ◌==◌, List, Option, filter_map, map}
+use Rattle.std.specs.Prelude.{ℕ, ◌==◌, List, Option, filter_map}
 use Rattle.std.specs.List.{find}
 use Rattle.std.specs.Option.{option_map}
 use Rattle.mst_lag.specs.Viewed.{Viewed}

@@ -1,4 +1,4 @@
-use Rattle.mst_rows.proofs.Loops.{rows_all, rows_more}
+use Rattle.mst_rows.proofs.Loops.{rows_more}
 use Rattle.mst_text.specs.Members.{seen_region}
 use Rattle.mst_text.proofs.regions.put_seen.Goals as goal
 

@@ -24,7 +24,7 @@ returns g c first rows grew =
     let own = active s.view (seen_active s.view s.forest vid) ∷ reached s.view islands in
     let seen : (rows ++ active c.view-view.result.now c.as_slice.result.now ∷ []) ++ reached c.view-view.result.now c.as_slice-3.result.now ≡ rows ++ own =
     (λ i. (rows ++ active (c.view-view.ensures i) ((c.as_slice.ensures.value ∙ c.in_ok-ports.ensures.seen) i) ∷ []) ++ reached (c.view-view.ensures i) (c.as_slice-3.ensures.value i))
-        ∙ append_assoc rows (active s.view (seen_active s.view s.forest vid) ∷ []) (reached s.view islands) in
+    ∙ append_assoc rows (active s.view (seen_active s.view s.forest vid) ∷ []) (reached s.view islands) in
     on_ok_weaker c.put_islands.result
     (λ grown. (own, are_body_rows s.net s.numbers s.view s.forest is.of (forest_of s is) vid runs islands c.in_ok-islands.ensures, subst (g.R.Rows.grew first c.put_islands.new.out) {y = rows ++ own} seen grown))
     (c.put_islands.ensures first (rows ++ active c.view-view.result.now c.as_slice.result.now ∷ []) (c.in_ok-put_active.ensures first rows grew))

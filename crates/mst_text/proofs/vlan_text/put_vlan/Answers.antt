@@ -1,7 +1,6 @@
-use Rattle.std.proofs.Common.{◌++◌, ◌∷◌, [], List, append_assoc, refl, ap, subst}
+use Rattle.std.proofs.Common.{◌++◌, ◌∷◌, [], append_assoc, ap, subst}
 use Rattle.std.proofs.lemmas.Result.{on_ok_weaker}
 use Rattle.mst_ids.specs.Vids.{runs_from}
-use Rattle.mst_rows.specs.Rows.{Row}
 use Rattle.mst_vlan.specs.trees.Settled.{outcome_of}
 use Rattle.mst_text.specs.VlanRows.{heading}
 use Rattle.mst_text.specs.VlanText.{AreBodyRows}
