@@ -1,6 +1,7 @@
 -- What answers queries.
 use Rattle.std.proofs.Common.{◌≡◌, ◌≢◌, ℕ, List, Option, None, Some, Result, Ok, Err, MatchOption, refl, sym, ap, subst, ◌∙◌, ◌++◌}
 use Rattle.std.specs.FinMap as fin
+use Rattle.std.specs.List.{flat_map}
 use Rattle.std.specs.Option.{option_map, option_map_or}
 use Rattle.mst_lang.specs.declared.line.Query.{Query}
 use Rattle.mst_lang.specs.declared.line.Query.TheVariants.{ShowPlan, ShowLag, ShowRegions, ShowNotes, ShowTree, ShowVlan, ShowConfiguration, Changes, Save}
@@ -15,8 +16,9 @@ use Rattle.mst_picture.specs.changes.declared.subject.Entry.{Entry}
 use Rattle.mst_picture.specs.text.LagText.{lags_text}
 use Rattle.mst_note_text.specs.NotesText.{AreNotes}
 use Rattle.mst_picture.specs.plan_text.PlanText.{IsPlanText}
-use Rattle.mst_picture.specs.text.ConfigurationText.{configuration_text, configuration_line, mstis_text}
+use Rattle.mst_picture.specs.text.ConfigurationText.{configuration_text, rows_of_bridge}
 use Rattle.mst_picture.specs.text.RegionsText.{regions_text}
+use Rattle.mst_picture.specs.text.rows.Lines.{row_line}
 use Rattle.mst_save.specs.SaveText.{save_text}
 use Rattle.mst_picture.specs.text.TreeText.{tree_text}
 use Rattle.mst_picture.specs.text.VlanText.{IsVlanText}
@@ -79,8 +81,8 @@ changes_have_text net mark entries e there =
 -- a bridge that is there has a configuration to show
 pub configuration_there : (s : State) (bridge : List ℕ) (row : BridgeRow) → Some row ≡ fin.get s.net.bridges bridge → HasText (ShowConfiguration bridge) s
 configuration_there s bridge row e = (
-  configuration_line bridge row (table_of s.net bridge) ++ mstis_text (table_of s.net bridge),
-  ap (λ o. option_map_or (λ text. Ok text) (option_map (λ row. configuration_line bridge row (table_of s.net bridge) ++ mstis_text (table_of s.net bridge)) o) (Err E04)) e,
+  flat_map row_line (rows_of_bridge bridge row (table_of s.net bridge)),
+  ap (λ o. option_map_or (λ text. Ok text) (option_map (flat_map row_line) (option_map (λ row. rows_of_bridge bridge row (table_of s.net bridge)) o)) (Err E04)) e,
 )
 
 -- by the laws that a network has one outcome, and an outcome one of each text
