@@ -1,14 +1,15 @@
 -- The rows of a VID and its text: there is one, and one only.
-use Rattle.std.proofs.Common.{◌≡◌, ℕ, List, [], ◌∷◌, refl, sym, ap, ◌∙◌}
+use Rattle.std.proofs.Common.{◌≡◌, ℕ, List, [], ◌∷◌, ◌++◌, map, refl, sym, ap, ◌∙◌}
 use Rattle.std.specs.List.{flat_map}
 use Rattle.mst_vlan.specs.graph.Islands.{Island}
 use Rattle.mst_net.specs.Tables.{Net}
 use Rattle.mst_rows.specs.Lines.{row_line}
 use Rattle.mst_rows.specs.Rows.{Row}
 use Rattle.mst_vlan.specs.trees.Outcome.{Outcome}
+use Rattle.mst_vlan.specs.Active.{active_ports}
 use Rattle.mst_vlan.specs.Reach.{AreIslandsOf}
-use Rattle.mst_text.specs.VlanRows.{heading}
-use Rattle.mst_text.specs.VlanText.{body_rows, alone, AreBodyRows, IsBody, IsVlanText}
+use Rattle.mst_text.specs.VlanRows.{active_row, heading}
+use Rattle.mst_text.specs.VlanText.{active_port, row_of_island, body_rows, alone, AreBodyRows, IsBody, IsVlanText}
 
 module _ (net : Net) (o : Outcome) (vid : ℕ) where
   -- a VID has these islands, and one list only
@@ -21,6 +22,17 @@ module _ (net : Net) (o : Outcome) (vid : ℕ) where
 
     pub has_text : (text : List ℕ) × IsVlanText net o vid text
     has_text = (_, (_, (_, has_rows (alone vid), refl), refl))
+
+  -- the lines of islands have no VIDs of the heading, and so those of a body
+  module _ (runs : List (ℕ × ℕ)) where
+    same_lines : (islands : List (Island (List ℕ) (List ℕ))) → flat_map row_line (map (row_of_island runs) islands) ≡ flat_map row_line (map (row_of_island []) islands)
+    same_lines [] = refl
+    same_lines (island ∷ islands) = ap (λ text. row_line (row_of_island [] island) ++ text) (same_lines islands)
+
+    pub body_lines : (rows : List Row) → AreBodyRows net o vid runs rows → IsBody net o vid (flat_map row_line rows)
+    body_lines rows are =
+        let active = active_row [] (map (active_port net vid) (active_ports net o vid)) in
+        (_, (are.0, are.1, refl), ap (flat_map row_line) are.2 ∙ ap (λ text. row_line active ++ text) (same_lines are.0))
 
   module _ (one : (islands others : List (Island (List ℕ) (List ℕ))) → AreIslandsOf net o vid islands → AreIslandsOf net o vid others → islands ≡ others) where
     one_rows : (runs : List (ℕ × ℕ)) (rows others : List Row) → AreBodyRows net o vid runs rows → AreBodyRows net o vid runs others → rows ≡ others

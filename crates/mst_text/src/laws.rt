@@ -2,7 +2,10 @@
 ghost use Rattle.std.specs.Prelude.{◌≡◌, ℕ, List};
 ghost use Rattle.mst_net.specs.Tables.{Net, IsNetwork};
 ghost use Rattle.mst_vlan.specs.trees.Outcome.{Outcome};
-ghost use Rattle.mst_text.specs.VlanText.{IsBody, IsVlanText};
+ghost use Rattle.std.specs.List.{flat_map};
+ghost use Rattle.mst_rows.specs.Lines.{row_line};
+ghost use Rattle.mst_rows.specs.Rows.{Row};
+ghost use Rattle.mst_text.specs.VlanText.{AreBodyRows, IsBody, IsVlanText};
 
 use mst_vlan::laws::islands_of_vid;
 
@@ -21,3 +24,8 @@ pub fn one_text()
 {
     islands_of_vid();
 }
+
+/// Under any heading the lines of a body are the body of the VID's text.
+pub fn any_heading()
+    ensures { (net : Net) (o : Outcome) (vid : ℕ) (runs : List (ℕ × ℕ)) (rows : List Row) → AreBodyRows net o vid runs rows → IsBody net o vid (flat_map row_line rows) }
+{}
