@@ -3,10 +3,10 @@ ghost use Rattle.mst_kinds.specs.declared.kind.Kind.TheVariants as kind;
 ghost use Rattle.mst_rows.specs.Cells.{number, port as named, word};
 ghost use Rattle.mst_rows.specs.Rows.{Row, row_of};
 ghost use Rattle.mst_explain.specs.Lines.{explain_rows, designated_contest as designated_in, root_contest as root_in, over_rows, alone_rows, restricted_rows, boundary_rows, disabled_rows};
-ghost use Rattle.mst_explain.specs.Told.{fields_by, fields_of};
+ghost use Rattle.mst_explain.specs.Told.{fields_of};
 
 use crate::field::{Difference, Values};
-use mst_ids::{BridgeId, Name, PortId, PortName, Tree};
+use mst_ids::{Name, PortName, Tree};
 use mst_kinds::{ContestLine, ExplainLine, Kind};
 use mst_roles::Role;
 use mst_rows::{Rows, Value, put};
@@ -93,20 +93,14 @@ pub(crate) fn put_over<'a, R: Rows>(
     contest: &'a Contest,
     giver: &'a Option<PortName>,
     other: &'a Option<PortName>,
-    decided: &Option<Difference>,
+    decided: &'a Option<Difference>,
     out: &mut R,
 ) -> Result<(), AllocError>
     ensures { (first : R) (rows : List Row) → R.grew first out.old rows → OnOk result (R.grew first out.new (rows ++ over_rows contest.now giver.now other.now (fields_of decided.now))) }
 {
     match decided {
         None => put_equal(contest, giver, other, out),
-        Some(difference) => match difference.values {
-            Values::Bridges(x, y) => {
-                put_bridges(contest, giver, other, difference.field, x, y, out)
-            }
-            Values::Ports(x, y) => put_ports(contest, giver, other, difference.field, x, y, out),
-            Values::Costs(x, y) => put_costs(contest, giver, other, difference.field, x, y, out),
-        },
+        Some(difference) => put_differing(contest, giver, other, difference, out),
     }
 }
 
@@ -128,76 +122,31 @@ fn put_equal<'a, R: Rows>(
     put::<R>(Kind::Contest(contest.over), &values, out)
 }
 
-/// Puts the row of two that differ in the identifier of a bridge.
-fn put_bridges<'a, R: Rows>(
+/// Puts the row of two whose vectors differ.
+fn put_differing<'a, R: Rows>(
     contest: &'a Contest,
     giver: &'a Option<PortName>,
     other: &'a Option<PortName>,
-    field: &'a str,
-    x: BridgeId,
-    y: BridgeId,
+    difference: &'a Difference,
     out: &mut R,
 ) -> Result<(), AllocError>
-    ensures { (first : R) (rows : List Row) → R.grew first out.old rows → OnOk result (R.grew first out.new (rows ++ over_rows contest.now giver.now other.now (Some (fields_by field.now (Values.Bridges x y))))) }
+    ensures { (first : R) (rows : List Row) → R.grew first out.old rows → OnOk result (R.grew first out.new (rows ++ over_rows contest.now giver.now other.now (fields_of (Some difference.now)))) }
 {
+    let (line, x, y) = match difference.values {
+        Values::Bridges(x, y) => (contest.by_id, Value::BridgeId(x), Value::BridgeId(y)),
+        Values::Ports(x, y) => (contest.by_id, Value::PortId(x), Value::PortId(y)),
+        Values::Costs(x, y) => (contest.by_cost, Value::Number(x), Value::Number(y)),
+    };
     let values = [
         Value::Number(u64::from(contest.tree.value())),
         Value::Port(&contest.port),
         Value::Giver(giver),
         Value::Giver(other),
-        Value::Word(field.as_bytes()),
-        Value::BridgeId(x),
-        Value::BridgeId(y),
+        Value::Word(difference.field.as_bytes()),
+        x,
+        y,
     ];
-    put::<R>(Kind::Contest(contest.by_id), &values, out)
-}
-
-/// Puts the row of two that differ in the identifier of a port.
-fn put_ports<'a, R: Rows>(
-    contest: &'a Contest,
-    giver: &'a Option<PortName>,
-    other: &'a Option<PortName>,
-    field: &'a str,
-    x: PortId,
-    y: PortId,
-    out: &mut R,
-) -> Result<(), AllocError>
-    ensures { (first : R) (rows : List Row) → R.grew first out.old rows → OnOk result (R.grew first out.new (rows ++ over_rows contest.now giver.now other.now (Some (fields_by field.now (Values.Ports x y))))) }
-{
-    let values = [
-        Value::Number(u64::from(contest.tree.value())),
-        Value::Port(&contest.port),
-        Value::Giver(giver),
-        Value::Giver(other),
-        Value::Word(field.as_bytes()),
-        Value::PortId(x),
-        Value::PortId(y),
-    ];
-    put::<R>(Kind::Contest(contest.by_id), &values, out)
-}
-
-/// Puts the row of two that differ in a cost.
-fn put_costs<'a, R: Rows>(
-    contest: &'a Contest,
-    giver: &'a Option<PortName>,
-    other: &'a Option<PortName>,
-    field: &'a str,
-    x: u64,
-    y: u64,
-    out: &mut R,
-) -> Result<(), AllocError>
-    ensures { (first : R) (rows : List Row) → R.grew first out.old rows → OnOk result (R.grew first out.new (rows ++ over_rows contest.now giver.now other.now (Some (fields_by field.now (Values.Costs x y))))) }
-{
-    let values = [
-        Value::Number(u64::from(contest.tree.value())),
-        Value::Port(&contest.port),
-        Value::Giver(giver),
-        Value::Giver(other),
-        Value::Word(field.as_bytes()),
-        Value::Number(x),
-        Value::Number(y),
-    ];
-    put::<R>(Kind::Contest(contest.by_cost), &values, out)
+    put::<R>(Kind::Contest(line), &values, out)
 }
 
 /// Puts the row of a port whose role is restricted.
