@@ -1,11 +1,11 @@
 -- A network does not differ from itself.
-use Rattle.std.proofs.Common.{◌≡◌, ℕ, ◌==◌, ◌&&◌, ◌||◌, Bool, true, false, cond, not, List, [], ◌∷◌, ◌++◌, map, length, Option, Some, None, refl, sym, ap, subst, ◌∙◌, append_assoc, fold, eq-eqb, codes, decimal}
+use Rattle.std.proofs.Common.{◌≡◌, ℕ, ◌==◌, ◌&&◌, ◌||◌, Bool, true, false, cond, not, List, [], ◌∷◌, ◌++◌, map, length, Option, Some, None, refl, sym, ap, subst, ◌∙◌, append_assoc, fold, eq-eqb, codes}
 use Rattle.std.specs.Prelude.{if◌then◌else◌}
 use Rattle.std.specs.Cmp.Lexicographic.{bytes_decides}
 use Rattle.std.specs.List.{AllByRecursion, Contains, filter, filter_map, flat_map, list_any, count_by}
 use Rattle.std.specs.Option.{option_map_or}
 use Rattle.std.specs.FinMap as fin
-use Rattle.mst_ids.specs.Words.{after_space, line, listed}
+use Rattle.mst_ids.specs.Words.{after_space, listed}
 use Rattle.std.proofs.lemmas.List.Sums.{length-filter}
 use Rattle.mst_net.specs.Tables.{Net, BridgeRow}
 use Rattle.mst_lag.specs.Aggregation.{same_name}
@@ -22,9 +22,10 @@ use Rattle.mst_changes.specs.Values.{value_at}
 use Rattle.mst_changes.proofs.Same.{none_at}
 use Rattle.mst_ids.specs.Names.{port_cmp}
 use Rattle.mst_net.proofs.Keys.{names}
+use Rattle.mst_rows.specs.Lines.{row_line}
 use Rattle.mst_diff.specs.declared.roots.RootPair.{RootPair}
-use Rattle.mst_diff.specs.Regions.{same_told, region_line, region_text, region_change, region_changes}
-use Rattle.mst_diff.specs.Roots.{root_name, paired, root_pair, same_pair, root_line, with_new, each_once, tree_roots, root_changes}
+use Rattle.mst_diff.specs.Regions.{same_told, region_row, region_unless, region_change, region_changes}
+use Rattle.mst_diff.specs.Roots.{root_name, paired, root_pair, same_pair, root_row, root_unless, with_new, each_once, tree_roots, root_changes}
 use Rattle.mst_diff.specs.Ports.{ports_text}
 use Rattle.mst_diff.specs.declared.diff.Differing.{Differing}
 use Rattle.mst_diff.specs.Reach.{has_any, island_words, without, sides_text, reach_line, group_text}
@@ -36,7 +37,7 @@ name_itself : (name : List ℕ) → same_name name name ≡ true
 name_itself name = (bytes_decides name name).1 refl
 
 -- nothing is made of each
-pub each_none : {A : Type 0} (f : A → List ℕ) (xs : List A) → AllByRecursion (λ x. f x ≡ []) xs → flat_map f xs ≡ []
+pub each_none : {A B : Type 0} (f : A → List B) (xs : List A) → AllByRecursion (λ x. f x ≡ []) xs → flat_map f xs ≡ []
 each_none f [] h = refl
 each_none f (x ∷ xs) h = ap (λ l. l ++ flat_map f xs) h.0 ∙ each_none f xs h.1
 
@@ -48,14 +49,14 @@ told_itself row = go row.is_rstp
     go true = refl
     go false = λ i. name_itself row.conf_name i && eq-eqb row.revision row.revision refl i
 
-text_none : (name : List ℕ) (row : BridgeRow) (first : List ℕ) → region_text name row first row first ≡ []
-text_none name row first = λ i. if told_itself row i && name_itself first i then [] else region_line name row first row first
+unless_none : (name : List ℕ) (row : BridgeRow) (first : List ℕ) → region_unless name row first row first ≡ []
+unless_none name row first = λ i. if told_itself row i && name_itself first i then [] else region_row name row first row first ∷ []
 
 pub no_regions : (a : Net) → region_changes a a ≡ []
 no_regions a =
     each_none (region_change a a) (fin.entries a.bridges)
     (all_weaker _ _ (λ (e : List ℕ × BridgeRow) found.
-    ap (λ r. option_map_or (λ row. region_text e.0 e.1 (first_of_region a e.0) row (first_of_region a e.0)) r []) found ∙ text_none e.0 e.1 (first_of_region a e.0))
+    ap (λ r. option_map_or (λ row. region_unless e.0 e.1 (first_of_region a e.0) row (first_of_region a e.0)) r []) found ∙ unless_none e.0 e.1 (first_of_region a e.0))
     (fin.entries a.bridges) (entries_found names.total a.bridges))
 
 -- ---- roots
@@ -85,9 +86,9 @@ pairs a o tree = filter_map (root_pair a o a o tree) (bridge_names a)
 
 no_tree_roots : (a : Net) (o : Outcome) (tree : ℕ) → tree_roots a o a o tree ≡ []
 no_tree_roots a o tree =
-    each_none (root_line tree) (each_once same_pair (pairs a o tree))
+    each_none (root_unless tree) (each_once same_pair (pairs a o tree))
     (all_weaker (λ (p : RootPair). p.old ≡ p.new) _
-    (λ p e. ap (λ (b : Bool). if b then [] else line (codes "root" ∷ decimal tree ∷ p.old ∷ codes "->" ∷ p.new ∷ [])) ((bytes_decides p.old p.new).1 e)) (each_once same_pair (pairs a o tree))
+    (λ p e. ap (λ (b : Bool). if b then [] else root_row tree p ∷ []) ((bytes_decides p.old p.new).1 e)) (each_once same_pair (pairs a o tree))
     (once_all (λ (p : RootPair). p.old ≡ p.new) same_pair (pairs a o tree) [] tt
     (all_kept (λ _. Unit {0}) (λ (p : RootPair). p.old ≡ p.new) (root_pair a o a o tree) (λ name pair _ e. pair_itself (root_name a o tree name) pair e) (bridge_names a) (any_name (bridge_names a)))))
 
@@ -141,11 +142,11 @@ module _ (a : Net) (o : Outcome) (one : OneList) (c : Differing) (text : List �
 
   pub no_counts : c ≡ record { regions = 0; roots = 0; ports = 0; vlans = 0 }
   no_counts = λ i. record {
-    regions = (x.regions ∙ ap lines_in (no_regions a)) i;
-    roots = (x.roots ∙ ap lines_in (no_roots a o)) i;
+    regions = (x.regions ∙ ap length (no_regions a)) i;
+    roots = (x.roots ∙ ap length (no_roots a o)) i;
     ports = (x.ports ∙ ap lines_in (no_ports a o)) i;
     vlans = (x.is_reach.counted ∙ none_counted all_vids none_differ) i;
   }
 
   pub last_line_alone : text ≡ diff_line c
-  last_line_alone = x.is ∙ (λ i. no_regions a i ++ no_roots a o i ++ no_ports a o i ++ no_reach i ++ diff_line c)
+  last_line_alone = x.is ∙ (λ i. flat_map row_line (no_regions a i) ++ flat_map row_line (no_roots a o i) ++ no_ports a o i ++ no_reach i ++ diff_line c)

@@ -1,5 +1,5 @@
 -- The last line stands alone just where two networks are alike.
-use Rattle.std.proofs.Common.{◌≡◌, ℕ, ◌+◌, ◌<◌, ◌≤◌, ◌==◌, ◌&&◌, ◌||◌, inl, inr, Bool, true, false, cond, not, List, [], ◌∷◌, ◌++◌, length, get_or, map, Option, Some, None, refl, sym, ap, subst, ◌∙◌, fold, codes, decimal, arith, true≢false, is_some, eq-eqb}
+use Rattle.std.proofs.Common.{◌≡◌, ℕ, ◌+◌, ◌<◌, ◌≤◌, ◌==◌, ◌&&◌, ◌||◌, inl, inr, Bool, true, false, cond, not, List, [], ◌∷◌, ◌++◌, length, get_or, map, Option, Some, None, refl, sym, ap, subst, ◌∙◌, fold, codes, arith, true≢false, is_some, eq-eqb}
 use Rattle.std.specs.Prelude.{if◌then◌else◌, ◌↔◌}
 use Rattle.std.specs.Cmp.Lexicographic.{bytes_decides}
 use Rattle.std.specs.List.{AllByRecursion, Contains, filter_map, flat_map, find, cons_option, list_any, range_with_len}
@@ -37,10 +37,11 @@ use Rattle.mst_changes.specs.Subjects.{all_trees, bridge_names, port_in, port_na
 use Rattle.mst_changes.specs.PortChanges.{port_changes}
 use Rattle.mst_changes.specs.Values.{value_at, role_number, same_side}
 use Rattle.mst_changes.specs.ChangesText.{item_words, side_words, change_text, change_line}
+use Rattle.mst_rows.specs.Rows.{Row}
 use Rattle.mst_diff.specs.declared.diff.Differing.{Differing}
 use Rattle.mst_diff.specs.declared.roots.RootPair.{RootPair}
-use Rattle.mst_diff.specs.Regions.{same_told, region_words, region_line, region_text, region_change, region_changes}
-use Rattle.mst_diff.specs.Roots.{root_name, paired, root_pair, same_pair, root_line, with_new, each_once, tree_roots, root_changes}
+use Rattle.mst_diff.specs.Regions.{same_told, region_row, region_unless, region_change, region_changes}
+use Rattle.mst_diff.specs.Roots.{root_name, paired, root_pair, same_pair, root_row, root_unless, with_new, each_once, tree_roots, root_changes}
 use Rattle.mst_diff.specs.Ports.{ports_text}
 use Rattle.mst_diff.specs.Reach.{has_any, island_words, without, sides_text}
 use Rattle.mst_diff.specs.DiffText.{lines_in, diff_line, IsDiff}
@@ -57,6 +58,11 @@ use Rattle.mst_diff.proofs.Turned.{tied, found_twice}
 no_line : (words : List (List ℕ)) → line words ≡ [] → ⊥
 no_line [] e = no_more 10 [] e
 no_line (word ∷ words) e = no_more 10 [] (both_none (word ++ flat_map after_space words) (10 ∷ []) e).1
+
+-- where a row is left out, the test passes
+row_left : (b : Bool) (row : Row) → (if b then [] else row ∷ []) ≡ [] → b ≡ true
+row_left true row e = refl
+row_left false row e = absurd (no_more row [] e)
 
 -- where a line is left out, the test passes
 left_out : (b : Bool) (words : List (List ℕ)) → (if b then [] else line words) ≡ [] → b ≡ true
@@ -96,8 +102,8 @@ module _ (a b : Net) where
       let first = first_of_region a bridge in
       let other = first_of_region b bridge in
       let none : region_change a b (bridge, old) ≡ [] = all_contained (λ (e : List ℕ × BridgeRow). region_change a b e ≡ []) (fin.entries a.bridges) (bridge, old) (each_is_none (region_change a b) (fin.entries a.bridges) e) (entry_there a bridge old x) in
-      let text : region_text bridge old first new other ≡ [] = ap (λ r. option_map_or (λ row. region_text bridge old first row other) r []) (sym y) ∙ none in
-      let parts = and_parts (same_told old new) (same_name first other) (left_out (same_told old new && same_name first other) (codes "region" ∷ bridge ∷ region_words old first ++ codes "->" ∷ region_words new other) text) in
+      let unless : region_unless bridge old first new other ≡ [] = ap (λ r. option_map_or (λ row. region_unless bridge old first row other) r []) (sym y) ∙ none in
+      let parts = and_parts (same_told old new) (same_name first other) (row_left (same_told old new && same_name first other) (region_row bridge old first new other) unless) in
       (parts.0, (bytes_decides first other).0 parts.1)
 
   -- and where all are the same there is none
@@ -107,12 +113,12 @@ module _ (a b : Net) where
       (all_weaker _ _ (λ (e : List ℕ × BridgeRow) found. go e found (fin.get b.bridges e.0) refl) (fin.entries a.bridges) (entries_found names.total a.bridges))
     where
       go : (e : List ℕ × BridgeRow) → fin.get a.bridges e.0 ≡ Some e.1 → (r : Option BridgeRow) → fin.get b.bridges e.0 ≡ r
-          → option_map_or (λ row. region_text e.0 e.1 (first_of_region a e.0) row (first_of_region b e.0)) r [] ≡ []
+          → option_map_or (λ row. region_unless e.0 e.1 (first_of_region a e.0) row (first_of_region b e.0)) r [] ≡ []
       go e x None y = refl
       go e x (Some new) y =
           let same = h e.0 e.1 new x y in
           let first = (bytes_decides (first_of_region a e.0) (first_of_region b e.0)).1 same.1 in
-          λ i. if same.0 i && first i then [] else region_line e.0 e.1 (first_of_region a e.0) new (first_of_region b e.0)
+          λ i. if same.0 i && first i then [] else region_row e.0 e.1 (first_of_region a e.0) new (first_of_region b e.0) ∷ []
 
 -- ---- roots
 -- what holds of the things that are kept once holds of all of them, where it holds of a thing with the same one
@@ -173,9 +179,9 @@ module _ (a b : Net) (o p : Outcome) where
   pairs_one : (tree : ℕ) → tree_roots a o b p tree ≡ [] → AllByRecursion IsOne (pairs tree)
   pairs_one tree e =
       (once_each IsOne same_pair one_too (pairs tree) []
-      (all_weaker (λ pair. root_line tree pair ≡ []) IsOne
-      (λ pair none. (bytes_decides pair.old pair.new).0 (left_out (same_name pair.old pair.new) (codes "root" ∷ decimal tree ∷ pair.old ∷ codes "->" ∷ pair.new ∷ []) none))
-      (each_once same_pair (pairs tree)) (each_is_none (root_line tree) (each_once same_pair (pairs tree)) e))).1
+      (all_weaker (λ pair. root_unless tree pair ≡ []) IsOne
+      (λ pair none. (bytes_decides pair.old pair.new).0 (row_left (same_name pair.old pair.new) (root_row tree pair) none))
+      (each_once same_pair (pairs tree)) (each_is_none (root_unless tree) (each_once same_pair (pairs tree)) e))).1
 
   -- where there is no line of roots
   roots_same : root_changes a o b p ≡ [] → SameRoots
@@ -187,8 +193,8 @@ module _ (a b : Net) (o p : Outcome) where
   -- and where all are the same there is none
   roots_none : SameRoots → root_changes a o b p ≡ []
   roots_none h = each_none (tree_roots a o b p) all_trees (each_tree (λ tree. tree_roots a o b p tree ≡ []) (λ tree l.
-      each_none (root_line tree) (each_once same_pair (pairs tree))
-      (all_weaker IsOne _ (λ pair one. ap (λ (b : Bool). if b then [] else line (codes "root" ∷ decimal tree ∷ pair.old ∷ codes "->" ∷ pair.new ∷ [])) ((bytes_decides pair.old pair.new).1 one)) (each_once same_pair (pairs tree))
+      each_none (root_unless tree) (each_once same_pair (pairs tree))
+      (all_weaker IsOne _ (λ pair one. ap (λ (b : Bool). if b then [] else root_row tree pair ∷ []) ((bytes_decides pair.old pair.new).1 one)) (each_once same_pair (pairs tree))
       (once_all IsOne same_pair (pairs tree) [] tt
       (all_kept (λ _. Unit {0}) IsOne (root_pair a o b p tree) (λ name pair _ e. pair_one (root_name a o tree name) (root_name b p tree name) (h tree l name) pair e) (bridge_names a) (any_name (bridge_names a)))))))
 
@@ -345,8 +351,8 @@ module _ (a b : Net) (o p : Outcome) (one : OneList) (c : Differing) (text : Lis
 
   none_counted : AreAlike a o b p → c ≡ no_counts
   none_counted h = λ i. record {
-    regions = (x.regions ∙ ap lines_in (regions_none a b h.regions)) i;
-    roots = (x.roots ∙ ap lines_in (roots_none a b o p h.roots)) i;
+    regions = (x.regions ∙ ap length (regions_none a b h.regions)) i;
+    roots = (x.roots ∙ ap length (roots_none a b o p h.roots)) i;
     ports = (x.ports ∙ ap lines_in (roles_none a b o p h.roles)) i;
     vlans = (sym (in_count a o b p c text x) ∙ ap length (filter_none (differs a o b p c text x) all_vids (none_differs h))) i;
   }

@@ -6,7 +6,6 @@ pub use Rattle.mst_plan_text.proofs as plan_text_lemmas
 pub mod Lists
 pub mod Named
 pub mod Shared
-pub mod Lines
 pub mod Once
 pub mod NamedSides
 pub mod Reached

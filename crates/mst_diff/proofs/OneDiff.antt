@@ -16,6 +16,7 @@ use Rattle.mst_plan_text.proofs.trees_lemmas.Looking.{filter_alike}
 use Rattle.mst_plan_text.specs.vlan.Reach.{AreIslandsOf}
 use Rattle.mst_plan_text.specs.PlanText.{all_vids}
 use Rattle.mst_plan_text.proofs.OnePlan.{vids_once, is_vid_there, each_text, OneGrouping}
+use Rattle.mst_rows.specs.Lines.{row_line}
 use Rattle.mst_diff.specs.declared.diff.Differing.{Differing}
 use Rattle.mst_diff.specs.Regions.{region_changes}
 use Rattle.mst_diff.specs.Roots.{root_changes}
@@ -80,7 +81,7 @@ module _ (a b : Net) (o p : Outcome) (one : OneList) (grouping : OneGrouping) wh
     pub one_diff : text ≡ other
     one_diff =
         x.is
-        ∙ (λ i. region_changes a b ++ root_changes a o b p ++ ports_text a o b p ++ one_reach x.reach y.reach c.vlans d.vlans x.is_reach y.is_reach i ++ diff_line (one_counts i))
+        ∙ (λ i. flat_map row_line (region_changes a b) ++ flat_map row_line (root_changes a o b p) ++ ports_text a o b p ++ one_reach x.reach y.reach c.vlans d.vlans x.is_reach y.is_reach i ++ diff_line (one_counts i))
         ∙ sym y.is
 
 -- and there is one
@@ -104,8 +105,8 @@ module _ (a b : Net) (o p : Outcome) (olds : (vid : ℕ) → (islands : List (Is
 
   abbrev counts : Differing
   counts = record {
-    regions = lines_in (region_changes a b);
-    roots = lines_in (root_changes a o b p);
+    regions = length (region_changes a b);
+    roots = length (root_changes a o b p);
     ports = lines_in (ports_text a o b p);
     vlans = count_by (λ vid. has_any (sides vid)) all_vids;
   }
@@ -113,7 +114,7 @@ module _ (a b : Net) (o p : Outcome) (olds : (vid : ℕ) → (islands : List (Is
   pub has_diff : (c : Differing) × (text : List ℕ) × IsDiff a o b p c text
   has_diff = (
     counts,
-    region_changes a b ++ root_changes a o b p ++ ports_text a o b p ++ flat_map (group_text sides) groups ++ diff_line counts,
+    flat_map row_line (region_changes a b) ++ flat_map row_line (root_changes a o b p) ++ ports_text a o b p ++ flat_map (group_text sides) groups ++ diff_line counts,
     record {
       reach = flat_map (group_text sides) groups;
       is_reach = record {

@@ -20,11 +20,17 @@ use Rattle.mst_plan_text.specs.trees.Settled.{SettledNet, outcome_of}
 use Rattle.mst_plan_text.specs.vlan.declared.island.Island.{Island}
 use Rattle.mst_plan_text.specs.text.VlanSeen.{seen_bridge}
 use Rattle.mst_changes.specs.PortChanges.{port_changes}
+use Rattle.mst_kinds.specs.declared.change_line.ChangeLine.TheVariants as change_line
+use Rattle.mst_kinds.specs.declared.kind.Kind.TheVariants as kind
+use Rattle.mst_rows.specs.Cells as cells
+use Rattle.mst_rows.specs.Rows.{Row, region, row_of}
 use Rattle.mst_diff.specs.declared.both.Both.{Both}
 use Rattle.mst_diff.specs.declared.roots.Identified.{Identified}
 use Rattle.mst_diff.specs.declared.roots.RootPair.{RootPair}
-use Rattle.mst_diff.specs.Regions.{region_text}
-use Rattle.mst_diff.specs.Roots.{root_pair, same_pair, with_new, tree_roots}
+use Rattle.mst_diff.specs.declared.roots.RootChange.{RootChange}
+use Rattle.mst_diff.specs.declared.regions.RegionChange.{RegionChange}
+use Rattle.mst_diff.specs.Regions.{region_unless}
+use Rattle.mst_diff.specs.Roots.{root_pair, root_row, same_pair, with_new, tree_roots}
 use Rattle.mst_diff.specs.Reach.{has_any, AreSides}
 
 -- ---- bridges
@@ -53,11 +59,19 @@ seen_found v classes b = option_map (λ c. c.name) (find (λ c. same_in classes 
 abbrev pub seen_first : Viewed → List (ℕ × ℕ) → BridgeInView → List ℕ
 seen_first v classes b = unwrap_or (seen_found v classes b) b.name
 
--- the line of a bridge of two networks, by its name
-abbrev pub region_of : Net → Net → Both → List ℕ
-region_of a b both = region_text both.old.name (bridge_row both.old.bridge) (first_of_region a both.old.name) (bridge_row both.new.bridge) (first_of_region b both.old.name)
+-- the row of a bridge of two networks, by its name
+abbrev pub region_of : Net → Net → Both → List Row
+region_of a b both = region_unless both.old.name (bridge_row both.old.bridge) (first_of_region a both.old.name) (bridge_row both.new.bridge) (first_of_region b both.old.name)
+
+-- the row of a bridge whose region is another one
+abbrev pub row_of_region : RegionChange → Row
+row_of_region c = row_of (kind.Change change_line.Region) (cells.word c.bridge ∷ cells.object (region c.old.configuration c.old.first) ∷ cells.object (region c.new.configuration c.new.first) ∷ [])
 
 -- ---- roots
+-- the row of a tree of which a root is another one
+abbrev pub row_of_root : RootChange → Row
+row_of_root c = root_row c.tree c.pair
+
 abbrev pub seen_root : Viewed → Forest → ℕ → ℕ → Option ℕ
 seen_root v f tree bridge =
     if tree == 0 then option_map (λ v. v.root) (vector_of f.cist bridge) else (if is_among (trees_at v bridge) tree then option_map (λ v. v.regional) (msti_vector f tree bridge) else None)
@@ -73,8 +87,8 @@ name_by named id = option_map (λ n. n.name) (find (λ n. n.id == id) named)
 abbrev pub pair_of : SettledNet → SettledNet → ℕ → Both → Option RootPair
 pair_of s t tree both = root_pair s.net (outcome_of s) t.net (outcome_of t) tree both.old.name
 
--- the lines of a tree
-abbrev pub roots_of : SettledNet → SettledNet → ℕ → List ℕ
+-- the rows of a tree
+abbrev pub roots_of : SettledNet → SettledNet → ℕ → List Row
 roots_of s t = tree_roots s.net (outcome_of s) t.net (outcome_of t)
 
 -- pairs with one more, if there is one

@@ -8,7 +8,7 @@ ghost use Rattle.mst_diff.specs.Ports.{ports_text};
 ghost use Rattle.mst_diff.specs.Reach.{AreSides, IsReachText};
 ghost use Rattle.mst_diff.specs.Regions.{region_changes};
 ghost use Rattle.mst_diff.specs.Roots.{root_changes};
-ghost use Rattle.mst_diff.specs.Turned.{AreTurned, SidesTurned, ReachTurned};
+ghost use Rattle.mst_diff.specs.Turned.{AreTurned, LinesTurned, SidesTurned, ReachTurned};
 ghost use Rattle.mst_diff.specs.declared.diff.Differing.{Differing as Counts};
 
 use mst_graph::laws::group_lists;
@@ -35,14 +35,14 @@ pub fn no_difference()
     islands_of_vid();
 }
 
-/// The change back has the same lines with their sides changed over, in the same order: of regions, of roots and of ports.
+/// The change back has the same rows with their sides changed over, in the same order: of regions, of roots and of ports.
 /// The sides of each VID are changed over, too. So VIDs that had the same sides have the same sides again, and the lines of
 /// VIDs are of the same groups, in the same order, with their sides changed over. So the numbers of what differs are the
 /// same.
 pub fn turned()
     ensures regions { (a b : Net) → AreTurned (region_changes a b) (region_changes b a) }
     ensures roots { (a b : Net) (o p : Outcome) → AreTurned (root_changes a o b p) (root_changes b p a o) }
-    ensures ports { (a b : Net) (o p : Outcome) → AreTurned (ports_text a o b p) (ports_text b p a o) }
+    ensures ports { (a b : Net) (o p : Outcome) → LinesTurned (ports_text a o b p) (ports_text b p a o) }
     ensures sides { (a b : Net) (o p : Outcome) (vid : ℕ) (text other : List ℕ) → AreSides a o b p vid text → AreSides b p a o vid other → SidesTurned text other }
     ensures reach { (a b : Net) (o p : Outcome) (text other : List ℕ) (v w : ℕ) → IsNetwork a → IsNetwork b → IsReachText a o b p text v → IsReachText b p a o other w → ReachTurned text other }
     ensures counts { (a b : Net) (o p : Outcome) (c d : Counts) (text other : List ℕ) → IsDiff a o b p c text → IsDiff b p a o d other → c ≡ d }
