@@ -43,14 +43,15 @@ use Rattle.mst_diff.specs.declared.roots.RootPair.{RootPair}
 use Rattle.mst_diff.specs.Regions.{same_told, region_row, region_unless, region_change, region_changes}
 use Rattle.mst_diff.specs.Roots.{root_name, paired, root_pair, same_pair, root_row, root_unless, with_new, each_once, tree_roots, root_changes}
 use Rattle.mst_diff.specs.Ports.{ports_text}
-use Rattle.mst_diff.specs.Reach.{has_any, island_words, without, sides_text}
+use Rattle.mst_diff.specs.Reach.{has_any, island_bridges, same_names, without, sides_of, differ}
 use Rattle.mst_diff.specs.DiffText.{lines_in, diff_line, IsDiff}
 use Rattle.mst_diff.specs.AlikeNets.{AreAlike}
 use Rattle.mst_diff.proofs.Alike.{each_none, once_all, any_name, none_apart}
-use Rattle.mst_diff.proofs.LastLine.{no_counts, no_more, both_none, each_is_none, differs, in_count, alone, second, third, none_alike}
+use Rattle.mst_diff.proofs.LastLine.{no_counts, no_more, both_none, each_is_none, differs, in_count, alone, no_island, second, third, none_alike}
 use Rattle.mst_diff.proofs.Lists.{flat_map-none}
 use Rattle.mst_diff.proofs.Named.{no_root}
 use Rattle.mst_diff.proofs.OneDiff.{OneList}
+use Rattle.mst_diff.proofs.SameSides.{names_decide}
 use Rattle.mst_diff.proofs.Turned.{tied, found_twice}
 
 -- ---- lines that are there
@@ -281,41 +282,35 @@ module _ (a b : Net) (o p : Outcome) where
           ∙ ap (λ (b : Bool). if b then [] else change_line (port_in tree name) (option_map HasRole s) (option_map HasRole s)) (role_itself s)
 
 -- ---- islands
-abbrev SameWords : List (List ℕ) → List (List ℕ) → Type 0
-SameWords u v = (word : List ℕ) → Contains u word ↔ Contains v word
+abbrev SameIslands : List (List (List ℕ)) → List (List (List ℕ)) → Type 0
+SameIslands u v = (bridges : List (List ℕ)) → Contains u bridges ↔ Contains v bridges
 
--- where there are no sides, neither has a word that the other has not
-nothing_apart : (u v : List (List ℕ)) → has_any (if has_any (u ++ v) then flat_map after_space (listed u ++ codes "->" ∷ listed v) else []) ≡ false → (u ≡ []) × (v ≡ [])
-nothing_apart [] [] e = (refl, refl)
-nothing_apart [] (w ∷ ws) e = absurd (true≢false e)
-nothing_apart (w ∷ ws) v e = absurd (true≢false e)
-
-all_in : (xs ys : List (List ℕ)) → without xs ys ≡ [] → (word : List ℕ) → Contains xs word → Contains ys word
-all_in xs ys e word h = go (list_any (λ y. same_name y word) ys) refl
+all_in : (xs ys : List (List (List ℕ))) → without xs ys ≡ [] → (bridges : List (List ℕ)) → Contains xs bridges → Contains ys bridges
+all_in xs ys e bridges h = go (list_any (λ y. same_names y bridges) ys) refl
   where
-    go : (b : Bool) → list_any (λ y. same_name y word) ys ≡ b → Contains ys word
-    go true t = let y = passing (λ y. same_name y word) ys t in subst (Contains ys) ((bytes_decides y.0 word).0 y.2) y.1
-    go false t = absurd (in_none word (subst (λ zs. Contains zs word) e (in_filter (λ x. not (list_any (λ y. same_name y x) ys)) xs word h (ap not t))))
+    go : (b : Bool) → list_any (λ y. same_names y bridges) ys ≡ b → Contains ys bridges
+    go true t = let y = passing (λ y. same_names y bridges) ys t in subst (Contains ys) ((names_decide y.0 bridges).0 y.2) y.1
+    go false t = absurd (in_none bridges (subst (λ zs. Contains zs bridges) e (in_filter (λ x. not (list_any (λ y. same_names y x) ys)) xs bridges h (ap not t))))
 
 or_last : (b : Bool) → (b || true) ≡ true
 or_last true = refl
 or_last false = refl
 
-any_in : (word : List ℕ) (ys : List (List ℕ)) → Contains ys word → list_any (λ y. same_name y word) ys ≡ true
-any_in word [] h = absurd (in_none word h)
-any_in word (y ∷ ys) h = elim (cases y word ys h) [
-  | inl e ↦ ap (λ b. b || list_any (λ y. same_name y word) ys) ((bytes_decides y word).1 e)
-  | inr a ↦ ap (λ b. same_name y word || b) (any_in word ys a) ∙ or_last (same_name y word)
+any_in : (bridges : List (List ℕ)) (ys : List (List (List ℕ))) → Contains ys bridges → list_any (λ y. same_names y bridges) ys ≡ true
+any_in bridges [] h = absurd (in_none bridges h)
+any_in bridges (y ∷ ys) h = elim (cases y bridges ys h) [
+  | inl e ↦ ap (λ b. b || list_any (λ y. same_names y bridges) ys) ((names_decide y bridges).1 e)
+  | inr a ↦ ap (λ b. same_names y bridges || b) (any_in bridges ys a) ∙ or_last (same_names y bridges)
 ]
 
-words_same : (u v : List (List ℕ)) → has_any (sides_text u v) ≡ false → SameWords u v
-words_same u v e word = let none = nothing_apart (without u v) (without v u) e in (all_in u v none.0 word, all_in v u none.1 word)
+islands_same : (u v : List (List (List ℕ))) → differ (sides_of u v) ≡ false → SameIslands u v
+islands_same u v e bridges = let none = no_island (sides_of u v) e in (all_in u v none.0 bridges, all_in v u none.1 bridges)
 
-words_none : (u v : List (List ℕ)) → SameWords u v → has_any (sides_text u v) ≡ false
-words_none u v h =
-    let olds : without u v ≡ [] = none_apart u v (all_weaker (Contains u) _ (λ word k. any_in word v ((h word).0 k)) u (all_there u)) in
-    let news : without v u ≡ [] = none_apart v u (all_weaker (Contains v) _ (λ word k. any_in word u ((h word).1 k)) v (all_there v)) in
-    λ i. has_any (if has_any (olds i ++ news i) then flat_map after_space (listed (olds i) ++ codes "->" ∷ listed (news i)) else [])
+islands_none : (u v : List (List (List ℕ))) → SameIslands u v → differ (sides_of u v) ≡ false
+islands_none u v h =
+    let olds : without u v ≡ [] = none_apart u v (all_weaker (Contains u) _ (λ bridges k. any_in bridges v ((h bridges).0 k)) u (all_there u)) in
+    let news : without v u ≡ [] = none_apart v u (all_weaker (Contains v) _ (λ bridges k. any_in bridges u ((h bridges).1 k)) v (all_there v)) in
+    λ i. has_any (olds i) || has_any (news i)
 
 -- each VID is in the list of them, one after its place
 one_after : (place vid : ℕ) → place + 1 ≡ vid → 1 + place ≡ vid
@@ -340,14 +335,14 @@ module _ (a b : Net) (o p : Outcome) (one : OneList) (c : Differing) (text : Lis
         let sides = x.is_reach.are_sides vid is in
         let old = one a o vid sides.0 olds sides.2 s in
         let new = one b p vid sides.1 news sides.3 t in
-        words_same (island_words olds) (island_words news) (sym (ap has_any sides.4 ∙ (λ i. has_any (sides_text (island_words (old i)) (island_words (new i))))) ∙ none_alike a o b p c text x e vid (vid_there vid is));
+        islands_same (island_bridges olds) (island_bridges news) (sym (ap differ sides.4 ∙ (λ i. differ (sides_of (island_bridges (old i)) (island_bridges (new i))))) ∙ none_alike a o b p c text x e vid (vid_there vid is));
   }
 
   none_differs : AreAlike a o b p → (vid : ℕ) → Contains all_vids vid → differs a o b p c text x vid ≡ false
   none_differs h vid there =
       let is = is_vid_there vid there in
       let sides = x.is_reach.are_sides vid is in
-      ap has_any sides.4 ∙ words_none (island_words sides.0) (island_words sides.1) (h.islands vid is sides.0 sides.1 sides.2 sides.3)
+      ap differ sides.4 ∙ islands_none (island_bridges sides.0) (island_bridges sides.1) (h.islands vid is sides.0 sides.1 sides.2 sides.3)
 
   none_counted : AreAlike a o b p → c ≡ no_counts
   none_counted h = λ i. record {

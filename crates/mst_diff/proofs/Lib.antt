@@ -14,7 +14,7 @@ pub mod Alike
 pub mod Turned
 pub mod LastLine
 pub mod AlikeNets
-pub mod TwoSides
-pub mod Plain
+pub mod SameSides
+pub mod SidesGrouped
 pub mod ReachTurned
 pub mod FirstNamed

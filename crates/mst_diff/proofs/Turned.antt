@@ -45,9 +45,9 @@ use Rattle.mst_diff.specs.declared.roots.RootPair.{RootPair}
 use Rattle.mst_diff.specs.Regions.{same_told, configuration, region_unless, region_change, region_changes}
 use Rattle.mst_diff.specs.Roots.{root_name, paired, root_pair, same_pair, root_unless, with_new, each_once, tree_roots, root_changes}
 use Rattle.mst_diff.specs.Ports.{ports_text}
-use Rattle.mst_diff.specs.Reach.{has_any, island_words, without, sides_text, AreSides, IsReachText}
+use Rattle.mst_diff.specs.Reach.{has_any, island_bridges, Sides, sides_of, differ, AreSides, AreReachRows}
 use Rattle.mst_diff.specs.DiffText.{lines_in, IsDiff}
-use Rattle.mst_diff.specs.Turned.{Sided, sided_row, turned_row, AreTurned, SidedLine, sided_line, turned_line, LinesTurned, SidesTurned}
+use Rattle.mst_diff.specs.Turned.{Sided, sided_row, turned_row, AreTurned, SidedLine, sided_line, turned_line, LinesTurned, turned_sides}
 use Rattle.mst_diff.proofs.Lists.{flat_map-filter_map, flat_map-same, list_any-map}
 use Rattle.mst_diff.proofs.Named.{no_root}
 use Rattle.mst_diff.proofs.OneDiff.{OneList, each_count}
@@ -94,10 +94,10 @@ rows_turned : (rows others : List Row) → AreTurned rows others → length rows
 rows_turned rows others t = ap length t.1 ∙ length-map t.0 sided_row ∙ sym (length-map t.0 turned_row) ∙ sym (ap length t.2)
 
 -- ---- rows that are turned
-nothing_turned : AreTurned [] []
+pub nothing_turned : AreTurned [] []
 nothing_turned = ([], refl, refl)
 
-turned_append : (x y z w : List Row) → AreTurned x y → AreTurned z w → AreTurned (x ++ z) (y ++ w)
+pub turned_append : (x y z w : List Row) → AreTurned x y → AreTurned z w → AreTurned (x ++ z) (y ++ w)
 turned_append x y z w s t = (s.0 ++ t.0, (λ i. s.1 i ++ t.1 i) ∙ sym (map-append sided_row s.0 t.0), (λ i. s.2 i ++ t.2 i) ∙ sym (map-append turned_row s.0 t.0))
 
 each_turned : {A : Type 0} (f g : A → List Row) (xs : List A) → ((x : A) → AreTurned (f x) (g x)) → AreTurned (flat_map f xs) (flat_map g xs)
@@ -336,30 +336,22 @@ module _ (a b : Net) (o p : Outcome) where
   ports_turned = each_text_turned (port_changes a o b p) (port_changes b p a o) all_trees changes_turned
 
 -- ---- islands
-pub any_turned : (u v : List (List ℕ)) → has_any (if has_any (u ++ v) then flat_map after_space (listed u ++ codes "->" ∷ listed v) else []) ≡ has_any (if has_any (v ++ u) then flat_map after_space (listed v ++ codes "->" ∷ listed u) else [])
-any_turned [] [] = refl
-any_turned [] (w ∷ ws) = refl
-any_turned (w ∷ ws) [] = refl
-any_turned (w ∷ ws) (x ∷ xs) = refl
+pub any_turned : (s : Sides) → differ (turned_sides s) ≡ differ s
+any_turned s = or_comm (has_any s.new) (has_any s.old)
 
 module _ (a b : Net) (o p : Outcome) (one : OneList) where
-  pub sides_turned : (vid : ℕ) (text other : List ℕ) → AreSides a o b p vid text → AreSides b p a o vid other → SidesTurned text other
-  sides_turned vid text other s t = (
-    island_words s.0,
-    island_words s.1,
-    s.4,
-    t.4 ∙ (λ i. sides_text (island_words (one b p vid t.0 s.1 t.2 s.3 i)) (island_words (one a o vid t.1 s.0 t.3 s.2 i))),
-  )
+  pub sides_turned : (vid : ℕ) (sides others : Sides) → AreSides a o b p vid sides → AreSides b p a o vid others → others ≡ turned_sides sides
+  sides_turned vid sides others s t =
+      t.4 ∙ (λ i. sides_of (island_bridges (one b p vid t.0 s.1 t.2 s.3 i)) (island_bridges (one a o vid t.1 s.0 t.3 s.2 i))) ∙ ap turned_sides (sym s.4)
 
-  module _ (text other : List ℕ) (c d : ℕ) (x : IsReachText a o b p text c) (y : IsReachText b p a o other d) where
-    vid_turned : (vid : ℕ) → Contains all_vids vid → has_any (x.sides vid) ≡ has_any (y.sides vid)
+  module _ (rows others : List Row) (c d : ℕ) (x : AreReachRows a o b p rows c) (y : AreReachRows b p a o others d) where
+    vid_turned : (vid : ℕ) → Contains all_vids vid → differ (x.sides vid) ≡ differ (y.sides vid)
     vid_turned vid h =
         let v = is_vid_there vid h in
-        let t = sides_turned vid (x.sides vid) (y.sides vid) (x.are_sides vid v) (y.are_sides vid v) in
-        ap has_any t.2 ∙ any_turned (without t.0 t.1) (without t.1 t.0) ∙ sym (ap has_any t.3)
+        sym (ap differ (sides_turned vid (x.sides vid) (y.sides vid) (x.are_sides vid v) (y.are_sides vid v)) ∙ any_turned (x.sides vid))
 
     vids_turned : c ≡ d
-    vids_turned = x.counted ∙ each_count (λ vid. has_any (x.sides vid)) (λ vid. has_any (y.sides vid)) all_vids vid_turned ∙ sym y.counted
+    vids_turned = x.counted ∙ each_count (λ vid. differ (x.sides vid)) (λ vid. differ (y.sides vid)) all_vids vid_turned ∙ sym y.counted
 
   -- the numbers of both
   pub counts_turned : (c d : Differing) (text other : List ℕ) → IsDiff a o b p c text → IsDiff b p a o d other → c ≡ d

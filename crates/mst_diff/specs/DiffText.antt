@@ -12,7 +12,7 @@ use Rattle.mst_diff.specs.declared.diff.Differing.{Differing}
 use Rattle.mst_diff.specs.Regions.{region_changes}
 use Rattle.mst_diff.specs.Roots.{root_changes}
 use Rattle.mst_diff.specs.Ports.{ports_text}
-use Rattle.mst_diff.specs.Reach.{IsReachText}
+use Rattle.mst_diff.specs.Reach.{AreReachRows}
 
 -- the number of lines of a text
 abbrev pub lines_in : List ℕ → ℕ
@@ -27,9 +27,9 @@ diff_line d = row_line (diff_row d)
 
 -- this is the text: the lines of the rows of regions, of roots, of ports and of VIDs, and how many there are
 pub record IsDiff (a : Net) (o : Outcome) (b : Net) (p : Outcome) (d : Differing) (text : List ℕ) : Type 0 where
-  pub reach : List ℕ
-  pub is_reach : IsReachText a o b p reach d.vlans
+  pub reach : List Row
+  pub is_reach : AreReachRows a o b p reach d.vlans
   pub regions : d.regions ≡ length (region_changes a b)
   pub roots : d.roots ≡ length (root_changes a o b p)
   pub ports : d.ports ≡ lines_in (ports_text a o b p)
-  pub is : text ≡ flat_map row_line (region_changes a b) ++ flat_map row_line (root_changes a o b p) ++ ports_text a o b p ++ reach ++ diff_line d
+  pub is : text ≡ flat_map row_line (region_changes a b) ++ flat_map row_line (root_changes a o b p) ++ ports_text a o b p ++ flat_map row_line reach ++ diff_line d

@@ -7,7 +7,7 @@ use crate::all_roots::{changed_roots, put_roots};
 use crate::both::bridges_of_both;
 use crate::change::Change;
 use crate::ports::push_ports;
-use crate::reach::push_reach;
+use crate::reach::put_reach;
 use crate::regions::{changed_regions, put_regions};
 use mst_ids::push_bytes;
 use mst_kinds::{ChangeLine, Kind};
@@ -61,18 +61,16 @@ fn push_change(alloc: Global, change: &Change, out: &mut Vec<u8>) -> Result<Diff
     let roots = changed_roots(alloc, change)?;
     let mut ports = Vec::new(alloc);
     push_ports(alloc, change, &mut ports)?;
-    let mut reach = Vec::new(alloc);
-    let vlans = push_reach(alloc, change.old, change.new, &mut reach)?;
+    put_regions::<Vec<u8>>(regions.as_slice(), out)?;
+    put_roots::<Vec<u8>>(roots.as_slice(), out)?;
+    push_bytes(ports.as_slice(), out)?;
+    let vlans = put_reach::<Vec<u8>>(alloc, change.old, change.new, out)?;
     let differing = Differing {
         regions: regions.len() as u64,
         roots: roots.len() as u64,
         ports: lines_in(ports.as_slice()),
         vlans,
     };
-    put_regions::<Vec<u8>>(regions.as_slice(), out)?;
-    put_roots::<Vec<u8>>(roots.as_slice(), out)?;
-    push_bytes(ports.as_slice(), out)?;
-    push_bytes(reach.as_slice(), out)?;
     put_counts::<Vec<u8>>(&differing, out)?;
     Ok(differing)
 }
