@@ -13,7 +13,7 @@ use Rattle.std.proofs.lemmas.List.FromFn.{get_or-range_with_len, length-range_wi
 use Rattle.std.proofs.lemmas.Map.Views.{Contains-from_any}
 use Rattle.mst_ids.specs.Names.{port_cmp}
 use Rattle.mst_ids.specs.Vids.{is_vid}
-use Rattle.mst_ids.specs.Words.{after_space, line, listed}
+use Rattle.mst_ids.specs.Words.{after_space, line}
 use Rattle.mst_ids.specs.declared.name.PortName.{PortName}
 use Rattle.mst_graph.proofs.Members.{in_none, cases, passing, in_map, in_filter, filter_none}
 use Rattle.mst_net.specs.Tables.{Net, BridgeRow, port_eq}

@@ -1,5 +1,5 @@
 -- Tests of names, of islands and of sides decide whether they are the same.
-use Rattle.std.proofs.Common.{◌≡◌, ℕ, ◌&&◌, Bool, true, nat_eq, List, [], ◌∷◌, map, Vec, Global, refl, ap, sym, ◌∙◌}
+use Rattle.std.proofs.Common.{◌≡◌, ℕ, ◌&&◌, Bool, List, [], ◌∷◌, map, Vec, Global, refl, ap, sym, ◌∙◌}
 use Rattle.std.specs.Bool.{Decides}
 use Rattle.std.specs.Cmp.{IsEquivalence}
 use Rattle.std.specs.Cmp.Lexicographic.{pointwise, pointwise_decides, bytes_decides, nat_list_eq_equiv, lists_equiv}
@@ -20,12 +20,12 @@ same_sides s t = pointwise same_names s.old t.old && pointwise same_names s.new 
 pub sides_decide : (s t : Sides) → Decides (same_sides s t) (s ≡ t)
 sides_decide s t = (
   λ e. let parts = and_parts (pointwise same_names s.old t.old) (pointwise same_names s.new t.new) e in
-  let old = (groups_decide s.old t.old).0 parts.0 in
-  let new = (groups_decide s.new t.new).0 parts.1 in
-  λ i. record { old = old i; new = new i },
+      let old = (groups_decide s.old t.old).0 parts.0 in
+      let new = (groups_decide s.new t.new).0 parts.1 in
+      λ i. record { old = old i; new = new i },
   λ e. let old = (groups_decide s.old t.old).1 (ap (λ (u : Sides). u.old) e) in
-  let new = (groups_decide s.new t.new).1 (ap (λ (u : Sides). u.new) e) in
-  λ i. old i && new i,
+      let new = (groups_decide s.new t.new).1 (ap (λ (u : Sides). u.new) e) in
+      λ i. old i && new i,
 )
 
 -- things that have equal sides

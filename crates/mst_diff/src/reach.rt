@@ -77,11 +77,7 @@ fn differs(sides: &Sides) -> bool
 }
 
 /// Puts the row of these VIDs, with these sides.
-fn put_row<'a, R: Rows>(
-    vids: &'a VidSet,
-    sides: &'a Sides,
-    out: &mut R,
-) -> Result<(), AllocError>
+fn put_row<'a, R: Rows>(vids: &'a VidSet, sides: &'a Sides, out: &mut R) -> Result<(), AllocError>
     ensures { (first : R) (rows : List Row) → R.grew first out.old rows → OnOk result (R.grew first out.new (rows ++ reach_row (runs_from 0 vids.now) (seen_sides sides.now) ∷ [])) }
 {
     let values = [

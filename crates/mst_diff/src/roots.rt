@@ -172,11 +172,7 @@ fn pairs(alloc: Global, shared: &InTree, both: &[Both]) -> Result<Vec<RootPair>,
 }
 
 /// Puts a pair behind these, if its two names differ.
-fn add_change(
-    tree: Tree,
-    pair: &RootPair,
-    changes: &mut Vec<RootChange>,
-) -> Result<(), AllocError>
+fn add_change(tree: Tree, pair: &RootPair, changes: &mut Vec<RootChange>) -> Result<(), AllocError>
     ensures { OnOk result (map row_of_root changes.new.items ≡ map row_of_root changes.old.items ++ root_unless tree pair.now) }
 {
     if pair.old == pair.new {

@@ -78,6 +78,6 @@ returns g c first rows grew =
         counted = c.count.ensures ∙ (λ j. count_by (λ vid. differ (sides_at (c.as_slice-11.ensures.value j) (counted j) vid)) (vids j));
       },
       subst (λ (own : List Row). g.R.Rows.grew first c.put_groups.new.out (rows ++ own))
-      ((λ j. flat_map (λ (group : Vec ℕ Global). group_rows (sides_at (c.as_slice-8.ensures.value j) (kept j)) group.items) (c.as_slice-7.ensures.value j)) ∙ sym (flat_map-map (group_rows sides) items c.in_ok-groups.groups.items))
-      (c.in_ok-put_groups.ensures first rows grew),
+          ((λ j. flat_map (λ (group : Vec ℕ Global). group_rows (sides_at (c.as_slice-8.ensures.value j) (kept j)) group.items) (c.as_slice-7.ensures.value j)) ∙ sym (flat_map-map (group_rows sides) items c.in_ok-groups.groups.items))
+          (c.in_ok-put_groups.ensures first rows grew),
     )

@@ -1,4 +1,4 @@
-use Rattle.std.proofs.Common.{◌≡◌, refl, take, ◌+◌, ℕ, List, ◌++◌, ◌∷◌, [], get_or, map, sym, ap, subst, ◌∙◌, arith, rules}
+use Rattle.std.proofs.Common.{◌≡◌, refl, take, ◌+◌, ℕ, ◌++◌, ◌∷◌, [], get_or, map, sym, ap, subst, ◌∙◌, arith, rules}
 use Rattle.std.proofs.lemmas.Grind.{common_steps}
 use Rattle.std.proofs.lemmas.List.{map-append}
 use Rattle.mst_diff.specs.Seen.{AreSidesOf, seen_sides}
