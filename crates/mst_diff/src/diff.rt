@@ -1,19 +1,21 @@
-ghost use Rattle.std.specs.Prelude.{◌≡◌, ◌==◌, ◌&&◌, ◌++◌, ℕ, List, IfOk, OnOk};
+ghost use Rattle.std.specs.Prelude.{◌≡◌, ◌==◌, ◌&&◌, ◌++◌, ◌∷◌, [], ℕ, List, IfOk, OnOk};
 ghost use Rattle.mst_plan_text.specs.trees.Settled.{outcome_of};
-ghost use Rattle.mst_diff.specs.DiffText.{IsDiff, diff_line, lines_in as lines_of_text};
+ghost use Rattle.mst_rows.specs.Rows.{Row};
+ghost use Rattle.mst_diff.specs.DiffText.{IsDiff, diff_row, lines_in as lines_of_text};
 
-use crate::all_roots::push_roots;
+use crate::all_roots::{changed_roots, put_roots};
 use crate::both::bridges_of_both;
 use crate::change::Change;
 use crate::ports::push_ports;
-use crate::reach::push_reach;
-use crate::regions::push_regions;
-use itoa::Buffer;
-use mst_ids::{push_bytes, push_line};
+use crate::reach::put_reach;
+use crate::regions::{changed_regions, put_regions};
+use mst_ids::push_bytes;
+use mst_kinds::{ChangeLine, Kind};
 use mst_plan_text::{Settled, trees_in_use};
+use mst_rows::{Rows, Value, put};
 use std::alloc::{AllocError, Global};
 
-/// How much differs: lines of regions, of roots and of ports, and VIDs.
+/// How much differs: rows of regions, of roots and of ports, and VIDs.
 #[derive(Clone, Copy)]
 pub struct Differing {
     pub regions: u64,
@@ -38,51 +40,38 @@ fn lines_in(text: &[u8]) -> u64
     text.iter().filter(|byte| **byte == b'\n').count() as u64
 }
 
-/// Appends the line of how much differs.
-fn push_counts(differing: &Differing, out: &mut Vec<u8>) -> Result<(), AllocError>
-    ensures { OnOk result (out.new.items ≡ out.old.items ++ diff_line differing.now) }
+/// Puts the row of how much differs.
+fn put_counts<R: Rows>(differing: &Differing, out: &mut R) -> Result<(), AllocError>
+    ensures { (first : R) (rows : List Row) → R.grew first out.old rows → OnOk result (R.grew first out.new (rows ++ diff_row differing.now ∷ [])) }
 {
-    let mut regions = Buffer::new();
-    let mut roots = Buffer::new();
-    let mut ports = Buffer::new();
-    let mut vlans = Buffer::new();
-    let words: [&[u8]; 9] = [
-        b"diff",
-        b"regions",
-        regions.format(differing.regions).as_bytes(),
-        b"roots",
-        roots.format(differing.roots).as_bytes(),
-        b"ports",
-        ports.format(differing.ports).as_bytes(),
-        b"vlans",
-        vlans.format(differing.vlans).as_bytes(),
+    let values = [
+        Value::Number(differing.regions),
+        Value::Number(differing.roots),
+        Value::Number(differing.ports),
+        Value::Number(differing.vlans),
     ];
-    push_line(&words, out)
+    put::<R>(Kind::Change(ChangeLine::Counts), &values, out)
 }
 
 /// Appends the text of what a change does, and answers how much of each.
 fn push_change(alloc: Global, change: &Change, out: &mut Vec<u8>) -> Result<Differing, AllocError>
     ensures { IfOk result (λ differing. (text : List ℕ) × IsDiff change.now.old.now.net (outcome_of change.now.old.now) change.now.new.now.net (outcome_of change.now.new.now) differing text × (out.new.items ≡ out.old.items ++ text)) }
 {
-    let mut regions = Vec::new(alloc);
-    push_regions(change, &mut regions)?;
-    let mut roots = Vec::new(alloc);
-    push_roots(alloc, change, &mut roots)?;
+    let regions = changed_regions(alloc, change)?;
+    let roots = changed_roots(alloc, change)?;
     let mut ports = Vec::new(alloc);
     push_ports(alloc, change, &mut ports)?;
-    let mut reach = Vec::new(alloc);
-    let vlans = push_reach(alloc, change.old, change.new, &mut reach)?;
+    put_regions::<Vec<u8>>(regions.as_slice(), out)?;
+    put_roots::<Vec<u8>>(roots.as_slice(), out)?;
+    push_bytes(ports.as_slice(), out)?;
+    let vlans = put_reach::<Vec<u8>>(alloc, change.old, change.new, out)?;
     let differing = Differing {
-        regions: lines_in(regions.as_slice()),
-        roots: lines_in(roots.as_slice()),
+        regions: regions.len() as u64,
+        roots: roots.len() as u64,
         ports: lines_in(ports.as_slice()),
         vlans,
     };
-    push_bytes(regions.as_slice(), out)?;
-    push_bytes(roots.as_slice(), out)?;
-    push_bytes(ports.as_slice(), out)?;
-    push_bytes(reach.as_slice(), out)?;
-    push_counts(&differing, out)?;
+    put_counts::<Vec<u8>>(&differing, out)?;
     Ok(differing)
 }
 

@@ -2,13 +2,14 @@
 ghost use Rattle.std.specs.Prelude.{◌≡◌, ◌↔◌, ℕ, List};
 ghost use Rattle.mst_net.specs.Tables.{Net, IsNetwork};
 ghost use Rattle.mst_plan_text.specs.trees.Outcome.{Outcome, IsOutcome};
+ghost use Rattle.mst_rows.specs.Rows.{Row};
 ghost use Rattle.mst_diff.specs.AlikeNets.{AreAlike};
 ghost use Rattle.mst_diff.specs.DiffText.{IsDiff, diff_line};
 ghost use Rattle.mst_diff.specs.Ports.{ports_text};
-ghost use Rattle.mst_diff.specs.Reach.{AreSides, IsReachText};
+ghost use Rattle.mst_diff.specs.Reach.{AreSides, Sides, AreReachRows};
 ghost use Rattle.mst_diff.specs.Regions.{region_changes};
 ghost use Rattle.mst_diff.specs.Roots.{root_changes};
-ghost use Rattle.mst_diff.specs.Turned.{AreTurned, SidesTurned, ReachTurned};
+ghost use Rattle.mst_diff.specs.Turned.{AreTurned, LinesTurned, turned_sides};
 ghost use Rattle.mst_diff.specs.declared.diff.Differing.{Differing as Counts};
 
 use mst_graph::laws::group_lists;
@@ -35,16 +36,16 @@ pub fn no_difference()
     islands_of_vid();
 }
 
-/// The change back has the same lines with their sides changed over, in the same order: of regions, of roots and of ports.
-/// The sides of each VID are changed over, too. So VIDs that had the same sides have the same sides again, and the lines of
+/// The change back has the same rows with their sides changed over, in the same order: of regions, of roots and of ports.
+/// The sides of each VID are changed over, too. So VIDs that had the same sides have the same sides again, and the rows of
 /// VIDs are of the same groups, in the same order, with their sides changed over. So the numbers of what differs are the
 /// same.
 pub fn turned()
     ensures regions { (a b : Net) → AreTurned (region_changes a b) (region_changes b a) }
     ensures roots { (a b : Net) (o p : Outcome) → AreTurned (root_changes a o b p) (root_changes b p a o) }
-    ensures ports { (a b : Net) (o p : Outcome) → AreTurned (ports_text a o b p) (ports_text b p a o) }
-    ensures sides { (a b : Net) (o p : Outcome) (vid : ℕ) (text other : List ℕ) → AreSides a o b p vid text → AreSides b p a o vid other → SidesTurned text other }
-    ensures reach { (a b : Net) (o p : Outcome) (text other : List ℕ) (v w : ℕ) → IsNetwork a → IsNetwork b → IsReachText a o b p text v → IsReachText b p a o other w → ReachTurned text other }
+    ensures ports { (a b : Net) (o p : Outcome) → LinesTurned (ports_text a o b p) (ports_text b p a o) }
+    ensures sides { (a b : Net) (o p : Outcome) (vid : ℕ) (sides others : Sides) → AreSides a o b p vid sides → AreSides b p a o vid others → others ≡ turned_sides sides }
+    ensures reach { (a b : Net) (o p : Outcome) (rows others : List Row) (v w : ℕ) → AreReachRows a o b p rows v → AreReachRows b p a o others w → AreTurned rows others }
     ensures counts { (a b : Net) (o p : Outcome) (c d : Counts) (text other : List ℕ) → IsDiff a o b p c text → IsDiff b p a o d other → c ≡ d }
 {
     islands_of_vid();
@@ -54,8 +55,8 @@ pub fn turned()
 /// The last line stands alone exactly where nothing is counted: no line, and no VID whose islands have other bridges.
 /// And that is exactly where the networks are alike: each bridge that both have has the same kind, configuration name
 /// and revision and the same first bridge of its region; each bridge that has a root in a tree in both has the same one;
-/// each logical port has the same role in each tree, or none in both; and the islands of each VID that have a bridge are
-/// told by the same words, the names of their bridges, in both.
+/// each logical port has the same role in each tree, or none in both; and the islands of each VID that have a bridge have
+/// the same ones in both.
 pub fn last_line()
     ensures counted { (a b : Net) (o p : Outcome) (c : Counts) (text : List ℕ) → IsDiff a o b p c text
         → (c ≡ record { regions = 0; roots = 0; ports = 0; vlans = 0 }) ↔ (text ≡ diff_line c) }
