@@ -10,3 +10,4 @@ pub mod OneText
 pub mod Roles
 pub mod SomeClaims
 pub mod SomeText
+mod Explaining

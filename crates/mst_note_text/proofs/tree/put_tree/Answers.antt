@@ -4,13 +4,13 @@ use Rattle.mst_roles.proofs.trees_lemmas.SettledNet.{forest_of}
 use Rattle.mst_note_text.specs.SeenNotes.{members_notes}
 use Rattle.mst_note_text.specs.SeenTree.{members_in}
 use Rattle.mst_note_text.proofs.Noting.{notes_are}
-use Rattle.mst_note_text.proofs.tree.push_tree.Goals as goal
+use Rattle.mst_note_text.proofs.tree.put_tree.Goals as goal
 
 pub depths_in-requires : goal.depths_in-requires
-depths_in-requires c = c.as_slice.ensures.value ∙ c.in_ok-members.ensures ∙ (λ i. members_in (c.view-view.ensures i) (c.forest-forest.ensures i) c.args.tree)
+depths_in-requires g c = c.as_slice.ensures.value ∙ c.in_ok-members.ensures ∙ (λ i. members_in (c.view-view.ensures i) (c.forest-forest.ensures i) c.args.tree)
 
 pub returns : goal.returns
-returns c d are_depths =
+returns g c d are_depths first rows grew =
     let s = c.args.plan.now in
     let is = c.known.ensures in
     let macs = c.args.macs.now.entries in
@@ -21,4 +21,4 @@ returns c d are_depths =
     tree c.as_slice.result.now members c.in_ok-depths.depths.items depths.internal depths.external in
     let seen : members_notes c.bridges.result.now macs tree c.as_slice-2.result.now c.as_slice-3.result.now ≡ members_notes s.view.bridges macs tree c.as_slice.result.now c.in_ok-depths.depths.items =
     (λ i. members_notes ((c.bridges.ensures ∙ (λ j. (c.view-view.ensures j).bridges)) i) macs tree ((c.as_slice-2.ensures.value ∙ sym c.as_slice.ensures.value) i) (c.as_slice-3.ensures.value i)) in
-    rw (seen ∙ text) at c.push_members.ensures
+    rw (seen ∙ text) at c.put_members.ensures first rows grew
