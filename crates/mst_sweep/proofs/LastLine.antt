@@ -1,5 +1,5 @@
 -- The last line of a text.
-use Rattle.std.proofs.Common.{◌≡◌, ◌==◌, ℕ, ◌+◌, ◌/◌, ◌%◌, ◌≤◌, ◌<◌, zero, suc, Bool, true, false, cond, List, [], ◌∷◌, ◌++◌, decimal, refl, sym, ap, subst, ◌∙◌, arith}
+use Rattle.std.proofs.Common.{◌≡◌, ◌==◌, ℕ, ◌+◌, ◌/◌, ◌%◌, ◌≤◌, ◌<◌, zero, suc, Bool, true, false, cond, List, [], ◌∷◌, ◌++◌, decimal, refl, sym, ap, subst, ◌∙◌, append_assoc, arith}
 use Rattle.std.specs.Prelude.{if◌then◌else◌, nat_le, nat_lt}
 use Rattle.std.specs.Fmt.{digits, digits_onto, digit_glyph}
 use Rattle.std.specs.List.{AllByRecursion, count_by, flat_map}
@@ -7,6 +7,10 @@ use Rattle.std.proofs.lemmas.List.Sums.{sum_by-append, sum_by-cons}
 use Rattle.std.proofs.lemmas.Bool.{eqb-true, le-leb}
 use Rattle.std.proofs.Math.Nat.{lt_irrefl}
 use Rattle.mst_ids.specs.Words.{line, after_space}
+use Rattle.mst_kinds.specs.Kinds.{first_of, parts_of}
+use Rattle.mst_kinds.specs.Words.{mark_text}
+use Rattle.mst_rows.specs.Lines.{parts_text, row_line}
+use Rattle.mst_rows.specs.Rows.{Row}
 use Rattle.mst_sweep.specs.SweepParts.{is_newline, but_last_line}
 
 -- ---- ends of lines
@@ -33,9 +37,15 @@ pub lines_ended : (text : List ℕ) → AreLines (text ++ 10 ∷ [])
 lines_ended [] = (omega arith, tt)
 lines_ended (b ∷ text) = (subst (λ n. 1 ≤ n) (sym (ends_joined (b ∷ text) (10 ∷ []))) (omega arith), lines_ended text)
 
-pub are_line : (words : List (List ℕ)) → AreLines (line words)
-are_line [] = lines_ended []
-are_line (word ∷ words) = lines_ended (word ++ flat_map after_space words)
+pub row_ended : (row : Row) → AreLines (row_line row)
+row_ended row =
+    let first = mark_text (first_of row.kind) in
+    let words = parts_text (parts_of row.kind) row.cells in
+    subst AreLines (append_assoc first words (10 ∷ [])) (lines_ended (first ++ words))
+
+pub rows_ended : (rows : List Row) → AreLines (flat_map row_line rows)
+rows_ended [] = tt
+rows_ended (row ∷ rows) = lines_joined (row_line row) (flat_map row_line rows) (row_ended row) (rows_ended rows)
 
 pub all_lines : {A : Type 0} (text : A → List ℕ) (xs : List A) → AllByRecursion (λ x. AreLines (text x)) xs → AreLines (flat_map text xs)
 all_lines text [] h = tt

@@ -24,51 +24,67 @@ use Rattle.mst_sweep.specs.declared.failure.Failure.{Failure}
 use Rattle.mst_sweep.specs.declared.failure.Failure.TheVariants.{Lan, Bridge}
 use Rattle.mst_sweep.specs.Failures.{edit_of, failures}
 use Rattle.mst_sweep.specs.Moved.{moved_roots, moved_ports}
-use Rattle.mst_sweep.specs.Parts.{staying, parts_text, AreParts}
-use Rattle.mst_sweep.proofs.CutsBy.{one_lines, one_cut, cut_vids, cut_lines, some_cuts}
-use Rattle.mst_sweep.specs.SweepText.{failure_line, IsFailureText, Told, IsTold, IsTextOf, sweep_line, IsSweepOf}
+use Rattle.mst_sweep.specs.Parts.{staying, all_parts, AreParts}
+use Rattle.mst_rows.specs.Lines.{row_line}
+use Rattle.mst_rows.specs.Rows.{Row}
+use Rattle.mst_sweep.specs.declared.cuts.CutBy.TheVariants.{One}
+use Rattle.mst_sweep.specs.Cuts.{runs_of}
+use Rattle.mst_sweep.proofs.CutsBy.{one_list, one_cut, cut_vids, cut_rows, some_cuts}
+use Rattle.mst_sweep.specs.SweepText.{failure_row, AreFailureRows, IsFailureText, Told, IsTold, IsTextOf, sweep_line, IsSweepOf}
 
 -- ---- one failure
 module _ (a b : Net) (o p : Outcome) (one : OneList) where
-  pub one_parts : (vid : ℕ) (text other : List ℕ) → AreParts a o b p vid text → AreParts a o b p vid other → text ≡ other
-  one_parts vid text other s t =
+  pub one_parts : (vid : ℕ) (parts other : List (List (List ℕ))) → AreParts a o b p vid parts → AreParts a o b p vid other → parts ≡ other
+  one_parts vid parts other s t =
       let olds = one a o vid s.0 t.0 s.2 t.2 in
       let news = one b p vid s.1 t.1 s.3 t.3 in
-      s.4 ∙ (λ i. parts_text (staying (olds i) (news i) (bridge_names a))) ∙ sym t.4
+      s.4 ∙ (λ i. all_parts (staying (olds i) (news i) (bridge_names a))) ∙ sym t.4
 
 module _ (a b : Net) (o p : Outcome) (one : OneList) (grouping : OneGrouping) where
-  module _ (failure : Failure) (text other : List ℕ) (c d : Bool) (x : IsFailureText a o b p failure text c) (y : IsFailureText a o b p failure other d) where
+  module _ (failure : Failure) (rows other : List Row) (c d : Bool) (x : AreFailureRows a o b p failure rows c) (y : AreFailureRows a o b p failure other d) where
     abbrev cut : x.vids ≡ y.vids
-    cut = one_cut (AreParts a o b p) (one_parts a b o p one) grouping x.vids y.vids x.lines y.lines x.are_cuts y.are_cuts
+    cut = one_cut (AreParts a o b p) (one_parts a b o p one) grouping (One failure) x.vids y.vids x.cut y.cut x.are_cuts y.are_cuts
 
+    pub rows_alike : rows ≡ other
+    rows_alike =
+        x.are ∙ (λ i. failure_row failure (moved_roots a o b p) (moved_ports a o b p) (runs_of (cut i)) ∷ one_list (AreParts a o b p) (one_parts a b o p one) grouping (One failure) x.vids y.vids x.cut y.cut x.are_cuts y.are_cuts i) ∙ sym y.are
+
+    pub flags_alike : c ≡ d
+    flags_alike = x.some ∙ ap has_any cut ∙ sym y.some
+
+  module _ (failure : Failure) (text other : List ℕ) (c d : Bool) (x : IsFailureText a o b p failure text c) (y : IsFailureText a o b p failure other d) where
     pub one_failure : text ≡ other
-    one_failure =
-        x.is ∙ (λ i. failure_line failure (moved_roots a o b p) (moved_ports a o b p) (cut i) ++ one_lines (AreParts a o b p) (one_parts a b o p one) grouping x.vids y.vids x.lines y.lines x.are_cuts y.are_cuts i) ∙ sym y.is
+    one_failure = x.is ∙ ap (flat_map row_line) (rows_alike failure x.rows y.rows c d x.are_rows y.are_rows) ∙ sym y.is
 
     pub cuts_alike : c ≡ d
-    cuts_alike = x.some ∙ ap has_any cut ∙ sym y.some
+    cuts_alike = flags_alike failure x.rows y.rows c d x.are_rows y.are_rows
 
 -- and there is one
 module _ (a b : Net) (o p : Outcome) (olds : (vid : ℕ) → (islands : List (Island (List ℕ) (List ℕ))) × AreIslandsOf a o vid islands) (news : (vid : ℕ) → (islands : List (Island (List ℕ) (List ℕ))) × AreIslandsOf b p vid islands)
     (grouping : (same : ℕ → ℕ → Bool) (things : List ℕ) → IsEquivalence same → (groups : List (List ℕ)) × AreGroups (λ x y. same x y ≡ true) things groups) (failure : Failure) where
-  abbrev parts : ℕ → List ℕ
-  parts vid = parts_text (staying (olds vid).0 (news vid).0 (bridge_names a))
+  abbrev parts : ℕ → List (List (List ℕ))
+  parts vid = all_parts (staying (olds vid).0 (news vid).0 (bridge_names a))
 
   are_parts : (vid : ℕ) → AreParts a o b p vid (parts vid)
   are_parts vid = ((olds vid).0, (news vid).0, (olds vid).1, (news vid).1, refl)
 
   abbrev vids : List ℕ
-  vids = cut_vids (AreParts a o b p) parts (λ vid _. are_parts vid) grouping
+  vids = cut_vids (AreParts a o b p) (One failure) parts (λ vid _. are_parts vid) grouping
 
-  abbrev lines : List ℕ
-  lines = cut_lines (AreParts a o b p) parts (λ vid _. are_parts vid) grouping
+  abbrev rows : List Row
+  rows = failure_row failure (moved_roots a o b p) (moved_ports a o b p) (runs_of vids) ∷ cut_rows (AreParts a o b p) (One failure) parts (λ vid _. are_parts vid) grouping
+
+  are_rows : AreFailureRows a o b p failure rows (has_any vids)
+  are_rows = record {
+    vids = vids;
+    cut = cut_rows (AreParts a o b p) (One failure) parts (λ vid _. are_parts vid) grouping;
+    are_cuts = some_cuts (AreParts a o b p) (One failure) parts (λ vid _. are_parts vid) grouping;
+    some = refl;
+    are = refl;
+  }
 
   pub has_failure : (c : Bool) × (text : List ℕ) × IsFailureText a o b p failure text c
-  has_failure = (
-    has_any vids,
-    failure_line failure (moved_roots a o b p) (moved_ports a o b p) vids ++ lines,
-    record { vids = vids; lines = lines; are_cuts = some_cuts (AreParts a o b p) parts (λ vid _. are_parts vid) grouping; some = refl; is = refl },
-  )
+  has_failure = (has_any vids, flat_map row_line rows, record { rows = rows; are_rows = are_rows; is = refl })
 
 -- ---- all failures
 -- two lists of what is told of things, each of which tells one only

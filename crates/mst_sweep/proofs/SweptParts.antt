@@ -6,21 +6,15 @@ use Rattle.std.proofs.lemmas.Grind.{flat_map-append}
 use Rattle.std.proofs.lemmas.List.{take-append-drop}
 use Rattle.std.proofs.lemmas.List.Elements.{Contains-append_left, Contains-append_right}
 use Rattle.std.proofs.lemmas.List.Sums.{sum_by-append, sum_by-cons}
-use Rattle.mst_ids.specs.Vids.{set_where, vids_text}
-use Rattle.mst_ids.specs.Words.{after_space, comma_list}
 use Rattle.mst_net.specs.Tables.{Net}
-use Rattle.mst_lag.specs.Trees.{is_among}
 use Rattle.mst_diff.specs.trees.Outcome.{Outcome}
-use Rattle.mst_diff.specs.Reach.{has_any}
 use Rattle.mst_sweep.specs.declared.failure.Failure.{Failure}
 use Rattle.mst_sweep.specs.Failures.{failures}
-use Rattle.mst_sweep.specs.Moved.{moved_roots, moved_ports}
-use Rattle.mst_sweep.specs.Cuts.{cut_line, group_text}
-use Rattle.mst_sweep.specs.SweepText.{failure_words, failure_line, Told, IsTold, is_lan, is_bridge, sweep_line, IsSweep, IsTextOf}
-use Rattle.mst_sweep.specs.Pairs.{Pair, pairs_of, pair_line, last_of_pairs, IsPairTold, IsPairs, ArePairsParts}
+use Rattle.mst_sweep.specs.SweepText.{Told, IsTold, is_lan, is_bridge, sweep_line, IsSweep, IsTextOf}
+use Rattle.mst_sweep.specs.Pairs.{Pair, pairs_of, last_of_pairs, IsPairTold, IsPairs, ArePairsParts}
 use Rattle.mst_sweep.specs.SweepParts.{PartOf, whole_part, part_of, ToldOfPart, AreSweepParts, but_last_line}
 use Rattle.mst_sweep.proofs.PartsJoined.{all_parts}
-use Rattle.mst_sweep.proofs.LastLine.{ends, AreLines, lines_joined, lines_ended, are_line, all_lines, one_line, decimal_word, but_last}
+use Rattle.mst_sweep.proofs.LastLine.{ends, AreLines, rows_ended, all_lines, one_line, decimal_word, but_last}
 
 -- ---- a part
 -- the whole is one
@@ -38,21 +32,6 @@ from_part part all x h = from_drop _ all (from_take _ _ h)
     from_drop n xs h = subst (λ l. Contains l x) (take-append-drop n xs) (Contains-append_right (take n xs) (drop n xs) x h)
 
 -- ---- the lines of a sweep
-cut_ended : (group parts : List ℕ) → AreLines (cut_line group parts)
-cut_ended group parts = lines_ended (codes "cut" ++ after_space (vids_text (set_where (is_among group))) ++ codes " parts" ++ parts)
-
-group_lines : (parts : ℕ → List ℕ) (group : List ℕ) → AreLines (group_text parts group)
-group_lines parts [] = tt
-group_lines parts (vid ∷ others) = go (has_any (parts vid))
-  where
-    go : (x : Bool) → AreLines (if x then cut_line (vid ∷ others) (parts vid) else [])
-    go true = cut_ended (vid ∷ others) (parts vid)
-    go false = tt
-
-each_group : (parts : ℕ → List ℕ) (groups : List (List ℕ)) → AllByRecursion (λ group. AreLines (group_text parts group)) groups
-each_group parts [] = tt
-each_group parts (group ∷ groups) = (group_lines parts group, each_group parts groups)
-
 last_one : (fs : List Failure) (cuts : ℕ) → ends (sweep_line fs cuts) ≡ 1
 last_one fs cuts =
     let lans = decimal (count_by is_lan fs) in
@@ -60,17 +39,8 @@ last_one fs cuts =
     one_line (codes "sweep" ∷ codes "lans" ∷ lans ∷ codes "bridges" ∷ bridges ∷ codes "cuts" ∷ decimal cuts ∷ [])
     (refl, (refl, (decimal_word (count_by is_lan fs), (refl, (decimal_word (count_by is_bridge fs), (refl, (decimal_word cuts, tt)))))))
 
-failed_ended : (failure : Failure) (roots : List ℕ) (ports : ℕ) (vids : List ℕ) → AreLines (failure_line failure roots ports vids)
-failed_ended failure roots ports vids =
-    are_line (failure_words failure ++ codes "roots" ∷ comma_list (map decimal roots) ∷ codes "ports" ∷ decimal ports ∷ codes "cut" ∷ vids_text (set_where (is_among vids)) ∷ [])
-
 told_lines : (net : Net) (o : Outcome) (failure : Failure) (told : Told) → IsTold net o failure told → AreLines told.text
-told_lines net o failure told is =
-    let cuts = is.is.are_cuts in
-    let lines : AreLines is.is.lines = subst AreLines (sym cuts.is) (all_lines (group_text cuts.parts) cuts.groups (each_group cuts.parts cuts.groups)) in
-    let roots = moved_roots net o is.failed is.outcome in
-    let ports = moved_ports net o is.failed is.outcome in
-    subst AreLines (sym is.is.is) (lines_joined (failure_line failure roots ports is.is.vids) is.is.lines (failed_ended failure roots ports is.is.vids) lines)
+told_lines net o failure told is = subst AreLines (sym is.is.is) (rows_ended is.is.rows)
 
 -- ---- parts of any things
 pub zip_joined : {A B : Type 0} (R : A → B → Type 0) (xs ys : List A) (us vs : List B) → AllZip R xs us → AllZip R ys vs → AllZip R (xs ++ ys) (us ++ vs)
@@ -137,16 +107,7 @@ joined net o one count some parts text cuts are x = all_joined (IsTold net o) sw
 
 -- and of pairs of them
 pair_lines : (net : Net) (o : Outcome) (pair : Pair) (told : Told) → IsPairTold net o pair told → AreLines told.text
-pair_lines net o pair told is =
-    let cuts = is.is.are_cuts in
-    let lines : AreLines is.is.lines = subst AreLines (sym cuts.is) (all_lines (group_text cuts.parts) cuts.groups (each_group cuts.parts cuts.groups)) in
-    subst AreLines (sym is.is.is) (go (has_any is.is.vids) is.is.vids is.is.lines lines)
-  where
-    go : (some : Bool) (vids lines : List ℕ) → AreLines lines → AreLines (if some then pair_line pair vids ++ lines else [])
-    go true vids lines h =
-        lines_joined (pair_line pair vids) lines
-        (are_line (codes "pair" ∷ (failure_words pair.first ++ failure_words pair.second ++ codes "cut" ∷ vids_text (set_where (is_among vids)) ∷ []))) h
-    go false vids lines h = tt
+pair_lines net o pair told is = subst AreLines (sym is.is.is) (rows_ended is.is.rows)
 
 last_pairs : (all : List Pair) (cuts : ℕ) → ends (last_of_pairs all cuts) ≡ 1
 last_pairs all cuts =

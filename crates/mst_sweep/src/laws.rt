@@ -81,7 +81,7 @@ pub fn pairs()
 /// Where no logical port's role is restricted, a VID of which every logical port is a member is cut by a failure exactly
 /// where that takes apart two bridges that stay on: enabled ports linked them before, and don't afterwards.
 pub fn cut_where_apart()
-    ensures { (a b : Net) (o p : Outcome) (failure : FailureOf) (vid : ℕ) (parts : List ℕ) → IsNetwork a → IsNetwork b → IsOutcome a o → IsOutcome b p → after (edit_of failure) a ≡ Ok b
+    ensures { (a b : Net) (o p : Outcome) (failure : FailureOf) (vid : ℕ) (parts : List (List (List ℕ))) → IsNetwork a → IsNetwork b → IsOutcome a o → IsOutcome b p → after (edit_of failure) a ≡ Ok b
         → IsUnrestricted a → AllAreMembers a vid → AreParts a o b p vid parts → (has_any parts ≡ true) ↔ ComeApart a b }
 {
     joined_without_loop();
