@@ -220,13 +220,19 @@ pub fn put_pair<R: Rows>(
         → AreCutClasses net is.outcome (failed (first.now.failure ∷ []) net) one baseline.now.classes first.now.cuts.items
         → AreCutClasses net is.outcome (failed (second.now.failure ∷ []) net) other baseline.now.classes second.now.cuts.items
         → (pair : List Row) × ArePairRows net (record { first = first.now.failure; second = second.now.failure }) (record { none = is.outcome; first = one; second = other; both = are.outcome }) pair cuts
-            × ((grown : R) (rows : List Row) → R.grew grown out.old rows → R.grew grown out.new (rows ++ pair))) }
+        × ((grown : R) (rows : List Row) → R.grew grown out.old rows → R.grew grown out.new (rows ++ pair))) }
 {
     let one = first.cuts.as_slice();
     let other = second.cuts.as_slice();
     let parts = parts_but(alloc, old, new, baseline, one, other)?;
     let cuts = cuts_of(alloc, &baseline.classes, parts)?;
-    put_if_cut(&first.failure, &second.failure, &baseline.classes, &cuts, out)?;
+    put_if_cut(
+        &first.failure,
+        &second.failure,
+        &baseline.classes,
+        &cuts,
+        out,
+    )?;
     Ok(are_some(cuts.vids.as_slice()))
 }
 

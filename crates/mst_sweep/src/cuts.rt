@@ -300,7 +300,13 @@ pub(crate) fn put_cuts<R: Rows>(
     ensures { (first : R) (rows : List Row) → R.grew first out.old rows → OnOk result (R.grew first out.new (rows ++ rows_of by.now classes.now.numbers.items cuts.now)) }
 {
     let numbers = classes.numbers.as_slice();
-    put_groups(by, cuts.groups.as_slice(), numbers, cuts.parts.as_slice(), out)
+    put_groups(
+        by,
+        cuts.groups.as_slice(),
+        numbers,
+        cuts.parts.as_slice(),
+        out,
+    )
 }
 
 /// Whether a VID has parts.

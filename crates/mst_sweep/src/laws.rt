@@ -11,7 +11,8 @@ ghost use Rattle.mst_sweep.specs.Failures.{edit_of, failures};
 ghost use Rattle.mst_sweep.specs.Pairs.{pairs_of, IsPairs, IsPairsPart, ArePairsParts};
 ghost use Rattle.mst_sweep.specs.Parts.{AreParts};
 ghost use Rattle.mst_sweep.specs.declared.failure.Failure.{Failure as FailureOf};
-ghost use Rattle.mst_sweep.specs.SweepText.{IsFailureText, IsSweep};
+ghost use Rattle.mst_rows.specs.Rows.{Row};
+ghost use Rattle.mst_sweep.specs.SweepText.{AreFailureRows, IsFailureText, IsSweep};
 ghost use Rattle.mst_sweep.specs.SweepParts.{PartOf, IsPart, ToldOfPart, whole_part, part_of, IsSweepPart, AreSweepParts, but_last_line};
 
 use mst_diff::trees_laws::{has_outcome, one_outcome};
@@ -20,8 +21,11 @@ use mst_graph::laws::group_lists;
 use mst_ids::Vid;
 use mst_net::laws::networks;
 
-/// A failure has one text, whichever settled outcomes it is made by, and cuts some VID by each or by none; and there is one.
+/// A failure has one list of rows and one text, whichever settled outcomes it is made by, and cuts some VID by each or by none; and
+/// there is one.
 pub fn one_failure()
+    ensures one_list { (a b : Net) (o p q r : Outcome) → IsNetwork a → IsNetwork b → IsOutcome a o → IsOutcome b p → IsOutcome a q → IsOutcome b r
+        → (failure : FailureOf) (rows other : List Row) (c d : Bool) → AreFailureRows a o b p failure rows c → AreFailureRows a q b r failure other d → (rows ≡ other) × (c ≡ d) }
     ensures one { (a b : Net) (o p q r : Outcome) → IsNetwork a → IsNetwork b → IsOutcome a o → IsOutcome b p → IsOutcome a q → IsOutcome b r
         → (failure : FailureOf) (text other : List ℕ) (c d : Bool) → IsFailureText a o b p failure text c → IsFailureText a q b r failure other d → (text ≡ other) × (c ≡ d) }
     ensures some { (a b : Net) (o p : Outcome) → IsNetwork a → IsNetwork b → (failure : FailureOf) → (c : Bool) × (text : List ℕ) × IsFailureText a o b p failure text c }

@@ -100,7 +100,7 @@ pub fn put_failure<R: Rows>(
     requires baseline { IsBaseline old.now.view.now old.now.forest.now baseline.now }
     ensures { IfOk result (λ cuts. (a b : Net) (n k : Numbers) (is : IsForest a n old.now.forest.now) (are : IsForest b k new.now.forest.now) → AreOf a n old.now.view.now old.now.forest.now.regions → AreOf b k new.now.view.now new.now.forest.now.regions
         → after (edit_of failure.now) a ≡ Ok b → (failed : List Row) × AreFailureRows a is.outcome b are.outcome failure.now failed cuts
-            × ((first : R) (rows : List Row) → R.grew first out.old rows → R.grew first out.new (rows ++ failed))) }
+        × ((first : R) (rows : List Row) → R.grew first out.old rows → R.grew first out.new (rows ++ failed))) }
 {
     let both = pairs(alloc, old, new)?;
     let roots = moved_roots(alloc, old, new, both.as_slice())?;

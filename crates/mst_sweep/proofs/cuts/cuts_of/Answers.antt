@@ -8,7 +8,6 @@ use Rattle.mst_diff.proofs.plan_text_lemmas.Grouped.{vids_long}
 use Rattle.mst_diff.proofs.plan_text_lemmas.Classes.{numbers_below, each_below}
 use Rattle.mst_diff.specs.Reach.{has_any}
 use Rattle.mst_rows.specs.Rows.{Row}
-use Rattle.mst_sweep.specs.declared.cuts.CutBy.{CutBy}
 use Rattle.mst_sweep.specs.Cuts.{group_rows, names_of, parts_at, AreCutsBy}
 use Rattle.mst_sweep.proofs.NoCuts.{none_at, no_cuts}
 use Rattle.mst_sweep.proofs.SameParts.{same_parts, by_view, groups_given}
