@@ -1,3 +1,4 @@
+mod EachOk
 pub mod Lists
 pub mod Orders
 pub mod Names
@@ -8,5 +9,4 @@ pub mod InUse
 pub mod Gathered
 pub mod ByTree
 pub mod InTrees
-pub mod Lines
 pub mod NoPorts

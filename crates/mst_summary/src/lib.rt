@@ -22,4 +22,4 @@ pub use mst_diff::{
     push_diff, push_lags, push_plan, push_regions, push_tree, push_vlan, root_of, text_laws,
     trees_laws,
 };
-pub use summary::push_summary;
+pub use summary::{push_summary, put_summary};

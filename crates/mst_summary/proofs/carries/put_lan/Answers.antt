@@ -1,21 +1,21 @@
-use Rattle.std.proofs.Common.{◌≡◌, ℕ, ◌+◌, ◌++◌, Bool, false, List, filter, ap, subst, ◌∙◌}
+use Rattle.std.proofs.Common.{◌≡◌, ℕ, ◌+◌, ◌++◌, Bool, false, List, filter, subst, ◌∙◌}
 use Rattle.std.specs.List.{AllZip, Contains, list_all}
-use Rattle.std.proofs.lemmas.Result.{on_ok_weaker}
+use Rattle.std.specs.Prelude.{OnOk}
 use Rattle.mst_diff.proofs.trees_lemmas.Entries.{all_weaker}
 use Rattle.mst_diff.proofs.trees_lemmas.Lists.{all_there}
 use Rattle.mst_diff.proofs.trees_lemmas.Looking.{filter_alike}
 use Rattle.mst_diff.specs.trees.Settled.{outcome_of}
 use Rattle.mst_diff.specs.plan_text.PlanText.{all_vids}
 use Rattle.mst_diff.proofs.plan_text_lemmas.OnePlan.{is_vid_there}
-use Rattle.mst_summary.specs.Carries.{carries, ports_on, carried, carries_line}
+use Rattle.mst_summary.specs.Carries.{carries, ports_on, carried, carries_rows}
 use Rattle.mst_summary.specs.Kept.{flag_at}
 use Rattle.mst_summary.specs.Seen.{seen_on, seen_carries}
 use Rattle.mst_summary.proofs.Named.{all_carry_named}
 use Rattle.mst_summary.proofs.VidClasses.{AtPlaces, things_have, all_carry_alike}
-use Rattle.mst_summary.proofs.carries.push_lan.Goals as goal
+use Rattle.mst_summary.proofs.carries.put_lan.Goals as goal
 
 pub returns : goal.returns
-returns c =
+returns g c first rows grew =
     let s = c.args.plan.now in
     let v = s.view in
     let f = s.forest in
@@ -35,4 +35,4 @@ returns c =
     (all_weaker (Contains all_vids) _ (λ vid there. have vid (is_vid_there vid there) ∙ all_carry_named s c.known.ensures lan vid) all_vids (all_there all_vids)) in
     let told : c.as_slice-5.result.now ≡ carried s.net o lan = c.as_slice-5.ensures.value ∙ c.in_ok-carried.ensures
     ∙ (λ i. filter (flag_at (c.as_slice-3.ensures.value i) (c.as_slice-4.ensures.value i)) ((c.as_slice-2.ensures.value ∙ c.in_ok-vids.ensures) i)) ∙ all in
-    on_ok_weaker c.push_line.result (λ e. e ∙ ap (λ vids. c.args.out.now.items ++ carries_line lan vids) told) c.push_line.ensures
+    subst (λ (vids : List ℕ). OnOk c.put_some.result (g.R.Rows.grew first c.put_some.new.out (rows ++ carries_rows lan vids))) told (c.put_some.ensures first rows grew)
