@@ -16,7 +16,7 @@ use Rattle.mst_graph.proofs.Members.{here, in_whole, filter_none}
 use Rattle.mst_plan_text.specs.PlanText.{all_vids}
 use Rattle.mst_plan_text.proofs.OnePlan.{is_vid_there}
 use Rattle.mst_changes.specs.Subjects.{all_trees, bridge_names, port_in, port_names, names_of_either}
-use Rattle.mst_changes.specs.PortChanges.{port_changes}
+use Rattle.mst_changes.specs.PortChanges.{port_change_rows}
 use Rattle.mst_changes.specs.Values.{value_at}
 use Rattle.mst_changes.proofs.Same.{none_at}
 use Rattle.mst_ids.specs.Names.{port_cmp}
@@ -25,10 +25,10 @@ use Rattle.mst_rows.specs.Lines.{row_line}
 use Rattle.mst_diff.specs.declared.roots.RootPair.{RootPair}
 use Rattle.mst_diff.specs.Regions.{same_told, region_row, region_unless, region_change, region_changes}
 use Rattle.mst_diff.specs.Roots.{root_name, paired, root_pair, same_pair, root_row, root_unless, with_new, each_once, tree_roots, root_changes}
-use Rattle.mst_diff.specs.Ports.{ports_text}
+use Rattle.mst_diff.specs.Ports.{port_rows, counted}
 use Rattle.mst_diff.specs.declared.diff.Differing.{Differing}
 use Rattle.mst_diff.specs.Reach.{island_bridges, same_names, without, sides_of, differ, reach_unless, group_rows}
-use Rattle.mst_diff.specs.DiffText.{lines_in, diff_line, IsDiff}
+use Rattle.mst_diff.specs.DiffText.{diff_line, IsDiff}
 use Rattle.mst_diff.proofs.OneDiff.{OneList}
 use Rattle.mst_diff.proofs.Lists.{flat_map-none}
 use Rattle.mst_diff.proofs.SameSides.{names_decide}
@@ -96,8 +96,8 @@ pub no_roots : (a : Net) (o : Outcome) → root_changes a o a o ≡ []
 no_roots a o = flat_map-none (tree_roots a o a o) (no_tree_roots a o) all_trees
 
 -- ---- ports
-pub no_ports : (a : Net) (o : Outcome) → ports_text a o a o ≡ []
-no_ports a o = flat_map-none (port_changes a o a o) (λ tree. none_at (value_at a o) (map (port_in tree) (names_of_either port_cmp (port_names a) (port_names a)))) all_trees
+pub no_ports : (a : Net) (o : Outcome) → port_rows a o a o ≡ []
+no_ports a o = flat_map-none (port_change_rows a o a o) (λ tree. none_at (value_at a o) (map (port_in tree) (names_of_either port_cmp (port_names a) (port_names a)))) all_trees
 
 -- ---- islands
 any_here : (word : List (List ℕ)) (xs ys : List (List (List ℕ))) → list_any (λ y. same_names y word) (xs ++ word ∷ ys) ≡ true
@@ -144,9 +144,9 @@ module _ (a : Net) (o : Outcome) (one : OneList) (c : Differing) (text : List �
   no_counts = λ i. record {
     regions = (x.regions ∙ ap length (no_regions a)) i;
     roots = (x.roots ∙ ap length (no_roots a o)) i;
-    ports = (x.ports ∙ ap lines_in (no_ports a o)) i;
+    ports = (x.ports ∙ ap counted (no_ports a o)) i;
     vlans = (x.is_reach.counted ∙ none_counted all_vids none_differ) i;
   }
 
   pub last_line_alone : text ≡ diff_line c
-  last_line_alone = x.is ∙ (λ i. flat_map row_line (no_regions a i) ++ flat_map row_line (no_roots a o i) ++ no_ports a o i ++ flat_map row_line (no_reach i) ++ diff_line c)
+  last_line_alone = x.is ∙ (λ i. flat_map row_line (no_regions a i) ++ flat_map row_line (no_roots a o i) ++ flat_map row_line (no_ports a o i) ++ flat_map row_line (no_reach i) ++ diff_line c)

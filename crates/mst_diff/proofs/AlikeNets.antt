@@ -1,5 +1,5 @@
 -- The last line stands alone just where two networks are alike.
-use Rattle.std.proofs.Common.{◌≡◌, ℕ, ◌+◌, ◌<◌, ◌≤◌, ◌==◌, ◌&&◌, ◌||◌, inl, inr, Bool, true, false, cond, not, List, [], ◌∷◌, ◌++◌, length, get_or, map, Option, Some, None, refl, sym, ap, subst, ◌∙◌, fold, codes, arith, true≢false, is_some, eq-eqb}
+use Rattle.std.proofs.Common.{◌≡◌, ℕ, ◌+◌, ◌<◌, ◌≤◌, ◌==◌, ◌&&◌, ◌||◌, inl, inr, Bool, true, false, cond, not, List, [], ◌∷◌, ◌++◌, length, get_or, map, Option, Some, None, refl, sym, ap, subst, ◌∙◌, fold, arith, true≢false, is_some, eq-eqb}
 use Rattle.std.specs.Prelude.{if◌then◌else◌, ◌↔◌}
 use Rattle.std.specs.Cmp.Lexicographic.{bytes_decides}
 use Rattle.std.specs.List.{AllByRecursion, Contains, filter_map, flat_map, find, cons_option, list_any, range_with_len}
@@ -13,7 +13,6 @@ use Rattle.std.proofs.lemmas.List.FromFn.{get_or-range_with_len, length-range_wi
 use Rattle.std.proofs.lemmas.Map.Views.{Contains-from_any}
 use Rattle.mst_ids.specs.Names.{port_cmp}
 use Rattle.mst_ids.specs.Vids.{is_vid}
-use Rattle.mst_ids.specs.Words.{after_space, line}
 use Rattle.mst_ids.specs.declared.name.PortName.{PortName}
 use Rattle.mst_graph.proofs.Members.{in_none, cases, passing, in_map, in_filter, filter_none}
 use Rattle.mst_net.specs.Tables.{Net, BridgeRow, port_eq}
@@ -34,41 +33,30 @@ use Rattle.mst_plan_text.proofs.Grouped.{place_of_vid}
 use Rattle.mst_plan_text.proofs.OnePlan.{is_vid_there}
 use Rattle.mst_changes.specs.declared.value.VectorOrRole.TheVariants.{HasRole}
 use Rattle.mst_changes.specs.Subjects.{all_trees, bridge_names, port_in, port_names, names_of_either}
-use Rattle.mst_changes.specs.PortChanges.{port_changes}
+use Rattle.mst_changes.specs.PortChanges.{port_change_rows}
 use Rattle.mst_changes.specs.Values.{value_at, role_number, same_side}
-use Rattle.mst_changes.specs.ChangesText.{item_words, side_words, change_text, change_line}
+use Rattle.mst_changes.specs.ChangesText.{item_row, change_rows}
 use Rattle.mst_rows.specs.Rows.{Row}
 use Rattle.mst_diff.specs.declared.diff.Differing.{Differing}
 use Rattle.mst_diff.specs.declared.roots.RootPair.{RootPair}
 use Rattle.mst_diff.specs.Regions.{same_told, region_row, region_unless, region_change, region_changes}
 use Rattle.mst_diff.specs.Roots.{root_name, paired, root_pair, same_pair, root_row, root_unless, with_new, each_once, tree_roots, root_changes}
-use Rattle.mst_diff.specs.Ports.{ports_text}
+use Rattle.mst_diff.specs.Ports.{port_rows, counted}
 use Rattle.mst_diff.specs.Reach.{has_any, island_bridges, same_names, without, sides_of, differ}
-use Rattle.mst_diff.specs.DiffText.{lines_in, diff_line, IsDiff}
+use Rattle.mst_diff.specs.DiffText.{diff_line, IsDiff}
 use Rattle.mst_diff.specs.AlikeNets.{AreAlike}
 use Rattle.mst_diff.proofs.Alike.{each_none, once_all, any_name, none_apart}
-use Rattle.mst_diff.proofs.LastLine.{no_counts, no_more, both_none, each_is_none, differs, in_count, alone, no_island, second, third, none_alike}
+use Rattle.mst_diff.proofs.LastLine.{no_counts, no_more, each_is_none, differs, in_count, alone, no_island, second, third, none_alike}
 use Rattle.mst_diff.proofs.Lists.{flat_map-none}
 use Rattle.mst_diff.proofs.Named.{no_root}
 use Rattle.mst_diff.proofs.OneDiff.{OneList}
 use Rattle.mst_diff.proofs.SameSides.{names_decide}
 use Rattle.mst_diff.proofs.Turned.{tied, found_twice}
 
--- ---- lines that are there
--- a line isn't empty
-no_line : (words : List (List ℕ)) → line words ≡ [] → ⊥
-no_line [] e = no_more 10 [] e
-no_line (word ∷ words) e = no_more 10 [] (both_none (word ++ flat_map after_space words) (10 ∷ []) e).1
-
 -- where a row is left out, the test passes
 row_left : (b : Bool) (row : Row) → (if b then [] else row ∷ []) ≡ [] → b ≡ true
 row_left true row e = refl
 row_left false row e = absurd (no_more row [] e)
-
--- where a line is left out, the test passes
-left_out : (b : Bool) (words : List (List ℕ)) → (if b then [] else line words) ≡ [] → b ≡ true
-left_out true words e = refl
-left_out false words e = absurd (no_line words e)
 
 -- ---- trees
 -- the trees are the numbers up to 4094
@@ -236,11 +224,11 @@ module _ (a b : Net) (o p : Outcome) where
   abbrev either : List PortName
   either = names_of_either port_cmp (port_names a) (port_names b)
 
-  abbrev at_port : ℕ → PortName → List ℕ
-  at_port tree name = change_text (port_in tree name) (value_at a o (port_in tree name)) (value_at b p (port_in tree name))
+  abbrev at_port : ℕ → PortName → List Row
+  at_port tree name = change_rows (port_in tree name) (value_at a o (port_in tree name)) (value_at b p (port_in tree name))
 
-  by_ports : (tree : ℕ) → port_changes a o b p tree ≡ flat_map (at_port tree) either
-  by_ports tree = flat_map-map (λ place. change_text place (value_at a o place) (value_at b p place)) (port_in tree) either
+  by_ports : (tree : ℕ) → port_change_rows a o b p tree ≡ flat_map (at_port tree) either
+  by_ports tree = flat_map-map (λ place. change_rows place (value_at a o place) (value_at b p place)) (port_in tree) either
 
   -- a name of a logical port of one of the networks
   in_either : (name : PortName) → list_any (eq_by_cmp port_cmp name) (port_names a ++ port_names b) ≡ true → Contains either name
@@ -251,15 +239,15 @@ module _ (a b : Net) (o p : Outcome) where
       Contains-from_any {eq = eq_by_cmp port_cmp} (λ x y same. ports.same x y (tied (port_cmp x y) same)) name either
       (sym (contains_key-keys (from_entries {R = port_cmp} (map (λ (k : PortName). (k, k)) all)) name) ∙ ap is_some found)
 
-  port_same : (tree : ℕ) → port_changes a o b p tree ≡ [] → (port : PortName) → role_of a o tree port ≡ role_of b p tree port
+  port_same : (tree : ℕ) → port_change_rows a o b p tree ≡ [] → (port : PortName) → role_of a o tree port ≡ role_of b p tree port
   port_same tree e port = go (list_any (eq_by_cmp port_cmp port) (port_names a ++ port_names b)) refl
     where
       go : (t : Bool) → list_any (eq_by_cmp port_cmp port) (port_names a ++ port_names b) ≡ t → role_of a o tree port ≡ role_of b p tree port
       go true there =
           let none : at_port tree port ≡ [] = all_contained (λ name. at_port tree name ≡ []) either port (each_is_none (at_port tree) either (sym (by_ports tree) ∙ e)) (in_either port there) in
           role_is (role_of a o tree port) (role_of b p tree port)
-          (left_out (same_side (option_map HasRole (role_of a o tree port)) (option_map HasRole (role_of b p tree port)))
-          (item_words (port_in tree port).tree (port_in tree port).item ++ side_words (option_map HasRole (role_of a o tree port)) ++ codes "->" ∷ side_words (option_map HasRole (role_of b p tree port))) none)
+          (row_left (same_side (option_map HasRole (role_of a o tree port)) (option_map HasRole (role_of b p tree port)))
+          (item_row tree (port_in tree port).item (option_map HasRole (role_of a o tree port)) (option_map HasRole (role_of b p tree port))) none)
       go false absent =
           let parts = or_parts (list_any (eq_by_cmp port_cmp port) (port_names a)) (list_any (eq_by_cmp port_cmp port) (port_names b)) (sym (list_any-append (eq_by_cmp port_cmp port) (port_names a) (port_names b)) ∙ absent) in
           no_role a o tree port parts.0 ∙ sym (no_role b p tree port parts.1)
@@ -268,18 +256,18 @@ module _ (a b : Net) (o p : Outcome) where
   SameRoles = (tree : ℕ) → tree ≤ 4094 → (port : PortName) → role_of a o tree port ≡ role_of b p tree port
 
   -- where there is no line of ports
-  roles_same : ports_text a o b p ≡ [] → SameRoles
-  roles_same e tree l = port_same tree (all_contained (λ t. port_changes a o b p t ≡ []) all_trees tree (each_is_none (port_changes a o b p) all_trees e) (is_tree tree l))
+  roles_same : port_rows a o b p ≡ [] → SameRoles
+  roles_same e tree l = port_same tree (all_contained (λ t. port_change_rows a o b p t ≡ []) all_trees tree (each_is_none (port_change_rows a o b p) all_trees e) (is_tree tree l))
 
   -- and where all are the same there is none
-  roles_none : SameRoles → ports_text a o b p ≡ []
-  roles_none h = each_none (port_changes a o b p) all_trees (each_tree (λ tree. port_changes a o b p tree ≡ []) (λ tree l.
+  roles_none : SameRoles → port_rows a o b p ≡ []
+  roles_none h = each_none (port_change_rows a o b p) all_trees (each_tree (λ tree. port_change_rows a o b p tree ≡ []) (λ tree l.
       by_ports tree ∙ flat_map-none (at_port tree) (λ name. go tree name (role_of b p tree name) (h tree l name)) either))
     where
-      go : (tree : ℕ) (name : PortName) (s : Option Role) → role_of a o tree name ≡ s → change_text (port_in tree name) (option_map HasRole (role_of a o tree name)) (option_map HasRole s) ≡ []
+      go : (tree : ℕ) (name : PortName) (s : Option Role) → role_of a o tree name ≡ s → change_rows (port_in tree name) (option_map HasRole (role_of a o tree name)) (option_map HasRole s) ≡ []
       go tree name s e =
-          ap (λ r. change_text (port_in tree name) (option_map HasRole r) (option_map HasRole s)) e
-          ∙ ap (λ (b : Bool). if b then [] else change_line (port_in tree name) (option_map HasRole s) (option_map HasRole s)) (role_itself s)
+          ap (λ r. change_rows (port_in tree name) (option_map HasRole r) (option_map HasRole s)) e
+          ∙ ap (λ (b : Bool). if b then [] else item_row tree (port_in tree name).item (option_map HasRole s) (option_map HasRole s) ∷ []) (role_itself s)
 
 -- ---- islands
 abbrev SameIslands : List (List (List ℕ)) → List (List (List ℕ)) → Type 0
@@ -348,7 +336,7 @@ module _ (a b : Net) (o p : Outcome) (one : OneList) (c : Differing) (text : Lis
   none_counted h = λ i. record {
     regions = (x.regions ∙ ap length (regions_none a b h.regions)) i;
     roots = (x.roots ∙ ap length (roots_none a b o p h.roots)) i;
-    ports = (x.ports ∙ ap lines_in (roles_none a b o p h.roles)) i;
+    ports = (x.ports ∙ ap counted (roles_none a b o p h.roles)) i;
     vlans = (sym (in_count a o b p c text x) ∙ ap length (filter_none (differs a o b p c text x) all_vids (none_differs h))) i;
   }
 

@@ -1,13 +1,11 @@
 -- The last line stands alone just where nothing is counted.
-use Rattle.std.proofs.Common.{◌≡◌, ℕ, suc, ◌+◌, Bool, true, false, List, [], ◌∷◌, ◌++◌, length, map, refl, sym, ap, subst, ◌∙◌, codes, arith, true≢false}
+use Rattle.std.proofs.Common.{◌≡◌, ℕ, suc, ◌+◌, Bool, true, false, List, [], ◌∷◌, ◌++◌, length, min, refl, sym, ap, subst, ◌∙◌, arith, true≢false}
 use Rattle.std.specs.Prelude.{if◌then◌else◌, ◌↔◌}
 use Rattle.std.specs.List.{AllByRecursion, Contains, filter, flat_map}
 use Rattle.std.proofs.lemmas.Bool.{or_parts}
 use Rattle.std.proofs.lemmas.List.{length-append}
 use Rattle.std.proofs.lemmas.List.Sums.{length-filter}
-use Rattle.mst_ids.specs.Names.{port_cmp}
 use Rattle.mst_ids.specs.Vids.{runs_from, set_where}
-use Rattle.mst_ids.specs.Words.{after_space, line}
 use Rattle.mst_graph.proofs.Members.{in_none, here, in_whole, in_filter, filter_none}
 use Rattle.mst_net.specs.Tables.{Net}
 use Rattle.mst_lag.specs.Trees.{is_among}
@@ -15,10 +13,6 @@ use Rattle.mst_plan_text.specs.trees.Outcome.{Outcome}
 use Rattle.mst_plan_text.proofs.trees_lemmas.Entries.{all_weaker}
 use Rattle.mst_plan_text.proofs.trees_lemmas.Lists.{all_there, all_contained}
 use Rattle.mst_plan_text.specs.PlanText.{all_vids}
-use Rattle.mst_changes.specs.Subjects.{all_trees, port_in, port_names, names_of_either}
-use Rattle.mst_changes.specs.PortChanges.{port_changes}
-use Rattle.mst_changes.specs.Values.{value_at, same_side}
-use Rattle.mst_changes.specs.ChangesText.{item_words, side_words, change_text}
 use Rattle.mst_kinds.specs.Kinds.{first_of, parts_of}
 use Rattle.mst_kinds.specs.Words.{mark_text}
 use Rattle.mst_rows.specs.Lines.{parts_text, row_line}
@@ -26,11 +20,10 @@ use Rattle.mst_rows.specs.Rows.{Row}
 use Rattle.mst_diff.specs.declared.diff.Differing.{Differing}
 use Rattle.mst_diff.specs.Regions.{region_changes}
 use Rattle.mst_diff.specs.Roots.{root_changes}
-use Rattle.mst_diff.specs.Ports.{ports_text}
+use Rattle.mst_diff.specs.Ports.{port_rows, counted}
 use Rattle.mst_diff.specs.Reach.{has_any, Sides, differ, reach_row, reach_unless, group_rows}
-use Rattle.mst_diff.specs.DiffText.{lines_in, diff_line, IsDiff}
+use Rattle.mst_diff.specs.DiffText.{diff_line, IsDiff}
 use Rattle.mst_diff.proofs.Alike.{each_none}
-use Rattle.mst_diff.proofs.Turned.{lines_append, in_line}
 
 abbrev pub no_counts : Differing
 no_counts = record { regions = 0; roots = 0; ports = 0; vlans = 0 }
@@ -84,26 +77,12 @@ no_rows (row ∷ rows) e =
     let words = parts_text (parts_of row.kind) row.cells in
     absurd (no_more 10 [] (both_none words (10 ∷ []) (both_none (mark_text (first_of row.kind)) (words ++ 10 ∷ []) (both_none (row_line row) (flat_map row_line rows) e).0).1).1)
 
--- ---- texts of lines: one without a line is empty
-abbrev Told : List ℕ → Type 0
-Told text = lines_in text ≡ 0 → text ≡ []
+-- rows that aren't counted aren't there
+least : (n : ℕ) → min n 18446744073709551615 ≡ 0 → n ≡ 0
+least n e = omega arith
 
-told_each : {A : Type 0} (f : A → List ℕ) (xs : List A) → ((x : A) → Told (f x)) → Told (flat_map f xs)
-told_each f [] h e = refl
-told_each f (x ∷ xs) h e =
-    let sum = sym (lines_append (f x) (flat_map f xs)) ∙ e in
-    let first = h x (zero_left (lines_in (f x)) (lines_in (flat_map f xs)) sum) in
-    let rest = told_each f xs h (zero_right (lines_in (f x)) (lines_in (flat_map f xs)) sum) in
-    λ i. first i ++ rest i
-
-told_unless : (b : Bool) (words : List (List ℕ)) → Told (if b then [] else line words)
-told_unless true words e = refl
-told_unless false words e = absurd (never (lines_in (flat_map after_space words)) (sym (in_line words) ∙ e))
-
-ports_told : (a : Net) (o : Outcome) (b : Net) (p : Outcome) → Told (ports_text a o b p)
-ports_told a o b p = told_each (port_changes a o b p) all_trees (λ tree.
-    told_each (λ place. change_text place (value_at a o place) (value_at b p place)) (map (port_in tree) (names_of_either port_cmp (port_names a) (port_names b)))
-    (λ place. told_unless (same_side (value_at a o place) (value_at b p place)) (item_words place.tree place.item ++ side_words (value_at a o place) ++ codes "->" ∷ side_words (value_at b p place))))
+none_counted : (rows : List Row) → counted rows ≡ 0 → rows ≡ []
+none_counted rows e = none_long rows (least (length rows) e)
 
 -- ---- the whole text
 module _ (a : Net) (o : Outcome) (b : Net) (p : Outcome) (c : Differing) (text : List ℕ) (x : IsDiff a o b p c text) where
@@ -136,7 +115,7 @@ module _ (a : Net) (o : Outcome) (b : Net) (p : Outcome) (c : Differing) (text :
     alone =
         x.is
         ∙ (λ i. flat_map row_line (none_long (region_changes a b) (sym x.regions ∙ ap (λ (d : Differing). d.regions) e) i) ++ flat_map row_line (none_long (root_changes a o b p) (sym x.roots ∙ ap (λ (d : Differing). d.roots) e) i)
-        ++ ports_told a o b p (sym x.ports ∙ ap (λ (d : Differing). d.ports) e) i ++ flat_map row_line (no_reach i) ++ diff_line c)
+        ++ flat_map row_line (none_counted (port_rows a o b p) (sym x.ports ∙ ap (λ (d : Differing). d.ports) e) i) ++ flat_map row_line (no_reach i) ++ diff_line c)
 
   -- where the last line stands alone
   module _ (e : text ≡ diff_line c) where
@@ -146,14 +125,17 @@ module _ (a : Net) (o : Outcome) (b : Net) (p : Outcome) (c : Differing) (text :
     abbrev T : List ℕ
     T = flat_map row_line (root_changes a o b p)
 
-    all_before : R ++ T ++ ports_text a o b p ++ flat_map row_line x.reach ≡ []
-    all_before = no_front (R ++ T ++ ports_text a o b p ++ flat_map row_line x.reach) (diff_line c) (sym x.is ∙ e)
+    abbrev P : List ℕ
+    P = flat_map row_line (port_rows a o b p)
 
-    abbrev first : (R ++ T ++ ports_text a o b p ≡ []) × (x.reach ≡ [])
-    first = let lines = both_none (R ++ T ++ ports_text a o b p) (flat_map row_line x.reach) all_before in (lines.0, no_rows x.reach lines.1)
+    all_before : R ++ T ++ P ++ flat_map row_line x.reach ≡ []
+    all_before = no_front (R ++ T ++ P ++ flat_map row_line x.reach) (diff_line c) (sym x.is ∙ e)
 
-    pub second : (R ++ T ≡ []) × (ports_text a o b p ≡ [])
-    second = both_none (R ++ T) (ports_text a o b p) first.0
+    abbrev first : (R ++ T ++ P ≡ []) × (x.reach ≡ [])
+    first = let lines = both_none (R ++ T ++ P) (flat_map row_line x.reach) all_before in (lines.0, no_rows x.reach lines.1)
+
+    pub second : (R ++ T ≡ []) × (port_rows a o b p ≡ [])
+    second = let lines = both_none (R ++ T) P first.0 in (lines.0, no_rows (port_rows a o b p) lines.1)
 
     pub third : (region_changes a b ≡ []) × (root_changes a o b p ≡ [])
     third = let lines = both_none R T second.0 in (no_rows (region_changes a b) lines.0, no_rows (root_changes a o b p) lines.1)
@@ -180,7 +162,7 @@ module _ (a : Net) (o : Outcome) (b : Net) (p : Outcome) (c : Differing) (text :
     nothing = λ i. record {
       regions = (x.regions ∙ ap length third.0) i;
       roots = (x.roots ∙ ap length third.1) i;
-      ports = (x.ports ∙ ap lines_in second.1) i;
+      ports = (x.ports ∙ ap counted second.1) i;
       vlans = (sym in_count ∙ ap length (filter_none differs all_vids none_alike)) i;
     }
 

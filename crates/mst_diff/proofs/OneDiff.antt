@@ -20,9 +20,9 @@ use Rattle.mst_rows.specs.Rows.{Row}
 use Rattle.mst_diff.specs.declared.diff.Differing.{Differing}
 use Rattle.mst_diff.specs.Regions.{region_changes}
 use Rattle.mst_diff.specs.Roots.{root_changes}
-use Rattle.mst_diff.specs.Ports.{ports_text}
+use Rattle.mst_diff.specs.Ports.{port_rows, counted}
 use Rattle.mst_diff.specs.Reach.{island_bridges, Sides, sides_of, differ, AreSides, reach_unless, group_rows, AreReachRows}
-use Rattle.mst_diff.specs.DiffText.{lines_in, diff_line, IsDiff}
+use Rattle.mst_diff.specs.DiffText.{diff_line, IsDiff}
 use Rattle.mst_diff.proofs.Lists.{flat_map-same}
 use Rattle.mst_diff.proofs.SameSides.{same_sides, sides_decide, sides_equivalence}
 
@@ -86,7 +86,7 @@ module _ (a b : Net) (o p : Outcome) (one : OneList) (grouping : OneGrouping) wh
     pub one_diff : text ≡ other
     one_diff =
         x.is
-        ∙ (λ i. flat_map row_line (region_changes a b) ++ flat_map row_line (root_changes a o b p) ++ ports_text a o b p ++ flat_map row_line (one_reach x.reach y.reach c.vlans d.vlans x.is_reach y.is_reach i) ++ diff_line (one_counts i))
+        ∙ (λ i. flat_map row_line (region_changes a b) ++ flat_map row_line (root_changes a o b p) ++ flat_map row_line (port_rows a o b p) ++ flat_map row_line (one_reach x.reach y.reach c.vlans d.vlans x.is_reach y.is_reach i) ++ diff_line (one_counts i))
         ∙ sym y.is
 
 -- and there is one
@@ -108,14 +108,14 @@ module _ (a b : Net) (o p : Outcome) (olds : (vid : ℕ) → (islands : List (Is
   counts = record {
     regions = length (region_changes a b);
     roots = length (root_changes a o b p);
-    ports = lines_in (ports_text a o b p);
+    ports = counted (port_rows a o b p);
     vlans = count_by (λ vid. differ (sides vid)) all_vids;
   }
 
   pub has_diff : (c : Differing) × (text : List ℕ) × IsDiff a o b p c text
   has_diff = (
     counts,
-    flat_map row_line (region_changes a b) ++ flat_map row_line (root_changes a o b p) ++ ports_text a o b p ++ flat_map row_line (flat_map (group_rows sides) groups) ++ diff_line counts,
+    flat_map row_line (region_changes a b) ++ flat_map row_line (root_changes a o b p) ++ flat_map row_line (port_rows a o b p) ++ flat_map row_line (flat_map (group_rows sides) groups) ++ diff_line counts,
     record {
       reach = flat_map (group_rows sides) groups;
       is_reach = record {

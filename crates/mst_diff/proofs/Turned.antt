@@ -1,22 +1,19 @@
 -- The change back has the same lines with sides changed over, and so as many.
-use Rattle.std.proofs.Common.{◌≡◌, ℕ, ◌+◌, ◌==◌, ◌&&◌, Bool, true, false, cond, ◌||◌, not, List, [], ◌∷◌, ◌++◌, map, length, Option, Some, None, is_some, refl, sym, ap, subst, ◌∙◌, append-nil, fold, codes, decimal, arith, true≢false, Less, Equal, Greater}
+use Rattle.std.proofs.Common.{◌≡◌, ℕ, ◌==◌, ◌&&◌, Bool, true, false, cond, ◌||◌, not, List, [], ◌∷◌, ◌++◌, map, length, min, Option, Some, None, is_some, refl, sym, ap, subst, ◌∙◌, fold, true≢false, Less, Equal, Greater}
 use Rattle.std.specs.Prelude.{if◌then◌else◌}
 use Rattle.std.specs.Cmp.{IsTotalOrder, nat_eq_equiv}
 use Rattle.std.specs.Cmp.Lexicographic.{nat_list_eq_equiv}
-use Rattle.std.specs.List.{Contains, filter, filter_map, flat_map, cons_option, list_any}
+use Rattle.std.specs.List.{Contains, filter_map, flat_map, cons_option, list_any}
 use Rattle.std.specs.Option.{option_map, option_map_or, option_and_then}
 use Rattle.std.specs.Ordering.{eq_by_cmp, is_eq}
 use Rattle.std.specs.declared.cmp.Ordering.{Ordering}
 use Rattle.std.specs.FinMap as fin
 use Rattle.std.specs.FinMap.{IsAntisymmetric, find, from_entries, get-from_entries, same_map, contains_key-keys}
 use Rattle.std.proofs.Math.Bool.{and_comm, or_comm}
-use Rattle.std.proofs.lemmas.Grind.{flat_map-append}
-use Rattle.std.proofs.lemmas.List.{length-append, length-map, map-append}
-use Rattle.std.proofs.lemmas.List.Elements.{filter-append}
+use Rattle.std.proofs.lemmas.List.{length-map, map-append}
 use Rattle.std.proofs.lemmas.List.Folds.{flat_map-map, list_any-append}
 use Rattle.mst_ids.specs.Names.{name_cmp, port_cmp}
 use Rattle.mst_ids.specs.declared.name.PortName.{PortName}
-use Rattle.mst_ids.specs.Words.{after_space, line}
 use Rattle.mst_net.specs.Tables.{Net, BridgeRow}
 use Rattle.mst_net.proofs.Keys.{names, ports}
 use Rattle.mst_lag.specs.Aggregation.{same_name}
@@ -32,9 +29,9 @@ use Rattle.mst_plan_text.specs.PlanText.{all_vids}
 use Rattle.mst_plan_text.proofs.OnePlan.{is_vid_there}
 use Rattle.mst_changes.specs.declared.value.VectorOrRole.TheVariants.{HasRole}
 use Rattle.mst_changes.specs.Subjects.{all_trees, bridge_names, port_in, port_names, names_of_either}
-use Rattle.mst_changes.specs.PortChanges.{port_changes}
+use Rattle.mst_changes.specs.PortChanges.{port_change_rows}
 use Rattle.mst_changes.specs.Values.{value_at, role_number, same_side}
-use Rattle.mst_changes.specs.ChangesText.{side_words, change_text}
+use Rattle.mst_changes.specs.ChangesText.{role_cell, change_rows}
 use Rattle.mst_changes.proofs.Names.{kept_left, kept_right}
 use Rattle.mst_kinds.specs.declared.change_line.ChangeLine.TheVariants as change_line
 use Rattle.mst_kinds.specs.declared.kind.Kind.TheVariants as kind
@@ -44,56 +41,19 @@ use Rattle.mst_diff.specs.declared.diff.Differing.{Differing}
 use Rattle.mst_diff.specs.declared.roots.RootPair.{RootPair}
 use Rattle.mst_diff.specs.Regions.{same_told, configuration, region_unless, region_change, region_changes}
 use Rattle.mst_diff.specs.Roots.{root_name, paired, root_pair, same_pair, root_unless, with_new, each_once, tree_roots, root_changes}
-use Rattle.mst_diff.specs.Ports.{ports_text}
+use Rattle.mst_diff.specs.Ports.{port_rows}
 use Rattle.mst_diff.specs.Reach.{has_any, island_bridges, Sides, sides_of, differ, AreSides, AreReachRows}
-use Rattle.mst_diff.specs.DiffText.{lines_in, IsDiff}
-use Rattle.mst_diff.specs.Turned.{Sided, sided_row, turned_row, AreTurned, SidedLine, sided_line, turned_line, LinesTurned, turned_sides}
+use Rattle.mst_diff.specs.DiffText.{IsDiff}
+use Rattle.mst_diff.specs.Turned.{Sided, sided_row, turned_row, AreTurned, turned_sides}
 use Rattle.mst_diff.proofs.Lists.{flat_map-filter_map, flat_map-same, list_any-map}
 use Rattle.mst_diff.proofs.Named.{no_root}
 use Rattle.mst_diff.proofs.OneDiff.{OneList, each_count}
 
--- ---- the number of lines
-pub lines_append : (x y : List ℕ) → lines_in (x ++ y) ≡ lines_in x + lines_in y
-lines_append x y = ap length (filter-append (λ byte. byte == 10) x y) ∙ length-append (filter (λ byte. byte == 10) x) (filter (λ byte. byte == 10) y)
-
-lines_alike : {A : Type 0} (f g : A → List ℕ) (xs : List A) → ((x : A) → lines_in (f x) ≡ lines_in (g x)) → lines_in (flat_map f xs) ≡ lines_in (flat_map g xs)
-lines_alike f g [] e = refl
-lines_alike f g (x ∷ xs) e = lines_append (f x) (flat_map f xs) ∙ (λ i. e x i + lines_alike f g xs e i) ∙ sym (lines_append (g x) (flat_map g xs))
-
-words_append : (xs ys : List (List ℕ)) → lines_in (flat_map after_space (xs ++ ys)) ≡ lines_in (flat_map after_space xs) + lines_in (flat_map after_space ys)
-words_append xs ys = ap lines_in (flat_map-append after_space xs ys) ∙ lines_append (flat_map after_space xs) (flat_map after_space ys)
-
-pub in_line : (words : List (List ℕ)) → lines_in (line words) ≡ lines_in (flat_map after_space words) + lines_in (10 ∷ [])
-in_line [] = refl
-in_line (word ∷ words) = lines_append (word ++ flat_map after_space words) (10 ∷ [])
-
-changed_over : (h o a n : ℕ) → (h + o) + (a + n) ≡ (h + n) + (a + o)
-changed_over h o a n = omega arith
-
-module _ (head : List (List ℕ)) where
-  in_sides : (old new : List (List ℕ)) → lines_in (flat_map after_space (head ++ old ++ codes "->" ∷ new))
-      ≡ (lines_in (flat_map after_space head) + lines_in (flat_map after_space old)) + (lines_in (after_space (codes "->")) + lines_in (flat_map after_space new))
-  in_sides old new =
-      words_append (head ++ old) (codes "->" ∷ new)
-      ∙ (λ i. words_append head old i + lines_append (after_space (codes "->")) (flat_map after_space new) i)
-
-  sides_changed : (old new : List (List ℕ)) → lines_in (flat_map after_space (head ++ old ++ codes "->" ∷ new)) ≡ lines_in (flat_map after_space (head ++ new ++ codes "->" ∷ old))
-  sides_changed old new =
-      in_sides old new
-      ∙ changed_over (lines_in (flat_map after_space head)) (lines_in (flat_map after_space old)) (lines_in (after_space (codes "->"))) (lines_in (flat_map after_space new))
-      ∙ sym (in_sides new old)
-
-line_turned : (l : SidedLine) → lines_in (sided_line l) ≡ lines_in (turned_line l)
-line_turned l = in_line (l.head ++ l.old ++ codes "->" ∷ l.new) ∙ ap (λ n. n + lines_in (10 ∷ [])) (sides_changed l.head l.old l.new) ∙ sym (in_line (l.head ++ l.new ++ codes "->" ∷ l.old))
-
--- texts whose lines are turned have equally many, and so have rows
-lines_turned : (text other : List ℕ) → LinesTurned text other → lines_in text ≡ lines_in other
-lines_turned text other t = ap lines_in t.1 ∙ lines_alike sided_line turned_line t.0 line_turned ∙ ap lines_in (sym t.2)
-
+-- ---- rows that are turned
+-- they are as many
 rows_turned : (rows others : List Row) → AreTurned rows others → length rows ≡ length others
 rows_turned rows others t = ap length t.1 ∙ length-map t.0 sided_row ∙ sym (length-map t.0 turned_row) ∙ sym (ap length t.2)
 
--- ---- rows that are turned
 pub nothing_turned : AreTurned [] []
 nothing_turned = ([], refl, refl)
 
@@ -111,26 +71,6 @@ unless_turned b c e s = subst (λ c. AreTurned (if b then [] else sided_row s �
     go : (b : Bool) → AreTurned (if b then [] else sided_row s ∷ []) (if b then [] else turned_row s ∷ [])
     go true = nothing_turned
     go false = (s ∷ [], refl, refl)
-
--- ---- texts whose lines are turned
-no_lines_turned : LinesTurned [] []
-no_lines_turned = ([], refl, refl)
-
-lines_append_turned : (x y z w : List ℕ) → LinesTurned x y → LinesTurned z w → LinesTurned (x ++ z) (y ++ w)
-lines_append_turned x y z w s t =
-    (s.0 ++ t.0, (λ i. s.1 i ++ t.1 i) ∙ sym (flat_map-append sided_line s.0 t.0), (λ i. s.2 i ++ t.2 i) ∙ sym (flat_map-append turned_line s.0 t.0))
-
-each_text_turned : {A : Type 0} (f g : A → List ℕ) (xs : List A) → ((x : A) → LinesTurned (f x) (g x)) → LinesTurned (flat_map f xs) (flat_map g xs)
-each_text_turned f g [] h = no_lines_turned
-each_text_turned f g (x ∷ xs) h = lines_append_turned (f x) (g x) (flat_map f xs) (flat_map g xs) (h x) (each_text_turned f g xs h)
-
--- a line where two things differ
-line_unless_turned : (b c : Bool) → b ≡ c → (l : SidedLine) → LinesTurned (if b then [] else sided_line l) (if c then [] else turned_line l)
-line_unless_turned b c e l = subst (λ c. LinesTurned (if b then [] else sided_line l) (if c then [] else turned_line l)) e (go b)
-  where
-    go : (b : Bool) → LinesTurned (if b then [] else sided_line l) (if b then [] else turned_line l)
-    go true = no_lines_turned
-    go false = (l ∷ [], sym (append-nil (sided_line l)), sym (append-nil (turned_line l)))
 
 name_turned : (x y : List ℕ) → same_name x y ≡ same_name y x
 name_turned = nat_list_eq_equiv.symm
@@ -316,24 +256,24 @@ role_turned (Some r) None = refl
 role_turned (Some r) (Some s) = nat_eq_equiv.symm (role_number r) (role_number s)
 
 port_turned : (tree : ℕ) (name : PortName) (r s : Option Role)
-    → LinesTurned (change_text (port_in tree name) (option_map HasRole r) (option_map HasRole s)) (change_text (port_in tree name) (option_map HasRole s) (option_map HasRole r))
+    → AreTurned (change_rows (port_in tree name) (option_map HasRole r) (option_map HasRole s)) (change_rows (port_in tree name) (option_map HasRole s) (option_map HasRole r))
 port_turned tree name r s =
-    line_unless_turned (same_side (option_map HasRole r) (option_map HasRole s)) (same_side (option_map HasRole s) (option_map HasRole r)) (role_turned r s)
-    (record { head = codes "port" ∷ decimal tree ∷ name.bridge ∷ decimal name.number ∷ []; old = side_words (option_map HasRole r); new = side_words (option_map HasRole s) })
+    unless_turned (same_side (option_map HasRole r) (option_map HasRole s)) (same_side (option_map HasRole s) (option_map HasRole r)) (role_turned r s)
+    (record { kind = kind.Change change_line.Port; head = cells.number tree ∷ cells.word name.bridge ∷ cells.number name.number ∷ []; old = role_cell (option_map HasRole r); new = role_cell (option_map HasRole s) })
 
 module _ (a b : Net) (o p : Outcome) where
-  changes_turned : (tree : ℕ) → LinesTurned (port_changes a o b p tree) (port_changes b p a o tree)
+  changes_turned : (tree : ℕ) → AreTurned (port_change_rows a o b p tree) (port_change_rows b p a o tree)
   changes_turned tree =
       let either : List PortName = names_of_either port_cmp (port_names a) (port_names b) in
-      subst (λ text. LinesTurned text (port_changes b p a o tree)) (sym (flat_map-map (λ place. change_text place (value_at a o place) (value_at b p place)) (port_in tree) either))
-      (subst (LinesTurned (flat_map (λ name. change_text (port_in tree name) (value_at a o (port_in tree name)) (value_at b p (port_in tree name))) either))
-      (sym (flat_map-map (λ place. change_text place (value_at b p place) (value_at a o place)) (port_in tree) either)
-      ∙ ap (λ names. flat_map (λ place. change_text place (value_at b p place) (value_at a o place)) (map (port_in tree) names)) (either_turned ports.total ports.same (port_names a) (port_names b)))
-      (each_text_turned (λ name. change_text (port_in tree name) (value_at a o (port_in tree name)) (value_at b p (port_in tree name))) (λ name. change_text (port_in tree name) (value_at b p (port_in tree name)) (value_at a o (port_in tree name)))
+      subst (λ rows. AreTurned rows (port_change_rows b p a o tree)) (sym (flat_map-map (λ place. change_rows place (value_at a o place) (value_at b p place)) (port_in tree) either))
+      (subst (AreTurned (flat_map (λ name. change_rows (port_in tree name) (value_at a o (port_in tree name)) (value_at b p (port_in tree name))) either))
+      (sym (flat_map-map (λ place. change_rows place (value_at b p place) (value_at a o place)) (port_in tree) either)
+      ∙ ap (λ names. flat_map (λ place. change_rows place (value_at b p place) (value_at a o place)) (map (port_in tree) names)) (either_turned ports.total ports.same (port_names a) (port_names b)))
+      (each_turned (λ name. change_rows (port_in tree name) (value_at a o (port_in tree name)) (value_at b p (port_in tree name))) (λ name. change_rows (port_in tree name) (value_at b p (port_in tree name)) (value_at a o (port_in tree name)))
       either (λ name. port_turned tree name (role_of a o tree name) (role_of b p tree name))))
 
-  pub ports_turned : LinesTurned (ports_text a o b p) (ports_text b p a o)
-  ports_turned = each_text_turned (port_changes a o b p) (port_changes b p a o) all_trees changes_turned
+  pub ports_turned : AreTurned (port_rows a o b p) (port_rows b p a o)
+  ports_turned = each_turned (port_change_rows a o b p) (port_change_rows b p a o) all_trees changes_turned
 
 -- ---- islands
 pub any_turned : (s : Sides) → differ (turned_sides s) ≡ differ s
@@ -358,6 +298,6 @@ module _ (a b : Net) (o p : Outcome) (one : OneList) where
   counts_turned c d text other x y = λ i. record {
     regions = (x.regions ∙ rows_turned (region_changes a b) (region_changes b a) (regions_turned a b) ∙ sym y.regions) i;
     roots = (x.roots ∙ rows_turned (root_changes a o b p) (root_changes b p a o) (roots_turned a b o p) ∙ sym y.roots) i;
-    ports = (x.ports ∙ lines_turned (ports_text a o b p) (ports_text b p a o) (ports_turned a b o p) ∙ sym y.ports) i;
+    ports = (x.ports ∙ ap (λ n. min n 18446744073709551615) (rows_turned (port_rows a o b p) (port_rows b p a o) (ports_turned a b o p)) ∙ sym y.ports) i;
     vlans = vids_turned x.reach y.reach c.vlans d.vlans x.is_reach y.is_reach i;
   }

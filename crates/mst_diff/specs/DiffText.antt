@@ -1,5 +1,5 @@
 -- The text of what a change does: from one network to another.
-use Rattle.std.specs.Prelude.{◌≡◌, ℕ, ◌==◌, List, [], ◌∷◌, ◌++◌, length, filter}
+use Rattle.std.specs.Prelude.{◌≡◌, ℕ, List, [], ◌∷◌, ◌++◌, length}
 use Rattle.std.specs.List.{flat_map}
 use Rattle.mst_kinds.specs.declared.change_line.ChangeLine.TheVariants as change_line
 use Rattle.mst_kinds.specs.declared.kind.Kind.TheVariants as kind
@@ -11,12 +11,8 @@ use Rattle.mst_rows.specs.Rows.{Row, row_of}
 use Rattle.mst_diff.specs.declared.diff.Differing.{Differing}
 use Rattle.mst_diff.specs.Regions.{region_changes}
 use Rattle.mst_diff.specs.Roots.{root_changes}
-use Rattle.mst_diff.specs.Ports.{ports_text}
+use Rattle.mst_diff.specs.Ports.{port_rows, counted}
 use Rattle.mst_diff.specs.Reach.{AreReachRows}
-
--- the number of lines of a text
-abbrev pub lines_in : List ℕ → ℕ
-lines_in text = length (filter (λ byte. byte == 10) text)
 
 -- `diff regions R roots T ports P vlans V`
 abbrev pub diff_row : Differing → Row
@@ -31,5 +27,5 @@ pub record IsDiff (a : Net) (o : Outcome) (b : Net) (p : Outcome) (d : Differing
   pub is_reach : AreReachRows a o b p reach d.vlans
   pub regions : d.regions ≡ length (region_changes a b)
   pub roots : d.roots ≡ length (root_changes a o b p)
-  pub ports : d.ports ≡ lines_in (ports_text a o b p)
-  pub is : text ≡ flat_map row_line (region_changes a b) ++ flat_map row_line (root_changes a o b p) ++ ports_text a o b p ++ flat_map row_line reach ++ diff_line d
+  pub ports : d.ports ≡ counted (port_rows a o b p)
+  pub is : text ≡ flat_map row_line (region_changes a b) ++ flat_map row_line (root_changes a o b p) ++ flat_map row_line (port_rows a o b p) ++ flat_map row_line reach ++ diff_line d

@@ -18,7 +18,7 @@ use Rattle.mst_plan_text.specs.trees.Seen.{trees_at}
 use Rattle.mst_plan_text.specs.trees.Settled.{SettledNet, outcome_of}
 use Rattle.mst_plan_text.specs.vlan.declared.island.Island.{Island}
 use Rattle.mst_plan_text.specs.text.VlanSeen.{seen_bridge}
-use Rattle.mst_changes.specs.PortChanges.{port_changes}
+use Rattle.mst_changes.specs.PortChanges.{port_change_rows}
 use Rattle.mst_kinds.specs.declared.change_line.ChangeLine.TheVariants as change_line
 use Rattle.mst_kinds.specs.declared.kind.Kind.TheVariants as kind
 use Rattle.mst_rows.specs.Cells as cells
@@ -97,8 +97,8 @@ with_pair kept None = kept
 with_pair kept (Some pair) = with_new same_pair kept pair
 
 -- ---- ports
-abbrev pub ports_of : SettledNet → SettledNet → ℕ → List ℕ
-ports_of s t = port_changes s.net (outcome_of s) t.net (outcome_of t)
+abbrev pub ports_of : SettledNet → SettledNet → ℕ → List Row
+ports_of s t = port_change_rows s.net (outcome_of s) t.net (outcome_of t)
 
 -- ---- islands
 abbrev pub AreSidesOf : SettledNet → SettledNet → ℕ → Sides → Type 0

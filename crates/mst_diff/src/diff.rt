@@ -1,15 +1,14 @@
 ghost use Rattle.std.specs.Prelude.{◌≡◌, ◌==◌, ◌&&◌, ◌++◌, ◌∷◌, [], ℕ, List, IfOk, OnOk};
 ghost use Rattle.mst_plan_text.specs.trees.Settled.{outcome_of};
 ghost use Rattle.mst_rows.specs.Rows.{Row};
-ghost use Rattle.mst_diff.specs.DiffText.{IsDiff, diff_row, lines_in as lines_of_text};
+ghost use Rattle.mst_diff.specs.DiffText.{IsDiff, diff_row};
 
 use crate::all_roots::{changed_roots, put_roots};
 use crate::both::bridges_of_both;
 use crate::change::Change;
-use crate::ports::push_ports;
+use crate::ports::{count_ports, put_ports};
 use crate::reach::put_reach;
 use crate::regions::{changed_regions, put_regions};
-use mst_ids::push_bytes;
 use mst_kinds::{ChangeLine, Kind};
 use mst_plan_text::{Settled, trees_in_use};
 use mst_rows::{Rows, Value, put};
@@ -33,13 +32,6 @@ impl Differing {
     }
 }
 
-/// How many lines a text has.
-fn lines_in(text: &[u8]) -> u64
-    ensures { result ≡ lines_of_text text.now }
-{
-    text.iter().filter(|byte| **byte == b'\n').count() as u64
-}
-
 /// Puts the row of how much differs.
 fn put_counts<R: Rows>(differing: &Differing, out: &mut R) -> Result<(), AllocError>
     ensures { (first : R) (rows : List Row) → R.grew first out.old rows → OnOk result (R.grew first out.new (rows ++ diff_row differing.now ∷ [])) }
@@ -59,16 +51,15 @@ fn push_change(alloc: Global, change: &Change, out: &mut Vec<u8>) -> Result<Diff
 {
     let regions = changed_regions(alloc, change)?;
     let roots = changed_roots(alloc, change)?;
-    let mut ports = Vec::new(alloc);
-    push_ports(alloc, change, &mut ports)?;
+    let ports = count_ports(alloc, change)?;
     put_regions::<Vec<u8>>(regions.as_slice(), out)?;
     put_roots::<Vec<u8>>(roots.as_slice(), out)?;
-    push_bytes(ports.as_slice(), out)?;
+    put_ports::<Vec<u8>>(alloc, change, out)?;
     let vlans = put_reach::<Vec<u8>>(alloc, change.old, change.new, out)?;
     let differing = Differing {
         regions: regions.len() as u64,
         roots: roots.len() as u64,
-        ports: lines_in(ports.as_slice()),
+        ports,
         vlans,
     };
     put_counts::<Vec<u8>>(&differing, out)?;

@@ -5,11 +5,11 @@ ghost use Rattle.mst_plan_text.specs.trees.Outcome.{Outcome, IsOutcome};
 ghost use Rattle.mst_rows.specs.Rows.{Row};
 ghost use Rattle.mst_diff.specs.AlikeNets.{AreAlike};
 ghost use Rattle.mst_diff.specs.DiffText.{IsDiff, diff_line};
-ghost use Rattle.mst_diff.specs.Ports.{ports_text};
+ghost use Rattle.mst_diff.specs.Ports.{port_rows};
 ghost use Rattle.mst_diff.specs.Reach.{AreSides, Sides, AreReachRows};
 ghost use Rattle.mst_diff.specs.Regions.{region_changes};
 ghost use Rattle.mst_diff.specs.Roots.{root_changes};
-ghost use Rattle.mst_diff.specs.Turned.{AreTurned, LinesTurned, turned_sides};
+ghost use Rattle.mst_diff.specs.Turned.{AreTurned, turned_sides};
 ghost use Rattle.mst_diff.specs.declared.diff.Differing.{Differing as Counts};
 
 use mst_graph::laws::group_lists;
@@ -43,7 +43,7 @@ pub fn no_difference()
 pub fn turned()
     ensures regions { (a b : Net) → AreTurned (region_changes a b) (region_changes b a) }
     ensures roots { (a b : Net) (o p : Outcome) → AreTurned (root_changes a o b p) (root_changes b p a o) }
-    ensures ports { (a b : Net) (o p : Outcome) → LinesTurned (ports_text a o b p) (ports_text b p a o) }
+    ensures ports { (a b : Net) (o p : Outcome) → AreTurned (port_rows a o b p) (port_rows b p a o) }
     ensures sides { (a b : Net) (o p : Outcome) (vid : ℕ) (sides others : Sides) → AreSides a o b p vid sides → AreSides b p a o vid others → others ≡ turned_sides sides }
     ensures reach { (a b : Net) (o p : Outcome) (rows others : List Row) (v w : ℕ) → AreReachRows a o b p rows v → AreReachRows b p a o others w → AreTurned rows others }
     ensures counts { (a b : Net) (o p : Outcome) (c d : Counts) (text other : List ℕ) → IsDiff a o b p c text → IsDiff b p a o d other → c ≡ d }
