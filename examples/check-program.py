@@ -636,6 +636,7 @@ line 2 settreeprio takes B TREE PRIO; 2 words stand here
 line 4 settreeprio B TREE PRIO: PRIO is 0 to 15, in steps of 4096; 4096 is 1
 line 5 no bridge dist1: line 1 was to add it
 line 6 addport B P: P is 1 to 4095
+line 8 port B:1 is there since line 7
 line 9 no LAN L
 line 10 delport B P: P is 1 to 4095
 """
@@ -652,22 +653,29 @@ HINTED_JSON = [
     {
         "line": 11,
         "query": "showtree",
+        "tree": 0,
         "records": [
-            {"tree": 0},
+            {"kind": "tree", "tree": 0},
             {
+                "kind": "bridge",
+                "tree": 0,
                 "bridge": "B",
-                "id": "8000.02:00:00:00:00:02",
-                "root": "8000.02:00:00:00:00:02",
+                "bridge_id": "8000.02:00:00:00:00:02",
+                "root_id": "8000.02:00:00:00:00:02",
+                "root": "B",
                 "ext": 0,
-                "regional": "8000.02:00:00:00:00:02",
+                "regional_id": "8000.02:00:00:00:00:02",
+                "regional": "B",
                 "int": 0,
-                "from": "8000.02:00:00:00:00:02",
-                "from_port": "0000",
-                "at": "0000",
+                "designated_id": "8000.02:00:00:00:00:02",
+                "designated_bridge": "B",
+                "designated_port_id": "0000",
+                "receiver_id": "0000",
             },
         ],
     },
 ]
+TOO_SHORT_JSON = {"kind": "capture", "line": 2, "error": "B02", "text": "too short"}
 UNEXPLAINED_JSON = {"query": "explain", "error": "E05", "text": "no such port"}
 
 
@@ -688,15 +696,19 @@ def flag_cases(folder):
     script = os.path.join(folder, "hinted.script")
     with open(script, "wb") as file:
         file.write(HINTED)
-    wrong = b"error: --json is a flag of run, explain, diff, sweep and summary, --hints of run and check with the script in a file\n"
-    gone = [{"reach": "1-4094", "old": ["B"], "new": []}, {"diff": True, "regions": 0, "roots": 0, "ports": 0, "vlans": 4094}]
+    wrong = b"error: --json is a flag of run, check, explain, diff, sweep and summary, --hints of run and check with the script in a file\n"
+    gone = [
+        {"kind": "reach", "vids": [[1, 4094]], "old_islands": [["B"]], "new_islands": []},
+        {"kind": "diff", "region_count": 0, "root_count": 0, "port_count": 0, "vlan_count": 4094},
+    ]
     same = [value for value in HINTED_JSON if "error" in value]
     return [
         ("hints of a run", ["run", "--hints", script], b"", 1, HINTED_RUN, HINTS),
         ("hints behind the script", ["run", script, "--hints"], b"", 1, HINTED_RUN, HINTS),
         ("hints of a check", ["check", "--hints", script, os.devnull], b"", 1, HINTED_RUN, HINTS),
         ("no hints of standard input", ["--hints"], HINTED, 2, b"", wrong),
-        ("no JSON of a check", ["check", "--json", script, os.devnull], b"", 2, b"", wrong),
+        ("a check in JSON", ["check", "--json", script, "-"], SHORT, 1, Json(*HINTED_JSON, TOO_SHORT_JSON), b""),
+        ("no JSON of a picture", ["dot", "--json", script, "0"], b"", 2, b"", wrong),
         ("a run in JSON", ["run", "--json", script], b"", 1, Json(*HINTED_JSON), b""),
         ("standard input in JSON", ["--json"], HINTED, 1, Json(*HINTED_JSON), b""),
         ("JSON and hints", ["--json", "run", "--hints", script], b"", 1, Json(*HINTED_JSON), HINTS),

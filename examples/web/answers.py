@@ -69,7 +69,17 @@ class Program:
 
 
 def port_of(record):
-    return f"{record['port']}:{record['number']}"
+    return f"{record['bridge']}:{record['port']}"
+
+
+def list_of(runs):
+    """VIDs as the page has them, by their runs: a list of these, of which the empty one is an empty text."""
+    return ",".join(f"{first}-{last}" if first < last else str(first) for first, last in runs)
+
+
+def kept_of(record, *keys):
+    """These members of a record, as far as it has them."""
+    return {key: record[key] for key in keys if key in record}
 
 
 def settings_of(saved):
@@ -104,27 +114,26 @@ def settings_of(saved):
 
 def plan_of(records):
     """Trees by number, and groups of VLANs with equal islands, from the records of `showplan`."""
-    trees, groups, part = {}, [], None
+    trees, groups = {}, []
     for record in records:
-        if list(record) == ["tree"]:
-            part = trees.setdefault(record["tree"], {"bridges": {}, "ports": {}})
-        elif "vlan" in record:
-            part = {"vids": record["vlan"], "islands": []}
-            groups.append(part)
-        elif "island" in record:
+        if record["kind"] == "tree":
+            trees[record["tree"]] = {"bridges": {}, "ports": {}}
+        elif record["kind"] == "port":
+            trees[record["tree"]]["ports"][port_of(record)] = kept_of(record, "lan", "port_id", "ext", "int", "role")
+        elif record["kind"] == "bridge":
+            told = kept_of(record, "bridge_id", "root_id", "root", "ext", "regional_id", "regional", "int", "power")
+            trees[record["tree"]]["bridges"][record["bridge"]] = told
+        elif record["kind"] == "vlan":
+            groups.append({"vids": list_of(record["vids"]), "islands": []})
+        elif record["kind"] == "island" and record["bridges"]:
             # An island of LANs alone has no bridge.
-            part["islands"] += [record["bridges"]] if record["bridges"] else []
-        elif "port" in record:
-            told = {key: record[key] for key in ("lan", "id", "ext", "int", "role") if key in record}
-            part["ports"][port_of(record)] = told
-        elif "bridge" in record:
-            part["bridges"][record["bridge"]] = {key: value for key, value in record.items() if key != "bridge"}
+            groups[-1]["islands"].append(record["bridges"])
     return trees, groups
 
 
 def logical_lans(ports, lans, classes):
     """The logical LANs that have a logical port, by name: their ports and members, whether they are up, and their speed."""
-    members = {record["lag"]: record["lans"] for record in classes}
+    members = {record["lan"]: record["lans"] for record in classes}
     logical = {}
     for port, told in ports.items():
         lan = told["lan"]
@@ -139,12 +148,11 @@ def failures_of(records):
     """The single failures of a sweep in its order, each with the VLANs that it cuts and the parts that it leaves."""
     failures = []
     for record in records:
-        if "parts" in record:
-            failures[-1]["parts"].append([record["cut"], record["parts"]])
-        elif "sweep" not in record:
-            what = "lan" if "lan" in record else "bridge"
-            told = {"what": what, "name": record[what], "trees": [int(tree) for tree in record["roots"]]}
-            failures.append({**told, "changed": record["ports"], "cut": record["cut"], "parts": []})
+        if record["kind"] == "cut":
+            failures[-1]["parts"].append([list_of(record["vids"]), [",".join(names) for names in record["parts"]]])
+        elif record["kind"] in FAILS:
+            told = {"what": record["kind"], "name": record[record["kind"]], "trees": record["trees"]}
+            failures.append({**told, "changed": record["port_count"], "cut": list_of(record["vids"]), "parts": []})
     return failures
 
 
@@ -162,12 +170,18 @@ def changes_of(records, names):
     """
     roles, roots = [], {}
     for record in records:
-        if "port" in record:
-            roles.append([record["tree"], port_of(record), record["new"]])
-        elif record["old"] and record["new"] and record["old"][0] != record["new"][0]:
-            pair = record["tree"], names[record["old"][0]], names[record["new"][0]]
-            roots.setdefault(pair, []).append(record["bridge"])
+        if record["kind"] == "port":
+            roles.append([record["tree"], port_of(record), record["new_role"]])
+        elif record["kind"] == "bridge" and record["old_vector"] and record["new_vector"]:
+            before, after = root_in(record["old_vector"]), root_in(record["new_vector"])
+            if before != after:
+                roots.setdefault((record["tree"], names[before], names[after]), []).append(record["bridge"])
     return {"roles": roles, "roots": [[*pair, bridges] for pair, bridges in roots.items()]}
+
+
+def root_in(vector):
+    """The identifier of the root that a vector of the CIST has, or of the regional root in an MSTI."""
+    return vector.get("root_id", vector["regional_id"])
 
 
 def reasons_of(program, saved, ports):
@@ -176,9 +190,8 @@ def reasons_of(program, saved, ports):
     def explained(port):
         reasons = {}
         for record in program.answer(["explain", "-", *port.split(":")], saved)[0]:
-            if "explain" in record:
-                told = reasons.setdefault(record["tree"], [])
-            else:
+            told = reasons.setdefault(record["tree"], [])
+            if record["kind"] != "explain":
                 told.append(record)
         return reasons
 
@@ -199,7 +212,7 @@ def network_of(program, script, sweeping):
     answers = [line["records"] for line in program.lines(["run", "-"], saved + asked.encode())]
     plan, regions, notes, classes = answers[: len(QUERIES)]
     trees, groups = plan_of(plan)
-    names = {told["id"]: bridge for tree in trees.values() for bridge, told in tree["bridges"].items() if "id" in told}
+    names = {told["bridge_id"]: bridge for tree in trees.values() for bridge, told in tree["bridges"].items() if "bridge_id" in told}
     for failure, changed in zip(failures, answers[len(QUERIES) :], strict=True):
         failure.update(changes_of(changed, names))
     logical_ports = trees[0]["ports"]

@@ -17,10 +17,15 @@ function kept(map, key, make) {
   return map.get(key);
 }
 
-/** VIDs, from a list as the program writes it, of which `-` and nothing are the empty one. */
+/** A port by its name, as an answer has another port than its own. */
+const portText = ({ bridge, port }) => `${bridge}:${port}`;
+/** A list of VIDs by its runs, as an answer has it. */
+const listOf = runs => runs.map(([first, last]) => (first === last ? `${first}` : `${first}-${last}`)).join(",");
+
+/** VIDs, from a list as the program writes it, of which nothing is the empty one. */
 class Vids {
   constructor(text) {
-    this.text = text && text !== "-" ? text : "";
+    this.text = text ?? "";
     const items = this.text ? this.text.split(",") : [];
     this.runs = items.map(item => item.split("-").map(Number)).map(([first, last]) => [first, last ?? first]);
   }
@@ -37,7 +42,7 @@ class Failure {
     Object.assign(this, told);
     this.key = `${told.what} ${told.name}`;
     this.roleAfter = new Map();
-    for (const [tree, port, role] of told.roles) kept(this.roleAfter, tree, () => new Map()).set(port, role === "-" ? null : role);
+    for (const [tree, port, role] of told.roles) kept(this.roleAfter, tree, () => new Map()).set(port, role);
     this.rootAfter = new Map();
     for (const [tree, , root, bridges] of told.roots) {
       for (const bridge of bridges) kept(this.rootAfter, tree, () => new Map()).set(bridge, root);
@@ -60,13 +65,13 @@ class Network {
     this.names = new Map();
     for (const [number, tree] of Object.entries(told.trees)) {
       this.trees.set(Number(number), { bridges: mapOf(tree.bridges), ports: mapOf(tree.ports) });
-      for (const [bridge, { id }] of Object.entries(tree.bridges)) if (id) this.names.set(id, bridge);
+      for (const [bridge, { bridge_id: id }] of Object.entries(tree.bridges)) if (id) this.names.set(id, bridge);
     }
     // Tree 0 is told of a network without bridges as well.
     this.treeNumbers = [...this.trees.keys()].filter(tree => this.trees.get(tree).bridges.size).sort((a, b) => a - b);
     this.regionAt = new Map(told.regions.flatMap(region => region.bridges.map(bridge => [bridge, region])));
     this.failures = new Map(told.failures.map(it => new Failure(it)).map(it => [it.key, it]));
-    this.carriedBy = new Map(told.summary.filter(it => "carries" in it).map(it => [it.lan, it.carries ?? ""]));
+    this.carriedBy = new Map(told.summary.filter(it => it.kind === "carries").map(it => [it.lan, listOf(it.vids)]));
     this.joins = new Map();
   }
 
@@ -91,13 +96,14 @@ class Network {
   /** A bridge's root in the CIST, its regional root in an MSTI; null where it is off or hasn't the tree. */
   root(tree, bridge, failure) {
     const told = this.bridgeIn(tree, bridge);
-    if (!told || told.off || !this.isOn(bridge, failure)) return null;
-    return failure?.rootAfter.get(tree)?.get(bridge) ?? this.named(tree === CIST ? told.root : told.regional);
+    if (!told || told.power === "off" || !this.isOn(bridge, failure)) return null;
+    const root = tree === CIST ? told.root ?? told.root_id : told.regional ?? told.regional_id;
+    return failure?.rootAfter.get(tree)?.get(bridge) ?? root;
   }
 
   /** The priority of a bridge in a tree, from 0 to 61440, which its identifier begins with. */
   priority(tree, bridge) {
-    const id = this.bridgeIn(tree, bridge)?.id;
+    const id = this.bridgeIn(tree, bridge)?.bridge_id;
     return id ? parseInt(id.slice(0, 4), 16) & 0xf000 : null;
   }
 
@@ -198,9 +204,9 @@ class Comparison {
       const group = network.groups.find(it => vids(it.vids).has(first));
       this.expect(`islands of VLAN ${first}`, this.islands.get(first), group.islands.map(island => [...island].sort()));
     }
-    for (const { tree, blocked } of network.summary.filter(it => "blocked" in it)) {
-      const ports = [...network.trees.get(tree).ports.keys()];
-      this.expect(`blocked ports of tree ${tree}`, ports.filter(port => BLOCKING.has(network.role(tree, port, null))), blocked);
+    for (const { tree, ports: blocked } of network.summary.filter(it => it.kind === "blocked")) {
+      const ports = [...network.trees.get(tree).ports.keys()].filter(port => BLOCKING.has(network.role(tree, port, null)));
+      this.expect(`blocked ports of tree ${tree}`, ports, blocked.map(portText));
     }
     for (const [lan, { ports }] of network.lans) {
       if (network.isDown(lan, null)) continue;

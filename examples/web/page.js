@@ -89,15 +89,15 @@ function showLegend() {
 }
 
 function showHead(comparison) {
-  const counts = network.summary.find(it => "trees" in it), cutting = told => told.failures.filter(it => it.cut).length;
+  const counts = network.summary.find(it => it.kind === "bridges"), cutting = told => told.failures.filter(it => it.cut).length;
   const chip = (text, kind = "", title = "") => markup`<span class="chip ${kind}" title="${title}">${text}</span>`;
   const cuts = cutting(ALL[TIME]), swept = counted(ALL[TIME].failures.length, "single failure");
   const failing = cuts > 1 ? `${cuts} of ${swept} cut a VLAN` : `${cuts || "none"} of ${swept} cuts a VLAN`;
   const scripts = other ? `${ALL.before.script} → ${ALL.after.script}` : ALL.after.script;
   byId("made").textContent = `${scripts} · ${ALL.version} · ${ALL.made}`;
   put("chips", [
-    chip(`${counted(counts.bridges, "switch", "switches")}${counts.on === counts.bridges ? "" : `, ${counts.on} on`}`),
-    chip(counted(network.lans.size, "link")), chip(counted(counts.regions, "region")), chip(counted(counts.trees, "tree")),
+    chip(`${counted(counts.bridge_count, "switch", "switches")}${counts.on_count === counts.bridge_count ? "" : `, ${counts.on_count} on`}`),
+    chip(counted(network.lans.size, "link")), chip(counted(counts.region_count, "region")), chip(counted(counts.tree_count, "tree")),
     network.swept ? markup`<button class="chip ${cuts ? "warned" : "well"}" data-open="failures">${failing}</button>` : "",
     other && network.swept ? chip(`${OTHER_TIME}: ${cutting(ALL[OTHER_TIME])}`) : "",
     network.refused.length ? chip(counted(network.refused.length, "refused line"), "warned") : "",

@@ -185,7 +185,7 @@ class Picture {
 
   /** The colour of a bridge's region; a bridge of kind rstp has none. */
   hue(bridge) {
-    const regions = this.network.regions.filter(({ region }) => region === "mstp");
+    const regions = this.network.regions.filter(it => it.region_kind === "mstp");
     const place = regions.indexOf(this.network.regionAt.get(bridge));
     return place < 0 ? NO_HUE : HUES[place % HUES.length];
   }

@@ -42,11 +42,11 @@ def neighbours_of(network):
 
 def tops_of(network, near):
     """The nodes of the first rank: roots of at least half of the most bridges, and the CIST's next root where it is beside it."""
-    roots = [record for record in network["summary"] if "root" in record and record["of"] > 1]
-    most = max((record["of"] for record in roots), default=0)
-    tops = {record["root"] for record in roots if record["of"] * 2 >= most}
+    roots = [record for record in network["summary"] if record["kind"] == "tree" and record["bridge_count"] > 1]
+    most = max((record["bridge_count"] for record in roots), default=0)
+    tops = {record["root"] for record in roots if record["bridge_count"] * 2 >= most}
     for record in roots:
-        if record["tree"] == 0 and record["of"] == most and record["next"] in near.get(record["root"], ()):
+        if record["tree"] == 0 and record["bridge_count"] == most and record["next"] in near.get(record["root"], ()):
             tops.add(record["next"])
     return tops & near.keys()
 

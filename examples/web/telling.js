@@ -91,7 +91,7 @@ class Telling {
 
   portInTree(port, tree, shown) {
     const { network } = this, before = network.role(tree, port, null), after = network.role(tree, port, shown.failure);
-    const { id, ext, int } = network.trees.get(tree).ports.get(port);
+    const { port_id: id, ext, int } = network.trees.get(tree).ports.get(port);
     const isShown = tree === (shown.vid === null ? shown.tree : network.treeOf(bridgeOf(port), shown.vid));
     return markup`<h3>${treeName(tree)}${isShown ? " · shown" : ""}</h3>${roleTag(before)}
       ${before !== after ? markup` → ${roleTag(after)} after this failure` : ""}
@@ -103,8 +103,8 @@ class Telling {
   why(port, tree) {
     const told = this.network.reasons.get(port)?.[tree], lan = this.network.lanOf(port);
     if (told) return told.map(record => this.reason(record, port));
-    if (!this.network.isOn(bridgeOf(port), null)) return this.reason({ off: bridgeOf(port) }, port);
-    if (this.network.isDown(lan, null)) return this.reason({ down: lan }, port);
+    if (!this.network.isOn(bridgeOf(port), null)) return this.reason({ kind: "off", off_bridge: bridgeOf(port) }, port);
+    if (this.network.isDown(lan, null)) return this.reason({ kind: "down", down_lan: lan }, port);
     return "No other port is on its LAN, so it is compared with none.";
   }
   printedWhy(port, tree) {
@@ -113,36 +113,37 @@ class Telling {
   }
 
   reason(record, port) {
-    const at = (other, own) => (other === port ? own : portJump(other));
-    if (record.boundary) {
+    const at = (other, own) => (portText(other) === port ? own : portJump(portText(other)));
+    const { kind, winner, loser } = record;
+    if (kind === "boundary") {
       return markup`At the boundary of its region it does as in the CIST: ${roleTag(record.role)} there, and
-        ${portJump(record.designated)} is the LAN's designated port.`;
+        ${portJump(portText(record.designated))} is the LAN's designated port.`;
     }
-    if ("designated" in record && record.alone) {
-      return markup`${portJump(record.designated)} is the only port of the tree on its LAN.`;
+    if (kind === "designated" && loser === undefined) {
+      return markup`${portJump(portText(winner))} is the only port of the tree on its LAN.`;
     }
-    if ("designated" in record) {
-      return markup`On the LAN ${at(record.designated, "it")} is the <b>designated port</b> rather than
-        ${at(record.over, "this port")}: ${this.comparison(record)}.`;
+    if (kind === "designated") {
+      return markup`On the LAN ${at(winner, "it")} is the <b>designated port</b> rather than
+        ${at(loser, "this port")}: ${this.comparison(record)}.`;
     }
-    if ("root" in record && record.alone) return printedReason(record);
-    if (record.root === "own") {
-      return markup`<b>${bridgeOf(port)} is the root itself</b>, which is better than what ${at(record.over, "this port")} hears:
+    if (kind === "root" && loser === undefined) return printedReason(record);
+    if (kind === "root" && winner === null) {
+      return markup`<b>${bridgeOf(port)} is the root itself</b>, which is better than what ${at(loser, "this port")} hears:
         ${this.comparison(record)}.`;
     }
-    if ("root" in record) {
-      const over = record.over === "own" ? "itself as root" : at(record.over, "this one");
-      return markup`The switch's <b>root port</b> is ${at(record.root, "this one")} rather than ${over}:
+    if (kind === "root") {
+      const over = loser === null ? "itself as root" : at(loser, "this one");
+      return markup`The switch's <b>root port</b> is ${at(winner, "this one")} rather than ${over}:
         ${this.comparison(record)}.`;
     }
-    if (record.restricted) return markup`The port's role is <b>restricted</b>: it never becomes a root port.`;
-    if ("off" in record) return markup`${this.bridgeJump(record.off)} is off.`;
-    return "down" in record ? markup`${lanJump(record.down)} is down.` : printedReason(record);
+    if (kind === "restricted") return markup`The port's role is <b>restricted</b>: it never becomes a root port.`;
+    return kind === "off" ? markup`${this.bridgeJump(record.off_bridge)} is off.` : markup`${lanJump(record.down_lan)} is down.`;
   }
 
-  comparison({ field, value, over_value: overValue }) {
+  comparison(record) {
     const named = id => (this.network.names.has(id) ? `${id} (${this.network.named(id)})` : id);
-    return markup`${FIELDS[field] ?? field} <span class="values">${named(value)} &lt; ${named(overValue)}</span>`;
+    const [value, other] = comparedIn(record).map(named);
+    return markup`${FIELDS[record.field] ?? record.field} <span class="values">${value} &lt; ${other}</span>`;
   }
 
   lan(lan, shown) {
@@ -210,17 +211,16 @@ class Telling {
 
   change() {
     const told = this.all.differences, roles = new Map();
-    const apart = islands => islands.join(" | ") || DASH;
-    for (const it of told.filter(record => "number" in record)) {
-      kept(roles, it.tree, () => []).push(portJump(`${it.port}:${it.number}`));
-    }
-    const roots = told.filter(it => it.root === true).map(it =>
-      markup`<div>Root of ${treeName(it.tree)}: ${it.old} → <b>${it.new}</b></div>`);
-    const regions = told.filter(it => "old_first" in it).map(it => markup`<div>Region of ${this.bridgeJump(it.region)}:
-      ${it.old_name} ${it.old_revision} → <b>${it.new_name} ${it.new_revision}</b></div>`);
-    const reach = told.filter(it => "reach" in it).map(it => [
-      markup`<div class="warning">VLANs ${listed(it.reach)} reach other switches:</div>`,
-      line([apart(it.old), " → ", apart(it.new)]),
+    const apart = islands => islands.map(names => names.join(",")).join(" | ") || DASH;
+    const regionText = it => (it.region_kind === "rstp" ? "RSTP" : `${it.name} ${it.revision}`);
+    for (const it of told.filter(record => record.kind === "port")) kept(roles, it.tree, () => []).push(portJump(portText(it)));
+    const roots = told.filter(it => it.kind === "root").map(it =>
+      markup`<div>Root of ${treeName(it.tree)}: ${it.old_root ?? DASH} → <b>${it.new_root ?? DASH}</b></div>`);
+    const regions = told.filter(it => it.kind === "region").map(it => markup`<div>Region of ${this.bridgeJump(it.bridge)}:
+      ${regionText(it.old_region)} → <b>${regionText(it.new_region)}</b></div>`);
+    const reach = told.filter(it => it.kind === "reach").map(it => [
+      markup`<div class="warning">VLANs ${listed(listOf(it.vids))} reach other switches:</div>`,
+      line([apart(it.old_islands), " → ", apart(it.new_islands)]),
     ]);
     const ports = [...roles].map(([tree, list]) =>
       markup`<div>${treeName(tree)}: ${counted(list.length, "role")} ${minor(some(list, MOST_PORTS))}</div>`);
@@ -249,18 +249,18 @@ class Telling {
   }
 
   roots(tree) {
-    const told = this.network.summary.filter(it => it.tree === tree), { blocked } = told.find(it => "blocked" in it);
-    const rows = told.filter(it => "root" in it).map(it =>
-      [this.bridgeJump(it.root), it.priority, it.next ? [this.bridgeJump(it.next), ` ${it.next_priority}`] : DASH, it.of]);
-    const ports = blocked.length > MOST_NAMES ? `${blocked.length} ports` : joined(blocked.map(portJump), ", ");
+    const told = this.network.summary.filter(it => it.tree === tree), { ports: blocked } = told.find(it => it.kind === "blocked");
+    const rows = told.filter(it => it.kind === "tree").map(it =>
+      [this.bridgeJump(it.root), it.priority, it.next ? [this.bridgeJump(it.next), ` ${it.next_priority}`] : DASH, it.bridge_count]);
+    const ports = blocked.length > MOST_NAMES ? `${blocked.length} ports` : joined(blocked.map(portText).map(portJump), ", ");
     return markup`<h3>${treeName(tree)}</h3>${table(["Root", "Priority", "Next", "#Switches"], rows)}
       ${minor(["Blocked: ", blocked.length ? ports : "no port"])}`;
   }
 
   regions() {
-    const rows = this.network.regions.slice(0, MOST_NAMES).map(({ region, name, revision, bridges }) => {
+    const rows = this.network.regions.slice(0, MOST_NAMES).map(({ region_kind: kind, name, revision, bridges }) => {
       const sign = markup`<span class="hue" style="background:${this.hue(bridges[0])}"></span>`;
-      const named = region === "mstp" ? markup`<b>${name}</b> revision ${revision}` : "RSTP";
+      const named = kind === "mstp" ? markup`<b>${name}</b> revision ${revision}` : "RSTP";
       return markup`<div>${sign}${named}: ${some(bridges.map(bridge => this.bridgeJump(bridge)), MOST_NAMES)}</div>`;
     });
     const left = this.network.regions.length - rows.length;
@@ -272,9 +272,9 @@ class Telling {
     const ties = new Map();
     for (const [port, byTree] of this.network.reasons) {
       for (const [tree, records] of Object.entries(byTree)) {
-        const tie = records.find(it => "root" in it && it.field === "bridge" && it.value.slice(0, 4) === it.over_value.slice(0, 4));
+        const tie = records.find(it => it.kind === "root" && it.field === "bridge" && it.value_id.slice(0, 4) === it.loser_id.slice(0, 4));
         if (tie && BLOCKING.has(this.network.role(Number(tree), port, null))) {
-          kept(ties, [this.network.named(tie.value), this.network.named(tie.over_value)].join(" "), () => new Set()).add(port);
+          kept(ties, comparedIn(tie).map(id => this.network.named(id)).join(" "), () => new Set()).add(port);
         }
       }
     }
@@ -299,7 +299,7 @@ class Telling {
   }
 
   notes() {
-    const told = this.network.notes.map(note => Object.entries(note).map(([key, value]) => `${key} ${value}`).join(" "));
+    const told = this.network.notes.map(({ kind, ...note }) => Object.entries(note).map(([key, value]) => `${key} ${value}`).join(" "));
     return told.length ? markup`<h3>Notes</h3>${told.map(text => markup`<div class="warning">${text}</div>`)}` : "";
   }
 
@@ -369,11 +369,17 @@ class Telling {
   }
 }
 
-/** The line of `explain` that a record was. */
+/** What is compared in a contest: the value of the winner and that of the loser, of a cost or of an identifier. */
+const comparedIn = ({ value, loser_value: loserValue, value_id: id, loser_id: loserId }) => [value ?? id, loserValue ?? loserId];
+
+/** The line of `explain` that a record stands for. */
 function printedReason(record) {
-  const { field, value, over_value: overValue, over } = record;
-  if (record.boundary) return `boundary ${record.role} designated ${record.designated}`;
-  const winner = "designated" in record ? `designated ${record.designated}` : "root" in record ? `root ${record.root}` : null;
-  if (winner) return record.alone ? `${winner} alone` : `${winner} over ${over} ${field} ${value} ${overValue}`;
-  return Object.entries(record).map(([key, told]) => (told === true ? key : `${key} ${told}`)).join(" ");
+  const { kind, winner, loser, field } = record, named = port => (port === null ? "own" : portText(port));
+  if (kind === "boundary") return `boundary ${record.role} designated ${portText(record.designated)}`;
+  if (kind === "off") return `off ${record.off_bridge}`;
+  if (kind === "down") return `down ${record.down_lan}`;
+  if (winner === undefined) return kind;
+  if (loser === undefined) return `${kind} ${named(winner)} alone`;
+  const compared = field === undefined ? [] : [field, ...comparedIn(record)];
+  return [kind, named(winner), "over", named(loser), ...compared].join(" ");
 }

@@ -1,5 +1,5 @@
-pub mod FrontLemmas
 pub mod MessageLemmas
 pub mod CompareLemmas
 pub mod TrimLemmas
+mod MappedRows
 pub mod ReadingLemmas

@@ -1,9 +1,13 @@
--- What is printed of a capture.
-use Rattle.std.specs.Prelude.{ℕ, Bool, true, false, not, ◌==◌, ◌||◌, List, [], ◌∷◌, ◌++◌, if◌then◌else◌, codes, decimal}
-use Rattle.std.specs.List.{flat_map}
+-- What is told of a capture: its rows.
+use Rattle.std.specs.Prelude.{ℕ, Bool, true, false, ◌==◌, List, [], ◌∷◌, map, if◌then◌else◌, codes}
+use Rattle.hex.specs.Hex.{encode_lower}
 use Rattle.mst_ids.specs.Texts.{bridge_id_text, port_id_text}
 use Rattle.mst_ids.specs.declared.name.PortName.{PortName}
-use Rattle.hex.specs.Hex.{encode_lower}
+use Rattle.mst_kinds.specs.declared.kind.Kind.TheVariants.{Capture}
+use Rattle.mst_kinds.specs.declared.capture_line.CaptureLine.{CaptureLine}
+use Rattle.mst_kinds.specs.declared.capture_line.CaptureLine.TheVariants as capture_line
+use Rattle.mst_rows.specs.Cells.{Cell, absent, word, number, port as port_cell}
+use Rattle.mst_rows.specs.Rows.{Row, row_of}
 use Rattle.mst_bpdu.specs.Faults.{fault_code, fault_text}
 use Rattle.mst_bpdu.specs.declared.fault.BpduFault.{BpduFault}
 use Rattle.mst_bpdu.specs.declared.difference.Difference.{Difference}
@@ -42,54 +46,54 @@ abbrev pub without_trailing_zeros : List ℕ → List ℕ
 without_trailing_zeros [] = []
 without_trailing_zeros (b ∷ bs) = before_trimmed b (without_trailing_zeros bs)
 
--- lower case digits, or `-` for no octets
-abbrev pub name_text : List ℕ → List ℕ
-name_text [] = codes "-"
-name_text (b ∷ bs) = encode_lower (b ∷ bs)
+-- octets as lower case digits, if there are some
+abbrev pub octets_cell : List ℕ → Cell
+octets_cell [] = absent
+octets_cell (b ∷ bs) = word (encode_lower (b ∷ bs))
 
-abbrev pub value_text : Value → List ℕ
-value_text values.Nil = []
-value_text (values.Number n) = decimal n
-value_text (values.Bridge b) = bridge_id_text b
-value_text (values.Port p) = port_id_text p
-value_text (values.Name name) = name_text (without_trailing_zeros name)
-value_text (values.Digest digest) = encode_lower digest
+abbrev pub value_cell : Value → Cell
+value_cell values.Nil = absent
+value_cell (values.Number n) = number n
+value_cell (values.Bridge b) = word (bridge_id_text b)
+value_cell (values.Port p) = word (port_id_text p)
+value_cell (values.Name name) = octets_cell (without_trailing_zeros name)
+value_cell (values.Digest digest) = octets_cell digest
 
--- ---- lines
--- an MSTI as a whole has no values
-abbrev pub has_no_values : Field → Bool
-has_no_values Unplanned = true
-has_no_values Repeated = true
-has_no_values Missing = true
-has_no_values _ = false
+-- ---- rows
+abbrev pub is_number : Value → Bool
+is_number (values.Number n) = true
+is_number _ = false
 
--- ` msti I`, but for the CIST
-unfoldable pub tree_part : Difference → List ℕ
-tree_part d = if has_no_values d.field || not (d.tree == 0) then codes " msti " ++ decimal d.tree else []
+-- the line of a number or of another value, in the CIST or in an MSTI
+abbrev pub line_in : ℕ → Bool → CaptureLine
+line_in tree of_number = if tree == 0 then (if of_number then capture_line.Number else capture_line.Text) else (if of_number then capture_line.MstiNumber else capture_line.MstiText)
 
--- ` plan X capture Y`
-unfoldable pub values_part : Difference → List ℕ
-values_part d = if has_no_values d.field then [] else codes " plan " ++ value_text d.plan ++ codes " capture " ++ value_text d.capture
+-- the row of a field with its values, and of an MSTI as a whole
+abbrev pub field_row : ℕ → PortName → Difference → Row
+field_row n port d =
+    row_of (Capture (line_in d.tree (is_number d.plan))) (number n ∷ port_cell port ∷ number d.tree ∷ word (field_name d.field) ∷ value_cell d.plan ∷ value_cell d.capture ∷ [])
 
--- ` FIELD` and the values, up to the end of the line
-unfoldable pub field_part : Difference → List ℕ
-field_part d = 32 ∷ field_name d.field ++ values_part d ++ 10 ∷ []
+abbrev pub whole_row : CaptureLine → ℕ → PortName → ℕ → Row
+whole_row line n port tree = row_of (Capture line) (number n ∷ port_cell port ∷ number tree ∷ [])
 
--- `capture N B:P`
-unfoldable pub front_part : ℕ → PortName → List ℕ
-front_part n port = codes "capture " ++ decimal n ++ 32 ∷ port.bridge ++ 58 ∷ decimal port.number
+abbrev pub row_by : Field → ℕ → PortName → Difference → Row
+row_by Unplanned n port d = whole_row capture_line.Unplanned n port d.tree
+row_by Repeated n port d = whole_row capture_line.Repeated n port d.tree
+row_by Missing n port d = whole_row capture_line.Missing n port d.tree
+row_by _ n port d = field_row n port d
 
--- `capture N B:P FIELD plan X capture Y` of the CIST, `capture N B:P msti I FIELD plan X capture Y` of an MSTI, or
--- `capture N B:P msti I unplanned`, `repeated` or `missing`
-unfoldable pub difference_line : ℕ → PortName → Difference → List ℕ
-difference_line n port d = front_part n port ++ tree_part d ++ field_part d
+abbrev pub difference_row : ℕ → PortName → Difference → Row
+difference_row n port d = row_by d.field n port d
 
 -- ---- a capture
--- what is printed of one that was compared: that it agrees, or each difference
-abbrev pub comparison_text : ℕ → PortName → List Difference → List ℕ
-comparison_text n port [] = front_part n port ++ codes " agrees" ++ 10 ∷ []
-comparison_text n port (d ∷ ds) = flat_map (difference_line n port) (d ∷ ds)
+abbrev pub agrees_row : ℕ → PortName → Row
+agrees_row n port = row_of (Capture capture_line.Agrees) (number n ∷ port_cell port ∷ [])
 
--- `capture N CODE TEXT`, of one that wasn't
-abbrev pub fault_line : ℕ → BpduFault → List ℕ
-fault_line n fault = codes "capture " ++ decimal n ++ 32 ∷ fault_code fault ++ 32 ∷ fault_text fault ++ 10 ∷ []
+-- one that was compared: that it agrees, or each difference
+abbrev pub comparison_rows : ℕ → PortName → List Difference → List Row
+comparison_rows n port [] = agrees_row n port ∷ []
+comparison_rows n port (d ∷ ds) = map (difference_row n port) (d ∷ ds)
+
+-- one that wasn't
+abbrev pub fault_row : ℕ → BpduFault → Row
+fault_row n fault = row_of (Capture capture_line.Unread) (number n ∷ word (fault_code fault) ∷ word (fault_text fault) ∷ [])

@@ -1,4 +1,4 @@
--- The text of changes is that of the trees, one after another.
+-- The rows of changes are those of the trees, one after another.
 use Rattle.std.proofs.Common.{◌≡◌}
 use Rattle.std.specs.List.{flat_map}
 use Rattle.mst_ids.specs.Names.{name_cmp, port_cmp}
@@ -7,11 +7,11 @@ use Rattle.mst_roles.specs.trees.Outcome.{Outcome}
 use Rattle.mst_changes.specs.declared.subject.Subject.{Subject}
 use Rattle.mst_changes.specs.Subjects.{all_trees, subjects_in, names_of_either, bridge_names, port_names}
 use Rattle.mst_changes.specs.Values.{value_at}
-use Rattle.mst_changes.specs.ChangesText.{change_text, changes_text}
+use Rattle.mst_changes.specs.ChangesText.{change_rows, all_changes}
 use Rattle.mst_changes.specs.TreeChanges.{tree_changes}
 use Rattle.mst_changes.proofs.Lists.{flat_map-flat_map}
 
-pub tree_by_tree : (a b : Net) (o p : Outcome) → changes_text a o b p ≡ flat_map (tree_changes a o b p) all_trees
+pub tree_by_tree : (a b : Net) (o p : Outcome) → all_changes a o b p ≡ flat_map (tree_changes a o b p) all_trees
 tree_by_tree a b o p =
-    flat_map-flat_map (λ (subject : Subject). change_text subject (value_at a o subject) (value_at b p subject))
+    flat_map-flat_map (λ (subject : Subject). change_rows subject (value_at a o subject) (value_at b p subject))
     (subjects_in (names_of_either name_cmp (bridge_names a) (bridge_names b)) (names_of_either port_cmp (port_names a) (port_names b))) all_trees

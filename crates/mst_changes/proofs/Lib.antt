@@ -8,5 +8,5 @@ pub mod InUse
 pub mod Gathered
 pub mod ByTree
 pub mod InTrees
-pub mod Lines
 pub mod NoPorts
+pub mod Counted

@@ -1,4 +1,4 @@
--- Two lists of entries, taken subject by subject, give the text of all subjects.
+-- Two lists of entries, taken subject by subject, give the rows of all subjects.
 use Rattle.std.proofs.Common.{◌≡◌, ℕ, suc, zero, ◌+◌, ◌<◌, ◌≤◌, List, [], ◌∷◌, ◌++◌, length, Option, Some, None, ◌⊎◌, inl, inr, refl, sym, ap, subst, ◌∙◌, arith, append_assoc, Less, Bool, true, false}
 use Rattle.std.specs.Prelude.{if◌then◌else◌}
 use Rattle.std.specs.List.{AllByRecursion, flat_map, cons_option}
@@ -11,7 +11,8 @@ use Rattle.mst_changes.specs.declared.subject.Entry.{Entry}
 use Rattle.mst_changes.specs.Subjects.{subject_of, subject_cmp}
 use Rattle.mst_changes.specs.Kept.{entry_at, entries_at}
 use Rattle.mst_changes.specs.Merging.{Rise, first_subject, value_first, entries_past}
-use Rattle.mst_changes.specs.ChangesText.{change_text}
+use Rattle.mst_changes.specs.ChangesText.{change_rows}
+use Rattle.mst_rows.specs.Rows.{Row}
 use Rattle.mst_changes.proofs.Orders.{turned, itself}
 
 abbrev Below : Subject → List Entry → Type 0
@@ -68,9 +69,9 @@ both_first : (n : Subject) (s t : VectorOrRole) (rs ss : List Entry) → first_s
 both_first n s t rs ss = ap (λ o. Some (if is_gt o then n else n)) (itself n)
 
 module _ (x y : Subject → Option VectorOrRole) where
-  -- the lines of subjects
-  abbrev pub texts : List Subject → List ℕ
-  texts = flat_map (λ subject. change_text subject (x subject) (y subject))
+  -- the rows of subjects
+  abbrev pub all_rows : List Subject → List Row
+  all_rows = flat_map (λ subject. change_rows subject (x subject) (y subject))
 
   -- both have nothing at the first subject, or it is the first of their entries
   starts : (n : Subject) (ns : List Subject) → Rise (n ∷ ns) → ((x n ≡ None) × (y n ≡ None)) ⊎ (first_subject (entries_at x (n ∷ ns)) (entries_at y (n ∷ ns)) ≡ Some n)
@@ -90,16 +91,16 @@ module _ (x y : Subject → Option VectorOrRole) where
     rises : Rise rest
     olds : entries_past n (entries_at x ns) ≡ entries_at x rest
     news : entries_past n (entries_at y ns) ≡ entries_at y rest
-    text : change_text n (value_first n (entries_at x ns)) (value_first n (entries_at y ns)) ++ texts rest ≡ texts ns
+    all : change_rows n (value_first n (entries_at x ns)) (value_first n (entries_at y ns)) ++ all_rows rest ≡ all_rows ns
 
   here : (n : Subject) (ns : List Subject) → Rise (n ∷ ns) → Past (n ∷ ns) n
   here n ns h =
       let a = at_first x n ns h.0 in
       let b = at_first y n ns h.0 in
-      record { rest = ns; rises = h.1; olds = a.1; news = b.1; text = λ i. change_text n (a.0 i) (b.0 i) ++ texts ns }
+      record { rest = ns; rises = h.1; olds = a.1; news = b.1; all = λ i. change_rows n (a.0 i) (b.0 i) ++ all_rows ns }
 
-  nothing : (n : Subject) (ns : List Subject) → x n ≡ None → y n ≡ None → texts (n ∷ ns) ≡ texts ns
-  nothing n ns e f = λ i. change_text n (e i) (f i) ++ texts ns
+  nothing : (n : Subject) (ns : List Subject) → x n ≡ None → y n ≡ None → all_rows (n ∷ ns) ≡ all_rows ns
+  nothing n ns e f = λ i. change_rows n (e i) (f i) ++ all_rows ns
 
   past : (ns : List Subject) → Rise ns → (n : Subject) → first_subject (entries_at x ns) (entries_at y ns) ≡ Some n → Past ns n
   past [] h n e = absurd (no_some n e)
@@ -117,31 +118,31 @@ module _ (x y : Subject → Option VectorOrRole) where
             rises = p.rises;
             olds = ap (entries_past n) a ∙ p.olds;
             news = ap (entries_past n) b ∙ p.news;
-            text = (λ i. change_text n (value_first n (a i)) (value_first n (b i)) ++ texts p.rest) ∙ p.text ∙ sym (nothing m ms none.0 none.1);
+            all = (λ i. change_rows n (value_first n (a i)) (value_first n (b i)) ++ all_rows p.rest) ∙ p.all ∙ sym (nothing m ms none.0 none.1);
           }
 
-  ended : (ns : List Subject) → Rise ns → first_subject (entries_at x ns) (entries_at y ns) ≡ None → texts ns ≡ []
+  ended : (ns : List Subject) → Rise ns → first_subject (entries_at x ns) (entries_at y ns) ≡ None → all_rows ns ≡ []
   ended [] h e = refl
   ended (m ∷ ms) h e = go (starts m ms h) (ended ms h.1)
     where
       go : ((x m ≡ None) × (y m ≡ None)) ⊎ (first_subject (entries_at x (m ∷ ms)) (entries_at y (m ∷ ms)) ≡ Some m)
-          → (first_subject (entries_at x ms) (entries_at y ms) ≡ None → texts ms ≡ []) → texts (m ∷ ms) ≡ []
+          → (first_subject (entries_at x ms) (entries_at y ms) ≡ None → all_rows ms ≡ []) → all_rows (m ∷ ms) ≡ []
       go (inr first) later = absurd (no_some m (sym e ∙ first))
       go (inl none) later = nothing m ms none.0 none.1 ∙ later ((λ i. first_subject (sym (passed_over x m ms none.0) i) (sym (passed_over y m ms none.1) i)) ∙ e)
 
-  -- the entries of the subjects that are left, whose lines are still to be appended
-  pub record Left (subjects : List Subject) (before : List ℕ) (olds news : List Entry) (now : List ℕ) : Type 0 where
+  -- the entries of the subjects that are left, whose rows are still to be put
+  pub record Left (subjects : List Subject) (before : List Row) (olds news : List Entry) (now : List Row) : Type 0 where
     pub left : List Subject
     pub rises : Rise left
     pub olds_are : olds ≡ entries_at x left
     pub news_are : news ≡ entries_at y left
-    pub text : now ++ texts left ≡ before ++ texts subjects
+    pub all : now ++ all_rows left ≡ before ++ all_rows subjects
 
-  pub at_start : (subjects : List Subject) (before : List ℕ) (olds news : List Entry) → Rise subjects → olds ≡ entries_at x subjects → news ≡ entries_at y subjects → Left subjects before olds news before
-  at_start subjects before olds news h e f = record { left = subjects; rises = h; olds_are = e; news_are = f; text = refl }
+  pub at_start : (subjects : List Subject) (before : List Row) (olds news : List Entry) → Rise subjects → olds ≡ entries_at x subjects → news ≡ entries_at y subjects → Left subjects before olds news before
+  at_start subjects before olds news h e f = record { left = subjects; rises = h; olds_are = e; news_are = f; all = refl }
 
-  pub one_more : (subjects : List Subject) (before : List ℕ) (olds news : List Entry) (now : List ℕ) (n : Subject) → Left subjects before olds news now → first_subject olds news ≡ Some n
-      → Left subjects before (entries_past n olds) (entries_past n news) (now ++ change_text n (value_first n olds) (value_first n news))
+  pub one_more : (subjects : List Subject) (before : List Row) (olds news : List Entry) (now : List Row) (n : Subject) → Left subjects before olds news now → first_subject olds news ≡ Some n
+      → Left subjects before (entries_past n olds) (entries_past n news) (now ++ change_rows n (value_first n olds) (value_first n news))
   one_more subjects before olds news now n l e =
       let p = past l.left l.rises n ((λ i. first_subject (sym l.olds_are i) (sym l.news_are i)) ∙ e) in
       record {
@@ -149,15 +150,15 @@ module _ (x y : Subject → Option VectorOrRole) where
         rises = p.rises;
         olds_are = ap (entries_past n) l.olds_are ∙ p.olds;
         news_are = ap (entries_past n) l.news_are ∙ p.news;
-        text = append_assoc now (change_text n (value_first n olds) (value_first n news)) (texts p.rest)
-            ∙ (λ i. now ++ (change_text n (value_first n (l.olds_are i)) (value_first n (l.news_are i)) ++ texts p.rest)) ∙ ap (λ t. now ++ t) p.text ∙ l.text;
+        all = append_assoc now (change_rows n (value_first n olds) (value_first n news)) (all_rows p.rest)
+            ∙ (λ i. now ++ (change_rows n (value_first n (l.olds_are i)) (value_first n (l.news_are i)) ++ all_rows p.rest)) ∙ ap (λ t. now ++ t) p.all ∙ l.all;
       }
 
-  pub at_end : (subjects : List Subject) (before : List ℕ) (olds news : List Entry) (now : List ℕ) → Left subjects before olds news now → first_subject olds news ≡ None → now ≡ before ++ texts subjects
+  pub at_end : (subjects : List Subject) (before : List Row) (olds news : List Entry) (now : List Row) → Left subjects before olds news now → first_subject olds news ≡ None → now ≡ before ++ all_rows subjects
   at_end subjects before olds news now l e =
-      simp_nil now ∙ ap (λ t. now ++ t) (sym (ended l.left l.rises ((λ i. first_subject (sym l.olds_are i) (sym l.news_are i)) ∙ e))) ∙ l.text
+      simp_nil now ∙ ap (λ t. now ++ t) (sym (ended l.left l.rises ((λ i. first_subject (sym l.olds_are i) (sym l.news_are i)) ∙ e))) ∙ l.all
     where
-      simp_nil : (xs : List ℕ) → xs ≡ xs ++ []
+      simp_nil : (xs : List Row) → xs ≡ xs ++ []
       simp_nil [] = refl
       simp_nil (z ∷ xs) = ap (λ l. z ∷ l) (simp_nil xs)
 
@@ -187,10 +188,10 @@ shorter n (r ∷ rs) (s ∷ ss) e = go (is_gt (subject_cmp (subject_of r) (subje
         subst (λ m. length (entries_past m (r ∷ rs)) + length (entries_past m (s ∷ ss)) < length (r ∷ rs) + length (s ∷ ss)) (some_is (subject_of r) n f)
         (let h = one_fewer r rs in let k = fewer (subject_of r) (s ∷ ss) in omega arith)
 
--- equal entries give equal texts
+-- equal entries give equal rows
 module _ (x y u v : Subject → Option VectorOrRole) where
   abbrev Same : ℕ → Type 0
-  Same k = (ns ms : List Subject) → Rise ns → Rise ms → entries_at x ns ≡ entries_at u ms → entries_at y ns ≡ entries_at v ms → length (entries_at x ns) + length (entries_at y ns) < k → texts x y ns ≡ texts u v ms
+  Same k = (ns ms : List Subject) → Rise ns → Rise ms → entries_at x ns ≡ entries_at u ms → entries_at y ns ≡ entries_at v ms → length (entries_at x ns) + length (entries_at y ns) < k → all_rows x y ns ≡ all_rows u v ms
 
   same_step : (k : ℕ) → Same k → Same (suc k)
   same_step k same ns ms h j e f few = go (first_subject (entries_at x ns) (entries_at y ns)) refl
@@ -198,7 +199,7 @@ module _ (x y u v : Subject → Option VectorOrRole) where
       there : first_subject (entries_at x ns) (entries_at y ns) ≡ first_subject (entries_at u ms) (entries_at v ms)
       there = λ i. first_subject (e i) (f i)
 
-      go : (o : Option Subject) → first_subject (entries_at x ns) (entries_at y ns) ≡ o → texts x y ns ≡ texts u v ms
+      go : (o : Option Subject) → first_subject (entries_at x ns) (entries_at y ns) ≡ o → all_rows x y ns ≡ all_rows u v ms
       go None first = ended x y ns h first ∙ sym (ended u v ms j (sym there ∙ first))
       go (Some n) first =
           let a = past x y ns h n first in
@@ -208,12 +209,12 @@ module _ (x y u v : Subject → Option VectorOrRole) where
           let less = shorter n (entries_at x ns) (entries_at y ns) first in
           let left : length (entries_at x a.rest) + length (entries_at y a.rest) < length (entries_at x ns) + length (entries_at y ns) =
           subst (λ (p : List Entry × List Entry). length p.0 + length p.1 < length (entries_at x ns) + length (entries_at y ns)) (λ i. (a.olds i, a.news i)) less in
-          let rest : texts x y a.rest ≡ texts u v b.rest = same a.rest b.rest a.rises b.rises olds news (omega (arith, left, few)) in
-          sym a.text ∙ (λ i. change_text n (value_first n (e i)) (value_first n (f i)) ++ rest i) ∙ b.text
+          let rest : all_rows x y a.rest ≡ all_rows u v b.rest = same a.rest b.rest a.rises b.rises olds news (omega (arith, left, few)) in
+          sym a.all ∙ (λ i. change_rows n (value_first n (e i)) (value_first n (f i)) ++ rest i) ∙ b.all
 
   same_within : (k : ℕ) → Same k
   same_within zero ns ms h j e f few = absurd (omega (arith, few))
   same_within (suc k) ns ms h j e f few = same_step k (same_within k) ns ms h j e f few
 
-  pub same_texts : (ns ms : List Subject) → Rise ns → Rise ms → entries_at x ns ≡ entries_at u ms → entries_at y ns ≡ entries_at v ms → texts x y ns ≡ texts u v ms
-  same_texts ns ms h j e f = same_within (suc (length (entries_at x ns) + length (entries_at y ns))) ns ms h j e f (omega arith)
+  pub same_rows : (ns ms : List Subject) → Rise ns → Rise ms → entries_at x ns ≡ entries_at u ms → entries_at y ns ≡ entries_at v ms → all_rows x y ns ≡ all_rows u v ms
+  same_rows ns ms h j e f = same_within (suc (length (entries_at x ns) + length (entries_at y ns))) ns ms h j e f (omega arith)

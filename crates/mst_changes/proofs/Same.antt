@@ -11,7 +11,7 @@ use Rattle.mst_changes.specs.declared.value.VectorOrRole.{VectorOrRole}
 use Rattle.mst_changes.specs.declared.value.VectorOrRole.TheVariants.{InCist, InMsti, HasRole}
 use Rattle.mst_changes.specs.Subjects.{subjects_of_either}
 use Rattle.mst_changes.specs.Values.{value_at, same_cist, same_msti, role_number, same_value, same_side}
-use Rattle.mst_changes.specs.ChangesText.{change_line, change_text, changes_text}
+use Rattle.mst_changes.specs.ChangesText.{item_row, change_rows, all_changes}
 
 own : (n : ℕ) → (n == n) ≡ true
 own n = eq-eqb n n refl
@@ -31,9 +31,9 @@ own_side : (s : Option VectorOrRole) → same_side s s ≡ true
 own_side None = refl
 own_side (Some s) = own_value s
 
-pub none_at : (x : Subject → Option VectorOrRole) (subjects : List Subject) → flat_map (λ subject. change_text subject (x subject) (x subject)) subjects ≡ []
+pub none_at : (x : Subject → Option VectorOrRole) (subjects : List Subject) → flat_map (λ subject. change_rows subject (x subject) (x subject)) subjects ≡ []
 none_at x [] = refl
-none_at x (subject ∷ subjects) = ap (λ (b : Bool). (if b then [] else change_line subject (x subject) (x subject)) ++ flat_map (λ q. change_text q (x q) (x q)) subjects) (own_side (x subject)) ∙ none_at x subjects
+none_at x (subject ∷ subjects) = ap (λ (b : Bool). (if b then [] else item_row subject.tree subject.item (x subject) (x subject) ∷ []) ++ flat_map (λ q. change_rows q (x q) (x q)) subjects) (own_side (x subject)) ∙ none_at x subjects
 
-pub no_lines : (net : Net) (o : Outcome) → changes_text net o net o ≡ []
-no_lines net o = none_at (value_at net o) (subjects_of_either net net)
+pub no_rows : (net : Net) (o : Outcome) → all_changes net o net o ≡ []
+no_rows net o = none_at (value_at net o) (subjects_of_either net net)

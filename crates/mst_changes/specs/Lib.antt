@@ -5,5 +5,6 @@ pub mod Kept
 pub mod Seen
 pub mod Merging
 pub mod ChangesText
+pub mod Told
 pub mod PortChanges
 pub mod TreeChanges

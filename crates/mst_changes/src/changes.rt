@@ -1,57 +1,59 @@
-ghost use Rattle.std.specs.Prelude.{◌≡◌, ◌<◌, ◌++◌, OnOk};
+ghost use Rattle.std.specs.Prelude.{◌≡◌, ◌<◌, ◌++◌, List, OnOk};
+ghost use Rattle.mst_rows.specs.Rows.{Row};
 ghost use Rattle.mst_roles.specs.net.Tables.{Net};
 ghost use Rattle.mst_roles.specs.trees.InUse.{AreInUse};
 ghost use Rattle.mst_roles.specs.trees.Outcome.{Outcome};
 ghost use Rattle.mst_roles.specs.trees.Settled.{outcome_of};
 ghost use Rattle.mst_changes.specs.Kept.{AreEntries};
-ghost use Rattle.mst_changes.specs.ChangesText.{changes_text};
+ghost use Rattle.mst_changes.specs.ChangesText.{all_changes};
 ghost use Rattle.mst_changes.specs.TreeChanges.{tree_changes};
 
 use crate::entries::Entries;
-use crate::merge::push_merged;
+use crate::merge::put_merged;
 use crate::rows::push_tree;
 use mst_ids::Tree;
 use mst_roles::{Settled, trees_in_use};
+use mst_rows::Rows;
 use std::alloc::{AllocError, Global};
 
-/// Appends the lines of what has changed in one tree. It takes memory for the entries of that tree alone.
-fn push_tree_changes(
+/// Puts the rows of what has changed in one tree. It takes memory for the entries of that tree alone.
+fn put_tree_changes<R: Rows>(
     alloc: Global,
     old: &Entries,
     new: &Settled,
     used: &[bool; 4095],
     tree: Tree,
-    out: &mut Vec<u8>,
+    out: &mut R,
 ) -> Result<(), AllocError>
     requires used { AreInUse new.now.view used.now }
     requires tree { tree < 4095 }
-    ensures { OnOk result ((a : Net) (o : Outcome) → AreEntries a o old.now → out.new.items ≡ out.old.items ++ tree_changes a o new.now.net (outcome_of new.now) tree) }
+    ensures { (a : Net) (o : Outcome) → AreEntries a o old.now → (first : R) (rows : List Row) → R.grew first out.old rows → OnOk result (R.grew first out.new (rows ++ tree_changes a o new.now.net (outcome_of new.now) tree)) }
 {
     let mut olds = Vec::new(alloc);
     old.push_tree(tree, &mut olds)?;
     let mut news = Vec::new(alloc);
     push_tree(new, used, tree, &mut news)?;
-    push_merged(olds.as_slice(), news.as_slice(), out)
+    put_merged(olds.as_slice(), news.as_slice(), out)?;
+    Ok(())
 }
 
-/// Appends the text of what has changed from one network's outcome, by what is kept of it, to that of a settled network.
-/// Of equal outcomes it is empty. `AllocError`: memory was wanted and refused; part of the text may have been
-/// appended.
+/// Puts the rows of what has changed from one network's outcome, by what is kept of it, to that of a settled network.
+/// Of equal outcomes there are none. `AllocError`: memory was wanted and refused; some of the rows may have been put.
 ///
 /// For each tree that some bridge has it goes once over what is kept of it and once over the bridges and the logical
 /// ports, and it takes memory for the entries of one tree at a time.
-pub fn push_changes(
+pub fn put_changes<R: Rows>(
     alloc: Global,
     old: &Entries,
     new: &Settled,
-    out: &mut Vec<u8>,
+    out: &mut R,
 ) -> Result<(), AllocError>
-    ensures { OnOk result ((a : Net) (o : Outcome) → AreEntries a o old.now → out.new.items ≡ out.old.items ++ changes_text a o new.now.net (outcome_of new.now)) }
+    ensures { (a : Net) (o : Outcome) → AreEntries a o old.now → (first : R) (rows : List Row) → R.grew first out.old rows → OnOk result (R.grew first out.new (rows ++ all_changes a o new.now.net (outcome_of new.now))) }
 {
     let used = trees_in_use(new.view());
     for number in 0..4095 {
         if let Some(tree) = Tree::new(number) {
-            push_tree_changes(alloc, old, new, &used, tree, out)?;
+            put_tree_changes(alloc, old, new, &used, tree, out)?;
         }
     }
     Ok(())

@@ -1,26 +1,26 @@
-//! Laws of the text. Their functions do nothing: a caller has their clauses.
+//! Laws of the rows of changes. Their functions do nothing: a caller has their clauses.
 ghost use Rattle.std.specs.Prelude.{◌≡◌, []};
 ghost use Rattle.mst_roles.specs.net.Tables.{Net, IsNetwork};
 ghost use Rattle.mst_roles.specs.trees.Outcome.{Outcome, IsOutcome};
-ghost use Rattle.mst_changes.specs.ChangesText.{changes_text};
+ghost use Rattle.mst_changes.specs.ChangesText.{all_changes};
 ghost use Rattle.mst_changes.specs.Kept.{entries_of};
 
 use mst_roles::trees_laws::one_outcome;
 
-/// Two networks have one text, whichever settled outcomes it is made by.
-pub fn one_text()
+/// Two networks have one list of rows, whichever settled outcomes they are made by.
+pub fn one_list()
     ensures { (a b : Net) (o p q r : Outcome) → IsNetwork a → IsNetwork b → IsOutcome a o → IsOutcome a q → IsOutcome b p → IsOutcome b r
-        → changes_text a o b p ≡ changes_text a q b r }
+        → all_changes a o b p ≡ all_changes a q b r }
 {
     one_outcome();
 }
 
-/// What is kept of two networks settles the text: networks of equal entries have the same text.
+/// What is kept of two networks settles the rows: networks of equal entries have the same ones.
 pub fn entries_tell()
-    ensures { (a b c d : Net) (o p q r : Outcome) → entries_of a o ≡ entries_of c q → entries_of b p ≡ entries_of d r → changes_text a o b p ≡ changes_text c q d r }
+    ensures { (a b c d : Net) (o p q r : Outcome) → entries_of a o ≡ entries_of c q → entries_of b p ≡ entries_of d r → all_changes a o b p ≡ all_changes c q d r }
 {}
 
-/// The text of a network against itself is empty.
+/// A network has none against itself.
 pub fn no_change()
-    ensures { (a : Net) (o : Outcome) → changes_text a o a o ≡ [] }
+    ensures { (a : Net) (o : Outcome) → all_changes a o a o ≡ [] }
 {}

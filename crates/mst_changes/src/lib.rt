@@ -1,9 +1,10 @@
-//! What a mark keeps of a network's outcome, and the text of what has changed since.
+//! What a mark keeps of a network's outcome, and the rows of what has changed since.
 //!
 //! `Entries` keeps the root priority vectors of bridges and the roles of logical ports by names, so that it needs
-//! neither the view nor the forest afterwards. `push_changes` goes over it and a network's outcome, tree by tree.
+//! neither the view nor the forest afterwards. `put_changes` goes over it and a network's outcome, tree by tree.
 #![tactic(auto)]
 
+mod change;
 mod changes;
 mod entries;
 mod kept;
@@ -12,10 +13,9 @@ mod merge;
 mod ports;
 mod rows;
 mod subject;
-mod text;
 mod value;
 
-pub use changes::push_changes;
+pub use changes::put_changes;
 pub use entries::Entries;
-pub use ports::{Planned, push_port_changes};
+pub use ports::{Planned, put_port_changes};
 pub use subject::Entry;

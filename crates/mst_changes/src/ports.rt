@@ -1,12 +1,14 @@
-ghost use Rattle.std.specs.Prelude.{◌≡◌, ◌++◌, OnOk};
+ghost use Rattle.std.specs.Prelude.{◌≡◌, ◌++◌, List, IfOk};
+ghost use Rattle.mst_rows.specs.Rows.{Row};
 ghost use Rattle.mst_roles.specs.trees.Settled.{outcome_of};
-ghost use Rattle.mst_changes.specs.PortChanges.{port_changes};
+ghost use Rattle.mst_changes.specs.PortChanges.{counted, port_change_rows};
 
-use crate::merge::push_merged;
+use crate::merge::put_merged;
 use crate::rows::push_ports;
 use mst_ids::Tree;
 use mst_lag::View;
 use mst_roles::{Forest, Settled};
+use mst_rows::Rows;
 use std::alloc::{AllocError, Global};
 
 /// A network's view and its settled trees.
@@ -16,19 +18,20 @@ pub struct Planned<'a> {
     pub forest: &'a Forest,
 }
 
-/// Appends the lines of the logical ports of either of two settled networks whose roles in a tree differ, by bridge and
-/// number: those that the text of changes has of ports in that tree. `AllocError`: memory was wanted and refused; part of
-/// them may have been appended.
+/// Puts the rows of the logical ports of either of two settled networks whose roles in a tree differ, by bridge and
+/// number: those that the changes have of ports in that tree. It answers how many they are, to the greatest number of 64
+/// bits. `AllocError`: memory was wanted and refused; some of them may have been put.
 ///
 /// It goes once over the logical ports of both.
-pub fn push_port_changes(
+pub fn put_port_changes<R: Rows>(
     alloc: Global,
     old: &Settled,
     new: &Settled,
     tree: Tree,
-    out: &mut Vec<u8>,
-) -> Result<(), AllocError>
-    ensures { OnOk result (out.new.items ≡ out.old.items ++ port_changes old.now.net (outcome_of old.now) new.now.net (outcome_of new.now) tree) }
+    out: &mut R,
+) -> Result<u64, AllocError>
+    ensures { (first : R) (rows : List Row) → R.grew first out.old rows
+        → let own = port_change_rows old.now.net (outcome_of old.now) new.now.net (outcome_of new.now) tree in IfOk result (λ count. (count ≡ counted own) × R.grew first out.new (rows ++ own)) }
 {
     old.known();
     new.known();
@@ -36,5 +39,5 @@ pub fn push_port_changes(
     push_ports(old.view(), old.forest(), tree, &mut olds)?;
     let mut news = Vec::new(alloc);
     push_ports(new.view(), new.forest(), tree, &mut news)?;
-    push_merged(olds.as_slice(), news.as_slice(), out)
+    put_merged(olds.as_slice(), news.as_slice(), out)
 }

@@ -2,8 +2,8 @@
 //! has for that port.
 //!
 //! [`read_line`] reads a BPDU, [`sender`] tells the logical port that it comes from, [`compare`] lists its
-//! differences, and [`push_comparison`] and [`push_fault`] append the lines that tell of them. [`compare_with`] keeps the
-//! [`Digests`] of tables for the next BPDU.
+//! differences, and [`put_comparison`] and [`put_fault`] put the rows that tell of them. [`compare_with`] keeps the [`Digests`] of
+//! tables for the next BPDU.
 #![tactic(auto)]
 
 mod differing;
@@ -15,10 +15,10 @@ mod senders;
 pub use differing::{compare, compare_with};
 pub use digests::Digests;
 pub use mst_bpdu::{
-    Bpdu, BpduFault, Difference, Field, Value, push_comparison, push_fault, read_line,
+    Bpdu, BpduFault, Difference, Field, Value, put_comparison, put_fault, read_line,
 };
 pub use mst_report::{
-    Difference as NetworkDifference, Differing, Forest, Planner, Settled, Sweep, SweepPart,
-    Unexplained, asks_plan, forwards, laws as report_laws, trees_laws,
+    Differing, Forest, Planner, Settled, SweepPart, Unexplained, asks_plan, forwards,
+    laws as report_laws, trees_laws,
 };
 pub use senders::sender;

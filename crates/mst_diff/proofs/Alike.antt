@@ -1,11 +1,10 @@
 -- A network does not differ from itself.
-use Rattle.std.proofs.Common.{◌≡◌, ℕ, ◌==◌, ◌&&◌, ◌||◌, Bool, true, false, cond, not, List, [], ◌∷◌, ◌++◌, map, length, Option, Some, None, refl, sym, ap, subst, ◌∙◌, append_assoc, fold, eq-eqb, codes, decimal}
+use Rattle.std.proofs.Common.{◌≡◌, ℕ, ◌==◌, ◌&&◌, ◌||◌, Bool, true, false, cond, not, List, [], ◌∷◌, ◌++◌, map, length, Option, Some, None, refl, sym, ap, subst, ◌∙◌, append_assoc, fold, eq-eqb}
 use Rattle.std.specs.Prelude.{if◌then◌else◌}
 use Rattle.std.specs.Cmp.Lexicographic.{bytes_decides}
 use Rattle.std.specs.List.{AllByRecursion, Contains, filter, filter_map, flat_map, list_any, count_by}
 use Rattle.std.specs.Option.{option_map_or}
 use Rattle.std.specs.FinMap as fin
-use Rattle.mst_ids.specs.Words.{after_space, line, listed}
 use Rattle.std.proofs.lemmas.List.Sums.{length-filter}
 use Rattle.mst_net.specs.Tables.{Net, BridgeRow}
 use Rattle.mst_lag.specs.Aggregation.{same_name}
@@ -17,26 +16,28 @@ use Rattle.mst_graph.proofs.Members.{here, in_whole, filter_none}
 use Rattle.mst_plan_text.specs.PlanText.{all_vids}
 use Rattle.mst_plan_text.proofs.OnePlan.{is_vid_there}
 use Rattle.mst_changes.specs.Subjects.{all_trees, bridge_names, port_in, port_names, names_of_either}
-use Rattle.mst_changes.specs.PortChanges.{port_changes}
+use Rattle.mst_changes.specs.PortChanges.{counted, port_change_rows}
 use Rattle.mst_changes.specs.Values.{value_at}
 use Rattle.mst_changes.proofs.Same.{none_at}
 use Rattle.mst_ids.specs.Names.{port_cmp}
 use Rattle.mst_net.proofs.Keys.{names}
+use Rattle.mst_rows.specs.Rows.{Row}
 use Rattle.mst_diff.specs.declared.roots.RootPair.{RootPair}
-use Rattle.mst_diff.specs.Regions.{same_told, region_line, region_text, region_change, region_changes}
-use Rattle.mst_diff.specs.Roots.{root_name, paired, root_pair, same_pair, root_line, with_new, each_once, tree_roots, root_changes}
-use Rattle.mst_diff.specs.Ports.{ports_text}
+use Rattle.mst_diff.specs.Regions.{same_told, region_row, region_unless, region_change, region_changes}
+use Rattle.mst_diff.specs.Roots.{root_name, paired, root_pair, same_pair, root_row, root_unless, with_new, each_once, tree_roots, root_changes}
+use Rattle.mst_diff.specs.Ports.{port_rows}
 use Rattle.mst_diff.specs.declared.diff.Differing.{Differing}
-use Rattle.mst_diff.specs.Reach.{has_any, island_words, without, sides_text, reach_line, group_text}
-use Rattle.mst_diff.specs.DiffText.{lines_in, diff_line, IsDiff}
+use Rattle.mst_diff.specs.Reach.{island_bridges, same_names, without, sides_of, differ, reach_unless, group_rows}
+use Rattle.mst_diff.specs.DiffText.{diff_row, AreDiffRowsOf}
 use Rattle.mst_diff.proofs.OneDiff.{OneList}
 use Rattle.mst_diff.proofs.Lists.{flat_map-none}
+use Rattle.mst_diff.proofs.SameSides.{names_decide}
 
 name_itself : (name : List ℕ) → same_name name name ≡ true
 name_itself name = (bytes_decides name name).1 refl
 
 -- nothing is made of each
-pub each_none : {A : Type 0} (f : A → List ℕ) (xs : List A) → AllByRecursion (λ x. f x ≡ []) xs → flat_map f xs ≡ []
+pub each_none : {A B : Type 0} (f : A → List B) (xs : List A) → AllByRecursion (λ x. f x ≡ []) xs → flat_map f xs ≡ []
 each_none f [] h = refl
 each_none f (x ∷ xs) h = ap (λ l. l ++ flat_map f xs) h.0 ∙ each_none f xs h.1
 
@@ -48,14 +49,14 @@ told_itself row = go row.is_rstp
     go true = refl
     go false = λ i. name_itself row.conf_name i && eq-eqb row.revision row.revision refl i
 
-text_none : (name : List ℕ) (row : BridgeRow) (first : List ℕ) → region_text name row first row first ≡ []
-text_none name row first = λ i. if told_itself row i && name_itself first i then [] else region_line name row first row first
+unless_none : (name : List ℕ) (row : BridgeRow) (first : List ℕ) → region_unless name row first row first ≡ []
+unless_none name row first = λ i. if told_itself row i && name_itself first i then [] else region_row name row first row first ∷ []
 
 pub no_regions : (a : Net) → region_changes a a ≡ []
 no_regions a =
     each_none (region_change a a) (fin.entries a.bridges)
     (all_weaker _ _ (λ (e : List ℕ × BridgeRow) found.
-    ap (λ r. option_map_or (λ row. region_text e.0 e.1 (first_of_region a e.0) row (first_of_region a e.0)) r []) found ∙ text_none e.0 e.1 (first_of_region a e.0))
+    ap (λ r. option_map_or (λ row. region_unless e.0 e.1 (first_of_region a e.0) row (first_of_region a e.0)) r []) found ∙ unless_none e.0 e.1 (first_of_region a e.0))
     (fin.entries a.bridges) (entries_found names.total a.bridges))
 
 -- ---- roots
@@ -85,9 +86,9 @@ pairs a o tree = filter_map (root_pair a o a o tree) (bridge_names a)
 
 no_tree_roots : (a : Net) (o : Outcome) (tree : ℕ) → tree_roots a o a o tree ≡ []
 no_tree_roots a o tree =
-    each_none (root_line tree) (each_once same_pair (pairs a o tree))
+    each_none (root_unless tree) (each_once same_pair (pairs a o tree))
     (all_weaker (λ (p : RootPair). p.old ≡ p.new) _
-    (λ p e. ap (λ (b : Bool). if b then [] else line (codes "root" ∷ decimal tree ∷ p.old ∷ codes "->" ∷ p.new ∷ [])) ((bytes_decides p.old p.new).1 e)) (each_once same_pair (pairs a o tree))
+    (λ p e. ap (λ (b : Bool). if b then [] else root_row tree p ∷ []) ((bytes_decides p.old p.new).1 e)) (each_once same_pair (pairs a o tree))
     (once_all (λ (p : RootPair). p.old ≡ p.new) same_pair (pairs a o tree) [] tt
     (all_kept (λ _. Unit {0}) (λ (p : RootPair). p.old ≡ p.new) (root_pair a o a o tree) (λ name pair _ e. pair_itself (root_name a o tree name) pair e) (bridge_names a) (any_name (bridge_names a)))))
 
@@ -95,57 +96,57 @@ pub no_roots : (a : Net) (o : Outcome) → root_changes a o a o ≡ []
 no_roots a o = flat_map-none (tree_roots a o a o) (no_tree_roots a o) all_trees
 
 -- ---- ports
-pub no_ports : (a : Net) (o : Outcome) → ports_text a o a o ≡ []
-no_ports a o = flat_map-none (port_changes a o a o) (λ tree. none_at (value_at a o) (map (port_in tree) (names_of_either port_cmp (port_names a) (port_names a)))) all_trees
+pub no_ports : (a : Net) (o : Outcome) → port_rows a o a o ≡ []
+no_ports a o = flat_map-none (port_change_rows a o a o) (λ tree. none_at (value_at a o) (map (port_in tree) (names_of_either port_cmp (port_names a) (port_names a)))) all_trees
 
 -- ---- islands
-any_here : (word : List ℕ) (xs ys : List (List ℕ)) → list_any (λ y. same_name y word) (xs ++ word ∷ ys) ≡ true
-any_here word [] ys = ap (λ b. b || list_any (λ y. same_name y word) ys) (name_itself word)
-any_here word (x ∷ xs) ys = ap (λ b. same_name x word || b) (any_here word xs ys) ∙ last (same_name x word)
+any_here : (word : List (List ℕ)) (xs ys : List (List (List ℕ))) → list_any (λ y. same_names y word) (xs ++ word ∷ ys) ≡ true
+any_here word [] ys = ap (λ b. b || list_any (λ y. same_names y word) ys) ((names_decide word word).1 refl)
+any_here word (x ∷ xs) ys = ap (λ b. same_names x word || b) (any_here word xs ys) ∙ last (same_names x word)
   where
     last : (b : Bool) → (b || true) ≡ true
     last true = refl
     last false = refl
 
--- words that are all among others
-pub none_apart : (xs ys : List (List ℕ)) → AllByRecursion (λ x. list_any (λ y. same_name y x) ys ≡ true) xs → without xs ys ≡ []
+-- islands that are all among others
+pub none_apart : (xs ys : List (List (List ℕ))) → AllByRecursion (λ x. list_any (λ y. same_names y x) ys ≡ true) xs → without xs ys ≡ []
 none_apart [] ys h = refl
 none_apart (x ∷ xs) ys h =
-    ap (λ b. cond (not b) (x ∷ filter (λ x. not (list_any (λ y. same_name y x) ys)) xs) (filter (λ x. not (list_any (λ y. same_name y x) ys)) xs)) h.0 ∙ none_apart xs ys h.1
+    ap (λ b. cond (not b) (x ∷ filter (λ x. not (list_any (λ y. same_names y x) ys)) xs) (filter (λ x. not (list_any (λ y. same_names y x) ys)) xs)) h.0 ∙ none_apart xs ys h.1
 
-all_among : (xs ys : List (List ℕ)) → AllByRecursion (λ x. list_any (λ y. same_name y x) (xs ++ ys) ≡ true) ys
+all_among : (xs ys : List (List (List ℕ))) → AllByRecursion (λ x. list_any (λ y. same_names y x) (xs ++ ys) ≡ true) ys
 all_among xs [] = tt
-all_among xs (y ∷ ys) = (any_here y xs ys, subst (λ all. AllByRecursion (λ x. list_any (λ y. same_name y x) all ≡ true) ys) (append_assoc xs (y ∷ []) ys) (all_among (xs ++ y ∷ []) ys))
+all_among xs (y ∷ ys) = (any_here y xs ys, subst (λ all. AllByRecursion (λ x. list_any (λ y. same_names y x) all ≡ true) ys) (append_assoc xs (y ∷ []) ys) (all_among (xs ++ y ∷ []) ys))
 
-pub no_sides : (words : List (List ℕ)) → sides_text words words ≡ []
-no_sides words =
-    let none : without words words ≡ [] = none_apart words words (all_among [] words) in
-    λ i. if has_any (none i ++ none i) then flat_map after_space (listed (none i) ++ codes "->" ∷ listed (none i)) else []
+pub no_sides : (groups : List (List (List ℕ))) → sides_of groups groups ≡ record { old = []; new = [] }
+no_sides groups =
+    let none : without groups groups ≡ [] = none_apart groups groups (all_among [] groups) in
+    λ i. record { old = none i; new = none i }
 
--- ---- the whole text
-module _ (a : Net) (o : Outcome) (one : OneList) (c : Differing) (text : List ℕ) (x : IsDiff a o a o c text) where
-  none_differ : (vid : ℕ) → Contains all_vids vid → x.is_reach.sides vid ≡ []
+-- ---- all rows
+module _ (a : Net) (o : Outcome) (one : OneList) (c : Differing) (rows : List Row) (x : AreDiffRowsOf a o a o c rows) where
+  none_differ : (vid : ℕ) → Contains all_vids vid → x.is_reach.sides vid ≡ record { old = []; new = [] }
   none_differ vid h =
       let s = x.is_reach.are_sides vid (is_vid_there vid h) in
-      s.4 ∙ ap (λ news. sides_text (island_words s.0) (island_words news)) (one a o vid s.1 s.0 s.3 s.2) ∙ no_sides (island_words s.0)
+      s.4 ∙ ap (λ news. sides_of (island_bridges s.0) (island_bridges news)) (one a o vid s.1 s.0 s.3 s.2) ∙ no_sides (island_bridges s.0)
 
-  no_group : (group : List ℕ) → Contains x.is_reach.groups group → group_text x.is_reach.sides group ≡ []
+  no_group : (group : List ℕ) → Contains x.is_reach.groups group → group_rows x.is_reach.sides group ≡ []
   no_group [] h = refl
-  no_group (vid ∷ vids) h = ap (reach_line (vid ∷ vids)) (none_differ vid (in_whole (x.is_reach.are_groups.in_order (vid ∷ vids) h) vid (here vid vids)))
+  no_group (vid ∷ vids) h = ap (reach_unless (vid ∷ vids)) (none_differ vid (in_whole (x.is_reach.are_groups.in_order (vid ∷ vids) h) vid (here vid vids)))
 
   no_reach : x.reach ≡ []
-  no_reach = x.is_reach.is ∙ each_none (group_text x.is_reach.sides) x.is_reach.groups (all_weaker (Contains x.is_reach.groups) _ no_group x.is_reach.groups (all_there x.is_reach.groups))
+  no_reach = x.is_reach.is ∙ each_none (group_rows x.is_reach.sides) x.is_reach.groups (all_weaker (Contains x.is_reach.groups) _ no_group x.is_reach.groups (all_there x.is_reach.groups))
 
-  none_counted : (vids : List ℕ) → ((vid : ℕ) → Contains vids vid → x.is_reach.sides vid ≡ []) → count_by (λ vid. has_any (x.is_reach.sides vid)) vids ≡ 0
-  none_counted vids h = sym (length-filter (λ vid. has_any (x.is_reach.sides vid)) vids) ∙ ap length (filter_none (λ vid. has_any (x.is_reach.sides vid)) vids (λ vid k. ap has_any (h vid k)))
+  none_counted : (vids : List ℕ) → ((vid : ℕ) → Contains vids vid → x.is_reach.sides vid ≡ record { old = []; new = [] }) → count_by (λ vid. differ (x.is_reach.sides vid)) vids ≡ 0
+  none_counted vids h = sym (length-filter (λ vid. differ (x.is_reach.sides vid)) vids) ∙ ap length (filter_none (λ vid. differ (x.is_reach.sides vid)) vids (λ vid k. ap differ (h vid k)))
 
   pub no_counts : c ≡ record { regions = 0; roots = 0; ports = 0; vlans = 0 }
   no_counts = λ i. record {
-    regions = (x.regions ∙ ap lines_in (no_regions a)) i;
-    roots = (x.roots ∙ ap lines_in (no_roots a o)) i;
-    ports = (x.ports ∙ ap lines_in (no_ports a o)) i;
+    regions = (x.regions ∙ ap length (no_regions a)) i;
+    roots = (x.roots ∙ ap length (no_roots a o)) i;
+    ports = (x.ports ∙ ap counted (no_ports a o)) i;
     vlans = (x.is_reach.counted ∙ none_counted all_vids none_differ) i;
   }
 
-  pub last_line_alone : text ≡ diff_line c
-  last_line_alone = x.is ∙ (λ i. no_regions a i ++ no_roots a o i ++ no_ports a o i ++ no_reach i ++ diff_line c)
+  pub last_row_alone : rows ≡ diff_row c ∷ []
+  last_row_alone = x.is ∙ (λ i. no_regions a i ++ no_roots a o i ++ no_ports a o i ++ no_reach i ++ diff_row c ∷ [])

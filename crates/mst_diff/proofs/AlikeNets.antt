@@ -1,5 +1,5 @@
--- The last line stands alone just where two networks are alike.
-use Rattle.std.proofs.Common.{◌≡◌, ℕ, ◌+◌, ◌<◌, ◌≤◌, ◌==◌, ◌&&◌, ◌||◌, inl, inr, Bool, true, false, cond, not, List, [], ◌∷◌, ◌++◌, length, get_or, map, Option, Some, None, refl, sym, ap, subst, ◌∙◌, fold, codes, decimal, arith, true≢false, is_some, eq-eqb}
+-- The last row stands alone just where two networks are alike.
+use Rattle.std.proofs.Common.{◌≡◌, ℕ, ◌+◌, ◌<◌, ◌≤◌, ◌==◌, ◌&&◌, ◌||◌, inl, inr, Bool, true, false, cond, not, List, [], ◌∷◌, ◌++◌, length, get_or, map, Option, Some, None, refl, sym, ap, subst, ◌∙◌, fold, arith, true≢false, is_some, eq-eqb}
 use Rattle.std.specs.Prelude.{if◌then◌else◌, ◌↔◌}
 use Rattle.std.specs.Cmp.Lexicographic.{bytes_decides}
 use Rattle.std.specs.List.{AllByRecursion, Contains, filter_map, flat_map, find, cons_option, list_any, range_with_len}
@@ -13,7 +13,6 @@ use Rattle.std.proofs.lemmas.List.FromFn.{get_or-range_with_len, length-range_wi
 use Rattle.std.proofs.lemmas.Map.Views.{Contains-from_any}
 use Rattle.mst_ids.specs.Names.{port_cmp}
 use Rattle.mst_ids.specs.Vids.{is_vid}
-use Rattle.mst_ids.specs.Words.{after_space, line, listed}
 use Rattle.mst_ids.specs.declared.name.PortName.{PortName}
 use Rattle.mst_graph.proofs.Members.{in_none, cases, passing, in_map, in_filter, filter_none}
 use Rattle.mst_net.specs.Tables.{Net, BridgeRow, port_eq}
@@ -34,34 +33,30 @@ use Rattle.mst_plan_text.proofs.Grouped.{place_of_vid}
 use Rattle.mst_plan_text.proofs.OnePlan.{is_vid_there}
 use Rattle.mst_changes.specs.declared.value.VectorOrRole.TheVariants.{HasRole}
 use Rattle.mst_changes.specs.Subjects.{all_trees, bridge_names, port_in, port_names, names_of_either}
-use Rattle.mst_changes.specs.PortChanges.{port_changes}
+use Rattle.mst_changes.specs.PortChanges.{counted, port_change_rows}
 use Rattle.mst_changes.specs.Values.{value_at, role_number, same_side}
-use Rattle.mst_changes.specs.ChangesText.{item_words, side_words, change_text, change_line}
+use Rattle.mst_changes.specs.ChangesText.{item_row, change_rows}
+use Rattle.mst_rows.specs.Rows.{Row}
 use Rattle.mst_diff.specs.declared.diff.Differing.{Differing}
 use Rattle.mst_diff.specs.declared.roots.RootPair.{RootPair}
-use Rattle.mst_diff.specs.Regions.{same_told, region_words, region_line, region_text, region_change, region_changes}
-use Rattle.mst_diff.specs.Roots.{root_name, paired, root_pair, same_pair, root_line, with_new, each_once, tree_roots, root_changes}
-use Rattle.mst_diff.specs.Ports.{ports_text}
-use Rattle.mst_diff.specs.Reach.{has_any, island_words, without, sides_text}
-use Rattle.mst_diff.specs.DiffText.{lines_in, diff_line, IsDiff}
+use Rattle.mst_diff.specs.Regions.{same_told, region_row, region_unless, region_change, region_changes}
+use Rattle.mst_diff.specs.Roots.{root_name, paired, root_pair, same_pair, root_row, root_unless, with_new, each_once, tree_roots, root_changes}
+use Rattle.mst_diff.specs.Ports.{port_rows}
+use Rattle.mst_diff.specs.Reach.{has_any, island_bridges, same_names, without, sides_of, differ}
+use Rattle.mst_diff.specs.DiffText.{diff_row, AreDiffRowsOf}
 use Rattle.mst_diff.specs.AlikeNets.{AreAlike}
 use Rattle.mst_diff.proofs.Alike.{each_none, once_all, any_name, none_apart}
-use Rattle.mst_diff.proofs.LastLine.{no_counts, no_more, both_none, each_is_none, differs, in_count, alone, second, third, none_alike}
+use Rattle.mst_diff.proofs.LastLine.{no_counts, no_more, each_is_none, differs, in_count, alone, no_island, second, third, none_alike}
 use Rattle.mst_diff.proofs.Lists.{flat_map-none}
 use Rattle.mst_diff.proofs.Named.{no_root}
 use Rattle.mst_diff.proofs.OneDiff.{OneList}
+use Rattle.mst_diff.proofs.SameSides.{names_decide}
 use Rattle.mst_diff.proofs.Turned.{tied, found_twice}
 
--- ---- lines that are there
--- a line isn't empty
-no_line : (words : List (List ℕ)) → line words ≡ [] → ⊥
-no_line [] e = no_more 10 [] e
-no_line (word ∷ words) e = no_more 10 [] (both_none (word ++ flat_map after_space words) (10 ∷ []) e).1
-
--- where a line is left out, the test passes
-left_out : (b : Bool) (words : List (List ℕ)) → (if b then [] else line words) ≡ [] → b ≡ true
-left_out true words e = refl
-left_out false words e = absurd (no_line words e)
+-- where a row is left out, the test passes
+row_left : (b : Bool) (row : Row) → (if b then [] else row ∷ []) ≡ [] → b ≡ true
+row_left true row e = refl
+row_left false row e = absurd (no_more row [] e)
 
 -- ---- trees
 -- the trees are the numbers up to 4094
@@ -90,14 +85,14 @@ module _ (a b : Net) where
   abbrev SameRegions : Type 0
   SameRegions = (bridge : List ℕ) (old new : BridgeRow) → fin.get a.bridges bridge ≡ Some old → fin.get b.bridges bridge ≡ Some new → (same_told old new ≡ true) × (first_of_region a bridge ≡ first_of_region b bridge)
 
-  -- where there is no line of regions
+  -- where there is no row of regions
   regions_same : region_changes a b ≡ [] → SameRegions
   regions_same e bridge old new x y =
       let first = first_of_region a bridge in
       let other = first_of_region b bridge in
       let none : region_change a b (bridge, old) ≡ [] = all_contained (λ (e : List ℕ × BridgeRow). region_change a b e ≡ []) (fin.entries a.bridges) (bridge, old) (each_is_none (region_change a b) (fin.entries a.bridges) e) (entry_there a bridge old x) in
-      let text : region_text bridge old first new other ≡ [] = ap (λ r. option_map_or (λ row. region_text bridge old first row other) r []) (sym y) ∙ none in
-      let parts = and_parts (same_told old new) (same_name first other) (left_out (same_told old new && same_name first other) (codes "region" ∷ bridge ∷ region_words old first ++ codes "->" ∷ region_words new other) text) in
+      let unless : region_unless bridge old first new other ≡ [] = ap (λ r. option_map_or (λ row. region_unless bridge old first row other) r []) (sym y) ∙ none in
+      let parts = and_parts (same_told old new) (same_name first other) (row_left (same_told old new && same_name first other) (region_row bridge old first new other) unless) in
       (parts.0, (bytes_decides first other).0 parts.1)
 
   -- and where all are the same there is none
@@ -107,12 +102,12 @@ module _ (a b : Net) where
       (all_weaker _ _ (λ (e : List ℕ × BridgeRow) found. go e found (fin.get b.bridges e.0) refl) (fin.entries a.bridges) (entries_found names.total a.bridges))
     where
       go : (e : List ℕ × BridgeRow) → fin.get a.bridges e.0 ≡ Some e.1 → (r : Option BridgeRow) → fin.get b.bridges e.0 ≡ r
-          → option_map_or (λ row. region_text e.0 e.1 (first_of_region a e.0) row (first_of_region b e.0)) r [] ≡ []
+          → option_map_or (λ row. region_unless e.0 e.1 (first_of_region a e.0) row (first_of_region b e.0)) r [] ≡ []
       go e x None y = refl
       go e x (Some new) y =
           let same = h e.0 e.1 new x y in
           let first = (bytes_decides (first_of_region a e.0) (first_of_region b e.0)).1 same.1 in
-          λ i. if same.0 i && first i then [] else region_line e.0 e.1 (first_of_region a e.0) new (first_of_region b e.0)
+          λ i. if same.0 i && first i then [] else region_row e.0 e.1 (first_of_region a e.0) new (first_of_region b e.0) ∷ []
 
 -- ---- roots
 -- what holds of the things that are kept once holds of all of them, where it holds of a thing with the same one
@@ -173,11 +168,11 @@ module _ (a b : Net) (o p : Outcome) where
   pairs_one : (tree : ℕ) → tree_roots a o b p tree ≡ [] → AllByRecursion IsOne (pairs tree)
   pairs_one tree e =
       (once_each IsOne same_pair one_too (pairs tree) []
-      (all_weaker (λ pair. root_line tree pair ≡ []) IsOne
-      (λ pair none. (bytes_decides pair.old pair.new).0 (left_out (same_name pair.old pair.new) (codes "root" ∷ decimal tree ∷ pair.old ∷ codes "->" ∷ pair.new ∷ []) none))
-      (each_once same_pair (pairs tree)) (each_is_none (root_line tree) (each_once same_pair (pairs tree)) e))).1
+      (all_weaker (λ pair. root_unless tree pair ≡ []) IsOne
+      (λ pair none. (bytes_decides pair.old pair.new).0 (row_left (same_name pair.old pair.new) (root_row tree pair) none))
+      (each_once same_pair (pairs tree)) (each_is_none (root_unless tree) (each_once same_pair (pairs tree)) e))).1
 
-  -- where there is no line of roots
+  -- where there is no row of roots
   roots_same : root_changes a o b p ≡ [] → SameRoots
   roots_same e tree l bridge old new x y =
       let none : tree_roots a o b p tree ≡ [] = all_contained (λ t. tree_roots a o b p t ≡ []) all_trees tree (each_is_none (tree_roots a o b p) all_trees e) (is_tree tree l) in
@@ -187,8 +182,8 @@ module _ (a b : Net) (o p : Outcome) where
   -- and where all are the same there is none
   roots_none : SameRoots → root_changes a o b p ≡ []
   roots_none h = each_none (tree_roots a o b p) all_trees (each_tree (λ tree. tree_roots a o b p tree ≡ []) (λ tree l.
-      each_none (root_line tree) (each_once same_pair (pairs tree))
-      (all_weaker IsOne _ (λ pair one. ap (λ (b : Bool). if b then [] else line (codes "root" ∷ decimal tree ∷ pair.old ∷ codes "->" ∷ pair.new ∷ [])) ((bytes_decides pair.old pair.new).1 one)) (each_once same_pair (pairs tree))
+      each_none (root_unless tree) (each_once same_pair (pairs tree))
+      (all_weaker IsOne _ (λ pair one. ap (λ (b : Bool). if b then [] else root_row tree pair ∷ []) ((bytes_decides pair.old pair.new).1 one)) (each_once same_pair (pairs tree))
       (once_all IsOne same_pair (pairs tree) [] tt
       (all_kept (λ _. Unit {0}) IsOne (root_pair a o b p tree) (λ name pair _ e. pair_one (root_name a o tree name) (root_name b p tree name) (h tree l name) pair e) (bridge_names a) (any_name (bridge_names a)))))))
 
@@ -229,11 +224,11 @@ module _ (a b : Net) (o p : Outcome) where
   abbrev either : List PortName
   either = names_of_either port_cmp (port_names a) (port_names b)
 
-  abbrev at_port : ℕ → PortName → List ℕ
-  at_port tree name = change_text (port_in tree name) (value_at a o (port_in tree name)) (value_at b p (port_in tree name))
+  abbrev at_port : ℕ → PortName → List Row
+  at_port tree name = change_rows (port_in tree name) (value_at a o (port_in tree name)) (value_at b p (port_in tree name))
 
-  by_ports : (tree : ℕ) → port_changes a o b p tree ≡ flat_map (at_port tree) either
-  by_ports tree = flat_map-map (λ place. change_text place (value_at a o place) (value_at b p place)) (port_in tree) either
+  by_ports : (tree : ℕ) → port_change_rows a o b p tree ≡ flat_map (at_port tree) either
+  by_ports tree = flat_map-map (λ place. change_rows place (value_at a o place) (value_at b p place)) (port_in tree) either
 
   -- a name of a logical port of one of the networks
   in_either : (name : PortName) → list_any (eq_by_cmp port_cmp name) (port_names a ++ port_names b) ≡ true → Contains either name
@@ -244,15 +239,15 @@ module _ (a b : Net) (o p : Outcome) where
       Contains-from_any {eq = eq_by_cmp port_cmp} (λ x y same. ports.same x y (tied (port_cmp x y) same)) name either
       (sym (contains_key-keys (from_entries {R = port_cmp} (map (λ (k : PortName). (k, k)) all)) name) ∙ ap is_some found)
 
-  port_same : (tree : ℕ) → port_changes a o b p tree ≡ [] → (port : PortName) → role_of a o tree port ≡ role_of b p tree port
+  port_same : (tree : ℕ) → port_change_rows a o b p tree ≡ [] → (port : PortName) → role_of a o tree port ≡ role_of b p tree port
   port_same tree e port = go (list_any (eq_by_cmp port_cmp port) (port_names a ++ port_names b)) refl
     where
       go : (t : Bool) → list_any (eq_by_cmp port_cmp port) (port_names a ++ port_names b) ≡ t → role_of a o tree port ≡ role_of b p tree port
       go true there =
           let none : at_port tree port ≡ [] = all_contained (λ name. at_port tree name ≡ []) either port (each_is_none (at_port tree) either (sym (by_ports tree) ∙ e)) (in_either port there) in
           role_is (role_of a o tree port) (role_of b p tree port)
-          (left_out (same_side (option_map HasRole (role_of a o tree port)) (option_map HasRole (role_of b p tree port)))
-          (item_words (port_in tree port).tree (port_in tree port).item ++ side_words (option_map HasRole (role_of a o tree port)) ++ codes "->" ∷ side_words (option_map HasRole (role_of b p tree port))) none)
+          (row_left (same_side (option_map HasRole (role_of a o tree port)) (option_map HasRole (role_of b p tree port)))
+          (item_row tree (port_in tree port).item (option_map HasRole (role_of a o tree port)) (option_map HasRole (role_of b p tree port))) none)
       go false absent =
           let parts = or_parts (list_any (eq_by_cmp port_cmp port) (port_names a)) (list_any (eq_by_cmp port_cmp port) (port_names b)) (sym (list_any-append (eq_by_cmp port_cmp port) (port_names a) (port_names b)) ∙ absent) in
           no_role a o tree port parts.0 ∙ sym (no_role b p tree port parts.1)
@@ -260,56 +255,50 @@ module _ (a b : Net) (o p : Outcome) where
   abbrev SameRoles : Type 0
   SameRoles = (tree : ℕ) → tree ≤ 4094 → (port : PortName) → role_of a o tree port ≡ role_of b p tree port
 
-  -- where there is no line of ports
-  roles_same : ports_text a o b p ≡ [] → SameRoles
-  roles_same e tree l = port_same tree (all_contained (λ t. port_changes a o b p t ≡ []) all_trees tree (each_is_none (port_changes a o b p) all_trees e) (is_tree tree l))
+  -- where there is no row of ports
+  roles_same : port_rows a o b p ≡ [] → SameRoles
+  roles_same e tree l = port_same tree (all_contained (λ t. port_change_rows a o b p t ≡ []) all_trees tree (each_is_none (port_change_rows a o b p) all_trees e) (is_tree tree l))
 
   -- and where all are the same there is none
-  roles_none : SameRoles → ports_text a o b p ≡ []
-  roles_none h = each_none (port_changes a o b p) all_trees (each_tree (λ tree. port_changes a o b p tree ≡ []) (λ tree l.
+  roles_none : SameRoles → port_rows a o b p ≡ []
+  roles_none h = each_none (port_change_rows a o b p) all_trees (each_tree (λ tree. port_change_rows a o b p tree ≡ []) (λ tree l.
       by_ports tree ∙ flat_map-none (at_port tree) (λ name. go tree name (role_of b p tree name) (h tree l name)) either))
     where
-      go : (tree : ℕ) (name : PortName) (s : Option Role) → role_of a o tree name ≡ s → change_text (port_in tree name) (option_map HasRole (role_of a o tree name)) (option_map HasRole s) ≡ []
+      go : (tree : ℕ) (name : PortName) (s : Option Role) → role_of a o tree name ≡ s → change_rows (port_in tree name) (option_map HasRole (role_of a o tree name)) (option_map HasRole s) ≡ []
       go tree name s e =
-          ap (λ r. change_text (port_in tree name) (option_map HasRole r) (option_map HasRole s)) e
-          ∙ ap (λ (b : Bool). if b then [] else change_line (port_in tree name) (option_map HasRole s) (option_map HasRole s)) (role_itself s)
+          ap (λ r. change_rows (port_in tree name) (option_map HasRole r) (option_map HasRole s)) e
+          ∙ ap (λ (b : Bool). if b then [] else item_row tree (port_in tree name).item (option_map HasRole s) (option_map HasRole s) ∷ []) (role_itself s)
 
 -- ---- islands
-abbrev SameWords : List (List ℕ) → List (List ℕ) → Type 0
-SameWords u v = (word : List ℕ) → Contains u word ↔ Contains v word
+abbrev SameIslands : List (List (List ℕ)) → List (List (List ℕ)) → Type 0
+SameIslands u v = (bridges : List (List ℕ)) → Contains u bridges ↔ Contains v bridges
 
--- where there are no sides, neither has a word that the other has not
-nothing_apart : (u v : List (List ℕ)) → has_any (if has_any (u ++ v) then flat_map after_space (listed u ++ codes "->" ∷ listed v) else []) ≡ false → (u ≡ []) × (v ≡ [])
-nothing_apart [] [] e = (refl, refl)
-nothing_apart [] (w ∷ ws) e = absurd (true≢false e)
-nothing_apart (w ∷ ws) v e = absurd (true≢false e)
-
-all_in : (xs ys : List (List ℕ)) → without xs ys ≡ [] → (word : List ℕ) → Contains xs word → Contains ys word
-all_in xs ys e word h = go (list_any (λ y. same_name y word) ys) refl
+all_in : (xs ys : List (List (List ℕ))) → without xs ys ≡ [] → (bridges : List (List ℕ)) → Contains xs bridges → Contains ys bridges
+all_in xs ys e bridges h = go (list_any (λ y. same_names y bridges) ys) refl
   where
-    go : (b : Bool) → list_any (λ y. same_name y word) ys ≡ b → Contains ys word
-    go true t = let y = passing (λ y. same_name y word) ys t in subst (Contains ys) ((bytes_decides y.0 word).0 y.2) y.1
-    go false t = absurd (in_none word (subst (λ zs. Contains zs word) e (in_filter (λ x. not (list_any (λ y. same_name y x) ys)) xs word h (ap not t))))
+    go : (b : Bool) → list_any (λ y. same_names y bridges) ys ≡ b → Contains ys bridges
+    go true t = let y = passing (λ y. same_names y bridges) ys t in subst (Contains ys) ((names_decide y.0 bridges).0 y.2) y.1
+    go false t = absurd (in_none bridges (subst (λ zs. Contains zs bridges) e (in_filter (λ x. not (list_any (λ y. same_names y x) ys)) xs bridges h (ap not t))))
 
 or_last : (b : Bool) → (b || true) ≡ true
 or_last true = refl
 or_last false = refl
 
-any_in : (word : List ℕ) (ys : List (List ℕ)) → Contains ys word → list_any (λ y. same_name y word) ys ≡ true
-any_in word [] h = absurd (in_none word h)
-any_in word (y ∷ ys) h = elim (cases y word ys h) [
-  | inl e ↦ ap (λ b. b || list_any (λ y. same_name y word) ys) ((bytes_decides y word).1 e)
-  | inr a ↦ ap (λ b. same_name y word || b) (any_in word ys a) ∙ or_last (same_name y word)
+any_in : (bridges : List (List ℕ)) (ys : List (List (List ℕ))) → Contains ys bridges → list_any (λ y. same_names y bridges) ys ≡ true
+any_in bridges [] h = absurd (in_none bridges h)
+any_in bridges (y ∷ ys) h = elim (cases y bridges ys h) [
+  | inl e ↦ ap (λ b. b || list_any (λ y. same_names y bridges) ys) ((names_decide y bridges).1 e)
+  | inr a ↦ ap (λ b. same_names y bridges || b) (any_in bridges ys a) ∙ or_last (same_names y bridges)
 ]
 
-words_same : (u v : List (List ℕ)) → has_any (sides_text u v) ≡ false → SameWords u v
-words_same u v e word = let none = nothing_apart (without u v) (without v u) e in (all_in u v none.0 word, all_in v u none.1 word)
+islands_same : (u v : List (List (List ℕ))) → differ (sides_of u v) ≡ false → SameIslands u v
+islands_same u v e bridges = let none = no_island (sides_of u v) e in (all_in u v none.0 bridges, all_in v u none.1 bridges)
 
-words_none : (u v : List (List ℕ)) → SameWords u v → has_any (sides_text u v) ≡ false
-words_none u v h =
-    let olds : without u v ≡ [] = none_apart u v (all_weaker (Contains u) _ (λ word k. any_in word v ((h word).0 k)) u (all_there u)) in
-    let news : without v u ≡ [] = none_apart v u (all_weaker (Contains v) _ (λ word k. any_in word u ((h word).1 k)) v (all_there v)) in
-    λ i. has_any (if has_any (olds i ++ news i) then flat_map after_space (listed (olds i) ++ codes "->" ∷ listed (news i)) else [])
+islands_none : (u v : List (List (List ℕ))) → SameIslands u v → differ (sides_of u v) ≡ false
+islands_none u v h =
+    let olds : without u v ≡ [] = none_apart u v (all_weaker (Contains u) _ (λ bridges k. any_in bridges v ((h bridges).0 k)) u (all_there u)) in
+    let news : without v u ≡ [] = none_apart v u (all_weaker (Contains v) _ (λ bridges k. any_in bridges u ((h bridges).1 k)) v (all_there v)) in
+    λ i. has_any (olds i) || has_any (news i)
 
 -- each VID is in the list of them, one after its place
 one_after : (place vid : ℕ) → place + 1 ≡ vid → 1 + place ≡ vid
@@ -323,33 +312,33 @@ at_place place vid below is =
 vid_there : (vid : ℕ) → is_vid vid ≡ true → Contains all_vids vid
 vid_there vid e = let at = place_of_vid vid e in at_place at.place vid at.below at.is
 
--- ---- the whole text
-module _ (a b : Net) (o p : Outcome) (one : OneList) (c : Differing) (text : List ℕ) (x : IsDiff a o b p c text) where
-  alike : text ≡ diff_line c → AreAlike a o b p
+-- ---- all rows
+module _ (a b : Net) (o p : Outcome) (one : OneList) (c : Differing) (rows : List Row) (x : AreDiffRowsOf a o b p c rows) where
+  alike : rows ≡ diff_row c ∷ [] → AreAlike a o b p
   alike e = record {
-    regions = regions_same a b (third a o b p c text x e).0;
-    roots = roots_same a b o p (third a o b p c text x e).1;
-    roles = roles_same a b o p (second a o b p c text x e).1;
+    regions = regions_same a b (third a o b p c rows x e).0;
+    roots = roots_same a b o p (third a o b p c rows x e).1;
+    roles = roles_same a b o p (second a o b p c rows x e).1;
     islands = λ vid is olds news s t.
         let sides = x.is_reach.are_sides vid is in
         let old = one a o vid sides.0 olds sides.2 s in
         let new = one b p vid sides.1 news sides.3 t in
-        words_same (island_words olds) (island_words news) (sym (ap has_any sides.4 ∙ (λ i. has_any (sides_text (island_words (old i)) (island_words (new i))))) ∙ none_alike a o b p c text x e vid (vid_there vid is));
+        islands_same (island_bridges olds) (island_bridges news) (sym (ap differ sides.4 ∙ (λ i. differ (sides_of (island_bridges (old i)) (island_bridges (new i))))) ∙ none_alike a o b p c rows x e vid (vid_there vid is));
   }
 
-  none_differs : AreAlike a o b p → (vid : ℕ) → Contains all_vids vid → differs a o b p c text x vid ≡ false
+  none_differs : AreAlike a o b p → (vid : ℕ) → Contains all_vids vid → differs a o b p c rows x vid ≡ false
   none_differs h vid there =
       let is = is_vid_there vid there in
       let sides = x.is_reach.are_sides vid is in
-      ap has_any sides.4 ∙ words_none (island_words sides.0) (island_words sides.1) (h.islands vid is sides.0 sides.1 sides.2 sides.3)
+      ap differ sides.4 ∙ islands_none (island_bridges sides.0) (island_bridges sides.1) (h.islands vid is sides.0 sides.1 sides.2 sides.3)
 
   none_counted : AreAlike a o b p → c ≡ no_counts
   none_counted h = λ i. record {
-    regions = (x.regions ∙ ap lines_in (regions_none a b h.regions)) i;
-    roots = (x.roots ∙ ap lines_in (roots_none a b o p h.roots)) i;
-    ports = (x.ports ∙ ap lines_in (roles_none a b o p h.roles)) i;
-    vlans = (sym (in_count a o b p c text x) ∙ ap length (filter_none (differs a o b p c text x) all_vids (none_differs h))) i;
+    regions = (x.regions ∙ ap length (regions_none a b h.regions)) i;
+    roots = (x.roots ∙ ap length (roots_none a b o p h.roots)) i;
+    ports = (x.ports ∙ ap counted (roles_none a b o p h.roles)) i;
+    vlans = (sym (in_count a o b p c rows x) ∙ ap length (filter_none (differs a o b p c rows x) all_vids (none_differs h))) i;
   }
 
-  pub alone_alike : (text ≡ diff_line c) ↔ AreAlike a o b p
-  alone_alike = (alike, λ h. alone a o b p c text x (none_counted h))
+  pub alone_alike : (rows ≡ diff_row c ∷ []) ↔ AreAlike a o b p
+  alone_alike = (alike, λ h. alone a o b p c rows x (none_counted h))

@@ -1,35 +1,27 @@
--- The last line stands alone just where nothing is counted.
-use Rattle.std.proofs.Common.{◌≡◌, ℕ, suc, ◌+◌, ◌&&◌, Bool, true, false, List, [], ◌∷◌, ◌++◌, length, map, Option, Some, None, refl, sym, ap, subst, ◌∙◌, codes, decimal, arith, true≢false}
+-- The last row stands alone just where nothing is counted.
+use Rattle.std.proofs.Common.{◌≡◌, ℕ, suc, ◌+◌, Bool, true, false, List, [], ◌∷◌, ◌++◌, length, min, refl, sym, ap, subst, ◌∙◌, arith, true≢false}
 use Rattle.std.specs.Prelude.{if◌then◌else◌, ◌↔◌}
-use Rattle.std.specs.List.{AllByRecursion, Contains, filter, filter_map, flat_map}
-use Rattle.std.specs.Option.{option_map_or}
-use Rattle.std.specs.FinMap as fin
+use Rattle.std.specs.List.{AllByRecursion, Contains, filter, flat_map}
+use Rattle.std.proofs.lemmas.Bool.{or_parts}
 use Rattle.std.proofs.lemmas.List.{length-append}
 use Rattle.std.proofs.lemmas.List.Sums.{length-filter}
-use Rattle.mst_ids.specs.Names.{port_cmp}
-use Rattle.mst_ids.specs.Vids.{set_where, vids_text}
-use Rattle.mst_ids.specs.Words.{after_space, line}
+use Rattle.mst_ids.specs.Vids.{runs_from, set_where}
 use Rattle.mst_graph.proofs.Members.{in_none, here, in_whole, in_filter, filter_none}
-use Rattle.mst_net.specs.Tables.{Net, BridgeRow}
-use Rattle.mst_lag.specs.Aggregation.{same_name}
+use Rattle.mst_net.specs.Tables.{Net}
 use Rattle.mst_lag.specs.Trees.{is_among}
-use Rattle.mst_plan_text.specs.config.Regions.{first_of_region}
 use Rattle.mst_plan_text.specs.trees.Outcome.{Outcome}
 use Rattle.mst_plan_text.proofs.trees_lemmas.Entries.{all_weaker}
 use Rattle.mst_plan_text.proofs.trees_lemmas.Lists.{all_there, all_contained}
 use Rattle.mst_plan_text.specs.PlanText.{all_vids}
-use Rattle.mst_changes.specs.Subjects.{all_trees, bridge_names, port_in, port_names, names_of_either}
-use Rattle.mst_changes.specs.PortChanges.{port_changes}
-use Rattle.mst_changes.specs.Values.{value_at, same_side}
-use Rattle.mst_changes.specs.ChangesText.{item_words, side_words, change_text}
+use Rattle.mst_rows.specs.Rows.{Row}
 use Rattle.mst_diff.specs.declared.diff.Differing.{Differing}
-use Rattle.mst_diff.specs.Regions.{same_told, region_words, region_text, region_change, region_changes}
-use Rattle.mst_diff.specs.Roots.{root_pair, same_pair, root_line, each_once, tree_roots, root_changes}
-use Rattle.mst_diff.specs.Ports.{ports_text}
-use Rattle.mst_diff.specs.Reach.{has_any, whole_line, reach_line, group_text}
-use Rattle.mst_diff.specs.DiffText.{lines_in, diff_line, IsDiff}
+use Rattle.mst_diff.specs.Regions.{region_changes}
+use Rattle.mst_diff.specs.Roots.{root_changes}
+use Rattle.mst_changes.specs.PortChanges.{counted}
+use Rattle.mst_diff.specs.Ports.{port_rows}
+use Rattle.mst_diff.specs.Reach.{has_any, Sides, differ, reach_row, reach_unless, group_rows}
+use Rattle.mst_diff.specs.DiffText.{diff_row, AreDiffRowsOf}
 use Rattle.mst_diff.proofs.Alike.{each_none}
-use Rattle.mst_diff.proofs.Turned.{lines_append, in_line}
 
 abbrev pub no_counts : Differing
 no_counts = record { regions = 0; roots = 0; ports = 0; vlans = 0 }
@@ -64,61 +56,37 @@ both_none (x ∷ xs) ys e = absurd (no_more x (xs ++ ys) e)
 no_front : {A : Type 0} (xs ys : List A) → xs ++ ys ≡ ys → xs ≡ []
 no_front xs ys e = none_long xs (same_sum (length xs) (length ys) (sym (length-append xs ys) ∙ ap length e))
 
-pub each_is_none : {A : Type 0} (f : A → List ℕ) (xs : List A) → flat_map f xs ≡ [] → AllByRecursion (λ x. f x ≡ []) xs
+pub each_is_none : {A B : Type 0} (f : A → List B) (xs : List A) → flat_map f xs ≡ [] → AllByRecursion (λ x. f x ≡ []) xs
 each_is_none f [] e = tt
 each_is_none f (x ∷ xs) e = let b = both_none (f x) (flat_map f xs) e in (b.0, each_is_none f xs b.1)
 
-any_none : (text : List ℕ) → has_any text ≡ false → text ≡ []
+any_none : {A : Type 0} (xs : List A) → has_any xs ≡ false → xs ≡ []
 any_none [] e = refl
-any_none (byte ∷ text) e = absurd (true≢false e)
+any_none (x ∷ xs) e = absurd (true≢false e)
 
--- ---- texts of lines: one without a line is empty
-abbrev Told : List ℕ → Type 0
-Told text = lines_in text ≡ 0 → text ≡ []
+-- where they don't differ there is no island
+pub no_island : (s : Sides) → differ s ≡ false → (s.old ≡ []) × (s.new ≡ [])
+no_island s e = let parts = or_parts (has_any s.old) (has_any s.new) e in (any_none s.old parts.0, any_none s.new parts.1)
 
-told_each : {A : Type 0} (f : A → List ℕ) (xs : List A) → ((x : A) → Told (f x)) → Told (flat_map f xs)
-told_each f [] h e = refl
-told_each f (x ∷ xs) h e =
-    let sum = sym (lines_append (f x) (flat_map f xs)) ∙ e in
-    let first = h x (zero_left (lines_in (f x)) (lines_in (flat_map f xs)) sum) in
-    let rest = told_each f xs h (zero_right (lines_in (f x)) (lines_in (flat_map f xs)) sum) in
-    λ i. first i ++ rest i
+-- rows that aren't counted aren't there
+least : (n : ℕ) → min n 18446744073709551615 ≡ 0 → n ≡ 0
+least n e = omega arith
 
-told_unless : (b : Bool) (words : List (List ℕ)) → Told (if b then [] else line words)
-told_unless true words e = refl
-told_unless false words e = absurd (never (lines_in (flat_map after_space words)) (sym (in_line words) ∙ e))
+none_counted : (rows : List Row) → counted rows ≡ 0 → rows ≡ []
+none_counted rows e = none_long rows (least (length rows) e)
 
-regions_told : (a b : Net) → Told (region_changes a b)
-regions_told a b = told_each (region_change a b) (fin.entries a.bridges) (λ e. go e.0 e.1 (fin.get b.bridges e.0))
-  where
-    go : (name : List ℕ) (x : BridgeRow) (o : Option BridgeRow) → Told (option_map_or (λ y. region_text name x (first_of_region a name) y (first_of_region b name)) o [])
-    go name x None = λ e. refl
-    go name x (Some y) =
-        told_unless (same_told x y && same_name (first_of_region a name) (first_of_region b name))
-        (codes "region" ∷ name ∷ region_words x (first_of_region a name) ++ codes "->" ∷ region_words y (first_of_region b name))
-
-roots_told : (a : Net) (o : Outcome) (b : Net) (p : Outcome) → Told (root_changes a o b p)
-roots_told a o b p = told_each (tree_roots a o b p) all_trees (λ tree.
-    told_each (root_line tree) (each_once same_pair (filter_map (root_pair a o b p tree) (bridge_names a)))
-    (λ pair. told_unless (same_name pair.old pair.new) (codes "root" ∷ decimal tree ∷ pair.old ∷ codes "->" ∷ pair.new ∷ [])))
-
-ports_told : (a : Net) (o : Outcome) (b : Net) (p : Outcome) → Told (ports_text a o b p)
-ports_told a o b p = told_each (port_changes a o b p) all_trees (λ tree.
-    told_each (λ place. change_text place (value_at a o place) (value_at b p place)) (map (port_in tree) (names_of_either port_cmp (port_names a) (port_names b)))
-    (λ place. told_unless (same_side (value_at a o place) (value_at b p place)) (item_words place.tree place.item ++ side_words (value_at a o place) ++ codes "->" ∷ side_words (value_at b p place))))
-
--- ---- the whole text
-module _ (a : Net) (o : Outcome) (b : Net) (p : Outcome) (c : Differing) (text : List ℕ) (x : IsDiff a o b p c text) where
+-- ---- all rows
+module _ (a : Net) (o : Outcome) (b : Net) (p : Outcome) (c : Differing) (rows : List Row) (x : AreDiffRowsOf a o b p c rows) where
   abbrev pub differs : ℕ → Bool
-  differs vid = has_any (x.is_reach.sides vid)
+  differs vid = differ (x.is_reach.sides vid)
 
   pub in_count : length (filter differs all_vids) ≡ c.vlans
   in_count = length-filter differs all_vids ∙ sym x.is_reach.counted
 
   -- where nothing is counted
   module _ (e : c ≡ no_counts) where
-    none_differs : (vid : ℕ) → Contains all_vids vid → x.is_reach.sides vid ≡ []
-    none_differs vid h = any_none (x.is_reach.sides vid) (go (differs vid) refl)
+    none_differs : (vid : ℕ) → Contains all_vids vid → differs vid ≡ false
+    none_differs vid h = go (differs vid) refl
       where
         empty : filter differs all_vids ≡ []
         empty = none_long (filter differs all_vids) (in_count ∙ ap (λ (d : Differing). d.vlans) e)
@@ -127,58 +95,67 @@ module _ (a : Net) (o : Outcome) (b : Net) (p : Outcome) (c : Differing) (text :
         go false f = f
         go true f = absurd (in_none vid (subst (λ vids. Contains vids vid) empty (in_filter differs all_vids vid h f)))
 
-    no_group : (group : List ℕ) → Contains x.is_reach.groups group → group_text x.is_reach.sides group ≡ []
+    no_group : (group : List ℕ) → Contains x.is_reach.groups group → group_rows x.is_reach.sides group ≡ []
     no_group [] h = refl
-    no_group (vid ∷ vids) h = ap (reach_line (vid ∷ vids)) (none_differs vid (in_whole (x.is_reach.are_groups.in_order (vid ∷ vids) h) vid (here vid vids)))
+    no_group (vid ∷ vids) h = ap (λ (b : Bool). if b then reach_row (runs_from 0 (set_where (is_among (vid ∷ vids)))) (x.is_reach.sides vid) ∷ [] else []) (none_differs vid (in_whole (x.is_reach.are_groups.in_order (vid ∷ vids) h) vid (here vid vids)))
 
     no_reach : x.reach ≡ []
-    no_reach = x.is_reach.is ∙ each_none (group_text x.is_reach.sides) x.is_reach.groups (all_weaker (Contains x.is_reach.groups) _ no_group x.is_reach.groups (all_there x.is_reach.groups))
+    no_reach = x.is_reach.is ∙ each_none (group_rows x.is_reach.sides) x.is_reach.groups (all_weaker (Contains x.is_reach.groups) _ no_group x.is_reach.groups (all_there x.is_reach.groups))
 
-    pub alone : text ≡ diff_line c
+    pub alone : rows ≡ diff_row c ∷ []
     alone =
         x.is
-        ∙ (λ i. regions_told a b (sym x.regions ∙ ap (λ (d : Differing). d.regions) e) i ++ roots_told a o b p (sym x.roots ∙ ap (λ (d : Differing). d.roots) e) i
-        ++ ports_told a o b p (sym x.ports ∙ ap (λ (d : Differing). d.ports) e) i ++ no_reach i ++ diff_line c)
+        ∙ (λ i. none_long (region_changes a b) (sym x.regions ∙ ap (λ (d : Differing). d.regions) e) i ++ none_long (root_changes a o b p) (sym x.roots ∙ ap (λ (d : Differing). d.roots) e) i
+        ++ none_counted (port_rows a o b p) (sym x.ports ∙ ap (λ (d : Differing). d.ports) e) i ++ no_reach i ++ diff_row c ∷ [])
 
-  -- where the last line stands alone
-  module _ (e : text ≡ diff_line c) where
-    all_before : region_changes a b ++ root_changes a o b p ++ ports_text a o b p ++ x.reach ≡ []
-    all_before = no_front (region_changes a b ++ root_changes a o b p ++ ports_text a o b p ++ x.reach) (diff_line c) (sym x.is ∙ e)
+  -- where the last row stands alone
+  module _ (e : rows ≡ diff_row c ∷ []) where
+    abbrev regions : List Row
+    regions = region_changes a b
 
-    abbrev first : (region_changes a b ++ root_changes a o b p ++ ports_text a o b p ≡ []) × (x.reach ≡ [])
-    first = both_none (region_changes a b ++ root_changes a o b p ++ ports_text a o b p) x.reach all_before
+    abbrev roots : List Row
+    roots = root_changes a o b p
 
-    pub second : (region_changes a b ++ root_changes a o b p ≡ []) × (ports_text a o b p ≡ [])
-    second = both_none (region_changes a b ++ root_changes a o b p) (ports_text a o b p) first.0
+    abbrev ports : List Row
+    ports = port_rows a o b p
 
-    pub third : (region_changes a b ≡ []) × (root_changes a o b p ≡ [])
-    third = both_none (region_changes a b) (root_changes a o b p) second.0
+    all_before : regions ++ roots ++ ports ++ x.reach ≡ []
+    all_before = no_front (regions ++ roots ++ ports ++ x.reach) (diff_row c ∷ []) (sym x.is ∙ e)
 
-    no_line : (group sides : List ℕ) → reach_line group sides ≡ [] → has_any sides ≡ false
-    no_line group sides = go (has_any sides)
+    abbrev first : (regions ++ roots ++ ports ≡ []) × (x.reach ≡ [])
+    first = both_none (regions ++ roots ++ ports) x.reach all_before
+
+    pub second : (regions ++ roots ≡ []) × (ports ≡ [])
+    second = both_none (regions ++ roots) ports first.0
+
+    pub third : (regions ≡ []) × (roots ≡ [])
+    third = both_none regions roots second.0
+
+    no_row : (group : List ℕ) (sides : Sides) → reach_unless group sides ≡ [] → differ sides ≡ false
+    no_row group sides = go (differ sides)
       where
-        go : (t : Bool) → (if t then whole_line group sides else []) ≡ [] → t ≡ false
+        go : (t : Bool) → (if t then reach_row (runs_from 0 (set_where (is_among group))) sides ∷ [] else []) ≡ [] → t ≡ false
         go false h = refl
-        go true h = absurd (no_more 10 [] (both_none (codes "reach" ++ after_space (vids_text (set_where (is_among group))) ++ sides) (10 ∷ []) h).1)
+        go true h = absurd (no_more (reach_row (runs_from 0 (set_where (is_among group))) sides) [] h)
 
-    alike_in : (group : List ℕ) (vid : ℕ) → Contains all_vids vid → Contains x.is_reach.groups group → Contains group vid → group_text x.is_reach.sides group ≡ [] → differs vid ≡ false
+    alike_in : (group : List ℕ) (vid : ℕ) → Contains all_vids vid → Contains x.is_reach.groups group → Contains group vid → group_rows x.is_reach.sides group ≡ [] → differs vid ≡ false
     alike_in [] vid h k there none = absurd (in_none vid there)
     alike_in (v ∷ vs) vid h k there none =
-        ap has_any (sym ((x.is_reach.are_groups.related (v ∷ vs) v vid k (here v vs) h).0 there)) ∙ no_line (v ∷ vs) (x.is_reach.sides v) none
+        ap differ (sym ((x.is_reach.are_groups.related (v ∷ vs) v vid k (here v vs) h).0 there)) ∙ no_row (v ∷ vs) (x.is_reach.sides v) none
 
     pub none_alike : (vid : ℕ) → Contains all_vids vid → differs vid ≡ false
     none_alike vid h =
         let group = x.is_reach.are_groups.each vid h in
         alike_in group.0 vid h group.1 group.2
-        (all_contained (λ group. group_text x.is_reach.sides group ≡ []) x.is_reach.groups group.0 (each_is_none (group_text x.is_reach.sides) x.is_reach.groups (sym x.is_reach.is ∙ first.1)) group.1)
+        (all_contained (λ group. group_rows x.is_reach.sides group ≡ []) x.is_reach.groups group.0 (each_is_none (group_rows x.is_reach.sides) x.is_reach.groups (sym x.is_reach.is ∙ first.1)) group.1)
 
     nothing : c ≡ no_counts
     nothing = λ i. record {
-      regions = (x.regions ∙ ap lines_in third.0) i;
-      roots = (x.roots ∙ ap lines_in third.1) i;
-      ports = (x.ports ∙ ap lines_in second.1) i;
+      regions = (x.regions ∙ ap length third.0) i;
+      roots = (x.roots ∙ ap length third.1) i;
+      ports = (x.ports ∙ ap counted second.1) i;
       vlans = (sym in_count ∙ ap length (filter_none differs all_vids none_alike)) i;
     }
 
-  pub nothing_counted : (c ≡ no_counts) ↔ (text ≡ diff_line c)
+  pub nothing_counted : (c ≡ no_counts) ↔ (rows ≡ diff_row c ∷ [])
   nothing_counted = (alone, nothing)

@@ -6,7 +6,6 @@ pub use Rattle.mst_plan_text.proofs as plan_text_lemmas
 pub mod Lists
 pub mod Named
 pub mod Shared
-pub mod Lines
 pub mod Once
 pub mod NamedSides
 pub mod Reached
@@ -15,7 +14,7 @@ pub mod Alike
 pub mod Turned
 pub mod LastLine
 pub mod AlikeNets
-pub mod TwoSides
-pub mod Plain
+pub mod SameSides
+pub mod SidesGrouped
 pub mod ReachTurned
 pub mod FirstNamed

@@ -1,7 +1,6 @@
--- The text of what a change does: there is one, and one only.
-use Rattle.std.proofs.Common.{◌≡◌, ℕ, ◌++◌, ◌∷◌, [], nat_eq, Bool, true, List, length, refl, sym, ap, ◌∙◌}
+-- The rows of what a change does: there is one list of them, and one only.
+use Rattle.std.proofs.Common.{◌≡◌, ℕ, ◌++◌, ◌∷◌, [], Bool, true, List, length, refl, sym, ap, ◌∙◌}
 use Rattle.std.specs.Cmp.{IsEquivalence}
-use Rattle.std.specs.Cmp.Lexicographic.{pointwise, bytes_decides, nat_list_eq_equiv}
 use Rattle.std.specs.List.{Contains, flat_map, count_by}
 use Rattle.std.proofs.lemmas.List.Sums.{length-filter}
 use Rattle.mst_graph.specs.Groups.{AreGroups}
@@ -15,31 +14,38 @@ use Rattle.mst_plan_text.proofs.trees_lemmas.Lists.{all_there}
 use Rattle.mst_plan_text.proofs.trees_lemmas.Looking.{filter_alike}
 use Rattle.mst_plan_text.specs.vlan.Reach.{AreIslandsOf}
 use Rattle.mst_plan_text.specs.PlanText.{all_vids}
-use Rattle.mst_plan_text.proofs.OnePlan.{vids_once, is_vid_there, each_text, OneGrouping}
+use Rattle.mst_plan_text.proofs.OnePlan.{vids_once, is_vid_there, OneGrouping}
+use Rattle.mst_rows.specs.Rows.{Row}
 use Rattle.mst_diff.specs.declared.diff.Differing.{Differing}
 use Rattle.mst_diff.specs.Regions.{region_changes}
 use Rattle.mst_diff.specs.Roots.{root_changes}
-use Rattle.mst_diff.specs.Ports.{ports_text}
-use Rattle.mst_diff.specs.Reach.{has_any, island_words, sides_text, AreSides, reach_line, group_text, IsReachText}
-use Rattle.mst_diff.specs.DiffText.{lines_in, diff_line, IsDiff}
+use Rattle.mst_changes.specs.PortChanges.{counted}
+use Rattle.mst_diff.specs.Ports.{port_rows}
+use Rattle.mst_diff.specs.Reach.{island_bridges, Sides, sides_of, differ, AreSides, reach_unless, group_rows, AreReachRows}
+use Rattle.mst_diff.specs.DiffText.{diff_row, AreDiffRowsOf}
+use Rattle.mst_diff.proofs.Lists.{flat_map-same}
+use Rattle.mst_diff.proofs.SameSides.{same_sides, sides_decide, sides_equivalence}
 
 -- there is one list of the islands of a VID
 abbrev pub OneList : Type 0
 OneList = (net : Net) (o : Outcome) (vid : ℕ) (islands others : List (Island (List ℕ) (List ℕ))) → AreIslandsOf net o vid islands → AreIslandsOf net o vid others → islands ≡ others
 
+each_rows : (f g : List ℕ → List Row) (xs : List (List ℕ)) → ((x : List ℕ) → Contains xs x → f x ≡ g x) → flat_map f xs ≡ flat_map g xs
+each_rows f g xs h = flat_map-same f g xs (all_weaker (Contains xs) (λ x. f x ≡ g x) h xs (all_there xs))
+
 pub each_count : (f g : ℕ → Bool) (xs : List ℕ) → ((x : ℕ) → Contains xs x → f x ≡ g x) → count_by f xs ≡ count_by g xs
 each_count f g xs h = sym (length-filter f xs) ∙ ap length (filter_alike f g xs (all_weaker (Contains xs) (λ x. f x ≡ g x) h xs (all_there xs))) ∙ length-filter g xs
 
 module _ (a b : Net) (o p : Outcome) (one : OneList) (grouping : OneGrouping) where
-  one_sides : (vid : ℕ) (text other : List ℕ) → AreSides a o b p vid text → AreSides a o b p vid other → text ≡ other
-  one_sides vid text other s t =
+  one_sides : (vid : ℕ) (sides others : Sides) → AreSides a o b p vid sides → AreSides a o b p vid others → sides ≡ others
+  one_sides vid sides others s t =
       let olds = one a o vid s.0 t.0 s.2 t.2 in
       let news = one b p vid s.1 t.1 s.3 t.3 in
-      s.4 ∙ (λ i. sides_text (island_words (olds i)) (island_words (news i))) ∙ sym t.4
+      s.4 ∙ (λ i. sides_of (island_bridges (olds i)) (island_bridges (news i))) ∙ sym t.4
 
-  module _ (text other : List ℕ) (c d : ℕ) (x : IsReachText a o b p text c) (y : IsReachText a o b p other d) where
+  module _ (rows others : List Row) (c d : ℕ) (x : AreReachRows a o b p rows c) (y : AreReachRows a o b p others d) where
     abbrev same : ℕ → ℕ → Bool
-    same u v = pointwise nat_eq (x.sides u) (x.sides v)
+    same u v = same_sides (x.sides u) (x.sides v)
 
     sides_same : (vid : ℕ) → Contains all_vids vid → x.sides vid ≡ y.sides vid
     sides_same vid h = let v = is_vid_there vid h in one_sides vid (x.sides vid) (y.sides vid) (x.are_sides vid v) (y.are_sides vid v)
@@ -47,28 +53,28 @@ module _ (a b : Net) (o p : Outcome) (one : OneList) (grouping : OneGrouping) wh
     first : AreGroups (λ u v. same u v ≡ true) all_vids x.groups
     first =
         alike_groups (λ u v. x.sides u ≡ x.sides v) (λ u v. same u v ≡ true) all_vids x.groups
-        (λ u v _ _. ((bytes_decides (x.sides u) (x.sides v)).1, (bytes_decides (x.sides u) (x.sides v)).0)) x.are_groups
+        (λ u v _ _. ((sides_decide (x.sides u) (x.sides v)).1, (sides_decide (x.sides u) (x.sides v)).0)) x.are_groups
 
     second : AreGroups (λ u v. same u v ≡ true) all_vids y.groups
     second =
         alike_groups (λ u v. y.sides u ≡ y.sides v) (λ u v. same u v ≡ true) all_vids y.groups
         (λ u v h k. (
-          λ e. (bytes_decides (x.sides u) (x.sides v)).1 (sides_same u h ∙ e ∙ sym (sides_same v k)),
-          λ e. sym (sides_same u h) ∙ (bytes_decides (x.sides u) (x.sides v)).0 e ∙ sides_same v k,
+          λ e. (sides_decide (x.sides u) (x.sides v)).1 (sides_same u h ∙ e ∙ sym (sides_same v k)),
+          λ e. sym (sides_same u h) ∙ (sides_decide (x.sides u) (x.sides v)).0 e ∙ sides_same v k,
         )) y.are_groups
 
-    group_same : (group : List ℕ) → Contains x.groups group → group_text x.sides group ≡ group_text y.sides group
+    group_same : (group : List ℕ) → Contains x.groups group → group_rows x.sides group ≡ group_rows y.sides group
     group_same [] h = refl
-    group_same (vid ∷ vids) h = ap (reach_line (vid ∷ vids)) (sides_same vid (in_whole (x.are_groups.in_order (vid ∷ vids) h) vid (here vid vids)))
+    group_same (vid ∷ vids) h = ap (reach_unless (vid ∷ vids)) (sides_same vid (in_whole (x.are_groups.in_order (vid ∷ vids) h) vid (here vid vids)))
 
-    one_reach : text ≡ other
+    one_reach : rows ≡ others
     one_reach =
-        x.is ∙ each_text (group_text x.sides) (group_text y.sides) x.groups group_same ∙ ap (flat_map (group_text y.sides)) (grouping same all_vids x.groups y.groups vids_once first second) ∙ sym y.is
+        x.is ∙ each_rows (group_rows x.sides) (group_rows y.sides) x.groups group_same ∙ ap (flat_map (group_rows y.sides)) (grouping same all_vids x.groups y.groups vids_once first second) ∙ sym y.is
 
     one_count : c ≡ d
-    one_count = x.counted ∙ each_count (λ vid. has_any (x.sides vid)) (λ vid. has_any (y.sides vid)) all_vids (λ vid h. ap has_any (sides_same vid h)) ∙ sym y.counted
+    one_count = x.counted ∙ each_count (λ vid. differ (x.sides vid)) (λ vid. differ (y.sides vid)) all_vids (λ vid h. ap differ (sides_same vid h)) ∙ sym y.counted
 
-  module _ (c d : Differing) (text other : List ℕ) (x : IsDiff a o b p c text) (y : IsDiff a o b p d other) where
+  module _ (c d : Differing) (rows other : List Row) (x : AreDiffRowsOf a o b p c rows) (y : AreDiffRowsOf a o b p d other) where
     pub one_counts : c ≡ d
     one_counts = λ i. record {
       regions = (x.regions ∙ sym y.regions) i;
@@ -77,50 +83,46 @@ module _ (a b : Net) (o p : Outcome) (one : OneList) (grouping : OneGrouping) wh
       vlans = one_count x.reach y.reach c.vlans d.vlans x.is_reach y.is_reach i;
     }
 
-    pub one_diff : text ≡ other
+    pub one_diff : rows ≡ other
     one_diff =
         x.is
-        ∙ (λ i. region_changes a b ++ root_changes a o b p ++ ports_text a o b p ++ one_reach x.reach y.reach c.vlans d.vlans x.is_reach y.is_reach i ++ diff_line (one_counts i))
+        ∙ (λ i. region_changes a b ++ root_changes a o b p ++ port_rows a o b p ++ one_reach x.reach y.reach c.vlans d.vlans x.is_reach y.is_reach i ++ diff_row (one_counts i) ∷ [])
         ∙ sym y.is
 
 -- and there is one
 module _ (a b : Net) (o p : Outcome) (olds : (vid : ℕ) → (islands : List (Island (List ℕ) (List ℕ))) × AreIslandsOf a o vid islands) (news : (vid : ℕ) → (islands : List (Island (List ℕ) (List ℕ))) × AreIslandsOf b p vid islands)
     (grouping : (same : ℕ → ℕ → Bool) (things : List ℕ) → IsEquivalence same → (groups : List (List ℕ)) × AreGroups (λ x y. same x y ≡ true) things groups) where
-  abbrev sides : ℕ → List ℕ
-  sides vid = sides_text (island_words (olds vid).0) (island_words (news vid).0)
+  abbrev sides : ℕ → Sides
+  sides vid = sides_of (island_bridges (olds vid).0) (island_bridges (news vid).0)
 
   abbrev test : ℕ → ℕ → Bool
-  test x y = pointwise nat_eq (sides x) (sides y)
+  test x y = same_sides (sides x) (sides y)
 
   equivalence : IsEquivalence test
-  equivalence = record {
-    refl = λ x. nat_list_eq_equiv.refl (sides x);
-    symm = λ x y. nat_list_eq_equiv.symm (sides x) (sides y);
-    congr = λ x y z. nat_list_eq_equiv.congr (sides x) (sides y) (sides z);
-  }
+  equivalence = sides_equivalence sides
 
   abbrev groups : List (List ℕ)
   groups = (grouping test all_vids equivalence).0
 
   abbrev counts : Differing
   counts = record {
-    regions = lines_in (region_changes a b);
-    roots = lines_in (root_changes a o b p);
-    ports = lines_in (ports_text a o b p);
-    vlans = count_by (λ vid. has_any (sides vid)) all_vids;
+    regions = length (region_changes a b);
+    roots = length (root_changes a o b p);
+    ports = counted (port_rows a o b p);
+    vlans = count_by (λ vid. differ (sides vid)) all_vids;
   }
 
-  pub has_diff : (c : Differing) × (text : List ℕ) × IsDiff a o b p c text
+  pub has_diff : (c : Differing) × (rows : List Row) × AreDiffRowsOf a o b p c rows
   has_diff = (
     counts,
-    region_changes a b ++ root_changes a o b p ++ ports_text a o b p ++ flat_map (group_text sides) groups ++ diff_line counts,
+    region_changes a b ++ root_changes a o b p ++ port_rows a o b p ++ flat_map (group_rows sides) groups ++ diff_row counts ∷ [],
     record {
-      reach = flat_map (group_text sides) groups;
+      reach = flat_map (group_rows sides) groups;
       is_reach = record {
         sides = sides;
         are_sides = λ vid _. ((olds vid).0, (news vid).0, (olds vid).1, (news vid).1, refl);
         groups = groups;
-        are_groups = alike_groups (λ x y. test x y ≡ true) (λ x y. sides x ≡ sides y) all_vids groups (λ x y _ _. ((bytes_decides (sides x) (sides y)).0, (bytes_decides (sides x) (sides y)).1)) (grouping test all_vids equivalence).1;
+        are_groups = alike_groups (λ x y. test x y ≡ true) (λ x y. sides x ≡ sides y) all_vids groups (λ x y _ _. ((sides_decide (sides x) (sides y)).0, (sides_decide (sides x) (sides y)).1)) (grouping test all_vids equivalence).1;
         is = refl;
         counted = refl;
       };

@@ -10,6 +10,7 @@ use Rattle.mst_plan_text.proofs.trees_lemmas.Entries.{all_weaker}
 use Rattle.mst_plan_text.specs.vlan.Reach.{bridges_on, lans_up}
 use Rattle.mst_plan_text.specs.Alike.{AreAlike}
 use Rattle.mst_plan_text.proofs.Classes.{links_shared}
+use Rattle.mst_diff.specs.Reach.{Sides}
 use Rattle.mst_diff.specs.Seen.{AreSidesOf}
 
 -- the tables and the sets of a view are among these
@@ -25,8 +26,8 @@ pub in_second : {A X : Type 0} (key : A → X) (xs ys : List X) (things : List A
 in_second key xs ys things h = all_weaker _ _ (λ a there. Contains-append_right xs ys (key a) there) things h
 
 module _ (s t : SettledNet) (is : IsSettledNet s) (are : IsSettledNet t) (tables : List (List ℕ)) (sets : List (List Bool)) (old : AreTold s.view tables sets) (new : AreTold t.view tables sets) where
-  pub sides_moved : (x y : ℕ) → AreAlike tables sets x y → (text : List ℕ) → AreSidesOf s t x text → AreSidesOf s t y text
-  sides_moved x y alike text h = (
+  pub sides_moved : (x y : ℕ) → AreAlike tables sets x y → (sides : Sides) → AreSidesOf s t x sides → AreSidesOf s t y sides
+  sides_moved x y alike sides h = (
     h.0,
     h.1,
     subst (λ ks. AreIslands (bridges_on s.net) (lans_up s.net) ks h.0) (links_shared s.net s.numbers s.view s.forest is.of (outcome_of s) tables sets old.tables old.sets x y alike) h.2,

@@ -19,10 +19,11 @@ use Rattle.mst_plan_text.proofs.trees_lemmas.Lists.{all_there, kept_same, no_som
 use Rattle.mst_changes.specs.Subjects.{bridge_names}
 use Rattle.mst_changes.proofs.InUse.{unused, unused_by}
 use Rattle.mst_changes.proofs.Lists.{filter_map-map}
+use Rattle.mst_rows.specs.Rows.{Row}
 use Rattle.mst_diff.specs.declared.both.Both.{Both}
 use Rattle.mst_diff.specs.declared.roots.RootPair.{RootPair}
-use Rattle.mst_diff.specs.Regions.{region_text, region_change, region_changes}
-use Rattle.mst_diff.specs.Roots.{root_name, paired, root_pair, same_pair, root_line, each_once}
+use Rattle.mst_diff.specs.Regions.{region_unless, region_change, region_changes}
+use Rattle.mst_diff.specs.Roots.{root_name, paired, root_pair, same_pair, root_unless, each_once}
 use Rattle.mst_diff.specs.Seen.{seen_in_both, seen_both, IsBoth, region_of, pair_of, roots_of}
 use Rattle.mst_diff.proofs.Lists.{flat_map-filter_map, filter_map-filter_map, filter_map-none, flat_map-same, find-found}
 use Rattle.mst_diff.proofs.Named.{found_named, names_are, no_root, no_root_in}
@@ -56,8 +57,8 @@ module _ (s t : SettledNet) (is : IsSettledNet s) (are : IsSettledNet t) where
   region_named : (x : BridgeInView) → option_map_or (region_of s.net t.net) (seen_in_both t.view x) [] ≡ region_change s.net t.net (named_bridge x)
   region_named x = go (find (λ (y : BridgeInView). same_name y.name x.name) t.view.bridges) refl
     where
-      told : BridgeRow → List ℕ
-      told row = region_text x.name (bridge_row x.bridge) (first_of_region s.net x.name) row (first_of_region t.net x.name)
+      told : BridgeRow → List Row
+      told row = region_unless x.name (bridge_row x.bridge) (first_of_region s.net x.name) row (first_of_region t.net x.name)
 
       go : (o : Option BridgeInView) → find (λ (y : BridgeInView). same_name y.name x.name) t.view.bridges ≡ o
           → option_map_or (region_of s.net t.net) (option_map (λ y. record { old = x; new = y }) o) [] ≡ option_map_or told (fin.get t.net.bridges x.name) []
@@ -87,8 +88,8 @@ module _ (s t : SettledNet) (is : IsSettledNet s) (are : IsSettledNet t) where
         go None e = sym (ap (paired (name_in s x.name)) (no_root t.net (outcome_of t) tree x.name (row_there x None e)) ∙ no_pair (name_in s x.name))
         go (Some y) e = refl
 
-    pub roots_named : flat_map (root_line tree) (each_once same_pair (filter_map (pair_of s t tree) (seen_both s.view t.view))) ≡ roots_of s t tree
-    roots_named = ap (λ ps. flat_map (root_line tree) (each_once same_pair ps))
+    pub roots_named : flat_map (root_unless tree) (each_once same_pair (filter_map (pair_of s t tree) (seen_both s.view t.view))) ≡ roots_of s t tree
+    roots_named = ap (λ ps. flat_map (root_unless tree) (each_once same_pair ps))
         (filter_map-filter_map (pair_of s t tree) (seen_in_both t.view) s.view.bridges
         ∙ kept_same _ (λ (x : BridgeInView). pair_at x.name) s.view.bridges (all_weaker (Contains s.view.bridges) _ (λ x _. pair_named x) s.view.bridges (all_there s.view.bridges))
         ∙ sym (filter_map-map pair_at (λ (x : BridgeInView). x.name) s.view.bridges)
@@ -96,7 +97,7 @@ module _ (s t : SettledNet) (is : IsSettledNet s) (are : IsSettledNet t) where
 
     -- a tree beside the CIST that no bridge of one network has, has no roots
     none_paired : ((name : List ℕ) → pair_at name ≡ None) → roots_of s t tree ≡ []
-    none_paired none = ap (λ ps. flat_map (root_line tree) (each_once same_pair ps)) (filter_map-none pair_at none (bridge_names s.net))
+    none_paired none = ap (λ ps. flat_map (root_unless tree) (each_once same_pair ps)) (filter_map-none pair_at none (bridge_names s.net))
 
     none_in : (u : SettledNet) → IsSettledNet u → (tree == 0 || is_in_use u.view tree) ≡ false → (name : List ℕ) → name_in u name ≡ None
     none_in u h none name = let x = unused_by u.view tree none in no_root_in u.net (outcome_of u) tree name x.other (unused u.net u.numbers u.view u.forest.regions h.of tree x.none name)

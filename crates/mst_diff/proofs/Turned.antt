@@ -1,22 +1,19 @@
--- The change back has the same lines with sides changed over, and so as many.
-use Rattle.std.proofs.Common.{◌≡◌, ℕ, ◌+◌, ◌==◌, ◌&&◌, Bool, true, false, cond, ◌||◌, not, List, [], ◌∷◌, ◌++◌, map, length, Option, Some, None, is_some, refl, sym, ap, subst, ◌∙◌, append-nil, fold, codes, decimal, arith, true≢false, Less, Equal, Greater}
+-- The change back has the same rows with sides changed over, and so as many.
+use Rattle.std.proofs.Common.{◌≡◌, ℕ, ◌==◌, ◌&&◌, Bool, true, false, cond, ◌||◌, not, List, [], ◌∷◌, ◌++◌, map, length, min, Option, Some, None, is_some, refl, sym, ap, subst, ◌∙◌, fold, true≢false, Less, Equal, Greater}
 use Rattle.std.specs.Prelude.{if◌then◌else◌}
 use Rattle.std.specs.Cmp.{IsTotalOrder, nat_eq_equiv}
 use Rattle.std.specs.Cmp.Lexicographic.{nat_list_eq_equiv}
-use Rattle.std.specs.List.{Contains, filter, filter_map, flat_map, cons_option, list_any}
+use Rattle.std.specs.List.{Contains, filter_map, flat_map, cons_option, list_any}
 use Rattle.std.specs.Option.{option_map, option_map_or, option_and_then}
 use Rattle.std.specs.Ordering.{eq_by_cmp, is_eq}
 use Rattle.std.specs.declared.cmp.Ordering.{Ordering}
 use Rattle.std.specs.FinMap as fin
 use Rattle.std.specs.FinMap.{IsAntisymmetric, find, from_entries, get-from_entries, same_map, contains_key-keys}
 use Rattle.std.proofs.Math.Bool.{and_comm, or_comm}
-use Rattle.std.proofs.lemmas.Grind.{flat_map-append}
-use Rattle.std.proofs.lemmas.List.{length-append, map-append}
-use Rattle.std.proofs.lemmas.List.Elements.{filter-append}
+use Rattle.std.proofs.lemmas.List.{length-map, map-append}
 use Rattle.std.proofs.lemmas.List.Folds.{flat_map-map, list_any-append}
 use Rattle.mst_ids.specs.Names.{name_cmp, port_cmp}
 use Rattle.mst_ids.specs.declared.name.PortName.{PortName}
-use Rattle.mst_ids.specs.Words.{after_space, line, listed}
 use Rattle.mst_net.specs.Tables.{Net, BridgeRow}
 use Rattle.mst_net.proofs.Keys.{names, ports}
 use Rattle.mst_lag.specs.Aggregation.{same_name}
@@ -32,79 +29,48 @@ use Rattle.mst_plan_text.specs.PlanText.{all_vids}
 use Rattle.mst_plan_text.proofs.OnePlan.{is_vid_there}
 use Rattle.mst_changes.specs.declared.value.VectorOrRole.TheVariants.{HasRole}
 use Rattle.mst_changes.specs.Subjects.{all_trees, bridge_names, port_in, port_names, names_of_either}
-use Rattle.mst_changes.specs.PortChanges.{port_changes}
+use Rattle.mst_changes.specs.PortChanges.{port_change_rows}
 use Rattle.mst_changes.specs.Values.{value_at, role_number, same_side}
-use Rattle.mst_changes.specs.ChangesText.{side_words, change_text}
+use Rattle.mst_changes.specs.ChangesText.{role_cell, change_rows}
 use Rattle.mst_changes.proofs.Names.{kept_left, kept_right}
+use Rattle.mst_kinds.specs.declared.change_line.ChangeLine.TheVariants as change_line
+use Rattle.mst_kinds.specs.declared.kind.Kind.TheVariants as kind
+use Rattle.mst_rows.specs.Cells as cells
+use Rattle.mst_rows.specs.Rows.{Row, region}
 use Rattle.mst_diff.specs.declared.diff.Differing.{Differing}
 use Rattle.mst_diff.specs.declared.roots.RootPair.{RootPair}
-use Rattle.mst_diff.specs.Regions.{same_told, region_words, region_text, region_change, region_changes}
-use Rattle.mst_diff.specs.Roots.{root_name, paired, root_pair, same_pair, root_line, with_new, each_once, tree_roots, root_changes}
-use Rattle.mst_diff.specs.Ports.{ports_text}
-use Rattle.mst_diff.specs.Reach.{has_any, island_words, without, sides_text, AreSides, IsReachText}
-use Rattle.mst_diff.specs.DiffText.{lines_in, IsDiff}
-use Rattle.mst_diff.specs.Turned.{Sided, sided_line, turned_line, AreTurned, SidesTurned}
+use Rattle.mst_diff.specs.Regions.{same_told, configuration, region_unless, region_change, region_changes}
+use Rattle.mst_diff.specs.Roots.{root_name, paired, root_pair, same_pair, root_unless, with_new, each_once, tree_roots, root_changes}
+use Rattle.mst_diff.specs.Ports.{port_rows}
+use Rattle.mst_diff.specs.Reach.{has_any, island_bridges, Sides, sides_of, differ, AreSides, AreReachRows}
+use Rattle.mst_diff.specs.DiffText.{AreDiffRowsOf}
+use Rattle.mst_diff.specs.Turned.{Sided, sided_row, turned_row, AreTurned, turned_sides}
 use Rattle.mst_diff.proofs.Lists.{flat_map-filter_map, flat_map-same, list_any-map}
 use Rattle.mst_diff.proofs.Named.{no_root}
 use Rattle.mst_diff.proofs.OneDiff.{OneList, each_count}
 
--- ---- the number of lines
-pub lines_append : (x y : List ℕ) → lines_in (x ++ y) ≡ lines_in x + lines_in y
-lines_append x y = ap length (filter-append (λ byte. byte == 10) x y) ∙ length-append (filter (λ byte. byte == 10) x) (filter (λ byte. byte == 10) y)
+-- ---- rows that are turned
+-- they are as many
+rows_turned : (rows others : List Row) → AreTurned rows others → length rows ≡ length others
+rows_turned rows others t = ap length t.1 ∙ length-map t.0 sided_row ∙ sym (length-map t.0 turned_row) ∙ sym (ap length t.2)
 
-lines_alike : {A : Type 0} (f g : A → List ℕ) (xs : List A) → ((x : A) → lines_in (f x) ≡ lines_in (g x)) → lines_in (flat_map f xs) ≡ lines_in (flat_map g xs)
-lines_alike f g [] e = refl
-lines_alike f g (x ∷ xs) e = lines_append (f x) (flat_map f xs) ∙ (λ i. e x i + lines_alike f g xs e i) ∙ sym (lines_append (g x) (flat_map g xs))
-
-words_append : (xs ys : List (List ℕ)) → lines_in (flat_map after_space (xs ++ ys)) ≡ lines_in (flat_map after_space xs) + lines_in (flat_map after_space ys)
-words_append xs ys = ap lines_in (flat_map-append after_space xs ys) ∙ lines_append (flat_map after_space xs) (flat_map after_space ys)
-
-pub in_line : (words : List (List ℕ)) → lines_in (line words) ≡ lines_in (flat_map after_space words) + lines_in (10 ∷ [])
-in_line [] = refl
-in_line (word ∷ words) = lines_append (word ++ flat_map after_space words) (10 ∷ [])
-
-changed_over : (h o a n : ℕ) → (h + o) + (a + n) ≡ (h + n) + (a + o)
-changed_over h o a n = omega arith
-
-module _ (head : List (List ℕ)) where
-  in_sides : (old new : List (List ℕ)) → lines_in (flat_map after_space (head ++ old ++ codes "->" ∷ new))
-      ≡ (lines_in (flat_map after_space head) + lines_in (flat_map after_space old)) + (lines_in (after_space (codes "->")) + lines_in (flat_map after_space new))
-  in_sides old new =
-      words_append (head ++ old) (codes "->" ∷ new)
-      ∙ (λ i. words_append head old i + lines_append (after_space (codes "->")) (flat_map after_space new) i)
-
-  sides_changed : (old new : List (List ℕ)) → lines_in (flat_map after_space (head ++ old ++ codes "->" ∷ new)) ≡ lines_in (flat_map after_space (head ++ new ++ codes "->" ∷ old))
-  sides_changed old new =
-      in_sides old new
-      ∙ changed_over (lines_in (flat_map after_space head)) (lines_in (flat_map after_space old)) (lines_in (after_space (codes "->"))) (lines_in (flat_map after_space new))
-      ∙ sym (in_sides new old)
-
-line_turned : (l : Sided) → lines_in (sided_line l) ≡ lines_in (turned_line l)
-line_turned l = in_line (l.head ++ l.old ++ codes "->" ∷ l.new) ∙ ap (λ n. n + lines_in (10 ∷ [])) (sides_changed l.head l.old l.new) ∙ sym (in_line (l.head ++ l.new ++ codes "->" ∷ l.old))
-
--- texts whose lines are turned have equally many
-lines_turned : (text other : List ℕ) → AreTurned text other → lines_in text ≡ lines_in other
-lines_turned text other t = ap lines_in t.1 ∙ lines_alike sided_line turned_line t.0 line_turned ∙ ap lines_in (sym t.2)
-
--- ---- texts whose lines are turned
-nothing_turned : AreTurned [] []
+pub nothing_turned : AreTurned [] []
 nothing_turned = ([], refl, refl)
 
-turned_append : (x y z w : List ℕ) → AreTurned x y → AreTurned z w → AreTurned (x ++ z) (y ++ w)
-turned_append x y z w s t =
-    (s.0 ++ t.0, (λ i. s.1 i ++ t.1 i) ∙ sym (flat_map-append sided_line s.0 t.0), (λ i. s.2 i ++ t.2 i) ∙ sym (flat_map-append turned_line s.0 t.0))
+pub turned_append : (x y z w : List Row) → AreTurned x y → AreTurned z w → AreTurned (x ++ z) (y ++ w)
+turned_append x y z w s t = (s.0 ++ t.0, (λ i. s.1 i ++ t.1 i) ∙ sym (map-append sided_row s.0 t.0), (λ i. s.2 i ++ t.2 i) ∙ sym (map-append turned_row s.0 t.0))
 
-each_turned : {A : Type 0} (f g : A → List ℕ) (xs : List A) → ((x : A) → AreTurned (f x) (g x)) → AreTurned (flat_map f xs) (flat_map g xs)
+each_turned : {A : Type 0} (f g : A → List Row) (xs : List A) → ((x : A) → AreTurned (f x) (g x)) → AreTurned (flat_map f xs) (flat_map g xs)
 each_turned f g [] h = nothing_turned
 each_turned f g (x ∷ xs) h = turned_append (f x) (g x) (flat_map f xs) (flat_map g xs) (h x) (each_turned f g xs h)
 
--- a line where two things differ
-unless_turned : (b c : Bool) → b ≡ c → (l : Sided) → AreTurned (if b then [] else sided_line l) (if c then [] else turned_line l)
-unless_turned b c e l = subst (λ c. AreTurned (if b then [] else sided_line l) (if c then [] else turned_line l)) e (go b)
+-- a row where two things differ
+unless_turned : (b c : Bool) → b ≡ c → (s : Sided) → AreTurned (if b then [] else sided_row s ∷ []) (if c then [] else turned_row s ∷ [])
+unless_turned b c e s = subst (λ c. AreTurned (if b then [] else sided_row s ∷ []) (if c then [] else turned_row s ∷ [])) e (go b)
   where
-    go : (b : Bool) → AreTurned (if b then [] else sided_line l) (if b then [] else turned_line l)
+    go : (b : Bool) → AreTurned (if b then [] else sided_row s ∷ []) (if b then [] else turned_row s ∷ [])
     go true = nothing_turned
-    go false = (l ∷ [], sym (append-nil (sided_line l)), sym (append-nil (turned_line l)))
+    go false = (s ∷ [], refl, refl)
 
 name_turned : (x y : List ℕ) → same_name x y ≡ same_name y x
 name_turned = nat_list_eq_equiv.symm
@@ -137,40 +103,40 @@ told_turned x y = go x.is_rstp y.is_rstp
     go false true = refl
     go false false = λ i. name_turned x.conf_name y.conf_name i && nat_eq_equiv.symm x.revision y.revision i
 
-region_turned : (name : List ℕ) (x : BridgeRow) (first : List ℕ) (y : BridgeRow) (other : List ℕ) → AreTurned (region_text name x first y other) (region_text name y other x first)
+region_turned : (name : List ℕ) (x : BridgeRow) (first : List ℕ) (y : BridgeRow) (other : List ℕ) → AreTurned (region_unless name x first y other) (region_unless name y other x first)
 region_turned name x first y other =
     unless_turned (same_told x y && same_name first other) (same_told y x && same_name other first) (λ i. told_turned x y i && name_turned first other i)
-    (record { head = codes "region" ∷ name ∷ []; old = region_words x first; new = region_words y other })
+    (record { kind = kind.Change change_line.Region; head = cells.word name ∷ []; old = cells.object (region (configuration x) first); new = cells.object (region (configuration y) other) })
 
 none_then : {A B : Type 0} (f : A → Option B) → ((x : A) → f x ≡ None) → (o : Option A) → option_and_then f o ≡ None
 none_then f none None = refl
 none_then f none (Some x) = none x
 
-given : {A : Type 0} (f : A → List ℕ) (o : Option A) → option_map_or (λ t. t) (option_map f o) [] ≡ option_map_or f o []
+given : {A B : Type 0} (f : A → List B) (o : Option A) → option_map_or (λ t. t) (option_map f o) [] ≡ option_map_or f o []
 given f None = refl
 given f (Some x) = refl
 
 -- both orders of the networks
 module _ (a b : Net) where
-  -- the text of a bridge, if both have it
-  abbrev told_at : List ℕ → Option (List ℕ)
-  told_at name = option_and_then (λ x. option_map (λ y. region_text name x (first_of_region a name) y (first_of_region b name)) (fin.get b.bridges name)) (fin.get a.bridges name)
+  -- the rows of a bridge, if both have it
+  abbrev told_at : List ℕ → Option (List Row)
+  told_at name = option_and_then (λ x. option_map (λ y. region_unless name x (first_of_region a name) y (first_of_region b name)) (fin.get b.bridges name)) (fin.get a.bridges name)
 
   regions_at : flat_map (λ name. option_map_or (λ t. t) (told_at name) []) (bridge_names a) ≡ region_changes a b
   regions_at =
       flat_map-map (λ name. option_map_or (λ t. t) (told_at name) []) (λ (e : List ℕ × BridgeRow). e.0) (fin.entries a.bridges)
       ∙ flat_map-same (λ (e : List ℕ × BridgeRow). option_map_or (λ t. t) (told_at e.0) []) (region_change a b) (fin.entries a.bridges)
       (all_weaker _ _ (λ (e : List ℕ × BridgeRow) found.
-      ap (λ r. option_map_or (λ t. t) (option_and_then (λ x. option_map (λ y. region_text e.0 x (first_of_region a e.0) y (first_of_region b e.0)) (fin.get b.bridges e.0)) r) []) found
-      ∙ given (λ y. region_text e.0 e.1 (first_of_region a e.0) y (first_of_region b e.0)) (fin.get b.bridges e.0))
+      ap (λ r. option_map_or (λ t. t) (option_and_then (λ x. option_map (λ y. region_unless e.0 x (first_of_region a e.0) y (first_of_region b e.0)) (fin.get b.bridges e.0)) r) []) found
+      ∙ given (λ y. region_unless e.0 e.1 (first_of_region a e.0) y (first_of_region b e.0)) (fin.get b.bridges e.0))
       (fin.entries a.bridges) (entries_found names.total a.bridges))
 
   no_left : (name : List ℕ) → fin.get a.bridges name ≡ None → told_at name ≡ None
-  no_left name e = ap (option_and_then (λ x. option_map (λ y. region_text name x (first_of_region a name) y (first_of_region b name)) (fin.get b.bridges name))) e
+  no_left name e = ap (option_and_then (λ x. option_map (λ y. region_unless name x (first_of_region a name) y (first_of_region b name)) (fin.get b.bridges name))) e
 
   no_right : (name : List ℕ) → fin.get b.bridges name ≡ None → told_at name ≡ None
-  no_right name e = ap (λ r. option_and_then (λ x. option_map (λ y. region_text name x (first_of_region a name) y (first_of_region b name)) r) (fin.get a.bridges name)) e
-      ∙ none_then (λ x. option_map (λ y. region_text name x (first_of_region a name) y (first_of_region b name)) None) (λ x. refl) (fin.get a.bridges name)
+  no_right name e = ap (λ r. option_and_then (λ x. option_map (λ y. region_unless name x (first_of_region a name) y (first_of_region b name)) r) (fin.get a.bridges name)) e
+      ∙ none_then (λ x. option_map (λ y. region_unless name x (first_of_region a name) y (first_of_region b name)) None) (λ x. refl) (fin.get a.bridges name)
 
   -- of the bridges of the new network as of the old one
   regions_by_new : flat_map (λ name. option_map_or (λ t. t) (told_at name) []) (bridge_names b) ≡ region_changes a b
@@ -180,13 +146,13 @@ module _ (a b : Net) where
 
 pub regions_turned : (a b : Net) → AreTurned (region_changes a b) (region_changes b a)
 regions_turned a b =
-    subst (λ text. AreTurned text (region_changes b a)) (regions_by_new a b)
+    subst (λ rows. AreTurned rows (region_changes b a)) (regions_by_new a b)
     (subst (AreTurned (flat_map (λ name. option_map_or (λ t. t) (told_at a b name) []) (bridge_names b))) (regions_at b a)
     (each_turned (λ name. option_map_or (λ t. t) (told_at a b name) []) (λ name. option_map_or (λ t. t) (told_at b a name) []) (bridge_names b) (λ name. go name (fin.get a.bridges name) (fin.get b.bridges name))))
   where
     go : (name : List ℕ) (x y : Option BridgeRow)
-        → AreTurned (option_map_or (λ t. t) (option_and_then (λ x. option_map (λ y. region_text name x (first_of_region a name) y (first_of_region b name)) y) x) [])
-        (option_map_or (λ t. t) (option_and_then (λ y. option_map (λ x. region_text name y (first_of_region b name) x (first_of_region a name)) x) y) [])
+        → AreTurned (option_map_or (λ t. t) (option_and_then (λ x. option_map (λ y. region_unless name x (first_of_region a name) y (first_of_region b name)) y) x) [])
+        (option_map_or (λ t. t) (option_and_then (λ y. option_map (λ x. region_unless name y (first_of_region b name) x (first_of_region a name)) x) y) [])
     go name None None = nothing_turned
     go name None (Some y) = nothing_turned
     go name (Some x) None = nothing_turned
@@ -229,9 +195,9 @@ once_turned : (xs kept : List RootPair) → fold (with_new same_pair) (map pair_
 once_turned [] kept = refl
 once_turned (x ∷ xs) kept = ap (λ ks. fold (with_new same_pair) ks (map pair_turned xs)) (new_turned kept x) ∙ once_turned xs (with_new same_pair kept x)
 
-root_turned : (tree : ℕ) (pair : RootPair) → AreTurned (root_line tree pair) (root_line tree (pair_turned pair))
+root_turned : (tree : ℕ) (pair : RootPair) → AreTurned (root_unless tree pair) (root_unless tree (pair_turned pair))
 root_turned tree pair =
-    unless_turned (same_name pair.old pair.new) (same_name pair.new pair.old) (name_turned pair.old pair.new) (record { head = codes "root" ∷ decimal tree ∷ []; old = pair.old ∷ []; new = pair.new ∷ [] })
+    unless_turned (same_name pair.old pair.new) (same_name pair.new pair.old) (name_turned pair.old pair.new) (record { kind = kind.Change change_line.Root; head = cells.number tree ∷ []; old = cells.word pair.old; new = cells.word pair.new })
 
 module _ (a b : Net) (o p : Outcome) where
   pairs_turned : (tree : ℕ) → filter_map (root_pair b p a o tree) (bridge_names b) ≡ map pair_turned (filter_map (root_pair a o b p tree) (bridge_names a))
@@ -246,9 +212,9 @@ module _ (a b : Net) (o p : Outcome) where
   tree_turned tree =
       let pairs : List RootPair = filter_map (root_pair a o b p tree) (bridge_names a) in
       let kept : List RootPair = each_once same_pair pairs in
-      subst (AreTurned (flat_map (root_line tree) kept))
-      (sym (flat_map-map (root_line tree) pair_turned kept) ∙ ap (flat_map (root_line tree)) (sym (once_turned pairs []) ∙ ap (each_once same_pair) (sym (pairs_turned tree))))
-      (each_turned (root_line tree) (λ pair. root_line tree (pair_turned pair)) kept (root_turned tree))
+      subst (AreTurned (flat_map (root_unless tree) kept))
+      (sym (flat_map-map (root_unless tree) pair_turned kept) ∙ ap (flat_map (root_unless tree)) (sym (once_turned pairs []) ∙ ap (each_once same_pair) (sym (pairs_turned tree))))
+      (each_turned (root_unless tree) (λ pair. root_unless tree (pair_turned pair)) kept (root_turned tree))
 
   pub roots_turned : AreTurned (root_changes a o b p) (root_changes b p a o)
   roots_turned = each_turned (tree_roots a o b p) (tree_roots b p a o) all_trees tree_turned
@@ -290,56 +256,48 @@ role_turned (Some r) None = refl
 role_turned (Some r) (Some s) = nat_eq_equiv.symm (role_number r) (role_number s)
 
 port_turned : (tree : ℕ) (name : PortName) (r s : Option Role)
-    → AreTurned (change_text (port_in tree name) (option_map HasRole r) (option_map HasRole s)) (change_text (port_in tree name) (option_map HasRole s) (option_map HasRole r))
+    → AreTurned (change_rows (port_in tree name) (option_map HasRole r) (option_map HasRole s)) (change_rows (port_in tree name) (option_map HasRole s) (option_map HasRole r))
 port_turned tree name r s =
     unless_turned (same_side (option_map HasRole r) (option_map HasRole s)) (same_side (option_map HasRole s) (option_map HasRole r)) (role_turned r s)
-    (record { head = codes "port" ∷ decimal tree ∷ name.bridge ∷ decimal name.number ∷ []; old = side_words (option_map HasRole r); new = side_words (option_map HasRole s) })
+    (record { kind = kind.Change change_line.Port; head = cells.number tree ∷ cells.word name.bridge ∷ cells.number name.number ∷ []; old = role_cell (option_map HasRole r); new = role_cell (option_map HasRole s) })
 
 module _ (a b : Net) (o p : Outcome) where
-  changes_turned : (tree : ℕ) → AreTurned (port_changes a o b p tree) (port_changes b p a o tree)
+  changes_turned : (tree : ℕ) → AreTurned (port_change_rows a o b p tree) (port_change_rows b p a o tree)
   changes_turned tree =
       let either : List PortName = names_of_either port_cmp (port_names a) (port_names b) in
-      subst (λ text. AreTurned text (port_changes b p a o tree)) (sym (flat_map-map (λ place. change_text place (value_at a o place) (value_at b p place)) (port_in tree) either))
-      (subst (AreTurned (flat_map (λ name. change_text (port_in tree name) (value_at a o (port_in tree name)) (value_at b p (port_in tree name))) either))
-      (sym (flat_map-map (λ place. change_text place (value_at b p place) (value_at a o place)) (port_in tree) either)
-      ∙ ap (λ names. flat_map (λ place. change_text place (value_at b p place) (value_at a o place)) (map (port_in tree) names)) (either_turned ports.total ports.same (port_names a) (port_names b)))
-      (each_turned (λ name. change_text (port_in tree name) (value_at a o (port_in tree name)) (value_at b p (port_in tree name))) (λ name. change_text (port_in tree name) (value_at b p (port_in tree name)) (value_at a o (port_in tree name)))
+      subst (λ rows. AreTurned rows (port_change_rows b p a o tree)) (sym (flat_map-map (λ place. change_rows place (value_at a o place) (value_at b p place)) (port_in tree) either))
+      (subst (AreTurned (flat_map (λ name. change_rows (port_in tree name) (value_at a o (port_in tree name)) (value_at b p (port_in tree name))) either))
+      (sym (flat_map-map (λ place. change_rows place (value_at b p place) (value_at a o place)) (port_in tree) either)
+      ∙ ap (λ names. flat_map (λ place. change_rows place (value_at b p place) (value_at a o place)) (map (port_in tree) names)) (either_turned ports.total ports.same (port_names a) (port_names b)))
+      (each_turned (λ name. change_rows (port_in tree name) (value_at a o (port_in tree name)) (value_at b p (port_in tree name))) (λ name. change_rows (port_in tree name) (value_at b p (port_in tree name)) (value_at a o (port_in tree name)))
       either (λ name. port_turned tree name (role_of a o tree name) (role_of b p tree name))))
 
-  pub ports_turned : AreTurned (ports_text a o b p) (ports_text b p a o)
-  ports_turned = each_turned (port_changes a o b p) (port_changes b p a o) all_trees changes_turned
+  pub ports_turned : AreTurned (port_rows a o b p) (port_rows b p a o)
+  ports_turned = each_turned (port_change_rows a o b p) (port_change_rows b p a o) all_trees changes_turned
 
 -- ---- islands
-pub any_turned : (u v : List (List ℕ)) → has_any (if has_any (u ++ v) then flat_map after_space (listed u ++ codes "->" ∷ listed v) else []) ≡ has_any (if has_any (v ++ u) then flat_map after_space (listed v ++ codes "->" ∷ listed u) else [])
-any_turned [] [] = refl
-any_turned [] (w ∷ ws) = refl
-any_turned (w ∷ ws) [] = refl
-any_turned (w ∷ ws) (x ∷ xs) = refl
+pub any_turned : (s : Sides) → differ (turned_sides s) ≡ differ s
+any_turned s = or_comm (has_any s.new) (has_any s.old)
 
 module _ (a b : Net) (o p : Outcome) (one : OneList) where
-  pub sides_turned : (vid : ℕ) (text other : List ℕ) → AreSides a o b p vid text → AreSides b p a o vid other → SidesTurned text other
-  sides_turned vid text other s t = (
-    island_words s.0,
-    island_words s.1,
-    s.4,
-    t.4 ∙ (λ i. sides_text (island_words (one b p vid t.0 s.1 t.2 s.3 i)) (island_words (one a o vid t.1 s.0 t.3 s.2 i))),
-  )
+  pub sides_turned : (vid : ℕ) (sides others : Sides) → AreSides a o b p vid sides → AreSides b p a o vid others → others ≡ turned_sides sides
+  sides_turned vid sides others s t =
+      t.4 ∙ (λ i. sides_of (island_bridges (one b p vid t.0 s.1 t.2 s.3 i)) (island_bridges (one a o vid t.1 s.0 t.3 s.2 i))) ∙ ap turned_sides (sym s.4)
 
-  module _ (text other : List ℕ) (c d : ℕ) (x : IsReachText a o b p text c) (y : IsReachText b p a o other d) where
-    vid_turned : (vid : ℕ) → Contains all_vids vid → has_any (x.sides vid) ≡ has_any (y.sides vid)
+  module _ (rows others : List Row) (c d : ℕ) (x : AreReachRows a o b p rows c) (y : AreReachRows b p a o others d) where
+    vid_turned : (vid : ℕ) → Contains all_vids vid → differ (x.sides vid) ≡ differ (y.sides vid)
     vid_turned vid h =
         let v = is_vid_there vid h in
-        let t = sides_turned vid (x.sides vid) (y.sides vid) (x.are_sides vid v) (y.are_sides vid v) in
-        ap has_any t.2 ∙ any_turned (without t.0 t.1) (without t.1 t.0) ∙ sym (ap has_any t.3)
+        sym (ap differ (sides_turned vid (x.sides vid) (y.sides vid) (x.are_sides vid v) (y.are_sides vid v)) ∙ any_turned (x.sides vid))
 
     vids_turned : c ≡ d
-    vids_turned = x.counted ∙ each_count (λ vid. has_any (x.sides vid)) (λ vid. has_any (y.sides vid)) all_vids vid_turned ∙ sym y.counted
+    vids_turned = x.counted ∙ each_count (λ vid. differ (x.sides vid)) (λ vid. differ (y.sides vid)) all_vids vid_turned ∙ sym y.counted
 
   -- the numbers of both
-  pub counts_turned : (c d : Differing) (text other : List ℕ) → IsDiff a o b p c text → IsDiff b p a o d other → c ≡ d
-  counts_turned c d text other x y = λ i. record {
-    regions = (x.regions ∙ lines_turned (region_changes a b) (region_changes b a) (regions_turned a b) ∙ sym y.regions) i;
-    roots = (x.roots ∙ lines_turned (root_changes a o b p) (root_changes b p a o) (roots_turned a b o p) ∙ sym y.roots) i;
-    ports = (x.ports ∙ lines_turned (ports_text a o b p) (ports_text b p a o) (ports_turned a b o p) ∙ sym y.ports) i;
+  pub counts_turned : (c d : Differing) (rows other : List Row) → AreDiffRowsOf a o b p c rows → AreDiffRowsOf b p a o d other → c ≡ d
+  counts_turned c d rows other x y = λ i. record {
+    regions = (x.regions ∙ rows_turned (region_changes a b) (region_changes b a) (regions_turned a b) ∙ sym y.regions) i;
+    roots = (x.roots ∙ rows_turned (root_changes a o b p) (root_changes b p a o) (roots_turned a b o p) ∙ sym y.roots) i;
+    ports = (x.ports ∙ ap (λ n. min n 18446744073709551615) (rows_turned (port_rows a o b p) (port_rows b p a o) (ports_turned a b o p)) ∙ sym y.ports) i;
     vlans = vids_turned x.reach y.reach c.vlans d.vlans x.is_reach y.is_reach i;
   }

@@ -12,7 +12,7 @@ use Rattle.mst_plan_text.specs.roles.Roles.{role_of}
 use Rattle.mst_plan_text.specs.vlan.Reach.{AreIslandsOf}
 use Rattle.mst_diff.specs.Regions.{same_told}
 use Rattle.mst_diff.specs.Roots.{root_name}
-use Rattle.mst_diff.specs.Reach.{island_words}
+use Rattle.mst_diff.specs.Reach.{island_bridges}
 
 -- the two networks with these outcomes are alike
 pub record AreAlike (a : Net) (o : Outcome) (b : Net) (p : Outcome) : Type 0 where
@@ -23,6 +23,6 @@ pub record AreAlike (a : Net) (o : Outcome) (b : Net) (p : Outcome) : Type 0 whe
   pub roots : (tree : ℕ) → tree ≤ 4094 → (bridge old new : List ℕ) → root_name a o tree bridge ≡ Some old → root_name b p tree bridge ≡ Some new → old ≡ new
   -- a logical port has the same role in a tree in both, or none in both
   pub roles : (tree : ℕ) → tree ≤ 4094 → (port : PortName) → role_of a o tree port ≡ role_of b p tree port
-  -- the islands of a VID that have a bridge are told by the same words
+  -- the islands of a VID that have a bridge have the same ones
   pub islands : (vid : ℕ) → is_vid vid ≡ true → (olds news : List (Island (List ℕ) (List ℕ))) → AreIslandsOf a o vid olds → AreIslandsOf b p vid news
-      → (word : List ℕ) → Contains (island_words olds) word ↔ Contains (island_words news) word
+      → (bridges : List (List ℕ)) → Contains (island_bridges olds) bridges ↔ Contains (island_bridges news) bridges

@@ -1,9 +1,10 @@
--- The lines of trees whose root, or one of whose regional roots, is another one.
-use Rattle.std.specs.Prelude.{ℕ, ◌==◌, ◌&&◌, Bool, List, [], ◌∷◌, ◌++◌, Option, None, filter_map, fold, codes, decimal, if◌then◌else◌}
+-- The rows of trees whose root, or one of whose regional roots, is another one.
+use Rattle.std.specs.Prelude.{ℕ, ◌==◌, ◌&&◌, Bool, List, [], ◌∷◌, ◌++◌, Option, None, filter_map, fold, if◌then◌else◌}
 use Rattle.std.specs.List.{find, flat_map, list_any}
 use Rattle.std.specs.Option.{option_map, option_and_then}
 use Rattle.std.specs.FinMap as fin
-use Rattle.mst_ids.specs.Words.{line}
+use Rattle.mst_kinds.specs.declared.change_line.ChangeLine.TheVariants as change_line
+use Rattle.mst_kinds.specs.declared.kind.Kind.TheVariants as kind
 use Rattle.mst_net.specs.Tables.{Net}
 use Rattle.mst_net.specs.ByTree.{by_tree}
 use Rattle.mst_lag.specs.Aggregation.{same_name}
@@ -11,6 +12,8 @@ use Rattle.mst_plan_text.specs.trees.InUse.{id_in}
 use Rattle.mst_plan_text.specs.trees.Msti.{has_msti}
 use Rattle.mst_plan_text.specs.trees.Outcome.{Outcome}
 use Rattle.mst_changes.specs.Subjects.{all_trees, bridge_names}
+use Rattle.mst_rows.specs.Cells.{number, word}
+use Rattle.mst_rows.specs.Rows.{Row, row_of}
 use Rattle.mst_diff.specs.declared.roots.RootPair.{RootPair}
 
 -- the identifier of a bridge's root in the CIST, and of its regional root in an MSTI, where it is there, has the tree
@@ -41,8 +44,11 @@ abbrev pub same_pair : RootPair → RootPair → Bool
 same_pair x y = same_name x.old y.old && same_name x.new y.new
 
 -- `root T A -> B`, where they differ
-abbrev pub root_line : ℕ → RootPair → List ℕ
-root_line tree pair = if same_name pair.old pair.new then [] else line (codes "root" ∷ decimal tree ∷ pair.old ∷ codes "->" ∷ pair.new ∷ [])
+abbrev pub root_row : ℕ → RootPair → Row
+root_row tree pair = row_of (kind.Change change_line.Root) (number tree ∷ word pair.old ∷ word pair.new ∷ [])
+
+abbrev pub root_unless : ℕ → RootPair → List Row
+root_unless tree pair = if same_name pair.old pair.new then [] else root_row tree pair ∷ []
 
 -- each once, in the order in which they come first: one more goes behind those before, unless it is among them
 abbrev pub with_new : {A : Type 0} → (A → A → Bool) → List A → A → List A
@@ -51,10 +57,10 @@ with_new same kept x = if list_any (λ y. same y x) kept then kept else kept ++ 
 abbrev pub each_once : {A : Type 0} → (A → A → Bool) → List A → List A
 each_once same xs = fold (with_new same) [] xs
 
--- the lines of a tree: a pair once, by the first of the bridges that have it
-abbrev pub tree_roots : Net → Outcome → Net → Outcome → ℕ → List ℕ
-tree_roots a o b p tree = flat_map (root_line tree) (each_once same_pair (filter_map (root_pair a o b p tree) (bridge_names a)))
+-- the rows of a tree: a pair once, by the first of the bridges that have it
+abbrev pub tree_roots : Net → Outcome → Net → Outcome → ℕ → List Row
+tree_roots a o b p tree = flat_map (root_unless tree) (each_once same_pair (filter_map (root_pair a o b p tree) (bridge_names a)))
 
 -- of all trees, rising
-abbrev pub root_changes : Net → Outcome → Net → Outcome → List ℕ
+abbrev pub root_changes : Net → Outcome → Net → Outcome → List Row
 root_changes a o b p = flat_map (tree_roots a o b p) all_trees

@@ -1,9 +1,8 @@
 -- What differs between two views with their forests.
-use Rattle.std.specs.Prelude.{◌≡◌, ℕ, ◌==◌, ◌||◌, List, [], ◌∷◌, ◌++◌, Option, None, Some, map, filter, filter_map, codes, if◌then◌else◌}
+use Rattle.std.specs.Prelude.{◌≡◌, ℕ, ◌-◌, ◌==◌, List, [], ◌∷◌, Option, None, Some, map, filter, filter_map, slice_index, slice_index_or, if◌then◌else◌}
 use Rattle.std.specs.List.{Contains, find, list_any}
 use Rattle.std.specs.Map.{lookup}
 use Rattle.std.specs.Option.{option_map, unwrap_or}
-use Rattle.mst_ids.specs.Words.{after_space, comma_list}
 use Rattle.mst_net.specs.Seen.{bridge_row}
 use Rattle.mst_net.specs.Tables.{Net}
 use Rattle.mst_plan_text.specs.settle.Assignment.{vector_of}
@@ -19,13 +18,22 @@ use Rattle.mst_plan_text.specs.trees.Seen.{trees_at}
 use Rattle.mst_plan_text.specs.trees.Settled.{SettledNet, outcome_of}
 use Rattle.mst_plan_text.specs.vlan.declared.island.Island.{Island}
 use Rattle.mst_plan_text.specs.text.VlanSeen.{seen_bridge}
-use Rattle.mst_changes.specs.PortChanges.{port_changes}
+use Rattle.mst_changes.specs.PortChanges.{port_change_rows}
+use Rattle.mst_kinds.specs.declared.change_line.ChangeLine.TheVariants as change_line
+use Rattle.mst_kinds.specs.declared.kind.Kind.TheVariants as kind
+use Rattle.mst_rows.specs.Cells as cells
+use Rattle.mst_rows.specs.Rows.{Row, region, row_of}
 use Rattle.mst_diff.specs.declared.both.Both.{Both}
 use Rattle.mst_diff.specs.declared.roots.Identified.{Identified}
 use Rattle.mst_diff.specs.declared.roots.RootPair.{RootPair}
-use Rattle.mst_diff.specs.Regions.{region_text}
-use Rattle.mst_diff.specs.Roots.{root_pair, same_pair, with_new, tree_roots}
-use Rattle.mst_diff.specs.Reach.{has_any, AreSides}
+use Rattle.mst_diff.specs.declared.roots.RootChange.{RootChange}
+use Rattle.mst_diff.specs.declared.diff.Differing.{Differing}
+use Rattle.mst_diff.specs.declared.regions.RegionChange.{RegionChange}
+use Rattle.mst_diff.specs.DiffText.{AreDiffRowsOf}
+use Rattle.mst_diff.specs.Regions.{region_unless}
+use Rattle.mst_diff.specs.Roots.{root_pair, root_row, same_pair, with_new, tree_roots}
+use Rattle.mst_diff.specs.Reach.{has_any, same_names, AreSides, Sides}
+use Rattle.mst_diff.specs.declared.sides.Sides.{Sides as KeptSides}
 
 -- ---- bridges
 -- a bridge of one view, if one of that name is in the other, too
@@ -53,11 +61,19 @@ seen_found v classes b = option_map (λ c. c.name) (find (λ c. same_in classes 
 abbrev pub seen_first : Viewed → List (ℕ × ℕ) → BridgeInView → List ℕ
 seen_first v classes b = unwrap_or (seen_found v classes b) b.name
 
--- the line of a bridge of two networks, by its name
-abbrev pub region_of : Net → Net → Both → List ℕ
-region_of a b both = region_text both.old.name (bridge_row both.old.bridge) (first_of_region a both.old.name) (bridge_row both.new.bridge) (first_of_region b both.old.name)
+-- the row of a bridge of two networks, by its name
+abbrev pub region_of : Net → Net → Both → List Row
+region_of a b both = region_unless both.old.name (bridge_row both.old.bridge) (first_of_region a both.old.name) (bridge_row both.new.bridge) (first_of_region b both.old.name)
+
+-- the row of a bridge whose region is another one
+abbrev pub row_of_region : RegionChange → Row
+row_of_region c = row_of (kind.Change change_line.Region) (cells.word c.bridge ∷ cells.object (region c.old.configuration c.old.first) ∷ cells.object (region c.new.configuration c.new.first) ∷ [])
 
 -- ---- roots
+-- the row of a tree of which a root is another one
+abbrev pub row_of_root : RootChange → Row
+row_of_root c = root_row c.tree c.pair
+
 abbrev pub seen_root : Viewed → Forest → ℕ → ℕ → Option ℕ
 seen_root v f tree bridge =
     if tree == 0 then option_map (λ v. v.root) (vector_of f.cist bridge) else (if is_among (trees_at v bridge) tree then option_map (λ v. v.regional) (msti_vector f tree bridge) else None)
@@ -73,8 +89,8 @@ name_by named id = option_map (λ n. n.name) (find (λ n. n.id == id) named)
 abbrev pub pair_of : SettledNet → SettledNet → ℕ → Both → Option RootPair
 pair_of s t tree both = root_pair s.net (outcome_of s) t.net (outcome_of t) tree both.old.name
 
--- the lines of a tree
-abbrev pub roots_of : SettledNet → SettledNet → ℕ → List ℕ
+-- the rows of a tree
+abbrev pub roots_of : SettledNet → SettledNet → ℕ → List Row
 roots_of s t = tree_roots s.net (outcome_of s) t.net (outcome_of t)
 
 -- pairs with one more, if there is one
@@ -83,29 +99,33 @@ with_pair kept None = kept
 with_pair kept (Some pair) = with_new same_pair kept pair
 
 -- ---- ports
-abbrev pub ports_of : SettledNet → SettledNet → ℕ → List ℕ
-ports_of s t = port_changes s.net (outcome_of s) t.net (outcome_of t)
+abbrev pub ports_of : SettledNet → SettledNet → ℕ → List Row
+ports_of s t = port_change_rows s.net (outcome_of s) t.net (outcome_of t)
 
 -- ---- islands
-abbrev pub AreSidesOf : SettledNet → SettledNet → ℕ → List ℕ → Type 0
+abbrev pub AreSidesOf : SettledNet → SettledNet → ℕ → Sides → Type 0
 AreSidesOf s t = AreSides s.net (outcome_of s) t.net (outcome_of t)
 
-abbrev pub seen_words : Viewed → List Island → List (List ℕ)
-seen_words v islands = map (λ i. comma_list (map (seen_bridge v) i.bridges)) (filter (λ i. has_any i.bridges) islands)
+-- the sides that are kept
+abbrev pub seen_sides : KeptSides → Sides
+seen_sides s = record { old = map (λ group. group.items) s.old.items; new = map (λ group. group.items) s.new.items }
 
--- the word of an island, if it has a bridge
-abbrev pub one_word : Viewed → Island → List (List ℕ)
-one_word v i = if has_any i.bridges then comma_list (map (seen_bridge v) i.bridges) ∷ [] else []
+-- those of the number that a VID has
+abbrev pub sides_at : List ℕ → List Sides → ℕ → Sides
+sides_at numbers sides vid = slice_index_or sides (slice_index numbers (vid - 1)) (record { old = []; new = [] })
 
--- a word after a space, unless it is among others
-abbrev pub apart_word : List (List ℕ) → List ℕ → List ℕ
-apart_word others word = if list_any (λ other. same_name other word) others then [] else after_space word
+-- the bridges of each island that has one
+abbrev pub seen_groups : Viewed → List Island → List (List (List ℕ))
+seen_groups v islands = map (λ i. filter_map (seen_bridge v) i.bridges) (filter (λ i. has_any i.bridges) islands)
 
--- a side: words, each after a space, or `-` where there is none
-abbrev pub side_text : List ℕ → List ℕ
-side_text [] = after_space (codes "-")
-side_text (byte ∷ bytes) = byte ∷ bytes
+abbrev pub one_group : Viewed → Island → List (List (List ℕ))
+one_group v i = if has_any i.bridges then filter_map (seen_bridge v) i.bridges ∷ [] else []
 
--- both sides, or nothing where neither has a word
-abbrev pub joined_sides : List ℕ → List ℕ → List ℕ
-joined_sides gone come = if has_any gone || has_any come then side_text gone ++ after_space (codes "->") ++ side_text come else []
+-- an island, unless it is among others
+abbrev pub apart_group : List (List (List ℕ)) → List (List ℕ) → List (List (List ℕ))
+apart_group others group = if list_any (λ other. same_names other group) others then [] else group ∷ []
+
+-- ---- all rows
+-- from one settled network to another
+abbrev pub AreDiffRows : SettledNet → SettledNet → Differing → List Row → Type 0
+AreDiffRows s t = AreDiffRowsOf s.net (outcome_of s) t.net (outcome_of t)

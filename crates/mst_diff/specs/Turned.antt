@@ -1,38 +1,27 @@
--- The same lines with their sides changed over.
-use Rattle.std.specs.Prelude.{◌≡◌, ℕ, List, ◌∷◌, ◌++◌, codes}
-use Rattle.std.specs.List.{flat_map}
-use Rattle.mst_ids.specs.Words.{line}
-use Rattle.mst_diff.specs.Reach.{sides_text, whole_line}
+-- The same rows with their sides changed over.
+use Rattle.std.specs.Prelude.{◌≡◌, List, [], ◌∷◌, ◌++◌, map}
+use Rattle.mst_kinds.specs.declared.kind.Kind.{Kind}
+use Rattle.mst_rows.specs.Cells.{Cell}
+use Rattle.mst_rows.specs.Rows.{Row, row_of}
+use Rattle.mst_diff.specs.Reach.{Sides}
 
--- a line of two sides: its first words, and the words of each side
+-- a row of two sides: its kind, its first values, and the value of each side
 pub record Sided : Type 0 where
-  pub head : List (List ℕ)
-  pub old : List (List ℕ)
-  pub new : List (List ℕ)
+  pub kind : Kind
+  pub head : List Cell
+  pub old : Cell
+  pub new : Cell
 
--- `HEAD OLD -> NEW`
-abbrev pub sided_line : Sided → List ℕ
-sided_line l = line (l.head ++ l.old ++ codes "->" ∷ l.new)
+abbrev pub sided_row : Sided → Row
+sided_row s = row_of s.kind (s.head ++ s.old ∷ s.new ∷ [])
 
--- `HEAD NEW -> OLD`
-abbrev pub turned_line : Sided → List ℕ
-turned_line l = line (l.head ++ l.new ++ codes "->" ∷ l.old)
+abbrev pub turned_row : Sided → Row
+turned_row s = row_of s.kind (s.head ++ s.new ∷ s.old ∷ [])
 
--- two texts have the same lines, in the same order, with their sides changed over
-abbrev pub AreTurned : List ℕ → List ℕ → Type 0
-AreTurned text other = (lines : List Sided) × (text ≡ flat_map sided_line lines) × (other ≡ flat_map turned_line lines)
+-- two lists have the same rows, in the same order, with their sides changed over
+abbrev pub AreTurned : List Row → List Row → Type 0
+AreTurned rows others = (sided : List Sided) × (rows ≡ map sided_row sided) × (others ≡ map turned_row sided)
 
--- two texts are the sides of a VID, and the same changed over
-abbrev pub SidesTurned : List ℕ → List ℕ → Type 0
-SidesTurned text other = (old new : List (List ℕ)) × (text ≡ sides_text old new) × (other ≡ sides_text new old)
-
--- a line of VIDs: their group, and the words of each side
-pub record ReachSided : Type 0 where
-  pub vids : List ℕ
-  pub old : List (List ℕ)
-  pub new : List (List ℕ)
-
--- two texts have lines of the same groups of VIDs, in the same order, with their sides changed over
-abbrev pub ReachTurned : List ℕ → List ℕ → Type 0
-ReachTurned text other =
-    (lines : List ReachSided) × (text ≡ flat_map (λ l. whole_line l.vids (sides_text l.old l.new)) lines) × (other ≡ flat_map (λ l. whole_line l.vids (sides_text l.new l.old)) lines)
+-- the sides of a VID changed over
+abbrev pub turned_sides : Sides → Sides
+turned_sides s = record { old = s.new; new = s.old }

@@ -1,19 +1,20 @@
-ghost use Rattle.std.specs.Prelude.{◌≡◌, ◌==◌, ◌&&◌, ◌++◌, ℕ, List, IfOk, OnOk};
-ghost use Rattle.mst_plan_text.specs.trees.Settled.{outcome_of};
-ghost use Rattle.mst_diff.specs.DiffText.{IsDiff, diff_line, lines_in as lines_of_text};
+ghost use Rattle.std.specs.Prelude.{◌≡◌, ◌==◌, ◌&&◌, ◌++◌, ◌∷◌, [], List, IfOk, OnOk};
+ghost use Rattle.mst_rows.specs.Rows.{Row};
+ghost use Rattle.mst_diff.specs.DiffText.{diff_row};
+ghost use Rattle.mst_diff.specs.Seen.{AreDiffRows};
 
-use crate::all_roots::push_roots;
+use crate::all_roots::{changed_roots, put_roots};
 use crate::both::bridges_of_both;
 use crate::change::Change;
-use crate::ports::push_ports;
-use crate::reach::push_reach;
-use crate::regions::push_regions;
-use itoa::Buffer;
-use mst_ids::{push_bytes, push_line};
+use crate::ports::put_ports;
+use crate::reach::put_reach;
+use crate::regions::{changed_regions, put_regions};
+use mst_kinds::{ChangeLine, Kind};
 use mst_plan_text::{Settled, trees_in_use};
+use mst_rows::{Rows, Value, put};
 use std::alloc::{AllocError, Global};
 
-/// How much differs: lines of regions, of roots and of ports, and VIDs.
+/// How much differs: rows of regions, of roots and of ports, and VIDs.
 #[derive(Clone, Copy)]
 pub struct Differing {
     pub regions: u64,
@@ -31,74 +32,54 @@ impl Differing {
     }
 }
 
-/// How many lines a text has.
-fn lines_in(text: &[u8]) -> u64
-    ensures { result ≡ lines_of_text text.now }
+/// Puts the row of how much differs.
+fn put_counts<R: Rows>(differing: &Differing, out: &mut R) -> Result<(), AllocError>
+    ensures { (first : R) (rows : List Row) → R.grew first out.old rows → OnOk result (R.grew first out.new (rows ++ diff_row differing.now ∷ [])) }
 {
-    text.iter().filter(|byte| **byte == b'\n').count() as u64
-}
-
-/// Appends the line of how much differs.
-fn push_counts(differing: &Differing, out: &mut Vec<u8>) -> Result<(), AllocError>
-    ensures { OnOk result (out.new.items ≡ out.old.items ++ diff_line differing.now) }
-{
-    let mut regions = Buffer::new();
-    let mut roots = Buffer::new();
-    let mut ports = Buffer::new();
-    let mut vlans = Buffer::new();
-    let words: [&[u8]; 9] = [
-        b"diff",
-        b"regions",
-        regions.format(differing.regions).as_bytes(),
-        b"roots",
-        roots.format(differing.roots).as_bytes(),
-        b"ports",
-        ports.format(differing.ports).as_bytes(),
-        b"vlans",
-        vlans.format(differing.vlans).as_bytes(),
+    let values = [
+        Value::Number(differing.regions),
+        Value::Number(differing.roots),
+        Value::Number(differing.ports),
+        Value::Number(differing.vlans),
     ];
-    push_line(&words, out)
+    put::<R>(Kind::Change(ChangeLine::Counts), &values, out)
 }
 
-/// Appends the text of what a change does, and answers how much of each.
-fn push_change(alloc: Global, change: &Change, out: &mut Vec<u8>) -> Result<Differing, AllocError>
-    ensures { IfOk result (λ differing. (text : List ℕ) × IsDiff change.now.old.now.net (outcome_of change.now.old.now) change.now.new.now.net (outcome_of change.now.new.now) differing text × (out.new.items ≡ out.old.items ++ text)) }
+/// Puts the rows of what a change does, and answers how much of each.
+fn put_change<R: Rows>(alloc: Global, change: &Change, out: &mut R) -> Result<Differing, AllocError>
+    ensures { (first : R) (before : List Row) → R.grew first out.old before
+        → IfOk result (λ differing. (rows : List Row) × AreDiffRows change.now.old.now change.now.new.now differing rows × R.grew first out.new (before ++ rows)) }
 {
-    let mut regions = Vec::new(alloc);
-    push_regions(change, &mut regions)?;
-    let mut roots = Vec::new(alloc);
-    push_roots(alloc, change, &mut roots)?;
-    let mut ports = Vec::new(alloc);
-    push_ports(alloc, change, &mut ports)?;
-    let mut reach = Vec::new(alloc);
-    let vlans = push_reach(alloc, change.old, change.new, &mut reach)?;
+    let regions = changed_regions(alloc, change)?;
+    let roots = changed_roots(alloc, change)?;
+    put_regions(regions.as_slice(), out)?;
+    put_roots(roots.as_slice(), out)?;
+    let ports = put_ports(alloc, change, out)?;
+    let vlans = put_reach(alloc, change.old, change.new, out)?;
     let differing = Differing {
-        regions: lines_in(regions.as_slice()),
-        roots: lines_in(roots.as_slice()),
-        ports: lines_in(ports.as_slice()),
+        regions: regions.len() as u64,
+        roots: roots.len() as u64,
+        ports,
         vlans,
     };
-    push_bytes(regions.as_slice(), out)?;
-    push_bytes(roots.as_slice(), out)?;
-    push_bytes(ports.as_slice(), out)?;
-    push_bytes(reach.as_slice(), out)?;
-    push_counts(&differing, out)?;
+    put_counts(&differing, out)?;
     Ok(differing)
 }
 
-/// Appends the text of what a change does, from one settled network to another: the bridges of both whose region is
-/// another one, the roots, the roles of logical ports and the islands of VIDs that are, and a last line of how much of
-/// each, which it answers, too. `AllocError`: memory was wanted and refused; part of the text may have been appended.
+/// Puts the rows of what a change does, from one settled network to another: the bridges of both whose region is another
+/// one, the roots, the roles of logical ports and the islands of VIDs that are, and a last row of how much of each, which it
+/// answers, too. `AllocError`: memory was wanted and refused; some of the rows may have been put.
 ///
 /// It goes over the bridges and the logical ports of both once in each tree, and makes islands once for VIDs that are
 /// alike in both.
-pub fn push_diff(
+pub fn put_diff<R: Rows>(
     alloc: Global,
     old: &Settled,
     new: &Settled,
-    out: &mut Vec<u8>,
+    out: &mut R,
 ) -> Result<Differing, AllocError>
-    ensures { IfOk result (λ differing. (text : List ℕ) × IsDiff old.now.net (outcome_of old.now) new.now.net (outcome_of new.now) differing text × (out.new.items ≡ out.old.items ++ text)) }
+    ensures { (first : R) (before : List Row) → R.grew first out.old before
+        → IfOk result (λ differing. (rows : List Row) × AreDiffRows old.now new.now differing rows × R.grew first out.new (before ++ rows)) }
 {
     let both = bridges_of_both(alloc, old.view(), new.view())?;
     let used = trees_in_use(old.view());
@@ -110,5 +91,5 @@ pub fn push_diff(
         used: &used,
         used_too: &used_too,
     };
-    push_change(alloc, &change, out)
+    put_change(alloc, &change, out)
 }

@@ -1,14 +1,15 @@
-//! Laws of the text of what a change does. Their functions do nothing: a caller has their clauses.
-ghost use Rattle.std.specs.Prelude.{◌≡◌, ◌↔◌, ℕ, List};
+//! Laws of the rows of what a change does. Their functions do nothing: a caller has their clauses.
+ghost use Rattle.std.specs.Prelude.{◌≡◌, ◌↔◌, ◌∷◌, [], ℕ, List};
 ghost use Rattle.mst_net.specs.Tables.{Net, IsNetwork};
 ghost use Rattle.mst_plan_text.specs.trees.Outcome.{Outcome, IsOutcome};
+ghost use Rattle.mst_rows.specs.Rows.{Row};
 ghost use Rattle.mst_diff.specs.AlikeNets.{AreAlike};
-ghost use Rattle.mst_diff.specs.DiffText.{IsDiff, diff_line};
-ghost use Rattle.mst_diff.specs.Ports.{ports_text};
-ghost use Rattle.mst_diff.specs.Reach.{AreSides, IsReachText};
+ghost use Rattle.mst_diff.specs.DiffText.{AreDiffRowsOf, diff_row};
+ghost use Rattle.mst_diff.specs.Ports.{port_rows};
+ghost use Rattle.mst_diff.specs.Reach.{AreSides, Sides, AreReachRows};
 ghost use Rattle.mst_diff.specs.Regions.{region_changes};
 ghost use Rattle.mst_diff.specs.Roots.{root_changes};
-ghost use Rattle.mst_diff.specs.Turned.{AreTurned, SidesTurned, ReachTurned};
+ghost use Rattle.mst_diff.specs.Turned.{AreTurned, turned_sides};
 ghost use Rattle.mst_diff.specs.declared.diff.Differing.{Differing as Counts};
 
 use mst_graph::laws::group_lists;
@@ -16,50 +17,51 @@ use mst_ids::Vid;
 use mst_plan_text::trees_laws::one_outcome;
 use mst_plan_text::vlan_laws::islands_of_vid;
 
-/// Two networks have one text and one count of what differs, whichever settled outcomes it is made by, and there is one.
+/// Two networks have one list of rows and one count of what differs, whichever settled outcomes they are made by, and there is
+/// one.
 pub fn one_diff()
     ensures one { (a b : Net) (o p q r : Outcome) → IsNetwork a → IsNetwork b → IsOutcome a o → IsOutcome b p → IsOutcome a q → IsOutcome b r
-        → (c d : Counts) (text other : List ℕ) → IsDiff a o b p c text → IsDiff a q b r d other → (text ≡ other) × (c ≡ d) }
-    ensures some { (a b : Net) (o p : Outcome) → IsNetwork a → IsNetwork b → (c : Counts) × (text : List ℕ) × IsDiff a o b p c text }
+        → (c d : Counts) (rows other : List Row) → AreDiffRowsOf a o b p c rows → AreDiffRowsOf a q b r d other → (rows ≡ other) × (c ≡ d) }
+    ensures some { (a b : Net) (o p : Outcome) → IsNetwork a → IsNetwork b → (c : Counts) × (rows : List Row) × AreDiffRowsOf a o b p c rows }
 {
     one_outcome();
     islands_of_vid();
     group_lists::<Vid>();
 }
 
-/// A network differs from itself in nothing: the text is the last line alone.
+/// A network differs from itself in nothing: the last row stands alone.
 pub fn no_difference()
-    ensures { (a : Net) (o : Outcome) (c : Counts) (text : List ℕ) → IsDiff a o a o c text
-        → (text ≡ diff_line c) × (c ≡ record { regions = 0; roots = 0; ports = 0; vlans = 0 }) }
+    ensures { (a : Net) (o : Outcome) (c : Counts) (rows : List Row) → AreDiffRowsOf a o a o c rows
+        → (rows ≡ diff_row c ∷ []) × (c ≡ record { regions = 0; roots = 0; ports = 0; vlans = 0 }) }
 {
     islands_of_vid();
 }
 
-/// The change back has the same lines with their sides changed over, in the same order: of regions, of roots and of ports.
-/// The sides of each VID are changed over, too. So VIDs that had the same sides have the same sides again, and the lines of
+/// The change back has the same rows with their sides changed over, in the same order: of regions, of roots and of ports.
+/// The sides of each VID are changed over, too. So VIDs that had the same sides have the same sides again, and the rows of
 /// VIDs are of the same groups, in the same order, with their sides changed over. So the numbers of what differs are the
 /// same.
 pub fn turned()
     ensures regions { (a b : Net) → AreTurned (region_changes a b) (region_changes b a) }
     ensures roots { (a b : Net) (o p : Outcome) → AreTurned (root_changes a o b p) (root_changes b p a o) }
-    ensures ports { (a b : Net) (o p : Outcome) → AreTurned (ports_text a o b p) (ports_text b p a o) }
-    ensures sides { (a b : Net) (o p : Outcome) (vid : ℕ) (text other : List ℕ) → AreSides a o b p vid text → AreSides b p a o vid other → SidesTurned text other }
-    ensures reach { (a b : Net) (o p : Outcome) (text other : List ℕ) (v w : ℕ) → IsNetwork a → IsNetwork b → IsReachText a o b p text v → IsReachText b p a o other w → ReachTurned text other }
-    ensures counts { (a b : Net) (o p : Outcome) (c d : Counts) (text other : List ℕ) → IsDiff a o b p c text → IsDiff b p a o d other → c ≡ d }
+    ensures ports { (a b : Net) (o p : Outcome) → AreTurned (port_rows a o b p) (port_rows b p a o) }
+    ensures sides { (a b : Net) (o p : Outcome) (vid : ℕ) (sides others : Sides) → AreSides a o b p vid sides → AreSides b p a o vid others → others ≡ turned_sides sides }
+    ensures reach { (a b : Net) (o p : Outcome) (rows others : List Row) (v w : ℕ) → AreReachRows a o b p rows v → AreReachRows b p a o others w → AreTurned rows others }
+    ensures counts { (a b : Net) (o p : Outcome) (c d : Counts) (rows other : List Row) → AreDiffRowsOf a o b p c rows → AreDiffRowsOf b p a o d other → c ≡ d }
 {
     islands_of_vid();
     group_lists::<Vid>();
 }
 
-/// The last line stands alone exactly where nothing is counted: no line, and no VID whose islands have other bridges.
+/// The last row stands alone exactly where nothing is counted: no row, and no VID whose islands have other bridges.
 /// And that is exactly where the networks are alike: each bridge that both have has the same kind, configuration name
 /// and revision and the same first bridge of its region; each bridge that has a root in a tree in both has the same one;
-/// each logical port has the same role in each tree, or none in both; and the islands of each VID that have a bridge are
-/// told by the same words, the names of their bridges, in both.
+/// each logical port has the same role in each tree, or none in both; and the islands of each VID that have a bridge have
+/// the same ones in both.
 pub fn last_line()
-    ensures counted { (a b : Net) (o p : Outcome) (c : Counts) (text : List ℕ) → IsDiff a o b p c text
-        → (c ≡ record { regions = 0; roots = 0; ports = 0; vlans = 0 }) ↔ (text ≡ diff_line c) }
-    ensures same { (a b : Net) (o p : Outcome) (c : Counts) (text : List ℕ) → IsDiff a o b p c text → (text ≡ diff_line c) ↔ AreAlike a o b p }
+    ensures counted { (a b : Net) (o p : Outcome) (c : Counts) (rows : List Row) → AreDiffRowsOf a o b p c rows
+        → (c ≡ record { regions = 0; roots = 0; ports = 0; vlans = 0 }) ↔ (rows ≡ diff_row c ∷ []) }
+    ensures same { (a b : Net) (o p : Outcome) (c : Counts) (rows : List Row) → AreDiffRowsOf a o b p c rows → (rows ≡ diff_row c ∷ []) ↔ AreAlike a o b p }
 {
     islands_of_vid();
 }

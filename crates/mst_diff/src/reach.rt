@@ -1,17 +1,21 @@
-ghost use Rattle.std.specs.Prelude.{◌≡◌, ◌++◌, ◌+◌, ◌<◌, ℕ, List, IfOk, OnOk, length, map, vec_len};
+ghost use Rattle.std.specs.Prelude.{◌≡◌, ◌++◌, ◌∷◌, [], ◌+◌, ◌<◌, ℕ, List, IfOk, OnOk, length, map, vec_len};
 ghost use Rattle.std.specs.List.{All, AllZip, AllByRecursion, Contains, flat_map, count_by};
+ghost use Rattle.mst_ids.specs.Vids.{runs_from};
 ghost use Rattle.mst_net.specs.ByTree.{table_in, vlans_in};
+ghost use Rattle.mst_rows.specs.Rows.{Row};
 ghost use Rattle.mst_plan_text.specs.trees.Settled.{outcome_of};
-ghost use Rattle.mst_plan_text.specs.Bodies.{NumberEach, body_at};
-ghost use Rattle.mst_diff.specs.Reach.{has_any, whole_line, reach_line, group_text, IsReachText};
-ghost use Rattle.mst_diff.specs.Seen.{AreSidesOf};
+ghost use Rattle.mst_plan_text.specs.Bodies.{NumberEach};
+ghost use Rattle.mst_diff.specs.Reach.{has_any, differ, reach_row, reach_unless, group_rows, AreReachRows};
+ghost use Rattle.mst_diff.specs.Seen.{AreSidesOf, seen_sides, sides_at as sides_at_vid};
 
-use crate::sides::sides;
+use crate::sides::{Sides, copies, sides_of_vid};
 use mst_graph::{groups_by_body, number_keys};
-use mst_ids::{Vid, VidSet, push_bytes, push_end};
+use mst_ids::{Name, Vid, VidSet};
+use mst_kinds::{ChangeLine, Kind};
 use mst_lag::View;
 use mst_net::Table;
-use mst_plan_text::{Settled, copies, numbers_of_vids, set_of, tables, vids, vlan_sets};
+use mst_plan_text::{Settled, numbers_of_vids, set_of, tables, vids, vlan_sets};
+use mst_rows::{Rows, Value, put};
 use std::alloc::{AllocError, Global};
 
 /// The sides of the VIDs at these places, which are counted from 0.
@@ -20,17 +24,17 @@ fn sides_at(
     old: &Settled,
     new: &Settled,
     places: &[usize],
-) -> Result<Vec<Vec<u8>>, AllocError>
+) -> Result<Vec<Sides>, AllocError>
     requires { All (λ place. place < 4094) places.now }
-    ensures as_long { IfOk result (λ sides. vec_len sides ≡ length places.now) }
-    ensures sides { IfOk result (λ sides. AllZip (λ place text. AreSidesOf old.now new.now (place + 1) text) places.now (map (λ text. text.items) sides.items)) }
+    ensures as_long { IfOk result (λ all. vec_len all ≡ length places.now) }
+    ensures sides { IfOk result (λ all. AllZip (λ place both. AreSidesOf old.now new.now (place + 1) both) places.now (map seen_sides all.items)) }
 {
-    let mut texts = Vec::new(alloc);
+    let mut all = Vec::new(alloc);
     for place in places {
         let vid = Vid::new(*place as u64 + 1).unwrap();
-        texts.push(sides(alloc, old, new, vid)?)?;
+        all.push(sides_of_vid(alloc, old, new, vid)?)?;
     }
-    Ok(texts)
+    Ok(all)
 }
 
 /// The tables of the bridges of both networks.
@@ -55,103 +59,116 @@ fn both_sets(alloc: Global, old: &View, new: &View) -> Result<Vec<VidSet>, Alloc
     Ok(both)
 }
 
-/// Whether there are sides.
-fn is_any(sides: &[u8]) -> bool
-    ensures { result ≡ has_any sides.now }
+/// Whether there is an island.
+fn is_any(groups: &[Vec<Name>]) -> bool
+    ensures { result ≡ has_any (map (λ group. group.items) groups.now) }
 {
-    match sides {
+    match groups {
         [] => false,
         [..] => true,
     }
 }
 
-/// Appends the line of a group of VIDs, with these sides.
-fn push_line(group: &[Vid], sides: &[u8], out: &mut Vec<u8>) -> Result<(), AllocError>
-    ensures { OnOk result (out.new.items ≡ out.old.items ++ whole_line group.now sides.now) }
+/// Whether there is an island on one side.
+fn differs(sides: &Sides) -> bool
+    ensures { result ≡ differ (seen_sides sides.now) }
 {
-    push_bytes(b"reach ", out)?;
-    set_of(group).push_text(out)?;
-    push_bytes(sides, out)?;
-    push_end(out)
+    is_any(sides.old.as_slice()) || is_any(sides.new.as_slice())
 }
 
-/// Appends the line of a group of VIDs that have these sides, if there are any.
-fn push_sides(group: &[Vid], sides: &[u8], out: &mut Vec<u8>) -> Result<(), AllocError>
-    ensures { OnOk result (out.new.items ≡ out.old.items ++ reach_line group.now sides.now) }
+/// Puts the row of these VIDs, with these sides.
+fn put_row<'a, R: Rows>(vids: &'a VidSet, sides: &'a Sides, out: &mut R) -> Result<(), AllocError>
+    ensures { (first : R) (rows : List Row) → R.grew first out.old rows → OnOk result (R.grew first out.new (rows ++ reach_row (runs_from 0 vids.now) (seen_sides sides.now) ∷ [])) }
 {
-    if is_any(sides) {
-        return push_line(group, sides, out);
+    let values = [
+        Value::Vids(vids),
+        Value::Groups(sides.old.as_slice()),
+        Value::Groups(sides.new.as_slice()),
+    ];
+    put::<R>(Kind::Change(ChangeLine::Reach), &values, out)
+}
+
+/// Puts the row of a group of VIDs that have these sides, if there is an island.
+fn put_sides<R: Rows>(group: &[Vid], sides: &Sides, out: &mut R) -> Result<(), AllocError>
+    ensures { (first : R) (rows : List Row) → R.grew first out.old rows → OnOk result (R.grew first out.new (rows ++ reach_unless group.now (seen_sides sides.now))) }
+{
+    if differs(sides) {
+        let vids = set_of(group);
+        return put_row(&vids, sides, out);
     }
     Ok(())
 }
 
-/// Appends the line of a group, by the numbers of the VIDs and the sides of the numbers.
-fn push_group(
+/// Puts the row of a group, by the numbers of the VIDs and the sides of the numbers.
+fn put_group<R: Rows>(
     group: &[Vid],
     numbers: &[usize],
-    texts: &[Vec<u8>],
-    out: &mut Vec<u8>,
+    sides: &[Sides],
+    out: &mut R,
 ) -> Result<(), AllocError>
-    requires { NumberEach numbers.now (length texts.now) }
-    ensures { OnOk result (out.new.items ≡ out.old.items ++ group_text (body_at numbers.now (map (λ text. text.items) texts.now)) group.now) }
+    requires { NumberEach numbers.now (length sides.now) }
+    ensures { (first : R) (rows : List Row) → R.grew first out.old rows
+        → OnOk result (R.grew first out.new (rows ++ group_rows (sides_at_vid numbers.now (map seen_sides sides.now)) group.now)) }
 {
     let Some(vid) = group.first() else {
         return Ok(());
     };
     let number = numbers[usize::from(vid.value()) - 1];
-    push_sides(group, texts[number].as_slice(), out)
+    put_sides(group, &sides[number], out)
 }
 
-/// Appends the lines of these groups.
-fn push_groups(
+/// Puts the rows of these groups.
+fn put_groups<R: Rows>(
     groups: &[Vec<Vid>],
     numbers: &[usize],
-    texts: &[Vec<u8>],
-    out: &mut Vec<u8>,
+    sides: &[Sides],
+    out: &mut R,
 ) -> Result<(), AllocError>
-    requires { NumberEach numbers.now (length texts.now) }
-    ensures { OnOk result (out.new.items ≡ out.old.items ++ flat_map (group_text (body_at numbers.now (map (λ text. text.items) texts.now))) (map (λ group. group.items) groups.now)) }
+    requires { NumberEach numbers.now (length sides.now) }
+    ensures { (first : R) (rows : List Row) → R.grew first out.old rows
+        → OnOk result (R.grew first out.new (rows ++ flat_map (λ group. group_rows (sides_at_vid numbers.now (map seen_sides sides.now)) group.items) groups.now)) }
 {
     for group in groups {
-        push_group(group.as_slice(), numbers, texts, out)?;
+        put_group(group.as_slice(), numbers, sides, out)?;
     }
     Ok(())
 }
 
-/// Whether a VID has sides.
-fn has_sides(vid: Vid, numbers: &[usize], texts: &[Vec<u8>]) -> bool
-    requires { NumberEach numbers.now (length texts.now) }
-    ensures { result ≡ has_any (body_at numbers.now (map (λ text. text.items) texts.now) vid) }
+/// Whether a VID has an island on one side.
+fn has_sides(vid: Vid, numbers: &[usize], sides: &[Sides]) -> bool
+    requires { NumberEach numbers.now (length sides.now) }
+    ensures { result ≡ differ (sides_at_vid numbers.now (map seen_sides sides.now) vid) }
 {
     let number = numbers[usize::from(vid.value()) - 1];
-    is_any(texts[number].as_slice())
+    differs(&sides[number])
 }
 
-/// How many of these VIDs have sides.
-fn count(vids: &[Vid], numbers: &[usize], texts: &[Vec<u8>]) -> u64
-    requires { NumberEach numbers.now (length texts.now) }
-    ensures { result ≡ count_by (λ vid. has_any (body_at numbers.now (map (λ text. text.items) texts.now) vid)) vids.now }
+/// How many of these VIDs have an island on one side.
+fn count(vids: &[Vid], numbers: &[usize], sides: &[Sides]) -> u64
+    requires { NumberEach numbers.now (length sides.now) }
+    ensures { result ≡ count_by (λ vid. differ (sides_at_vid numbers.now (map seen_sides sides.now) vid)) vids.now }
 {
     let mut count = 0;
     for vid in vids {
-        if has_sides(*vid, numbers, texts) {
+        if has_sides(*vid, numbers, sides) {
             count += 1;
         }
     }
     count
 }
 
-/// Appends the lines of VIDs whose islands have other bridges, VIDs of equal sides in one line, and answers how many VIDs
-/// there are in these lines. `AllocError`: memory was wanted and refused; part of them may have been appended.
+/// Puts the rows of VIDs whose islands have other bridges, VIDs of equal sides in one row, and answers how many VIDs
+/// there are in these rows. `AllocError`: memory was wanted and refused; some of them may have been put.
 ///
 /// Islands are made once for VIDs that no table and no set of VLANs of either network tells apart.
-pub(crate) fn push_reach(
+pub(crate) fn put_reach<R: Rows>(
     alloc: Global,
     old: &Settled,
     new: &Settled,
-    out: &mut Vec<u8>,
+    out: &mut R,
 ) -> Result<u64, AllocError>
-    ensures { IfOk result (λ vlans. (text : List ℕ) × IsReachText old.now.net (outcome_of old.now) new.now.net (outcome_of new.now) text vlans × (out.new.items ≡ out.old.items ++ text)) }
+    ensures { (first : R) (rows : List Row) → R.grew first out.old rows
+        → IfOk result (λ vlans. (own : List Row) × AreReachRows old.now.net (outcome_of old.now) new.now.net (outcome_of new.now) own vlans × R.grew first out.new (rows ++ own)) }
 {
     old.known();
     new.known();
@@ -161,11 +178,11 @@ pub(crate) fn push_reach(
     let sets = both_sets(alloc, before, after)?;
     let numbers = numbers_of_vids(alloc, tables.as_slice(), sets.as_slice())?;
     let classes = number_keys(alloc, numbers)?;
-    let bodies = sides_at(alloc, old, new, classes.firsts.as_slice())?;
-    let kept = copies(alloc, bodies.as_slice())?;
+    let sides = sides_at(alloc, old, new, classes.firsts.as_slice())?;
+    let kept = copies(alloc, sides.as_slice())?;
     let vids = vids(alloc)?;
-    let groups = groups_by_body(alloc, vids.as_slice(), classes.numbers.as_slice(), bodies)?;
-    push_groups(
+    let groups = groups_by_body(alloc, vids.as_slice(), classes.numbers.as_slice(), sides)?;
+    put_groups(
         groups.as_slice(),
         classes.numbers.as_slice(),
         kept.as_slice(),

@@ -1,20 +1,29 @@
-ghost use Rattle.std.specs.Prelude.{◌≡◌, ◌++◌, OnOk};
+ghost use Rattle.std.specs.Prelude.{◌≡◌, ◌++◌, ◌∷◌, [], List, IfOk, OnOk, map};
 ghost use Rattle.std.specs.List.{AllByRecursion, Contains, flat_map};
 ghost use Rattle.mst_net.specs.Seen.{bridge_row};
 ghost use Rattle.mst_plan_text.specs.config.Regions.{first_of_region};
-ghost use Rattle.mst_ids.specs.Words.{after_space};
-ghost use Rattle.mst_diff.specs.Regions.{same_told, region_words, region_line, region_changes};
-ghost use Rattle.mst_diff.specs.Seen.{IsBoth, seen_found, region_of};
+ghost use Rattle.mst_rows.specs.Rows.{Row};
+ghost use Rattle.mst_diff.specs.Regions.{same_told, configuration as configuration_of, region_changes};
+ghost use Rattle.mst_diff.specs.Seen.{IsBoth, seen_found, region_of, row_of_region};
 
 use crate::both::Both;
 use crate::change::Change;
-use itoa::Buffer;
-use mst_ids::{Name, push_bytes, push_end, push_word};
+use mst_ids::{ConfName, Name};
+use mst_kinds::{ChangeLine, Kind as RowKind};
 use mst_lag::{BridgeInView, View};
 use mst_lang::Kind;
 use mst_net::Bridge;
 use mst_plan_text::{Forest, Settled};
-use std::alloc::AllocError;
+use mst_rows::{RegionSide, Rows, Value, put};
+use std::alloc::{AllocError, Global};
+
+/// A bridge whose region is another one.
+#[derive(Clone, Copy)]
+pub(crate) struct RegionChange {
+    pub(crate) bridge: Name,
+    pub(crate) old: RegionSide,
+    pub(crate) new: RegionSide,
+}
 
 /// The first of the bridges, in byte order of names, that are in a bridge's region.
 fn found_first(view: &View, forest: &Forest, bridge: &BridgeInView) -> Option<Name>
@@ -51,76 +60,92 @@ fn is_same_told(old: &Bridge, new: &Bridge) -> bool
     }
 }
 
-/// Appends what tells the region of a bridge, each word after a space.
-fn push_told(bridge: &Bridge, first: &Name, out: &mut Vec<u8>) -> Result<(), AllocError>
-    ensures { OnOk result (out.new.items ≡ out.old.items ++ flat_map after_space (region_words (bridge_row bridge.now) first.now)) }
+/// The name and the revision of a bridge's configuration, if it is of kind mstp.
+fn configuration(bridge: &Bridge) -> Option<(ConfName, u16)>
+    ensures { result ≡ configuration_of (bridge_row bridge.now) }
 {
     match bridge.kind {
-        Kind::Rstp => {
-            push_word(b"rstp", out)?;
-            push_word(b"-", out)?;
-        }
-        Kind::Mstp => {
-            let mut revision = Buffer::new();
-            push_word(bridge.conf_name.as_bytes(), out)?;
-            push_word(revision.format(bridge.revision).as_bytes(), out)?;
-        }
+        Kind::Rstp => None,
+        Kind::Mstp => Some((bridge.conf_name, bridge.revision)),
     }
-    push_word(first.as_bytes(), out)
 }
 
-/// Appends the line of a bridge, by its first bridges.
-fn push_line(bridge: &Both, first: &Name, other: &Name, out: &mut Vec<u8>) -> Result<(), AllocError>
-    ensures { OnOk result (out.new.items ≡ out.old.items ++ region_line bridge.now.old.name (bridge_row bridge.now.old.bridge) first.now (bridge_row bridge.now.new.bridge) other.now) }
-{
-    push_bytes(b"region", out)?;
-    push_word(bridge.old.name.as_bytes(), out)?;
-    push_told(&bridge.old.bridge, first, out)?;
-    push_word(b"->", out)?;
-    push_told(&bridge.new.bridge, other, out)?;
-    push_end(out)
-}
-
-/// Appends the line of a bridge, if its region is another one.
-fn push_region(
+/// Puts a bridge behind these, if its region is another one.
+fn add(
     old: &Settled,
     new: &Settled,
     bridge: &Both,
-    out: &mut Vec<u8>,
+    changes: &mut Vec<RegionChange>,
 ) -> Result<(), AllocError>
     requires { IsBoth old.now.view new.now.view bridge.now }
-    ensures { OnOk result (out.new.items ≡ out.old.items ++ region_of old.now.net new.now.net bridge.now) }
+    ensures { OnOk result (map row_of_region changes.new.items ≡ map row_of_region changes.old.items ++ region_of old.now.net new.now.net bridge.now) }
 {
     let first = first_of(old, &bridge.old);
     let other = first_of(new, &bridge.new);
     if is_same_told(&bridge.old.bridge, &bridge.new.bridge) && first == other {
         return Ok(());
     }
-    push_line(bridge, &first, &other, out)
+    changes.push(RegionChange {
+        bridge: bridge.old.name,
+        old: RegionSide {
+            configuration: configuration(&bridge.old.bridge),
+            first,
+        },
+        new: RegionSide {
+            configuration: configuration(&bridge.new.bridge),
+            first: other,
+        },
+    })?;
+    Ok(())
 }
 
-/// Appends the lines of those of these bridges whose region is another one.
-fn push_each(
+/// Those of these bridges whose region is another one.
+fn changed(
+    alloc: Global,
     old: &Settled,
     new: &Settled,
     both: &[Both],
-    out: &mut Vec<u8>,
-) -> Result<(), AllocError>
+) -> Result<Vec<RegionChange>, AllocError>
     requires { AllByRecursion (IsBoth old.now.view new.now.view) both.now }
-    ensures { OnOk result (out.new.items ≡ out.old.items ++ flat_map (region_of old.now.net new.now.net) both.now) }
+    ensures { IfOk result (λ changes. map row_of_region changes.items ≡ flat_map (region_of old.now.net new.now.net) both.now) }
 {
+    let mut changes = Vec::new(alloc);
     for bridge in both {
-        push_region(old, new, bridge, out)?;
+        add(old, new, bridge, &mut changes)?;
+    }
+    Ok(changes)
+}
+
+/// The bridges of both networks whose region is another one, by name. `AllocError`: memory was wanted and refused.
+pub(crate) fn changed_regions(
+    alloc: Global,
+    change: &Change,
+) -> Result<Vec<RegionChange>, AllocError>
+    ensures { IfOk result (λ changes. map row_of_region changes.items ≡ region_changes change.now.old.now.net change.now.new.now.net) }
+{
+    change.old.known();
+    change.new.known();
+    changed(alloc, change.old, change.new, change.both)
+}
+
+/// Puts the rows of these bridges. `AllocError`: memory was wanted and refused; some of them may have been put.
+pub(crate) fn put_regions<R: Rows>(changes: &[RegionChange], out: &mut R) -> Result<(), AllocError>
+    ensures { (first : R) (rows : List Row) → R.grew first out.old rows → OnOk result (R.grew first out.new (rows ++ map row_of_region changes.now)) }
+{
+    for change in changes {
+        put_region(change, out)?;
     }
     Ok(())
 }
 
-/// Appends the lines of the bridges of both networks whose region is another one, by name. `AllocError`: memory was
-/// wanted and refused; part of them may have been appended.
-pub(crate) fn push_regions(change: &Change, out: &mut Vec<u8>) -> Result<(), AllocError>
-    ensures { OnOk result (out.new.items ≡ out.old.items ++ region_changes change.now.old.now.net change.now.new.now.net) }
+/// Puts the row of a bridge.
+fn put_region<R: Rows>(change: &RegionChange, out: &mut R) -> Result<(), AllocError>
+    ensures { (first : R) (rows : List Row) → R.grew first out.old rows → OnOk result (R.grew first out.new (rows ++ row_of_region change.now ∷ [])) }
 {
-    change.old.known();
-    change.new.known();
-    push_each(change.old, change.new, change.both, out)
+    let values = [
+        Value::Name(&change.bridge),
+        Value::Region(&change.old),
+        Value::Region(&change.new),
+    ];
+    put::<R>(RowKind::Change(ChangeLine::Region), &values, out)
 }

@@ -1,16 +1,18 @@
-ghost use Rattle.std.specs.Prelude.{◌≡◌, ◌++◌, IfOk, OnOk, filter_map};
+ghost use Rattle.std.specs.Prelude.{◌≡◌, ◌++◌, ◌∷◌, [], List, IfOk, OnOk, filter_map, map};
 ghost use Rattle.std.specs.List.{AllByRecursion, Contains, flat_map, list_any};
 ghost use Rattle.mst_plan_text.specs.trees.Settled.{outcome_of};
-ghost use Rattle.mst_diff.specs.Roots.{root_of as root_in, root_name as root_name_in, same_pair, with_new, each_once, root_line};
-ghost use Rattle.mst_diff.specs.Seen.{IsBoth, seen_root, seen_named, name_by, pair_of, with_pair, roots_of};
+ghost use Rattle.mst_rows.specs.Rows.{Row};
+ghost use Rattle.mst_diff.specs.Roots.{root_of as root_in, root_name as root_name_in, same_pair, with_new, each_once, root_unless};
+ghost use Rattle.mst_diff.specs.Seen.{IsBoth, seen_root, seen_named, name_by, pair_of, with_pair, roots_of, row_of_root};
 
 use crate::both::Both;
 use crate::change::Change;
-use itoa::Buffer;
 use mst_changes::Planned;
-use mst_ids::{BridgeId, BridgeNo, Name, Tree, push_line};
+use mst_ids::{BridgeId, BridgeNo, Name, Tree};
+use mst_kinds::{ChangeLine, Kind};
 use mst_lag::{BridgeInView, View};
 use mst_plan_text::{Settled, bridge_id};
+use mst_rows::{Rows, Value, put};
 use std::alloc::{AllocError, Global};
 
 /// A bridge's identifier in a tree, and its name.
@@ -25,6 +27,13 @@ pub(crate) struct Identified {
 pub(crate) struct RootPair {
     pub(crate) old: Name,
     pub(crate) new: Name,
+}
+
+/// A tree and the names of a root in it before and after.
+#[derive(Clone, Copy)]
+pub(crate) struct RootChange {
+    pub(crate) tree: Tree,
+    pub(crate) pair: RootPair,
 }
 
 /// Two settled networks, a tree, and the bridges of each with their identifiers in it.
@@ -162,43 +171,40 @@ fn pairs(alloc: Global, shared: &InTree, both: &[Both]) -> Result<Vec<RootPair>,
     Ok(pairs)
 }
 
-/// Appends the line of a pair, if its two names differ.
-fn push_pair(tree: Tree, pair: &RootPair, out: &mut Vec<u8>) -> Result<(), AllocError>
-    ensures { OnOk result (out.new.items ≡ out.old.items ++ root_line tree pair.now) }
+/// Puts a pair behind these, if its two names differ.
+fn add_change(tree: Tree, pair: &RootPair, changes: &mut Vec<RootChange>) -> Result<(), AllocError>
+    ensures { OnOk result (map row_of_root changes.new.items ≡ map row_of_root changes.old.items ++ root_unless tree pair.now) }
 {
     if pair.old == pair.new {
         return Ok(());
     }
-    let mut number = Buffer::new();
-    let words: [&[u8]; 5] = [
-        b"root",
-        number.format(tree.value()).as_bytes(),
-        pair.old.as_bytes(),
-        b"->",
-        pair.new.as_bytes(),
-    ];
-    push_line(&words, out)
+    changes.push(RootChange { tree, pair: *pair })?;
+    Ok(())
 }
 
-/// Appends the lines of these pairs.
-fn push_pairs(tree: Tree, pairs: &[RootPair], out: &mut Vec<u8>) -> Result<(), AllocError>
-    ensures { OnOk result (out.new.items ≡ out.old.items ++ flat_map (root_line tree) pairs.now) }
+/// Puts those of these pairs whose two names differ behind these.
+fn add_changes(
+    tree: Tree,
+    pairs: &[RootPair],
+    changes: &mut Vec<RootChange>,
+) -> Result<(), AllocError>
+    ensures { OnOk result (map row_of_root changes.new.items ≡ map row_of_root changes.old.items ++ flat_map (root_unless tree) pairs.now) }
 {
     for pair in pairs {
-        push_pair(tree, pair, out)?;
+        add_change(tree, pair, changes)?;
     }
     Ok(())
 }
 
-/// Appends the lines of a tree: each pair of roots, in an MSTI of regional roots, that differ and that some of the
-/// bridges of both has before and after, once.
-pub(crate) fn push_tree(
+/// Puts the changes of a tree behind these: each pair of roots, in an MSTI of regional roots, that differ and that some
+/// of the bridges of both has before and after, once.
+pub(crate) fn add_tree(
     alloc: Global,
     change: &Change,
     tree: Tree,
-    out: &mut Vec<u8>,
+    changes: &mut Vec<RootChange>,
 ) -> Result<(), AllocError>
-    ensures { OnOk result (out.new.items ≡ out.old.items ++ roots_of change.now.old.now change.now.new.now tree) }
+    ensures { OnOk result (map row_of_root changes.new.items ≡ map row_of_root changes.old.items ++ roots_of change.now.old.now change.now.new.now tree) }
 {
     change.old.known();
     change.new.known();
@@ -212,5 +218,17 @@ pub(crate) fn push_tree(
         news: news.as_slice(),
     };
     let pairs = pairs(alloc, &shared, change.both)?;
-    push_pairs(tree, pairs.as_slice(), out)
+    add_changes(tree, pairs.as_slice(), changes)
+}
+
+/// Puts the row of a root that is another one.
+pub(crate) fn put_root<R: Rows>(change: &RootChange, out: &mut R) -> Result<(), AllocError>
+    ensures { (first : R) (rows : List Row) → R.grew first out.old rows → OnOk result (R.grew first out.new (rows ++ row_of_root change.now ∷ [])) }
+{
+    let values = [
+        Value::Number(u64::from(change.tree.value())),
+        Value::Name(&change.pair.old),
+        Value::Name(&change.pair.new),
+    ];
+    put::<R>(Kind::Change(ChangeLine::Root), &values, out)
 }

@@ -1,28 +1,23 @@
 ghost use Rattle.std.specs.Prelude.{◌≡◌, ◌++◌, ℕ, List, IfOk, OnOk, map};
-ghost use Rattle.std.specs.List.{flat_map, list_any};
-ghost use Rattle.mst_ids.specs.Words.{comma_list};
-ghost use Rattle.mst_lag.specs.Aggregation.{same_name};
+ghost use Rattle.std.specs.List.{list_any};
 ghost use Rattle.mst_graph.specs.Islands.{Island as NamedIsland};
 ghost use Rattle.mst_plan_text.specs.trees.Settled.{outcome_of};
 ghost use Rattle.mst_plan_text.specs.vlan.Reach.{AreIslandsOf};
-ghost use Rattle.mst_plan_text.specs.text.VlanSeen.{seen_bridge};
-ghost use Rattle.mst_diff.specs.Reach.{has_any, island_words};
-ghost use Rattle.mst_diff.specs.Seen.{seen_words, one_word, apart_word, joined_sides, side_text, AreSidesOf};
+ghost use Rattle.mst_diff.specs.Reach.{has_any, island_bridges, same_names, without};
+ghost use Rattle.mst_diff.specs.Seen.{apart_group, one_group, seen_groups, seen_sides, AreSidesOf};
 
-use mst_ids::{Vid, push_bytes, push_comma_list, push_word};
+use mst_ids::{Name, Vid};
 use mst_lag::View;
 use mst_plan_text::{Island, Settled, bridge_names};
 use mst_vlan::{active_ports, reach_from};
 use std::alloc::{AllocError, Global};
 
-/// The word of an island: the names of its bridges.
-fn word(alloc: Global, view: &View, island: &Island) -> Result<Vec<u8>, AllocError>
-    ensures { IfOk result (λ word. word.items ≡ comma_list (map (seen_bridge view.now) island.now.bridges)) }
-{
-    let names = bridge_names(alloc, view, island.bridges.as_slice())?;
-    let mut word = Vec::new(alloc);
-    push_comma_list(names.as_slice(), &mut word)?;
-    Ok(word)
+/// The islands of a VID before that aren't there afterwards, and those afterwards that weren't there before, each by its
+/// bridges.
+#[derive(PartialEq, Eq, Hash, Drop)]
+pub(crate) struct Sides {
+    pub(crate) old: Vec<Vec<Name>>,
+    pub(crate) new: Vec<Vec<Name>>,
 }
 
 /// Whether an island has a bridge.
@@ -35,120 +30,139 @@ fn has_bridge(island: &Island) -> bool
     }
 }
 
-/// Puts the word of an island behind these, if it has a bridge.
-fn add_word(
+/// Puts the bridges of an island behind these, if it has one.
+fn add_island(
     alloc: Global,
     view: &View,
     island: &Island,
-    words: &mut Vec<Vec<u8>>,
+    groups: &mut Vec<Vec<Name>>,
 ) -> Result<(), AllocError>
-    ensures { OnOk result (map (λ word. word.items) words.new.items ≡ map (λ word. word.items) words.old.items ++ one_word view.now island.now) }
+    ensures { OnOk result (map (λ group. group.items) groups.new.items ≡ map (λ group. group.items) groups.old.items ++ one_group view.now island.now) }
 {
     if !has_bridge(island) {
         return Ok(());
     }
-    let word = word(alloc, view, island)?;
-    words.push(word)?;
+    let names = bridge_names(alloc, view, island.bridges.as_slice())?;
+    groups.push(names)?;
     Ok(())
 }
 
-/// The words of those of these islands that have a bridge.
-fn words(alloc: Global, view: &View, islands: &[Island]) -> Result<Vec<Vec<u8>>, AllocError>
-    ensures { IfOk result (λ words. map (λ word. word.items) words.items ≡ seen_words view.now islands.now) }
+/// The bridges of those of these islands that have one.
+fn groups(alloc: Global, view: &View, islands: &[Island]) -> Result<Vec<Vec<Name>>, AllocError>
+    ensures { IfOk result (λ groups. map (λ group. group.items) groups.items ≡ seen_groups view.now islands.now) }
 {
-    let mut words = Vec::new(alloc);
+    let mut groups = Vec::new(alloc);
     for island in islands {
-        add_word(alloc, view, island, &mut words)?;
+        add_island(alloc, view, island, &mut groups)?;
     }
-    Ok(words)
+    Ok(groups)
 }
 
-/// The words of the islands of a VID that have a bridge, by their first bridges.
-fn words_of(alloc: Global, plan: &Settled, vid: Vid) -> Result<Vec<Vec<u8>>, AllocError>
-    ensures { IfOk result (λ words. (islands : List (NamedIsland (List ℕ) (List ℕ))) × AreIslandsOf plan.now.net (outcome_of plan.now) vid islands × (map (λ word. word.items) words.items ≡ island_words islands)) }
+/// The bridges of the islands of a VID that have one, by their first bridges.
+fn groups_of(alloc: Global, plan: &Settled, vid: Vid) -> Result<Vec<Vec<Name>>, AllocError>
+    ensures { IfOk result (λ groups. (islands : List (NamedIsland (List ℕ) (List ℕ))) × AreIslandsOf plan.now.net (outcome_of plan.now) vid islands × (map (λ group. group.items) groups.items ≡ island_bridges islands)) }
 {
     plan.known();
     let ports = active_ports(alloc, plan, vid)?;
     let islands = reach_from(alloc, plan, ports.as_slice(), vid)?;
-    words(alloc, plan.view(), islands.as_slice())
+    groups(alloc, plan.view(), islands.as_slice())
 }
 
-/// Whether one of these is a word.
-fn any_is(words: &[Vec<u8>], word: &[u8]) -> bool
-    ensures { result ≡ list_any (λ other. same_name other.items word.now) words.now }
+/// Whether one of these has these names.
+fn any_is(groups: &[Vec<Name>], group: &[Name]) -> bool
+    ensures { result ≡ list_any (λ other. same_names other.items group.now) groups.now }
 {
-    words.iter().any(|other| other.as_slice() == word)
+    groups.iter().any(|other| other.as_slice() == group)
 }
 
-/// Whether a word is among these.
-fn is_among(words: &[Vec<u8>], word: &[u8]) -> bool
-    ensures { result ≡ list_any (λ other. same_name other word.now) (map (λ word. word.items) words.now) }
+/// Whether an island is among these.
+fn is_among(groups: &[Vec<Name>], group: &[Name]) -> bool
+    ensures { result ≡ list_any (λ other. same_names other group.now) (map (λ group. group.items) groups.now) }
 {
-    any_is(words, word)
+    any_is(groups, group)
 }
 
-/// Appends a word after a space, unless it is among these.
-fn push_unless(word: &[u8], others: &[Vec<u8>], out: &mut Vec<u8>) -> Result<(), AllocError>
-    ensures { OnOk result (out.new.items ≡ out.old.items ++ apart_word (map (λ word. word.items) others.now) word.now) }
+/// Puts an island behind these, unless it is among those of the other network.
+fn add_unless(
+    alloc: Global,
+    group: &[Name],
+    others: &[Vec<Name>],
+    apart: &mut Vec<Vec<Name>>,
+) -> Result<(), AllocError>
+    ensures { OnOk result (map (λ group. group.items) apart.new.items ≡ map (λ group. group.items) apart.old.items ++ apart_group (map (λ group. group.items) others.now) group.now) }
 {
-    if is_among(others, word) {
+    if is_among(others, group) {
         return Ok(());
     }
-    push_word(word, out)
-}
-
-/// Appends those of some words that aren't among others, each after a space.
-fn push_apart(words: &[Vec<u8>], others: &[Vec<u8>], out: &mut Vec<u8>) -> Result<(), AllocError>
-    ensures { OnOk result (out.new.items ≡ out.old.items ++ flat_map (apart_word (map (λ word. word.items) others.now)) (map (λ word. word.items) words.now)) }
-{
-    for word in words {
-        push_unless(word.as_slice(), others, out)?;
-    }
+    apart.push(Vec::from_slice(alloc, group)?)?;
     Ok(())
 }
 
-/// Appends a side: words, each after a space, or `-` where there is none.
-fn push_side(words: &[u8], out: &mut Vec<u8>) -> Result<(), AllocError>
-    ensures { OnOk result (out.new.items ≡ out.old.items ++ side_text words.now) }
+/// Those of these islands that aren't among those of the other network.
+fn apart(
+    alloc: Global,
+    groups: &[Vec<Name>],
+    others: &[Vec<Name>],
+) -> Result<Vec<Vec<Name>>, AllocError>
+    ensures { IfOk result (λ apart. map (λ group. group.items) apart.items ≡ without (map (λ group. group.items) groups.now) (map (λ group. group.items) others.now)) }
 {
-    match words {
-        [] => push_word(b"-", out),
-        _ => push_bytes(words, out),
+    let mut apart = Vec::new(alloc);
+    for group in groups {
+        add_unless(alloc, group.as_slice(), others, &mut apart)?;
     }
-}
-
-/// Appends both sides, or nothing where neither has a word.
-fn push_sides(gone: &[u8], come: &[u8], out: &mut Vec<u8>) -> Result<(), AllocError>
-    ensures { OnOk result (out.new.items ≡ out.old.items ++ joined_sides gone.now come.now) }
-{
-    if gone.is_empty() && come.is_empty() {
-        return Ok(());
-    }
-    push_side(gone, out)?;
-    push_word(b"->", out)?;
-    push_side(come, out)
+    Ok(apart)
 }
 
 /// Both sides of a VID: nothing where its islands have the same bridges before and after. `AllocError`: memory was
 /// wanted and refused.
 ///
-/// It makes the islands of the VID in both networks, and looks for each word among all of the other side, of which there
+/// It makes the islands of the VID in both networks, and looks for each one among all of the other side, of which there
 /// are at most 1,024.
-pub(crate) fn sides(
+pub(crate) fn sides_of_vid(
     alloc: Global,
     old: &Settled,
     new: &Settled,
     vid: Vid,
-) -> Result<Vec<u8>, AllocError>
-    ensures { IfOk result (λ text. AreSidesOf old.now new.now vid text.items) }
+) -> Result<Sides, AllocError>
+    ensures { IfOk result (λ sides. AreSidesOf old.now new.now vid (seen_sides sides)) }
 {
-    let olds = words_of(alloc, old, vid)?;
-    let news = words_of(alloc, new, vid)?;
-    let mut gone = Vec::new(alloc);
-    push_apart(olds.as_slice(), news.as_slice(), &mut gone)?;
-    let mut come = Vec::new(alloc);
-    push_apart(news.as_slice(), olds.as_slice(), &mut come)?;
-    let mut text = Vec::new(alloc);
-    push_sides(gone.as_slice(), come.as_slice(), &mut text)?;
-    Ok(text)
+    let olds = groups_of(alloc, old, vid)?;
+    let news = groups_of(alloc, new, vid)?;
+    let gone = apart(alloc, olds.as_slice(), news.as_slice())?;
+    let come = apart(alloc, news.as_slice(), olds.as_slice())?;
+    Ok(Sides {
+        old: gone,
+        new: come,
+    })
+}
+
+/// A copy of these islands.
+fn copy(alloc: Global, groups: &[Vec<Name>]) -> Result<Vec<Vec<Name>>, AllocError>
+    ensures { IfOk result (λ copied. map (λ group. group.items) copied.items ≡ map (λ group. group.items) groups.now) }
+{
+    let mut copied = Vec::new(alloc);
+    for group in groups {
+        copied.push(Vec::from_slice(alloc, group.as_slice())?)?;
+    }
+    Ok(copied)
+}
+
+/// A copy of these sides.
+fn copy_of(alloc: Global, sides: &Sides) -> Result<Sides, AllocError>
+    ensures { IfOk result (λ copied. seen_sides copied ≡ seen_sides sides.now) }
+{
+    let old = copy(alloc, sides.old.as_slice())?;
+    let new = copy(alloc, sides.new.as_slice())?;
+    Ok(Sides { old, new })
+}
+
+/// A copy of each of these sides.
+pub(crate) fn copies(alloc: Global, sides: &[Sides]) -> Result<Vec<Sides>, AllocError>
+    ensures { IfOk result (λ copied. map seen_sides copied.items ≡ map seen_sides sides.now) }
+{
+    let mut copied = Vec::new(alloc);
+    for both in sides {
+        copied.push(copy_of(alloc, both)?)?;
+    }
+    Ok(copied)
 }

@@ -18,6 +18,7 @@ use Rattle.mst_print.specs.Shape.{of_script}
 use Rattle.mst_engine.specs.Steps.{Step, RunsBy}
 use Rattle.mst_engine.specs.declared.engine.Input.{Input}
 use Rattle.mst_engine.specs.declared.engine.Input.TheVariants.{Script, Network, Captures}
+use Rattle.mst_print.specs.declared.form.Form.{Form}
 use Rattle.mst_print.specs.declared.form.Shape.{Shape}
 use Rattle.mst_io.proofs.Long.{held_cases, long_reading, none_held_of, one_held_of}
 use Rattle.mst_io.proofs.Starts.{IsHeld, IsHeld-nothing, IsHeld-push}
@@ -66,8 +67,8 @@ HeldAlike Does = (number : ℕ) (now : State) (part held : List ℕ) (s : Step) 
 script_alike : (shape : Shape) (how : Result Line Fault → Result Line Fault) (version : Version) → HeldAlike (ServesBy shape how version)
 script_alike shape how version number now part held s is h = subst (λ r. ServesRead shape number now (how r) s) (held_reading version number part held is) h
 
-captures_alike : HeldAlike ServesCapture
-captures_alike number now part held s is h = subst (λ r. ServesMessage number now r s) (held_capture part held is) h
+captures_alike : (form : Form) → HeldAlike (ServesCapture form)
+captures_alike form number now part held s is h = subst (λ r. ServesMessage form number now r s) (held_capture part held is) h
 
 module _ (Does : ℕ → State → List ℕ → Step → Type 0) (alike : HeldAlike Does) where
   -- the line that is left, and where none counts
@@ -126,9 +127,11 @@ module _ (shape : Shape) (how : Result Line Fault → Result Line Fault) where
 pub input_held : (input : Input) (bytes : List ℕ) (now : State) (steps : List Step) → RunsOn input None 1 now (lines_held last_line [] bytes) steps → RunsOn input None 1 now (lines_of bytes) steps
 input_held (Script form) bytes now steps h = script_held (of_script form) (λ r. r) bytes now steps h
 input_held (Network shape) bytes now steps h = script_held shape loading bytes now steps h
-input_held Captures bytes now steps h = steps_held ServesCapture captures_alike last_line (last_held ServesCapture captures_alike) bytes [] [] 1 now steps IsHeld-nothing h
+input_held (Captures form) bytes now steps h =
+    steps_held (ServesCapture form) (captures_alike form) last_line (last_held (ServesCapture form) (captures_alike form)) bytes [] [] 1 now steps IsHeld-nothing h
 
 pub ended_held : (input : Input) (read : List ℕ) (now : State) (steps : List Step) → RunsOn input None 1 now (lines_held no_line [] read) steps → RunsOn input None 1 now (ended_lines read) steps
 ended_held (Script form) read now steps h = script_ended (of_script form) (λ r. r) read now steps h
 ended_held (Network shape) read now steps h = script_ended shape loading read now steps h
-ended_held Captures read now steps h = steps_held ServesCapture captures_alike no_line (none_held ServesCapture captures_alike) read [] [] 1 now steps IsHeld-nothing h
+ended_held (Captures form) read now steps h =
+    steps_held (ServesCapture form) (captures_alike form) no_line (none_held (ServesCapture form) (captures_alike form)) read [] [] 1 now steps IsHeld-nothing h

@@ -18,28 +18,29 @@ use Rattle.mst_net.specs.After.{after}
 use Rattle.mst_compare.specs.changes.declared.subject.Entry.{Entry}
 use Rattle.mst_compare.specs.report.Answers.{Answers}
 use Rattle.mst_compare.specs.report.State.{State, IsState, IsMark, IsMarkNow, empty_state}
+use Rattle.mst_rows.specs.Rows.{Row}
 use Rattle.mst_engine.specs.Script.{ServesRead, loading, reading_at, refused, edited, marked, answered}
 use Rattle.mst_engine.specs.Steps.{Step, RunsBy, silent, left_by, lacks_of, lacking_of, differing_of}
 use Rattle.mst_print.specs.declared.form.Shape.{Shape}
 use Rattle.mst_engine.proofs.Steps.{ServesBy, runs-none, runs-first, no_more_lack, alike_both}
 
 -- a query whose answer meets no want of memory
-answer_of : (shape : Shape) (number : ℕ) (now : State) (q : Query) (s : Step) → ServesRead shape number now (Ok (query q)) s → s.lacking ≡ false → (answer : Result (List ℕ) Refusal) × Answers q now answer × (s ≡ answered shape false number now q answer)
+answer_of : (shape : Shape) (number : ℕ) (now : State) (q : Query) (s : Step) → ServesRead shape number now (Ok (query q)) s → s.lacking ≡ false → (answer : Result (List Row) Refusal) × Answers q now answer × (s ≡ answered shape false number now q answer)
 answer_of shape number now q s h given = (h.0, h.1, h.2 ∙ ap (λ lacks. answered shape lacks number now q h.0) given)
 
 -- a query leaves the state
-pub answered_keeps : (shape : Shape) (lacks : Bool) (number : ℕ) (now : State) (q : Query) (answer : Result (List ℕ) Refusal) → (answered shape lacks number now q answer).state ≡ now
+pub answered_keeps : (shape : Shape) (lacks : Bool) (number : ℕ) (now : State) (q : Query) (answer : Result (List Row) Refusal) → (answered shape lacks number now q answer).state ≡ now
 answered_keeps shape true number now q (Err r) = refl
 answered_keeps shape false number now q (Err r) = refl
-answered_keeps shape true number now q (Ok text) = refl
-answered_keeps shape false number now q (Ok text) = refl
+answered_keeps shape true number now q (Ok rows) = refl
+answered_keeps shape false number now q (Ok rows) = refl
 
 -- no line of a script is a message that differs
-answered_same : (shape : Shape) (lacks : Bool) (number : ℕ) (now : State) (q : Query) (answer : Result (List ℕ) Refusal) → (answered shape lacks number now q answer).differs ≡ false
+answered_same : (shape : Shape) (lacks : Bool) (number : ℕ) (now : State) (q : Query) (answer : Result (List Row) Refusal) → (answered shape lacks number now q answer).differs ≡ false
 answered_same shape true number now q (Err r) = refl
 answered_same shape false number now q (Err r) = refl
-answered_same shape true number now q (Ok text) = refl
-answered_same shape false number now q (Ok text) = refl
+answered_same shape true number now q (Ok rows) = refl
+answered_same shape false number now q (Ok rows) = refl
 
 edited_same : (shape : Shape) (lacks : Bool) (number : ℕ) (now : State) (new : Result Net Refusal) → (edited shape lacks number now new).differs ≡ false
 edited_same shape true number now (Err r) = refl
@@ -132,7 +133,7 @@ module _ (laws : Laws) (shape : Shape) (how : Result Line Fault → Result Line 
   state_left version number now (line ∷ lines) (s ∷ steps) is h =
       state_left version (number + 1) s.state lines steps (state_kept version number now line (how (reading_at version number line)) s is refl h.0) h.1
 
-  module _ (there : (q : Query) (now : State) → IsState now → (answer : Result (List ℕ) Refusal) × Answers q now answer) where
+  module _ (there : (q : Query) (now : State) → IsState now → (answer : Result (List Row) Refusal) × Answers q now answer) where
     -- a line can be served without want of memory
     full_step : (number : ℕ) (now : State) (r : Result Line Fault) → IsState now → (s : Step) × ServesRead shape number now r s × (s.lacking ≡ false)
     full_step number now (Err f) is = (refused shape number (fault.code_of f) (fault.text_of f) now, refl, refl)
@@ -140,9 +141,9 @@ module _ (laws : Laws) (shape : Shape) (how : Result Line Fault → Result Line 
     full_step number now (Ok Mark) is = let m = laws.entries now.net is.network in (silent (record now { mark = Some m.0 }), (m.0, m.1, refl), refl)
     full_step number now (Ok (query q)) is = let a = there q now is in by a.0 a.1
       where
-        by : (answer : Result (List ℕ) Refusal) → Answers q now answer → (s : Step) × ServesRead shape number now (Ok (query q)) s × (s.lacking ≡ false)
+        by : (answer : Result (List Row) Refusal) → Answers q now answer → (s : Step) × ServesRead shape number now (Ok (query q)) s × (s.lacking ≡ false)
         by (Err r) h = (refused shape number (refusal.code_of r) (refusal.text_of r) now, (Err r, h, refl), refl)
-        by (Ok text) h = (answered shape false number now q (Ok text), (Ok text, h, refl), refl)
+        by (Ok rows) h = (answered shape false number now q (Ok rows), (Ok rows, h, refl), refl)
     full_step number now (Ok (edit d)) is = by (after d now.net) refl
       where
         by : (o : Result Net Refusal) → after d now.net ≡ o → (s : Step) × ServesRead shape number now (Ok (edit d)) s × (s.lacking ≡ false)
@@ -157,7 +158,7 @@ module _ (laws : Laws) (shape : Shape) (how : Result Line Fault → Result Line 
         let rest = full_run version (number + 1) (s.0).state lines (state_kept version number now line (how (reading_at version number line)) s.0 is refl s.1) in
         (s.0 ∷ rest.0, runs-first (ServesBy shape how version) number now line lines s.0 rest.0 s.1 rest.1, no_more_lack s.0 rest.0 s.2 rest.2)
 
-  module _ (answers : (q : Query) (now : State) (a b : Result (List ℕ) Refusal) → IsNetwork now.net → Answers q now a → Answers q now b → a ≡ b) where
+  module _ (answers : (q : Query) (now : State) (a b : Result (List Row) Refusal) → IsNetwork now.net → Answers q now a → Answers q now b → a ≡ b) where
     -- a line does one thing in a state, or lacks memory
     one_step : (number : ℕ) (now : State) (r : Result Line Fault) (s t : Step) → IsState now → ServesRead shape number now r s → ServesRead shape number now r t → s.lacking ≡ t.lacking → s ≡ t
     one_step number now (Err f) s t is h k alike = h ∙ sym k
@@ -186,7 +187,7 @@ module _ (laws : Laws) (shape : Shape) (how : Result Line Fault → Result Line 
 
     -- in equal states a query has one answer
     pub one_reply : (m n : ℕ) (now other : State) (q : Query) (s t : Step) → IsState now → now ≡ other → ServesRead shape m now (Ok (query q)) s → ServesRead shape n other (Ok (query q)) t
-        → s.lacking ≡ false → t.lacking ≡ false → (answer : Result (List ℕ) Refusal) × (s ≡ answered shape false m now q answer) × (t ≡ answered shape false n other q answer)
+        → s.lacking ≡ false → t.lacking ≡ false → (answer : Result (List Row) Refusal) × (s ≡ answered shape false m now q answer) × (t ≡ answered shape false n other q answer)
     one_reply m n now other q s t is same h k given too =
         let x = answer_of shape m now q s h given in
         let y = answer_of shape n other q t k too in

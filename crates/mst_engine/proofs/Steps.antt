@@ -25,10 +25,10 @@ AlwaysRuns = (input : Input) (known : Option Version) (number : ℕ) (now : Stat
 
 pub always_runs : ((form : Form) (version : Version) (number : ℕ) (now : State) (lines : List (List ℕ)) → IsState now → (steps : List Step) × RunsBy (Serves form version) number now lines steps × (lacks_of steps ≡ 0))
     → ((shape : Shape) (version : Version) (number : ℕ) (now : State) (lines : List (List ℕ)) → IsState now → (steps : List Step) × RunsBy (Loads shape version) number now lines steps × (lacks_of steps ≡ 0))
-    → ((number : ℕ) (now : State) (lines : List (List ℕ)) → IsState now → (steps : List Step) × Compares number now lines steps × (lacks_of steps ≡ 0)) → AlwaysRuns
+    → ((form : Form) (number : ℕ) (now : State) (lines : List (List ℕ)) → IsState now → (steps : List Step) × Compares form number now lines steps × (lacks_of steps ≡ 0)) → AlwaysRuns
 always_runs scripts networks captures (Script form) known number now lines = scripts form (version_from known lines) number now lines
 always_runs scripts networks captures (Network shape) known number now lines = networks shape (version_from known lines) number now lines
-always_runs scripts networks captures Captures known number now lines = captures number now lines
+always_runs scripts networks captures (Captures form) known number now lines = captures form number now lines
 
 pub left_by-append : (now : State) (d e : List Step) → left_by now (d ++ e) ≡ left_by (left_by now d) e
 left_by-append now [] e = refl
@@ -95,7 +95,7 @@ module _ (Does : ℕ → State → List ℕ → Step → Type 0) where
 pub on-none : (input : Input) (known : Option Version) (number : ℕ) (now : State) → RunsOn input known number now [] []
 on-none (Script form) known number now = runs-none (Serves form (version_from known [])) number now
 on-none (Network shape) known number now = runs-none (Loads shape (version_from known [])) number now
-on-none Captures known number now = runs-none ServesCapture number now
+on-none (Captures form) known number now = runs-none (ServesCapture form) number now
 
 -- the next line of an input, and the lines after it
 pub on-first : (input : Input) (known : Option Version) (number : ℕ) (now : State) (line : List ℕ) (lines : List (List ℕ)) (s : Step) (steps : List Step) → does input known number now line s
@@ -104,4 +104,4 @@ on-first (Script form) None number now line lines s steps p q = runs-first (Serv
 on-first (Script form) (Some version) number now line lines s steps p q = runs-first (Serves form version) number now line lines s steps p q
 on-first (Network shape) None number now line lines s steps p q = runs-first (Loads shape (version_said line)) number now line lines s steps p q
 on-first (Network shape) (Some version) number now line lines s steps p q = runs-first (Loads shape version) number now line lines s steps p q
-on-first Captures known number now line lines s steps p q = runs-first ServesCapture number now line lines s steps p q
+on-first (Captures form) known number now line lines s steps p q = runs-first (ServesCapture form) number now line lines s steps p q

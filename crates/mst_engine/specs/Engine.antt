@@ -6,11 +6,11 @@ use Rattle.mst_lang.specs.Faults as fault
 use Rattle.mst_lang.specs.declared.line.Version.{Version}
 use Rattle.mst_net.specs.Refusals as refusal
 use Rattle.mst_net.specs.declared.refusal.Refusal.TheVariants.{E99}
-use Rattle.mst_compare.specs.bpdu.CaptureText.{fault_line}
+use Rattle.mst_compare.specs.bpdu.CaptureText.{fault_row}
 use Rattle.mst_compare.specs.bpdu.declared.fault.BpduFault.TheVariants.{B99}
 use Rattle.mst_engine.specs.Captures.{ServesCapture, Compares}
 use Rattle.mst_engine.specs.Script.{Serves, Loads, version_of}
-use Rattle.mst_print.specs.Shape.{of_script, coded}
+use Rattle.mst_print.specs.Shape.{of_script, coded, listed}
 use Rattle.mst_engine.specs.Steps.{Step, RunsBy}
 use Rattle.mst_io.specs.declared.outcome.Outcome.{Outcome}
 use Rattle.mst_engine.specs.declared.engine.Engine.{Engine}
@@ -18,14 +18,14 @@ use Rattle.mst_engine.specs.declared.engine.Input.{Input}
 use Rattle.mst_engine.specs.declared.engine.Input.TheVariants.{Script, Network, Captures}
 use Rattle.mst_engine.specs.declared.engine.Reply.{Reply}
 use Rattle.mst_engine.specs.declared.engine.Reply.TheVariants.{Silent, Text, Unread, Refused, Starved, Differing, Faulty, Uncompared}
-use Rattle.mst_print.specs.declared.form.Form.TheVariants.{Text as text_form}
+use Rattle.mst_print.specs.declared.form.Form.{Form}
 use Rattle.mst_print.specs.declared.form.Shape.{Shape}
 
 -- what refusals and answers are printed as. No capture is refused as a line of a script is
 abbrev pub shape_of : Input → Shape
 shape_of (Script form) = of_script form
 shape_of (Network shape) = shape
-shape_of Captures = of_script text_form
+shape_of (Captures form) = of_script form
 
 -- the version of a script whose next lines are these, where it is known already, or else the first of them says it
 abbrev pub version_from : Option Version → List (List ℕ) → Version
@@ -36,23 +36,23 @@ version_from None lines = version_of lines
 abbrev pub known_after : Input → Option Version → List ℕ → Option Version
 known_after (Script form) known line = Some (version_from known (line ∷ []))
 known_after (Network shape) known line = Some (version_from known (line ∷ []))
-known_after Captures known line = known
+known_after (Captures form) known line = known
 
 -- what the next line of an input does, where this is known of its version
 abbrev pub does : Input → Option Version → ℕ → State → List ℕ → Step → Type 0
 does (Script form) known number now line s = Serves form (version_from known (line ∷ [])) number now line s
 does (Network shape) known number now line s = Loads shape (version_from known (line ∷ [])) number now line s
-does Captures known number now line s = ServesCapture number now line s
+does (Captures form) known number now line s = ServesCapture form number now line s
 
 -- the next lines of an input do these steps one after another
 abbrev pub RunsOn : Input → Option Version → ℕ → State → List (List ℕ) → List Step → Type 0
 RunsOn (Script form) known number now lines steps = RunsBy (Serves form (version_from known lines)) number now lines steps
 RunsOn (Network shape) known number now lines steps = RunsBy (Loads shape (version_from known lines)) number now lines steps
-RunsOn Captures known number now lines steps = Compares number now lines steps
+RunsOn (Captures form) known number now lines steps = Compares form number now lines steps
 
 -- captures are compared with a settled plan
 abbrev pub IsReady : Input → Engine → Type 0
-IsReady input e = input ≡ Captures → e.planner.is_settled ≡ true
+IsReady input e = (form : Form) → input ≡ Captures form → e.planner.is_settled ≡ true
 
 -- the state, what is known of the version, the number of the next line, how many lines were refused, and how many
 -- messages differ
@@ -94,8 +94,8 @@ reply_text shape number (Unread f) = coded shape number (fault.code_of f) (fault
 reply_text shape number (Refused r) = coded shape number (refusal.code_of r) (refusal.text_of r)
 reply_text shape number Starved = coded shape number (refusal.code_of E99) (refusal.text_of E99)
 reply_text shape number (Differing text) = text.items
-reply_text shape number (Faulty fault) = fault_line number fault
-reply_text shape number Uncompared = fault_line number B99
+reply_text shape number (Faulty fault) = listed shape.form (fault_row number fault ∷ [])
+reply_text shape number Uncompared = listed shape.form (fault_row number B99 ∷ [])
 
 abbrev pub is_refusal : Reply → Bool
 is_refusal Silent = false

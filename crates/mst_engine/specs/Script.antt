@@ -18,7 +18,8 @@ use Rattle.mst_net.specs.After.{after}
 use Rattle.mst_compare.specs.changes.declared.subject.Entry.{Entry}
 use Rattle.mst_compare.specs.report.Answers.{Answers}
 use Rattle.mst_compare.specs.report.State.{State, IsMarkNow, empty_state}
-use Rattle.mst_print.specs.Shape.{of_script, coded, shown, query_word}
+use Rattle.mst_print.specs.Shape.{of_script, coded, shown, query_row}
+use Rattle.mst_rows.specs.Rows.{Row}
 use Rattle.mst_engine.specs.Steps.{Step, RunsBy, silent, printed}
 use Rattle.mst_print.specs.declared.form.Form.{Form}
 use Rattle.mst_print.specs.declared.form.Shape.{Shape}
@@ -42,11 +43,15 @@ abbrev pub marked : Shape → Bool → ℕ → State → List Entry → Step
 marked shape true number now entries = starved shape number now
 marked shape false number now entries = silent (record now { mark = Some entries })
 
--- a query, by its answer. For want of memory no text is printed
-abbrev pub answered : Shape → Bool → ℕ → State → Query → Result (List ℕ) Refusal → Step
+-- a query, by its answer. For want of memory no row is printed
+abbrev pub answered : Shape → Bool → ℕ → State → Query → Result (List Row) Refusal → Step
 answered shape lacks number now q (Err r) = refused shape number (refusal.code_of r) (refusal.text_of r) now
-answered shape true number now q (Ok text) = starved shape number now
-answered shape false number now q (Ok text) = printed now (shown shape.form (Some number) (query_word q) text)
+answered shape true number now q (Ok rows) = starved shape number now
+answered shape false number now q (Ok rows) = printed now (shown shape.form (Some number) (query_row q) rows)
+
+-- what is printed of rows that answer a query, in the line of this number
+abbrev pub PrintsAnswer : Form → ℕ → State → Query → List ℕ → Type 0
+PrintsAnswer form number now q text = (rows : List Row) × Answers q now (Ok rows) × (text ≡ shown form (Some number) (query_row q) rows)
 
 -- the edit may add a record, or something that is set by tree or VID. Any other finds its room there
 abbrev pub may_grow : Edit → Bool
@@ -69,7 +74,7 @@ ServesRead shape number now (Err f) s = s ≡ refused shape number (fault.code_o
 ServesRead shape number now (Ok Blank) s = s ≡ silent now
 ServesRead shape number now (Ok Mark) s = (entries : List Entry) × IsMarkNow now.net entries × (s ≡ marked shape s.lacking number now entries)
 ServesRead shape number now (Ok (edit e)) s = (s ≡ edited shape s.lacking number now (after e now.net)) × (s.lacking ≡ true → may_grow e ≡ true)
-ServesRead shape number now (Ok (query q)) s = (answer : Result (List ℕ) Refusal) × Answers q now answer × (s ≡ answered shape s.lacking number now q answer)
+ServesRead shape number now (Ok (query q)) s = (answer : Result (List Row) Refusal) × Answers q now answer × (s ≡ answered shape s.lacking number now q answer)
 
 -- the version that a script's first line says
 abbrev pub version_said : List ℕ → Version

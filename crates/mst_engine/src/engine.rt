@@ -1,13 +1,13 @@
-ghost use Rattle.std.specs.Prelude.{◌≡◌, ◌^◌, ◌<◌, false, [], ◌∷◌, Ok, IfOk, OnOk, OnErr};
+ghost use Rattle.std.specs.Prelude.{◌≡◌, ◌^◌, ◌<◌, true, false, [], ◌∷◌, Ok, IfOk, OnOk, OnErr};
 ghost use Rattle.std.specs.Io.KnownBytes.{Appends};
 ghost use Rattle.mst_lang.specs.declared.line.Line.TheVariants.{Mark, Query as query};
-ghost use Rattle.mst_compare.specs.report.Answers.{Answers};
+ghost use Rattle.mst_compare.specs.report.Answers.{asks_plan as is_of_plan};
 ghost use Rattle.mst_compare.specs.report.Planned.{planned_state};
-ghost use Rattle.mst_compare.specs.report.Refusing.{HasText};
+ghost use Rattle.mst_compare.specs.report.Refusing.{HasRows};
 ghost use Rattle.mst_compare.specs.report.State.{empty_state};
 ghost use Rattle.mst_io.specs.Devices.{Works, IsStopped};
 ghost use Rattle.mst_io.specs.Written.{AppendsFront};
-ghost use Rattle.mst_engine.specs.Script.{ServesRead, Serves, Loads, reading_at, version_said as said};
+ghost use Rattle.mst_engine.specs.Script.{PrintsAnswer, ServesRead, Serves, Loads, reading_at, version_said as said};
 ghost use Rattle.mst_print.specs.Shape.{of_script};
 ghost use Rattle.mst_engine.specs.Engine.{IsReady, shape_of, version_from, does, begun, tally_of, tallied, outcome_of, reply_text, replied};
 
@@ -17,7 +17,7 @@ use mst_compare::{BpduFault, Digests, Planner, asks_plan};
 use mst_io::{Outcome, Sink, WriteFailed, put};
 use mst_lang::{Fault, Line, Query, Version, is_version_2, parse_line_as};
 use mst_net::Refusal;
-use mst_print::{Form, Shape, Side, put_coded, put_fault, put_refusal, query_word, show};
+use mst_print::{Form, Printer, Shape, Side, put_coded, put_fault, put_refusal};
 use std::alloc::{AllocError, Global};
 
 /// What lines come from, by which they are served.
@@ -27,8 +27,8 @@ pub enum Input {
     Script(Form),
     /// A script of which the edits alone are served: its queries and marks do nothing. What is printed has this shape.
     Network(Shape),
-    /// Captured messages, which are compared with the plan.
-    Captures,
+    /// Captured messages, which are compared with the plan. What is printed has this form.
+    Captures(Form),
 }
 
 /// What is kept from line to line.
@@ -55,7 +55,7 @@ pub struct Engine {
 pub enum Reply {
     /// Nothing: an edit was made, or the line has no command.
     Silent,
-    /// The answer to a query.
+    /// The answer to a query, as it is printed.
     Text(Vec<u8>),
     /// The line isn't read.
     Unread(Fault),
@@ -63,7 +63,7 @@ pub enum Reply {
     Refused(Refusal),
     /// Memory was wanted and refused.
     Starved,
-    /// The captured message differs from the planned one: its differences.
+    /// The captured message differs from the planned one: its differences, as they are printed.
     Differing(Vec<u8>),
     /// The captured message isn't read, or has no sender.
     Faulty(BpduFault),
@@ -127,17 +127,32 @@ impl Engine {
             Input::Script(form) => {
                 let version = version_at(self.version, line);
                 self.version = Some(version);
-                serve_line(&mut self.planner, form, version, self.number, line)
+                serve_line(
+                    self.alloc,
+                    &mut self.planner,
+                    form,
+                    version,
+                    self.number,
+                    line,
+                )
             }
             Input::Network(shape) => {
                 let version = version_at(self.version, line);
                 self.version = Some(version);
-                load_line(&mut self.planner, shape, version, self.number, line)
+                load_line(
+                    self.alloc,
+                    &mut self.planner,
+                    shape,
+                    version,
+                    self.number,
+                    line,
+                )
             }
-            Input::Captures => compare_line(
+            Input::Captures(form) => compare_line(
                 self.alloc,
                 &self.planner,
                 &mut self.digests,
+                form,
                 self.number,
                 line,
             ),
@@ -176,6 +191,7 @@ fn version_said(line: &[u8]) -> Version
 
 /// Serves a line of a script.
 fn serve_line(
+    alloc: Global,
     planner: &mut Planner,
     form: Form,
     version: Version,
@@ -190,12 +206,13 @@ fn serve_line(
     };
     match read_line(version, number, line) {
         Err(fault) => Reply::Unread(fault),
-        Ok(line) => serve(planner, shape, number, &line),
+        Ok(line) => serve(alloc, planner, shape, number, &line),
     }
 }
 
 /// Serves a line of a script, if it is an edit or isn't read.
 fn load_line(
+    alloc: Global,
     planner: &mut Planner,
     shape: Shape,
     version: Version,
@@ -207,7 +224,7 @@ fn load_line(
     match read_line(version, number, line) {
         Err(fault) => Reply::Unread(fault),
         Ok(Line::Query(_) | Line::Mark) => Reply::Silent,
-        Ok(line) => serve(planner, shape, number, &line),
+        Ok(line) => serve(alloc, planner, shape, number, &line),
     }
 }
 
@@ -228,7 +245,7 @@ fn read_line(version: Version, number: u64, line: &[u8]) -> Result<Line, Fault>
 }
 
 /// Serves a line that is read.
-fn serve(planner: &mut Planner, shape: Shape, number: u64, line: &Line) -> Reply
+fn serve(alloc: Global, planner: &mut Planner, shape: Shape, number: u64, line: &Line) -> Reply
     ensures { ServesRead shape number (planned_state planner.old) (Ok line.now) (replied shape number (planned_state planner.new) result) }
 {
     match line {
@@ -238,7 +255,7 @@ fn serve(planner: &mut Planner, shape: Shape, number: u64, line: &Line) -> Reply
             Err(Refusal::E99) => Reply::Starved,
             Err(refusal) => Reply::Refused(refusal),
         },
-        Line::Query(query) => answer(planner, shape, number, query),
+        Line::Query(query) => answer(alloc, planner, shape, number, query),
         Line::Mark => mark(planner, shape, number),
     }
 }
@@ -259,40 +276,62 @@ fn mark(planner: &mut Planner, shape: Shape, number: u64) -> Reply
 }
 
 /// Answers a query.
-fn answer(planner: &mut Planner, shape: Shape, number: u64, asked: &Query) -> Reply
+fn answer(alloc: Global, planner: &mut Planner, shape: Shape, number: u64, asked: &Query) -> Reply
     ensures { ServesRead shape number (planned_state planner.old) (Ok (query asked.now)) (replied shape number (planned_state planner.new) result) }
 {
     match planner.refusal(asked) {
         Some(refusal) => Reply::Refused(refusal),
-        None => told(planner, shape, number, asked),
+        None => told(alloc, planner, shape, number, asked),
     }
 }
 
-/// What a query that a text answers is answered by: what its text is printed as, or that memory was wanted for it.
-fn told(planner: &mut Planner, shape: Shape, number: u64, asked: &Query) -> Reply
-    requires { HasText asked.now (planned_state planner.old) }
+/// What a query that rows answer is answered by: what is printed of them, or that memory was wanted for it.
+fn told(alloc: Global, planner: &mut Planner, shape: Shape, number: u64, asked: &Query) -> Reply
+    requires { HasRows asked.now (planned_state planner.old) }
     ensures { ServesRead shape number (planned_state planner.old) (Ok (query asked.now)) (replied shape number (planned_state planner.new) result) }
 {
-    match text_of(planner, asked) {
+    match text_of(alloc, planner, shape.form, number, asked) {
         Err(_) => Reply::Starved,
-        Ok(mut text) => match show(shape.form, Some(number), query_word(asked), &mut text) {
-            Err(_) => Reply::Starved,
-            Ok(()) => Reply::Text(text),
-        },
+        Ok(text) => Reply::Text(text),
     }
 }
 
-/// The text that answers a query that has one, once the plan is settled where it is asked of the plan. `AllocError`: memory was
+/// What is printed of the rows that answer a query, once the plan is settled where it is asked of the plan. `AllocError`: memory was
 /// wanted and refused.
-fn text_of(planner: &mut Planner, asked: &Query) -> Result<Vec<u8>, AllocError>
-    requires { HasText asked.now (planned_state planner.old) }
-    ensures text { IfOk result (λ text. Answers asked.now (planned_state planner.old) (Ok text.items)) }
+fn text_of(
+    alloc: Global,
+    planner: &mut Planner,
+    form: Form,
+    number: u64,
+    asked: &Query,
+) -> Result<Vec<u8>, AllocError>
+    requires { HasRows asked.now (planned_state planner.old) }
+    ensures text { IfOk result (λ text. PrintsAnswer form number (planned_state planner.old) asked.now text.items) }
     ensures state { planned_state planner.new ≡ planned_state planner.old }
 {
     if asks_plan(asked) && planner.settle().is_err() {
         return Err(AllocError);
     }
-    planner.text(asked)
+    print_answer(alloc, planner, form, number, asked)
+}
+
+/// What is printed of the rows that answer a query, where the plan is settled if it is asked of the plan. `AllocError`: memory was
+/// wanted and refused.
+fn print_answer(
+    alloc: Global,
+    planner: &Planner,
+    form: Form,
+    number: u64,
+    asked: &Query,
+) -> Result<Vec<u8>, AllocError>
+    requires settled { is_of_plan asked.now ≡ true → planner.now.is_settled ≡ true }
+    requires rows { HasRows asked.now (planned_state planner.now) }
+    ensures { IfOk result (λ text. PrintsAnswer form number (planned_state planner.now) asked.now text.items) }
+{
+    let mut printer = Printer::open_query(alloc, form, number, asked)?;
+    planner.put::<Printer>(asked, &mut printer)?;
+    let text = printer.close()?;
+    Ok(text)
 }
 
 /// What refusals and answers are printed as.
@@ -305,8 +344,8 @@ fn shape(input: Input) -> Shape
             side: Side::Only,
         },
         Input::Network(shape) => shape,
-        Input::Captures => Shape {
-            form: Form::Text,
+        Input::Captures(form) => Shape {
+            form,
             side: Side::Only,
         },
     }
@@ -333,7 +372,7 @@ pub(crate) fn print<K: Sink>(
         Reply::Unread(fault) => put_coded(sink, shape, number, fault.code(), fault.text()),
         Reply::Refused(refusal) => put_refusal(sink, shape, number, *refusal),
         Reply::Starved => put_refusal(sink, shape, number, Refusal::E99),
-        Reply::Faulty(fault) => put_fault(sink, number, *fault),
-        Reply::Uncompared => put_fault(sink, number, BpduFault::B99),
+        Reply::Faulty(fault) => put_fault(sink, shape.form, number, *fault),
+        Reply::Uncompared => put_fault(sink, shape.form, number, BpduFault::B99),
     }
 }

@@ -11,6 +11,7 @@ ghost use Rattle.mst_lang.specs.Lines.{lines_of};
 ghost use Rattle.mst_save.specs.Saved.{saved_edits};
 ghost use Rattle.mst_save.specs.SaveText.{save_text, IsShort};
 ghost use Rattle.mst_engine.specs.Captures.{Compares};
+ghost use Rattle.mst_rows.specs.Rows.{Row};
 ghost use Rattle.mst_engine.specs.Script.{answered, Serves, ServesRead, Runs, Loads, LoadsAll, unmarked};
 ghost use Rattle.mst_print.specs.Shape.{of_script};
 ghost use Rattle.mst_engine.specs.Steps.{Step, RunsBy, left_by, texts_of, refusals_of, lacks_of, lacking_of};
@@ -80,13 +81,13 @@ pub fn loads_network()
 {}
 
 /// The state alone settles an answer: after any two scripts that leave equal networks, and equal entries of a mark, a
-/// query that meets no want of memory has one answer, the same text or the same refusal, whatever edits made the
+/// query that meets no want of memory has one answer, the same rows or the same refusal, whatever edits made the
 /// networks, and of whatever versions the scripts are.
 pub fn network_alone()
     ensures { (form : Form) (x y : List (List ℕ)) (a b : List Step) → Runs form x a → Runs form y b → left_by empty_state a ≡ left_by empty_state b
         → (q : Query) (m n : ℕ) (s t : Step) → ServesRead (of_script form) m (left_by empty_state a) (Ok (query q)) s → ServesRead (of_script form) n (left_by empty_state b) (Ok (query q)) t
         → s.lacking ≡ false → t.lacking ≡ false
-        → (answer : Result (List ℕ) Refusal) × (s ≡ answered (of_script form) false m (left_by empty_state a) q answer) × (t ≡ answered (of_script form) false n (left_by empty_state b) q answer) }
+        → (answer : Result (List Row) Refusal) × (s ≡ answered (of_script form) false m (left_by empty_state a) q answer) × (t ≡ answered (of_script form) false n (left_by empty_state b) q answer) }
 {
     networks();
     edits_in_range();
@@ -103,18 +104,18 @@ pub fn saved_again()
     restored();
 }
 
-/// Any captured messages, the first of any number, can be compared with the plan of any network without want of memory.
+/// Any captured messages, the first of any number, can be compared with the plan of any network without want of memory, in each form.
 pub fn has_comparison()
-    ensures { (number : ℕ) (now : State) (lines : List (List ℕ)) → IsState now → (steps : List Step) × Compares number now lines steps × (lacks_of steps ≡ 0) }
+    ensures { (form : Form) (number : ℕ) (now : State) (lines : List (List ℕ)) → IsState now → (steps : List Step) × Compares form number now lines steps × (lacks_of steps ≡ 0) }
 {
     has_list();
 }
 
-/// Captured messages have one comparison with the plan of a network for each set of those that met want of memory: what is
+/// Captured messages have one comparison with the plan of a network, in each form, for each set of those that met want of memory: what is
 /// printed is a function of them, of the network and of that set, and where none met it of the first two.
 pub fn one_comparison()
-    ensures same { (number : ℕ) (now : State) (lines : List (List ℕ)) (a b : List Step) → IsState now → Compares number now lines a → Compares number now lines b → lacking_of a ≡ lacking_of b → a ≡ b }
-    ensures full { (number : ℕ) (now : State) (lines : List (List ℕ)) (a b : List Step) → IsState now → Compares number now lines a → Compares number now lines b → lacks_of a ≡ 0 → lacks_of b ≡ 0 → a ≡ b }
+    ensures same { (form : Form) (number : ℕ) (now : State) (lines : List (List ℕ)) (a b : List Step) → IsState now → Compares form number now lines a → Compares form number now lines b → lacking_of a ≡ lacking_of b → a ≡ b }
+    ensures full { (form : Form) (number : ℕ) (now : State) (lines : List (List ℕ)) (a b : List Step) → IsState now → Compares form number now lines a → Compares form number now lines b → lacks_of a ≡ 0 → lacks_of b ≡ 0 → a ≡ b }
 {
     one_list();
 }

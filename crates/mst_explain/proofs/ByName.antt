@@ -1,6 +1,6 @@
 -- The reason of an enabled port of a tree under names, of claims that hold what is had on its LAN and at its bridge.
 use Rattle.std.proofs.Common.{◌≡◌, false, List, Option, Some, None, inl, inr, ◌⊎◌, refl, sym, ap, subst, ◌∙◌}
-use Rattle.std.specs.Prelude.{◌≢◌, ℕ, codes}
+use Rattle.std.specs.Prelude.{◌≢◌, ℕ}
 use Rattle.std.specs.List.{Contains}
 use Rattle.std.specs.Ordering.{is_gt}
 use Rattle.mst_ids.specs.declared.name.PortName.{PortName}
@@ -16,16 +16,17 @@ use Rattle.mst_roles.specs.trees.Outcome.{TreeOutcome, IsTreeOutcome}
 use Rattle.mst_roles.proofs.trees_lemmas.Lists.{no_some, all_contained}
 use Rattle.mst_roles.proofs.trees_lemmas.Views.{IsPort, ports_are}
 use Rattle.mst_roles.proofs.trees_lemmas.Sights.{IsSight, bridge_in, port_in, port_from, is_topology}
+use Rattle.mst_rows.specs.Rows.{Row}
 use Rattle.mst_explain.specs.declared.claims.Claim.{Claim}
-use Rattle.mst_explain.specs.Claims.{told_text}
+use Rattle.mst_explain.specs.Claims.{told_rows}
 use Rattle.mst_explain.specs.Contest.{IsFirst, IsAlone, IsDesignatedVectorOn, Gives}
 use Rattle.mst_explain.specs.Explained.{TellsRival, TellsDesignated, TellsRoot}
 use Rattle.mst_explain.specs.Fields.{Field}
-use Rattle.mst_explain.specs.Lines.{over_line, alone_line}
+use Rattle.mst_explain.specs.Lines.{designated_contest, root_contest, over_rows, alone_rows}
 use Rattle.mst_explain.proofs.Firsts.{Hold, IsTold, told_is}
 
 module _ (net : Net) (ok : IsNetwork net) {B P V : Type 0} (m : Rules B P V) (law : IsMetric m) (s : Sight B P) (sight : IsSight net m s) (o : TreeOutcome V) (is : IsTreeOutcome m (tree_of net s) o)
-    (fields : V → List Field) (p : LogicalPort) (here : Contains (view_ports net) p) (settings : P) (has_settings : s.port p ≡ Some settings) where
+    (fields : V → List Field) (tree : ℕ) (p : LogicalPort) (here : Contains (view_ports net) p) (settings : P) (has_settings : s.port p ≡ Some settings) where
   abbrev t : Topology (List ℕ) (List ℕ) PortName B P
   t = tree_of net s
 
@@ -69,24 +70,24 @@ module _ (net : Net) (ok : IsNetwork net) {B P V : Type 0} (m : Rules B P V) (la
     record { has_port = there; is_part = refl; bridge = own.bridge; has_bridge = own.is_bridge; root = own.vector; is_root = own.is_vector; is_designated = refl },
   )
 
-  abbrev lan_text : List (Claim V) → List ℕ
-  lan_text claims = told_text m.order fields (codes "designated") (Some p.name) claims
+  abbrev lan_rows : List (Claim V) → List Row
+  lan_rows claims = told_rows m.order fields (designated_contest tree p.name) (Some p.name) claims
 
   -- the first on the LAN is its designated port
-  pub record Chosen (text : List ℕ) : Type 0 where
+  pub record Chosen (rows : List Row) : Type 0 where
     pub port : PortName
     pub is_designated : o.designated p.lan ≡ Some port
-    pub tells : TellsDesignated m fields t o p port text
+    pub tells : TellsDesignated m fields t o tree p port rows
 
-  pub chosen : (claims : List (Claim V)) → Hold claims OnLan → Chosen (lan_text claims)
+  pub chosen : (claims : List (Claim V)) → Hold claims OnLan → Chosen (lan_rows claims)
   chosen claims hold = by_key on_lan.first on_lan.vector on_lan.is_first on_lan.told (o.designated p.lan) refl (is.designated p.lan)
     where
-      on_lan : IsTold m law.total fields (codes "designated") (Some p.name) claims OnLan hold
-      on_lan = told_is m law.total fields (codes "designated") (Some p.name) claims OnLan hold (m.designated_vector own.vector own.bridge settings) says
+      on_lan : IsTold m law.total fields (designated_contest tree p.name) (Some p.name) claims OnLan hold
+      on_lan = told_is m law.total fields (designated_contest tree p.name) (Some p.name) claims OnLan hold (m.designated_vector own.vector own.bridge settings) says
 
       by_key : (k : Option PortName) (x : V) → IsFirst m OnLan k x
-          → TellsRival m fields OnLan (Some p.name) k x (over_line (codes "designated") k) (lan_text claims) ⊎ (IsAlone m OnLan k × (lan_text claims ≡ alone_line (codes "designated") k))
-          → (d : Option PortName) → o.designated p.lan ≡ d → IsDesignated m t o.vector p.lan d → Chosen (lan_text claims)
+          → TellsRival m fields OnLan (Some p.name) k x (over_rows (designated_contest tree p.name) k) (lan_rows claims) ⊎ (IsAlone m OnLan k × (lan_rows claims ≡ alone_rows (designated_contest tree p.name) k))
+          → (d : Option PortName) → o.designated p.lan ≡ d → IsDesignated m t o.vector p.lan d → Chosen (lan_rows claims)
       by_key None x first told d e h = absurd first.has
       by_key (Some k) x first told None e h = let f = first.has in absurd (h f.0 x f.2 f.3)
       by_key (Some k) x first told (Some d) e h =
@@ -135,10 +136,10 @@ module _ (net : Net) (ok : IsNetwork net) {B P V : Type 0} (m : Rules B P V) (la
 
   -- the first at the bridge is told
   pub tells_root : (b : B) → HasBridge t p.name.bridge b → (claims : List (Claim V)) → Hold claims (AtBridge b) → (d : PortName) → o.designated p.lan ≡ Some d → d.bridge ≢ p.name.bridge → p.settings.is_restricted ≡ false
-      → TellsRoot m fields t o p (told_text m.order fields (codes "root") (Some p.name) claims)
+      → TellsRoot m fields t o tree p (told_rows m.order fields (root_contest tree p.name) (Some p.name) claims)
   tells_root b is_bridge claims hold d e other free =
       let mine = gives b d e other free in
-      let told = told_is m law.total fields (codes "root") (Some p.name) claims (AtBridge b) hold mine.0 mine.1 in
+      let told = told_is m law.total fields (root_contest tree p.name) (Some p.name) claims (AtBridge b) hold mine.0 mine.1 in
       record {
         bridge = b;
         is_bridge = is_bridge;

@@ -1,6 +1,6 @@
 -- The reason of an enabled port of a tree, under the numbers of records, tells what the tree has under names.
 use Rattle.std.proofs.Common.{◌≡◌, ℕ, ◌==◌, ◌*◌, ◌-◌, ◌≤◌, ◌^◌, Bool, false, List, [], ◌∷◌, length, Option, Some, None, refl, sym, ap, subst, ◌∙◌, eq-eqb, arith}
-use Rattle.std.specs.Prelude.{◌≢◌, if◌then◌else◌, filter_map, codes}
+use Rattle.std.specs.Prelude.{◌≢◌, if◌then◌else◌, filter_map}
 use Rattle.std.specs.List.{Contains, cons_option}
 use Rattle.std.specs.FinMap as fin
 use Rattle.std.specs.FinMap.{len-entries}
@@ -17,11 +17,12 @@ use Rattle.mst_roles.specs.trees.Outcome.{TreeOutcome, IsTreeOutcome}
 use Rattle.mst_roles.specs.trees.Agrees.{AreOf}
 use Rattle.mst_roles.proofs.trees_lemmas.Sights.{IsSight}
 use Rattle.mst_roles.proofs.trees_lemmas.Seen.{port_seen, port_of_net}
+use Rattle.mst_rows.specs.Rows.{Row}
 use Rattle.mst_explain.specs.Explained.{TellsRoot, TellsContest}
 use Rattle.mst_explain.specs.Fields.{Field}
-use Rattle.mst_explain.specs.Lines.{restricted_line}
-use Rattle.mst_explain.specs.Claims.{told_text}
-use Rattle.mst_explain.specs.Seen.{TreeSeen, CanStep, designated_on, lan_claims, bridge_claims, root_text, second_text, contest_text}
+use Rattle.mst_explain.specs.Lines.{designated_contest, root_contest, restricted_rows}
+use Rattle.mst_explain.specs.Claims.{told_rows}
+use Rattle.mst_explain.specs.Seen.{TreeSeen, CanStep, designated_on, lan_claims, bridge_claims, root_rows, second_rows, contest_rows}
 use Rattle.mst_explain.proofs.ByName as by_name
 use Rattle.mst_explain.proofs.ByName.{HasOwn, Chosen, tells_root}
 use Rattle.mst_explain.proofs.SeenTrees.{IsSeenTree, numbers_differ, bridge_is, bridge_number, topology, lan_hold, vector_at}
@@ -63,7 +64,7 @@ module _ (net : Net) (numbers : Numbers) (v : Viewed) (region_ids : List (ℕ ×
         low (m.cost x) (length t.bridges) (bounded t o.vector ok is.settled p.name.bridge x (sym (vector_at net numbers v region_ids of m law s sight o is seen same p there) ∙ e)) few;
   }
 
-  module _ (fields : V → List Field) (p : PortInView) (here : Contains v.ports p) (settings : P) (has_settings : s.port (named_port p) ≡ Some settings) where
+  module _ (fields : V → List Field) (tree : ℕ) (p : PortInView) (here : Contains v.ports p) (settings : P) (has_settings : s.port (named_port p) ≡ Some settings) where
     -- the port under its name, and what is told of it by claims under names
     abbrev at : LogicalPort
     at = named_port p
@@ -71,42 +72,42 @@ module _ (net : Net) (numbers : Numbers) (v : Viewed) (region_ids : List (ℕ ×
     on_net : Contains (view_ports net) at
     on_net = port_of_net net numbers v of.view p here
 
-    own : HasOwn net of.network m law s sight o is fields at on_net settings has_settings
-    own = by_name.own net of.network m law s sight o is fields at on_net settings has_settings
+    own : HasOwn net of.network m law s sight o is fields tree at on_net settings has_settings
+    own = by_name.own net of.network m law s sight o is fields tree at on_net settings has_settings
 
-    abbrev lan_text : List ℕ
-    lan_text = told_text m.order fields (codes "designated") (Some p.name) (lan_claims m v seen p.lan_number)
+    abbrev lan_rows : List Row
+    lan_rows = told_rows m.order fields (designated_contest tree p.name) (Some p.name) (lan_claims m v seen p.lan_number)
 
-    chosen : Chosen net of.network m law s sight o is fields at on_net settings has_settings lan_text
-    chosen = by_name.chosen net of.network m law s sight o is fields at on_net settings has_settings (lan_claims m v seen p.lan_number) (lan_hold net numbers v region_ids of m law s sight o is seen same p here)
+    chosen : Chosen net of.network m law s sight o is fields tree at on_net settings has_settings lan_rows
+    chosen = by_name.chosen net of.network m law s sight o is fields tree at on_net settings has_settings (lan_claims m v seen p.lan_number) (lan_hold net numbers v region_ids of m law s sight o is seen same p here)
 
     root_told : (d : PortName) → o.designated p.lan ≡ Some d → d.bridge ≢ p.name.bridge → p.settings.is_restricted ≡ false
-        → TellsRoot m fields t o at (told_text m.order fields (codes "root") (Some p.name) (bridge_claims m v seen p.bridge))
+        → TellsRoot m fields t o tree at (told_rows m.order fields (root_contest tree p.name) (Some p.name) (bridge_claims m v seen p.bridge))
     root_told =
-        tells_root net of.network m law s sight o is fields at on_net settings has_settings own.bridge own.is_bridge (bridge_claims m v seen p.bridge)
+        tells_root net of.network m law s sight o is fields tree at on_net settings has_settings own.bridge own.is_bridge (bridge_claims m v seen p.bridge)
         (bridge_hold net numbers v region_ids of m law s sight o is seen same p here own.bridge own.is_bridge)
 
     -- the reason
-    pub tells_contest : TellsContest m fields t o (named_port p) (contest_text m v seen fields p)
+    pub tells_contest : TellsContest m fields t o tree (named_port p) (contest_rows m v seen fields tree p)
     tells_contest =
         let d = chosen.port in
         let f = designated_found net numbers v region_ids of m law s sight o is seen same p here d chosen.is_designated in
         let bridge : f.port.name.bridge ≡ d.bridge = ap (λ (n : PortName). n.bridge) f.name in
-        let second : second_text m v seen fields p (designated_on m v seen p.lan_number) ≡ (if f.port.bridge == p.bridge then [] else root_text m v seen fields p) =
-        ap (second_text m v seen fields p) f.found in
+        let second : second_rows m v seen fields tree p (designated_on m v seen p.lan_number) ≡ (if f.port.bridge == p.bridge then [] else root_rows m v seen fields tree p) =
+        ap (second_rows m v seen fields tree p) f.found in
         let apart : d.bridge ≢ p.name.bridge → (f.port.bridge == p.bridge) ≡ false =
         λ n. numbers_differ f.port.bridge p.bridge (λ i. n (sym bridge ∙ bridge_is net numbers v region_ids of f.port p f.there here i)) in
-        let root : d.bridge ≢ p.name.bridge → second_text m v seen fields p (designated_on m v seen p.lan_number) ≡ root_text m v seen fields p =
-        λ n. second ∙ ap (λ (b : Bool). if b then [] else root_text m v seen fields p) (apart n) in
-        let line = λ (b : Bool). if b then restricted_line else told_text m.order fields (codes "root") (Some p.name) (bridge_claims m v seen p.bridge) in
+        let root : d.bridge ≢ p.name.bridge → second_rows m v seen fields tree p (designated_on m v seen p.lan_number) ≡ root_rows m v seen fields tree p =
+        λ n. second ∙ ap (λ (b : Bool). if b then [] else root_rows m v seen fields tree p) (apart n) in
+        let line = λ (b : Bool). if b then restricted_rows tree p.name else told_rows m.order fields (root_contest tree p.name) (Some p.name) (bridge_claims m v seen p.bridge) in
         record {
           designated = d;
           is_designated = chosen.is_designated;
-          first = lan_text;
+          first = lan_rows;
           tells_designated = chosen.tells;
-          second = second_text m v seen fields p (designated_on m v seen p.lan_number);
-          own = λ e. second ∙ ap (λ (b : Bool). if b then [] else root_text m v seen fields p) (eq-eqb f.port.bridge p.bridge (bridge_number net numbers v region_ids of f.port p f.there here (bridge ∙ e)));
+          second = second_rows m v seen fields tree p (designated_on m v seen p.lan_number);
+          own = λ e. second ∙ ap (λ (b : Bool). if b then [] else root_rows m v seen fields tree p) (eq-eqb f.port.bridge p.bridge (bridge_number net numbers v region_ids of f.port p f.there here (bridge ∙ e)));
           restricted = λ n r. root n ∙ ap line r;
-          free = λ n r. subst (TellsRoot m fields t o (named_port p)) (sym (root n ∙ ap line r)) (root_told d chosen.is_designated n r);
+          free = λ n r. subst (TellsRoot m fields t o tree (named_port p)) (sym (root n ∙ ap line r)) (root_told d chosen.is_designated n r);
           is = refl;
         }

@@ -1,6 +1,6 @@
 -- The first of claims, and whom it is told against.
 use Rattle.std.proofs.Common.{◌≡◌, Bool, true, false, not, List, [], ◌∷◌, Option, Some, None, ◌⊎◌, inl, inr, refl, sym, ap, subst, ◌∙◌, true≢false}
-use Rattle.std.specs.Prelude.{◌≢◌, ℕ, if◌then◌else◌}
+use Rattle.std.specs.Prelude.{◌≢◌, if◌then◌else◌}
 use Rattle.std.specs.declared.cmp.Ordering.{Ordering}
 use Rattle.std.specs.Ordering.{is_gt}
 use Rattle.std.specs.Option.{option_map_or}
@@ -12,14 +12,15 @@ use Rattle.mst_vector.specs.Rules.{Rules}
 use Rattle.mst_settle.proofs.Orders.{not_less, less_is_upto}
 use Rattle.mst_roles.proofs.trees_lemmas.Lists.{some_is, no_some, all_contained, there_first, there_later}
 use Rattle.mst_roles.proofs.Named.{port_is, port_same}
+use Rattle.mst_explain.specs.declared.lines.Contest.{Contest}
 use Rattle.mst_explain.specs.declared.claims.Claim.{Claim}
 use Rattle.mst_explain.specs.declared.claims.Among.{Among}
 use Rattle.mst_explain.specs.declared.claims.Among.TheVariants.{All, But, Only}
-use Rattle.mst_explain.specs.Claims.{same_key, is_in, better, first_from, rivals_of, line_of_first, told_text}
+use Rattle.mst_explain.specs.Claims.{same_key, is_in, better, first_from, rivals_of, rows_of_first, told_rows}
 use Rattle.mst_explain.specs.Contest.{IsFirst, IsRival, IsAlone}
 use Rattle.mst_explain.specs.Explained.{TellsRival}
 use Rattle.mst_explain.specs.Fields.{Field}
-use Rattle.mst_explain.specs.Lines.{over_line, alone_line}
+use Rattle.mst_explain.specs.Lines.{over_rows, alone_rows}
 
 -- ---- keys
 pub key_is : (a b : Option PortName) → same_key a b ≡ true → a ≡ b
@@ -145,7 +146,7 @@ pub record Hold {V : Type 0} (claims : List (Claim V)) (Has : Option PortName �
   pub have : (c : Claim V) → Contains claims c → Has c.port c.vector
   pub all : (k : Option PortName) (x : V) → Has k x → Contains claims (record { port = k; vector = x })
 
-module _ {B P V : Type 0} (m : Rules B P V) (total : IsTotalOrder m.order) (fields : V → List Field) (word : List ℕ) (me : Option PortName) (claims : List (Claim V))
+module _ {B P V : Type 0} (m : Rules B P V) (total : IsTotalOrder m.order) (fields : V → List Field) (contest : Contest) (me : Option PortName) (claims : List (Claim V))
     (Has : Option PortName → V → Type 0) (hold : Hold claims Has) where
   abbrev claim : Option PortName → V → Claim V
   claim k x = record { port = k; vector = x }
@@ -192,13 +193,13 @@ module _ {B P V : Type 0} (m : Rules B P V) (total : IsTotalOrder m.order) (fiel
           by_test k y h false i = absurd (true≢false (sym (ap not i) ∙ no_claim m.order total (But c.port) claims g (claim k y) (hold.all k y h)))
       go false f g = absurd (true≢false (sym (same_itself me) ∙ no_claim m.order total (Only me) claims g (claim me x) (hold.all me x mine)))
 
-  -- the text tells the first, against its rival or alone
+  -- the rows tell the first, against its rival or alone
   pub record IsTold : Type 0 where
     pub first : Option PortName
     pub vector : V
     pub is_first : IsFirst m Has first vector
-    pub told : TellsRival m fields Has me first vector (over_line word first) (told_text m.order fields word me claims)
-        ⊎ (IsAlone m Has first × (told_text m.order fields word me claims ≡ alone_line word first))
+    pub told : TellsRival m fields Has me first vector (over_rows contest first) (told_rows m.order fields contest me claims)
+        ⊎ (IsAlone m Has first × (told_rows m.order fields contest me claims ≡ alone_rows contest first))
 
   pub told_is : (x : V) → Has me x → IsTold
   told_is x mine = go (first_from m.order All None claims) refl
@@ -210,14 +211,14 @@ module _ {B P V : Type 0} (m : Rules B P V) (total : IsTotalOrder m.order) (fiel
       go None e = absurd (true≢false (no_claim m.order total All claims e (claim me x) (hold.all me x mine)))
       go (Some c) e = by_rival (rival c) refl
         where
-          text : told_text m.order fields word me claims ≡ line_of_first fields word c (rival c)
-          text = ap (λ o. option_map_or (λ (z : Claim V). line_of_first fields word z (rival z)) o []) e
+          told : told_rows m.order fields contest me claims ≡ rows_of_first fields contest c (rival c)
+          told = ap (λ o. option_map_or (λ (z : Claim V). rows_of_first fields contest z (rival z)) o []) e
 
           by_rival : (r : Option (Claim V)) → rival c ≡ r → IsTold
-          by_rival None f = record { first = c.port; vector = c.vector; is_first = first_told c e; told = inr (alone_told x mine c f, text ∙ ap (line_of_first fields word c) f) }
+          by_rival None f = record { first = c.port; vector = c.vector; is_first = first_told c e; told = inr (alone_told x mine c f, told ∙ ap (rows_of_first fields contest c) f) }
           by_rival (Some d) f = record {
             first = c.port;
             vector = c.vector;
             is_first = first_told c e;
-            told = inl (record { rival = d.port; vector = d.vector; is_rival = rival_told c d f; is = text ∙ ap (line_of_first fields word c) f });
+            told = inl (record { rival = d.port; vector = d.vector; is_rival = rival_told c d f; is = told ∙ ap (rows_of_first fields contest c) f });
           }

@@ -1,5 +1,5 @@
 -- The component that decides is lower in the lower vector, and the first of an explanation has the lower vector.
-use Rattle.std.proofs.Common.{◌≡◌, ◌==◌, ℕ, ◌<◌, List, [], ◌∷◌, Bool, true, false, cond, map, length, inl, inr, Option, refl, sym, ap, subst, ◌∙◌, true≢false, Less, Equal, Greater, arith}
+use Rattle.std.proofs.Common.{◌≡◌, ◌==◌, ℕ, ◌<◌, List, [], ◌∷◌, Bool, true, false, cond, map, length, inl, inr, Option, Some, refl, sym, ap, subst, ◌∙◌, true≢false, Less, Equal, Greater, arith}
 use Rattle.std.specs.declared.cmp.Ordering.{Ordering}
 use Rattle.std.specs.Ordering.{nat_cmp, is_gt, ordering_then, MatchOrdering}
 use Rattle.std.specs.Cmp.Lexicographic.{slice_cmp}
@@ -37,7 +37,7 @@ lower (f ∷ fs) (g ∷ gs) l e = go (lower fs gs (omega arith)) (nat_cmp f.valu
   where
     go : (slice_cmp nat_cmp (values fs) (values gs) ≡ Less → TellsLower fs gs (decided fs gs))
         → (r : Ordering) → MatchOrdering r (f.value < g.value) (f.value ≡ g.value) (g.value < f.value) → ordering_then r (slice_cmp nat_cmp (values fs) (values gs)) ≡ Less
-        → (b : Bool) → (f.value == g.value) ≡ b → TellsLower (f ∷ fs) (g ∷ gs) (cond b (decided fs gs) (f.name ∷ f.text ∷ g.text ∷ []))
+        → (b : Bool) → (f.value == g.value) ≡ b → TellsLower (f ∷ fs) (g ∷ gs) (cond b (decided fs gs) (Some (f, g)))
     go rest Less h k true t = absurd (grind arith)
     go rest Less h k false t = inr (h, refl)
     go rest Equal h k true t = inl (h, rest k)

@@ -1,6 +1,6 @@
 -- A port has one explanation.
-use Rattle.std.proofs.Common.{◌≡◌, ℕ, ◌==◌, Bool, true, false, List, ◌++◌, Option, Some, None, inl, inr, ◌⊎◌, refl, sym, ap, subst, ◌∙◌, true≢false}
-use Rattle.std.specs.Prelude.{◌≢◌, codes, nat_eq, if◌then◌else◌}
+use Rattle.std.proofs.Common.{◌≡◌, ℕ, ◌==◌, Bool, true, false, List, [], ◌∷◌, ◌++◌, Option, Some, None, inl, inr, ◌⊎◌, refl, sym, ap, subst, ◌∙◌, true≢false}
+use Rattle.std.specs.Prelude.{◌≢◌, nat_eq, if◌then◌else◌}
 use Rattle.std.specs.Ordering.{is_gt}
 use Rattle.std.specs.Cmp.Lexicographic.{pointwise, bytes_decides}
 use Rattle.mst_ids.specs.declared.name.PortName.{PortName}
@@ -26,10 +26,12 @@ use Rattle.mst_roles.proofs.trees_lemmas.Sights.{has_port_ids}
 use Rattle.mst_roles.proofs.trees_lemmas.CistTopology.{cist_is_sight, cist_topology}
 use Rattle.mst_roles.proofs.trees_lemmas.MstiTopology.{msti_is_sight, msti_topology}
 use Rattle.mst_roles.specs.Roles.{cist_role}
+use Rattle.mst_rows.specs.Rows.{Row}
+use Rattle.mst_explain.specs.declared.lines.Contest.{Contest}
 use Rattle.mst_explain.specs.Contest.{IsFirst, IsRival, IsAlone, IsDesignatedVectorOn, Gives}
-use Rattle.mst_explain.specs.Explained.{TellsRival, TellsDesignated, TellsRoot, TellsContest, TellsBoundary, TellsInMsti, TellsEnabled, TellsReason, IsExplanation}
+use Rattle.mst_explain.specs.Explained.{TellsRival, TellsDesignated, TellsRoot, TellsContest, TellsBoundary, TellsInMsti, TellsEnabled, TellsReason, IsExplained, AreExplained}
 use Rattle.mst_explain.specs.Fields.{Field, cist_fields, msti_fields, decided}
-use Rattle.mst_explain.specs.Lines.{explain_line, over_line, alone_line, boundary_line}
+use Rattle.mst_explain.specs.Lines.{explain_rows, designated_contest, root_contest, over_rows, alone_rows, boundary_rows}
 use Rattle.mst_explain.specs.Claims.{same_key}
 use Rattle.mst_explain.proofs.Firsts.{key_is, key_same}
 
@@ -58,18 +60,18 @@ module _ {B P V : Type 0} (m : Rules B P V) (law : IsMetric m) (Has : Option Por
           let same : d ≡ e = a.itself other ∙ sym (b.itself other) in
           (same, one_vector e x y (subst (λ k. Has k x) same a.has) b.has)
 
-  module _ (fields : V → List Field) (me : Option PortName) (word : List ℕ) where
-    abbrev Told : Option PortName → V → List ℕ → Type 0
-    Told c x text = TellsRival m fields Has me c x (over_line word c) text
+  module _ (fields : V → List Field) (me : Option PortName) (contest : Contest) where
+    abbrev Told : Option PortName → V → List Row → Type 0
+    Told c x rows = TellsRival m fields Has me c x (over_rows contest c) rows
 
-    pub one_told : (c : Option PortName) (x : V) (text other : List ℕ) → Told c x text → Told c x other → text ≡ other
-    one_told c x text other a b =
+    pub one_told : (c : Option PortName) (x : V) (rows other : List Row) → Told c x rows → Told c x other → rows ≡ other
+    one_told c x rows other a b =
         let r = one_rival me c a.rival b.rival a.vector b.vector a.is_rival b.is_rival in
-        a.is ∙ (λ i. over_line word c (r.0 i) (decided (fields x) (fields (r.1 i)))) ∙ sym b.is
+        a.is ∙ (λ i. over_rows contest c (r.0 i) (decided (fields x) (fields (r.1 i)))) ∙ sym b.is
 
-    pub one_line : (c : Option PortName) (x : V) (text other : List ℕ) → Told c x text ⊎ (IsAlone m Has c × (text ≡ alone_line word c)) → Told c x other ⊎ (IsAlone m Has c × (other ≡ alone_line word c)) → text ≡ other
-    one_line c x text other a b = elim a [
-      | inl h ↦ elim b [ inl k ↦ one_told c x text other h k | inr k ↦ absurd (h.is_rival.other (k.0 h.rival h.vector h.is_rival.has)) ]
+    pub one_line : (c : Option PortName) (x : V) (rows other : List Row) → Told c x rows ⊎ (IsAlone m Has c × (rows ≡ alone_rows contest c)) → Told c x other ⊎ (IsAlone m Has c × (other ≡ alone_rows contest c)) → rows ≡ other
+    one_line c x rows other a b = elim a [
+      | inl h ↦ elim b [ inl k ↦ one_told c x rows other h k | inr k ↦ absurd (h.is_rival.other (k.0 h.rival h.vector h.is_rival.has)) ]
       | inr h ↦ elim b [ inl k ↦ absurd (k.is_rival.other (h.0 k.rival k.vector k.is_rival.has)) | inr k ↦ h.1 ∙ sym k.1 ]
     ]
 
@@ -121,36 +123,36 @@ module _ {B P V : Type 0} (m : Rules B P V) (law : IsMetric m) (receiver : V →
         ap Some (sym f.1 ∙ ap (λ (p : TreePort (List ℕ) (List ℕ) PortName P). p.number) ports ∙ g.1)
 
 module _ {B P V : Type 0} (m : Rules B P V) (law : IsMetric m) (receiver : V → ℕ) (tells : TellsReceiver m receiver) (fields : V → List Field)
-    (t : Topology (List ℕ) (List ℕ) PortName B P) (ok : IsTopology m t) (ids : (p : TreePort (List ℕ) (List ℕ) PortName P) → HasPort t p → m.port_id p.settings ≢ 0) (o : TreeOutcome V) (p : LogicalPort) where
-  one_designated_line : (q : PortName) (text other : List ℕ) → TellsDesignated m fields t o p q text → TellsDesignated m fields t o p q other → text ≡ other
-  one_designated_line q text other a b =
+    (t : Topology (List ℕ) (List ℕ) PortName B P) (ok : IsTopology m t) (ids : (p : TreePort (List ℕ) (List ℕ) PortName P) → HasPort t p → m.port_id p.settings ≢ 0) (o : TreeOutcome V) (tree : ℕ) (p : LogicalPort) where
+  one_designated_line : (q : PortName) (rows other : List Row) → TellsDesignated m fields t o tree p q rows → TellsDesignated m fields t o tree p q other → rows ≡ other
+  one_designated_line q rows other a b =
       let designated_vector = one_said m law receiver tells t ok ids o.vector p.lan in
       let sayer = one_sayer m law receiver tells t ok ids o.vector p.lan in
       let f = one_first m law (IsDesignatedVectorOn m t o.vector p.lan) designated_vector sayer (Some q) (Some q) a.vector b.vector a.is_first b.is_first in
-      one_line m law (IsDesignatedVectorOn m t o.vector p.lan) designated_vector sayer fields (Some p.name) (codes "designated") (Some q) b.vector text other
-      (subst (λ (x : V). TellsRival m fields (IsDesignatedVectorOn m t o.vector p.lan) (Some p.name) (Some q) x (over_line (codes "designated") (Some q)) text ⊎ (IsAlone m (IsDesignatedVectorOn m t o.vector p.lan) (Some q) × (text ≡ alone_line (codes "designated") (Some q)))) f.1 a.told) b.told
+      one_line m law (IsDesignatedVectorOn m t o.vector p.lan) designated_vector sayer fields (Some p.name) (designated_contest tree p.name) (Some q) b.vector rows other
+      (subst (λ (x : V). TellsRival m fields (IsDesignatedVectorOn m t o.vector p.lan) (Some p.name) (Some q) x (over_rows (designated_contest tree p.name) (Some q)) rows ⊎ (IsAlone m (IsDesignatedVectorOn m t o.vector p.lan) (Some q) × (rows ≡ alone_rows (designated_contest tree p.name) (Some q)))) f.1 a.told) b.told
 
-  one_root_line : (text other : List ℕ) → TellsRoot m fields t o p text → TellsRoot m fields t o p other → text ≡ other
-  one_root_line text other a b = go a.bridge b.bridge (ok.one_bridge p.name.bridge a.bridge b.bridge a.is_bridge b.is_bridge) a.giver b.giver a.vector b.vector a.is_first b.is_first a.told b.told
+  one_root_line : (rows other : List Row) → TellsRoot m fields t o tree p rows → TellsRoot m fields t o tree p other → rows ≡ other
+  one_root_line rows other a b = go a.bridge b.bridge (ok.one_bridge p.name.bridge a.bridge b.bridge a.is_bridge b.is_bridge) a.giver b.giver a.vector b.vector a.is_first b.is_first a.told b.told
     where
       At : B → Option PortName → V → Type 0
       At b = Gives m t o.vector p.name.bridge b
 
-      Told : B → Option PortName → V → List ℕ → Type 0
-      Told b w x text = TellsRival m fields (At b) (Some p.name) w x (over_line (codes "root") w) text
+      Told : B → Option PortName → V → List Row → Type 0
+      Told b w x rows = TellsRival m fields (At b) (Some p.name) w x (over_rows (root_contest tree p.name) w) rows
 
-      go : (b c : B) → b ≡ c → (w z : Option PortName) (x y : V) → IsFirst m (At b) w x → IsFirst m (At c) z y → Told b w x text → Told c z y other → text ≡ other
+      go : (b c : B) → b ≡ c → (w z : Option PortName) (x y : V) → IsFirst m (At b) w x → IsFirst m (At c) z y → Told b w x rows → Told c z y other → rows ≡ other
       go b c e w z x y f g h k =
           let given = one_given m law receiver tells t ok ids o.vector p.name.bridge c in
           let giver = one_giver m law receiver tells t ok ids o.vector p.name.bridge c in
           let r = one_first m law (At c) given giver w z x y (subst (λ d. IsFirst m (At d) w x) e f) g in
-          one_told m law (At c) given giver fields (Some p.name) (codes "root") z y text other
-          (subst (λ (u : V). Told c z u text) r.1 (subst (λ u. Told c u x text) r.0 (subst (λ d. Told d w x text) e h))) k
+          one_told m law (At c) given giver fields (Some p.name) (root_contest tree p.name) z y rows other
+          (subst (λ (u : V). Told c z u rows) r.1 (subst (λ u. Told c u x rows) r.0 (subst (λ d. Told d w x rows) e h))) k
 
-  pub one_contest : (text other : List ℕ) → TellsContest m fields t o p text → TellsContest m fields t o p other → text ≡ other
-  one_contest text other a b =
+  pub one_contest : (rows other : List Row) → TellsContest m fields t o tree p rows → TellsContest m fields t o tree p other → rows ≡ other
+  one_contest rows other a b =
       let names : a.designated ≡ b.designated = some_is a.designated b.designated (sym a.is_designated ∙ b.is_designated) in
-      let firsts : a.first ≡ b.first = one_designated_line b.designated a.first b.first (subst (λ q. TellsDesignated m fields t o p q a.first) names a.tells_designated) b.tells_designated in
+      let firsts : a.first ≡ b.first = one_designated_line b.designated a.first b.first (subst (λ q. TellsDesignated m fields t o tree p q a.first) names a.tells_designated) b.tells_designated in
       a.is ∙ (λ i. firsts i ++ seconds (ap (λ (n : PortName). n.bridge) names) (pointwise nat_eq b.designated.bridge p.name.bridge) refl i) ∙ sym b.is
     where
       seconds : a.designated.bridge ≡ b.designated.bridge → (s : Bool) → pointwise nat_eq b.designated.bridge p.name.bridge ≡ s → a.second ≡ b.second
@@ -179,27 +181,33 @@ module _ (net : Net) (ok : IsNetwork net) (o : Outcome) (tree : ℕ) (p : Logica
   abbrev d : List ℕ → Option PortName
   d = o.cist.designated
 
-  one_boundary : (text other : List ℕ) → TellsBoundary net o p text → TellsBoundary net o p other → text ≡ other
-  one_boundary text other a b = a.2 ∙ ap (boundary_line (cist_role net o p)) (some_is a.0 b.0 (sym a.1 ∙ b.1)) ∙ sym b.2
+  one_boundary : (rows other : List Row) → TellsBoundary net o tree p rows → TellsBoundary net o tree p other → rows ≡ other
+  one_boundary rows other a b = a.2 ∙ ap (boundary_rows tree p.name (cist_role net o p)) (some_is a.0 b.0 (sym a.1 ∙ b.1)) ∙ sym b.2
 
-  one_in_msti : (internal : Bool) (text other : List ℕ) → TellsInMsti net o tree p internal text → TellsInMsti net o tree p internal other → text ≡ other
-  one_in_msti true text other a b =
+  one_in_msti : (internal : Bool) (rows other : List Row) → TellsInMsti net o tree p internal rows → TellsInMsti net o tree p internal other → rows ≡ other
+  one_in_msti true rows other a b =
       one_contest msti_rules msti_lawful (λ x. x.receiver) msti_tells msti_fields (msti_of net tree d) (msti_topology net ok tree d)
-      (has_port_ids net ok msti_rules (msti_sight net tree d) (msti_is_sight net ok tree d)) (o.msti tree) p text other a b
-  one_in_msti false text other a b = one_boundary text other a b
+      (has_port_ids net ok msti_rules (msti_sight net tree d) (msti_is_sight net ok tree d)) (o.msti tree) tree p rows other a b
+  one_in_msti false rows other a b = one_boundary rows other a b
 
-  one_enabled : (cist : Bool) (text other : List ℕ) → TellsEnabled net o tree p cist text → TellsEnabled net o tree p cist other → text ≡ other
-  one_enabled true text other a b =
+  one_enabled : (cist : Bool) (rows other : List Row) → TellsEnabled net o tree p cist rows → TellsEnabled net o tree p cist other → rows ≡ other
+  one_enabled true rows other a b =
       one_contest cist_rules cist_lawful (λ x. x.receiver) cist_tells cist_fields (cist_of net) (cist_topology net ok)
-      (has_port_ids net ok cist_rules (cist_sight net) (cist_is_sight net ok)) o.cist p text other a b
-  one_enabled false text other a b = one_in_msti (is_internal net d p) text other a b
+      (has_port_ids net ok cist_rules (cist_sight net) (cist_is_sight net ok)) o.cist tree p rows other a b
+  one_enabled false rows other a b = one_in_msti (is_internal net d p) rows other a b
 
-  one_reason : (enabled : Bool) (text other : List ℕ) → TellsReason net o tree p enabled text → TellsReason net o tree p enabled other → text ≡ other
-  one_reason true text other a b = one_enabled (tree == 0) text other a b
-  one_reason false text other a b = a ∙ sym b
+  one_reason : (enabled : Bool) (rows other : List Row) → TellsReason net o tree p enabled rows → TellsReason net o tree p enabled other → rows ≡ other
+  one_reason true rows other a b = one_enabled (tree == 0) rows other a b
+  one_reason false rows other a b = a ∙ sym b
 
-  pub one_text : (text other : List ℕ) → IsExplanation net o tree p text → IsExplanation net o tree p other → text ≡ other
-  one_text text other a b =
+  pub one_explained : (rows other : List Row) → IsExplained net o tree p rows → IsExplained net o tree p other → rows ≡ other
+  one_explained rows other a b =
       let roles : a.role ≡ b.role = some_is a.role b.role (sym a.has_role ∙ b.has_role) in
       let reasons : a.reason ≡ b.reason = one_reason p.is_enabled a.reason b.reason a.tells b.tells in
-      a.is ∙ (λ i. explain_line tree p.name p.lan (roles i) ++ reasons i) ∙ sym b.is
+      a.is ∙ (λ i. explain_rows tree p.name p.lan (roles i) ++ reasons i) ∙ sym b.is
+
+-- in each of some trees
+pub all_explained_once : (net : Net) → IsNetwork net → (o : Outcome) (p : LogicalPort) (trees : List ℕ) (rows other : List Row) → AreExplained net o p trees rows → AreExplained net o p trees other → rows ≡ other
+all_explained_once net ok o p [] rows other a b = a ∙ sym b
+all_explained_once net ok o p (tree ∷ trees) rows other a b =
+    a.4 ∙ (λ i. one_explained net ok o tree p a.0 b.0 a.2 b.2 i ++ all_explained_once net ok o p trees a.1 b.1 a.3 b.3 i) ∙ sym b.4

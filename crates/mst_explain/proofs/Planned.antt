@@ -32,7 +32,7 @@ use Rattle.mst_roles.proofs.trees_lemmas.Seen.{SeenBridge, SeenPort, bridge_seen
 use Rattle.mst_roles.proofs.trees_lemmas.Looking.{internal_same, has_tree_at}
 use Rattle.mst_explain.specs.Fields.{cist_fields, msti_fields}
 use Rattle.mst_explain.specs.Explained.{TellsContest}
-use Rattle.mst_explain.specs.Seen.{TreeSeen, CanStep, contest_text}
+use Rattle.mst_explain.specs.Seen.{TreeSeen, CanStep, contest_rows}
 use Rattle.mst_explain.specs.TreesSeen.{bridge_found, cist_bridge_in, cist_seen, msti_bridge_in, msti_port_in, msti_seen}
 use Rattle.mst_explain.proofs.SeenTrees.{bridge_found_at, IsSeenTree}
 use Rattle.mst_explain.proofs.Contested.{CostsBounded, can_step, tells_contest}
@@ -68,10 +68,10 @@ module _ (s : SettledNet) (is : IsSettledNet s) where
       record { in_range = steps.in_range; costs = steps.costs }
 
   pub cist_contest : (tree : ℕ) → (tree == 0) ≡ true → (p : PortInView) → Contains s.view.ports p → p.is_enabled ≡ true
-      → TellsContest cist_rules cist_fields (cist_of s.net) o.cist (named_port p) (contest_text cist_rules s.view (cist_seen s tree) cist_fields p)
+      → TellsContest cist_rules cist_fields (cist_of s.net) o.cist tree (named_port p) (contest_rows cist_rules s.view (cist_seen s tree) cist_fields tree p)
   cist_contest tree zero_is p there enabled =
       tells_contest s.net s.numbers s.view s.forest.regions is.of cist_rules cist_lawful (cist_sight s.net) (cist_is_sight s.net is.of.network) o.cist is.is_outcome.cist (cist_seen s tree) (cist_is_seen tree zero_is)
-      cist_fields p there (cist_port (by_tree s.net) (named_port p)) (ap (λ (b : Bool). if b then Some (cist_port (by_tree s.net) (named_port p)) else None) enabled)
+      cist_fields tree p there (cist_port (by_tree s.net) (named_port p)) (ap (λ (b : Bool). if b then Some (cist_port (by_tree s.net) (named_port p)) else None) enabled)
 
   -- ---- an MSTI
   msti_bridge_same : (tree : ℕ) (b : BridgeInView) → SeenBridge s.net s.numbers b → msti_bridge_in s tree b ≡ (msti_sight s.net tree o.cist.designated).bridge b.name (bridge_row b.bridge)
@@ -117,10 +117,10 @@ module _ (s : SettledNet) (is : IsSettledNet s) where
       record { in_range = steps.in_range; costs = steps.costs }
 
   pub msti_contest : (tree : ℕ) → (tree == 0) ≡ false → (p : PortInView) → Contains s.view.ports p → p.is_enabled ≡ true → is_internal s.net o.cist.designated (named_port p) ≡ true → has_msti s.net tree p.name.bridge ≡ true
-      → TellsContest msti_rules msti_fields (msti_of s.net tree o.cist.designated) (o.msti tree) (named_port p) (contest_text msti_rules s.view (msti_seen s tree) msti_fields p)
+      → TellsContest msti_rules msti_fields (msti_of s.net tree o.cist.designated) (o.msti tree) tree (named_port p) (contest_rows msti_rules s.view (msti_seen s tree) msti_fields tree p)
   msti_contest tree other p there enabled internal has =
       tells_contest s.net s.numbers s.view s.forest.regions is.of msti_rules msti_lawful (msti_sight s.net tree o.cist.designated) (msti_is_sight s.net is.of.network tree o.cist.designated) (o.msti tree)
-      (is.is_outcome.mstis tree) (msti_seen s tree) (msti_is_seen tree other) msti_fields p there (msti_port (by_tree s.net) tree (named_port p))
+      (is.is_outcome.mstis tree) (msti_seen s tree) (msti_is_seen tree other) msti_fields tree p there (msti_port (by_tree s.net) tree (named_port p))
       (ap (λ (b : Bool). if b && is_internal s.net o.cist.designated (named_port p) && has_msti s.net tree p.name.bridge then Some (msti_port (by_tree s.net) tree (named_port p)) else None) enabled
       ∙ ap (λ (b : Bool). if b && has_msti s.net tree p.name.bridge then Some (msti_port (by_tree s.net) tree (named_port p)) else None) internal
       ∙ ap (λ (b : Bool). if b then Some (msti_port (by_tree s.net) tree (named_port p)) else None) has)

@@ -1,4 +1,4 @@
--- The text of an explanation under the numbers of records is one under names.
+-- The rows of an explanation under the numbers of records are some under names.
 use Rattle.std.proofs.Common.{◌≡◌, ℕ, zero, suc, ◌<◌, ◌==◌, ◌&&◌, ◌||◌, Bool, true, false, cond, nat_eq, get_or, List, [], ◌∷◌, ◌++◌, length, map, Option, Some, None, refl, sym, ap, subst, ◌∙◌, true≢false, eq-eqb, arith}
 use Rattle.std.specs.Prelude.{if◌then◌else◌}
 use Rattle.std.specs.List.{AllByRecursion, Contains, filter, flat_map, list_any}
@@ -30,12 +30,13 @@ use Rattle.mst_roles.proofs.trees_lemmas.CistTopology.{cist_is_sight}
 use Rattle.mst_roles.proofs.trees_lemmas.Seen.{SeenPort, port_seen}
 use Rattle.mst_roles.specs.Roles.{cist_role, msti_role, role_in}
 use Rattle.mst_roles.specs.declared.kind.Role.{Role}
+use Rattle.mst_rows.specs.Rows.{Row}
 use Rattle.mst_explain.specs.Fields.{cist_fields, msti_fields}
-use Rattle.mst_explain.specs.Lines.{explain_line, boundary_line, disabled_lines}
-use Rattle.mst_explain.specs.Explained.{TellsBoundary, TellsInMsti, TellsEnabled, TellsReason, IsExplanation, AreExplanations, trees_of_bridge}
-use Rattle.mst_explain.specs.Seen.{contest_text}
+use Rattle.mst_explain.specs.Lines.{explain_rows, boundary_rows, disabled_rows}
+use Rattle.mst_explain.specs.Explained.{TellsBoundary, TellsInMsti, TellsEnabled, TellsReason, IsExplained, AreExplained, trees_of_bridge}
+use Rattle.mst_explain.specs.Seen.{contest_rows}
 use Rattle.mst_explain.specs.TreesSeen.{cist_seen, msti_seen}
-use Rattle.mst_explain.specs.SeenText.{bridge_is_on, lan_is_up, off_text, outside_text, msti_text, enabled_text, reason_text, explanation_text}
+use Rattle.mst_explain.specs.SeenText.{bridge_is_on, lan_is_up, off_rows, outside_rows, msti_rows, enabled_rows, reason_rows, explanation_rows}
 use Rattle.mst_explain.proofs.SeenTrees.{bridge_found_at}
 use Rattle.mst_explain.proofs.Givers.{designated_found}
 use Rattle.mst_explain.proofs.Planned.{cist_is_seen, cist_contest, msti_contest, internal_is}
@@ -97,17 +98,17 @@ module _ (s : SettledNet) (is : IsSettledNet s) (p : PortInView) (there : Contai
   lan_up : lan_is_up s.view p.lan ≡ is_up s.net p.lan
   lan_up = ap (list_any (λ (m : MemberLan). same_name m.lan p.lan && m.is_up)) is.of.view.member_lans ∙ some_up s.net p.lan (fin.entries s.net.lans)
 
-  off_is : off_text s.view p ≡ disabled_lines (is_on s.net p.name.bridge) p.name.bridge (is_up s.net p.lan) p.lan
-  off_is = λ i. disabled_lines (bridge_on i) p.name.bridge (lan_up i) p.lan
+  off_is : (tree : ℕ) → off_rows s.view tree p ≡ disabled_rows tree p.name (is_on s.net p.name.bridge) (is_up s.net p.lan) p.lan
+  off_is tree = λ i. disabled_rows tree p.name (bridge_on i) (lan_up i) p.lan
 
   -- ---- external information
-  outside_is : p.is_enabled ≡ true → TellsBoundary s.net o (named_port p) (outside_text s p)
-  outside_is enabled =
+  outside_is : (tree : ℕ) → p.is_enabled ≡ true → TellsBoundary s.net o tree (named_port p) (outside_rows s tree p)
+  outside_is tree enabled =
       let c = cist_contest s is 0 refl p there enabled in
       let d =
       designated_found s.net s.numbers s.view s.forest.regions is.of cist_rules cist_lawful (cist_sight s.net) (cist_is_sight s.net is.of.network) o.cist is.is_outcome.cist (cist_seen s 0) (cist_is_seen s is 0 refl)
       p there c.designated c.is_designated in
-      let line = boundary_line (cist_role s.net o (named_port p)) in
+      let line = boundary_rows tree p.name (cist_role s.net o (named_port p)) in
       (c.designated, c.is_designated, ap (λ (q : Option PortInView). option_map_or (λ (x : PortInView). line x.name) q []) d.found ∙ ap line d.name)
 
   -- ---- the reason
@@ -115,30 +116,30 @@ module _ (s : SettledNet) (is : IsSettledNet s) (p : PortInView) (there : Contai
     internal_ports_of : p.is_enabled ≡ true → seen_internal s.view s.forest.regions (designated_of s.forest.cist) p ≡ is_internal s.net o.cist.designated (named_port p)
     internal_ports_of enabled = internal_is s is p seen ∙ ap (λ b. b && is_internal s.net o.cist.designated (named_port p)) enabled
 
-    tells_msti : p.is_enabled ≡ true → (tree == 0) ≡ false → TellsInMsti s.net o tree (named_port p) (is_internal s.net o.cist.designated (named_port p)) (msti_text s tree p)
+    tells_msti : p.is_enabled ≡ true → (tree == 0) ≡ false → TellsInMsti s.net o tree (named_port p) (is_internal s.net o.cist.designated (named_port p)) (msti_rows s tree p)
     tells_msti enabled other =
-        subst (λ b. TellsInMsti s.net o tree (named_port p) (is_internal s.net o.cist.designated (named_port p)) (text b)) (sym (internal_ports_of enabled)) (go (is_internal s.net o.cist.designated (named_port p)) refl)
+        subst (λ b. TellsInMsti s.net o tree (named_port p) (is_internal s.net o.cist.designated (named_port p)) (seen b)) (sym (internal_ports_of enabled)) (go (is_internal s.net o.cist.designated (named_port p)) refl)
       where
-        text : Bool → List ℕ
-        text b = if b then contest_text msti_rules s.view (msti_seen s tree) msti_fields p else outside_text s p
+        seen : Bool → List Row
+        seen b = if b then contest_rows msti_rules s.view (msti_seen s tree) msti_fields tree p else outside_rows s tree p
 
-        go : (b : Bool) → is_internal s.net o.cist.designated (named_port p) ≡ b → TellsInMsti s.net o tree (named_port p) b (text b)
+        go : (b : Bool) → is_internal s.net o.cist.designated (named_port p) ≡ b → TellsInMsti s.net o tree (named_port p) b (seen b)
         go true e = msti_contest s is tree other p there enabled e (tree_there s.net p.name.bridge tree has other)
-        go false e = outside_is enabled
+        go false e = outside_is tree enabled
 
-    tells_enabled : p.is_enabled ≡ true → TellsEnabled s.net o tree (named_port p) (tree == 0) (enabled_text s tree p)
+    tells_enabled : p.is_enabled ≡ true → TellsEnabled s.net o tree (named_port p) (tree == 0) (enabled_rows s tree p)
     tells_enabled enabled = go (tree == 0) refl
       where
-        go : (b : Bool) → (tree == 0) ≡ b → TellsEnabled s.net o tree (named_port p) b (if b then contest_text cist_rules s.view (cist_seen s tree) cist_fields p else msti_text s tree p)
+        go : (b : Bool) → (tree == 0) ≡ b → TellsEnabled s.net o tree (named_port p) b (if b then contest_rows cist_rules s.view (cist_seen s tree) cist_fields tree p else msti_rows s tree p)
         go true e = cist_contest s is tree e p there enabled
         go false e = tells_msti enabled e
 
-    tells_reason : TellsReason s.net o tree (named_port p) p.is_enabled (reason_text s tree p)
+    tells_reason : TellsReason s.net o tree (named_port p) p.is_enabled (reason_rows s tree p)
     tells_reason = go p.is_enabled refl
       where
-        go : (b : Bool) → p.is_enabled ≡ b → TellsReason s.net o tree (named_port p) b (if b then enabled_text s tree p else off_text s.view p)
+        go : (b : Bool) → p.is_enabled ≡ b → TellsReason s.net o tree (named_port p) b (if b then enabled_rows s tree p else off_rows s.view tree p)
         go true e = tells_enabled e
-        go false e = off_is
+        go false e = off_is tree
 
     role_there : (r : Role) × (role_in s.net o tree (named_port p) ≡ Some r)
     role_there = go (tree == 0) refl
@@ -148,22 +149,22 @@ module _ (s : SettledNet) (is : IsSettledNet s) (p : PortInView) (there : Contai
         go true e = (cist_role s.net o (named_port p), refl)
         go false e = (msti_role s.net o tree (named_port p), ap (λ (b : Bool). if b then Some (msti_role s.net o tree (named_port p)) else None) (tree_there s.net p.name.bridge tree has e))
 
-    pub explained : IsExplanation s.net o tree (named_port p) (explanation_text s tree p)
+    pub explained : IsExplained s.net o tree (named_port p) (explanation_rows s tree p)
     explained = record {
       role = role_there.0;
       has_role = role_there.1;
-      reason = reason_text s tree p;
+      reason = reason_rows s tree p;
       tells = tells_reason;
-      is = ap (λ (r : Option Role). option_map_or (λ role. explain_line tree p.name p.lan role ++ reason_text s tree p) r []) role_there.1;
+      is = ap (λ (r : Option Role). option_map_or (λ role. explain_rows tree p.name p.lan role ++ reason_rows s tree p) r []) role_there.1;
     }
 
   -- ---- in each tree of the bridge
-  abbrev pub explanations_text : List ℕ → List ℕ
-  explanations_text trees = flat_map (λ tree. explanation_text s tree p) trees
+  abbrev pub explanations_rows : List ℕ → List Row
+  explanations_rows trees = flat_map (λ tree. explanation_rows s tree p) trees
 
-  each_explained : (trees : List ℕ) → AllByRecursion (Contains (trees_of_bridge s.net p.name.bridge)) trees → AreExplanations s.net o (named_port p) trees (explanations_text trees)
+  each_explained : (trees : List ℕ) → AllByRecursion (Contains (trees_of_bridge s.net p.name.bridge)) trees → AreExplained s.net o (named_port p) trees (explanations_rows trees)
   each_explained [] h = refl
-  each_explained (tree ∷ trees) h = (explanation_text s tree p, explanations_text trees, explained tree h.0, each_explained trees h.1, refl)
+  each_explained (tree ∷ trees) h = (explanation_rows s tree p, explanations_rows trees, explained tree h.0, each_explained trees h.1, refl)
 
   trees_are : trees_at s.view p.bridge ≡ option_map_or (mstis_of s.net p.name.bridge) (fin.get s.net.bridges p.name.bridge) []
   trees_are =
@@ -175,7 +176,7 @@ module _ (s : SettledNet) (is : IsSettledNet s) (p : PortInView) (there : Contai
       ∙ ap (λ a. mstis_of s.net a (bridge_row x.bridge.bridge)) x.name
       ∙ sym (ap (λ (r : Option BridgeRow). option_map_or (mstis_of s.net p.name.bridge) r []) x.has_row)
 
-  pub all_explained : AreExplanations s.net o (named_port p) (trees_of_bridge s.net p.name.bridge) (explanation_text s 0 p ++ explanations_text (trees_at s.view p.bridge))
+  pub all_explained : AreExplained s.net o (named_port p) (trees_of_bridge s.net p.name.bridge) (explanation_rows s 0 p ++ explanations_rows (trees_at s.view p.bridge))
   all_explained =
-      subst (λ ts. AreExplanations s.net o (named_port p) (trees_of_bridge s.net p.name.bridge) (explanation_text s 0 p ++ explanations_text ts)) (sym trees_are)
+      subst (λ ts. AreExplained s.net o (named_port p) (trees_of_bridge s.net p.name.bridge) (explanation_rows s 0 p ++ explanations_rows ts)) (sym trees_are)
       (each_explained (trees_of_bridge s.net p.name.bridge) (all_there (trees_of_bridge s.net p.name.bridge)))

@@ -1,15 +1,17 @@
 -- Claims in a list: vectors, each with the port that it is of, and the first of them.
-use Rattle.std.specs.Prelude.{ℕ, Bool, true, false, not, List, [], ◌∷◌, Option, Some, None, if◌then◌else◌}
+use Rattle.std.specs.Prelude.{Bool, true, false, not, List, [], ◌∷◌, Option, Some, None, if◌then◌else◌}
 use Rattle.std.specs.Option.{option_map_or}
 use Rattle.std.specs.Ordering.{is_gt}
 use Rattle.std.specs.declared.cmp.Ordering.{Ordering}
 use Rattle.mst_ids.specs.declared.name.PortName.{PortName}
 use Rattle.mst_roles.specs.net.Tables.{port_eq}
+use Rattle.mst_rows.specs.Rows.{Row}
 use Rattle.mst_explain.specs.declared.claims.Claim.{Claim}
 use Rattle.mst_explain.specs.declared.claims.Among.{Among}
 use Rattle.mst_explain.specs.declared.claims.Among.TheVariants.{All, But, Only}
 use Rattle.mst_explain.specs.Fields.{Field, decided}
-use Rattle.mst_explain.specs.Lines.{over_line, alone_line}
+use Rattle.mst_explain.specs.Lines.{over_rows, alone_rows}
+use Rattle.mst_explain.specs.declared.lines.Contest.{Contest}
 
 -- two keys are the same
 abbrev pub same_key : Option PortName → Option PortName → Bool
@@ -41,10 +43,10 @@ first_from order among best (c ∷ cs) = first_from order among (better_among or
 abbrev pub rivals_of : Option PortName → Option PortName → Among
 rivals_of first me = if same_key first me then But first else Only me
 
--- the line of the first of all claims, against its rival for this port, or alone; nothing where there is no claim
-abbrev pub line_of_first : {V : Type 0} → (V → List Field) → List ℕ → Claim V → Option (Claim V) → List ℕ
-line_of_first fields word c None = alone_line word c.port
-line_of_first fields word c (Some d) = over_line word c.port d.port (decided (fields c.vector) (fields d.vector))
+-- the row of the first of all claims, against its rival for this port, or alone; nothing where there is no claim
+abbrev pub rows_of_first : {V : Type 0} → (V → List Field) → Contest → Claim V → Option (Claim V) → List Row
+rows_of_first fields contest c None = alone_rows contest c.port
+rows_of_first fields contest c (Some d) = over_rows contest c.port d.port (decided (fields c.vector) (fields d.vector))
 
-abbrev pub told_text : {V : Type 0} → (V → V → Ordering) → (V → List Field) → List ℕ → Option PortName → List (Claim V) → List ℕ
-told_text order fields word me claims = option_map_or (λ c. line_of_first fields word c (first_from order (rivals_of c.port me) None claims)) (first_from order All None claims) []
+abbrev pub told_rows : {V : Type 0} → (V → V → Ordering) → (V → List Field) → Contest → Option PortName → List (Claim V) → List Row
+told_rows order fields contest me claims = option_map_or (λ c. rows_of_first fields contest c (first_from order (rivals_of c.port me) None claims)) (first_from order All None claims) []

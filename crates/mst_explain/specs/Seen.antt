@@ -1,14 +1,15 @@
 -- What an explanation is made of, under the numbers of records.
-use Rattle.std.specs.Prelude.{◌≡◌, ℕ, ◌==◌, ◌≤◌, ◌^◌, List, [], ◌∷◌, ◌++◌, Option, Some, None, IsTrue, filter_map, codes, if◌then◌else◌}
+use Rattle.std.specs.Prelude.{◌≡◌, ℕ, ◌==◌, ◌≤◌, ◌^◌, List, [], ◌∷◌, ◌++◌, Option, Some, None, IsTrue, filter_map, if◌then◌else◌}
 use Rattle.std.specs.List.{Contains, find}
 use Rattle.std.specs.Option.{option_map, option_map_or, option_and_then}
 use Rattle.mst_vector.specs.Rules.{Rules}
 use Rattle.mst_lag.specs.Viewed.{Viewed}
 use Rattle.mst_lag.specs.declared.in_view.PortInView.{PortInView}
+use Rattle.mst_rows.specs.Rows.{Row}
 use Rattle.mst_explain.specs.declared.claims.Claim.{Claim}
-use Rattle.mst_explain.specs.Claims.{told_text}
+use Rattle.mst_explain.specs.Claims.{told_rows}
 use Rattle.mst_explain.specs.Fields.{Field}
-use Rattle.mst_explain.specs.Lines.{restricted_line}
+use Rattle.mst_explain.specs.Lines.{designated_contest, restricted_rows, root_contest}
 
 -- what is seen of a tree: the bridge of a number and its vector, and the settings of a port, where they are in the tree, and
 -- the number of a LAN's designated port
@@ -64,13 +65,13 @@ module _ {B P V : Type 0} (m : Rules B P V) (v : Viewed) (s : TreeSeen B P V) wh
   bridge_claims n = own_claims n ++ filter_map (bridge_claim n) v.ports
 
   -- the reason of an enabled port of the tree
-  module _ (fields : V → List Field) (p : PortInView) where
-    abbrev pub root_text : List ℕ
-    root_text = if p.settings.is_restricted then restricted_line else told_text m.order fields (codes "root") (Some p.name) (bridge_claims p.bridge)
+  module _ (fields : V → List Field) (tree : ℕ) (p : PortInView) where
+    abbrev pub root_rows : List Row
+    root_rows = if p.settings.is_restricted then restricted_rows tree p.name else told_rows m.order fields (root_contest tree p.name) (Some p.name) (bridge_claims p.bridge)
 
-    abbrev pub second_text : Option PortInView → List ℕ
-    second_text None = []
-    second_text (Some q) = if q.bridge == p.bridge then [] else root_text
+    abbrev pub second_rows : Option PortInView → List Row
+    second_rows None = []
+    second_rows (Some q) = if q.bridge == p.bridge then [] else root_rows
 
-    abbrev pub contest_text : List ℕ
-    contest_text = told_text m.order fields (codes "designated") (Some p.name) (lan_claims p.lan_number) ++ second_text (designated_on p.lan_number)
+    abbrev pub contest_rows : List Row
+    contest_rows = told_rows m.order fields (designated_contest tree p.name) (Some p.name) (lan_claims p.lan_number) ++ second_rows (designated_on p.lan_number)

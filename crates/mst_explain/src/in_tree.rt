@@ -5,7 +5,7 @@ ghost use Rattle.mst_roles.specs.trees.Settled.{SettledNet};
 ghost use Rattle.mst_explain.specs.Fields.{Field, cist_fields, msti_fields, decided};
 ghost use Rattle.mst_explain.specs.Seen.{CanStep, TreeSeen, designated_on as seen_designated};
 ghost use Rattle.mst_explain.specs.SeenText.{port_found};
-ghost use Rattle.mst_explain.specs.Told.{words_of};
+ghost use Rattle.mst_explain.specs.Told.{fields_of};
 ghost use Rattle.mst_explain.specs.TreesSeen.{cist_seen, msti_seen};
 
 use crate::field::{Difference, cist_difference, msti_difference};
@@ -57,7 +57,7 @@ pub(crate) trait InTree: Metric {
 
     /// The first component at which two vectors differ.
     fn difference(x: &Self::Vector, y: &Self::Vector) -> Option<Difference>
-        ensures { words_of result ≡ decided (fields x.now) (fields y.now) };
+        ensures { fields_of result ≡ decided (fields x.now) (fields y.now) };
 }
 
 impl InTree for CistMetric {

@@ -14,38 +14,41 @@ ghost use Rattle.mst_roles.specs.trees.Outcome.{Outcome, IsOutcome};
 ghost use Rattle.mst_roles.specs.trees.Cist.{cist_of};
 ghost use Rattle.mst_roles.specs.trees.Msti.{msti_of, has_msti, is_internal};
 ghost use Rattle.mst_roles.specs.Roles.{cist_role, msti_role};
+ghost use Rattle.mst_rows.specs.Rows.{Row};
 ghost use Rattle.mst_explain.specs.AsTold.{IsAsTold, TellsLowerFirst};
 ghost use Rattle.mst_explain.specs.Contest.{IsDesignatedVectorOn, Gives};
-ghost use Rattle.mst_explain.specs.Explained.{IsExplanation, AreExplanations};
+ghost use Rattle.mst_explain.specs.Explained.{IsExplained, AreExplained};
 ghost use Rattle.mst_explain.specs.Fields.{cist_fields, msti_fields, decided, TellsLower};
 
 use mst_roles::trees_laws::one_outcome;
 
-/// A port has one explanation in a tree, whichever settled outcome it is made by.
-pub fn one_explanation()
-    ensures { (net : Net) (o q : Outcome) → IsNetwork net → IsOutcome net o → IsOutcome net q
-        → (p : LogicalPort) (tree : ℕ) (text other : List ℕ) → IsExplanation net o tree p text → IsExplanation net q tree p other → text ≡ other }
+/// A port has one explanation in a tree, and one in any list of trees, whichever settled outcome it is made by.
+pub fn one_explained()
+    ensures one { (net : Net) (o q : Outcome) → IsNetwork net → IsOutcome net o → IsOutcome net q
+        → (p : LogicalPort) (tree : ℕ) (rows other : List Row) → IsExplained net o tree p rows → IsExplained net q tree p other → rows ≡ other }
+    ensures all { (net : Net) (o q : Outcome) → IsNetwork net → IsOutcome net o → IsOutcome net q
+        → (p : LogicalPort) (trees : List ℕ) (rows other : List Row) → AreExplained net o p trees rows → AreExplained net q p trees other → rows ≡ other }
 {
     one_outcome();
 }
 
 /// A port has an explanation in each tree that its bridge has, by each settled outcome: in the CIST, and in each MSTI of the
-/// bridge. In any list of such trees there is a text of its explanations, one after another.
-pub fn some_explanation()
+/// bridge. In any list of such trees it has one of each, one after another.
+pub fn some_explained()
     ensures one { (net : Net) (o : Outcome) → IsNetwork net → IsOutcome net o → (p : LogicalPort) → Contains (view_ports net) p
-        → (tree : ℕ) → (tree == 0 || has_msti net tree p.name.bridge) ≡ true → (text : List ℕ) × IsExplanation net o tree p text }
+        → (tree : ℕ) → (tree == 0 || has_msti net tree p.name.bridge) ≡ true → (rows : List Row) × IsExplained net o tree p rows }
     ensures all { (net : Net) (o : Outcome) → IsNetwork net → IsOutcome net o → (p : LogicalPort) → Contains (view_ports net) p
-        → (trees : List ℕ) → AllByRecursion (λ tree. (tree == 0 || has_msti net tree p.name.bridge) ≡ true) trees → (text : List ℕ) × AreExplanations net o p trees text }
+        → (trees : List ℕ) → AllByRecursion (λ tree. (tree == 0 || has_msti net tree p.name.bridge) ≡ true) trees → (rows : List Row) × AreExplained net o p trees rows }
 {}
 
-/// The words of a line name the first component at which two vectors differ: the values before are equal, and there the
-/// lower vector has the lower value.
+/// A row names the first component at which two vectors differ: the values before are equal, and there the lower vector has
+/// the lower value.
 pub fn decided_lower()
     ensures cist { (x y : Cist) → cist_rules.order x y ≡ Less → TellsLower (cist_fields x) (cist_fields y) (decided (cist_fields x) (cist_fields y)) }
     ensures msti { (x y : Msti) → msti_rules.order x y ≡ Less → TellsLower (msti_fields x) (msti_fields y) (decided (msti_fields x) (msti_fields y)) }
 {}
 
-/// In an explanation the vector that is first is lower than the one that it is told against, so the words name the first
+/// In an explanation the vector that is first is lower than the one that it is told against, so the rows name the first
 /// component at which they differ, with the lower value first: on each LAN, and at each bridge.
 pub fn told_lower()
     ensures cist_lan { (net : Net) (o : Outcome) → IsNetwork net → IsOutcome net o → (lan : List ℕ) → TellsLowerFirst cist_rules cist_fields (IsDesignatedVectorOn cist_rules (cist_of net) o.cist.vector lan) }

@@ -12,4 +12,4 @@ pub mod laws;
 mod lines;
 mod settings;
 
-pub use explained::{push_explanation, push_explanations};
+pub use explained::{put_explanation, put_explanations};

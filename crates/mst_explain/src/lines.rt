@@ -1,174 +1,219 @@
-ghost use Rattle.std.specs.Prelude.{◌≡◌, ◌++◌, OnOk};
-ghost use Rattle.std.specs.List.{flat_map};
-ghost use Rattle.mst_ids.specs.Words.{after_space, port_text};
-ghost use Rattle.mst_explain.specs.Lines.{giver_text, explain_line, over_line, alone_line, restricted_line, boundary_line, disabled_lines};
-ghost use Rattle.mst_explain.specs.Told.{words_of, value_words};
+ghost use Rattle.std.specs.Prelude.{◌≡◌, ◌++◌, ◌∷◌, [], List, None, OnOk, Some};
+ghost use Rattle.mst_kinds.specs.declared.kind.Kind.TheVariants as kind;
+ghost use Rattle.mst_rows.specs.Cells.{number, port as named, word};
+ghost use Rattle.mst_rows.specs.Rows.{Row, row_of};
+ghost use Rattle.mst_explain.specs.Lines.{explain_rows, designated_contest as designated_in, root_contest as root_in, over_rows, alone_rows, restricted_rows, boundary_rows, disabled_rows};
+ghost use Rattle.mst_explain.specs.Told.{fields_of};
 
 use crate::field::{Difference, Values};
-use itoa::Buffer;
-use mst_ids::{BridgeId, Name, PortId, PortName, Tree, push_bytes, push_end, push_line, push_word};
+use mst_ids::{Name, PortName, Tree};
+use mst_kinds::{ContestLine, ExplainLine, Kind};
 use mst_roles::Role;
+use mst_rows::{Rows, Value, put};
 use std::alloc::AllocError;
 
-/// Appends the name of a port after a space.
-fn push_port(port: &PortName, out: &mut Vec<u8>) -> Result<(), AllocError>
-    ensures { OnOk result (out.new.items ≡ out.old.items ++ after_space (port_text port.now)) }
-{
-    push_bytes(b" ", out)?;
-    port.push_text(out)
+/// What is told for a port in a tree, of which some vector is the first: the lines of its rows.
+#[derive(Clone, Copy)]
+pub(crate) struct Contest {
+    pub(crate) tree: Tree,
+    pub(crate) port: PortName,
+    /// Where there is no other vector.
+    pub(crate) alone: ContestLine,
+    /// Where no component differs.
+    pub(crate) over: ContestLine,
+    pub(crate) by_cost: ContestLine,
+    pub(crate) by_id: ContestLine,
 }
 
-/// Appends a port, or `own` for a bridge's own vector, after a space.
-fn push_giver(giver: &Option<PortName>, out: &mut Vec<u8>) -> Result<(), AllocError>
-    ensures { OnOk result (out.new.items ≡ out.old.items ++ after_space (giver_text giver.now)) }
+/// Which port is its LAN's designated one.
+pub(crate) fn designated_contest(tree: Tree, port: &PortName) -> Contest
+    ensures { result ≡ designated_in tree port.now }
 {
-    match giver {
-        None => push_word(b"own", out),
-        Some(port) => push_port(port, out),
+    Contest {
+        tree,
+        port: *port,
+        alone: ContestLine::DesignatedAlone,
+        over: ContestLine::DesignatedOver,
+        by_cost: ContestLine::DesignatedByCost,
+        by_id: ContestLine::DesignatedById,
     }
 }
 
-/// Appends two identifiers of bridges.
-fn push_bridges(x: BridgeId, y: BridgeId, out: &mut Vec<u8>) -> Result<(), AllocError>
-    ensures { OnOk result (out.new.items ≡ out.old.items ++ flat_map after_space (value_words (Values.Bridges x y))) }
+/// Whose vector is its bridge's.
+pub(crate) fn root_contest(tree: Tree, port: &PortName) -> Contest
+    ensures { result ≡ root_in tree port.now }
 {
-    push_word(&x.text(), out)?;
-    push_word(&y.text(), out)
-}
-
-/// Appends two identifiers of ports.
-fn push_ports(x: PortId, y: PortId, out: &mut Vec<u8>) -> Result<(), AllocError>
-    ensures { OnOk result (out.new.items ≡ out.old.items ++ flat_map after_space (value_words (Values.Ports x y))) }
-{
-    push_word(&x.text(), out)?;
-    push_word(&y.text(), out)
-}
-
-/// Appends two costs.
-fn push_costs(x: u64, y: u64, out: &mut Vec<u8>) -> Result<(), AllocError>
-    ensures { OnOk result (out.new.items ≡ out.old.items ++ flat_map after_space (value_words (Values.Costs x y))) }
-{
-    let mut first = Buffer::new();
-    let mut second = Buffer::new();
-    push_word(first.format(x).as_bytes(), out)?;
-    push_word(second.format(y).as_bytes(), out)
-}
-
-/// Appends two values.
-fn push_values(values: &Values, out: &mut Vec<u8>) -> Result<(), AllocError>
-    ensures { OnOk result (out.new.items ≡ out.old.items ++ flat_map after_space (value_words values.now)) }
-{
-    match values {
-        Values::Bridges(x, y) => push_bridges(*x, *y, out),
-        Values::Ports(x, y) => push_ports(*x, *y, out),
-        Values::Costs(x, y) => push_costs(*x, *y, out),
+    Contest {
+        tree,
+        port: *port,
+        alone: ContestLine::RootAlone,
+        over: ContestLine::RootOver,
+        by_cost: ContestLine::RootByCost,
+        by_id: ContestLine::RootById,
     }
 }
 
-/// Appends the component that decides, and its two values, each word after a space.
-fn push_difference(decided: &Option<Difference>, out: &mut Vec<u8>) -> Result<(), AllocError>
-    ensures { OnOk result (out.new.items ≡ out.old.items ++ flat_map after_space (words_of decided.now)) }
+/// Puts the row of a port in a tree with its role.
+pub(crate) fn put_heading<'a, R: Rows>(
+    tree: Tree,
+    port: &'a PortName,
+    lan: &'a Name,
+    role: Role,
+    out: &mut R,
+) -> Result<(), AllocError>
+    ensures { (first : R) (rows : List Row) → R.grew first out.old rows → OnOk result (R.grew first out.new (rows ++ explain_rows tree port.now lan.now role)) }
+{
+    let values = [
+        Value::Number(u64::from(tree.value())),
+        Value::Port(port),
+        Value::Name(lan),
+        Value::Word(role.name().as_bytes()),
+    ];
+    put::<R>(Kind::Explain(ExplainLine::Port), &values, out)
+}
+
+/// Puts the row of the first of some, where there is no other one.
+pub(crate) fn put_alone<'a, R: Rows>(
+    contest: &'a Contest,
+    giver: &'a Option<PortName>,
+    out: &mut R,
+) -> Result<(), AllocError>
+    ensures { (first : R) (rows : List Row) → R.grew first out.old rows → OnOk result (R.grew first out.new (rows ++ alone_rows contest.now giver.now)) }
+{
+    let values = [
+        Value::Number(u64::from(contest.tree.value())),
+        Value::Port(&contest.port),
+        Value::Giver(giver),
+    ];
+    put::<R>(Kind::Contest(contest.alone), &values, out)
+}
+
+/// Puts the row of the first of some, against another one.
+pub(crate) fn put_over<'a, R: Rows>(
+    contest: &'a Contest,
+    giver: &'a Option<PortName>,
+    other: &'a Option<PortName>,
+    decided: &'a Option<Difference>,
+    out: &mut R,
+) -> Result<(), AllocError>
+    ensures { (first : R) (rows : List Row) → R.grew first out.old rows → OnOk result (R.grew first out.new (rows ++ over_rows contest.now giver.now other.now (fields_of decided.now))) }
 {
     match decided {
-        None => Ok(()),
-        Some(difference) => {
-            push_word(difference.field.as_bytes(), out)?;
-            push_values(&difference.values, out)
-        }
+        None => put_equal(contest, giver, other, out),
+        Some(difference) => put_differing(contest, giver, other, difference, out),
     }
 }
 
-/// Appends the line of a port in a tree with its role.
-pub(crate) fn push_heading(
+/// Puts the row of two that have one vector.
+fn put_equal<'a, R: Rows>(
+    contest: &'a Contest,
+    giver: &'a Option<PortName>,
+    other: &'a Option<PortName>,
+    out: &mut R,
+) -> Result<(), AllocError>
+    ensures { (first : R) (rows : List Row) → R.grew first out.old rows → OnOk result (R.grew first out.new (rows ++ over_rows contest.now giver.now other.now None)) }
+{
+    let values = [
+        Value::Number(u64::from(contest.tree.value())),
+        Value::Port(&contest.port),
+        Value::Giver(giver),
+        Value::Giver(other),
+    ];
+    put::<R>(Kind::Contest(contest.over), &values, out)
+}
+
+/// Puts the row of two whose vectors differ.
+fn put_differing<'a, R: Rows>(
+    contest: &'a Contest,
+    giver: &'a Option<PortName>,
+    other: &'a Option<PortName>,
+    difference: &'a Difference,
+    out: &mut R,
+) -> Result<(), AllocError>
+    ensures { (first : R) (rows : List Row) → R.grew first out.old rows → OnOk result (R.grew first out.new (rows ++ over_rows contest.now giver.now other.now (fields_of (Some difference.now)))) }
+{
+    let (line, x, y) = match difference.values {
+        Values::Bridges(x, y) => (contest.by_id, Value::BridgeId(x), Value::BridgeId(y)),
+        Values::Ports(x, y) => (contest.by_id, Value::PortId(x), Value::PortId(y)),
+        Values::Costs(x, y) => (contest.by_cost, Value::Number(x), Value::Number(y)),
+    };
+    let values = [
+        Value::Number(u64::from(contest.tree.value())),
+        Value::Port(&contest.port),
+        Value::Giver(giver),
+        Value::Giver(other),
+        Value::Word(difference.field.as_bytes()),
+        x,
+        y,
+    ];
+    put::<R>(Kind::Contest(line), &values, out)
+}
+
+/// Puts the row of a port whose role is restricted.
+pub(crate) fn put_restricted<R: Rows>(
     tree: Tree,
     port: &PortName,
-    lan: &Name,
+    out: &mut R,
+) -> Result<(), AllocError>
+    ensures { (first : R) (rows : List Row) → R.grew first out.old rows → OnOk result (R.grew first out.new (rows ++ restricted_rows tree port.now)) }
+{
+    let values = [Value::Number(u64::from(tree.value())), Value::Port(port)];
+    put::<R>(Kind::Explain(ExplainLine::Restricted), &values, out)
+}
+
+/// Puts the row of a port that has received external information, with its role in the CIST.
+pub(crate) fn put_boundary<'a, R: Rows>(
+    tree: Tree,
+    port: &'a PortName,
     role: Role,
-    out: &mut Vec<u8>,
+    designated: &'a PortName,
+    out: &mut R,
 ) -> Result<(), AllocError>
-    ensures { OnOk result (out.new.items ≡ out.old.items ++ explain_line tree port.now lan.now role) }
+    ensures { (first : R) (rows : List Row) → R.grew first out.old rows → OnOk result (R.grew first out.new (rows ++ boundary_rows tree port.now role designated.now)) }
 {
-    let mut number = Buffer::new();
-    push_bytes(b"explain ", out)?;
-    push_bytes(number.format(tree.value()).as_bytes(), out)?;
-    push_port(port, out)?;
-    push_word(lan.as_bytes(), out)?;
-    push_word(role.name().as_bytes(), out)?;
-    push_end(out)
+    let values = [
+        Value::Number(u64::from(tree.value())),
+        Value::Port(port),
+        Value::Word(role.name().as_bytes()),
+        Value::Port(designated),
+    ];
+    put::<R>(Kind::Explain(ExplainLine::Boundary), &values, out)
 }
 
-/// Appends the line of the first of some, of which the word tells, against another one.
-pub(crate) fn push_over(
-    word: &[u8],
-    first: &Option<PortName>,
-    other: &Option<PortName>,
-    decided: &Option<Difference>,
-    out: &mut Vec<u8>,
-) -> Result<(), AllocError>
-    ensures { OnOk result (out.new.items ≡ out.old.items ++ over_line word.now first.now other.now (words_of decided.now)) }
-{
-    push_bytes(word, out)?;
-    push_giver(first, out)?;
-    push_word(b"over", out)?;
-    push_giver(other, out)?;
-    push_difference(decided, out)?;
-    push_end(out)
-}
-
-/// Appends the line of the first of some, of which the word tells, where there is no other one.
-pub(crate) fn push_alone(
-    word: &[u8],
-    first: &Option<PortName>,
-    out: &mut Vec<u8>,
-) -> Result<(), AllocError>
-    ensures { OnOk result (out.new.items ≡ out.old.items ++ alone_line word.now first.now) }
-{
-    push_bytes(word, out)?;
-    push_giver(first, out)?;
-    push_word(b"alone", out)?;
-    push_end(out)
-}
-
-/// Appends the line of a port whose role is restricted.
-pub(crate) fn push_restricted(out: &mut Vec<u8>) -> Result<(), AllocError>
-    ensures { OnOk result (out.new.items ≡ out.old.items ++ restricted_line) }
-{
-    push_bytes(b"restricted", out)?;
-    push_end(out)
-}
-
-/// Appends the line of a port that has received external information, with its role in the CIST.
-pub(crate) fn push_boundary(
-    role: Role,
-    designated: &PortName,
-    out: &mut Vec<u8>,
-) -> Result<(), AllocError>
-    ensures { OnOk result (out.new.items ≡ out.old.items ++ boundary_line role designated.now) }
-{
-    push_bytes(b"boundary", out)?;
-    push_word(role.name().as_bytes(), out)?;
-    push_word(b"designated", out)?;
-    push_port(designated, out)?;
-    push_end(out)
-}
-
-/// Appends why a port isn't enabled: that its bridge is off, that its LAN is down, or both.
-pub(crate) fn push_disabled(
+/// Puts why a port isn't enabled: that its bridge is off, that its LAN is down, or both.
+pub(crate) fn put_disabled<'a, R: Rows>(
+    tree: Tree,
+    port: &'a PortName,
     is_on: bool,
-    bridge: &Name,
     is_up: bool,
-    lan: &Name,
-    out: &mut Vec<u8>,
+    lan: &'a Name,
+    out: &mut R,
 ) -> Result<(), AllocError>
-    ensures { OnOk result (out.new.items ≡ out.old.items ++ disabled_lines is_on bridge.now is_up lan.now) }
+    ensures { (first : R) (rows : List Row) → R.grew first out.old rows → OnOk result (R.grew first out.new (rows ++ disabled_rows tree port.now is_on is_up lan.now)) }
 {
     if !is_on {
-        let words: [&[u8]; 2] = [b"off", bridge.as_bytes()];
-        push_line(&words, out)?;
+        put_off(ExplainLine::BridgeOff, tree, port, &port.bridge, out)?;
     }
     if !is_up {
-        let words: [&[u8]; 2] = [b"down", lan.as_bytes()];
-        push_line(&words, out)?;
+        put_off(ExplainLine::LanDown, tree, port, lan, out)?;
     }
     Ok(())
+}
+
+/// Puts the row of a port that isn't enabled because of this bridge or LAN.
+fn put_off<'a, R: Rows>(
+    line: ExplainLine,
+    tree: Tree,
+    port: &'a PortName,
+    name: &'a Name,
+    out: &mut R,
+) -> Result<(), AllocError>
+    ensures { (first : R) (rows : List Row) → R.grew first out.old rows → OnOk result (R.grew first out.new (rows ++ row_of (kind.Explain line) (number tree ∷ named port.now ∷ word name.now ∷ []) ∷ [])) }
+{
+    let values = [
+        Value::Number(u64::from(tree.value())),
+        Value::Port(port),
+        Value::Name(name),
+    ];
+    put::<R>(Kind::Explain(line), &values, out)
 }

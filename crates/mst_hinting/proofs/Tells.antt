@@ -1,5 +1,5 @@
 -- How the hints of a script go on from byte to byte.
-use Rattle.std.proofs.Common.{◌≡◌, ◌≢◌, ℕ, ◌+◌, ◌<◌, true, false, nat_eq, cond, List, [], ◌∷◌, ◌++◌, length, Option, Some, None, Result, Ok, Err, refl, sym, ap, subst, ◌∙◌, arith, inl, inr, append_assoc, append-nil, eq-eqb, length-append}
+use Rattle.std.proofs.Common.{◌≡◌, ◌≢◌, ◌||◌, ℕ, ◌+◌, ◌<◌, true, false, nat_eq, cond, List, [], ◌∷◌, ◌++◌, length, Option, Some, None, Result, Ok, Err, refl, sym, ap, subst, ◌∙◌, arith, inl, inr, append_assoc, append-nil, eq-eqb, length-append}
 use Rattle.std.proofs.lemmas.Bool.{lt-ltb}
 use Rattle.std.proofs.lemmas.Grind.{common_steps}
 use Rattle.std.specs.Option.{unwrap_or}
@@ -16,7 +16,7 @@ use Rattle.mst_hints.specs.lang.declared.line.Version.TheVariants.{V1, V2}
 use Rattle.mst_hints.specs.Hints.{hint_of, hint_line, too_long}
 use Rattle.mst_hints.specs.Kept.{IsKept}
 use Rattle.mst_hints.specs.Records.{added_of}
-use Rattle.mst_hints.specs.Scripts.{Past, nothing, past_after, version_with, reading_with, net_with, is_made, noted, read_hint, hint_after, hints_from, hints_of}
+use Rattle.mst_hints.specs.Scripts.{Past, nothing, past_after, version_with, reading_with, net_with, is_made, is_mark, making_of, noted, read_hint, with_making, hint_after, hints_from, hints_of}
 use Rattle.mst_hints.specs.declared.record.Record.{Record}
 use Rattle.mst_hints.specs.declared.script.ScriptHints.{ScriptHints}
 use Rattle.mst_io.specs.Held.{lines_held, ending}
@@ -104,11 +104,19 @@ unread_long version line long = rw (lt-ltb 4096 (length line) long) refl
 
 hint_long : (past : Past) (line : List ℕ) → 4096 < length line → hint_after past line ≡ hint_line past.number (Some too_long)
 hint_long past line long =
-    ap (λ r. hint_line past.number (read_hint (version_with past.version line) past.adds past.net line r)) (reading_long past.version line long)
+    ap (λ r. hint_line past.number (read_hint past line r)) (reading_long past.version line long)
     ∙ ap (hint_line past.number) (unread_long (version_with past.version line) line long)
 
 abbrev after_by : Past → Version → Result Line Fault → Option Record → Past
-after_by past version reading added = record { version = Some version; number = past.number + 1; net = net_with past.net reading; adds = noted past.number past.adds added (is_made past.net reading) }
+after_by past version reading added = let made = is_made past.marked past.net reading in
+    record {
+      version = Some version;
+      number = past.number + 1;
+      net = net_with past.net reading;
+      marked = past.marked || is_mark reading;
+      adds = noted past.number past.adds added made;
+      makings = with_making past.number past.makings (making_of made reading);
+    }
 
 past_long : (past : Past) (line : List ℕ) → 4096 < length line → past_after past line ≡ after_by past (version_with past.version []) (Err E01) None
 past_long past line long =

@@ -23,7 +23,7 @@ use Rattle.mst_lang.specs.declared.line.Fault.{Fault}
 use Rattle.mst_lang.specs.declared.line.Fault.TheVariants.{E01}
 use Rattle.mst_hints.specs.declared.form.Argument.{Argument}
 use Rattle.mst_hints.specs.Forms.{form_of, is_right}
-use Rattle.mst_hints.specs.Hints.{first_wrong, form_hint, command_hint, worded_hint, hint_of, too_long, bad_byte, wrong_text, number_text}
+use Rattle.mst_hints.specs.Hints.{first_wrong, form_hint, command_hint, worded_hint, hint_of, too_long, byte_text, wrong_text, words_text}
 
 -- as many words as there are tests, and each passes its own
 abbrev passes : List (List ℕ → Bool) → List (List ℕ) → Bool
@@ -56,7 +56,7 @@ wrong_passes version (argument ∷ form) (word ∷ arguments) =
 
 form_passes : (version : Version) (word : List ℕ) (form : List Argument) (arguments : List (List ℕ)) → is_some (form_hint version word form arguments) ≡ not (passes (map (is_right version) form) arguments)
 form_passes version word form arguments =
-    some_or (wrong_text version word form) (length arguments == length form) (first_wrong version form arguments) (number_text word form (length arguments)) ∙ wrong_passes version form arguments
+    some_or (wrong_text version word form) (length arguments == length form) (first_wrong version form arguments) (words_text word form arguments) ∙ wrong_passes version form arguments
 
 -- ---- what the grammar makes of some words
 -- a command that has another number of words
@@ -192,19 +192,19 @@ command_hinted version word None arguments = refl
 command_hinted version word (Some command) arguments = form_passes version word (form_of command) arguments ∙ sym (says_passes version command arguments)
 
 -- where the tests come out alike
-blank_hinted : (plain : Bool) → is_some (cond plain None (Some bad_byte)) ≡ is_err {T = Line} {E = Fault} (cond plain (Ok lines.Blank) (Err E01))
-blank_hinted true = refl
-blank_hinted false = refl
+blank_hinted : (plain : Bool) (bytes : List ℕ) → is_some (cond plain None (Some bytes)) ≡ is_err {T = Line} {E = Fault} (cond plain (Ok lines.Blank) (Err E01))
+blank_hinted true bytes = refl
+blank_hinted false bytes = refl
 
-tests_hinted : (comment plain : Bool) (h : Option (List ℕ)) (r : Result Line Fault) → is_some h ≡ is_err r → is_some (cond comment None (cond plain h (Some bad_byte))) ≡ is_err (cond comment (Ok lines.Blank) (cond plain r (Err E01)))
-tests_hinted true plain h r same = refl
-tests_hinted false true h r same = same
-tests_hinted false false h r same = refl
+tests_hinted : (comment plain : Bool) (bytes : List ℕ) (h : Option (List ℕ)) (r : Result Line Fault) → is_some h ≡ is_err r → is_some (cond comment None (cond plain h (Some bytes))) ≡ is_err (cond comment (Ok lines.Blank) (cond plain r (Err E01)))
+tests_hinted true plain bytes h r same = refl
+tests_hinted false true bytes h r same = same
+tests_hinted false false bytes h r same = refl
 
-words_hinted : (version : Version) (plain : Bool) (words : List (List ℕ)) → is_some (worded_hint version plain words) ≡ is_err (worded version plain words)
-words_hinted version plain [] = blank_hinted plain
-words_hinted version plain (word ∷ arguments) =
-    tests_hinted (is_comment word) plain (command_hint version word (command_of word) arguments) (option_map_or (λ c. says_as version c arguments) (command_of word) (Err E01)) (command_hinted version word (command_of word) arguments)
+words_hinted : (version : Version) (plain : Bool) (bytes : List ℕ) (words : List (List ℕ)) → is_some (worded_hint version plain bytes words) ≡ is_err (worded version plain words)
+words_hinted version plain bytes [] = blank_hinted plain bytes
+words_hinted version plain bytes (word ∷ arguments) =
+    tests_hinted (is_comment word) plain bytes (command_hint version word (command_of word) arguments) (option_map_or (λ c. says_as version c arguments) (command_of word) (Err E01)) (command_hinted version word (command_of word) arguments)
 
 length_hinted : (long : Bool) (h : Option (List ℕ)) (r : Result Line Fault) → is_some h ≡ is_err r → is_some (cond long (Some too_long) h) ≡ is_err (cond long (Err E01) r)
 length_hinted true h r same = refl
@@ -212,4 +212,4 @@ length_hinted false h r same = same
 
 pub line_hinted : (version : Version) (line : List ℕ) → is_some (hint_of version line) ≡ is_err (reading_as version line)
 line_hinted version line =
-    length_hinted (nat_lt 4096 (length line)) (worded_hint version (list_all is_plain line) (words line)) (worded version (list_all is_plain line) (words line)) (words_hinted version (list_all is_plain line) (words line))
+    length_hinted (nat_lt 4096 (length line)) (worded_hint version (list_all is_plain line) (byte_text line) (words line)) (worded version (list_all is_plain line) (words line)) (words_hinted version (list_all is_plain line) (byte_text line) (words line))

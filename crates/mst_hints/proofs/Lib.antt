@@ -2,3 +2,4 @@ pub mod Tables
 pub mod Hinted
 pub mod Wrong
 pub mod Noted
+pub mod Lined

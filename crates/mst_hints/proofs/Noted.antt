@@ -1,9 +1,10 @@
--- What is kept of the lines that were to add a record.
+-- What is kept of the lines that were to add a record, and of those that made one.
 use Rattle.std.proofs.Common.{◌≡◌, ℕ, Bool, true, false, cond, List, [], ◌∷◌, Option, Some, None, refl, sym, ap, ◌∙◌}
 use Rattle.std.specs.Map.{lookup}
 use Rattle.std.specs.Option.{option_flatten}
 use Rattle.mst_hints.specs.Records.{same_record}
 use Rattle.mst_hints.specs.Scripts.{Adding, last_adding}
+use Rattle.mst_hints.specs.Standing.{Making, last_making}
 use Rattle.mst_hints.specs.declared.record.Record.{Record}
 
 -- tests that agree find alike
@@ -28,3 +29,11 @@ module _ (eq : Record → Record → Bool) (law : (a b : Record) → eq a b ≡ 
       ∙ ap (λ t. cond t w (lookup (eq wanted) old)) (law added wanted)
       ∙ ap (λ o. cond (same_record added wanted) w o) (found_alike wanted old ∙ was wanted)
       ∙ last_of (same_record added wanted) w (lookup (λ a. same_record a wanted) adds)
+
+  -- with one line more that made a record
+  pub made_noted : (old new : List (Record × ℕ)) (made : Record) (number : ℕ) → ((q : Record) → lookup (eq q) new ≡ cond (eq made q) (Some number) (lookup (eq q) old))
+      → (makings : List Making) → ((wanted : Record) → lookup (same_record wanted) old ≡ last_making wanted makings) → (wanted : Record) → lookup (same_record wanted) new ≡ last_making wanted ((made, number) ∷ makings)
+  made_noted old new made number changed makings was wanted =
+      sym (found_alike wanted new) ∙ changed wanted
+      ∙ ap (λ t. cond t (Some number) (lookup (eq wanted) old)) (law made wanted)
+      ∙ ap (λ o. cond (same_record made wanted) (Some number) o) (found_alike wanted old ∙ was wanted)

@@ -18,7 +18,7 @@ of_form version word form None arguments same = absurd (true≢false (ap is_some
 of_form version word form (Some command) arguments same = ap (λ f. form_hint version word f arguments) (ap (λ (o : Option (List Argument)). unwrap_or o []) same)
 
 -- of a word that has none
-pub of_no_form : (version : Version) (word : List ℕ) (command : Option Command) (arguments : List (List ℕ)) → None ≡ option_map form_of command → Some (unknown_text word) ≡ command_hint version word command arguments
+pub of_no_form : (version : Version) (word : List ℕ) (command : Option Command) (arguments : List (List ℕ)) → None ≡ option_map form_of command → Some (unknown_text word arguments) ≡ command_hint version word command arguments
 of_no_form version word None arguments same = refl
 of_no_form version word (Some command) arguments same = absurd (true≢false (sym (ap is_some same)))
 

@@ -3,5 +3,6 @@ pub mod Forms
 pub mod Near
 pub mod Hints
 pub mod Records
+pub mod Standing
 pub mod Scripts
 pub mod Kept

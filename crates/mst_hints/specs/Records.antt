@@ -9,7 +9,7 @@ use Rattle.mst_lang.specs.Words.{words}
 use Rattle.mst_lang.specs.declared.line.Line.{Line}
 use Rattle.mst_lang.specs.declared.line.Line.TheVariants as lines
 use Rattle.mst_lang.specs.declared.line.Edit.{Edit}
-use Rattle.mst_lang.specs.declared.line.Edit.TheVariants.{AddBridge, DelBridge, SetBridge, AddPort, DelPort, SetPort, AddLan, DelLan, SetLan, Plug, Unplug, SetByTree}
+use Rattle.mst_lang.specs.declared.line.Edit.TheVariants.{AddBridge, DelBridge, SetBridge, AddPort, DelPort, SetPort, AddLan, DelLan, SetLan, Plug as PlugIn, Unplug, SetByTree}
 use Rattle.mst_lang.specs.declared.line.Query.TheVariants.{ShowConfiguration}
 use Rattle.mst_lang.specs.declared.line.TreeChange.{TreeChange}
 use Rattle.mst_lang.specs.declared.line.TreeChange.TheVariants.{Priority, PortPriority, PortCost, Table, Vlans}
@@ -18,7 +18,7 @@ use Rattle.mst_net.specs.declared.refusal.Refusal.{Refusal}
 use Rattle.mst_net.specs.declared.refusal.Refusal.TheVariants.{E04, E05, E06}
 use Rattle.mst_hints.specs.Hints.{nearest}
 use Rattle.mst_hints.specs.declared.record.Record.{Record}
-use Rattle.mst_hints.specs.declared.record.Record.TheVariants.{Bridge, Port, Lan}
+use Rattle.mst_hints.specs.declared.record.Record.TheVariants.{Bridge, Port, Lan, Plug}
 
 -- ---- what a line asks for
 -- the bridge that an edit asks for, the port and the LAN: those that have to be there before it
@@ -39,7 +39,7 @@ bridge_for (SetPort port change) = Some port.bridge
 bridge_for (AddLan lan) = None
 bridge_for (DelLan lan) = None
 bridge_for (SetLan lan change) = None
-bridge_for (Plug port lan) = Some port.bridge
+bridge_for (PlugIn port lan) = Some port.bridge
 bridge_for (Unplug port) = Some port.bridge
 bridge_for (SetByTree change) = Some (bridge_by_tree change)
 
@@ -60,7 +60,7 @@ port_for (SetPort port change) = Some port
 port_for (AddLan lan) = None
 port_for (DelLan lan) = None
 port_for (SetLan lan change) = None
-port_for (Plug port lan) = Some port
+port_for (PlugIn port lan) = Some port
 port_for (Unplug port) = Some port
 port_for (SetByTree change) = port_by_tree change
 
@@ -74,7 +74,7 @@ lan_for (SetPort port change) = None
 lan_for (AddLan lan) = None
 lan_for (DelLan lan) = Some lan
 lan_for (SetLan lan change) = Some lan
-lan_for (Plug port lan) = Some lan
+lan_for (PlugIn port lan) = Some lan
 lan_for (Unplug port) = None
 lan_for (SetByTree change) = None
 
@@ -90,6 +90,22 @@ abbrev pub missing_of : Line → Refusal → Option Record
 missing_of (lines.Edit e) refusal = missing_for e refusal
 missing_of (lines.Query (ShowConfiguration bridge)) E04 = Some (Bridge bridge)
 missing_of _ refusal = None
+
+-- ---- what an edit makes
+-- the record that it adds, or that it plugs a port
+abbrev pub made_by : Edit → Option Record
+made_by (AddBridge bridge mac) = Some (Bridge bridge)
+made_by (DelBridge bridge) = None
+made_by (SetBridge bridge change) = None
+made_by (AddPort port) = Some (Port port)
+made_by (DelPort port) = None
+made_by (SetPort port change) = None
+made_by (AddLan lan) = Some (Lan lan)
+made_by (DelLan lan) = None
+made_by (SetLan lan change) = None
+made_by (PlugIn port lan) = Some (Plug port)
+made_by (Unplug port) = None
+made_by (SetByTree change) = None
 
 -- ---- what a line was to add
 -- by the words after the command: the record that they name, whatever follows
@@ -134,4 +150,5 @@ abbrev pub same_record : Record → Record → Bool
 same_record (Bridge a) (Bridge b) = is_text a b
 same_record (Port p) (Port q) = port_eq p q
 same_record (Lan a) (Lan b) = is_text a b
+same_record (Plug p) (Plug q) = port_eq p q
 same_record _ _ = false

@@ -1,24 +1,23 @@
 -- What would be right in the lines of a script that are refused.
-use Rattle.std.specs.Prelude.{ℕ, ◌+◌, Bool, false, List, [], ◌∷◌, ◌++◌, Option, Some, None, Result, Ok, Err, is_ok, codes, decimal, if◌then◌else◌}
-use Rattle.std.specs.Option.{option_map, option_map_or, option_flatten, unwrap_or}
+use Rattle.std.specs.Prelude.{ℕ, ◌+◌, Bool, true, false, ◌||◌, List, [], ◌∷◌, ◌++◌, Option, Some, None, Result, Ok, Err, is_ok, codes, decimal, if◌then◌else◌}
+use Rattle.std.specs.Option.{option_map, option_map_or, option_flatten, option_or, unwrap_or}
 use Rattle.std.specs.Result.{result_ok}
 use Rattle.std.specs.Map.{lookup}
-use Rattle.mst_ids.specs.Words.{port_text}
 use Rattle.mst_lang.specs.Reading.{reading_as, says_version_2}
 use Rattle.mst_lang.specs.declared.line.Fault.{Fault}
 use Rattle.mst_lang.specs.declared.line.Line.{Line}
-use Rattle.mst_lang.specs.declared.line.Line.TheVariants.{Blank, Edit as edit, Query as query}
-use Rattle.mst_lang.specs.declared.line.Query.TheVariants.{ShowConfiguration}
+use Rattle.mst_lang.specs.declared.line.Line.TheVariants.{Blank, Mark, Edit as edit, Query as query}
+use Rattle.mst_lang.specs.declared.line.Query.TheVariants.{Changes, ShowConfiguration}
 use Rattle.mst_lang.specs.declared.line.Version.{Version}
 use Rattle.mst_lang.specs.declared.line.Version.TheVariants.{V1, V2}
 use Rattle.mst_net.specs.After.{after, has_bridge}
 use Rattle.mst_net.specs.Tables.{Net, empty_net}
 use Rattle.mst_net.specs.declared.refusal.Refusal.{Refusal}
-use Rattle.mst_net.specs.declared.refusal.Refusal.TheVariants.{E04}
+use Rattle.mst_net.specs.declared.refusal.Refusal.TheVariants.{E04, E16}
 use Rattle.mst_hints.specs.Hints.{hint_of, hint_line}
-use Rattle.mst_hints.specs.Records.{missing_of, added_of, same_record}
+use Rattle.mst_hints.specs.Records.{missing_of, added_of, made_by, same_record}
+use Rattle.mst_hints.specs.Standing.{Making, record_text, standing_of}
 use Rattle.mst_hints.specs.declared.record.Record.{Record}
-use Rattle.mst_hints.specs.declared.record.Record.TheVariants.{Bridge, Port, Lan}
 
 -- ---- how the lines of a script are read
 -- the version of a script at its next line: it is known already, or this line, the first one, says it
@@ -32,20 +31,22 @@ reading_with (Some version) line = reading_as version line
 reading_with None line = if says_version_2 line then Ok Blank else reading_as V1 line
 
 -- ---- what they make
--- what a line that is read makes of the network, or why it is refused. Of the queries this tells the one alone that asks
--- for a record: for a bridge's configuration
-abbrev pub after_line : Line → Net → Result Net Refusal
-after_line (edit e) net = after e net
-after_line (query (ShowConfiguration bridge)) net = if has_bridge bridge net then Ok net else Err E04
-after_line _ net = Ok net
+-- what a line that is read makes of the network, or why it is refused, by whether the network was marked. A query for the
+-- configuration of a bridge asks that it is there, and one for changes that there is a mark
+abbrev pub after_line : Bool → Line → Net → Result Net Refusal
+after_line marked (edit e) net = after e net
+after_line marked (query (ShowConfiguration bridge)) net = if has_bridge bridge net then Ok net else Err E04
+after_line marked (query Changes) net = if marked then Ok net else Err E16
+after_line marked _ net = Ok net
 
+-- of the lines that are read, edits alone make another one
 abbrev pub net_after : Line → Net → Net
-net_after line net = unwrap_or (result_ok (after_line line net)) net
+net_after line net = unwrap_or (result_ok (after_line true line net)) net
 
 -- whether a line is made, and the network after it, by how it is read
-abbrev pub is_made : Net → Result Line Fault → Bool
-is_made net (Err f) = false
-is_made net (Ok line) = is_ok (after_line line net)
+abbrev pub is_made : Bool → Net → Result Line Fault → Bool
+is_made marked net (Err f) = false
+is_made marked net (Ok line) = is_ok (after_line marked line net)
 
 abbrev pub net_with : Net → Result Line Fault → Net
 net_with net (Err f) = net
@@ -66,34 +67,48 @@ noted number adds (Some added) made = (added, if made then None else Some number
 abbrev pub last_adding : Record → List Adding → Option ℕ
 last_adding wanted adds = option_flatten (lookup (λ added. same_record added wanted) adds)
 
+-- ---- the lines that made one
+-- by the edit of a line that was made
+abbrev pub making_of : Bool → Result Line Fault → Option Record
+making_of true (Ok (edit e)) = made_by e
+making_of _ reading = None
+
+abbrev pub with_making : ℕ → List Making → Option Record → List Making
+with_making number makings None = makings
+with_making number makings (Some made) = (made, number) ∷ makings
+
+-- whether the line marks
+abbrev pub is_mark : Result Line Fault → Bool
+is_mark (Ok Mark) = true
+is_mark _ = false
+
 -- ---- the lines that came so far
--- the version of the script, once its first line has come, the number of the next line, the network, and the lines that were
--- to add a record
+-- the version of the script, once its first line has come, the number of the next line, the network, whether it was marked,
+-- and the lines that were to add a record and those that made one
 pub record Past : Type 0 where
   pub version : Option Version
   pub number : ℕ
   pub net : Net
+  pub marked : Bool
   pub adds : List Adding
+  pub makings : List Making
 
 abbrev pub nothing : Past
-nothing = record { version = None; number = 1; net = empty_net; adds = [] }
+nothing = record { version = None; number = 1; net = empty_net; marked = false; adds = []; makings = [] }
 
 -- and with one line more
 abbrev pub past_after : Past → List ℕ → Past
-past_after past line = let reading = reading_with past.version line in
+past_after past line = let reading = reading_with past.version line in let made = is_made past.marked past.net reading in
     record {
       version = Some (version_with past.version line);
       number = past.number + 1;
       net = net_with past.net reading;
-      adds = noted past.number past.adds (added_of line) (is_made past.net reading);
+      marked = past.marked || is_mark reading;
+      adds = noted past.number past.adds (added_of line) made;
+      makings = with_making past.number past.makings (making_of made reading);
     }
 
 -- ---- the hints
-abbrev pub record_text : Record → List ℕ
-record_text (Bridge bridge) = codes "bridge " ++ bridge
-record_text (Port port) = codes "port " ++ port_text port
-record_text (Lan lan) = codes "LAN " ++ lan
-
 -- there is no such record, and which line was to add it
 abbrev pub since_text : ℕ → List ℕ
 since_text number = codes ": line " ++ decimal number ++ codes " was to add it"
@@ -104,19 +119,22 @@ absent_text since wanted = codes "no " ++ record_text wanted ++ option_map_or si
 abbrev pub missing_hint : List Adding → Option Record → Option (List ℕ)
 missing_hint adds = option_map (λ wanted. absent_text (last_adding wanted adds) wanted)
 
--- of a line that is read, by what it makes of the network
-abbrev pub refused_hint : List Adding → Line → Result Net Refusal → Option (List ℕ)
-refused_hint adds line (Ok net) = None
-refused_hint adds line (Err refusal) = missing_hint adds (missing_of line refusal)
+-- of a line that is read, by what it makes of the network: the record that isn't there, or what stands in the way
+abbrev pub refused_text : List Adding → List Making → Net → Line → Refusal → Option (List ℕ)
+refused_text adds makings net line refusal = option_or (missing_hint adds (missing_of line refusal)) (standing_of makings net line refusal)
+
+abbrev pub refused_hint : List Adding → List Making → Net → Line → Result Net Refusal → Option (List ℕ)
+refused_hint adds makings net line (Ok new) = None
+refused_hint adds makings net line (Err refusal) = refused_text adds makings net line refusal
 
 -- of a line by how it is read
-abbrev pub read_hint : Version → List Adding → Net → List ℕ → Result Line Fault → Option (List ℕ)
-read_hint version adds net line (Err f) = hint_of version line
-read_hint version adds net line (Ok read) = refused_hint adds read (after_line read net)
+abbrev pub read_hint : Past → List ℕ → Result Line Fault → Option (List ℕ)
+read_hint past line (Err f) = hint_of (version_with past.version line) line
+read_hint past line (Ok read) = refused_hint past.adds past.makings past.net read (after_line past.marked read past.net)
 
 -- what is printed of the next line
 abbrev pub hint_after : Past → List ℕ → List ℕ
-hint_after past line = hint_line past.number (read_hint (version_with past.version line) past.adds past.net line (reading_with past.version line))
+hint_after past line = hint_line past.number (read_hint past line (reading_with past.version line))
 
 -- of the lines that follow
 abbrev pub hints_from : Past → List (List ℕ) → List ℕ

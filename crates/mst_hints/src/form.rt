@@ -4,9 +4,9 @@ ghost use Rattle.mst_lang.specs.Arguments.{is_text};
 ghost use Rattle.mst_lang.specs.Reading.{command_of};
 ghost use Rattle.mst_hints.specs.Forms.{form_of as form_of_command, word_of, range_of};
 ghost use Rattle.mst_hints.specs.Hints.{command_where};
-ghost use Rattle.mst_hints.specs.Near.{is_within_one as within_one, is_within_two as within_two};
+ghost use Rattle.mst_hints.specs.Near.{is_in_case as in_case, is_joined as joined, is_within_one as within_one, is_within_two as within_two};
 
-use crate::near::{is_within_one, is_within_two};
+use crate::near::{is_in_case, is_joined, is_within_one, is_within_two};
 use mst_lang::Version;
 
 /// What stands in a place of a command's line.
@@ -98,6 +98,42 @@ fn form_in(forms: &[(&[u8], &'static [Argument])], word: &[u8]) -> Option<&'stat
     Some(*form)
 }
 
+/// The first command that the word is but for its case.
+pub(crate) fn command_in_case(word: &[u8]) -> Option<&'static [u8]>
+    ensures { option_map (λ text. text.now) result ≡ command_where (λ text. in_case text word.now) }
+{
+    let forms = FORMS;
+    first_in_case(forms.as_slice(), word)
+}
+
+fn first_in_case(forms: &[(&'static [u8], &[Argument])], word: &[u8]) -> Option<&'static [u8]>
+    ensures { result ≡ option_map (λ entry. entry.0) (find (λ entry. in_case entry.0.now word.now) forms.now) }
+{
+    let (text, _) = forms.iter().find(|(text, _)| is_in_case(*text, word))?;
+    Some(*text)
+}
+
+/// The first command that the word and the one behind it are, written apart.
+pub(crate) fn command_joined(word: &[u8], behind: &[u8]) -> Option<&'static [u8]>
+    ensures { option_map (λ text. text.now) result ≡ command_where (λ text. joined text word.now behind.now) }
+{
+    let forms = FORMS;
+    first_joined(forms.as_slice(), word, behind)
+}
+
+fn first_joined(
+    forms: &[(&'static [u8], &[Argument])],
+    word: &[u8],
+    behind: &[u8],
+) -> Option<&'static [u8]>
+    ensures { result ≡ option_map (λ entry. entry.0) (find (λ entry. joined entry.0.now word.now behind.now) forms.now) }
+{
+    let (text, _) = forms
+        .iter()
+        .find(|(text, _)| is_joined(*text, word, behind))?;
+    Some(*text)
+}
+
 /// The first command that is at most one change from the word.
 pub(crate) fn command_by_one(word: &[u8]) -> Option<&'static [u8]>
     ensures { option_map (λ text. text.now) result ≡ command_where (λ text. within_one text word.now) }
@@ -181,7 +217,7 @@ impl Argument {
             SystemPriority => "SYS is 0 to 65535",
             Revision => "REV is 0 to 65535",
             LimitNumber => "LIM is 6 to 40",
-            SpeedNumber => "KBPS is 1 to 9999999999",
+            SpeedNumber => "KBPS is 1 to 9999999999, in kb/s",
             ConfigurationName => "CNAME is 1 to 32 bytes",
             OnOrOff => "it is on or off",
             BridgeKind => "it is mstp or rstp",

@@ -1,12 +1,14 @@
-ghost use Rattle.std.specs.Prelude.{◌≡◌, ◌++◌, ◌∷◌, [], true, Some, IfOk, OnOk, is_some, codes, decimal};
+ghost use Rattle.std.specs.Prelude.{◌≡◌, ◌++◌, ◌∷◌, [], true, Some, IfOk, OnOk, is_some, length, codes, decimal};
 ghost use Rattle.std.specs.Option.{option_map, option_map_or};
 ghost use Rattle.mst_lang.specs.Reading.{command_of};
 ghost use Rattle.mst_lang.specs.Words.{words};
-ghost use Rattle.mst_hints.specs.Hints.{hint_of, hint_line, too_long, bad_byte, unknown_text as unknown_of, number_text, wrong_text, form_hint, command_hint, form_text as form_text_of, takes_text as takes_text_of, count_text as count_text_of, step_text as step_text_of, asked as asked_of, nearest as nearest_of};
+ghost use Rattle.mst_hints.specs.Hints.{hint_of, hint_line, too_long, byte_text, is_pcap as pcap, is_utf16 as utf16, unknown_text as unknown_of, meant as meant_of, by_changes as changed, number_text, words_text, wrong_text, form_hint, command_hint, form_text as form_text_of, takes_text as takes_text_of, count_text as count_text_of, step_text as step_text_of, asked as asked_of, nearest as nearest_of};
 
-use crate::form::{Argument, command_by_one, command_by_two, form_of};
+use crate::form::{
+    Argument, command_by_one, command_by_two, command_in_case, command_joined, form_of,
+};
 use crate::right::{first_wrong, step_of};
-use crate::words::{are_plain, next_word, word_count};
+use crate::words::{are_plain, has_comment, next_word, word_count};
 use mst_ids::{push_bytes, push_decimal, push_end, push_word};
 use mst_lang::Version;
 use std::alloc::AllocError;
@@ -15,8 +17,6 @@ use std::alloc::AllocError;
 pub(crate) const LONGEST: usize = 4096;
 
 const TOO_LONG: &str = "a line has at most 4096 bytes";
-
-const BAD_BYTE: &str = "a line has tabs and bytes of 20 to 7E hexadecimal alone";
 
 /// Appends what would be right in a line that isn't read, as a line with the number of the line first, and says
 /// whether there is such a hint: there is exactly where the line isn't read in a script of this version. The line
@@ -39,7 +39,7 @@ pub fn push_hint(
             if plain {
                 Ok(false)
             } else {
-                push_bad_byte(number, out)
+                push_byte(number, line, out)
             }
         }
         Some(([b'#', ..], _)) => Ok(false),
@@ -47,10 +47,50 @@ pub fn push_hint(
             if plain {
                 push_command_hint(version, number, word, arguments, out)
             } else {
-                push_bad_byte(number, out)
+                push_byte(number, line, out)
             }
         }
     }
+}
+
+/// Appends the hint of a line that holds a byte which no line may hold.
+fn push_byte(number: u64, line: &[u8], out: &mut Vec<u8>) -> Result<bool, AllocError>
+    ensures hinted { IfOk result (λ there. there ≡ true) }
+    ensures text { OnOk result (out.new.items ≡ out.old.items ++ hint_line number (Some (byte_text line.now))) }
+{
+    push_text(number, byte_words(line), out)
+}
+
+/// What is told of such a line, by the bytes that it begins with.
+#[tactic(auto, unfolding(crate::specs::Hints::bad_byte, crate::specs::Hints::order_mark_text, crate::specs::Hints::utf16_text, crate::specs::Hints::pcap_text))]
+fn byte_words(line: &[u8]) -> &'static str
+    ensures { result.now ≡ byte_text line.now }
+{
+    if line.starts_with(&[0xEF, 0xBB, 0xBF]) {
+        "a byte order mark stands before the first word; a script has none"
+    } else if is_utf16(line) {
+        "this is UTF-16; a script is plain text of one byte a character"
+    } else if is_pcap(line) {
+        "this is a pcap file; examples/import/captures.py makes a script of it"
+    } else {
+        "a line has tabs and bytes of 20 to 7E hexadecimal alone"
+    }
+}
+
+fn is_utf16(line: &[u8]) -> bool
+    ensures { result ≡ utf16 line.now }
+{
+    line.starts_with(&[0xFF, 0xFE]) || line.starts_with(&[0xFE, 0xFF])
+}
+
+/// Whether it begins as a pcap file does, of microseconds or nanoseconds, in either order of bytes.
+fn is_pcap(line: &[u8]) -> bool
+    ensures { result ≡ pcap line.now }
+{
+    line.starts_with(&[0xD4, 0xC3, 0xB2, 0xA1])
+        || line.starts_with(&[0xA1, 0xB2, 0xC3, 0xD4])
+        || line.starts_with(&[0x4D, 0x3C, 0xB2, 0xA1])
+        || line.starts_with(&[0xA1, 0xB2, 0x3C, 0x4D])
 }
 
 /// Appends the hint of a line that is too long.
@@ -62,18 +102,8 @@ fn push_too_long(number: u64, out: &mut Vec<u8>) -> Result<bool, AllocError>
     push_text(number, "a line has at most 4096 bytes", out)
 }
 
-/// Appends the hint of a line that holds a byte which no line may hold.
-#[tactic(auto, unfolding(crate::specs::Hints::bad_byte))]
-fn push_bad_byte(number: u64, out: &mut Vec<u8>) -> Result<bool, AllocError>
-    ensures hinted { IfOk result (λ there. there ≡ true) }
-    ensures text { OnOk result (out.new.items ≡ out.old.items ++ hint_line number (Some bad_byte)) }
-{
-    let text = "a line has tabs and bytes of 20 to 7E hexadecimal alone";
-    push_text(number, text, out)
-}
-
 /// Appends a hint that is this text.
-fn push_text(number: u64, text: &str, out: &mut Vec<u8>) -> Result<bool, AllocError>
+pub(crate) fn push_text(number: u64, text: &str, out: &mut Vec<u8>) -> Result<bool, AllocError>
     ensures hinted { IfOk result (λ there. there ≡ true) }
     ensures text { OnOk result (out.new.items ≡ out.old.items ++ hint_line number (Some text.now)) }
 {
@@ -105,7 +135,7 @@ fn push_command_hint(
 {
     match form_of(word) {
         Some(form) => push_form_hint(version, number, word, form, arguments, out),
-        None => push_unknown_hint(number, word, out),
+        None => push_unknown_hint(number, word, arguments, out),
     }
 }
 
@@ -124,7 +154,7 @@ fn push_form_hint(
     let count = word_count(arguments);
     if count != form.len() {
         push_start(number, out)?;
-        push_number(word, form, count, out)?;
+        push_words(word, form, arguments, count, out)?;
         push_end(out)?;
         return Ok(true);
     }
@@ -140,23 +170,41 @@ fn push_form_hint(
 }
 
 /// Appends the hint of a line whose first word is no command.
-fn push_unknown_hint(number: u64, word: &[u8], out: &mut Vec<u8>) -> Result<bool, AllocError>
+fn push_unknown_hint(
+    number: u64,
+    word: &[u8],
+    arguments: &[u8],
+    out: &mut Vec<u8>,
+) -> Result<bool, AllocError>
     ensures hinted { IfOk result (λ there. there ≡ true) }
-    ensures text { OnOk result (out.new.items ≡ out.old.items ++ hint_line number (Some (unknown_of word.now))) }
+    ensures text { OnOk result (out.new.items ≡ out.old.items ++ hint_line number (Some (unknown_of word.now (words arguments.now)))) }
 {
     push_start(number, out)?;
-    push_unknown(word, out)?;
+    push_unknown(word, arguments, out)?;
     push_end(out)?;
     Ok(true)
 }
 
 /// Appends what is said of a word that is no command.
-fn push_unknown(word: &[u8], out: &mut Vec<u8>) -> Result<(), AllocError>
-    ensures { OnOk result (out.new.items ≡ out.old.items ++ unknown_of word.now) }
+fn push_unknown(word: &[u8], arguments: &[u8], out: &mut Vec<u8>) -> Result<(), AllocError>
+    ensures { OnOk result (out.new.items ≡ out.old.items ++ unknown_of word.now (words arguments.now)) }
 {
     push_bytes(b"no command ", out)?;
     push_bytes(word, out)?;
-    push_asked(nearest(word), out)
+    push_asked(meant(word, arguments), out)
+}
+
+/// The command that a line was to begin with, by its first word and those behind it.
+fn meant(word: &[u8], arguments: &[u8]) -> Option<&'static [u8]>
+    ensures { option_map (λ text. text.now) result ≡ meant_of word.now (words arguments.now) }
+{
+    match next_word(arguments) {
+        None => nearest(word),
+        Some((behind, _)) => match command_joined(word, behind) {
+            Some(command) => Some(command),
+            None => nearest(word),
+        },
+    }
 }
 
 /// Asks whether the command was meant, where there is one.
@@ -173,14 +221,43 @@ fn push_asked(command: Option<&[u8]>, out: &mut Vec<u8>) -> Result<(), AllocErro
     }
 }
 
-/// The command that is nearest to a word, where one is at most two changes from it.
+/// The command that is nearest to a word: it but for its case, or at most two changes from it.
 #[tactic(auto, unfolding(crate::specs::Hints::nearest))]
 pub(crate) fn nearest(word: &[u8]) -> Option<&'static [u8]>
     ensures { option_map (λ text. text.now) result ≡ nearest_of word.now }
 {
+    match command_in_case(word) {
+        Some(command) => Some(command),
+        None => by_changes(word),
+    }
+}
+
+/// The command that is at most two changes from the word.
+fn by_changes(word: &[u8]) -> Option<&'static [u8]>
+    ensures { option_map (λ text. text.now) result ≡ changed word.now }
+{
     match command_by_one(word) {
         Some(command) => Some(command),
         None => command_by_two(word),
+    }
+}
+
+/// Appends what is said of a command with another number of words, or with a comment behind them.
+#[tactic(auto, unfolding(crate::specs::Hints::comment_text))]
+fn push_words(
+    word: &[u8],
+    form: &[Argument],
+    arguments: &[u8],
+    count: usize,
+    out: &mut Vec<u8>,
+) -> Result<(), AllocError>
+    requires { count ≡ length (words arguments.now) }
+    ensures { OnOk result (out.new.items ≡ out.old.items ++ words_text word.now form.now (words arguments.now)) }
+{
+    if has_comment(arguments) {
+        push_bytes(b"a comment is a line of its own", out)
+    } else {
+        push_number(word, form, count, out)
     }
 }
 

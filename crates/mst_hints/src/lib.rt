@@ -14,6 +14,7 @@ mod near;
 mod record;
 mod right;
 mod script;
+mod standing;
 mod words;
 
 pub use hint::push_hint;

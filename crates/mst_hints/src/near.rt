@@ -1,6 +1,6 @@
 ghost use Rattle.std.specs.Prelude.{◌≡◌};
 ghost use Rattle.mst_lang.specs.Arguments.{is_text};
-ghost use Rattle.mst_hints.specs.Near.{one_change, is_within_one as within_one, is_within_two as within_two};
+ghost use Rattle.mst_hints.specs.Near.{one_change, is_in_case as in_case, is_joined as joined, is_within_one as within_one, is_within_two as within_two, lower_case};
 
 /// Whether one word becomes the other by at most one change: a letter put in, left out, or exchanged with its
 /// neighbour.
@@ -72,5 +72,41 @@ fn are_two_changes(one: &[u8], other: &[u8]) -> bool
     match (one, other) {
         ([a, b, one @ ..], [c, d, other @ ..]) => *a == *d && *b == *c && is_within_one(one, other),
         _ => false,
+    }
+}
+
+/// Whether the word is the command but for its case.
+pub(crate) fn is_in_case(command: &[u8], word: &[u8]) -> bool
+    ensures { result ≡ in_case command.now word.now }
+{
+    match command {
+        [] => word.is_empty(),
+        [a, command @ ..] => match word {
+            [] => false,
+            [b, word @ ..] => *a == lower(*b) && is_in_case(command, word),
+        },
+    }
+}
+
+fn lower(byte: u8) -> u8
+    ensures { result ≡ lower_case byte }
+{
+    if (b'A'..=b'Z').contains(&byte) {
+        byte + 32
+    } else {
+        byte
+    }
+}
+
+/// Whether the word and the one behind it are the command, written apart.
+pub(crate) fn is_joined(command: &[u8], word: &[u8], behind: &[u8]) -> bool
+    ensures { result ≡ joined command.now word.now behind.now }
+{
+    match word {
+        [] => command == behind,
+        [b, word @ ..] => match command {
+            [] => false,
+            [a, command @ ..] => *a == *b && is_joined(command, word, behind),
+        },
     }
 }

@@ -1,18 +1,19 @@
 ghost use Rattle.std.specs.Prelude.{◌≡◌};
 ghost use Rattle.std.specs.Option.{option_map};
-ghost use Rattle.mst_hints.specs.Records.{missing_for as missing_of_edit, missing_of as missing_of_line, bridge_for as bridge_of_edit, port_for as port_of_edit, lan_for as lan_of_edit, bridge_by_tree as bridge_of_change, port_by_tree as port_of_change, same_record};
+ghost use Rattle.mst_hints.specs.Records.{missing_for as missing_of_edit, missing_of as missing_of_line, bridge_for as bridge_of_edit, port_for as port_of_edit, lan_for as lan_of_edit, made_by as made_of_edit, bridge_by_tree as bridge_of_change, port_by_tree as port_of_change, same_record};
 ghost use Rattle.mst_hints.specs.declared.record.Record.{Record as Declared};
 
 use mst_ids::{Name, PortName};
 use mst_lang::{Edit, Line, Query, TreeChange};
 use mst_net::Refusal;
 
-/// A bridge, a port or a LAN, by its name.
+/// A bridge, a port or a LAN, by its name, or that a port is in a LAN.
 #[derive(Clone, Copy, PartialEq, Eq, Hash)]
 pub(crate) enum Record {
     Bridge(Name),
     Port(PortName),
     Lan(Name),
+    Plug(PortName),
 }
 
 /// Two records are equal where they are of one kind and have one name.
@@ -46,7 +47,7 @@ fn missing_for(edit: &Edit, refusal: Refusal) -> Option<Record>
 }
 
 /// The bridge that an edit asks for.
-fn bridge_for(edit: &Edit) -> Option<Name>
+pub(crate) fn bridge_for(edit: &Edit) -> Option<Name>
     ensures { result ≡ bridge_of_edit edit.now }
 {
     match *edit {
@@ -74,7 +75,7 @@ fn bridge_by_tree(change: &TreeChange) -> Name
 }
 
 /// The port that an edit asks for.
-fn port_for(edit: &Edit) -> Option<PortName>
+pub(crate) fn port_for(edit: &Edit) -> Option<PortName>
     ensures { result ≡ port_of_edit edit.now }
 {
     match *edit {
@@ -99,11 +100,24 @@ fn port_by_tree(change: &TreeChange) -> Option<PortName>
 }
 
 /// The LAN that an edit asks for.
-fn lan_for(edit: &Edit) -> Option<Name>
+pub(crate) fn lan_for(edit: &Edit) -> Option<Name>
     ensures { result ≡ lan_of_edit edit.now }
 {
     match *edit {
         Edit::DelLan { lan } | Edit::SetLan { lan, .. } | Edit::Plug { lan, .. } => Some(lan),
+        _ => None,
+    }
+}
+
+/// The record that an edit adds, or that it plugs a port.
+pub(crate) fn made_by(edit: &Edit) -> Option<Record>
+    ensures { result ≡ made_of_edit edit.now }
+{
+    match *edit {
+        Edit::AddBridge { bridge, .. } => Some(Record::Bridge(bridge)),
+        Edit::AddPort { port } => Some(Record::Port(port)),
+        Edit::AddLan { lan } => Some(Record::Lan(lan)),
+        Edit::Plug { port, .. } => Some(Record::Plug(port)),
         _ => None,
     }
 }

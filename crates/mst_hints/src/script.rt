@@ -1,13 +1,14 @@
 ghost use Rattle.std.specs.Prelude.{◌≡◌, ◌≢◌, ◌+◌, ◌++◌, ◌<◌, ◌^◌, List, [], Some, Ok, Err, is_ok, IfOk, OnOk, IfErr, OnErr};
 ghost use Rattle.std.specs.Option.{option_map_or};
-ghost use Rattle.mst_hints.specs.Kept.{AreKept, IsKept};
+ghost use Rattle.mst_hints.specs.Kept.{IsKept};
 ghost use Rattle.mst_hints.specs.Hints.{hint_line};
-ghost use Rattle.mst_hints.specs.Scripts.{Adding, Past, nothing, past_after, hint_after, version_with, reading_with, after_line, net_after, net_with, is_made, read_hint, refused_hint, missing_hint, absent_text, record_text, since_text};
+ghost use Rattle.mst_hints.specs.Scripts.{Past, nothing, past_after, hint_after, version_with, reading_with, after_line, net_after, net_with, is_made, is_mark as marks, making_of as making_of_line, read_hint, refused_hint, refused_text, absent_text, since_text};
 
 use crate::added::added_of;
 use crate::adds::Adds;
 use crate::hint::{push_hint, push_start};
-use crate::record::{Record, missing_of};
+use crate::record::{Record, made_by, missing_of};
+use crate::standing::push_record;
 use mst_ids::{push_bytes, push_decimal, push_end};
 use mst_lang::{Edit, Fault, Line, Query, Version, is_version_2, parse_line_as};
 use mst_net::{Contents, Network, Refusal};
@@ -16,12 +17,15 @@ use std::alloc::{AllocError, Global};
 /// Tells what would be right in the lines of a script, one after another.
 #[derive(Drop)]
 pub struct ScriptHints {
+    pub(crate) alloc: Global,
     /// The version of the script, once its first line has come.
     pub(crate) version: Option<Version>,
     /// The number of the next line, from 1.
     pub(crate) number: u64,
     /// The network that the edits made.
     pub(crate) network: Network,
+    /// Whether a line has marked it.
+    pub(crate) marked: bool,
     pub(crate) adds: Adds,
 }
 
@@ -31,18 +35,20 @@ impl ScriptHints {
         ensures { IsKept nothing result }
     {
         ScriptHints {
+            alloc,
             version: None,
             number: 1,
             network: Network::new(alloc),
+            marked: false,
             adds: Adds::new(alloc),
         }
     }
 
     /// Takes the next line of the script, without its end, and appends the hint of it, if it has one.
     ///
-    /// A line that isn't read has the hint that [`push_hint`] appends. One that is read and refused since a bridge, a port
-    /// or a LAN isn't there has the hint that it isn't, and which line was to add it: the last one before that was to, if
-    /// that was refused or not read. Others have none.
+    /// A line that isn't read has the hint that [`push_hint`] appends. One that is read and refused has a hint of what is in its
+    /// way: the bridge, the port or the LAN that isn't there, with the last line before that was to add it, if that was
+    /// refused or not read; or what is there, with the line that made it so; or the limit. A line that is made has none.
     ///
     /// `AllocError`: memory was wanted and refused, for the hint or for what is kept of the line. Part of the hint may have
     /// been appended, and what is appended of later lines is not told.
@@ -54,79 +60,74 @@ impl ScriptHints {
     {
         let version = version_at(self.version, line);
         let reading = read_line(self.version, line);
-        let made = push_read(
-            &mut self.network,
-            &self.adds,
-            version,
-            self.number,
-            line,
-            &reading,
-            out,
-        )?;
+        let made = self.push_read(version, line, &reading, out)?;
         self.adds.note(self.number, added_of(line), made)?;
+        self.adds.note_made(self.number, making_of(made, &reading))?;
+        self.marked = self.marked || is_mark(&reading);
         self.version = Some(version);
         self.number += 1;
         Ok(())
     }
-}
 
-/// Makes a line's edit, appends the hint of the line, if it has one, and says whether the line was made.
-fn push_read(
-    network: &mut Network,
-    adds: &Adds,
-    version: Version,
-    number: u64,
-    line: &[u8],
-    reading: &Result<Line, Fault>,
-    out: &mut Vec<u8>,
-) -> Result<bool, AllocError>
-    ensures made { IfOk result (λ made. made ≡ is_made network.old.net reading.now) }
-    ensures net { OnOk result (network.new.net ≡ net_with network.old.net reading.now) }
-    ensures text { OnOk result ((lines : List Adding) → AreKept lines adds.now → out.new.items ≡ out.old.items ++ hint_line number (read_hint version lines network.old.net line.now reading.now)) }
-{
-    match reading {
-        Err(_) => {
-            push_hint(version, number, line, out)?;
-            Ok(false)
-        }
-        Ok(read) => push_made(network, adds, number, read, out),
-    }
-}
-
-/// Makes the edit of a line that is read, appends the hint of the line, if it has one, and says whether the line was made.
-fn push_made(
-    network: &mut Network,
-    adds: &Adds,
-    number: u64,
-    line: &Line,
-    out: &mut Vec<u8>,
-) -> Result<bool, AllocError>
-    ensures made { IfOk result (λ made. made ≡ is_ok (after_line line.now network.old.net)) }
-    ensures net { OnOk result (network.new.net ≡ net_after line.now network.old.net) }
-    ensures text { OnOk result ((lines : List Adding) → AreKept lines adds.now → out.new.items ≡ out.old.items ++ hint_line number (refused_hint lines line.now (after_line line.now network.old.net))) }
-{
-    match serve(network, line) {
-        Ok(()) => Ok(true),
-        Err(Refusal::E99) => Err(AllocError),
-        Err(refusal) => {
-            push_missing(adds, number, missing_of(line, refusal), out)?;
-            Ok(false)
+    /// Makes a line's edit, appends the hint of the line, if it has one, and says whether the line was made.
+    fn push_read(
+        &mut self,
+        version: Version,
+        line: &[u8],
+        reading: &Result<Line, Fault>,
+        out: &mut Vec<u8>,
+    ) -> Result<bool, AllocError>
+        requires { version ≡ version_with self.old.version line.now }
+        ensures made { IfOk result (λ made. made ≡ is_made self.old.marked self.old.network.net reading.now) }
+        ensures net { OnOk result (self.new.network.net ≡ net_with self.old.network.net reading.now) }
+        ensures text { OnOk result ((past : Past) → IsKept past self.old → out.new.items ≡ out.old.items ++ hint_line past.number (read_hint past line.now reading.now)) }
+        ensures adds { self.new.adds ≡ self.old.adds }
+        ensures marked { self.new.marked ≡ self.old.marked }
+        ensures number { self.new.number ≡ self.old.number }
+        ensures version { self.new.version ≡ self.old.version }
+    {
+        match reading {
+            Err(_) => {
+                push_hint(version, self.number, line, out)?;
+                Ok(false)
+            }
+            Ok(read) => self.push_made(read, out),
         }
     }
-}
 
-/// Appends the line that tells that a record isn't there, if one isn't.
-fn push_missing(
-    adds: &Adds,
-    number: u64,
-    missing: Option<Record>,
-    out: &mut Vec<u8>,
-) -> Result<(), AllocError>
-    ensures { OnOk result ((lines : List Adding) → AreKept lines adds.now → out.new.items ≡ out.old.items ++ hint_line number (missing_hint lines missing)) }
-{
-    match missing {
-        None => Ok(()),
-        Some(wanted) => push_absent(number, &wanted, adds.last(&wanted), out),
+    /// Makes the edit of a line that is read, appends the hint of the line, if it has one, and says whether the line was made.
+    fn push_made(&mut self, line: &Line, out: &mut Vec<u8>) -> Result<bool, AllocError>
+        ensures made { IfOk result (λ made. made ≡ is_ok (after_line self.old.marked line.now self.old.network.net)) }
+        ensures net { OnOk result (self.new.network.net ≡ net_after line.now self.old.network.net) }
+        ensures text { OnOk result ((past : Past) → IsKept past self.old → out.new.items ≡ out.old.items ++ hint_line past.number (refused_hint past.adds past.makings past.net line.now (after_line past.marked line.now past.net))) }
+        ensures adds { self.new.adds ≡ self.old.adds }
+        ensures marked { self.new.marked ≡ self.old.marked }
+        ensures number { self.new.number ≡ self.old.number }
+        ensures version { self.new.version ≡ self.old.version }
+    {
+        match serve(&mut self.network, self.marked, line) {
+            Ok(()) => Ok(true),
+            Err(Refusal::E99) => Err(AllocError),
+            Err(refusal) => {
+                self.push_refused(line, refusal, out)?;
+                Ok(false)
+            }
+        }
+    }
+
+    /// Appends the hint of a line that is refused, if it has one.
+    fn push_refused(
+        &self,
+        line: &Line,
+        refusal: Refusal,
+        out: &mut Vec<u8>,
+    ) -> Result<(), AllocError>
+        ensures { OnOk result ((past : Past) → IsKept past self.now → out.new.items ≡ out.old.items ++ hint_line past.number (refused_text past.adds past.makings past.net line.now refusal)) }
+    {
+        match missing_of(line, refusal) {
+            Some(wanted) => push_absent(self.number, &wanted, self.adds.last_refused(&wanted), out),
+            None => self.push_standing(line, refusal, out),
+        }
     }
 }
 
@@ -162,12 +163,29 @@ fn read_line(known: Option<Version>, line: &[u8]) -> Result<Line, Fault>
     }
 }
 
+/// The record that a line made, if it was made and did.
+fn making_of(made: bool, reading: &Result<Line, Fault>) -> Option<Record>
+    ensures { result ≡ making_of_line made reading.now }
+{
+    match reading {
+        Ok(Line::Edit(edit)) if made => made_by(edit),
+        _ => None,
+    }
+}
+
+/// Whether a line marks.
+fn is_mark(reading: &Result<Line, Fault>) -> bool
+    ensures { result ≡ marks reading.now }
+{
+    matches!(reading, Ok(Line::Mark))
+}
+
 /// Makes the edit of a line, or tells why it, or a query, is refused: by E99 where memory was wanted for the edit and
 /// refused. The network is as it was after a refusal.
-fn serve(network: &mut Network, line: &Line) -> Result<(), Refusal>
-    ensures ok { OnOk result (after_line line.now network.old.net ≡ Ok network.new.net) }
+fn serve(network: &mut Network, marked: bool, line: &Line) -> Result<(), Refusal>
+    ensures ok { OnOk result (after_line marked line.now network.old.net ≡ Ok network.new.net) }
     ensures same { OnErr result (network.new.net ≡ network.old.net) }
-    ensures refused { IfErr result (λ refusal. refusal ≢ Refusal.E99 → after_line line.now network.old.net ≡ Err refusal) }
+    ensures refused { IfErr result (λ refusal. refusal ≢ Refusal.E99 → after_line marked line.now network.old.net ≡ Err refusal) }
 {
     match line {
         Line::Edit(edit) => {
@@ -179,6 +197,7 @@ fn serve(network: &mut Network, line: &Line) -> Result<(), Refusal>
             Some(_) => Ok(()),
             None => Err(Refusal::E04),
         },
+        Line::Query(Query::Changes) => { if marked { Ok(()) } else { Err(Refusal::E16) } }
         _ => Ok(()),
     }
 }
@@ -197,25 +216,6 @@ fn push_absent(
     push_record(wanted, out)?;
     push_since(since, out)?;
     push_end(out)
-}
-
-fn push_record(wanted: &Record, out: &mut Vec<u8>) -> Result<(), AllocError>
-    ensures { OnOk result (out.new.items ≡ out.old.items ++ record_text wanted.now) }
-{
-    match wanted {
-        Record::Bridge(bridge) => {
-            push_bytes(b"bridge ", out)?;
-            bridge.push_text(out)
-        }
-        Record::Port(port) => {
-            push_bytes(b"port ", out)?;
-            port.push_text(out)
-        }
-        Record::Lan(lan) => {
-            push_bytes(b"LAN ", out)?;
-            lan.push_text(out)
-        }
-    }
 }
 
 fn push_since(since: Option<u64>, out: &mut Vec<u8>) -> Result<(), AllocError>

@@ -1,5 +1,6 @@
 ghost use Rattle.std.specs.Prelude.{◌≡◌, ℕ, ◌∷◌, [], ◌<◌, ◌≤◌, length, MatchOption, slice_index, false};
-ghost use Rattle.std.specs.List.{list_all};
+ghost use Rattle.std.specs.List.{list_all, list_any};
+ghost use Rattle.mst_lang.specs.Reading.{is_comment};
 ghost use Rattle.mst_lang.specs.Words.{is_blank as blank_byte, is_plain as plain_byte, words};
 
 fn is_blank(byte: u8) -> bool
@@ -32,6 +33,17 @@ pub(crate) fn word_count(text: &[u8]) -> usize
         rest = others;
     }
     count
+}
+
+/// Whether some word begins a comment.
+pub(crate) fn has_comment(text: &[u8]) -> bool
+    ensures { result ≡ list_any is_comment (words text.now) }
+{
+    match next_word(text) {
+        None => false,
+        Some(([b'#', ..], _)) => true,
+        Some((_, others)) => has_comment(others),
+    }
 }
 
 /// The first word and what follows it.

@@ -1,9 +1,10 @@
--- Texts of places and of things.
-use Rattle.std.proofs.Common.{◌≡◌, ℕ, zero, suc, ◌+◌, List, [], ◌∷◌, ◌++◌, map, length, Option, Some, None, refl, sym, ap, ◌∙◌, arith, append_assoc, add-zero, append-nil}
+-- Rows of places and of things.
+use Rattle.std.proofs.Common.{◌≡◌, ℕ, zero, suc, ◌+◌, List, [], ◌∷◌, ◌++◌, map, length, Option, Some, None, refl, sym, ap, subst, ◌∙◌, arith, append_assoc, add-zero, append-nil}
 use Rattle.std.specs.Prelude.{slice_get}
 use Rattle.std.specs.List.{flat_map, filter_map, cons_option, range_with_len, AllByRecursion}
 use Rattle.std.specs.Option.{option_map_or}
 use Rattle.std.proofs.lemmas.Grind.{flat_map-append}
+use Rattle.mst_rows.specs.Rows.{Row}
 
 plus_suc : (a n : ℕ) → a + 1 + n ≡ a + suc n
 plus_suc a n = omega arith
@@ -18,12 +19,14 @@ plus_one n = omega arith
 zero_plus : (n : ℕ) → 0 + n ≡ n
 zero_plus n = omega arith
 
--- the texts of the numbers below one, and its own
-pub number_more : {A : Type 0} (f : ℕ → List A) (n : ℕ) (first now next : List A) → now ≡ first ++ flat_map f (range_with_len 0 n) → next ≡ now ++ f n → next ≡ first ++ flat_map f (range_with_len 0 (n + 1))
-number_more f n first now next so_far more =
-    more ∙ ap (λ t. t ++ f n) so_far ∙ append_assoc first (flat_map f (range_with_len 0 n)) (f n)
-    ∙ ap (λ t. first ++ (flat_map f (range_with_len 0 n) ++ t)) (sym (append-nil (f n)) ∙ ap (λ k. flat_map f (k ∷ [])) (sym (zero_plus n)))
-    ∙ ap (λ t. first ++ t) (sym (flat_map-append f (range_with_len 0 n) ((0 + n) ∷ [])) ∙ ap (flat_map f) (sym (range_more 0 n) ∙ ap (range_with_len 0) (sym (plus_one n))))
+-- the rows of the numbers below one, and its own
+pub numbers_more : (grown : List Row → Type 0) (f : ℕ → List Row) (n : ℕ) (rows : List Row) → grown ((rows ++ flat_map f (range_with_len 0 n)) ++ f n) → grown (rows ++ flat_map f (range_with_len 0 (n + 1)))
+numbers_more grown f n rows =
+    subst grown (
+    append_assoc rows (flat_map f (range_with_len 0 n)) (f n)
+    ∙ ap (λ (t : List Row). rows ++ (flat_map f (range_with_len 0 n) ++ t)) (sym (append-nil (f n)) ∙ ap (λ k. flat_map f (k ∷ [])) (sym (zero_plus n)))
+    ∙ ap (λ (t : List Row). rows ++ t) (sym (flat_map-append f (range_with_len 0 n) ((0 + n) ∷ [])) ∙ ap (flat_map f) (sym (range_more 0 n) ∙ ap (range_with_len 0) (sym (plus_one n))))
+    )
 
 -- texts by places are texts of the things there
 at_places : {A B : Type 0} (f : ℕ → List B) (g : A → List B) (xs : List A) (a : ℕ) → ((n : ℕ) (x : A) → slice_get xs n ≡ Some x → f (a + n) ≡ g x) → flat_map f (range_with_len a (length xs)) ≡ flat_map g xs

@@ -1,4 +1,4 @@
--- The notes that are seen of a tree are those of its text.
+-- The notes that are seen of a tree are its notes by names.
 use Rattle.std.proofs.Common.{◌≡◌, ℕ, zero, suc, ◌+◌, ◌*◌, ◌%◌, ◌^◌, ◌<◌, ◌&&◌, Bool, true, nat_eq, List, [], ◌∷◌, ◌++◌, map, length, Option, Some, None, is_some, refl, sym, ap, subst, ◌∙◌, arith, append_assoc}
 use Rattle.std.specs.Prelude.{if◌then◌else◌, slice_get}
 use Rattle.std.specs.List.{Contains, flat_map}
@@ -36,6 +36,7 @@ use Rattle.mst_roles.proofs.trees_lemmas.Sights.{bridge_from}
 use Rattle.mst_roles.proofs.trees_lemmas.CistTopology.{given, cist_is_sight}
 use Rattle.mst_roles.proofs.trees_lemmas.MstiTopology.{msti_is_sight}
 use Rattle.mst_roles.specs.nested.Trees.{Trees, IsSettled, HasTree}
+use Rattle.mst_rows.specs.Rows.{Row}
 use Rattle.mst_note_text.specs.Depths.{InternalDepth, ExternalDepth}
 use Rattle.mst_note_text.specs.Places.{depths_at}
 use Rattle.mst_note_text.specs.declared.parent.Depths.{Depths}
@@ -139,7 +140,7 @@ module _ (net : Net) (numbers : Numbers) (v : Viewed) (f : Forest) (of : AreOf n
       }
 
   -- ---- a bridge of the CIST
-  by_depths : ℕ → Member → List ℕ
+  by_depths : ℕ → Member → List Row
   by_depths tree m = seen_notes v.bridges macs tree m (record { internal = d.internal tree m.name; external = d.external m.name })
 
   cist_hops : (name : List ℕ) (x : CistVector) → o.cist.vector name ≡ Some x
@@ -176,7 +177,7 @@ module _ (net : Net) (numbers : Numbers) (v : Viewed) (f : Forest) (of : AreOf n
   unfolding by_depths
   msti_same i b x e = (λ j. msti_hops i b.name x e j ++ [] ++ internal_note (suc i) b.name x.internal) ∙ ap (λ t. t ++ internal_note (suc i) b.name x.internal) (nothing (hops_notes net d (suc i) b.name))
     where
-      nothing : (xs : List ℕ) → xs ++ [] ≡ xs
+      nothing : (xs : List Row) → xs ++ [] ≡ xs
       nothing [] = refl
       nothing (y ∷ xs) = ap (λ l. y ∷ l) (nothing xs)
 

@@ -1,4 +1,4 @@
--- There is one text of the notes.
+-- There is one list of the notes.
 use Rattle.std.proofs.Common.{◌≡◌, ℕ, zero, suc, ◌==◌, List, [], ◌∷◌, ◌++◌, Option, Some, None, refl, sym, ap, ◌∙◌, ◌⊎◌, inl, inr}
 use Rattle.std.specs.Prelude.{if◌then◌else◌}
 use Rattle.std.specs.List.{flat_map, range_with_len}
@@ -10,6 +10,7 @@ use Rattle.mst_vector.specs.declared.msti.MstiVector.{MstiVector}
 use Rattle.mst_roles.specs.net.Tables.{Net, BridgeRow}
 use Rattle.mst_roles.specs.trees.Outcome.{Outcome, trees_of}
 use Rattle.mst_roles.specs.nested.Trees.{Trees, IsSettled, HasTree}
+use Rattle.mst_rows.specs.Rows.{Row}
 use Rattle.mst_note_text.specs.Chains.{InternalChain, ExternalChain}
 use Rattle.mst_note_text.specs.Depths.{ParentWithin, ParentBetween}
 use Rattle.mst_note_text.proofs.Chains.{one_internal, one_external}
@@ -17,12 +18,12 @@ use Rattle.mst_note_text.proofs.Regions.{one_within, cist_sides}
 use Rattle.mst_note_text.proofs.Tops.{internal_depth, external_depth}
 use Rattle.mst_roles.proofs.trees_lemmas.Lists.{no_some}
 use Rattle.mst_note_text.specs.AreDepths.{TreeDepths, AreDepths}
-use Rattle.mst_note_text.specs.NotesText.{hops_note, age_note, external_note, internal_note, hops_notes, age_notes, cist_notes, msti_notes, bridge_notes, tree_notes, trees_notes, restricted_notes, notes_text, AreNotes}
+use Rattle.mst_note_text.specs.NotesText.{hops_note, age_note, external_note, internal_note, hops_notes, age_notes, cist_notes, msti_notes, bridge_notes, tree_notes, trees_notes, restricted_notes, notes_rows, AreNoteRows}
 use Rattle.mst_note_text.proofs.Names.{name_tests}
 
-same_texts : {A B : Type 0} (f g : A → List B) (xs : List A) → ((x : A) → f x ≡ g x) → flat_map f xs ≡ flat_map g xs
-same_texts f g [] h = refl
-same_texts f g (x ∷ xs) h = λ i. h x i ++ same_texts f g xs h i
+all_alike : {A B : Type 0} (f g : A → List B) (xs : List A) → ((x : A) → f x ≡ g x) → flat_map f xs ≡ flat_map g xs
+all_alike f g [] h = refl
+all_alike f g (x ∷ xs) h = λ i. h x i ++ all_alike f g xs h i
 
 module _ (net : Net) (o : Outcome) (settled : IsSettled (trees_of net o)) where
   abbrev trees : Trees (List ℕ) (List ℕ) PortName
@@ -74,8 +75,8 @@ module _ (net : Net) (o : Outcome) (settled : IsSettled (trees_of net o)) where
     record { internal = λ tree name h. (internal_of tree name).chain h; external = λ name h. (external_of name).chain h },
   )
 
-  pub some_notes : (text : List ℕ) × AreNotes net o text
-  some_notes = (notes_text net o some_depths.0, record { depths = some_depths.0; are_depths = some_depths.1; is_text = refl })
+  pub some_rows : (notes : List Row) × AreNoteRows net o notes
+  some_rows = (notes_rows net o some_depths.0, record { depths = some_depths.0; are_depths = some_depths.1; is_rows = refl })
 
   -- ---- no others
   module _ (d e : TreeDepths) (are : AreDepths trees d) (too : AreDepths trees e) where
@@ -113,17 +114,17 @@ module _ (net : Net) (o : Outcome) (settled : IsSettled (trees_of net o)) where
         cist_both = cist_same name
 
     tree_same : (tree : ℕ) → tree_notes net o d tree ≡ tree_notes net o e tree
-    tree_same tree = same_texts (bridge_notes net o d tree) (bridge_notes net o e tree) (fin.keys net.bridges) (bridge_same tree)
+    tree_same tree = all_alike (bridge_notes net o d tree) (bridge_notes net o e tree) (fin.keys net.bridges) (bridge_same tree)
 
-    texts_same : (count : ℕ) → flat_map (tree_notes net o d) (range_with_len 0 count) ≡ flat_map (tree_notes net o e) (range_with_len 0 count)
-    texts_same count = same_texts (tree_notes net o d) (tree_notes net o e) (range_with_len 0 count) tree_same
+    trees_same : (count : ℕ) → flat_map (tree_notes net o d) (range_with_len 0 count) ≡ flat_map (tree_notes net o e) (range_with_len 0 count)
+    trees_same count = all_alike (tree_notes net o d) (tree_notes net o e) (range_with_len 0 count) tree_same
 
     all_same : trees_notes net o d ≡ trees_notes net o e
     unfolding trees_notes
-    all_same = texts_same 4095
+    all_same = trees_same 4095
 
-    text_same : notes_text net o d ≡ notes_text net o e
-    text_same = ap (λ t. t ++ restricted_notes net) all_same
+    rows_same : notes_rows net o d ≡ notes_rows net o e
+    rows_same = ap (λ t. t ++ restricted_notes net) all_same
 
-  pub one_notes : (text other : List ℕ) → AreNotes net o text → AreNotes net o other → text ≡ other
-  one_notes text other a b = a.is_text ∙ text_same a.depths b.depths a.are_depths b.are_depths ∙ sym b.is_text
+  pub one_list : (notes other : List Row) → AreNoteRows net o notes → AreNoteRows net o other → notes ≡ other
+  one_list notes other a b = a.is_rows ∙ rows_same a.depths b.depths a.are_depths b.are_depths ∙ sym b.is_rows

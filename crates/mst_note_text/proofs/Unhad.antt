@@ -1,5 +1,5 @@
--- A tree that no bridge has gives no notes, and all trees together give the text.
-use Rattle.std.proofs.Common.{◌≡◌, ℕ, zero, suc, ◌<◌, ◌==◌, ◌||◌, Bool, true, false, true≢false, List, [], ◌∷◌, ◌++◌, length, get_or, Option, Some, None, refl, sym, ap, ◌∙◌, arith}
+-- A tree that no bridge has gives no notes, and all trees together give them.
+use Rattle.std.proofs.Common.{◌≡◌, ℕ, zero, suc, ◌<◌, ◌==◌, ◌||◌, Bool, true, false, true≢false, List, [], ◌∷◌, ◌++◌, length, get_or, Option, Some, None, refl, sym, ap, subst, ◌∙◌, arith}
 use Rattle.std.specs.Prelude.{if◌then◌else◌}
 use Rattle.std.specs.List.{Contains, list_any, flat_map, range_with_len}
 use Rattle.std.specs.Option.{option_map_or}
@@ -18,6 +18,7 @@ use Rattle.mst_roles.specs.trees.Outcome.{Outcome, trees_of}
 use Rattle.mst_roles.proofs.trees_lemmas.Seen.{bridge_seen}
 use Rattle.mst_roles.proofs.trees_lemmas.Looking.{has_tree_at}
 use Rattle.mst_roles.specs.nested.Trees.{IsSettled}
+use Rattle.mst_rows.specs.Rows.{Row}
 use Rattle.mst_note_text.specs.AreDepths.{TreeDepths}
 use Rattle.mst_note_text.specs.NotesText.{cist_notes, msti_notes, bridge_notes, tree_notes, trees_notes}
 use Rattle.mst_note_text.specs.SeenNotes.{is_had}
@@ -65,6 +66,6 @@ module _ (net : Net) (numbers : Numbers) (v : Viewed) (f : Forest) (of : AreOf n
   no_notes zero none = absurd (true≢false none)
   no_notes (suc i) none = unhad i (neither (suc i == 0) (is_in_use v (suc i)) none)
 
-pub all_trees : (net : Net) (o : Outcome) (d : TreeDepths) (number : ℕ) (first now : List ℕ) → number ≡ 4095 → now ≡ first ++ flat_map (tree_notes net o d) (range_with_len 0 number) → now ≡ first ++ trees_notes net o d
+pub all_trees : (grown : List Row → Type 0) (net : Net) (o : Outcome) (d : TreeDepths) (number : ℕ) (rows : List Row) → number ≡ 4095 → grown (rows ++ flat_map (tree_notes net o d) (range_with_len 0 number)) → grown (rows ++ trees_notes net o d)
 unfolding trees_notes
-all_trees net o d number first now is e = e ∙ ap (λ n. first ++ flat_map (tree_notes net o d) (range_with_len 0 n)) is
+all_trees grown net o d number rows is = subst (λ n. grown (rows ++ flat_map (tree_notes net o d) (range_with_len 0 n))) is

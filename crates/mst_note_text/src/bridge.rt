@@ -1,13 +1,15 @@
-ghost use Rattle.std.specs.Prelude.{◌≡◌, ◌++◌, length, OnOk};
+ghost use Rattle.std.specs.Prelude.{◌≡◌, ◌++◌, List, length, OnOk};
 ghost use Rattle.std.specs.Option.{option_copied};
+ghost use Rattle.mst_rows.specs.Rows.{Row};
 ghost use Rattle.mst_note_text.specs.SeenNotes.{bridge_of as bridge_at, seen_hops, seen_age, seen_path, seen_notes, members_notes};
 
-use crate::lines::{push_age, push_external, push_hops, push_internal};
+use crate::lines::{put_age, put_external, put_hops, put_internal};
 use crate::member::{Member, RootPath};
 use crate::parent::Depths;
 use crate::places::Macs;
 use mst_ids::{BridgeId, Tree};
 use mst_lag::BridgeInView;
+use mst_rows::Rows;
 use std::alloc::AllocError;
 
 /// The bridge that an identifier names.
@@ -18,88 +20,88 @@ fn bridge_of<'a>(bridges: &'a [BridgeInView], macs: &Macs, id: BridgeId) -> Opti
     bridges.get(place)
 }
 
-/// Appends the notes on the bridges of a tree, by their depths.
-pub(crate) fn push_members(
+/// Puts the notes on the bridges of a tree, by their depths.
+pub(crate) fn put_members<R: Rows>(
     bridges: &[BridgeInView],
     macs: &Macs,
     tree: Tree,
     members: &[Member],
     depths: &[Depths],
-    out: &mut Vec<u8>,
+    out: &mut R,
 ) -> Result<(), AllocError>
     requires { length depths.now ≡ length members.now }
-    ensures { OnOk result (out.new.items ≡ out.old.items ++ members_notes bridges.now macs.now.entries tree members.now depths.now) }
+    ensures { (first : R) (rows : List Row) → R.grew first out.old rows → OnOk result (R.grew first out.new (rows ++ members_notes bridges.now macs.now.entries tree members.now depths.now)) }
 {
     for (place, member) in members.iter().enumerate() {
-        push_member(bridges, macs, tree, member, &depths[place], out)?;
+        put_member(bridges, macs, tree, member, &depths[place], out)?;
     }
     Ok(())
 }
 
-/// Appends the notes on a bridge of a tree, by its depths.
-fn push_member(
+/// Puts the notes on a bridge of a tree, by its depths.
+fn put_member<R: Rows>(
     bridges: &[BridgeInView],
     macs: &Macs,
     tree: Tree,
     member: &Member,
     depths: &Depths,
-    out: &mut Vec<u8>,
+    out: &mut R,
 ) -> Result<(), AllocError>
-    ensures { OnOk result (out.new.items ≡ out.old.items ++ seen_notes bridges.now macs.now.entries tree member.now depths.now) }
+    ensures { (first : R) (rows : List Row) → R.grew first out.old rows → OnOk result (R.grew first out.new (rows ++ seen_notes bridges.now macs.now.entries tree member.now depths.now)) }
 {
-    push_member_hops(bridges, macs, tree, member, depths.internal, out)?;
+    put_member_hops(bridges, macs, tree, member, depths.internal, out)?;
     if let Some(path) = &member.root_path {
-        push_root_path(bridges, macs, tree, member, depths.external, path, out)?;
+        put_root_path(bridges, macs, tree, member, depths.external, path, out)?;
     }
-    push_internal(tree, &member.name, member.internal, out)
+    put_internal(tree, &member.name, member.internal, out)
 }
 
-/// Appends a note where hops bind.
-fn push_member_hops(
+/// Puts a note where hops bind.
+fn put_member_hops<R: Rows>(
     bridges: &[BridgeInView],
     macs: &Macs,
     tree: Tree,
     member: &Member,
     depth: usize,
-    out: &mut Vec<u8>,
+    out: &mut R,
 ) -> Result<(), AllocError>
-    ensures { OnOk result (out.new.items ≡ out.old.items ++ seen_hops bridges.now macs.now.entries tree member.now depth) }
+    ensures { (first : R) (rows : List Row) → R.grew first out.old rows → OnOk result (R.grew first out.new (rows ++ seen_hops bridges.now macs.now.entries tree member.now depth)) }
 {
     match bridge_of(bridges, macs, member.regional) {
         None => Ok(()),
-        Some(root) => push_hops(tree, &member.name, depth, root.bridge.max_hops, out),
+        Some(root) => put_hops(tree, &member.name, depth, root.bridge.max_hops, out),
     }
 }
 
-/// Appends the notes on the path to the root: where age binds, and the external path cost.
-fn push_root_path(
+/// Puts the notes on the path to the root: where age binds, and the external path cost.
+fn put_root_path<R: Rows>(
     bridges: &[BridgeInView],
     macs: &Macs,
     tree: Tree,
     member: &Member,
     depth: usize,
     path: &RootPath,
-    out: &mut Vec<u8>,
+    out: &mut R,
 ) -> Result<(), AllocError>
-    ensures { OnOk result (out.new.items ≡ out.old.items ++ seen_path bridges.now macs.now.entries tree member.now depth path.now) }
+    ensures { (first : R) (rows : List Row) → R.grew first out.old rows → OnOk result (R.grew first out.new (rows ++ seen_path bridges.now macs.now.entries tree member.now depth path.now)) }
 {
-    push_member_age(bridges, macs, member, path, depth, out)?;
-    push_external(tree, &member.name, path.external, out)
+    put_member_age(bridges, macs, member, path, depth, out)?;
+    put_external(tree, &member.name, path.external, out)
 }
 
-/// Appends a note where age binds.
-fn push_member_age(
+/// Puts a note where age binds.
+fn put_member_age<R: Rows>(
     bridges: &[BridgeInView],
     macs: &Macs,
     member: &Member,
     path: &RootPath,
     depth: usize,
-    out: &mut Vec<u8>,
+    out: &mut R,
 ) -> Result<(), AllocError>
-    ensures { OnOk result (out.new.items ≡ out.old.items ++ seen_age bridges.now macs.now.entries member.now path.now depth) }
+    ensures { (first : R) (rows : List Row) → R.grew first out.old rows → OnOk result (R.grew first out.new (rows ++ seen_age bridges.now macs.now.entries member.now path.now depth)) }
 {
     match bridge_of(bridges, macs, path.root) {
         None => Ok(()),
-        Some(root) => push_age(&member.name, depth, root.bridge.max_age, out),
+        Some(root) => put_age(&member.name, depth, root.bridge.max_age, out),
     }
 }

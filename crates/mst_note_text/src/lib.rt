@@ -16,4 +16,4 @@ mod parents;
 mod places;
 mod tree;
 
-pub use notes::push_notes;
+pub use notes::put_notes;

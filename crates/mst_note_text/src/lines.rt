@@ -1,141 +1,118 @@
-ghost use Rattle.std.specs.Prelude.{◌≡◌, ◌++◌, OnOk};
+ghost use Rattle.std.specs.Prelude.{◌++◌, ◌∷◌, [], List, OnOk};
 ghost use Rattle.mst_lag.specs.Viewed.{named_port};
-ghost use Rattle.mst_note_text.specs.NotesText.{hops_note, age_note, external_note, internal_note, restricted_line, restricted_note};
+ghost use Rattle.mst_rows.specs.Rows.{Row};
+ghost use Rattle.mst_note_text.specs.NotesText.{hops_note, age_note, external_note, internal_note, restricted_row, restricted_note};
 
-use itoa::Buffer;
-use mst_ids::{MaxAge, MaxHops, Name, PortName, Tree, push_line};
+use mst_ids::{MaxAge, MaxHops, Name, PortName, Tree};
+use mst_kinds::{Kind, NoteLine};
 use mst_lag::PortInView;
+use mst_rows::{Rows, Value, put};
 use std::alloc::AllocError;
 
 /// The greatest path cost that 32 bits hold, as in a BPDU.
 const GREATEST_COST: u64 = 4_294_967_295;
 
-/// Appends a note where a bridge of this depth is at least as deep as the limit of hops.
-pub(crate) fn push_hops(
+/// Puts a note where a bridge of this depth is at least as deep as the limit of hops.
+pub(crate) fn put_hops<R: Rows>(
     tree: Tree,
     name: &Name,
     depth: usize,
     limit: MaxHops,
-    out: &mut Vec<u8>,
+    out: &mut R,
 ) -> Result<(), AllocError>
-    ensures { OnOk result (out.new.items ≡ out.old.items ++ hops_note tree name.now depth limit) }
+    ensures { (first : R) (rows : List Row) → R.grew first out.old rows → OnOk result (R.grew first out.new (rows ++ hops_note tree name.now depth limit)) }
 {
     if (depth as u64) < limit.value() {
         return Ok(());
     }
-    let mut number = Buffer::new();
-    let mut deep = Buffer::new();
-    let mut most = Buffer::new();
-    let words: [&[u8]; 8] = [
-        b"note",
-        b"hops",
-        number.format(tree.value()).as_bytes(),
-        name.as_bytes(),
-        b"depth",
-        deep.format(depth).as_bytes(),
-        b"limit",
-        most.format(limit.value()).as_bytes(),
+    let values = [
+        Value::Number(u64::from(tree.value())),
+        Value::Name(name),
+        Value::Number(depth as u64),
+        Value::Number(limit.value()),
     ];
-    push_line(&words, out)
+    put::<R>(Kind::Note(NoteLine::Hops), &values, out)
 }
 
-/// Appends a note where a bridge of this depth is deeper than the limit of age.
-pub(crate) fn push_age(
+/// Puts a note where a bridge of this depth is deeper than the limit of age.
+pub(crate) fn put_age<R: Rows>(
     name: &Name,
     depth: usize,
     limit: MaxAge,
-    out: &mut Vec<u8>,
+    out: &mut R,
 ) -> Result<(), AllocError>
-    ensures { OnOk result (out.new.items ≡ out.old.items ++ age_note name.now depth limit) }
+    ensures { (first : R) (rows : List Row) → R.grew first out.old rows → OnOk result (R.grew first out.new (rows ++ age_note name.now depth limit)) }
 {
     if depth as u64 <= limit.value() {
         return Ok(());
     }
-    let mut deep = Buffer::new();
-    let mut most = Buffer::new();
-    let words: [&[u8]; 7] = [
-        b"note",
-        b"age",
-        name.as_bytes(),
-        b"depth",
-        deep.format(depth).as_bytes(),
-        b"limit",
-        most.format(limit.value()).as_bytes(),
+    let values = [
+        Value::Number(0),
+        Value::Name(name),
+        Value::Number(depth as u64),
+        Value::Number(limit.value()),
     ];
-    push_line(&words, out)
+    put::<R>(Kind::Note(NoteLine::Age), &values, out)
 }
 
-/// Appends a note of an external root path cost that 32 bits don't hold.
-pub(crate) fn push_external(
+/// Puts a note of an external root path cost that 32 bits don't hold.
+pub(crate) fn put_external<R: Rows>(
     tree: Tree,
     name: &Name,
     cost: u64,
-    out: &mut Vec<u8>,
+    out: &mut R,
 ) -> Result<(), AllocError>
-    ensures { OnOk result (out.new.items ≡ out.old.items ++ external_note tree name.now cost) }
+    ensures { (first : R) (rows : List Row) → R.grew first out.old rows → OnOk result (R.grew first out.new (rows ++ external_note tree name.now cost)) }
 {
     if cost <= GREATEST_COST {
         return Ok(());
     }
-    let mut number = Buffer::new();
-    let mut digits = Buffer::new();
-    let words: [&[u8]; 6] = [
-        b"note",
-        b"cost",
-        number.format(tree.value()).as_bytes(),
-        name.as_bytes(),
-        b"ext",
-        digits.format(cost).as_bytes(),
+    let values = [
+        Value::Number(u64::from(tree.value())),
+        Value::Name(name),
+        Value::Number(cost),
     ];
-    push_line(&words, out)
+    put::<R>(Kind::Note(NoteLine::ExternalCost), &values, out)
 }
 
-/// Appends a note of an internal root path cost that 32 bits don't hold.
-pub(crate) fn push_internal(
+/// Puts a note of an internal root path cost that 32 bits don't hold.
+pub(crate) fn put_internal<R: Rows>(
     tree: Tree,
     name: &Name,
     cost: u64,
-    out: &mut Vec<u8>,
+    out: &mut R,
 ) -> Result<(), AllocError>
-    ensures { OnOk result (out.new.items ≡ out.old.items ++ internal_note tree name.now cost) }
+    ensures { (first : R) (rows : List Row) → R.grew first out.old rows → OnOk result (R.grew first out.new (rows ++ internal_note tree name.now cost)) }
 {
     if cost <= GREATEST_COST {
         return Ok(());
     }
-    let mut number = Buffer::new();
-    let mut digits = Buffer::new();
-    let words: [&[u8]; 6] = [
-        b"note",
-        b"cost",
-        number.format(tree.value()).as_bytes(),
-        name.as_bytes(),
-        b"int",
-        digits.format(cost).as_bytes(),
+    let values = [
+        Value::Number(u64::from(tree.value())),
+        Value::Name(name),
+        Value::Number(cost),
     ];
-    push_line(&words, out)
+    put::<R>(Kind::Note(NoteLine::InternalCost), &values, out)
 }
 
-/// Appends a note of a logical port, where its role is restricted.
-pub(crate) fn push_restricted(port: &PortInView, out: &mut Vec<u8>) -> Result<(), AllocError>
-    ensures { OnOk result (out.new.items ≡ out.old.items ++ restricted_note (named_port port.now)) }
+/// Puts a note of a logical port, where its role is restricted.
+pub(crate) fn put_restricted<R: Rows>(port: &PortInView, out: &mut R) -> Result<(), AllocError>
+    ensures { (first : R) (rows : List Row) → R.grew first out.old rows → OnOk result (R.grew first out.new (rows ++ restricted_note (named_port port.now))) }
 {
     if port.settings.is_restricted {
-        push_restricted_name(&port.name, out)
+        put_restricted_name(&port.name, out)
     } else {
         Ok(())
     }
 }
 
-/// Appends a note of a port whose role is restricted.
-fn push_restricted_name(port: &PortName, out: &mut Vec<u8>) -> Result<(), AllocError>
-    ensures { OnOk result (out.new.items ≡ out.old.items ++ restricted_line port.now) }
+/// Puts a note of a port whose role is restricted.
+fn put_restricted_name<R: Rows>(port: &PortName, out: &mut R) -> Result<(), AllocError>
+    ensures { (first : R) (rows : List Row) → R.grew first out.old rows → OnOk result (R.grew first out.new (rows ++ restricted_row port.now ∷ [])) }
 {
-    let mut number = Buffer::new();
-    let words: [&[u8]; 4] = [
-        b"note",
-        b"restricted",
-        port.bridge.as_bytes(),
-        number.format(port.number.value()).as_bytes(),
+    let values = [
+        Value::Name(&port.bridge),
+        Value::Number(u64::from(port.number.value())),
     ];
-    push_line(&words, out)
+    put::<R>(Kind::Note(NoteLine::Restricted), &values, out)
 }

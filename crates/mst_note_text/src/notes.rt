@@ -4,67 +4,68 @@ ghost use Rattle.mst_lag.specs.declared.in_view.BridgeInView.{BridgeInView as Br
 ghost use Rattle.mst_lag.specs.Viewed.{named_port};
 ghost use Rattle.mst_roles.specs.trees.Outcome.{trees_of};
 ghost use Rattle.mst_roles.specs.trees.Settled.{outcome_of};
+ghost use Rattle.mst_rows.specs.Rows.{Row};
 ghost use Rattle.mst_note_text.specs.AreDepths.{TreeDepths, AreDepths};
-ghost use Rattle.mst_note_text.specs.NotesText.{trees_notes, restricted_note, AreNotes};
+ghost use Rattle.mst_note_text.specs.NotesText.{trees_notes, restricted_note, AreNoteRows};
 ghost use Rattle.mst_note_text.specs.Placed.{ArePlaces};
 ghost use Rattle.mst_note_text.specs.SeenNotes.{is_had};
 
-use crate::laws::notes;
-use crate::lines::push_restricted;
+use crate::lines::put_restricted;
 use crate::places::{Macs, macs_of};
-use crate::tree::push_tree;
+use crate::tree::put_tree;
 use mst_ids::Tree;
 use mst_lag::{PortInView, View};
 use mst_roles::trees_laws::nested;
 use mst_roles::{Settled, trees_in_use};
+use mst_rows::Rows;
 use std::alloc::{AllocError, Global};
 
-/// Appends the notes on a settled network: for each tree in rising order, and each bridge that is on and has it, in byte
+/// Puts the notes on a settled network: for each tree in rising order, and each bridge that is on and has it, in byte
 /// order of names, where hops bind, where age binds, and the external and internal path costs that 32 bits don't hold;
 /// then each logical port whose role is restricted.
 ///
-/// `AllocError`: memory was wanted and refused; part of the notes may have been appended. For each tree that some
-/// bridge has it goes once over the bridges and once over the ports.
-pub fn push_notes(alloc: Global, plan: &Settled, out: &mut Vec<u8>) -> Result<(), AllocError>
-    ensures { OnOk result ((text : List ℕ) × AreNotes plan.now.net (outcome_of plan.now) text × (out.new.items ≡ out.old.items ++ text)) }
+/// `AllocError`: memory was wanted and refused; some of the notes may have been put. For each tree that some bridge has it
+/// goes once over the bridges and once over the ports.
+pub fn put_notes<R: Rows>(alloc: Global, plan: &Settled, out: &mut R) -> Result<(), AllocError>
+    ensures { (notes : List Row) → AreNoteRows plan.now.net (outcome_of plan.now) notes
+        → (first : R) (rows : List Row) → R.grew first out.old rows → OnOk result (R.grew first out.new (rows ++ notes)) }
 {
     plan.known();
-    notes();
     let view = plan.view();
     let macs = macs_of(alloc, view.bridges())?;
-    push_trees(alloc, plan, &macs, &trees_of_view(view), out)?;
-    push_ports(view.ports(), out)
+    put_trees(alloc, plan, &macs, &trees_of_view(view), out)?;
+    put_ports(view.ports(), out)
 }
 
-/// Appends the notes on the logical ports.
-fn push_ports(ports: &[PortInView], out: &mut Vec<u8>) -> Result<(), AllocError>
-    ensures { OnOk result (out.new.items ≡ out.old.items ++ flat_map (λ p. restricted_note (named_port p)) ports.now) }
+/// Puts the notes on the logical ports.
+fn put_ports<R: Rows>(ports: &[PortInView], out: &mut R) -> Result<(), AllocError>
+    ensures { (first : R) (rows : List Row) → R.grew first out.old rows → OnOk result (R.grew first out.new (rows ++ flat_map (λ p. restricted_note (named_port p)) ports.now)) }
 {
     for port in ports {
-        push_restricted(port, out)?;
+        put_restricted(port, out)?;
     }
     Ok(())
 }
 
-/// Appends the notes on each tree that has a flag.
-fn push_trees(
+/// Puts the notes on each tree that has a flag.
+fn put_trees<R: Rows>(
     alloc: Global,
     plan: &Settled,
     macs: &Macs,
     had: &[bool],
-    out: &mut Vec<u8>,
+    out: &mut R,
 ) -> Result<(), AllocError>
     requires macs { ArePlaces (λ (b : BridgeOf). b.bridge.mac) plan.now.view.bridges macs.now.entries }
     requires long { length had.now ≡ 4095 }
     requires had { (tree : ℕ) → tree < 4095 → slice_index_or had.now tree false ≡ is_had plan.now.view tree }
-    ensures { (d : TreeDepths) → AreDepths (trees_of plan.now.net (outcome_of plan.now)) d → OnOk result (out.new.items ≡ out.old.items ++ trees_notes plan.now.net (outcome_of plan.now) d) }
+    ensures { (d : TreeDepths) → AreDepths (trees_of plan.now.net (outcome_of plan.now)) d → (first : R) (rows : List Row) → R.grew first out.old rows → OnOk result (R.grew first out.new (rows ++ trees_notes plan.now.net (outcome_of plan.now) d)) }
 {
     plan.known();
     nested();
     for number in 0..4095 {
         if had[number] {
             let tree = Tree::new(number as u64).unwrap();
-            push_tree(alloc, plan, macs, tree, out)?;
+            put_tree(alloc, plan, macs, tree, out)?;
         }
     }
     Ok(())

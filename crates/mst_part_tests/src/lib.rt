@@ -1,4 +1,4 @@
-//! Tests of parts that know no planner: graphs, digests, priority vectors, BPDUs, hints, JSON, and what is saved.
+//! Tests of parts that know no planner: graphs, digests, priority vectors, BPDUs, hints, rows, and what is saved.
 #![tactic(auto)]
 
 #[cfg(test)]

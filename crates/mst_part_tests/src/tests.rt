@@ -2,6 +2,6 @@ mod bpdu;
 mod config;
 mod graph;
 mod hints;
-mod json;
+mod rows;
 mod save;
 mod vector;

@@ -11,8 +11,8 @@ mod pieces;
 
 pub use mst_summary::{
     Differing, Entries, Forest, Planned, Role, Settled, changes_laws, diff_laws, forwards,
-    has_tree, laws as summary_laws, plan_text_laws, port_role, push_changes, push_configuration,
-    push_diff, push_lags, push_plan, push_regions, push_summary, push_tree, push_vlan, text_laws,
+    has_tree, laws as summary_laws, plan_text_laws, port_role, put_changes, put_configuration,
+    put_diff, put_lags, put_plan, put_regions, put_summary, put_tree, put_vlan, text_laws,
     trees_laws,
 };
 pub use picture::push_picture;

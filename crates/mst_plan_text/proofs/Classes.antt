@@ -1,9 +1,10 @@
--- The body of a class of VIDs is that of each of its VIDs.
-use Rattle.std.proofs.Common.{◌≡◌, ℕ, ◌+◌, ◌<◌, nat_eq, Bool, true, List, [], length, get_or, sym, ap, subst, ◌∙◌, arith}
+-- What a class of VIDs has is that of each of its VIDs.
+use Rattle.std.proofs.Common.{◌≡◌, ℕ, ◌+◌, ◌-◌, ◌<◌, nat_eq, Bool, true, List, [], length, map, get_or, sym, ap, subst, ◌∙◌, arith}
 use Rattle.std.specs.List.{AllByRecursion, Contains}
 use Rattle.std.proofs.lemmas.Bool.{eqb-true}
-use Rattle.std.proofs.lemmas.List.{get_or_default}
+use Rattle.std.proofs.lemmas.List.{get_or_default, get_or-map}
 use Rattle.mst_ids.specs.Vids.{has, is_vid}
+use Rattle.mst_ids.specs.declared.name.PortName.{PortName}
 use Rattle.mst_graph.specs.Numbers.{AreNumbers}
 use Rattle.mst_net.specs.ByTree.{table_in, vlans_in}
 use Rattle.mst_net.specs.Table.{tree_in}
@@ -15,12 +16,10 @@ use Rattle.mst_text.specs.trees.Forest.{Forest}
 use Rattle.mst_text.proofs.trees_lemmas.Entries.{all_weaker}
 use Rattle.mst_text.proofs.trees_lemmas.Lists.{all_contained}
 use Rattle.mst_text.specs.vlan.Reach.{vid_links}
-use Rattle.mst_text.specs.VlanText.{IsBody}
 use Rattle.mst_plan_text.specs.Alike.{AreAlike, TellApart}
-use Rattle.mst_plan_text.specs.Bodies.{AreBodiesAt, NumberEach, body_at}
-use Rattle.mst_plan_text.proofs.Bodied.{AtPlaces, zip_at}
-use Rattle.mst_plan_text.proofs.Grouped.{place_of_vid, at_vid}
-use Rattle.mst_plan_text.proofs.VidsAlike.{links_alike, body_alike}
+use Rattle.mst_plan_text.specs.Bodies.{NumberEach, pair_of, pairs_at, pairs_of}
+use Rattle.mst_plan_text.proofs.Grouped.{place_of_vid}
+use Rattle.mst_plan_text.proofs.VidsAlike.{links_alike, ports_alike}
 
 -- each VID's number has a body, where each class has
 pub numbers_below : (told numbers firsts : List ℕ) (n : ℕ) → length told ≡ 4094 → AreNumbers nat_eq told numbers firsts → n ≡ length firsts → NumberEach numbers n
@@ -36,11 +35,11 @@ each_below told numbers firsts n are e ns is k d l =
     let below : get_or numbers k 0 < length firsts = are.below k (subst (λ m. k < m) are.as_long here) in
     omega arith
 
--- of any relation of VIDs and texts that alike VIDs share
-module _ (R : ℕ → List ℕ → Type 0) (tables : List (List ℕ)) (sets : List (List Bool)) (moved : (x y : ℕ) → AreAlike tables sets x y → (text : List ℕ) → R x text → R y text)
-    (told classes firsts : List ℕ) (tell : TellApart tables sets told) (are : AreNumbers nat_eq told classes firsts) (bodies : List (List ℕ)) (at : AtPlaces R firsts bodies) where
-  body_there : (i : ℕ) → i < 4094 → R (i + 1) (get_or bodies (get_or classes i 0) [])
-  body_there i l =
+-- of what VIDs have that alike VIDs share: what a class has is that of each of its VIDs
+module _ (pairs : ℕ → List (PortName × Bool)) (tables : List (List ℕ)) (sets : List (List Bool)) (shared : (x y : ℕ) → AreAlike tables sets x y → pairs x ≡ pairs y)
+    (told classes firsts : List ℕ) (tell : TellApart tables sets told) (are : AreNumbers nat_eq told classes firsts) (all : List (List (PortName × Bool))) (is : all ≡ map (λ place. pairs (place + 1)) firsts) where
+  pairs_there : (i : ℕ) → i < 4094 → get_or all (get_or classes i 0) [] ≡ pairs (i + 1)
+  pairs_there i l =
       let n : ℕ = get_or classes i 0 in
       let l_told : i < length told = subst (λ k. i < k) (sym tell.as_long) l in
       let below : n < length firsts = are.below i l_told in
@@ -48,12 +47,14 @@ module _ (R : ℕ → List ℕ → Type 0) (tables : List (List ℕ)) (sets : Li
       let k : ℕ = get_or firsts n 0 in
       let k_below : k < 4094 = subst (λ m. k < m) tell.as_long first.0 in
       let same : get_or told k 0 ≡ get_or told i 0 = eqb-true (get_or told k 0) (get_or told i 0) ((are.equal k i 0 first.0 l_told).0 first.1) in
-      moved (k + 1) (i + 1) (tell.alike k i k_below l same) (get_or bodies n []) (zip_at (λ place body. R (place + 1) body) firsts bodies n 0 [] at below)
+      ap (λ ps. get_or ps n []) is ∙ get_or-map (λ place. pairs (place + 1)) firsts n 0 [] below ∙ shared (k + 1) (i + 1) (tell.alike k i k_below l same)
 
-  pub have_bodies : (vid : ℕ) → is_vid vid ≡ true → R vid (body_at classes bodies vid)
-  have_bodies vid e =
+  pub have_pairs : (vid : ℕ) → is_vid vid ≡ true → pairs_at classes all vid ≡ pairs vid
+  have_pairs vid e =
       let p = place_of_vid vid e in
-      subst (R vid) (sym (at_vid classes bodies p.place vid p.is)) (subst (λ vid. R vid (get_or bodies (get_or classes p.place 0) [])) p.is (body_there p.place p.below))
+      let is : p.place + 1 ≡ vid = p.is in
+      let place : vid - 1 ≡ p.place = omega arith in
+      ap (λ k. get_or all (get_or classes k 0) []) place ∙ pairs_there p.place p.below ∙ ap pairs is
 
 module _ (net : Net) (numbers : Numbers) (v : Viewed) (f : Forest) (of : AreOf net numbers v f.regions) (o : Outcome) (tables : List (List ℕ)) (sets : List (List Bool))
     (have_table : AllByRecursion (λ b. Contains tables (table_in v.settings.tables b.name)) v.bridges)
@@ -69,9 +70,10 @@ module _ (net : Net) (numbers : Numbers) (v : Viewed) (f : Forest) (of : AreOf n
     pub links_shared : vid_links net o x ≡ vid_links net o y
     links_shared = links_alike net numbers v f of o x y one_tree same_ports
 
-    moved : (text : List ℕ) → IsBody net o x text → IsBody net o y text
-    moved = body_alike net numbers v f of o x y one_tree same_ports
+    pairs_shared : pairs_of net o x ≡ pairs_of net o y
+    pairs_shared = ap (map pair_of) (ports_alike net numbers v f of o x y one_tree same_ports)
 
-  pub are_bodies : (told classes firsts : List ℕ) → TellApart tables sets told → AreNumbers nat_eq told classes firsts → (bodies : List (List ℕ)) → AreBodiesAt net o firsts bodies
-      → (vid : ℕ) → is_vid vid ≡ true → IsBody net o vid (body_at classes bodies vid)
-  are_bodies told classes firsts tell are bodies at = have_bodies (IsBody net o) tables sets moved told classes firsts tell are bodies at
+  -- the active ports of a VID, by the number of its class
+  pub are_pairs : (told classes firsts : List ℕ) → TellApart tables sets told → AreNumbers nat_eq told classes firsts → (all : List (List (PortName × Bool))) → all ≡ map (λ place. pairs_of net o (place + 1)) firsts
+      → (vid : ℕ) → is_vid vid ≡ true → pairs_at classes all vid ≡ pairs_of net o vid
+  are_pairs told classes firsts tell are all is = have_pairs (pairs_of net o) tables sets pairs_shared told classes firsts tell are all is

@@ -1,16 +1,17 @@
--- Groups of VIDs by the bodies of their numbers.
-use Rattle.std.proofs.Common.{◌≡◌, ℕ, ◌+◌, ◌-◌, ◌<◌, ◌≤◌, nat_eq, Bool, true, List, [], ◌∷◌, length, get_or, map, refl, sym, ap, subst, ◌∙◌, arith}
-use Rattle.std.specs.Cmp.Lexicographic.{pointwise, bytes_decides}
+-- Groups of VIDs by what their numbers have.
+use Rattle.std.proofs.Common.{◌≡◌, ℕ, ◌+◌, ◌-◌, ◌<◌, ◌≤◌, Bool, true, List, [], ◌∷◌, length, get_or, map, refl, sym, ap, subst, ◌∙◌, arith}
+use Rattle.std.specs.Bool.{Decides}
 use Rattle.std.specs.List.{Contains}
 use Rattle.std.proofs.lemmas.Bool.Decides.{nat_tests}
 use Rattle.std.proofs.lemmas.List.{get_or_default, get_or-map}
 use Rattle.std.proofs.lemmas.List.FromFn.{get_or-range_with_len, length-range_with_len}
 use Rattle.mst_ids.specs.Vids.{is_vid}
+use Rattle.mst_ids.specs.declared.name.PortName.{PortName}
 use Rattle.mst_graph.specs.Groups.{AreGroups}
 use Rattle.mst_graph.specs.Numbers.{HaveBodies}
 use Rattle.mst_graph.proofs.Alike.{alike_groups}
 use Rattle.mst_plan_text.specs.PlanText.{all_vids}
-use Rattle.mst_plan_text.specs.Bodies.{NumberEach, body_at}
+use Rattle.mst_plan_text.specs.Bodies.{NumberEach, pairs_at}
 
 -- ---- VIDs
 pub vids_long : length all_vids ≡ 4094
@@ -49,56 +50,49 @@ place_of_vid vid e =
     let is : vid - 1 + 1 ≡ vid = omega arith in
     record { place = vid - 1; below = below; is = is }
 
--- what the place of a VID has
-pub at_vid : (numbers : List ℕ) (bodies : List (List ℕ)) (i vid : ℕ) → i + 1 ≡ vid → body_at numbers bodies vid ≡ get_or bodies (get_or numbers i 0) []
-at_vid numbers bodies i vid e = let place : vid - 1 ≡ i = omega arith in ap (λ k. get_or bodies (get_or numbers k 0) []) place
+-- ---- groups, where a test decides whether what is seen of two is the same
+module _ {B : Type 0} (seen : B → List (PortName × Bool)) (same : B → B → Bool) (decides : (x y : B) → Decides (same x y) (seen x ≡ seen y)) (numbers : List ℕ) (kept : List B) (each : NumberEach numbers (length kept)) where
+  abbrev kept_of : B → ℕ → B
+  kept_of d vid = get_or kept (get_or numbers (vid - 1) 0) d
 
--- ---- groups
-module _ {B : Type 0} (text : B → List ℕ) (numbers : List ℕ) (bodies : List B) (each : NumberEach numbers (length bodies)) where
-  abbrev same : B → B → Bool
-  same a b = pointwise nat_eq (text a) (text b)
-
-  abbrev body_of : B → ℕ → B
-  body_of d vid = get_or bodies (get_or numbers (vid - 1) 0) d
-
-  have : (d : B) → HaveBodies same (body_of d) all_vids numbers bodies
+  have : (d : B) → HaveBodies same (kept_of d) all_vids numbers kept
   have d i k e l =
       let long : length all_vids ≡ 4094 = vids_long in
       let below : i < 4094 = omega arith in
       let at : get_or all_vids i k ≡ 1 + i = vid_at i k below in
       let place : i ≡ get_or all_vids i k - 1 = omega arith in
-      let equal : get_or bodies (get_or numbers i 0) e ≡ body_of d (get_or all_vids i k) = get_or_default bodies (get_or numbers i 0) e d (each.below i below) ∙ ap (λ j. get_or bodies (get_or numbers j 0) d) place in
-      (bytes_decides (text (get_or bodies (get_or numbers i 0) e)) (text (body_of d (get_or all_vids i k)))).1 (ap text equal)
+      let equal : get_or kept (get_or numbers i 0) e ≡ kept_of d (get_or all_vids i k) = get_or_default kept (get_or numbers i 0) e d (each.below i below) ∙ ap (λ j. get_or kept (get_or numbers j 0) d) place in
+      (decides (get_or kept (get_or numbers i 0) e) (kept_of d (get_or all_vids i k))).1 (ap seen equal)
 
-  text_of : (d : B) (vid : ℕ) → Contains all_vids vid → body_at numbers (map text bodies) vid ≡ text (body_of d vid)
-  text_of d vid h =
+  seen_of : (d : B) (vid : ℕ) → Contains all_vids vid → pairs_at numbers (map seen kept) vid ≡ seen (kept_of d vid)
+  seen_of d vid h =
       let p = vid_place vid h in
       let is : p.place + 1 ≡ vid = p.is in
       let place : p.place ≡ vid - 1 = omega arith in
-      get_or-map text bodies (get_or numbers (vid - 1) 0) d [] (subst (λ i. get_or numbers i 0 < length bodies) place (each.below p.place p.below))
+      get_or-map seen kept (get_or numbers (vid - 1) 0) d [] (subst (λ i. get_or numbers i 0 < length kept) place (each.below p.place p.below))
 
-  groups_by : (d : B) (groups : List (List ℕ)) → AreGroups (λ x y. same (body_of d x) (body_of d y) ≡ true) all_vids groups
-      → AreGroups (λ x y. body_at numbers (map text bodies) x ≡ body_at numbers (map text bodies) y) all_vids groups
+  groups_by : (d : B) (groups : List (List ℕ)) → AreGroups (λ x y. same (kept_of d x) (kept_of d y) ≡ true) all_vids groups
+      → AreGroups (λ x y. pairs_at numbers (map seen kept) x ≡ pairs_at numbers (map seen kept) y) all_vids groups
   groups_by d groups =
-      alike_groups (λ x y. same (body_of d x) (body_of d y) ≡ true) (λ x y. body_at numbers (map text bodies) x ≡ body_at numbers (map text bodies) y) all_vids groups
+      alike_groups (λ x y. same (kept_of d x) (kept_of d y) ≡ true) (λ x y. pairs_at numbers (map seen kept) x ≡ pairs_at numbers (map seen kept) y) all_vids groups
       (λ x y hx hy. (
-        λ e. text_of d x hx ∙ (bytes_decides (text (body_of d x)) (text (body_of d y))).0 e ∙ sym (text_of d y hy),
-        λ e. (bytes_decides (text (body_of d x)) (text (body_of d y))).1 (sym (text_of d x hx) ∙ e ∙ text_of d y hy),
+        λ e. seen_of d x hx ∙ (decides (kept_of d x) (kept_of d y)).0 e ∙ sym (seen_of d y hy),
+        λ e. (decides (kept_of d x) (kept_of d y)).1 (sym (seen_of d x hx) ∙ e ∙ seen_of d y hy),
       ))
 
-  pub groups_are : (groups : List (List ℕ)) → ((body : ℕ → B) → HaveBodies same body all_vids numbers bodies → AreGroups (λ x y. same (body x) (body y) ≡ true) all_vids groups)
-      → AreGroups (λ x y. body_at numbers (map text bodies) x ≡ body_at numbers (map text bodies) y) all_vids groups
-  groups_are groups by = go bodies refl
+  groups_are : (groups : List (List ℕ)) → ((body : ℕ → B) → HaveBodies same body all_vids numbers kept → AreGroups (λ x y. same (body x) (body y) ≡ true) all_vids groups)
+      → AreGroups (λ x y. pairs_at numbers (map seen kept) x ≡ pairs_at numbers (map seen kept) y) all_vids groups
+  groups_are groups by = go kept refl
     where
-      go : (bs : List B) → bodies ≡ bs → AreGroups (λ x y. body_at numbers (map text bodies) x ≡ body_at numbers (map text bodies) y) all_vids groups
+      go : (bs : List B) → kept ≡ bs → AreGroups (λ x y. pairs_at numbers (map seen kept) x ≡ pairs_at numbers (map seen kept) y) all_vids groups
       go [] e = let none : get_or numbers 0 0 < 0 = subst (λ bs. get_or numbers 0 0 < length bs) e (each.below 0 (omega arith)) in absurd (omega arith)
-      go (b ∷ bs) e = groups_by b groups (by (body_of b) (have b))
+      go (b ∷ bs) e = groups_by b groups (by (kept_of b) (have b))
 
   -- by lists that are these
-  pub groups_given : (ns vids : List ℕ) → ns ≡ numbers → vids ≡ all_vids → (groups : List (List ℕ)) → ((body : ℕ → B) → HaveBodies same body vids ns bodies → AreGroups (λ x y. same (body x) (body y) ≡ true) vids groups)
-      → AreGroups (λ x y. body_at numbers (map text bodies) x ≡ body_at numbers (map text bodies) y) all_vids groups
+  pub groups_given : (ns vids : List ℕ) → ns ≡ numbers → vids ≡ all_vids → (groups : List (List ℕ)) → ((body : ℕ → B) → HaveBodies same body vids ns kept → AreGroups (λ x y. same (body x) (body y) ≡ true) vids groups)
+      → AreGroups (λ x y. pairs_at numbers (map seen kept) x ≡ pairs_at numbers (map seen kept) y) all_vids groups
   groups_given ns vids numbers_are vids_are groups by =
       groups_are groups
       (λ body has.
       subst (λ vids. AreGroups (λ x y. same (body x) (body y) ≡ true) vids groups) vids_are
-      (by body (subst (λ vids. HaveBodies same body vids ns bodies) (sym vids_are) (subst (λ ns. HaveBodies same body all_vids ns bodies) (sym numbers_are) has))))
+      (by body (subst (λ vids. HaveBodies same body vids ns kept) (sym vids_are) (subst (λ ns. HaveBodies same body all_vids ns kept) (sym numbers_are) has))))

@@ -5,10 +5,12 @@ pub use Rattle.mst_text.proofs as text_lemmas
 pub mod Gathered
 pub mod Split
 pub mod Sets
-pub mod Texts
 pub mod SeenTrees
 pub mod Bodied
 pub mod VidsAlike
 pub mod Grouped
 pub mod Classes
+mod Pairs
+mod PortLinks
+mod FirstOfGroup
 pub mod OnePlan

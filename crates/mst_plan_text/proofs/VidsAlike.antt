@@ -1,11 +1,10 @@
--- VIDs that have one tree at each bridge and the same member ports have one body.
-use Rattle.std.proofs.Common.{◌≡◌, ℕ, ◌++◌, List, Option, Some, None, map, filter, refl, ap, subst, ◌∙◌}
+-- VIDs that have one tree at each bridge and the same member ports have the same active ports.
+use Rattle.std.proofs.Common.{◌≡◌, ℕ, List, Option, Some, None, map, filter, refl, ap, subst, ◌∙◌}
 use Rattle.std.specs.Prelude.{if◌then◌else◌, false}
-use Rattle.std.specs.List.{AllByRecursion, Contains, flat_map}
+use Rattle.std.specs.List.{AllByRecursion, Contains}
 use Rattle.std.specs.Option.{option_map_or}
 use Rattle.std.specs.FinMap as fin
 use Rattle.mst_ids.specs.Vids.{has}
-use Rattle.mst_graph.specs.Islands.{AreIslands}
 use Rattle.mst_graph.proofs.Members.{from_filter}
 use Rattle.mst_graph.proofs.Splits.{kept_each}
 use Rattle.mst_net.specs.After.{table_of}
@@ -25,9 +24,8 @@ use Rattle.mst_text.proofs.trees_lemmas.Looking.{filter_alike}
 use Rattle.mst_text.proofs.trees_lemmas.Seen.{bridge_there, port_there}
 use Rattle.mst_text.specs.roles.Roles.{role_in, forwards, tree_of_vid, forwards_for}
 use Rattle.mst_text.specs.vlan.Active.{active_ports}
-use Rattle.mst_text.specs.vlan.Reach.{bridges_on, lans_up, is_member, link_of, vid_links}
-use Rattle.mst_text.specs.VlanLines.{active_word, active_line}
-use Rattle.mst_text.specs.VlanText.{port_word, island_text, IsBody}
+use Rattle.mst_text.specs.vlan.Reach.{is_member, link_of, vid_links}
+use Rattle.mst_text.specs.VlanText.{active_port, ports_of_vid}
 
 module _ (net : Net) (numbers : Numbers) (v : Viewed) (f : Forest) (of : AreOf net numbers v f.regions) (o : Outcome) (x y : ℕ)
     (tables : AllByRecursion (λ b. tree_in (table_in v.settings.tables b.name) x ≡ tree_in (table_in v.settings.tables b.name) y) v.bridges)
@@ -70,9 +68,7 @@ module _ (net : Net) (numbers : Numbers) (v : Viewed) (f : Forest) (of : AreOf n
       (filter_alike (is_member net x) (is_member net y) (active_ports net o x) (all_weaker (Contains (active_ports net o x)) _ member_alike (active_ports net o x) (all_there (active_ports net o x)))
       ∙ ap (filter (is_member net y)) active_alike)
 
-  words_alike : map (port_word net x) (active_ports net o x) ≡ map (port_word net y) (active_ports net o y)
-  words_alike = kept_each (port_word net x) (port_word net y) (active_ports net o x) (λ p h. ap (λ m. active_word m p.name) (member_alike p h)) ∙ ap (map (port_word net y)) active_alike
-
-  pub body_alike : (text : List ℕ) → IsBody net o x text → IsBody net o y text
-  body_alike text b =
-      (b.0, subst (λ ks. AreIslands (bridges_on net) (lans_up net) ks b.0) links_alike b.1, b.2 ∙ (λ i. active_line (words_alike i) ++ flat_map island_text b.0))
+  pub ports_alike : ports_of_vid net o x ≡ ports_of_vid net o y
+  ports_alike =
+      kept_each (active_port net x) (active_port net y) (active_ports net o x) (λ p h. ap (λ m. record { port = p.name; is_member = m }) (member_alike p h))
+      ∙ ap (map (active_port net y)) active_alike

@@ -1,11 +1,15 @@
-ghost use Rattle.std.specs.Prelude.{◌≡◌, ◌++◌, OnOk, IfOk, length, map};
+ghost use Rattle.std.specs.Prelude.{◌≡◌, ◌++◌, ℕ, List, OnOk, IfOk, map};
 ghost use Rattle.std.specs.List.{flat_map};
 ghost use Rattle.mst_ids.specs.Vids.{set_where};
 ghost use Rattle.mst_lag.specs.Trees.{is_among};
-ghost use Rattle.mst_plan_text.specs.PlanText.{all_vids, group_heading, group_text};
-ghost use Rattle.mst_plan_text.specs.Bodies.{NumberEach, body_at};
+ghost use Rattle.mst_rows.specs.Rows.{Row};
+ghost use Rattle.mst_text.specs.trees.Settled.{outcome_of};
+ghost use Rattle.mst_plan_text.specs.PlanText.{all_vids, group_rows, AreIslandsOfEach, Islands};
 
-use mst_ids::{Vid, VidSet, push_bytes, push_end};
+use mst_ids::{Vid, VidSet};
+use mst_rows::Rows;
+use mst_text::vlan_laws::islands_of_vid;
+use mst_text::{Settled, put_body, put_heading};
 use std::alloc::{AllocError, Global};
 
 /// The VIDs 1 to 4094. `AllocError`: memory was wanted and refused.
@@ -19,47 +23,39 @@ pub fn vids(alloc: Global) -> Result<Vec<Vid>, AllocError>
     Ok(vids)
 }
 
-/// Appends the lines of these groups, by the numbers of the VIDs and the bodies of the numbers.
-pub(crate) fn push_groups(
+/// Puts the rows of these groups of VIDs of equal bodies.
+pub(crate) fn put_groups<R: Rows>(
+    alloc: Global,
+    plan: &Settled,
     groups: &[Vec<Vid>],
-    numbers: &[usize],
-    bodies: &[Vec<u8>],
-    out: &mut Vec<u8>,
+    out: &mut R,
 ) -> Result<(), AllocError>
-    requires { NumberEach numbers.now (length bodies.now) }
-    ensures { OnOk result (out.new.items ≡ out.old.items ++ flat_map (group_text (body_at numbers.now (map (λ body. body.items) bodies.now))) (map (λ group. group.items) groups.now)) }
+    ensures { (islands : ℕ → Islands) → AreIslandsOfEach plan.now.net (outcome_of plan.now) islands → (first : R) (before : List Row) → R.grew first out.old before
+        → OnOk result (R.grew first out.new (before ++ flat_map (λ group. group_rows plan.now.net (outcome_of plan.now) islands group.items) groups.now)) }
 {
     for group in groups {
-        push_group(group.as_slice(), numbers, bodies, out)?;
+        put_group(alloc, plan, group.as_slice(), out)?;
     }
     Ok(())
 }
 
-/// Appends the lines of a group.
-fn push_group(
+/// Puts the rows of a group, by the body of its first VID.
+fn put_group<R: Rows>(
+    alloc: Global,
+    plan: &Settled,
     group: &[Vid],
-    numbers: &[usize],
-    bodies: &[Vec<u8>],
-    out: &mut Vec<u8>,
+    out: &mut R,
 ) -> Result<(), AllocError>
-    requires { NumberEach numbers.now (length bodies.now) }
-    ensures { OnOk result (out.new.items ≡ out.old.items ++ group_text (body_at numbers.now (map (λ body. body.items) bodies.now)) group.now) }
+    ensures { (islands : ℕ → Islands) → AreIslandsOfEach plan.now.net (outcome_of plan.now) islands → (first : R) (before : List Row) → R.grew first out.old before
+        → OnOk result (R.grew first out.new (before ++ group_rows plan.now.net (outcome_of plan.now) islands group.now)) }
 {
-    let Some(vid) = group.first() else {
+    let [vid, ..] = group else {
         return Ok(());
     };
-    push_heading(group, out)?;
-    let number = numbers[usize::from(vid.value()) - 1];
-    push_bytes(bodies[number].as_slice(), out)
-}
-
-/// Appends the heading of a group.
-fn push_heading(group: &[Vid], out: &mut Vec<u8>) -> Result<(), AllocError>
-    ensures { OnOk result (out.new.items ≡ out.old.items ++ group_heading group.now) }
-{
-    push_bytes(b"vlan ", out)?;
-    set_of(group).push_text(out)?;
-    push_end(out)
+    islands_of_vid();
+    let vids = set_of(group);
+    put_heading(&vids, out)?;
+    put_body(alloc, plan, *vid, &vids, out)
 }
 
 /// The set of these VIDs.

@@ -1,24 +1,25 @@
-//! Laws of the text of a plan. Their functions do nothing: a caller has their clauses.
-ghost use Rattle.std.specs.Prelude.{◌≡◌, ℕ, List};
+//! Laws of the rows of a plan. Their functions do nothing: a caller has their clauses.
+ghost use Rattle.std.specs.Prelude.{◌≡◌, List};
 ghost use Rattle.mst_net.specs.Tables.{Net, IsNetwork};
+ghost use Rattle.mst_rows.specs.Rows.{Row};
 ghost use Rattle.mst_text.specs.trees.Outcome.{Outcome};
-ghost use Rattle.mst_plan_text.specs.PlanText.{IsPlanText};
+ghost use Rattle.mst_plan_text.specs.PlanText.{ArePlanRows};
 
 use mst_graph::laws::group_lists;
-use mst_text::laws::{has_text, one_text};
+use mst_text::vlan_laws::islands_of_vid;
 
-/// Each network has a text of its plan.
+/// Each network has rows of its plan.
 pub fn has_plan()
-    ensures { (net : Net) (o : Outcome) → IsNetwork net → (text : List ℕ) × IsPlanText net o text }
+    ensures { (net : Net) (o : Outcome) → IsNetwork net → (rows : List Row) × ArePlanRows net o rows }
 {
-    has_text();
+    islands_of_vid();
     group_lists::<mst_ids::Vid>();
 }
 
-/// And it has one only.
+/// And it has them only.
 pub fn one_plan()
-    ensures { (net : Net) (o : Outcome) (text other : List ℕ) → IsPlanText net o text → IsPlanText net o other → text ≡ other }
+    ensures { (net : Net) (o : Outcome) (rows other : List Row) → ArePlanRows net o rows → ArePlanRows net o other → rows ≡ other }
 {
-    one_text();
+    islands_of_vid();
     group_lists::<mst_ids::Vid>();
 }

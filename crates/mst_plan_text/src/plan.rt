@@ -1,31 +1,50 @@
-ghost use Rattle.std.specs.Prelude.{◌≡◌, ℕ, List, ◌++◌, OnOk};
+ghost use Rattle.std.specs.Prelude.{◌≡◌, List, ◌++◌, OnOk, IfOk, map};
+ghost use Rattle.mst_graph.specs.Groups.{AreGroups};
+ghost use Rattle.mst_rows.specs.Rows.{Row};
 ghost use Rattle.mst_text.specs.trees.Settled.{outcome_of};
-ghost use Rattle.mst_plan_text.specs.PlanText.{IsPlanText, IsVidsText};
+ghost use Rattle.mst_text.specs.VlanText.{ports_of_vid};
+ghost use Rattle.mst_plan_text.specs.PlanText.{all_vids, ArePlanRows, AreVidsRows};
 
+use crate::active::actives;
 use crate::alike::numbers_of_vids;
-use crate::bodies::{bodies, copies};
 use crate::distinct::{tables, vlan_sets};
-use crate::groups::{push_groups, vids};
-use crate::trees_text::push_trees;
+use crate::groups::{put_groups, vids};
+use crate::trees::put_trees;
 use mst_graph::{groups_by_body, number_keys};
+use mst_ids::Vid;
+use mst_rows::Rows;
 use mst_text::Settled;
+use mst_text::vlan_laws::islands_of_vid;
 use std::alloc::{AllocError, Global};
 
-/// Appends the text of a plan: the texts of the CIST and of each MSTI that some bridge has, in rising order, and then
-/// the bodies of the VIDs 1 to 4094, those of equal bodies in one group, by their least VIDs.
+/// Puts the rows of a plan: those of the CIST and of each MSTI that some bridge has, in rising order, and then the bodies
+/// of the VIDs 1 to 4094, those of equal bodies in one group, by their least VIDs.
 ///
-/// A body is made once for VIDs that have one tree in each table and that are in the same sets of VLANs of ports.
-/// `AllocError`: memory was wanted and refused; part of the text may have been appended.
-pub fn push_plan(alloc: Global, plan: &Settled, out: &mut Vec<u8>) -> Result<(), AllocError>
-    ensures { OnOk result ((text : List ℕ) × IsPlanText plan.now.net (outcome_of plan.now) text × (out.new.items ≡ out.old.items ++ text)) }
+/// The active ports are gathered once for VIDs that have one tree in each table and that are in the same sets of VLANs of
+/// ports, and the islands are made once for each group. `AllocError`: memory was wanted and refused; some of the rows may
+/// have been put.
+pub fn put_plan<R: Rows>(alloc: Global, plan: &Settled, out: &mut R) -> Result<(), AllocError>
+    ensures { (first : R) (before : List Row) → R.grew first out.old before
+        → OnOk result ((rows : List Row) × ArePlanRows plan.now.net (outcome_of plan.now) rows × R.grew first out.new (before ++ rows)) }
 {
-    push_trees(alloc, plan, out)?;
-    push_vids(alloc, plan, out)
+    put_trees(alloc, plan, out)?;
+    put_vids(alloc, plan, out)
 }
 
-/// Appends the groups of VIDs of equal bodies.
-fn push_vids(alloc: Global, plan: &Settled, out: &mut Vec<u8>) -> Result<(), AllocError>
-    ensures { OnOk result ((text : List ℕ) × IsVidsText plan.now.net (outcome_of plan.now) text × (out.new.items ≡ out.old.items ++ text)) }
+/// Puts the groups of VIDs of equal bodies.
+fn put_vids<R: Rows>(alloc: Global, plan: &Settled, out: &mut R) -> Result<(), AllocError>
+    ensures { (first : R) (before : List Row) → R.grew first out.old before
+        → OnOk result ((rows : List Row) × AreVidsRows plan.now.net (outcome_of plan.now) rows × R.grew first out.new (before ++ rows)) }
+{
+    plan.known();
+    islands_of_vid();
+    let groups = groups_of_vids(alloc, plan)?;
+    put_groups(alloc, plan, groups.as_slice(), out)
+}
+
+/// The groups of the VIDs that have the same active ports.
+fn groups_of_vids(alloc: Global, plan: &Settled) -> Result<Vec<Vec<Vid>>, AllocError>
+    ensures { IfOk result (λ groups. AreGroups (λ x y. ports_of_vid plan.now.net (outcome_of plan.now) x ≡ ports_of_vid plan.now.net (outcome_of plan.now) y) all_vids (map (λ group. group.items) groups.items)) }
 {
     plan.known();
     let view = plan.view();
@@ -33,14 +52,7 @@ fn push_vids(alloc: Global, plan: &Settled, out: &mut Vec<u8>) -> Result<(), All
     let sets = vlan_sets(alloc, view)?;
     let numbers = numbers_of_vids(alloc, tables.as_slice(), sets.as_slice())?;
     let classes = number_keys(alloc, numbers)?;
-    let bodies = bodies(alloc, plan, classes.firsts.as_slice())?;
-    let kept = copies(alloc, bodies.as_slice())?;
+    let actives = actives(alloc, plan, classes.firsts.as_slice())?;
     let vids = vids(alloc)?;
-    let groups = groups_by_body(alloc, vids.as_slice(), classes.numbers.as_slice(), bodies)?;
-    push_groups(
-        groups.as_slice(),
-        classes.numbers.as_slice(),
-        kept.as_slice(),
-        out,
-    )
+    groups_by_body(alloc, vids.as_slice(), classes.numbers.as_slice(), actives)
 }

@@ -1,13 +1,16 @@
-//! The forms of what is printed: texts, or their lines as JSON.
+//! What is printed of rows: their lines, or JSON.
 //!
-//! [`show`] makes of a text that answers what is printed of it; [`put_coded`], [`put_refusal`] and [`put_fault`] write that a
-//! line is refused, and [`put_unanswered`] that a question has no answer.
+//! A [`Printer`] takes the rows of an answer, and gives its lines or its object of JSON. [`put_coded`] and [`put_refusal`] write that
+//! a line of a script is refused, [`put_fault`] that a captured message isn't compared, and [`put_unanswered`] that a question has no
+//! answer: these want no memory.
 #![tactic(auto)]
 
 mod form;
+mod printer;
 mod refused;
 mod unanswered;
 
-pub use form::{Form, Shape, Side, query_word, show};
+pub use form::{Form, Shape, Side};
+pub use printer::Printer;
 pub use refused::{put_coded, put_fault, put_refusal};
 pub use unanswered::put_unanswered;

@@ -1,11 +1,12 @@
-ghost use Rattle.std.specs.Prelude.{◌≡◌, false, OnOk, OnErr};
+ghost use Rattle.std.specs.Prelude.{◌≡◌, ◌∷◌, [], false, OnOk, OnErr};
 ghost use Rattle.std.specs.Io.KnownBytes.{Appends};
 ghost use Rattle.mst_net.specs.Refusals.{code_of as refusal_code, text_of as refusal_text};
-ghost use Rattle.mst_bpdu.specs.CaptureText.{fault_line};
+ghost use Rattle.mst_bpdu.specs.CaptureText.{fault_row};
 ghost use Rattle.mst_io.specs.Devices.{Works, IsStopped};
 ghost use Rattle.mst_io.specs.Written.{AppendsFront};
-ghost use Rattle.mst_json.specs.RefusalJson.{refusal_json, side_json};
-ghost use Rattle.mst_print.specs.Shape.{code_line, side_word, side_name, coded};
+ghost use Rattle.mst_rows.specs.Answers.{IsPlain};
+ghost use Rattle.mst_print.specs.Shape.{coded, listed};
+ghost use Rattle.mst_print.specs.Parts.{code_line, code_object, side_word, side_member as member_of};
 
 use crate::form::{Form, Shape, Side};
 use itoa::Buffer;
@@ -13,7 +14,7 @@ use mst_bpdu::BpduFault;
 use mst_io::{Sink, WriteFailed, put_parts};
 use mst_net::Refusal;
 
-/// The word that the line of a refusal begins with.
+/// The words that the line of a refusal begins with.
 fn word(side: Side) -> &'static str
     ensures { result.now ≡ side_word side }
 {
@@ -24,9 +25,9 @@ fn word(side: Side) -> &'static str
     }
 }
 
-/// What a line of JSON says of its script, where there are two.
+/// What an object of JSON says of its script, where there are two.
 fn side_member(side: Side) -> &'static str
-    ensures { result.now ≡ side_json (side_name side) }
+    ensures { result.now ≡ member_of side }
 {
     match side {
         Side::Only => "",
@@ -52,7 +53,7 @@ pub fn put_refusal<K: Sink>(
     put_coded(sink, shape, number, refusal.code(), refusal.text())
 }
 
-/// Writes that a line of a script is refused, by this code and text.
+/// Writes that a line of a script is refused, by this code and text, which need no escapes.
 pub fn put_coded<'a, K: Sink>(
     sink: &mut K,
     shape: Shape,
@@ -61,6 +62,8 @@ pub fn put_coded<'a, K: Sink>(
     text: &'a str,
 ) -> Result<(), WriteFailed>
     requires working { (K.told sink.old).failed ≡ false }
+    requires plain_code { IsPlain code.now }
+    requires plain_text { IsPlain text.now }
     ensures ok { OnOk result (Appends (K.contents sink.old) (K.contents sink.new) (coded shape number code.now text.now)) }
     ensures err { OnErr result (AppendsFront (K.contents sink.old) (K.contents sink.new) (coded shape number code.now text.now)) }
     ensures works { OnOk result (Works (K.told sink.old) (K.told sink.new)) }
@@ -68,39 +71,44 @@ pub fn put_coded<'a, K: Sink>(
     ensures lent { K.lent sink.new ≡ K.lent sink.old }
 {
     match shape.form {
-        Form::Text => put_code(sink, word(shape.side), number, code, text),
-        Form::Json => {
-            let member = side_member(shape.side);
-            put_refusal_json(sink, shape.side, member, number, code, text)
-        }
+        Form::Text => put_line(sink, word(shape.side), number, code, text),
+        Form::Json => put_object(sink, side_member(shape.side), number, code, text),
     }
 }
 
 /// Writes that a captured message isn't compared.
-pub fn put_fault<K: Sink>(sink: &mut K, number: u64, fault: BpduFault) -> Result<(), WriteFailed>
+pub fn put_fault<K: Sink>(
+    sink: &mut K,
+    form: Form,
+    number: u64,
+    fault: BpduFault,
+) -> Result<(), WriteFailed>
     requires working { (K.told sink.old).failed ≡ false }
-    ensures ok { OnOk result (Appends (K.contents sink.old) (K.contents sink.new) (fault_line number fault)) }
-    ensures err { OnErr result (AppendsFront (K.contents sink.old) (K.contents sink.new) (fault_line number fault)) }
+    ensures ok { OnOk result (Appends (K.contents sink.old) (K.contents sink.new) (listed form (fault_row number fault ∷ []))) }
+    ensures err { OnErr result (AppendsFront (K.contents sink.old) (K.contents sink.new) (listed form (fault_row number fault ∷ []))) }
     ensures works { OnOk result (Works (K.told sink.old) (K.told sink.new)) }
     ensures broken { OnErr result (IsStopped (K.told sink.old) (K.told sink.new)) }
     ensures lent { K.lent sink.new ≡ K.lent sink.old }
 {
-    put_code(sink, "capture ", number, fault.code(), fault.text())
+    let code = fault.code();
+    let text = fault.text();
+    match form {
+        Form::Text => put_line(sink, "capture ", number, code, text),
+        Form::Json => put_object(sink, "\"kind\":\"capture\",", number, code, text),
+    }
 }
 
-/// Writes that a line of a script is refused, in a line of JSON. `member` is what that says of the script.
-fn put_refusal_json<'a, K: Sink>(
+/// Writes an object of JSON that says what is refused, behind the members that stand first.
+fn put_object<'a, K: Sink>(
     sink: &mut K,
-    side: Side,
-    member: &'a str,
+    first: &'a str,
     number: u64,
     code: &'a str,
     text: &'a str,
 ) -> Result<(), WriteFailed>
-    requires member { member.now ≡ side_json (side_name side) }
     requires working { (K.told sink.old).failed ≡ false }
-    ensures ok { OnOk result (Appends (K.contents sink.old) (K.contents sink.new) (refusal_json (side_name side) number code.now text.now)) }
-    ensures err { OnErr result (AppendsFront (K.contents sink.old) (K.contents sink.new) (refusal_json (side_name side) number code.now text.now)) }
+    ensures ok { OnOk result (Appends (K.contents sink.old) (K.contents sink.new) (code_object first.now number code.now text.now)) }
+    ensures err { OnErr result (AppendsFront (K.contents sink.old) (K.contents sink.new) (code_object first.now number code.now text.now)) }
     ensures works { OnOk result (Works (K.told sink.old) (K.told sink.new)) }
     ensures broken { OnErr result (IsStopped (K.told sink.old) (K.told sink.new)) }
     ensures lent { K.lent sink.new ≡ K.lent sink.old }
@@ -109,7 +117,7 @@ fn put_refusal_json<'a, K: Sink>(
     let digits = buffer.format(number).as_bytes();
     let parts: [&[u8]; 9] = [
         b"{",
-        member.as_bytes(),
+        first.as_bytes(),
         b"\"line\":",
         digits,
         b",\"error\":\"",
@@ -121,8 +129,8 @@ fn put_refusal_json<'a, K: Sink>(
     put_parts(sink, &parts)
 }
 
-/// Writes the first word, `N CODE TEXT` and the end of the line.
-fn put_code<'a, K: Sink>(
+/// Writes the first words, `N CODE TEXT` and the end of the line.
+fn put_line<'a, K: Sink>(
     sink: &mut K,
     first: &'a str,
     number: u64,

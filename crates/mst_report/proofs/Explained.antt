@@ -1,6 +1,6 @@
 -- What is asked about a port, under the numbers of records and by name.
 use Rattle.std.proofs.Common.{◌≡◌, ℕ, ◌==◌, ◌||◌, Bool, true, false, not, cond, List, [], ◌∷◌, ◌++◌, map, Option, Some, None, is_some, refl, sym, ap, subst, ◌∙◌, true≢false, append-nil}
-use Rattle.std.specs.Prelude.{◌≢◌, MatchOption, if◌then◌else◌}
+use Rattle.std.specs.Prelude.{if◌then◌else◌}
 use Rattle.std.specs.List.{AllByRecursion, Contains, find}
 use Rattle.std.specs.Option.{option_map, option_map_or}
 use Rattle.std.specs.FinMap as fin
@@ -8,6 +8,7 @@ use Rattle.std.proofs.lemmas.Bool.{eqb-true}
 use Rattle.mst_ids.specs.declared.name.PortName.{PortName}
 use Rattle.mst_net.specs.After.{has_bridge}
 use Rattle.mst_net.specs.Tables.{Net, BridgeRow, IsNetwork, port_eq}
+use Rattle.mst_rows.specs.Rows.{Row}
 use Rattle.mst_lag.specs.Trees.{mstis_of, is_among}
 use Rattle.mst_lag.specs.View.{LogicalPort, view_ports}
 use Rattle.mst_lag.specs.Viewed.{named_port}
@@ -21,11 +22,11 @@ use Rattle.mst_picture.proofs.trees_lemmas.Lists.{some_is, no_some, passed, all_
 use Rattle.mst_picture.proofs.trees_lemmas.Seen.{port_seen}
 use Rattle.mst_picture.proofs.trees_lemmas.Looking.{has_tree_at}
 use Rattle.mst_picture.proofs.roles_lemmas.Named.{port_is, port_found, found_in}
-use Rattle.mst_explain.specs.Explained.{IsExplanation, AreExplanations, trees_of_bridge}
+use Rattle.mst_explain.specs.Explained.{IsExplained, AreExplained, trees_of_bridge}
 use Rattle.mst_explain.proofs.Texts.{tree_there as among_trees}
 use Rattle.mst_report.specs.Explaining.{logical_port_of, has_tree, has_asked, unexplained_of, asked_trees, Explains}
 use Rattle.mst_report.specs.declared.explaining.Unexplained.{Unexplained}
-use Rattle.mst_report.specs.declared.explaining.Unexplained.TheVariants.{NoBridge, NoPort, NoTree, Memory}
+use Rattle.mst_report.specs.declared.explaining.Unexplained.TheVariants.{NoBridge, NoPort, NoTree}
 
 -- ---- what applies first
 abbrev first_of : Bool → Bool → Bool → Option Unexplained
@@ -40,24 +41,6 @@ module _ (net : Net) (name : PortName) (tree : Option ℕ) where
 
   pub with_port : has_bridge name.bridge net ≡ true → is_some (logical_port_of net name) ≡ true → unexplained_of net name tree ≡ (if not (has_asked net name.bridge tree) then Some NoTree else None)
   with_port e f = λ i. first_of (e i) (f i) (has_asked net name.bridge tree)
-
-  -- it is never want of memory
-  not_memory : unexplained_of net name tree ≡ Some Memory → ⊥
-  not_memory = go (has_bridge name.bridge net) (is_some (logical_port_of net name)) (has_asked net name.bridge tree)
-    where
-      is_memory : Option Unexplained → Bool
-      is_memory (Some Memory) = true
-      is_memory _ = false
-
-      go : (b p t : Bool) → first_of b p t ≡ Some Memory → ⊥
-      go false p t h = true≢false (sym (ap is_memory h))
-      go true false t h = true≢false (sym (ap is_memory h))
-      go true true false h = true≢false (sym (ap is_memory h))
-      go true true true h = true≢false (sym (ap is_memory h))
-
-  pub as_found : (found : Option Unexplained) → found ≡ unexplained_of net name tree → MatchOption found (unexplained_of net name tree ≡ None) (λ why. (why ≢ Memory) × (unexplained_of net name tree ≡ Some why))
-  as_found None e = sym e
-  as_found (Some why) e = (λ m. not_memory (sym e ∙ ap Some m), sym e)
 
   -- what is there where nothing applies
   pub record HasAll : Type 0 where
@@ -97,7 +80,7 @@ found_passes {A} test (y ∷ ys) x e = go (test y) refl e (found_passes test ys 
     go false f h rest = rest h
 
 -- each tree that is told of is one that the bridge has
-told_had : (net : Net) (bridge : List ℕ) (tree : Option ℕ) → has_asked net bridge tree ≡ true → AllByRecursion (λ t. has_tree net bridge t ≡ true) (asked_trees net bridge tree)
+pub told_had : (net : Net) (bridge : List ℕ) (tree : Option ℕ) → has_asked net bridge tree ≡ true → AllByRecursion (λ t. has_tree net bridge t ≡ true) (asked_trees net bridge tree)
 told_had net bridge (Some t) h = (h, tt)
 told_had net bridge None h = all_weaker (Contains (trees_of_bridge net bridge)) _ (λ t c. by t c (t == 0) refl) (trees_of_bridge net bridge) (all_there (trees_of_bridge net bridge))
   where
@@ -106,14 +89,14 @@ told_had net bridge None h = all_weaker (Contains (trees_of_bridge net bridge)) 
     by t c false e = ap (λ b. b || has_msti net t bridge) e ∙ among_trees net bridge t c e
 
 -- where ports have explanations by an outcome, and there is one, a port that isn't refused has an explanation
-pub some_explains : ((net : Net) (o : Outcome) → IsNetwork net → IsOutcome net o → (p : LogicalPort) → Contains (view_ports net) p → (trees : List ℕ) → AllByRecursion (λ t. has_tree net p.name.bridge t ≡ true) trees → (text : List ℕ) × AreExplanations net o p trees text)
-    → ((net : Net) → IsNetwork net → (o : Outcome) × IsOutcome net o) → (net : Net) (name : PortName) (tree : Option ℕ) → IsNetwork net → unexplained_of net name tree ≡ None → (text : List ℕ) × Explains net name tree text
+pub some_explains : ((net : Net) (o : Outcome) → IsNetwork net → IsOutcome net o → (p : LogicalPort) → Contains (view_ports net) p → (trees : List ℕ) → AllByRecursion (λ t. has_tree net p.name.bridge t ≡ true) trees → (rows : List Row) × AreExplained net o p trees rows)
+    → ((net : Net) → IsNetwork net → (o : Outcome) × IsOutcome net o) → (net : Net) (name : PortName) (tree : Option ℕ) → IsNetwork net → unexplained_of net name tree ≡ None → (rows : List Row) × Explains net name tree rows
 some_explains some has net name tree ok none = by (logical_port_of net name) refl (has_all net name tree none).found
   where
     trees : List ℕ
     trees = asked_trees net name.bridge tree
 
-    by : (found : Option LogicalPort) → logical_port_of net name ≡ found → is_some (logical_port_of net name) ≡ true → (text : List ℕ) × Explains net name tree text
+    by : (found : Option LogicalPort) → logical_port_of net name ≡ found → is_some (logical_port_of net name) ≡ true → (rows : List Row) × Explains net name tree rows
     by None e h = absurd (true≢false (sym h ∙ ap is_some e))
     by (Some p) e h =
         let o = has net ok in
@@ -162,37 +145,23 @@ module _ (s : SettledNet) (is : IsSettledNet s) where
         let own = (port_seen s.net s.numbers s.view is.of.view port there).has_numbers in
         ap (λ b. tree == 0 || b) (has_tree_at s.net s.numbers s.view s.forest.regions is.of tree port.name.bridge port.bridge own.bridge)
 
-    -- ---- its text
-    pub told_in_each : (text items : List ℕ) → AreExplanations s.net (outcome_of s) (named_port port) (trees_of_bridge s.net port.name.bridge) text → items ≡ text → Explains s.net port.name None items
-    told_in_each text items told e = record {
-      port = named_port port;
-      is_port = is_port;
-      outcome = outcome_of s;
-      is_outcome = is.is_outcome;
-      told = subst (AreExplanations s.net (outcome_of s) (named_port port) (trees_of_bridge s.net port.name.bridge)) (sym e) told;
-    }
+    -- ---- its rows
+    pub told_in_each : (rows : List Row) → AreExplained s.net (outcome_of s) (named_port port) (trees_of_bridge s.net port.name.bridge) rows → Explains s.net port.name None rows
+    told_in_each rows told = record { port = named_port port; is_port = is_port; outcome = outcome_of s; is_outcome = is.is_outcome; told = told }
 
-    pub told_in : (tree : ℕ) (text items : List ℕ) → IsExplanation s.net (outcome_of s) tree (named_port port) text → items ≡ text → Explains s.net port.name (Some tree) items
-    told_in tree text items told e = record {
-      port = named_port port;
-      is_port = is_port;
-      outcome = outcome_of s;
-      is_outcome = is.is_outcome;
-      told = (text, [], told, refl, e ∙ sym (append-nil text));
-    }
+    pub told_in : (tree : ℕ) (rows : List Row) → IsExplained s.net (outcome_of s) tree (named_port port) rows → Explains s.net port.name (Some tree) rows
+    told_in tree rows told = record { port = named_port port; is_port = is_port; outcome = outcome_of s; is_outcome = is.is_outcome; told = (rows, [], told, refl, sym (append-nil rows)) }
 
--- ---- by the law that a port has one explanation in a tree
+    -- it is among those of the network
+    pub port_there : Contains (view_ports s.net) (named_port port)
+    port_there = found_in (λ (q : LogicalPort). port_eq q.name port.name) (view_ports s.net) (named_port port) is_port
+
+-- ---- by the law that a port's explanations are one list of rows
 module _ (one : (net : Net) (o q : Outcome) → IsNetwork net → IsOutcome net o → IsOutcome net q
-    → (p : LogicalPort) (tree : ℕ) (text other : List ℕ) → IsExplanation net o tree p text → IsExplanation net q tree p other → text ≡ other) where
-  one_in_each : (net : Net) (o q : Outcome) → IsNetwork net → IsOutcome net o → IsOutcome net q
-      → (p : LogicalPort) (trees : List ℕ) (text other : List ℕ) → AreExplanations net o p trees text → AreExplanations net q p trees other → text ≡ other
-  one_in_each net o q ok x y p [] text other a b = a ∙ sym b
-  one_in_each net o q ok x y p (tree ∷ trees) text other a b =
-      a.4 ∙ (λ i. one net o q ok x y p tree a.0 b.0 a.2 b.2 i ++ one_in_each net o q ok x y p trees a.1 b.1 a.3 b.3 i) ∙ sym b.4
-
-  -- a port that is explained has one text
-  pub one_text : (net : Net) (name : PortName) (tree : Option ℕ) (text other : List ℕ) → IsNetwork net → Explains net name tree text → Explains net name tree other → text ≡ other
-  one_text net name tree text other ok a b =
+    → (p : LogicalPort) (trees : List ℕ) (rows other : List Row) → AreExplained net o p trees rows → AreExplained net q p trees other → rows ≡ other) where
+  -- a port that is explained has one
+  pub one_list : (net : Net) (name : PortName) (tree : Option ℕ) (rows other : List Row) → IsNetwork net → Explains net name tree rows → Explains net name tree other → rows ≡ other
+  one_list net name tree rows other ok a b =
       let trees = asked_trees net name.bridge tree in
       let same : a.port ≡ b.port = some_is a.port b.port (sym a.is_port ∙ b.is_port) in
-      one_in_each net a.outcome b.outcome ok a.is_outcome b.is_outcome b.port trees text other (subst (λ p. AreExplanations net a.outcome p trees text) same a.told) b.told
+      one net a.outcome b.outcome ok a.is_outcome b.is_outcome b.port trees rows other (subst (λ p. AreExplained net a.outcome p trees rows) same a.told) b.told

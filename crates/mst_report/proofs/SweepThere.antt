@@ -1,4 +1,4 @@
--- Each network has a text of what each single failure does, and of what each of a part of them does.
+-- Each network has rows of what each single failure does, and of what each of a part of them does.
 use Rattle.std.proofs.Common.{◌≡◌, ℕ, Bool, List, [], ◌∷◌, ◌++◌, map, take, drop, zero, suc, not, is_some, Some, Ok, Err, refl, ap}
 use Rattle.std.specs.List.{AllByRecursion, AllZip, filter, flat_map, count_by}
 use Rattle.std.specs.Option.{option_map_or}
@@ -9,6 +9,7 @@ use Rattle.mst_net.specs.After.{after, effect, first_of}
 use Rattle.mst_net.specs.Tables.{Net, BridgeRow, LanRow, IsNetwork}
 use Rattle.mst_net.specs.declared.refusal.Refusal.TheVariants.{E04, E06}
 use Rattle.mst_net.proofs.Keys.{names}
+use Rattle.mst_rows.specs.Rows.{Row}
 use Rattle.mst_picture.specs.trees.Outcome.{Outcome, IsOutcome}
 use Rattle.mst_picture.proofs.trees_lemmas.Entries.{entries_found}
 use Rattle.mst_picture.proofs.trees_lemmas.Lists.{all_mapped, all_passing}
@@ -16,7 +17,7 @@ use Rattle.mst_picture.specs.vlan.Reach.{bridges_on}
 use Rattle.mst_sweep.specs.declared.failure.Failure.{Failure}
 use Rattle.mst_sweep.specs.declared.failure.Failure.TheVariants.{Lan, Bridge}
 use Rattle.mst_sweep.specs.Failures.{edit_of, failures}
-use Rattle.mst_sweep.specs.SweepText.{IsFailureText, Told, IsTold, sweep_line, IsSweepOf}
+use Rattle.mst_sweep.specs.SweepText.{AreFailureRows, Told, IsTold, sweep_row, IsSweepOf}
 use Rattle.mst_sweep.specs.SweepParts.{PartOf, part_of}
 use Rattle.mst_report.specs.Sweeping.{Sweeps, SweepsPart}
 
@@ -68,7 +69,7 @@ module _ (net : Net) (is : IsNetwork net) where
 
   module _ (outcomes : (net : Net) → IsNetwork net → (o : Outcome) × IsOutcome net o)
       (networks : (edit : Edit) (net new : Net) → InRange edit → IsNetwork net → after edit net ≡ Ok new → IsNetwork new)
-      (some : (a b : Net) (o p : Outcome) → IsNetwork a → IsNetwork b → (failure : Failure) → (c : Bool) × (text : List ℕ) × IsFailureText a o b p failure text c) where
+      (some : (a b : Net) (o p : Outcome) → IsNetwork a → IsNetwork b → (failure : Failure) → (c : Bool) × (rows : List Row) × AreFailureRows a o b p failure rows c) where
     abbrev o : Outcome
     o = (outcomes net is).0
 
@@ -80,21 +81,21 @@ module _ (net : Net) (is : IsNetwork net) where
         let after_it = outcomes failed ok in
         let t = some net failed o after_it.0 is ok f in
         let others = has_told fs h.1 in (
-          record { text = t.1; cuts = t.0 } ∷ others.0,
+          record { rows = t.1; cuts = t.0 } ∷ others.0,
           (record { failed = failed; made = h.0.accepted; outcome = after_it.0; is_outcome = after_it.1; is = t.2 }, others.1),
         )
 
-    told_of : (fs : List Failure) → AllByRecursion (CanFail net) fs → (cuts : ℕ) × (text : List ℕ) × IsSweepOf net o fs text cuts
+    told_of : (fs : List Failure) → AllByRecursion (CanFail net) fs → (cuts : ℕ) × (rows : List Row) × IsSweepOf net o fs rows cuts
     told_of fs can =
         let told = has_told fs can in
         let cuts : ℕ = count_by (λ (t : Told). t.cuts) told.0 in
-        (cuts, flat_map (λ (t : Told). t.text) told.0 ++ sweep_line fs cuts, record { told = told.0; each = told.1; counted = refl; is = refl })
+        (cuts, flat_map (λ (t : Told). t.rows) told.0 ++ sweep_row fs cuts ∷ [], record { told = told.0; each = told.1; counted = refl; is = refl })
 
-    pub has_sweep : (cuts : ℕ) × (text : List ℕ) × Sweeps net cuts text
+    pub has_sweep : (cuts : ℕ) × (rows : List Row) × Sweeps net cuts rows
     has_sweep = let told = told_of (failures net) all_can in (told.0, told.1, record { outcome = o; is_outcome = (outcomes net is).1; told = told.2 })
 
-    -- and a text of each part of them
-    pub has_part : (part : PartOf) → (cuts : ℕ) × (text : List ℕ) × SweepsPart part net cuts text
+    -- and rows of each part of them
+    pub has_part : (part : PartOf) → (cuts : ℕ) × (rows : List Row) × SweepsPart part net cuts rows
     has_part part =
         let told = told_of (part_of part (failures net)) (all_in_part (CanFail net) part (failures net) all_can) in
         (told.0, told.1, record { outcome = o; is_outcome = (outcomes net is).1; told = told.2 })

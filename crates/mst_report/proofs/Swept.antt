@@ -1,5 +1,5 @@
 -- What failures one after another do.
-use Rattle.std.proofs.Common.{◌≡◌, ℕ, ◌+◌, ◌≤◌, Bool, true, false, cond, List, [], ◌∷◌, ◌++◌, None, Result, Ok, Err, IfOk, refl, sym, ap, subst, ◌∙◌, append-nil, arith}
+use Rattle.std.proofs.Common.{◌≡◌, ℕ, ◌+◌, ◌≤◌, Bool, true, false, cond, List, [], ◌∷◌, ◌++◌, None, Result, Ok, Err, IfOk, refl, sym, ap, subst, ◌∙◌, append-nil, append_assoc, arith}
 use Rattle.std.specs.List.{AllZip}
 use Rattle.std.proofs.lemmas.Grind.{flat_map-append}
 use Rattle.std.proofs.lemmas.List.Sums.{sum_by-append}
@@ -10,12 +10,13 @@ use Rattle.mst_net.specs.Tables.{Net, Numbers}
 use Rattle.mst_net.specs.Contents.{Contents, PerKind, Tables, SameContents, numbers_after}
 use Rattle.mst_config.specs.Shared.{AreRegions}
 use Rattle.mst_config.specs.Touching.{touches_regions}
+use Rattle.mst_rows.specs.Rows.{Row}
 use Rattle.mst_picture.specs.trees.Forest.{Forest, IsForest}
 use Rattle.mst_picture.specs.trees.Outcome.{Outcome}
 use Rattle.mst_sweep.specs.declared.failure.Failure.{Failure}
 use Rattle.mst_sweep.specs.declared.failure.Failure.TheVariants.{Lan, Bridge}
 use Rattle.mst_sweep.specs.Failures.{edit_of}
-use Rattle.mst_sweep.specs.SweepText.{Told, IsTextOf}
+use Rattle.mst_sweep.specs.SweepText.{Told, AreRowsOf}
 use Rattle.mst_sweep.proofs.SweptParts.{zip_joined}
 use Rattle.mst_lang.specs.declared.line.BridgeChange.TheVariants.{Power}
 use Rattle.mst_lang.specs.declared.line.LanChange.TheVariants.{State}
@@ -25,7 +26,7 @@ use Rattle.mst_lag.specs.Viewed.{Viewed, IsView}
 use Rattle.mst_lag.proofs.LanAlone as lan_alone
 use Rattle.mst_lag.proofs.BridgeAlone as bridge_alone
 use Rattle.mst_report.specs.Kept.{AreTrees}
-use Rattle.mst_report.specs.Sweeping.{AreToldBy, AreFailed, IsViewBut}
+use Rattle.mst_report.specs.Sweeping.{AreToldBy, AreFailed, IsViewBut, Puts}
 
 -- what is as it was stays so
 pub same_then : (a b c : Contents) → SameContents a b → SameContents b c → SameContents a c
@@ -48,32 +49,40 @@ module _ {A : Type 0} (Tells : A → Told → Type 0) where
   none_told = record { told = []; each = tt; counted = refl; is = refl }
 
   -- some, and then others
-  pub told_then : (xs ys : List A) (cuts more : ℕ) (text words : List ℕ) → AreToldBy Tells xs cuts text → AreToldBy Tells ys more words → AreToldBy Tells (xs ++ ys) (cuts + more) (text ++ words)
-  told_then xs ys cuts more text words x y = record {
+  pub told_then : (xs ys : List A) (cuts more : ℕ) (rows words : List Row) → AreToldBy Tells xs cuts rows → AreToldBy Tells ys more words → AreToldBy Tells (xs ++ ys) (cuts + more) (rows ++ words)
+  told_then xs ys cuts more rows words x y = record {
     told = x.told ++ y.told;
     each = zip_joined Tells xs ys x.told y.told x.each y.each;
     counted = (λ i. x.counted i + y.counted i) ∙ sym (sum_by-append (λ (t : Told). counts t.cuts) x.told y.told);
-    is = (λ i. x.is i ++ y.is i) ∙ sym (flat_map-append (λ (t : Told). t.text) x.told y.told);
+    is = (λ i. x.is i ++ y.is i) ∙ sym (flat_map-append (λ (t : Told). t.rows) x.told y.told);
   }
 
   -- one more
-  one_told : (x : A) (words : List ℕ) (b : Bool) → Tells x (record { text = words; cuts = b }) → AreToldBy Tells (x ∷ []) (counts b) words
-  one_told x words b is = record { told = record { text = words; cuts = b } ∷ []; each = (is, tt); counted = omega arith; is = sym (append-nil words) }
+  one_told : (x : A) (words : List Row) (b : Bool) → Tells x (record { rows = words; cuts = b }) → AreToldBy Tells (x ∷ []) (counts b) words
+  one_told x words b is = record { told = record { rows = words; cuts = b } ∷ []; each = (is, tt); counted = omega arith; is = sym (append-nil words) }
 
-  pub more_told : (xs : List A) (x : A) (cuts : ℕ) (text words : List ℕ) (b : Bool) → AreToldBy Tells xs cuts text → Tells x (record { text = words; cuts = b })
-      → (ys : List A) → ys ≡ xs ++ x ∷ [] → (n : ℕ) → n ≡ cuts + counts b → (whole : List ℕ) → whole ≡ text ++ words → AreToldBy Tells ys n whole
-  more_told xs x cuts text words b are is ys ys_are n n_is whole whole_is =
-      let all = told_then xs (x ∷ []) cuts (counts b) text words are (one_told x words b is) in
-      record { told = all.told; each = subst (λ l. AllZip Tells l all.told) (sym ys_are) all.each; counted = n_is ∙ all.counted; is = whole_is ∙ all.is }
+  pub more_told : (xs : List A) (x : A) (cuts : ℕ) (rows words : List Row) (b : Bool) → AreToldBy Tells xs cuts rows → Tells x (record { rows = words; cuts = b })
+      → (ys : List A) → ys ≡ xs ++ x ∷ [] → (n : ℕ) → n ≡ cuts + counts b → AreToldBy Tells ys n (rows ++ words)
+  more_told xs x cuts rows words b are is ys ys_are n n_is =
+      let all = told_then xs (x ∷ []) cuts (counts b) rows words are (one_told x words b is) in
+      record { told = all.told; each = subst (λ l. AllZip Tells l all.told) (sym ys_are) all.each; counted = n_is ∙ all.counted; is = all.is }
 
-  -- and all of these, with the last line
-  pub swept : (last : List A → ℕ → List ℕ) (xs ys : List A) → xs ≡ ys → (cuts : ℕ) (text whole : List ℕ) → AreToldBy Tells xs cuts text → whole ≡ text ++ last xs cuts → IsTextOf Tells last ys whole cuts
-  swept last xs ys e cuts text whole are is = record {
+  -- and all of these, with the last row
+  pub swept : (last : List A → ℕ → Row) (xs ys : List A) → xs ≡ ys → (cuts : ℕ) (rows : List Row) → AreToldBy Tells xs cuts rows → AreRowsOf Tells last ys (rows ++ last xs cuts ∷ []) cuts
+  swept last xs ys e cuts rows are = record {
     told = are.told;
     each = subst (λ l. AllZip Tells l are.told) e are.each;
     counted = are.counted;
-    is = is ∙ (λ i. are.is i ++ last (e i) cuts);
+    is = λ i. are.is i ++ last (e i) cuts ∷ [];
   }
+
+-- ---- rows that are put
+module _ {P : Type 0} (grew : P → P → List Row → Type 0) where
+  pub none_put : (p : P) → Puts grew p p []
+  none_put p = λ first before h. subst (grew first p) (sym (append-nil before)) h
+
+  pub put_then : (old now new : P) (rows more : List Row) → Puts grew old now rows → Puts grew now new more → Puts grew old new (rows ++ more)
+  put_then old now new rows more x y = λ first before h. subst (grew first new) (append_assoc before rows more) (y first (before ++ rows) (x first before h))
 
 -- what follows of the value where there is one
 pub if_ok : {A E : Type 0} (r : Result A E) (P Q : A → Type 0) → ((a : A) → P a → Q a) → IfOk r P → IfOk r Q

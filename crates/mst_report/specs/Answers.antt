@@ -6,43 +6,44 @@ use Rattle.mst_lang.specs.declared.line.Query.TheVariants.{ShowPlan, ShowLag, Sh
 use Rattle.mst_net.specs.Tables.{Net}
 use Rattle.mst_net.specs.declared.refusal.Refusal.{Refusal}
 use Rattle.mst_net.specs.declared.refusal.Refusal.TheVariants.{E04, E16}
+use Rattle.mst_rows.specs.Rows.{Row}
 use Rattle.mst_picture.specs.trees.Outcome.{Outcome, IsOutcome}
-use Rattle.mst_picture.specs.changes.ChangesText.{changes_text}
+use Rattle.mst_picture.specs.changes.ChangesText.{all_changes}
 use Rattle.mst_picture.specs.changes.declared.subject.Entry.{Entry}
-use Rattle.mst_picture.specs.text.LagText.{lags_text}
-use Rattle.mst_note_text.specs.NotesText.{AreNotes}
-use Rattle.mst_picture.specs.plan_text.PlanText.{IsPlanText}
-use Rattle.mst_picture.specs.text.ConfigurationText.{configuration_text}
-use Rattle.mst_picture.specs.text.RegionsText.{regions_text}
-use Rattle.mst_save.specs.SaveText.{save_text}
-use Rattle.mst_picture.specs.text.TreeText.{tree_text}
-use Rattle.mst_picture.specs.text.VlanText.{IsVlanText}
+use Rattle.mst_picture.specs.text.LagText.{lags_rows}
+use Rattle.mst_note_text.specs.NotesText.{AreNoteRows}
+use Rattle.mst_picture.specs.plan_text.PlanText.{ArePlanRows}
+use Rattle.mst_picture.specs.text.ConfigurationText.{configuration_rows}
+use Rattle.mst_picture.specs.text.RegionsText.{regions_rows}
+use Rattle.mst_save.specs.SaveRows.{save_rows}
+use Rattle.mst_picture.specs.text.TreeText.{tree_rows}
+use Rattle.mst_picture.specs.text.VlanText.{AreVlanRows}
 use Rattle.mst_report.specs.State.{State, IsMark}
 
--- an answer that tells the settled outcome of the network by this text
-abbrev pub TellsOutcome : Net → (Outcome → List ℕ → Type 0) → Result (List ℕ) Refusal → Type 0
-TellsOutcome net Says answer = (o : Outcome) × IsOutcome net o × (text : List ℕ) × Says o text × (answer ≡ Ok text)
+-- an answer that tells the settled outcome of the network by these rows
+abbrev pub TellsOutcome : Net → (Outcome → List Row → Type 0) → Result (List Row) Refusal → Type 0
+TellsOutcome net Says answer = (o : Outcome) × IsOutcome net o × (rows : List Row) × Says o rows × (answer ≡ Ok rows)
 
--- what has changed since a mark: without a mark it is refused, else the text goes from the marked network to the one
+-- what has changed since a mark: without a mark it is refused, else the rows go from the marked network to the one
 -- now, each in its settled outcome
-abbrev pub TellsChanges : Option (List Entry) → Net → Result (List ℕ) Refusal → Type 0
+abbrev pub TellsChanges : Option (List Entry) → Net → Result (List Row) Refusal → Type 0
 TellsChanges None net answer = answer ≡ Err E16
-TellsChanges (Some entries) net answer = (was : IsMark entries) × TellsOutcome net (λ o text. text ≡ changes_text was.net was.outcome net o) answer
+TellsChanges (Some entries) net answer = (was : IsMark entries) × TellsOutcome net (λ o rows. rows ≡ all_changes was.net was.outcome net o) answer
 
--- in a state a query has this answer, a text or a refusal. The texts of a tree, of a VID, of the whole plan and of the
+-- in a state a query has this answer, rows or a refusal. The rows of a tree, of a VID, of the whole plan and of the
 -- notes are those of the network's settled outcome; those of the classes of links, of the regions and of an MST
 -- configuration go by the network itself, and a bridge that isn't there has no configuration. What saves the network
 -- goes by it alone, too
-abbrev pub Answers : Query → State → Result (List ℕ) Refusal → Type 0
-Answers ShowPlan s answer = TellsOutcome s.net (IsPlanText s.net) answer
-Answers (ShowTree tree) s answer = TellsOutcome s.net (λ o text. text ≡ tree_text s.net o tree) answer
-Answers (ShowVlan vid) s answer = TellsOutcome s.net (λ o. IsVlanText s.net o vid) answer
-Answers ShowNotes s answer = TellsOutcome s.net (AreNotes s.net) answer
-Answers ShowLag s answer = answer ≡ Ok (lags_text s.net)
-Answers ShowRegions s answer = answer ≡ Ok (regions_text s.net)
-Answers (ShowConfiguration bridge) s answer = answer ≡ option_map_or (λ text. Ok text) (configuration_text s.net bridge) (Err E04)
+abbrev pub Answers : Query → State → Result (List Row) Refusal → Type 0
+Answers ShowPlan s answer = TellsOutcome s.net (ArePlanRows s.net) answer
+Answers (ShowTree tree) s answer = TellsOutcome s.net (λ o rows. rows ≡ tree_rows s.net o tree) answer
+Answers (ShowVlan vid) s answer = TellsOutcome s.net (λ o. AreVlanRows s.net o vid) answer
+Answers ShowNotes s answer = TellsOutcome s.net (AreNoteRows s.net) answer
+Answers ShowLag s answer = answer ≡ Ok (lags_rows s.net)
+Answers ShowRegions s answer = answer ≡ Ok (regions_rows s.net)
+Answers (ShowConfiguration bridge) s answer = answer ≡ option_map_or (λ rows. Ok rows) (configuration_rows s.net bridge) (Err E04)
 Answers Changes s answer = TellsChanges s.mark s.net answer
-Answers Save s answer = answer ≡ Ok (save_text s.net)
+Answers Save s answer = answer ≡ Ok (save_rows s.net)
 
 -- whether a query is asked of a settled plan. What saves the network is not: the tables alone settle it
 abbrev pub asks_plan : Query → Bool

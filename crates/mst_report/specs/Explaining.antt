@@ -5,12 +5,13 @@ use Rattle.std.specs.Option.{option_map_or}
 use Rattle.mst_ids.specs.declared.name.PortName.{PortName}
 use Rattle.mst_net.specs.After.{has_bridge}
 use Rattle.mst_net.specs.Tables.{Net, port_eq}
+use Rattle.mst_rows.specs.Rows.{Row}
 use Rattle.mst_lag.specs.View.{LogicalPort, view_ports}
 use Rattle.mst_picture.specs.trees.Msti.{has_msti}
 use Rattle.mst_picture.specs.trees.Outcome.{Outcome, IsOutcome}
-use Rattle.mst_explain.specs.Explained.{AreExplanations, trees_of_bridge}
+use Rattle.mst_explain.specs.Explained.{AreExplained, trees_of_bridge}
 use Rattle.mst_report.specs.declared.explaining.Unexplained.{Unexplained}
-use Rattle.mst_report.specs.declared.explaining.Unexplained.TheVariants.{NoBridge, NoPort, NoTree, Memory}
+use Rattle.mst_report.specs.declared.explaining.Unexplained.TheVariants.{NoBridge, NoPort, NoTree}
 
 -- the logical port of this name, if there is one. There is none where the port isn't there or is in no LAN, nor where
 -- it is a member that a lower one stands for
@@ -36,23 +37,21 @@ unexplained_of net name tree =
     if not (has_bridge name.bridge net) then Some NoBridge
     else (if not (is_some (logical_port_of net name)) then Some NoPort else (if not (has_asked net name.bridge tree) then Some NoTree else None))
 
--- this text explains the port, in the trees to tell of, by a settled outcome of the network
-pub record Explains (net : Net) (name : PortName) (tree : Option ℕ) (text : List ℕ) : Type 0 where
+-- these rows explain the port, in the trees to tell of, by a settled outcome of the network
+pub record Explains (net : Net) (name : PortName) (tree : Option ℕ) (rows : List Row) : Type 0 where
   pub port : LogicalPort
   pub is_port : logical_port_of net name ≡ Some port
   pub outcome : Outcome
   pub is_outcome : IsOutcome net outcome
-  pub told : AreExplanations net outcome port (asked_trees net name.bridge tree) text
+  pub told : AreExplained net outcome port (asked_trees net name.bridge tree) rows
 
 -- the number and the text of why a port isn't explained
 abbrev pub code_of : Unexplained → List ℕ
 code_of NoBridge = codes "E04"
 code_of NoPort = codes "E05"
 code_of NoTree = codes "E03"
-code_of Memory = codes "E99"
 
 abbrev pub text_of : Unexplained → List ℕ
 text_of NoBridge = codes "no such bridge"
 text_of NoPort = codes "no such port"
 text_of NoTree = codes "bad VID or tree"
-text_of Memory = codes "want of memory"

@@ -1,7 +1,8 @@
 -- What pairs of failures of a network do.
-use Rattle.std.specs.Prelude.{◌≡◌, ◌≤◌, ◌++◌, ℕ, Bool, List, [], ◌∷◌, length, map}
+use Rattle.std.specs.Prelude.{◌≡◌, ◌≤◌, ℕ, Bool, List, [], ◌∷◌, length, map}
 use Rattle.std.specs.List.{AllByRecursion, AllZip, range_with_len}
 use Rattle.mst_net.specs.Tables.{Net}
+use Rattle.mst_rows.specs.Rows.{Row}
 use Rattle.mst_picture.specs.trees.Outcome.{Outcome, IsOutcome}
 use Rattle.mst_sweep.specs.declared.baseline.Baseline.{Baseline}
 use Rattle.mst_sweep.specs.Baseline.{IsBaseline}
@@ -15,20 +16,20 @@ use Rattle.mst_report.specs.Kept.{IsPlan}
 use Rattle.mst_report.specs.Sweeping.{AreToldBy}
 use Rattle.mst_report.specs.declared.pairing.Pairing.{Pairing}
 
--- this is the text of the pairs of one part, and this the number of those that cut some VID which neither failure cuts alone, by
+-- these are the rows of the pairs of one part, and this is the number of those that cut some VID which neither failure cuts alone, by
 -- a settled outcome of the network
-pub record SweepsPairs (part : PartOf) (net : Net) (cuts : ℕ) (text : List ℕ) : Type 0 where
+pub record SweepsPairs (part : PartOf) (net : Net) (cuts : ℕ) (rows : List Row) : Type 0 where
   pub outcome : Outcome
   pub is_outcome : IsOutcome net outcome
-  pub told : IsPairsPart part net outcome text cuts
+  pub told : IsPairsPart part net outcome rows cuts
 
 -- this is told of each of so many parts, by their numbers
 abbrev pub SweepPairsParts : Net → ℕ → List ToldOfPart → Type 0
-SweepPairsParts net count parts = AllZip (λ number part. SweepsPairs (record { number = number; count = count }) net part.cuts part.text) (range_with_len 1 count) parts
+SweepPairsParts net count parts = AllZip (λ number part. SweepsPairs (record { number = number; count = count }) net part.cuts part.rows) (range_with_len 1 count) parts
 
--- these pairs have this text, one after another, and this many of them cut some VID
-abbrev pub ArePairsTold : Net → Outcome → List Pair → ℕ → List ℕ → Type 0
-ArePairsTold net o pairs cuts text = AreToldBy (IsPairTold net o) pairs cuts text
+-- these pairs have these rows, one after another, and this many of them cut some VID
+abbrev pub ArePairsTold : Net → Outcome → List Pair → ℕ → List Row → Type 0
+ArePairsTold net o pairs cuts rows = AreToldBy (IsPairTold net o) pairs cuts rows
 
 -- by the classes of VIDs, this is what a failure cuts alone
 pub record IsSingle (net : Net) (o : Outcome) (baseline : Baseline) (s : Single) : Type 0 where
@@ -52,7 +53,6 @@ pub record IsPairing (p : Pairing) : Type 0 where
   pub singles : AreSingles p.network.now.net plan.forest.outcome p.baseline.now (failures p.network.now.net) p.singles.now
   pub few : length p.singles.now ≤ 9216
 
--- the text of a pair stands behind what stood there before
-abbrev pub TellsPair : Net → Outcome → Single → Single → List ℕ → List ℕ → Bool → Type 0
-TellsPair net o one other before now cuts =
-    (words : List ℕ) × IsPairTold net o (record { first = one.failure; second = other.failure }) (record { text = words; cuts = cuts }) × (now ≡ before ++ words)
+-- these are the rows of the pair of these two, and whether it cuts some VID
+abbrev pub TellsPair : Net → Outcome → Single → Single → Bool → List Row → Type 0
+TellsPair net o one other cuts rows = IsPairTold net o (record { first = one.failure; second = other.failure }) (record { rows = rows; cuts = cuts })

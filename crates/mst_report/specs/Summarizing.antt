@@ -1,11 +1,12 @@
--- The summary of a network: the text that tells its first screen.
-use Rattle.std.specs.Prelude.{ℕ, List}
+-- The summary of a network: the rows that tell its first screen.
+use Rattle.std.specs.Prelude.{List}
 use Rattle.mst_net.specs.Tables.{Net}
+use Rattle.mst_rows.specs.Rows.{Row}
 use Rattle.mst_picture.specs.trees.Outcome.{Outcome, IsOutcome}
-use Rattle.mst_picture.specs.summary.SummaryText.{IsSummary}
+use Rattle.mst_picture.specs.summary.SummaryText.{AreSummaryRows}
 
--- this text summarizes the network, by a settled outcome of it
-pub record Summarizes (net : Net) (text : List ℕ) : Type 0 where
+-- these rows summarize the network, by a settled outcome of it
+pub record Summarizes (net : Net) (rows : List Row) : Type 0 where
   pub outcome : Outcome
   pub is_outcome : IsOutcome net outcome
-  pub told : IsSummary net outcome text
+  pub told : AreSummaryRows net outcome rows

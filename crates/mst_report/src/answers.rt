@@ -1,8 +1,8 @@
-ghost use Rattle.std.specs.Prelude.{◌≡◌, ◌≢◌, true, Ok, Err, IfOk, IfErr};
+ghost use Rattle.std.specs.Prelude.{◌≡◌};
 ghost use Rattle.mst_lang.specs.declared.line.Query.TheVariants.{ShowConfiguration, Changes};
-ghost use Rattle.mst_report.specs.Answers.{Answers, asks_plan as is_of_plan};
+ghost use Rattle.mst_report.specs.Answers.{asks_plan as is_of_plan};
 ghost use Rattle.mst_report.specs.Planned.{planned_state};
-ghost use Rattle.mst_report.specs.Refusing.{HasText, IsRefusal};
+ghost use Rattle.mst_report.specs.Refusing.{IsRefusal};
 
 use crate::laws::has_answer;
 use crate::planner::Planner;
@@ -10,7 +10,7 @@ use mst_ids::Name;
 use mst_lang::Query;
 use mst_net::{Contents, Refusal};
 
-/// Whether a query is asked of a settled plan: all are but `save`, whose text goes by the records of the network.
+/// Whether a query is asked of a settled plan: all are but `save`, whose rows go by the records of the network.
 pub fn asks_plan(query: &Query) -> bool
     ensures { result ≡ is_of_plan query.now }
 {
@@ -18,24 +18,6 @@ pub fn asks_plan(query: &Query) -> bool
 }
 
 impl Planner {
-    /// The answer to a query: its text, which the state of the plan alone settles. A query about a bridge that isn't
-    /// there is refused with E04, one about changes from a mark that isn't there with E16, and any that has a text
-    /// with E99 where memory was wanted and refused.
-    pub fn answer(&self, query: &Query) -> Result<Vec<u8>, Refusal>
-        requires { is_of_plan query.now ≡ true → self.now.is_settled ≡ true }
-        ensures text { IfOk result (λ text. Answers query.now (planned_state self.now) (Ok text.items)) }
-        ensures refused { IfErr result (λ refusal. refusal ≢ Refusal.E99 → Answers query.now (planned_state self.now) (Err refusal)) }
-        ensures memory { result ≡ Err Refusal.E99 → HasText query.now (planned_state self.now) }
-    {
-        if let Some(refusal) = self.refusal(query) {
-            return Err(refusal);
-        }
-        match self.text(query) {
-            Ok(text) => Ok(text),
-            Err(_) => Err(Refusal::E99),
-        }
-    }
-
     /// What refuses a query, be the plan settled or not: E04 where it is about a bridge that isn't there, E16 where it
     /// is about changes from a mark that isn't there. It takes no memory.
     pub fn refusal(&self, query: &Query) -> Option<Refusal>

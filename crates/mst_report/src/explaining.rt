@@ -1,16 +1,19 @@
-ghost use Rattle.std.specs.Prelude.{◌≡◌, ◌≢◌, true, not, if◌then◌else◌, None, Some, MatchOption, Err, IfOk, IfErr};
+ghost use Rattle.std.specs.Prelude.{◌≡◌, ◌++◌, true, not, if◌then◌else◌, List, None, Some, OnOk};
 ghost use Rattle.std.specs.List.{Contains, find};
 ghost use Rattle.std.specs.Option.{option_copied};
 ghost use Rattle.mst_net.specs.After.{has_bridge};
 ghost use Rattle.mst_net.specs.Tables.{port_eq};
+ghost use Rattle.mst_rows.specs.Rows.{Row};
 ghost use Rattle.mst_report.specs.Explaining.{Explains, has_tree as has_tree_in, has_asked, unexplained_of, code_of, text_of};
 
 use crate::planner::Planner;
-use mst_explain::{push_explanation, push_explanations};
+use mst_explain::laws::some_explained;
+use mst_explain::{put_explanation, put_explanations};
 use mst_ids::{PortName, Tree};
 use mst_lag::PortInView;
 use mst_net::Contents;
 use mst_picture::Settled;
+use mst_rows::Rows;
 use std::alloc::{AllocError, Global};
 use thiserror::Error;
 
@@ -25,12 +28,10 @@ pub enum Unexplained {
     NoPort,
     /// The bridge doesn't have the tree that is asked.
     NoTree,
-    /// Memory was wanted and refused.
-    Memory,
 }
 
 impl Unexplained {
-    /// Its number, as it is printed: those of refusals (E04, E05, E99) and of the fault of a tree (E03).
+    /// Its number, as it is printed: those of refusals (E04, E05) and of the fault of a tree (E03).
     pub fn code(self) -> &'static str
         ensures { result.now ≡ code_of self }
     {
@@ -38,7 +39,6 @@ impl Unexplained {
             Unexplained::NoBridge => "E04",
             Unexplained::NoPort => "E05",
             Unexplained::NoTree => "E03",
-            Unexplained::Memory => "E99",
         }
     }
 
@@ -50,7 +50,6 @@ impl Unexplained {
             Unexplained::NoBridge => "no such bridge",
             Unexplained::NoPort => "no such port",
             Unexplained::NoTree => "bad VID or tree",
-            Unexplained::Memory => "want of memory",
         }
     }
 }
@@ -63,39 +62,34 @@ fn port_named<'a>(plan: &'a Settled, name: &PortName) -> Option<&'a PortInView>
 }
 
 impl Planner {
-    /// Why a logical port has its role: the text for the tree that is asked, or where none is for each that its bridge
-    /// has, rising (802.1Q-2022, 13.9 to 13.12). The network alone settles it. It is refused where there is no bridge or
-    /// no logical port of that name, or the bridge doesn't have the tree, by the first of these that applies, and with
-    /// `Memory` only where none does and memory was wanted and refused.
-    pub fn explanation(&self, port: &PortName, tree: Option<Tree>) -> Result<Vec<u8>, Unexplained>
-        requires { self.now.is_settled ≡ true }
-        ensures text { IfOk result (λ text. (unexplained_of self.now.contents.net port.now tree ≡ None) × Explains self.now.contents.net port.now tree text.items) }
-        ensures refused { IfErr result (λ why. why ≢ Unexplained.Memory → unexplained_of self.now.contents.net port.now tree ≡ Some why) }
-        ensures memory { result ≡ Err Unexplained.Memory → unexplained_of self.now.contents.net port.now tree ≡ None }
+    /// Puts why a logical port has its role, which nothing leaves [unexplained](Planner::unexplained): the rows for the tree
+    /// that is asked, or where none is for each that its bridge has, rising (802.1Q-2022, 13.9 to 13.12). The network alone
+    /// settles it. `AllocError`: memory was wanted and refused; some of the rows may have been put.
+    pub fn put_explanation<R: Rows>(
+        &self,
+        port: &PortName,
+        tree: Option<Tree>,
+        out: &mut R,
+    ) -> Result<(), AllocError>
+        requires settled { self.now.is_settled ≡ true }
+        requires explained { unexplained_of self.now.contents.net port.now tree ≡ None }
+        ensures { (first : R) (before : List Row) → R.grew first out.old before
+            → OnOk result ((rows : List Row) × Explains self.now.contents.net port.now tree rows × R.grew first out.new (before ++ rows)) }
     {
         let plan = self.settled();
-        if let Some(why) = self.unexplained(&plan, port, &tree) {
-            return Err(why);
-        }
-        match explained(self.alloc(), &plan, port, &tree) {
-            Ok(text) => Ok(text),
-            Err(_) => Err(Unexplained::Memory),
-        }
+        put_explained(self.alloc(), &plan, port, &tree, out)
     }
 
-    /// Why a port isn't explained, if it isn't, by the network and its plan. It takes no memory.
-    fn unexplained(
-        &self,
-        plan: &Settled,
-        port: &PortName,
-        tree: &Option<Tree>,
-    ) -> Option<Unexplained>
-        requires { plan.now.net ≡ self.now.contents.net }
-        ensures { MatchOption result (unexplained_of self.now.contents.net port.now tree.now ≡ None) (λ why. (why ≢ Unexplained.Memory) × (unexplained_of self.now.contents.net port.now tree.now ≡ Some why)) }
+    /// Why a port isn't explained, if it isn't: there is no bridge of that name, no logical port of that name, or the bridge
+    /// doesn't have the tree, by the first of these that applies. It takes no memory.
+    pub fn unexplained(&self, port: &PortName, tree: Option<Tree>) -> Option<Unexplained>
+        requires { self.now.is_settled ≡ true }
+        ensures { result ≡ unexplained_of self.now.contents.net port.now tree }
     {
+        let plan = self.settled();
         match self.network().bridge(&port.bridge) {
             None => Some(Unexplained::NoBridge),
-            Some(_) => no_port(plan, port, tree),
+            Some(_) => no_port(&plan, port, &tree),
         }
     }
 }
@@ -132,64 +126,74 @@ fn has_tree(plan: &Settled, port: &PortInView, tree: Tree) -> bool
     mst_picture::has_tree(plan.view(), port.bridge, tree)
 }
 
-/// The text of a port that is explained.
-fn explained(
+/// Puts the rows of a port that is explained.
+fn put_explained<R: Rows>(
     alloc: Global,
     plan: &Settled,
     name: &PortName,
     tree: &Option<Tree>,
-) -> Result<Vec<u8>, AllocError>
+    out: &mut R,
+) -> Result<(), AllocError>
     requires { unexplained_of plan.now.net name.now tree.now ≡ None }
-    ensures { IfOk result (λ text. Explains plan.now.net name.now tree.now text.items) }
+    ensures { (first : R) (before : List Row) → R.grew first out.old before
+        → OnOk result ((rows : List Row) × Explains plan.now.net name.now tree.now rows × R.grew first out.new (before ++ rows)) }
 {
     plan.known();
     match port_named(plan, name) {
-        None => Ok(Vec::new(alloc)),
-        Some(port) => in_trees(alloc, plan, port, tree),
+        None => Ok(()),
+        Some(port) => put_in_trees(alloc, plan, port, tree, out),
     }
 }
 
-/// The text of a logical port, in the tree that is asked or in each of its bridge.
-fn in_trees(
+/// Puts the rows of a logical port, in the tree that is asked or in each of its bridge.
+fn put_in_trees<R: Rows>(
     alloc: Global,
     plan: &Settled,
     port: &PortInView,
     tree: &Option<Tree>,
-) -> Result<Vec<u8>, AllocError>
+    out: &mut R,
+) -> Result<(), AllocError>
     requires there { Contains plan.now.view.ports port.now }
     requires tree { has_asked plan.now.net port.now.name.bridge tree.now ≡ true }
-    ensures { IfOk result (λ text. Explains plan.now.net port.now.name tree.now text.items) }
+    ensures { (first : R) (before : List Row) → R.grew first out.old before
+        → OnOk result ((rows : List Row) × Explains plan.now.net port.now.name tree.now rows × R.grew first out.new (before ++ rows)) }
 {
     match tree {
-        None => in_each_tree(alloc, plan, port),
-        Some(tree) => in_tree(alloc, plan, port, *tree),
+        None => put_in_each_tree(alloc, plan, port, out),
+        Some(tree) => put_in_tree(alloc, plan, port, *tree, out),
     }
 }
 
-/// The text of a logical port in each tree that its bridge has.
-fn in_each_tree(alloc: Global, plan: &Settled, port: &PortInView) -> Result<Vec<u8>, AllocError>
+/// Puts the rows of a logical port in each tree that its bridge has.
+fn put_in_each_tree<R: Rows>(
+    alloc: Global,
+    plan: &Settled,
+    port: &PortInView,
+    out: &mut R,
+) -> Result<(), AllocError>
     requires { Contains plan.now.view.ports port.now }
-    ensures { IfOk result (λ text. Explains plan.now.net port.now.name None text.items) }
+    ensures { (first : R) (before : List Row) → R.grew first out.old before
+        → OnOk result ((rows : List Row) × Explains plan.now.net port.now.name None rows × R.grew first out.new (before ++ rows)) }
 {
+    some_explained();
     plan.known();
-    let mut text = Vec::new(alloc);
-    push_explanations(alloc, plan, port, &mut text)?;
-    Ok(text)
+    put_explanations(alloc, plan, port, out)
 }
 
-/// The text of a logical port in a tree that its bridge has.
-fn in_tree(
+/// Puts the rows of a logical port in a tree that its bridge has.
+fn put_in_tree<R: Rows>(
     alloc: Global,
     plan: &Settled,
     port: &PortInView,
     tree: Tree,
-) -> Result<Vec<u8>, AllocError>
+    out: &mut R,
+) -> Result<(), AllocError>
     requires there { Contains plan.now.view.ports port.now }
     requires tree { has_tree_in plan.now.net port.now.name.bridge tree ≡ true }
-    ensures { IfOk result (λ text. Explains plan.now.net port.now.name (Some tree) text.items) }
+    ensures { (first : R) (before : List Row) → R.grew first out.old before
+        → OnOk result ((rows : List Row) × Explains plan.now.net port.now.name (Some tree) rows × R.grew first out.new (before ++ rows)) }
 {
+    some_explained();
     plan.known();
-    let mut text = Vec::new(alloc);
-    push_explanation(alloc, plan, tree, port, &mut text)?;
-    Ok(text)
+    put_explanation(alloc, plan, tree, port, out)
 }

@@ -1,5 +1,5 @@
 //! Laws of answers. Their functions do nothing: a caller has their clauses.
-ghost use Rattle.std.specs.Prelude.{◌≡◌, ◌↔◌, ◌≤◌, ℕ, List, None, Option, Result};
+ghost use Rattle.std.specs.Prelude.{◌≡◌, ◌↔◌, ◌≤◌, ◌∷◌, [], ℕ, List, None, Option, Result};
 ghost use Rattle.std.specs.List.{flat_map, sum_by};
 ghost use Rattle.mst_ids.specs.declared.name.PortName.{PortName};
 ghost use Rattle.mst_lang.specs.declared.line.Query.{Query};
@@ -10,8 +10,9 @@ ghost use Rattle.mst_net.specs.declared.refusal.Refusal.{Refusal};
 ghost use Rattle.mst_picture.specs.trees.Forest.{Forest as ForestOf, IsForest};
 ghost use Rattle.mst_picture.specs.trees.Outcome.{Outcome, IsOutcome};
 ghost use Rattle.mst_picture.specs.diff.AlikeNets.{AreAlike};
-ghost use Rattle.mst_picture.specs.diff.DiffText.{diff_line};
+ghost use Rattle.mst_picture.specs.diff.DiffText.{diff_row};
 ghost use Rattle.mst_picture.specs.diff.declared.diff.Differing.{Differing as Counts};
+ghost use Rattle.mst_rows.specs.Rows.{Row};
 ghost use Rattle.mst_report.specs.Answers.{Answers};
 ghost use Rattle.mst_report.specs.ByName.{KeepsBoundByName, KeepBoundsByName, KeepFirstBounds, StandsFor, KeepNumbers};
 ghost use Rattle.mst_report.specs.Standing.{KeepsBounds, nothing, standing_of, settlings_of, msti_settlings};
@@ -21,37 +22,37 @@ ghost use Rattle.mst_report.specs.Picturing.{Depicts};
 ghost use Rattle.mst_report.specs.Summarizing.{Summarizes};
 ghost use Rattle.mst_report.specs.Pairing.{SweepsPairs, SweepPairsParts};
 ghost use Rattle.mst_report.specs.Sweeping.{Sweeps, SweepsPart, SweepParts};
-ghost use Rattle.mst_sweep.specs.SweepParts.{PartOf, ToldOfPart, whole_part, but_last_line};
+ghost use Rattle.mst_sweep.specs.SweepParts.{PartOf, ToldOfPart, whole_part, but_last_row};
 ghost use Rattle.mst_report.specs.State.{State, IsState, IsMark, IsMarkNow};
 ghost use Rattle.mst_picture.specs.changes.declared.subject.Entry.{Entry};
 
-use mst_explain::laws;
+use mst_explain::laws::{one_explained, some_explained};
 use mst_net::laws::networks;
 use mst_note_text::laws::notes;
 use mst_picture::changes_laws::entries_tell;
 use mst_picture::plan_text_laws::{has_plan, one_plan};
-use mst_picture::text_laws::{has_text, one_text};
+use mst_picture::text_laws::{has_rows, one_rows};
 use mst_picture::trees_laws::{has_outcome, one_outcome};
 use mst_sweep::laws::one_failure;
 
-/// Each query has an answer in each state, a text or a refusal.
+/// Each query has an answer in each state, rows or a refusal.
 pub fn has_answer()
-    ensures { (query : Query) (s : State) → IsState s → (answer : Result (List ℕ) Refusal) × Answers query s answer }
+    ensures { (query : Query) (s : State) → IsState s → (answer : Result (List Row) Refusal) × Answers query s answer }
 {
     has_outcome();
     has_plan();
-    has_text();
+    has_rows();
     notes();
 }
 
 /// A query has one answer: it is a function of the state alone, whatever edits made the network and whatever made the
 /// marked one.
 pub fn one_answer()
-    ensures { (query : Query) (s : State) (a b : Result (List ℕ) Refusal) → IsNetwork s.net → Answers query s a → Answers query s b → a ≡ b }
+    ensures { (query : Query) (s : State) (a b : Result (List Row) Refusal) → IsNetwork s.net → Answers query s a → Answers query s b → a ≡ b }
 {
     one_outcome();
     one_plan();
-    one_text();
+    one_rows();
     notes();
     entries_tell();
 }
@@ -93,21 +94,21 @@ pub fn bounded_since()
     one_outcome();
 }
 
-/// A port that isn't refused has a text that explains it, in the tree that is asked or in each of its bridge, and one alone: the
+/// A port that isn't refused has rows that explain it, in the tree that is asked or in each of its bridge, and these alone: the
 /// network settles it.
 pub fn one_explanation()
-    ensures some { (net : Net) (name : PortName) (tree : Option ℕ) → IsNetwork net → unexplained_of net name tree ≡ None → (text : List ℕ) × Explains net name tree text }
-    ensures one { (net : Net) (name : PortName) (tree : Option ℕ) (text other : List ℕ) → IsNetwork net → Explains net name tree text → Explains net name tree other → text ≡ other }
+    ensures some { (net : Net) (name : PortName) (tree : Option ℕ) → IsNetwork net → unexplained_of net name tree ≡ None → (rows : List Row) × Explains net name tree rows }
+    ensures one { (net : Net) (name : PortName) (tree : Option ℕ) (rows other : List Row) → IsNetwork net → Explains net name tree rows → Explains net name tree other → rows ≡ other }
 {
     has_outcome();
-    laws::one_explanation();
-    laws::some_explanation();
+    one_explained();
+    some_explained();
 }
 
-/// Each network has a text of what each single failure does, and one text and one number of those that cut some VID.
+/// Each network has rows of what each single failure does, and one list of them and one number of those that cut some VID.
 pub fn one_sweep()
-    ensures some { (net : Net) → IsNetwork net → (cuts : ℕ) × (text : List ℕ) × Sweeps net cuts text }
-    ensures one { (net : Net) (text other : List ℕ) (c d : ℕ) → IsNetwork net → Sweeps net c text → Sweeps net d other → (text ≡ other) × (c ≡ d) }
+    ensures some { (net : Net) → IsNetwork net → (cuts : ℕ) × (rows : List Row) × Sweeps net cuts rows }
+    ensures one { (net : Net) (rows other : List Row) (c d : ℕ) → IsNetwork net → Sweeps net c rows → Sweeps net d other → (rows ≡ other) × (c ≡ d) }
 {
     has_outcome();
     networks();
@@ -115,15 +116,15 @@ pub fn one_sweep()
     mst_sweep::laws::one_sweep();
 }
 
-/// A sweep in parts: each part has a text and a number of failures that cut some VID, and one of each. So many parts, each
-/// without its last line, are one after another the sweep's text without its last line, and their numbers have the sweep's as
+/// A sweep in parts: each part has rows and a number of failures that cut some VID, and one of each. So many parts, each
+/// without its last row, are one after another the sweep's rows without the last, and their numbers have the sweep's as
 /// their sum. The only part of one is the sweep.
 pub fn sweep_parts()
-    ensures some { (net : Net) (part : PartOf) → IsNetwork net → (cuts : ℕ) × (text : List ℕ) × SweepsPart part net cuts text }
-    ensures one { (net : Net) (part : PartOf) (text other : List ℕ) (c d : ℕ) → IsNetwork net → SweepsPart part net c text → SweepsPart part net d other → (text ≡ other) × (c ≡ d) }
-    ensures joined { (net : Net) (count : ℕ) (parts : List ToldOfPart) (text : List ℕ) (cuts : ℕ) → IsNetwork net → 1 ≤ count → SweepParts net count parts → Sweeps net cuts text
-        → (flat_map (λ part. but_last_line part.text) parts ≡ but_last_line text) × (sum_by (λ part. part.cuts) parts ≡ cuts) }
-    ensures whole { (net : Net) (text : List ℕ) (cuts : ℕ) → SweepsPart whole_part net cuts text ↔ Sweeps net cuts text }
+    ensures some { (net : Net) (part : PartOf) → IsNetwork net → (cuts : ℕ) × (rows : List Row) × SweepsPart part net cuts rows }
+    ensures one { (net : Net) (part : PartOf) (rows other : List Row) (c d : ℕ) → IsNetwork net → SweepsPart part net c rows → SweepsPart part net d other → (rows ≡ other) × (c ≡ d) }
+    ensures joined { (net : Net) (count : ℕ) (parts : List ToldOfPart) (rows : List Row) (cuts : ℕ) → IsNetwork net → 1 ≤ count → SweepParts net count parts → Sweeps net cuts rows
+        → (flat_map (λ part. but_last_row part.rows) parts ≡ but_last_row rows) × (sum_by (λ part. part.cuts) parts ≡ cuts) }
+    ensures whole { (net : Net) (rows : List Row) (cuts : ℕ) → SweepsPart whole_part net cuts rows ↔ Sweeps net cuts rows }
 {
     has_outcome();
     one_outcome();
@@ -132,51 +133,51 @@ pub fn sweep_parts()
     mst_sweep::laws::sweep_parts();
 }
 
-/// Pairs of failures in parts: each part has a text and a number of pairs that cut some VID which neither failure cuts alone, and one
-/// of each. So many parts, each without its last line, are one after another the whole's text without its last line, and their
+/// Pairs of failures in parts: each part has rows and a number of pairs that cut some VID which neither failure cuts alone, and one
+/// of each. So many parts, each without its last row, are one after another the whole's rows without the last, and their
 /// numbers have the whole's as their sum: that is the only part of one.
 pub fn pair_parts()
-    ensures some { (net : Net) (part : PartOf) → IsNetwork net → (cuts : ℕ) × (text : List ℕ) × SweepsPairs part net cuts text }
-    ensures one { (net : Net) (part : PartOf) (text other : List ℕ) (c d : ℕ) → IsNetwork net → SweepsPairs part net c text → SweepsPairs part net d other → (text ≡ other) × (c ≡ d) }
-    ensures joined { (net : Net) (count : ℕ) (parts : List ToldOfPart) (text : List ℕ) (cuts : ℕ) → IsNetwork net → 1 ≤ count → SweepPairsParts net count parts → SweepsPairs whole_part net cuts text
-        → (flat_map (λ part. but_last_line part.text) parts ≡ but_last_line text) × (sum_by (λ part. part.cuts) parts ≡ cuts) }
+    ensures some { (net : Net) (part : PartOf) → IsNetwork net → (cuts : ℕ) × (rows : List Row) × SweepsPairs part net cuts rows }
+    ensures one { (net : Net) (part : PartOf) (rows other : List Row) (c d : ℕ) → IsNetwork net → SweepsPairs part net c rows → SweepsPairs part net d other → (rows ≡ other) × (c ≡ d) }
+    ensures joined { (net : Net) (count : ℕ) (parts : List ToldOfPart) (rows : List Row) (cuts : ℕ) → IsNetwork net → 1 ≤ count → SweepPairsParts net count parts → SweepsPairs whole_part net cuts rows
+        → (flat_map (λ part. but_last_row part.rows) parts ≡ but_last_row rows) × (sum_by (λ part. part.cuts) parts ≡ cuts) }
 {
     one_outcome();
     mst_sweep::laws::pairs();
 }
 
-/// What the change from one network to another does: there is one text and one count of what differs, which the networks
+/// What the change from one network to another does: there is one list of rows and one count of what differs, which the networks
 /// alone settle.
 pub fn one_difference()
-    ensures one { (a b : Net) (c d : Counts) (text other : List ℕ) → IsNetwork a → IsNetwork b → Differs a b c text → Differs a b d other → (text ≡ other) × (c ≡ d) }
-    ensures some { (a b : Net) → IsNetwork a → IsNetwork b → (c : Counts) × (text : List ℕ) × Differs a b c text }
+    ensures one { (a b : Net) (c d : Counts) (rows other : List Row) → IsNetwork a → IsNetwork b → Differs a b c rows → Differs a b d other → (rows ≡ other) × (c ≡ d) }
+    ensures some { (a b : Net) → IsNetwork a → IsNetwork b → (c : Counts) × (rows : List Row) × Differs a b c rows }
 {
     has_outcome();
     mst_picture::diff_laws::one_diff();
 }
 
-/// A network differs from itself in nothing: the text is the last line alone.
+/// A network differs from itself in nothing: the last row stands alone.
 pub fn no_difference()
-    ensures { (a : Net) (c : Counts) (text : List ℕ) → IsNetwork a → Differs a a c text
-        → (text ≡ diff_line c) × (c ≡ record { regions = 0; roots = 0; ports = 0; vlans = 0 }) }
+    ensures { (a : Net) (c : Counts) (rows : List Row) → IsNetwork a → Differs a a c rows
+        → (rows ≡ diff_row c ∷ []) × (c ≡ record { regions = 0; roots = 0; ports = 0; vlans = 0 }) }
 {
     one_outcome();
     mst_picture::diff_laws::no_difference();
 }
 
-/// The last line stands alone exactly where nothing is counted, and that is exactly where the networks are alike.
+/// The last row stands alone exactly where nothing is counted, and that is exactly where the networks are alike.
 pub fn last_line()
-    ensures counted { (a b : Net) (c : Counts) (text : List ℕ) → Differs a b c text
-        → (c ≡ record { regions = 0; roots = 0; ports = 0; vlans = 0 }) ↔ (text ≡ diff_line c) }
-    ensures same { (a b : Net) (c : Counts) (text : List ℕ) → (x : Differs a b c text) → (text ≡ diff_line c) ↔ AreAlike a x.old b x.new }
+    ensures counted { (a b : Net) (c : Counts) (rows : List Row) → Differs a b c rows
+        → (c ≡ record { regions = 0; roots = 0; ports = 0; vlans = 0 }) ↔ (rows ≡ diff_row c ∷ []) }
+    ensures same { (a b : Net) (c : Counts) (rows : List Row) → (x : Differs a b c rows) → (rows ≡ diff_row c ∷ []) ↔ AreAlike a x.old b x.new }
 {
     mst_picture::diff_laws::last_line();
 }
 
-/// The change back: as much differs. That the lines are the same with their sides changed over, [`mst_diff::laws::turned`]
+/// The change back: as much differs. That the rows are the same with their sides changed over, [`mst_diff::laws::turned`]
 /// says of each part.
 pub fn turned()
-    ensures { (a b : Net) (c d : Counts) (text other : List ℕ) → IsNetwork a → IsNetwork b → Differs a b c text → Differs b a d other → c ≡ d }
+    ensures { (a b : Net) (c d : Counts) (rows other : List Row) → IsNetwork a → IsNetwork b → Differs a b c rows → Differs b a d other → c ≡ d }
 {
     one_outcome();
     mst_picture::diff_laws::turned();
@@ -184,8 +185,8 @@ pub fn turned()
 
 /// A network has one summary, which the network alone settles.
 pub fn one_summary()
-    ensures some { (net : Net) → IsNetwork net → (text : List ℕ) × Summarizes net text }
-    ensures one { (net : Net) (text other : List ℕ) → IsNetwork net → Summarizes net text → Summarizes net other → text ≡ other }
+    ensures some { (net : Net) → IsNetwork net → (rows : List Row) × Summarizes net rows }
+    ensures one { (net : Net) (rows other : List Row) → IsNetwork net → Summarizes net rows → Summarizes net other → rows ≡ other }
 {
     has_outcome();
     mst_picture::summary_laws::one_summary();

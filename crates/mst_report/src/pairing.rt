@@ -1,21 +1,24 @@
-ghost use Rattle.std.specs.Prelude.{◌≡◌, ◌≤◌, ◌++◌, ◌-◌, ◌*◌, ◌/◌, List, [], ◌∷◌, ℕ, IfOk, OnOk, length, map};
+ghost use Rattle.std.specs.Prelude.{◌≡◌, ◌≤◌, ◌-◌, ◌*◌, ◌/◌, List, [], ◌∷◌, IfOk, OnOk, length, map};
 ghost use Rattle.std.specs.List.{AllByRecursion};
 ghost use Rattle.mst_lag.specs.Viewed.{IsView};
 ghost use Rattle.mst_picture.specs.trees.Forest.{IsForest};
 ghost use Rattle.mst_report.specs.Kept.{IsPlan, AreTrees};
 ghost use Rattle.mst_report.specs.Pairing.{SweepsPairs, AreSingles, HasFlags, IsSingle, IsPairing, ArePairsTold, TellsPair};
+ghost use Rattle.mst_report.specs.Sweeping.{Puts};
+ghost use Rattle.mst_rows.specs.Rows.{Row};
 ghost use Rattle.mst_sweep.specs.Baseline.{IsBaseline};
 ghost use Rattle.mst_sweep.specs.Pairs.{failed, with_each};
 
 use crate::plan::Plan;
-use crate::sweeping::{Sweep, baseline_of, renew, trees_ahead};
+use crate::sweeping::{baseline_of, renew, trees_ahead};
 use mst_config::laws::regions_stay;
 use mst_lag::{View, view};
 use mst_net::Network;
 use mst_picture::{Forest, Planned};
+use mst_rows::Rows;
 use mst_sweep::{
-    Baseline, Failing, Failure, Single, SweepPart, cut_classes, failures, push_last_of_pairs,
-    push_pair,
+    Baseline, Failing, Failure, Single, SweepPart, cut_classes, failures, put_last_of_pairs,
+    put_pair,
 };
 use std::alloc::{AllocError, Global};
 
@@ -28,18 +31,20 @@ pub(crate) struct Pairing<'a> {
     pub(crate) singles: &'a [Single],
 }
 
-/// Which VIDs each pair of a part of those of a network's failures cuts that neither cuts alone, by its plan. `AllocError`: memory
-/// was wanted and refused.
+/// Puts which VIDs each pair of a part of those of a network's failures cuts that neither cuts alone, by its plan, each as soon as
+/// it is known, and answers how many of them cut some. `AllocError`: memory was wanted and refused; some of the rows may have been
+/// put.
 ///
 /// A failure is looked at once alone. For a first one of pairs the trees are repaired once, and from these once for each second.
-pub(crate) fn sweep_pairs(
+pub(crate) fn sweep_pairs<R: Rows>(
     alloc: Global,
     network: &Network,
     plan: &Plan,
     part: SweepPart,
-) -> Result<Sweep, AllocError>
+    out: &mut R,
+) -> Result<u64, AllocError>
     requires { IsPlan network.now.net network.now.numbers plan.now }
-    ensures { IfOk result (λ told. SweepsPairs part network.now.net told.cuts told.text.items) }
+    ensures { IfOk result (λ cuts. (rows : List Row) × SweepsPairs part network.now.net cuts rows × Puts R.grew out.old out.new rows) }
 {
     let all = failures(alloc, &plan.view)?;
     let baseline = baseline_of(alloc, plan)?;
@@ -51,7 +56,7 @@ pub(crate) fn sweep_pairs(
         baseline: &baseline,
         singles: singles.as_slice(),
     };
-    pairs_told(alloc, &pairing, part, &mut seen)
+    put_pairs_of(alloc, &pairing, part, &mut seen, out)
 }
 
 /// What each of these failures cuts alone. The view is the network's, and stays so.
@@ -139,23 +144,23 @@ fn pairs_among(count: usize) -> usize
     count * count.saturating_sub(1) / 2
 }
 
-/// What the pairs of a part do, and the last line. The view is the network's.
-fn pairs_told(
+/// Puts what the pairs of a part do, and the last row, and answers how many of them cut some VID. The view is the network's.
+fn put_pairs_of<R: Rows>(
     alloc: Global,
     pairing: &Pairing,
     part: SweepPart,
     seen: &mut View,
-) -> Result<Sweep, AllocError>
+    out: &mut R,
+) -> Result<u64, AllocError>
     requires pairing { IsPairing pairing.now }
     requires seen { IsView pairing.now.network.now.net pairing.now.network.now.numbers seen.old }
-    ensures { IfOk result (λ told. SweepsPairs part pairing.now.network.now.net told.cuts told.text.items) }
+    ensures { IfOk result (λ cuts. (rows : List Row) × SweepsPairs part pairing.now.network.now.net cuts rows × Puts R.grew out.old out.new rows) }
 {
     let count = pairing.singles.len();
     let all = pairs_among(count);
     let mut begin = part.begin(all);
     let mut end = part.end(all);
     let pairs = end - begin;
-    let mut text = Vec::new(alloc);
     let mut cuts = 0;
     for first in 0..count {
         let behind = count - first - 1;
@@ -163,23 +168,23 @@ fn pairs_told(
         let to = end.min(behind);
         let one = &pairing.singles[first];
         let others = &pairing.singles[first + 1 + from..first + 1 + to];
-        cuts += push_run(alloc, pairing, one, others, seen, &mut text)?;
+        cuts += put_run(alloc, pairing, one, others, seen, out)?;
         begin -= from;
         end -= to;
     }
-    push_last_of_pairs(pairs as u64, cuts, &mut text)?;
-    Ok(Sweep { text, cuts })
+    put_last_of_pairs(pairs as u64, cuts, out)?;
+    Ok(cuts)
 }
 
-/// Appends what the pairs of a failure with each of others do, and answers how many of them cut what neither failure cuts alone. The
+/// Puts what the pairs of a failure with each of others do, and answers how many of them cut what neither failure cuts alone. The
 /// view is the network's, and stays so.
-fn push_run(
+fn put_run<R: Rows>(
     alloc: Global,
     pairing: &Pairing,
     one: &Single,
     others: &[Single],
     seen: &mut View,
-    text: &mut Vec<u8>,
+    out: &mut R,
 ) -> Result<u64, AllocError>
     requires pairing { IsPairing pairing.now }
     requires one { HasFlags pairing.now.baseline.now one.now }
@@ -187,7 +192,7 @@ fn push_run(
     requires seen { IsView pairing.now.network.now.net pairing.now.network.now.numbers seen.old }
     ensures told { IfOk result (λ cuts. (is : IsPairing pairing.now) → IsSingle pairing.now.network.now.net is.plan.forest.outcome pairing.now.baseline.now one.now
         → AllByRecursion (IsSingle pairing.now.network.now.net is.plan.forest.outcome pairing.now.baseline.now) others.now
-        → (words : List ℕ) × ArePairsTold pairing.now.network.now.net is.plan.forest.outcome (with_each one.now.failure (map (λ s. s.failure) others.now)) cuts words × (text.new.items ≡ text.old.items ++ words)) }
+        → (rows : List Row) × ArePairsTold pairing.now.network.now.net is.plan.forest.outcome (with_each one.now.failure (map (λ s. s.failure) others.now)) cuts rows × Puts R.grew out.old out.new rows) }
     ensures few { IfOk result (λ cuts. cuts ≤ length others.now) }
     ensures seen { OnOk result (IsView pairing.now.network.now.net pairing.now.network.now.numbers seen.new) }
 {
@@ -197,7 +202,7 @@ fn push_run(
     let forest = trees_of_first(alloc, pairing.network, pairing.plan, &one.failure, seen)?;
     let mut cuts = 0;
     for other in others {
-        if push_second(alloc, pairing, one, &forest, other, seen, text)? {
+        if put_second(alloc, pairing, one, &forest, other, seen, out)? {
             cuts += 1;
         }
     }
@@ -218,16 +223,16 @@ fn back_to_none(
     renew(alloc, network, failure, seen)
 }
 
-/// Appends what a pair does, and answers whether it cuts what neither failure cuts alone. The view is that of the network with the
+/// Puts what a pair does, and answers whether it cuts what neither failure cuts alone. The view is that of the network with the
 /// first, and stays so: it is renewed for the second, and then back. The trees are repaired from these.
-fn push_second(
+fn put_second<R: Rows>(
     alloc: Global,
     pairing: &Pairing,
     one: &Single,
     from: &Forest,
     other: &Single,
     seen: &mut View,
-    text: &mut Vec<u8>,
+    out: &mut R,
 ) -> Result<bool, AllocError>
     requires pairing { IsPairing pairing.now }
     requires one { HasFlags pairing.now.baseline.now one.now }
@@ -235,7 +240,7 @@ fn push_second(
     requires seen { IsView (failed (one.now.failure ∷ []) pairing.now.network.now.net) pairing.now.network.now.numbers seen.old }
     ensures told { IfOk result (λ cuts. (is : IsPairing pairing.now) → IsSingle pairing.now.network.now.net is.plan.forest.outcome pairing.now.baseline.now one.now
         → IsSingle pairing.now.network.now.net is.plan.forest.outcome pairing.now.baseline.now other.now
-        → TellsPair pairing.now.network.now.net is.plan.forest.outcome one.now other.now text.old.items text.new.items cuts) }
+        → (rows : List Row) × TellsPair pairing.now.network.now.net is.plan.forest.outcome one.now other.now cuts rows × Puts R.grew out.old out.new rows) }
     ensures seen { OnOk result (IsView (failed (one.now.failure ∷ []) pairing.now.network.now.net) pairing.now.network.now.numbers seen.new) }
 {
     let forest = trees_of_second(alloc, pairing, one, from, other, seen)?;
@@ -247,7 +252,7 @@ fn push_second(
         view: seen,
         forest: &forest,
     };
-    let cuts = push_pair(alloc, one, other, &old, pairing.baseline, &new, text)?;
+    let cuts = put_pair(alloc, one, other, &old, pairing.baseline, &new, out)?;
     back_to_first(alloc, pairing.network, &one.failure, &other.failure, seen)?;
     Ok(cuts)
 }

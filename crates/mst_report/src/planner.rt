@@ -1,4 +1,4 @@
-ghost use Rattle.std.specs.Prelude.{◌≡◌, ◌≢◌, true, false, Err, IsOk, IfOk, IfErr, OnOk, OnErr, IsTrue};
+ghost use Rattle.std.specs.Prelude.{◌≡◌, ◌≢◌, ◌++◌, true, false, List, Err, IsOk, IfOk, IfErr, OnOk, OnErr, IsTrue};
 ghost use Rattle.mst_net.specs.After.{after};
 ghost use Rattle.mst_net.specs.Contents.{SameContents, CanCommit, Commits, room_for};
 ghost use Rattle.std.specs.Option.{option_map};
@@ -7,12 +7,13 @@ ghost use Rattle.mst_picture.specs.trees.Forest.{IsForest, SettlesNoUnused};
 ghost use Rattle.mst_lag.specs.Viewed.{IsView};
 ghost use Rattle.mst_picture.specs.changes.Stored.{kept_entries};
 ghost use Rattle.mst_report.specs.Pairing.{SweepsPairs};
-ghost use Rattle.mst_report.specs.Sweeping.{Sweeps, SweepsPart};
+ghost use Rattle.mst_report.specs.Sweeping.{SweepsPart};
+ghost use Rattle.mst_rows.specs.Rows.{Row};
 
-use crate::laws::{entries_of_network, sweep_parts};
+use crate::laws::entries_of_network;
 use crate::pairing::sweep_pairs;
 use crate::plan::{Plan, next_plan, renew_plan, settle_plan};
-use crate::sweeping::{Sweep, sweep_network};
+use crate::sweeping::sweep_network;
 use mst_config::laws::regions_stay;
 use mst_config::touches_regions;
 use mst_ids::Tree;
@@ -20,6 +21,7 @@ use mst_lag::View;
 use mst_lang::Edit;
 use mst_net::{Contents, Network, Refusal};
 use mst_picture::{Entries, Forest, Settled};
+use mst_rows::Rows;
 use mst_sweep::SweepPart;
 use std::alloc::{AllocError, Global};
 use std::marker::Model;
@@ -255,48 +257,40 @@ impl Planner {
         }
     }
 
-    /// What each single failure does to the network: each LAN that is up goes down, and each bridge that is on goes off, one
-    /// at a time. Each is told of by one repair of the plan that stands, and isn't made. `AllocError`: memory was wanted and
-    /// refused. The planner is as it was in either case, but for room for edits.
-    pub fn sweep(&mut self) -> Result<Sweep, AllocError>
+    /// Puts what each single failure of a part does to the network: each LAN that is up goes down, and each bridge that is on goes
+    /// off, one at a time. Each is told of by one repair of the plan that stands, as soon as it is known, and isn't made. A last
+    /// row counts them, and the answer is how many of them cut some VID. So a sweep can be made in parts, each by a planner of its
+    /// own. `AllocError`: memory was wanted and refused; some of the rows may have been put. The planner is as it was in either
+    /// case, but for room for edits.
+    pub fn put_sweep<R: Rows>(&mut self, part: SweepPart, out: &mut R) -> Result<u64, AllocError>
         requires { self.old.is_settled ≡ true }
-        ensures told { IfOk result (λ told. Sweeps self.old.contents.net told.cuts told.text.items) }
-        ensures same { SameContents self.old.contents self.new.contents }
-        ensures settled { self.new.is_settled ≡ true }
-        ensures standing { self.new.standing ≡ self.old.standing }
-        ensures mark { self.new.mark ≡ self.old.mark }
-    {
-        sweep_parts();
-        self.sweep_part(SweepPart::whole())
-    }
-
-    /// The same of a part of the failures: so a sweep can be made in parts, each by a planner of its own.
-    pub fn sweep_part(&mut self, part: SweepPart) -> Result<Sweep, AllocError>
-        requires { self.old.is_settled ≡ true }
-        ensures told { IfOk result (λ told. SweepsPart part self.old.contents.net told.cuts told.text.items) }
+        ensures told { (first : R) (before : List Row) → R.grew first out.old before
+            → IfOk result (λ cuts. (rows : List Row) × SweepsPart part self.old.contents.net cuts rows × R.grew first out.new (before ++ rows)) }
         ensures same { SameContents self.old.contents self.new.contents }
         ensures settled { self.new.is_settled ≡ true }
         ensures standing { self.new.standing ≡ self.old.standing }
         ensures mark { self.new.mark ≡ self.old.mark }
     {
         let plan = self.plan.as_ref().unwrap();
-        sweep_network(self.alloc, &mut self.network, plan, part)
+        sweep_network(self.alloc, &mut self.network, plan, part, out)
     }
 
-    /// What each pair of a part of those of the network's failures does: in the order of the failures of a sweep, each with each
+    /// Puts what each pair of a part of those of the network's failures does: in the order of the failures of a sweep, each with each
     /// behind it, by the first and then by the second. For those pairs that cut some VIDs together which neither failure cuts alone a
-    /// line with these VIDs, and the lines of their parts; and a last line that counts the pairs and those of them.
+    /// row with these VIDs, and the rows of their parts, as soon as they are known; and a last row that counts the pairs and those of
+    /// them. The answer is how many these are.
     ///
-    /// `AllocError`: memory was wanted and refused. The planner is as it was in either case.
-    pub fn sweep_pairs(&self, part: SweepPart) -> Result<Sweep, AllocError>
+    /// `AllocError`: memory was wanted and refused; some of the rows may have been put.
+    pub fn put_pairs<R: Rows>(&self, part: SweepPart, out: &mut R) -> Result<u64, AllocError>
         requires { self.now.is_settled ≡ true }
-        ensures { IfOk result (λ told. SweepsPairs part self.now.contents.net told.cuts told.text.items) }
+        ensures { (first : R) (before : List Row) → R.grew first out.old before
+            → IfOk result (λ cuts. (rows : List Row) × SweepsPairs part self.now.contents.net cuts rows × R.grew first out.new (before ++ rows)) }
     {
         let plan = self.plan.as_ref().unwrap();
-        sweep_pairs(self.alloc, &self.network, plan, part)
+        sweep_pairs(self.alloc, &self.network, plan, part, out)
     }
 
-    /// What the texts take memory from.
+    /// What the rows take memory from.
     pub(crate) fn alloc(&self) -> Global {
         self.alloc
     }
@@ -341,7 +335,7 @@ impl Planner {
         self.mark.as_ref()
     }
 
-    /// The plan, for the texts.
+    /// The plan, for the rows.
     pub(crate) fn plan(&self) -> &Plan
         requires { self.now.is_settled ≡ true }
         ensures of { IsPlan self.now.contents.net self.now.contents.numbers result.now }

@@ -1,13 +1,14 @@
-ghost use Rattle.std.specs.Prelude.{◌≡◌, ◌++◌, List, ℕ, IfOk, OnOk};
+ghost use Rattle.std.specs.Prelude.{List, IfOk, OnOk};
 ghost use Rattle.mst_net.specs.Contents.{SameContents, CanCommit, ahead_of};
 ghost use Rattle.mst_config.specs.Shared.{AreRegions};
+ghost use Rattle.mst_rows.specs.Rows.{Row};
 ghost use Rattle.mst_picture.specs.trees.Agrees.{Known};
 ghost use Rattle.mst_picture.specs.trees.Forest.{IsForest};
 ghost use Rattle.mst_sweep.specs.Baseline.{IsBaseline};
 ghost use Rattle.mst_sweep.specs.SweepText.{IsTold};
 ghost use Rattle.mst_lag.specs.Viewed.{IsView};
 ghost use Rattle.mst_report.specs.Kept.{IsPlan, AreTrees};
-ghost use Rattle.mst_report.specs.Sweeping.{SweepsPart, AreTold, AreFailed, IsViewBut};
+ghost use Rattle.mst_report.specs.Sweeping.{SweepsPart, AreTold, AreFailed, IsViewBut, Puts};
 
 use crate::plan::Plan;
 use mst_config::Regions;
@@ -15,38 +16,31 @@ use mst_config::laws::regions_stay;
 use mst_lag::{View, view};
 use mst_net::{Contents, Network, Ready};
 use mst_picture::{Forest, Planned};
-use mst_sweep::{Baseline, Failure, SweepPart, failures, push_failure, push_last};
+use mst_rows::Rows;
+use mst_sweep::{Baseline, Failure, SweepPart, failures, put_failure, put_last};
 use std::alloc::{AllocError, Global};
 
-/// What each single failure of a network does, or what pairs of them do, or each of a part of these.
-#[derive(Drop)]
-pub struct Sweep {
-    /// A line for each LAN that is up and then for each bridge that is on, each with the parts of what its failure cuts, or a
-    /// line for each pair that cuts what neither failure cuts alone, with the parts; and a last line that counts them.
-    pub text: Vec<u8>,
-    /// How many of the failures, or of the pairs, cut some VID.
-    pub cuts: u64,
-}
-
-/// What each single failure of a part of a network's does, by its plan. `AllocError`: memory was wanted and refused. The
-/// network is as it was in either case.
-pub(crate) fn sweep_network(
+/// Puts what each single failure of a part of a network's does, by its plan, each as soon as it is known, and answers how many
+/// of them cut some VID. `AllocError`: memory was wanted and refused; some of the rows may have been put. The network is as it
+/// was in either case.
+pub(crate) fn sweep_network<R: Rows>(
     alloc: Global,
     network: &mut Network,
     plan: &Plan,
     part: SweepPart,
-) -> Result<Sweep, AllocError>
+    out: &mut R,
+) -> Result<u64, AllocError>
     requires { IsPlan network.old.net network.old.numbers plan.now }
-    ensures told { IfOk result (λ told. SweepsPart part network.old.net told.cuts told.text.items) }
+    ensures told { IfOk result (λ cuts. (rows : List Row) × SweepsPart part network.old.net cuts rows × Puts R.grew out.old out.new rows) }
     ensures same { SameContents network.old network.new }
 {
     let all = failures(alloc, &plan.view)?;
     let failures = part.of(all.as_slice());
     let baseline = baseline_of(alloc, plan)?;
     let mut seen = view(alloc, network)?;
-    let mut told = sweep_failures(alloc, network, plan, &baseline, failures, &mut seen)?;
-    push_last(failures, told.cuts, &mut told.text)?;
-    Ok(told)
+    let cuts = sweep_failures(alloc, network, plan, &baseline, failures, &mut seen, out)?;
+    put_last(failures, cuts, out)?;
+    Ok(cuts)
 }
 
 /// What stays the same for all failures.
@@ -61,46 +55,49 @@ pub(crate) fn baseline_of(alloc: Global, plan: &Plan) -> Result<Baseline, AllocE
     Baseline::new(alloc, &planned)
 }
 
-/// What each of these failures does, but for the last line. The view is the network's.
-fn sweep_failures(
+/// Puts what each of these failures does, but for the last row, and answers how many of them cut some VID. The view is the
+/// network's.
+fn sweep_failures<R: Rows>(
     alloc: Global,
     network: &mut Network,
     plan: &Plan,
     baseline: &Baseline,
     failures: &[Failure],
     seen: &mut View,
-) -> Result<Sweep, AllocError>
+    out: &mut R,
+) -> Result<u64, AllocError>
     requires of { IsPlan network.old.net network.old.numbers plan.now }
     requires baseline { IsBaseline plan.now.view plan.now.forest baseline.now }
     requires seen { IsView network.old.net network.old.numbers seen.old }
-    ensures told { IfOk result (λ told. (is : IsForest network.old.net network.old.numbers plan.now.forest) → AreTold network.old.net is.outcome failures.now told.cuts told.text.items) }
+    ensures told { IfOk result (λ cuts. (is : IsForest network.old.net network.old.numbers plan.now.forest)
+        → (rows : List Row) × AreTold network.old.net is.outcome failures.now cuts rows × Puts R.grew out.old out.new rows) }
     ensures same { SameContents network.old network.new }
 {
-    let mut text = Vec::new(alloc);
     let mut cuts = 0;
     for failure in failures {
-        if push_failed(alloc, network, plan, baseline, failure, seen, &mut text)? {
+        if put_failed(alloc, network, plan, baseline, failure, seen, out)? {
             cuts += 1;
         }
     }
-    Ok(Sweep { text, cuts })
+    Ok(cuts)
 }
 
-/// Appends what a failure does, and answers whether it cuts some VID. The view is the network's, and stays so: it is renewed for
+/// Puts what a failure does, and answers whether it cuts some VID. The view is the network's, and stays so: it is renewed for
 /// the failure, and then back.
-fn push_failed(
+fn put_failed<R: Rows>(
     alloc: Global,
     network: &mut Network,
     plan: &Plan,
     baseline: &Baseline,
     failure: &Failure,
     seen: &mut View,
-    text: &mut Vec<u8>,
+    out: &mut R,
 ) -> Result<bool, AllocError>
     requires of { IsPlan network.old.net network.old.numbers plan.now }
     requires baseline { IsBaseline plan.now.view plan.now.forest baseline.now }
     requires seen { IsView network.old.net network.old.numbers seen.old }
-    ensures told { IfOk result (λ cuts. (is : IsForest network.old.net network.old.numbers plan.now.forest) → (words : List ℕ) × IsTold network.old.net is.outcome failure.now (record { text = words; cuts = cuts }) × (text.new.items ≡ text.old.items ++ words)) }
+    ensures told { IfOk result (λ cuts. (is : IsForest network.old.net network.old.numbers plan.now.forest)
+        → (rows : List Row) × IsTold network.old.net is.outcome failure.now (record { rows = rows; cuts = cuts }) × Puts R.grew out.old out.new rows) }
     ensures same { SameContents network.old network.new }
     ensures seen { OnOk result (IsView network.new.net network.new.numbers seen.new) }
 {
@@ -113,7 +110,7 @@ fn push_failed(
         view: seen,
         forest: &forest,
     };
-    let cuts = push_failure(alloc, failure, &old, baseline, &new, text)?;
+    let cuts = put_failure(alloc, failure, &old, baseline, &new, out)?;
     renew(alloc, network, failure, seen)?;
     Ok(cuts)
 }

@@ -1,13 +1,17 @@
--- The lines of a tree's VIDs, cut as they are written.
-use Rattle.std.proofs.Common.{◌≡◌, ℕ, ◌+◌, ◌-◌, ◌<◌, ◌≤◌, Bool, true, false, List, [], ◌∷◌, ◌++◌, map, length, drop, codes, decimal, refl, sym, ap, subst, ◌∙◌, append_assoc, append-nil, length-append, arith}
+-- The lines of a tree's VIDs, cut as they are put.
+use Rattle.std.proofs.Common.{◌≡◌, ℕ, ◌+◌, ◌<◌, ◌≤◌, Bool, true, false, List, [], ◌∷◌, ◌++◌, map, length, drop, codes, decimal, refl, sym, ap, subst, ◌∙◌, append_assoc, append-nil, length-append, arith}
 use Rattle.std.specs.Prelude.{if◌then◌else◌}
 use Rattle.std.proofs.lemmas.Bool.{le-leb, lt-leb}
+use Rattle.std.proofs.lemmas.Grind.{flat_map-append}
+use Rattle.std.proofs.lemmas.List.{map-append}
 use Rattle.mst_ids.specs.Vids.{IsVidSet, runs_from, run_text, runs_text}
-use Rattle.mst_lang.specs.declared.line.Edit.{Edit}
+use Rattle.mst_kinds.specs.declared.bridge_command.BridgeCommand.TheVariants.{Msti}
+use Rattle.mst_rows.specs.Cells.{number, vids as vids_cell}
+use Rattle.mst_rows.specs.Rows.{Row}
 use Rattle.mst_save.specs.EditLine.{spaced, line_of}
-use Rattle.mst_save.specs.Runs.{AreRuns}
+use Rattle.mst_save.specs.Runs.{AreRuns, vids_of}
 use Rattle.mst_save.specs.Saved.{mapping, fits, cut_from, cut}
-use Rattle.mst_save.specs.SaveText.{edit_text, edits_text}
+use Rattle.mst_save.specs.SaveRows.{edit_rows, edits_rows, of_bridge}
 use Rattle.mst_save.proofs.RunLemmas.{runs_of_runs, runs_of_set}
 use Rattle.mst_save.proofs.Cuts.{runs_front, runs_end}
 
@@ -39,112 +43,121 @@ module _ (bridge : List ℕ) (tree : ℕ) where
   line_is : (runs : List (ℕ × ℕ)) → AreRuns 1 runs → line_of (mapping bridge tree runs) ≡ head ++ runs_text runs
   line_is runs are = ap line_with (ap runs_text (runs_of_runs 1 runs are)) ∙ spelled (runs_text runs)
 
-  -- the text of lines
-  abbrev text_of : List (List (ℕ × ℕ)) → List ℕ
-  text_of lines = edits_text (map (mapping bridge tree) lines)
+  -- how long it is
+  long_is : (runs : List (ℕ × ℕ)) → AreRuns 1 runs → length (line_of (mapping bridge tree runs)) ≡ 15 + length bridge + length (decimal tree) + length (runs_text runs)
+  long_is runs are =
+      let a = length-append (codes "setvid2mstid") (32 ∷ bridge) in
+      let b = length-append (codes "setvid2mstid" ++ 32 ∷ bridge) (32 ∷ decimal tree) in
+      let c = length-append (codes "setvid2mstid" ++ 32 ∷ bridge ++ 32 ∷ decimal tree) (32 ∷ []) in
+      let d = length-append head (runs_text runs) in
+      ap length (line_is runs are) ∙ omega (arith, a, b, c, d)
 
-  -- the edits that map the VIDs of a set to the tree
-  abbrev pub set_maps : List Bool → List Edit
-  set_maps vids = map (mapping bridge tree) (cut (fits bridge tree) (runs_from 0 vids))
+  abbrev pub one_long : ℕ × ℕ → ℕ
+  one_long run = 15 + length bridge + length (decimal tree) + length (run_text run)
 
-  -- what was written when the line of some runs has begun, and what is still to be written
-  pub record Writing (vids : List Bool) (old out : List ℕ) (start next : ℕ) : Type 0 where
-    pub before : List ℕ
+  -- the lines of a set, and the rows of lines
+  abbrev pub set_lines : List Bool → List (List (ℕ × ℕ))
+  set_lines vids = cut (fits bridge tree) (runs_from 0 vids)
+
+  abbrev pub lines_rows : List (List (ℕ × ℕ)) → List Row
+  lines_rows lines = edits_rows (map (mapping bridge tree) lines)
+
+  -- one more line
+  pub one_line : (before : List (List (ℕ × ℕ))) (line : List (ℕ × ℕ)) (set : List Bool) → set ≡ vids_of line
+      → lines_rows before ++ of_bridge Msti bridge (number tree ∷ vids_cell (runs_from 0 set) ∷ []) ≡ lines_rows (before ++ line ∷ [])
+  one_line before line set is =
+      ap (λ s. lines_rows before ++ of_bridge Msti bridge (number tree ∷ vids_cell (runs_from 0 s) ∷ [])) is
+      ∙ sym (ap edits_rows (map-append (mapping bridge tree) before (line ∷ [])) ∙ flat_map-append edit_rows (map (mapping bridge tree) before) (mapping bridge tree line ∷ []))
+
+  -- the lines before one that has begun, what it has, and what is still to be put
+  pub record Putting (before : List (List (ℕ × ℕ))) (vids set : List Bool) (long next : ℕ) : Type 0 where
     pub first : ℕ × ℕ
     pub more : List (ℕ × ℕ)
     pub within : next ≤ 4095
-    pub begun : start ≡ length before
-    pub order : start ≤ length out
-    pub is : out ≡ before ++ (head ++ runs_text (first ∷ more))
+    pub short : long ≤ 4096
+    pub is : set ≡ vids_of (first ∷ more)
+    pub is_long : long ≡ length (line_of (mapping bridge tree (first ∷ more)))
     pub runs : AreRuns 1 ((first ∷ more) ++ left vids next)
-    pub whole : before ++ text_of (cut_from (fits bridge tree) (first ∷ more) (left vids next)) ≡ old ++ edits_text (set_maps vids)
+    pub whole : set_lines vids ≡ before ++ cut_from (fits bridge tree) (first ∷ more) (left vids next)
 
   -- the first run
-  pub begin : (vids : List Bool) (old out : List ℕ) (run : ℕ × ℕ) → IsVidSet vids → runs_from 0 (drop 0 vids) ≡ run ∷ left vids (run.1 + 1) → run.1 ≤ 4094 → out ≡ old ++ (head ++ run_text run) → Writing vids old out (length old) (run.1 + 1)
-  begin vids old out run set here high wrote = record {
-    before = old;
-    first = run;
-    more = [];
-    within = omega (arith, high);
-    begun = refl;
-    order = omega (arith, ap length wrote, length-append old (head ++ run_text run));
-    is = wrote;
-    runs = subst (AreRuns 1) here (runs_of_set vids set);
-    whole = ap (λ rs. old ++ text_of (cut (fits bridge tree) rs)) (sym here);
-  }
+  pub first_run : (vids : List Bool) (run : ℕ × ℕ) → IsVidSet vids → runs_from 0 (drop 0 vids) ≡ run ∷ left vids (run.1 + 1) → AreRuns 1 (run ∷ left vids (run.1 + 1))
+  first_run vids run set here = subst (AreRuns 1) here (runs_of_set vids set)
+
+  pub begin : (vids set : List Bool) (long : ℕ) (run : ℕ × ℕ) → IsVidSet vids → runs_from 0 (drop 0 vids) ≡ run ∷ left vids (run.1 + 1) → set ≡ vids_of (run ∷ []) → long ≡ one_long run → long ≤ 4096 → Putting [] vids set long (run.1 + 1)
+  begin vids set long run is here has much short =
+      let are = first_run vids run is here in
+      record {
+        first = run;
+        more = [];
+        within = omega (arith, are.2);
+        short = short;
+        is = has;
+        is_long = much ∙ sym (long_is (run ∷ []) (runs_front 1 (run ∷ []) (left vids (run.1 + 1)) are));
+        runs = are;
+        whole = ap (λ rs. cut (fits bridge tree) rs) here;
+      }
 
   -- no run
-  pub no_line : (vids : List Bool) (old : List ℕ) → runs_from 0 (drop 0 vids) ≡ [] → old ≡ old ++ edits_text (set_maps vids)
-  no_line vids old none = sym (append-nil old) ∙ ap (λ rs. old ++ text_of (cut (fits bridge tree) rs)) (sym none)
+  pub no_line : (vids : List Bool) → runs_from 0 (drop 0 vids) ≡ [] → set_lines vids ≡ []
+  no_line vids none = ap (cut (fits bridge tree)) none
 
-  module _ (vids : List Bool) (old out new : List ℕ) (start next : ℕ) (w : Writing vids old out start next) where
-    -- the line as it stands
-    line_ends : out ++ 10 ∷ [] ≡ w.before ++ edit_text (mapping bridge tree (w.first ∷ w.more))
-    line_ends =
-        ap (λ t. t ++ 10 ∷ []) w.is ∙ append_assoc w.before (head ++ runs_text (w.first ∷ w.more)) (10 ∷ [])
-        ∙ ap (λ t. w.before ++ (t ++ 10 ∷ [])) (sym (line_is (w.first ∷ w.more) (runs_front 1 (w.first ∷ w.more) (left vids next) w.runs)))
+  module _ (before : List (List (ℕ × ℕ))) (vids set : List Bool) (long next : ℕ) (w : Putting before vids set long next) where
+    abbrev line : List (ℕ × ℕ)
+    line = w.first ∷ w.more
 
     -- no further run
-    pub done : left vids next ≡ [] → new ≡ out ++ 10 ∷ [] → new ≡ old ++ edits_text (set_maps vids)
-    done none wrote =
-        wrote ∙ line_ends ∙ ap (λ t. w.before ++ t) (sym (append-nil (edit_text (mapping bridge tree (w.first ∷ w.more)))))
-        ∙ sym (ap (λ rs. w.before ++ text_of (cut_from (fits bridge tree) (w.first ∷ w.more) rs)) none) ∙ w.whole
+    pub done : left vids next ≡ [] → set_lines vids ≡ before ++ line ∷ []
+    done none = w.whole ∙ ap (λ rs. before ++ cut_from (fits bridge tree) line rs) none
 
-    module _ (run : ℕ × ℕ) (here : left vids next ≡ run ∷ left vids (run.1 + 1)) (high : run.1 ≤ 4094) where
-      abbrev line : List (ℕ × ℕ)
-      line = w.first ∷ w.more
-
+    module _ (run : ℕ × ℕ) (here : left vids next ≡ run ∷ left vids (run.1 + 1)) where
       abbrev longer : List (ℕ × ℕ)
       longer = line ++ run ∷ []
 
       abbrev rest : List (ℕ × ℕ)
       rest = left vids (run.1 + 1)
 
+      pub next_run : AreRuns 1 (run ∷ rest)
+      next_run = runs_end 1 line (run ∷ rest) (subst (AreRuns 1) (ap (λ rs. line ++ rs) here) w.runs)
+
       are : AreRuns 1 (longer ++ rest)
       are = subst (AreRuns 1) (ap (λ rs. line ++ rs) here ∙ sym (append_assoc line (run ∷ []) rest)) w.runs
 
-      added : out ++ 44 ∷ run_text run ≡ w.before ++ (head ++ runs_text longer)
-      added =
-          ap (λ t. t ++ 44 ∷ run_text run) w.is ∙ append_assoc w.before (head ++ runs_text line) (44 ∷ run_text run)
-          ∙ ap (λ t. w.before ++ t) (append_assoc head (runs_text line) (44 ∷ run_text run) ∙ ap (λ t. head ++ t) (sym (one_more w.first w.more run)))
+      longer_is : length (line_of (mapping bridge tree longer)) ≡ long + 1 + length (run_text run)
+      longer_is =
+          let own = long_is line (runs_front 1 line (left vids next) w.runs) in
+          let one = ap length (one_more w.first w.more run) in
+          let two = length-append (runs_text line) (44 ∷ run_text run) in
+          long_is longer (runs_front 1 longer rest are) ∙ omega (arith, own, one, two, w.is_long)
 
-      long : length (line_of (mapping bridge tree longer)) ≡ length out - start + 1 + length (run_text run)
-      long =
-          let whole = ap length added in
-          let one = length-append out (44 ∷ run_text run) in
-          let two = length-append w.before (head ++ runs_text longer) in
-          ap length (line_is longer (runs_front 1 longer rest are)) ∙ omega (arith, whole, one, two, w.begun, w.order)
-
-      chosen : (b : Bool) → fits bridge tree longer ≡ b → w.before ++ text_of (if b then cut_from (fits bridge tree) longer rest else line ∷ cut_from (fits bridge tree) (run ∷ []) rest) ≡ old ++ edits_text (set_maps vids)
+      chosen : (b : Bool) → fits bridge tree longer ≡ b → set_lines vids ≡ before ++ (if b then cut_from (fits bridge tree) longer rest else line ∷ cut_from (fits bridge tree) (run ∷ []) rest)
       chosen b e =
-          sym (ap (λ rs. w.before ++ text_of (cut_from (fits bridge tree) line rs)) here ∙ ap (λ t. w.before ++ text_of (if t then cut_from (fits bridge tree) longer rest else line ∷ cut_from (fits bridge tree) (run ∷ []) rest)) e) ∙ w.whole
+          w.whole ∙ ap (λ rs. before ++ cut_from (fits bridge tree) line rs) here
+          ∙ ap (λ t. before ++ (if t then cut_from (fits bridge tree) longer rest else line ∷ cut_from (fits bridge tree) (run ∷ []) rest)) e
 
       -- the next run is put into the line
-      pub put : length out - start + 1 + length (run_text run) ≤ 4096 → new ≡ out ++ 44 ∷ run_text run → Writing vids old new start (run.1 + 1)
-      put small wrote = record {
-        before = w.before;
+      pub put : (new : List Bool) (much : ℕ) → new ≡ vids_of longer → much ≡ long + 1 + length (run_text run) → long + 1 + length (run_text run) ≤ 4096 → Putting before vids new much (run.1 + 1)
+      put new much has is small = record {
         first = w.first;
         more = w.more ++ run ∷ [];
-        within = omega (arith, high);
-        begun = w.begun;
-        order = omega (arith, w.order, ap length wrote, length-append out (44 ∷ run_text run));
-        is = wrote ∙ added;
+        within = omega (arith, next_run.2);
+        short = omega (arith, is, small);
+        is = has;
+        is_long = is ∙ sym longer_is;
         runs = are;
-        whole = chosen true (le-leb (length (line_of (mapping bridge tree longer))) 4096 (omega (arith, long, small)));
+        whole = chosen true (le-leb (length (line_of (mapping bridge tree longer))) 4096 (omega (arith, longer_is, small)));
       }
 
       -- the next run begins the next line
-      pub part : 4096 < length out - start + 1 + length (run_text run) → new ≡ out ++ 10 ∷ (head ++ run_text run) → Writing vids old new (length out + 1) (run.1 + 1)
-      part large wrote = record {
-        before = out ++ 10 ∷ [];
+      pub part : (new : List Bool) (much : ℕ) → new ≡ vids_of (run ∷ []) → much ≡ one_long run → much ≤ 4096 → 4096 < long + 1 + length (run_text run) → Putting (before ++ line ∷ []) vids new much (run.1 + 1)
+      part new much has is short large = record {
         first = run;
         more = [];
-        within = omega (arith, high);
-        begun = sym (length-append out (10 ∷ []));
-        order = omega (arith, ap length wrote, length-append out (10 ∷ (head ++ run_text run)));
-        is = wrote ∙ sym (append_assoc out (10 ∷ []) (head ++ run_text run));
-        runs = runs_end 1 line (run ∷ rest) (subst (AreRuns 1) (ap (λ rs. line ++ rs) here) w.runs);
-        whole = ap (λ t. t ++ text_of (cut_from (fits bridge tree) (run ∷ []) rest)) line_ends
-            ∙ append_assoc w.before (edit_text (mapping bridge tree line)) (text_of (cut_from (fits bridge tree) (run ∷ []) rest))
-            ∙ chosen false (lt-leb (length (line_of (mapping bridge tree longer))) 4096 (omega (arith, long, large)));
+        within = omega (arith, next_run.2);
+        short = short;
+        is = has;
+        is_long = is ∙ sym (long_is (run ∷ []) (runs_front 1 (run ∷ []) rest next_run));
+        runs = next_run;
+        whole = chosen false (lt-leb (length (line_of (mapping bridge tree longer))) 4096 (omega (arith, longer_is, large)))
+            ∙ sym (append_assoc before (line ∷ []) (cut_from (fits bridge tree) (run ∷ []) rest));
       }

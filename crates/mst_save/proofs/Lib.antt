@@ -15,9 +15,10 @@ pub mod PortEnds
 pub mod Ends
 pub mod Good
 pub mod Restoring
-pub mod Texts
-pub mod Pieces
+mod RowsInTurn
+mod RowLines
 pub mod Short
 pub mod Cuts
 pub mod Keeping
 pub mod Cutting
+mod RunSets

@@ -13,7 +13,8 @@ use Rattle.mst_save.specs.EditLine.{line_of, words_of}
 use Rattle.mst_lang.specs.Lines.{drop_cr, last_line, lines_from, lines_of}
 use Rattle.mst_save.specs.Making.{made, Accepted}
 use Rattle.mst_save.specs.Saved.{saved_edits}
-use Rattle.mst_save.specs.SaveText.{saved_lines, ended, save_text, Makes, Leave, Restores, IsShort}
+use Rattle.mst_save.specs.SaveText.{save_text, Makes, Leave, Restores, IsShort}
+use Rattle.mst_save.proofs.RowLines.{ended, saved_lines, text_is}
 use Rattle.mst_save.proofs.Reading.{line_read, edit_words}
 use Rattle.mst_save.proofs.Spaced.{spaced_is_plain}
 use Rattle.mst_save.proofs.Held.{Fitting, Goes, nothing_held, holds_nothing, all_go, nothing_is_part}
@@ -66,5 +67,5 @@ saved_made net is = saved_make net is ((saved_go net is).network)
 pub saved_restores : (net : Net) → IsNetwork net → AllByRecursion IsShort (saved_edits net) → Restores (lines_of (save_text net)) net
 saved_restores net is short =
     let good = saved_good net is in
-    let same = lines_again (saved_lines net) (refl, plain_lines net (saved_edits net) good) in
+    let same = ap lines_of (text_is net) ∙ lines_again (saved_lines net) (refl, plain_lines net (saved_edits net) good) in
     subst (λ ls. Restores ls net) (sym same) (refl, leave net (saved_edits net) empty_net net good short ((saved_go net is).accepted) (saved_made net is))

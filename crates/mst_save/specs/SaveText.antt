@@ -1,5 +1,5 @@
 -- The text of a saved network, and what reading it does.
-use Rattle.std.specs.Prelude.{◌≡◌, true, ℕ, List, [], ◌∷◌, ◌++◌, map, length, ⊤, Result, Ok, codes, ◌≤◌}
+use Rattle.std.specs.Prelude.{◌≡◌, true, ℕ, List, [], ◌∷◌, length, ⊤, Result, Ok, ◌≤◌}
 use Rattle.std.specs.List.{flat_map}
 use Rattle.mst_lang.specs.Reading.{reading_as, says_version_2}
 use Rattle.mst_lang.specs.declared.line.Version.TheVariants.{V2}
@@ -12,21 +12,12 @@ use Rattle.mst_lang.specs.declared.line.TreeChange.TheVariants.{Vlans}
 use Rattle.mst_net.specs.Tables.{Net, empty_net}
 use Rattle.mst_net.specs.After.{after}
 use Rattle.mst_save.specs.EditLine.{line_of}
-use Rattle.mst_save.specs.Saved.{saved_edits}
+use Rattle.mst_rows.specs.Lines.{row_line}
+use Rattle.mst_save.specs.SaveRows.{save_rows}
 
--- the first line says the version
-abbrev pub first_line : List ℕ
-first_line = codes "mstplan 2"
-
-abbrev pub saved_lines : Net → List (List ℕ)
-saved_lines net = first_line ∷ map line_of (saved_edits net)
-
--- each line, and its end
-abbrev pub ended : List ℕ → List ℕ
-ended line = line ++ 10 ∷ []
-
+-- the text: the lines of the rows
 abbrev pub save_text : Net → List ℕ
-save_text net = flat_map ended (saved_lines net)
+save_text net = flat_map row_line (save_rows net)
 
 -- ---- what reading does
 -- a line that is read as an edit which isn't refused, and what it makes
@@ -48,10 +39,3 @@ Restores (first ∷ lines) net = (says_version_2 first ≡ true) × Leave empty_
 abbrev pub IsShort : Edit → Type 0
 IsShort (SetByTree (Vlans port vids)) = length (line_of (SetByTree (Vlans port vids))) ≤ 4096
 IsShort _ = ⊤
-
--- ---- the text, edit by edit
-abbrev pub edit_text : Edit → List ℕ
-edit_text e = ended (line_of e)
-
-abbrev pub edits_text : List Edit → List ℕ
-edits_text edits = flat_map edit_text edits

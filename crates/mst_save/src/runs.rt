@@ -1,10 +1,11 @@
-ghost use Rattle.std.specs.Prelude.{◌≡◌, ℕ, ◌<◌, ◌≤◌, ◌++◌, ◌∷◌, ◌+◌, [], drop, not, length, OnOk, IfSome, MatchOption};
-ghost use Rattle.mst_ids.specs.Vids.{has, runs_from, run_text};
+ghost use Rattle.std.specs.Prelude.{◌≡◌, ℕ, ◌<◌, ◌≤◌, ◌++◌, ◌∷◌, ◌+◌, [], List, decimal, drop, not, length, ◌||◌, IfSome, MatchOption};
+ghost use Rattle.mst_ids.specs.Vids.{has, is_within, runs_from, run_text, set_where};
+ghost use Rattle.mst_save.specs.Runs.{vids_of};
 ghost use Rattle.mst_save.specs.Saved.{vids_in};
 
-use mst_ids::{Tree, Vid, push_bytes, push_decimal};
+use itoa::Buffer;
+use mst_ids::{Tree, Vid, VidSet};
 use mst_net::Table;
-use std::alloc::AllocError;
 
 /// The first and the last VID of the next run of the VIDs that the table maps to the tree, from a number on that no
 /// run goes across.
@@ -49,15 +50,49 @@ fn is_mapped(table: &Table, tree: Tree, number: u16) -> bool
     }
 }
 
-/// Appends the text of a run.
-pub(crate) fn push_run(run: (u16, u16), out: &mut Vec<u8>) -> Result<(), AllocError>
-    ensures { OnOk result (out.new.items ≡ out.old.items ++ run_text run) }
+/// How long the text of a run is.
+pub(crate) fn run_length(run: (u16, u16)) -> usize
+    requires greatest { run.1 ≤ 4094 }
+    requires order { run.0 ≤ run.1 }
+    ensures value { result ≡ length (run_text run) }
+    ensures small { result ≤ 32 }
 {
     let (first, last) = run;
-    push_decimal(u64::from(first), out)?;
     if first == last {
-        return Ok(());
+        return digits(first);
     }
-    push_bytes(b"-", out)?;
-    push_decimal(u64::from(last), out)
+    digits(first) + 1 + digits(last)
+}
+
+/// How many digits a number has.
+pub(crate) fn digits(number: u16) -> usize
+    ensures value { result ≡ length (decimal number) }
+    ensures small { result ≤ 5 }
+{
+    let mut buffer = Buffer::new();
+    buffer.format(number).len()
+}
+
+/// A set with the VIDs of one more run.
+pub(crate) fn with_run(vids: &VidSet, run: (u16, u16)) -> VidSet
+    requires least { 1 ≤ run.0 }
+    requires order { run.0 ≤ run.1 }
+    requires greatest { run.1 ≤ 4094 }
+    ensures { (runs : List (ℕ × ℕ)) → vids.now ≡ vids_of runs → result ≡ vids_of (runs ++ run ∷ []) }
+{
+    let mut more = *vids;
+    for number in run.0..run.1 + 1 {
+        insert(number, &mut more);
+    }
+    more
+}
+
+fn insert(number: u16, vids: &mut VidSet)
+    requires least { 1 ≤ number }
+    requires greatest { number ≤ 4094 }
+    ensures { vids.new ≡ set_where (λ n. has vids.old n || is_within (number, number) n) }
+{
+    if let Some(vid) = Vid::new(u64::from(number)) {
+        vids.insert(vid);
+    }
 }

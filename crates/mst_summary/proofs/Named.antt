@@ -10,6 +10,7 @@ use Rattle.std.proofs.lemmas.List.{length-map}
 use Rattle.std.proofs.lemmas.List.Folds.{flat_map-map}
 use Rattle.mst_ids.specs.Identifiers.{bridge_id}
 use Rattle.mst_ids.specs.Vids.{has}
+use Rattle.mst_rows.specs.Rows.{Row}
 use Rattle.mst_diff.specs.net.ByTree.{by_tree, vlans_in}
 use Rattle.mst_diff.specs.net.Seen.{bridge_row}
 use Rattle.mst_diff.specs.net.Tables.{Net, BridgeRow, IsNetwork}
@@ -37,12 +38,12 @@ use Rattle.mst_vlan.specs.Seen.{seen_member}
 use Rattle.mst_diff.specs.changes.Subjects.{all_trees, bridge_names}
 use Rattle.mst_diff.proofs.changes_lemmas.Lists.{filter_map-map}
 use Rattle.mst_diff.proofs.Named.{names_are}
-use Rattle.mst_summary.specs.Blocked.{is_blocked, blocked, blocked_line}
-use Rattle.mst_summary.specs.Carries.{ports_on, carries, carried, carries_line, carries_text}
+use Rattle.mst_summary.specs.Blocked.{is_blocked, blocked, blocked_row}
+use Rattle.mst_summary.specs.Carries.{ports_on, carries, carried, carries_rows, all_carries}
 use Rattle.mst_summary.specs.Counts.{is_first, is_used, used_trees, counts_of}
-use Rattle.mst_summary.specs.Roots.{follower, followers, root_line, root_lines}
-use Rattle.mst_summary.specs.Seen.{seen_used, seen_trees, seen_first, seen_counts, root_line_of, blocked_of, lines_of, seen_on, seen_carries, up_text}
-use Rattle.mst_summary.specs.SummaryText.{trees_text}
+use Rattle.mst_summary.specs.Roots.{follower, followers, rows_of_root, root_rows}
+use Rattle.mst_summary.specs.Seen.{seen_used, seen_trees, seen_first, seen_counts, seen_root, blocked_of, seen_tree_rows, seen_on, seen_carries, seen_up}
+use Rattle.mst_summary.specs.SummaryText.{all_trees_rows}
 use Rattle.mst_summary.proofs.Lists.{count_mapped, count_alike, all_mapped, all_alike, any_mapped, any_alike}
 
 same_mac : (m n : ℕ) → bridge_id 0 0 m ≡ bridge_id 0 0 n → m ≡ n
@@ -113,10 +114,10 @@ module _ (s : SettledNet) (is : IsSettledNet s) where
     pub followers_named : filter_map (λ b. follower net o tree (named_bridge b)) v.bridges ≡ followers net o tree
     followers_named = sym (filter_map-map (follower net o tree) named_bridge v.bridges) ∙ ap (filter_map (follower net o tree)) of.view.bridges
 
-    roots_named : flat_map (root_line_of s tree (followers net o tree)) v.bridges ≡ root_lines net o tree
+    roots_named : flat_map (seen_root s tree (followers net o tree)) v.bridges ≡ root_rows net o tree
     roots_named =
-        sym (flat_map-map (λ (e : List ℕ × BridgeRow). root_line (by_tree net) tree (followers net o tree) e.0 (id_in (by_tree net) tree e.0 e.1)) named_bridge v.bridges)
-        ∙ ap (flat_map (λ (e : List ℕ × BridgeRow). root_line (by_tree net) tree (followers net o tree) e.0 (id_in (by_tree net) tree e.0 e.1))) of.view.bridges
+        sym (flat_map-map (λ (e : List ℕ × BridgeRow). rows_of_root (by_tree net) tree (followers net o tree) e.0 (id_in (by_tree net) tree e.0 e.1)) named_bridge v.bridges)
+        ∙ ap (flat_map (λ (e : List ℕ × BridgeRow). rows_of_root (by_tree net) tree (followers net o tree) e.0 (id_in (by_tree net) tree e.0 e.1))) of.view.bridges
 
     -- ---- ports that block
     blocked_named : blocked_of s tree ≡ blocked net o tree
@@ -124,8 +125,8 @@ module _ (s : SettledNet) (is : IsSettledNet s) where
         sym (mapped_twice (λ (p : LogicalPort). p.name) named_port (filter (λ (p : PortInView). is_blocked net o tree (named_port p)) v.ports))
         ∙ ap (map (λ (p : LogicalPort). p.name)) (sym (filter_mapped (is_blocked net o tree) named_port v.ports) ∙ ap (filter (is_blocked net o tree)) of.view.ports)
 
-  pub lines_named : flat_map (lines_of s) (seen_trees v) ≡ trees_text net o
-  lines_named = λ i. flat_map (λ tree. roots_named tree i ++ blocked_line tree (blocked_named tree i)) (trees_named i)
+  pub tree_rows_named : flat_map (seen_tree_rows s) (seen_trees v) ≡ all_trees_rows net o
+  tree_rows_named = λ i. flat_map (λ tree. roots_named tree i ++ blocked_row tree (blocked_named tree i) ∷ []) (trees_named i)
 
   -- ---- what ports carry
   carries_named : (vid : ℕ) (p : PortInView) → SeenPort net numbers p → seen_carries v f vid p ≡ carries net o vid (named_port p)
@@ -141,21 +142,21 @@ module _ (s : SettledNet) (is : IsSettledNet s) where
       ∙ sym (all_mapped (carries net o vid) named_port (seen_on v lan))
       ∙ ap (list_all (carries net o vid)) (sym (filter_mapped (λ (p : LogicalPort). same_name p.lan lan) named_port v.ports) ∙ ap (filter (λ (p : LogicalPort). same_name p.lan lan)) of.view.ports)
 
-  -- the lines of LANs
-  pub lans_named : flat_map (up_text s) v.lans ≡ carries_text net o
+  -- the rows of LANs
+  pub lans_named : flat_map (seen_up s) v.lans ≡ all_carries net o
   lans_named = go v.lans ∙ ap (λ lans. flat_map g (map (λ (l : LogicalLan). l.name) (filter (λ (l : LogicalLan). l.is_up) lans))) of.view.lans
     where
-      g : List ℕ → List ℕ
-      g lan = carries_line lan (carried net o lan)
+      g : List ℕ → List Row
+      g lan = carries_rows lan (carried net o lan)
 
-      go : (lans : List LanInView) → flat_map (up_text s) lans ≡ flat_map g (map (λ (l : LogicalLan). l.name) (filter (λ (l : LogicalLan). l.is_up) (map named_lan lans)))
+      go : (lans : List LanInView) → flat_map (seen_up s) lans ≡ flat_map g (map (λ (l : LogicalLan). l.name) (filter (λ (l : LogicalLan). l.is_up) (map named_lan lans)))
       go [] = refl
       go (l ∷ ls) = one l.is_up (go ls)
         where
           rest : List LogicalLan
           rest = filter (λ (l : LogicalLan). l.is_up) (map named_lan ls)
 
-          one : (b : Bool) → flat_map (up_text s) ls ≡ flat_map g (map (λ (l : LogicalLan). l.name) rest)
-              → (if b then g l.name else []) ++ flat_map (up_text s) ls ≡ flat_map g (map (λ (l : LogicalLan). l.name) (cond b (named_lan l ∷ rest) rest))
+          one : (b : Bool) → flat_map (seen_up s) ls ≡ flat_map g (map (λ (l : LogicalLan). l.name) rest)
+              → (if b then g l.name else []) ++ flat_map (seen_up s) ls ≡ flat_map g (map (λ (l : LogicalLan). l.name) (cond b (named_lan l ∷ rest) rest))
           one true e = ap (λ t. g l.name ++ t) e
           one false e = e

@@ -1,4 +1,4 @@
--- The summary of a network: there is one, and one only.
+-- The rows of the summary of a network: there is one list of them, and one only.
 use Rattle.std.proofs.Common.{◌≡◌, ℕ, ◌++◌, ◌∷◌, [], nat_eq, Bool, true, List, refl, sym, ap, ◌∙◌, eq-eqb}
 use Rattle.std.specs.Cmp.{IsEquivalence, nat_eq_equiv}
 use Rattle.std.specs.List.{Contains, flat_map}
@@ -6,22 +6,28 @@ use Rattle.std.proofs.lemmas.Bool.{eqb-true}
 use Rattle.mst_graph.specs.Groups.{AreGroups}
 use Rattle.mst_graph.specs.Islands.{Island}
 use Rattle.mst_graph.proofs.Alike.{alike_groups}
-use Rattle.mst_graph.proofs.Members.{here, in_whole}
+use Rattle.mst_graph.proofs.Members.{here, there, in_whole}
+use Rattle.mst_rows.specs.Rows.{Row}
 use Rattle.mst_diff.specs.net.Tables.{Net}
 use Rattle.mst_diff.specs.trees.Outcome.{Outcome}
 use Rattle.mst_vlan.specs.Reach.{AreIslandsOf}
 use Rattle.mst_diff.specs.plan_text.PlanText.{all_vids}
-use Rattle.mst_diff.proofs.plan_text_lemmas.OnePlan.{vids_once, is_vid_there, each_text, OneGrouping}
-use Rattle.mst_summary.specs.Carries.{carries_text}
-use Rattle.mst_summary.specs.Counts.{counts_of, counts_line}
-use Rattle.mst_summary.specs.SummaryText.{trees_text, IsSummary}
-use Rattle.mst_summary.specs.Vlans.{with_bridge, HasIslands, islands_line, group_text, IsVlansText}
+use Rattle.mst_diff.proofs.plan_text_lemmas.OnePlan.{vids_once, is_vid_there, OneGrouping}
+use Rattle.mst_summary.specs.Carries.{all_carries}
+use Rattle.mst_summary.specs.Counts.{counts_of, counts_row}
+use Rattle.mst_summary.specs.SummaryText.{all_trees_rows, AreSummaryRows}
+use Rattle.mst_summary.specs.Vlans.{with_bridge, HasIslands, islands_row, group_rows, AreVlanRows}
+
+-- the rows of each group are the same
+each_same : (f g : List ℕ → List Row) (groups : List (List ℕ)) → ((group : List ℕ) → Contains groups group → f group ≡ g group) → flat_map f groups ≡ flat_map g groups
+each_same f g [] h = refl
+each_same f g (group ∷ groups) h = let first = h group (here group groups) in let rest = each_same f g groups (λ other k. h other (there group other groups k)) in λ i. first i ++ rest i
 
 module _ (net : Net) (o : Outcome) (one : (vid : ℕ) (islands others : List (Island (List ℕ) (List ℕ))) → AreIslandsOf net o vid islands → AreIslandsOf net o vid others → islands ≡ others) (grouping : OneGrouping) where
   one_count : (vid n m : ℕ) → HasIslands net o vid n → HasIslands net o vid m → n ≡ m
   one_count vid n m s t = s.2 ∙ ap with_bridge (one vid s.0 t.0 s.1 t.1) ∙ sym t.2
 
-  module _ (text other : List ℕ) (x : IsVlansText net o text) (y : IsVlansText net o other) where
+  module _ (rows other : List Row) (x : AreVlanRows net o rows) (y : AreVlanRows net o other) where
     abbrev same : ℕ → ℕ → Bool
     same u v = nat_eq (x.count u) (x.count v)
 
@@ -41,17 +47,17 @@ module _ (net : Net) (o : Outcome) (one : (vid : ℕ) (islands others : List (Is
           λ e. sym (count_same u h) ∙ eqb-true (x.count u) (x.count v) e ∙ count_same v k,
         )) y.are_groups
 
-    group_same : (group : List ℕ) → Contains x.groups group → group_text x.count group ≡ group_text y.count group
+    group_same : (group : List ℕ) → Contains x.groups group → group_rows x.count group ≡ group_rows y.count group
     group_same [] h = refl
-    group_same (vid ∷ vids) h = ap (islands_line (vid ∷ vids)) (count_same vid (in_whole (x.are_groups.in_order (vid ∷ vids) h) vid (here vid vids)))
+    group_same (vid ∷ vids) h = ap (λ n. islands_row (vid ∷ vids) n ∷ []) (count_same vid (in_whole (x.are_groups.in_order (vid ∷ vids) h) vid (here vid vids)))
 
-    one_vlans : text ≡ other
+    one_vlans : rows ≡ other
     one_vlans =
-        x.is ∙ each_text (group_text x.count) (group_text y.count) x.groups group_same ∙ ap (flat_map (group_text y.count)) (grouping same all_vids x.groups y.groups vids_once first second) ∙ sym y.is
+        x.is ∙ each_same (group_rows x.count) (group_rows y.count) x.groups group_same ∙ ap (flat_map (group_rows y.count)) (grouping same all_vids x.groups y.groups vids_once first second) ∙ sym y.is
 
-  pub one_text : (text other : List ℕ) → IsSummary net o text → IsSummary net o other → text ≡ other
-  one_text text other x y =
-      x.is ∙ ap (λ vlans. ((counts_line (counts_of net) ++ trees_text net o) ++ vlans) ++ carries_text net o) (one_vlans x.vlans y.vlans x.are_vlans y.are_vlans) ∙ sym y.is
+  pub one_list : (rows other : List Row) → AreSummaryRows net o rows → AreSummaryRows net o other → rows ≡ other
+  one_list rows other x y =
+      x.is ∙ ap (λ (vlans : List Row). ((counts_row (counts_of net) ∷ all_trees_rows net o) ++ vlans) ++ all_carries net o) (one_vlans x.vlans y.vlans x.are_vlans y.are_vlans) ∙ sym y.is
 
 -- and there is one
 module _ (net : Net) (o : Outcome) (some : (vid : ℕ) → (islands : List (Island (List ℕ) (List ℕ))) × AreIslandsOf net o vid islands)
@@ -69,10 +75,10 @@ module _ (net : Net) (o : Outcome) (some : (vid : ℕ) → (islands : List (Isla
     congr = λ x y z. nat_eq_equiv.congr (count x) (count y) (count z);
   }
 
-  has_vlans : (text : List ℕ) × IsVlansText net o text
+  has_vlans : (rows : List Row) × AreVlanRows net o rows
   has_vlans =
       let groups = grouping test all_vids equivalence in (
-        flat_map (group_text count) groups.0,
+        flat_map (group_rows count) groups.0,
         record {
           count = count;
           counted = λ vid _. ((some vid).0, (some vid).1, refl);
@@ -82,7 +88,7 @@ module _ (net : Net) (o : Outcome) (some : (vid : ℕ) → (islands : List (Isla
         },
       )
 
-  pub has_text : (text : List ℕ) × IsSummary net o text
-  has_text =
+  pub has_rows : (rows : List Row) × AreSummaryRows net o rows
+  has_rows =
       let vlans = has_vlans in
-      (((counts_line (counts_of net) ++ trees_text net o) ++ vlans.0) ++ carries_text net o, record { vlans = vlans.0; are_vlans = vlans.1; is = refl })
+      (((counts_row (counts_of net) ∷ all_trees_rows net o) ++ vlans.0) ++ all_carries net o, record { vlans = vlans.0; are_vlans = vlans.1; is = refl })

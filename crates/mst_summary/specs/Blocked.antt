@@ -1,7 +1,10 @@
--- The line of the ports of a tree that block.
-use Rattle.std.specs.Prelude.{ℕ, ◌&&◌, Bool, false, not, List, [], ◌∷◌, Option, Some, None, map, filter, codes, decimal}
+-- The row of the ports of a tree that block.
+use Rattle.std.specs.Prelude.{ℕ, ◌&&◌, Bool, false, not, List, [], ◌∷◌, Option, Some, None, map, filter}
 use Rattle.mst_ids.specs.declared.name.PortName.{PortName}
-use Rattle.mst_ids.specs.Words.{comma_list, line, port_text}
+use Rattle.mst_kinds.specs.declared.kind.Kind.TheVariants as kind
+use Rattle.mst_kinds.specs.declared.summary_line.SummaryLine.TheVariants as summary_line
+use Rattle.mst_rows.specs.Cells.{number, ports}
+use Rattle.mst_rows.specs.Rows.{Row, row_of}
 use Rattle.mst_diff.specs.net.Tables.{Net}
 use Rattle.mst_lag.specs.View.{LogicalPort, view_ports}
 use Rattle.mst_diff.specs.trees.Outcome.{Outcome}
@@ -22,5 +25,5 @@ abbrev pub blocked : Net → Outcome → ℕ → List PortName
 blocked net o tree = map (λ p. p.name) (filter (is_blocked net o tree) (view_ports net))
 
 -- `blocked T PORTS`
-abbrev pub blocked_line : ℕ → List PortName → List ℕ
-blocked_line tree ports = line (codes "blocked" ∷ decimal tree ∷ comma_list (map port_text ports) ∷ [])
+abbrev pub blocked_row : ℕ → List PortName → Row
+blocked_row tree ps = row_of (kind.Summary summary_line.Blocked) (number tree ∷ ports ps ∷ [])

@@ -1,8 +1,11 @@
--- The lines of logical LANs that carry some VIDs, and not all.
-use Rattle.std.specs.Prelude.{ℕ, ◌==◌, ◌&&◌, Bool, List, [], ◌∷◌, length, filter, codes, if◌then◌else◌}
+-- The rows of logical LANs that carry some VIDs, and not all.
+use Rattle.std.specs.Prelude.{ℕ, ◌==◌, ◌&&◌, Bool, List, [], ◌∷◌, length, filter, if◌then◌else◌}
 use Rattle.std.specs.List.{flat_map, list_all}
-use Rattle.mst_ids.specs.Vids.{set_where, vids_text}
-use Rattle.mst_ids.specs.Words.{line}
+use Rattle.mst_ids.specs.Vids.{runs_from, set_where}
+use Rattle.mst_kinds.specs.declared.kind.Kind.TheVariants as kind
+use Rattle.mst_kinds.specs.declared.summary_line.SummaryLine.TheVariants as summary_line
+use Rattle.mst_rows.specs.Cells.{word, vids}
+use Rattle.mst_rows.specs.Rows.{Row, row_of}
 use Rattle.mst_diff.specs.net.Tables.{Net}
 use Rattle.mst_lag.specs.Aggregation.{same_name}
 use Rattle.mst_lag.specs.Trees.{is_among}
@@ -24,10 +27,14 @@ carries net o vid p = forwards_for net o vid p && is_member net vid p
 abbrev pub carried : Net → Outcome → List ℕ → List ℕ
 carried net o lan = filter (λ vid. list_all (carries net o vid) (ports_on net lan)) all_vids
 
--- `carries LAN VIDS`, and nothing where these are all VIDs
-abbrev pub carries_line : List ℕ → List ℕ → List ℕ
-carries_line lan vids = if length vids == 4094 then [] else line (codes "carries" ∷ lan ∷ vids_text (set_where (is_among vids)) ∷ [])
+-- `carries LAN VIDS`, of a set of VIDs
+abbrev pub carries_row : List ℕ → List Bool → Row
+carries_row lan set = row_of (kind.Summary summary_line.Carries) (word lan ∷ vids (runs_from 0 set) ∷ [])
+
+-- of these VIDs, and nothing where they are all
+abbrev pub carries_rows : List ℕ → List ℕ → List Row
+carries_rows lan some = if length some == 4094 then [] else carries_row lan (set_where (is_among some)) ∷ []
 
 -- of each logical LAN that is up, by name
-abbrev pub carries_text : Net → Outcome → List ℕ
-carries_text net o = flat_map (λ lan. carries_line lan (carried net o lan)) (lans_up net)
+abbrev pub all_carries : Net → Outcome → List Row
+all_carries net o = flat_map (λ lan. carries_rows lan (carried net o lan)) (lans_up net)

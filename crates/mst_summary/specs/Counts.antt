@@ -1,8 +1,11 @@
--- The line of how much there is.
-use Rattle.std.specs.Prelude.{ℕ, Bool, List, [], ◌∷◌, length, filter, codes, decimal}
+-- The row of how much there is.
+use Rattle.std.specs.Prelude.{ℕ, Bool, List, [], ◌∷◌, length, filter}
 use Rattle.std.specs.List.{count_by, list_any}
 use Rattle.std.specs.FinMap as fin
-use Rattle.mst_ids.specs.Words.{line}
+use Rattle.mst_kinds.specs.declared.kind.Kind.TheVariants as kind
+use Rattle.mst_kinds.specs.declared.summary_line.SummaryLine.TheVariants as summary_line
+use Rattle.mst_rows.specs.Cells.{number}
+use Rattle.mst_rows.specs.Rows.{Row, row_of}
 use Rattle.mst_diff.specs.net.Tables.{Net}
 use Rattle.mst_lag.specs.Aggregation.{same_name}
 use Rattle.mst_lag.specs.View.{view_ports}
@@ -35,7 +38,6 @@ counts_of net = record {
 }
 
 -- `bridges N on N ports N enabled N regions N trees N`
-abbrev pub counts_line : Counts → List ℕ
-counts_line c =
-    line (codes "bridges" ∷ decimal c.bridges ∷ codes "on" ∷ decimal c.on ∷ codes "ports" ∷ decimal c.ports
-    ∷ codes "enabled" ∷ decimal c.enabled ∷ codes "regions" ∷ decimal c.regions ∷ codes "trees" ∷ decimal c.trees ∷ [])
+abbrev pub counts_row : Counts → Row
+counts_row c =
+    row_of (kind.Summary summary_line.Counts) (number c.bridges ∷ number c.on ∷ number c.ports ∷ number c.enabled ∷ number c.regions ∷ number c.trees ∷ [])

@@ -1,9 +1,12 @@
--- The lines of the roots in a tree, in an MSTI of the regional roots.
-use Rattle.std.specs.Prelude.{◌≡◌, ℕ, ◌≤◌, ◌==◌, ◌*◌, not, false, List, [], ◌∷◌, Option, None, Some, length, filter, filter_map, fold, nat_lt, codes, decimal, if◌then◌else◌}
+-- The rows of the roots in a tree, in an MSTI of the regional roots.
+use Rattle.std.specs.Prelude.{◌≡◌, ℕ, ◌≤◌, ◌==◌, ◌*◌, not, false, List, [], ◌∷◌, Option, None, Some, length, filter, filter_map, fold, nat_lt, if◌then◌else◌}
 use Rattle.std.specs.List.{Contains, flat_map}
 use Rattle.std.specs.Option.{option_map}
 use Rattle.std.specs.FinMap as fin
-use Rattle.mst_ids.specs.Words.{line}
+use Rattle.mst_kinds.specs.declared.kind.Kind.TheVariants as kind
+use Rattle.mst_kinds.specs.declared.summary_line.SummaryLine.TheVariants as summary_line
+use Rattle.mst_rows.specs.Cells.{absent, word, number}
+use Rattle.mst_rows.specs.Rows.{Row, row_of}
 use Rattle.mst_diff.specs.net.Tables.{Net, BridgeRow}
 use Rattle.mst_diff.specs.net.ByTree.{ByTree, by_tree, priority_in}
 use Rattle.mst_diff.specs.trees.InUse.{id_in}
@@ -44,28 +47,24 @@ pub record IsNext (id : ℕ) (all : List Follower) (next : Follower) : Type 0 wh
   pub least : (f : Follower) → Contains all f → (f.id == id) ≡ false → next.id ≤ f.id
 
 -- the priority of a bridge in a tree as a number, from 0 to 61440
-abbrev pub priority_word : ByTree → ℕ → List ℕ → List ℕ
-priority_word set tree name = decimal (priority_in set.priorities name tree * 4096)
+abbrev pub priority_of : ByTree → ℕ → List ℕ → ℕ
+priority_of set tree name = priority_in set.priorities name tree * 4096
 
--- `C PRIO`, or `-` where there is none
-abbrev pub next_words : ByTree → ℕ → Option Follower → List (List ℕ)
-next_words set tree None = codes "-" ∷ []
-next_words set tree (Some next) = next.name ∷ priority_word set tree next.name ∷ []
+-- `tree T root B PRIO of N next C PRIO`, of a bridge with this many followers, or `next -` where there is no next
+abbrev pub root_row : ByTree → ℕ → List ℕ → ℕ → Option Follower → Row
+root_row set tree name count None = row_of (kind.Summary summary_line.RootAlone) (number tree ∷ word name ∷ number (priority_of set tree name) ∷ number count ∷ absent ∷ [])
+root_row set tree name count (Some next) =
+    row_of (kind.Summary summary_line.Root)
+    (number tree ∷ word name ∷ number (priority_of set tree name) ∷ number count ∷ word next.name ∷ number (priority_of set tree next.name) ∷ [])
 
--- `tree T root B PRIO of N next C PRIO`, of a bridge of this identifier with these followers
-abbrev pub whole_line : ByTree → ℕ → List ℕ → ℕ → List Follower → List ℕ
-whole_line set tree name id group =
-    line (codes "tree" ∷ decimal tree ∷ codes "root" ∷ name ∷ priority_word set tree name
-    ∷ codes "of" ∷ decimal (length group) ∷ codes "next" ∷ next_words set tree (next_of id group))
+-- where it has one, by its identifier
+abbrev pub group_rows : ByTree → ℕ → List ℕ → ℕ → List Follower → List Row
+group_rows set tree name id group = if has_any group then root_row set tree name (length group) (next_of id group) ∷ [] else []
 
--- where it has one: its line
-abbrev pub group_line : ByTree → ℕ → List ℕ → ℕ → List Follower → List ℕ
-group_line set tree name id group = if has_any group then whole_line set tree name id group else []
-
-abbrev pub root_line : ByTree → ℕ → List Follower → List ℕ → ℕ → List ℕ
-root_line set tree all name id = group_line set tree name id (followers_of id all)
+abbrev pub rows_of_root : ByTree → ℕ → List Follower → List ℕ → ℕ → List Row
+rows_of_root set tree all name id = group_rows set tree name id (followers_of id all)
 
 -- of each bridge that some bridge names, by name
-abbrev pub root_lines : Net → Outcome → ℕ → List ℕ
-root_lines net o tree =
-    flat_map (λ e. root_line (by_tree net) tree (followers net o tree) e.0 (id_in (by_tree net) tree e.0 e.1)) (fin.entries net.bridges)
+abbrev pub root_rows : Net → Outcome → ℕ → List Row
+root_rows net o tree =
+    flat_map (λ e. rows_of_root (by_tree net) tree (followers net o tree) e.0 (id_in (by_tree net) tree e.0 e.1)) (fin.entries net.bridges)

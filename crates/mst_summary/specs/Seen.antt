@@ -1,10 +1,11 @@
 -- What is seen of a summary in the view of a settled network.
-use Rattle.std.specs.Prelude.{ℕ, ◌==◌, ◌&&◌, ◌++◌, Bool, false, List, [], filter, length, map, nat_eq, if◌then◌else◌}
+use Rattle.std.specs.Prelude.{ℕ, ◌==◌, ◌&&◌, ◌++◌, Bool, false, List, [], ◌∷◌, filter, length, map, nat_eq, if◌then◌else◌}
 use Rattle.std.specs.List.{count_by, flat_map, list_any}
 use Rattle.std.specs.Map.{lookup}
 use Rattle.std.specs.Option.{option_map_or}
 use Rattle.mst_ids.specs.Identifiers.{bridge_id}
 use Rattle.mst_ids.specs.declared.name.PortName.{PortName}
+use Rattle.mst_rows.specs.Rows.{Row}
 use Rattle.mst_diff.specs.net.ByTree.{by_tree}
 use Rattle.mst_diff.specs.net.Seen.{bridge_row}
 use Rattle.mst_lag.specs.Aggregation.{same_name}
@@ -22,9 +23,9 @@ use Rattle.mst_diff.specs.changes.Subjects.{all_trees}
 use Rattle.mst_diff.specs.Reach.{has_any}
 use Rattle.mst_summary.specs.declared.roots.Follower.{Follower}
 use Rattle.mst_summary.specs.declared.counts.Counts.{Counts}
-use Rattle.mst_summary.specs.Blocked.{is_blocked, blocked_line}
-use Rattle.mst_summary.specs.Roots.{followers, root_line}
-use Rattle.mst_summary.specs.Carries.{carried, carries_line}
+use Rattle.mst_summary.specs.Blocked.{is_blocked, blocked_row}
+use Rattle.mst_summary.specs.Roots.{followers, rows_of_root}
+use Rattle.mst_summary.specs.Carries.{carried, carries_rows}
 
 -- ---- counts
 -- some bridge has the tree
@@ -49,16 +50,16 @@ seen_counts v classes trees = record {
 }
 
 -- ---- roots
-abbrev pub root_line_of : SettledNet → ℕ → List Follower → BridgeInView → List ℕ
-root_line_of s tree all b = root_line (by_tree s.net) tree all b.name (id_in (by_tree s.net) tree b.name (bridge_row b.bridge))
+abbrev pub seen_root : SettledNet → ℕ → List Follower → BridgeInView → List Row
+seen_root s tree all b = rows_of_root (by_tree s.net) tree all b.name (id_in (by_tree s.net) tree b.name (bridge_row b.bridge))
 
 -- ---- ports that block
 abbrev pub blocked_of : SettledNet → ℕ → List PortName
 blocked_of s tree = map (λ p. p.name) (filter (λ p. is_blocked s.net (outcome_of s) tree (named_port p)) s.view.ports)
 
 -- ---- trees
-abbrev pub lines_of : SettledNet → ℕ → List ℕ
-lines_of s tree = flat_map (root_line_of s tree (followers s.net (outcome_of s) tree)) s.view.bridges ++ blocked_line tree (blocked_of s tree)
+abbrev pub seen_tree_rows : SettledNet → ℕ → List Row
+seen_tree_rows s tree = flat_map (seen_root s tree (followers s.net (outcome_of s) tree)) s.view.bridges ++ blocked_row tree (blocked_of s tree) ∷ []
 
 -- ---- islands that have a bridge
 abbrev pub seen_with_bridge : List Island → ℕ
@@ -71,6 +72,6 @@ seen_on v lan = filter (λ p. same_name p.lan lan) v.ports
 abbrev pub seen_carries : Viewed → Forest → ℕ → PortInView → Bool
 seen_carries v f vid p = seen_forwards v f vid p && seen_member v vid p
 
--- the line of a logical LAN, where it is up
-abbrev pub up_text : SettledNet → LanInView → List ℕ
-up_text s l = if l.is_up then carries_line l.name (carried s.net (outcome_of s) l.name) else []
+-- the row of a logical LAN, where it is up
+abbrev pub seen_up : SettledNet → LanInView → List Row
+seen_up s l = if l.is_up then carries_rows l.name (carried s.net (outcome_of s) l.name) else []

@@ -1,15 +1,17 @@
-ghost use Rattle.std.specs.Prelude.{◌≡◌, ◌++◌, IfOk, OnOk};
+ghost use Rattle.std.specs.Prelude.{◌≡◌, ◌++◌, ◌∷◌, [], List, IfOk, OnOk};
 ghost use Rattle.std.specs.List.{Contains};
 ghost use Rattle.mst_lag.specs.Viewed.{named_port};
+ghost use Rattle.mst_rows.specs.Rows.{Row};
 ghost use Rattle.mst_diff.specs.trees.Settled.{outcome_of};
-ghost use Rattle.mst_summary.specs.Blocked.{stops as stops_of, is_blocked as blocks, blocked_line};
+ghost use Rattle.mst_summary.specs.Blocked.{stops as stops_of, is_blocked as blocks, blocked_row};
 ghost use Rattle.mst_summary.specs.Seen.{blocked_of};
 
 use crate::looked_up::role;
-use itoa::Buffer;
 use mst_diff::{Role, Settled};
-use mst_ids::{PortName, Tree, push_bytes, push_comma_list, push_end, push_word};
+use mst_ids::{PortName, Tree};
+use mst_kinds::{Kind, SummaryLine};
 use mst_lag::PortInView;
+use mst_rows::{Rows, Value, put};
 use std::alloc::{AllocError, Global};
 
 /// Whether there is a role, and it doesn't forward.
@@ -42,27 +44,23 @@ fn blocked(alloc: Global, plan: &Settled, tree: Tree) -> Result<Vec<PortName>, A
         .collect(alloc)
 }
 
-/// Appends the line of these ports.
-fn push_line(tree: Tree, ports: &[PortName], out: &mut Vec<u8>) -> Result<(), AllocError>
-    ensures { OnOk result (out.new.items ≡ out.old.items ++ blocked_line tree ports.now) }
+/// Puts the row of these ports.
+fn put_row<R: Rows>(tree: Tree, ports: &[PortName], out: &mut R) -> Result<(), AllocError>
+    ensures { (first : R) (rows : List Row) → R.grew first out.old rows → OnOk result (R.grew first out.new (rows ++ blocked_row tree ports.now ∷ [])) }
 {
-    let mut number = Buffer::new();
-    push_bytes(b"blocked", out)?;
-    push_word(number.format(tree.value()).as_bytes(), out)?;
-    push_bytes(b" ", out)?;
-    push_comma_list(ports, out)?;
-    push_end(out)
+    let values = [Value::Number(u64::from(tree.value())), Value::Ports(ports)];
+    put::<R>(Kind::Summary(SummaryLine::Blocked), &values, out)
 }
 
-/// Appends the line of the enabled ports of a tree that don't forward.
-pub(crate) fn push_blocked(
+/// Puts the row of the enabled ports of a tree that don't forward.
+pub(crate) fn put_blocked<R: Rows>(
     alloc: Global,
     plan: &Settled,
     tree: Tree,
-    out: &mut Vec<u8>,
+    out: &mut R,
 ) -> Result<(), AllocError>
-    ensures { OnOk result (out.new.items ≡ out.old.items ++ blocked_line tree (blocked_of plan.now tree)) }
+    ensures { (first : R) (rows : List Row) → R.grew first out.old rows → OnOk result (R.grew first out.new (rows ++ blocked_row tree (blocked_of plan.now tree) ∷ [])) }
 {
     let ports = blocked(alloc, plan, tree)?;
-    push_line(tree, ports.as_slice(), out)
+    put_row(tree, ports.as_slice(), out)
 }

@@ -1,17 +1,20 @@
-ghost use Rattle.std.specs.Prelude.{◌≡◌, ◌++◌, ◌+◌, ◌<◌, ℕ, List, filter, length, vec_len, IfOk, OnOk};
+ghost use Rattle.std.specs.Prelude.{◌≡◌, ◌++◌, ◌∷◌, [], ◌+◌, ◌<◌, ℕ, List, filter, length, vec_len, IfOk, OnOk};
 ghost use Rattle.std.specs.List.{All, AllZip, flat_map, list_all};
+ghost use Rattle.mst_rows.specs.Rows.{Row};
 ghost use Rattle.mst_diff.specs.trees.Settled.{outcome_of};
 ghost use Rattle.mst_diff.specs.plan_text.Bodies.{NumberEach};
-ghost use Rattle.mst_summary.specs.Carries.{carried, carries_line, carries_text};
+ghost use Rattle.mst_summary.specs.Carries.{all_carries, carried, carries_row, carries_rows};
 ghost use Rattle.mst_summary.specs.Kept.{AreClasses, flag_at, kept_at};
-ghost use Rattle.mst_summary.specs.Seen.{seen_on, seen_carries, up_text};
+ghost use Rattle.mst_summary.specs.Seen.{seen_on, seen_carries, seen_up};
 
 use crate::kept::{kept_for, ports_by_lan};
 use indexmap::IndexMap;
 use mst_diff::{Settled, is_member, port_forwards, set_of, vids};
 use mst_graph::Numbering;
-use mst_ids::{Name, Vid, push_bytes, push_end, push_word};
+use mst_ids::{Name, Vid, VidSet};
+use mst_kinds::{Kind, SummaryLine};
 use mst_lag::{LanInView, PortInView};
+use mst_rows::{Rows, Value, put};
 use std::alloc::{AllocError, Global};
 
 /// Whether a port is active for a VID and a member of its VLAN.
@@ -66,32 +69,36 @@ fn flagged(
     Ok(flagged)
 }
 
-/// Appends the line of a logical LAN that carries these VIDs, if these aren't all.
-fn push_line(lan: &Name, vids: &[Vid], out: &mut Vec<u8>) -> Result<(), AllocError>
-    ensures { OnOk result (out.new.items ≡ out.old.items ++ carries_line lan.now vids.now) }
+/// Puts the row of a logical LAN that carries these VIDs, if these aren't all.
+fn put_some<R: Rows>(lan: &Name, vids: &[Vid], out: &mut R) -> Result<(), AllocError>
+    ensures { (first : R) (rows : List Row) → R.grew first out.old rows → OnOk result (R.grew first out.new (rows ++ carries_rows lan.now vids.now)) }
 {
     if vids.len() == 4094 {
         return Ok(());
     }
-    push_bytes(b"carries", out)?;
-    push_word(lan.as_bytes(), out)?;
-    push_bytes(b" ", out)?;
-    set_of(vids).push_text(out)?;
-    push_end(out)
+    put_row(lan, &set_of(vids), out)
 }
 
-/// Appends the line of a logical LAN that has these ports, if it doesn't carry all VIDs.
-fn push_lan(
+/// Puts the row of a logical LAN that carries the VIDs of this set.
+fn put_row<'a, R: Rows>(lan: &'a Name, vids: &'a VidSet, out: &mut R) -> Result<(), AllocError>
+    ensures { (first : R) (rows : List Row) → R.grew first out.old rows → OnOk result (R.grew first out.new (rows ++ carries_row lan.now vids.now ∷ [])) }
+{
+    let values = [Value::Name(lan), Value::Vids(vids)];
+    put::<R>(Kind::Summary(SummaryLine::Carries), &values, out)
+}
+
+/// Puts the row of a logical LAN that has these ports, if it doesn't carry all VIDs.
+fn put_lan<R: Rows>(
     alloc: Global,
     plan: &Settled,
     classes: &Numbering,
     lan: &Name,
     ports: &[PortInView],
-    out: &mut Vec<u8>,
+    out: &mut R,
 ) -> Result<(), AllocError>
     requires classes { AreClasses plan.now.view classes.now }
     requires ports { ports.now ≡ seen_on plan.now.view lan.now }
-    ensures { OnOk result (out.new.items ≡ out.old.items ++ carries_line lan.now (carried plan.now.net (outcome_of plan.now) lan.now)) }
+    ensures { (first : R) (rows : List Row) → R.grew first out.old rows → OnOk result (R.grew first out.new (rows ++ carries_rows lan.now (carried plan.now.net (outcome_of plan.now) lan.now))) }
 {
     plan.known();
     let flags = flags_at(alloc, plan, ports, classes.firsts.as_slice())?;
@@ -102,26 +109,26 @@ fn push_lan(
         classes.numbers.as_slice(),
         flags.as_slice(),
     )?;
-    push_line(lan, carried.as_slice(), out)
+    put_some(lan, carried.as_slice(), out)
 }
 
-/// Appends the line of a logical LAN, by the ports that are kept for each, if it is up and doesn't carry all VIDs.
-fn push_up(
+/// Puts the row of a logical LAN, by the ports that are kept for each, if it is up and doesn't carry all VIDs.
+fn put_up<R: Rows>(
     alloc: Global,
     plan: &Settled,
     classes: &Numbering,
     kept: &IndexMap<Name, Vec<PortInView>>,
     lan: &LanInView,
-    out: &mut Vec<u8>,
+    out: &mut R,
 ) -> Result<(), AllocError>
     requires classes { AreClasses plan.now.view classes.now }
     requires kept { (name : List ℕ) → kept_at kept.now name ≡ seen_on plan.now.view name }
-    ensures { OnOk result (out.new.items ≡ out.old.items ++ up_text plan.now lan.now) }
+    ensures { (first : R) (rows : List Row) → R.grew first out.old rows → OnOk result (R.grew first out.new (rows ++ seen_up plan.now lan.now)) }
 {
     if !lan.is_up {
         return Ok(());
     }
-    push_lan(
+    put_lan(
         alloc,
         plan,
         classes,
@@ -131,39 +138,39 @@ fn push_up(
     )
 }
 
-/// Appends the lines of those of these logical LANs that are up and don't carry all VIDs.
-fn push_lans(
+/// Puts the rows of those of these logical LANs that are up and don't carry all VIDs.
+fn put_lans<R: Rows>(
     alloc: Global,
     plan: &Settled,
     classes: &Numbering,
     kept: &IndexMap<Name, Vec<PortInView>>,
     lans: &[LanInView],
-    out: &mut Vec<u8>,
+    out: &mut R,
 ) -> Result<(), AllocError>
     requires classes { AreClasses plan.now.view classes.now }
     requires kept { (name : List ℕ) → kept_at kept.now name ≡ seen_on plan.now.view name }
-    ensures { OnOk result (out.new.items ≡ out.old.items ++ flat_map (up_text plan.now) lans.now) }
+    ensures { (first : R) (rows : List Row) → R.grew first out.old rows → OnOk result (R.grew first out.new (rows ++ flat_map (seen_up plan.now) lans.now)) }
 {
     for lan in lans {
-        push_up(alloc, plan, classes, kept, lan, out)?;
+        put_up(alloc, plan, classes, kept, lan, out)?;
     }
     Ok(())
 }
 
-/// Appends the lines of the logical LANs that are up and don't carry all VIDs, by name.
+/// Puts the rows of the logical LANs that are up and don't carry all VIDs, by name.
 ///
 /// It asks each port once for each class of VIDs.
-pub(crate) fn push_carries(
+pub(crate) fn put_carries<R: Rows>(
     alloc: Global,
     plan: &Settled,
     classes: &Numbering,
-    out: &mut Vec<u8>,
+    out: &mut R,
 ) -> Result<(), AllocError>
     requires { AreClasses plan.now.view classes.now }
-    ensures { OnOk result (out.new.items ≡ out.old.items ++ carries_text plan.now.net (outcome_of plan.now)) }
+    ensures { (first : R) (rows : List Row) → R.grew first out.old rows → OnOk result (R.grew first out.new (rows ++ all_carries plan.now.net (outcome_of plan.now))) }
 {
     plan.known();
     let view = plan.view();
     let kept = ports_by_lan(alloc, view)?;
-    push_lans(alloc, plan, classes, &kept, view.lans(), out)
+    put_lans(alloc, plan, classes, &kept, view.lans(), out)
 }

@@ -1,13 +1,15 @@
-ghost use Rattle.std.specs.Prelude.{◌≡◌, ◌++◌, OnOk};
+ghost use Rattle.std.specs.Prelude.{◌≡◌, ◌++◌, ◌∷◌, [], List, OnOk};
 ghost use Rattle.std.specs.List.{count_by};
+ghost use Rattle.mst_rows.specs.Rows.{Row};
 ghost use Rattle.mst_diff.specs.net.Seen.{bridge_row};
-ghost use Rattle.mst_summary.specs.Counts.{counts_line};
+ghost use Rattle.mst_summary.specs.Counts.{counts_row};
 ghost use Rattle.mst_summary.specs.Seen.{seen_first, seen_counts};
 
-use itoa::Buffer;
 use mst_config::Regions;
-use mst_ids::{BridgeId, Tree, push_line};
+use mst_ids::{BridgeId, Tree};
+use mst_kinds::{Kind, SummaryLine};
 use mst_lag::{BridgeInView, PortInView, View};
+use mst_rows::{Rows, Value, put};
 use std::alloc::AllocError;
 
 /// How much there is of a network: bridges, those that are on, logical ports, those that are enabled, regions and trees.
@@ -72,29 +74,17 @@ pub(crate) fn count(view: &View, regions: &Regions, trees: &[Tree]) -> Counts
     }
 }
 
-/// Appends the line of how much there is.
-pub(crate) fn push_counts(counts: &Counts, out: &mut Vec<u8>) -> Result<(), AllocError>
-    ensures { OnOk result (out.new.items ≡ out.old.items ++ counts_line counts.now) }
+/// Puts the row of how much there is.
+pub(crate) fn put_counts<R: Rows>(counts: &Counts, out: &mut R) -> Result<(), AllocError>
+    ensures { (first : R) (rows : List Row) → R.grew first out.old rows → OnOk result (R.grew first out.new (rows ++ counts_row counts.now ∷ [])) }
 {
-    let mut bridges = Buffer::new();
-    let mut on = Buffer::new();
-    let mut ports = Buffer::new();
-    let mut enabled = Buffer::new();
-    let mut regions = Buffer::new();
-    let mut trees = Buffer::new();
-    let words: [&[u8]; 12] = [
-        b"bridges",
-        bridges.format(counts.bridges).as_bytes(),
-        b"on",
-        on.format(counts.on).as_bytes(),
-        b"ports",
-        ports.format(counts.ports).as_bytes(),
-        b"enabled",
-        enabled.format(counts.enabled).as_bytes(),
-        b"regions",
-        regions.format(counts.regions).as_bytes(),
-        b"trees",
-        trees.format(counts.trees).as_bytes(),
+    let values = [
+        Value::Number(counts.bridges),
+        Value::Number(counts.on),
+        Value::Number(counts.ports),
+        Value::Number(counts.enabled),
+        Value::Number(counts.regions),
+        Value::Number(counts.trees),
     ];
-    push_line(&words, out)
+    put::<R>(Kind::Summary(SummaryLine::Counts), &values, out)
 }

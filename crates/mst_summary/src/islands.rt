@@ -1,16 +1,18 @@
-ghost use Rattle.std.specs.Prelude.{◌≡◌, ◌++◌, ◌+◌, ◌<◌, ℕ, List, IfOk, OnOk, length, map, vec_len};
+ghost use Rattle.std.specs.Prelude.{◌≡◌, ◌++◌, ◌∷◌, [], ◌+◌, ◌<◌, List, IfOk, OnOk, length, map, vec_len};
 ghost use Rattle.std.specs.List.{All, AllZip, flat_map};
+ghost use Rattle.mst_rows.specs.Rows.{Row};
 ghost use Rattle.mst_diff.specs.trees.Settled.{outcome_of};
 ghost use Rattle.mst_diff.specs.plan_text.Bodies.{NumberEach};
 ghost use Rattle.mst_diff.specs.Reach.{has_any};
 ghost use Rattle.mst_summary.specs.Kept.{AreClasses, count_at};
 ghost use Rattle.mst_summary.specs.Seen.{seen_with_bridge};
-ghost use Rattle.mst_summary.specs.Vlans.{HasIslands, islands_line, group_text, IsVlansText};
+ghost use Rattle.mst_summary.specs.Vlans.{HasIslands, islands_row, group_rows, AreVlanRows};
 
-use itoa::Buffer;
 use mst_diff::{Settled, set_of, vids};
 use mst_graph::{Numbering, groups_by_body};
-use mst_ids::{Vid, push_bytes, push_end, push_word};
+use mst_ids::Vid;
+use mst_kinds::{Kind, SummaryLine};
+use mst_rows::{Rows, Value, put};
 use mst_vlan::{Island, active_ports, reach_from};
 use std::alloc::{AllocError, Global};
 
@@ -54,69 +56,67 @@ fn counts_at(alloc: Global, plan: &Settled, places: &[usize]) -> Result<Vec<u64>
     Ok(counts)
 }
 
-/// Appends the line of a group of VIDs that have this many.
-fn push_line(group: &[Vid], count: u64, out: &mut Vec<u8>) -> Result<(), AllocError>
-    ensures { OnOk result (out.new.items ≡ out.old.items ++ islands_line group.now count) }
+/// Puts the row of a group of VIDs that have this many.
+fn put_row<R: Rows>(group: &[Vid], count: u64, out: &mut R) -> Result<(), AllocError>
+    ensures { (first : R) (rows : List Row) → R.grew first out.old rows → OnOk result (R.grew first out.new (rows ++ islands_row group.now count ∷ [])) }
 {
-    let mut number = Buffer::new();
-    push_bytes(b"vlan ", out)?;
-    set_of(group).push_text(out)?;
-    push_word(b"islands", out)?;
-    push_word(number.format(count).as_bytes(), out)?;
-    push_end(out)
+    let vids = set_of(group);
+    let values = [Value::Vids(&vids), Value::Number(count)];
+    put::<R>(Kind::Summary(SummaryLine::Vlan), &values, out)
 }
 
-/// Appends the line of a group, by the numbers of the VIDs and the counts of the numbers.
-fn push_group(
+/// Puts the row of a group, by the numbers of the VIDs and the counts of the numbers.
+fn put_group<R: Rows>(
     group: &[Vid],
     numbers: &[usize],
     counts: &[u64],
-    out: &mut Vec<u8>,
+    out: &mut R,
 ) -> Result<(), AllocError>
     requires { NumberEach numbers.now (length counts.now) }
-    ensures { OnOk result (out.new.items ≡ out.old.items ++ group_text (count_at numbers.now counts.now) group.now) }
+    ensures { (first : R) (rows : List Row) → R.grew first out.old rows → OnOk result (R.grew first out.new (rows ++ group_rows (count_at numbers.now counts.now) group.now)) }
 {
     let Some(vid) = group.first() else {
         return Ok(());
     };
     let number = numbers[usize::from(vid.value()) - 1];
-    push_line(group, counts[number], out)
+    put_row(group, counts[number], out)
 }
 
-/// Appends the lines of these groups.
-fn push_groups(
+/// Puts the rows of these groups.
+fn put_groups<R: Rows>(
     groups: &[Vec<Vid>],
     numbers: &[usize],
     counts: &[u64],
-    out: &mut Vec<u8>,
+    out: &mut R,
 ) -> Result<(), AllocError>
     requires { NumberEach numbers.now (length counts.now) }
-    ensures { OnOk result (out.new.items ≡ out.old.items ++ flat_map (group_text (count_at numbers.now counts.now)) (map (λ group. group.items) groups.now)) }
+    ensures { (first : R) (rows : List Row) → R.grew first out.old rows → OnOk result (R.grew first out.new (rows ++ flat_map (group_rows (count_at numbers.now counts.now)) (map (λ group. group.items) groups.now))) }
 {
     for group in groups {
-        push_group(group.as_slice(), numbers, counts, out)?;
+        put_group(group.as_slice(), numbers, counts, out)?;
     }
     Ok(())
 }
 
-/// Appends the lines of how many islands with a bridge VIDs have, VIDs that have equally many in one line, by the least.
+/// Puts the rows of how many islands with a bridge VIDs have, VIDs that have equally many in one row, by the least.
 ///
 /// Islands are made once for each class of VIDs.
-pub(crate) fn push_vlans(
+pub(crate) fn put_vlans<R: Rows>(
     alloc: Global,
     plan: &Settled,
     classes: &Numbering,
-    out: &mut Vec<u8>,
+    out: &mut R,
 ) -> Result<(), AllocError>
     requires { AreClasses plan.now.view classes.now }
-    ensures { OnOk result ((text : List ℕ) × IsVlansText plan.now.net (outcome_of plan.now) text × (out.new.items ≡ out.old.items ++ text)) }
+    ensures { (first : R) (rows : List Row) → R.grew first out.old rows
+        → OnOk result ((own : List Row) × AreVlanRows plan.now.net (outcome_of plan.now) own × R.grew first out.new (rows ++ own)) }
 {
     plan.known();
     let counts = counts_at(alloc, plan, classes.firsts.as_slice())?;
     let kept = Vec::from_slice(alloc, counts.as_slice())?;
     let vids = vids(alloc)?;
     let groups = groups_by_body(alloc, vids.as_slice(), classes.numbers.as_slice(), counts)?;
-    push_groups(
+    put_groups(
         groups.as_slice(),
         classes.numbers.as_slice(),
         kept.as_slice(),

@@ -3,20 +3,21 @@ ghost use Rattle.std.specs.Prelude.{◌≡◌, ◌==◌, ℕ, true, List, None, 
 ghost use Rattle.std.specs.List.{Contains};
 ghost use Rattle.mst_diff.specs.net.Tables.{Net, IsNetwork};
 ghost use Rattle.mst_diff.specs.trees.Outcome.{Outcome, IsOutcome};
+ghost use Rattle.mst_rows.specs.Rows.{Row};
 ghost use Rattle.mst_summary.specs.declared.roots.Follower.{Follower};
 ghost use Rattle.mst_summary.specs.Roots.{next_of, IsNext};
-ghost use Rattle.mst_summary.specs.SummaryText.{IsSummary};
+ghost use Rattle.mst_summary.specs.SummaryText.{AreSummaryRows};
 
 use mst_diff::trees_laws::one_outcome;
 use mst_diff::vlan_laws::islands_of_vid;
 use mst_graph::laws::group_lists;
 use mst_ids::Vid;
 
-/// A network has one summary, whichever settled outcomes it is made by, and there is one.
+/// A network has one list of rows as its summary, whichever settled outcomes it is made by, and there is one.
 pub fn one_summary()
-    ensures one { (net : Net) (o q : Outcome) → IsNetwork net → IsOutcome net o → IsOutcome net q
-        → (text other : List ℕ) → IsSummary net o text → IsSummary net q other → text ≡ other }
-    ensures some { (net : Net) (o : Outcome) → IsNetwork net → (text : List ℕ) × IsSummary net o text }
+    ensures one_list { (net : Net) (o q : Outcome) → IsNetwork net → IsOutcome net o → IsOutcome net q
+        → (rows other : List Row) → AreSummaryRows net o rows → AreSummaryRows net q other → rows ≡ other }
+    ensures some_rows { (net : Net) (o : Outcome) → IsNetwork net → (rows : List Row) × AreSummaryRows net o rows }
 {
     one_outcome();
     islands_of_vid();

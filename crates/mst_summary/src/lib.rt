@@ -18,8 +18,7 @@ pub use kept::{kept_for, ports_by_lan};
 pub use looked_up::role;
 pub use mst_diff::{
     Differing, Entries, Forest, Planned, Role, Settled, bridge_id, changes_laws, forwards,
-    has_tree, laws as diff_laws, plan_text_laws, port_role, push_changes, push_configuration,
-    push_diff, push_lags, push_plan, push_regions, push_tree, push_vlan, root_of, text_laws,
-    trees_laws,
+    has_tree, laws as diff_laws, plan_text_laws, port_role, put_changes, put_configuration,
+    put_diff, put_lags, put_plan, put_regions, put_tree, put_vlan, root_of, text_laws, trees_laws,
 };
-pub use summary::push_summary;
+pub use summary::put_summary;

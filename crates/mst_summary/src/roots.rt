@@ -1,17 +1,18 @@
-ghost use Rattle.std.specs.Prelude.{◌≡◌, ◌==◌, ◌*◌, ◌++◌, not, filter, IfOk, OnOk};
+ghost use Rattle.std.specs.Prelude.{◌≡◌, ◌==◌, ◌++◌, ◌∷◌, [], List, Some, None, not, filter, length, IfOk, OnOk};
 ghost use Rattle.std.specs.List.{Contains, flat_map};
 ghost use Rattle.mst_lag.specs.Viewed.{named_bridge};
-ghost use Rattle.mst_diff.specs.net.ByTree.{by_tree, priority_in};
-ghost use Rattle.mst_ids.specs.Words.{after_space};
+ghost use Rattle.mst_rows.specs.Rows.{Row};
+ghost use Rattle.mst_diff.specs.net.ByTree.{by_tree};
 ghost use Rattle.mst_diff.specs.Reach.{has_any};
 ghost use Rattle.mst_diff.specs.trees.Settled.{outcome_of};
-ghost use Rattle.mst_summary.specs.Roots.{follower as follower_of, followers as followers_in, followers_of as those_of, with_lesser, least as least_of, next_of, next_words, whole_line, group_line};
-ghost use Rattle.mst_summary.specs.Seen.{root_line_of};
+ghost use Rattle.mst_summary.specs.Roots.{follower as follower_of, followers as followers_in, followers_of as those_of, with_lesser, least as least_of, next_of, priority_of, root_row, group_rows};
+ghost use Rattle.mst_summary.specs.Seen.{seen_root};
 
-use itoa::Buffer;
 use mst_diff::{Settled, bridge_id, root_of};
-use mst_ids::{BridgeId, Name, Tree, push_bytes, push_end, push_word, push_words};
+use mst_ids::{BridgeId, Name, Tree};
+use mst_kinds::{Kind, SummaryLine};
 use mst_lag::BridgeInView;
+use mst_rows::{Rows, Value, put};
 use std::alloc::{AllocError, Global};
 
 /// A bridge that names a root in a tree: its name, its own identifier there and that of its root.
@@ -111,62 +112,68 @@ fn next(alloc: Global, id: BridgeId, followers: &[Follower]) -> Result<Option<Fo
 
 /// The priority of a bridge in a tree as a number.
 fn priority(plan: &Settled, tree: Tree, bridge: &Name) -> u64
-    ensures { result ≡ priority_in (by_tree plan.now.net).priorities bridge.now tree * 4096 }
+    ensures { result ≡ priority_of (by_tree plan.now.net) tree bridge.now }
 {
     u64::from(plan.settings().tree_priority(bridge, tree).step()) * 4096
 }
 
-/// Appends the name of the next bridge and its priority, or `-` where there is none, each after a space.
-fn push_next(
-    plan: &Settled,
-    tree: Tree,
-    next: Option<Follower>,
-    out: &mut Vec<u8>,
-) -> Result<(), AllocError>
-    ensures { OnOk result (out.new.items ≡ out.old.items ++ flat_map after_space (next_words (by_tree plan.now.net) tree next)) }
-{
-    match next {
-        None => push_word(b"-", out),
-        Some(next) => {
-            let mut number = Buffer::new();
-            let words: [&[u8]; 2] = [
-                next.name.as_bytes(),
-                number.format(priority(plan, tree, &next.name)).as_bytes(),
-            ];
-            push_words(&words, out)
-        }
-    }
-}
-
-/// Appends the line of a root of this name and this identifier, with its followers.
-fn push_whole(
-    alloc: Global,
+/// Puts the row of a root of this name that has this many followers, with the next of these.
+fn put_root<R: Rows>(
     plan: &Settled,
     tree: Tree,
     name: &Name,
-    id: BridgeId,
-    group: &[Follower],
-    out: &mut Vec<u8>,
+    count: u64,
+    next: Option<Follower>,
+    out: &mut R,
 ) -> Result<(), AllocError>
-    ensures { OnOk result (out.new.items ≡ out.old.items ++ whole_line (by_tree plan.now.net) tree name.now id group.now) }
+    ensures { (first : R) (rows : List Row) → R.grew first out.old rows → OnOk result (R.grew first out.new (rows ++ root_row (by_tree plan.now.net) tree name.now count next ∷ [])) }
 {
-    let next = next(alloc, id, group)?;
-    let mut number = Buffer::new();
-    let mut own = Buffer::new();
-    let mut count = Buffer::new();
-    let words: [&[u8]; 7] = [
-        number.format(tree.value()).as_bytes(),
-        b"root",
-        name.as_bytes(),
-        own.format(priority(plan, tree, name)).as_bytes(),
-        b"of",
-        count.format(group.len() as u64).as_bytes(),
-        b"next",
+    match next {
+        None => put_alone(plan, tree, name, count, out),
+        Some(next) => put_with_next(plan, tree, name, count, &next, out),
+    }
+}
+
+/// Puts its row where there is no next.
+fn put_alone<R: Rows>(
+    plan: &Settled,
+    tree: Tree,
+    name: &Name,
+    count: u64,
+    out: &mut R,
+) -> Result<(), AllocError>
+    ensures { (first : R) (rows : List Row) → R.grew first out.old rows → OnOk result (R.grew first out.new (rows ++ root_row (by_tree plan.now.net) tree name.now count None ∷ [])) }
+{
+    let values = [
+        Value::Number(u64::from(tree.value())),
+        Value::Name(name),
+        Value::Number(priority(plan, tree, name)),
+        Value::Number(count),
+        Value::Absent,
     ];
-    push_bytes(b"tree", out)?;
-    push_words(&words, out)?;
-    push_next(plan, tree, next, out)?;
-    push_end(out)
+    put::<R>(Kind::Summary(SummaryLine::RootAlone), &values, out)
+}
+
+/// Puts its row with the next.
+fn put_with_next<'a, R: Rows>(
+    plan: &Settled,
+    tree: Tree,
+    name: &'a Name,
+    count: u64,
+    next: &'a Follower,
+    out: &mut R,
+) -> Result<(), AllocError>
+    ensures { (first : R) (rows : List Row) → R.grew first out.old rows → OnOk result (R.grew first out.new (rows ++ root_row (by_tree plan.now.net) tree name.now count (Some next.now) ∷ [])) }
+{
+    let values = [
+        Value::Number(u64::from(tree.value())),
+        Value::Name(name),
+        Value::Number(priority(plan, tree, name)),
+        Value::Number(count),
+        Value::Name(&next.name),
+        Value::Number(priority(plan, tree, &next.name)),
+    ];
+    put::<R>(Kind::Summary(SummaryLine::Root), &values, out)
 }
 
 /// Whether there is one.
@@ -179,69 +186,70 @@ fn is_any(followers: &[Follower]) -> bool
     }
 }
 
-/// Appends the line of a bridge with its followers, if it has one.
-fn push_group(
+/// Puts the row of a bridge of this identifier with its followers, if it has one.
+fn put_group<R: Rows>(
     alloc: Global,
     plan: &Settled,
     tree: Tree,
     name: &Name,
     id: BridgeId,
     group: &[Follower],
-    out: &mut Vec<u8>,
+    out: &mut R,
 ) -> Result<(), AllocError>
-    ensures { OnOk result (out.new.items ≡ out.old.items ++ group_line (by_tree plan.now.net) tree name.now id group.now) }
+    ensures { (first : R) (rows : List Row) → R.grew first out.old rows → OnOk result (R.grew first out.new (rows ++ group_rows (by_tree plan.now.net) tree name.now id group.now)) }
 {
-    if is_any(group) {
-        return push_whole(alloc, plan, tree, name, id, group, out);
+    if !is_any(group) {
+        return Ok(());
     }
-    Ok(())
+    let next = next(alloc, id, group)?;
+    put_root(plan, tree, name, group.len() as u64, next, out)
 }
 
-/// Appends the line of a bridge, if it is the root of one of these.
-fn push_root(
+/// Puts the row of a bridge, if it is the root of one of these.
+fn put_bridge<R: Rows>(
     alloc: Global,
     plan: &Settled,
     tree: Tree,
     followers: &[Follower],
     bridge: &BridgeInView,
-    out: &mut Vec<u8>,
+    out: &mut R,
 ) -> Result<(), AllocError>
-    ensures { OnOk result (out.new.items ≡ out.old.items ++ root_line_of plan.now tree followers.now bridge.now) }
+    ensures { (first : R) (rows : List Row) → R.grew first out.old rows → OnOk result (R.grew first out.new (rows ++ seen_root plan.now tree followers.now bridge.now)) }
 {
     let id = bridge_id(plan.settings(), tree, bridge);
     let group = followers_of(alloc, id, followers)?;
-    push_group(alloc, plan, tree, &bridge.name, id, group.as_slice(), out)
+    put_group(alloc, plan, tree, &bridge.name, id, group.as_slice(), out)
 }
 
-/// Appends the lines of the bridges that are the root of one of these.
-fn push_each(
+/// Puts the rows of the bridges that are the root of one of these.
+fn put_each<R: Rows>(
     alloc: Global,
     plan: &Settled,
     tree: Tree,
     followers: &[Follower],
-    out: &mut Vec<u8>,
+    out: &mut R,
 ) -> Result<(), AllocError>
-    ensures { OnOk result (out.new.items ≡ out.old.items ++ flat_map (root_line_of plan.now tree followers.now) plan.now.view.bridges) }
+    ensures { (first : R) (rows : List Row) → R.grew first out.old rows → OnOk result (R.grew first out.new (rows ++ flat_map (seen_root plan.now tree followers.now) plan.now.view.bridges)) }
 {
     for bridge in plan.view().bridges() {
-        push_root(alloc, plan, tree, followers, bridge, out)?;
+        put_bridge(alloc, plan, tree, followers, bridge, out)?;
     }
     Ok(())
 }
 
-/// Appends the lines of the roots in a tree, in an MSTI of the regional roots, by name: the priority of each, how many
+/// Puts the rows of the roots in a tree, in an MSTI of the regional roots, by name: the priority of each, how many
 /// bridges name it, and which of these has the next least identifier.
 ///
 /// It goes over the bridges that have the tree once for each bridge.
-pub(crate) fn push_roots(
+pub(crate) fn put_roots<R: Rows>(
     alloc: Global,
     plan: &Settled,
     tree: Tree,
-    out: &mut Vec<u8>,
+    out: &mut R,
 ) -> Result<(), AllocError>
-    ensures { OnOk result (out.new.items ≡ out.old.items ++ flat_map (root_line_of plan.now tree (followers_in plan.now.net (outcome_of plan.now) tree)) plan.now.view.bridges) }
+    ensures { (first : R) (rows : List Row) → R.grew first out.old rows → OnOk result (R.grew first out.new (rows ++ flat_map (seen_root plan.now tree (followers_in plan.now.net (outcome_of plan.now) tree)) plan.now.view.bridges)) }
 {
     let mut followers = Vec::new(alloc);
     push_followers(plan, tree, &mut followers)?;
-    push_each(alloc, plan, tree, followers.as_slice(), out)
+    put_each(alloc, plan, tree, followers.as_slice(), out)
 }

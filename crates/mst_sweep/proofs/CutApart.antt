@@ -1,12 +1,11 @@
 -- A VID of which every logical port is a member is cut just where a failure takes apart what enabled ports link.
-use Rattle.std.proofs.Common.{◌≡◌, ℕ, ◌==◌, ◌&&◌, not, Bool, true, false, List, [], filter, Option, Some, None, Ok, refl, sym, ap, subst, ◌∙◌, true≢false}
+use Rattle.std.proofs.Common.{◌≡◌, ℕ, ◌==◌, ◌&&◌, not, Bool, true, false, List, [], ◌∷◌, filter, Option, Some, None, Ok, refl, sym, ap, subst, ◌∙◌, true≢false}
 use Rattle.std.specs.Prelude.{◌↔◌, if◌then◌else◌}
 use Rattle.std.specs.Cmp.Lexicographic.{bytes_decides}
 use Rattle.std.specs.FinMap as fin
 use Rattle.std.specs.List.{Contains, find, list_any}
 use Rattle.std.specs.Option.{option_map, option_map_or, option_and_then}
 use Rattle.std.proofs.lemmas.Bool.{eqb-true, eq-eqb}
-use Rattle.mst_ids.specs.Words.{after_space, comma_list}
 use Rattle.mst_graph.specs.Islands.{Island, Link, AreJoined, link_ends}
 use Rattle.mst_graph.specs.Walks.{Walk, Node, bridge_at, lan_at}
 use Rattle.mst_graph.proofs.Members.{in_map, from_map, in_filter, from_filter, passing}
@@ -26,7 +25,7 @@ use Rattle.mst_diff.specs.Reach.{has_any}
 use Rattle.mst_diff.proofs.Lists.{find-found}
 use Rattle.mst_sweep.specs.Apart.{AllAreMembers, AreLinked, ComeApart}
 use Rattle.mst_sweep.specs.Failures.{edit_of}
-use Rattle.mst_sweep.specs.Parts.{home, stays_at, staying, are_together, came_apart, leads, part, part_word, parts_text, AreParts}
+use Rattle.mst_sweep.specs.Parts.{home, stays_at, staying, are_together, came_apart, leads, part, part_led, all_parts, AreParts}
 use Rattle.mst_sweep.specs.declared.failure.Failure.{Failure}
 use Rattle.mst_sweep.specs.declared.failure.Failure.TheVariants.{Lan, Bridge}
 use Rattle.mst_sweep.specs.declared.parts.Stays.{Stays}
@@ -52,14 +51,14 @@ true_not false n = refl
 
 -- ---- parts, and bridges of an island that came apart
 module _ (all : List Stays) where
-  word_apart : (x : Stays) (b : Bool) (word : List ℕ) → has_any (if b then word else []) ≡ true → b ≡ true
-  word_apart x true word e = refl
-  word_apart x false word e = absurd (true≢false (sym e))
+  led_apart : (x : Stays) (b : Bool) (led : List (List (List ℕ))) → has_any (if b then led else []) ≡ true → b ≡ true
+  led_apart x true led e = refl
+  led_apart x false led e = absurd (true≢false (sym e))
 
-  pub two_apart : has_any (parts_text all) ≡ true → (x : Stays) × (y : Stays) × Contains all x × Contains all y × (came_apart x y ≡ true)
+  pub two_apart : has_any (all_parts all) ≡ true → (x : Stays) × (y : Stays) × Contains all x × Contains all y × (came_apart x y ≡ true)
   two_apart e =
-      let r = from_text (part_word all) all e in
-      let some = (both_true (list_any (came_apart r.0) all) (leads all r.0) (word_apart r.0 (list_any (came_apart r.0) all && leads all r.0) (after_space (comma_list (part all r.0))) r.2)).0 in
+      let r = from_text (part_led all) all e in
+      let some = (both_true (list_any (came_apart r.0) all) (leads all r.0) (led_apart r.0 (list_any (came_apart r.0) all && leads all r.0) (part all r.0 ∷ []) r.2)).0 in
       let s = passing (came_apart r.0) all some in
       (r.0, s.0, r.1, s.1, s.2)
 
@@ -91,13 +90,13 @@ module _ (all : List Stays) where
     is_apart : came_apart first y ≡ true
     is_apart = ap (λ n. y.before == n && not (y.after == first.after)) before ∙ ap (λ n. y.before == x.before && not (y.after == n)) after_is ∙ e
 
-    has_word : has_any (part_word all first) ≡ true
-    has_word =
-        ap (λ b. has_any (if b then after_space (comma_list (part all first)) else []))
+    has_led : has_any (part_led all first) ≡ true
+    has_led =
+        ap (λ b. has_any (if b then part all first ∷ [] else []))
         (true_both (list_any (came_apart first) all) (leads all first) (any_passes (came_apart first) all y other is_apart) is_leader)
 
-    pub have_parts : has_any (parts_text all) ≡ true
-    have_parts = has_text (part_word all) all first found.0 has_word
+    pub have_parts : has_any (all_parts all) ≡ true
+    have_parts = has_text (part_led all) all first found.0 has_led
 
 -- ---- what enabled ports link, the members among the active ones join
 module _ (net : Net) (o : Outcome) (vid : ℕ) (members : AllAreMembers net vid) where
@@ -162,7 +161,7 @@ module _ (a b : Net) (o p : Outcome) (vid : ℕ)
   abbrev all : List Stays
   all = staying olds news (bridge_names a)
 
-  pub cut_apart : has_any (parts_text all) ≡ true → ComeApart a b
+  pub cut_apart : has_any (all_parts all) ≡ true → ComeApart a b
   cut_apart e =
       let r = two_apart all e in
       let x = kept_from (stays_at olds news) (bridge_names a) r.0 r.2 in
@@ -195,7 +194,7 @@ module _ (a b : Net) (o p : Outcome) (vid : ℕ)
       (ap (λ old. option_and_then (λ before. option_map (λ after. let stays : Stays = record { name = name; before = before; after = after } in stays) (home news name)) old) e
       ∙ ap (option_map (λ after. let stays : Stays = record { name = name; before = before; after = after } in stays)) f)
 
-  pub apart_cut : ComeApart a b → has_any (parts_text all) ≡ true
+  pub apart_cut : ComeApart a b → has_any (all_parts all) ≡ true
   apart_cut c =
       let x = first_home c.first c.first_on in
       let x' = second_home c.first c.first_stays in
@@ -220,7 +219,7 @@ module _ (net : Net) (o : Outcome) (vid : ℕ) (active : ActiveLink) (ok : IsNet
       joined_home net o vid islands are x y first second (linked_joined net o vid members (λ x y. active net o vid ok is free (bridge_at x) (bridge_at y)) x y walk)
 
 pub cut_by_failure : (a b : Net) (o p : Outcome) (failure : Failure) (vid : ℕ) → ActiveLink → IsNetwork a → IsNetwork b → IsOutcome a o → IsOutcome b p → after (edit_of failure) a ≡ Ok b → IsUnrestricted a → AllAreMembers a vid
-    → (parts : List ℕ) → AreParts a o b p vid parts → (has_any parts ≡ true) ↔ ComeApart a b
+    → (parts : List (List (List ℕ))) → AreParts a o b p vid parts → (has_any parts ≡ true) ↔ ComeApart a b
 cut_by_failure a b o p failure vid active ok failed is are e free all parts h =
     let is_made = made (edit_of failure) a b e in
     let also_free : IsUnrestricted b = subst IsUnrestricted is_made (kept_free failure a free) in

@@ -1,7 +1,6 @@
 pub mod HomesNamed
 pub mod AllFailures
 pub mod Failed
-pub mod FailedLine
 pub mod Moved
 pub mod OneSweep
 pub mod Placed
@@ -15,6 +14,7 @@ pub mod StillJoined
 pub mod Untouched
 pub mod KeptLinks
 pub mod Unlinked
+pub mod SameParts
 pub mod CutsBy
 pub mod NoCuts
 pub mod Together
@@ -23,5 +23,4 @@ pub mod ButFlagged
 pub mod PairParts
 pub mod OnePairs
 pub mod PartsJoined
-pub mod LastLine
 pub mod SweptParts

@@ -1,4 +1,4 @@
--- The text of pairs of failures: there is one, and one only.
+-- The rows of pairs of failures: there is one list of them, and one only.
 use Rattle.std.proofs.Common.{◌≡◌, ℕ, ◌||◌, Bool, true, false, cond, List, [], ◌∷◌, ◌++◌, refl, sym, ap, subst, ◌∙◌}
 use Rattle.std.specs.Bool.{MatchBool}
 use Rattle.std.specs.Cmp.{IsEquivalence}
@@ -13,10 +13,13 @@ use Rattle.mst_diff.specs.changes.Subjects.{bridge_names}
 use Rattle.mst_diff.specs.Reach.{has_any}
 use Rattle.mst_diff.proofs.OneDiff.{OneList}
 use Rattle.mst_sweep.specs.declared.failure.Failure.{Failure}
-use Rattle.mst_sweep.specs.Parts.{staying, parts_text, AreParts}
-use Rattle.mst_sweep.specs.Pairs.{Pair, Outcomes, ArePairParts, IsPairText, IsPairTold, IsPairsOf, failed, last_of_pairs, pair_text}
+use Rattle.mst_sweep.specs.Parts.{staying, all_parts, AreParts}
+use Rattle.mst_rows.specs.Rows.{Row}
+use Rattle.mst_sweep.specs.declared.cuts.CutBy.{CutBy}
+use Rattle.mst_sweep.specs.declared.cuts.CutBy.TheVariants.{Both}
+use Rattle.mst_sweep.specs.Pairs.{Pair, Outcomes, ArePairParts, ArePairRows, IsPairTold, IsPairsOf, failed, last_of_pairs, pair_rows}
 use Rattle.mst_sweep.specs.SweepText.{Told}
-use Rattle.mst_sweep.proofs.CutsBy.{one_lines, one_cut, cut_vids, cut_lines, some_cuts}
+use Rattle.mst_sweep.proofs.CutsBy.{one_list, one_cut, cut_vids, cut_rows, some_cuts}
 use Rattle.mst_sweep.proofs.OneSweep.{zip_same}
 use Rattle.mst_sweep.proofs.PairParts.{one_pair_parts}
 use Rattle.mst_sweep.proofs.Together.{failed_network}
@@ -30,13 +33,14 @@ module _ (one : OneList) (grouping : OneGrouping) (single : (net : Net) (o p : O
       let both : y.outcomes.both ≡ x.outcomes.both =
       single (failed (pair.first ∷ pair.second ∷ []) net) y.outcomes.both x.outcomes.both (failed_network (pair.first ∷ pair.second ∷ []) net is) y.are_outcomes.both x.are_outcomes.both in
       let same : y.outcomes ≡ x.outcomes = λ i. record { none = none i; first = first i; second = second i; both = both i } in
-      let w : IsPairText net pair x.outcomes t.text t.cuts = x.is in
-      let z : IsPairText net pair x.outcomes u.text u.cuts = subst (λ of. IsPairText net pair of u.text u.cuts) same y.is in
-      let cut : w.vids ≡ z.vids = one_cut (ArePairParts net pair x.outcomes) (one_pair_parts net pair x.outcomes one) grouping w.vids z.vids w.lines z.lines w.are_cuts z.are_cuts in
-      let lines : w.lines ≡ z.lines = one_lines (ArePairParts net pair x.outcomes) (one_pair_parts net pair x.outcomes one) grouping w.vids z.vids w.lines z.lines w.are_cuts z.are_cuts in
-      let text : t.text ≡ u.text = w.is ∙ (λ i. pair_text pair (cut i) (lines i)) ∙ sym z.is in
-      let cuts : t.cuts ≡ u.cuts = w.some ∙ ap has_any cut ∙ sym z.some in
-      λ i. record { text = text i; cuts = cuts i }
+      let r : ArePairRows net pair x.outcomes t.rows t.cuts = x.is in
+      let s : ArePairRows net pair x.outcomes u.rows u.cuts = subst (λ of. ArePairRows net pair of u.rows u.cuts) same y.is in
+      let by : CutBy = Both pair.first pair.second in
+      let vids : r.vids ≡ s.vids = one_cut (ArePairParts net pair x.outcomes) (one_pair_parts net pair x.outcomes one) grouping by r.vids s.vids r.cut s.cut r.are_cuts s.are_cuts in
+      let cut : r.cut ≡ s.cut = one_list (ArePairParts net pair x.outcomes) (one_pair_parts net pair x.outcomes one) grouping by r.vids s.vids r.cut s.cut r.are_cuts s.are_cuts in
+      let rows : t.rows ≡ u.rows = r.are ∙ (λ i. pair_rows pair (vids i) (cut i)) ∙ sym s.are in
+      let cuts : t.cuts ≡ u.cuts = r.some ∙ ap has_any vids ∙ sym s.some in
+      λ i. record { rows = rows i; cuts = cuts i }
 
   pub all_pairs_told : (all : List Pair) (told others : List Told) → AllZip (IsPairTold net o) all told → AllZip (IsPairTold net o) all others → told ≡ others
   all_pairs_told all told others x y = zip_same (IsPairTold net o) (IsPairTold net o) all told others (λ pair h. pair_same pair) x y
@@ -45,14 +49,14 @@ module _ (one : OneList) (grouping : OneGrouping) (single : (net : Net) (o p : O
 module _ (islands : (net : Net) (o : Outcome) (vid : ℕ) → IsNetwork net → (islands : List (Island (List ℕ) (List ℕ))) × AreIslandsOf net o vid islands)
     (grouping : (same : ℕ → ℕ → Bool) (things : List ℕ) → IsEquivalence same → (groups : List (List ℕ)) × AreGroups (λ x y. same x y ≡ true) things groups)
     (outcomes : (net : Net) → IsNetwork net → (o : Outcome) × IsOutcome net o) (net : Net) (is : IsNetwork net) where
-  parts_there : (o : Outcome) (fs : List Failure) (p : Outcome) (vid : ℕ) → (text : List ℕ) × AreParts net o (failed fs net) p vid text
+  parts_there : (o : Outcome) (fs : List Failure) (p : Outcome) (vid : ℕ) → (parts : List (List (List ℕ))) × AreParts net o (failed fs net) p vid parts
   parts_there o fs p vid =
       let olds = islands net o vid is in
       let news = islands (failed fs net) p vid (failed_network fs net is) in
-      (parts_text (staying olds.0 news.0 (bridge_names net)), (olds.0, news.0, olds.1, news.1, refl))
+      (all_parts (staying olds.0 news.0 (bridge_names net)), (olds.0, news.0, olds.1, news.1, refl))
 
   module _ (pair : Pair) (of : Outcomes) where
-    pair_parts_there : (vid : ℕ) → (text : List ℕ) × ArePairParts net pair of vid text
+    pair_parts_there : (vid : ℕ) → (parts : List (List (List ℕ))) × ArePairParts net pair of vid parts
     pair_parts_there vid =
         let first = parts_there of.none (pair.first ∷ []) of.first vid in
         let second = parts_there of.none (pair.second ∷ []) of.second vid in
@@ -60,19 +64,20 @@ module _ (islands : (net : Net) (o : Outcome) (vid : ℕ) → IsNetwork net → 
         let flag : Bool = has_any first.0 || has_any second.0 in
         (cond flag [] both.0, record { one = first.0; other = second.0; by_first = first.1; by_second = second.1; by_both = by flag both.0 both.1 })
       where
-        by : (flag : Bool) (text : List ℕ) → AreParts net of.none (failed (pair.first ∷ pair.second ∷ []) net) of.both vid text
-            → MatchBool flag (cond flag [] text ≡ []) (AreParts net of.none (failed (pair.first ∷ pair.second ∷ []) net) of.both vid (cond flag [] text))
-        by true text h = refl
-        by false text h = h
+        by : (flag : Bool) (parts : List (List (List ℕ))) → AreParts net of.none (failed (pair.first ∷ pair.second ∷ []) net) of.both vid parts
+            → MatchBool flag (cond flag [] parts ≡ []) (AreParts net of.none (failed (pair.first ∷ pair.second ∷ []) net) of.both vid (cond flag [] parts))
+        by true parts h = refl
+        by false parts h = h
 
-    pair_text_there : (cuts : Bool) × (text : List ℕ) × IsPairText net pair of text cuts
-    pair_text_there =
-        let R : ℕ → List ℕ → Type 0 = ArePairParts net pair of in
-        let vids = cut_vids R (λ vid. (pair_parts_there vid).0) (λ vid _. (pair_parts_there vid).1) grouping in
-        let lines = cut_lines R (λ vid. (pair_parts_there vid).0) (λ vid _. (pair_parts_there vid).1) grouping in (
+    pair_rows_there : (cuts : Bool) × (rows : List Row) × ArePairRows net pair of rows cuts
+    pair_rows_there =
+        let R : ℕ → List (List (List ℕ)) → Type 0 = ArePairParts net pair of in
+        let by : CutBy = Both pair.first pair.second in
+        let vids = cut_vids R by (λ vid. (pair_parts_there vid).0) (λ vid _. (pair_parts_there vid).1) grouping in
+        let cut = cut_rows R by (λ vid. (pair_parts_there vid).0) (λ vid _. (pair_parts_there vid).1) grouping in (
           has_any vids,
-          pair_text pair vids lines,
-          record { vids = vids; lines = lines; are_cuts = some_cuts R (λ vid. (pair_parts_there vid).0) (λ vid _. (pair_parts_there vid).1) grouping; some = refl; is = refl },
+          pair_rows pair vids cut,
+          record { vids = vids; cut = cut; are_cuts = some_cuts R by (λ vid. (pair_parts_there vid).0) (λ vid _. (pair_parts_there vid).1) grouping; some = refl; are = refl },
         )
 
   abbrev pub none : Outcome
@@ -84,8 +89,8 @@ module _ (islands : (net : Net) (o : Outcome) (vid : ℕ) → IsNetwork net → 
       let second = outcomes (failed (pair.second ∷ []) net) (failed_network (pair.second ∷ []) net is) in
       let both = outcomes (failed (pair.first ∷ pair.second ∷ []) net) (failed_network (pair.first ∷ pair.second ∷ []) net is) in
       let of : Outcomes = record { none = none; first = first.0; second = second.0; both = both.0 } in
-      let t = pair_text_there pair of in (
-        record { text = t.1; cuts = t.0 },
+      let t = pair_rows_there pair of in (
+        record { rows = t.1; cuts = t.0 },
         record { outcomes = of; none = refl; are_outcomes = record { none = (outcomes net is).1; first = first.1; second = second.1; both = both.1 }; is = t.2 },
       )
 
@@ -93,8 +98,8 @@ module _ (islands : (net : Net) (o : Outcome) (vid : ℕ) → IsNetwork net → 
   pairs_told [] = ([], tt)
   pairs_told (pair ∷ pairs) = let first = pair_there pair in let others = pairs_told pairs in (first.0 ∷ others.0, (first.1, others.1))
 
-  pub pairs_there : (all : List Pair) → (cuts : ℕ) × (text : List ℕ) × IsPairsOf net none all text cuts
+  pub pairs_there : (all : List Pair) → (cuts : ℕ) × (rows : List Row) × IsPairsOf net none all rows cuts
   pairs_there all =
       let told = pairs_told all in
       let cuts : ℕ = count_by (λ (t : Told). t.cuts) told.0 in
-      (cuts, flat_map (λ (t : Told). t.text) told.0 ++ last_of_pairs all cuts, record { told = told.0; each = told.1; counted = refl; is = refl })
+      (cuts, flat_map (λ (t : Told). t.rows) told.0 ++ last_of_pairs all cuts ∷ [], record { told = told.0; each = told.1; counted = refl; is = refl })

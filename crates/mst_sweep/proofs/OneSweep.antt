@@ -1,4 +1,4 @@
--- The text of each failure, and of all of a network: there is one, and one only.
+-- The rows of each failure, and of all of a network: there is one list of them, and one only.
 use Rattle.std.proofs.Common.{◌≡◌, ℕ, ◌++◌, ◌∷◌, [], Bool, true, List, map, refl, sym, ap, subst, ◌∙◌, Some, Ok, inl, inr}
 use Rattle.std.specs.Cmp.{IsEquivalence}
 use Rattle.std.specs.List.{AllZip, Contains, filter, flat_map, count_by}
@@ -24,26 +24,29 @@ use Rattle.mst_sweep.specs.declared.failure.Failure.{Failure}
 use Rattle.mst_sweep.specs.declared.failure.Failure.TheVariants.{Lan, Bridge}
 use Rattle.mst_sweep.specs.Failures.{edit_of, failures}
 use Rattle.mst_sweep.specs.Moved.{moved_roots, moved_ports}
-use Rattle.mst_sweep.specs.Parts.{staying, parts_text, AreParts}
-use Rattle.mst_sweep.proofs.CutsBy.{one_lines, one_cut, cut_vids, cut_lines, some_cuts}
-use Rattle.mst_sweep.specs.SweepText.{failure_line, IsFailureText, Told, IsTold, IsTextOf, sweep_line, IsSweepOf}
+use Rattle.mst_sweep.specs.Parts.{staying, all_parts, AreParts}
+use Rattle.mst_rows.specs.Rows.{Row}
+use Rattle.mst_sweep.specs.declared.cuts.CutBy.TheVariants.{One}
+use Rattle.mst_sweep.specs.Cuts.{runs_of}
+use Rattle.mst_sweep.proofs.CutsBy.{one_list, one_cut, cut_vids, cut_rows, some_cuts}
+use Rattle.mst_sweep.specs.SweepText.{failure_row, AreFailureRows, Told, IsTold, AreRowsOf, sweep_row, IsSweepOf}
 
 -- ---- one failure
 module _ (a b : Net) (o p : Outcome) (one : OneList) where
-  pub one_parts : (vid : ℕ) (text other : List ℕ) → AreParts a o b p vid text → AreParts a o b p vid other → text ≡ other
-  one_parts vid text other s t =
+  pub one_parts : (vid : ℕ) (parts other : List (List (List ℕ))) → AreParts a o b p vid parts → AreParts a o b p vid other → parts ≡ other
+  one_parts vid parts other s t =
       let olds = one a o vid s.0 t.0 s.2 t.2 in
       let news = one b p vid s.1 t.1 s.3 t.3 in
-      s.4 ∙ (λ i. parts_text (staying (olds i) (news i) (bridge_names a))) ∙ sym t.4
+      s.4 ∙ (λ i. all_parts (staying (olds i) (news i) (bridge_names a))) ∙ sym t.4
 
 module _ (a b : Net) (o p : Outcome) (one : OneList) (grouping : OneGrouping) where
-  module _ (failure : Failure) (text other : List ℕ) (c d : Bool) (x : IsFailureText a o b p failure text c) (y : IsFailureText a o b p failure other d) where
+  module _ (failure : Failure) (rows other : List Row) (c d : Bool) (x : AreFailureRows a o b p failure rows c) (y : AreFailureRows a o b p failure other d) where
     abbrev cut : x.vids ≡ y.vids
-    cut = one_cut (AreParts a o b p) (one_parts a b o p one) grouping x.vids y.vids x.lines y.lines x.are_cuts y.are_cuts
+    cut = one_cut (AreParts a o b p) (one_parts a b o p one) grouping (One failure) x.vids y.vids x.cut y.cut x.are_cuts y.are_cuts
 
-    pub one_failure : text ≡ other
+    pub one_failure : rows ≡ other
     one_failure =
-        x.is ∙ (λ i. failure_line failure (moved_roots a o b p) (moved_ports a o b p) (cut i) ++ one_lines (AreParts a o b p) (one_parts a b o p one) grouping x.vids y.vids x.lines y.lines x.are_cuts y.are_cuts i) ∙ sym y.is
+        x.are ∙ (λ i. failure_row failure (moved_roots a o b p) (moved_ports a o b p) (runs_of (cut i)) ∷ one_list (AreParts a o b p) (one_parts a b o p one) grouping (One failure) x.vids y.vids x.cut y.cut x.are_cuts y.are_cuts i) ∙ sym y.are
 
     pub cuts_alike : c ≡ d
     cuts_alike = x.some ∙ ap has_any cut ∙ sym y.some
@@ -51,24 +54,29 @@ module _ (a b : Net) (o p : Outcome) (one : OneList) (grouping : OneGrouping) wh
 -- and there is one
 module _ (a b : Net) (o p : Outcome) (olds : (vid : ℕ) → (islands : List (Island (List ℕ) (List ℕ))) × AreIslandsOf a o vid islands) (news : (vid : ℕ) → (islands : List (Island (List ℕ) (List ℕ))) × AreIslandsOf b p vid islands)
     (grouping : (same : ℕ → ℕ → Bool) (things : List ℕ) → IsEquivalence same → (groups : List (List ℕ)) × AreGroups (λ x y. same x y ≡ true) things groups) (failure : Failure) where
-  abbrev parts : ℕ → List ℕ
-  parts vid = parts_text (staying (olds vid).0 (news vid).0 (bridge_names a))
+  abbrev parts : ℕ → List (List (List ℕ))
+  parts vid = all_parts (staying (olds vid).0 (news vid).0 (bridge_names a))
 
   are_parts : (vid : ℕ) → AreParts a o b p vid (parts vid)
   are_parts vid = ((olds vid).0, (news vid).0, (olds vid).1, (news vid).1, refl)
 
   abbrev vids : List ℕ
-  vids = cut_vids (AreParts a o b p) parts (λ vid _. are_parts vid) grouping
+  vids = cut_vids (AreParts a o b p) (One failure) parts (λ vid _. are_parts vid) grouping
 
-  abbrev lines : List ℕ
-  lines = cut_lines (AreParts a o b p) parts (λ vid _. are_parts vid) grouping
+  abbrev rows : List Row
+  rows = failure_row failure (moved_roots a o b p) (moved_ports a o b p) (runs_of vids) ∷ cut_rows (AreParts a o b p) (One failure) parts (λ vid _. are_parts vid) grouping
 
-  pub has_failure : (c : Bool) × (text : List ℕ) × IsFailureText a o b p failure text c
-  has_failure = (
-    has_any vids,
-    failure_line failure (moved_roots a o b p) (moved_ports a o b p) vids ++ lines,
-    record { vids = vids; lines = lines; are_cuts = some_cuts (AreParts a o b p) parts (λ vid _. are_parts vid) grouping; some = refl; is = refl },
-  )
+  are_rows : AreFailureRows a o b p failure rows (has_any vids)
+  are_rows = record {
+    vids = vids;
+    cut = cut_rows (AreParts a o b p) (One failure) parts (λ vid _. are_parts vid) grouping;
+    are_cuts = some_cuts (AreParts a o b p) (One failure) parts (λ vid _. are_parts vid) grouping;
+    some = refl;
+    are = refl;
+  }
+
+  pub has_failure : (c : Bool) × (rows : List Row) × AreFailureRows a o b p failure rows c
+  has_failure = (has_any vids, rows, are_rows)
 
 -- ---- all failures
 -- two lists of what is told of things, each of which tells one only
@@ -83,17 +91,17 @@ zip_same R S (x ∷ xs) (y ∷ ys) (z ∷ zs) one h k =
     let others = zip_same R S xs ys zs (λ w c. one w (there x w xs c)) h.1 k.1 in
     λ i. first i ∷ others i
 
--- so the text of things is one, where of each one only is told
-module _ {A : Type 0} (Tells : A → Told → Type 0) (last : List A → ℕ → List ℕ) (all : List A) (one : (told others : List Told) → AllZip Tells all told → AllZip Tells all others → told ≡ others)
-    (text other : List ℕ) (c d : ℕ) (x : IsTextOf Tells last all text c) (y : IsTextOf Tells last all other d) where
+-- so the rows of things are one list, where of each one only is told
+module _ {A : Type 0} (Tells : A → Told → Type 0) (last : List A → ℕ → Row) (all : List A) (one : (told others : List Told) → AllZip Tells all told → AllZip Tells all others → told ≡ others)
+    (rows other : List Row) (c d : ℕ) (x : AreRowsOf Tells last all rows c) (y : AreRowsOf Tells last all other d) where
   all_same : x.told ≡ y.told
   all_same = one x.told y.told x.each y.each
 
   pub one_count : c ≡ d
   one_count = x.counted ∙ ap (count_by (λ (t : Told). t.cuts)) all_same ∙ sym y.counted
 
-  pub one_text : text ≡ other
-  one_text = x.is ∙ (λ i. flat_map (λ (t : Told). t.text) (all_same i) ++ last all (one_count i)) ∙ sym y.is
+  pub one_rows : rows ≡ other
+  one_rows = x.is ∙ (λ i. flat_map (λ (t : Told). t.rows) (all_same i) ++ last all (one_count i) ∷ []) ∙ sym y.is
 
 -- the edits of failures are in their ranges
 in_range : (net : Net) → IsNetwork net → (failure : Failure) → Contains (failures net) failure → InRange (edit_of failure)
@@ -120,11 +128,11 @@ module _ (one : OneList) (grouping : OneGrouping) (single : (net : Net) (o p : O
       let made : y.failed ≡ x.failed = cc in
       let outcome : y.outcome ≡ x.outcome =
       single x.failed y.outcome x.outcome (networks (edit_of failure) net x.failed (in_range net is failure h) is x.made) (subst (λ n. IsOutcome n y.outcome) made y.is_outcome) x.is_outcome in
-      let other : IsFailureText net o x.failed x.outcome failure u.text u.cuts =
-      subst (λ p. IsFailureText net o x.failed p failure u.text u.cuts) outcome (subst (λ n. IsFailureText net o n y.outcome failure u.text u.cuts) made y.is) in
+      let other : AreFailureRows net o x.failed x.outcome failure u.rows u.cuts =
+      subst (λ p. AreFailureRows net o x.failed p failure u.rows u.cuts) outcome (subst (λ n. AreFailureRows net o n y.outcome failure u.rows u.cuts) made y.is) in
       λ i. record {
-        text = one_failure net x.failed o x.outcome one grouping failure t.text u.text t.cuts u.cuts x.is other i;
-        cuts = cuts_alike net x.failed o x.outcome one grouping failure t.text u.text t.cuts u.cuts x.is other i;
+        rows = one_failure net x.failed o x.outcome one grouping failure t.rows u.rows t.cuts u.cuts x.is other i;
+        cuts = cuts_alike net x.failed o x.outcome one grouping failure t.rows u.rows t.cuts u.cuts x.is other i;
       }
 
   -- of some of the failures, or of all
@@ -132,9 +140,9 @@ module _ (one : OneList) (grouping : OneGrouping) (single : (net : Net) (o p : O
     pub all_told : (told others : List Told) → AllZip (IsTold net o) fs told → AllZip (IsTold net o) fs others → told ≡ others
     all_told told others x y = zip_same (IsTold net o) (IsTold net o) fs told others (λ f h. told_same f (own f h)) x y
 
-    module _ (text other : List ℕ) (c d : ℕ) (x : IsSweepOf net o fs text c) (y : IsSweepOf net o fs other d) where
+    module _ (rows other : List Row) (c d : ℕ) (x : IsSweepOf net o fs rows c) (y : IsSweepOf net o fs other d) where
       pub count_same : c ≡ d
-      count_same = one_count (IsTold net o) sweep_line fs all_told text other c d x y
+      count_same = one_count (IsTold net o) sweep_row fs all_told rows other c d x y
 
-      pub one_sweep : text ≡ other
-      one_sweep = one_text (IsTold net o) sweep_line fs all_told text other c d x y
+      pub one_sweep : rows ≡ other
+      one_sweep = one_rows (IsTold net o) sweep_row fs all_told rows other c d x y

@@ -71,13 +71,13 @@ module _ {A : Type 0} (p q : A → Bool) where
       go false b true c rest e f = let same : k ≡ at = some_is k at f in let more : k + 1 ≤ at = from_on p (k + 1) at xs e in absurd (omega arith)
       go false b false c rest e f = let r = rest e f in (r.0, there x r.0 xs r.1, r.2, r.3)
 
--- ---- texts one after another
-module _ {A : Type 0} (f : A → List ℕ) where
-  any_more : (xs ys : List ℕ) → has_any ys ≡ true → has_any (xs ++ ys) ≡ true
+-- ---- lists one after another
+module _ {A B : Type 0} (f : A → List B) where
+  any_more : (xs ys : List B) → has_any ys ≡ true → has_any (xs ++ ys) ≡ true
   any_more [] ys e = e
   any_more (x ∷ xs) ys e = refl
 
-  any_first : (xs ys : List ℕ) → has_any xs ≡ true → has_any (xs ++ ys) ≡ true
+  any_first : (xs ys : List B) → has_any xs ≡ true → has_any (xs ++ ys) ≡ true
   any_first [] ys e = absurd (true≢false (sym e))
   any_first (x ∷ xs) ys e = refl
 
@@ -92,6 +92,6 @@ module _ {A : Type 0} (f : A → List ℕ) where
   from_text [] e = absurd (true≢false (sym e))
   from_text (y ∷ xs) e = go (f y) refl (from_text xs) e
     where
-      go : (t : List ℕ) → f y ≡ t → (has_any (flat_map f xs) ≡ true → (x : A) × Contains xs x × (has_any (f x) ≡ true)) → has_any (t ++ flat_map f xs) ≡ true → (x : A) × Contains (y ∷ xs) x × (has_any (f x) ≡ true)
+      go : (t : List B) → f y ≡ t → (has_any (flat_map f xs) ≡ true → (x : A) × Contains xs x × (has_any (f x) ≡ true)) → has_any (t ++ flat_map f xs) ≡ true → (x : A) × Contains (y ∷ xs) x × (has_any (f x) ≡ true)
       go [] g rest e = let r = rest e in (r.0, there y r.0 xs r.1, r.2)
       go (c ∷ cs) g rest e = (y, here y xs, ap has_any g)

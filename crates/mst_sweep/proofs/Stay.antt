@@ -131,8 +131,8 @@ module _ (a b : Net) (n k : Numbers) (v w : Viewed) (f g : Forest) (of : AreOf a
         (subst (AllByRecursion (HasSet w.settings)) ports (subst (λ set. AllByRecursion (HasSet set) (map (λ (x : PortInView). x.name) v.ports)) settings (all_mapped (HasSet v.settings) (λ (x : PortInView). x.name) v.ports told.sets)));
   }
 
-  pub parts_moved : (o p : Outcome) (x y : ℕ) → AreAlike tables sets x y → (text : List ℕ) → AreParts a o b p x text → AreParts a o b p y text
-  parts_moved o p x y alike text s = (
+  pub parts_moved : (o p : Outcome) (x y : ℕ) → AreAlike tables sets x y → (parts : List (List (List ℕ))) → AreParts a o b p x parts → AreParts a o b p y parts
+  parts_moved o p x y alike parts s = (
     s.0,
     s.1,
     subst (λ ks. AreIslands (bridges_on a) (lans_up a) ks s.0) (links_shared a n v f of o tables sets told.tables told.sets x y alike) s.2,

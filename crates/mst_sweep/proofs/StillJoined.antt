@@ -11,7 +11,7 @@ use Rattle.mst_diff.proofs.trees_lemmas.Lists.{kept_from, some_is}
 use Rattle.mst_vlan.specs.Reach.{vid_links, AreIslandsOf}
 use Rattle.mst_diff.specs.changes.Subjects.{bridge_names}
 use Rattle.mst_diff.specs.Reach.{has_any}
-use Rattle.mst_sweep.specs.Parts.{stays_at, staying, parts_text}
+use Rattle.mst_sweep.specs.Parts.{stays_at, staying, all_parts}
 use Rattle.mst_sweep.proofs.CutApart.{both_true, not_true, stays_is, two_apart}
 use Rattle.mst_sweep.proofs.Joined.{home_on, home_joined, joined_home}
 
@@ -39,7 +39,7 @@ module _ {N L : Type 0} (links others : List (Link N L)) (kept : (k : Link N L) 
 
 module _ (a b : Net) (o p : Outcome) (vid : ℕ) (olds news : List (Island (List ℕ) (List ℕ))) (are : AreIslandsOf a o vid olds) (so : AreIslandsOf b p vid news)
     (kept : (x y : List ℕ) → AreJoined (vid_links a o vid) (bridge_at x) (bridge_at y) → AreJoined (vid_links b p vid) (bridge_at x) (bridge_at y)) where
-  none_apart : has_any (parts_text (staying olds news (bridge_names a))) ≡ true → ⊥
+  none_apart : has_any (all_parts (staying olds news (bridge_names a))) ≡ true → ⊥
   none_apart e =
       let r = two_apart (staying olds news (bridge_names a)) e in
       let x = kept_from (stays_at olds news) (bridge_names a) r.0 r.2 in
@@ -54,9 +54,9 @@ module _ (a b : Net) (o p : Outcome) (vid : ℕ) (olds news : List (Island (List
       not_true (r.1.after == r.0.after) places.1 (eq-eqb r.1.after r.0.after (sym after))
 
   -- so there are no parts
-  pub no_parts : parts_text (staying olds news (bridge_names a)) ≡ []
-  no_parts = go (parts_text (staying olds news (bridge_names a))) refl
+  pub no_parts : all_parts (staying olds news (bridge_names a)) ≡ []
+  no_parts = go (all_parts (staying olds news (bridge_names a))) refl
     where
-      go : (text : List ℕ) → parts_text (staying olds news (bridge_names a)) ≡ text → parts_text (staying olds news (bridge_names a)) ≡ []
+      go : (parts : List (List (List ℕ))) → all_parts (staying olds news (bridge_names a)) ≡ parts → all_parts (staying olds news (bridge_names a)) ≡ []
       go [] e = e
       go (c ∷ cs) e = absurd (none_apart (ap has_any e))

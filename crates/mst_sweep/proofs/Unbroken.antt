@@ -8,7 +8,7 @@ use Rattle.mst_diff.proofs.changes_lemmas.Lists.{all_append}
 use Rattle.mst_diff.specs.Reach.{has_any}
 use Rattle.mst_diff.proofs.trees_lemmas.Entries.{all_weaker}
 use Rattle.mst_diff.proofs.trees_lemmas.Lists.{all_contained, some_is}
-use Rattle.mst_sweep.specs.Parts.{parts_text}
+use Rattle.mst_sweep.specs.Parts.{all_parts}
 use Rattle.mst_sweep.specs.declared.parts.Stays.{Stays}
 use Rattle.mst_sweep.proofs.CutApart.{two_apart, both_true, not_true}
 
@@ -16,10 +16,10 @@ use Rattle.mst_sweep.proofs.CutApart.{two_apart, both_true, not_true}
 abbrev pub IsPlaced : (ℕ → Option ℕ) → Stays → Type 0
 IsPlaced places s = places s.before ≡ Some s.after
 
-pub unbroken : (places : ℕ → Option ℕ) (all : List Stays) → AllByRecursion (IsPlaced places) all → parts_text all ≡ []
-unbroken places all h = go (parts_text all) refl
+pub unbroken : (places : ℕ → Option ℕ) (all : List Stays) → AllByRecursion (IsPlaced places) all → all_parts all ≡ []
+unbroken places all h = go (all_parts all) refl
   where
-    apart : has_any (parts_text all) ≡ true → ⊥
+    apart : has_any (all_parts all) ≡ true → ⊥
     apart e =
         let r = two_apart all e in
         let x = all_contained (IsPlaced places) all r.0 h r.2 in
@@ -29,7 +29,7 @@ unbroken places all h = go (parts_text all) refl
         let after : r.1.after ≡ r.0.after = some_is r.1.after r.0.after (sym y ∙ ap places before ∙ x) in
         not_true (r.1.after == r.0.after) s.1 (eq-eqb r.1.after r.0.after after)
 
-    go : (text : List ℕ) → parts_text all ≡ text → parts_text all ≡ []
+    go : (parts : List (List (List ℕ))) → all_parts all ≡ parts → all_parts all ≡ []
     go [] e = e
     go (c ∷ cs) e = absurd (apart (ap has_any e))
 
@@ -61,5 +61,5 @@ module _ (all : List Stays) (i : ℕ) (s : Stays) (l : i < length all) (is : s �
           go true e = absurd (true≢false (sym (ap is_some h) ∙ ap (λ n. is_some (old n)) (sym (eqb-true s.before x.before e)) ∙ none))
           go false e = h
 
-pub all_placed : (all : List Stays) (i : ℕ) (places : ℕ → Option ℕ) → length all ≤ i → AllByRecursion (IsPlaced places) (take i all) → parts_text all ≡ []
+pub all_placed : (all : List Stays) (i : ℕ) (places : ℕ → Option ℕ) → length all ≤ i → AllByRecursion (IsPlaced places) (take i all) → all_parts all ≡ []
 all_placed all i places l h = unbroken places all (subst (AllByRecursion (IsPlaced places)) (take_all i all l) h)

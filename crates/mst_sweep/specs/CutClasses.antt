@@ -18,10 +18,10 @@ pub record AreClasses (classes : Numbering) : Type 0 where
 -- a flag for each class: whether its VIDs have parts
 pub record AreCutClasses (a : Net) (o : Outcome) (b : Net) (p : Outcome) (classes : Numbering) (flags : List Bool) : Type 0 where
   pub as_long : length flags ≡ length classes.firsts.items
-  pub each : (vid : ℕ) → is_vid vid ≡ true → (text : List ℕ) × AreParts a o b p vid text × (slice_index_or flags (slice_index classes.numbers.items (vid - 1)) false ≡ has_any text)
+  pub each : (vid : ℕ) → is_vid vid ≡ true → (parts : List (List (List ℕ))) × AreParts a o b p vid parts × (slice_index_or flags (slice_index classes.numbers.items (vid - 1)) false ≡ has_any parts)
 
 -- the parts of the first VID of each class, and none where the class has one of two flags
-pub record ArePartsBut (a : Net) (o : Outcome) (b : Net) (p : Outcome) (firsts : List ℕ) (one other : List Bool) (texts : List (List ℕ)) : Type 0 where
-  pub as_long : length texts ≡ length firsts
+pub record ArePartsBut (a : Net) (o : Outcome) (b : Net) (p : Outcome) (firsts : List ℕ) (one other : List Bool) (parts : List (List (List (List ℕ)))) : Type 0 where
+  pub as_long : length parts ≡ length firsts
   pub each : (class : ℕ) → class < length firsts
-      → MatchBool (slice_index_or one class false || slice_index_or other class false) (slice_index_or texts class [] ≡ []) (AreParts a o b p (slice_index firsts class + 1) (slice_index_or texts class []))
+      → MatchBool (slice_index_or one class false || slice_index_or other class false) (slice_index_or parts class [] ≡ []) (AreParts a o b p (slice_index firsts class + 1) (slice_index_or parts class []))

@@ -1,26 +1,28 @@
 -- What pairs of failures of a network do: the VIDs that both together cut, and neither alone.
-use Rattle.std.specs.Prelude.{◌≡◌, ℕ, ◌||◌, Bool, List, [], ◌∷◌, ◌++◌, codes, decimal, length, map, if◌then◌else◌}
+use Rattle.std.specs.Prelude.{◌≡◌, ℕ, ◌||◌, Bool, List, [], ◌∷◌, ◌++◌, length, map, if◌then◌else◌}
 use Rattle.std.specs.Bool.{MatchBool}
 use Rattle.std.specs.List.{AllZip, range_with_len}
 use Rattle.std.specs.FinMap as fin
 use Rattle.mst_ids.specs.Names.{name_cmp}
-use Rattle.mst_ids.specs.Vids.{set_where, vids_text}
-use Rattle.mst_ids.specs.Words.{line}
+use Rattle.mst_kinds.specs.declared.kind.Kind.TheVariants as kind
+use Rattle.mst_kinds.specs.declared.sweep_line.SweepLine.TheVariants as line
+use Rattle.mst_rows.specs.Cells as cell
+use Rattle.mst_rows.specs.Rows.{Row, row_of}
 use Rattle.mst_lang.specs.declared.line.BridgeChange.TheVariants.{Power}
 use Rattle.mst_lang.specs.declared.line.LanChange.TheVariants.{State}
 use Rattle.mst_lang.specs.declared.line.Power.TheVariants.{Off}
 use Rattle.mst_lang.specs.declared.line.LanState.TheVariants.{Down}
 use Rattle.mst_net.specs.After.{change, bridge_with, lan_with}
 use Rattle.mst_net.specs.Tables.{Net, BridgeRow, LanRow}
-use Rattle.mst_lag.specs.Trees.{is_among}
 use Rattle.mst_diff.specs.trees.Outcome.{Outcome, IsOutcome}
 use Rattle.mst_diff.specs.Reach.{has_any}
 use Rattle.mst_sweep.specs.declared.failure.Failure.{Failure}
 use Rattle.mst_sweep.specs.declared.failure.Failure.TheVariants.{Lan, Bridge}
 use Rattle.mst_sweep.specs.Failures.{failures}
 use Rattle.mst_sweep.specs.Parts.{AreParts}
-use Rattle.mst_sweep.specs.Cuts.{AreCutsBy}
-use Rattle.mst_sweep.specs.SweepText.{Told, IsTextOf, failure_words}
+use Rattle.mst_sweep.specs.declared.cuts.CutBy.TheVariants.{Both}
+use Rattle.mst_sweep.specs.Cuts.{AreCutsBy, failing, runs_of}
+use Rattle.mst_sweep.specs.SweepText.{Told, AreRowsOf}
 use Rattle.mst_sweep.specs.SweepParts.{PartOf, ToldOfPart, part_of}
 
 -- ---- failures together
@@ -66,59 +68,55 @@ pub record AreOutcomes (net : Net) (pair : Pair) (of : Outcomes) : Type 0 where
   pub both : IsOutcome (failed (pair.first ∷ pair.second ∷ []) net) of.both
 
 -- the parts that both failures together make of a VID: none where one of them alone makes some
-pub record ArePairParts (net : Net) (pair : Pair) (of : Outcomes) (vid : ℕ) (text : List ℕ) : Type 0 where
-  pub one : List ℕ
-  pub other : List ℕ
+pub record ArePairParts (net : Net) (pair : Pair) (of : Outcomes) (vid : ℕ) (parts : List (List (List ℕ))) : Type 0 where
+  pub one : List (List (List ℕ))
+  pub other : List (List (List ℕ))
   pub by_first : AreParts net of.none (failed (pair.first ∷ []) net) of.first vid one
   pub by_second : AreParts net of.none (failed (pair.second ∷ []) net) of.second vid other
-  pub by_both : MatchBool (has_any one || has_any other) (text ≡ []) (AreParts net of.none (failed (pair.first ∷ pair.second ∷ []) net) of.both vid text)
+  pub by_both : MatchBool (has_any one || has_any other) (parts ≡ []) (AreParts net of.none (failed (pair.first ∷ pair.second ∷ []) net) of.both vid parts)
 
--- ---- the text
--- `pair lan L bridge B cut VIDS`, and the lines of the parts of these VIDs: nothing where there is no such VID
-abbrev pub pair_line : Pair → List ℕ → List ℕ
-pair_line pair vids = line (codes "pair" ∷ (failure_words pair.first ++ failure_words pair.second ++ codes "cut" ∷ vids_text (set_where (is_among vids)) ∷ []))
+-- ---- the rows
+-- `pair lan L bridge B cut VIDS`, and the rows of the parts of these VIDs: nothing where there is no such VID
+abbrev pub pair_row : Pair → List (ℕ × ℕ) → Row
+pair_row pair runs = row_of (kind.Sweep line.Pair) (failing pair.first ∷ failing pair.second ∷ cell.vids runs ∷ [])
 
-abbrev pub pair_text : Pair → List ℕ → List ℕ → List ℕ
-pair_text pair vids lines = if has_any vids then pair_line pair vids ++ lines else []
+abbrev pub pair_rows : Pair → List ℕ → List Row → List Row
+pair_rows pair vids cut = if has_any vids then pair_row pair (runs_of vids) ∷ cut else []
 
--- the VIDs that a pair of failures cuts by these outcomes, whether there are some, and the text of them
-pub record IsPairText (net : Net) (pair : Pair) (of : Outcomes) (text : List ℕ) (cuts : Bool) : Type 0 where
+-- the VIDs that a pair of failures cuts by these outcomes, whether there are some, and the rows of them
+pub record ArePairRows (net : Net) (pair : Pair) (of : Outcomes) (rows : List Row) (cuts : Bool) : Type 0 where
   pub vids : List ℕ
-  pub lines : List ℕ
-  pub are_cuts : AreCutsBy (ArePairParts net pair of) vids lines
+  pub cut : List Row
+  pub are_cuts : AreCutsBy (ArePairParts net pair of) (Both pair.first pair.second) vids cut
   pub some : cuts ≡ has_any vids
-  pub is : text ≡ pair_text pair vids lines
+  pub are : rows ≡ pair_rows pair vids cut
 
 -- this is told of a pair of failures of a network with this outcome
 pub record IsPairTold (net : Net) (o : Outcome) (pair : Pair) (told : Told) : Type 0 where
   pub outcomes : Outcomes
   pub none : outcomes.none ≡ o
   pub are_outcomes : AreOutcomes net pair outcomes
-  pub is : IsPairText net pair outcomes told.text told.cuts
+  pub is : ArePairRows net pair outcomes told.rows told.cuts
 
 -- `sweep pairs N cuts K`
-abbrev pub pairs_line : ℕ → ℕ → List ℕ
-pairs_line pairs cuts = line (codes "sweep" ∷ codes "pairs" ∷ decimal pairs ∷ codes "cuts" ∷ decimal cuts ∷ [])
+abbrev pub pairs_row : ℕ → ℕ → Row
+pairs_row pairs cuts = row_of (kind.Sweep line.PairCounts) (cell.number pairs ∷ cell.number cuts ∷ [])
 
-abbrev pub last_of_pairs : List Pair → ℕ → List ℕ
-last_of_pairs all cuts = pairs_line (length all) cuts
+abbrev pub last_of_pairs : List Pair → ℕ → Row
+last_of_pairs all cuts = pairs_row (length all) cuts
 
--- this is the text of these pairs, one after another, with a last line that counts them, and this the number of those that cut
+-- these are the rows of these pairs, one after another, with a last row that counts them, and this is the number of those that cut
 -- some VID together
-abbrev pub IsPairsOf : Net → Outcome → List Pair → List ℕ → ℕ → Type 0
-IsPairsOf net o all text cuts = IsTextOf (IsPairTold net o) last_of_pairs all text cuts
+abbrev pub IsPairsOf : Net → Outcome → List Pair → List Row → ℕ → Type 0
+IsPairsOf net o all rows cuts = AreRowsOf (IsPairTold net o) last_of_pairs all rows cuts
 
 -- of all pairs of the failures of a network, and of a part of them
-abbrev pub IsPairs : Net → Outcome → List ℕ → ℕ → Type 0
-IsPairs net o text cuts = IsPairsOf net o (pairs_of (failures net)) text cuts
+abbrev pub IsPairs : Net → Outcome → List Row → ℕ → Type 0
+IsPairs net o rows cuts = IsPairsOf net o (pairs_of (failures net)) rows cuts
 
-abbrev pub IsPairsPart : PartOf → Net → Outcome → List ℕ → ℕ → Type 0
-IsPairsPart part net o text cuts = IsPairsOf net o (part_of part (pairs_of (failures net))) text cuts
+abbrev pub IsPairsPart : PartOf → Net → Outcome → List Row → ℕ → Type 0
+IsPairsPart part net o rows cuts = IsPairsOf net o (part_of part (pairs_of (failures net))) rows cuts
 
 -- this is told of each of so many parts, by their numbers
 abbrev pub ArePairsParts : Net → Outcome → ℕ → List ToldOfPart → Type 0
-ArePairsParts net o count parts = AllZip (λ number part. IsPairsPart (record { number = number; count = count }) net o part.text part.cuts) (range_with_len 1 count) parts
-
--- the text of a pair stands behind what stood there before
-abbrev pub PushesPair : Net → Pair → Outcomes → List ℕ → List ℕ → Bool → Type 0
-PushesPair net pair of before now cuts = (text : List ℕ) × IsPairText net pair of text cuts × (now ≡ before ++ text)
+ArePairsParts net o count parts = AllZip (λ number part. IsPairsPart (record { number = number; count = count }) net o part.rows part.cuts) (range_with_len 1 count) parts

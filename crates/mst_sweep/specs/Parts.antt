@@ -1,8 +1,7 @@
 -- The parts of the islands of a VID that came apart.
-use Rattle.std.specs.Prelude.{◌≡◌, ℕ, ◌==◌, ◌&&◌, not, Bool, false, List, [], Option, map, filter, filter_map, if◌then◌else◌}
+use Rattle.std.specs.Prelude.{◌≡◌, ℕ, ◌==◌, ◌&&◌, not, Bool, false, List, [], ◌∷◌, Option, map, filter, filter_map, if◌then◌else◌}
 use Rattle.std.specs.List.{find, flat_map, list_any, position_from}
 use Rattle.std.specs.Option.{option_map, option_map_or, option_and_then}
-use Rattle.mst_ids.specs.Words.{after_space, comma_list}
 use Rattle.mst_graph.specs.Islands.{Island}
 use Rattle.mst_net.specs.Tables.{Net}
 use Rattle.mst_lag.specs.Aggregation.{same_name}
@@ -40,15 +39,15 @@ first_of all x = option_map (λ y. y.name) (find (are_together x) all)
 abbrev pub leads : List Stays → Stays → Bool
 leads all x = option_map_or (λ first. same_name first x.name) (first_of all x) false
 
--- the part of a bridge that is its first, as a word, where the island came apart: some bridge was in it and is in another
-abbrev pub part_word : List Stays → Stays → List ℕ
-part_word all x = if list_any (came_apart x) all && leads all x then after_space (comma_list (part all x)) else []
+-- the part of a bridge that is its first, where the island came apart: some bridge was in it and is in another
+abbrev pub part_led : List Stays → Stays → List (List (List ℕ))
+part_led all x = if list_any (came_apart x) all && leads all x then part all x ∷ [] else []
 
--- all parts, by their first bridges. No name has a `,` or a space, so two such texts are equal just where the parts are
-abbrev pub parts_text : List Stays → List ℕ
-parts_text all = flat_map (part_word all) all
+-- all parts, by their first bridges
+abbrev pub all_parts : List Stays → List (List (List ℕ))
+all_parts all = flat_map (part_led all) all
 
 -- these are the parts of a VID: none where no island came apart
-abbrev pub AreParts : Net → Outcome → Net → Outcome → ℕ → List ℕ → Type 0
-AreParts a o b p vid text =
-    (olds news : List (Island (List ℕ) (List ℕ))) × AreIslandsOf a o vid olds × AreIslandsOf b p vid news × (text ≡ parts_text (staying olds news (bridge_names a)))
+abbrev pub AreParts : Net → Outcome → Net → Outcome → ℕ → List (List (List ℕ)) → Type 0
+AreParts a o b p vid parts =
+    (olds news : List (Island (List ℕ) (List ℕ))) × AreIslandsOf a o vid olds × AreIslandsOf b p vid news × (parts ≡ all_parts (staying olds news (bridge_names a)))

@@ -1,6 +1,7 @@
 -- Equal parts of a sweep: runs of the failures of a network, one after another.
-use Rattle.std.specs.Prelude.{ℕ, ◌-◌, ◌*◌, ◌/◌, ◌≤◌, ◌==◌, ◌&&◌, Bool, List, [], ◌∷◌, length, take, drop, nat_le, Option, Some, None, if◌then◌else◌}
-use Rattle.std.specs.List.{AllZip, count_by, range_with_len}
+use Rattle.std.specs.Prelude.{ℕ, ◌-◌, ◌*◌, ◌/◌, ◌≤◌, ◌&&◌, List, [], ◌∷◌, length, take, drop, nat_le, Option, Some, None, if◌then◌else◌}
+use Rattle.std.specs.List.{AllZip, range_with_len}
+use Rattle.mst_rows.specs.Rows.{Row}
 use Rattle.mst_net.specs.Tables.{Net}
 use Rattle.mst_diff.specs.trees.Outcome.{Outcome}
 use Rattle.mst_sweep.specs.Failures.{failures}
@@ -32,24 +33,22 @@ part_of part all =
     let begin = end_of (part.number - 1) part.count (length all) in
     take (end_of part.number part.count (length all) - begin) (drop begin all)
 
--- this is the text of a part of the failures of a network, and this the number of those of it that cut some VID
-abbrev pub IsSweepPart : PartOf → Net → Outcome → List ℕ → ℕ → Type 0
-IsSweepPart part net o text cuts = IsSweepOf net o (part_of part (failures net)) text cuts
+-- these are the rows of a part of the failures of a network, and this is the number of those of it that cut some VID
+abbrev pub IsSweepPart : PartOf → Net → Outcome → List Row → ℕ → Type 0
+IsSweepPart part net o rows cuts = IsSweepOf net o (part_of part (failures net)) rows cuts
 
 -- ---- the parts together
--- what is told of a part: its text, and how many of its failures cut some VID
+-- what is told of a part: its rows, and how many of its failures cut some VID
 pub record ToldOfPart : Type 0 where
-  pub text : List ℕ
+  pub rows : List Row
   pub cuts : ℕ
 
 -- this is told of each of so many parts, by their numbers
 abbrev pub AreSweepParts : Net → Outcome → ℕ → List ToldOfPart → Type 0
-AreSweepParts net o count parts = AllZip (λ number part. IsSweepPart (record { number = number; count = count }) net o part.text part.cuts) (range_with_len 1 count) parts
+AreSweepParts net o count parts = AllZip (λ number part. IsSweepPart (record { number = number; count = count }) net o part.rows part.cuts) (range_with_len 1 count) parts
 
-abbrev pub is_newline : ℕ → Bool
-is_newline b = b == 10
-
--- a text without its last line: a byte stands before that line where two lines or more still end
-abbrev pub but_last_line : List ℕ → List ℕ
-but_last_line [] = []
-but_last_line (b ∷ rest) = if nat_le 2 (count_by is_newline (b ∷ rest)) then b ∷ but_last_line rest else []
+-- rows without the last
+abbrev pub but_last_row : List Row → List Row
+but_last_row [] = []
+but_last_row (row ∷ []) = []
+but_last_row (row ∷ next ∷ others) = row ∷ but_last_row (next ∷ others)

@@ -1,40 +1,37 @@
--- The text of what each single failure of a network does.
-use Rattle.std.specs.Prelude.{◌≡◌, ℕ, Bool, true, false, List, [], ◌∷◌, ◌++◌, map, codes, decimal, Ok}
+-- The rows of what each single failure of a network does.
+use Rattle.std.specs.Prelude.{◌≡◌, ℕ, Bool, true, false, List, [], ◌∷◌, ◌++◌, Ok}
 use Rattle.std.specs.List.{AllZip, count_by, flat_map}
-use Rattle.mst_ids.specs.Vids.{set_where, vids_text}
-use Rattle.mst_ids.specs.Words.{comma_list, line}
+use Rattle.mst_kinds.specs.declared.kind.Kind.TheVariants as kind
+use Rattle.mst_kinds.specs.declared.sweep_line.SweepLine.TheVariants as line
+use Rattle.mst_rows.specs.Cells.{trees, number}
+use Rattle.mst_rows.specs.Cells as cell
+use Rattle.mst_rows.specs.Rows.{Row, row_of}
 use Rattle.mst_net.specs.After.{after}
 use Rattle.mst_net.specs.Tables.{Net}
-use Rattle.mst_lag.specs.Trees.{is_among}
 use Rattle.mst_diff.specs.trees.Outcome.{Outcome, IsOutcome}
 use Rattle.mst_diff.specs.Reach.{has_any}
 use Rattle.mst_sweep.specs.declared.failure.Failure.{Failure}
 use Rattle.mst_sweep.specs.declared.failure.Failure.TheVariants.{Lan, Bridge}
 use Rattle.mst_sweep.specs.Failures.{edit_of, failures}
 use Rattle.mst_sweep.specs.Moved.{moved_roots, moved_ports}
-use Rattle.mst_sweep.specs.Cuts.{AreCuts}
+use Rattle.mst_sweep.specs.Cuts.{AreCuts, failing, runs_of}
 
--- `lan L` or `bridge B`
-abbrev pub failure_words : Failure → List (List ℕ)
-failure_words (Lan lan) = codes "lan" ∷ lan ∷ []
-failure_words (Bridge bridge) = codes "bridge" ∷ bridge ∷ []
+-- `lan L roots T,T ports N cut VIDS`, and of a bridge `bridge B ..`
+abbrev pub failure_row : Failure → List ℕ → ℕ → List (ℕ × ℕ) → Row
+failure_row (Lan lan) roots ports runs = row_of (kind.Sweep line.Lan) (failing (Lan lan) ∷ cell.word lan ∷ trees roots ∷ number ports ∷ cell.vids runs ∷ [])
+failure_row (Bridge bridge) roots ports runs = row_of (kind.Sweep line.Bridge) (failing (Bridge bridge) ∷ cell.word bridge ∷ trees roots ∷ number ports ∷ cell.vids runs ∷ [])
 
--- `lan L roots T,T ports N cut VIDS`
-abbrev pub failure_line : Failure → List ℕ → ℕ → List ℕ → List ℕ
-failure_line failure roots ports vids =
-    line (failure_words failure ++ codes "roots" ∷ comma_list (map decimal roots) ∷ codes "ports" ∷ decimal ports ∷ codes "cut" ∷ vids_text (set_where (is_among vids)) ∷ [])
-
--- this is the text of a failure that makes the one network of the other, and whether it cuts some VID
-pub record IsFailureText (a : Net) (o : Outcome) (b : Net) (p : Outcome) (failure : Failure) (text : List ℕ) (cuts : Bool) : Type 0 where
+-- these are the rows of a failure that makes the one network of the other, and whether it cuts some VID
+pub record AreFailureRows (a : Net) (o : Outcome) (b : Net) (p : Outcome) (failure : Failure) (rows : List Row) (cuts : Bool) : Type 0 where
   pub vids : List ℕ
-  pub lines : List ℕ
-  pub are_cuts : AreCuts a o b p vids lines
+  pub cut : List Row
+  pub are_cuts : AreCuts a o b p failure vids cut
   pub some : cuts ≡ has_any vids
-  pub is : text ≡ failure_line failure (moved_roots a o b p) (moved_ports a o b p) vids ++ lines
+  pub are : rows ≡ failure_row failure (moved_roots a o b p) (moved_ports a o b p) (runs_of vids) ∷ cut
 
--- what is told of a failure: its text, and whether it cuts some VID
+-- what is told of a failure: its rows, and whether it cuts some VID
 pub record Told : Type 0 where
-  pub text : List ℕ
+  pub rows : List Row
   pub cuts : Bool
 
 -- what is told of a failure of a network with this outcome: the edit makes the network that failed
@@ -43,7 +40,7 @@ pub record IsTold (net : Net) (o : Outcome) (failure : Failure) (told : Told) : 
   pub made : after (edit_of failure) net ≡ Ok failed
   pub outcome : Outcome
   pub is_outcome : IsOutcome failed outcome
-  pub is : IsFailureText net o failed outcome failure told.text told.cuts
+  pub is : AreFailureRows net o failed outcome failure told.rows told.cuts
 
 -- whether it is a LAN that fails, or a bridge
 abbrev pub is_lan : Failure → Bool
@@ -55,22 +52,21 @@ is_bridge (Lan lan) = false
 is_bridge (Bridge bridge) = true
 
 -- `sweep lans N bridges M cuts K`
-abbrev pub sweep_line : List Failure → ℕ → List ℕ
-sweep_line all cuts =
-    line (codes "sweep" ∷ codes "lans" ∷ decimal (count_by is_lan all) ∷ codes "bridges" ∷ decimal (count_by is_bridge all) ∷ codes "cuts" ∷ decimal cuts ∷ [])
+abbrev pub sweep_row : List Failure → ℕ → Row
+sweep_row all cuts = row_of (kind.Sweep line.Counts) (number (count_by is_lan all) ∷ number (count_by is_bridge all) ∷ number cuts ∷ [])
 
--- where this is told of a thing, this is the text of all of these, one after another, with a last line, and this the number of those
--- that cut some VID
-pub record IsTextOf {A : Type 0} (Tells : A → Told → Type 0) (last : List A → ℕ → List ℕ) (all : List A) (text : List ℕ) (cuts : ℕ) : Type 0 where
+-- where this is told of a thing, these are the rows of all of these, one after another, with a last row, and this is the number of
+-- those that cut some VID
+pub record AreRowsOf {A : Type 0} (Tells : A → Told → Type 0) (last : List A → ℕ → Row) (all : List A) (rows : List Row) (cuts : ℕ) : Type 0 where
   pub told : List Told
   pub each : AllZip Tells all told
   pub counted : cuts ≡ count_by (λ t. t.cuts) told
-  pub is : text ≡ flat_map (λ t. t.text) told ++ last all cuts
+  pub is : rows ≡ flat_map (λ t. t.rows) told ++ last all cuts ∷ []
 
--- of these failures, with a last line that counts them
-abbrev pub IsSweepOf : Net → Outcome → List Failure → List ℕ → ℕ → Type 0
-IsSweepOf net o all text cuts = IsTextOf (IsTold net o) sweep_line all text cuts
+-- of these failures, with a last row that counts them
+abbrev pub IsSweepOf : Net → Outcome → List Failure → List Row → ℕ → Type 0
+IsSweepOf net o all rows cuts = AreRowsOf (IsTold net o) sweep_row all rows cuts
 
 -- and of all failures of the network
-abbrev pub IsSweep : Net → Outcome → List ℕ → ℕ → Type 0
-IsSweep net o text cuts = IsSweepOf net o (failures net) text cuts
+abbrev pub IsSweep : Net → Outcome → List Row → ℕ → Type 0
+IsSweep net o rows cuts = IsSweepOf net o (failures net) rows cuts

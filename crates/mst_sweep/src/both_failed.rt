@@ -1,29 +1,33 @@
-ghost use Rattle.std.specs.Prelude.{◌≡◌, ◌++◌, ◌<◌, ◌||◌, false, [], IfOk, OnOk, length, map, slice_index, slice_index_or, vec_len, ◌+◌, ◌∷◌};
+ghost use Rattle.std.specs.Prelude.{◌≡◌, ◌++◌, ◌<◌, ◌||◌, false, List, [], IfOk, OnOk, length, map, slice_index, slice_index_or, vec_len, ◌+◌, ◌∷◌};
 ghost use Rattle.std.specs.Bool.{MatchBool};
-ghost use Rattle.std.specs.List.{flat_map};
-ghost use Rattle.mst_ids.specs.Words.{after_space};
+ghost use Rattle.mst_ids.specs.Vids.{runs_from};
+ghost use Rattle.mst_rows.specs.Rows.{Row};
 ghost use Rattle.mst_net.specs.Tables.{Net, Numbers};
 ghost use Rattle.mst_diff.specs.trees.Agrees.{AreOf, Known};
 ghost use Rattle.mst_diff.specs.trees.Forest.{IsForest};
 ghost use Rattle.mst_diff.specs.trees.Outcome.{Outcome};
+ghost use Rattle.mst_diff.specs.plan_text.Bodies.{NumberEach};
 ghost use Rattle.mst_diff.specs.Reach.{has_any};
 ghost use Rattle.mst_diff.specs.Seen.{seen_both};
 ghost use Rattle.mst_sweep.specs.Baseline.{IsBaseline};
 ghost use Rattle.mst_sweep.specs.Parts.{AreParts};
 ghost use Rattle.mst_sweep.specs.CutClasses.{AreCutClasses, ArePartsBut};
 ghost use Rattle.mst_sweep.specs.Left.{AreLeft};
-ghost use Rattle.mst_sweep.specs.Pairs.{failed, pair_line as line_of_pair, pair_text, pairs_line as line_of_pairs, PushesPair};
-ghost use Rattle.mst_sweep.specs.SweepText.{failure_words};
+ghost use Rattle.mst_sweep.specs.Cuts.{names_of, rows_of};
+ghost use Rattle.mst_sweep.specs.declared.cuts.CutBy.TheVariants.{Both as BothOf};
+ghost use Rattle.mst_sweep.specs.Pairs.{failed, pair_row, pair_rows, pairs_row, ArePairRows};
 ghost use Rattle.mst_sweep.specs.Touched.{AreWhereTouched};
 
 use crate::baseline::Baseline;
-use crate::cuts::{is_any, parts_at, parts_of_firsts, push_bodies};
+use crate::cuts::{CutBy, Cuts, cuts_of, is_any, parts_at, parts_of_firsts, put_cuts};
 use crate::failure::Failure;
 use crate::pairs::pairs;
 use crate::touched::{places_of, touched};
-use itoa::Buffer;
 use mst_diff::{Both, Planned, set_of};
-use mst_ids::{Vid, push_bytes, push_end, push_line, push_words};
+use mst_graph::Numbering;
+use mst_ids::{Name, Vid, VidSet};
+use mst_kinds::{Kind, SweepLine};
+use mst_rows::{Rows, Value, put};
 use std::alloc::{AllocError, Global};
 
 /// A single failure, and a flag for each class of VIDs: whether it cuts these alone.
@@ -34,12 +38,11 @@ pub struct Single {
 }
 
 /// Whether there are parts, for each of these.
-fn any_each(alloc: Global, texts: &[Vec<u8>]) -> Result<Vec<bool>, AllocError>
-    ensures { IfOk result (λ flags. flags.items ≡ map (λ text. has_any text.items) texts.now) }
+fn any_each(alloc: Global, each: &[Vec<Vec<Name>>]) -> Result<Vec<bool>, AllocError>
+    ensures { IfOk result (λ flags. flags.items ≡ map (λ parts. has_any (names_of parts)) each.now) }
 {
-    texts
-        .iter()
-        .map(|text| is_any(text.as_slice()))
+    each.iter()
+        .map(|parts| is_any(parts.as_slice()))
         .collect(alloc)
 }
 
@@ -87,14 +90,14 @@ fn parts_unless(
     touched: &[usize],
     class: usize,
     flag: bool,
-) -> Result<Vec<u8>, AllocError>
+) -> Result<Vec<Vec<Name>>, AllocError>
     requires new { Known new.now.view.now new.now.forest.now.regions }
     requires both { both.now ≡ seen_both old.now.view.now new.now.view.now }
     requires touched { AreWhereTouched old.now.view.now old.now.forest.now new.now.view.now new.now.forest.now touched.now }
     requires baseline { IsBaseline old.now.view.now old.now.forest.now baseline.now }
     requires there { class < length baseline.now.classes.firsts.items }
-    ensures { IfOk result (λ text. (a b : Net) (n k : Numbers) (is : IsForest a n old.now.forest.now) (are : IsForest b k new.now.forest.now) → AreOf a n old.now.view.now old.now.forest.now.regions → AreOf b k new.now.view.now new.now.forest.now.regions
-        → AreLeft a b → MatchBool flag (text.items ≡ []) (AreParts a is.outcome b are.outcome (slice_index baseline.now.classes.firsts.items class + 1) text.items)) }
+    ensures { IfOk result (λ parts. (a b : Net) (n k : Numbers) (is : IsForest a n old.now.forest.now) (are : IsForest b k new.now.forest.now) → AreOf a n old.now.view.now old.now.forest.now.regions → AreOf b k new.now.view.now new.now.forest.now.regions
+        → AreLeft a b → MatchBool flag (names_of parts ≡ []) (AreParts a is.outcome b are.outcome (slice_index baseline.now.classes.firsts.items class + 1) (names_of parts))) }
 {
     if flag {
         return Ok(Vec::new(alloc));
@@ -119,57 +122,52 @@ fn parts_but(
     baseline: &Baseline,
     one: &[bool],
     other: &[bool],
-) -> Result<Vec<Vec<u8>>, AllocError>
+) -> Result<Vec<Vec<Vec<Name>>>, AllocError>
     requires new { Known new.now.view.now new.now.forest.now.regions }
     requires baseline { IsBaseline old.now.view.now old.now.forest.now baseline.now }
     requires one { length one.now ≡ length baseline.now.classes.firsts.items }
     requires other { length other.now ≡ length baseline.now.classes.firsts.items }
-    ensures as_long { IfOk result (λ texts. vec_len texts ≡ length baseline.now.classes.firsts.items) }
-    ensures parts { IfOk result (λ texts. (a b : Net) (n k : Numbers) (is : IsForest a n old.now.forest.now) (are : IsForest b k new.now.forest.now) → AreOf a n old.now.view.now old.now.forest.now.regions → AreOf b k new.now.view.now new.now.forest.now.regions
-        → AreLeft a b → ArePartsBut a is.outcome b are.outcome baseline.now.classes.firsts.items one.now other.now (map (λ text. text.items) texts.items)) }
+    ensures as_long { IfOk result (λ parts. vec_len parts ≡ length baseline.now.classes.firsts.items) }
+    ensures parts { IfOk result (λ parts. (a b : Net) (n k : Numbers) (is : IsForest a n old.now.forest.now) (are : IsForest b k new.now.forest.now) → AreOf a n old.now.view.now old.now.forest.now.regions → AreOf b k new.now.view.now new.now.forest.now.regions
+        → AreLeft a b → ArePartsBut a is.outcome b are.outcome baseline.now.classes.firsts.items one.now other.now (map names_of parts.items)) }
 {
     let both = pairs(alloc, old, new)?;
     let places = where_touched(alloc, old, new)?;
     let pairs = both.as_slice();
     let touched = places.as_slice();
-    let mut texts = Vec::new(alloc);
+    let mut parts = Vec::new(alloc);
     for class in 0..one.len() {
         let flag = is_flagged(one, other, class);
-        let text = parts_unless(alloc, old, new, baseline, pairs, touched, class, flag)?;
-        texts.push(text)?;
+        let of = parts_unless(alloc, old, new, baseline, pairs, touched, class, flag)?;
+        parts.push(of)?;
     }
-    Ok(texts)
+    Ok(parts)
 }
 
-/// Appends what fails, each word after a space: the word `lan` or `bridge`, and its name.
-fn push_failure_words(failure: &Failure, out: &mut Vec<u8>) -> Result<(), AllocError>
-    ensures { OnOk result (out.new.items ≡ out.old.items ++ flat_map after_space (failure_words failure.now)) }
-{
-    match failure {
-        Failure::Lan(lan) => push_words(&[b"lan", lan.as_bytes()], out),
-        Failure::Bridge(bridge) => push_words(&[b"bridge", bridge.as_bytes()], out),
-    }
-}
-
-/// Appends the line of a pair.
-fn push_pair_line(
-    first: &Failure,
-    second: &Failure,
-    cut: &[Vid],
-    out: &mut Vec<u8>,
+/// Puts the row of a pair.
+fn put_pair_row<'a, R: Rows>(
+    first: &'a Failure,
+    second: &'a Failure,
+    cut: &'a VidSet,
+    out: &mut R,
 ) -> Result<(), AllocError>
-    ensures { OnOk result (out.new.items ≡ out.old.items ++ line_of_pair (record { first = first.now; second = second.now }) cut.now) }
+    ensures { (grown : R) (rows : List Row) → R.grew grown out.old rows
+        → OnOk result (R.grew grown out.new (rows ++ pair_row (record { first = first.now; second = second.now }) (runs_from 0 cut.now) ∷ [])) }
 {
-    push_bytes(b"pair", out)?;
-    push_failure_words(first, out)?;
-    push_failure_words(second, out)?;
-    push_bytes(b" cut ", out)?;
-    set_of(cut).push_text(out)?;
-    push_end(out)
+    let one = match first {
+        Failure::Lan(lan) => Value::FailedLan(lan),
+        Failure::Bridge(bridge) => Value::FailedBridge(bridge),
+    };
+    let other = match second {
+        Failure::Lan(lan) => Value::FailedLan(lan),
+        Failure::Bridge(bridge) => Value::FailedBridge(bridge),
+    };
+    let values = [one, other, Value::Vids(cut)];
+    put::<R>(Kind::Sweep(SweepLine::Pair), &values, out)
 }
 
 /// Whether there are VIDs.
-fn are_some(vids: &[Vid]) -> bool
+pub(crate) fn are_some(vids: &[Vid]) -> bool
     ensures { result ≡ has_any vids.now }
 {
     match vids {
@@ -178,36 +176,39 @@ fn are_some(vids: &[Vid]) -> bool
     }
 }
 
-/// Appends the line of a pair that cuts these VIDs, and the lines of their parts, if there are any.
-fn push_if_cut(
+/// Puts the row of a pair that cuts VIDs, and the rows of their parts, if it cuts some.
+fn put_if_cut<R: Rows>(
     first: &Failure,
     second: &Failure,
-    cut: &[Vid],
-    lines: &[u8],
-    out: &mut Vec<u8>,
+    classes: &Numbering,
+    cuts: &Cuts,
+    out: &mut R,
 ) -> Result<(), AllocError>
-    ensures { OnOk result (out.new.items ≡ out.old.items ++ pair_text (record { first = first.now; second = second.now }) cut.now lines.now) }
+    requires { NumberEach classes.now.numbers.items (vec_len cuts.now.parts) }
+    ensures { (grown : R) (rows : List Row) → R.grew grown out.old rows
+        → OnOk result (R.grew grown out.new (rows ++ pair_rows (record { first = first.now; second = second.now }) cuts.now.vids.items (rows_of (BothOf first.now second.now) classes.now.numbers.items cuts.now))) }
 {
-    if are_some(cut) {
-        push_pair_line(first, second, cut, out)?;
-        return push_bytes(lines, out);
+    let vids = cuts.vids.as_slice();
+    if are_some(vids) {
+        put_pair_row(first, second, &set_of(vids), out)?;
+        return put_cuts(&CutBy::Both(*first, *second), classes, cuts, out);
     }
     Ok(())
 }
 
-/// Appends the text of a pair of failures: which VIDs they cut together and neither alone, and into which parts, if there are such
+/// Puts the rows of a pair of failures: which VIDs they cut together and neither alone, and into which parts, if there are such
 /// VIDs, and answers whether there are. `old` is the plan of the network with what stays the same for all its failures, `new` the
-/// plan of the network in which both failed. `AllocError`: memory was wanted and refused; part of the text may have been appended.
+/// plan of the network in which both failed. `AllocError`: memory was wanted and refused; some of the rows may have been put.
 ///
 /// Islands are made once for each class of VIDs that has no flag and of which a link that joined bridges goes.
-pub fn push_pair(
+pub fn put_pair<R: Rows>(
     alloc: Global,
     first: &Single,
     second: &Single,
     old: &Planned,
     baseline: &Baseline,
     new: &Planned,
-    out: &mut Vec<u8>,
+    out: &mut R,
 ) -> Result<bool, AllocError>
     requires old { Known old.now.view.now old.now.forest.now.regions }
     requires new { Known new.now.view.now new.now.forest.now.regions }
@@ -218,31 +219,28 @@ pub fn push_pair(
         → AreOf (failed (first.now.failure ∷ second.now.failure ∷ []) net) n new.now.view.now new.now.forest.now.regions
         → AreCutClasses net is.outcome (failed (first.now.failure ∷ []) net) one baseline.now.classes first.now.cuts.items
         → AreCutClasses net is.outcome (failed (second.now.failure ∷ []) net) other baseline.now.classes second.now.cuts.items
-        → PushesPair net (record { first = first.now.failure; second = second.now.failure }) (record { none = is.outcome; first = one; second = other; both = are.outcome }) out.old.items out.new.items cuts) }
+        → (pair : List Row) × ArePairRows net (record { first = first.now.failure; second = second.now.failure }) (record { none = is.outcome; first = one; second = other; both = are.outcome }) pair cuts
+        × ((grown : R) (rows : List Row) → R.grew grown out.old rows → R.grew grown out.new (rows ++ pair))) }
 {
     let one = first.cuts.as_slice();
     let other = second.cuts.as_slice();
-    let bodies = parts_but(alloc, old, new, baseline, one, other)?;
-    let mut lines = Vec::new(alloc);
-    let cut = push_bodies(alloc, &baseline.classes, bodies, &mut lines)?;
-    let vids = cut.as_slice();
-    push_if_cut(&first.failure, &second.failure, vids, lines.as_slice(), out)?;
-    Ok(are_some(vids))
+    let parts = parts_but(alloc, old, new, baseline, one, other)?;
+    let cuts = cuts_of(alloc, &baseline.classes, parts)?;
+    put_if_cut(
+        &first.failure,
+        &second.failure,
+        &baseline.classes,
+        &cuts,
+        out,
+    )?;
+    Ok(are_some(cuts.vids.as_slice()))
 }
 
-/// Appends the last line: how many pairs were looked at, and how many of them cut some VID together that neither cuts alone.
-/// `AllocError`: memory was wanted and refused; part of the line may have been appended.
-pub fn push_last_of_pairs(pairs: u64, cuts: u64, out: &mut Vec<u8>) -> Result<(), AllocError>
-    ensures { OnOk result (out.new.items ≡ out.old.items ++ line_of_pairs pairs cuts) }
+/// Puts the last row: how many pairs were looked at, and how many of them cut some VID together that neither cuts alone.
+/// `AllocError`: memory was wanted and refused; part of the row may have been put.
+pub fn put_last_of_pairs<R: Rows>(pairs: u64, cuts: u64, out: &mut R) -> Result<(), AllocError>
+    ensures { (first : R) (rows : List Row) → R.grew first out.old rows → OnOk result (R.grew first out.new (rows ++ pairs_row pairs cuts ∷ [])) }
 {
-    let mut looked_at = Buffer::new();
-    let mut cutting = Buffer::new();
-    let words: [&[u8]; 5] = [
-        b"sweep",
-        b"pairs",
-        looked_at.format(pairs).as_bytes(),
-        b"cuts",
-        cutting.format(cuts).as_bytes(),
-    ];
-    push_line(&words, out)
+    let values = [Value::Number(pairs), Value::Number(cuts)];
+    put::<R>(Kind::Sweep(SweepLine::PairCounts), &values, out)
 }

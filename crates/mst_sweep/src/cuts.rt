@@ -1,29 +1,54 @@
-ghost use Rattle.std.specs.Prelude.{◌≡◌, ◌<◌, ◌+◌, ◌++◌, ℕ, List, IfOk, OnOk, length, map, filter, slice_index, vec_len};
+ghost use Rattle.std.specs.Prelude.{◌≡◌, ◌<◌, ◌+◌, ◌++◌, ◌∷◌, [], List, IfOk, OnOk, length, map, filter, slice_index, vec_len};
 ghost use Rattle.std.specs.List.{AllZip, flat_map, list_any};
+ghost use Rattle.mst_ids.specs.Vids.{runs_from};
+ghost use Rattle.mst_rows.specs.Rows.{Row};
 ghost use Rattle.mst_net.specs.Tables.{Net, Numbers};
 ghost use Rattle.mst_diff.specs.trees.Agrees.{AreOf, Known};
 ghost use Rattle.mst_diff.specs.trees.Forest.{IsForest};
-ghost use Rattle.mst_diff.specs.plan_text.Bodies.{NumberEach, body_at};
+ghost use Rattle.mst_diff.specs.plan_text.Bodies.{NumberEach};
 ghost use Rattle.mst_diff.specs.Reach.{has_any};
 ghost use Rattle.mst_diff.specs.Seen.{seen_both};
 ghost use Rattle.mst_sweep.specs.Left.{AreLeft};
 ghost use Rattle.mst_sweep.specs.Parts.{AreParts};
-ghost use Rattle.mst_sweep.specs.Cuts.{cut_line, group_line, group_text, AreCuts, AreCutsBy};
+ghost use Rattle.mst_sweep.specs.Cuts.{cut_row, group_row, group_rows, names_of, parts_at as parts_of_vid, rows_of, AreCuts, AreCutsBy};
+ghost use Rattle.mst_sweep.specs.declared.cuts.CutBy.{CutBy as CutByOf};
+ghost use Rattle.mst_sweep.specs.declared.cuts.CutBy.TheVariants.{One as OneOf, Both as BothOf};
+ghost use Rattle.mst_sweep.specs.declared.failure.Failure.{Failure as FailureOf};
 ghost use Rattle.mst_sweep.specs.CutClasses.{AreClasses};
 ghost use Rattle.mst_sweep.specs.Baseline.{AreHomes, IsBaseline};
 ghost use Rattle.mst_sweep.specs.Touched.{AreWhereTouched};
 
 use crate::baseline::Baseline;
+use crate::failure::Failure;
 use crate::homes::homes_of;
 use crate::links::breaks_no_link;
-use crate::parts::{push_parts, staying};
+use crate::parts::{all_parts, staying};
 use indexmap::IndexMap;
 use mst_diff::vlan_laws::islands_of_vid;
-use mst_diff::{Both, Planned, copies, set_of, vids};
+use mst_diff::{Both, Planned, set_of, vids};
 use mst_graph::laws::group_lists;
 use mst_graph::{Numbering, groups_by_body};
-use mst_ids::{BridgeNo, Vid, push_bytes, push_end};
+use mst_ids::{BridgeNo, Name, Vid, VidSet};
+use mst_kinds::{Kind, SweepLine};
+use mst_rows::{Rows, Value, put};
 use std::alloc::{AllocError, Global};
+
+/// What cuts VIDs.
+#[derive(Clone, Copy)]
+pub(crate) enum CutBy {
+    /// A failure.
+    One(Failure),
+    /// Two failures together.
+    Both(Failure, Failure),
+}
+
+/// The VIDs that are cut: the groups of all VIDs, those of equal parts in one, and the parts of the first VID of each class.
+#[derive(Drop)]
+pub(crate) struct Cuts {
+    pub(crate) vids: Vec<Vid>,
+    pub(crate) groups: Vec<Vec<Vid>>,
+    pub(crate) parts: Vec<Vec<Vec<Name>>>,
+}
 
 /// The parts of a VID, by the places of its islands before.
 fn parts(
@@ -33,17 +58,15 @@ fn parts(
     homes: &IndexMap<BridgeNo, usize>,
     both: &[Both],
     vid: Vid,
-) -> Result<Vec<u8>, AllocError>
+) -> Result<Vec<Vec<Name>>, AllocError>
     requires new { Known new.now.view.now new.now.forest.now.regions }
     requires both { both.now ≡ seen_both old.now.view.now new.now.view.now }
-    ensures { IfOk result (λ text. (a b : Net) (n k : Numbers) (is : IsForest a n old.now.forest.now) (are : IsForest b k new.now.forest.now) → AreOf a n old.now.view.now old.now.forest.now.regions → AreOf b k new.now.view.now new.now.forest.now.regions
-        → AreHomes a n is.outcome vid homes.now.entries → AreParts a is.outcome b are.outcome vid text.items) }
+    ensures { IfOk result (λ parts. (a b : Net) (n k : Numbers) (is : IsForest a n old.now.forest.now) (are : IsForest b k new.now.forest.now) → AreOf a n old.now.view.now old.now.forest.now.regions → AreOf b k new.now.view.now new.now.forest.now.regions
+        → AreHomes a n is.outcome vid homes.now.entries → AreParts a is.outcome b are.outcome vid (names_of parts)) }
 {
     let news = homes_of(alloc, new, vid)?;
     let all = staying(alloc, homes, &news, both)?;
-    let mut text = Vec::new(alloc);
-    push_parts(alloc, all.as_slice(), &mut text)?;
-    Ok(text)
+    all_parts(alloc, all.as_slice())
 }
 
 /// The parts of a VID: none where no link that joined bridges goes, so that no islands are made.
@@ -55,12 +78,12 @@ fn parts_if_cut(
     both: &[Both],
     touched: &[usize],
     vid: Vid,
-) -> Result<Vec<u8>, AllocError>
+) -> Result<Vec<Vec<Name>>, AllocError>
     requires new { Known new.now.view.now new.now.forest.now.regions }
     requires both { both.now ≡ seen_both old.now.view.now new.now.view.now }
     requires touched { AreWhereTouched old.now.view.now old.now.forest.now new.now.view.now new.now.forest.now touched.now }
-    ensures { IfOk result (λ text. (a b : Net) (n k : Numbers) (is : IsForest a n old.now.forest.now) (are : IsForest b k new.now.forest.now) → AreOf a n old.now.view.now old.now.forest.now.regions → AreOf b k new.now.view.now new.now.forest.now.regions
-        → AreLeft a b → AreHomes a n is.outcome vid homes.now.entries → AreParts a is.outcome b are.outcome vid text.items) }
+    ensures { IfOk result (λ parts. (a b : Net) (n k : Numbers) (is : IsForest a n old.now.forest.now) (are : IsForest b k new.now.forest.now) → AreOf a n old.now.view.now old.now.forest.now.regions → AreOf b k new.now.view.now new.now.forest.now.regions
+        → AreLeft a b → AreHomes a n is.outcome vid homes.now.entries → AreParts a is.outcome b are.outcome vid (names_of parts)) }
 {
     islands_of_vid();
     if breaks_no_link(old, new, vid, touched) {
@@ -78,14 +101,14 @@ pub(crate) fn parts_at(
     both: &[Both],
     touched: &[usize],
     class: usize,
-) -> Result<Vec<u8>, AllocError>
+) -> Result<Vec<Vec<Name>>, AllocError>
     requires new { Known new.now.view.now new.now.forest.now.regions }
     requires both { both.now ≡ seen_both old.now.view.now new.now.view.now }
     requires touched { AreWhereTouched old.now.view.now old.now.forest.now new.now.view.now new.now.forest.now touched.now }
     requires baseline { IsBaseline old.now.view.now old.now.forest.now baseline.now }
     requires there { class < length baseline.now.classes.firsts.items }
-    ensures { IfOk result (λ text. (a b : Net) (n k : Numbers) (is : IsForest a n old.now.forest.now) (are : IsForest b k new.now.forest.now) → AreOf a n old.now.view.now old.now.forest.now.regions → AreOf b k new.now.view.now new.now.forest.now.regions
-        → AreLeft a b → AreParts a is.outcome b are.outcome (slice_index baseline.now.classes.firsts.items class + 1) text.items) }
+    ensures { IfOk result (λ parts. (a b : Net) (n k : Numbers) (is : IsForest a n old.now.forest.now) (are : IsForest b k new.now.forest.now) → AreOf a n old.now.view.now old.now.forest.now.regions → AreOf b k new.now.view.now new.now.forest.now.regions
+        → AreLeft a b → AreParts a is.outcome b are.outcome (slice_index baseline.now.classes.firsts.items class + 1) (names_of parts)) }
 {
     let firsts = baseline.classes.firsts.as_slice();
     let homes = baseline.homes.as_slice();
@@ -101,25 +124,25 @@ pub(crate) fn parts_of_firsts(
     baseline: &Baseline,
     both: &[Both],
     touched: &[usize],
-) -> Result<Vec<Vec<u8>>, AllocError>
+) -> Result<Vec<Vec<Vec<Name>>>, AllocError>
     requires new { Known new.now.view.now new.now.forest.now.regions }
     requires both { both.now ≡ seen_both old.now.view.now new.now.view.now }
     requires touched { AreWhereTouched old.now.view.now old.now.forest.now new.now.view.now new.now.forest.now touched.now }
     requires baseline { IsBaseline old.now.view.now old.now.forest.now baseline.now }
-    ensures as_long { IfOk result (λ texts. vec_len texts ≡ length baseline.now.classes.firsts.items) }
-    ensures parts { IfOk result (λ texts. (a b : Net) (n k : Numbers) (is : IsForest a n old.now.forest.now) (are : IsForest b k new.now.forest.now) → AreOf a n old.now.view.now old.now.forest.now.regions → AreOf b k new.now.view.now new.now.forest.now.regions
-        → AreLeft a b → AllZip (λ place text. AreParts a is.outcome b are.outcome (place + 1) text) baseline.now.classes.firsts.items (map (λ text. text.items) texts.items)) }
+    ensures as_long { IfOk result (λ parts. vec_len parts ≡ length baseline.now.classes.firsts.items) }
+    ensures parts { IfOk result (λ parts. (a b : Net) (n k : Numbers) (is : IsForest a n old.now.forest.now) (are : IsForest b k new.now.forest.now) → AreOf a n old.now.view.now old.now.forest.now.regions → AreOf b k new.now.view.now new.now.forest.now.regions
+        → AreLeft a b → AllZip (λ place parts. AreParts a is.outcome b are.outcome (place + 1) parts) baseline.now.classes.firsts.items (map names_of parts.items)) }
 {
-    let mut texts = Vec::new(alloc);
+    let mut parts = Vec::new(alloc);
     for class in 0..baseline.classes.firsts.len() {
-        texts.push(parts_at(alloc, old, new, baseline, both, touched, class)?)?;
+        parts.push(parts_at(alloc, old, new, baseline, both, touched, class)?)?;
     }
-    Ok(texts)
+    Ok(parts)
 }
 
 /// Whether there are parts.
-pub(crate) fn is_any(parts: &[u8]) -> bool
-    ensures { result ≡ has_any parts.now }
+pub(crate) fn is_any(parts: &[Vec<Name>]) -> bool
+    ensures { result ≡ has_any (map (λ names. names.items) parts.now) }
 {
     match parts {
         [] => false,
@@ -128,73 +151,171 @@ pub(crate) fn is_any(parts: &[u8]) -> bool
 }
 
 /// Whether there are parts in some of these.
-fn are_any(texts: &[Vec<u8>]) -> bool
-    ensures { result ≡ list_any (λ text. has_any text.items) texts.now }
+fn are_any(each: &[Vec<Vec<Name>>]) -> bool
+    ensures { result ≡ list_any (λ parts. has_any (names_of parts)) each.now }
 {
-    texts.iter().any(|text| is_any(text.as_slice()))
+    each.iter().any(|parts| is_any(parts.as_slice()))
 }
 
-/// Appends the line of a group of VIDs, with these parts.
-fn push_cut(group: &[Vid], parts: &[u8], out: &mut Vec<u8>) -> Result<(), AllocError>
-    ensures { OnOk result (out.new.items ≡ out.old.items ++ cut_line group.now parts.now) }
+/// Copies of these parts.
+fn copy(alloc: Global, parts: &[Vec<Name>]) -> Result<Vec<Vec<Name>>, AllocError>
+    ensures { IfOk result (λ copy. names_of copy ≡ map (λ names. names.items) parts.now) }
 {
-    push_bytes(b"cut ", out)?;
-    set_of(group).push_text(out)?;
-    push_bytes(b" parts", out)?;
-    push_bytes(parts, out)?;
-    push_end(out)
+    let mut copy = Vec::new(alloc);
+    for names in parts {
+        copy.push(Vec::from_slice(alloc, names.as_slice())?)?;
+    }
+    Ok(copy)
 }
 
-/// Appends the line of a group of VIDs that have these parts, if there are any.
-fn push_if_cut(group: &[Vid], parts: &[u8], out: &mut Vec<u8>) -> Result<(), AllocError>
-    ensures { OnOk result (out.new.items ≡ out.old.items ++ group_line group.now parts.now) }
+fn copies(alloc: Global, each: &[Vec<Vec<Name>>]) -> Result<Vec<Vec<Vec<Name>>>, AllocError>
+    ensures { IfOk result (λ copies. map names_of copies.items ≡ map names_of each.now) }
+{
+    let mut copies = Vec::new(alloc);
+    for parts in each {
+        copies.push(copy(alloc, parts.as_slice())?)?;
+    }
+    Ok(copies)
+}
+
+/// Puts the row of VIDs that a failure cuts, with these parts.
+fn put_cut_by_one<'a, R: Rows>(
+    failure: &'a Failure,
+    vids: &'a VidSet,
+    parts: &'a [Vec<Name>],
+    out: &mut R,
+) -> Result<(), AllocError>
+    ensures { (first : R) (rows : List Row) → R.grew first out.old rows
+        → OnOk result (R.grew first out.new (rows ++ cut_row (OneOf failure.now) (runs_from 0 vids.now) (map (λ names. names.items) parts.now) ∷ [])) }
+{
+    let failing = match failure {
+        Failure::Lan(lan) => Value::FailedLan(lan),
+        Failure::Bridge(bridge) => Value::FailedBridge(bridge),
+    };
+    let values = [failing, Value::Vids(vids), Value::Groups(parts)];
+    put::<R>(Kind::Sweep(SweepLine::Cut), &values, out)
+}
+
+/// Puts the row of VIDs that a pair of failures cuts, with these parts.
+fn put_cut_by_both<'a, R: Rows>(
+    first: &'a Failure,
+    second: &'a Failure,
+    vids: &'a VidSet,
+    parts: &'a [Vec<Name>],
+    out: &mut R,
+) -> Result<(), AllocError>
+    ensures { (grown : R) (rows : List Row) → R.grew grown out.old rows
+        → OnOk result (R.grew grown out.new (rows ++ cut_row (BothOf first.now second.now) (runs_from 0 vids.now) (map (λ names. names.items) parts.now) ∷ [])) }
+{
+    let one = match first {
+        Failure::Lan(lan) => Value::FailedLan(lan),
+        Failure::Bridge(bridge) => Value::FailedBridge(bridge),
+    };
+    let other = match second {
+        Failure::Lan(lan) => Value::FailedLan(lan),
+        Failure::Bridge(bridge) => Value::FailedBridge(bridge),
+    };
+    let values = [one, other, Value::Vids(vids), Value::Groups(parts)];
+    put::<R>(Kind::Sweep(SweepLine::CutByPair), &values, out)
+}
+
+/// Puts the row of VIDs that are cut, with these parts.
+fn put_cut<R: Rows>(
+    by: &CutBy,
+    vids: &VidSet,
+    parts: &[Vec<Name>],
+    out: &mut R,
+) -> Result<(), AllocError>
+    ensures { (first : R) (rows : List Row) → R.grew first out.old rows
+        → OnOk result (R.grew first out.new (rows ++ cut_row by.now (runs_from 0 vids.now) (map (λ names. names.items) parts.now) ∷ [])) }
+{
+    match by {
+        CutBy::One(failure) => put_cut_by_one(failure, vids, parts, out),
+        CutBy::Both(first, second) => put_cut_by_both(first, second, vids, parts, out),
+    }
+}
+
+/// Puts the row of a group of VIDs that have these parts, if there are any.
+fn put_if_cut<R: Rows>(
+    by: &CutBy,
+    group: &[Vid],
+    parts: &[Vec<Name>],
+    out: &mut R,
+) -> Result<(), AllocError>
+    ensures { (first : R) (rows : List Row) → R.grew first out.old rows
+        → OnOk result (R.grew first out.new (rows ++ group_row by.now group.now (map (λ names. names.items) parts.now))) }
 {
     if is_any(parts) {
-        return push_cut(group, parts, out);
+        return put_cut(by, &set_of(group), parts, out);
     }
     Ok(())
 }
 
-/// Appends the line of a group, by the numbers of the VIDs and the parts of the numbers.
-fn push_group(
+/// Puts the row of a group, by the numbers of the VIDs and the parts of the numbers.
+fn put_group<R: Rows>(
+    by: &CutBy,
     group: &[Vid],
     numbers: &[usize],
-    texts: &[Vec<u8>],
-    out: &mut Vec<u8>,
+    each: &[Vec<Vec<Name>>],
+    out: &mut R,
 ) -> Result<(), AllocError>
-    requires { NumberEach numbers.now (length texts.now) }
-    ensures { OnOk result (out.new.items ≡ out.old.items ++ group_text (body_at numbers.now (map (λ text. text.items) texts.now)) group.now) }
+    requires { NumberEach numbers.now (length each.now) }
+    ensures { (first : R) (rows : List Row) → R.grew first out.old rows
+        → OnOk result (R.grew first out.new (rows ++ group_rows by.now (parts_of_vid numbers.now (map names_of each.now)) group.now)) }
 {
     let Some(vid) = group.first() else {
         return Ok(());
     };
     let number = numbers[usize::from(vid.value()) - 1];
-    push_if_cut(group, texts[number].as_slice(), out)
+    put_if_cut(by, group, each[number].as_slice(), out)
 }
 
-/// Appends the lines of these groups.
-fn push_groups(
+/// Puts the rows of these groups.
+fn put_groups<R: Rows>(
+    by: &CutBy,
     groups: &[Vec<Vid>],
     numbers: &[usize],
-    texts: &[Vec<u8>],
-    out: &mut Vec<u8>,
+    each: &[Vec<Vec<Name>>],
+    out: &mut R,
 ) -> Result<(), AllocError>
-    requires { NumberEach numbers.now (length texts.now) }
-    ensures { OnOk result (out.new.items ≡ out.old.items ++ flat_map (group_text (body_at numbers.now (map (λ text. text.items) texts.now))) (map (λ group. group.items) groups.now)) }
+    requires { NumberEach numbers.now (length each.now) }
+    ensures { (first : R) (rows : List Row) → R.grew first out.old rows
+        → OnOk result (R.grew first out.new (rows ++ flat_map (λ group. group_rows by.now (parts_of_vid numbers.now (map names_of each.now)) group.items) groups.now)) }
 {
     for group in groups {
-        push_group(group.as_slice(), numbers, texts, out)?;
+        put_group(by, group.as_slice(), numbers, each, out)?;
     }
     Ok(())
 }
 
+/// Puts the rows of the VIDs that are cut, VIDs of equal parts in one row. `AllocError`: memory was wanted and refused; some of them may
+/// have been put.
+pub(crate) fn put_cuts<R: Rows>(
+    by: &CutBy,
+    classes: &Numbering,
+    cuts: &Cuts,
+    out: &mut R,
+) -> Result<(), AllocError>
+    requires { NumberEach classes.now.numbers.items (vec_len cuts.now.parts) }
+    ensures { (first : R) (rows : List Row) → R.grew first out.old rows → OnOk result (R.grew first out.new (rows ++ rows_of by.now classes.now.numbers.items cuts.now)) }
+{
+    let numbers = classes.numbers.as_slice();
+    put_groups(
+        by,
+        cuts.groups.as_slice(),
+        numbers,
+        cuts.parts.as_slice(),
+        out,
+    )
+}
+
 /// Whether a VID has parts.
-fn has_parts(vid: Vid, numbers: &[usize], texts: &[Vec<u8>]) -> bool
-    requires { NumberEach numbers.now (length texts.now) }
-    ensures { result ≡ has_any (body_at numbers.now (map (λ text. text.items) texts.now) vid) }
+fn has_parts(vid: Vid, numbers: &[usize], each: &[Vec<Vec<Name>>]) -> bool
+    requires { NumberEach numbers.now (length each.now) }
+    ensures { result ≡ has_any (parts_of_vid numbers.now (map names_of each.now) vid) }
 {
     let number = numbers[usize::from(vid.value()) - 1];
-    is_any(texts[number].as_slice())
+    is_any(each[number].as_slice())
 }
 
 /// Those of these VIDs that have parts.
@@ -202,66 +323,71 @@ fn cut_of(
     alloc: Global,
     vids: &[Vid],
     numbers: &[usize],
-    texts: &[Vec<u8>],
+    each: &[Vec<Vec<Name>>],
 ) -> Result<Vec<Vid>, AllocError>
-    requires { NumberEach numbers.now (length texts.now) }
-    ensures { IfOk result (λ cut. cut.items ≡ filter (λ vid. has_any (body_at numbers.now (map (λ text. text.items) texts.now) vid)) vids.now) }
+    requires { NumberEach numbers.now (length each.now) }
+    ensures { IfOk result (λ cut. cut.items ≡ filter (λ vid. has_any (parts_of_vid numbers.now (map names_of each.now) vid)) vids.now) }
 {
     let mut cut = Vec::new(alloc);
     for vid in vids {
-        if has_parts(*vid, numbers, texts) {
+        if has_parts(*vid, numbers, each) {
             cut.push(*vid)?;
         }
     }
     Ok(cut)
 }
 
-/// Appends the lines of the VIDs that have parts, VIDs of equal parts in one line, by the parts of the first VID of each class, and
-/// answers these VIDs. `AllocError`: memory was wanted and refused; part of them may have been appended.
-pub(crate) fn push_bodies(
+/// The VIDs that are cut, by the parts of the first VID of each class. `AllocError`: memory was wanted and refused.
+pub(crate) fn cuts_of(
     alloc: Global,
     classes: &Numbering,
-    bodies: Vec<Vec<u8>>,
-    out: &mut Vec<u8>,
-) -> Result<Vec<Vid>, AllocError>
+    parts: Vec<Vec<Vec<Name>>>,
+) -> Result<Cuts, AllocError>
     requires classes { AreClasses classes.now }
-    requires as_long { vec_len bodies ≡ length classes.now.firsts.items }
-    ensures { IfOk result (λ cut. (text : List ℕ) × AreCutsBy (λ vid parts. parts ≡ body_at classes.now.numbers.items (map (λ body. body.items) bodies.items) vid) cut.items text × (out.new.items ≡ out.old.items ++ text)) }
+    requires as_long { vec_len parts ≡ length classes.now.firsts.items }
+    ensures numbered { IfOk result (λ cuts. NumberEach classes.now.numbers.items (vec_len cuts.parts)) }
+    ensures cut { IfOk result (λ cuts. (by : CutByOf) → AreCutsBy (λ vid of. of ≡ parts_of_vid classes.now.numbers.items (map names_of parts.items) vid) by cuts.vids.items (rows_of by classes.now.numbers.items cuts)) }
 {
     group_lists::<Vid>();
-    let texts = bodies.as_slice();
-    if !are_any(texts) {
-        return Ok(Vec::new(alloc));
+    if !are_any(parts.as_slice()) {
+        return Ok(Cuts {
+            vids: Vec::new(alloc),
+            groups: Vec::new(alloc),
+            parts,
+        });
     }
-    let kept = copies(alloc, bodies.as_slice())?;
-    let vids = vids(alloc)?;
+    let kept = copies(alloc, parts.as_slice())?;
+    let all = vids(alloc)?;
     let numbers = classes.numbers.as_slice();
-    let groups = groups_by_body(alloc, vids.as_slice(), numbers, bodies)?;
-    push_groups(groups.as_slice(), numbers, kept.as_slice(), out)?;
-    cut_of(alloc, vids.as_slice(), numbers, kept.as_slice())
+    let vids = cut_of(alloc, all.as_slice(), numbers, kept.as_slice())?;
+    let groups = groups_by_body(alloc, all.as_slice(), numbers, parts)?;
+    Ok(Cuts {
+        vids,
+        groups,
+        parts: kept,
+    })
 }
 
-/// Appends the lines of VIDs that a failure cuts, VIDs of equal parts in one line, and answers these VIDs. `AllocError`:
-/// memory was wanted and refused; part of them may have been appended.
+/// The VIDs that a failure cuts. `AllocError`: memory was wanted and refused.
 ///
 /// Islands are made once for VIDs that no table and no set of VLANs tells apart, and only where a link of a VID that joined
 /// bridges goes. A failure leaves tables and sets. `touched` are the places of the ports that have other roles.
-pub(crate) fn push_cuts(
+pub(crate) fn cuts_by_failure(
     alloc: Global,
     old: &Planned,
     new: &Planned,
     baseline: &Baseline,
     both: &[Both],
     touched: &[usize],
-    out: &mut Vec<u8>,
-) -> Result<Vec<Vid>, AllocError>
+) -> Result<Cuts, AllocError>
     requires new { Known new.now.view.now new.now.forest.now.regions }
     requires both { both.now ≡ seen_both old.now.view.now new.now.view.now }
     requires touched { AreWhereTouched old.now.view.now old.now.forest.now new.now.view.now new.now.forest.now touched.now }
     requires baseline { IsBaseline old.now.view.now old.now.forest.now baseline.now }
-    ensures { IfOk result (λ cut. (a b : Net) (n k : Numbers) (is : IsForest a n old.now.forest.now) (are : IsForest b k new.now.forest.now) → AreOf a n old.now.view.now old.now.forest.now.regions → AreOf b k new.now.view.now new.now.forest.now.regions
-        → AreLeft a b → (text : List ℕ) × AreCuts a is.outcome b are.outcome cut.items text × (out.new.items ≡ out.old.items ++ text)) }
+    ensures numbered { IfOk result (λ cuts. NumberEach baseline.now.classes.numbers.items (vec_len cuts.parts)) }
+    ensures cut { IfOk result (λ cuts. (a b : Net) (n k : Numbers) (is : IsForest a n old.now.forest.now) (are : IsForest b k new.now.forest.now) → AreOf a n old.now.view.now old.now.forest.now.regions → AreOf b k new.now.view.now new.now.forest.now.regions
+        → AreLeft a b → (failure : FailureOf) → AreCuts a is.outcome b are.outcome failure cuts.vids.items (rows_of (OneOf failure) baseline.now.classes.numbers.items cuts)) }
 {
-    let bodies = parts_of_firsts(alloc, old, new, baseline, both, touched)?;
-    push_bodies(alloc, &baseline.classes, bodies, out)
+    let parts = parts_of_firsts(alloc, old, new, baseline, both, touched)?;
+    cuts_of(alloc, &baseline.classes, parts)
 }

@@ -1,4 +1,4 @@
-//! Laws of the text of what each single failure does. Their functions do nothing: a caller has their clauses.
+//! Laws of the rows of what each single failure does. Their functions do nothing: a caller has their clauses.
 ghost use Rattle.std.specs.Prelude.{◌≡◌, ◌↔◌, ◌+◌, ◌-◌, ◌*◌, ◌/◌, ◌≤◌, ℕ, Bool, true, List, length, Ok};
 ghost use Rattle.std.specs.List.{flat_map, sum_by};
 ghost use Rattle.mst_net.specs.After.{after};
@@ -11,8 +11,9 @@ ghost use Rattle.mst_sweep.specs.Failures.{edit_of, failures};
 ghost use Rattle.mst_sweep.specs.Pairs.{pairs_of, IsPairs, IsPairsPart, ArePairsParts};
 ghost use Rattle.mst_sweep.specs.Parts.{AreParts};
 ghost use Rattle.mst_sweep.specs.declared.failure.Failure.{Failure as FailureOf};
-ghost use Rattle.mst_sweep.specs.SweepText.{IsFailureText, IsSweep};
-ghost use Rattle.mst_sweep.specs.SweepParts.{PartOf, IsPart, ToldOfPart, whole_part, part_of, IsSweepPart, AreSweepParts, but_last_line};
+ghost use Rattle.mst_rows.specs.Rows.{Row};
+ghost use Rattle.mst_sweep.specs.SweepText.{AreFailureRows, IsSweep};
+ghost use Rattle.mst_sweep.specs.SweepParts.{PartOf, IsPart, ToldOfPart, whole_part, part_of, IsSweepPart, AreSweepParts, but_last_row};
 
 use mst_diff::trees_laws::{has_outcome, one_outcome};
 use mst_diff::vlan_laws::{islands_of_vid, joined_without_loop};
@@ -20,21 +21,21 @@ use mst_graph::laws::group_lists;
 use mst_ids::Vid;
 use mst_net::laws::networks;
 
-/// A failure has one text, whichever settled outcomes it is made by, and cuts some VID by each or by none; and there is one.
+/// A failure has one list of rows, whichever settled outcomes it is made by, and cuts some VID by each or by none; and there is one.
 pub fn one_failure()
     ensures one { (a b : Net) (o p q r : Outcome) → IsNetwork a → IsNetwork b → IsOutcome a o → IsOutcome b p → IsOutcome a q → IsOutcome b r
-        → (failure : FailureOf) (text other : List ℕ) (c d : Bool) → IsFailureText a o b p failure text c → IsFailureText a q b r failure other d → (text ≡ other) × (c ≡ d) }
-    ensures some { (a b : Net) (o p : Outcome) → IsNetwork a → IsNetwork b → (failure : FailureOf) → (c : Bool) × (text : List ℕ) × IsFailureText a o b p failure text c }
+        → (failure : FailureOf) (rows other : List Row) (c d : Bool) → AreFailureRows a o b p failure rows c → AreFailureRows a q b r failure other d → (rows ≡ other) × (c ≡ d) }
+    ensures some { (a b : Net) (o p : Outcome) → IsNetwork a → IsNetwork b → (failure : FailureOf) → (c : Bool) × (rows : List Row) × AreFailureRows a o b p failure rows c }
 {
     one_outcome();
     islands_of_vid();
     group_lists::<Vid>();
 }
 
-/// A network has one text of all its failures, and one number of those that cut some VID, whichever settled outcome it is
+/// A network has one list of rows of all its failures, and one number of those that cut some VID, whichever settled outcome it is
 /// made by.
 pub fn one_sweep()
-    ensures { (net : Net) (o p : Outcome) (text other : List ℕ) (c d : ℕ) → IsNetwork net → IsOutcome net o → IsOutcome net p → IsSweep net o text c → IsSweep net p other d → (text ≡ other) × (c ≡ d) }
+    ensures { (net : Net) (o p : Outcome) (rows other : List Row) (c d : ℕ) → IsNetwork net → IsOutcome net o → IsOutcome net p → IsSweep net o rows c → IsSweep net p other d → (rows ≡ other) × (c ≡ d) }
 {
     one_outcome();
     islands_of_vid();
@@ -42,16 +43,16 @@ pub fn one_sweep()
     networks();
 }
 
-/// A part of a sweep has one text and one number of failures that cut some VID, too. And the parts are the sweep: so many of
-/// them, each without its last line, are one after another its text without its last line, and their numbers of failures that
-/// cut some VID have its number as their sum. The only part of one is the sweep itself. A part has as many failures as all
-/// over the number of parts, rounded down, or one more.
+/// A part of a sweep has one list of rows and one number of failures that cut some VID, too. And the parts are the sweep: so many of
+/// them, each without its last row, are one after another its rows without the last, and their numbers of failures that cut some VID
+/// have its number as their sum. The only part of one is the sweep itself. A part has as many failures as all over the number of
+/// parts, rounded down, or one more.
 pub fn sweep_parts()
-    ensures one { (net : Net) (o p : Outcome) (part : PartOf) (text other : List ℕ) (c d : ℕ) → IsNetwork net → IsOutcome net o → IsOutcome net p → IsSweepPart part net o text c → IsSweepPart part net p other d → (text ≡ other) × (c ≡ d) }
-    ensures joined { (net : Net) (o : Outcome) (count : ℕ) (parts : List ToldOfPart) (text : List ℕ) (cuts : ℕ) → IsNetwork net → IsOutcome net o → 1 ≤ count → AreSweepParts net o count parts → IsSweep net o text cuts
-        → (flat_map (λ part. but_last_line part.text) parts ≡ but_last_line text) × (sum_by (λ part. part.cuts) parts ≡ cuts) }
+    ensures one { (net : Net) (o p : Outcome) (part : PartOf) (rows other : List Row) (c d : ℕ) → IsNetwork net → IsOutcome net o → IsOutcome net p → IsSweepPart part net o rows c → IsSweepPart part net p other d → (rows ≡ other) × (c ≡ d) }
+    ensures joined { (net : Net) (o : Outcome) (count : ℕ) (parts : List ToldOfPart) (rows : List Row) (cuts : ℕ) → IsNetwork net → IsOutcome net o → 1 ≤ count → AreSweepParts net o count parts → IsSweep net o rows cuts
+        → (flat_map (λ part. but_last_row part.rows) parts ≡ but_last_row rows) × (sum_by (λ part. part.cuts) parts ≡ cuts) }
     ensures lengths { (net : Net) (part : PartOf) → IsPart part → (length (failures net) / part.count ≤ length (part_of part (failures net))) × (length (part_of part (failures net)) ≤ length (failures net) / part.count + 1) }
-    ensures whole { (net : Net) (o : Outcome) (text : List ℕ) (cuts : ℕ) → IsSweepPart whole_part net o text cuts ↔ IsSweep net o text cuts }
+    ensures whole { (net : Net) (o : Outcome) (rows : List Row) (cuts : ℕ) → IsSweepPart whole_part net o rows cuts ↔ IsSweep net o rows cuts }
 {
     one_outcome();
     islands_of_vid();
@@ -59,18 +60,18 @@ pub fn sweep_parts()
     networks();
 }
 
-/// What pairs of failures do is one text and one number of pairs that cut some VID together, too, of each part of the pairs, and
-/// there is one. The parts are the whole: so many of them, each without its last line, are one after another its text without its
-/// last line, and their numbers have its number as their sum. A part has as many pairs as all over the number of parts, rounded
-/// down, or one more; and twice as many as there are in all are each failure with each other.
+/// What pairs of failures do is one list of rows and one number of pairs that cut some VID together, too, of each part of the pairs,
+/// and there is one. The parts are the whole: so many of them, each without its last row, are one after another its rows without the
+/// last, and their numbers have its number as their sum. A part has as many pairs as all over the number of parts, rounded down, or one
+/// more; and twice as many as there are in all are each failure with each other.
 pub fn pairs()
-    ensures one { (net : Net) (o p : Outcome) (part : PartOf) (text other : List ℕ) (c d : ℕ) → IsNetwork net → IsOutcome net o → IsOutcome net p → IsPairsPart part net o text c → IsPairsPart part net p other d → (text ≡ other) × (c ≡ d) }
-    ensures some { (net : Net) (part : PartOf) → IsNetwork net → (o : Outcome) × (text : List ℕ) × (cuts : ℕ) × IsOutcome net o × IsPairsPart part net o text cuts }
-    ensures joined { (net : Net) (o : Outcome) (count : ℕ) (parts : List ToldOfPart) (text : List ℕ) (cuts : ℕ) → IsNetwork net → 1 ≤ count → ArePairsParts net o count parts → IsPairs net o text cuts
-        → (flat_map (λ part. but_last_line part.text) parts ≡ but_last_line text) × (sum_by (λ part. part.cuts) parts ≡ cuts) }
+    ensures one { (net : Net) (o p : Outcome) (part : PartOf) (rows other : List Row) (c d : ℕ) → IsNetwork net → IsOutcome net o → IsOutcome net p → IsPairsPart part net o rows c → IsPairsPart part net p other d → (rows ≡ other) × (c ≡ d) }
+    ensures some { (net : Net) (part : PartOf) → IsNetwork net → (o : Outcome) × (rows : List Row) × (cuts : ℕ) × IsOutcome net o × IsPairsPart part net o rows cuts }
+    ensures joined { (net : Net) (o : Outcome) (count : ℕ) (parts : List ToldOfPart) (rows : List Row) (cuts : ℕ) → IsNetwork net → 1 ≤ count → ArePairsParts net o count parts → IsPairs net o rows cuts
+        → (flat_map (λ part. but_last_row part.rows) parts ≡ but_last_row rows) × (sum_by (λ part. part.cuts) parts ≡ cuts) }
     ensures lengths { (net : Net) (part : PartOf) → IsPart part → (length (pairs_of (failures net)) / part.count ≤ length (part_of part (pairs_of (failures net)))) × (length (part_of part (pairs_of (failures net))) ≤ length (pairs_of (failures net)) / part.count + 1) }
     ensures many { (net : Net) → 2 * length (pairs_of (failures net)) ≡ length (failures net) * (length (failures net) - 1) }
-    ensures whole { (net : Net) (o : Outcome) (text : List ℕ) (cuts : ℕ) → IsPairsPart whole_part net o text cuts ↔ IsPairs net o text cuts }
+    ensures whole { (net : Net) (o : Outcome) (rows : List Row) (cuts : ℕ) → IsPairsPart whole_part net o rows cuts ↔ IsPairs net o rows cuts }
 {
     has_outcome();
     one_outcome();
@@ -81,7 +82,7 @@ pub fn pairs()
 /// Where no logical port's role is restricted, a VID of which every logical port is a member is cut by a failure exactly
 /// where that takes apart two bridges that stay on: enabled ports linked them before, and don't afterwards.
 pub fn cut_where_apart()
-    ensures { (a b : Net) (o p : Outcome) (failure : FailureOf) (vid : ℕ) (parts : List ℕ) → IsNetwork a → IsNetwork b → IsOutcome a o → IsOutcome b p → after (edit_of failure) a ≡ Ok b
+    ensures { (a b : Net) (o p : Outcome) (failure : FailureOf) (vid : ℕ) (parts : List (List (List ℕ))) → IsNetwork a → IsNetwork b → IsOutcome a o → IsOutcome b p → after (edit_of failure) a ≡ Ok b
         → IsUnrestricted a → AllAreMembers a vid → AreParts a o b p vid parts → (has_any parts ≡ true) ↔ ComeApart a b }
 {
     joined_without_loop();

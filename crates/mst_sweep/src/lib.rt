@@ -20,8 +20,8 @@ mod touched;
 mod whole;
 
 pub use baseline::Baseline;
-pub use both_failed::{Single, cut_classes, push_last_of_pairs, push_pair};
+pub use both_failed::{Single, cut_classes, put_last_of_pairs, put_pair};
 pub use failing::Failing;
 pub use failure::{Failure, failures};
-pub use sweep::{push_failure, push_last};
+pub use sweep::{put_failure, put_last};
 pub use sweep_part::SweepPart;

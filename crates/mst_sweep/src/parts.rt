@@ -1,12 +1,12 @@
-ghost use Rattle.std.specs.Prelude.{◌≡◌, ◌++◌, IfOk, OnOk, filter_map};
+ghost use Rattle.std.specs.Prelude.{◌≡◌, ◌++◌, IfOk, OnOk, filter_map, map};
 ghost use Rattle.std.specs.List.{find, list_any};
-ghost use Rattle.mst_sweep.specs.Parts.{are_together, came_apart as came_apart_from, part as names_of_part, first_of as first_of_part, leads as leads_part, part_word, parts_text};
+ghost use Rattle.mst_sweep.specs.Parts.{are_together, came_apart as came_apart_from, part as names_of_part, first_of as first_of_part, leads as leads_part, part_led, all_parts as all_parts_of};
 ghost use Rattle.mst_sweep.specs.Seen.{seen_stays};
 
 use crate::whole::is_whole;
 use indexmap::IndexMap;
 use mst_diff::Both;
-use mst_ids::{BridgeNo, Name, push_bytes, push_comma_list};
+use mst_ids::{BridgeNo, Name};
 use std::alloc::{AllocError, Global};
 
 /// A bridge that is on before and afterwards, and the places of its islands.
@@ -97,40 +97,38 @@ fn part(alloc: Global, all: &[Stays], bridge: &Stays) -> Result<Vec<Name>, Alloc
         .collect(alloc)
 }
 
-/// Appends the part of a bridge that is its first after a space, if its island came apart.
-fn push_part(
+/// Adds the part of a bridge that is its first, if its island came apart.
+fn add_part(
     alloc: Global,
     all: &[Stays],
     bridge: &Stays,
-    out: &mut Vec<u8>,
+    parts: &mut Vec<Vec<Name>>,
 ) -> Result<(), AllocError>
-    ensures { OnOk result (out.new.items ≡ out.old.items ++ part_word all.now bridge.now) }
+    ensures { OnOk result (map (λ names. names.items) parts.new.items ≡ map (λ names. names.items) parts.old.items ++ part_led all.now bridge.now) }
 {
     if came_apart(all, bridge) && leads(all, bridge) {
-        let names = part(alloc, all, bridge)?;
-        push_bytes(b" ", out)?;
-        return push_comma_list(names.as_slice(), out);
+        parts.push(part(alloc, all, bridge)?)?;
     }
     Ok(())
 }
 
-/// Appends the part of each bridge that is its first and whose island came apart.
-fn push_each(alloc: Global, all: &[Stays], out: &mut Vec<u8>) -> Result<(), AllocError>
-    ensures { OnOk result (out.new.items ≡ out.old.items ++ parts_text all.now) }
+/// The part of each bridge that is its first and whose island came apart.
+fn led(alloc: Global, all: &[Stays]) -> Result<Vec<Vec<Name>>, AllocError>
+    ensures { IfOk result (λ parts. map (λ names. names.items) parts.items ≡ all_parts_of all.now) }
 {
+    let mut parts = Vec::new(alloc);
     for bridge in all {
-        push_part(alloc, all, bridge, out)?;
+        add_part(alloc, all, bridge, &mut parts)?;
     }
-    Ok(())
+    Ok(parts)
 }
 
-/// Appends the parts of the islands that came apart, each after a space. Where none did, it takes one pass over the
-/// bridges.
-pub(crate) fn push_parts(alloc: Global, all: &[Stays], out: &mut Vec<u8>) -> Result<(), AllocError>
-    ensures { OnOk result (out.new.items ≡ out.old.items ++ parts_text all.now) }
+/// The parts of the islands that came apart, by their first bridges. Where none did, it takes one pass over the bridges.
+pub(crate) fn all_parts(alloc: Global, all: &[Stays]) -> Result<Vec<Vec<Name>>, AllocError>
+    ensures { IfOk result (λ parts. map (λ names. names.items) parts.items ≡ all_parts_of all.now) }
 {
     if is_whole(alloc, all)? {
-        return Ok(());
+        return Ok(Vec::new(alloc));
     }
-    push_each(alloc, all, out)
+    led(alloc, all)
 }

@@ -1,93 +1,106 @@
-ghost use Rattle.std.specs.Prelude.{◌≡◌, ◌++◌, ℕ, List, Ok, IfOk, OnOk};
+ghost use Rattle.std.specs.Prelude.{◌≡◌, ◌++◌, ◌∷◌, [], List, Ok, IfOk, OnOk};
 ghost use Rattle.std.specs.List.{count_by};
-ghost use Rattle.mst_diff.specs.changes.ChangesText.{spaced};
+ghost use Rattle.mst_ids.specs.Vids.{runs_from};
+ghost use Rattle.mst_rows.specs.Rows.{Row};
 ghost use Rattle.mst_net.specs.After.{after};
 ghost use Rattle.mst_net.specs.Tables.{Net, Numbers};
 ghost use Rattle.mst_diff.specs.trees.Agrees.{AreOf, Known};
 ghost use Rattle.mst_diff.specs.trees.Forest.{IsForest};
-ghost use Rattle.mst_diff.specs.Reach.{has_any};
 ghost use Rattle.mst_sweep.specs.Failures.{edit_of};
 ghost use Rattle.mst_sweep.specs.Baseline.{IsBaseline};
-ghost use Rattle.mst_sweep.specs.SweepText.{failure_words, failure_line, IsFailureText, is_lan as is_lan_of, is_bridge as is_bridge_of, sweep_line};
+ghost use Rattle.mst_sweep.specs.SweepText.{failure_row, AreFailureRows, is_lan as is_lan_of, is_bridge as is_bridge_of, sweep_row};
+ghost use Rattle.mst_sweep.specs.declared.failure.Failure.TheVariants.{Lan as LanOf, Bridge as BridgeOf};
 
 use crate::baseline::Baseline;
-use crate::cuts::push_cuts;
+use crate::both_failed::are_some;
+use crate::cuts::{CutBy, cuts_by_failure, put_cuts};
 use crate::failure::Failure;
 use crate::pairs::pairs;
 use crate::ports::moved_ports;
 use crate::roots::moved_roots;
 use crate::touched::{places_of, touched};
-use itoa::Buffer;
 use mst_diff::{Planned, set_of};
-use mst_ids::{Tree, Vid, push_bytes, push_comma_list, push_end, push_line, push_word};
+use mst_ids::{Name, Tree, VidSet};
+use mst_kinds::{Kind, SweepLine};
+use mst_rows::{Rows, Value, put};
 use std::alloc::{AllocError, Global};
 
-/// Appends what fails: the word `lan` or `bridge`, and its name after a space.
-fn push_name(failure: &Failure, out: &mut Vec<u8>) -> Result<(), AllocError>
-    ensures { OnOk result (out.new.items ≡ out.old.items ++ spaced (failure_words failure.now)) }
+/// Puts the row of a LAN that fails.
+fn put_failed_lan<'a, R: Rows>(
+    lan: &'a Name,
+    roots: &'a [Tree],
+    ports: u64,
+    cut: &'a VidSet,
+    out: &mut R,
+) -> Result<(), AllocError>
+    ensures { (first : R) (rows : List Row) → R.grew first out.old rows → OnOk result (R.grew first out.new (rows ++ failure_row (LanOf lan.now) roots.now ports (runs_from 0 cut.now) ∷ [])) }
 {
-    match failure {
-        Failure::Lan(lan) => {
-            push_bytes(b"lan", out)?;
-            push_word(lan.as_bytes(), out)
-        }
-        Failure::Bridge(bridge) => {
-            push_bytes(b"bridge", out)?;
-            push_word(bridge.as_bytes(), out)
-        }
-    }
+    let values = [
+        Value::FailedLan(lan),
+        Value::Name(lan),
+        Value::Trees(roots),
+        Value::Number(ports),
+        Value::Vids(cut),
+    ];
+    put::<R>(Kind::Sweep(SweepLine::Lan), &values, out)
 }
 
-/// Appends the line of a failure.
-fn push_failed(
+/// Puts the row of a bridge that fails.
+fn put_failed_bridge<'a, R: Rows>(
+    bridge: &'a Name,
+    roots: &'a [Tree],
+    ports: u64,
+    cut: &'a VidSet,
+    out: &mut R,
+) -> Result<(), AllocError>
+    ensures { (first : R) (rows : List Row) → R.grew first out.old rows → OnOk result (R.grew first out.new (rows ++ failure_row (BridgeOf bridge.now) roots.now ports (runs_from 0 cut.now) ∷ [])) }
+{
+    let values = [
+        Value::FailedBridge(bridge),
+        Value::Name(bridge),
+        Value::Trees(roots),
+        Value::Number(ports),
+        Value::Vids(cut),
+    ];
+    put::<R>(Kind::Sweep(SweepLine::Bridge), &values, out)
+}
+
+/// Puts the row of a failure.
+fn put_failed<R: Rows>(
     failure: &Failure,
     roots: &[Tree],
     ports: u64,
-    cut: &[Vid],
-    out: &mut Vec<u8>,
+    cut: &VidSet,
+    out: &mut R,
 ) -> Result<(), AllocError>
-    ensures { OnOk result (out.new.items ≡ out.old.items ++ failure_line failure.now roots.now ports cut.now) }
+    ensures { (first : R) (rows : List Row) → R.grew first out.old rows → OnOk result (R.grew first out.new (rows ++ failure_row failure.now roots.now ports (runs_from 0 cut.now) ∷ [])) }
 {
-    let mut number = Buffer::new();
-    push_name(failure, out)?;
-    push_bytes(b" roots ", out)?;
-    push_comma_list(roots, out)?;
-    push_word(b"ports", out)?;
-    push_word(number.format(ports).as_bytes(), out)?;
-    push_bytes(b" cut ", out)?;
-    set_of(cut).push_text(out)?;
-    push_end(out)
-}
-
-/// Whether a failure cuts some VID.
-fn is_any(cut: &[Vid]) -> bool
-    ensures { result ≡ has_any cut.now }
-{
-    match cut {
-        [] => false,
-        [..] => true,
+    match failure {
+        Failure::Lan(lan) => put_failed_lan(lan, roots, ports, cut, out),
+        Failure::Bridge(bridge) => put_failed_bridge(bridge, roots, ports, cut, out),
     }
 }
 
-/// Appends the text of a failure: which trees' roots move, how many roles, and which VIDs are cut into which parts, and
+/// Puts the rows of a failure: which trees' roots move, how many roles, and which VIDs are cut into which parts, and
 /// answers whether it cuts some. `old` is the plan of the network with what stays the same for all its failures, `new` the
-/// plan of the network that failed. `AllocError`: memory was wanted and refused; part of the text may have been appended.
+/// plan of the network that failed. `AllocError`: memory was wanted and refused; some of the rows may have been put.
 ///
 /// It looks at the roles of each logical port once for each tree, and makes islands once for each class of VIDs of which a link
 /// that joined bridges goes.
-pub fn push_failure(
+pub fn put_failure<R: Rows>(
     alloc: Global,
     failure: &Failure,
     old: &Planned,
     baseline: &Baseline,
     new: &Planned,
-    out: &mut Vec<u8>,
+    out: &mut R,
 ) -> Result<bool, AllocError>
     requires old { Known old.now.view.now old.now.forest.now.regions }
     requires new { Known new.now.view.now new.now.forest.now.regions }
     requires baseline { IsBaseline old.now.view.now old.now.forest.now baseline.now }
     ensures { IfOk result (λ cuts. (a b : Net) (n k : Numbers) (is : IsForest a n old.now.forest.now) (are : IsForest b k new.now.forest.now) → AreOf a n old.now.view.now old.now.forest.now.regions → AreOf b k new.now.view.now new.now.forest.now.regions
-        → after (edit_of failure.now) a ≡ Ok b → (text : List ℕ) × IsFailureText a is.outcome b are.outcome failure.now text cuts × (out.new.items ≡ out.old.items ++ text)) }
+        → after (edit_of failure.now) a ≡ Ok b → (failed : List Row) × AreFailureRows a is.outcome b are.outcome failure.now failed cuts
+        × ((first : R) (rows : List Row) → R.grew first out.old rows → R.grew first out.new (rows ++ failed))) }
 {
     let both = pairs(alloc, old, new)?;
     let roots = moved_roots(alloc, old, new, both.as_slice())?;
@@ -96,19 +109,11 @@ pub fn push_failure(
     let places = places_of(alloc, touched)?;
     let ports = moved_ports(old, new, touched);
     let where_touched = places.as_slice();
-    let mut lines = Vec::new(alloc);
-    let cut = push_cuts(
-        alloc,
-        old,
-        new,
-        baseline,
-        both.as_slice(),
-        where_touched,
-        &mut lines,
-    )?;
-    push_failed(failure, roots.as_slice(), ports, cut.as_slice(), out)?;
-    push_bytes(lines.as_slice(), out)?;
-    Ok(is_any(cut.as_slice()))
+    let cuts = cuts_by_failure(alloc, old, new, baseline, both.as_slice(), where_touched)?;
+    let vids = cuts.vids.as_slice();
+    put_failed(failure, roots.as_slice(), ports, &set_of(vids), out)?;
+    put_cuts(&CutBy::One(*failure), &baseline.classes, &cuts, out)?;
+    Ok(are_some(vids))
 }
 
 /// How many of these failures are of a LAN.
@@ -132,22 +137,15 @@ fn is_lan(failure: &Failure) -> bool
     matches!(failure, Failure::Lan(_))
 }
 
-/// Appends the last line: how many failures of each kind there are, and how many of all of them cut some VID.
-/// `AllocError`: memory was wanted and refused; part of the line may have been appended.
-pub fn push_last(failures: &[Failure], cuts: u64, out: &mut Vec<u8>) -> Result<(), AllocError>
-    ensures { OnOk result (out.new.items ≡ out.old.items ++ sweep_line failures.now cuts) }
+/// Puts the last row: how many failures of each kind there are, and how many of all of them cut some VID.
+/// `AllocError`: memory was wanted and refused; part of the row may have been put.
+pub fn put_last<R: Rows>(failures: &[Failure], cuts: u64, out: &mut R) -> Result<(), AllocError>
+    ensures { (first : R) (rows : List Row) → R.grew first out.old rows → OnOk result (R.grew first out.new (rows ++ sweep_row failures.now cuts ∷ [])) }
 {
-    let mut lans = Buffer::new();
-    let mut bridges = Buffer::new();
-    let mut cutting = Buffer::new();
-    let words: [&[u8]; 7] = [
-        b"sweep",
-        b"lans",
-        lans.format(count_lans(failures)).as_bytes(),
-        b"bridges",
-        bridges.format(count_bridges(failures)).as_bytes(),
-        b"cuts",
-        cutting.format(cuts).as_bytes(),
+    let values = [
+        Value::Number(count_lans(failures)),
+        Value::Number(count_bridges(failures)),
+        Value::Number(cuts),
     ];
-    push_line(&words, out)
+    put::<R>(Kind::Sweep(SweepLine::Counts), &values, out)
 }

@@ -45,6 +45,20 @@ impl SweepPart {
         }
     }
 
+    /// Its number.
+    pub fn number(self) -> u64
+        ensures { result ≡ self.number }
+    {
+        self.number
+    }
+
+    /// Of how many parts it is one.
+    pub fn count(self) -> u64
+        ensures { result ≡ self.count }
+    {
+        self.count
+    }
+
     /// This part of these failures. The lengths of two parts differ by 1 at most.
     pub fn of<'a>(self, failures: &'a [Failure]) -> &'a [Failure]
         ensures { result.now ≡ part_of self failures.now }

@@ -1,7 +1,7 @@
 ghost use Rattle.std.specs.Prelude.{◌≡◌, ◌==◌, not, true, false, [], IfOk, nat_eq};
 ghost use Rattle.std.specs.Option.{option_map_or};
 ghost use Rattle.indexmap.specs.IndexMap.{get};
-ghost use Rattle.mst_sweep.specs.Parts.{parts_text};
+ghost use Rattle.mst_sweep.specs.Parts.{all_parts};
 
 use crate::parts::Stays;
 use indexmap::IndexMap;
@@ -19,7 +19,7 @@ fn is_moved(places: &IndexMap<usize, usize>, bridge: &Stays) -> bool
 
 /// Whether no island came apart, found in one pass: then there are no parts.
 pub(crate) fn is_whole(alloc: Global, all: &[Stays]) -> Result<bool, AllocError>
-    ensures { IfOk result (λ whole. whole ≡ true → parts_text all.now ≡ []) }
+    ensures { IfOk result (λ whole. whole ≡ true → all_parts all.now ≡ []) }
 {
     let mut places = IndexMap::new(alloc);
     for bridge in all {

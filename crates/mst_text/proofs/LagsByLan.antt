@@ -1,17 +1,15 @@
--- The words of the members of each logical LAN, one more word after another.
+-- The members of each logical LAN, one more after another.
 use Rattle.std.proofs.Common.{◌≡◌, ℕ, ◌+◌, ◌<◌, Bool, true, false, cond, List, [], ◌∷◌, ◌++◌, length, map, take, get_or, Option, Some, None, refl, sym, ap, ◌∙◌, append-nil}
 use Rattle.std.specs.Prelude.{Vec}
-use Rattle.std.specs.List.{filter, flat_map}
+use Rattle.std.specs.List.{filter}
 use Rattle.std.specs.Option.{option_map_or}
 use Rattle.std.specs.HashMap.{HashMap, get}
 use Rattle.std.specs.Cmp.Lexicographic.{bytes_decides}
 use Rattle.std.specs.declared.alloc.Global.{Global}
-use Rattle.std.proofs.lemmas.Grind.{flat_map-append}
 use Rattle.std.proofs.lemmas.List.{map-append}
 use Rattle.std.proofs.lemmas.List.Elements.{filter_more}
 use Rattle.mst_lag.specs.Aggregation.{same_name}
-use Rattle.mst_text.specs.KeptWords.{kept_at}
-use Rattle.mst_ids.specs.Words.{after_comma}
+use Rattle.mst_text.specs.KeptByLan.{kept_at}
 
 -- two tests, in either order
 pub filters_swapped : {A : Type 0} (p q : A → Bool) (xs : List A) → filter p (filter q xs) ≡ filter q (filter p xs)
@@ -25,41 +23,39 @@ filters_swapped {A} p q (x ∷ xs) = go (p x) refl (q x) refl (filters_swapped p
     go false e true f h = ap (λ c. cond c (x ∷ filter p (filter q xs)) (filter p (filter q xs))) e ∙ h
     go false e false f h = h
 
--- the words of the elements of a name, each after a `,`
-module _ {A : Type 0} (name word : A → List ℕ) where
-  abbrev pub words_in : List ℕ → List A → List ℕ
-  words_in q xs = flat_map after_comma (map word (filter (λ x. same_name (name x) q) xs))
+-- what the elements of a name give
+module _ {A B : Type 0} (name : A → List ℕ) (give : A → B) where
+  abbrev pub given_in : List ℕ → List A → List B
+  given_in q xs = map give (filter (λ x. same_name (name x) q) xs)
 
-  lone : (x : A) (b : Bool) → cond b (after_comma (word x)) [] ≡ flat_map after_comma (map word (cond b (x ∷ []) []))
-  lone x true = sym (append-nil (after_comma (word x)))
+  lone : (x : A) (b : Bool) → cond b (give x ∷ []) [] ≡ map give (cond b (x ∷ []) [])
+  lone x true = refl
   lone x false = refl
 
-  pub word_more : (xs : List A) (i : ℕ) (x : A) → i < length xs → x ≡ get_or xs i x → (old new : List ℕ → List ℕ) → ((q : List ℕ) → old q ≡ words_in q (take i xs))
-      → ((q : List ℕ) → new q ≡ old q ++ cond (same_name (name x) q) (after_comma (word x)) []) → (q : List ℕ) → new q ≡ words_in q (take (i + 1) xs)
-  word_more xs i x below here old new before added q =
+  pub one_more : (xs : List A) (i : ℕ) (x : A) → i < length xs → x ≡ get_or xs i x → (old new : List ℕ → List B) → ((q : List ℕ) → old q ≡ given_in q (take i xs))
+      → ((q : List ℕ) → new q ≡ old q ++ cond (same_name (name x) q) (give x ∷ []) []) → (q : List ℕ) → new q ≡ given_in q (take (i + 1) xs)
+  one_more xs i x below here old new before added q =
       let test : A → Bool = λ y. same_name (name y) q in
       let kept = filter test (take i xs) in
-      let one = cond (test x) (x ∷ []) [] in
       added q
       ∙ (λ j. before q j ++ lone x (test x) j)
-      ∙ sym (flat_map-append after_comma (map word kept) (map word one))
-      ∙ ap (flat_map after_comma) (sym (map-append word kept one))
-      ∙ ap (λ l. flat_map after_comma (map word l)) (ap (λ y. kept ++ cond (test y) (y ∷ []) []) here ∙ sym (filter_more test xs i x below))
+      ∙ sym (map-append give kept (cond (test x) (x ∷ []) []))
+      ∙ ap (map give) (ap (λ y. kept ++ cond (test y) (y ∷ []) []) here ∙ sym (filter_more test xs i x below))
 
--- a word that is added to what was kept for a name, and was taken away
-pub word_added : {S : Type 0} (old gone new : HashMap (List ℕ) (Vec ℕ Global) S) (lan word : List ℕ) (kept : Vec ℕ Global)
+-- one that is added to what was kept for a name, and was taken away
+pub one_added : {T S : Type 0} (old gone new : HashMap (List ℕ) (Vec T Global) S) (lan : List ℕ) (one : T) (kept : Vec T Global)
     → ((q : List ℕ) → get same_name gone q ≡ cond (same_name lan q) None (get same_name old q))
     → ((q : List ℕ) → get same_name new q ≡ cond (same_name lan q) (Some kept) (get same_name gone q))
-    → kept.items ≡ kept_at old lan ++ after_comma word
-    → (q : List ℕ) → kept_at new q ≡ kept_at old q ++ cond (same_name lan q) (after_comma word) []
-word_added old gone new lan word kept away put is q = go (same_name lan q) refl
+    → kept.items ≡ kept_at old lan ++ one ∷ []
+    → (q : List ℕ) → kept_at new q ≡ kept_at old q ++ cond (same_name lan q) (one ∷ []) []
+one_added {T} old gone new lan one kept away put is q = go (same_name lan q) refl
   where
-    items : Option (Vec ℕ Global) → List ℕ
+    items : Option (Vec T Global) → List T
     items o = option_map_or (λ w. w.items) o []
 
     at : (b : Bool) → same_name lan q ≡ b → kept_at new q ≡ items (cond b (Some kept) (cond b None (get same_name old q)))
     at b e = ap items (put q ∙ ap (λ o. cond (same_name lan q) (Some kept) o) (away q) ∙ ap (λ c. cond c (Some kept) (cond c None (get same_name old q))) e)
 
-    go : (b : Bool) → same_name lan q ≡ b → kept_at new q ≡ kept_at old q ++ cond b (after_comma word) []
-    go true e = at true e ∙ is ∙ ap (λ l. kept_at old l ++ after_comma word) ((bytes_decides lan q).0 e)
+    go : (b : Bool) → same_name lan q ≡ b → kept_at new q ≡ kept_at old q ++ cond b (one ∷ []) []
+    go true e = at true e ∙ is ∙ ap (λ l. kept_at old l ++ one ∷ []) ((bytes_decides lan q).0 e)
     go false e = at false e ∙ sym (append-nil (kept_at old q))

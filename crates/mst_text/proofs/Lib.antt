@@ -1,15 +1,16 @@
 pub use Rattle.mst_vlan.proofs.trees_lemmas as trees_lemmas
 pub use Rattle.mst_vlan.proofs.roles_lemmas as roles_lemmas
 pub use Rattle.mst_vlan.proofs as vlan_lemmas
-pub mod TreeNamed
+mod TreeNamed
 pub mod VlanListed
 pub mod VlanNamed
-pub mod VlanTexts
-pub mod LagsByLan
-pub mod LagClasses
-mod Flat
+mod VlanOnce
+mod LagsByLan
+mod LagClasses
 mod Keeping
 mod RegionsSeen
+mod Holding
 mod Shown
 mod TreeRuns
+mod VidAlone
 mod VidsOf

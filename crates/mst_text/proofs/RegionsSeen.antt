@@ -1,4 +1,4 @@
--- What is seen of a view is the text of the network's regions.
+-- What is seen of a view are the rows of the network's regions.
 use Rattle.std.proofs.Common.{◌≡◌, ℕ, ◌==◌, Bool, true, false, cond, true≢false, List, [], ◌∷◌, ◌++◌, map, Some, nat_eq, refl, sym, ap, subst, ◌∙◌, eq-eqb, arith}
 use Rattle.std.specs.List.{AllByRecursion, filter, flat_map}
 use Rattle.std.specs.Option.{option_map_or, unwrap_or}
@@ -21,7 +21,8 @@ use Rattle.mst_config.specs.Shared.{AreRegions}
 use Rattle.mst_config.specs.Regions.{same_region, first_of_region, region_of}
 use Rattle.mst_config.proofs.SameRegion.{told, has_first, HasFirst}
 use Rattle.mst_text.specs.Members.{is_in, names_in, seen_region}
-use Rattle.mst_text.specs.RegionsText.{region_line, bridges_of_region, region_text, regions_text}
+use Rattle.mst_rows.specs.Rows.{Row}
+use Rattle.mst_text.specs.RegionsText.{region_row, bridges_of_region, rows_of_region, regions_rows}
 
 all_unmapped : {A B : Type 0} (P : B → Type 0) (f : A → B) (xs : List A) → AllByRecursion P (map f xs) → AllByRecursion (λ x. P (f x)) xs
 all_unmapped P f [] h = tt
@@ -81,29 +82,29 @@ module _ (net : Net) (numbers : Numbers) (v : Viewed) (region_ids : List (ℕ ×
               let macs = same_mac f.row.mac x.mac (eqb-true (bridge_id 0 0 f.row.mac) (bridge_id 0 0 x.mac) k) in
               absurd (true≢false (sym ((bytes_decides f.first a).1 (ok.bridges.macs_differ f.first a f.row x f.has_row row macs)) ∙ e))
 
-  -- what is seen of a bridge is the text of the region that it is the first of
-  seen : (b : BridgeInView) → HasRegion b → seen_region v region_ids b ≡ region_text net (named_bridge b)
+  -- what is seen of a bridge is the row of the region that it is the first of
+  seen : (b : BridgeInView) → HasRegion b → seen_region v region_ids b ≡ rows_of_region net (named_bridge b)
   seen b h = go (region_of net b.name == own) refl
     where
       own : ℕ
       own = bridge_id 0 0 b.bridge.mac
 
-      line_at : List (List ℕ) → List ℕ
-      line_at names = region_line (bridge_row b.bridge) (table_of net b.name) names
+      row_at : List (List ℕ) → List Row
+      row_at names = region_row b.name (bridge_row b.bridge) (table_of net b.name) names ∷ []
 
       table : table_in v.settings.tables b.name ≡ table_of net b.name
       table = ap (λ (s : ByTree). table_in s.tables b.name) view.settings
 
-      go : (t : Bool) → (region_of net b.name == own) ≡ t → seen_region v region_ids b ≡ region_text net (named_bridge b)
+      go : (t : Bool) → (region_of net b.name == own) ≡ t → seen_region v region_ids b ≡ rows_of_region net (named_bridge b)
       go true e =
-          ap (λ t. cond t (region_line (bridge_row b.bridge) (table_in v.settings.tables b.name) (names_in region_ids own v.bridges)) []) (in_region b own h ∙ e)
-          ∙ ap (λ t. region_line (bridge_row b.bridge) t (names_in region_ids own v.bridges)) table
-          ∙ ap (λ r. line_at (names_in region_ids r v.bridges)) (sym (eqb-true (region_of net b.name) own e))
-          ∙ ap line_at (names_are b h)
-          ∙ ap (λ t. cond t (line_at (bridges_of_region net b.name)) []) (sym e ∙ is_first b.name (bridge_row b.bridge) h.row)
+          ap (λ t. cond t (region_row b.name (bridge_row b.bridge) (table_in v.settings.tables b.name) (names_in region_ids own v.bridges) ∷ []) []) (in_region b own h ∙ e)
+          ∙ ap (λ t. region_row b.name (bridge_row b.bridge) t (names_in region_ids own v.bridges) ∷ []) table
+          ∙ ap (λ r. row_at (names_in region_ids r v.bridges)) (sym (eqb-true (region_of net b.name) own e))
+          ∙ ap row_at (names_are b h)
+          ∙ ap (λ t. cond t (row_at (bridges_of_region net b.name)) []) (sym e ∙ is_first b.name (bridge_row b.bridge) h.row)
       go false e =
-          ap (λ t. cond t (region_line (bridge_row b.bridge) (table_in v.settings.tables b.name) (names_in region_ids own v.bridges)) []) (in_region b own h ∙ e)
-          ∙ ap (λ t. cond t (line_at (bridges_of_region net b.name)) []) (sym e ∙ is_first b.name (bridge_row b.bridge) h.row)
+          ap (λ t. cond t (region_row b.name (bridge_row b.bridge) (table_in v.settings.tables b.name) (names_in region_ids own v.bridges) ∷ []) []) (in_region b own h ∙ e)
+          ∙ ap (λ t. cond t (row_at (bridges_of_region net b.name)) []) (sym e ∙ is_first b.name (bridge_row b.bridge) h.row)
 
-  pub all_seen : flat_map (seen_region v region_ids) v.bridges ≡ regions_text net
-  all_seen = flat_mapped (region_text net) named_bridge (seen_region v region_ids) v.bridges (all_weaker HasRegion _ seen v.bridges all_have) ∙ ap (flat_map (region_text net)) view.bridges
+  pub all_seen : flat_map (seen_region v region_ids) v.bridges ≡ regions_rows net
+  all_seen = flat_mapped (rows_of_region net) named_bridge (seen_region v region_ids) v.bridges (all_weaker HasRegion _ seen v.bridges all_have) ∙ ap (flat_map (rows_of_region net)) view.bridges

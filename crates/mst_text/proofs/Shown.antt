@@ -1,16 +1,18 @@
--- A bridge's line and those of its trees are the text of its configuration.
-use Rattle.std.proofs.Common.{◌≡◌, ℕ, List, [], ◌++◌, Some, ap, ◌∙◌, append_assoc}
+-- The rows of a bridge's configuration.
+use Rattle.std.proofs.Common.{◌≡◌, ◌∙◌, ℕ, Some, List, [], ◌∷◌, ◌++◌, ap, append_assoc}
 use Rattle.std.specs.Option.{option_map, unwrap_or}
 use Rattle.std.specs.FinMap as fin
-use Rattle.mst_net.specs.Tables.{Net, BridgeRow}
+use Rattle.hex.specs.Hex.{encode_lower}
+use Rattle.mst_config.specs.Digest.{digest_of}
 use Rattle.mst_net.specs.After.{table_of}
-use Rattle.mst_text.specs.ConfigurationText.{configuration_line, mstis_text, configuration_text}
+use Rattle.mst_net.specs.Tables.{Net, BridgeRow}
+use Rattle.mst_rows.specs.Rows.{Row}
+use Rattle.mst_text.specs.ConfigurationText.{configuration_row, configuration_rows, mstis_rows, rows_of_bridge}
 
-pub shown : (net : Net) (name : List ℕ) (row : BridgeRow) (table first now next : List ℕ) → Some row ≡ fin.get net.bridges name → table ≡ table_of net name → now ≡ first ++ configuration_line name row table
-    → next ≡ now ++ mstis_text table → next ≡ first ++ unwrap_or (configuration_text net name) []
-shown net name row table first now next is_row is_table line mstis =
-    mstis
-    ∙ ap (λ t. t ++ mstis_text table) line
-    ∙ append_assoc first (configuration_line name row table) (mstis_text table)
-    ∙ ap (λ t. first ++ (configuration_line name row t ++ mstis_text t)) is_table
-    ∙ ap (λ o. first ++ unwrap_or (option_map (λ r. configuration_line name r (table_of net name) ++ mstis_text (table_of net name)) o) []) is_row
+-- a bridge's row and those of its trees are the rows of its configuration
+pub shown : (net : Net) (bridge : List ℕ) (row : BridgeRow) (table : List ℕ) (rows : List Row) → Some row ≡ fin.get net.bridges bridge → table ≡ table_of net bridge
+    → (rows ++ configuration_row bridge row (encode_lower (digest_of table)) ∷ []) ++ mstis_rows bridge table ≡ rows ++ unwrap_or (configuration_rows net bridge) []
+shown net bridge row table rows is_row is_table =
+    append_assoc rows (configuration_row bridge row (encode_lower (digest_of table)) ∷ []) (mstis_rows bridge table)
+    ∙ ap (λ t. rows ++ rows_of_bridge bridge row t) is_table
+    ∙ ap (λ o. rows ++ unwrap_or (option_map (λ row. rows_of_bridge bridge row (table_of net bridge)) o) []) is_row

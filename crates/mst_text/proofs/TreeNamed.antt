@@ -1,4 +1,4 @@
--- The text of a tree by runs of ports is its text by bridge.
+-- The rows of a tree by runs of ports are its rows by bridge.
 use Rattle.std.proofs.Common.{◌≡◌, ℕ, ◌||◌, ◌++◌, Bool, true, false, cond, List, [], ◌∷◌, Option, Some, None, is_some, refl, sym, ap, ◌∙◌, true≢false, Less, Greater}
 use Rattle.std.specs.Ordering.{is_lt, nat_cmp, ordering_reverse, ordering_then}
 use Rattle.std.specs.List.{AllByRecursion, Contains, filter, flat_map, list_any}
@@ -19,9 +19,10 @@ use Rattle.mst_vlan.proofs.trees_lemmas.Entries.{all_weaker}
 use Rattle.mst_vlan.proofs.trees_lemmas.Lists.{all_contained, filter_mapped}
 use Rattle.mst_vlan.proofs.trees_lemmas.Views.{names_differ}
 use Rattle.mst_vlan.proofs.trees_lemmas.Seen.{SeenPort, BridgesRise, PortsRise, ports_seen, bridges_apart, ports_apart, bridge_there}
-use Rattle.mst_text.specs.TreeLines.{heading}
+use Rattle.mst_rows.specs.Rows.{Row}
+use Rattle.mst_text.specs.TreeRows.{heading}
 use Rattle.mst_text.specs.TreeRuns.{port_of, bridge_with, is_of, by_runs}
-use Rattle.mst_text.specs.TreeText.{has_tree, ports_of, port_text, own_line, bridge_text, tree_text}
+use Rattle.mst_text.specs.TreeText.{has_tree, ports_of, rows_of_port, own_rows, rows_of_bridge, tree_rows}
 use Rattle.mst_text.proofs.TreeRuns.{runs_of}
 
 -- ---- the order of bridges and ports
@@ -48,8 +49,8 @@ any_of {A} test xs x = all_contained (λ x. test x ≡ true → list_any test xs
         last true = refl
         last false = refl
 
--- the texts of those that pass
-flat_map_passed : {A : Type 0} (test : A → Bool) (f : A → List ℕ) (xs : List A) → flat_map (λ x. cond (test x) (f x) []) xs ≡ flat_map f (filter test xs)
+-- the rows of those that pass
+flat_map_passed : {A : Type 0} (test : A → Bool) (f : A → List Row) (xs : List A) → flat_map (λ x. cond (test x) (f x) []) xs ≡ flat_map f (filter test xs)
 flat_map_passed test f [] = refl
 flat_map_passed {A} test f (x ∷ xs) = go (test x) (flat_map_passed test f xs)
   where
@@ -91,29 +92,29 @@ module _ (s : SettledNet) (is : IsSettledNet s) where
           let b = bridge_there net s.numbers v is.of.view p.name.bridge row e in
           any_of (λ b. owns b p) v.bridges b.0 b.1 ((bytes_decides p.name.bridge b.0.name).1 (sym (ap (λ (x : List ℕ × BridgeRow). x.0) b.2)))
 
-  in_runs : (f : BridgeInView → List PortInView → List ℕ) → by_runs f v.bridges v.ports ≡ flat_map (λ b. f b (filter (owns b) v.ports)) v.bridges
+  in_runs : (f : BridgeInView → List PortInView → List Row) → by_runs f v.bridges v.ports ≡ flat_map (λ b. f b (filter (owns b) v.ports)) v.bridges
   in_runs f =
       runs_of owns (BridgesRise net s.numbers) (PortsRise net s.numbers) one_owner in_turn f (by_runs f) (λ ps. refl) (λ b bs ps. refl) v.bridges v.ports
       (bridges_apart net s.numbers v is.of.view) (all_weaker (SeenPort net s.numbers) _ owned v.ports (ports_seen net s.numbers v is.of.view)) (ports_apart net s.numbers v is.of.view)
 
-  -- ---- the text
+  -- ---- the rows
   module _ (tree : ℕ) where
-    ports_named : (name : List ℕ) → flat_map (port_of s tree) (filter (is_of name) v.ports) ≡ flat_map (port_text net o tree) (ports_of net name)
+    ports_named : (name : List ℕ) → flat_map (port_of s tree) (filter (is_of name) v.ports) ≡ flat_map (rows_of_port net o tree) (ports_of net name)
     ports_named name =
-        sym (flat_map-map (port_text net o tree) named_port (filter (is_of name) v.ports))
-        ∙ ap (flat_map (port_text net o tree)) (sym (filter_mapped (λ (p : LogicalPort). same_name p.name.bridge name) named_port v.ports) ∙ ap (filter (λ (p : LogicalPort). same_name p.name.bridge name)) is.of.view.ports)
+        sym (flat_map-map (rows_of_port net o tree) named_port (filter (is_of name) v.ports))
+        ∙ ap (flat_map (rows_of_port net o tree)) (sym (filter_mapped (λ (p : LogicalPort). same_name p.name.bridge name) named_port v.ports) ∙ ap (filter (λ (p : LogicalPort). same_name p.name.bridge name)) is.of.view.ports)
 
-    abbrev lines : List ℕ × BridgeRow → List ℕ
-    lines e = cond (has_tree net tree e.0) (bridge_text net o tree e) []
+    abbrev given : List ℕ × BridgeRow → List Row
+    given e = cond (has_tree net tree e.0) (rows_of_bridge net o tree e) []
 
-    bridge_named : (b : BridgeInView) → bridge_with s tree b (filter (owns b) v.ports) ≡ lines (named_bridge b)
-    bridge_named b = λ i. cond (has_tree net tree b.name) (own_line net o tree (named_bridge b) ++ ports_named b.name i) []
+    bridge_named : (b : BridgeInView) → bridge_with s tree b (filter (owns b) v.ports) ≡ given (named_bridge b)
+    bridge_named b = λ i. cond (has_tree net tree b.name) (own_rows net o tree (named_bridge b) ++ ports_named b.name i) []
 
-    pub text_named : heading tree ++ by_runs (bridge_with s tree) v.bridges v.ports ≡ tree_text net o tree
-    text_named =
-        ap (λ t. heading tree ++ t)
+    pub rows_named : heading tree ∷ by_runs (bridge_with s tree) v.bridges v.ports ≡ tree_rows net o tree
+    rows_named =
+        ap (λ (t : List Row). heading tree ∷ t)
         (in_runs (bridge_with s tree)
         ∙ (λ i. flat_map (λ b. bridge_named b i) v.bridges)
-        ∙ sym (flat_map-map lines named_bridge v.bridges)
-        ∙ ap (flat_map lines) is.of.view.bridges
-        ∙ flat_map_passed (λ (e : List ℕ × BridgeRow). has_tree net tree e.0) (bridge_text net o tree) (fin.entries net.bridges))
+        ∙ sym (flat_map-map given named_bridge v.bridges)
+        ∙ ap (flat_map given) is.of.view.bridges
+        ∙ flat_map_passed (λ (e : List ℕ × BridgeRow). has_tree net tree e.0) (rows_of_bridge net o tree) (fin.entries net.bridges))

@@ -74,8 +74,8 @@ module _ {A B : Type 0} (of : A → B → Bool) (Before : A → A → Type 0) (B
             others = each_is _ (λ c. refl) bs;
           }
 
-  -- a text of each owner with its run at the front of what is left is that of each with all that it owns
-  pub runs_of : (text : A → List B → List ℕ) (all : List A → List B → List ℕ) → ((ps : List B) → all [] ps ≡ [])
+  -- what each owner gives with its run at the front of what is left is that of each with all that it owns
+  pub runs_of : {C : Type 0} (text : A → List B → List C) (all : List A → List B → List C) → ((ps : List B) → all [] ps ≡ [])
       → ((b : A) (bs : List A) (ps : List B) → all (b ∷ bs) ps ≡ text b (take (prefix_len (of b) ps) ps) ++ all bs (drop (prefix_len (of b) ps) ps))
       → (bs : List A) (ps : List B) → Apart Before bs → AllByRecursion (Owned bs) ps → Apart Behind ps → all bs ps ≡ flat_map (λ b. text b (filter (of b) ps)) bs
   runs_of text all none more [] ps rise owned turn = none ps

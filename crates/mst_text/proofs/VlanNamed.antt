@@ -1,6 +1,6 @@
--- The text of a VID under the numbers of records is its text under names.
-use Rattle.std.proofs.Common.{◌≡◌, ℕ, ◌++◌, List, [], ◌∷◌, map, Some, refl, sym, ap, subst, ◌∙◌}
-use Rattle.std.specs.List.{AllByRecursion, Contains, filter, flat_map}
+-- The rows of a VID under the numbers of records are its rows under names.
+use Rattle.std.proofs.Common.{◌≡◌, ℕ, Bool, List, [], ◌∷◌, map, Some, refl, sym, ap, subst, ◌∙◌}
+use Rattle.std.specs.List.{AllByRecursion, Contains, filter}
 use Rattle.std.specs.FinMap as fin
 use Rattle.mst_ids.specs.Vids.{has}
 use Rattle.mst_vlan.specs.graph.Islands.{Island}
@@ -24,9 +24,10 @@ use Rattle.mst_vlan.specs.Seen.{seen_active}
 use Rattle.mst_vlan.specs.declared.island.Island.{Island as IslandNos}
 use Rattle.mst_vlan.proofs.Listed.{active_listed}
 use Rattle.mst_vlan.proofs.Renumbered.{bridge_listed, lan_listed}
-use Rattle.mst_text.specs.VlanLines.{active_word, active_line, island_line}
-use Rattle.mst_text.specs.VlanText.{port_word, island_text, IsBody}
-use Rattle.mst_text.specs.VlanSeen.{seen_active_line, seen_bridge, seen_lan, seen_island_line}
+use Rattle.mst_rows.specs.declared.value.ActivePort.{ActivePort}
+use Rattle.mst_text.specs.VlanRows.{active_row, island_row}
+use Rattle.mst_text.specs.VlanText.{active_port, row_of_island, AreBodyRows}
+use Rattle.mst_text.specs.VlanSeen.{seen_port, seen_bridge, seen_lan, seen_island}
 use Rattle.mst_text.proofs.VlanListed.{by_number, named_at}
 
 -- for each element of a list
@@ -50,26 +51,28 @@ module _ (net : Net) (numbers : Numbers) (v : Viewed) (f : Forest) (of : AreOf n
       let l = contains_unmapped named_lan v.lans e.0 (subst (λ ls. Contains ls e.0) (sym of.view.lans) own) in
       (l.0, l.1, ap (λ (l : LogicalLan). l.name) l.2 ∙ e.2)
 
-  pub bridge_named : (a : List ℕ) → Contains (bridges_on net) a → (n : ℕ) → fin.get numbers.bridges a ≡ Some n → seen_bridge v n ≡ a
+  pub bridge_named : (a : List ℕ) → Contains (bridges_on net) a → (n : ℕ) → fin.get numbers.bridges a ≡ Some n → seen_bridge v n ≡ Some a
   bridge_named a h n e =
       let b = bridge_in_view a h in
-      named_at (λ (b : BridgeInView). b.bridge.number) (λ b. b.name) (fin.get numbers.bridges) v.bridges of.view.bridge_numbers of.numbered.bridges_differ b.0 b.1 n (ap (fin.get numbers.bridges) b.2 ∙ e) ∙ b.2
+      named_at (λ (b : BridgeInView). b.bridge.number) (λ b. b.name) (fin.get numbers.bridges) v.bridges of.view.bridge_numbers of.numbered.bridges_differ b.0 b.1 n (ap (fin.get numbers.bridges) b.2 ∙ e) ∙ ap Some b.2
 
-  lan_named : (a : List ℕ) → Contains (lans_up net) a → (n : ℕ) → fin.get numbers.lans a ≡ Some n → seen_lan v n ≡ a
+  lan_named : (a : List ℕ) → Contains (lans_up net) a → (n : ℕ) → fin.get numbers.lans a ≡ Some n → seen_lan v n ≡ Some a
   lan_named a h n e =
       let l = lan_in_view a h in
-      named_at (λ (l : LanInView). l.number) (λ l. l.name) (fin.get numbers.lans) v.lans of.view.lan_numbers of.numbered.lans_differ l.0 l.1 n (ap (fin.get numbers.lans) l.2 ∙ e) ∙ l.2
+      named_at (λ (l : LanInView). l.number) (λ l. l.name) (fin.get numbers.lans) v.lans of.view.lan_numbers of.numbered.lans_differ l.0 l.1 n (ap (fin.get numbers.lans) l.2 ∙ e) ∙ ap Some l.2
 
   -- ---- active ports
-  active_named : (is : IsForest net numbers f) (vid : ℕ) → seen_active_line v vid (seen_active v f vid) ≡ active_line (map (port_word net vid) (active_ports net is.outcome vid))
+  pub active_named : (is : IsForest net numbers f) (vid : ℕ) → map (seen_port v vid) (seen_active v f vid) ≡ map (active_port net vid) (active_ports net is.outcome vid)
   active_named is vid =
-      ap active_line
-      ((λ i. map (λ (p : PortInView). active_word (has (vlans_in (of.view.settings i).vlans p.name) vid) p.name) (seen_active v f vid))
-      ∙ sym (mapped_twice (port_word net vid) named_port (seen_active v f vid))
-      ∙ ap (map (port_word net vid)) (sym (active_listed net numbers v f of is vid)))
+      (λ i. map (λ (p : PortInView). the_port p (has (vlans_in (of.view.settings i).vlans p.name) vid)) (seen_active v f vid))
+      ∙ sym (mapped_twice (active_port net vid) named_port (seen_active v f vid))
+      ∙ ap (map (active_port net vid)) (sym (active_listed net numbers v f of is vid))
+    where
+      the_port : PortInView → Bool → ActivePort
+      the_port p is_member = record { port = p.name; is_member = is_member }
 
   -- ---- islands
-  module _ (o : Outcome) (vid : ℕ) where
+  module _ (o : Outcome) (vid : ℕ) (runs : List (ℕ × ℕ)) where
     -- the lists of an island have the numbers of these names
     record HasNames (i : IslandNos) (j : Island (List ℕ) (List ℕ)) : Type 0 where
       bridges : map Some i.bridges ≡ map (fin.get numbers.bridges) j.bridges
@@ -80,16 +83,16 @@ module _ (net : Net) (numbers : Numbers) (v : Viewed) (f : Forest) (of : AreOf n
       bridges : (a : List ℕ) → Contains j.bridges a → Contains (bridges_on net) a
       lans : (a : List ℕ) → Contains j.lans a → Contains (lans_up net) a
 
-    island_named : (i : IslandNos) (j : Island (List ℕ) (List ℕ)) → HasNames i j → AreListed j → seen_island_line v i ≡ island_text j
+    island_named : (i : IslandNos) (j : Island (List ℕ) (List ℕ)) → HasNames i j → AreListed j → seen_island v runs i ≡ row_of_island runs j
     island_named i j e listed =
         let bridges = by_number (fin.get numbers.bridges) (seen_bridge v) (λ a. a) i.bridges j.bridges e.bridges (each_of _ j.bridges (λ a h. bridge_named a (listed.bridges a h))) ∙ map_itself j.bridges in
         let lans = by_number (fin.get numbers.lans) (seen_lan v) (λ a. a) i.lans j.lans e.lans (each_of _ j.lans (λ a h. lan_named a (listed.lans a h))) ∙ map_itself j.lans in
-        λ k. island_line (bridges k) (lans k)
+        λ k. island_row runs (bridges k) (lans k)
 
     each_named : (islands : List IslandNos) (named : List (Island (List ℕ) (List ℕ)))
         → map (λ (i : IslandNos). map Some i.bridges) islands ≡ map (λ (j : Island (List ℕ) (List ℕ)). map (fin.get numbers.bridges) j.bridges) named
         → map (λ (i : IslandNos). map Some i.lans) islands ≡ map (λ (j : Island (List ℕ) (List ℕ)). map (fin.get numbers.lans) j.lans) named
-        → AllByRecursion AreListed named → flat_map (seen_island_line v) islands ≡ flat_map island_text named
+        → AllByRecursion AreListed named → map (seen_island v runs) islands ≡ map (row_of_island runs) named
     each_named [] [] e g h = refl
     each_named [] (j ∷ named) e g h = cc
     each_named (i ∷ islands) [] e g h = cc
@@ -100,9 +103,9 @@ module _ (net : Net) (numbers : Numbers) (v : Viewed) (f : Forest) (of : AreOf n
         let others : map (λ (i : IslandNos). map Some i.lans) islands ≡ map (λ (j : Island (List ℕ) (List ℕ)). map (fin.get numbers.lans) j.lans) named = cc in
         let first = island_named i j (record { bridges = bridges; lans = lans }) h.0 in
         let rest = each_named islands named more others h.1 in
-        λ k. first k ++ rest k
+        λ k. first k ∷ rest k
 
-    pub islands_named : (islands : List IslandNos) → (r : AreReached net numbers o vid islands) → flat_map (seen_island_line v) islands ≡ flat_map island_text r.named
+    pub islands_named : (islands : List IslandNos) → (r : AreReached net numbers o vid islands) → map (seen_island v runs) islands ≡ map (row_of_island runs) r.named
     islands_named islands r =
         each_named islands r.named r.bridges r.lans
         (each_of AreListed r.named
@@ -112,6 +115,6 @@ module _ (net : Net) (numbers : Numbers) (v : Viewed) (f : Forest) (of : AreOf n
         }))
 
   -- ---- the body
-  pub is_body : (is : IsForest net numbers f) (vid : ℕ) (islands : List IslandNos) → AreReached net numbers is.outcome vid islands
-      → IsBody net is.outcome vid (seen_active_line v vid (seen_active v f vid) ++ flat_map (seen_island_line v) islands)
-  is_body is vid islands r = (r.named, r.are_islands, λ k. active_named is vid k ++ islands_named is.outcome vid islands r k)
+  pub are_body_rows : (is : IsForest net numbers f) (vid : ℕ) (runs : List (ℕ × ℕ)) (islands : List IslandNos) → AreReached net numbers is.outcome vid islands
+      → AreBodyRows net is.outcome vid runs (active_row runs (map (seen_port v vid) (seen_active v f vid)) ∷ map (seen_island v runs) islands)
+  are_body_rows is vid runs islands r = (r.named, r.are_islands, λ k. active_row runs (active_named is vid k) ∷ islands_named is.outcome vid runs islands r k)

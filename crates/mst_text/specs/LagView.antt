@@ -1,7 +1,8 @@
--- The text of the classes of links, by the lists of a view.
-use Rattle.std.specs.Prelude.{ℕ, List, [], ◌∷◌, map, filter, codes, decimal}
+-- The rows of the classes of links, by the lists of a view.
+use Rattle.std.specs.Prelude.{ℕ, List, [], ◌∷◌, map, filter}
 use Rattle.std.specs.List.{flat_map}
 use Rattle.std.specs.Option.{option_map_or}
+use Rattle.mst_ids.specs.declared.name.PortName.{PortName}
 use Rattle.mst_lag.specs.Aggregation.{same_name}
 use Rattle.mst_lag.specs.Lag.{lag_id_text}
 use Rattle.mst_lag.specs.Viewed.{Viewed}
@@ -9,7 +10,8 @@ use Rattle.mst_lag.specs.declared.lag.LagId.{LagId}
 use Rattle.mst_lag.specs.declared.in_view.LanInView.{LanInView}
 use Rattle.mst_lag.specs.declared.in_view.MemberLan.{MemberLan}
 use Rattle.mst_lag.specs.declared.in_view.MemberPort.{MemberPort}
-use Rattle.mst_ids.specs.Words.{line, comma_list, port_text}
+use Rattle.mst_rows.specs.Rows.{Row}
+use Rattle.mst_text.specs.LagText.{lag_row}
 
 -- the members of a logical LAN, those that are up, and the ports
 abbrev pub lans_in : List ℕ → List MemberLan → List MemberLan
@@ -22,23 +24,20 @@ abbrev pub ports_in : List ℕ → List MemberPort → List MemberPort
 ports_in lan = filter (λ m. same_name m.lan lan)
 
 -- the names of these LANs and ports
-abbrev pub lan_word : MemberLan → List ℕ
-lan_word m = m.name
+abbrev pub lan_of : MemberLan → List ℕ
+lan_of m = m.name
 
-abbrev pub port_word : MemberPort → List ℕ
-port_word m = port_text m.name
+abbrev pub port_of : MemberPort → PortName
+port_of m = m.name
 
--- the line of a class of links, and the lines of all classes
-abbrev pub class_line : Viewed → LanInView → LagId → List ℕ
-class_line v lan id =
+-- the row of a class of links, and the rows of all classes
+abbrev pub class_row : Viewed → LanInView → LagId → Row
+class_row v lan id =
     let lans = lans_in lan.name v.member_lans in
-    line (codes "lag" ∷ lan.name ∷ lag_id_text id ∷ codes "speed" ∷ decimal lan.speed
-    ∷ codes "up" ∷ comma_list (map lan_word (up_of lans))
-    ∷ codes "lans" ∷ comma_list (map lan_word lans)
-    ∷ codes "ports" ∷ comma_list (map port_word (ports_in lan.name v.member_ports)) ∷ [])
+    lag_row lan.name (lag_id_text id) lan.speed (map lan_of (up_of lans)) (map lan_of lans) (map port_of (ports_in lan.name v.member_ports))
 
-abbrev pub class_text : Viewed → LanInView → List ℕ
-class_text v lan = option_map_or (class_line v lan) lan.lag []
+abbrev pub class_rows : Viewed → LanInView → List Row
+class_rows v lan = option_map_or (λ id. class_row v lan id ∷ []) lan.lag []
 
-abbrev pub classes_text : Viewed → List ℕ
-classes_text v = flat_map (class_text v) v.lans
+abbrev pub classes_rows : Viewed → List Row
+classes_rows v = flat_map (class_rows v) v.lans

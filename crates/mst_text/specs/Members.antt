@@ -1,5 +1,5 @@
 -- The bridges of each region of a view, by the identifiers of regions.
-use Rattle.std.specs.Prelude.{ℕ, ◌==◌, Bool, false, List, [], map, filter, nat_eq, Vec, if◌then◌else◌}
+use Rattle.std.specs.Prelude.{ℕ, ◌==◌, Bool, false, List, [], ◌∷◌, map, filter, nat_eq, Vec, if◌then◌else◌}
 use Rattle.std.specs.Option.{option_map_or}
 use Rattle.std.specs.Ordering.{nat_cmp}
 use Rattle.std.specs.Map.{lookup}
@@ -10,7 +10,8 @@ use Rattle.mst_net.specs.ByTree.{table_in}
 use Rattle.mst_net.specs.Seen.{bridge_row}
 use Rattle.mst_lag.specs.Viewed.{Viewed}
 use Rattle.mst_lag.specs.declared.in_view.BridgeInView.{BridgeInView}
-use Rattle.mst_text.specs.RegionsText.{region_line}
+use Rattle.mst_rows.specs.Rows.{Row}
+use Rattle.mst_text.specs.RegionsText.{region_row}
 
 -- the bridge is in the region of this identifier
 abbrev pub is_in : List (ℕ × ℕ) → ℕ → BridgeInView → Bool
@@ -24,9 +25,9 @@ names_in region_ids region bridges = map (λ b. b.name) (filter (is_in region_id
 abbrev pub kept_for : BTreeMap ℕ (Vec (List ℕ) Global) → ℕ → List (List ℕ)
 kept_for members region = option_map_or (λ names. names.items) (get nat_cmp members region) []
 
--- the line of a bridge that is the first of its region, whose identifier has its MAC
-abbrev pub seen_region : Viewed → List (ℕ × ℕ) → BridgeInView → List ℕ
+-- the row of a bridge that is the first of its region, whose identifier has its MAC
+abbrev pub seen_region : Viewed → List (ℕ × ℕ) → BridgeInView → List Row
 seen_region v region_ids b =
     if is_in region_ids (bridge_id 0 0 b.bridge.mac) b
-    then region_line (bridge_row b.bridge) (table_in v.settings.tables b.name) (names_in region_ids (bridge_id 0 0 b.bridge.mac) v.bridges)
+    then region_row b.name (bridge_row b.bridge) (table_in v.settings.tables b.name) (names_in region_ids (bridge_id 0 0 b.bridge.mac) v.bridges) ∷ []
     else []

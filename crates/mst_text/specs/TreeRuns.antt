@@ -1,4 +1,4 @@
--- The lines of bridges, each with its run of the ports of a view.
+-- The rows of bridges, each with its run of the ports of a view.
 use Rattle.std.specs.Prelude.{ℕ, Bool, List, [], ◌∷◌, ◌++◌, take, drop, if◌then◌else◌}
 use Rattle.std.specs.List.{flat_map, prefix_len}
 use Rattle.mst_lag.specs.Aggregation.{same_name}
@@ -6,14 +6,15 @@ use Rattle.mst_lag.specs.Viewed.{named_bridge, named_port}
 use Rattle.mst_lag.specs.declared.in_view.BridgeInView.{BridgeInView}
 use Rattle.mst_lag.specs.declared.in_view.PortInView.{PortInView}
 use Rattle.mst_vlan.specs.trees.Settled.{SettledNet, outcome_of}
-use Rattle.mst_text.specs.TreeText.{has_tree, own_line, port_text}
+use Rattle.mst_rows.specs.Rows.{Row}
+use Rattle.mst_text.specs.TreeText.{has_tree, own_rows, rows_of_port}
 
--- the line of a port, and the lines of a bridge with these ports, if it has the tree
-abbrev pub port_of : SettledNet → ℕ → PortInView → List ℕ
-port_of s tree p = port_text s.net (outcome_of s) tree (named_port p)
+-- the row of a port, and the rows of a bridge with these ports, if it has the tree
+abbrev pub port_of : SettledNet → ℕ → PortInView → List Row
+port_of s tree p = rows_of_port s.net (outcome_of s) tree (named_port p)
 
-abbrev pub bridge_with : SettledNet → ℕ → BridgeInView → List PortInView → List ℕ
-bridge_with s tree b ports = if has_tree s.net tree b.name then own_line s.net (outcome_of s) tree (named_bridge b) ++ flat_map (port_of s tree) ports else []
+abbrev pub bridge_with : SettledNet → ℕ → BridgeInView → List PortInView → List Row
+bridge_with s tree b ports = if has_tree s.net tree b.name then own_rows s.net (outcome_of s) tree (named_bridge b) ++ flat_map (port_of s tree) ports else []
 
 -- a port is of the bridge of this name; how many are, from the front on
 abbrev pub is_of : List ℕ → PortInView → Bool
@@ -23,6 +24,6 @@ abbrev pub run_of : List ℕ → List PortInView → ℕ
 run_of bridge ports = prefix_len (is_of bridge) ports
 
 -- bridges in turn, each with its run of ports at the front of those that are left
-abbrev pub by_runs : (BridgeInView → List PortInView → List ℕ) → List BridgeInView → List PortInView → List ℕ
+abbrev pub by_runs : (BridgeInView → List PortInView → List Row) → List BridgeInView → List PortInView → List Row
 by_runs f [] ports = []
 by_runs f (b ∷ bs) ports = let n = run_of b.name ports in f b (take n ports) ++ by_runs f bs (drop n ports)

@@ -1,28 +1,26 @@
--- The text of a VID, under the numbers of records.
-use Rattle.std.specs.Prelude.{ℕ, ◌==◌, List, [], map}
+-- The rows of a VID, under the numbers of records.
+use Rattle.std.specs.Prelude.{ℕ, ◌==◌, List, Option, filter_map}
 use Rattle.std.specs.List.{find}
-use Rattle.std.specs.Option.{option_map_or}
+use Rattle.std.specs.Option.{option_map}
 use Rattle.mst_lag.specs.Viewed.{Viewed}
 use Rattle.mst_lag.specs.declared.in_view.PortInView.{PortInView}
+use Rattle.mst_rows.specs.declared.value.ActivePort.{ActivePort}
+use Rattle.mst_rows.specs.Rows.{Row}
 use Rattle.mst_vlan.specs.Seen.{seen_member}
 use Rattle.mst_vlan.specs.declared.island.Island.{Island}
-use Rattle.mst_text.specs.VlanLines.{active_word, active_line, island_line}
+use Rattle.mst_text.specs.VlanRows.{island_row}
 
--- the word of an active port
-abbrev pub seen_word : Viewed → ℕ → PortInView → List ℕ
-seen_word v vid p = active_word (seen_member v vid p) p.name
+-- an active port, and whether it is a member of the VLAN
+abbrev pub seen_port : Viewed → ℕ → PortInView → ActivePort
+seen_port v vid p = record { port = p.name; is_member = seen_member v vid p }
 
--- the line of these active ports
-abbrev pub seen_active_line : Viewed → ℕ → List PortInView → List ℕ
-seen_active_line v vid ports = active_line (map (seen_word v vid) ports)
+-- the names of the bridge and of the logical LAN of this number, if there is one
+abbrev pub seen_bridge : Viewed → ℕ → Option (List ℕ)
+seen_bridge v bridge = option_map (λ b. b.name) (find (λ b. bridge == b.bridge.number) v.bridges)
 
--- the names of the bridge and of the logical LAN of this number
-abbrev pub seen_bridge : Viewed → ℕ → List ℕ
-seen_bridge v bridge = option_map_or (λ b. b.name) (find (λ b. bridge == b.bridge.number) v.bridges) []
+abbrev pub seen_lan : Viewed → ℕ → Option (List ℕ)
+seen_lan v lan = option_map (λ l. l.name) (find (λ l. lan == l.number) v.lans)
 
-abbrev pub seen_lan : Viewed → ℕ → List ℕ
-seen_lan v lan = option_map_or (λ l. l.name) (find (λ l. lan == l.number) v.lans) []
-
--- the line of an island by its numbers
-abbrev pub seen_island_line : Viewed → Island → List ℕ
-seen_island_line v island = island_line (map (seen_bridge v) island.bridges) (map (seen_lan v) island.lans)
+-- the row of an island by its numbers
+abbrev pub seen_island : Viewed → List (ℕ × ℕ) → Island → Row
+seen_island v runs island = island_row runs (filter_map (seen_bridge v) island.bridges) (filter_map (seen_lan v) island.lans)

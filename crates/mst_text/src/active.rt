@@ -1,67 +1,58 @@
-ghost use Rattle.std.specs.Prelude.{◌≡◌, ◌++◌, OnOk, map};
-ghost use Rattle.std.specs.List.{flat_map};
-ghost use Rattle.mst_ids.specs.Words.{after_space, listed};
-ghost use Rattle.mst_text.specs.VlanLines.{active_word};
-ghost use Rattle.mst_text.specs.VlanSeen.{seen_word, seen_active_line};
+ghost use Rattle.std.specs.Prelude.{◌≡◌, ◌++◌, ◌∷◌, [], List, IfOk, OnOk, map};
+ghost use Rattle.mst_ids.specs.Vids.{runs_from};
+ghost use Rattle.mst_rows.specs.Rows.{Row};
+ghost use Rattle.mst_text.specs.VlanRows.{active_row};
+ghost use Rattle.mst_text.specs.VlanSeen.{seen_port};
 
-use mst_ids::{PortName, Vid, push_bytes, push_end, push_word};
+use mst_ids::{Vid, VidSet};
+use mst_kinds::{Kind, VlanLine};
 use mst_lag::{PortInView, View};
+use mst_rows::{ActivePort, Rows, Value, put};
 use mst_vlan::is_member;
-use std::alloc::AllocError;
+use std::alloc::{AllocError, Global};
 
-/// Appends the line of the active ports of a VID.
-pub(crate) fn push_active(
+/// Puts the row of the active ports of a VID, under a heading of these VIDs.
+pub(crate) fn put_active<R: Rows>(
+    alloc: Global,
     view: &View,
     vid: Vid,
+    vids: &VidSet,
     ports: &[PortInView],
-    out: &mut Vec<u8>,
+    out: &mut R,
 ) -> Result<(), AllocError>
-    ensures { OnOk result (out.new.items ≡ out.old.items ++ seen_active_line view.now vid ports.now) }
+    ensures { (first : R) (rows : List Row) → R.grew first out.old rows → OnOk result (R.grew first out.new (rows ++ active_row (runs_from 0 vids.now) (map (seen_port view.now vid) ports.now) ∷ [])) }
 {
-    push_bytes(b"active", out)?;
-    push_ports(view, vid, ports, out)?;
-    push_end(out)
+    let ports = active_ports(alloc, view, vid, ports)?;
+    put_ports(vids, ports.as_slice(), out)
 }
 
-/// Appends these ports as words, or `-` where there is none.
-fn push_ports(
+/// These ports, each with whether it is a member.
+fn active_ports(
+    alloc: Global,
     view: &View,
     vid: Vid,
     ports: &[PortInView],
-    out: &mut Vec<u8>,
-) -> Result<(), AllocError>
-    ensures { OnOk result (out.new.items ≡ out.old.items ++ flat_map after_space (listed (map (seen_word view.now vid) ports.now))) }
+) -> Result<Vec<ActivePort>, AllocError>
+    ensures { IfOk result (λ active. active.items ≡ map (seen_port view.now vid) ports.now) }
 {
-    if ports.is_empty() {
-        return push_word(b"-", out);
-    }
+    let mut active = Vec::new(alloc);
     for port in ports {
-        push_active_port(view, vid, port, out)?;
+        active.push(ActivePort {
+            port: port.name,
+            is_member: is_member(view, port, vid),
+        })?;
     }
-    Ok(())
+    Ok(active)
 }
 
-/// Appends an active port as a word.
-fn push_active_port(
-    view: &View,
-    vid: Vid,
-    port: &PortInView,
-    out: &mut Vec<u8>,
+/// Puts the row of these active ports.
+fn put_ports<'a, R: Rows>(
+    vids: &'a VidSet,
+    ports: &'a [ActivePort],
+    out: &mut R,
 ) -> Result<(), AllocError>
-    ensures { OnOk result (out.new.items ≡ out.old.items ++ after_space (seen_word view.now vid port.now)) }
+    ensures { (first : R) (rows : List Row) → R.grew first out.old rows → OnOk result (R.grew first out.new (rows ++ active_row (runs_from 0 vids.now) ports.now ∷ [])) }
 {
-    push_bytes(b" ", out)?;
-    push_by_membership(&port.name, is_member(view, port, vid), out)
-}
-
-/// Appends the name of a port, in brackets where it isn't a member.
-fn push_by_membership(port: &PortName, is_member: bool, out: &mut Vec<u8>) -> Result<(), AllocError>
-    ensures { OnOk result (out.new.items ≡ out.old.items ++ active_word is_member port.now) }
-{
-    if is_member {
-        return port.push_text(out);
-    }
-    push_bytes(b"[", out)?;
-    port.push_text(out)?;
-    push_bytes(b"]", out)
+    let values = [Value::Vids(vids), Value::Active(ports)];
+    put::<R>(Kind::Vlan(VlanLine::Active), &values, out)
 }

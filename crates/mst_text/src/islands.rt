@@ -1,88 +1,87 @@
-ghost use Rattle.std.specs.Prelude.{◌≡◌, ◌++◌, OnOk, IfOk, map};
-ghost use Rattle.std.specs.List.{flat_map};
-ghost use Rattle.mst_text.specs.VlanSeen.{seen_bridge, seen_lan, seen_island_line};
+ghost use Rattle.std.specs.Prelude.{◌≡◌, ◌++◌, ◌∷◌, [], List, OnOk, IfOk, filter_map, map};
+ghost use Rattle.mst_ids.specs.Vids.{runs_from};
+ghost use Rattle.mst_rows.specs.Rows.{Row};
+ghost use Rattle.mst_text.specs.VlanRows.{island_row};
+ghost use Rattle.mst_text.specs.VlanSeen.{seen_bridge, seen_lan, seen_island};
 
-use mst_ids::{BridgeNo, LanNo, push_bytes, push_end, push_listed};
+use mst_ids::{BridgeNo, LanNo, Name, VidSet};
+use mst_kinds::{Kind, VlanLine};
 use mst_lag::View;
+use mst_rows::{Rows, Value, put};
 use mst_vlan::Island;
 use std::alloc::{AllocError, Global};
 
-/// Appends a line for each island.
-pub(crate) fn push_islands(
+/// Puts a row for each island, under a heading of these VIDs.
+pub(crate) fn put_islands<R: Rows>(
     alloc: Global,
     view: &View,
+    vids: &VidSet,
     islands: &[Island],
-    out: &mut Vec<u8>,
+    out: &mut R,
 ) -> Result<(), AllocError>
-    ensures { OnOk result (out.new.items ≡ out.old.items ++ flat_map (seen_island_line view.now) islands.now) }
+    ensures { (first : R) (rows : List Row) → R.grew first out.old rows → OnOk result (R.grew first out.new (rows ++ map (seen_island view.now (runs_from 0 vids.now)) islands.now)) }
 {
     for island in islands {
-        push_island(alloc, view, island, out)?;
+        put_island(alloc, view, vids, island, out)?;
     }
     Ok(())
 }
 
-/// Appends the line of an island: its bridges, and then its LANs.
-fn push_island(
+/// Puts the row of an island: its bridges, and then its LANs.
+fn put_island<R: Rows>(
     alloc: Global,
     view: &View,
+    vids: &VidSet,
     island: &Island,
-    out: &mut Vec<u8>,
+    out: &mut R,
 ) -> Result<(), AllocError>
-    ensures { OnOk result (out.new.items ≡ out.old.items ++ seen_island_line view.now island.now) }
+    ensures { (first : R) (rows : List Row) → R.grew first out.old rows → OnOk result (R.grew first out.new (rows ++ seen_island view.now (runs_from 0 vids.now) island.now ∷ [])) }
 {
     let bridges = bridge_names(alloc, view, island.bridges.as_slice())?;
     let lans = lan_names(alloc, view, island.lans.as_slice())?;
-    push_bytes(b"island bridges", out)?;
-    push_listed(bridges.as_slice(), out)?;
-    push_bytes(b" lans", out)?;
-    push_listed(lans.as_slice(), out)?;
-    push_end(out)
+    put_named(vids, bridges.as_slice(), lans.as_slice(), out)
 }
 
-/// The names of the bridges of these numbers, each empty where no bridge of the view has the number. `AllocError`:
-/// memory was wanted and refused.
-pub fn bridge_names<'a>(
+/// Puts the row of an island of these bridges and LANs.
+fn put_named<'a, R: Rows>(
+    vids: &'a VidSet,
+    bridges: &'a [Name],
+    lans: &'a [Name],
+    out: &mut R,
+) -> Result<(), AllocError>
+    ensures { (first : R) (rows : List Row) → R.grew first out.old rows → OnOk result (R.grew first out.new (rows ++ island_row (runs_from 0 vids.now) bridges.now lans.now ∷ [])) }
+{
+    let values = [Value::Vids(vids), Value::Names(bridges), Value::Names(lans)];
+    put::<R>(Kind::Vlan(VlanLine::Island), &values, out)
+}
+
+/// The names of the bridges of these numbers, those of which the view has one. `AllocError`: memory was wanted and
+/// refused.
+pub fn bridge_names(
     alloc: Global,
-    view: &'a View,
+    view: &View,
     bridges: &[BridgeNo],
-) -> Result<Vec<&'a [u8]>, AllocError>
-    ensures { IfOk result (λ names. map (λ name. name.now) names.items ≡ map (seen_bridge view.now) bridges.now) }
+) -> Result<Vec<Name>, AllocError>
+    ensures { IfOk result (λ names. names.items ≡ filter_map (seen_bridge view.now) bridges.now) }
 {
     let mut names = Vec::new(alloc);
     for bridge in bridges {
-        names.push(bridge_name(view, *bridge))?;
+        if let Some(bridge) = view.bridge(*bridge) {
+            names.push(bridge.name)?;
+        }
     }
     Ok(names)
 }
 
-/// The name of the bridge of this number.
-fn bridge_name(view: &View, bridge: BridgeNo) -> &[u8]
-    ensures { result.now ≡ seen_bridge view.now bridge }
-{
-    match view.bridge(bridge) {
-        None => &[],
-        Some(bridge) => bridge.name.as_bytes(),
-    }
-}
-
-/// The names of the logical LANs of these numbers.
-fn lan_names<'a>(alloc: Global, view: &'a View, lans: &[LanNo]) -> Result<Vec<&'a [u8]>, AllocError>
-    ensures { IfOk result (λ names. map (λ name. name.now) names.items ≡ map (seen_lan view.now) lans.now) }
+/// The names of the logical LANs of these numbers, those of which the view has one.
+fn lan_names(alloc: Global, view: &View, lans: &[LanNo]) -> Result<Vec<Name>, AllocError>
+    ensures { IfOk result (λ names. names.items ≡ filter_map (seen_lan view.now) lans.now) }
 {
     let mut names = Vec::new(alloc);
     for lan in lans {
-        names.push(lan_name(view, *lan))?;
+        if let Some(lan) = view.lan(*lan) {
+            names.push(lan.name)?;
+        }
     }
     Ok(names)
-}
-
-/// The name of the logical LAN of this number.
-fn lan_name(view: &View, lan: LanNo) -> &[u8]
-    ensures { result.now ≡ seen_lan view.now lan }
-{
-    match view.lan(lan) {
-        None => &[],
-        Some(lan) => lan.name.as_bytes(),
-    }
 }

@@ -1,103 +1,102 @@
-ghost use Rattle.std.specs.Prelude.{◌≡◌, ◌++◌, List, ℕ, OnOk};
-ghost use Rattle.std.specs.List.{flat_map};
+ghost use Rattle.std.specs.Prelude.{◌≡◌, ◌++◌, ◌∷◌, [], List, OnOk};
 ghost use Rattle.mst_net.specs.Tables.{Net, Numbers};
 ghost use Rattle.mst_lag.specs.Viewed.{IsView};
-ghost use Rattle.mst_ids.specs.Words.{after_comma, comma_list};
-ghost use Rattle.mst_text.specs.LagText.{lags_text};
-ghost use Rattle.mst_text.specs.LagView.{class_line, class_text, classes_text};
-ghost use Rattle.mst_text.specs.WordsByLan.{AreWords};
+ghost use Rattle.mst_rows.specs.Rows.{Row};
+ghost use Rattle.mst_text.specs.LagText.{lag_row, lags_rows};
+ghost use Rattle.mst_text.specs.LagView.{class_row, class_rows, classes_rows};
+ghost use Rattle.mst_text.specs.MembersByLan.{AreLanMembers};
 
-use crate::by_lan::{Words, kept_for, words_of};
-use itoa::Buffer;
-use mst_ids::push_line;
+use crate::by_lan::{LanMembers, kept_for, members_by_lan};
+use mst_ids::{Name, PortName};
+use mst_kinds::{Kind, RegionLine};
 use mst_lag::{LagId, LanInView, View, lag_text};
+use mst_rows::{Rows, Value, put};
 use std::alloc::{AllocError, Global};
 
-/// Appends the text of the classes of links, by the view of a network: for each class its identifier, its speed, its
+/// Puts the rows of the classes of links, by the view of a network: for each class its identifier, its speed, its
 /// members that are up, all its members and their ports, in byte order of names and by port number. The network alone
-/// settles the text.
+/// settles them.
 ///
 /// It goes over the logical LANs once, and over their members once for each of the three lists. `AllocError`: memory
-/// was wanted and refused; part of the text may have been appended.
-pub fn push_lags(alloc: Global, view: &View, out: &mut Vec<u8>) -> Result<(), AllocError>
-    ensures { (net : Net) (numbers : Numbers) → IsView net numbers view.now → OnOk result (out.new.items ≡ out.old.items ++ lags_text net) }
+/// was wanted and refused; some of the rows may have been put.
+pub fn put_lags<R: Rows>(alloc: Global, view: &View, out: &mut R) -> Result<(), AllocError>
+    ensures { (net : Net) (numbers : Numbers) → IsView net numbers view.now
+        → (first : R) (rows : List Row) → R.grew first out.old rows → OnOk result (R.grew first out.new (rows ++ lags_rows net)) }
 {
-    let words = words_of(alloc, view)?;
-    push_classes(alloc, view, &words, out)
+    let members = members_by_lan(alloc, view)?;
+    put_classes(alloc, view, &members, out)
 }
 
-/// Appends the lines of all classes of links.
-fn push_classes(
+/// Puts the rows of all classes of links.
+fn put_classes<R: Rows>(
     alloc: Global,
     view: &View,
-    words: &Words,
-    out: &mut Vec<u8>,
+    members: &LanMembers,
+    out: &mut R,
 ) -> Result<(), AllocError>
-    requires { AreWords view.now words.now }
-    ensures { OnOk result (out.new.items ≡ out.old.items ++ classes_text view.now) }
+    requires { AreLanMembers view.now members.now }
+    ensures { (first : R) (rows : List Row) → R.grew first out.old rows → OnOk result (R.grew first out.new (rows ++ classes_rows view.now)) }
 {
     for lan in view.lans() {
-        push_class(alloc, view, words, lan, out)?;
+        put_class(alloc, view, members, lan, out)?;
     }
     Ok(())
 }
 
-/// Appends the line of a logical LAN, where its members are aggregatable.
-fn push_class(
+/// Puts the row of a logical LAN, where its members are aggregatable.
+fn put_class<R: Rows>(
     alloc: Global,
     view: &View,
-    words: &Words,
+    members: &LanMembers,
     lan: &LanInView,
-    out: &mut Vec<u8>,
+    out: &mut R,
 ) -> Result<(), AllocError>
-    requires { AreWords view.now words.now }
-    ensures { OnOk result (out.new.items ≡ out.old.items ++ class_text view.now lan.now) }
+    requires { AreLanMembers view.now members.now }
+    ensures { (first : R) (rows : List Row) → R.grew first out.old rows → OnOk result (R.grew first out.new (rows ++ class_rows view.now lan.now)) }
 {
     match lan.lag {
         None => Ok(()),
-        Some(id) => push_class_line(alloc, view, words, lan, &id, out),
+        Some(id) => put_class_row(alloc, view, members, lan, &id, out),
     }
 }
 
-/// Appends the line of a class of links: its identifier, its speed, its members and their ports.
-fn push_class_line(
+/// Puts the row of a class of links: its identifier, its speed, its members and their ports.
+fn put_class_row<R: Rows>(
     alloc: Global,
     view: &View,
-    words: &Words,
+    members: &LanMembers,
     lan: &LanInView,
     id: &LagId,
-    out: &mut Vec<u8>,
+    out: &mut R,
 ) -> Result<(), AllocError>
-    requires { AreWords view.now words.now }
-    ensures { OnOk result (out.new.items ≡ out.old.items ++ class_line view.now lan.now id.now) }
+    requires { AreLanMembers view.now members.now }
+    ensures { (first : R) (rows : List Row) → R.grew first out.old rows → OnOk result (R.grew first out.new (rows ++ class_row view.now lan.now id.now ∷ [])) }
 {
     let id = lag_text(alloc, id)?;
-    let up = between_commas(kept_for(&words.up, &lan.name));
-    let lans = between_commas(kept_for(&words.lans, &lan.name));
-    let ports = between_commas(kept_for(&words.ports, &lan.name));
-    let mut speed = Buffer::new();
-    let words: [&[u8]; 11] = [
-        b"lag",
-        lan.name.as_bytes(),
-        id.as_slice(),
-        b"speed",
-        speed.format(lan.speed).as_bytes(),
-        b"up",
-        up,
-        b"lans",
-        lans,
-        b"ports",
-        ports,
-    ];
-    push_line(&words, out)
+    let up = kept_for(&members.up, &lan.name);
+    let lans = kept_for(&members.lans, &lan.name);
+    let ports = kept_for(&members.ports, &lan.name);
+    put_members(lan, id.as_slice(), up, lans, ports, out)
 }
 
-/// Of words, each after a `,`, the words with `,` between two of them, or `-` where there is none.
-fn between_commas(words: &[u8]) -> &[u8]
-    ensures { (list : List (List ℕ)) → words.now ≡ flat_map after_comma list → result.now ≡ comma_list list }
+/// Puts the row of a class of links by the text of its identifier and these members.
+fn put_members<'a, R: Rows>(
+    lan: &'a LanInView,
+    id: &'a [u8],
+    up: &'a [Name],
+    lans: &'a [Name],
+    ports: &'a [PortName],
+    out: &mut R,
+) -> Result<(), AllocError>
+    ensures { (first : R) (rows : List Row) → R.grew first out.old rows → OnOk result (R.grew first out.new (rows ++ lag_row lan.now.name id.now lan.now.speed up.now lans.now ports.now ∷ [])) }
 {
-    match words {
-        [] => b"-",
-        [_, rest @ ..] => rest,
-    }
+    let values = [
+        Value::Name(&lan.name),
+        Value::Word(id),
+        Value::Number(lan.speed),
+        Value::Names(up),
+        Value::Names(lans),
+        Value::Ports(ports),
+    ];
+    put::<R>(Kind::Region(RegionLine::Lag), &values, out)
 }

@@ -1,23 +1,24 @@
-//! Laws of the text of a VID. Their functions do nothing: a caller has their clauses.
+//! Laws of the rows of a VID. Their functions do nothing: a caller has their clauses.
 ghost use Rattle.std.specs.Prelude.{◌≡◌, ℕ, List};
 ghost use Rattle.mst_net.specs.Tables.{Net, IsNetwork};
 ghost use Rattle.mst_vlan.specs.trees.Outcome.{Outcome};
-ghost use Rattle.mst_text.specs.VlanText.{IsBody, IsVlanText};
+ghost use Rattle.mst_rows.specs.Rows.{Row};
+ghost use Rattle.mst_text.specs.VlanText.{AreBodyRows, AreVlanRows};
 
 use mst_vlan::laws::islands_of_vid;
 
-/// In each network a VID has a text, and so a body.
-pub fn has_text()
-    ensures body { (net : Net) (o : Outcome) (vid : ℕ) → IsNetwork net → (body : List ℕ) × IsBody net o vid body }
-    ensures text { (net : Net) (o : Outcome) (vid : ℕ) → IsNetwork net → (text : List ℕ) × IsVlanText net o vid text }
+/// In each network a VID has rows, and a body under each heading.
+pub fn has_rows()
+    ensures body { (net : Net) (o : Outcome) (vid : ℕ) (runs : List (ℕ × ℕ)) → IsNetwork net → (body : List Row) × AreBodyRows net o vid runs body }
+    ensures vlan { (net : Net) (o : Outcome) (vid : ℕ) → IsNetwork net → (rows : List Row) × AreVlanRows net o vid rows }
 {
     islands_of_vid();
 }
 
-/// And it has one only.
-pub fn one_text()
-    ensures body { (net : Net) (o : Outcome) (vid : ℕ) (body other : List ℕ) → IsBody net o vid body → IsBody net o vid other → body ≡ other }
-    ensures text { (net : Net) (o : Outcome) (vid : ℕ) (text other : List ℕ) → IsVlanText net o vid text → IsVlanText net o vid other → text ≡ other }
+/// And it has them only.
+pub fn one_rows()
+    ensures body { (net : Net) (o : Outcome) (vid : ℕ) (runs : List (ℕ × ℕ)) (body other : List Row) → AreBodyRows net o vid runs body → AreBodyRows net o vid runs other → body ≡ other }
+    ensures vlan { (net : Net) (o : Outcome) (vid : ℕ) (rows other : List Row) → AreVlanRows net o vid rows → AreVlanRows net o vid other → rows ≡ other }
 {
     islands_of_vid();
 }

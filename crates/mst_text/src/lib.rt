@@ -1,19 +1,25 @@
-//! The texts of a network, one each: of a tree, of a VID, of the classes of links, of regions, and of the MST configuration of
-//! a bridge (802.1Q-2022, 13.8).
+//! What is told of a network: of a tree, of a VID, of the classes of links, of regions, and of the MST configuration of a
+//! bridge (802.1Q-2022, 13.8).
 //!
-//! | Text | Function | Definition |
+//! Each is told as rows, which a printer takes (see `mst_rows`).
+//!
+//! | What | Function | Definition |
 //! |---|---|---|
-//! | a tree: root priority vectors of its bridges, roles of their logical ports | [`push_tree`] | `specs/TreeText.antt` |
-//! | a VID: its active ports, and the islands that frames of it reach | [`push_vlan`] | `specs/VlanText.antt` |
-//! | which LANs count as one, and their ports | [`push_lags`] | `specs/LagText.antt` |
-//! | an MST configuration | [`push_configuration`] | `specs/ConfigurationText.antt` |
-//! | the regions and their bridges | [`push_regions`] | `specs/RegionsText.antt` |
+//! | a tree: root priority vectors of its bridges, roles of their logical ports | [`put_tree`] | `specs/TreeText.antt` |
+//! | a VID: its active ports, and the islands that frames of it reach | [`put_vlan`] | `specs/VlanText.antt` |
+//! | which LANs count as one, and their ports | [`put_lags`] | `specs/LagText.antt` |
+//! | an MST configuration | [`put_configuration`] | `specs/ConfigurationText.antt` |
+//! | the regions and their bridges | [`put_regions`] | `specs/RegionsText.antt` |
+//!
+//! Beside the identifiers of a tree's bridges stand the names of the bridges that have their MAC addresses ([`Holders`],
+//! `specs/Holders.antt`).
 #![tactic(auto)]
 
 mod active;
 mod by_lan;
 mod configuration;
 mod digits;
+mod holders;
 mod islands;
 mod lags;
 pub mod laws;
@@ -24,14 +30,15 @@ mod tree_bridge;
 mod tree_port;
 mod vlan_text;
 
-pub use configuration::push_configuration;
+pub use configuration::put_configuration;
+pub use holders::Holders;
 pub use islands::bridge_names;
-pub use lags::push_lags;
+pub use lags::put_lags;
 pub use mst_vlan::{
-    Forest, Island, Role, Settled, bridge_id, forwards, has_tree, is_had, is_member,
+    Forest, Island, Role, Settled, active_ports, bridge_id, forwards, has_tree, is_had, is_member,
     laws as vlan_laws, mstis_in_use, port_forwards, port_role, reach, role, trees_in_use,
     trees_laws,
 };
-pub use regions::push_regions;
-pub use tree::push_tree;
-pub use vlan_text::{push_body, push_vlan};
+pub use regions::put_regions;
+pub use tree::{put_tree, put_tree_with};
+pub use vlan_text::{put_body, put_heading, put_vlan};

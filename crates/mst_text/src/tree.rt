@@ -1,50 +1,80 @@
-ghost use Rattle.std.specs.Prelude.{◌≡◌, ◌++◌, OnOk};
+ghost use Rattle.std.specs.Prelude.{◌≡◌, ◌++◌, ◌∷◌, [], List, OnOk};
 ghost use Rattle.std.specs.List.{AllByRecursion, Contains, flat_map};
+ghost use Rattle.mst_rows.specs.Rows.{Row};
 ghost use Rattle.mst_vlan.specs.trees.Settled.{outcome_of};
-ghost use Rattle.mst_text.specs.TreeLines.{heading};
+ghost use Rattle.mst_text.specs.Held.{AreHolders};
+ghost use Rattle.mst_text.specs.TreeRows.{heading};
 ghost use Rattle.mst_text.specs.TreeRuns.{run_of, bridge_with, by_runs, port_of};
-ghost use Rattle.mst_text.specs.TreeText.{tree_text};
+ghost use Rattle.mst_text.specs.TreeText.{tree_rows};
 
-use crate::tree_bridge::push_own_line;
-use crate::tree_port::push_port;
-use itoa::Buffer;
-use mst_ids::{Name, Tree, push_line};
+use crate::holders::Holders;
+use crate::tree_bridge::put_own_row;
+use crate::tree_port::put_port;
+use mst_ids::{Name, Tree};
+use mst_kinds::{Kind, TreeLine};
 use mst_lag::{BridgeInView, PortInView};
+use mst_rows::{Rows, Value, put};
 use mst_vlan::Settled;
-use std::alloc::AllocError;
+use std::alloc::{AllocError, Global};
 
-/// Appends the text of a tree of a settled network: a heading, then for each bridge that has the tree, in byte order of
-/// names, its root priority vector, and the roles of its logical ports by number. Of a tree that no bridge has it is the
-/// heading alone.
+/// Puts the rows of a tree of a settled network: a heading, then for each bridge that has the tree, in byte order of
+/// names, its root priority vector with the names of the bridges in it, and the roles of its logical ports by number. Of
+/// a tree that no bridge has it is the heading alone.
 ///
-/// It goes over the bridges and the ports once. `AllocError`: memory was wanted and refused; part of the text may have
-/// been appended.
-pub fn push_tree(plan: &Settled, tree: Tree, out: &mut Vec<u8>) -> Result<(), AllocError>
-    ensures { OnOk result (out.new.items ≡ out.old.items ++ tree_text plan.now.net (outcome_of plan.now) tree) }
+/// It goes over the bridges twice and the ports once. `AllocError`: memory was wanted and refused; some of the rows may
+/// have been put.
+pub fn put_tree<R: Rows>(
+    alloc: Global,
+    plan: &Settled,
+    tree: Tree,
+    out: &mut R,
+) -> Result<(), AllocError>
+    ensures { (first : R) (rows : List Row) → R.grew first out.old rows → OnOk result (R.grew first out.new (rows ++ tree_rows plan.now.net (outcome_of plan.now) tree)) }
+{
+    let holders = Holders::of(alloc, plan)?;
+    put_tree_with(plan, &holders, tree, out)
+}
+
+/// Puts the rows of a tree as [`put_tree`] does, where the names of bridges by their MAC addresses are made already. It
+/// goes over the bridges and the ports once.
+pub fn put_tree_with<R: Rows>(
+    plan: &Settled,
+    holders: &Holders,
+    tree: Tree,
+    out: &mut R,
+) -> Result<(), AllocError>
+    requires { AreHolders plan.now.net holders.now }
+    ensures { (first : R) (rows : List Row) → R.grew first out.old rows → OnOk result (R.grew first out.new (rows ++ tree_rows plan.now.net (outcome_of plan.now) tree)) }
 {
     plan.known();
-    push_heading(tree, out)?;
-    push_bridges(plan, tree, out)
+    put_heading(tree, out)?;
+    put_bridges(plan, holders, tree, out)
 }
 
-/// Appends the heading of a tree's text.
-fn push_heading(tree: Tree, out: &mut Vec<u8>) -> Result<(), AllocError>
-    ensures { OnOk result (out.new.items ≡ out.old.items ++ heading tree) }
+/// Puts the heading of a tree.
+fn put_heading<R: Rows>(tree: Tree, out: &mut R) -> Result<(), AllocError>
+    ensures { (first : R) (rows : List Row) → R.grew first out.old rows → OnOk result (R.grew first out.new (rows ++ heading tree ∷ [])) }
 {
-    let mut number = Buffer::new();
-    let words: [&[u8]; 2] = [b"tree", number.format(tree.value()).as_bytes()];
-    push_line(&words, out)
+    let values = [Value::Number(u64::from(tree.value()))];
+    put::<R>(Kind::Tree(TreeLine::Heading), &values, out)
 }
 
-/// Appends the lines of the bridges that have the tree. The ports of a bridge are a run of the view's ports, since
+/// Puts the rows of the bridges that have the tree. The ports of a bridge are a run of the view's ports, since
 /// these come by the names of their bridges.
-fn push_bridges(plan: &Settled, tree: Tree, out: &mut Vec<u8>) -> Result<(), AllocError>
-    ensures { OnOk result (out.new.items ≡ out.old.items ++ by_runs (bridge_with plan.now tree) plan.now.view.bridges plan.now.view.ports) }
+fn put_bridges<R: Rows>(
+    plan: &Settled,
+    holders: &Holders,
+    tree: Tree,
+    out: &mut R,
+) -> Result<(), AllocError>
+    requires { AreHolders plan.now.net holders.now }
+    ensures { (first : R) (rows : List Row) → R.grew first out.old rows
+        → OnOk result (R.grew first out.new (rows ++ by_runs (bridge_with plan.now tree) plan.now.view.bridges plan.now.view.ports)) }
 {
     let mut rest = plan.view().ports();
     for bridge in plan.view().bridges() {
         let (own, others) = rest.split_at(run(&bridge.name, rest));
-        push_bridge(plan, tree, bridge, own, out)?;
+        put_bridge(plan, holders, tree, bridge, own, out)?;
         rest = others;
     }
     Ok(())
@@ -60,37 +90,39 @@ fn run(bridge: &Name, ports: &[PortInView]) -> usize
         .count()
 }
 
-/// Appends the lines of a bridge and of these ports, if the bridge has the tree.
-fn push_bridge(
+/// Puts the rows of a bridge and of these ports, if the bridge has the tree.
+fn put_bridge<R: Rows>(
     plan: &Settled,
+    holders: &Holders,
     tree: Tree,
     bridge: &BridgeInView,
     ports: &[PortInView],
-    out: &mut Vec<u8>,
+    out: &mut R,
 ) -> Result<(), AllocError>
+    requires holders { AreHolders plan.now.net holders.now }
     requires bridge { Contains plan.now.view.bridges bridge.now }
     requires ports { AllByRecursion (Contains plan.now.view.ports) ports.now }
-    ensures { OnOk result (out.new.items ≡ out.old.items ++ bridge_with plan.now tree bridge.now ports.now) }
+    ensures { (first : R) (rows : List Row) → R.grew first out.old rows → OnOk result (R.grew first out.new (rows ++ bridge_with plan.now tree bridge.now ports.now)) }
 {
     if !plan.has_tree(tree, bridge) {
         return Ok(());
     }
-    push_own_line(plan, tree, bridge, out)?;
-    push_ports(plan, tree, ports, out)
+    put_own_row(plan, holders, tree, bridge, out)?;
+    put_ports(plan, tree, ports, out)
 }
 
-/// Appends the lines of these ports.
-fn push_ports(
+/// Puts the rows of these ports.
+fn put_ports<R: Rows>(
     plan: &Settled,
     tree: Tree,
     ports: &[PortInView],
-    out: &mut Vec<u8>,
+    out: &mut R,
 ) -> Result<(), AllocError>
     requires { AllByRecursion (Contains plan.now.view.ports) ports.now }
-    ensures { OnOk result (out.new.items ≡ out.old.items ++ flat_map (port_of plan.now tree) ports.now) }
+    ensures { (first : R) (rows : List Row) → R.grew first out.old rows → OnOk result (R.grew first out.new (rows ++ flat_map (port_of plan.now tree) ports.now)) }
 {
     for port in ports {
-        push_port(plan, tree, port, out)?;
+        put_port(plan, tree, port, out)?;
     }
     Ok(())
 }

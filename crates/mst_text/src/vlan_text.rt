@@ -1,57 +1,73 @@
-ghost use Rattle.std.specs.Prelude.{◌≡◌, ℕ, List, ◌++◌, OnOk};
+ghost use Rattle.std.specs.Prelude.{◌≡◌, ℕ, List, ◌++◌, ◌∷◌, [], OnOk};
+ghost use Rattle.mst_ids.specs.Vids.{runs_from};
+ghost use Rattle.mst_rows.specs.Rows.{Row};
 ghost use Rattle.mst_vlan.specs.trees.Settled.{outcome_of};
-ghost use Rattle.mst_text.specs.VlanLines.{heading};
-ghost use Rattle.mst_text.specs.VlanText.{IsBody, IsVlanText};
+ghost use Rattle.mst_text.specs.VlanRows.{heading};
+ghost use Rattle.mst_text.specs.VlanText.{AreBodyRows, AreVlanRows, alone as vid_alone};
 
-use crate::active::push_active;
-use crate::islands::push_islands;
-use itoa::Buffer;
-use mst_ids::{Vid, push_line};
+use crate::active::put_active;
+use crate::islands::put_islands;
+use mst_ids::{Vid, VidSet};
+use mst_kinds::{Kind, VlanLine};
+use mst_rows::{Rows, Value, put};
 use mst_vlan::{Settled, active_ports, reach_from};
 use std::alloc::{AllocError, Global};
 
-/// Appends the text of a VID: a heading, and then its body.
+/// Puts the rows of a VID: a heading, and then its body.
 ///
-/// For n ports it takes about n log n steps. `AllocError`: memory was wanted and refused; part of the text may have
-/// been appended.
-pub fn push_vlan(
+/// For n ports it takes about n log n steps. `AllocError`: memory was wanted and refused; some of the rows may have
+/// been put.
+pub fn put_vlan<R: Rows>(
     alloc: Global,
     plan: &Settled,
     vid: Vid,
-    out: &mut Vec<u8>,
+    out: &mut R,
 ) -> Result<(), AllocError>
-    ensures { OnOk result ((text : List ℕ) × IsVlanText plan.now.net (outcome_of plan.now) vid text × (out.new.items ≡ out.old.items ++ text)) }
+    ensures { (first : R) (rows : List Row) → R.grew first out.old rows
+        → OnOk result ((own : List Row) × AreVlanRows plan.now.net (outcome_of plan.now) vid own × R.grew first out.new (rows ++ own)) }
 {
-    push_heading(vid, out)?;
-    push_body(alloc, plan, vid, out)
+    let vids = alone(vid);
+    put_heading(&vids, out)?;
+    put_body(alloc, plan, vid, &vids, out)
 }
 
-/// Appends the heading of a VID's text.
-fn push_heading(vid: Vid, out: &mut Vec<u8>) -> Result<(), AllocError>
-    ensures { OnOk result (out.new.items ≡ out.old.items ++ heading vid) }
+/// Puts the heading of these VIDs.
+pub fn put_heading<R: Rows>(vids: &VidSet, out: &mut R) -> Result<(), AllocError>
+    ensures { (first : R) (rows : List Row) → R.grew first out.old rows → OnOk result (R.grew first out.new (rows ++ heading (runs_from 0 vids.now) ∷ [])) }
 {
-    let mut number = Buffer::new();
-    let words: [&[u8]; 2] = [b"vlan", number.format(vid.value()).as_bytes()];
-    push_line(&words, out)
+    let values = [Value::Vids(vids)];
+    put::<R>(Kind::Vlan(VlanLine::Heading), &values, out)
 }
 
-/// Appends the body of a VID's text: its active ports, those that aren't members of its VLAN in brackets, and then its
-/// islands, each with its bridges and its LANs.
+/// Puts the rows of the body of a VID, under a heading of these VIDs: its active ports, those that aren't members of its
+/// VLAN in brackets, and then its islands, each with its bridges and its LANs.
 ///
-/// For n ports it takes about n log n steps. `AllocError`: memory was wanted and refused; part of the body may have
-/// been appended.
-pub fn push_body(
+/// For n ports it takes about n log n steps. `AllocError`: memory was wanted and refused; some of the rows may have
+/// been put.
+pub fn put_body<R: Rows>(
     alloc: Global,
     plan: &Settled,
     vid: Vid,
-    out: &mut Vec<u8>,
+    vids: &VidSet,
+    out: &mut R,
 ) -> Result<(), AllocError>
-    ensures { OnOk result ((body : List ℕ) × IsBody plan.now.net (outcome_of plan.now) vid body × (out.new.items ≡ out.old.items ++ body)) }
+    ensures { (first : R) (rows : List Row) → R.grew first out.old rows
+        → OnOk result ((own : List Row) × AreBodyRows plan.now.net (outcome_of plan.now) vid (runs_from 0 vids.now) own × R.grew first out.new (rows ++ own)) }
 {
     plan.known();
     let view = plan.view();
     let ports = active_ports(alloc, plan, vid)?;
-    push_active(view, vid, ports.as_slice(), out)?;
+    put_active(alloc, view, vid, vids, ports.as_slice(), out)?;
     let islands = reach_from(alloc, plan, ports.as_slice(), vid)?;
-    push_islands(alloc, view, islands.as_slice(), out)
+    put_islands(alloc, view, vids, islands.as_slice(), out)
+}
+
+/// The set of this VID alone.
+fn alone(vid: Vid) -> VidSet
+    ensures { runs_from 0 result ≡ vid_alone vid }
+{
+    let _number = vid.value();
+    let mut vids = VidSet::none();
+    vids.insert(vid);
+    vids
 }

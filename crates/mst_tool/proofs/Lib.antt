@@ -1,3 +1,5 @@
+pub mod Plain
+pub mod Shown
 pub mod WholeCheck
 pub mod WholeLoad
 pub mod WholeDiff

@@ -1,5 +1,5 @@
 -- What telling the networks of two scripts apart has printed, by what serving each script has.
-use Rattle.std.proofs.Common.{◌≡◌, ℕ, List, [], Option, None, codes, refl, sym, subst, arith, append-nil}
+use Rattle.std.proofs.Common.{◌≡◌, ℕ, List, [], Option, None, refl, sym, subst, arith, append-nil}
 use Rattle.std.specs.Io.KnownBytes.{Appends}
 use Rattle.std.specs.Option.{unwrap_or}
 use Rattle.std.proofs.KnownBytes.{Appends-trans}
@@ -19,7 +19,9 @@ use Rattle.mst_engine.specs.declared.engine.Input.TheVariants.{Network}
 use Rattle.mst_print.specs.declared.form.Form.{Form}
 use Rattle.mst_print.specs.declared.form.Shape.{Shape}
 use Rattle.mst_io.proofs.Known.{AppendsFront-after, AppendsFront-longer}
-use Rattle.mst_print.proofs.Shown.{is_shown, one_shown}
+use Rattle.mst_rows.specs.Rows.{Row}
+use Rattle.mst_tool.specs.Shown.{diff_row}
+use Rattle.mst_tool.proofs.Shown.{one_shown}
 use Rattle.mst_tool.proofs.WholeCheck.{reads_all}
 use Rattle.mst_tool.proofs.WholeLoad.{OneLoad, LoadsStates}
 
@@ -29,17 +31,17 @@ HasLoad = (shape : Shape) (script : List ℕ) → (steps : List Step) × LoadsAl
 
 -- two networks differ in one way
 abbrev pub OneDifference : Type 0
-OneDifference = (old new : Net) (c d : Differing) (text other : List ℕ) → IsNetwork old → IsNetwork new → Differs old new c text → Differs old new d other → (text ≡ other) × (c ≡ d)
+OneDifference = (old new : Net) (c d : Differing) (rows other : List Row) → IsNetwork old → IsNetwork new → Differs old new c rows → Differs old new d other → (rows ≡ other) × (c ≡ d)
 
 -- and there is one
 abbrev pub SomeDifference : Type 0
-SomeDifference = (old new : Net) → IsNetwork old → IsNetwork new → (counts : Differing) × (text : List ℕ) × Differs old new counts text
+SomeDifference = (old new : Net) → IsNetwork old → IsNetwork new → (counts : Differing) × (rows : List Row) × Differs old new counts rows
 
 -- what tells how two networks differ, and what shows it
-pub difference_shown : (form : Form) (old new settled_old settled_new : Net) (counts : Differing) (text printed : List ℕ) → settled_old ≡ old → settled_new ≡ new → Differs settled_old settled_new counts text → printed ≡ shown form None (codes "diff") text
+pub difference_shown : (form : Form) (old new settled_old settled_new : Net) (counts : Differing) (rows : List Row) (printed : List ℕ) → settled_old ≡ old → settled_new ≡ new → Differs settled_old settled_new counts rows → printed ≡ shown form None diff_row rows
     → TellsDifference form old new counts printed
-difference_shown form old new settled_old settled_new counts text printed same_old same_new h e =
-    is_shown form (codes "diff") (Differs old new counts) text printed (subst (λ net. Differs old net counts text) same_new (subst (λ net. Differs net settled_new counts text) same_old h)) e
+difference_shown form old new settled_old settled_new counts rows printed same_old same_new h e =
+    (rows, subst (λ net. Differs old net counts rows) same_new (subst (λ net. Differs net settled_new counts rows) same_old h), e)
 
 -- both scripts, each with no other steps that lack memory at the same lines
 abbrev both_of : OneLoad → (form : Form) (olds news : Option (List ℕ)) (old new : List ℕ) (old_steps new_steps : List Step) → Reads olds old → Reads news new → LoadsAll (of_old form) (lines_of old) old_steps → LoadsAll (of_new form) (lines_of new) new_steps
@@ -57,13 +59,13 @@ both_of one form olds news old new old_steps new_steps old_read new_read old_loa
   only_new = λ others loads. one (of_new form) (lines_of new) others new_steps loads new_loads;
 }
 
--- how their networks differ is one text
+-- how their networks differ is told in one way
 one_told : OneDifference → LoadsStates → (form : Form) (olds news : Option (List ℕ)) (both : LoadsBoth form olds news) (counts : Differing) (text : List ℕ) → TellsDifference form (old_net both) (new_net both) counts text
     → (also : Differing) (other : List ℕ) → TellsDifference form (old_net both) (new_net both) also other → (also ≡ counts) × (other ≡ text)
 one_told one_difference states form olds news both counts text told also other k =
     let old = states (of_old form) (lines_of both.old) both.old_steps both.old_loads in
     let new = states (of_new form) (lines_of both.new) both.new_steps both.new_loads in
-    let same = one_shown form (codes "diff") (Differs (old_net both) (new_net both) counts) (Differs (old_net both) (new_net both) also) (counts ≡ also)
+    let same = one_shown form diff_row (Differs (old_net both) (new_net both) counts) (Differs (old_net both) (new_net both) also) (counts ≡ also)
     (λ a b p q. one_difference (old_net both) (new_net both) counts also a b old.network new.network p q) text other told k in
     (sym same.1, sym same.0)
 
@@ -73,8 +75,8 @@ whole_front some one_difference states form olds news written now both front =
     let old = states (of_old form) (lines_of both.old) both.old_steps both.old_loads in
     let new = states (of_new form) (lines_of both.new) both.new_steps both.new_loads in
     let differs = some (old_net both) (new_net both) old.network new.network in
-    let text = shown form None (codes "diff") differs.1 in
-    let told : TellsDifference form (old_net both) (new_net both) differs.0 text = is_shown form (codes "diff") (Differs (old_net both) (new_net both) differs.0) differs.1 text differs.2 refl in
+    let text = shown form None diff_row differs.1 in
+    let told : TellsDifference form (old_net both) (new_net both) differs.0 text = (differs.1, differs.2, refl) in
     record {
       both = both;
       counts = differs.0;

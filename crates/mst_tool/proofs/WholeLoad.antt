@@ -1,5 +1,5 @@
 -- What asking the network of a script has printed, by what serving the script has.
-use Rattle.std.proofs.Common.{◌≡◌, ℕ, ◌+◌, List, [], Option, None, Some, codes, refl, sym, ap, subst, ◌∙◌, arith, append-nil, inr}
+use Rattle.std.proofs.Common.{◌≡◌, ℕ, ◌+◌, List, [], Option, None, Some, refl, sym, ap, subst, ◌∙◌, arith, append-nil, inr}
 use Rattle.std.specs.Io.KnownBytes.{Appends}
 use Rattle.std.proofs.KnownBytes.{Appends-trans}
 use Rattle.mst_ids.specs.declared.name.PortName.{PortName}
@@ -13,7 +13,10 @@ use Rattle.mst_engine.specs.report.Summarizing.{Summarizes}
 use Rattle.mst_engine.specs.report.Sweeping.{SweepsPart}
 use Rattle.mst_engine.specs.report.declared.explaining.Unexplained.{Unexplained}
 use Rattle.mst_engine.specs.sweep.SweepParts.{PartOf}
-use Rattle.mst_tool.specs.Ask.{Told, given, swept, Tells, IsAnswer, Asks, AsksFront, counted_with}
+use Rattle.mst_engine.specs.report.Explaining as unexplained
+use Rattle.mst_rows.specs.Rows.{Row}
+use Rattle.mst_tool.specs.Ask.{Told, given, not_given, swept, unexplained_in, Tells, IsAnswer, Asks, AsksFront, counted_with}
+use Rattle.mst_tool.specs.Shown.{explain_row, pairs_row, summary_row, sweep_row}
 use Rattle.mst_engine.specs.Engine.{Tally, outcome_of}
 use Rattle.mst_tool.specs.Load.{LoadsFront, LoadsEnded, LoadsScript}
 use Rattle.mst_engine.specs.Script.{LoadsAll, version_of, loading}
@@ -29,7 +32,7 @@ use Rattle.mst_print.specs.declared.form.Form.{Form}
 use Rattle.mst_print.specs.declared.form.Shape.{Shape}
 use Rattle.mst_io.proofs.Known.{AppendsFront-after}
 use Rattle.mst_engine.proofs.OneRun.{none_differ}
-use Rattle.mst_print.proofs.Shown.{is_shown, one_shown, same_shown}
+use Rattle.mst_tool.proofs.Shown.{one_shown, same_shown}
 
 -- a script loads in one way by the lines that lack memory
 abbrev pub OneLoad : Type 0
@@ -39,21 +42,21 @@ OneLoad = (shape : Shape) (lines : List (List ℕ)) (a b : List Step) → LoadsA
 abbrev pub LoadsStates : Type 0
 LoadsStates = (shape : Shape) (lines : List (List ℕ)) (steps : List Step) → LoadsAll shape lines steps → IsState (left_by empty_state steps)
 
--- a port has one explanation
+-- a port is explained in one way
 abbrev pub OneExplanation : Type 0
-OneExplanation = (net : Net) (name : PortName) (tree : Option ℕ) (text other : List ℕ) → IsNetwork net → Explains net name tree text → Explains net name tree other → text ≡ other
+OneExplanation = (net : Net) (name : PortName) (tree : Option ℕ) (rows other : List Row) → IsNetwork net → Explains net name tree rows → Explains net name tree other → rows ≡ other
 
--- and what single failures of a part do is one text
+-- and what single failures of a part do is told in one way
 abbrev pub OneSweep : Type 0
-OneSweep = (net : Net) (part : PartOf) (text other : List ℕ) (c d : ℕ) → IsNetwork net → SweepsPart part net c text → SweepsPart part net d other → (text ≡ other) × (c ≡ d)
+OneSweep = (net : Net) (part : PartOf) (rows other : List Row) (c d : ℕ) → IsNetwork net → SweepsPart part net c rows → SweepsPart part net d other → (rows ≡ other) × (c ≡ d)
 
 -- and what pairs of failures of a part do
 abbrev pub OnePairs : Type 0
-OnePairs = (net : Net) (part : PartOf) (text other : List ℕ) (c d : ℕ) → IsNetwork net → SweepsPairs part net c text → SweepsPairs part net d other → (text ≡ other) × (c ≡ d)
+OnePairs = (net : Net) (part : PartOf) (rows other : List Row) (c d : ℕ) → IsNetwork net → SweepsPairs part net c rows → SweepsPairs part net d other → (rows ≡ other) × (c ≡ d)
 
 -- and the summary is one
 abbrev pub OneSummary : Type 0
-OneSummary = (net : Net) (text other : List ℕ) → IsNetwork net → Summarizes net text → Summarizes net other → text ≡ other
+OneSummary = (net : Net) (rows other : List Row) → IsNetwork net → Summarizes net rows → Summarizes net other → rows ≡ other
 
 -- and so is the picture with a tree
 abbrev pub OnePicture : Type 0
@@ -63,43 +66,42 @@ OnePicture = (net : Net) (tree : ℕ) (text other : List ℕ) → IsNetwork net 
 one_answer : OneExplanation → OneSweep → OnePairs → OneSummary → OnePicture → (form : Form) (net : Net) (question : Question) (x y : Told) (a b : List ℕ) → IsNetwork net → IsAnswer form net question x a → IsAnswer form net question y b → (y ≡ x) × (b ≡ a)
 one_answer one sweep pairs summary picture form net (Unread f) x y a b is h k = (k.0 ∙ sym h.0, k.1 ∙ sym h.1)
 one_answer one sweep pairs summary picture form net (Sweep part) x y a b is h k =
-    let same = one_shown form (codes "sweep") (SweepsPart part net k.0) (SweepsPart part net h.0) (k.0 ≡ h.0) (λ text other p q. sweep net part text other k.0 h.0 is p q) b a k.1 h.1 in
+    let same = one_shown form (sweep_row part) (SweepsPart part net k.0) (SweepsPart part net h.0) (k.0 ≡ h.0) (λ rows other p q. sweep net part rows other k.0 h.0 is p q) b a k.1 h.1 in
     (k.2 ∙ ap swept same.1 ∙ sym h.2, same.0)
 one_answer one sweep pairs summary picture form net (Pairs part) x y a b is h k =
-    let same = one_shown form (codes "sweep") (SweepsPairs part net k.0) (SweepsPairs part net h.0) (k.0 ≡ h.0) (λ text other p q. pairs net part text other k.0 h.0 is p q) b a k.1 h.1 in
+    let same = one_shown form (pairs_row part) (SweepsPairs part net k.0) (SweepsPairs part net h.0) (k.0 ≡ h.0) (λ rows other p q. pairs net part rows other k.0 h.0 is p q) b a k.1 h.1 in
     (k.2 ∙ ap swept same.1 ∙ sym h.2, same.0)
-one_answer one sweep pairs summary picture form net Summary x y a b is h k = (k.0 ∙ sym h.0, same_shown form (codes "summary") (Summarizes net) (λ text other p q. summary net text other is p q) b a k.1 h.1)
-one_answer one sweep pairs summary picture form net (Picture n) x y a b is h k = (k.0 ∙ sym h.0, same_shown form (codes "dot") (Depicts net n) (λ text other p q. picture net n text other is p q) b a k.1 h.1)
+one_answer one sweep pairs summary picture form net Summary x y a b is h k = (k.0 ∙ sym h.0, same_shown form summary_row (Summarizes net) (λ rows other p q. summary net rows other is p q) b a k.1 h.1)
+one_answer one sweep pairs summary picture form net (Picture n) x y a b is h k = (k.0 ∙ sym h.0, picture net n b a is k.1 h.1)
 one_answer one sweep pairs summary picture form net (Undrawn f) x y a b is h k = (k.0 ∙ sym h.0, k.1 ∙ sym h.1)
 one_answer one sweep pairs summary picture form net (Explain asked) x y a b is h k = by (unexplained_of net asked.port asked.tree) h k
   where
     by : (why : Option Unexplained) → Tells form net asked why x a → Tells form net asked why y b → (y ≡ x) × (b ≡ a)
     by (Some why) h k = (k.0 ∙ sym h.0, k.1 ∙ sym h.1)
-    by None h k = (k.0 ∙ sym h.0, same_shown form (codes "explain") (Explains net asked.port asked.tree) (λ text other p q. one net asked.port asked.tree text other is p q) b a k.1 h.1)
+    by None h k = (k.0 ∙ sym h.0, same_shown form (explain_row asked) (Explains net asked.port asked.tree) (λ rows other p q. one net asked.port asked.tree rows other is p q) b a k.1 h.1)
 
--- a text that explains a port of a network, and what shows it
-pub explained_shown : (form : Form) (net settled : Net) (asked : Asked) (text printed : List ℕ) → settled ≡ net → unexplained_of settled asked.port asked.tree ≡ None → Explains settled asked.port asked.tree text → printed ≡ shown form None (codes "explain") text → IsAnswer form net (Explain asked) given printed
-explained_shown form net settled asked text printed same none h e =
+-- why a port isn't explained, and rows that explain it with what shows them
+pub unexplained_told : (form : Form) (net settled : Net) (asked : Asked) (why : Unexplained) → settled ≡ net → unexplained_of settled asked.port asked.tree ≡ Some why
+    → IsAnswer form net (Explain asked) not_given (unexplained_in form (unexplained.code_of why) (unexplained.text_of why))
+unexplained_told form net settled asked why same is =
+    subst (λ net. IsAnswer form net (Explain asked) not_given (unexplained_in form (unexplained.code_of why) (unexplained.text_of why))) same
+    (subst (λ reason. Tells form settled asked reason not_given (unexplained_in form (unexplained.code_of why) (unexplained.text_of why))) (sym is) (refl, refl))
+
+pub explained_shown : (form : Form) (net settled : Net) (asked : Asked) (rows : List Row) (printed : List ℕ) → settled ≡ net → unexplained_of settled asked.port asked.tree ≡ None → Explains settled asked.port asked.tree rows → printed ≡ shown form None (explain_row asked) rows
+    → IsAnswer form net (Explain asked) given printed
+explained_shown form net settled asked rows printed same none h e =
     subst (λ net. IsAnswer form net (Explain asked) given printed) same
-    (subst (λ why. Tells form settled asked why given printed) (sym none) (refl, is_shown form (codes "explain") (Explains settled asked.port asked.tree) text printed h e))
+    (subst (λ why. Tells form settled asked why given printed) (sym none) (refl, (rows, h, e)))
 
 -- what tells of single failures and of pairs, and what summarizes
-pub swept_shown : (form : Form) (part : PartOf) (net settled : Net) (cuts : ℕ) (text printed : List ℕ) → settled ≡ net → SweepsPart part settled cuts text → printed ≡ shown form None (codes "sweep") text → IsAnswer form net (Sweep part) (swept cuts) printed
-swept_shown form part net settled cuts text printed same h e =
-    subst (λ net. IsAnswer form net (Sweep part) (swept cuts) printed) same (cuts, is_shown form (codes "sweep") (SweepsPart part settled cuts) text printed h e, refl)
+pub swept_shown : (form : Form) (part : PartOf) (net settled : Net) (cuts : ℕ) (rows : List Row) (printed : List ℕ) → settled ≡ net → SweepsPart part settled cuts rows → printed ≡ shown form None (sweep_row part) rows → IsAnswer form net (Sweep part) (swept cuts) printed
+swept_shown form part net settled cuts rows printed same h e = subst (λ net. IsAnswer form net (Sweep part) (swept cuts) printed) same (cuts, (rows, h, e), refl)
 
-pub paired_shown : (form : Form) (part : PartOf) (net settled : Net) (cuts : ℕ) (text printed : List ℕ) → settled ≡ net → SweepsPairs part settled cuts text → printed ≡ shown form None (codes "sweep") text → IsAnswer form net (Pairs part) (swept cuts) printed
-paired_shown form part net settled cuts text printed same h e =
-    subst (λ net. IsAnswer form net (Pairs part) (swept cuts) printed) same (cuts, is_shown form (codes "sweep") (SweepsPairs part settled cuts) text printed h e, refl)
+pub paired_shown : (form : Form) (part : PartOf) (net settled : Net) (cuts : ℕ) (rows : List Row) (printed : List ℕ) → settled ≡ net → SweepsPairs part settled cuts rows → printed ≡ shown form None (pairs_row part) rows → IsAnswer form net (Pairs part) (swept cuts) printed
+paired_shown form part net settled cuts rows printed same h e = subst (λ net. IsAnswer form net (Pairs part) (swept cuts) printed) same (cuts, (rows, h, e), refl)
 
-pub summary_shown : (form : Form) (net settled : Net) (text printed : List ℕ) → settled ≡ net → Summarizes settled text → printed ≡ shown form None (codes "summary") text → IsAnswer form net Summary given printed
-summary_shown form net settled text printed same h e =
-    subst (λ net. IsAnswer form net Summary given printed) same (refl, is_shown form (codes "summary") (Summarizes settled) text printed h e)
-
--- and what draws the network with a tree
-pub picture_shown : (form : Form) (net settled : Net) (tree : ℕ) (text printed : List ℕ) → settled ≡ net → Depicts settled tree text → printed ≡ shown form None (codes "dot") text → IsAnswer form net (Picture tree) given printed
-picture_shown form net settled tree text printed same h e =
-    subst (λ net. IsAnswer form net (Picture tree) given printed) same (refl, is_shown form (codes "dot") (Depicts settled tree) text printed h e)
+pub summary_shown : (form : Form) (net settled : Net) (rows : List Row) (printed : List ℕ) → settled ≡ net → Summarizes settled rows → printed ≡ shown form None summary_row rows → IsAnswer form net Summary given printed
+summary_shown form net settled rows printed same h e = subst (λ net. IsAnswer form net Summary given printed) same (refl, (rows, h, e))
 
 module _ (one : OneLoad) (shape : Shape) where
   pub loads_front : (reads written now : Option (List ℕ)) → ServedFront (Network shape) empty_state reads written now → LoadsFront shape reads written now

@@ -7,6 +7,7 @@ use Rattle.mst_lang.specs.Arguments.{tree}
 use Rattle.mst_lang.specs.Faults as fault
 use Rattle.mst_lang.specs.Lines.{lines_of}
 use Rattle.mst_lang.specs.declared.line.Fault.{Fault}
+use Rattle.mst_kinds.specs.declared.refusal_line.RefusalLine.TheVariants as refusal
 use Rattle.mst_engine.specs.net.Tables.{Net}
 use Rattle.mst_engine.specs.report.Explaining.{Explains, unexplained_of}
 use Rattle.mst_engine.specs.report.Explaining as unexplained
@@ -19,8 +20,9 @@ use Rattle.mst_engine.specs.sweep.SweepParts.{whole_part}
 use Rattle.mst_engine.specs.report.declared.explaining.Unexplained.{Unexplained}
 use Rattle.mst_tool.specs.Asked.{asked_of, part_value}
 use Rattle.mst_tool.specs.Load.{LoadsFront}
+use Rattle.mst_tool.specs.Shown.{IsShown, explain_row, pairs_row, summary_row, sweep_row}
 use Rattle.mst_engine.specs.Script.{LoadsAll}
-use Rattle.mst_print.specs.Shape.{of_script, IsShown, unanswered}
+use Rattle.mst_print.specs.Shape.{of_script, unanswered}
 use Rattle.mst_engine.specs.Steps.{Step, left_by, texts_of, refusals_of, lacks_of, lacking_of}
 use Rattle.mst_io.specs.Written.{AppendsFront, Reads}
 use Rattle.mst_tool.specs.declared.asked.Asked.{Asked}
@@ -83,25 +85,25 @@ abbrev pub swept : ℕ → Told
 swept cuts = record { refused = 0; differing = if cuts == 0 then 0 else 1 }
 
 abbrev pub unexplained_in : Form → List ℕ → List ℕ → List ℕ
-unexplained_in form = unanswered form (codes "explain")
+unexplained_in form = unanswered form refusal.Explain
 
 abbrev pub undrawn_in : Form → List ℕ → List ℕ → List ℕ
-undrawn_in form = unanswered form (codes "dot")
+undrawn_in form = unanswered form refusal.Dot
 
--- what is printed of a port, by whether something is in the way: that, in a line, or the text that explains it
+-- what is printed of a port, by whether something is in the way: that, in a line, or the rows that explain it
 abbrev pub Tells : Form → Net → Asked → Option Unexplained → Told → List ℕ → Type 0
 Tells form net asked (Some why) told text = (told ≡ not_given) × (text ≡ unexplained_in form (unexplained.code_of why) (unexplained.text_of why))
-Tells form net asked None told text = (told ≡ given) × IsShown form (codes "explain") (Explains net asked.port asked.tree) text
+Tells form net asked None told text = (told ≡ given) × IsShown form (explain_row asked) (Explains net asked.port asked.tree) text
 
 -- what is printed of what was asked of a network, and what that counts. Words that aren't in their forms come before all
--- else
+-- else. A picture is a text in each form
 abbrev pub IsAnswer : Form → Net → Question → Told → List ℕ → Type 0
 IsAnswer form net (unread_question f) told text = (told ≡ not_given) × (text ≡ unexplained_in form (fault.code_of f) (fault.text_of f))
 IsAnswer form net (Explain asked) told text = Tells form net asked (unexplained_of net asked.port asked.tree) told text
-IsAnswer form net (Sweep part) told text = (cuts : ℕ) × IsShown form (codes "sweep") (SweepsPart part net cuts) text × (told ≡ swept cuts)
-IsAnswer form net (Pairs part) told text = (cuts : ℕ) × IsShown form (codes "sweep") (SweepsPairs part net cuts) text × (told ≡ swept cuts)
-IsAnswer form net Summary told text = (told ≡ given) × IsShown form (codes "summary") (Summarizes net) text
-IsAnswer form net (Picture n) told text = (told ≡ given) × IsShown form (codes "dot") (Depicts net n) text
+IsAnswer form net (Sweep part) told text = (cuts : ℕ) × IsShown form (sweep_row part) (SweepsPart part net cuts) text × (told ≡ swept cuts)
+IsAnswer form net (Pairs part) told text = (cuts : ℕ) × IsShown form (pairs_row part) (SweepsPairs part net cuts) text × (told ≡ swept cuts)
+IsAnswer form net Summary told text = (told ≡ given) × IsShown form summary_row (Summarizes net) text
+IsAnswer form net (Picture n) told text = (told ≡ given) × Depicts net n text
 IsAnswer form net (undrawn_question f) told text = (told ≡ not_given) × (text ≡ undrawn_in form (fault.code_of f) (fault.text_of f))
 
 -- what is counted of a script with what is asked of its network
@@ -148,12 +150,12 @@ abbrev pub answer_text : Form → Answer → List ℕ
 answer_text form (Text text) = text.items
 answer_text form (Unread f) = unexplained_in form (fault.code_of f) (fault.text_of f)
 answer_text form (Refused why) = unexplained_in form (unexplained.code_of why) (unexplained.text_of why)
-answer_text form (Swept sweep) = sweep.text.items
+answer_text form (Swept text cuts) = text.items
 answer_text form (Undrawn f) = undrawn_in form (fault.code_of f) (fault.text_of f)
 
 abbrev pub told_of : Answer → Told
 told_of (Text text) = given
 told_of (Unread f) = not_given
 told_of (Refused why) = not_given
-told_of (Swept sweep) = swept sweep.cuts
+told_of (Swept text cuts) = swept cuts
 told_of (Undrawn f) = not_given

@@ -1,5 +1,5 @@
 -- What telling the networks of two scripts apart promises, where it prints in this form.
-use Rattle.std.specs.Prelude.{◌≡◌, ◌+◌, ◌++◌, ◌⊎◌, ◌==◌, ◌&&◌, ℕ, Bool, List, Option, codes, if◌then◌else◌}
+use Rattle.std.specs.Prelude.{◌≡◌, ◌+◌, ◌++◌, ◌⊎◌, ◌==◌, ◌&&◌, ℕ, Bool, List, Option, if◌then◌else◌}
 use Rattle.std.specs.Io.KnownBytes.{Appends, Consumes}
 use Rattle.mst_engine.specs.diff.declared.diff.Differing.{Differing}
 use Rattle.mst_lang.specs.Lines.{lines_of, ended_lines}
@@ -8,7 +8,8 @@ use Rattle.mst_engine.specs.report.Differing.{Differs}
 use Rattle.mst_engine.specs.report.State.{empty_state}
 use Rattle.mst_tool.specs.Load.{LoadsEnded}
 use Rattle.mst_engine.specs.Script.{LoadsAll}
-use Rattle.mst_print.specs.Shape.{of_old, of_new, IsShown}
+use Rattle.mst_tool.specs.Shown.{IsShown, diff_row}
+use Rattle.mst_print.specs.Shape.{of_old, of_new}
 use Rattle.mst_engine.specs.Steps.{Step, left_by, texts_of, refusals_of, lacks_of, lacking_of}
 use Rattle.mst_io.specs.Written.{AppendsFront, Reads}
 use Rattle.mst_print.specs.declared.form.Form.{Form}
@@ -52,7 +53,7 @@ new_net both = (left_by empty_state both.new_steps).net
 
 -- what tells how two networks differ
 abbrev pub TellsDifference : Form → Net → Net → Differing → List ℕ → Type 0
-TellsDifference form old new counts = IsShown form (codes "diff") (Differs old new counts)
+TellsDifference form old new counts = IsShown form diff_row (Differs old new counts)
 
 -- The edits of both scripts' lines were served, and what they print was written, that of the old one first, and after it how
 -- the network that the new one leaves differs from the old one's. The outcome counts the lines of both that were refused, and

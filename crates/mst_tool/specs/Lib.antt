@@ -5,5 +5,6 @@ pub mod Run
 pub mod Check
 pub mod Load
 pub mod Asked
+pub mod Shown
 pub mod Ask
 pub mod Diff

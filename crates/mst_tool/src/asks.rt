@@ -1,5 +1,6 @@
 ghost use Rattle.std.specs.Prelude.{◌≡◌, ◌≤◌, ◌↔◌, ◌^◌, ℕ, false, List, Option, Err, IfOk, IsOk, OnOk, OnErr};
 ghost use Rattle.std.specs.Io.KnownBytes.{Appends};
+ghost use Rattle.mst_engine.specs.report.Picturing.{Depicts};
 ghost use Rattle.mst_engine.specs.report.Planned.{planned_state};
 ghost use Rattle.mst_tool.specs.Ask.{Asks, AsksFront, IsAnswer, answer_text, told_of, counted_with};
 ghost use Rattle.mst_io.specs.Devices.{Works, IsBroken, IsCut, IsRead, IsCalled, IsStopped, StopsAtZero};
@@ -10,13 +11,15 @@ ghost use Rattle.mst_io.specs.Written.{AppendsFront};
 ghost use Rattle.mst_tool.specs.declared.asked.Question.TheVariants.{Explain};
 
 use crate::asked::{Asked, Question};
+use crate::opened::{open_explanation, open_pairs, open_question, open_sweep};
 use mst_engine::laws::{one_load, states};
 use mst_engine::report_laws::{one_explanation, one_picture, one_summary, pair_parts, sweep_parts};
-use mst_engine::{Engine, Input, Planner, Sweep, SweepPart, Unexplained, serve_input};
+use mst_engine::{Engine, Input, Planner, SweepPart, Unexplained, serve_input};
 use mst_ids::Tree;
 use mst_io::{FromRead, Outcome, RunFault, Sink, Source, TURNS, ToWrite, WriteFailed, put};
+use mst_kinds::{Query, RefusalLine};
 use mst_lang::Fault;
-use mst_print::{Form, Shape, Side, put_unanswered, show};
+use mst_print::{Form, Shape, Side, put_unanswered};
 use std::alloc::{AllocError, Global};
 use std::io::{Read, Write};
 
@@ -27,10 +30,10 @@ pub(crate) enum Answer {
     Text(Vec<u8>),
     /// The words ask nothing.
     Unread(Fault),
-    /// The port isn't explained, for another reason than want of memory.
+    /// The port isn't explained.
     Refused(Unexplained),
-    /// What each single failure of a part does, or each pair.
-    Swept(Sweep),
+    /// What each single failure of a part does, or each pair, and how many of these cut some VID.
+    Swept { text: Vec<u8>, cuts: u64 },
     /// The word names no tree.
     Undrawn(Fault),
 }
@@ -126,7 +129,7 @@ pub fn ask_within<S: Source, K: Sink>(
         Err(fault) => Err(fault),
         Ok(()) => {
             let served = engine.outcome();
-            match answer_to(&mut engine.planner, form, question) {
+            match answer_to(alloc, &mut engine.planner, form, question) {
                 Err(_) => Err(RunFault::Memory),
                 Ok(answer) => match put_answer(sink, form, &answer) {
                     Err(_) => Err(RunFault::Write),
@@ -138,73 +141,98 @@ pub fn ask_within<S: Source, K: Sink>(
 }
 
 /// The answer to what is asked, of the network as it stands. `AllocError`: memory was wanted and refused.
-fn answer_to(planner: &mut Planner, form: Form, question: &Question) -> Result<Answer, AllocError>
+fn answer_to(
+    alloc: Global,
+    planner: &mut Planner,
+    form: Form,
+    question: &Question,
+) -> Result<Answer, AllocError>
     ensures { IfOk result (λ answer. IsAnswer form (planned_state planner.old).net question.now (told_of answer) (answer_text form answer)) }
 {
     match question {
-        Question::Explain(asked) => explained(planner, form, asked),
+        Question::Explain(asked) => explained(alloc, planner, form, asked),
         Question::Unread(fault) => Ok(Answer::Unread(*fault)),
-        Question::Sweep(part) => swept(planner, form, *part),
-        Question::Pairs(part) => paired(planner, form, *part),
-        Question::Summary => summarized(planner, form),
-        Question::Picture(tree) => depicted(planner, form, *tree),
+        Question::Sweep(part) => swept(alloc, planner, form, *part),
+        Question::Pairs(part) => paired(alloc, planner, form, *part),
+        Question::Summary => summarized(alloc, planner, form),
+        Question::Picture(tree) => {
+            let text = depicted(planner, *tree)?;
+            Ok(Answer::Text(text))
+        }
         Question::Undrawn(fault) => Ok(Answer::Undrawn(*fault)),
     }
 }
 
 /// Explains a port, once the plan is settled. `AllocError`: memory was wanted and refused.
-fn explained(planner: &mut Planner, form: Form, asked: &Asked) -> Result<Answer, AllocError>
+fn explained(
+    alloc: Global,
+    planner: &mut Planner,
+    form: Form,
+    asked: &Asked,
+) -> Result<Answer, AllocError>
     ensures { IfOk result (λ answer. IsAnswer form (planned_state planner.old).net (Explain asked.now) (told_of answer) (answer_text form answer)) }
 {
     planner.settle()?;
-    match planner.explanation(&asked.port, asked.tree) {
-        Ok(mut text) => {
-            show(form, None, "explain", &mut text)?;
+    match planner.unexplained(&asked.port, asked.tree) {
+        Some(why) => Ok(Answer::Refused(why)),
+        None => {
+            let mut printer = open_explanation(alloc, form, asked)?;
+            planner.put_explanation(&asked.port, asked.tree, &mut printer)?;
+            let text = printer.close()?;
             Ok(Answer::Text(text))
         }
-        Err(Unexplained::Memory) => Err(AllocError),
-        Err(why) => Ok(Answer::Refused(why)),
     }
 }
 
 /// What each single failure of a part does, once the plan is settled. `AllocError`: memory was wanted and refused.
-fn swept(planner: &mut Planner, form: Form, part: SweepPart) -> Result<Answer, AllocError>
+fn swept(
+    alloc: Global,
+    planner: &mut Planner,
+    form: Form,
+    part: SweepPart,
+) -> Result<Answer, AllocError>
     ensures { IfOk result (λ answer. IsAnswer form (planned_state planner.old).net (Question.Sweep part) (told_of answer) (answer_text form answer)) }
 {
     planner.settle()?;
-    let mut sweep = planner.sweep_part(part)?;
-    show(form, None, "sweep", &mut sweep.text)?;
-    Ok(Answer::Swept(sweep))
+    let mut printer = open_sweep(alloc, form, part)?;
+    let cuts = planner.put_sweep(part, &mut printer)?;
+    let text = printer.close()?;
+    Ok(Answer::Swept { text, cuts })
 }
 
 /// What each pair of failures of a part does, once the plan is settled. `AllocError`: memory was wanted and refused.
-fn paired(planner: &mut Planner, form: Form, part: SweepPart) -> Result<Answer, AllocError>
+fn paired(
+    alloc: Global,
+    planner: &mut Planner,
+    form: Form,
+    part: SweepPart,
+) -> Result<Answer, AllocError>
     ensures { IfOk result (λ answer. IsAnswer form (planned_state planner.old).net (Question.Pairs part) (told_of answer) (answer_text form answer)) }
 {
     planner.settle()?;
-    let mut sweep = planner.sweep_pairs(part)?;
-    show(form, None, "sweep", &mut sweep.text)?;
-    Ok(Answer::Swept(sweep))
+    let mut printer = open_pairs(alloc, form, part)?;
+    let cuts = planner.put_pairs(part, &mut printer)?;
+    let text = printer.close()?;
+    Ok(Answer::Swept { text, cuts })
 }
 
 /// Summarizes the network, once the plan is settled. `AllocError`: memory was wanted and refused.
-fn summarized(planner: &mut Planner, form: Form) -> Result<Answer, AllocError>
+fn summarized(alloc: Global, planner: &mut Planner, form: Form) -> Result<Answer, AllocError>
     ensures { IfOk result (λ answer. IsAnswer form (planned_state planner.old).net Question.Summary (told_of answer) (answer_text form answer)) }
 {
     planner.settle()?;
-    let mut text = planner.summary()?;
-    show(form, None, "summary", &mut text)?;
+    let mut printer = open_question(alloc, form, Query::Summary)?;
+    planner.put_summary(&mut printer)?;
+    let text = printer.close()?;
     Ok(Answer::Text(text))
 }
 
-/// Draws the network with a tree, once the plan is settled. `AllocError`: memory was wanted and refused.
-fn depicted(planner: &mut Planner, form: Form, tree: Tree) -> Result<Answer, AllocError>
-    ensures { IfOk result (λ answer. IsAnswer form (planned_state planner.old).net (Question.Picture tree) (told_of answer) (answer_text form answer)) }
+/// Draws the network with a tree, once the plan is settled: a text in each form. `AllocError`: memory was wanted and refused.
+fn depicted(planner: &mut Planner, tree: Tree) -> Result<Vec<u8>, AllocError>
+    ensures { IfOk result (λ text. Depicts (planned_state planner.old).net tree text.items) }
 {
     planner.settle()?;
-    let mut text = planner.picture(tree)?;
-    show(form, None, "dot", &mut text)?;
-    Ok(Answer::Text(text))
+    planner.picture(tree)
 }
 
 /// Writes an answer.
@@ -218,10 +246,16 @@ fn put_answer<K: Sink>(sink: &mut K, form: Form, answer: &Answer) -> Result<(), 
 {
     match answer {
         Answer::Text(text) => put(sink, text.as_slice()),
-        Answer::Unread(fault) => put_unanswered(sink, form, "explain", fault.code(), fault.text()),
-        Answer::Refused(why) => put_unanswered(sink, form, "explain", why.code(), why.text()),
-        Answer::Swept(sweep) => put(sink, sweep.text.as_slice()),
-        Answer::Undrawn(fault) => put_unanswered(sink, form, "dot", fault.code(), fault.text()),
+        Answer::Unread(fault) => {
+            put_unanswered(sink, form, RefusalLine::Explain, fault.code(), fault.text())
+        }
+        Answer::Refused(why) => {
+            put_unanswered(sink, form, RefusalLine::Explain, why.code(), why.text())
+        }
+        Answer::Swept { text, .. } => put(sink, text.as_slice()),
+        Answer::Undrawn(fault) => {
+            put_unanswered(sink, form, RefusalLine::Dot, fault.code(), fault.text())
+        }
     }
 }
 
@@ -233,7 +267,7 @@ fn with_answer(script: &Outcome, answer: &Answer) -> Outcome
     let (refused, differing) = match answer {
         Answer::Text(_) => (0, 0),
         Answer::Unread(_) | Answer::Refused(_) | Answer::Undrawn(_) => (1, 0),
-        Answer::Swept(sweep) => (0, if sweep.cuts == 0 { 0 } else { 1 }),
+        Answer::Swept { cuts, .. } => (0, if *cuts == 0 { 0 } else { 1 }),
     };
     Outcome {
         refused: script.refused + refused,

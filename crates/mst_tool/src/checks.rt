@@ -19,43 +19,46 @@ use std::io::{Read, Write};
 ///
 /// The captures are lines as a script's are, and count from 1 again. One that is blank, or whose first byte other
 /// than space and tab is `#`, prints nothing. Each other one prints `capture N CODE TEXT` where it isn't read or has
-/// no sender, `capture N B:P agrees`, or a line for each difference, and changes nothing. The captures are read once
-/// the script has ended.
+/// no sender, `capture N B:P agrees`, or a line for each difference, and changes nothing. In [`Form::Json`] each of these
+/// lines is a record on a line of its own. The captures are read once the script has ended.
 ///
 /// The readers and the writer are called as by [`run`](crate::run). After [`RunFault::Read`] all that the complete
 /// lines print has gone out, of what was read; after [`RunFault::Memory`] all that the script prints, and no capture
 /// was read; after [`RunFault::Write`] a front of what both print.
 pub fn check<S: Read + Drop, C: Read + Drop, W: Write>(
     alloc: Global,
+    form: Form,
     mut script: S,
     mut captures: C,
     writer: &mut W,
 ) -> Result<Outcome, RunFault>
-    ensures ok { IfOk result (Checks (S.remaining script) (C.remaining captures) (W.contents writer.old) (W.contents writer.new)) }
-    ensures fault { OnErr result (ChecksFront (S.remaining script) (C.remaining captures) (W.contents writer.old) (W.contents writer.new)) }
-    ensures read { result ≡ Err RunFault.Read → (script_left captures_left : Option (List ℕ)) × ChecksEnded (S.remaining script) script_left (C.remaining captures) captures_left (W.contents writer.old) (W.contents writer.new) }
-    ensures memory { result ≡ Err RunFault.Memory → ChecksScript (S.remaining script) (W.contents writer.old) (W.contents writer.new) }
+    ensures ok { IfOk result (Checks form (S.remaining script) (C.remaining captures) (W.contents writer.old) (W.contents writer.new)) }
+    ensures fault { OnErr result (ChecksFront form (S.remaining script) (C.remaining captures) (W.contents writer.old) (W.contents writer.new)) }
+    ensures read { result ≡ Err RunFault.Read → (script_left captures_left : Option (List ℕ)) × ChecksEnded form (S.remaining script) script_left (C.remaining captures) captures_left (W.contents writer.old) (W.contents writer.new) }
+    ensures memory { result ≡ Err RunFault.Memory → ChecksScript form (S.remaining script) (W.contents writer.old) (W.contents writer.new) }
 {
-    check_from(alloc, &mut script, &mut captures, writer)
+    check_from(alloc, form, &mut script, &mut captures, writer)
 }
 
 /// The same as [`check`], for readers that the caller keeps: so its contract says how far they were read.
 pub fn check_from<S: Read, C: Read, W: Write>(
     alloc: Global,
+    form: Form,
     script: &mut S,
     captures: &mut C,
     writer: &mut W,
 ) -> Result<Outcome, RunFault>
-    ensures ok { IfOk result (Checks (S.remaining script.old) (C.remaining captures.old) (W.contents writer.old) (W.contents writer.new)) }
-    ensures fault { OnErr result (ChecksFront (S.remaining script.old) (C.remaining captures.old) (W.contents writer.old) (W.contents writer.new)) }
-    ensures read { result ≡ Err RunFault.Read → ChecksEnded (S.remaining script.old) (S.remaining script.new) (C.remaining captures.old) (C.remaining captures.new) (W.contents writer.old) (W.contents writer.new) }
-    ensures memory { result ≡ Err RunFault.Memory → ChecksScript (S.remaining script.old) (W.contents writer.old) (W.contents writer.new) }
+    ensures ok { IfOk result (Checks form (S.remaining script.old) (C.remaining captures.old) (W.contents writer.old) (W.contents writer.new)) }
+    ensures fault { OnErr result (ChecksFront form (S.remaining script.old) (C.remaining captures.old) (W.contents writer.old) (W.contents writer.new)) }
+    ensures read { result ≡ Err RunFault.Read → ChecksEnded form (S.remaining script.old) (S.remaining script.new) (C.remaining captures.old) (C.remaining captures.new) (W.contents writer.old) (W.contents writer.new) }
+    ensures memory { result ≡ Err RunFault.Memory → ChecksScript form (S.remaining script.old) (W.contents writer.old) (W.contents writer.new) }
 {
     let mut script_source = FromRead::new(script);
     let mut captures_source = FromRead::new(captures);
     let mut sink = ToWrite::new(writer);
     check_within(
         alloc,
+        form,
         &mut script_source,
         &mut captures_source,
         &mut sink,
@@ -72,6 +75,7 @@ pub fn check_from<S: Read, C: Read, W: Write>(
 /// [`RunFault::Memory`] the second source wasn't called.
 pub fn check_within<S: Source, C: Source, K: Sink>(
     alloc: Global,
+    form: Form,
     script: &mut S,
     captures: &mut C,
     sink: &mut K,
@@ -81,10 +85,10 @@ pub fn check_within<S: Source, C: Source, K: Sink>(
     requires captures { (C.told captures.old).failed ≡ false }
     requires sink { (K.told sink.old).failed ≡ false }
     requires turns { turns ≤ 2 ^ 32 }
-    ensures ok { IfOk result (Checks (S.remaining script.old) (C.remaining captures.old) (K.contents sink.old) (K.contents sink.new)) }
-    ensures fault { OnErr result (ChecksFront (S.remaining script.old) (C.remaining captures.old) (K.contents sink.old) (K.contents sink.new)) }
-    ensures read { result ≡ Err RunFault.Read → ChecksEnded (S.remaining script.old) (S.remaining script.new) (C.remaining captures.old) (C.remaining captures.new) (K.contents sink.old) (K.contents sink.new) }
-    ensures memory { result ≡ Err RunFault.Memory → ChecksScript (S.remaining script.old) (K.contents sink.old) (K.contents sink.new) }
+    ensures ok { IfOk result (Checks form (S.remaining script.old) (C.remaining captures.old) (K.contents sink.old) (K.contents sink.new)) }
+    ensures fault { OnErr result (ChecksFront form (S.remaining script.old) (C.remaining captures.old) (K.contents sink.old) (K.contents sink.new)) }
+    ensures read { result ≡ Err RunFault.Read → ChecksEnded form (S.remaining script.old) (S.remaining script.new) (C.remaining captures.old) (C.remaining captures.new) (K.contents sink.old) (K.contents sink.new) }
+    ensures memory { result ≡ Err RunFault.Memory → ChecksScript form (S.remaining script.old) (K.contents sink.old) (K.contents sink.new) }
     ensures unread { result ≡ Err RunFault.Memory → (C.told captures.new ≡ C.told captures.old) × (C.remaining captures.new ≡ C.remaining captures.old) }
     ensures ended_script { IsOk result → IsRead (S.told script.old) (S.told script.new) }
     ensures ended_captures { IsOk result → IsRead (C.told captures.old) (C.told captures.new) }
@@ -102,11 +106,11 @@ pub fn check_within<S: Source, C: Source, K: Sink>(
     one_run();
     one_comparison();
     let mut engine = Engine::new(alloc);
-    match serve_input(Input::Script(Form::Text), &mut engine, script, sink, turns) {
+    match serve_input(Input::Script(form), &mut engine, script, sink, turns) {
         Err(fault) => Err(fault),
         Ok(()) => {
             let served = engine.outcome();
-            match serve_captures(&mut engine, captures, sink, turns) {
+            match serve_captures(&mut engine, form, captures, sink, turns) {
                 Err(fault) => Err(fault),
                 Ok(()) => Ok(sum_of(&served, &engine.outcome())),
             }
@@ -117,6 +121,7 @@ pub fn check_within<S: Source, C: Source, K: Sink>(
 /// Compares all captured messages with the plan of the network as it stands.
 fn serve_captures<C: Source, K: Sink>(
     engine: &mut Engine,
+    form: Form,
     captures: &mut C,
     sink: &mut K,
     turns: u64,
@@ -124,10 +129,10 @@ fn serve_captures<C: Source, K: Sink>(
     requires captures { (C.told captures.old).failed ≡ false }
     requires sink { (K.told sink.old).failed ≡ false }
     requires turns { turns ≤ 2 ^ 32 }
-    ensures ok { OnOk result (Served Captures (planned_state engine.old.planner) (C.remaining captures.old) (K.contents sink.old) (K.contents sink.new) (tally_of engine.new)) }
+    ensures ok { OnOk result (Served (Captures form) (planned_state engine.old.planner) (C.remaining captures.old) (K.contents sink.old) (K.contents sink.new) (tally_of engine.new)) }
     ensures few { OnOk result (IsFew (outcome_of (tally_of engine.new))) }
-    ensures fault { OnErr result (ServedFront Captures (planned_state engine.old.planner) (C.remaining captures.old) (K.contents sink.old) (K.contents sink.new)) }
-    ensures read { result ≡ Err RunFault.Read → ServedEnded Captures (planned_state engine.old.planner) (C.remaining captures.old) (C.remaining captures.new) (K.contents sink.old) (K.contents sink.new) }
+    ensures fault { OnErr result (ServedFront (Captures form) (planned_state engine.old.planner) (C.remaining captures.old) (K.contents sink.old) (K.contents sink.new)) }
+    ensures read { result ≡ Err RunFault.Read → ServedEnded (Captures form) (planned_state engine.old.planner) (C.remaining captures.old) (C.remaining captures.new) (K.contents sink.old) (K.contents sink.new) }
     ensures memory { result ≡ Err RunFault.Memory → K.contents sink.new ≡ K.contents sink.old }
     ensures unread { result ≡ Err RunFault.Memory → (C.told captures.new ≡ C.told captures.old) × (C.remaining captures.new ≡ C.remaining captures.old) }
     ensures stops { Stops turns (C.told captures.old) (C.told captures.new) (K.told sink.old) (K.told sink.new) (stopped_by result) }
@@ -142,7 +147,7 @@ fn serve_captures<C: Source, K: Sink>(
         return Err(RunFault::Memory);
     }
     engine.restart();
-    serve_input(Input::Captures, engine, captures, sink, turns)
+    serve_input(Input::Captures(form), engine, captures, sink, turns)
 }
 
 /// What two inputs have counted.

@@ -4,11 +4,13 @@ ghost use Rattle.mst_io.specs.Devices.{Works, IsBroken, IsCut, IsRead, IsCalled,
 ghost use Rattle.mst_tool.specs.Diff.{Diffs, DiffsFront, DiffsEnded, DiffsScripts, TellsDifference, counted_both};
 ghost use Rattle.mst_engine.specs.Served.{IsFew};
 
+use crate::opened::open_question;
 use mst_engine::laws::{has_load, one_load, states};
 use mst_engine::report_laws::one_difference;
-use mst_engine::{Differing, Engine, Input, NetworkDifference as Difference, Planner, serve_input};
+use mst_engine::{Differing, Engine, Input, Planner, serve_input};
 use mst_io::{FromRead, Outcome, RunFault, Sink, Source, TURNS, ToWrite, put};
-use mst_print::{Form, Shape, Side, show};
+use mst_kinds::Query;
+use mst_print::{Form, Shape, Side};
 use std::alloc::{AllocError, Global};
 use std::io::{Read, Write};
 
@@ -113,7 +115,7 @@ pub fn diff_within<O: Source, N: Source, K: Sink>(
             };
             match serve_input(Input::Network(of_new), &mut after, new, sink, turns) {
                 Err(fault) => Err(fault),
-                Ok(()) => match what_differs(form, &mut before.planner, &mut after.planner) {
+                Ok(()) => match what_differs(alloc, form, &mut before.planner, &mut after.planner) {
                     Err(_) => Err(RunFault::Memory),
                     Ok(found) => match put(sink, found.text.as_slice()) {
                         Err(_) => Err(RunFault::Write),
@@ -129,16 +131,29 @@ pub fn diff_within<O: Source, N: Source, K: Sink>(
     }
 }
 
+/// What tells how two networks differ, and how much of each does.
+#[derive(Drop)]
+struct Difference {
+    text: Vec<u8>,
+    counts: Differing,
+}
+
 /// How the network of the new planner differs from that of the old one, once both plans are settled. `AllocError`: memory was
 /// wanted and refused.
-fn what_differs(form: Form, old: &mut Planner, new: &mut Planner) -> Result<Difference, AllocError>
+fn what_differs(
+    alloc: Global,
+    form: Form,
+    old: &mut Planner,
+    new: &mut Planner,
+) -> Result<Difference, AllocError>
     ensures { IfOk result (λ found. TellsDifference form (planned_state old.old).net (planned_state new.old).net found.counts found.text.items) }
 {
     old.settle()?;
     new.settle()?;
-    let mut found = old.difference(new)?;
-    show(form, None, "diff", &mut found.text)?;
-    Ok(found)
+    let mut printer = open_question(alloc, form, Query::Diff)?;
+    let counts = old.put_difference(new, &mut printer)?;
+    let text = printer.close()?;
+    Ok(Difference { text, counts })
 }
 
 /// What was counted of two scripts and of how their networks differ.

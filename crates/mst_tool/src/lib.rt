@@ -8,6 +8,7 @@ mod asked;
 mod asks;
 mod checks;
 mod diffs;
+mod opened;
 mod runs;
 
 pub use asked::{Asked, Question};

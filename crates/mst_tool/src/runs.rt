@@ -57,9 +57,9 @@ pub fn run_from<R: Read, W: Write>(
 /// Runs the script that the source gives in so many turns, as [`run`] does: it is that with 2^32 of them, and in
 /// [`Form::Text`]. A turn is one call of the source, the one that finds the end included.
 ///
-/// In [`Form::Json`] each refused line and each text is one line of JSON: `{"line":N,"error":"CODE","text":"TEXT"}`, and
-/// `{"line":N,"query":"COMMAND","records":[..]}`. A query for whose JSON there is no memory is refused, as one is for whose
-/// text there is none.
+/// In [`Form::Json`] each refused line and each answer is one line of JSON: `{"line":N,"error":"CODE","text":"TEXT"}`, and
+/// `{"line":N,"query":"COMMAND","records":[..]}`, with the query's words behind its command. A query for whose answer there is
+/// no memory is refused in either form.
 ///
 /// [`RunFault::Read`] is answered just where the sink works and the source has failed, or all turns were used and none
 /// found the end; [`RunFault::Write`] just where the sink has failed, or took nothing of a part that had a byte.

@@ -10,7 +10,6 @@ use Rattle.mst_tool.specs.Run.{PrintsEnded}
 use Rattle.mst_tool.specs.printing.Shape.{of_old}
 use Rattle.mst_tool.specs.engine.Steps.{texts_of}
 use Rattle.mst_tool.specs.printing.declared.form.Form.{Form}
-use Rattle.mst_tool.specs.printing.declared.form.Form.TheVariants.{Text}
 use Rattle.mst_io.specs.declared.outcome.Outcome.{Outcome}
 use Rattle.mst_io.specs.declared.outcome.RunFault.{RunFault}
 use Rattle.mst_io.specs.declared.outcome.RunFault.TheVariants.{Read, Write, Memory}
@@ -22,8 +21,8 @@ use Rattle.mstplan.proofs.Kept.{front_kept}
 
 -- ---- captures
 
-module _ (scripts captures : Option (List ℕ)) where
-  checks_kept : (a b c : Option (List ℕ)) (outcome : Outcome) → Checks scripts captures a b outcome → Keeps b c → Checks scripts captures a c outcome
+module _ (form : Form) (scripts captures : Option (List ℕ)) where
+  checks_kept : (a b c : Option (List ℕ)) (outcome : Outcome) → Checks form scripts captures a b outcome → Keeps b c → Checks form scripts captures a c outcome
   checks_kept a b c outcome h k = record {
     script = h.script;
     captured = h.captured;
@@ -41,7 +40,7 @@ module _ (scripts captures : Option (List ℕ)) where
     only_compared = h.only_compared;
   }
 
-  checks_front_kept : (a b c : Option (List ℕ)) → ChecksFront scripts captures a b → Keeps b c → ChecksFront scripts captures a c
+  checks_front_kept : (a b c : Option (List ℕ)) → ChecksFront form scripts captures a b → Keeps b c → ChecksFront form scripts captures a c
   checks_front_kept a b c h k = record {
     script = h.script;
     captured = h.captured;
@@ -57,7 +56,7 @@ module _ (scripts captures : Option (List ℕ)) where
   }
 
   -- what was written in full is a front of it
-  checks_front : (a b : Option (List ℕ)) (outcome : Outcome) → Checks scripts captures a b outcome → ChecksFront scripts captures a b
+  checks_front : (a b : Option (List ℕ)) (outcome : Outcome) → Checks form scripts captures a b outcome → ChecksFront form scripts captures a b
   checks_front a b outcome h =
       let text = texts_of h.steps ++ texts_of h.compared in
       record {
@@ -74,10 +73,10 @@ module _ (scripts captures : Option (List ℕ)) where
         only_compared = h.only_compared;
       }
 
-  prints_ended_kept : (left a b c : Option (List ℕ)) → PrintsEnded Text scripts left a b → Keeps b c → PrintsEnded Text scripts left a c
+  prints_ended_kept : (left a b c : Option (List ℕ)) → PrintsEnded form scripts left a b → Keeps b c → PrintsEnded form scripts left a c
   prints_ended_kept left a b c h k = record { read = h.read; steps = h.steps; consumed = h.consumed; runs = h.runs; printed = Appends-kept a b c (texts_of h.steps) h.printed k; only = h.only }
 
-  compares_ended_kept : (left a b c : Option (List ℕ)) → ComparesEnded scripts captures left a b → Keeps b c → ComparesEnded scripts captures left a c
+  compares_ended_kept : (left a b c : Option (List ℕ)) → ComparesEnded form scripts captures left a b → Keeps b c → ComparesEnded form scripts captures left a c
   compares_ended_kept left a b c h k = record {
     script = h.script;
     read = h.read;
@@ -92,11 +91,11 @@ module _ (scripts captures : Option (List ℕ)) where
     only_compared = h.only_compared;
   }
 
-  checks_ended_kept : (left other_left a b c : Option (List ℕ)) → ChecksEnded scripts left captures other_left a b → Keeps b c → ChecksEnded scripts left captures other_left a c
+  checks_ended_kept : (left other_left a b c : Option (List ℕ)) → ChecksEnded form scripts left captures other_left a b → Keeps b c → ChecksEnded form scripts left captures other_left a c
   checks_ended_kept left other_left a b c (inl h) k = inl (prints_ended_kept left a b c h k)
   checks_ended_kept left other_left a b c (inr h) k = inr (compares_ended_kept other_left a b c h k)
 
-  checks_script_kept : (a b c : Option (List ℕ)) → ChecksScript scripts a b → Keeps b c → ChecksScript scripts a c
+  checks_script_kept : (a b c : Option (List ℕ)) → ChecksScript form scripts a b → Keeps b c → ChecksScript form scripts a c
   checks_script_kept a b c h k = record { script = h.script; steps = h.steps; script_read = h.script_read; runs = h.runs; printed = Appends-kept a b c (texts_of h.steps) h.printed k; only = h.only }
 
 -- ---- networks
@@ -156,23 +155,23 @@ diffs_scripts_same form olds news a b c d x y h = subst (λ now. DiffsScripts fo
 
 module _ (first second : Option (List ℕ)) where
   compared_kept : (how : Comparison) (a b c : Option (List ℕ)) (outcome : Outcome) → Compared how first second a b outcome → Keeps b c → Compared how first second a c outcome
-  compared_kept Captures a b c outcome h k = checks_kept first second a b c outcome h k
+  compared_kept (Captures form) a b c outcome h k = checks_kept form first second a b c outcome h k
   compared_kept (Networks form) a b c outcome h k = diffs_kept form first second a b c outcome h k
 
   compared_front_kept : (how : Comparison) (a b c : Option (List ℕ)) → ComparedFront how first second a b → Keeps b c → ComparedFront how first second a c
-  compared_front_kept Captures a b c h k = checks_front_kept first second a b c h k
+  compared_front_kept (Captures form) a b c h k = checks_front_kept form first second a b c h k
   compared_front_kept (Networks form) a b c h k = diffs_front_kept form first second a b c h k
 
   compared_front : (how : Comparison) (a b : Option (List ℕ)) (outcome : Outcome) → Compared how first second a b outcome → ComparedFront how first second a b
-  compared_front Captures a b outcome h = checks_front first second a b outcome h
+  compared_front (Captures form) a b outcome h = checks_front form first second a b outcome h
   compared_front (Networks form) a b outcome h = diffs_front form first second a b outcome h
 
   compared_ended_kept : (how : Comparison) (left other_left a b c : Option (List ℕ)) → ComparedEnded how first left second other_left a b → Keeps b c → ComparedEnded how first left second other_left a c
-  compared_ended_kept Captures left other_left a b c h k = checks_ended_kept first second left other_left a b c h k
+  compared_ended_kept (Captures form) left other_left a b c h k = checks_ended_kept form first second left other_left a b c h k
   compared_ended_kept (Networks form) left other_left a b c h k = diffs_ended_kept form first second left other_left a b c h k
 
   compared_scripts_kept : (how : Comparison) (a b c : Option (List ℕ)) → ComparedScripts how first second a b → Keeps b c → ComparedScripts how first second a c
-  compared_scripts_kept Captures a b c h k = checks_script_kept first second a b c h k
+  compared_scripts_kept (Captures form) a b c h k = checks_script_kept form first second a b c h k
   compared_scripts_kept (Networks form) a b c h k = diffs_scripts_kept form first second a b c h k
 
 module _ (how : Comparison) (first second : Option (List ℕ)) where

@@ -13,22 +13,22 @@ use Rattle.mstplan.specs.declared.compared.Comparison.TheVariants.{Captures, Net
 
 -- the captures that the second input has were compared with the plan of the first; or the networks of both were told apart
 abbrev pub Compared : Comparison → Option (List ℕ) → Option (List ℕ) → Option (List ℕ) → Option (List ℕ) → Outcome → Type 0
-Compared Captures first second written now outcome = Checks first second written now outcome
+Compared (Captures form) first second written now outcome = Checks form first second written now outcome
 Compared (Networks form) first second written now outcome = Diffs form first second written now outcome
 
 -- a front of what that prints was written
 abbrev pub ComparedFront : Comparison → Option (List ℕ) → Option (List ℕ) → Option (List ℕ) → Option (List ℕ) → Type 0
-ComparedFront Captures first second written now = ChecksFront first second written now
+ComparedFront (Captures form) first second written now = ChecksFront form first second written now
 ComparedFront (Networks form) first second written now = DiffsFront form first second written now
 
 -- a reader failed: the complete lines of what was read were served
 abbrev pub ComparedEnded : Comparison → Option (List ℕ) → Option (List ℕ) → Option (List ℕ) → Option (List ℕ) → Option (List ℕ) → Option (List ℕ) → Type 0
-ComparedEnded Captures first first_left second second_left written now = ChecksEnded first first_left second second_left written now
+ComparedEnded (Captures form) first first_left second second_left written now = ChecksEnded form first first_left second second_left written now
 ComparedEnded (Networks form) first first_left second second_left written now = DiffsEnded form first first_left second second_left written now
 
 -- there is no memory for the plan, or to tell the networks apart: the lines of the script, or of both scripts, were served
 abbrev pub ComparedScripts : Comparison → Option (List ℕ) → Option (List ℕ) → Option (List ℕ) → Option (List ℕ) → Type 0
-ComparedScripts Captures first second written now = ChecksScript first written now
+ComparedScripts (Captures form) first second written now = ChecksScript form first written now
 ComparedScripts (Networks form) first second written now = DiffsScripts form first second written now
 
 -- what the writer has, with some bytes that never came to it, is a front of what both print

@@ -34,7 +34,7 @@ form_of flags = if flags.json then Json else Text
 -- what is asked for can be told in JSON
 abbrev pub has_json : Request → Bool
 has_json (run script) = true
-has_json (check script captures) = false
+has_json (check script captures) = true
 has_json (explain script bridge port tree) = true
 has_json (diff old new) = true
 has_json (sweep script word behind) = true

@@ -45,7 +45,7 @@ ServesSweep IsGiven IsFile form script word behind written now answer =
 abbrev pub Serves : (Option (List ℕ) → Type 0) → (List ℕ → Option (List ℕ) → Type 0) → Form → Asked → Option (List ℕ) → Option (List ℕ) → Result Outcome RunFault → Type 0
 Serves IsGiven IsFile form (Run script) written now answer = (reads : Option (List ℕ)) × IsNamed IsGiven IsFile script.now reads × Ends form reads written now answer
 Serves IsGiven IsFile form (Check script captures) written now answer =
-    (reads captured : Option (List ℕ)) × AreNamed IsGiven IsFile script.now captures.now reads captured × EndsComparison Captures reads captured written now answer
+    (reads captured : Option (List ℕ)) × AreNamed IsGiven IsFile script.now captures.now reads captured × EndsComparison (Captures form) reads captured written now answer
 Serves IsGiven IsFile form (Explain script port) written now answer = (reads : Option (List ℕ)) × IsNamed IsGiven IsFile script.now reads × EndsAsk form (port_question port) reads written now answer
 Serves IsGiven IsFile form (Diff old new) written now answer = (olds news : Option (List ℕ)) × AreNamed IsGiven IsFile old.now new.now olds news × EndsComparison (Networks form) olds news written now answer
 Serves IsGiven IsFile form (Sweep script word behind) written now answer = ServesSweep IsGiven IsFile form script word behind written now answer

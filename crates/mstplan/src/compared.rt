@@ -14,8 +14,8 @@ use std::io::{BufWriter, Read, Write};
 /// What is compared of two inputs.
 #[derive(Clone, Copy)]
 pub(crate) enum Comparison {
-    /// The captures that the second has, with the plan of the script that is the first.
-    Captures,
+    /// The captures that the second has, with the plan of the script that is the first, in this form.
+    Captures(Form),
     /// The network of the second, a script too, with that of the first, in this form.
     Networks(Form),
 }
@@ -24,20 +24,21 @@ pub(crate) enum Comparison {
 /// readers, and tells how the sources stand.
 fn check_to<S: Source, C: Source, W: Write>(
     alloc: Global,
+    form: Form,
     script: &mut S,
     captures: &mut C,
     writer: &mut W,
 ) -> Result<Outcome, RunFault>
     requires script { (S.told script.old).failed ≡ false }
     requires captures { (C.told captures.old).failed ≡ false }
-    ensures ok { IfOk result (Checks (S.remaining script.old) (C.remaining captures.old) (W.contents writer.old) (W.contents writer.new)) }
-    ensures fault { OnErr result (ChecksFront (S.remaining script.old) (C.remaining captures.old) (W.contents writer.old) (W.contents writer.new)) }
-    ensures read { result ≡ Err RunFault.Read → ChecksEnded (S.remaining script.old) (S.remaining script.new) (C.remaining captures.old) (C.remaining captures.new) (W.contents writer.old) (W.contents writer.new) }
-    ensures memory { result ≡ Err RunFault.Memory → ChecksScript (S.remaining script.old) (W.contents writer.old) (W.contents writer.new) }
+    ensures ok { IfOk result (Checks form (S.remaining script.old) (C.remaining captures.old) (W.contents writer.old) (W.contents writer.new)) }
+    ensures fault { OnErr result (ChecksFront form (S.remaining script.old) (C.remaining captures.old) (W.contents writer.old) (W.contents writer.new)) }
+    ensures read { result ≡ Err RunFault.Read → ChecksEnded form (S.remaining script.old) (S.remaining script.new) (C.remaining captures.old) (C.remaining captures.new) (W.contents writer.old) (W.contents writer.new) }
+    ensures memory { result ≡ Err RunFault.Memory → ChecksScript form (S.remaining script.old) (W.contents writer.old) (W.contents writer.new) }
     ensures sources { ComparedBy result (S.told script.old) (S.told script.new) (C.told captures.old) (C.told captures.new) }
 {
     let mut sink = ToWrite::new(writer);
-    check_within(alloc, script, captures, &mut sink, TURNS)
+    check_within(alloc, form, script, captures, &mut sink, TURNS)
 }
 
 /// Tells apart the networks of the scripts that two sources give, as `diff` does those of readers, and tells how the sources
@@ -78,7 +79,7 @@ fn compare_to<F: Source, S: Source, W: Write>(
     ensures sources { ComparedBy result (F.told first.old) (F.told first.new) (S.told second.old) (S.told second.new) }
 {
     match comparison {
-        Comparison::Captures => check_to(alloc, first, second, writer),
+        Comparison::Captures(form) => check_to(alloc, form, first, second, writer),
         Comparison::Networks(form) => diff_to(alloc, form, first, second, writer),
     }
 }

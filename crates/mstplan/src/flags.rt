@@ -87,7 +87,7 @@ impl Flags {
     {
         let (has_json, has_hints) = match asked {
             Asked::Run { script } => (true, *script != "-"),
-            Asked::Check { script, .. } => (false, *script != "-"),
+            Asked::Check { script, .. } => (true, *script != "-"),
             Asked::Explain { .. }
             | Asked::Diff { .. }
             | Asked::Sweep { .. }

@@ -1,5 +1,5 @@
 /// The number of this release, which `--version` prints behind the program's name.
-pub(crate) const VERSION: &str = "0.49.0";
+pub(crate) const VERSION: &str = "0.50.0";
 
 /// What stands at the end of the program's help: the commands of scripts, the exit statuses, and where all of it is said.
 pub(crate) const PAGE: &str = "\
@@ -43,9 +43,10 @@ TREE is 0 for the CIST, VIDS are like 10,20-29. Behind a first line 'mstplan 2' 
 themselves.
 
 Flags, anywhere among the words:
-  --json    what is printed is JSON, a line for each answer (run, explain, diff, sweep, summary)
-  --hints   standard error has what would be right in each line that isn't read, or names a record that isn't there (run,
-            check, of a script in a regular file)
+  --json    what is printed is JSON, a line for each answer, and for each record of a capture (run, check, explain, diff,
+            sweep, summary)
+  --hints   standard error has what would be right in each line that isn't read, and what stands in the way of each that is
+            refused (run, check, of a script in a regular file)
 
 Exit statuses:
   0  nothing of the below

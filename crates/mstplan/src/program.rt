@@ -40,7 +40,7 @@ fn serve<'a, S: Sources, W: Write + Drop>(
         Asked::Check { script, captures } => compare_named(
             alloc,
             sources,
-            Comparison::Captures,
+            Comparison::Captures(form),
             script,
             captures,
             output,

@@ -108,7 +108,7 @@ fn a_check_to_the_end_is_written(rt: HostRuntime) -> Result<()> {
     let captures: &[u8] = b"# none\n00\n";
     let compared = compare_buffered(
         rt.alloc(),
-        Comparison::Captures,
+        Comparison::Captures(Form::Text),
         script,
         captures,
         Vec::new(rt.alloc()),

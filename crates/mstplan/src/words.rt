@@ -142,7 +142,7 @@ pub(crate) fn asked_for<'a, R: Print + Eprint + AllocGlobal>(
         Ok(asked) if flags.are_of(&asked) => Ok(asked),
         Ok(_) => {
             let _ = eprintln!(rt;
-                "error: --json is a flag of run, explain, diff, sweep and summary, --hints of run and check with the script in a file"
+                "error: --json is a flag of run, check, explain, diff, sweep and summary, --hints of run and check with the script in a file"
             );
             Err(Stop::Told(2))
         }

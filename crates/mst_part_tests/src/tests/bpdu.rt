@@ -1,8 +1,8 @@
 //! The worked captures, with what is printed of them written by hand.
 
 use mst_bpdu::{
-    BpduFault, ConfigurationId, Planned, PlannedCist, PlannedMsti, PlannedMstis, RoleCode,
-    differences, push_comparison, push_fault, read_line,
+    BpduFault, ConfigurationId, Difference, Planned, PlannedCist, PlannedMsti, PlannedMstis,
+    RoleCode, differences, put_comparison, put_fault, read_line,
 };
 use mst_ids::{BridgeId, Name, PortId, PortName, PortNumber, Priority, Tree};
 use std::alloc::{AllocError, Global};
@@ -80,6 +80,20 @@ fn planned(alloc: Global, trees: &[Tree]) -> Result<Planned, AllocError> {
     })
 }
 
+/// Puts what is told of the capture on line 1, by how it differs.
+fn put_compared(
+    port: &PortName,
+    found: &[Difference],
+    out: &mut Vec<u8>,
+) -> Result<(), AllocError> {
+    put_comparison::<Vec<u8>>(1, port, found, out)
+}
+
+/// Puts why the capture on line 1 isn't read.
+fn put_unread(fault: BpduFault, out: &mut Vec<u8>) -> Result<(), AllocError> {
+    put_fault::<Vec<u8>>(1, fault, out)
+}
+
 /// What is printed of a capture line of number 1, which comes from port 2 of bridge B or from nowhere.
 fn printed(alloc: Global, plan: &Planned, line: &[u8]) -> Result<Vec<u8>, Fail> {
     let port = PortName {
@@ -90,9 +104,9 @@ fn printed(alloc: Global, plan: &Planned, line: &[u8]) -> Result<Vec<u8>, Fail> 
     match read_line(line) {
         Ok(bpdu) => {
             let found = differences(alloc, plan, &bpdu)?;
-            push_comparison(1, &port, &found, &mut out)?;
+            put_compared(&port, found.as_slice(), &mut out)?;
         }
-        Err(fault) => push_fault(1, fault, &mut out)?,
+        Err(fault) => put_unread(fault, &mut out)?,
     }
     Ok(out)
 }

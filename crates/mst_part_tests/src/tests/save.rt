@@ -1,8 +1,8 @@
 use mst_ids::push_decimal;
 use mst_lang::{Line, Version, is_version_2, parse_line_as};
 use mst_net::Network;
-use mst_save::save_text;
-use std::alloc::Global;
+use mst_save::put_saved;
+use std::alloc::{AllocError, Global};
 use std::rt::HostRuntime;
 use std::test::Fail;
 
@@ -26,6 +26,13 @@ fn network_of(alloc: Global, script: &[u8]) -> (Network, bool) {
         }
     }
     (network, refused)
+}
+
+/// What is saved of a network.
+fn saved_of(alloc: Global, network: &Network) -> Result<Vec<u8>, AllocError> {
+    let mut out = Vec::new(alloc);
+    put_saved::<Network, Vec<u8>>(alloc, network, &mut out)?;
+    Ok(out)
 }
 
 /// Scripts and what is saved of the networks that they leave.
@@ -57,11 +64,11 @@ const SAVED: [(&str, &str); 6] = [
 fn networks_are_saved(rt: HostRuntime) -> Result<(), Fail> {
     for (script, saved) in SAVED {
         let (network, _) = network_of(rt.alloc(), script.as_bytes());
-        let text = save_text(rt.alloc(), &network)?;
+        let text = saved_of(rt.alloc(), &network)?;
         assert!(rt; text.as_slice() == saved.as_bytes(), "after {script}");
         let (again, refused) = network_of(rt.alloc(), text.as_slice());
         assert!(rt; !refused, "after {script}");
-        let second = save_text(rt.alloc(), &again)?;
+        let second = saved_of(rt.alloc(), &again)?;
         assert!(rt;
             second.as_slice() == saved.as_bytes(),
             "again after {script}"
@@ -83,7 +90,7 @@ fn long_lists_are_cut(rt: HostRuntime) -> Result<(), Fail> {
     }
     let (network, refused) = network_of(rt.alloc(), script.as_slice());
     assert!(rt; !refused);
-    let text = save_text(rt.alloc(), &network)?;
+    let text = saved_of(rt.alloc(), &network)?;
     for line in text.as_slice().split(|byte| *byte == b'\n') {
         assert!(rt; line.len() <= 4096);
     }
@@ -95,7 +102,7 @@ fn long_lists_are_cut(rt: HostRuntime) -> Result<(), Fail> {
     assert_eq!(rt; ends, 5);
     let (again, refused) = network_of(rt.alloc(), text.as_slice());
     assert!(rt; !refused);
-    let second = save_text(rt.alloc(), &again)?;
+    let second = saved_of(rt.alloc(), &again)?;
     assert!(rt; second.as_slice() == text.as_slice());
     Ok(())
 }

@@ -7,13 +7,20 @@ ghost use Rattle.std.specs.Prelude.{IfOk, IfSome};
 use super::refused::{Broken, twice};
 use mst_lang::{Edit, Line, parse_line};
 use mst_net::{Contents, Network, Ready, Refusal};
-use mst_save::save_text;
+use mst_save::put_saved;
 use mst_trials::regions::ONE_VID_TWO_TREES;
 use std::alloc::{AllocError, Global};
 
+/// The lines that make a network.
+fn saved(alloc: Global, network: &Network) -> Result<Vec<u8>, AllocError> {
+    let mut out = Vec::new(alloc);
+    put_saved::<Network, Vec<u8>>(alloc, network, &mut out)?;
+    Ok(out)
+}
+
 /// All that a network holds: the lines that make it, and the numbers of its records in the order of their names.
 fn held(alloc: Global, network: &Network) -> Result<Vec<u8>, AllocError> {
-    let mut held = save_text(alloc, network)?;
+    let mut held = saved(alloc, network)?;
     for name in &network.bridge_names(alloc)? {
         if let Some(bridge) = network.bridge(name) {
             add_number(alloc, &mut held, bridge.number.0)?;

@@ -1,6 +1,7 @@
 //! Edits that a planner makes one at a time: how often bridges are settled, and that what it answers is what a
 //! planner that is made anew answers.
 
+use super::answers::answered;
 use super::edits::edit_of;
 use mst_compare::Planner;
 use mst_ids::{Tree, Vid};
@@ -296,15 +297,16 @@ fn drawn_line(alloc: Global, draws: &mut Draws) -> Result<String, AllocError> {
 }
 
 /// What answers a query, once the planner is settled.
-fn text_of(planner: &mut Planner, query: &Query) -> Option<Vec<u8>> {
+fn text_of(alloc: Global, planner: &mut Planner, query: &Query) -> Option<Vec<u8>> {
     planner.settle().ok()?;
-    planner.answer(query).ok()
+    answered(alloc, planner, query).ok()?
 }
 
 /// The texts of the trees and of a VLAN, one after another.
-fn plan_text(planner: &mut Planner) -> Option<Vec<u8>> {
-    let mut texts = text_of(planner, &Query::ShowTree { tree: Tree::cist() })?;
+fn plan_text(alloc: Global, planner: &mut Planner) -> Option<Vec<u8>> {
+    let mut texts = text_of(alloc, planner, &Query::ShowTree { tree: Tree::cist() })?;
     let first = text_of(
+        alloc,
         planner,
         &Query::ShowTree {
             tree: Tree::new(1)?,
@@ -312,13 +314,14 @@ fn plan_text(planner: &mut Planner) -> Option<Vec<u8>> {
     )?;
     texts.extend_from_slice(first.as_slice()).ok()?;
     let second = text_of(
+        alloc,
         planner,
         &Query::ShowTree {
             tree: Tree::new(2)?,
         },
     )?;
     texts.extend_from_slice(second.as_slice()).ok()?;
-    let vlan = text_of(planner, &Query::ShowVlan { vid: Vid::new(10)? })?;
+    let vlan = text_of(alloc, planner, &Query::ShowVlan { vid: Vid::new(10)? })?;
     texts.extend_from_slice(vlan.as_slice()).ok()?;
     Some(texts)
 }
@@ -331,7 +334,7 @@ fn text_made_anew(alloc: Global, edits: &[Edit]) -> Option<Vec<u8>> {
             return None;
         }
     }
-    plan_text(&mut planner)
+    plan_text(alloc, &mut planner)
 }
 
 #[test]
@@ -351,7 +354,7 @@ fn a_repaired_plan_is_the_one_made_anew(rt: HostRuntime) -> Result<(), Fail> {
         if planner.apply(&edit).is_ok() {
             edits.push(edit)?;
         }
-        let repaired = plan_text(&mut planner);
+        let repaired = plan_text(rt.alloc(), &mut planner);
         assert!(rt; repaired.is_some());
         assert!(rt;
             repaired == text_made_anew(rt.alloc(), edits.as_slice()),

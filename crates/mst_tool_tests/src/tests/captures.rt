@@ -1,7 +1,7 @@
 //! Captures compared with the plan of a script, by rows that were made by hand.
 
 use super::counts;
-use mst_tool::{Outcome, RunFault, check, check_from};
+use mst_tool::{Form, Outcome, RunFault, check, check_from};
 use mst_trials::{Sink, Source};
 use std::alloc::Global;
 use std::test::Fail;
@@ -193,6 +193,38 @@ fn cases() -> [Case; 3] {
     ]
 }
 
+/// Checks two inputs that are given whole.
+pub(super) fn checked(
+    alloc: Global,
+    script: &[u8],
+    captures: &[u8],
+    written: &mut Vec<u8>,
+) -> Result<Outcome, RunFault> {
+    check(alloc, Form::Text, script, captures, written)
+}
+
+/// Checks what two readers give.
+pub(super) fn checked_from(
+    alloc: Global,
+    script: &mut Source<'_>,
+    captures: &mut Source<'_>,
+    writer: &mut Sink,
+) -> Result<Outcome, RunFault> {
+    check_from(alloc, Form::Text, script, captures, writer)
+}
+
+/// Checks two inputs that are given byte by byte.
+fn checked_slowly(
+    alloc: Global,
+    script: &[u8],
+    captures: &[u8],
+    slow: &mut Sink,
+) -> Result<Outcome, RunFault> {
+    let script = Source::new(script, 1);
+    let captures = Source::new(captures, 1);
+    check(alloc, Form::Text, script, captures, slow)
+}
+
 /// Checks two inputs that are given whole, and then byte by byte.
 fn check_both(
     alloc: Global,
@@ -200,15 +232,10 @@ fn check_both(
     captures: &[u8],
 ) -> Result<(Vec<u8>, Vec<u8>, Result<Outcome, RunFault>), RunFault> {
     let mut whole = Vec::new(alloc);
-    let checked = check(alloc, script, captures, &mut whole);
+    let ran = checked(alloc, script, captures, &mut whole);
     let mut slow = Sink::new(alloc, usize::MAX);
-    check(
-        alloc,
-        Source::new(script, 1),
-        Source::new(captures, 1),
-        &mut slow,
-    )?;
-    Ok((whole, slow.taken, checked))
+    checked_slowly(alloc, script, captures, &mut slow)?;
+    Ok((whole, slow.taken, ran))
 }
 
 #[test]
@@ -263,8 +290,8 @@ fn readers_fail(rt: HostRuntime) {
         let mut captures = Source::new(b"0\n00", 4096);
         captures.fails = true;
         let mut writer = Sink::new(rt.alloc(), usize::MAX);
-        let checked = check_from(rt.alloc(), &mut script, &mut captures, &mut writer);
-        assert_eq!(rt; checked, Err(RunFault::Read), "{fails_first}");
+        let ran = checked_from(rt.alloc(), &mut script, &mut captures, &mut writer);
+        assert_eq!(rt; ran, Err(RunFault::Read), "{fails_first}");
         let printed: &[u8] = if fails_first {
             b"line 1 E01 no such command\n"
         } else {

@@ -1,10 +1,9 @@
 //! Devices at their limits, and inputs that are cut off or damaged.
 
-use super::captures::REGION;
+use super::captures::{REGION, checked, checked_from};
 use super::counts;
 use mst_tool::{
-    Form, FromRead, Outcome, RunFault, ToWrite, check, check_from, check_within, run, run_from,
-    run_within,
+    Form, FromRead, Outcome, RunFault, ToWrite, check_within, run, run_from, run_within,
 };
 use mst_trials::{Sink, Source, plans, regions};
 use std::alloc::{AllocError, Global};
@@ -107,6 +106,7 @@ fn turns_of_captures_are_counted(rt: HostRuntime) {
             let mut sink = ToWrite::new(&mut writer);
             let checked = check_within(
                 rt.alloc(),
+                Form::Text,
                 &mut script_source,
                 &mut captures_source,
                 &mut sink,
@@ -147,8 +147,8 @@ fn lengths_of_messages(rt: HostRuntime) -> Result<(), Fail> {
     for (length, messages) in [("ffff", 0), ("0450", 65), ("0440", 63)] {
         let line = captured(rt.alloc(), length.as_bytes(), messages)?;
         let mut written = Vec::new(rt.alloc());
-        let checked = check(rt.alloc(), REGION, line.as_slice(), &mut written);
-        assert_eq!(rt; checked, Ok(counts(1, 0)), "{length}");
+        let ran = checked(rt.alloc(), REGION, line.as_slice(), &mut written);
+        assert_eq!(rt; ran, Ok(counts(1, 0)), "{length}");
         assert_eq!(rt; written.as_slice(), refused, "{length}");
     }
     let line = captured(rt.alloc(), b"0440", 64)?;
@@ -157,7 +157,7 @@ fn lengths_of_messages(rt: HostRuntime) -> Result<(), Fail> {
         expected.extend_from_slice(b"capture 1 B:2 msti 1 unplanned\n")?;
     }
     let mut written = Vec::new(rt.alloc());
-    check(rt.alloc(), REGION, line.as_slice(), &mut written)?;
+    checked(rt.alloc(), REGION, line.as_slice(), &mut written)?;
     assert!(rt; written == expected);
     Ok(())
 }
@@ -170,7 +170,7 @@ fn too_long_captures(rt: HostRuntime) -> Result<(), Fail> {
     }
     let mut written = Vec::new(rt.alloc());
     let nothing: &[u8] = b"";
-    check(rt.alloc(), nothing, digits.as_slice(), &mut written)?;
+    checked(rt.alloc(), nothing, digits.as_slice(), &mut written)?;
     let expected: &[u8] = b"capture 1 B01 not hexadecimal\n";
     assert_eq!(rt; written.as_slice(), expected);
     Ok(())
@@ -219,7 +219,7 @@ fn damaged_scripts(rt: HostRuntime) -> Result<(), Fail> {
 
 fn is_checked(alloc: Global, captures: &[u8]) -> bool {
     let mut written = Vec::new(alloc);
-    match check(alloc, REGION, captures, &mut written) {
+    match checked(alloc, REGION, captures, &mut written) {
         Ok(outcome) => outcome.memory == 0,
         Err(_) => false,
     }
@@ -299,15 +299,15 @@ fn writers_fail_in_a_check(rt: HostRuntime) -> Result<(), Fail> {
     script.extend_from_slice(REGION)?;
     script.extend_from_slice(b"showlag\nno\n")?;
     let mut whole = Vec::new(rt.alloc());
-    check(rt.alloc(), script.as_slice(), line.as_slice(), &mut whole)?;
+    checked(rt.alloc(), script.as_slice(), line.as_slice(), &mut whole)?;
     for fails in [false, true] {
         for room in 0..whole.len() {
             let mut reader = Source::new(script.as_slice(), 4096);
             let mut captures = Source::new(line.as_slice(), 64);
             let mut writer = Sink::new(rt.alloc(), room);
             writer.fails = fails;
-            let checked = check_from(rt.alloc(), &mut reader, &mut captures, &mut writer);
-            assert_eq!(rt; checked, Err(RunFault::Write), "{room}");
+            let ran = checked_from(rt.alloc(), &mut reader, &mut captures, &mut writer);
+            assert_eq!(rt; ran, Err(RunFault::Write), "{room}");
             assert!(rt;
                 writer.taken.as_slice() == &whole.as_slice()[..room],
                 "{room}"

@@ -15,7 +15,7 @@ pub returns-clause-sides : goal.returns-clause-sides
 returns-clause-sides g a b o p = sides_turned a b o p g.islands_of_vid.ensures.one
 
 pub returns-clause-reach : goal.returns-clause-reach
-returns-clause-reach g a b o p text other v w na nb x y = reach_turned a b o p na nb g.islands_of_vid.ensures.one g.group_lists.ensures.one text other v w x y
+returns-clause-reach g a b o p rows others v w x y = reach_turned a b o p g.islands_of_vid.ensures.one g.group_lists.ensures.one rows others v w x y
 
 pub returns-clause-counts : goal.returns-clause-counts
 returns-clause-counts g a b o p = counts_turned a b o p g.islands_of_vid.ensures.one

@@ -9,11 +9,12 @@ use Rattle.mst_engine.proofs.captures.compare_sent.Goals as goal
 
 pub returns : goal.returns
 returns c =
+    let form = c.args.form in
     let number = c.args.number in
     let now = planned_state c.args.planner.now in
     let port = c.args.port.now in
     let found = c.in-Ok.differences.items in
     let reply = c.in-Ok-told.reply in
-    let told : replied (shape_of Captures) number now reply ≡ compared false number now port found = c.in-Ok-told.ensures now ∙ ap (compared false number now port) c.as_slice.ensures.value in
-    let whole : is_starved reply ≡ false = ap (λ (s : Step). s.lacking) told ∙ compared_whole number now port found in
-    (found, c.in-Ok.ensures.found, told ∙ ap (λ lacks. compared lacks number now port found) (sym whole))
+    let told : replied (shape_of (Captures form)) number now reply ≡ compared form false number now port found = c.in-Ok-told.ensures now ∙ ap (compared form false number now port) c.as_slice.ensures.value in
+    let whole : is_starved reply ≡ false = ap (λ (s : Step). s.lacking) told ∙ compared_whole form number now port found in
+    (found, c.in-Ok.ensures.found, told ∙ ap (λ lacks. compared form lacks number now port found) (sym whole))

@@ -1,5 +1,5 @@
-use Rattle.mst_summary.proofs.plan_text_lemmas.Texts.{text_more}
 use Rattle.mst_picture.specs.Lans.{end_line}
+use Rattle.mst_picture.proofs.Lines.{text_more}
 use Rattle.mst_picture.proofs.lans.push_end_lines.Goals as goal
 
 pub loop-end-preserved : goal.loop-end-preserved

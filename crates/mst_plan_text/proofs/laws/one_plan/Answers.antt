@@ -2,4 +2,4 @@ use Rattle.mst_plan_text.proofs.OnePlan.{one_plan}
 use Rattle.mst_plan_text.proofs.laws.one_plan.Goals as goal
 
 pub returns : goal.returns
-returns c net o text other a b = one_plan net o (c.one_text.ensures.body net o) c.group_lists.ensures.one text other a b
+returns c net o rows other a b = one_plan net o (λ vid. c.islands_of_vid.ensures.one net o vid) c.group_lists.ensures.one rows other a b

@@ -1,5 +1,5 @@
-use Rattle.mst_report.proofs.Answering.{one_text}
+use Rattle.mst_report.proofs.Answering.{one_rows}
 use Rattle.mst_report.proofs.laws.one_answer.Goals as goal
 
 pub returns : goal.returns
-returns c = one_text c.one_outcome.ensures c.one_plan.ensures c.one_text.ensures.text c.notes.ensures.one c.entries_tell.ensures
+returns c = one_rows c.one_outcome.ensures c.one_plan.ensures c.one_rows.ensures.vlan c.notes.ensures.one_list c.entries_tell.ensures

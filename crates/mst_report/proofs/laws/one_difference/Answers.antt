@@ -1,7 +1,7 @@
 use Rattle.mst_report.proofs.laws.one_difference.Goals as goal
 
 pub returns-clause-one : goal.returns-clause-one
-returns-clause-one g a b c d text other na nb x y = g.one_diff.ensures.one a b x.old x.new y.old y.new na nb x.is_old x.is_new y.is_old y.is_new c d text other x.told y.told
+returns-clause-one g a b c d rows other na nb x y = g.one_diff.ensures.one a b x.old x.new y.old y.new na nb x.is_old x.is_new y.is_old y.is_new c d rows other x.told y.told
 
 pub returns-clause-some : goal.returns-clause-some
 returns-clause-some g a b na nb =

@@ -13,14 +13,14 @@ returns-clause-some c net part is =
     (there.2, there.1, record { outcome = there.0; is_outcome = there.3; told = there.4 })
 
 pub returns-clause-one : goal.returns-clause-one
-returns-clause-one c net part text other n m ok a b = c.pairs.ensures.one net a.outcome b.outcome part text other n m ok a.is_outcome b.is_outcome a.told b.told
+returns-clause-one c net part rows other n m ok a b = c.pairs.ensures.one net a.outcome b.outcome part rows other n m ok a.is_outcome b.is_outcome a.told b.told
 
 pub returns-clause-joined : goal.returns-clause-joined
-returns-clause-joined c net count parts text cuts ok some are x =
+returns-clause-joined c net count parts rows cuts ok some are x =
     let o : Outcome = x.outcome in
-    c.pairs.ensures.joined net o count parts text cuts ok some
-    (each_zipped (λ number (part : ToldOfPart). SweepsPairs (record { number = number; count = count }) net part.cuts part.text)
-    (λ number (part : ToldOfPart). IsPairsPart (record { number = number; count = count }) net o part.text part.cuts)
-    (λ number part told. subst (λ q. IsPairsPart (record { number = number; count = count }) net q part.text part.cuts) (c.one_outcome.ensures net told.outcome o ok told.is_outcome x.is_outcome) told.told)
+    c.pairs.ensures.joined net o count parts rows cuts ok some
+    (each_zipped (λ number (part : ToldOfPart). SweepsPairs (record { number = number; count = count }) net part.cuts part.rows)
+    (λ number (part : ToldOfPart). IsPairsPart (record { number = number; count = count }) net o part.rows part.cuts)
+    (λ number part told. subst (λ q. IsPairsPart (record { number = number; count = count }) net q part.rows part.cuts) (c.one_outcome.ensures net told.outcome o ok told.is_outcome x.is_outcome) told.told)
     (range_with_len 1 count) parts are)
-    ((c.pairs.ensures.whole net o text cuts).0 x.told)
+    ((c.pairs.ensures.whole net o rows cuts).0 x.told)

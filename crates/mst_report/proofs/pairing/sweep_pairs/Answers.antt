@@ -6,8 +6,8 @@ use Rattle.mst_report.specs.Pairing.{AreSingles}
 use Rattle.mst_report.proofs.Paired.{failures_few}
 use Rattle.mst_report.proofs.pairing.sweep_pairs.Goals as goal
 
-pub pairs_told-requires-clause-pairing : goal.pairs_told-requires-clause-pairing
-pairs_told-requires-clause-pairing c =
+pub put_pairs_of-requires-clause-pairing : goal.put_pairs_of-requires-clause-pairing
+put_pairs_of-requires-clause-pairing g c =
     let network = c.args.network.now in
     let is = c.requires.forest in
     let firsts = c.in_ok-baseline.baseline in

@@ -1,13 +1,13 @@
 use Rattle.std.proofs.Common.{◌≡◌, subst}
-use Rattle.mst_summary.specs.SummaryText.{IsSummary}
-use Rattle.mst_summary.proofs.OneSummary.{one_text, has_text}
+use Rattle.mst_summary.specs.SummaryText.{AreSummaryRows}
+use Rattle.mst_summary.proofs.OneSummary.{one_list, has_rows}
 use Rattle.mst_summary.proofs.laws.one_summary.Goals as goal
 
-pub returns-clause-one : goal.returns-clause-one
-returns-clause-one g net o q ok oo oq text other x y =
+pub returns-clause-one_list : goal.returns-clause-one_list
+returns-clause-one_list g net o q ok oo oq rows other x y =
     let same : q ≡ o = g.one_outcome.ensures net q o ok oq oo in
-    let z : IsSummary net o other = subst (λ q. IsSummary net q other) same y in
-    one_text net o (g.islands_of_vid.ensures.one net o) g.group_lists.ensures.one text other x z
+    let z : AreSummaryRows net o other = subst (λ q. AreSummaryRows net q other) same y in
+    one_list net o (g.islands_of_vid.ensures.one net o) g.group_lists.ensures.one rows other x z
 
-pub returns-clause-some : goal.returns-clause-some
-returns-clause-some g net o ok = has_text net o (λ vid. g.islands_of_vid.ensures.some net o vid ok) g.group_lists.ensures.some
+pub returns-clause-some_rows : goal.returns-clause-some_rows
+returns-clause-some_rows g net o ok = has_rows net o (λ vid. g.islands_of_vid.ensures.some net o vid ok) g.group_lists.ensures.some

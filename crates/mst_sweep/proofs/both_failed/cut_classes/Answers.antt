@@ -2,10 +2,10 @@ use Rattle.std.proofs.Common.{Vec, Global, ◌≡◌, ℕ, List, length, map, sy
 use Rattle.std.proofs.lemmas.Result.{IfOk-weaker}
 use Rattle.mst_diff.specs.Reach.{has_any}
 use Rattle.mst_diff.proofs.Reached.{AreTold}
-use Rattle.mst_diff.proofs.plan_text_lemmas.Classes.{have_bodies}
+use Rattle.mst_sweep.specs.Cuts.{names_of}
 use Rattle.mst_sweep.specs.Parts.{AreParts}
 use Rattle.mst_sweep.proofs.Stay.{parts_moved}
-use Rattle.mst_sweep.proofs.PairParts.{classes_cut}
+use Rattle.mst_sweep.proofs.PairParts.{classes_cut, have_parts}
 use Rattle.mst_sweep.specs.Touched.{AreWhereTouched}
 use Rattle.mst_sweep.proofs.both_failed.cut_classes.Goals as goal
 
@@ -17,12 +17,12 @@ pub returns : goal.returns
 returns c = IfOk-weaker c.any_each.result _ _
     (λ flags is_each a b n k is are of so left.
     let firsts : List ℕ = c.args.baseline.now.classes.firsts.items in
-    let texts : List (Vec ℕ Global) = c.in_ok-parts.parts.items in
+    let each : List (Vec (Vec (List ℕ) Global) Global) = c.in_ok-parts.parts.items in
     let read = c.as_slice-3.ensures.value in
     let s = c.requires.baseline in
     let told_by : AreTold c.args.old.now.view.now s.tables s.sets = record { tables = s.have_tables; sets = s.have_sets } in
-    let R : ℕ → List ℕ → Type 0 = AreParts a is.outcome b are.outcome in
-    let have = have_bodies R s.tables s.sets (parts_moved a b n k c.args.old.now.view.now c.args.new.now.view.now c.args.old.now.forest.now c.args.new.now.forest.now of so left s.tables s.sets told_by is.outcome are.outcome) s.numbers c.args.baseline.now.classes.numbers.items firsts s.tell s.classes
-    (map (λ (t : Vec ℕ Global). t.items) texts) (c.in_ok-parts.ensures.parts a b n k is are of so left) in
-    let long : length texts ≡ length firsts = ap length (sym read) ∙ c.as_slice-3.ensures.len ∙ c.in_ok-parts.ensures.as_long in
-    classes_cut a b is.outcome are.outcome c.args.baseline.now.classes texts flags.items long have (is_each ∙ ap (map (λ (t : Vec ℕ Global). has_any t.items)) read)) c.any_each.ensures
+    let R : ℕ → List (List (List ℕ)) → Type 0 = AreParts a is.outcome b are.outcome in
+    let have = have_parts R s.tables s.sets (parts_moved a b n k c.args.old.now.view.now c.args.new.now.view.now c.args.old.now.forest.now c.args.new.now.forest.now of so left s.tables s.sets told_by is.outcome are.outcome) s.numbers c.args.baseline.now.classes.numbers.items firsts s.tell s.classes
+    (map names_of each) (c.in_ok-parts.ensures.parts a b n k is are of so left) in
+    let long : length each ≡ length firsts = ap length (sym read) ∙ c.as_slice-3.ensures.len ∙ c.in_ok-parts.ensures.as_long in
+    classes_cut a b is.outcome are.outcome c.args.baseline.now.classes each flags.items long have (is_each ∙ ap (map (λ (t : Vec (Vec (List ℕ) Global) Global). has_any (names_of t))) read)) c.any_each.ensures

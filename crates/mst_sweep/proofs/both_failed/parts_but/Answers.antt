@@ -1,6 +1,7 @@
 use Rattle.std.proofs.Common.{◌≡◌, ◌+◌, ◌<◌, ℕ, List, ◌∷◌, [], get_or, length, map, sym, ap, subst, ◌∙◌, arith, length-append}
 use Rattle.std.specs.Bool.{MatchBool}
 use Rattle.std.proofs.lemmas.List.{map-append, length-map}
+use Rattle.mst_sweep.specs.Cuts.{names_of}
 use Rattle.mst_sweep.specs.Parts.{AreParts}
 use Rattle.mst_sweep.specs.Touched.{AreWhereTouched}
 use Rattle.mst_sweep.proofs.ButFlagged.{AreUnless, IsUnless, one_more}
@@ -12,20 +13,20 @@ parts_unless-requires-clause-touched c =
 
 pub loop-class-preserved : goal.loop-class-preserved
 loop-class-preserved c = record {
-  as_long = omega (arith, ap length c.in_ok-push.ensures.items, length-append c.loop-class.texts.items (c.in_ok-text.text ∷ []), c.loop-class.invariant.as_long);
+  as_long = omega (arith, ap length c.in_ok-push.ensures.items, length-append c.loop-class.parts.items (c.in_ok-of.of ∷ []), c.loop-class.invariant.as_long);
   parts = λ a b n k is are of so left.
       let class : ℕ = c.loop-class.class in
       let firsts : List ℕ = c.args.baseline.now.classes.firsts.items in
       let one = c.args.one.now in
       let other = c.args.other.now in
-      let before : List (List ℕ) = map (λ text. text.items) c.loop-class.texts.items in
-      let text : List ℕ = c.in_ok-text.text.items in
-      let long : length before ≡ class = length-map c.loop-class.texts.items (λ text. text.items) ∙ c.loop-class.invariant.as_long in
-      let flagged : IsUnless a is.outcome b are.outcome firsts one other class text =
-      subst (λ flag. MatchBool flag (text ≡ []) (AreParts a is.outcome b are.outcome (get_or firsts class 0 + 1) text)) c.is_flagged-flag.ensures (c.in_ok-text.ensures a b n k is are of so left) in
-      let pushed = ap (map (λ text. text.items)) c.in_ok-push.ensures.items ∙ map-append (λ text. text.items) c.loop-class.texts.items (c.in_ok-text.text ∷ []) in
+      let before : List (List (List (List ℕ))) = map names_of c.loop-class.parts.items in
+      let parts : List (List (List ℕ)) = names_of c.in_ok-of.of in
+      let long : length before ≡ class = length-map c.loop-class.parts.items names_of ∙ c.loop-class.invariant.as_long in
+      let flagged : IsUnless a is.outcome b are.outcome firsts one other class parts =
+      subst (λ flag. MatchBool flag (parts ≡ []) (AreParts a is.outcome b are.outcome (get_or firsts class 0 + 1) parts)) c.is_flagged-flag.ensures (c.in_ok-of.ensures a b n k is are of so left) in
+      let pushed = ap (map names_of) c.in_ok-push.ensures.items ∙ map-append names_of c.loop-class.parts.items (c.in_ok-of.of ∷ []) in
       subst (AreUnless a is.outcome b are.outcome firsts one other (class + 1)) (sym pushed)
-      (one_more a is.outcome b are.outcome firsts one other class before text long (c.loop-class.invariant.parts a b n k is are of so left) flagged);
+      (one_more a is.outcome b are.outcome firsts one other class before parts long (c.loop-class.invariant.parts a b n k is are of so left) flagged);
 }
 
 pub returns-clause-as_long : goal.returns-clause-as_long
@@ -36,6 +37,6 @@ returns-clause-parts c a b n k is are of so left =
     let firsts : List ℕ = c.args.baseline.now.classes.firsts.items in
     let all : c.loop-class.class ≡ length firsts = omega (arith, c.loop-class-test.false, c.loop-class.auto.class-end, c.requires.one) in
     record {
-      as_long = length-map c.loop-class.texts.items (λ text. text.items) ∙ c.loop-class.invariant.as_long ∙ all;
+      as_long = length-map c.loop-class.parts.items names_of ∙ c.loop-class.invariant.as_long ∙ all;
       each = λ class below. c.loop-class.invariant.parts a b n k is are of so left class (subst (λ n. class < n) (sym all) below);
     }

@@ -3,13 +3,14 @@ use Rattle.mst_net.specs.Tables.{Net, Numbers}
 use Rattle.mst_diff.specs.trees.Agrees.{AreOf}
 use Rattle.mst_diff.specs.trees.Forest.{IsForest}
 use Rattle.mst_sweep.specs.Left.{AreLeft}
+use Rattle.mst_sweep.specs.Cuts.{names_of}
 use Rattle.mst_sweep.proofs.ButFlagged.{AreUnless}
 use Rattle.mst_sweep.proofs.both_failed.parts_but.Given as goal
 
 -- the parts of the classes so far
 abbrev pub invariant-loop-class : goal.invariant-loop-class
 invariant-loop-class l = record {
-  as_long : length l.texts.items ≡ l.class;
+  as_long : length l.parts.items ≡ l.class;
   parts : (a b : Net) (n k : Numbers) (is : IsForest a n l.fn.old.forest.now) (are : IsForest b k l.fn.new.forest.now) → AreOf a n l.fn.old.view.now l.fn.old.forest.now.regions → AreOf b k l.fn.new.view.now l.fn.new.forest.now.regions
-      → AreLeft a b → AreUnless a is.outcome b are.outcome l.fn.baseline.classes.firsts.items l.fn.one l.fn.other l.class (map (λ text. text.items) l.texts.items);
+      → AreLeft a b → AreUnless a is.outcome b are.outcome l.fn.baseline.classes.firsts.items l.fn.one l.fn.other l.class (map names_of l.parts.items);
 }

@@ -1,12 +1,14 @@
-use Rattle.std.proofs.Common.{ℕ, List, ◌++◌, ap, ◌∙◌}
+use Rattle.std.proofs.Common.{ℕ, List, ap, ◌∙◌}
 use Rattle.std.specs.List.{filter_map}
-use Rattle.mst_sweep.specs.Parts.{parts_text}
+use Rattle.std.proofs.lemmas.Result.{IfOk-weaker}
+use Rattle.mst_sweep.specs.Parts.{all_parts}
 use Rattle.mst_sweep.specs.Seen.{seen_stays}
 use Rattle.mst_sweep.proofs.Stay.{all_stay}
 use Rattle.mst_sweep.proofs.cuts.parts.Goals as goal
 
 pub returns : goal.returns
-returns c a b n k is are of so homes =
+returns c = IfOk-weaker c.all_parts.result _ _
+    (λ parts told a b n k is are of so homes.
     let v = c.args.old.now.view.now in
     let f = c.args.old.now.forest.now in
     let w = c.args.new.now.view.now in
@@ -16,4 +18,4 @@ returns c a b n k is are of so homes =
     let afters : List (ℕ × ℕ) = c.in_ok-news.news.entries in
     let all = c.as_slice.ensures.value ∙ c.in_ok-all.ensures ∙ ap (filter_map (seen_stays befores afters)) c.requires.both
     ∙ all_stay a b n k v w f g of so is.outcome are.outcome c.args.vid homes.0 news.0 news.1 befores afters homes.2 news.2 in
-    (homes.0, news.0, homes.1, news.1, c.in_ok-push_parts.ensures {u = tt} ∙ ap (λ t. t ++ parts_text c.as_slice.result.now) c.new-text.ensures.items ∙ ap parts_text all)
+    (homes.0, news.0, homes.1, news.1, told ∙ ap all_parts all)) c.all_parts.ensures

@@ -3,13 +3,14 @@ use Rattle.std.proofs.lemmas.Grind.{common_steps}
 use Rattle.std.proofs.lemmas.List.{get_or-map}
 use Rattle.std.proofs.lemmas.Result.{IfOk-weaker}
 use Rattle.mst_diff.proofs.plan_text_lemmas.Bodied.{zip_at}
+use Rattle.mst_sweep.specs.Cuts.{names_of}
 use Rattle.mst_sweep.specs.Parts.{AreParts}
 use Rattle.mst_sweep.specs.Baseline.{AreHomes}
 use Rattle.mst_sweep.proofs.cuts.parts_at.Goals as goal
 
 pub returns : goal.returns
 returns c = IfOk-weaker c.parts_if_cut.result _ _
-    (λ text told a b n k is are of so left.
+    (λ parts told a b n k is are of so left.
     let i : ℕ = c.args.class in
     let baseline = c.args.baseline.now in
     let firsts : List ℕ = baseline.classes.firsts.items in
@@ -25,4 +26,4 @@ returns c = IfOk-weaker c.parts_if_cut.result _ _
     let at : AreHomes a n is.outcome (place + 1) (get_or (map (λ h. h.entries) baseline.homes.items) i []) =
     zip_at (λ place homes. AreHomes a n is.outcome (place + 1) homes) firsts (map (λ h. h.entries) baseline.homes.items) i 0 [] (c.requires.baseline.homes a n is of) below in
     let homes : AreHomes a n is.outcome c.unwrap-vid.result h.entries = subst (λ vid. AreHomes a n is.outcome vid h.entries) (sym vid) (subst (AreHomes a n is.outcome (place + 1)) kept at) in
-    subst (λ vid. AreParts a is.outcome b are.outcome vid text.items) vid (told a b n k is are of so left homes)) c.parts_if_cut.ensures
+    subst (λ vid. AreParts a is.outcome b are.outcome vid (names_of parts)) vid (told a b n k is are of so left homes)) c.parts_if_cut.ensures

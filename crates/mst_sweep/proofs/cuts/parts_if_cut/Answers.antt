@@ -1,4 +1,5 @@
-use Rattle.std.proofs.Common.{sym, subst}
+use Rattle.std.proofs.Common.{sym, subst, ap}
+use Rattle.std.specs.Prelude.{map}
 use Rattle.std.proofs.lemmas.Result.{IfOk-weaker}
 use Rattle.mst_sweep.specs.Parts.{AreParts}
 use Rattle.mst_sweep.proofs.Unlinked.{no_parts_of}
@@ -13,7 +14,7 @@ returns-then-breaks_no_link c a b n k is are of so left homes =
     let vid = c.args.vid in
     let kept = c.breaks_no_link.ensures c.if-breaks_no_link.true in
     let news = c.islands_of_vid.ensures.some b are.outcome vid so.network in
-    subst (AreParts a is.outcome b are.outcome vid) (sym c.new.ensures.items)
+    subst (AreParts a is.outcome b are.outcome vid) (sym (ap (map (λ names. names.items)) c.new.ensures.items))
     (no_parts_of a b n k v w f g of so is are left vid c.args.touched.now c.requires.touched kept homes.0 news.0 homes.1 news.1)
 
 pub returns : goal.returns

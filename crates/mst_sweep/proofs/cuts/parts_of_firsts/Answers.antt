@@ -2,6 +2,7 @@ use Rattle.std.proofs.Common.{◌+◌, ◌<◌, ◌≤◌, ℕ, List, ◌∷◌,
 use Rattle.std.proofs.lemmas.Grind.{common_steps}
 use Rattle.std.proofs.lemmas.List.{map-append}
 use Rattle.std.proofs.Common.{take}
+use Rattle.mst_sweep.specs.Cuts.{names_of}
 use Rattle.mst_sweep.specs.Parts.{AreParts}
 use Rattle.mst_sweep.proofs.Placed.{AtPlaces, places_more, places_all}
 use Rattle.mst_sweep.proofs.cuts.parts_of_firsts.Goals as goal
@@ -14,9 +15,9 @@ loop-class-preserved c = record {
       let firsts : List ℕ = c.args.baseline.now.classes.firsts.items in
       let place : ℕ = get_or firsts i 0 in
       let below : i < length firsts = omega (arith, c.loop-class-test.true, c.len-class-end.ensures) in
-      let pushed = ap (map (λ text. text.items)) c.in_ok-push.ensures.items ∙ map-append (λ text. text.items) c.loop-class.texts.items (c.in_ok-parts_at.field-0 ∷ []) in
+      let pushed = ap (map names_of) c.in_ok-push.ensures.items ∙ map-append names_of c.loop-class.parts.items (c.in_ok-parts_at.field-0 ∷ []) in
       subst (AtPlaces (AreParts a is.outcome b are.outcome) (take (i + 1) firsts)) (sym pushed)
-      (places_more (AreParts a is.outcome b are.outcome) firsts i place (place + 1) below refl refl (map (λ text. text.items) c.loop-class.texts.items) c.in_ok-parts_at.field-0.items
+      (places_more (AreParts a is.outcome b are.outcome) firsts i place (place + 1) below refl refl (map names_of c.loop-class.parts.items) (names_of c.in_ok-parts_at.field-0)
       (c.loop-class.invariant.parts a b n k is are of so left) (c.in_ok-parts_at.ensures a b n k is are of so left));
 }
 
@@ -24,4 +25,4 @@ pub returns-clause-parts : goal.returns-clause-parts
 returns-clause-parts c a b n k is are of so left =
     let firsts : List ℕ = c.args.baseline.now.classes.firsts.items in
     let past : length firsts ≤ c.loop-class.class = omega (arith, c.loop-class-test.false, c.len-class-end.ensures) in
-    places_all (AreParts a is.outcome b are.outcome) firsts c.loop-class.class past (map (λ text. text.items) c.loop-class.texts.items) (c.loop-class.invariant.parts a b n k is are of so left)
+    places_all (AreParts a is.outcome b are.outcome) firsts c.loop-class.class past (map names_of c.loop-class.parts.items) (c.loop-class.invariant.parts a b n k is are of so left)

@@ -4,13 +4,14 @@ use Rattle.mst_net.specs.Tables.{Net, Numbers}
 use Rattle.mst_diff.specs.trees.Agrees.{AreOf}
 use Rattle.mst_diff.specs.trees.Forest.{IsForest}
 use Rattle.mst_sweep.specs.Left.{AreLeft}
+use Rattle.mst_sweep.specs.Cuts.{names_of}
 use Rattle.mst_sweep.specs.Parts.{AreParts}
 use Rattle.mst_sweep.proofs.cuts.parts_of_firsts.Given as goal
 
 -- the parts of the classes so far
 abbrev pub invariant-loop-class : goal.invariant-loop-class
 invariant-loop-class l = record {
-  as_long : length l.texts.items ≡ l.class;
+  as_long : length l.parts.items ≡ l.class;
   parts : (a b : Net) (n k : Numbers) (is : IsForest a n l.fn.old.forest.now) (are : IsForest b k l.fn.new.forest.now) → AreOf a n l.fn.old.view.now l.fn.old.forest.now.regions → AreOf b k l.fn.new.view.now l.fn.new.forest.now.regions
-      → AreLeft a b → AllZip (λ place text. AreParts a is.outcome b are.outcome (place + 1) text) (take l.class l.fn.baseline.classes.firsts.items) (map (λ text. text.items) l.texts.items);
+      → AreLeft a b → AllZip (λ place parts. AreParts a is.outcome b are.outcome (place + 1) parts) (take l.class l.fn.baseline.classes.firsts.items) (map names_of l.parts.items);
 }

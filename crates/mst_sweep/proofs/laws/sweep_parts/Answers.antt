@@ -9,27 +9,27 @@ use Rattle.mst_sweep.proofs.SweptParts.{from_part, joined, whole_is}
 use Rattle.mst_sweep.proofs.laws.sweep_parts.Goals as goal
 
 pub returns-clause-one : goal.returns-clause-one
-returns-clause-one g net o p part text other c d is oa pa x y =
+returns-clause-one g net o p part rows other c d is oa pa x y =
     let same : p ≡ o = g.one_outcome.ensures net p o is pa oa in
     let z : IsSweepPart part net o other d = subst (λ q. IsSweepPart part net q other d) same y in
     let one = g.islands_of_vid.ensures.one in
     let grouping = g.group_lists.ensures.one in
     let after = g.networks.ensures.after in
     let fs : List Failure = part_of part (failures net) in (
-      one_sweep one grouping g.one_outcome.ensures after net o is fs (from_part part (failures net)) text other c d x z,
-      count_same one grouping g.one_outcome.ensures after net o is fs (from_part part (failures net)) text other c d x z,
+      one_sweep one grouping g.one_outcome.ensures after net o is fs (from_part part (failures net)) rows other c d x z,
+      count_same one grouping g.one_outcome.ensures after net o is fs (from_part part (failures net)) rows other c d x z,
     )
 
 pub returns-clause-joined : goal.returns-clause-joined
-returns-clause-joined g net o count parts text cuts is oa some are x =
-    joined net o (all_told g.islands_of_vid.ensures.one g.group_lists.ensures.one g.one_outcome.ensures g.networks.ensures.after net o is (failures net) (λ f own. own)) count some parts text cuts are x
+returns-clause-joined g net o count parts rows cuts is oa some are x =
+    joined net o (all_told g.islands_of_vid.ensures.one g.group_lists.ensures.one g.one_outcome.ensures g.networks.ensures.after net o is (failures net) (λ f own. own)) count some parts rows cuts are x
 
 pub returns-clause-lengths : goal.returns-clause-lengths
 returns-clause-lengths g net part is = lengths_near (failures net) part is.0 is.1
 
 pub returns-clause-whole : goal.returns-clause-whole
-returns-clause-whole g net o text cuts =
+returns-clause-whole g net o rows cuts =
     let same = whole_is (failures net) in (
-      λ x. subst (λ (fs : List Failure). IsSweepOf net o fs text cuts) same x,
-      λ x. subst (λ (fs : List Failure). IsSweepOf net o fs text cuts) (sym same) x,
+      λ x. subst (λ (fs : List Failure). IsSweepOf net o fs rows cuts) same x,
+      λ x. subst (λ (fs : List Failure). IsSweepOf net o fs rows cuts) (sym same) x,
     )

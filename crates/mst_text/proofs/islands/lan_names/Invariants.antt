@@ -1,7 +1,8 @@
-use Rattle.std.proofs.Common.{◌≡◌, ℕ, List, map, take, Bor}
+use Rattle.std.proofs.Common.{◌≡◌, take}
+use Rattle.std.specs.List.{filter_map}
 use Rattle.mst_text.specs.VlanSeen.{seen_lan}
 use Rattle.mst_text.proofs.islands.lan_names.Given as goal
 
 -- the names so far
 abbrev pub invariant-loop-lan : goal.invariant-loop-lan
-invariant-loop-lan l = map {A = Bor (List ℕ)} {B = List ℕ} (λ name. name.now) l.names.items ≡ map (seen_lan l.view) (take l.lan-index l.lans)
+invariant-loop-lan l = l.names.items ≡ filter_map (seen_lan l.view) (take l.lan-index l.lans)

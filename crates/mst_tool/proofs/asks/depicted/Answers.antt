@@ -1,9 +1,8 @@
-use Rattle.std.proofs.Common.{ap}
+use Rattle.std.proofs.Common.{subst}
+use Rattle.std.specs.Prelude.{IfOk}
 use Rattle.mst_engine.specs.net.Contents.{Contents}
-use Rattle.mst_tool.proofs.WholeLoad.{picture_shown}
+use Rattle.mst_engine.specs.report.Picturing.{Depicts}
 use Rattle.mst_tool.proofs.asks.depicted.Goals as goal
 
 pub returns : goal.returns
-returns c =
-    picture_shown c.args.form c.args.planner.now.contents.net c.settle.new.self.contents.net c.args.tree c.in_ok-text.text.items c.show.new.text.items
-    (ap (λ (k : Contents). k.net) c.settle.ensures.same) c.in_ok-text.ensures c.in_ok-show.ensures
+returns c = subst (λ (k : Contents). IfOk c.picture.result (λ text. Depicts k.net c.args.tree text.items)) c.settle.ensures.same c.picture.ensures

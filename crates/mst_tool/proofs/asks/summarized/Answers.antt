@@ -1,9 +1,14 @@
-use Rattle.std.proofs.Common.{ap}
+use Rattle.std.proofs.Common.{[], None, ap}
 use Rattle.mst_engine.specs.net.Contents.{Contents}
+use Rattle.mst_print.proofs.Shown.{grew_none}
+use Rattle.mst_tool.specs.Shown.{summary_row}
 use Rattle.mst_tool.proofs.WholeLoad.{summary_shown}
 use Rattle.mst_tool.proofs.asks.summarized.Goals as goal
 
 pub returns : goal.returns
 returns c =
-    summary_shown c.args.form c.args.planner.now.contents.net c.settle.new.self.contents.net c.in_ok-text.text.items c.show.new.text.items
-    (ap (λ (k : Contents). k.net) c.settle.ensures.same) c.in_ok-text.ensures c.in_ok-show.ensures
+    let printer = c.in_ok-printer.printer in
+    let put = c.in_ok-put_summary.ensures printer [] (grew_none printer) in
+    summary_shown c.args.form c.args.planner.now.contents.net c.settle.new.self.contents.net put.0 c.in_ok-text.text.items
+    (ap (λ (k : Contents). k.net) c.settle.ensures.same) put.1
+    (c.in_ok-text.ensures c.args.form None summary_row printer put.0 c.in_ok-printer.ensures put.2)

@@ -1,10 +1,15 @@
-use Rattle.std.proofs.Common.{ap}
+use Rattle.std.proofs.Common.{[], None, ap}
 use Rattle.mst_engine.specs.net.Contents.{Contents}
+use Rattle.mst_print.proofs.Shown.{grew_none}
+use Rattle.mst_tool.specs.Shown.{diff_row}
 use Rattle.mst_tool.proofs.WholeDiff.{difference_shown}
 use Rattle.mst_tool.proofs.diffs.what_differs.Goals as goal
 
 pub returns : goal.returns
 returns c =
-    let found = c.in_ok-found.found in
-    difference_shown c.args.form c.args.old.now.contents.net c.args.new.now.contents.net c.settle.new.self.contents.net c.settle-2.new.self.contents.net found.counts found.text.items c.show.new.text.items
-    (ap (λ (k : Contents). k.net) c.settle.ensures.same) (ap (λ (k : Contents). k.net) c.settle-2.ensures.same) c.in_ok-found.ensures c.in_ok-show.ensures
+    let printer = c.in_ok-printer.printer in
+    let counts = c.in_ok-counts.counts in
+    let put = c.in_ok-counts.ensures printer [] (grew_none printer) in
+    difference_shown c.args.form c.args.old.now.contents.net c.args.new.now.contents.net c.settle.new.self.contents.net c.settle-2.new.self.contents.net counts put.0 c.in_ok-text.text.items
+    (ap (λ (k : Contents). k.net) c.settle.ensures.same) (ap (λ (k : Contents). k.net) c.settle-2.ensures.same) put.1
+    (c.in_ok-text.ensures c.args.form None diff_row printer put.0 c.in_ok-printer.ensures put.2)

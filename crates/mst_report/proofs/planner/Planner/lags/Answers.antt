@@ -1,8 +1,9 @@
-use Rattle.std.proofs.Common.{ap, ◌∙◌, ◌++◌, Ok}
-use Rattle.mst_picture.specs.text.LagText.{lags_text}
+use Rattle.std.proofs.Common.{refl}
+use Rattle.std.proofs.lemmas.Result.{on_ok_weaker}
+use Rattle.mst_picture.specs.text.LagText.{lags_rows}
 use Rattle.mst_report.proofs.planner.Planner.lags.Goals as goal
 
 pub returns : goal.returns
-returns c =
+returns g c first before grew =
     let now = c.args.self.now.contents in
-    ap Ok (c.in_ok-push_lags.ensures now.net now.numbers c.plan.ensures.of.of.view ∙ ap (λ l. l ++ lags_text now.net) c.new-text.ensures.items)
+    on_ok_weaker c.put_lags.result (λ grown. (lags_rows now.net, refl, grown)) (c.put_lags.ensures now.net now.numbers c.plan.ensures.of.of.view first before grew)

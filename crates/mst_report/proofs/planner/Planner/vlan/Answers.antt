@@ -1,8 +1,10 @@
-use Rattle.mst_picture.specs.text.VlanText.{IsVlanText}
+use Rattle.std.proofs.lemmas.Result.{on_ok_weaker}
+use Rattle.mst_picture.specs.text.VlanText.{AreVlanRows}
 use Rattle.mst_report.proofs.Told.{tells}
 use Rattle.mst_report.proofs.planner.Planner.vlan.Goals as goal
 
 pub returns : goal.returns
-returns c =
-    let said = c.in_ok-push_vlan.ensures in
-    tells c.args.self.now.contents.net c.settled-plan.result c.settled-plan.ensures c.known.ensures (λ net o. IsVlanText net o c.args.vid) said.0 said.1 c.new-text.result.items _ c.new-text.ensures.items said.2
+returns g c first before grew =
+    on_ok_weaker c.put_vlan.result
+    (λ said. (said.0, tells c.args.self.now.contents.net c.settled-plan.result c.settled-plan.ensures c.known.ensures (λ net o. AreVlanRows net o c.args.vid) said.0 said.1, said.2))
+    (c.put_vlan.ensures first before grew)

@@ -1,0 +1,12 @@
+use Rattle.std.proofs.Common.{List, ◌++◌, map, take}
+use Rattle.std.specs.List.{flat_map}
+use Rattle.mst_rows.specs.Rows.{Row}
+use Rattle.mst_diff.specs.Reach.{group_rows}
+use Rattle.mst_diff.specs.Seen.{seen_sides, sides_at}
+use Rattle.mst_diff.specs.contracts.reach.put_groups.{R-type}
+use Rattle.mst_diff.proofs.reach.put_groups.Given as goal
+
+-- the rows of the groups so far
+abbrev pub invariant-loop-group : goal.invariant-loop-group
+invariant-loop-group g l = (first : R-type g.row.R) (rows : List Row) → g.R.Rows.grew first l.fn.out rows
+    → g.R.Rows.grew first l.out (rows ++ flat_map (λ group. group_rows (sides_at l.numbers (map seen_sides l.sides)) group.items) (take l.group-index l.groups))

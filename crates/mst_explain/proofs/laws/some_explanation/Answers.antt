@@ -1,8 +1,0 @@
-use Rattle.mst_explain.proofs.SomeText.{some_text, some_texts}
-use Rattle.mst_explain.proofs.laws.some_explanation.Goals as goal
-
-pub returns-clause-one : goal.returns-clause-one
-returns-clause-one c = λ net o ok is p here tree had. some_text net ok o is p here tree had
-
-pub returns-clause-all : goal.returns-clause-all
-returns-clause-all c = λ net o ok is p here trees had. some_texts net ok o is p here trees had

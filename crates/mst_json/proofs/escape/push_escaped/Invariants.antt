@@ -1,6 +1,0 @@
-use Rattle.std.proofs.Common.{◌≡◌, ◌++◌, drop}
-use Rattle.json.specs.Print.{escape}
-use Rattle.mst_json.proofs.escape.push_escaped.Given as goal
-
-abbrev pub invariant-loop-byte : goal.invariant-loop-byte
-invariant-loop-byte l = l.out.items ++ escape (drop l.byte-index l.text) ≡ l.initial.out.items ++ escape l.text

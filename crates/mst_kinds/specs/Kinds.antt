@@ -1,0 +1,461 @@
+-- The kinds of rows: of each its first word, and what stands behind it.
+use Rattle.std.specs.Prelude.{List, [], ◌∷◌}
+use Rattle.mst_kinds.specs.declared.mark.Mark.{Mark}
+use Rattle.mst_kinds.specs.declared.part.Part.{Part}
+use Rattle.mst_kinds.specs.declared.mark.Mark.TheVariants as mark
+use Rattle.mst_kinds.specs.declared.key.Key.TheVariants as key
+use Rattle.mst_kinds.specs.declared.part.Part.TheVariants as part
+use Rattle.mst_kinds.specs.declared.kind.Kind.{Kind}
+use Rattle.mst_kinds.specs.declared.kind.Kind.TheVariants as kind
+use Rattle.mst_kinds.specs.declared.query.Query.{Query}
+use Rattle.mst_kinds.specs.declared.query.Query.TheVariants as query
+use Rattle.mst_kinds.specs.declared.tree_line.TreeLine.{TreeLine}
+use Rattle.mst_kinds.specs.declared.tree_line.TreeLine.TheVariants as tree_line
+use Rattle.mst_kinds.specs.declared.vlan_line.VlanLine.{VlanLine}
+use Rattle.mst_kinds.specs.declared.vlan_line.VlanLine.TheVariants as vlan_line
+use Rattle.mst_kinds.specs.declared.region_line.RegionLine.{RegionLine}
+use Rattle.mst_kinds.specs.declared.region_line.RegionLine.TheVariants as region_line
+use Rattle.mst_kinds.specs.declared.note_line.NoteLine.{NoteLine}
+use Rattle.mst_kinds.specs.declared.note_line.NoteLine.TheVariants as note_line
+use Rattle.mst_kinds.specs.declared.change_line.ChangeLine.{ChangeLine}
+use Rattle.mst_kinds.specs.declared.change_line.ChangeLine.TheVariants as change_line
+use Rattle.mst_kinds.specs.declared.bridge_command.BridgeCommand.{BridgeCommand}
+use Rattle.mst_kinds.specs.declared.bridge_command.BridgeCommand.TheVariants as bridge_command
+use Rattle.mst_kinds.specs.declared.port_command.PortCommand.{PortCommand}
+use Rattle.mst_kinds.specs.declared.port_command.PortCommand.TheVariants as port_command
+use Rattle.mst_kinds.specs.declared.explain_line.ExplainLine.{ExplainLine}
+use Rattle.mst_kinds.specs.declared.explain_line.ExplainLine.TheVariants as explain_line
+use Rattle.mst_kinds.specs.declared.contest_line.ContestLine.{ContestLine}
+use Rattle.mst_kinds.specs.declared.contest_line.ContestLine.TheVariants as contest_line
+use Rattle.mst_kinds.specs.declared.sweep_line.SweepLine.{SweepLine}
+use Rattle.mst_kinds.specs.declared.sweep_line.SweepLine.TheVariants as sweep_line
+use Rattle.mst_kinds.specs.declared.summary_line.SummaryLine.{SummaryLine}
+use Rattle.mst_kinds.specs.declared.summary_line.SummaryLine.TheVariants as summary_line
+use Rattle.mst_kinds.specs.declared.capture_line.CaptureLine.{CaptureLine}
+use Rattle.mst_kinds.specs.declared.capture_line.CaptureLine.TheVariants as capture_line
+use Rattle.mst_kinds.specs.declared.refusal_line.RefusalLine.{RefusalLine}
+use Rattle.mst_kinds.specs.declared.refusal_line.RefusalLine.TheVariants as refusal_line
+
+-- ---- a query, with its words
+abbrev pub first_of_query : Query → Mark
+first_of_query query.ShowTree = mark.ShowTree
+first_of_query query.ShowPlan = mark.ShowPlan
+first_of_query query.ShowVlan = mark.ShowVlan
+first_of_query query.ShowLag = mark.ShowLag
+first_of_query query.ShowRegions = mark.ShowRegions
+first_of_query query.ShowMstconfid = mark.ShowMstconfid
+first_of_query query.ShowNotes = mark.ShowNotes
+first_of_query query.Changes = mark.Changes
+first_of_query query.Save = mark.Save
+first_of_query query.Explain = mark.Explain
+first_of_query query.ExplainIn = mark.Explain
+first_of_query query.Diff = mark.Diff
+first_of_query query.Sweep = mark.Sweep
+first_of_query query.SweepPart = mark.Sweep
+first_of_query query.SweepPairs = mark.Sweep
+first_of_query query.SweepPairsPart = mark.Sweep
+first_of_query query.Summary = mark.Summary
+first_of_query query.Check = mark.Check
+
+abbrev pub parts_of_query : Query → List Part
+-- `showtree T`
+parts_of_query query.ShowTree = part.Key key.Tree ∷ []
+-- `showplan`
+parts_of_query query.ShowPlan = []
+-- `showvlan V`
+parts_of_query query.ShowVlan = part.Key key.Vid ∷ []
+-- `showlag`
+parts_of_query query.ShowLag = []
+-- `showregions`
+parts_of_query query.ShowRegions = []
+-- `showmstconfid B`
+parts_of_query query.ShowMstconfid = part.Key key.Bridge ∷ []
+-- `shownotes`
+parts_of_query query.ShowNotes = []
+-- `changes`
+parts_of_query query.Changes = []
+-- `save`
+parts_of_query query.Save = []
+-- `explain B P`
+parts_of_query query.Explain = part.Key key.Bridge ∷ part.Key key.Port ∷ []
+-- `explain B P TREE`
+parts_of_query query.ExplainIn = part.Key key.Bridge ∷ part.Key key.Port ∷ part.Key key.Tree ∷ []
+-- `diff`
+parts_of_query query.Diff = []
+-- `sweep`
+parts_of_query query.Sweep = []
+-- `sweep K/N`
+parts_of_query query.SweepPart = part.Key key.Part ∷ part.Key key.PartCount ∷ []
+-- `sweep pairs`
+parts_of_query query.SweepPairs = part.Said key.Of mark.Pairs ∷ []
+-- `sweep pairs K/N`
+parts_of_query query.SweepPairsPart = part.Said key.Of mark.Pairs ∷ part.Key key.Part ∷ part.Key key.PartCount ∷ []
+-- `summary`
+parts_of_query query.Summary = []
+-- `check`
+parts_of_query query.Check = []
+
+-- ---- a line of the text of a tree
+abbrev pub first_of_tree_line : TreeLine → Mark
+first_of_tree_line tree_line.Heading = mark.Tree
+first_of_tree_line tree_line.BridgeOff = mark.Bridge
+first_of_tree_line tree_line.BridgeInCist = mark.Bridge
+first_of_tree_line tree_line.BridgeInMsti = mark.Bridge
+first_of_tree_line tree_line.PortDisabled = mark.Port
+first_of_tree_line tree_line.PortInCist = mark.Port
+first_of_tree_line tree_line.PortInMsti = mark.Port
+
+abbrev pub parts_of_tree_line : TreeLine → List Part
+-- `tree T`
+parts_of_tree_line tree_line.Heading = part.Key key.Tree ∷ []
+-- `bridge B off`
+parts_of_tree_line tree_line.BridgeOff = part.Above key.Tree ∷ part.Key key.Bridge ∷ part.Said key.Power mark.Off ∷ []
+-- `bridge B ID root R ext ERC regional RR int IRC from D PD at PB`
+parts_of_tree_line tree_line.BridgeInCist = part.Above key.Tree ∷ part.Key key.Bridge ∷ part.Key key.BridgeId ∷ part.Mark mark.Root ∷ part.Key key.RootId ∷ part.Above key.Root ∷ part.Mark mark.Ext ∷ part.Key key.Ext ∷ part.Mark mark.Regional ∷ part.Key key.RegionalId ∷ part.Above key.Regional ∷ part.Mark mark.Int ∷ part.Key key.Int ∷ part.Mark mark.From ∷ part.Key key.DesignatedId ∷ part.Above key.DesignatedBridge ∷ part.Key key.DesignatedPortId ∷ part.Mark mark.At ∷ part.Key key.ReceiverId ∷ []
+-- `bridge B ID regional RR int IRC from D PD at PB`
+parts_of_tree_line tree_line.BridgeInMsti = part.Above key.Tree ∷ part.Key key.Bridge ∷ part.Key key.BridgeId ∷ part.Mark mark.Regional ∷ part.Key key.RegionalId ∷ part.Above key.Regional ∷ part.Mark mark.Int ∷ part.Key key.Int ∷ part.Mark mark.From ∷ part.Key key.DesignatedId ∷ part.Above key.DesignatedBridge ∷ part.Key key.DesignatedPortId ∷ part.Mark mark.At ∷ part.Key key.ReceiverId ∷ []
+-- `port B P LAN ROLE`
+parts_of_tree_line tree_line.PortDisabled = part.Above key.Tree ∷ part.Key key.Bridge ∷ part.Key key.Port ∷ part.Key key.Lan ∷ part.Key key.Role ∷ []
+-- `port B P LAN PID ext EXT int INT ROLE`
+parts_of_tree_line tree_line.PortInCist = part.Above key.Tree ∷ part.Key key.Bridge ∷ part.Key key.Port ∷ part.Key key.Lan ∷ part.Key key.PortId ∷ part.Mark mark.Ext ∷ part.Key key.Ext ∷ part.Mark mark.Int ∷ part.Key key.Int ∷ part.Key key.Role ∷ []
+-- `port B P LAN PID int INT ROLE`
+parts_of_tree_line tree_line.PortInMsti = part.Above key.Tree ∷ part.Key key.Bridge ∷ part.Key key.Port ∷ part.Key key.Lan ∷ part.Key key.PortId ∷ part.Mark mark.Int ∷ part.Key key.Int ∷ part.Key key.Role ∷ []
+
+-- ---- a line of what VLANs reach
+abbrev pub first_of_vlan_line : VlanLine → Mark
+first_of_vlan_line vlan_line.Heading = mark.Vlan
+first_of_vlan_line vlan_line.Active = mark.Active
+first_of_vlan_line vlan_line.Island = mark.Island
+
+abbrev pub parts_of_vlan_line : VlanLine → List Part
+-- `vlan VIDS`
+parts_of_vlan_line vlan_line.Heading = part.Key key.Vids ∷ []
+-- `active B:P [B:P] ..`
+parts_of_vlan_line vlan_line.Active = part.Above key.Vids ∷ part.Key key.Active ∷ []
+-- `island bridges B .. lans L ..`
+parts_of_vlan_line vlan_line.Island = part.Above key.Vids ∷ part.Mark mark.Bridges ∷ part.Key key.Bridges ∷ part.Mark mark.Lans ∷ part.Key key.Lans ∷ []
+
+-- ---- a line of regions, of an MST configuration or of a class of links
+abbrev pub first_of_region_line : RegionLine → Mark
+first_of_region_line region_line.Mstp = mark.Region
+first_of_region_line region_line.Rstp = mark.Region
+first_of_region_line region_line.Configuration = mark.Mstconfid
+first_of_region_line region_line.Msti = mark.Msti
+first_of_region_line region_line.Lag = mark.Lag
+
+abbrev pub parts_of_region_line : RegionLine → List Part
+-- `region mstp CNAME REV DIGEST bridges B ..`
+parts_of_region_line region_line.Mstp = part.Above key.Region ∷ part.Said key.RegionKind mark.Mstp ∷ part.Key key.Name ∷ part.Key key.Revision ∷ part.Key key.Digest ∷ part.Mark mark.Bridges ∷ part.Key key.Bridges ∷ []
+-- `region rstp bridges B`
+parts_of_region_line region_line.Rstp = part.Above key.Region ∷ part.Said key.RegionKind mark.Rstp ∷ part.Mark mark.Bridges ∷ part.Key key.Bridges ∷ []
+-- `mstconfid B name CNAME revision REV digest DIGEST`
+parts_of_region_line region_line.Configuration = part.Key key.Bridge ∷ part.Mark mark.Name ∷ part.Key key.Name ∷ part.Mark mark.Revision ∷ part.Key key.Revision ∷ part.Mark mark.Digest ∷ part.Key key.Digest ∷ []
+-- `msti T vids VIDS`
+parts_of_region_line region_line.Msti = part.Above key.Bridge ∷ part.Key key.Tree ∷ part.Mark mark.Vids ∷ part.Key key.Vids ∷ []
+-- `lag LAN LAGID speed S up L,.. lans L,.. ports B:P,..`
+parts_of_region_line region_line.Lag = part.Key key.Lan ∷ part.Key key.LagId ∷ part.Mark mark.Speed ∷ part.Key key.Speed ∷ part.Mark mark.Up ∷ part.Commas key.Up ∷ part.Mark mark.Lans ∷ part.Commas key.Lans ∷ part.Mark mark.Ports ∷ part.Commas key.Ports ∷ []
+
+-- ---- a note
+abbrev pub first_of_note_line : NoteLine → Mark
+first_of_note_line note_line.Hops = mark.Note
+first_of_note_line note_line.Age = mark.Note
+first_of_note_line note_line.ExternalCost = mark.Note
+first_of_note_line note_line.InternalCost = mark.Note
+first_of_note_line note_line.Restricted = mark.Note
+
+abbrev pub parts_of_note_line : NoteLine → List Part
+-- `note hops T B depth D limit H`
+parts_of_note_line note_line.Hops = part.Said key.Note mark.Hops ∷ part.Key key.Tree ∷ part.Key key.Bridge ∷ part.Mark mark.Depth ∷ part.Key key.Depth ∷ part.Mark mark.Limit ∷ part.Key key.Limit ∷ []
+-- `note age B depth D limit M`
+parts_of_note_line note_line.Age = part.Said key.Note mark.Age ∷ part.Above key.Tree ∷ part.Key key.Bridge ∷ part.Mark mark.Depth ∷ part.Key key.Depth ∷ part.Mark mark.Limit ∷ part.Key key.Limit ∷ []
+-- `note cost T B ext C`
+parts_of_note_line note_line.ExternalCost = part.Said key.Note mark.Cost ∷ part.Key key.Tree ∷ part.Key key.Bridge ∷ part.Mark mark.Ext ∷ part.Key key.Ext ∷ []
+-- `note cost T B int C`
+parts_of_note_line note_line.InternalCost = part.Said key.Note mark.Cost ∷ part.Key key.Tree ∷ part.Key key.Bridge ∷ part.Mark mark.Int ∷ part.Key key.Int ∷ []
+-- `note restricted B P`
+parts_of_note_line note_line.Restricted = part.Said key.Note mark.Restricted ∷ part.Key key.Bridge ∷ part.Key key.Port ∷ []
+
+-- ---- a line of how two networks differ
+abbrev pub first_of_change_line : ChangeLine → Mark
+first_of_change_line change_line.Bridge = mark.Bridge
+first_of_change_line change_line.Port = mark.Port
+first_of_change_line change_line.Region = mark.Region
+first_of_change_line change_line.Root = mark.Root
+first_of_change_line change_line.Reach = mark.Reach
+first_of_change_line change_line.Counts = mark.Diff
+
+abbrev pub parts_of_change_line : ChangeLine → List Part
+-- `bridge T B V -> V`
+parts_of_change_line change_line.Bridge = part.Key key.Tree ∷ part.Key key.Bridge ∷ part.Key key.OldVector ∷ part.Mark mark.Arrow ∷ part.Key key.NewVector ∷ []
+-- `port T B P ROLE -> ROLE`
+parts_of_change_line change_line.Port = part.Key key.Tree ∷ part.Key key.Bridge ∷ part.Key key.Port ∷ part.Key key.OldRole ∷ part.Mark mark.Arrow ∷ part.Key key.NewRole ∷ []
+-- `region B NAME REV FIRST -> NAME REV FIRST`
+parts_of_change_line change_line.Region = part.Key key.Bridge ∷ part.Key key.OldRegion ∷ part.Mark mark.Arrow ∷ part.Key key.NewRegion ∷ []
+-- `root T B -> B`
+parts_of_change_line change_line.Root = part.Key key.Tree ∷ part.Key key.OldRoot ∷ part.Mark mark.Arrow ∷ part.Key key.NewRoot ∷ []
+-- `reach VIDS B,.. .. -> B,.. ..`
+parts_of_change_line change_line.Reach = part.Key key.Vids ∷ part.Key key.OldIslands ∷ part.Mark mark.Arrow ∷ part.Key key.NewIslands ∷ []
+-- `diff regions N roots N ports N vlans N`
+parts_of_change_line change_line.Counts = part.Mark mark.Regions ∷ part.Key key.RegionCount ∷ part.Mark mark.Roots ∷ part.Key key.RootCount ∷ part.Mark mark.Ports ∷ part.Key key.PortCount ∷ part.Mark mark.Vlans ∷ part.Key key.VlanCount ∷ []
+
+-- ---- a line of a saved network that is of a bridge, and its first line
+abbrev pub first_of_bridge_command : BridgeCommand → Mark
+first_of_bridge_command bridge_command.Version = mark.Mstplan
+first_of_bridge_command bridge_command.Add = mark.AddBridge
+first_of_bridge_command bridge_command.Off = mark.Bridge
+first_of_bridge_command bridge_command.Rstp = mark.Kind
+first_of_bridge_command bridge_command.SystemPriority = mark.SetSysPri
+first_of_bridge_command bridge_command.Configuration = mark.SetMstconfid
+first_of_bridge_command bridge_command.Msti = mark.SetVid2Mstid
+first_of_bridge_command bridge_command.MaxHops = mark.SetMaxHops
+first_of_bridge_command bridge_command.MaxAge = mark.SetMaxAge
+first_of_bridge_command bridge_command.Priority = mark.SetTreePrio
+
+abbrev pub parts_of_bridge_command : BridgeCommand → List Part
+-- `mstplan 2`
+parts_of_bridge_command bridge_command.Version = part.Key key.Version ∷ []
+-- `addbridge B MAC`
+parts_of_bridge_command bridge_command.Add = part.Key key.Bridge ∷ part.Key key.Mac ∷ []
+-- `bridge B off`
+parts_of_bridge_command bridge_command.Off = part.Key key.Bridge ∷ part.Said key.Power mark.Off ∷ []
+-- `kind B rstp`
+parts_of_bridge_command bridge_command.Rstp = part.Key key.Bridge ∷ part.Said key.BridgeKind mark.Rstp ∷ []
+-- `setsyspri B SYS`
+parts_of_bridge_command bridge_command.SystemPriority = part.Key key.Bridge ∷ part.Key key.SystemPriority ∷ []
+-- `setmstconfid B REV CNAME`
+parts_of_bridge_command bridge_command.Configuration = part.Key key.Bridge ∷ part.Key key.Revision ∷ part.Key key.Name ∷ []
+-- `setvid2mstid B TREE VIDS`
+parts_of_bridge_command bridge_command.Msti = part.Key key.Bridge ∷ part.Key key.Tree ∷ part.Key key.Vids ∷ []
+-- `setmaxhops B LIM`
+parts_of_bridge_command bridge_command.MaxHops = part.Key key.Bridge ∷ part.Key key.MaxHops ∷ []
+-- `setmaxage B LIM`
+parts_of_bridge_command bridge_command.MaxAge = part.Key key.Bridge ∷ part.Key key.MaxAge ∷ []
+-- `settreeprio B TREE PRIO`
+parts_of_bridge_command bridge_command.Priority = part.Key key.Bridge ∷ part.Key key.Tree ∷ part.Key key.Priority ∷ []
+
+-- ---- a line of a saved network that is of a port or of a LAN
+abbrev pub first_of_port_command : PortCommand → Mark
+first_of_port_command port_command.Add = mark.AddPort
+first_of_port_command port_command.Key = mark.SetKey
+first_of_port_command port_command.ExternalCost = mark.SetPortPathCost
+first_of_port_command port_command.InternalCost = mark.SetTreePortCost
+first_of_port_command port_command.Priority = mark.SetTreePortPrio
+first_of_port_command port_command.Vlans = mark.SetPortVlans
+first_of_port_command port_command.NoVlans = mark.SetPortVlans
+first_of_port_command port_command.Restricted = mark.SetPortRestrRole
+first_of_port_command port_command.Plug = mark.Plug
+first_of_port_command port_command.AddLan = mark.AddLan
+first_of_port_command port_command.LanDown = mark.Lan
+first_of_port_command port_command.Speed = mark.Speed
+
+abbrev pub parts_of_port_command : PortCommand → List Part
+-- `addport B P`
+parts_of_port_command port_command.Add = part.Key key.Bridge ∷ part.Key key.Port ∷ []
+-- `setkey B P KEY`
+parts_of_port_command port_command.Key = part.Key key.Bridge ∷ part.Key key.Port ∷ part.Key key.AggregationKey ∷ []
+-- `setportpathcost B P COST`
+parts_of_port_command port_command.ExternalCost = part.Key key.Bridge ∷ part.Key key.Port ∷ part.Key key.Ext ∷ []
+-- `settreeportcost B P TREE COST`
+parts_of_port_command port_command.InternalCost = part.Key key.Bridge ∷ part.Key key.Port ∷ part.Key key.Tree ∷ part.Key key.Int ∷ []
+-- `settreeportprio B P TREE PRIO`
+parts_of_port_command port_command.Priority = part.Key key.Bridge ∷ part.Key key.Port ∷ part.Key key.Tree ∷ part.Key key.PortPriority ∷ []
+-- `setportvlans B P VIDS`
+parts_of_port_command port_command.Vlans = part.Key key.Bridge ∷ part.Key key.Port ∷ part.Key key.Vids ∷ []
+-- `setportvlans B P none`
+parts_of_port_command port_command.NoVlans = part.Key key.Bridge ∷ part.Key key.Port ∷ part.Said key.Vlans mark.None ∷ part.Above key.Vids ∷ []
+-- `setportrestrrole B P yes`
+parts_of_port_command port_command.Restricted = part.Key key.Bridge ∷ part.Key key.Port ∷ part.Said key.Restricted mark.Yes ∷ []
+-- `plug B P L`
+parts_of_port_command port_command.Plug = part.Key key.Bridge ∷ part.Key key.Port ∷ part.Key key.Lan ∷ []
+-- `addlan L`
+parts_of_port_command port_command.AddLan = part.Key key.Lan ∷ []
+-- `lan L down`
+parts_of_port_command port_command.LanDown = part.Key key.Lan ∷ part.Said key.State mark.Down ∷ []
+-- `speed L KBPS`
+parts_of_port_command port_command.Speed = part.Key key.Lan ∷ part.Key key.Speed ∷ []
+
+-- ---- a line of why a port has its role
+abbrev pub first_of_explain_line : ExplainLine → Mark
+first_of_explain_line explain_line.Port = mark.Explain
+first_of_explain_line explain_line.Restricted = mark.Restricted
+first_of_explain_line explain_line.Boundary = mark.Boundary
+first_of_explain_line explain_line.BridgeOff = mark.Off
+first_of_explain_line explain_line.LanDown = mark.Down
+
+abbrev pub parts_of_explain_line : ExplainLine → List Part
+-- `explain T B:P LAN ROLE`
+parts_of_explain_line explain_line.Port = part.Key key.Tree ∷ part.Port ∷ part.Key key.Lan ∷ part.Key key.Role ∷ []
+-- `restricted`
+parts_of_explain_line explain_line.Restricted = part.Above key.Tree ∷ part.AbovePort ∷ []
+-- `boundary ROLE designated B:P`
+parts_of_explain_line explain_line.Boundary = part.Above key.Tree ∷ part.AbovePort ∷ part.Key key.Role ∷ part.Mark mark.Designated ∷ part.Key key.Designated ∷ []
+-- `off B`
+parts_of_explain_line explain_line.BridgeOff = part.Above key.Tree ∷ part.AbovePort ∷ part.Key key.OffBridge ∷ []
+-- `down L`
+parts_of_explain_line explain_line.LanDown = part.Above key.Tree ∷ part.AbovePort ∷ part.Key key.DownLan ∷ []
+
+-- ---- a line of what won over what, for the role of a port
+abbrev pub first_of_contest_line : ContestLine → Mark
+first_of_contest_line contest_line.DesignatedAlone = mark.Designated
+first_of_contest_line contest_line.DesignatedOver = mark.Designated
+first_of_contest_line contest_line.DesignatedByCost = mark.Designated
+first_of_contest_line contest_line.DesignatedById = mark.Designated
+first_of_contest_line contest_line.RootAlone = mark.Root
+first_of_contest_line contest_line.RootOver = mark.Root
+first_of_contest_line contest_line.RootByCost = mark.Root
+first_of_contest_line contest_line.RootById = mark.Root
+
+abbrev pub parts_of_contest_line : ContestLine → List Part
+-- `designated W alone`
+parts_of_contest_line contest_line.DesignatedAlone = part.Above key.Tree ∷ part.AbovePort ∷ part.Key key.Winner ∷ part.Mark mark.Alone ∷ []
+-- `designated W over X`, where no component differs
+parts_of_contest_line contest_line.DesignatedOver = part.Above key.Tree ∷ part.AbovePort ∷ part.Key key.Winner ∷ part.Mark mark.Over ∷ part.Key key.Loser ∷ []
+-- `designated W over X FIELD w x`, of a cost
+parts_of_contest_line contest_line.DesignatedByCost = part.Above key.Tree ∷ part.AbovePort ∷ part.Key key.Winner ∷ part.Mark mark.Over ∷ part.Key key.Loser ∷ part.Key key.Field ∷ part.Key key.Value ∷ part.Key key.LoserValue ∷ []
+-- `designated W over X FIELD w x`, of an identifier
+parts_of_contest_line contest_line.DesignatedById = part.Above key.Tree ∷ part.AbovePort ∷ part.Key key.Winner ∷ part.Mark mark.Over ∷ part.Key key.Loser ∷ part.Key key.Field ∷ part.Key key.ValueId ∷ part.Key key.LoserId ∷ []
+-- `root W alone`
+parts_of_contest_line contest_line.RootAlone = part.Above key.Tree ∷ part.AbovePort ∷ part.Key key.Winner ∷ part.Mark mark.Alone ∷ []
+-- `root W over X`, where no component differs
+parts_of_contest_line contest_line.RootOver = part.Above key.Tree ∷ part.AbovePort ∷ part.Key key.Winner ∷ part.Mark mark.Over ∷ part.Key key.Loser ∷ []
+-- `root W over X FIELD w x`, of a cost
+parts_of_contest_line contest_line.RootByCost = part.Above key.Tree ∷ part.AbovePort ∷ part.Key key.Winner ∷ part.Mark mark.Over ∷ part.Key key.Loser ∷ part.Key key.Field ∷ part.Key key.Value ∷ part.Key key.LoserValue ∷ []
+-- `root W over X FIELD w x`, of an identifier
+parts_of_contest_line contest_line.RootById = part.Above key.Tree ∷ part.AbovePort ∷ part.Key key.Winner ∷ part.Mark mark.Over ∷ part.Key key.Loser ∷ part.Key key.Field ∷ part.Key key.ValueId ∷ part.Key key.LoserId ∷ []
+
+-- ---- a line of what failures do
+abbrev pub first_of_sweep_line : SweepLine → Mark
+first_of_sweep_line sweep_line.Lan = mark.Lan
+first_of_sweep_line sweep_line.Bridge = mark.Bridge
+first_of_sweep_line sweep_line.Cut = mark.Cut
+first_of_sweep_line sweep_line.Counts = mark.Sweep
+first_of_sweep_line sweep_line.Pair = mark.Pair
+first_of_sweep_line sweep_line.CutByPair = mark.Cut
+first_of_sweep_line sweep_line.PairCounts = mark.Sweep
+
+abbrev pub parts_of_sweep_line : SweepLine → List Part
+-- `lan L roots T,.. ports N cut VIDS`
+parts_of_sweep_line sweep_line.Lan = part.Above key.Failure ∷ part.Key key.Lan ∷ part.Mark mark.Roots ∷ part.Commas key.Trees ∷ part.Mark mark.Ports ∷ part.Key key.PortCount ∷ part.Mark mark.Cut ∷ part.Key key.Vids ∷ []
+-- `bridge B roots T,.. ports N cut VIDS`
+parts_of_sweep_line sweep_line.Bridge = part.Above key.Failure ∷ part.Key key.Bridge ∷ part.Mark mark.Roots ∷ part.Commas key.Trees ∷ part.Mark mark.Ports ∷ part.Key key.PortCount ∷ part.Mark mark.Cut ∷ part.Key key.Vids ∷ []
+-- `cut VIDS parts B,.. ..`
+parts_of_sweep_line sweep_line.Cut = part.Above key.Failure ∷ part.Key key.Vids ∷ part.Mark mark.Parts ∷ part.Key key.Parts ∷ []
+-- `sweep lans N bridges N cuts N`
+parts_of_sweep_line sweep_line.Counts = part.Mark mark.Lans ∷ part.Key key.LanCount ∷ part.Mark mark.Bridges ∷ part.Key key.BridgeCount ∷ part.Mark mark.Cuts ∷ part.Key key.CutCount ∷ []
+-- `pair lan L bridge B cut VIDS`
+parts_of_sweep_line sweep_line.Pair = part.Key key.Failure ∷ part.Key key.OtherFailure ∷ part.Mark mark.Cut ∷ part.Key key.Vids ∷ []
+-- `cut VIDS parts B,.. ..`, behind a pair
+parts_of_sweep_line sweep_line.CutByPair = part.Above key.Failure ∷ part.Above key.OtherFailure ∷ part.Key key.Vids ∷ part.Mark mark.Parts ∷ part.Key key.Parts ∷ []
+-- `sweep pairs N cuts N`
+parts_of_sweep_line sweep_line.PairCounts = part.Mark mark.Pairs ∷ part.Key key.PairCount ∷ part.Mark mark.Cuts ∷ part.Key key.CutCount ∷ []
+
+-- ---- a line of a summary
+abbrev pub first_of_summary_line : SummaryLine → Mark
+first_of_summary_line summary_line.Counts = mark.Bridges
+first_of_summary_line summary_line.Root = mark.Tree
+first_of_summary_line summary_line.RootAlone = mark.Tree
+first_of_summary_line summary_line.Blocked = mark.Blocked
+first_of_summary_line summary_line.Vlan = mark.Vlan
+first_of_summary_line summary_line.Carries = mark.Carries
+
+abbrev pub parts_of_summary_line : SummaryLine → List Part
+-- `bridges N on N ports N enabled N regions N trees N`
+parts_of_summary_line summary_line.Counts = part.Key key.BridgeCount ∷ part.Mark mark.On ∷ part.Key key.OnCount ∷ part.Mark mark.Ports ∷ part.Key key.PortCount ∷ part.Mark mark.Enabled ∷ part.Key key.EnabledCount ∷ part.Mark mark.Regions ∷ part.Key key.RegionCount ∷ part.Mark mark.Trees ∷ part.Key key.TreeCount ∷ []
+-- `tree T root B PRIO of N next B PRIO`
+parts_of_summary_line summary_line.Root = part.Key key.Tree ∷ part.Mark mark.Root ∷ part.Key key.Root ∷ part.Key key.Priority ∷ part.Mark mark.Of ∷ part.Key key.BridgeCount ∷ part.Mark mark.Next ∷ part.Key key.Next ∷ part.Key key.NextPriority ∷ []
+-- `tree T root B PRIO of N next -`
+parts_of_summary_line summary_line.RootAlone = part.Key key.Tree ∷ part.Mark mark.Root ∷ part.Key key.Root ∷ part.Key key.Priority ∷ part.Mark mark.Of ∷ part.Key key.BridgeCount ∷ part.Mark mark.Next ∷ part.Key key.Next ∷ []
+-- `blocked T B:P,..`
+parts_of_summary_line summary_line.Blocked = part.Key key.Tree ∷ part.Commas key.Ports ∷ []
+-- `vlan VIDS islands N`
+parts_of_summary_line summary_line.Vlan = part.Key key.Vids ∷ part.Mark mark.Islands ∷ part.Key key.IslandCount ∷ []
+-- `carries LAN VIDS`
+parts_of_summary_line summary_line.Carries = part.Key key.Lan ∷ part.Key key.Vids ∷ []
+
+-- ---- a line of what a capture has
+abbrev pub first_of_capture_line : CaptureLine → Mark
+first_of_capture_line capture_line.Agrees = mark.Capture
+first_of_capture_line capture_line.Number = mark.Capture
+first_of_capture_line capture_line.Text = mark.Capture
+first_of_capture_line capture_line.MstiNumber = mark.Capture
+first_of_capture_line capture_line.MstiText = mark.Capture
+first_of_capture_line capture_line.Unplanned = mark.Capture
+first_of_capture_line capture_line.Repeated = mark.Capture
+first_of_capture_line capture_line.Missing = mark.Capture
+first_of_capture_line capture_line.Unread = mark.Capture
+
+abbrev pub parts_of_capture_line : CaptureLine → List Part
+-- `capture N B:P agrees`
+parts_of_capture_line capture_line.Agrees = part.Key key.Line ∷ part.Port ∷ part.Said key.Result mark.Agrees ∷ []
+-- `capture N B:P FIELD plan X capture Y`, of a number
+parts_of_capture_line capture_line.Number = part.Key key.Line ∷ part.Port ∷ part.Told key.TreeKind mark.Cist ∷ part.Above key.Tree ∷ part.Key key.Field ∷ part.Mark mark.Plan ∷ part.Key key.Plan ∷ part.Mark mark.Capture ∷ part.Key key.Captured ∷ []
+-- `capture N B:P FIELD plan X capture Y`, of an identifier, a name or a digest
+parts_of_capture_line capture_line.Text = part.Key key.Line ∷ part.Port ∷ part.Told key.TreeKind mark.Cist ∷ part.Above key.Tree ∷ part.Key key.Field ∷ part.Mark mark.Plan ∷ part.Key key.PlanText ∷ part.Mark mark.Capture ∷ part.Key key.CapturedText ∷ []
+-- `capture N B:P msti T FIELD plan X capture Y`, of a number
+parts_of_capture_line capture_line.MstiNumber = part.Key key.Line ∷ part.Port ∷ part.Said key.TreeKind mark.Msti ∷ part.Key key.Tree ∷ part.Key key.Field ∷ part.Mark mark.Plan ∷ part.Key key.Plan ∷ part.Mark mark.Capture ∷ part.Key key.Captured ∷ []
+-- `capture N B:P msti T FIELD plan X capture Y`, of an identifier
+parts_of_capture_line capture_line.MstiText = part.Key key.Line ∷ part.Port ∷ part.Said key.TreeKind mark.Msti ∷ part.Key key.Tree ∷ part.Key key.Field ∷ part.Mark mark.Plan ∷ part.Key key.PlanText ∷ part.Mark mark.Capture ∷ part.Key key.CapturedText ∷ []
+-- `capture N B:P msti T unplanned`
+parts_of_capture_line capture_line.Unplanned = part.Key key.Line ∷ part.Port ∷ part.Said key.TreeKind mark.Msti ∷ part.Key key.Tree ∷ part.Said key.Result mark.Unplanned ∷ []
+-- `capture N B:P msti T repeated`
+parts_of_capture_line capture_line.Repeated = part.Key key.Line ∷ part.Port ∷ part.Said key.TreeKind mark.Msti ∷ part.Key key.Tree ∷ part.Said key.Result mark.Repeated ∷ []
+-- `capture N B:P msti T missing`
+parts_of_capture_line capture_line.Missing = part.Key key.Line ∷ part.Port ∷ part.Said key.TreeKind mark.Msti ∷ part.Key key.Tree ∷ part.Said key.Result mark.Missing ∷ []
+-- `capture N CODE TEXT`
+parts_of_capture_line capture_line.Unread = part.Key key.Line ∷ part.Key key.Error ∷ part.Key key.Text ∷ []
+
+-- ---- a line that says what is refused
+abbrev pub first_of_refusal_line : RefusalLine → Mark
+first_of_refusal_line refusal_line.Line = mark.Line
+first_of_refusal_line refusal_line.Hinted = mark.Line
+first_of_refusal_line refusal_line.OldLine = mark.Old
+first_of_refusal_line refusal_line.NewLine = mark.New
+first_of_refusal_line refusal_line.Explain = mark.Explain
+first_of_refusal_line refusal_line.Dot = mark.Dot
+
+abbrev pub parts_of_refusal_line : RefusalLine → List Part
+-- `line N CODE TEXT`
+parts_of_refusal_line refusal_line.Line = part.Key key.Line ∷ part.Key key.Error ∷ part.Key key.Text ∷ []
+-- `line N CODE TEXT`, with a hint
+parts_of_refusal_line refusal_line.Hinted = part.Key key.Line ∷ part.Key key.Error ∷ part.Key key.Text ∷ part.Above key.Hint ∷ []
+-- `old line N CODE TEXT`
+parts_of_refusal_line refusal_line.OldLine = part.Told key.Side mark.Old ∷ part.Mark mark.Line ∷ part.Key key.Line ∷ part.Key key.Error ∷ part.Key key.Text ∷ []
+-- `new line N CODE TEXT`
+parts_of_refusal_line refusal_line.NewLine = part.Told key.Side mark.New ∷ part.Mark mark.Line ∷ part.Key key.Line ∷ part.Key key.Error ∷ part.Key key.Text ∷ []
+-- `explain CODE TEXT`
+parts_of_refusal_line refusal_line.Explain = part.Key key.Error ∷ part.Key key.Text ∷ []
+-- `dot CODE TEXT`
+parts_of_refusal_line refusal_line.Dot = part.Key key.Error ∷ part.Key key.Text ∷ []
+
+-- ---- all kinds
+abbrev pub first_of : Kind → Mark
+first_of (kind.Query line) = first_of_query line
+first_of (kind.Tree line) = first_of_tree_line line
+first_of (kind.Vlan line) = first_of_vlan_line line
+first_of (kind.Region line) = first_of_region_line line
+first_of (kind.Note line) = first_of_note_line line
+first_of (kind.Change line) = first_of_change_line line
+first_of (kind.OfBridge line) = first_of_bridge_command line
+first_of (kind.OfPort line) = first_of_port_command line
+first_of (kind.Explain line) = first_of_explain_line line
+first_of (kind.Contest line) = first_of_contest_line line
+first_of (kind.Sweep line) = first_of_sweep_line line
+first_of (kind.Summary line) = first_of_summary_line line
+first_of (kind.Capture line) = first_of_capture_line line
+first_of (kind.Refusal line) = first_of_refusal_line line
+
+abbrev pub parts_of : Kind → List Part
+parts_of (kind.Query line) = parts_of_query line
+parts_of (kind.Tree line) = parts_of_tree_line line
+parts_of (kind.Vlan line) = parts_of_vlan_line line
+parts_of (kind.Region line) = parts_of_region_line line
+parts_of (kind.Note line) = parts_of_note_line line
+parts_of (kind.Change line) = parts_of_change_line line
+parts_of (kind.OfBridge line) = parts_of_bridge_command line
+parts_of (kind.OfPort line) = parts_of_port_command line
+parts_of (kind.Explain line) = parts_of_explain_line line
+parts_of (kind.Contest line) = parts_of_contest_line line
+parts_of (kind.Sweep line) = parts_of_sweep_line line
+parts_of (kind.Summary line) = parts_of_summary_line line
+parts_of (kind.Capture line) = parts_of_capture_line line
+parts_of (kind.Refusal line) = parts_of_refusal_line line

@@ -1,0 +1,4 @@
+pub mod Words
+pub mod Kinds
+pub mod Sorts
+pub mod Shapes

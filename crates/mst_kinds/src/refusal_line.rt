@@ -1,0 +1,52 @@
+ghost use Rattle.std.specs.Prelude.{◌≡◌};
+ghost use Rattle.mst_kinds.specs.Kinds.{first_of_refusal_line, parts_of_refusal_line};
+
+use crate::mark::Mark;
+use crate::part::{Part, parts};
+
+/// A line that says what is refused.
+#[derive(Clone, Copy)]
+pub enum RefusalLine {
+    /// `line N CODE TEXT`
+    Line,
+    /// `line N CODE TEXT`, with a hint
+    Hinted,
+    /// `old line N CODE TEXT`
+    OldLine,
+    /// `new line N CODE TEXT`
+    NewLine,
+    /// `explain CODE TEXT`
+    Explain,
+    /// `dot CODE TEXT`
+    Dot,
+}
+
+impl RefusalLine {
+    /// The first word.
+    pub fn first(self) -> Mark
+        ensures { result ≡ first_of_refusal_line self }
+    {
+        match self {
+            RefusalLine::Line => Mark::Line,
+            RefusalLine::Hinted => Mark::Line,
+            RefusalLine::OldLine => Mark::Old,
+            RefusalLine::NewLine => Mark::New,
+            RefusalLine::Explain => Mark::Explain,
+            RefusalLine::Dot => Mark::Dot,
+        }
+    }
+
+    /// What stands behind it.
+    pub fn parts(self) -> &'static [Part]
+        ensures { result.now ≡ parts_of_refusal_line self }
+    {
+        match self {
+            RefusalLine::Line => parts![Key Line, Key Error, Key Text],
+            RefusalLine::Hinted => parts![Key Line, Key Error, Key Text, Above Hint],
+            RefusalLine::OldLine => parts![Told Side Old, Mark Line, Key Line, Key Error, Key Text],
+            RefusalLine::NewLine => parts![Told Side New, Mark Line, Key Line, Key Error, Key Text],
+            RefusalLine::Explain => parts![Key Error, Key Text],
+            RefusalLine::Dot => parts![Key Error, Key Text],
+        }
+    }
+}

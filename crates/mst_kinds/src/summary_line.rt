@@ -1,0 +1,55 @@
+ghost use Rattle.std.specs.Prelude.{◌≡◌};
+ghost use Rattle.mst_kinds.specs.Kinds.{first_of_summary_line, parts_of_summary_line};
+
+use crate::mark::Mark;
+use crate::part::{Part, parts};
+
+/// A line of a summary.
+#[derive(Clone, Copy)]
+pub enum SummaryLine {
+    /// `bridges N on N ports N enabled N regions N trees N`
+    Counts,
+    /// `tree T root B PRIO of N next B PRIO`
+    Root,
+    /// `tree T root B PRIO of N next -`
+    RootAlone,
+    /// `blocked T B:P,..`
+    Blocked,
+    /// `vlan VIDS islands N`
+    Vlan,
+    /// `carries LAN VIDS`
+    Carries,
+}
+
+impl SummaryLine {
+    /// The first word.
+    pub fn first(self) -> Mark
+        ensures { result ≡ first_of_summary_line self }
+    {
+        match self {
+            SummaryLine::Counts => Mark::Bridges,
+            SummaryLine::Root => Mark::Tree,
+            SummaryLine::RootAlone => Mark::Tree,
+            SummaryLine::Blocked => Mark::Blocked,
+            SummaryLine::Vlan => Mark::Vlan,
+            SummaryLine::Carries => Mark::Carries,
+        }
+    }
+
+    /// What stands behind it.
+    pub fn parts(self) -> &'static [Part]
+        ensures { result.now ≡ parts_of_summary_line self }
+    {
+        match self {
+            SummaryLine::Counts =>
+                parts![Key BridgeCount, Mark On, Key OnCount, Mark Ports, Key PortCount, Mark Enabled, Key EnabledCount, Mark Regions, Key RegionCount, Mark Trees, Key TreeCount],
+            SummaryLine::Root =>
+                parts![Key Tree, Mark Root, Key Root, Key Priority, Mark Of, Key BridgeCount, Mark Next, Key Next, Key NextPriority],
+            SummaryLine::RootAlone =>
+                parts![Key Tree, Mark Root, Key Root, Key Priority, Mark Of, Key BridgeCount, Mark Next, Key Next],
+            SummaryLine::Blocked => parts![Key Tree, Commas Ports],
+            SummaryLine::Vlan => parts![Key Vids, Mark Islands, Key IslandCount],
+            SummaryLine::Carries => parts![Key Lan, Key Vids],
+        }
+    }
+}

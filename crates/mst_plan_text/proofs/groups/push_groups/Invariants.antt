@@ -1,9 +1,0 @@
-use Rattle.std.proofs.Common.{◌≡◌, ◌++◌, map, take}
-use Rattle.std.specs.List.{flat_map}
-use Rattle.mst_plan_text.specs.PlanText.{group_text}
-use Rattle.mst_plan_text.specs.Bodies.{body_at}
-use Rattle.mst_plan_text.proofs.groups.push_groups.Given as goal
-
-abbrev pub invariant-loop-group : goal.invariant-loop-group
-invariant-loop-group l =
-    l.out.items ≡ l.fn.out.items ++ flat_map (group_text (body_at l.numbers (map (λ body. body.items) l.bodies))) (map (λ group. group.items) (take l.group-index l.groups))

@@ -1,0 +1,18 @@
+use Rattle.std.proofs.Common.{◌++◌, ◌∙◌, subst}
+use Rattle.std.specs.List.{flat_map}
+use Rattle.mst_save.specs.Saved.{lan_edits}
+use Rattle.mst_rows.proofs.Loops.{rows_all, rows_more}
+use Rattle.mst_save.specs.SaveRows.{edits_rows}
+use Rattle.mst_save.proofs.lans.put_lans.Goals as goal
+
+pub loop-name-preserved : goal.loop-name-preserved
+loop-name-preserved g c first rows grew =
+    let net = (g.C.Contents.tables c.args.contents.now).net in
+    rows_more (g.R.Rows.grew first c.put_lan.new.out) (λ lan. edits_rows (lan_edits net lan)) c.as_slice-name-items.result.now c.loop-name.name-index c.name-item.result rows c.loop-name-test.true c.name-item.is
+    (c.in_ok-put_lan.ensures first _ (c.loop-name.invariant first rows grew))
+
+pub returns : goal.returns
+returns g c first rows grew =
+    let net = (g.C.Contents.tables c.args.contents.now).net in
+    subst (λ xs. g.R.Rows.grew first c.loop-name.out (rows ++ flat_map (λ lan. edits_rows (lan_edits net lan)) xs)) (c.as_slice-name-items.ensures.value ∙ c.in_ok-names.ensures)
+    (rows_all (g.R.Rows.grew first c.loop-name.out) (λ lan. edits_rows (lan_edits net lan)) c.as_slice-name-items.result.now c.loop-name.name-index rows c.loop-name-test.false (c.loop-name.invariant first rows grew))

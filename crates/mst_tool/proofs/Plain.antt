@@ -1,0 +1,18 @@
+-- Why a port isn't explained is told without escapes: by the codes and the texts of refusals, and of a fault.
+use Rattle.mst_engine.specs.net.declared.refusal.Refusal.TheVariants.{E04, E05}
+use Rattle.mst_engine.specs.report.Explaining.{code_of, text_of}
+use Rattle.mst_engine.specs.report.declared.explaining.Unexplained.{Unexplained}
+use Rattle.mst_engine.specs.report.declared.explaining.Unexplained.TheVariants.{NoBridge, NoPort, NoTree}
+use Rattle.mst_lang.specs.declared.line.Fault.TheVariants.{E03}
+use Rattle.mst_print.proofs.Plain.{plain_code, plain_text, refusal_code, refusal_text}
+use Rattle.mst_rows.specs.Answers.{IsPlain}
+
+pub why_code : (why : Unexplained) → IsPlain (code_of why)
+why_code NoBridge = refusal_code E04
+why_code NoPort = refusal_code E05
+why_code NoTree = plain_code E03
+
+pub why_text : (why : Unexplained) → IsPlain (text_of why)
+why_text NoBridge = refusal_text E04
+why_text NoPort = refusal_text E05
+why_text NoTree = plain_text E03
