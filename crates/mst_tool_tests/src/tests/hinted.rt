@@ -40,8 +40,10 @@ const HINTS: &[u8] = b"\
     line 11 no LAN x\n\
     line 12 no command addlna; addlan?\n\
     line 13 no LAN x: line 12 was to add it\n\
+    line 15 LAN x is there since line 14\n\
     line 17 no LAN x: line 15 was to add it\n\
     line 18 no bridge a: line 1 was to add it\n\
+    line 22 a line with mark comes first; changes tells what differs from the network as it was there\n\
     line 23 no bridge a\n";
 
 #[test]
