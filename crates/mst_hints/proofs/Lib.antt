@@ -1,4 +1,5 @@
 pub mod Tables
+pub mod Said
 pub mod Hinted
 pub mod Wrong
 pub mod Noted

@@ -1,6 +1,8 @@
 pub use Rattle.mst_lang.specs as lang
 pub mod Forms
 pub mod Near
+pub mod Tools
+pub mod Meant
 pub mod Hints
 pub mod Records
 pub mod Standing

@@ -88,7 +88,8 @@ pub(crate) fn is_in_case(command: &[u8], word: &[u8]) -> bool
     }
 }
 
-fn lower(byte: u8) -> u8
+/// The small letter for a capital one.
+pub(crate) fn lower(byte: u8) -> u8
     ensures { result ≡ lower_case byte }
 {
     if (b'A'..=b'Z').contains(&byte) {

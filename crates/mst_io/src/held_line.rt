@@ -86,7 +86,8 @@ impl HeldLine {
     }
 }
 
-fn without_cr(line: &[u8]) -> &[u8]
+/// A line without a carriage return at its end.
+pub fn without_cr(line: &[u8]) -> &[u8]
     ensures { result.now ≡ drop_cr line.now }
 {
     let len = line.len();

@@ -35,6 +35,8 @@ use Rattle.mst_kinds.specs.declared.capture_line.CaptureLine.{CaptureLine}
 use Rattle.mst_kinds.specs.declared.capture_line.CaptureLine.TheVariants as capture_line
 use Rattle.mst_kinds.specs.declared.refusal_line.RefusalLine.{RefusalLine}
 use Rattle.mst_kinds.specs.declared.refusal_line.RefusalLine.TheVariants as refusal_line
+use Rattle.mst_kinds.specs.declared.ask_line.AskLine.{AskLine}
+use Rattle.mst_kinds.specs.declared.ask_line.AskLine.TheVariants as ask_line
 
 -- ---- a query, with its words
 abbrev pub first_of_query : Query → Mark
@@ -427,6 +429,17 @@ parts_of_refusal_line refusal_line.Explain = part.Key key.Error ∷ part.Key key
 -- `dot CODE TEXT`
 parts_of_refusal_line refusal_line.Dot = part.Key key.Error ∷ part.Key key.Text ∷ []
 
+-- ---- a line of a standing planner
+abbrev pub first_of_ask_line : AskLine → Mark
+first_of_ask_line ask_line.Undone = mark.Undone
+first_of_ask_line ask_line.Done = mark.Done
+
+abbrev pub parts_of_ask_line : AskLine → List Part
+-- `undone LINE`
+parts_of_ask_line ask_line.Undone = part.Key key.Text ∷ []
+-- `done STATUS`
+parts_of_ask_line ask_line.Done = part.Key key.Status ∷ []
+
 -- ---- all kinds
 abbrev pub first_of : Kind → Mark
 first_of (kind.Query line) = first_of_query line
@@ -443,6 +456,7 @@ first_of (kind.Sweep line) = first_of_sweep_line line
 first_of (kind.Summary line) = first_of_summary_line line
 first_of (kind.Capture line) = first_of_capture_line line
 first_of (kind.Refusal line) = first_of_refusal_line line
+first_of (kind.Ask line) = first_of_ask_line line
 
 abbrev pub parts_of : Kind → List Part
 parts_of (kind.Query line) = parts_of_query line
@@ -459,3 +473,4 @@ parts_of (kind.Sweep line) = parts_of_sweep_line line
 parts_of (kind.Summary line) = parts_of_summary_line line
 parts_of (kind.Capture line) = parts_of_capture_line line
 parts_of (kind.Refusal line) = parts_of_refusal_line line
+parts_of (kind.Ask line) = parts_of_ask_line line

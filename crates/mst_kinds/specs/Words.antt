@@ -110,6 +110,8 @@ mark_text mark.Line = codes "line"
 mark_text mark.Old = codes "old"
 mark_text mark.New = codes "new"
 mark_text mark.Dot = codes "dot"
+mark_text mark.Undone = codes "undone"
+mark_text mark.Done = codes "done"
 
 abbrev pub key_text : Key → List ℕ
 key_text key.Tree = codes "tree"
@@ -211,3 +213,4 @@ key_text key.Error = codes "error"
 key_text key.Text = codes "text"
 key_text key.Hint = codes "hint"
 key_text key.Side = codes "side"
+key_text key.Status = codes "status"

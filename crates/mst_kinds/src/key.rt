@@ -202,6 +202,8 @@ pub enum Key {
     Hint,
     /// `old` or `new`: of which of two scripts.
     Side,
+    /// How an answer of a standing planner ends: 0, 1 or 3, as the exit status of the program that is asked alone.
+    Status,
 }
 
 impl Key {
@@ -309,6 +311,7 @@ impl Key {
             Key::Text => b"text",
             Key::Hint => b"hint",
             Key::Side => b"side",
+            Key::Status => b"status",
         }
     }
 }

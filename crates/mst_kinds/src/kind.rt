@@ -1,6 +1,7 @@
 ghost use Rattle.std.specs.Prelude.{◌≡◌};
 ghost use Rattle.mst_kinds.specs.Kinds.{first_of, parts_of};
 
+use crate::ask_line::AskLine;
 use crate::bridge_command::BridgeCommand;
 use crate::capture_line::CaptureLine;
 use crate::change_line::ChangeLine;
@@ -49,6 +50,8 @@ pub enum Kind {
     Capture(CaptureLine),
     /// A line that says what is refused.
     Refusal(RefusalLine),
+    /// A line of a standing planner, beside those of its answers.
+    Ask(AskLine),
 }
 
 impl Kind {
@@ -71,6 +74,7 @@ impl Kind {
             Kind::Summary(line) => line.first(),
             Kind::Capture(line) => line.first(),
             Kind::Refusal(line) => line.first(),
+            Kind::Ask(line) => line.first(),
         }
     }
 
@@ -93,6 +97,7 @@ impl Kind {
             Kind::Summary(line) => line.parts(),
             Kind::Capture(line) => line.parts(),
             Kind::Refusal(line) => line.parts(),
+            Kind::Ask(line) => line.parts(),
         }
     }
 }

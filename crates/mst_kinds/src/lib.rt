@@ -10,6 +10,7 @@
 //! of a contest: a cost is a number (`value`), an identifier a string (`value_id`). A key that a form of a line hasn't is left out.
 #![tactic(auto)]
 
+mod ask_line;
 mod bridge_command;
 mod capture_line;
 mod change_line;
@@ -30,6 +31,7 @@ mod sweep_line;
 mod tree_line;
 mod vlan_line;
 
+pub use ask_line::AskLine;
 pub use bridge_command::BridgeCommand;
 pub use capture_line::CaptureLine;
 pub use change_line::ChangeLine;

@@ -108,6 +108,8 @@ pub enum Mark {
     Old,
     New,
     Dot,
+    Undone,
+    Done,
 }
 
 impl Mark {
@@ -220,6 +222,8 @@ impl Mark {
             Mark::Old => b"old",
             Mark::New => b"new",
             Mark::Dot => b"dot",
+            Mark::Undone => b"undone",
+            Mark::Done => b"done",
         }
     }
 }

@@ -11,8 +11,9 @@ use mst_ids::{
     parse_mac, parse_vids,
 };
 
-/// A name of a bridge or a LAN.
-pub(crate) fn name(word: &[u8]) -> Result<Name, Fault>
+/// A name of a bridge or a LAN: 1 to 16 letters, digits, `_`, `-` and `.`, the first a letter or a digit. [`Fault::E02`]
+/// where the word is none. No memory is taken.
+pub fn name(word: &[u8]) -> Result<Name, Fault>
     ensures { result ≡ forms.name word.now }
 {
     match Name::parse(word) {
@@ -75,8 +76,8 @@ pub(crate) fn yes_or_no(word: &[u8]) -> Result<bool, Fault>
     }
 }
 
-/// The number of a port.
-pub(crate) fn port_number(word: &[u8]) -> Result<PortNumber, Fault>
+/// The number of a port, 1 to 4095. [`Fault::E02`] where the word is none.
+pub fn port_number(word: &[u8]) -> Result<PortNumber, Fault>
     ensures { result ≡ forms.port_number word.now }
 {
     let number = parse_number(word).ok_or(Fault::E02)?;
@@ -174,8 +175,8 @@ pub(crate) fn conf_name(word: &[u8]) -> Result<ConfName, Fault>
     }
 }
 
-/// A tree.
-pub(crate) fn tree(word: &[u8]) -> Result<Tree, Fault>
+/// A tree by its number, 0 to 4094; 0 is the CIST. [`Fault::E03`] where the word is none.
+pub fn tree(word: &[u8]) -> Result<Tree, Fault>
     ensures { result ≡ forms.tree word.now }
 {
     let number = parse_number(word).ok_or(Fault::E03)?;
@@ -190,8 +191,9 @@ pub(crate) fn vid(word: &[u8]) -> Result<Vid, Fault>
     Vid::new(number).ok_or(Fault::E03)
 }
 
-/// A list of VIDs.
-pub(crate) fn vids(word: &[u8]) -> Result<VidSet, Fault>
+/// A list of VIDs of 1 to 4094 and of runs of them, with commas between. [`Fault::E03`] where the word is none. No
+/// memory is taken.
+pub fn vids(word: &[u8]) -> Result<VidSet, Fault>
     ensures { result ≡ forms.vids word.now }
 {
     match parse_vids(word) {

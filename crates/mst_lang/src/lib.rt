@@ -14,9 +14,10 @@ mod line;
 mod read;
 mod words;
 
-pub use arguments::parse_number;
+pub use arguments::{name, parse_number, port_number, tree, vids};
 pub use line::{
     BridgeChange, Edit, Fault, Kind, LanChange, LanState, Line, PortChange, Power, Query,
     TreeChange, Version,
 };
-pub use read::{is_version_2, parse_line, parse_line_as};
+pub use read::{LONGEST, is_version_2, parse_line, parse_line_as};
+pub use words::{are_plain, four_words, next_word, one_word, three_words, two_words};

@@ -13,8 +13,8 @@ use crate::line::{
 use crate::words::{are_plain, four_words, next_word, one_word, three_words, two_words};
 use mst_ids::PortName;
 
-/// The most bytes that a line may have.
-const LONGEST: usize = 4096;
+/// The most bytes that a line may have, its end aside.
+pub const LONGEST: usize = 4096;
 
 /// What a line of a script of version 1 says, or the least fault of it. The line comes without its end, and no
 /// memory is taken.

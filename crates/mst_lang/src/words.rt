@@ -15,15 +15,16 @@ fn is_plain(byte: u8) -> bool
     (b' '..=b'~').contains(&byte) || byte == b'\t'
 }
 
-/// Whether the bytes are those that a line may hold, comments aside.
-pub(crate) fn are_plain(bytes: &[u8]) -> bool
+/// Whether the bytes are those that a line may hold, comments aside: tabs and 20 to 7E hexadecimal.
+pub fn are_plain(bytes: &[u8]) -> bool
     ensures { result ≡ list_all plain_byte bytes.now }
 {
     bytes.iter().all(|byte| is_plain(*byte))
 }
 
-/// The first word and what follows it.
-pub(crate) fn next_word(text: &[u8]) -> Option<(&[u8], &[u8])>
+/// The first word of a text and what follows it, or nothing where the text has no word. Words have spaces and tabs
+/// between.
+pub fn next_word(text: &[u8]) -> Option<(&[u8], &[u8])>
     ensures { MatchOption result (words text.now ≡ []) (λ p. words text.now ≡ p.0.now ∷ words p.1.now) }
 {
     let text = without_blanks(text);
@@ -61,7 +62,7 @@ fn first_word(text: &[u8]) -> (&[u8], &[u8])
 }
 
 /// The word, if there is one and no more.
-pub(crate) fn one_word(text: &[u8]) -> Option<&[u8]>
+pub fn one_word(text: &[u8]) -> Option<&[u8]>
     ensures { option_map (λ w. w.now) result ≡ one_of (words text.now) }
 {
     let (first, rest) = next_word(text)?;
@@ -72,7 +73,7 @@ pub(crate) fn one_word(text: &[u8]) -> Option<&[u8]>
 }
 
 /// The two words, if there are two and no more.
-pub(crate) fn two_words(text: &[u8]) -> Option<(&[u8], &[u8])>
+pub fn two_words(text: &[u8]) -> Option<(&[u8], &[u8])>
     ensures { option_map (λ p. (p.0.now, p.1.now)) result ≡ two_of (words text.now) }
 {
     let (first, rest) = next_word(text)?;
@@ -80,7 +81,7 @@ pub(crate) fn two_words(text: &[u8]) -> Option<(&[u8], &[u8])>
 }
 
 /// The three words, if there are three and no more.
-pub(crate) fn three_words(text: &[u8]) -> Option<(&[u8], &[u8], &[u8])>
+pub fn three_words(text: &[u8]) -> Option<(&[u8], &[u8], &[u8])>
     ensures { option_map (λ p. (p.0.now, p.1.now, p.2.now)) result ≡ three_of (words text.now) }
 {
     let (first, rest) = next_word(text)?;
@@ -89,7 +90,7 @@ pub(crate) fn three_words(text: &[u8]) -> Option<(&[u8], &[u8], &[u8])>
 }
 
 /// The four words, if there are four and no more.
-pub(crate) fn four_words(text: &[u8]) -> Option<(&[u8], &[u8], &[u8], &[u8])>
+pub fn four_words(text: &[u8]) -> Option<(&[u8], &[u8], &[u8], &[u8])>
     ensures { option_map (λ p. (p.0.now, p.1.now, p.2.now, p.3.now)) result ≡ four_of (words text.now) }
 {
     let (first, rest) = next_word(text)?;

@@ -317,6 +317,17 @@ impl Planner {
         }
     }
 
+    /// Takes over what another planner keeps of the network that it has marked, in the place of what this one keeps. The other
+    /// has no mark then.
+    pub fn take_mark(&mut self, other: &mut Planner)
+        ensures same { self.new.contents ≡ self.old.contents }
+        ensures settled { self.new.is_settled ≡ self.old.is_settled }
+        ensures standing { self.new.standing ≡ self.old.standing }
+        ensures mark { self.new.mark ≡ other.old.mark }
+    {
+        self.mark = other.mark.take();
+    }
+
     /// What is kept of the network as it is now.
     fn entries(&self) -> Result<Entries, AllocError>
         requires { self.now.is_settled ≡ true }

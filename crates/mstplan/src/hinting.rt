@@ -5,7 +5,8 @@ use crate::endings::Stop;
 use crate::flags::Flags;
 use crate::sources::{Sources, Unopened};
 use crate::words::Asked;
-use mst_tool::{FromRead, RunFault, Sink, TURNS, hints_within};
+use mst_hinting::hints_within;
+use mst_tool::{FromRead, RunFault, Sink, TURNS};
 use std::alloc::Global;
 
 /// What became of the hints of a script.

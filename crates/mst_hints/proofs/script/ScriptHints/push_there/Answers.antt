@@ -1,0 +1,21 @@
+use Rattle.std.proofs.Common.{◌∙◌, ◌++◌, [], Some, codes, ap}
+use Rattle.std.proofs.lemmas.Result.{on_ok_weaker}
+use Rattle.std.specs.Option.{option_map_or}
+use Rattle.mst_hints.specs.Hints.{hint_line}
+use Rattle.mst_hints.specs.Standing.{made_text, record_text, there_text}
+use Rattle.mst_hints.proofs.Lined.{joined, lined}
+use Rattle.mst_hints.proofs.script.ScriptHints.push_there.Goals as goal
+
+pub returns : goal.returns
+returns c =
+    let out = c.args.out.now.items in let of = c.args.self.now.of.now in let number = c.args.self.now.number in let made = c.args.made.now in
+    let since = option_map_or made_text c.last_made.result [] in
+    let there = codes " is there" in
+    let behind = joined c.push_record.new.out.items there since c.push_bytes.new.out.items c.push_since_made.new.out.items c.in_ok-push_bytes.ensures.ok c.in_ok-push_since_made.ensures in
+    let told = joined c.push_start.new.out.items (record_text made) (there ++ since) c.push_record.new.out.items c.push_since_made.new.out.items c.in_ok-push_record.ensures behind in
+    on_ok_weaker c.push_end.result
+    (λ ends past kept.
+    lined of number (record_text made ++ (there ++ since)) out c.push_start.new.out.items c.push_since_made.new.out.items c.push_end.new.out.items c.in_ok-push_start.ensures told ends
+    ∙ ap (λ line. out ++ hint_line of number (Some (record_text made ++ (there ++ option_map_or made_text line [])))) (c.last_made.ensures past.makings kept.makings)
+    ∙ ap (λ n. out ++ hint_line of n (Some (there_text past.makings made))) kept.number
+    ∙ ap (λ o. out ++ hint_line o past.number (Some (there_text past.makings made))) kept.of) c.push_end.ensures

@@ -1,0 +1,172 @@
+ghost use Rattle.std.specs.Prelude.{◌≡◌, ◌∷◌, find};
+ghost use Rattle.std.specs.List.{list_any};
+ghost use Rattle.std.specs.Option.{option_map};
+ghost use Rattle.mst_lang.specs.Words.{words};
+ghost use Rattle.mst_hints.specs.Tools.{asks as asks_something, is_among, saying_among as saying_among_words};
+
+use crate::words::{has_word, next_word};
+
+/// Words of other tools and of this program that ask for the same, and what is said where one of them stands.
+const SAYINGS: [(&[u8], &[u8]); 30] = [
+    (b"run", b"run is a word of the program: mstplan run FILE"),
+    (
+        b"check",
+        b"check is a word of the program: mstplan check FILE CAPTURES",
+    ),
+    (
+        b"explain",
+        b"explain is a word of the program: mstplan explain FILE B P TREE",
+    ),
+    (
+        b"diff",
+        b"diff is a word of the program: mstplan diff OLD NEW",
+    ),
+    (
+        b"sweep",
+        b"sweep is a word of the program: mstplan sweep FILE",
+    ),
+    (
+        b"summary",
+        b"summary is a word of the program: mstplan summary FILE",
+    ),
+    (
+        b"dot",
+        b"dot is a word of the program: mstplan dot FILE TREE",
+    ),
+    (
+        b"mstplan",
+        b"mstplan 2 is the first line of a script of version 2, and stands in no other",
+    ),
+    (
+        b"show display",
+        b"showplan, showtree TREE, showvlan VID, showregions, showlag and shownotes show",
+    ),
+    (
+        b"guard root-guard",
+        b"setportrestrrole B P yes|no is a root guard",
+    ),
+    (
+        b"priority bridge-priority port-priority root",
+        b"settreeprio B TREE PRIO sets a bridge's priority, settreeportprio B P TREE PRIO a port's",
+    ),
+    (
+        b"cost path-cost external-cost internal-cost",
+        b"setportpathcost B P COST sets a port's external cost, settreeportcost B P TREE COST its internal one",
+    ),
+    (
+        b"instance msti",
+        b"setvid2mstid B TREE VIDS maps VIDs to a tree",
+    ),
+    (
+        b"channel-group port-channel lacp bond",
+        b"setkey B P KEY gives the ports of a bundle one key on each side",
+    ),
+    (
+        b"switchport tagged untagged allowed vid pvid",
+        b"setportvlans B P VIDS|all|none sets the VLANs that a port is a member of",
+    ),
+    (
+        b"vlan vlans",
+        b"setvid2mstid B TREE VIDS maps VIDs to a tree, setportvlans B P VIDS|all|none sets those that a port is a member of",
+    ),
+    (
+        b"name revision configuration config-name config-revision configuration-name region-name region-configuration",
+        b"setmstconfid B REV CNAME sets the revision and the name of a bridge's configuration",
+    ),
+    (
+        b"mode force-version",
+        b"kind B mstp|rstp sets a bridge's kind",
+    ),
+    (
+        b"max-hops max-age",
+        b"setmaxhops B LIM and setmaxage B LIM set a bridge's limits",
+    ),
+    (
+        b"hello-time forward-time forward-delay portfast bpduguard edge edge-port",
+        b"a plan has no timers and no edge ports",
+    ),
+    (
+        b"shutdown",
+        b"unplug B P takes a port out of its LAN, plug B P L puts it in, lan L up|down switches a LAN",
+    ),
+    (
+        b"hostname sysname addbr add-br",
+        b"addbridge B MAC adds a bridge",
+    ),
+    (
+        b"addif add-port master",
+        b"addport B P adds a port, plug B P L puts it into a LAN",
+    ),
+    (
+        b"add create",
+        b"addbridge B MAC adds a bridge, addport B P a port, addlan L a LAN",
+    ),
+    (
+        b"ip brctl ovs-vsctl",
+        b"addbridge B MAC adds a bridge, addport B P a port, addlan L a LAN, and plug B P L puts a port in",
+    ),
+    (
+        b"link cable connect",
+        b"a link is a LAN: addlan L, and plug B P L for each of its ends",
+    ),
+    (
+        b"undo no delete del remove rm",
+        b"a later line sets anew what an earlier one set; delbridge B, delport B P, dellan L and unplug B P take away",
+    ),
+    (
+        b"write copy",
+        b"save prints a script that makes the network",
+    ),
+    (
+        b"interface interfaces configure enable exit quit end commit",
+        b"there are no modes: each line has a command with its bridge and port, and the last line ends the script",
+    ),
+    (
+        b"spanning-tree stp set help ?",
+        b"mstplan --help ends with all commands of a script",
+    ),
+];
+
+/// Whether the word asks for something.
+pub(crate) fn asks(word: &[u8]) -> bool
+    ensures { result ≡ asks_something word.now }
+{
+    let sayings = SAYINGS;
+    some_has(sayings.as_slice(), word)
+}
+
+fn some_has(sayings: &[(&[u8], &[u8])], word: &[u8]) -> bool
+    ensures { result ≡ list_any (λ saying. is_among saying.0.now word.now) sayings.now }
+{
+    sayings.iter().any(|(asking, _)| has_word(*asking, word))
+}
+
+/// The first saying that the word or one of those behind it has.
+pub(crate) fn saying_among(word: &[u8], behind: &[u8]) -> Option<&'static [u8]>
+    ensures { option_map (λ text. text.now) result ≡ saying_among_words (word.now ∷ words behind.now) }
+{
+    let sayings = SAYINGS;
+    first_among(sayings.as_slice(), word, behind)
+}
+
+fn first_among(
+    sayings: &[(&[u8], &'static [u8])],
+    word: &[u8],
+    behind: &[u8],
+) -> Option<&'static [u8]>
+    ensures { result ≡ option_map (λ saying. saying.1) (find (λ saying. list_any (is_among saying.0.now) (word.now ∷ words behind.now)) sayings.now) }
+{
+    let (_, said) = sayings.iter().find(|(asking, _)| has_word(*asking, word)
+        || shares_word(behind, *asking))?;
+    Some(*said)
+}
+
+/// Whether some word of a text is one of those that ask for something.
+fn shares_word(text: &[u8], asking: &[u8]) -> bool
+    ensures { result ≡ list_any (is_among asking.now) (words text.now) }
+{
+    match next_word(text) {
+        None => false,
+        Some((word, others)) => has_word(asking, word) || shares_word(others, asking),
+    }
+}

@@ -1,0 +1,5 @@
+pub mod Items
+pub mod Faults
+pub mod Arguments
+pub mod Reading
+pub mod Lines

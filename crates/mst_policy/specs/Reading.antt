@@ -1,0 +1,86 @@
+-- What a line of a policy promises, or the least fault of it.
+use Rattle.std.specs.Prelude.{ℕ, Bool, List, [], ◌∷◌, length, nat_lt, Result, Ok, Err, Option, Some, None, if◌then◌else◌, codes, find}
+use Rattle.std.specs.Option.{option_map, option_map_or}
+use Rattle.std.specs.List.{list_all}
+use Rattle.mst_lang.specs.Words.{words, is_plain, four_of}
+use Rattle.mst_lang.specs.Arguments.{is_text, with, none_of, one, two, three, name, tree, vids}
+use Rattle.mst_lang.specs.Reading.{is_comment}
+use Rattle.mst_lang.specs.declared.line.Fault.{Fault}
+use Rattle.mst_lang.specs.declared.line.Fault.TheVariants.{E01, E02}
+use Rattle.mst_policy.specs.Arguments.{names_value, names, ports, roles, steps}
+use Rattle.mst_policy.specs.declared.expectation.Scope.{Scope}
+use Rattle.mst_policy.specs.declared.expectation.Scope.TheVariants.{Now, AfterLan, AfterBridge, Always}
+use Rattle.mst_policy.specs.declared.expectation.Expectation.{Expectation}
+use Rattle.mst_policy.specs.declared.expectation.Expectation.TheVariants.{Root, Region, Role, Reach, Apart, Leaf, Depth, Carries, Avoids, Fits}
+use Rattle.mst_policy.specs.declared.expectation.Promise.{Promise}
+
+-- ---- expectations
+-- a bridge is the root, and which one comes next isn't said, or is
+abbrev pub root_alone : ℕ → List ℕ → Expectation
+root_alone number bridge = Root number bridge None
+
+abbrev pub root_next : ℕ → List ℕ → List ℕ → Expectation
+root_next number bridge other = Root number bridge (Some other)
+
+-- `TREE B next C`, or else `TREE B`
+abbrev pub with_next : List ℕ × List ℕ × List ℕ × List ℕ → Result Expectation Fault
+with_next w = if is_text w.2 (codes "next") then three tree name name root_next (w.0 ∷ w.1 ∷ w.3 ∷ []) else Err E01
+
+abbrev pub root : List (List ℕ) → Result Expectation Fault
+root arguments = option_map_or with_next (four_of arguments) (two tree name root_alone arguments)
+
+-- the forms of expectations. Each is a word and what it makes of those behind it: how many they are, what each of them is in
+-- their order, and what is expected by their values
+abbrev pub forms : List (List ℕ × (List (List ℕ) → Result Expectation Fault))
+forms =
+    (codes "root", root) ∷
+    (codes "region", one names Region) ∷
+    (codes "role", three tree ports roles Role) ∷
+    (codes "reach", two vids names Reach) ∷
+    (codes "apart", three vids names names Apart) ∷
+    (codes "leaf", two tree names Leaf) ∷
+    (codes "depth", two tree steps Depth) ∷
+    (codes "carries", two name vids Carries) ∷
+    (codes "avoids", two name vids Avoids) ∷
+    (codes "fits", none_of Fits) ∷
+    []
+
+-- what words expect, by the form of the first of them; E01 where it has none
+abbrev pub expected : List (List ℕ) → Result Expectation Fault
+expected [] = Err E01
+expected (word ∷ arguments) = option_map_or (λ form. form.1 arguments) (find (λ form. is_text word form.0) forms) (Err E01)
+
+-- ---- scopes
+abbrev pub promise : Scope → Expectation → Promise
+promise scope expectation = record { scope = scope; expectation = expectation }
+
+-- what is expected in a scope, which is there if its list is one. Words that are no expectation are E01, whatever is wrong with
+-- the list, and that is E02, whatever else is wrong with the expectation
+abbrev pub in_scope : Option Scope → Result Expectation Fault → Result Promise Fault
+in_scope None (Err E01) = Err E01
+in_scope None _ = Err E02
+in_scope (Some scope) expectation = with (Ok (promise scope)) expectation
+
+-- the words behind `after`: the kind of failures, which of them are meant, and an expectation
+abbrev pub after : List (List ℕ) → Result Promise Fault
+after (kind ∷ list ∷ others) =
+    if is_text kind (codes "lan") then in_scope (option_map AfterLan (names_value list)) (expected others)
+    else (if is_text kind (codes "bridge") then in_scope (option_map AfterBridge (names_value list)) (expected others) else Err E01)
+after _ = Err E01
+
+-- what words promise: an expectation, in the scope that the first of them says, if it says one
+abbrev pub promised : List ℕ → List (List ℕ) → Result Promise Fault
+promised word others =
+    if is_text word (codes "after") then after others
+    else (if is_text word (codes "always") then in_scope (Some Always) (expected others) else in_scope (Some Now) (expected (word ∷ others)))
+
+-- ---- lines
+-- a line by its words: nothing where it has none, or is a comment, whatever bytes that holds; else a promise, all of whose
+-- bytes are plain
+abbrev pub worded : Bool → List (List ℕ) → Result (Option Promise) Fault
+worded plain [] = if plain then Ok None else Err E01
+worded plain (word ∷ others) = if is_comment word then Ok None else (if plain then with (Ok Some) (promised word others) else Err E01)
+
+-- a line of at most 4,096 bytes
+abbrev pub reading : List ℕ → Result (Option Promise) Fault
+reading line = if nat_lt 4096 (length line) then Err E01 else worded (list_all is_plain line) (words line)

@@ -1,0 +1,21 @@
+//! The language of policies: what each line promises of a network.
+//!
+//! A policy is cut into lines and words as a script is, and its lines have a script's names, port numbers, trees and VIDs. A
+//! line is an expectation, or a scope and an expectation behind it: the scope says in which networks it is judged.
+//! [`parse_promise`] gives what a line promises, or the least [`Fault`](mst_lang::Fault) of it.
+#![tactic(auto)]
+
+mod arguments;
+mod expectation;
+mod fault;
+mod forms;
+mod item;
+pub mod laws;
+mod policy;
+mod read;
+
+pub use expectation::{Expectation, Promise, Roles, Scope};
+pub use fault::text;
+pub use item::{NameItem, NameList, PortItem, PortList, PortsOf};
+pub use policy::{Policy, PolicyLine};
+pub use read::parse_promise;

@@ -1,0 +1,78 @@
+ghost use Rattle.std.specs.Prelude.{◌≡◌, ◌∷◌, ◌++◌, [], OnOk, OnErr};
+ghost use Rattle.mst_policy.specs.Lines.{line_of};
+
+use crate::expectation::Promise;
+use crate::read::parse_promise;
+use mst_lang::Fault;
+use std::alloc::{AllocError, Global};
+use std::marker::Model;
+
+/// A line of a policy that is neither blank nor a comment.
+#[derive(Drop)]
+pub struct PolicyLine {
+    /// Its number among all lines.
+    pub number: u64,
+    /// What it promises, or the least fault of it.
+    pub read: Result<Promise, Fault>,
+}
+
+/// The lines of a policy that are neither blank nor comments, in their order.
+#[derive(Drop)]
+pub struct Policy {
+    lines: Vec<PolicyLine>,
+}
+
+impl Model for Policy {
+    ghost use Rattle.std.specs.Prelude.{List};
+    ghost use Rattle.mst_policy.specs.declared.policy.PolicyLine.{PolicyLine as Line};
+
+    ghost Value = { List Line };
+
+    ghost view = { λ p. p.lines.items };
+}
+
+impl Policy {
+    /// A policy without lines.
+    pub fn new(alloc: Global) -> Policy
+        ensures { result ≡ [] }
+    {
+        Policy {
+            lines: Vec::new(alloc),
+        }
+    }
+
+    /// Reads the next line, which has this number and comes without its end. `AllocError`: memory was wanted and refused, and
+    /// the policy is as it was.
+    pub fn read(&mut self, alloc: Global, number: u64, line: &[u8]) -> Result<(), AllocError>
+        ensures ok { OnOk result (self.new ≡ self.old ++ line_of number line.now) }
+        ensures err { OnErr result (self.new ≡ self.old) }
+    {
+        match parse_promise(alloc, line)? {
+            Ok(None) => Ok(()),
+            Ok(Some(promise)) => self.push(PolicyLine {
+                number,
+                read: Ok(promise),
+            }),
+            Err(fault) => self.push(PolicyLine {
+                number,
+                read: Err(fault),
+            }),
+        }
+    }
+
+    /// Puts a line behind the others, or changes nothing.
+    fn push(&mut self, line: PolicyLine) -> Result<(), AllocError>
+        ensures ok { OnOk result (self.new ≡ self.old ++ line ∷ []) }
+        ensures err { OnErr result (self.new ≡ self.old) }
+    {
+        self.lines.push(line)?;
+        Ok(())
+    }
+
+    /// The lines.
+    pub fn as_slice(&self) -> &[PolicyLine]
+        ensures { result.now ≡ self.now }
+    {
+        self.lines.as_slice()
+    }
+}

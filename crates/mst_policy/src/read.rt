@@ -1,0 +1,124 @@
+ghost use Rattle.std.specs.Prelude.{◌≡◌, ◌∷◌, IfOk};
+ghost use Rattle.std.specs.Option.{option_map};
+ghost use Rattle.mst_lang.specs.Words.{words};
+ghost use Rattle.mst_policy.specs.Arguments.{names_value};
+ghost use Rattle.mst_policy.specs.Reading.{reading, promised, after as after_words, in_scope as promised_in};
+ghost use Rattle.mst_policy.specs.declared.expectation.Scope.TheVariants.{AfterLan, AfterBridge};
+
+use crate::arguments::names;
+use crate::expectation::{Expectation, Promise, Scope};
+use crate::forms::{expectation, is_word};
+use mst_lang::{Fault, LONGEST, are_plain, next_word};
+use std::alloc::{AllocError, Global};
+
+/// What a line of a policy promises, nothing where it is blank or a comment, or the least fault of it. The line comes without
+/// its end. `AllocError`: memory was wanted for a list and refused.
+pub fn parse_promise(
+    alloc: Global,
+    line: &[u8],
+) -> Result<Result<Option<Promise>, Fault>, AllocError>
+    ensures { IfOk result (λ read. read ≡ reading line.now) }
+{
+    if line.len() > LONGEST {
+        return Ok(Err(Fault::E01));
+    }
+    let plain = are_plain(line);
+    match next_word(line) {
+        None => {
+            if plain {
+                Ok(Ok(None))
+            } else {
+                Ok(Err(Fault::E01))
+            }
+        }
+        Some(([b'#', ..], _)) => Ok(Ok(None)),
+        Some((word, others)) => {
+            if plain {
+                match promise(alloc, line, word, others)? {
+                    Ok(promise) => Ok(Ok(Some(promise))),
+                    Err(fault) => Ok(Err(fault)),
+                }
+            } else {
+                Ok(Err(Fault::E01))
+            }
+        }
+    }
+}
+
+/// What the words of a line promise: an expectation, in the scope that the first of them says, if it says one.
+fn promise(
+    alloc: Global,
+    line: &[u8],
+    word: &[u8],
+    others: &[u8],
+) -> Result<Result<Promise, Fault>, AllocError>
+    requires { words line.now ≡ word.now ∷ words others.now }
+    ensures { IfOk result (λ read. read ≡ promised word.now (words others.now)) }
+{
+    if is_word(word, b"after") {
+        after(alloc, others)
+    } else if is_word(word, b"always") {
+        let expectation = expectation(alloc, others)?;
+        Ok(in_scope(Some(Scope::Always), expectation))
+    } else {
+        let expectation = expectation(alloc, line)?;
+        Ok(in_scope(Some(Scope::Now), expectation))
+    }
+}
+
+/// What the words behind `after` promise.
+fn after(alloc: Global, arguments: &[u8]) -> Result<Result<Promise, Fault>, AllocError>
+    ensures { IfOk result (λ read. read ≡ after_words (words arguments.now)) }
+{
+    let Some((kind, others)) = next_word(arguments) else {
+        return Ok(Err(Fault::E01));
+    };
+    let Some((list, others)) = next_word(others) else {
+        return Ok(Err(Fault::E01));
+    };
+    if is_word(kind, b"lan") {
+        let scope = after_lan(alloc, list)?;
+        let expectation = expectation(alloc, others)?;
+        Ok(in_scope(scope, expectation))
+    } else if is_word(kind, b"bridge") {
+        let scope = after_bridge(alloc, list)?;
+        let expectation = expectation(alloc, others)?;
+        Ok(in_scope(scope, expectation))
+    } else {
+        Ok(Err(Fault::E01))
+    }
+}
+
+fn after_lan(alloc: Global, list: &[u8]) -> Result<Option<Scope>, AllocError>
+    ensures { IfOk result (λ scope. scope ≡ option_map AfterLan (names_value list.now)) }
+{
+    match names(alloc, list)? {
+        Some(names) => Ok(Some(Scope::AfterLan(names))),
+        None => Ok(None),
+    }
+}
+
+fn after_bridge(alloc: Global, list: &[u8]) -> Result<Option<Scope>, AllocError>
+    ensures { IfOk result (λ scope. scope ≡ option_map AfterBridge (names_value list.now)) }
+{
+    match names(alloc, list)? {
+        Some(names) => Ok(Some(Scope::AfterBridge(names))),
+        None => Ok(None),
+    }
+}
+
+/// What is expected in a scope, if the scope's list is one: the fault of a list goes behind E01 alone.
+fn in_scope(scope: Option<Scope>, expectation: Result<Expectation, Fault>) -> Result<Promise, Fault>
+    ensures { result ≡ promised_in scope expectation }
+{
+    let Some(scope) = scope else {
+        return match expectation {
+            Err(Fault::E01) => Err(Fault::E01),
+            _ => Err(Fault::E02),
+        };
+    };
+    match expectation {
+        Ok(expectation) => Ok(Promise { scope, expectation }),
+        Err(fault) => Err(fault),
+    }
+}
