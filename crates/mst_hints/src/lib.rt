@@ -19,9 +19,7 @@ mod script;
 mod standing;
 mod tools;
 mod unknown;
-mod whose;
 mod words;
 
 pub use hint::push_hint;
 pub use script::ScriptHints;
-pub use whose::Script;

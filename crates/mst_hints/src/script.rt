@@ -2,14 +2,13 @@ ghost use Rattle.std.specs.Prelude.{◌≡◌, ◌≢◌, ◌+◌, ◌++◌, ◌
 ghost use Rattle.std.specs.Option.{option_map_or};
 ghost use Rattle.mst_hints.specs.Kept.{IsKept};
 ghost use Rattle.mst_hints.specs.Hints.{hint_line};
-ghost use Rattle.mst_hints.specs.Scripts.{Past, nothing, past_after, hint_after, version_with, reading_with, saying_with, after_line, net_after, net_with, is_made, is_mark as marks, making_of as making_of_line, read_hint, refused_hint, refused_text, absent_text, since_text};
+ghost use Rattle.mst_hints.specs.Scripts.{Past, nothing, past_after, hint_after, version_with, reading_with, after_line, net_after, net_with, is_made, is_mark as marks, making_of as making_of_line, read_hint, refused_hint, refused_text, absent_text, since_text};
 
 use crate::added::added_of;
 use crate::adds::Adds;
 use crate::hint::{push_hint, push_start};
 use crate::record::{Record, made_by, missing_of};
 use crate::standing::push_record;
-use crate::whose::Script;
 use mst_ids::{push_bytes, push_decimal, push_end};
 use mst_lang::{Edit, Fault, Line, Query, Version, is_version_2, parse_line_as};
 use mst_net::{Contents, Network, Refusal};
@@ -23,8 +22,6 @@ pub struct ScriptHints {
     pub(crate) version: Option<Version>,
     /// What stands before each hint.
     pub(crate) of: &'static [u8],
-    /// Whether its queries are asked, and its marks made.
-    pub(crate) asks: bool,
     /// The number of the next line, from 1.
     pub(crate) number: u64,
     /// The network that the edits made.
@@ -35,16 +32,15 @@ pub struct ScriptHints {
 }
 
 impl ScriptHints {
-    /// The empty network, before the first line of this script. It takes no memory. A hint of one of two scripts says whose it is,
-    /// as in `old line 3 ..`.
-    pub fn new(alloc: Global, script: Script) -> ScriptHints
-        ensures { IsKept (nothing script) result }
+    /// The empty network, before the first line. It takes no memory. What tells the script from another one stands before each
+    /// hint, as `old ` in `old line 3 ..`; nothing, where there is no other.
+    pub fn new(alloc: Global, of: &'static [u8]) -> ScriptHints
+        ensures { IsKept (nothing of.now) result }
     {
         ScriptHints {
             alloc,
             version: None,
-            of: script.text_before(),
-            asks: script.is_run(),
+            of,
             number: 1,
             network: Network::new(alloc),
             marked: false,
@@ -67,7 +63,7 @@ impl ScriptHints {
         ensures text { OnOk result ((past : Past) → IsKept past self.old → out.new.items ≡ out.old.items ++ hint_after past line.now) }
     {
         let version = version_at(self.version, line);
-        let reading = say_line(self.asks, self.version, line);
+        let reading = read_line(self.version, line);
         let made = self.push_read(version, line, &reading, out)?;
         self.adds.note(self.number, added_of(line), made)?;
         self.adds.note_made(self.number, making_of(made, &reading))?;
@@ -94,7 +90,6 @@ impl ScriptHints {
         ensures number { self.new.number ≡ self.old.number }
         ensures version { self.new.version ≡ self.old.version }
         ensures of { self.new.of ≡ self.old.of }
-        ensures asks { self.new.asks ≡ self.old.asks }
     {
         match reading {
             Err(_) => {
@@ -115,7 +110,6 @@ impl ScriptHints {
         ensures number { self.new.number ≡ self.old.number }
         ensures version { self.new.version ≡ self.old.version }
         ensures of { self.new.of ≡ self.old.of }
-        ensures asks { self.new.asks ≡ self.old.asks }
     {
         match serve(&mut self.network, self.marked, line) {
             Ok(()) => Ok(true),
@@ -165,17 +159,7 @@ fn version_at(known: Option<Version>, line: &[u8]) -> Version
     }
 }
 
-/// What the next line says, by whether the script is run.
-fn say_line(asks: bool, known: Option<Version>, line: &[u8]) -> Result<Line, Fault>
-    ensures { result ≡ saying_with asks known line.now }
-{
-    match read_line(known, line) {
-        Ok(Line::Query(_) | Line::Mark) if !asks => Ok(Line::Blank),
-        reading => reading,
-    }
-}
-
-/// What the next line says, in a run. The first one of a script of version 2 says so, and nothing else.
+/// What the next line says. The first one of a script of version 2 says so, and nothing else.
 fn read_line(known: Option<Version>, line: &[u8]) -> Result<Line, Fault>
     ensures { result ≡ reading_with known line.now }
 {

@@ -1,4 +1,4 @@
-use mst_hints::{Script, ScriptHints, push_hint};
+use mst_hints::{ScriptHints, push_hint};
 use mst_lang::Version;
 use std::rt::HostRuntime;
 use std::test::Fail;
@@ -350,7 +350,7 @@ fn long_lines_are_hinted(rt: HostRuntime) -> Result<(), Fail> {
 
 #[test]
 fn records_are_told(rt: HostRuntime) -> Result<(), Fail> {
-    let mut hints = ScriptHints::new(rt.alloc(), Script::Run);
+    let mut hints = ScriptHints::new(rt.alloc(), b"");
     let mut out = Vec::new(rt.alloc());
     hints.push_hint(b"mstplan 2", &mut out)?;
     hints.push_hint(b"addbrigde a 00:1b:21:aa:00:01", &mut out)?;
@@ -364,24 +364,23 @@ fn records_are_told(rt: HostRuntime) -> Result<(), Fail> {
 
 #[test]
 fn hints_say_whose_line_it_is(rt: HostRuntime) -> Result<(), Fail> {
-    let mut old = ScriptHints::new(rt.alloc(), Script::Old);
-    let mut new = ScriptHints::new(rt.alloc(), Script::New);
+    let mut old = ScriptHints::new(rt.alloc(), b"old ");
+    let mut new = ScriptHints::new(rt.alloc(), b"new ");
     let mut out = Vec::new(rt.alloc());
     old.push_hint(b"showplan now", &mut out)?;
     old.push_hint(b"bridge a on", &mut out)?;
     new.push_hint(b"changes", &mut out)?;
-    new.push_hint(b"bridge b on", &mut out)?;
     let told: &[u8] = b"\
         old line 1 showplan takes no words; 1 word stands here\n\
         old line 2 no bridge a\n\
-        new line 2 no bridge b\n";
+        new line 1 a line with mark comes first; changes tells what differs from the network as it was there\n";
     assert!(rt; out.as_slice() == told);
     Ok(())
 }
 
 #[test]
 fn what_stands_in_the_way_is_told(rt: HostRuntime) -> Result<(), Fail> {
-    let mut hints = ScriptHints::new(rt.alloc(), Script::Run);
+    let mut hints = ScriptHints::new(rt.alloc(), b"");
     let mut out = Vec::new(rt.alloc());
     hints.push_hint(b"addbridge a 00:1b:21:aa:00:01", &mut out)?;
     hints.push_hint(b"addbridge a 00:1b:21:aa:00:02", &mut out)?;
@@ -402,7 +401,7 @@ fn what_stands_in_the_way_is_told(rt: HostRuntime) -> Result<(), Fail> {
 
 #[test]
 fn what_a_port_is_in_is_told(rt: HostRuntime) -> Result<(), Fail> {
-    let mut hints = ScriptHints::new(rt.alloc(), Script::Run);
+    let mut hints = ScriptHints::new(rt.alloc(), b"");
     let mut out = Vec::new(rt.alloc());
     hints.push_hint(b"addbridge a 00:1b:21:aa:00:01", &mut out)?;
     hints.push_hint(b"addport a 1", &mut out)?;
