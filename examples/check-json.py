@@ -705,7 +705,7 @@ def user_answers(program):
 
 def unmet():
     """The kinds that no script of these comes to. What is refused says no kind, and each record of `check` stands alone."""
-    return {kind[:2] for kind in KINDS if kind.enum not in ("RefusalLine", "AskLine") and kind[:2] != ("Query", "Check")} - MET - RARE
+    return {kind[:2] for kind in KINDS if kind.enum != "RefusalLine" and kind[:2] != ("Query", "Check")} - MET - RARE
 
 
 def main():

@@ -868,23 +868,6 @@ def closed_cases():
     ]
 
 
-def check_wrong(program):
-    """The lines of wrong-lines.txt, each in a script of version 2, and its hint, of this line alone."""
-    with open(os.path.join(HERE, "wrong-lines.txt"), encoding="ascii") as file:
-        wrong = [line.rstrip("\n").split("\t") for line in file if not line.startswith("#")]
-    with tempfile.TemporaryDirectory() as folder:
-        script = os.path.join(folder, "wrong.script")
-        with open(script, "w", encoding="ascii") as file:
-            file.write("".join(line + "\n" for line in ["mstplan 2", *(line for line, _ in wrong)]))
-        ran = subprocess.run([program, "run", "--hints", script], capture_output=True, text=True, timeout=20, check=False)
-    told = ran.stderr.splitlines()
-    wanted = [f"line {number} {hint}" for number, (_, hint) in enumerate(wrong, 2)]
-    if (ran.returncode, told) == (1, wanted):
-        return True
-    print(f"FAILED wrong lines: status {ran.returncode}, {[pair for pair in zip(told, wanted) if pair[0] != pair[1]][:3]}")
-    return False
-
-
 def failing_hints():
     """Hints that can't be written: the run is as ever, and the status tells it."""
     words = ["run", "--hints", "hinted.script"]
@@ -944,7 +927,6 @@ def main():
             check_pipe(program, folder, ["check", "--hints", "pipe", os.devnull]),
         ]
         passed += [check_closed(program, folder, *case) for case in closed_cases() + failing_hints()]
-        passed.append(check_wrong(program))
         passed += large_runs.checks(program, folder)
     print(f"{sum(passed)} passed, {len(passed) - sum(passed)} failed")
     sys.exit(0 if all(passed) else 1)

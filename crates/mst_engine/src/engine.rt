@@ -244,9 +244,8 @@ fn read_line(version: Version, number: u64, line: &[u8]) -> Result<Line, Fault>
     }
 }
 
-/// Serves what the line of this number says: an edit is made in the network, a query is answered of the plan. Where it is refused,
-/// for want of memory or else, the network and its mark stay as they were.
-pub fn serve(alloc: Global, planner: &mut Planner, shape: Shape, number: u64, line: &Line) -> Reply
+/// Serves a line that is read.
+fn serve(alloc: Global, planner: &mut Planner, shape: Shape, number: u64, line: &Line) -> Reply
     ensures { ServesRead shape number (planned_state planner.old) (Ok line.now) (replied shape number (planned_state planner.new) result) }
 {
     match line {
@@ -352,8 +351,8 @@ fn shape(input: Input) -> Shape
     }
 }
 
-/// Writes a reply to the line of this number. After a failure a front of what is printed of it went out.
-pub fn print<K: Sink>(
+/// Writes a reply.
+pub(crate) fn print<K: Sink>(
     sink: &mut K,
     input: Input,
     number: u64,

@@ -1,7 +1,7 @@
 //! An engine that serves the lines of an input, one after another: those of a script, the edits of one alone, or captured
 //! messages, which it compares with the plan.
 //!
-//! [`Engine::reply`] serves a line, [`serve`] one that is read, and [`serve_input`] all lines that a source gives, of which it writes what they print. The
+//! [`Engine::reply`] serves a line, and [`serve_input`] all lines that a source gives, of which it writes what they print. The
 //! [laws] say that what is printed is a function of the input.
 #![tactic(auto)]
 
@@ -11,6 +11,6 @@ mod feed;
 pub mod laws;
 mod serving;
 
-pub use engine::{Engine, Input, Reply, print, serve};
+pub use engine::{Engine, Input, Reply};
 pub use mst_compare::{Differing, Planner, SweepPart, Unexplained, report_laws, trees_laws};
 pub use serving::serve_input;

@@ -1,6 +1,6 @@
 ghost use Rattle.std.specs.Prelude.{◌≡◌, ◌≢◌, ◌≤◌, ◌^◌, false, Err, OnOk, OnErr};
 ghost use Rattle.mst_compare.specs.report.Planned.{planned_state};
-ghost use Rattle.mst_io.specs.Devices.{Hears, IsCalled, Stops, StopsAtZero, stopped_by};
+ghost use Rattle.mst_io.specs.Devices.{IsCalled, Stops, StopsAtZero, stopped_by};
 ghost use Rattle.mst_engine.specs.Engine.{IsReady, begun, tally_of, outcome_of};
 ghost use Rattle.mst_engine.specs.Served.{Served, ServedFront, ServedEnded, IsFew};
 
@@ -33,7 +33,6 @@ pub fn serve_input<S: Source, K: Sink>(
     ensures sink_calls { StopsAtZero (K.told sink.old) (K.told sink.new) }
     ensures lent_source { S.lent source.new ≡ S.lent source.old }
     ensures lent_sink { K.lent sink.new ≡ K.lent sink.old }
-    ensures heard { Hears S.hears source.old source.new }
 {
     has_steps();
     let mut held = HeldLine::new();

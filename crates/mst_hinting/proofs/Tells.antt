@@ -1,5 +1,5 @@
 -- How the hints of a script go on from byte to byte.
-use Rattle.std.proofs.Common.{◌≡◌, ◌≢◌, ◌||◌, ℕ, ◌+◌, ◌<◌, Bool, true, false, nat_eq, cond, List, [], ◌∷◌, ◌++◌, length, Option, Some, None, Result, Ok, Err, refl, sym, ap, subst, ◌∙◌, arith, inl, inr, append_assoc, append-nil, eq-eqb, length-append}
+use Rattle.std.proofs.Common.{◌≡◌, ◌≢◌, ◌||◌, ℕ, ◌+◌, ◌<◌, true, false, nat_eq, cond, List, [], ◌∷◌, ◌++◌, length, Option, Some, None, Result, Ok, Err, refl, sym, ap, subst, ◌∙◌, arith, inl, inr, append_assoc, append-nil, eq-eqb, length-append}
 use Rattle.std.proofs.lemmas.Bool.{lt-ltb}
 use Rattle.std.proofs.lemmas.Grind.{common_steps}
 use Rattle.std.specs.Option.{unwrap_or}
@@ -16,10 +16,9 @@ use Rattle.mst_hints.specs.lang.declared.line.Version.TheVariants.{V1, V2}
 use Rattle.mst_hints.specs.Hints.{hint_of, hint_line, too_long}
 use Rattle.mst_hints.specs.Kept.{IsKept}
 use Rattle.mst_hints.specs.Records.{added_of}
-use Rattle.mst_hints.specs.Scripts.{Past, nothing, past_after, version_with, reading_with, saying_with, edit_alone, net_with, is_made, is_mark, making_of, noted, read_hint, with_making, hint_after, hints_from, hints_of}
+use Rattle.mst_hints.specs.Scripts.{Past, nothing, past_after, version_with, reading_with, net_with, is_made, is_mark, making_of, noted, read_hint, with_making, hint_after, hints_from, hints_of}
 use Rattle.mst_hints.specs.declared.record.Record.{Record}
 use Rattle.mst_hints.specs.declared.script.ScriptHints.{ScriptHints}
-use Rattle.mst_hints.specs.declared.whose.Script.TheVariants.{Run}
 use Rattle.mst_io.specs.Held.{lines_held, ending}
 use Rattle.mst_io.specs.Held.{hold}
 use Rattle.mst_hinting.specs.Hinted.{Hints, HintsFront, HintsEnded, Tells, IsTold, IsWritten, IsStoppedIn}
@@ -97,26 +96,20 @@ reading_long : (known : Option Version) (line : List ℕ) → 4096 < length line
 reading_long (Some version) line long = long_reading version line long
 reading_long None line long = ap (λ t. cond t (Ok Blank) (reading_as V1 line)) (says_long line long) ∙ long_reading V1 line long
 
-saying_long : (asks : Bool) (known : Option Version) (line : List ℕ) → 4096 < length line → saying_with asks known line ≡ Err E01
-saying_long true known line long = reading_long known line long
-saying_long false known line long = ap edit_alone (reading_long known line long)
-
 added_long : (line : List ℕ) → 4096 < length line → added_of line ≡ None
 added_long line long = rw (lt-ltb 4096 (length line) long) refl
 
 unread_long : (version : Version) (line : List ℕ) → 4096 < length line → hint_of version line ≡ Some too_long
 unread_long version line long = rw (lt-ltb 4096 (length line) long) refl
 
-hint_long : (past : Past) (line : List ℕ) → 4096 < length line → hint_after past line ≡ hint_line past.of past.number (Some too_long)
+hint_long : (past : Past) (line : List ℕ) → 4096 < length line → hint_after past line ≡ hint_line past.number (Some too_long)
 hint_long past line long =
-    ap (λ r. hint_line past.of past.number (read_hint past line r)) (saying_long past.asks past.version line long)
-    ∙ ap (hint_line past.of past.number) (unread_long (version_with past.version line) line long)
+    ap (λ r. hint_line past.number (read_hint past line r)) (reading_long past.version line long)
+    ∙ ap (hint_line past.number) (unread_long (version_with past.version line) line long)
 
 abbrev after_by : Past → Version → Result Line Fault → Option Record → Past
 after_by past version reading added = let made = is_made past.marked past.net reading in
     record {
-      of = past.of;
-      asks = past.asks;
       version = Some version;
       number = past.number + 1;
       net = net_with past.net reading;
@@ -127,8 +120,8 @@ after_by past version reading added = let made = is_made past.marked past.net re
 
 past_long : (past : Past) (line : List ℕ) → 4096 < length line → past_after past line ≡ after_by past (version_with past.version []) (Err E01) None
 past_long past line long =
-    ap (λ v. after_by past v (saying_with past.asks past.version line) (added_of line)) (version_long past.version line long)
-    ∙ ap (λ r. after_by past (version_with past.version []) r (added_of line)) (saying_long past.asks past.version line long)
+    ap (λ v. after_by past v (reading_with past.version line) (added_of line)) (version_long past.version line long)
+    ∙ ap (λ r. after_by past (version_with past.version []) r (added_of line)) (reading_long past.version line long)
     ∙ ap (λ a. after_by past (version_with past.version []) (Err E01) a) (added_long line long)
 
 held_hint : (past : Past) (part held : List ℕ) → IsHeld part held → hint_after past (drop_cr held) ≡ hint_after past (drop_cr part)
@@ -172,11 +165,11 @@ module _ (last : List ℕ → List (List ℕ)) (left : HeldAlike last) where
         | false ↦ lines_alike bs past (part ++ b ∷ []) (hold held b) (IsHeld-push part held b is)
       ]
 
-script_alike : (bytes : List ℕ) → hints_of Run (lines_of bytes) ≡ hints_from (nothing Run) (lines_held last_line [] bytes)
-script_alike bytes = sym (lines_alike last_line last_alike bytes (nothing Run) [] [] IsHeld-nothing)
+script_alike : (bytes : List ℕ) → hints_of (lines_of bytes) ≡ hints_from nothing (lines_held last_line [] bytes)
+script_alike bytes = sym (lines_alike last_line last_alike bytes nothing [] [] IsHeld-nothing)
 
-ended_alike : (bytes : List ℕ) → hints_of Run (ended_lines bytes) ≡ hints_from (nothing Run) (lines_held no_line [] bytes)
-ended_alike bytes = sym (lines_alike no_line none_alike bytes (nothing Run) [] [] IsHeld-nothing)
+ended_alike : (bytes : List ℕ) → hints_of (ended_lines bytes) ≡ hints_from nothing (lines_held no_line [] bytes)
+ended_alike bytes = sym (lines_alike no_line none_alike bytes nothing [] [] IsHeld-nothing)
 
 -- ---- a whole script
 -- what follows some bytes
@@ -188,33 +181,33 @@ ends_held now end [] more g = g.lines last_line [] ∙ append-nil more
 ends_held now end (b ∷ bs) more g = g.lines last_line [] ∙ append-nil more
 
 -- the script has ended, and its last line was taken
-pub hints_whole : (reads rest written mid new : Option (List ℕ)) (now : Past) (read left text : List ℕ) (hints : ScriptHints) → Consumes reads rest read → IsAtEnd rest → Tells (nothing Run) [] read now left text → Appends written mid text → IsWritten now left (ending left) hints [] mid new → Hints reads written new
+pub hints_whole : (reads rest written mid new : Option (List ℕ)) (now : Past) (read left text : List ℕ) (hints : ScriptHints) → Consumes reads rest read → IsAtEnd rest → Tells nothing [] read now left text → Appends written mid text → IsWritten now left (ending left) hints [] mid new → Hints reads written new
 hints_whole reads rest written mid new now read left text hints consumed at_end f went g = record {
   script = read;
   read = Reads-all reads rest read consumed at_end;
   printed = subst (Appends written new)
-      (sym (script_alike read ∙ goes_on (nothing Run) now [] read left text last_line f ∙ ap (λ h. text ++ h) (ends_held now g.now left g.text g.tells)))
+      (sym (script_alike read ∙ goes_on nothing now [] read left text last_line f ∙ ap (λ h. text ++ h) (ends_held now g.now left g.text g.tells)))
       (Appends-trans written mid new text g.text went g.printed);
 }
 
 -- what was told of the bytes, and a front of what follows
-pub hints_stopped : (reads rest written mid new : Option (List ℕ)) (now : Past) (read left text chunk : List ℕ) → Consumes reads rest (read ++ chunk) → Tells (nothing Run) [] read now left text → Appends written mid text → IsStoppedIn now left chunk mid new → HintsFront reads written new
+pub hints_stopped : (reads rest written mid new : Option (List ℕ)) (now : Past) (read left text chunk : List ℕ) → Consumes reads rest (read ++ chunk) → Tells nothing [] read now left text → Appends written mid text → IsStoppedIn now left chunk mid new → HintsFront reads written new
 hints_stopped reads rest written mid new now read left text chunk consumed f went stopped =
     let more = unwrap_or rest [] in
     record {
       script = (read ++ chunk) ++ more;
       read = Reads-rest reads rest (read ++ chunk) consumed;
       printed = subst (AppendsFront written new)
-          (sym (script_alike ((read ++ chunk) ++ more) ∙ ap (λ l. hints_from (nothing Run) (lines_held last_line [] l)) (append_assoc read chunk more) ∙ f.lines last_line (chunk ++ more)))
+          (sym (script_alike ((read ++ chunk) ++ more) ∙ ap (λ l. hints_from nothing (lines_held last_line [] l)) (append_assoc read chunk more) ∙ f.lines last_line (chunk ++ more)))
           (AppendsFront-after written mid new text (hints_from now (lines_held last_line left (chunk ++ more))) went (stopped more));
     }
 
-pub hints_stopped_last : (reads rest written mid new : Option (List ℕ)) (now : Past) (read left text : List ℕ) → Consumes reads rest read → IsAtEnd rest → Tells (nothing Run) [] read now left text → Appends written mid text → IsStoppedIn now left (ending left) mid new → HintsFront reads written new
+pub hints_stopped_last : (reads rest written mid new : Option (List ℕ)) (now : Past) (read left text : List ℕ) → Consumes reads rest read → IsAtEnd rest → Tells nothing [] read now left text → Appends written mid text → IsStoppedIn now left (ending left) mid new → HintsFront reads written new
 hints_stopped_last reads rest written mid new now read left text consumed at_end f went stopped = record {
   script = read;
   read = Reads-all reads rest read consumed at_end;
   printed = subst (AppendsFront written new)
-      (sym (script_alike read ∙ goes_on (nothing Run) now [] read left text last_line f))
+      (sym (script_alike read ∙ goes_on nothing now [] read left text last_line f))
       (AppendsFront-after written mid new text (hints_from now (last_line left)) went (subst (AppendsFront mid new) (ends left) (stopped [])));
 }
   where
@@ -223,7 +216,7 @@ hints_stopped_last reads rest written mid new now read left text consumed at_end
     ends (b ∷ bs) = refl
 
 -- the reader failed
-pub hints_cut : (reads rest written new : Option (List ℕ)) (now : Past) (read left text : List ℕ) → Consumes reads rest read → Tells (nothing Run) [] read now left text → Appends written new text → HintsFront reads written new
+pub hints_cut : (reads rest written new : Option (List ℕ)) (now : Past) (read left text : List ℕ) → Consumes reads rest read → Tells nothing [] read now left text → Appends written new text → HintsFront reads written new
 hints_cut reads rest written new now read left text consumed f went =
     let more = unwrap_or rest [] in
     record {
@@ -237,11 +230,11 @@ hints_cut reads rest written new now read left text consumed f went =
       };
     }
 
-pub hints_ended : (reads rest written new : Option (List ℕ)) (now : Past) (read left text : List ℕ) → Consumes reads rest read → Tells (nothing Run) [] read now left text → Appends written new text → HintsEnded reads rest written new
+pub hints_ended : (reads rest written new : Option (List ℕ)) (now : Past) (read left text : List ℕ) → Consumes reads rest read → Tells nothing [] read now left text → Appends written new text → HintsEnded reads rest written new
 hints_ended reads rest written new now read left text consumed f went = record {
   read = read;
   consumed = consumed;
-  printed = subst (Appends written new) (sym (ended_alike read ∙ goes_on (nothing Run) now [] read left text no_line f ∙ append-nil text)) went;
+  printed = subst (Appends written new) (sym (ended_alike read ∙ goes_on nothing now [] read left text no_line f ∙ append-nil text)) went;
 }
 
 -- what was taken was written

@@ -5,7 +5,6 @@ use Rattle.mst_hints.specs.lang.Lines.{lines_of, ended_lines, last_line}
 use Rattle.mst_hints.specs.Kept.{IsKept}
 use Rattle.mst_hints.specs.Scripts.{Past, hints_from, hints_of}
 use Rattle.mst_hints.specs.declared.script.ScriptHints.{ScriptHints}
-use Rattle.mst_hints.specs.declared.whose.Script.TheVariants.{Run}
 use Rattle.mst_io.specs.Held.{lines_held}
 use Rattle.mst_io.specs.Written.{AppendsFront, Reads}
 
@@ -13,20 +12,20 @@ use Rattle.mst_io.specs.Written.{AppendsFront, Reads}
 pub record Hints (reads written now : Option (List ℕ)) : Type 0 where
   pub script : List ℕ
   pub read : Reads reads script
-  pub printed : Appends written now (hints_of Run (lines_of script))
+  pub printed : Appends written now (hints_of (lines_of script))
 
 -- a front of them was
 pub record HintsFront (reads written now : Option (List ℕ)) : Type 0 where
   pub script : List ℕ
   pub read : Reads reads script
-  pub printed : AppendsFront written now (hints_of Run (lines_of script))
+  pub printed : AppendsFront written now (hints_of (lines_of script))
 
 -- The reader has given these bytes, as far as it tells, and has these left. The hints of the lines that they complete were
 -- written, and nothing else
 pub record HintsEnded (reads left written now : Option (List ℕ)) : Type 0 where
   pub read : List ℕ
   pub consumed : Consumes reads left read
-  pub printed : Appends written now (hints_of Run (ended_lines read))
+  pub printed : Appends written now (hints_of (ended_lines read))
 
 -- ---- what was done with the bytes of a script that came so far
 -- The bytes were taken, and this is the text of the hints of the lines that they complete: what follows goes on from there,

@@ -7,16 +7,16 @@ ghost use Rattle.mst_io.specs.Held.{ending};
 ghost use Rattle.mst_hinting.specs.Hinted.{Hints, HintsFront, HintsEnded, IsTold, IsWritten, IsStoppedIn};
 ghost use Rattle.mst_io.specs.Written.{AppendsFront};
 
-use mst_hints::{Script, ScriptHints};
+use mst_hints::ScriptHints;
 use mst_io::{FromRead, HeldLine, RunFault, Sink, Source, TURNS, ToWrite, put};
 use std::alloc::{AllocError, Global};
 use std::io::{Read, Write};
 
 /// Writes what would be right in the lines of the script that the reader gives: a line for each that isn't read, and for
-/// each that is refused. What is written is a function of the script.
+/// each that is refused since a bridge, a port or a LAN isn't there. What is written is a function of the script.
 ///
-/// The script is read as by a run of it. Its edits are made, from the empty network on, and its marks are noted, so that a query for
-/// the changes without one is refused; no other query is answered.
+/// The script is read as by a run of it. Its edits are made, from the empty network on; its queries aren't answered,
+/// and its marks do nothing.
 ///
 /// The reader and the writer are called as by a run, the writer once what was read is taken. After
 /// [`RunFault::Read`] the hints of all complete lines have gone out, of what was read. After [`RunFault::Write`] a front of
@@ -76,7 +76,7 @@ pub fn hints_within<S: Source, K: Sink>(
     ensures lent_source { S.lent source.new ≡ S.lent source.old }
     ensures lent_sink { K.lent sink.new ≡ K.lent sink.old }
 {
-    let mut hints = ScriptHints::new(alloc, Script::Run);
+    let mut hints = ScriptHints::new(alloc);
     let mut held = HeldLine::new();
     let mut chunk = [0; 4096];
     'turns: for turn in 0..turns {

@@ -1,5 +1,4 @@
 pub mod Tables
-pub mod Said
 pub mod Hinted
 pub mod Wrong
 pub mod Noted

@@ -7,5 +7,5 @@ pub joined : (old a b mid new : List ℕ) → mid ≡ old ++ a → new ≡ mid +
 joined old a b mid new first second = second ∙ ap (λ l. l ++ b) first ∙ append_assoc old a b
 
 -- a text behind the number and before the end
-pub lined : (of : List ℕ) (number : ℕ) (text old begun told new : List ℕ) → begun ≡ old ++ of ++ codes "line " ++ decimal number ++ 32 ∷ [] → told ≡ begun ++ text → new ≡ told ++ 10 ∷ [] → new ≡ old ++ hint_line of number (Some text)
-lined of number text old begun told new begins tells ends = search (rules, append_assoc)
+pub lined : (number : ℕ) (text old begun told new : List ℕ) → begun ≡ old ++ codes "line " ++ decimal number ++ 32 ∷ [] → told ≡ begun ++ text → new ≡ told ++ 10 ∷ [] → new ≡ old ++ hint_line number (Some text)
+lined number text old begun told new begins tells ends = search (rules, append_assoc)

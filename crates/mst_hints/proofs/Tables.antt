@@ -29,7 +29,7 @@ found_or : {A B : Type 0} (f : A → B) (b : Bool) (x : A) (o : Option A) (p : O
 found_or f true x o p same = refl
 found_or f false x o p same = same
 
-pub find_map : {A B : Type 0} (f : A → B) (test : B → Bool) (xs : List A) → option_map f (find (λ x. test (f x)) xs) ≡ find test (map f xs)
+find_map : {A B : Type 0} (f : A → B) (test : B → Bool) (xs : List A) → option_map f (find (λ x. test (f x)) xs) ≡ find test (map f xs)
 find_map f test [] = refl
 find_map f test (x ∷ xs) = found_or f (test (f x)) x (find (λ y. test (f y)) xs) (find test (map f xs)) (find_map f test xs)
 

@@ -1,5 +1,5 @@
 -- Steps of the code along the definitions of hints.
-use Rattle.std.proofs.Common.{◌≡◌, Bor, ℕ, List, [], ◌∷◌, Option, Some, None, is_some, true, false, refl, ap, true≢false, sym}
+use Rattle.std.proofs.Common.{◌≡◌, ℕ, List, [], ◌∷◌, Option, Some, None, is_some, true, false, refl, ap, true≢false, sym}
 use Rattle.std.specs.Option.{option_map, unwrap_or}
 use Rattle.mst_lang.specs.declared.line.Version.{Version}
 use Rattle.mst_lang.specs.declared.line.Command.{Command}
@@ -30,10 +30,3 @@ is_command form (Some command) e = refl
 pub is_no_command : (command : Option Command) → None ≡ option_map form_of command → is_some command ≡ false
 is_no_command None e = refl
 is_no_command (Some command) e = absurd (true≢false (sym (ap is_some e)))
-
--- and either as the other
-pub some_alike : (form : Option (Bor (List Argument))) (command : Option Command) → option_map (λ (f : Bor (List Argument)). f.now) form ≡ option_map form_of command → is_some form ≡ is_some command
-some_alike None None e = refl
-some_alike None (Some command) e = ap is_some e
-some_alike (Some form) None e = ap is_some e
-some_alike (Some form) (Some command) e = refl

@@ -1,6 +1,6 @@
 -- What stands in the places of each command's line, and what is right there.
-use Rattle.std.specs.Prelude.{ℕ, Bool, List, [], ◌∷◌, codes}
-use Rattle.std.specs.Result.{is_ok}
+use Rattle.std.specs.Prelude.{ℕ, Bool, List, [], ◌∷◌, Option, None, codes}
+use Rattle.std.specs.Result.{is_ok, result_ok}
 use Rattle.mst_lang.specs.Arguments.{name, mac, port_number, bridge_priority, port_priority, cost, sixteen_bits, limit, speed, conf_name, power, kind, lan_state, yes_or_no, tree, vid, vids, members}
 use Rattle.mst_lang.specs.declared.line.Version.{Version}
 use Rattle.mst_lang.specs.declared.line.Version.TheVariants.{V1, V2}
@@ -119,3 +119,10 @@ range_of version YesOrNo = codes "it is yes or no"
 range_of version OneVid = codes "VID is 1 to 4094"
 range_of version VidList = codes "VIDS is VIDs of 1 to 4094 as in 1-9,20"
 range_of version MemberList = codes "VIDS is VIDs of 1 to 4094 as in 1-9,20"
+
+-- the step that a priority is, where the word is written as version 2 has it: a multiple of 4096 up to 61440, a
+-- port's one of 16 up to 240
+abbrev pub step_of : Argument → List ℕ → Option ℕ
+step_of BridgePriority word = result_ok (bridge_priority V2 word)
+step_of PortPriority word = result_ok (port_priority V2 word)
+step_of _ word = None

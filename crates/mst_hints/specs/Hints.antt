@@ -1,19 +1,15 @@
 -- What would be right where a line isn't read.
-use Rattle.std.specs.Prelude.{ℕ, ◌+◌, ◌==◌, ◌||◌, ◌&&◌, Bool, true, false, List, [], ◌∷◌, ◌++◌, length, take, drop, position, nat_eq, nat_lt, Option, Some, None, is_some, is_ok, if◌then◌else◌, codes, decimal, find}
-use Rattle.std.specs.Option.{option_map, option_map_or, option_and_then, option_or}
+use Rattle.std.specs.Prelude.{ℕ, ◌==◌, ◌||◌, Bool, List, [], ◌∷◌, ◌++◌, length, nat_eq, nat_lt, Option, Some, None, if◌then◌else◌, codes, decimal, find}
+use Rattle.std.specs.Option.{option_map, option_map_or, option_or}
 use Rattle.std.specs.List.{flat_map, list_all, list_any, starts_with}
 use Rattle.mst_ids.specs.Words.{after_space}
-use Rattle.mst_lang.specs.Arguments.{is_text, name, port_number}
 use Rattle.mst_lang.specs.Words.{words, is_plain}
 use Rattle.mst_lang.specs.Reading.{commands, command_of, is_comment}
 use Rattle.mst_lang.specs.declared.line.Version.{Version}
 use Rattle.mst_lang.specs.declared.line.Command.{Command}
 use Rattle.mst_hints.specs.declared.form.Argument.{Argument}
-use Rattle.mst_hints.specs.declared.form.Argument.TheVariants.{BridgeName, MemberList, PortNumber, VidList}
-use Rattle.mst_hints.specs.Forms.{form_of, word_of, is_right, range_of}
-use Rattle.mst_hints.specs.Meant.{meaning, meant_by}
+use Rattle.mst_hints.specs.Forms.{form_of, word_of, is_right, range_of, step_of}
 use Rattle.mst_hints.specs.Near.{is_in_case, is_joined, is_within_one, is_within_two}
-use Rattle.mst_hints.specs.Tools.{asks, saying_among}
 
 -- ---- a line that may hold no command
 unfoldable pub too_long : List ℕ
@@ -63,40 +59,16 @@ by_changes word = option_or (command_where (λ text. is_within_one text word)) (
 unfoldable pub nearest : List ℕ → Option (List ℕ)
 nearest word = option_or (command_where (λ text. is_in_case text word)) (by_changes word)
 
--- the command that a word and the next one are, written apart, in either order
-abbrev pub parted : List ℕ → List (List ℕ) → Option (List ℕ)
-parted word [] = None
-parted word (behind ∷ others) = option_or (command_where (λ text. is_joined text word behind)) (command_where (λ text. is_joined text behind word))
-
--- the command that stands behind a word
-abbrev pub next_command : List (List ℕ) → Option (List ℕ)
-next_command [] = None
-next_command (word ∷ others) = if is_some (command_of word) then Some word else None
-
--- the nearest command of a word that asks for nothing in other tools
-abbrev pub near_alone : List ℕ → Option (List ℕ)
-near_alone word = if asks word then None else nearest word
-
--- what is said of a word: the command that it was to be, what it or one of the words behind it asks for in other tools, or the
--- command that stands behind it
-abbrev pub question : List ℕ → List ℕ
-question command = command ++ codes "?"
-
+-- the command that a line was to begin with, by its first word and those behind it: one that is written apart, or the nearest
 abbrev pub meant : List ℕ → List (List ℕ) → Option (List ℕ)
-meant word arguments = option_or (parted word arguments) (near_alone word)
+meant word [] = nearest word
+meant word (behind ∷ others) = option_or (command_where (λ text. is_joined text word behind)) (nearest word)
 
-abbrev pub said_behind : List ℕ → List (List ℕ) → Option (List ℕ)
-said_behind word arguments = option_or (saying_among (word ∷ arguments)) (option_map question (next_command arguments))
-
-abbrev pub said_of : List ℕ → List (List ℕ) → Option (List ℕ)
-said_of word arguments = option_or (option_map question (meant word arguments)) (said_behind word arguments)
-
--- behind what was said already
-abbrev pub besides : Option (List ℕ) → List ℕ
-besides said = option_map_or (λ text. codes "; " ++ text) said []
+abbrev pub asked : List ℕ → List ℕ
+asked command = codes "; " ++ command ++ codes "?"
 
 abbrev pub unknown_text : List ℕ → List (List ℕ) → List ℕ
-unknown_text word arguments = codes "no command " ++ word ++ besides (said_of word arguments)
+unknown_text word arguments = codes "no command " ++ word ++ option_map_or asked (meant word arguments) []
 
 -- ---- a command with another number of words
 -- the words of a form, each after a space
@@ -110,50 +82,15 @@ takes_text (argument ∷ form) = form_text (argument ∷ form)
 abbrev pub count_text : ℕ → List ℕ
 count_text count = if count == 1 then codes "1 word stands here" else decimal count ++ codes " words stand here"
 
--- what a word is that was meant to be another one, or several
-abbrev pub word_is : List ℕ → List ℕ → List ℕ
-word_is word right = word ++ codes " is " ++ right
-
--- a port as B:P is one word, where B and P are two
-abbrev pub halves : List ℕ → Option (List ℕ × List ℕ)
-halves word = option_map (λ colon. (take colon word, drop (colon + 1) word)) (position (λ b. b == 58) word)
-
-abbrev pub two_words : List ℕ × List ℕ → Option (List ℕ)
-two_words port = if is_ok (name port.0) && is_ok (port_number port.1) then Some (port.0 ++ 32 ∷ port.1) else None
-
-abbrev pub port_apart : List Argument → List (List ℕ) → Option (List ℕ)
-port_apart (BridgeName ∷ PortNumber ∷ form) (word ∷ arguments) = option_map (word_is word) (option_and_then two_words (halves word))
-port_apart form arguments = None
-
--- a list of VIDs is one word, where several stand
-abbrev pub is_list : Argument → Bool
-is_list VidList = true
-is_list MemberList = true
-is_list _ = false
-
-unfoldable pub list_text : List ℕ
-list_text = codes "a list of VIDs is one word, as in 1-9,20"
-
-abbrev pub list_apart : List Argument → List (List ℕ) → Option (List ℕ)
-list_apart form arguments = if list_any is_list form && nat_lt (length form) (length arguments) then Some list_text else None
-
--- Linux has a command of the name `bridge`, too
-abbrev pub other_bridge : List ℕ → List (List ℕ) → Option (List ℕ)
-other_bridge word arguments = if is_text word (codes "bridge") then saying_among (word ∷ arguments) else None
-
-abbrev pub advice : List ℕ → List Argument → List (List ℕ) → Option (List ℕ)
-advice word form arguments = option_or (port_apart form arguments) (option_or (list_apart form arguments) (other_bridge word arguments))
-
-abbrev pub number_text : List ℕ → List Argument → List (List ℕ) → List ℕ
-number_text word form arguments =
-    word ++ codes " takes" ++ takes_text form ++ codes "; " ++ count_text (length arguments) ++ besides (advice word form arguments)
+abbrev pub number_text : List ℕ → List Argument → ℕ → List ℕ
+number_text word form count = word ++ codes " takes" ++ takes_text form ++ codes "; " ++ count_text count
 
 -- where a comment stands behind the words, that is told
 unfoldable pub comment_text : List ℕ
 comment_text = codes "a comment is a line of its own"
 
 abbrev pub words_text : List ℕ → List Argument → List (List ℕ) → List ℕ
-words_text word form arguments = if list_any is_comment arguments then comment_text else number_text word form arguments
+words_text word form arguments = if list_any is_comment arguments then comment_text else number_text word form (length arguments)
 
 -- ---- a command with an argument that isn't in its form
 -- the first argument that isn't, and the word that stands there
@@ -162,13 +99,12 @@ first_wrong version [] arguments = None
 first_wrong version (argument ∷ form) [] = None
 first_wrong version (argument ∷ form) (word ∷ arguments) = if is_right version argument word then first_wrong version form arguments else Some (argument, word)
 
--- and what it was meant to be, where that can be told
-abbrev pub meant_text : Version → Argument → List ℕ → Option (List ℕ)
-meant_text version argument word = option_map (λ meant. word_is word (meaning word meant)) (meant_by version argument word)
+-- which step a priority is that is written as a number of steps
+abbrev pub step_text : Argument → List ℕ → List ℕ
+step_text argument word = option_map_or (λ step. codes "; " ++ word ++ codes " is " ++ decimal step) (step_of argument word) []
 
 abbrev pub wrong_text : Version → List ℕ → List Argument → Argument × List ℕ → List ℕ
-wrong_text version word form wrong =
-    word ++ form_text form ++ codes ": " ++ range_of version wrong.0 ++ besides (meant_text version wrong.0 wrong.1)
+wrong_text version word form wrong = word ++ form_text form ++ codes ": " ++ range_of version wrong.0 ++ step_text wrong.0 wrong.1
 
 -- ---- the hint of a line
 abbrev pub form_hint : Version → List ℕ → List Argument → List (List ℕ) → Option (List ℕ)
@@ -191,7 +127,7 @@ worded_hint version plain bytes (word ∷ arguments) =
 abbrev pub hint_of : Version → List ℕ → Option (List ℕ)
 hint_of version line = if nat_lt 4096 (length line) then Some too_long else worded_hint version (list_all is_plain line) (byte_text line) (words line)
 
--- what is printed of it: what tells its script from another one and the number of the line go first
-abbrev pub hint_line : List ℕ → ℕ → Option (List ℕ) → List ℕ
-hint_line of number None = []
-hint_line of number (Some text) = of ++ codes "line " ++ decimal number ++ 32 ∷ text ++ 10 ∷ []
+-- what is printed of it: the number of the line goes first
+abbrev pub hint_line : ℕ → Option (List ℕ) → List ℕ
+hint_line number None = []
+hint_line number (Some text) = codes "line " ++ decimal number ++ 32 ∷ text ++ 10 ∷ []

@@ -18,8 +18,6 @@ AreMade makings kept = (wanted : Record) → lookup (same_record wanted) kept.ma
 
 -- all of what came before the next line
 pub record IsKept (past : Past) (kept : ScriptHints) : Type 0 where
-  pub of : kept.of.now ≡ past.of
-  pub asks : kept.asks ≡ past.asks
   pub version : kept.version ≡ past.version
   pub number : kept.number ≡ past.number
   pub net : kept.network.net ≡ past.net

@@ -1,8 +1,6 @@
 pub use Rattle.mst_lang.specs as lang
 pub mod Forms
 pub mod Near
-pub mod Tools
-pub mod Meant
 pub mod Hints
 pub mod Records
 pub mod Standing

@@ -18,29 +18,6 @@ use Rattle.mst_hints.specs.Hints.{hint_of, hint_line}
 use Rattle.mst_hints.specs.Records.{missing_of, added_of, made_by, same_record}
 use Rattle.mst_hints.specs.Standing.{Making, record_text, standing_of}
 use Rattle.mst_hints.specs.declared.record.Record.{Record}
-use Rattle.mst_hints.specs.declared.whose.Script.{Script}
-use Rattle.mst_hints.specs.declared.whose.Script.TheVariants.{Run, Loaded, Old, New}
-
--- ---- the scripts that hints are of
--- what stands before each hint, which tells the scripts of a comparison apart
-abbrev pub text_before : Script → List ℕ
-text_before Run = []
-text_before Loaded = []
-text_before Old = codes "old "
-text_before New = codes "new "
-
--- whether the script's queries are asked and its marks made. Else its network alone is loaded
-abbrev pub is_run : Script → Bool
-is_run Run = true
-is_run Loaded = false
-is_run Old = false
-is_run New = false
-
--- what a line says where the network alone is loaded: a query and a mark say nothing then
-abbrev pub edit_alone : Result Line Fault → Result Line Fault
-edit_alone (Ok Mark) = Ok Blank
-edit_alone (Ok (query q)) = Ok Blank
-edit_alone reading = reading
 
 -- ---- how the lines of a script are read
 -- the version of a script at its next line: it is known already, or this line, the first one, says it
@@ -52,10 +29,6 @@ version_with None line = if says_version_2 line then V2 else V1
 abbrev pub reading_with : Option Version → List ℕ → Result Line Fault
 reading_with (Some version) line = reading_as version line
 reading_with None line = if says_version_2 line then Ok Blank else reading_as V1 line
-
--- what a line says, by whether the script is run
-abbrev pub saying_with : Bool → Option Version → List ℕ → Result Line Fault
-saying_with asks version line = if asks then reading_with version line else edit_alone (reading_with version line)
 
 -- ---- what they make
 -- what a line that is read makes of the network, or why it is refused, by whether the network was marked. A query for the
@@ -110,11 +83,9 @@ is_mark (Ok Mark) = true
 is_mark _ = false
 
 -- ---- the lines that came so far
--- what stands before each hint, whether the script is run, its version, once its first line has come, the number of the next
--- line, the network, whether it was marked, and the lines that were to add a record and those that made one
+-- the version of the script, once its first line has come, the number of the next line, the network, whether it was marked,
+-- and the lines that were to add a record and those that made one
 pub record Past : Type 0 where
-  pub of : List ℕ
-  pub asks : Bool
   pub version : Option Version
   pub number : ℕ
   pub net : Net
@@ -122,15 +93,13 @@ pub record Past : Type 0 where
   pub adds : List Adding
   pub makings : List Making
 
-abbrev pub nothing : Script → Past
-nothing script = record { of = text_before script; asks = is_run script; version = None; number = 1; net = empty_net; marked = false; adds = []; makings = [] }
+abbrev pub nothing : Past
+nothing = record { version = None; number = 1; net = empty_net; marked = false; adds = []; makings = [] }
 
 -- and with one line more
 abbrev pub past_after : Past → List ℕ → Past
-past_after past line = let reading = saying_with past.asks past.version line in let made = is_made past.marked past.net reading in
+past_after past line = let reading = reading_with past.version line in let made = is_made past.marked past.net reading in
     record {
-      of = past.of;
-      asks = past.asks;
       version = Some (version_with past.version line);
       number = past.number + 1;
       net = net_with past.net reading;
@@ -165,7 +134,7 @@ read_hint past line (Ok read) = refused_hint past.adds past.makings past.net rea
 
 -- what is printed of the next line
 abbrev pub hint_after : Past → List ℕ → List ℕ
-hint_after past line = hint_line past.of past.number (read_hint past line (saying_with past.asks past.version line))
+hint_after past line = hint_line past.number (read_hint past line (reading_with past.version line))
 
 -- of the lines that follow
 abbrev pub hints_from : Past → List (List ℕ) → List ℕ
@@ -173,5 +142,5 @@ hints_from past [] = []
 hints_from past (line ∷ lines) = hint_after past line ++ hints_from (past_after past line) lines
 
 -- of all lines of a script
-abbrev pub hints_of : Script → List (List ℕ) → List ℕ
-hints_of script lines = hints_from (nothing script) lines
+abbrev pub hints_of : List (List ℕ) → List ℕ
+hints_of lines = hints_from nothing lines

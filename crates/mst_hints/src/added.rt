@@ -3,12 +3,11 @@ ghost use Rattle.std.specs.Option.{option_map};
 ghost use Rattle.std.specs.Result.{result_ok};
 ghost use Rattle.mst_lang.specs.Arguments as forms;
 ghost use Rattle.mst_lang.specs.Words.{words};
-ghost use Rattle.mst_hints.specs.Records.{added_of as added_of_line, added_by as added_by_words, added_bridge as bridge_of_words, added_port as port_of_words, added_lan as lan_of_words, command_meant as command_of_word};
+ghost use Rattle.mst_hints.specs.Records.{added_of as added_of_line, added_in as added_in_words, added_by as added_by_words, added_bridge as bridge_of_words, added_port as port_of_words, added_lan as lan_of_words, command_meant as command_of_word};
 
 use crate::form::form_of;
-use crate::hint::LONGEST;
+use crate::hint::{LONGEST, nearest};
 use crate::record::Record;
-use crate::unknown::nearest;
 use crate::words::next_word;
 use mst_ids::{Name, PortName, PortNumber};
 use mst_lang::parse_number;

@@ -1,4 +1,4 @@
-ghost use Rattle.std.specs.Prelude.{◌≡◌, is_some, find};
+ghost use Rattle.std.specs.Prelude.{◌≡◌, find};
 ghost use Rattle.std.specs.Option.{option_map};
 ghost use Rattle.mst_lang.specs.Arguments.{is_text};
 ghost use Rattle.mst_lang.specs.Reading.{command_of};
@@ -88,13 +88,6 @@ pub(crate) fn form_of(word: &[u8]) -> Option<&'static [Argument]>
 {
     let forms = FORMS;
     form_in(forms.as_slice(), word)
-}
-
-/// Whether the word is a command.
-pub(crate) fn is_command(word: &[u8]) -> bool
-    ensures { result ≡ is_some (command_of word.now) }
-{
-    form_of(word).is_some()
 }
 
 /// The arguments that a table has for a word.

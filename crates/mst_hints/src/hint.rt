@@ -1,13 +1,13 @@
 ghost use Rattle.std.specs.Prelude.{◌≡◌, ◌++◌, ◌∷◌, [], true, Some, IfOk, OnOk, is_some, length, codes, decimal};
+ghost use Rattle.std.specs.Option.{option_map, option_map_or};
 ghost use Rattle.mst_lang.specs.Reading.{command_of};
 ghost use Rattle.mst_lang.specs.Words.{words};
-ghost use Rattle.mst_hints.specs.Hints.{hint_of, hint_line, too_long, byte_text, is_pcap as pcap, is_utf16 as utf16, unknown_text as unknown_of, number_text, words_text, wrong_text, form_hint, command_hint, form_text as form_text_of, takes_text as takes_text_of, count_text as count_text_of, besides, meant_text};
+ghost use Rattle.mst_hints.specs.Hints.{hint_of, hint_line, too_long, byte_text, is_pcap as pcap, is_utf16 as utf16, unknown_text as unknown_of, meant as meant_of, by_changes as changed, number_text, words_text, wrong_text, form_hint, command_hint, form_text as form_text_of, takes_text as takes_text_of, count_text as count_text_of, step_text as step_text_of, asked as asked_of, nearest as nearest_of};
 
-use crate::advice::push_advice;
-use crate::form::{Argument, form_of};
-use crate::meant::meant_by;
-use crate::right::first_wrong;
-use crate::unknown::push_unknown;
+use crate::form::{
+    Argument, command_by_one, command_by_two, command_in_case, command_joined, form_of,
+};
+use crate::right::{first_wrong, step_of};
 use crate::words::{are_plain, has_comment, next_word, word_count};
 use mst_ids::{push_bytes, push_decimal, push_end, push_word};
 use mst_lang::Version;
@@ -16,21 +16,22 @@ use std::alloc::AllocError;
 /// The most bytes that a line may have.
 pub(crate) const LONGEST: usize = 4096;
 
-/// Appends what would be right in a line that isn't read, as a line with the number of the line first, and before that what
-/// tells its script from another one (`of`, as `old `, or nothing), and says whether there is such a hint: there is exactly
-/// where the line isn't read in a script of this version. The line comes without its end. `AllocError`: memory was wanted and refused; part of the hint may have been appended.
+const TOO_LONG: &str = "a line has at most 4096 bytes";
+
+/// Appends what would be right in a line that isn't read, as a line with the number of the line first, and says
+/// whether there is such a hint: there is exactly where the line isn't read in a script of this version. The line
+/// comes without its end. `AllocError`: memory was wanted and refused; part of the hint may have been appended.
 pub fn push_hint(
     version: Version,
-    of: &[u8],
     number: u64,
     line: &[u8],
     out: &mut Vec<u8>,
 ) -> Result<bool, AllocError>
     ensures hinted { IfOk result (λ there. there ≡ is_some (hint_of version line.now)) }
-    ensures text { OnOk result (out.new.items ≡ out.old.items ++ hint_line of.now number (hint_of version line.now)) }
+    ensures text { OnOk result (out.new.items ≡ out.old.items ++ hint_line number (hint_of version line.now)) }
 {
     if line.len() > LONGEST {
-        return push_too_long(of, number, out);
+        return push_too_long(number, out);
     }
     let plain = are_plain(line);
     match next_word(line) {
@@ -38,26 +39,26 @@ pub fn push_hint(
             if plain {
                 Ok(false)
             } else {
-                push_byte(of, number, line, out)
+                push_byte(number, line, out)
             }
         }
         Some(([b'#', ..], _)) => Ok(false),
         Some((word, arguments)) => {
             if plain {
-                push_command_hint(version, of, number, word, arguments, out)
+                push_command_hint(version, number, word, arguments, out)
             } else {
-                push_byte(of, number, line, out)
+                push_byte(number, line, out)
             }
         }
     }
 }
 
 /// Appends the hint of a line that holds a byte which no line may hold.
-fn push_byte(of: &[u8], number: u64, line: &[u8], out: &mut Vec<u8>) -> Result<bool, AllocError>
+fn push_byte(number: u64, line: &[u8], out: &mut Vec<u8>) -> Result<bool, AllocError>
     ensures hinted { IfOk result (λ there. there ≡ true) }
-    ensures text { OnOk result (out.new.items ≡ out.old.items ++ hint_line of.now number (Some (byte_text line.now))) }
+    ensures text { OnOk result (out.new.items ≡ out.old.items ++ hint_line number (Some (byte_text line.now))) }
 {
-    push_text(of, number, byte_words(line), out)
+    push_text(number, byte_words(line), out)
 }
 
 /// What is told of such a line, by the bytes that it begins with.
@@ -94,34 +95,28 @@ fn is_pcap(line: &[u8]) -> bool
 
 /// Appends the hint of a line that is too long.
 #[tactic(auto, unfolding(crate::specs::Hints::too_long))]
-fn push_too_long(of: &[u8], number: u64, out: &mut Vec<u8>) -> Result<bool, AllocError>
+fn push_too_long(number: u64, out: &mut Vec<u8>) -> Result<bool, AllocError>
     ensures hinted { IfOk result (λ there. there ≡ true) }
-    ensures text { OnOk result (out.new.items ≡ out.old.items ++ hint_line of.now number (Some too_long)) }
+    ensures text { OnOk result (out.new.items ≡ out.old.items ++ hint_line number (Some too_long)) }
 {
-    push_text(of, number, "a line has at most 4096 bytes", out)
+    push_text(number, "a line has at most 4096 bytes", out)
 }
 
 /// Appends a hint that is this text.
-pub(crate) fn push_text(
-    of: &[u8],
-    number: u64,
-    text: &str,
-    out: &mut Vec<u8>,
-) -> Result<bool, AllocError>
+pub(crate) fn push_text(number: u64, text: &str, out: &mut Vec<u8>) -> Result<bool, AllocError>
     ensures hinted { IfOk result (λ there. there ≡ true) }
-    ensures text { OnOk result (out.new.items ≡ out.old.items ++ hint_line of.now number (Some text.now)) }
+    ensures text { OnOk result (out.new.items ≡ out.old.items ++ hint_line number (Some text.now)) }
 {
-    push_start(of, number, out)?;
+    push_start(number, out)?;
     push_bytes(text.as_bytes(), out)?;
     push_end(out)?;
     Ok(true)
 }
 
 /// Appends what a hint's line begins with.
-pub(crate) fn push_start(of: &[u8], number: u64, out: &mut Vec<u8>) -> Result<(), AllocError>
-    ensures { OnOk result (out.new.items ≡ out.old.items ++ of.now ++ codes "line " ++ decimal number ++ 32 ∷ []) }
+pub(crate) fn push_start(number: u64, out: &mut Vec<u8>) -> Result<(), AllocError>
+    ensures { OnOk result (out.new.items ≡ out.old.items ++ codes "line " ++ decimal number ++ 32 ∷ []) }
 {
-    push_bytes(of, out)?;
     push_bytes(b"line ", out)?;
     push_decimal(number, out)?;
     push_bytes(b" ", out)
@@ -130,25 +125,23 @@ pub(crate) fn push_start(of: &[u8], number: u64, out: &mut Vec<u8>) -> Result<()
 /// Appends the hint of a line of plain words, if there is one, and says whether there is.
 fn push_command_hint(
     version: Version,
-    of: &[u8],
     number: u64,
     word: &[u8],
     arguments: &[u8],
     out: &mut Vec<u8>,
 ) -> Result<bool, AllocError>
     ensures hinted { IfOk result (λ there. there ≡ is_some (command_hint version word.now (command_of word.now) (words arguments.now))) }
-    ensures text { OnOk result (out.new.items ≡ out.old.items ++ hint_line of.now number (command_hint version word.now (command_of word.now) (words arguments.now))) }
+    ensures text { OnOk result (out.new.items ≡ out.old.items ++ hint_line number (command_hint version word.now (command_of word.now) (words arguments.now))) }
 {
     match form_of(word) {
-        Some(form) => push_form_hint(version, of, number, word, form, arguments, out),
-        None => push_unknown_hint(of, number, word, arguments, out),
+        Some(form) => push_form_hint(version, number, word, form, arguments, out),
+        None => push_unknown_hint(number, word, arguments, out),
     }
 }
 
 /// Appends the hint of a command's line, if there is one, and says whether there is.
 fn push_form_hint(
     version: Version,
-    of: &[u8],
     number: u64,
     word: &[u8],
     form: &[Argument],
@@ -156,11 +149,11 @@ fn push_form_hint(
     out: &mut Vec<u8>,
 ) -> Result<bool, AllocError>
     ensures hinted { IfOk result (λ there. there ≡ is_some (form_hint version word.now form.now (words arguments.now))) }
-    ensures text { OnOk result (out.new.items ≡ out.old.items ++ hint_line of.now number (form_hint version word.now form.now (words arguments.now))) }
+    ensures text { OnOk result (out.new.items ≡ out.old.items ++ hint_line number (form_hint version word.now form.now (words arguments.now))) }
 {
     let count = word_count(arguments);
     if count != form.len() {
-        push_start(of, number, out)?;
+        push_start(number, out)?;
         push_words(word, form, arguments, count, out)?;
         push_end(out)?;
         return Ok(true);
@@ -168,7 +161,7 @@ fn push_form_hint(
     match first_wrong(version, form, arguments) {
         None => Ok(false),
         Some((argument, wrong)) => {
-            push_start(of, number, out)?;
+            push_start(number, out)?;
             push_wrong(version, word, form, argument, wrong, out)?;
             push_end(out)?;
             Ok(true)
@@ -178,19 +171,75 @@ fn push_form_hint(
 
 /// Appends the hint of a line whose first word is no command.
 fn push_unknown_hint(
-    of: &[u8],
     number: u64,
     word: &[u8],
     arguments: &[u8],
     out: &mut Vec<u8>,
 ) -> Result<bool, AllocError>
     ensures hinted { IfOk result (λ there. there ≡ true) }
-    ensures text { OnOk result (out.new.items ≡ out.old.items ++ hint_line of.now number (Some (unknown_of word.now (words arguments.now)))) }
+    ensures text { OnOk result (out.new.items ≡ out.old.items ++ hint_line number (Some (unknown_of word.now (words arguments.now)))) }
 {
-    push_start(of, number, out)?;
+    push_start(number, out)?;
     push_unknown(word, arguments, out)?;
     push_end(out)?;
     Ok(true)
+}
+
+/// Appends what is said of a word that is no command.
+fn push_unknown(word: &[u8], arguments: &[u8], out: &mut Vec<u8>) -> Result<(), AllocError>
+    ensures { OnOk result (out.new.items ≡ out.old.items ++ unknown_of word.now (words arguments.now)) }
+{
+    push_bytes(b"no command ", out)?;
+    push_bytes(word, out)?;
+    push_asked(meant(word, arguments), out)
+}
+
+/// The command that a line was to begin with, by its first word and those behind it.
+fn meant(word: &[u8], arguments: &[u8]) -> Option<&'static [u8]>
+    ensures { option_map (λ text. text.now) result ≡ meant_of word.now (words arguments.now) }
+{
+    match next_word(arguments) {
+        None => nearest(word),
+        Some((behind, _)) => match command_joined(word, behind) {
+            Some(command) => Some(command),
+            None => nearest(word),
+        },
+    }
+}
+
+/// Asks whether the command was meant, where there is one.
+fn push_asked(command: Option<&[u8]>, out: &mut Vec<u8>) -> Result<(), AllocError>
+    ensures { OnOk result (out.new.items ≡ out.old.items ++ option_map_or asked_of (option_map (λ text. text.now) command.entry) []) }
+{
+    match command {
+        Some(command) => {
+            push_bytes(b"; ", out)?;
+            push_bytes(command, out)?;
+            push_bytes(b"?", out)
+        }
+        None => Ok(()),
+    }
+}
+
+/// The command that is nearest to a word: it but for its case, or at most two changes from it.
+#[tactic(auto, unfolding(crate::specs::Hints::nearest))]
+pub(crate) fn nearest(word: &[u8]) -> Option<&'static [u8]>
+    ensures { option_map (λ text. text.now) result ≡ nearest_of word.now }
+{
+    match command_in_case(word) {
+        Some(command) => Some(command),
+        None => by_changes(word),
+    }
+}
+
+/// The command that is at most two changes from the word.
+fn by_changes(word: &[u8]) -> Option<&'static [u8]>
+    ensures { option_map (λ text. text.now) result ≡ changed word.now }
+{
+    match command_by_one(word) {
+        Some(command) => Some(command),
+        None => command_by_two(word),
+    }
 }
 
 /// Appends what is said of a command with another number of words, or with a comment behind them.
@@ -208,7 +257,7 @@ fn push_words(
     if has_comment(arguments) {
         push_bytes(b"a comment is a line of its own", out)
     } else {
-        push_number(word, form, arguments, count, out)
+        push_number(word, form, count, out)
     }
 }
 
@@ -216,19 +265,16 @@ fn push_words(
 fn push_number(
     word: &[u8],
     form: &[Argument],
-    arguments: &[u8],
     count: usize,
     out: &mut Vec<u8>,
 ) -> Result<(), AllocError>
-    requires { count ≡ length (words arguments.now) }
-    ensures { OnOk result (out.new.items ≡ out.old.items ++ number_text word.now form.now (words arguments.now)) }
+    ensures { OnOk result (out.new.items ≡ out.old.items ++ number_text word.now form.now count) }
 {
     push_bytes(word, out)?;
     push_bytes(b" takes", out)?;
     push_taken(form, out)?;
     push_bytes(b"; ", out)?;
-    push_count(count, out)?;
-    push_advice(word, form, arguments, count, out)
+    push_count(count, out)
 }
 
 fn push_taken(form: &[Argument], out: &mut Vec<u8>) -> Result<(), AllocError>
@@ -267,24 +313,19 @@ fn push_wrong(
     push_form(form, out)?;
     push_bytes(b": ", out)?;
     push_bytes(argument.range(version).as_bytes(), out)?;
-    push_meant(version, argument, wrong, out)
+    push_step(argument, wrong, out)
 }
 
-/// Appends what the word was meant to be, where that can be told.
-fn push_meant(
-    version: Version,
-    argument: Argument,
-    word: &[u8],
-    out: &mut Vec<u8>,
-) -> Result<(), AllocError>
-    ensures { OnOk result (out.new.items ≡ out.old.items ++ besides (meant_text version argument word.now)) }
+/// Appends which step a priority is, where the word is one.
+fn push_step(argument: Argument, word: &[u8], out: &mut Vec<u8>) -> Result<(), AllocError>
+    ensures { OnOk result (out.new.items ≡ out.old.items ++ step_text_of argument word.now) }
 {
-    match meant_by(version, argument, word) {
-        Some(meant) => {
+    match step_of(argument, word) {
+        Some(step) => {
             push_bytes(b"; ", out)?;
             push_bytes(word, out)?;
             push_bytes(b" is ", out)?;
-            meant.push_text(word, out)
+            push_decimal(step, out)
         }
         None => Ok(()),
     }

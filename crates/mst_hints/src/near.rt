@@ -88,8 +88,7 @@ pub(crate) fn is_in_case(command: &[u8], word: &[u8]) -> bool
     }
 }
 
-/// The small letter for a capital one.
-pub(crate) fn lower(byte: u8) -> u8
+fn lower(byte: u8) -> u8
     ensures { result ≡ lower_case byte }
 {
     if (b'A'..=b'Z').contains(&byte) {

@@ -1,4 +1,5 @@
 ghost use Rattle.std.specs.Prelude.{◌≡◌};
+ghost use Rattle.std.specs.Option.{option_map};
 ghost use Rattle.mst_hints.specs.Records.{missing_for as missing_of_edit, missing_of as missing_of_line, bridge_for as bridge_of_edit, port_for as port_of_edit, lan_for as lan_of_edit, made_by as made_of_edit, bridge_by_tree as bridge_of_change, port_by_tree as port_of_change, same_record};
 ghost use Rattle.mst_hints.specs.declared.record.Record.{Record as Declared};
 

@@ -1,10 +1,10 @@
-ghost use Rattle.std.specs.Prelude.{◌≡◌, ◌&&◌, ◌||◌, ◌<◌, false, nat_le};
+ghost use Rattle.std.specs.Prelude.{◌≡◌, ◌&&◌, ◌||◌, ◌<◌, true, false, nat_le};
 ghost use Rattle.std.specs.Result.{is_ok, result_ok};
 ghost use Rattle.std.specs.Option.{option_map, option_map_or};
 ghost use Rattle.mst_lang.specs.Arguments.{number_value};
 ghost use Rattle.mst_lang.specs.Arguments as forms;
 ghost use Rattle.mst_lang.specs.Words.{words};
-ghost use Rattle.mst_hints.specs.Forms.{is_right as right_of};
+ghost use Rattle.mst_hints.specs.Forms.{is_right as right_of, step_of as step_of_word};
 ghost use Rattle.mst_hints.specs.Hints.{first_wrong as first_wrong_of};
 
 use crate::form::Argument;
@@ -81,8 +81,19 @@ fn is_port_priority(version: Version, word: &[u8]) -> bool
     }
 }
 
+/// The step that a priority is where the word is written as version 2 has it.
+pub(crate) fn step_of(argument: Argument, word: &[u8]) -> Option<u64>
+    ensures { result ≡ step_of_word argument word.now }
+{
+    match argument {
+        Argument::BridgePriority => priority(4096, word),
+        Argument::PortPriority => priority(16, word),
+        _ => None,
+    }
+}
+
 /// How many steps, 15 at most, a number is that is a multiple of a step.
-pub(crate) fn priority(step: u64, word: &[u8]) -> Option<u64>
+fn priority(step: u64, word: &[u8]) -> Option<u64>
     requires { 0 < step }
     ensures { result ≡ result_ok (forms.priority step word.now) }
 {

@@ -1,15 +1,14 @@
-ghost use Rattle.std.specs.Prelude.{◌≡◌, ◌≢◌, ◌+◌, ◌++◌, ◌<◌, ◌^◌, [], Some, Ok, Err, is_ok, IfOk, OnOk, IfErr, OnErr};
+ghost use Rattle.std.specs.Prelude.{◌≡◌, ◌≢◌, ◌+◌, ◌++◌, ◌<◌, ◌^◌, List, [], Some, Ok, Err, is_ok, IfOk, OnOk, IfErr, OnErr};
 ghost use Rattle.std.specs.Option.{option_map_or};
 ghost use Rattle.mst_hints.specs.Kept.{IsKept};
 ghost use Rattle.mst_hints.specs.Hints.{hint_line};
-ghost use Rattle.mst_hints.specs.Scripts.{Past, nothing, past_after, hint_after, version_with, reading_with, saying_with, after_line, net_after, net_with, is_made, is_mark as marks, making_of as making_of_line, read_hint, refused_hint, refused_text, absent_text, since_text};
+ghost use Rattle.mst_hints.specs.Scripts.{Past, nothing, past_after, hint_after, version_with, reading_with, after_line, net_after, net_with, is_made, is_mark as marks, making_of as making_of_line, read_hint, refused_hint, refused_text, absent_text, since_text};
 
 use crate::added::added_of;
 use crate::adds::Adds;
 use crate::hint::{push_hint, push_start};
 use crate::record::{Record, made_by, missing_of};
 use crate::standing::push_record;
-use crate::whose::Script;
 use mst_ids::{push_bytes, push_decimal, push_end};
 use mst_lang::{Edit, Fault, Line, Query, Version, is_version_2, parse_line_as};
 use mst_net::{Contents, Network, Refusal};
@@ -21,10 +20,6 @@ pub struct ScriptHints {
     pub(crate) alloc: Global,
     /// The version of the script, once its first line has come.
     pub(crate) version: Option<Version>,
-    /// What stands before each hint.
-    pub(crate) of: &'static [u8],
-    /// Whether its queries are asked, and its marks made.
-    pub(crate) asks: bool,
     /// The number of the next line, from 1.
     pub(crate) number: u64,
     /// The network that the edits made.
@@ -35,16 +30,13 @@ pub struct ScriptHints {
 }
 
 impl ScriptHints {
-    /// The empty network, before the first line of this script. It takes no memory. A hint of one of two scripts says whose it is,
-    /// as in `old line 3 ..`.
-    pub fn new(alloc: Global, script: Script) -> ScriptHints
-        ensures { IsKept (nothing script) result }
+    /// The empty network, before the first line. It takes no memory.
+    pub fn new(alloc: Global) -> ScriptHints
+        ensures { IsKept nothing result }
     {
         ScriptHints {
             alloc,
             version: None,
-            of: script.text_before(),
-            asks: script.is_run(),
             number: 1,
             network: Network::new(alloc),
             marked: false,
@@ -67,7 +59,7 @@ impl ScriptHints {
         ensures text { OnOk result ((past : Past) → IsKept past self.old → out.new.items ≡ out.old.items ++ hint_after past line.now) }
     {
         let version = version_at(self.version, line);
-        let reading = say_line(self.asks, self.version, line);
+        let reading = read_line(self.version, line);
         let made = self.push_read(version, line, &reading, out)?;
         self.adds.note(self.number, added_of(line), made)?;
         self.adds.note_made(self.number, making_of(made, &reading))?;
@@ -88,17 +80,15 @@ impl ScriptHints {
         requires { version ≡ version_with self.old.version line.now }
         ensures made { IfOk result (λ made. made ≡ is_made self.old.marked self.old.network.net reading.now) }
         ensures net { OnOk result (self.new.network.net ≡ net_with self.old.network.net reading.now) }
-        ensures text { OnOk result ((past : Past) → IsKept past self.old → out.new.items ≡ out.old.items ++ hint_line past.of past.number (read_hint past line.now reading.now)) }
+        ensures text { OnOk result ((past : Past) → IsKept past self.old → out.new.items ≡ out.old.items ++ hint_line past.number (read_hint past line.now reading.now)) }
         ensures adds { self.new.adds ≡ self.old.adds }
         ensures marked { self.new.marked ≡ self.old.marked }
         ensures number { self.new.number ≡ self.old.number }
         ensures version { self.new.version ≡ self.old.version }
-        ensures of { self.new.of ≡ self.old.of }
-        ensures asks { self.new.asks ≡ self.old.asks }
     {
         match reading {
             Err(_) => {
-                push_hint(version, self.of, self.number, line, out)?;
+                push_hint(version, self.number, line, out)?;
                 Ok(false)
             }
             Ok(read) => self.push_made(read, out),
@@ -109,13 +99,11 @@ impl ScriptHints {
     fn push_made(&mut self, line: &Line, out: &mut Vec<u8>) -> Result<bool, AllocError>
         ensures made { IfOk result (λ made. made ≡ is_ok (after_line self.old.marked line.now self.old.network.net)) }
         ensures net { OnOk result (self.new.network.net ≡ net_after line.now self.old.network.net) }
-        ensures text { OnOk result ((past : Past) → IsKept past self.old → out.new.items ≡ out.old.items ++ hint_line past.of past.number (refused_hint past.adds past.makings past.net line.now (after_line past.marked line.now past.net))) }
+        ensures text { OnOk result ((past : Past) → IsKept past self.old → out.new.items ≡ out.old.items ++ hint_line past.number (refused_hint past.adds past.makings past.net line.now (after_line past.marked line.now past.net))) }
         ensures adds { self.new.adds ≡ self.old.adds }
         ensures marked { self.new.marked ≡ self.old.marked }
         ensures number { self.new.number ≡ self.old.number }
         ensures version { self.new.version ≡ self.old.version }
-        ensures of { self.new.of ≡ self.old.of }
-        ensures asks { self.new.asks ≡ self.old.asks }
     {
         match serve(&mut self.network, self.marked, line) {
             Ok(()) => Ok(true),
@@ -134,16 +122,10 @@ impl ScriptHints {
         refusal: Refusal,
         out: &mut Vec<u8>,
     ) -> Result<(), AllocError>
-        ensures { OnOk result ((past : Past) → IsKept past self.now → out.new.items ≡ out.old.items ++ hint_line past.of past.number (refused_text past.adds past.makings past.net line.now refusal)) }
+        ensures { OnOk result ((past : Past) → IsKept past self.now → out.new.items ≡ out.old.items ++ hint_line past.number (refused_text past.adds past.makings past.net line.now refusal)) }
     {
         match missing_of(line, refusal) {
-            Some(wanted) => push_absent(
-                self.of,
-                self.number,
-                &wanted,
-                self.adds.last_refused(&wanted),
-                out,
-            ),
+            Some(wanted) => push_absent(self.number, &wanted, self.adds.last_refused(&wanted), out),
             None => self.push_standing(line, refusal, out),
         }
     }
@@ -165,17 +147,7 @@ fn version_at(known: Option<Version>, line: &[u8]) -> Version
     }
 }
 
-/// What the next line says, by whether the script is run.
-fn say_line(asks: bool, known: Option<Version>, line: &[u8]) -> Result<Line, Fault>
-    ensures { result ≡ saying_with asks known line.now }
-{
-    match read_line(known, line) {
-        Ok(Line::Query(_) | Line::Mark) if !asks => Ok(Line::Blank),
-        reading => reading,
-    }
-}
-
-/// What the next line says, in a run. The first one of a script of version 2 says so, and nothing else.
+/// What the next line says. The first one of a script of version 2 says so, and nothing else.
 fn read_line(known: Option<Version>, line: &[u8]) -> Result<Line, Fault>
     ensures { result ≡ reading_with known line.now }
 {
@@ -232,15 +204,14 @@ fn serve(network: &mut Network, marked: bool, line: &Line) -> Result<(), Refusal
 
 /// Appends the line that tells that the record isn't there, and which line was to add it, if one was.
 fn push_absent(
-    of: &[u8],
     number: u64,
     wanted: &Record,
     since: Option<u64>,
     out: &mut Vec<u8>,
 ) -> Result<(), AllocError>
-    ensures { OnOk result (out.new.items ≡ out.old.items ++ hint_line of.now number (Some (absent_text since wanted.now))) }
+    ensures { OnOk result (out.new.items ≡ out.old.items ++ hint_line number (Some (absent_text since wanted.now))) }
 {
-    push_start(of, number, out)?;
+    push_start(number, out)?;
     push_bytes(b"no ", out)?;
     push_record(wanted, out)?;
     push_since(since, out)?;

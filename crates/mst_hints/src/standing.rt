@@ -4,7 +4,7 @@ ghost use Rattle.mst_lang.specs.Arguments.{is_text};
 ghost use Rattle.mst_hints.specs.Kept.{IsKept};
 ghost use Rattle.mst_hints.specs.Hints.{hint_line};
 ghost use Rattle.mst_hints.specs.Scripts.{Past};
-ghost use Rattle.mst_hints.specs.Standing.{standing_of, standing_for, there_text, mac_hint, plugged_text, unplugged_text, bridge_has_text, lan_has_text, has_port_text, limit_text, trees_text, mark_text, record_text, lan_text, port_name_text, made_text};
+ghost use Rattle.mst_hints.specs.Standing.{standing_of, standing_for, there_text, mac_hint, plugged_text, unplugged_text, bridge_has_text, lan_has_text, has_port_text, limit_text, trees_text, mark_text, record_text, lan_text, port_name_text, made_text, since_made};
 ghost use Rattle.mst_hints.specs.Standing as standing;
 
 use crate::hint::{push_start, push_text};
@@ -23,12 +23,12 @@ impl ScriptHints {
         refusal: Refusal,
         out: &mut Vec<u8>,
     ) -> Result<(), AllocError>
-        ensures { OnOk result ((past : Past) → IsKept past self.now → out.new.items ≡ out.old.items ++ hint_line past.of past.number (standing_of past.makings past.net line.now refusal)) }
+        ensures { OnOk result ((past : Past) → IsKept past self.now → out.new.items ≡ out.old.items ++ hint_line past.number (standing_of past.makings past.net line.now refusal)) }
     {
         match line {
             Line::Edit(edit) => self.push_standing_for(edit, refusal, out),
             Line::Query(Query::Changes) => match refusal {
-                Refusal::E16 => push_mark(self.of, self.number, out),
+                Refusal::E16 => push_mark(self.number, out),
                 _ => Ok(()),
             },
             _ => Ok(()),
@@ -42,7 +42,7 @@ impl ScriptHints {
         refusal: Refusal,
         out: &mut Vec<u8>,
     ) -> Result<(), AllocError>
-        ensures { OnOk result ((past : Past) → IsKept past self.now → out.new.items ≡ out.old.items ++ hint_line past.of past.number (standing_for past.makings past.net edit.now refusal)) }
+        ensures { OnOk result ((past : Past) → IsKept past self.now → out.new.items ≡ out.old.items ++ hint_line past.number (standing_for past.makings past.net edit.now refusal)) }
     {
         match refusal {
             Refusal::E07 | Refusal::E09 => match made_by(edit) {
@@ -55,7 +55,7 @@ impl ScriptHints {
                 None => Ok(()),
             },
             Refusal::E11 => match port_for(edit) {
-                Some(port) => push_unplugged(self.of, self.number, &port, out),
+                Some(port) => push_unplugged(self.number, &port, out),
                 None => Ok(()),
             },
             Refusal::E12 => match bridge_for(edit) {
@@ -67,11 +67,11 @@ impl ScriptHints {
                 None => Ok(()),
             },
             Refusal::E14 => match made_by(edit) {
-                Some(made) => push_limit(self.of, self.number, &made, out),
+                Some(made) => push_limit(self.number, &made, out),
                 None => Ok(()),
             },
             Refusal::E15 => match bridge_for(edit) {
-                Some(bridge) => push_trees(self.of, self.number, &bridge, out),
+                Some(bridge) => push_trees(self.number, &bridge, out),
                 None => Ok(()),
             },
             _ => Ok(()),
@@ -80,9 +80,9 @@ impl ScriptHints {
 
     /// That the record is there.
     fn push_there(&self, made: &Record, out: &mut Vec<u8>) -> Result<(), AllocError>
-        ensures { OnOk result ((past : Past) → IsKept past self.now → out.new.items ≡ out.old.items ++ hint_line past.of past.number (Some (there_text past.makings made.now))) }
+        ensures { OnOk result ((past : Past) → IsKept past self.now → out.new.items ≡ out.old.items ++ hint_line past.number (Some (there_text past.makings made.now))) }
     {
-        push_start(self.of, self.number, out)?;
+        push_start(self.number, out)?;
         push_record(made, out)?;
         push_bytes(b" is there", out)?;
         push_since_made(self.adds.last_made(made), out)?;
@@ -91,7 +91,7 @@ impl ScriptHints {
 
     /// Which bridge has the MAC address, if one has it.
     fn push_holder(&self, edit: &Edit, out: &mut Vec<u8>) -> Result<(), AllocError>
-        ensures { OnOk result ((past : Past) → IsKept past self.now → out.new.items ≡ out.old.items ++ hint_line past.of past.number (mac_hint past.makings past.net edit.now)) }
+        ensures { OnOk result ((past : Past) → IsKept past self.now → out.new.items ≡ out.old.items ++ hint_line past.number (mac_hint past.makings past.net edit.now)) }
     {
         match edit {
             Edit::AddBridge { mac, .. } => match self.bridge_with_mac(*mac)? {
@@ -104,10 +104,10 @@ impl ScriptHints {
 
     /// That this bridge has it.
     fn push_has_mac(&self, bridge: &Name, out: &mut Vec<u8>) -> Result<(), AllocError>
-        ensures { OnOk result ((past : Past) → IsKept past self.now → out.new.items ≡ out.old.items ++ hint_line past.of past.number (Some (standing.holder_text past.makings bridge.now))) }
+        ensures { OnOk result ((past : Past) → IsKept past self.now → out.new.items ≡ out.old.items ++ hint_line past.number (Some (standing.holder_text past.makings bridge.now))) }
     {
         let holder = Record::Bridge(*bridge);
-        push_start(self.of, self.number, out)?;
+        push_start(self.number, out)?;
         push_record(&holder, out)?;
         push_bytes(b" has this MAC address", out)?;
         push_since_made(self.adds.last_made(&holder), out)?;
@@ -116,9 +116,9 @@ impl ScriptHints {
 
     /// That the port is in a LAN.
     fn push_plugged(&self, port: &PortName, out: &mut Vec<u8>) -> Result<(), AllocError>
-        ensures { OnOk result ((past : Past) → IsKept past self.now → out.new.items ≡ out.old.items ++ hint_line past.of past.number (Some (plugged_text past.makings past.net port.now))) }
+        ensures { OnOk result ((past : Past) → IsKept past self.now → out.new.items ≡ out.old.items ++ hint_line past.number (Some (plugged_text past.makings past.net port.now))) }
     {
-        push_start(self.of, self.number, out)?;
+        push_start(self.number, out)?;
         push_record(&Record::Port(*port), out)?;
         push_bytes(b" is in ", out)?;
         push_lan(self.lan_of(port), out)?;
@@ -128,10 +128,10 @@ impl ScriptHints {
 
     /// That the bridge has a port.
     fn push_bridge_has(&self, bridge: &Name, out: &mut Vec<u8>) -> Result<(), AllocError>
-        ensures { OnOk result ((past : Past) → IsKept past self.now → out.new.items ≡ out.old.items ++ hint_line past.of past.number (Some (bridge_has_text past.net bridge.now))) }
+        ensures { OnOk result ((past : Past) → IsKept past self.now → out.new.items ≡ out.old.items ++ hint_line past.number (Some (bridge_has_text past.net bridge.now))) }
     {
         let port = self.port_of_bridge(bridge)?;
-        push_start(self.of, self.number, out)?;
+        push_start(self.number, out)?;
         push_has_port(
             &Record::Bridge(*bridge),
             port,
@@ -143,10 +143,10 @@ impl ScriptHints {
 
     /// That a port is in the LAN.
     fn push_lan_has(&self, lan: &Name, out: &mut Vec<u8>) -> Result<(), AllocError>
-        ensures { OnOk result ((past : Past) → IsKept past self.now → out.new.items ≡ out.old.items ++ hint_line past.of past.number (Some (lan_has_text past.net lan.now))) }
+        ensures { OnOk result ((past : Past) → IsKept past self.now → out.new.items ≡ out.old.items ++ hint_line past.number (Some (lan_has_text past.net lan.now))) }
     {
         let port = self.port_in_lan(lan)?;
-        push_start(self.of, self.number, out)?;
+        push_start(self.number, out)?;
         push_has_port(&Record::Lan(*lan), port, b"; unplug comes first", out)?;
         push_end(out)
     }
@@ -226,11 +226,10 @@ fn first_of_bridge<'a>(names: &'a [PortName], bridge: &Name) -> Option<&'a PortN
 
 /// What marks are for.
 #[tactic(auto, unfolding(crate::specs::Standing::mark_text))]
-fn push_mark(of: &[u8], number: u64, out: &mut Vec<u8>) -> Result<(), AllocError>
-    ensures { OnOk result (out.new.items ≡ out.old.items ++ hint_line of.now number (Some mark_text)) }
+fn push_mark(number: u64, out: &mut Vec<u8>) -> Result<(), AllocError>
+    ensures { OnOk result (out.new.items ≡ out.old.items ++ hint_line number (Some mark_text)) }
 {
     push_text(
-        of,
         number,
         "a line with mark comes first; changes tells what differs from the network as it was there",
         out,
@@ -239,25 +238,20 @@ fn push_mark(of: &[u8], number: u64, out: &mut Vec<u8>) -> Result<(), AllocError
 }
 
 /// That the port is in no LAN.
-fn push_unplugged(
-    of: &[u8],
-    number: u64,
-    port: &PortName,
-    out: &mut Vec<u8>,
-) -> Result<(), AllocError>
-    ensures { OnOk result (out.new.items ≡ out.old.items ++ hint_line of.now number (Some (unplugged_text port.now))) }
+fn push_unplugged(number: u64, port: &PortName, out: &mut Vec<u8>) -> Result<(), AllocError>
+    ensures { OnOk result (out.new.items ≡ out.old.items ++ hint_line number (Some (unplugged_text port.now))) }
 {
-    push_start(of, number, out)?;
+    push_start(number, out)?;
     push_record(&Record::Port(*port), out)?;
     push_bytes(b" is in no LAN", out)?;
     push_end(out)
 }
 
 /// How many of them there may be.
-fn push_limit(of: &[u8], number: u64, made: &Record, out: &mut Vec<u8>) -> Result<(), AllocError>
-    ensures { OnOk result (out.new.items ≡ out.old.items ++ hint_line of.now number (Some (limit_text made.now))) }
+fn push_limit(number: u64, made: &Record, out: &mut Vec<u8>) -> Result<(), AllocError>
+    ensures { OnOk result (out.new.items ≡ out.old.items ++ hint_line number (Some (limit_text made.now))) }
 {
-    push_start(of, number, out)?;
+    push_start(number, out)?;
     push_bytes(limit(made), out)?;
     push_end(out)
 }
@@ -274,10 +268,10 @@ fn limit(made: &Record) -> &'static [u8]
 }
 
 /// How many trees a bridge may have.
-fn push_trees(of: &[u8], number: u64, bridge: &Name, out: &mut Vec<u8>) -> Result<(), AllocError>
-    ensures { OnOk result (out.new.items ≡ out.old.items ++ hint_line of.now number (Some (trees_text bridge.now))) }
+fn push_trees(number: u64, bridge: &Name, out: &mut Vec<u8>) -> Result<(), AllocError>
+    ensures { OnOk result (out.new.items ≡ out.old.items ++ hint_line number (Some (trees_text bridge.now))) }
 {
-    push_start(of, number, out)?;
+    push_start(number, out)?;
     push_record(&Record::Bridge(*bridge), out)?;
     push_bytes(
         b" would have more than 64 trees, of which tree 0 is one",

@@ -1,6 +1,5 @@
-ghost use Rattle.std.specs.Prelude.{◌≡◌, ◌∷◌, [], ◌<◌, ◌≤◌, length, MatchOption, slice_index, false};
+ghost use Rattle.std.specs.Prelude.{◌≡◌, ℕ, ◌∷◌, [], ◌<◌, ◌≤◌, length, MatchOption, slice_index, false};
 ghost use Rattle.std.specs.List.{list_all, list_any};
-ghost use Rattle.mst_lang.specs.Arguments.{is_text};
 ghost use Rattle.mst_lang.specs.Reading.{is_comment};
 ghost use Rattle.mst_lang.specs.Words.{is_blank as blank_byte, is_plain as plain_byte, words};
 
@@ -44,16 +43,6 @@ pub(crate) fn has_comment(text: &[u8]) -> bool
         None => false,
         Some(([b'#', ..], _)) => true,
         Some((_, others)) => has_comment(others),
-    }
-}
-
-/// Whether one of the words is this one.
-pub(crate) fn has_word(text: &[u8], wanted: &[u8]) -> bool
-    ensures { result ≡ list_any (is_text wanted.now) (words text.now) }
-{
-    match next_word(text) {
-        None => false,
-        Some((word, others)) => wanted == word || has_word(others, wanted),
     }
 }
 

@@ -4,4 +4,3 @@ pub mod Known
 pub mod Starts
 pub mod Long
 pub mod ReadBytes
-pub mod Chains

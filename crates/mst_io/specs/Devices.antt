@@ -1,6 +1,5 @@
 -- What a device tells of its calls, and which device ended a run.
-use Rattle.std.specs.Prelude.{◌≡◌, ℕ, List, [], ◌∷◌, take, ◌+◌, ◌<◌, ◌≤◌, ◌==◌, ◌&&◌, ◌||◌, ◌^◌, ◌-◌, ◌⊎◌, Bool, true, false, not, Option, Some, None, Result, Ok, Err, is_err, if◌then◌else◌}
-use Rattle.std.specs.Borrow.{GName}
+use Rattle.std.specs.Prelude.{◌≡◌, ℕ, ◌+◌, ◌<◌, ◌≤◌, ◌==◌, ◌&&◌, ◌||◌, ◌^◌, ◌-◌, ◌⊎◌, Bool, true, false, not, Option, Some, None, Result, Ok, Err, is_err, if◌then◌else◌}
 use Rattle.mst_io.specs.declared.devices.Failed.{Failed}
 use Rattle.mst_io.specs.declared.lent.Count.{Count}
 use Rattle.mst_io.specs.declared.outcome.RunFault.{RunFault}
@@ -16,16 +15,6 @@ pub record Told : Type 0 where
   pub zeros : ℕ
   pub at_zero : Bool
 
--- what a device tells of its calls; its bytes, as far as it tells them: those that it will give, or those that it holds; and the
--- reference that it was lent
-pub record Seen : Type 0 where
-  pub told : Told
-  pub bytes : Option (List ℕ)
-  pub lent : Option GName
-
-abbrev pub seen_by : {A : Type 0} → (A → Told) → (A → Option (List ℕ)) → (A → Option GName) → A → Seen
-seen_by told bytes lent device = record { told = told device; bytes = bytes device; lent = lent device }
-
 -- a device that was not called yet
 abbrev pub uncalled : Told
 uncalled = record { failed = false; calls = 0; bytes = 0; zeros = 0; at_zero = false }
@@ -34,11 +23,6 @@ uncalled = record { failed = false; calls = 0; bytes = 0; zeros = 0; at_zero = f
 abbrev pub bytes_of : Result ℕ Failed → ℕ
 bytes_of (Err e) = 0
 bytes_of (Ok count) = count
-
--- which bytes a source gave in a call, of those that are in the buffer then
-abbrev pub given : Result ℕ Failed → List ℕ → List ℕ
-given (Err e) buffer = []
-given (Ok count) buffer = take count buffer
 
 -- whether a call answered 0 though its buffer, or its part, of this size has a byte
 abbrev pub is_zero : Result ℕ Failed → ℕ → Bool
@@ -112,13 +96,3 @@ Stops turns source source_now sink sink_now None = IsRead source source_now × W
 Stops turns source source_now sink sink_now (Some Read) = IsCut turns source source_now × Works sink sink_now
 Stops turns source source_now sink sink_now (Some Write) = IsBroken sink sink_now
 Stops turns source source_now sink sink_now (Some Memory) = (source_now ≡ source) × (sink_now ≡ sink)
-
--- ---- what a source hears
--- calls one after another, by what each of them does, which gives one chunk
-abbrev pub Chain : {S : Type 0} → (S → S → List ℕ → Type 0) → S → S → List (List ℕ) → Type 0
-Chain does from now [] = now ≡ from
-Chain does from now (chunk ∷ chunks) = (next : _) × does from next chunk × Chain does next now chunks
-
--- some calls, one after another
-abbrev pub Hears : {S : Type 0} → (S → S → List ℕ → Type 0) → S → S → Type 0
-Hears does from now = (chunks : List (List ℕ)) × Chain does from now chunks

@@ -1,8 +1,8 @@
-ghost use Rattle.std.specs.Prelude.{◌≡◌, ℕ, false, List, length, Option, None, ⊤};
+ghost use Rattle.std.specs.Prelude.{◌≡◌, ℕ, false, List, length, Option, None};
 ghost use Rattle.std.specs.Borrow.{GName};
 ghost use Rattle.std.specs.Io.{ReadsAtMost, WritesAtMost};
 ghost use Rattle.std.specs.Io.KnownBytes.{Keeps, ReadConsumes, WriteAppends};
-ghost use Rattle.mst_io.specs.Devices.{Told, called, flushed, given};
+ghost use Rattle.mst_io.specs.Devices.{Told, called, flushed};
 
 /// The device has failed. It isn't called again.
 #[derive(Clone, Copy, Debug, PartialEq, Eq)]
@@ -21,9 +21,6 @@ pub trait Source {
     /// done with it.
     ghost lent: { Self → Option GName } = { λ _. None };
 
-    /// What else a call does, which gives these bytes: a source may listen to what goes through it.
-    ghost hears: { Self → Self → List ℕ → Type 0 } = { λ _ _ _. ⊤ };
-
     /// Whether it has failed.
     fn failed(&self) -> bool
         ensures { result ≡ (told self.now).failed };
@@ -34,8 +31,7 @@ pub trait Source {
         ensures bound { ReadsAtMost result buffer.new }
         ensures bytes { ReadConsumes (remaining self.old) (remaining self.new) result buffer.new }
         ensures told { told self.new ≡ called (told self.old) result (length buffer.old) }
-        ensures lent { lent self.new ≡ lent self.old }
-        ensures heard { hears self.old self.new (given result buffer.new) };
+        ensures lent { lent self.new ≡ lent self.old };
 }
 
 /// What a text is written to, a call at a time, until it fails. [`ToWrite`](crate::ToWrite) makes one of a writer.

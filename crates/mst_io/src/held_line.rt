@@ -86,8 +86,7 @@ impl HeldLine {
     }
 }
 
-/// A line without a carriage return at its end.
-pub fn without_cr(line: &[u8]) -> &[u8]
+fn without_cr(line: &[u8]) -> &[u8]
     ensures { result.now ≡ drop_cr line.now }
 {
     let len = line.len();

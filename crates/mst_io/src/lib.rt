@@ -12,7 +12,7 @@ mod outcome;
 mod print;
 
 pub use devices::{Failed, Sink, Source};
-pub use held_line::{HeldLine, is_blank, without_cr};
+pub use held_line::{HeldLine, is_blank};
 pub use lent::{FromRead, ToWrite};
 pub use outcome::{Outcome, RunFault, TURNS};
 pub use print::{WriteFailed, put, put_parts};

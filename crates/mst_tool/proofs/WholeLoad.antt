@@ -63,7 +63,7 @@ abbrev pub OnePicture : Type 0
 OnePicture = (net : Net) (tree : ℕ) (text other : List ℕ) → IsNetwork net → Depicts net tree text → Depicts net tree other → text ≡ other
 
 -- so what is asked has one answer
-pub one_answer : OneExplanation → OneSweep → OnePairs → OneSummary → OnePicture → (form : Form) (net : Net) (question : Question) (x y : Told) (a b : List ℕ) → IsNetwork net → IsAnswer form net question x a → IsAnswer form net question y b → (y ≡ x) × (b ≡ a)
+one_answer : OneExplanation → OneSweep → OnePairs → OneSummary → OnePicture → (form : Form) (net : Net) (question : Question) (x y : Told) (a b : List ℕ) → IsNetwork net → IsAnswer form net question x a → IsAnswer form net question y b → (y ≡ x) × (b ≡ a)
 one_answer one sweep pairs summary picture form net (Unread f) x y a b is h k = (k.0 ∙ sym h.0, k.1 ∙ sym h.1)
 one_answer one sweep pairs summary picture form net (Sweep part) x y a b is h k =
     let same = one_shown form (sweep_row part) (SweepsPart part net k.0) (SweepsPart part net h.0) (k.0 ≡ h.0) (λ rows other p q. sweep net part rows other k.0 h.0 is p q) b a k.1 h.1 in

@@ -1,3 +1,4 @@
+pub use Rattle.mst_hinting.specs as hinting
 pub use Rattle.mst_engine.specs as engine
 pub use Rattle.mst_print.specs as printing
 pub mod Run

@@ -1,11 +1,12 @@
 ghost use Rattle.std.specs.Prelude.{◌≡◌, ◌<◌, ◌==◌, length, position, IfSome};
 ghost use Rattle.std.specs.Option.{option_map};
+ghost use Rattle.mst_lang.specs.Arguments as forms;
 ghost use Rattle.mst_tool.specs.Ask.{explain_question, pairs_question, picture_question, sweep_by_word, sweep_question};
 ghost use Rattle.mst_tool.specs.Asked.{asked_of, asked_tree, halves_of, part_value};
 
 use mst_engine::SweepPart;
-use mst_ids::{PortName, Tree};
-use mst_lang::{Fault, name, parse_number, port_number, tree};
+use mst_ids::{Name, PortName, PortNumber, Tree};
+use mst_lang::{Fault, parse_number};
 
 /// What is asked of the network that a script leaves.
 #[derive(Clone, Copy)]
@@ -87,6 +88,24 @@ impl Asked {
     }
 }
 
+/// The name of a bridge.
+fn name(word: &[u8]) -> Result<Name, Fault>
+    ensures { result ≡ forms.name word.now }
+{
+    match Name::parse(word) {
+        Ok(name) => Ok(name),
+        Err(_) => Err(Fault::E02),
+    }
+}
+
+/// The number of a port.
+fn port_number(word: &[u8]) -> Result<PortNumber, Fault>
+    ensures { result ≡ forms.port_number word.now }
+{
+    let number = parse_number(word).ok_or(Fault::E02)?;
+    PortNumber::new(number).ok_or(Fault::E02)
+}
+
 /// A tree, if one is asked of.
 fn some_tree(word: Option<&[u8]>) -> Result<Option<Tree>, Fault>
     ensures { result ≡ asked_tree (option_map (λ word. word.now) word.entry) }
@@ -98,6 +117,14 @@ fn some_tree(word: Option<&[u8]>) -> Result<Option<Tree>, Fault>
             Err(fault) => Err(fault),
         },
     }
+}
+
+/// A tree.
+fn tree(word: &[u8]) -> Result<Tree, Fault>
+    ensures { result ≡ forms.tree word.now }
+{
+    let number = parse_number(word).ok_or(Fault::E03)?;
+    Tree::new(number).ok_or(Fault::E03)
 }
 
 /// What a word behind a script asks, and another behind that, if there is one.

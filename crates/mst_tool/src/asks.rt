@@ -3,7 +3,7 @@ ghost use Rattle.std.specs.Io.KnownBytes.{Appends};
 ghost use Rattle.mst_engine.specs.report.Picturing.{Depicts};
 ghost use Rattle.mst_engine.specs.report.Planned.{planned_state};
 ghost use Rattle.mst_tool.specs.Ask.{Asks, AsksFront, IsAnswer, answer_text, told_of, counted_with};
-ghost use Rattle.mst_io.specs.Devices.{Hears, Works, IsBroken, IsCut, IsRead, IsCalled, IsStopped, StopsAtZero};
+ghost use Rattle.mst_io.specs.Devices.{Works, IsBroken, IsCut, IsRead, IsCalled, IsStopped, StopsAtZero};
 ghost use Rattle.mst_tool.specs.Load.{LoadsEnded, LoadsScript};
 ghost use Rattle.mst_engine.specs.Served.{IsFew};
 ghost use Rattle.mst_print.specs.Shape.{of_script};
@@ -25,7 +25,7 @@ use std::io::{Read, Write};
 
 /// What is told of what was asked.
 #[derive(Drop)]
-pub enum Answer {
+pub(crate) enum Answer {
     /// What explains the port, summarizes the network or depicts it.
     Text(Vec<u8>),
     /// The words ask nothing.
@@ -112,7 +112,6 @@ pub fn ask_within<S: Source, K: Sink>(
     ensures sink_calls { StopsAtZero (K.told sink.old) (K.told sink.new) }
     ensures lent_source { S.lent source.new ≡ S.lent source.old }
     ensures lent_sink { K.lent sink.new ≡ K.lent sink.old }
-    ensures heard { Hears S.hears source.old source.new }
 {
     states();
     one_load();
@@ -141,16 +140,14 @@ pub fn ask_within<S: Source, K: Sink>(
     }
 }
 
-/// The answer to what is asked, of the planner's network as it stands, which stays as it is, with its mark. `AllocError`: memory
-/// was wanted and refused.
-pub fn answer_to(
+/// The answer to what is asked, of the network as it stands. `AllocError`: memory was wanted and refused.
+fn answer_to(
     alloc: Global,
     planner: &mut Planner,
     form: Form,
     question: &Question,
 ) -> Result<Answer, AllocError>
-    ensures answer { IfOk result (λ answer. IsAnswer form (planned_state planner.old).net question.now (told_of answer) (answer_text form answer)) }
-    ensures state { planned_state planner.new ≡ planned_state planner.old }
+    ensures { IfOk result (λ answer. IsAnswer form (planned_state planner.old).net question.now (told_of answer) (answer_text form answer)) }
 {
     match question {
         Question::Explain(asked) => explained(alloc, planner, form, asked),
@@ -173,8 +170,7 @@ fn explained(
     form: Form,
     asked: &Asked,
 ) -> Result<Answer, AllocError>
-    ensures answer { IfOk result (λ answer. IsAnswer form (planned_state planner.old).net (Explain asked.now) (told_of answer) (answer_text form answer)) }
-    ensures state { planned_state planner.new ≡ planned_state planner.old }
+    ensures { IfOk result (λ answer. IsAnswer form (planned_state planner.old).net (Explain asked.now) (told_of answer) (answer_text form answer)) }
 {
     planner.settle()?;
     match planner.unexplained(&asked.port, asked.tree) {
@@ -195,8 +191,7 @@ fn swept(
     form: Form,
     part: SweepPart,
 ) -> Result<Answer, AllocError>
-    ensures answer { IfOk result (λ answer. IsAnswer form (planned_state planner.old).net (Question.Sweep part) (told_of answer) (answer_text form answer)) }
-    ensures state { planned_state planner.new ≡ planned_state planner.old }
+    ensures { IfOk result (λ answer. IsAnswer form (planned_state planner.old).net (Question.Sweep part) (told_of answer) (answer_text form answer)) }
 {
     planner.settle()?;
     let mut printer = open_sweep(alloc, form, part)?;
@@ -212,8 +207,7 @@ fn paired(
     form: Form,
     part: SweepPart,
 ) -> Result<Answer, AllocError>
-    ensures answer { IfOk result (λ answer. IsAnswer form (planned_state planner.old).net (Question.Pairs part) (told_of answer) (answer_text form answer)) }
-    ensures state { planned_state planner.new ≡ planned_state planner.old }
+    ensures { IfOk result (λ answer. IsAnswer form (planned_state planner.old).net (Question.Pairs part) (told_of answer) (answer_text form answer)) }
 {
     planner.settle()?;
     let mut printer = open_pairs(alloc, form, part)?;
@@ -224,8 +218,7 @@ fn paired(
 
 /// Summarizes the network, once the plan is settled. `AllocError`: memory was wanted and refused.
 fn summarized(alloc: Global, planner: &mut Planner, form: Form) -> Result<Answer, AllocError>
-    ensures answer { IfOk result (λ answer. IsAnswer form (planned_state planner.old).net Question.Summary (told_of answer) (answer_text form answer)) }
-    ensures state { planned_state planner.new ≡ planned_state planner.old }
+    ensures { IfOk result (λ answer. IsAnswer form (planned_state planner.old).net Question.Summary (told_of answer) (answer_text form answer)) }
 {
     planner.settle()?;
     let mut printer = open_question(alloc, form, Query::Summary)?;
@@ -236,15 +229,14 @@ fn summarized(alloc: Global, planner: &mut Planner, form: Form) -> Result<Answer
 
 /// Draws the network with a tree, once the plan is settled: a text in each form. `AllocError`: memory was wanted and refused.
 fn depicted(planner: &mut Planner, tree: Tree) -> Result<Vec<u8>, AllocError>
-    ensures picture { IfOk result (λ text. Depicts (planned_state planner.old).net tree text.items) }
-    ensures state { planned_state planner.new ≡ planned_state planner.old }
+    ensures { IfOk result (λ text. Depicts (planned_state planner.old).net tree text.items) }
 {
     planner.settle()?;
     planner.picture(tree)
 }
 
-/// Writes an answer. After a failure a front of it went out.
-pub fn put_answer<K: Sink>(sink: &mut K, form: Form, answer: &Answer) -> Result<(), WriteFailed>
+/// Writes an answer.
+fn put_answer<K: Sink>(sink: &mut K, form: Form, answer: &Answer) -> Result<(), WriteFailed>
     requires working { (K.told sink.old).failed ≡ false }
     ensures ok { OnOk result (Appends (K.contents sink.old) (K.contents sink.new) (answer_text form answer.now)) }
     ensures err { OnErr result (AppendsFront (K.contents sink.old) (K.contents sink.new) (answer_text form answer.now)) }

@@ -1,7 +1,7 @@
 ghost use Rattle.std.specs.Prelude.{◌≡◌, ◌+◌, ◌^◌, ◌<◌, ◌≤◌, ◌↔◌, ◌⊎◌, ℕ, false, List, Option, Ok, Err, IfOk, IsOk, OnOk, OnErr};
 ghost use Rattle.mst_engine.specs.report.Planned.{planned_state};
 ghost use Rattle.mst_tool.specs.Check.{Checks, ChecksFront, ChecksEnded, ChecksScript};
-ghost use Rattle.mst_io.specs.Devices.{Hears, Works, IsBroken, IsCut, IsRead, IsCalled, Stops, StopsAtZero, stopped_by};
+ghost use Rattle.mst_io.specs.Devices.{Works, IsBroken, IsCut, IsRead, IsCalled, Stops, StopsAtZero, stopped_by};
 ghost use Rattle.mst_engine.specs.Engine.{tally_of, outcome_of};
 ghost use Rattle.mst_engine.specs.Served.{Served, ServedFront, ServedEnded, IsFew, both};
 ghost use Rattle.mst_engine.specs.declared.engine.Input.TheVariants.{Captures};
@@ -100,8 +100,6 @@ pub fn check_within<S: Source, C: Source, K: Sink>(
     ensures lent_script { S.lent script.new ≡ S.lent script.old }
     ensures lent_captures { C.lent captures.new ≡ C.lent captures.old }
     ensures lent_sink { K.lent sink.new ≡ K.lent sink.old }
-    ensures heard_script { Hears S.hears script.old script.new }
-    ensures heard_captures { Hears C.hears captures.old captures.new }
 {
     has_steps();
     states();
@@ -142,7 +140,6 @@ fn serve_captures<C: Source, K: Sink>(
     ensures sink_calls { StopsAtZero (K.told sink.old) (K.told sink.new) }
     ensures lent_captures { C.lent captures.new ≡ C.lent captures.old }
     ensures lent_sink { K.lent sink.new ≡ K.lent sink.old }
-    ensures heard_captures { Hears C.hears captures.old captures.new }
 {
     has_steps();
     engine.planner.known();

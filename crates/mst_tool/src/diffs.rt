@@ -1,6 +1,6 @@
 ghost use Rattle.std.specs.Prelude.{◌≡◌, ◌≤◌, ◌↔◌, ◌⊎◌, ◌^◌, ℕ, false, List, Option, Ok, Err, IfOk, IsOk, OnErr};
 ghost use Rattle.mst_engine.specs.report.Planned.{planned_state};
-ghost use Rattle.mst_io.specs.Devices.{Hears, Works, IsBroken, IsCut, IsRead, IsCalled, StopsAtZero};
+ghost use Rattle.mst_io.specs.Devices.{Works, IsBroken, IsCut, IsRead, IsCalled, StopsAtZero};
 ghost use Rattle.mst_tool.specs.Diff.{Diffs, DiffsFront, DiffsEnded, DiffsScripts, TellsDifference, counted_both};
 ghost use Rattle.mst_engine.specs.Served.{IsFew};
 
@@ -95,8 +95,6 @@ pub fn diff_within<O: Source, N: Source, K: Sink>(
     ensures lent_old { O.lent old.new ≡ O.lent old.old }
     ensures lent_new { N.lent new.new ≡ N.lent new.old }
     ensures lent_sink { K.lent sink.new ≡ K.lent sink.old }
-    ensures heard_old { Hears O.hears old.old old.new }
-    ensures heard_new { Hears N.hears new.old new.new }
 {
     has_load();
     states();

@@ -1,5 +1,5 @@
 ghost use Rattle.std.specs.Prelude.{◌≡◌, ◌≢◌, ◌↔◌, ◌≤◌, ◌^◌, ℕ, false, List, Option, Err, IfOk, IsOk, OnErr};
-ghost use Rattle.mst_io.specs.Devices.{Hears, Works, IsBroken, IsCut, IsRead, IsCalled, StopsAtZero};
+ghost use Rattle.mst_io.specs.Devices.{Works, IsBroken, IsCut, IsRead, IsCalled, StopsAtZero};
 ghost use Rattle.mst_tool.specs.Run.{Prints, PrintsFront, PrintsEnded, status_of};
 
 use mst_engine::laws::one_run;
@@ -84,7 +84,6 @@ pub fn run_within<S: Source, K: Sink>(
     ensures sink_calls { StopsAtZero (K.told sink.old) (K.told sink.new) }
     ensures lent_source { S.lent source.new ≡ S.lent source.old }
     ensures lent_sink { K.lent sink.new ≡ K.lent sink.old }
-    ensures heard { Hears S.hears source.old source.new }
 {
     one_run();
     let mut engine = Engine::new(alloc);

@@ -4,7 +4,7 @@ use Rattle.std.specs.Option.{option_map, unwrap_or}
 use Rattle.std.proofs.KnownBytes.{Appends-nil}
 use Rattle.mst_io.specs.Devices.{Told}
 use Rattle.mst_io.specs.Written.{AppendsFront}
-use Rattle.mst_hinting.specs.Hinted.{HintsFront}
+use Rattle.mst_tool.specs.hinting.Hinted.{HintsFront}
 use Rattle.mst_tool.proofs.WholeCheck.{reads_all}
 use Rattle.mstplan.specs.declared.endings.Stop.{Stop}
 use Rattle.mstplan.specs.declared.hinting.HintsEnd.{HintsEnd}

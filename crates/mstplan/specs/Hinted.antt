@@ -1,6 +1,6 @@
 -- The hints of a script that was run, on standard error.
 use Rattle.std.specs.Prelude.{◌≡◌, ◌⊎◌, ℕ, Bool, true, false, List, Option, Some, None, Result, Ok, Err}
-use Rattle.mst_hinting.specs.Hinted.{Hints, HintsFront}
+use Rattle.mst_tool.specs.hinting.Hinted.{Hints, HintsFront}
 use Rattle.mst_io.specs.Devices.{Told, Works, IsBroken}
 use Rattle.mst_io.specs.declared.outcome.RunFault.{RunFault}
 use Rattle.mst_io.specs.declared.outcome.RunFault.TheVariants.{Read, Write, Memory}

@@ -5,8 +5,7 @@ use crate::endings::Stop;
 use crate::flags::Flags;
 use crate::sources::{Sources, Unopened};
 use crate::words::Asked;
-use mst_hinting::hints_within;
-use mst_tool::{FromRead, RunFault, Sink, TURNS};
+use mst_tool::{FromRead, RunFault, Sink, TURNS, hints_within};
 use std::alloc::Global;
 
 /// What became of the hints of a script.

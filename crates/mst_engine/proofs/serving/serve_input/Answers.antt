@@ -3,7 +3,6 @@ use Rattle.std.proofs.KnownBytes.{Consumes-nil, Appends-nil, Appends-kept, Consu
 use Rattle.mst_compare.specs.report.Planned.{planned_state}
 use Rattle.mst_engine.specs.Engine.{tally_of, begun}
 use Rattle.mst_io.proofs.Calls.{works_on, works_both}
-use Rattle.mst_io.proofs.Chains.{Hears-none, Hears-more}
 use Rattle.mst_engine.proofs.Sent.{works_sent}
 use Rattle.mst_engine.proofs.Feeds.{Feeds-join, Breaks-after, texts_join}
 use Rattle.mst_engine.proofs.WholeRun.{run_served, run_few, run_broken, run_broken_last, run_cut, begins, begins_counted, run_ended}
@@ -23,7 +22,6 @@ turns-init g c =
       reading = record { working = c.requires.source; taken = refl; each = omega arith };
       calls = omega arith;
       works = record { working = c.requires.sink; taken = refl; each = omega arith };
-      heard = Hears-none g.S.Source.hears c.args.source.now;
       lent_source = refl;
       lent_sink = refl;
       written = Appends-nil _;
@@ -46,7 +44,6 @@ turns-preserved g c =
       reading = works_on _ _ _ c.in-Ok-fill.count _ was.reading c.in-Ok-fill.ensures.told c.if-count-eq0.false;
       calls = ap (λ t. t.calls) c.in-Ok-fill.ensures.told ∙ omega (arith, was.calls);
       works = works_both _ _ _ (works_sent _ _ _ was.works c.in-Ok.ensures.told) c.in-Ok-feed.ensures.works;
-      heard = Hears-more g.S.Source.hears c.args.source.now c.turns.source c.fill.new.self chunk was.heard c.in-Ok-fill.ensures.heard;
       lent_source = c.in-Ok-fill.ensures.lent ∙ was.lent_source;
       lent_sink = c.feed.ensures.lent ∙ c.in-Ok.ensures.lent ∙ was.lent_sink;
       written = texts_join _ _ _ was.done new.0 (Appends-kept _ _ _ _ was.written c.in-Ok.ensures.bytes) new.2;
@@ -112,15 +109,3 @@ returns-in-Ok-finish-clause-few g c =
     let was = c.turns.invariant in
     let last = c.in-Ok-finish.ensures.ok in
     run_few c.args.input from was.done last.0 (tally_of c.turns.engine) (tally_of c.finish.new.engine) was.read c.turns.held c.finish.new.held was.feeds last.1 c.finish.ensures.counted (omega (arith, was.few))
-
-pub returns-in-Err-fill-clause-heard : goal.returns-in-Err-fill-clause-heard
-returns-in-Err-fill-clause-heard g c = Hears-more g.S.Source.hears c.args.source.now c.turns.source c.fill.new.self _ c.turns.invariant.heard c.in-Err-fill.ensures.heard
-
-pub returns-in-Err-feed-clause-heard : goal.returns-in-Err-feed-clause-heard
-returns-in-Err-feed-clause-heard g c = Hears-more g.S.Source.hears c.args.source.now c.turns.source c.fill.new.self _ c.turns.invariant.heard c.in-Ok-fill.ensures.heard
-
-pub returns-in-Err-finish-clause-heard : goal.returns-in-Err-finish-clause-heard
-returns-in-Err-finish-clause-heard g c = Hears-more g.S.Source.hears c.args.source.now c.turns.source c.fill.new.self _ c.turns.invariant.heard c.in-Ok-fill.ensures.heard
-
-pub returns-in-Ok-finish-clause-heard : goal.returns-in-Ok-finish-clause-heard
-returns-in-Ok-finish-clause-heard g c = Hears-more g.S.Source.hears c.args.source.now c.turns.source c.fill.new.self _ c.turns.invariant.heard c.in-Ok-fill.ensures.heard

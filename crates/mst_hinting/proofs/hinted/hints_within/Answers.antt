@@ -1,7 +1,6 @@
 use Rattle.std.proofs.Common.{◌++◌, [], arith, take, refl, ap, ◌∙◌, subst, sym}
 use Rattle.std.proofs.lemmas.Result.{on_ok_weaker, on_err_weaker}
 use Rattle.std.proofs.KnownBytes.{Consumes-nil, Appends-nil, Appends-trans, Consumes-trans}
-use Rattle.mst_hints.specs.declared.whose.Script.TheVariants.{Run}
 use Rattle.mst_hints.specs.Scripts.{nothing}
 use Rattle.mst_hinting.specs.Hinted.{Tells}
 use Rattle.mst_io.proofs.Calls.{works_on, works_both}
@@ -12,10 +11,10 @@ use Rattle.mst_hinting.proofs.hinted.hints_within.Goals as goal
 pub turns-init : goal.turns-init
 turns-init g c = record {
   read = [];
-  now = nothing Run;
+  now = nothing;
   text = [];
   consumed = Consumes-nil _;
-  tells = subst (λ held. Tells (nothing Run) [] [] (nothing Run) held []) (sym c.new-held.ensures) (Tells-nil (nothing Run) []);
+  tells = subst (λ held. Tells nothing [] [] nothing held []) (sym c.new-held.ensures) (Tells-nil nothing []);
   kept = c.new-hints.ensures;
   reading = record { working = c.requires.source; taken = refl; each = omega arith };
   calls = omega arith;
@@ -36,7 +35,7 @@ turns-preserved g c =
       now = new.now;
       text = was.text ++ new.text;
       consumed = Consumes-trans _ _ _ was.read chunk was.consumed c.in-Ok.ensures.bytes.0;
-      tells = Tells-join (nothing Run) was.now new.now [] c.turns.held c.tell.new.held was.read chunk was.text new.text was.tells new.tells;
+      tells = Tells-join nothing was.now new.now [] c.turns.held c.tell.new.held was.read chunk was.text new.text was.tells new.tells;
       kept = new.kept;
       reading = works_on _ _ _ c.in-Ok.count _ was.reading c.in-Ok.ensures.told c.if-count-eq0.false;
       calls = ap (λ t. t.calls) c.in-Ok.ensures.told ∙ omega (arith, was.calls);

@@ -1,7 +1,6 @@
 use Rattle.std.proofs.Common.{◌≡◌, ℕ, ◌+◌, List, [], length, ◌≤◌, ◌*◌}
 use Rattle.std.specs.Io.KnownBytes.{Appends, Consumes}
 use Rattle.mst_hints.specs.Kept.{IsKept}
-use Rattle.mst_hints.specs.declared.whose.Script.TheVariants.{Run}
 use Rattle.mst_hints.specs.Scripts.{Past, nothing}
 use Rattle.mst_io.specs.Devices.{Works}
 use Rattle.mst_hinting.specs.Hinted.{Tells}
@@ -13,7 +12,7 @@ invariant-turns g l = record {
   now : Past;
   text : List ℕ;
   consumed : Consumes (g.S.Source.remaining l.fn.source) (g.S.Source.remaining l.source) read;
-  tells : Tells (nothing Run) [] read now l.held text;
+  tells : Tells nothing [] read now l.held text;
   kept : IsKept now l.hints;
   reading : Works (g.S.Source.told l.fn.source) (g.S.Source.told l.source);
   calls : (g.S.Source.told l.source).calls ≡ (g.S.Source.told l.fn.source).calls + l.turn;

@@ -54,7 +54,7 @@ returns-in-Err-put_answer-clause-fault g c =
     let t = tally_of c.serve_input.new.engine in
     let answer = c.in-Ok-answer_to.answer in
     answers_front c.one_load.ensures.same c.states.ensures.network c.one_explanation.ensures.one c.sweep_parts.ensures.one c.pair_parts.ensures.one c.one_summary.ensures.one c.one_picture.ensures.one c.args.form c.args.question.now reads written mid now t (told_of answer) (answer_text c.args.form answer)
-    (subst (λ from. Served (Network (of_script c.args.form)) from reads written mid t) c.new-engine.ensures.empty c.in-Ok.ensures.ok) c.in-Ok-answer_to.ensures.answer c.in-Err-put_answer.ensures.err
+    (subst (λ from. Served (Network (of_script c.args.form)) from reads written mid t) c.new-engine.ensures.empty c.in-Ok.ensures.ok) c.in-Ok-answer_to.ensures c.in-Err-put_answer.ensures.err
 
 pub returns-clause-ok : goal.returns-clause-ok
 returns-clause-ok g c =
@@ -66,4 +66,4 @@ returns-clause-ok g c =
     let answer = c.in-Ok-answer_to.answer in
     subst (Asks c.args.form c.args.question.now reads written now) (sym (c.with_answer.ensures ∙ (λ i. counted_with (c.outcome-served.ensures i) (told_of answer))))
     (asks c.one_load.ensures.same c.states.ensures.network c.one_explanation.ensures.one c.sweep_parts.ensures.one c.pair_parts.ensures.one c.one_summary.ensures.one c.one_picture.ensures.one c.args.form c.args.question.now reads written mid now t (told_of answer) (answer_text c.args.form answer)
-    (subst (λ from. Served (Network (of_script c.args.form)) from reads written mid t) c.new-engine.ensures.empty c.in-Ok.ensures.ok) c.in-Ok-answer_to.ensures.answer c.in-Ok-put_answer.ensures.ok)
+    (subst (λ from. Served (Network (of_script c.args.form)) from reads written mid t) c.new-engine.ensures.empty c.in-Ok.ensures.ok) c.in-Ok-answer_to.ensures c.in-Ok-put_answer.ensures.ok)

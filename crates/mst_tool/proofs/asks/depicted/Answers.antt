@@ -4,5 +4,5 @@ use Rattle.mst_engine.specs.net.Contents.{Contents}
 use Rattle.mst_engine.specs.report.Picturing.{Depicts}
 use Rattle.mst_tool.proofs.asks.depicted.Goals as goal
 
-pub returns-clause-picture : goal.returns-clause-picture
-returns-clause-picture c = subst (λ (k : Contents). IfOk c.picture.result (λ text. Depicts k.net c.args.tree text.items)) c.settle.ensures.same c.picture.ensures
+pub returns : goal.returns
+returns c = subst (λ (k : Contents). IfOk c.picture.result (λ text. Depicts k.net c.args.tree text.items)) c.settle.ensures.same c.picture.ensures

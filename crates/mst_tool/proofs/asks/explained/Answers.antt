@@ -5,13 +5,13 @@ use Rattle.mst_tool.specs.Shown.{explain_row}
 use Rattle.mst_tool.proofs.WholeLoad.{explained_shown, unexplained_told}
 use Rattle.mst_tool.proofs.asks.explained.Goals as goal
 
-pub returns-in-Some-clause-answer : goal.returns-in-Some-clause-answer
-returns-in-Some-clause-answer c =
+pub returns-in-Some : goal.returns-in-Some
+returns-in-Some c =
     unexplained_told c.args.form c.args.planner.now.contents.net c.settle.new.self.contents.net c.args.asked.now c.in-Some.why
     (ap (λ (k : Contents). k.net) c.settle.ensures.same) (sym c.unexplained.ensures ∙ c.in-Some.is)
 
-pub returns-in_ok-text-in-None-clause-answer : goal.returns-in_ok-text-in-None-clause-answer
-returns-in_ok-text-in-None-clause-answer c =
+pub returns-in_ok-text-in-None : goal.returns-in_ok-text-in-None
+returns-in_ok-text-in-None c =
     let printer = c.in_ok-printer-in-None.printer in
     let put = c.in_ok-put_explanation-in-None.ensures printer [] (grew_none printer) in
     explained_shown c.args.form c.args.planner.now.contents.net c.settle.new.self.contents.net c.args.asked.now put.0 c.in_ok-text-in-None.text.items

@@ -5,8 +5,8 @@ use Rattle.mst_tool.specs.Shown.{summary_row}
 use Rattle.mst_tool.proofs.WholeLoad.{summary_shown}
 use Rattle.mst_tool.proofs.asks.summarized.Goals as goal
 
-pub returns-clause-answer : goal.returns-clause-answer
-returns-clause-answer c =
+pub returns : goal.returns
+returns c =
     let printer = c.in_ok-printer.printer in
     let put = c.in_ok-put_summary.ensures printer [] (grew_none printer) in
     summary_shown c.args.form c.args.planner.now.contents.net c.settle.new.self.contents.net put.0 c.in_ok-text.text.items

@@ -5,8 +5,8 @@ use Rattle.mst_tool.specs.Shown.{sweep_row}
 use Rattle.mst_tool.proofs.WholeLoad.{swept_shown}
 use Rattle.mst_tool.proofs.asks.swept.Goals as goal
 
-pub returns-clause-answer : goal.returns-clause-answer
-returns-clause-answer c =
+pub returns : goal.returns
+returns c =
     let printer = c.in_ok-printer.printer in
     let put = c.in_ok-cuts.ensures.told printer [] (grew_none printer) in
     swept_shown c.args.form c.args.part c.args.planner.now.contents.net c.settle.new.self.contents.net c.in_ok-cuts.cuts put.0 c.in_ok-text.text.items

@@ -13,7 +13,6 @@ use Rattle.mst_io.specs.declared.outcome.RunFault.TheVariants.{Read, Write}
 use Rattle.mst_io.proofs.Calls.{works_both, broken_after, stops_after, stops_working, works_unbroken, read_uncut}
 use Rattle.mst_tool.proofs.WholeDiff.{front_in_old, front_in_new, new_ended, both_scripts, both_whole, differs_front, diffs}
 use Rattle.mst_tool.proofs.WholeLoad.{loads_ended}
-use Rattle.mst_io.proofs.Chains.{Hears-none}
 use Rattle.mst_tool.proofs.diffs.diff_within.Goals as goal
 
 one_fault : (r : Result Outcome RunFault) (a b : RunFault) → r ≡ Err a → r ≡ Err b → a ≡ b
@@ -149,6 +148,3 @@ returns-clause-ok g c =
     (diffs c.one_load.ensures.same c.args.form olds news written mid t (subst (λ from. Served (Network (of_old c.args.form)) from olds written mid t) c.new-before.ensures.empty c.in-Ok.ensures.ok)
     end u (subst (λ from. Served (Network (of_new c.args.form)) from news mid end u) c.new-after.ensures.empty c.in-Ok-serve_input.ensures.ok)
     found.counts found.text.items c.in-Ok-what_differs.ensures now c.states.ensures.network c.one_difference.ensures.one (subst (Appends end now) c.as_slice.ensures.value c.in-Ok-put.ensures.ok))
-
-pub returns-in-Err-clause-heard_new : goal.returns-in-Err-clause-heard_new
-returns-in-Err-clause-heard_new g c = Hears-none g.N.Source.hears c.args.new.now

@@ -8,11 +8,10 @@ use Rattle.mst_hints.proofs.script.ScriptHints.push_bridge_has.Goals as goal
 
 pub returns : goal.returns
 returns c =
-    let out = c.args.out.now.items in let of = c.args.self.now.of.now in let number = c.args.self.now.number in let bridge = c.args.bridge.now in
+    let out = c.args.out.now.items in let number = c.args.self.now.number in let bridge = c.args.bridge.now in
     let first = codes "; delport comes first" in
     on_ok_weaker c.push_end.result
     (λ ends past kept.
-    lined of number (has_port_text (Bridge bridge) c.in_ok-port.port first) out c.push_start.new.out.items c.push_has_port.new.out.items c.push_end.new.out.items c.in_ok-push_start.ensures c.in_ok-push_has_port.ensures ends
-    ∙ ap (λ port. out ++ hint_line of number (Some (has_port_text (Bridge bridge) port first))) (c.in_ok-port.ensures ∙ ap (λ net. port_of_bridge net bridge) kept.net)
-    ∙ ap (λ n. out ++ hint_line of n (Some (bridge_has_text past.net bridge))) kept.number
-    ∙ ap (λ o. out ++ hint_line o past.number (Some (bridge_has_text past.net bridge))) kept.of) c.push_end.ensures
+    lined number (has_port_text (Bridge bridge) c.in_ok-port.port first) out c.push_start.new.out.items c.push_has_port.new.out.items c.push_end.new.out.items c.in_ok-push_start.ensures c.in_ok-push_has_port.ensures ends
+    ∙ ap (λ port. out ++ hint_line number (Some (has_port_text (Bridge bridge) port first))) (c.in_ok-port.ensures ∙ ap (λ net. port_of_bridge net bridge) kept.net)
+    ∙ ap (λ n. out ++ hint_line n (Some (bridge_has_text past.net bridge))) kept.number) c.push_end.ensures

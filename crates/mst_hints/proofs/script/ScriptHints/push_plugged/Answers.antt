@@ -9,7 +9,7 @@ use Rattle.mst_hints.proofs.script.ScriptHints.push_plugged.Goals as goal
 
 pub returns : goal.returns
 returns c =
-    let out = c.args.out.now.items in let of = c.args.self.now.of.now in let number = c.args.self.now.number in let port = c.args.port.now in
+    let out = c.args.out.now.items in let number = c.args.self.now.number in let port = c.args.port.now in
     let since = option_map_or made_text c.last_made.result [] in
     let lan = lan_text c.lan_of.result in
     let held = codes " is in " in
@@ -18,8 +18,7 @@ returns c =
     let told = joined c.push_start.new.out.items (record_text (Port port)) (held ++ (lan ++ since)) c.push_record.new.out.items c.push_since_made.new.out.items c.in_ok-push_record.ensures behind in
     on_ok_weaker c.push_end.result
     (λ ends past kept.
-    lined of number (record_text (Port port) ++ (held ++ (lan ++ since))) out c.push_start.new.out.items c.push_since_made.new.out.items c.push_end.new.out.items c.in_ok-push_start.ensures told ends
-    ∙ ap (λ found. out ++ hint_line of number (Some (record_text (Port port) ++ (held ++ (lan_text found ++ since))))) (c.lan_of.ensures ∙ ap (λ net. lan_of net port) kept.net)
-    ∙ ap (λ line. out ++ hint_line of number (Some (record_text (Port port) ++ (held ++ (lan_text (lan_of past.net port) ++ option_map_or made_text line []))))) (c.last_made.ensures past.makings kept.makings)
-    ∙ ap (λ n. out ++ hint_line of n (Some (plugged_text past.makings past.net port))) kept.number
-    ∙ ap (λ o. out ++ hint_line o past.number (Some (plugged_text past.makings past.net port))) kept.of) c.push_end.ensures
+    lined number (record_text (Port port) ++ (held ++ (lan ++ since))) out c.push_start.new.out.items c.push_since_made.new.out.items c.push_end.new.out.items c.in_ok-push_start.ensures told ends
+    ∙ ap (λ found. out ++ hint_line number (Some (record_text (Port port) ++ (held ++ (lan_text found ++ since))))) (c.lan_of.ensures ∙ ap (λ net. lan_of net port) kept.net)
+    ∙ ap (λ line. out ++ hint_line number (Some (record_text (Port port) ++ (held ++ (lan_text (lan_of past.net port) ++ option_map_or made_text line []))))) (c.last_made.ensures past.makings kept.makings)
+    ∙ ap (λ n. out ++ hint_line n (Some (plugged_text past.makings past.net port))) kept.number) c.push_end.ensures
