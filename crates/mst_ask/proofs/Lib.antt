@@ -1,0 +1,13 @@
+pub mod Turns
+pub mod Held
+pub mod Feeds
+pub mod Whole
+pub mod Lines
+pub mod Loading
+pub mod Kept
+pub mod Requests
+pub mod Asked
+pub mod AsScript
+pub mod Stand
+pub mod Done
+pub mod Rows
