@@ -3,7 +3,7 @@ use Rattle.std.proofs.Common.{◌≡◌, ◌∙◌, ℕ, Bool, ◌||◌, List, [
 use Rattle.std.specs.List.{list_any}
 use Rattle.std.specs.Option.{option_map}
 use Rattle.mst_hints.specs.Tools.{Saying, sayings, asks, is_among, saying_among}
-use Rattle.mst_hints.proofs.Tables.{find_map}
+use Rattle.mst_lang.proofs.Tables.{find_map}
 
 -- what asks for something and what is said, lent
 abbrev pub Lent : Type 0

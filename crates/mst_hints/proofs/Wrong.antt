@@ -3,8 +3,8 @@ use Rattle.std.proofs.Common.{◌≡◌, Bor, ℕ, List, [], ◌∷◌, Option, 
 use Rattle.std.specs.Option.{option_map, unwrap_or}
 use Rattle.mst_lang.specs.declared.line.Version.{Version}
 use Rattle.mst_lang.specs.declared.line.Command.{Command}
-use Rattle.mst_hints.specs.declared.form.Argument.{Argument}
-use Rattle.mst_hints.specs.Forms.{form_of}
+use Rattle.mst_lang.specs.declared.form.Argument.{Argument}
+use Rattle.mst_lang.specs.Forms.{form_of}
 use Rattle.mst_hints.specs.Hints.{first_wrong, form_hint, command_hint, unknown_text}
 
 -- where no word is left, none is wrong

@@ -4,13 +4,13 @@ use Rattle.std.specs.Option.{option_map, option_map_or, option_and_then, option_
 use Rattle.std.specs.List.{flat_map, list_all, list_any, starts_with}
 use Rattle.mst_ids.specs.Words.{after_space}
 use Rattle.mst_lang.specs.Arguments.{is_text, name, port_number}
+use Rattle.mst_lang.specs.Forms.{commands, command_of, form_of, word_of, is_right, range_of}
 use Rattle.mst_lang.specs.Words.{words, is_plain}
-use Rattle.mst_lang.specs.Reading.{commands, command_of, is_comment}
+use Rattle.mst_lang.specs.Reading.{is_comment}
 use Rattle.mst_lang.specs.declared.line.Version.{Version}
 use Rattle.mst_lang.specs.declared.line.Command.{Command}
-use Rattle.mst_hints.specs.declared.form.Argument.{Argument}
-use Rattle.mst_hints.specs.declared.form.Argument.TheVariants.{BridgeName, MemberList, PortNumber, VidList}
-use Rattle.mst_hints.specs.Forms.{form_of, word_of, is_right, range_of}
+use Rattle.mst_lang.specs.declared.form.Argument.{Argument}
+use Rattle.mst_lang.specs.declared.form.Argument.TheVariants.{BridgeName, MemberList, PortNumber, VidList}
 use Rattle.mst_hints.specs.Meant.{meaning, meant_by}
 use Rattle.mst_hints.specs.Near.{is_in_case, is_joined, is_within_one, is_within_two}
 use Rattle.mst_hints.specs.Tools.{asks, saying_among}

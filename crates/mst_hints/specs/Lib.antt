@@ -1,5 +1,4 @@
 pub use Rattle.mst_lang.specs as lang
-pub mod Forms
 pub mod Near
 pub mod Tools
 pub mod Meant

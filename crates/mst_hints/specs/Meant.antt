@@ -9,8 +9,8 @@ use Rattle.mst_ids.specs.Vids.{vids_value}
 use Rattle.mst_lang.specs.Arguments.{is_text, number_value, priority}
 use Rattle.mst_lang.specs.declared.line.Version.{Version}
 use Rattle.mst_lang.specs.declared.line.Version.TheVariants.{V1, V2}
-use Rattle.mst_hints.specs.declared.form.Argument.{Argument}
-use Rattle.mst_hints.specs.declared.form.Argument.TheVariants.{BridgePriority, MacAddress, OneVid, PathCost, PortPriority, SpeedNumber}
+use Rattle.mst_lang.specs.declared.form.Argument.{Argument}
+use Rattle.mst_lang.specs.declared.form.Argument.TheVariants.{BridgePriority, MacAddress, OneVid, PathCost, PortPriority, SpeedNumber}
 use Rattle.mst_hints.specs.declared.meant.Meant.{Meant}
 use Rattle.mst_hints.specs.declared.meant.Meant.TheVariants.{Between, Number, Pairs, Vids}
 use Rattle.mst_hints.specs.Near.{is_in_case, lower_case}

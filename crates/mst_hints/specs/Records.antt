@@ -4,7 +4,8 @@ use Rattle.std.specs.Option.{option_map, option_and_then}
 use Rattle.std.specs.Result.{result_ok}
 use Rattle.mst_ids.specs.declared.name.PortName.{PortName}
 use Rattle.mst_lang.specs.Arguments.{is_text, name, port_number}
-use Rattle.mst_lang.specs.Reading.{command_of, is_comment, port}
+use Rattle.mst_lang.specs.Forms.{command_of, port}
+use Rattle.mst_lang.specs.Reading.{is_comment}
 use Rattle.mst_lang.specs.Words.{words}
 use Rattle.mst_lang.specs.declared.line.Line.{Line}
 use Rattle.mst_lang.specs.declared.line.Line.TheVariants as lines

@@ -18,6 +18,7 @@ sayings =
     (codes "sweep", codes "sweep is a word of the program: mstplan sweep FILE") ∷
     (codes "summary", codes "summary is a word of the program: mstplan summary FILE") ∷
     (codes "dot", codes "dot is a word of the program: mstplan dot FILE TREE") ∷
+    (codes "ask", codes "ask is a word of the program: mstplan ask FILE") ∷
     (codes "mstplan", codes "mstplan 2 is the first line of a script of version 2, and stands in no other") ∷
     (codes "show display", codes "showplan, showtree TREE, showvlan VID, showregions, showlag and shownotes show") ∷
     (codes "guard root-guard", codes "setportrestrrole B P yes|no is a root guard") ∷

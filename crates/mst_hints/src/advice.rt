@@ -5,12 +5,11 @@ ghost use Rattle.mst_lang.specs.Arguments.{name, port_number};
 ghost use Rattle.mst_lang.specs.Words.{words};
 ghost use Rattle.mst_hints.specs.Hints.{besides, halves as halves_of, is_list as is_list_argument, list_text, advice as advice_of, other_bridge, port_apart as port_text, word_is};
 
-use crate::form::Argument;
 use crate::tools::saying_among;
 use crate::unknown::push_saying;
 use crate::words::next_word;
 use mst_ids::{Name, PortNumber, push_bytes};
-use mst_lang::parse_number;
+use mst_lang::{Argument, parse_number};
 use std::alloc::AllocError;
 
 /// Appends what else is said of a command with another number of words, if something is.

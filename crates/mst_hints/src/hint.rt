@@ -1,16 +1,16 @@
 ghost use Rattle.std.specs.Prelude.{◌≡◌, ◌++◌, ◌∷◌, [], true, Some, IfOk, OnOk, is_some, length, codes, decimal};
-ghost use Rattle.mst_lang.specs.Reading.{command_of};
+ghost use Rattle.mst_lang.specs.Forms.{command_of};
 ghost use Rattle.mst_lang.specs.Words.{words};
 ghost use Rattle.mst_hints.specs.Hints.{hint_of, hint_line, too_long, byte_text, is_pcap as pcap, is_utf16 as utf16, unknown_text as unknown_of, number_text, words_text, wrong_text, form_hint, command_hint, form_text as form_text_of, takes_text as takes_text_of, count_text as count_text_of, besides, meant_text};
 
 use crate::advice::push_advice;
-use crate::form::{Argument, form_of};
+use crate::form::form_of;
 use crate::meant::meant_by;
 use crate::right::first_wrong;
 use crate::unknown::push_unknown;
 use crate::words::{are_plain, has_comment, next_word, word_count};
 use mst_ids::{push_bytes, push_decimal, push_end, push_word};
-use mst_lang::Version;
+use mst_lang::{Argument, Version};
 use std::alloc::AllocError;
 
 /// The most bytes that a line may have.

@@ -3,11 +3,10 @@ ghost use Rattle.std.specs.Char.{is_ascii_digit};
 ghost use Rattle.std.specs.List.{list_all};
 ghost use Rattle.mst_hints.specs.Meant.{between as between_of, priority_meant as priority_of_word, is_mark as is_mark_byte, is_digit_or_mark as is_digit_or_mark_byte, is_spelled_mac as spelled_as_mac, paired_from, is_ending as is_ending_text, unit_size as size_of_unit, unit_of as unit_of_text, speed_of as speed_of_kbps, speed_meant as speed_of_word, meant_by as meant_by_word, meaning};
 
-use crate::form::Argument;
 use crate::near::{is_in_case, lower};
 use crate::right::priority;
 use mst_ids::{parse_vids, push_bytes, push_decimal};
-use mst_lang::{Version, parse_number};
+use mst_lang::{Argument, Version, parse_number};
 use std::alloc::AllocError;
 
 /// What a word was meant to be that isn't in the form of its argument.

@@ -7,7 +7,7 @@ ghost use Rattle.mst_hints.specs.Tools.{asks as asks_something, is_among, saying
 use crate::words::{has_word, next_word};
 
 /// Words of other tools and of this program that ask for the same, and what is said where one of them stands.
-const SAYINGS: [(&[u8], &[u8]); 30] = [
+const SAYINGS: [(&[u8], &[u8]); 31] = [
     (b"run", b"run is a word of the program: mstplan run FILE"),
     (
         b"check",
@@ -33,6 +33,7 @@ const SAYINGS: [(&[u8], &[u8]); 30] = [
         b"dot",
         b"dot is a word of the program: mstplan dot FILE TREE",
     ),
+    (b"ask", b"ask is a word of the program: mstplan ask FILE"),
     (
         b"mstplan",
         b"mstplan 2 is the first line of a script of version 2, and stands in no other",

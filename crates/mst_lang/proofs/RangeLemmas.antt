@@ -8,17 +8,19 @@ use Rattle.std.proofs.lemmas.Result.{IfOk-at_ok}
 use Rattle.mst_ids.specs.Texts.{is_name, is_conf_name, mac_value}
 use Rattle.mst_ids.specs.Vids.{IsVidSet, is_vid, set_where, vids_value}
 use Rattle.mst_ids.proofs.VidRangeLemmas.{is_vid_set, vids_value-IsVidSet}
-use Rattle.mst_lang.specs.Words.{words, is_plain, one_of, two_of, three_of, four_of}
-use Rattle.mst_lang.specs.Arguments.{is_text, text_of, choice_of, number_value, number_of, with, name, mac, port_number, priority, bridge_step, port_step, cost_of, cost, sixteen_bits, limit, speed, conf_name, power, kind, lan_state, yes_or_no, tree, vids, members, none_of, one, two, three, four}
+use Rattle.mst_lang.specs.Words.{words, is_plain}
+use Rattle.mst_lang.specs.Arguments.{is_text, text_of, choice_of, number_value, number_of, with, mac, priority, bridge_step, port_step, cost_of, cost, vids, members}
+use Rattle.mst_lang.specs.Forms.{ValueOf, value_as, Makes, rule_of, command_of}
 use Rattle.mst_lang.specs.Ranges.{InRange}
-use Rattle.mst_lang.specs.Reading.{command_of, edit as said, query, says, says_as, is_comment, worded, reading_as}
+use Rattle.mst_lang.specs.Reading.{filled, says_as, is_comment, worded, reading_as}
+use Rattle.mst_lang.specs.declared.form.Argument.{Argument}
+use Rattle.mst_lang.specs.declared.form.Argument.TheVariants.{BridgeName, LanName, MacAddress, PortNumber, TreeNumber, BridgePriority, PortPriority, PathCost, PortKey, SystemPriority, Revision, HopLimit, AgeLimit, SpeedNumber, ConfigurationName, OnOrOff, BridgeKind, UpOrDown, YesOrNo, OneVid, VidList, MemberList}
 use Rattle.mst_lang.specs.declared.line.Version.{Version}
 use Rattle.mst_lang.specs.declared.line.Edit.{Edit}
-use Rattle.mst_lang.specs.declared.line.Query.{Query}
 use Rattle.mst_lang.specs.declared.line.Line.{Line}
-use Rattle.mst_lang.specs.declared.line.Line.TheVariants.{Edit as edit, Mark as marked}
+use Rattle.mst_lang.specs.declared.line.Line.TheVariants.{Edit as edit}
 use Rattle.mst_lang.specs.declared.line.Command.{Command}
-use Rattle.mst_lang.specs.declared.line.Command.TheVariants.{AddBridge, DelBridge, Bridge, Kind as KindOf, AddPort, DelPort, AddLan, DelLan, Lan, Speed as SpeedOf, Plug, Unplug, SetKey, SetSysPri, SetTreePrio, SetTreePortPrio, SetPortPathCost, SetPortRestrRole, SetTreePortCost, SetMstConfId, SetVidToMstId, SetMaxHops, SetMaxAge, SetPortVlans, ShowPlan, ShowLag, ShowRegions, ShowNotes, ShowTree, ShowVlan, ShowMstConfId, Mark, Changes, Save}
+use Rattle.mst_lang.specs.declared.line.Command.TheVariants.{AddBridge, DelBridge, Bridge, Kind as KindOf, AddPort, DelPort, AddLan, DelLan, Lan, Speed as SpeedOf, Plug, Unplug, SetKey, SetSysPri, SetTreePrio, SetTreePortPrio, SetPortPathCost, SetPortRestrRole, SetTreePortCost, SetMstConfId, SetVidToMstId, SetMaxHops, SetMaxAge, SetPortVlans, ShowTree, ShowVlan, ShowMstConfId}
 use Rattle.mst_lang.specs.declared.line.Fault.{Fault}
 use Rattle.mst_lang.specs.declared.line.Fault.TheVariants.{E01, E02, E03}
 use Rattle.mst_lang.proofs.MacLemmas.{between, mac_fits}
@@ -76,14 +78,8 @@ number_gives low high fault = record {
       made_of (λ n. (low ≤ n) × (n ≤ high)) _ (number_value word) fault (λ n. if_passed (λ n. (low ≤ n) × (n ≤ high)) (nat_le low n && nat_le n high) (Ok n) fault (between low high n));
 }
 
-name_gives : Gives name (λ text. is_name text ≡ true)
-name_gives = text_gives is_name E02
-
 mac_gives : Gives mac (λ mac. mac < 2 ^ 48)
 mac_gives = record { each = λ word. value_or (λ mac. mac < 2 ^ 48) (mac_value word) E02 (mac_fits word) }
-
-port_number_gives : Gives port_number (λ n. (1 ≤ n) × (n ≤ 4095))
-port_number_gives = number_gives 1 4095 E02
 
 -- a priority of so many steps
 priority_gives : (step : ℕ) → Gives (priority step) (λ n. (0 ≤ n) × (n ≤ 15))
@@ -116,33 +112,6 @@ cost_in_range n within c h =
 cost_gives : Gives cost IsCost
 cost_gives = record { each = λ word. with_fits (λ n. (0 ≤ n) × (n ≤ 200_000_000)) IsCost (Ok cost_of) (number_of 0 200_000_000 E02 word) cost_in_range ((number_gives 0 200_000_000 E02).each word) }
 
-sixteen_bits_give : Gives sixteen_bits (λ n. (0 ≤ n) × (n ≤ 65535))
-sixteen_bits_give = number_gives 0 65535 E02
-
-limit_gives : Gives limit (λ n. (6 ≤ n) × (n ≤ 40))
-limit_gives = number_gives 6 40 E02
-
-speed_gives : Gives speed (λ n. (1 ≤ n) × (n ≤ 9_999_999_999))
-speed_gives = number_gives 1 9_999_999_999 E02
-
-conf_name_gives : Gives conf_name (λ text. is_conf_name text ≡ true)
-conf_name_gives = text_gives is_conf_name E02
-
-power_gives : Gives power (λ _. ⊤)
-power_gives = choice_gives _ _ E02
-
-kind_gives : Gives kind (λ _. ⊤)
-kind_gives = choice_gives _ _ E02
-
-lan_state_gives : Gives lan_state (λ _. ⊤)
-lan_state_gives = choice_gives _ _ E02
-
-yes_or_no_gives : Gives yes_or_no (λ _. ⊤)
-yes_or_no_gives = choice_gives _ _ E02
-
-tree_gives : Gives tree (λ n. (0 ≤ n) × (n ≤ 4094))
-tree_gives = number_gives 0 4094 E03
-
 list_fits : (word : List ℕ) → IfOk (vids word) IsVidSet
 list_fits word = value_or IsVidSet (vids_value word) E03 (vids_value-IsVidSet word)
 
@@ -156,77 +125,97 @@ members_give = record {
       (either IsVidSet (is_text word (codes "none")) (Ok (set_where (λ _. false))) (vids word) (is_vid_set (λ _. false) refl refl) (list_fits word));
 }
 
--- ---- an edit with one, two, .. four arguments
-edit_fits : (r : Result Edit Fault) → IfOk r InRange → Fits (said r)
-edit_fits (Ok e) h = h
-edit_fits (Err fault) h = tt
+-- what holds of every value of an argument
+abbrev HoldsOf : (argument : Argument) → ValueOf argument → Type 0
+HoldsOf BridgeName text = is_name text ≡ true
+HoldsOf LanName text = is_name text ≡ true
+HoldsOf MacAddress mac = mac < 2 ^ 48
+HoldsOf PortNumber n = (1 ≤ n) × (n ≤ 4095)
+HoldsOf TreeNumber n = (0 ≤ n) × (n ≤ 4094)
+HoldsOf BridgePriority n = (0 ≤ n) × (n ≤ 15)
+HoldsOf PortPriority n = (0 ≤ n) × (n ≤ 15)
+HoldsOf PathCost cost = IsCost cost
+HoldsOf PortKey n = (0 ≤ n) × (n ≤ 65535)
+HoldsOf SystemPriority n = (0 ≤ n) × (n ≤ 65535)
+HoldsOf Revision n = (0 ≤ n) × (n ≤ 65535)
+HoldsOf HopLimit n = (6 ≤ n) × (n ≤ 40)
+HoldsOf AgeLimit n = (6 ≤ n) × (n ≤ 40)
+HoldsOf SpeedNumber n = (1 ≤ n) × (n ≤ 9_999_999_999)
+HoldsOf ConfigurationName text = is_conf_name text ≡ true
+HoldsOf OneVid n = (1 ≤ n) × (n ≤ 4094)
+HoldsOf VidList vids = IsVidSet vids
+HoldsOf MemberList vids = IsVidSet vids
+HoldsOf argument value = ⊤
 
-one_fits : {A : Type 0} {f : List ℕ → Result A Fault} {P : A → Type 0} (make : A → Edit) → Gives f P → ((a : A) → P a → InRange (make a)) → (words : List (List ℕ)) → Fits (said (one f make words))
-one_fits {f = f} {P = P} make p fits words = edit_fits _ (made_of InRange _ (one_of words) E01 (λ w. with_fits P InRange (Ok make) (f w) fits (p.each w)))
-
-two_fit : {A B : Type 0} {f : List ℕ → Result A Fault} {g : List ℕ → Result B Fault} {P : A → Type 0} {Q : B → Type 0} (make : A → B → Edit) → Gives f P → Gives g Q → ((a : A) → P a → (b : B) → Q b → InRange (make a b)) → (words : List (List ℕ)) → Fits (said (two f g make words))
-two_fit {f = f} {g = g} {P = P} {Q = Q} make p q fits words = edit_fits _ (made_of InRange _ (two_of words) E01 (λ w.
-    with_fits Q InRange _ (g w.1) (with_fits P _ (Ok make) (f w.0) fits (p.each w.0)) (q.each w.1)))
-
-three_fit : {A B C : Type 0} {f : List ℕ → Result A Fault} {g : List ℕ → Result B Fault} {h : List ℕ → Result C Fault} {P : A → Type 0} {Q : B → Type 0} {R : C → Type 0} (make : A → B → C → Edit) → Gives f P → Gives g Q → Gives h R → ((a : A) → P a → (b : B) → Q b → (c : C) → R c → InRange (make a b c)) → (words : List (List ℕ)) → Fits (said (three f g h make words))
-three_fit {f = f} {g = g} {h = h} {P = P} {Q = Q} {R = R} make p q r fits words = edit_fits _ (made_of InRange _ (three_of words) E01 (λ w.
-    with_fits R InRange _ (h w.2) (with_fits Q _ _ (g w.1) (with_fits P _ (Ok make) (f w.0) fits (p.each w.0)) (q.each w.1)) (r.each w.2)))
-
-four_fit : {A B C D : Type 0} {f : List ℕ → Result A Fault} {g : List ℕ → Result B Fault} {h : List ℕ → Result C Fault} {i : List ℕ → Result D Fault} {P : A → Type 0} {Q : B → Type 0} {R : C → Type 0} {S : D → Type 0} (make : A → B → C → D → Edit) → Gives f P → Gives g Q → Gives h R → Gives i S → ((a : A) → P a → (b : B) → Q b → (c : C) → R c → (d : D) → S d → InRange (make a b c d)) → (words : List (List ℕ)) → Fits (said (four f g h i make words))
-four_fit {f = f} {g = g} {h = h} {i = i} {P = P} {Q = Q} {R = R} {S = S} make p q r s fits words = edit_fits _ (made_of InRange _ (four_of words) E01 (λ w.
-    with_fits S InRange _ (i w.3) (with_fits R _ _ (h w.2) (with_fits Q _ _ (g w.1) (with_fits P _ (Ok make) (f w.0) fits (p.each w.0)) (q.each w.1)) (r.each w.2)) (s.each w.3)))
-
--- no query is an edit
-query_fits : (r : Result Query Fault) → Fits (query r)
-query_fits (Ok q) = tt
-query_fits (Err fault) = tt
-
-mark_fits : (words : List (List ℕ)) → Fits (none_of marked words)
-mark_fits [] = tt
-mark_fits (word ∷ words) = tt
+value_holds : (version : Version) (argument : Argument) → Gives (value_as version argument) (HoldsOf argument)
+value_holds version BridgeName = text_gives is_name E02
+value_holds version LanName = text_gives is_name E02
+value_holds version MacAddress = mac_gives
+value_holds version PortNumber = number_gives 1 4095 E02
+value_holds version TreeNumber = number_gives 0 4094 E03
+value_holds version BridgePriority = priority_gives (bridge_step version)
+value_holds version PortPriority = priority_gives (port_step version)
+value_holds version PathCost = cost_gives
+value_holds version PortKey = number_gives 0 65535 E02
+value_holds version SystemPriority = number_gives 0 65535 E02
+value_holds version Revision = number_gives 0 65535 E02
+value_holds version HopLimit = number_gives 6 40 E02
+value_holds version AgeLimit = number_gives 6 40 E02
+value_holds version SpeedNumber = number_gives 1 9_999_999_999 E02
+value_holds version ConfigurationName = text_gives is_conf_name E02
+value_holds version OnOrOff = choice_gives _ _ E02
+value_holds version BridgeKind = choice_gives _ _ E02
+value_holds version UpOrDown = choice_gives _ _ E02
+value_holds version YesOrNo = choice_gives _ _ E02
+value_holds version OneVid = number_gives 1 4094 E03
+value_holds version VidList = vids_give
+value_holds version MemberList = members_give
 
 -- ---- each command
-says_fits : (command : Command) (words : List (List ℕ)) → Fits (says command words)
-says_fits AddBridge words = two_fit _ name_gives mac_gives (λ b p m q. record { names = p; values = q }) words
-says_fits DelBridge words = one_fits _ name_gives (λ b p. record { names = p; values = tt }) words
-says_fits Bridge words = two_fit _ name_gives power_gives (λ b p o q. record { names = p; values = tt }) words
-says_fits KindOf words = two_fit _ name_gives kind_gives (λ b p k q. record { names = p; values = tt }) words
-says_fits AddPort words = two_fit _ name_gives port_number_gives (λ b p n q. record { names = (p, q.0, q.1); values = tt }) words
-says_fits DelPort words = two_fit _ name_gives port_number_gives (λ b p n q. record { names = (p, q.0, q.1); values = tt }) words
-says_fits AddLan words = one_fits _ name_gives (λ l p. record { names = p; values = tt }) words
-says_fits DelLan words = one_fits _ name_gives (λ l p. record { names = p; values = tt }) words
-says_fits Lan words = two_fit _ name_gives lan_state_gives (λ l p u q. record { names = p; values = tt }) words
-says_fits SpeedOf words = two_fit _ name_gives speed_gives (λ l p k q. record { names = p; values = q }) words
-says_fits Plug words = three_fit _ name_gives port_number_gives name_gives (λ b p n q l r. record { names = ((p, q.0, q.1), r); values = tt }) words
-says_fits Unplug words = two_fit _ name_gives port_number_gives (λ b p n q. record { names = (p, q.0, q.1); values = tt }) words
-says_fits SetKey words = three_fit _ name_gives port_number_gives sixteen_bits_give (λ b p n q k r. record { names = (p, q.0, q.1); values = omega (arith, r.1) }) words
-says_fits SetSysPri words = two_fit _ name_gives sixteen_bits_give (λ b p s q. record { names = p; values = omega (arith, q.1) }) words
-says_fits SetTreePrio words = three_fit _ name_gives tree_gives (priority_gives 1) (λ b p t q s r. record { names = p; values = (q.1, r.1) }) words
-says_fits SetTreePortPrio words = four_fit _ name_gives port_number_gives tree_gives (priority_gives 1) (λ b p n q t r s i. record { names = (p, q.0, q.1); values = (r.1, i.1) }) words
-says_fits SetPortPathCost words = three_fit _ name_gives port_number_gives cost_gives (λ b p n q c r. record { names = (p, q.0, q.1); values = r }) words
-says_fits SetPortRestrRole words = three_fit _ name_gives port_number_gives yes_or_no_gives (λ b p n q y r. record { names = (p, q.0, q.1); values = tt }) words
-says_fits SetTreePortCost words = four_fit _ name_gives port_number_gives tree_gives cost_gives (λ b p n q t r c i. record { names = (p, q.0, q.1); values = (r.1, i) }) words
-says_fits SetMstConfId words = three_fit _ name_gives sixteen_bits_give conf_name_gives (λ b p v q n r. record { names = p; values = (omega (arith, q.1), r) }) words
-says_fits SetVidToMstId words = three_fit _ name_gives tree_gives vids_give (λ b p t q v r. record { names = p; values = (q.1, r) }) words
-says_fits SetMaxHops words = two_fit _ name_gives limit_gives (λ b p l q. record { names = p; values = q }) words
-says_fits SetMaxAge words = two_fit _ name_gives limit_gives (λ b p l q. record { names = p; values = q }) words
-says_fits SetPortVlans words = three_fit _ name_gives port_number_gives members_give (λ b p n q v r. record { names = (p, q.0, q.1); values = r }) words
-says_fits ShowPlan words = query_fits _
-says_fits ShowLag words = query_fits _
-says_fits ShowRegions words = query_fits _
-says_fits ShowNotes words = query_fits _
-says_fits ShowTree words = query_fits _
-says_fits ShowVlan words = query_fits _
-says_fits ShowMstConfId words = query_fits _
-says_fits Mark words = mark_fits words
-says_fits Changes words = query_fits _
-says_fits Save words = query_fits _
+-- what is made of values that are in their ranges
+abbrev MakesFit : (form : List Argument) → Makes form → Type 0
+MakesFit [] line = HasRanges line
+MakesFit (argument ∷ form) makes = (value : ValueOf argument) → HoldsOf argument value → MakesFit form (makes value)
 
--- in each version
+rule_fits : (command : Command) → MakesFit (rule_of command).arguments (rule_of command).says
+rule_fits AddBridge = λ b p m q. record { names = p; values = q }
+rule_fits DelBridge = λ b p. record { names = p; values = tt }
+rule_fits Bridge = λ b p o q. record { names = p; values = tt }
+rule_fits KindOf = λ b p k q. record { names = p; values = tt }
+rule_fits AddPort = λ b p n q. record { names = (p, q.0, q.1); values = tt }
+rule_fits DelPort = λ b p n q. record { names = (p, q.0, q.1); values = tt }
+rule_fits AddLan = λ l p. record { names = p; values = tt }
+rule_fits DelLan = λ l p. record { names = p; values = tt }
+rule_fits Lan = λ l p u q. record { names = p; values = tt }
+rule_fits SpeedOf = λ l p k q. record { names = p; values = q }
+rule_fits Plug = λ b p n q l r. record { names = ((p, q.0, q.1), r); values = tt }
+rule_fits Unplug = λ b p n q. record { names = (p, q.0, q.1); values = tt }
+rule_fits SetKey = λ b p n q k r. record { names = (p, q.0, q.1); values = omega (arith, r.1) }
+rule_fits SetSysPri = λ b p s q. record { names = p; values = omega (arith, q.1) }
+rule_fits SetTreePrio = λ b p t q s r. record { names = p; values = (q.1, r.1) }
+rule_fits SetTreePortPrio = λ b p n q t r s i. record { names = (p, q.0, q.1); values = (r.1, i.1) }
+rule_fits SetPortPathCost = λ b p n q c r. record { names = (p, q.0, q.1); values = r }
+rule_fits SetPortRestrRole = λ b p n q y r. record { names = (p, q.0, q.1); values = tt }
+rule_fits SetTreePortCost = λ b p n q t r c i. record { names = (p, q.0, q.1); values = (r.1, i) }
+rule_fits SetMstConfId = λ b p v q n r. record { names = p; values = (omega (arith, q.1), r) }
+rule_fits SetVidToMstId = λ b p t q v r. record { names = p; values = (q.1, r) }
+rule_fits SetMaxHops = λ b p l q. record { names = p; values = q }
+rule_fits SetMaxAge = λ b p l q. record { names = p; values = q }
+rule_fits SetPortVlans = λ b p n q v r. record { names = (p, q.0, q.1); values = r }
+rule_fits ShowTree = λ t p. tt
+rule_fits ShowVlan = λ v p. tt
+rule_fits ShowMstConfId = λ b p. tt
+rule_fits command = tt
+
+filled_fits : (version : Version) (form : List Argument) (r : Result (Makes form) Fault) → IfOk r (MakesFit form) → (words : List (List ℕ)) → Fits (filled version form r words)
+filled_fits version [] r h [] = h
+filled_fits version [] r h (word ∷ words) = tt
+filled_fits version (argument ∷ form) r h [] = tt
+filled_fits version (argument ∷ form) r h (word ∷ words) =
+    filled_fits version form (with r (value_as version argument word)) (with_fits (HoldsOf argument) (MakesFit form) r (value_as version argument word) h ((value_holds version argument).each word)) words
+
 says_as_fits : (version : Version) (command : Command) (words : List (List ℕ)) → Fits (says_as version command words)
-says_as_fits version SetTreePrio words = three_fit _ name_gives tree_gives (priority_gives (bridge_step version)) (λ b p t q s r. record { names = p; values = (q.1, r.1) }) words
-says_as_fits version SetTreePortPrio words = four_fit _ name_gives port_number_gives tree_gives (priority_gives (port_step version)) (λ b p n q t r s i. record { names = (p, q.0, q.1); values = (r.1, i.1) }) words
-says_as_fits version command words = says_fits command words
+says_as_fits version command words = filled_fits version (rule_of command).arguments (Ok (rule_of command).says) (rule_fits command) words
 
 -- ---- each line
 words_fit : (version : Version) (plain : Bool) (line : List (List ℕ)) → Fits (worded version plain line)

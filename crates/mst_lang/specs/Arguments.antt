@@ -1,10 +1,9 @@
 -- The arguments of commands: what a word of each form stands for, or the fault of another word.
-use Rattle.std.specs.Prelude.{ℕ, ◌/◌, ◌%◌, Bool, ◌&&◌, ◌==◌, true, false, List, [], nat_le, nat_eq, Result, Ok, Err, Option, Some, None, if◌then◌else◌, codes}
+use Rattle.std.specs.Prelude.{ℕ, ◌/◌, ◌%◌, Bool, ◌&&◌, ◌==◌, true, false, List, nat_le, nat_eq, Result, Ok, Err, Option, Some, None, if◌then◌else◌, codes}
 use Rattle.std.specs.Option.{option_map_or, ok_or}
 use Rattle.std.specs.Cmp.Lexicographic.{pointwise}
 use Rattle.mst_ids.specs.Texts.{is_name, is_conf_name, mac_value}
 use Rattle.mst_ids.specs.Vids.{decimal_value, is_numeral, is_vid, set_where, vids_value}
-use Rattle.mst_lang.specs.Words.{one_of, two_of, three_of, four_of}
 use Rattle.mst_lang.specs.declared.line.Version.{Version}
 use Rattle.mst_lang.specs.declared.line.Version.TheVariants.{V1, V2}
 use Rattle.mst_lang.specs.declared.line.Kind.{Kind}
@@ -36,11 +35,13 @@ abbrev pub number_of : ℕ → ℕ → Fault → List ℕ → Result ℕ Fault
 number_of low high fault word = option_map_or (λ n. if nat_le low n && nat_le n high then Ok n else Err fault) (number_value word) (Err fault)
 
 -- ---- values and faults together
--- the lesser of two faults of arguments, which are E02 and E03
+-- the lesser of two faults
 abbrev pub lesser : Fault → Fault → Fault
+lesser E01 _ = E01
+lesser _ E01 = E01
 lesser E02 _ = E02
 lesser _ E02 = E02
-lesser fault _ = fault
+lesser E03 E03 = E03
 
 -- what is made of a value, or the lesser fault
 abbrev pub with : {A B : Type 0} → Result (A → B) Fault → Result A Fault → Result B Fault
@@ -135,21 +136,3 @@ vids word = ok_or (vids_value word) E03
 -- VIDS, or `all` or `none` in its place
 abbrev pub members : List ℕ → Result (List Bool) Fault
 members word = if is_text word (codes "all") then Ok (set_where is_vid) else (if is_text word (codes "none") then Ok (set_where (λ _. false)) else vids word)
-
--- ---- a command with no, one, .. four arguments: E01 where it has another number of words, else the least fault
--- of its arguments, else what is made of their values
-abbrev pub none_of : {A : Type 0} → A → List (List ℕ) → Result A Fault
-none_of made [] = Ok made
-none_of made _ = Err E01
-
-abbrev pub one : {A B : Type 0} → (List ℕ → Result A Fault) → (A → B) → List (List ℕ) → Result B Fault
-one f make words = option_map_or (λ a. with (Ok make) (f a)) (one_of words) (Err E01)
-
-abbrev pub two : {A B C : Type 0} → (List ℕ → Result A Fault) → (List ℕ → Result B Fault) → (A → B → C) → List (List ℕ) → Result C Fault
-two f g make words = option_map_or (λ w. with (with (Ok make) (f w.0)) (g w.1)) (two_of words) (Err E01)
-
-abbrev pub three : {A B C D : Type 0} → (List ℕ → Result A Fault) → (List ℕ → Result B Fault) → (List ℕ → Result C Fault) → (A → B → C → D) → List (List ℕ) → Result D Fault
-three f g h make words = option_map_or (λ w. with (with (with (Ok make) (f w.0)) (g w.1)) (h w.2)) (three_of words) (Err E01)
-
-abbrev pub four : {A B C D E : Type 0} → (List ℕ → Result A Fault) → (List ℕ → Result B Fault) → (List ℕ → Result C Fault) → (List ℕ → Result D Fault) → (A → B → C → D → E) → List (List ℕ) → Result E Fault
-four f g h i make words = option_map_or (λ w. with (with (with (with (Ok make) (f w.0)) (g w.1)) (h w.2)) (i w.3)) (four_of words) (Err E01)

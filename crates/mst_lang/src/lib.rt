@@ -9,15 +9,20 @@
 #![tactic(auto)]
 
 mod arguments;
+mod form;
 pub mod laws;
 mod line;
+mod made;
 mod read;
+mod value;
 mod words;
 
 pub use arguments::{name, parse_number, port_number, tree, vids};
+pub use form::{Argument, Form, form_of, forms};
 pub use line::{
-    BridgeChange, Edit, Fault, Kind, LanChange, LanState, Line, PortChange, Power, Query,
+    BridgeChange, Command, Edit, Fault, Kind, LanChange, LanState, Line, PortChange, Power, Query,
     TreeChange, Version,
 };
 pub use read::{LONGEST, is_version_2, parse_line, parse_line_as};
+pub use value::is_argument;
 pub use words::{are_plain, four_words, next_word, one_word, three_words, two_words};

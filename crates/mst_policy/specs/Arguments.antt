@@ -1,12 +1,13 @@
 -- The arguments of expectations: what a word of each form stands for, or the fault of another word. Names, trees and VIDs are
 -- those of scripts.
-use Rattle.std.specs.Prelude.{ℕ, ◌+◌, ◌-◌, ◌==◌, Bool, List, [], ◌∷◌, length, take, drop, position, nat_eq, Result, Option, Some, None, if◌then◌else◌, codes}
+use Rattle.std.specs.Prelude.{ℕ, ◌+◌, ◌-◌, ◌==◌, Bool, List, [], ◌∷◌, length, take, drop, position, nat_eq, Result, Ok, Err, Option, Some, None, if◌then◌else◌, codes}
 use Rattle.std.specs.List.{list_all, list_any, slice_split, ends_with}
 use Rattle.std.specs.Option.{option_map, option_map_or, option_and_then, option_zip, ok_or}
 use Rattle.std.specs.Result.{result_ok}
+use Rattle.mst_lang.specs.Words.{one_of, two_of, three_of}
 use Rattle.mst_lang.specs.Arguments.{is_text, number_of, name, port_number}
 use Rattle.mst_lang.specs.declared.line.Fault.{Fault}
-use Rattle.mst_lang.specs.declared.line.Fault.TheVariants.{E02}
+use Rattle.mst_lang.specs.declared.line.Fault.TheVariants.{E01, E02, E03}
 use Rattle.mst_policy.specs.Items.{port_item}
 use Rattle.mst_policy.specs.declared.item.NameItem.{NameItem}
 use Rattle.mst_policy.specs.declared.item.NameItem.TheVariants.{Is, Begins, Any}
@@ -15,6 +16,21 @@ use Rattle.mst_policy.specs.declared.item.PortsOf.TheVariants.{One, All}
 use Rattle.mst_policy.specs.declared.item.PortItem.{PortItem}
 use Rattle.mst_policy.specs.declared.expectation.Roles.{Roles}
 
+-- ---- values and faults together
+-- the lesser of the faults of two arguments, which are E02 and E03
+abbrev pub lesser : Fault → Fault → Fault
+lesser E02 _ = E02
+lesser _ E02 = E02
+lesser fault _ = fault
+
+-- what is made of an argument's value, or the lesser fault
+abbrev pub with : {A B : Type 0} → Result (A → B) Fault → Result A Fault → Result B Fault
+with (Ok make) (Ok a) = Ok (make a)
+with (Ok make) (Err fault) = Err fault
+with (Err fault) (Ok a) = Err fault
+with (Err fault) (Err other) = Err (lesser fault other)
+
+-- ---- lists
 -- the items of a list: what stands between its commas
 abbrev pub items_of : List ℕ → List (List ℕ)
 items_of word = slice_split (λ b. b == 44) word
@@ -94,3 +110,18 @@ roles word = ok_or (roles_value word) E02
 -- ---- N: a number of steps
 abbrev pub steps : List ℕ → Result ℕ Fault
 steps = number_of 0 1024 E02
+
+-- ---- an expectation with no, one, two or three arguments: E01 where it has another number of words, else the least fault of
+-- its arguments, else what is made of their values
+abbrev pub none_of : {A : Type 0} → A → List (List ℕ) → Result A Fault
+none_of made [] = Ok made
+none_of made _ = Err E01
+
+abbrev pub one : {A B : Type 0} → (List ℕ → Result A Fault) → (A → B) → List (List ℕ) → Result B Fault
+one f make words = option_map_or (λ a. with (Ok make) (f a)) (one_of words) (Err E01)
+
+abbrev pub two : {A B C : Type 0} → (List ℕ → Result A Fault) → (List ℕ → Result B Fault) → (A → B → C) → List (List ℕ) → Result C Fault
+two f g make words = option_map_or (λ w. with (with (Ok make) (f w.0)) (g w.1)) (two_of words) (Err E01)
+
+abbrev pub three : {A B C D : Type 0} → (List ℕ → Result A Fault) → (List ℕ → Result B Fault) → (List ℕ → Result C Fault) → (A → B → C → D) → List (List ℕ) → Result D Fault
+three f g h make words = option_map_or (λ w. with (with (with (Ok make) (f w.0)) (g w.1)) (h w.2)) (three_of words) (Err E01)

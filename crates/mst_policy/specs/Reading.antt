@@ -3,11 +3,11 @@ use Rattle.std.specs.Prelude.{ℕ, Bool, List, [], ◌∷◌, length, nat_lt, Re
 use Rattle.std.specs.Option.{option_map, option_map_or}
 use Rattle.std.specs.List.{list_all}
 use Rattle.mst_lang.specs.Words.{words, is_plain, four_of}
-use Rattle.mst_lang.specs.Arguments.{is_text, with, none_of, one, two, three, name, tree, vids}
+use Rattle.mst_lang.specs.Arguments.{is_text, name, tree, vids}
 use Rattle.mst_lang.specs.Reading.{is_comment}
 use Rattle.mst_lang.specs.declared.line.Fault.{Fault}
 use Rattle.mst_lang.specs.declared.line.Fault.TheVariants.{E01, E02}
-use Rattle.mst_policy.specs.Arguments.{names_value, names, ports, roles, steps}
+use Rattle.mst_policy.specs.Arguments.{with, names_value, names, ports, roles, steps, none_of, one, two, three}
 use Rattle.mst_policy.specs.declared.expectation.Scope.{Scope}
 use Rattle.mst_policy.specs.declared.expectation.Scope.TheVariants.{Now, AfterLan, AfterBridge, Always}
 use Rattle.mst_policy.specs.declared.expectation.Expectation.{Expectation}

@@ -1,10 +1,10 @@
-#![tactic(auto, using(mst_lang::proofs::FormLemmas::faults))]
+#![tactic(auto, using(crate::proofs::FaultLemmas::faults))]
 
 ghost use Rattle.std.specs.Prelude.{◌≡◌, [], ◌∷◌, IfOk};
 ghost use Rattle.mst_lang.specs.Words.{words};
-ghost use Rattle.mst_lang.specs.Arguments.{none_of, one, two, three};
 ghost use Rattle.mst_lang.specs.Arguments as scripts;
 ghost use Rattle.mst_policy.specs.Arguments as values;
+ghost use Rattle.mst_policy.specs.Arguments.{none_of, one, two, three};
 ghost use Rattle.mst_policy.specs.Reading.{expected, root as root_words, root_alone as alone, root_next as and_next};
 ghost use Rattle.mst_policy.specs.declared.expectation.Expectation.TheVariants as expectations;
 

@@ -13,8 +13,8 @@ use Rattle.mst_ids.specs.Texts.{is_name, is_name_byte, is_conf_name, is_conf_nam
 use Rattle.mst_ids.specs.Vids.{IsVidSet, runs_from, runs_text, vids_text, vids_value}
 use Rattle.mst_ids.proofs.ConfNameLemmas.{is_conf_name-mac_text}
 use Rattle.mst_lang.specs.Arguments as forms
-use Rattle.mst_lang.specs.Arguments.{is_text, number_of, with, none_of, one, two, three, four}
-use Rattle.mst_lang.specs.Reading.{reading_as, worded, edit as said}
+use Rattle.mst_lang.specs.Arguments.{is_text, number_of, with}
+use Rattle.mst_lang.specs.Reading.{reading_as, worded}
 use Rattle.mst_lang.specs.Ranges.{InRange, IsName}
 use Rattle.mst_lang.specs.declared.line.Version.TheVariants.{V2}
 use Rattle.mst_lang.specs.declared.line.Line.TheVariants.{Edit as edit}
@@ -233,17 +233,19 @@ vlans_good vids is = by (pointwise beq vids no_vids) refl
         )
 
 -- ---- edits
-one_read : {A : Type 0} {r : Result A Fault} (make : A → Edit) (a : A) → r ≡ Ok a → said (with (Ok make) r) ≡ Ok (edit (make a))
-one_read make a p = ap (λ r. said (with (Ok make) r)) p
+one_read : {A : Type 0} {r : Result A Fault} (make : A → Edit) (a : A) → r ≡ Ok a → with (Ok (λ x. edit (make x))) r ≡ Ok (edit (make a))
+one_read make a p = ap (with (Ok (λ x. edit (make x)))) p
 
-two_read : {A B : Type 0} {r : Result A Fault} {s : Result B Fault} (make : A → B → Edit) (a : A) (b : B) → r ≡ Ok a → s ≡ Ok b → said (with (with (Ok make) r) s) ≡ Ok (edit (make a b))
-two_read make a b p q = λ i. said (with (with (Ok make) (p i)) (q i))
+two_read : {A B : Type 0} {r : Result A Fault} {s : Result B Fault} (make : A → B → Edit) (a : A) (b : B) → r ≡ Ok a → s ≡ Ok b → with (with (Ok (λ x y. edit (make x y))) r) s ≡ Ok (edit (make a b))
+two_read make a b p q = λ i. with (with (Ok (λ x y. edit (make x y))) (p i)) (q i)
 
-three_read : {A B C : Type 0} {r : Result A Fault} {s : Result B Fault} {t : Result C Fault} (make : A → B → C → Edit) (a : A) (b : B) (c : C) → r ≡ Ok a → s ≡ Ok b → t ≡ Ok c → said (with (with (with (Ok make) r) s) t) ≡ Ok (edit (make a b c))
-three_read make a b c p q r = λ i. said (with (with (with (Ok make) (p i)) (q i)) (r i))
+three_read : {A B C : Type 0} {r : Result A Fault} {s : Result B Fault} {t : Result C Fault} (make : A → B → C → Edit) (a : A) (b : B) (c : C) → r ≡ Ok a → s ≡ Ok b → t ≡ Ok c
+    → with (with (with (Ok (λ x y z. edit (make x y z))) r) s) t ≡ Ok (edit (make a b c))
+three_read make a b c p q r = λ i. with (with (with (Ok (λ x y z. edit (make x y z))) (p i)) (q i)) (r i)
 
-four_read : {A B C D : Type 0} {r : Result A Fault} {s : Result B Fault} {t : Result C Fault} {u : Result D Fault} (make : A → B → C → D → Edit) (a : A) (b : B) (c : C) (d : D) → r ≡ Ok a → s ≡ Ok b → t ≡ Ok c → u ≡ Ok d → said (with (with (with (with (Ok make) r) s) t) u) ≡ Ok (edit (make a b c d))
-four_read make a b c d p q r s = λ i. said (with (with (with (with (Ok make) (p i)) (q i)) (r i)) (s i))
+four_read : {A B C D : Type 0} {r : Result A Fault} {s : Result B Fault} {t : Result C Fault} {u : Result D Fault} (make : A → B → C → D → Edit) (a : A) (b : B) (c : C) (d : D) → r ≡ Ok a → s ≡ Ok b → t ≡ Ok c → u ≡ Ok d
+    → with (with (with (with (Ok (λ w x y z. edit (make w x y z))) r) s) t) u ≡ Ok (edit (make a b c d))
+four_read make a b c d p q r s = λ i. with (with (with (with (Ok (λ w x y z. edit (make w x y z))) (p i)) (q i)) (r i)) (s i)
 
 text_word : (text : List ℕ) → 0 < length text → list_all is_conf_name_byte text ≡ true → IsWord text
 text_word text some bytes = record { some = some; bytes = bytes }

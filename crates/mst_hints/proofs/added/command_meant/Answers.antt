@@ -1,5 +1,5 @@
 use Rattle.std.proofs.Common.{cond, Some, sym, ap, ◌∙◌}
-use Rattle.mst_lang.specs.Reading.{command_of}
+use Rattle.mst_lang.specs.Forms.{command_of}
 use Rattle.mst_hints.specs.Hints.{nearest}
 use Rattle.mst_hints.proofs.Wrong.{is_command, is_no_command}
 use Rattle.mst_hints.proofs.added.command_meant.Goals as goal

@@ -1,12 +1,8 @@
-use Rattle.std.proofs.Common.{◌∙◌, ◌≡◌, List, ℕ, Bor, map, ap}
+use Rattle.std.proofs.Common.{◌∙◌, List, ℕ, Bor, ap}
 use Rattle.std.specs.Option.{option_map}
-use Rattle.std.specs.Prelude.{Option}
-use Rattle.mst_lang.specs.Reading.{commands}
 use Rattle.mst_hints.specs.Near.{is_within_two}
-use Rattle.mst_hints.proofs.Tables.{entry_of, row_entry, text_found}
+use Rattle.mst_hints.proofs.Tables.{text_found}
 use Rattle.mst_hints.proofs.form.command_by_two.Goals as goal
 
 pub returns : goal.returns
-returns c =
-    let same : map entry_of c.as_slice.result.now ≡ map row_entry commands = ap (map entry_of) c.as_slice.ensures in
-    ap (λ (o : Option (Bor (List ℕ))). option_map (λ (text : Bor (List ℕ)). text.now) o) c.first_by_two.ensures ∙ text_found (λ text. is_within_two text c.args.word.now) c.as_slice.result.now same
+returns c = ap (option_map (λ (text : Bor (List ℕ)). text.now)) c.first_by_two.ensures ∙ text_found (λ text. is_within_two text c.args.word.now) c.forms.result.now c.forms.ensures

@@ -1,5 +1,5 @@
 use Rattle.std.proofs.Common.{◌∙◌}
-use Rattle.mst_lang.specs.Reading.{command_of}
+use Rattle.mst_lang.specs.Forms.{command_of}
 use Rattle.mst_hints.proofs.Wrong.{some_alike}
 use Rattle.mst_hints.proofs.form.is_command.Goals as goal
 

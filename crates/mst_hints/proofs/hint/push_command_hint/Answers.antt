@@ -1,6 +1,6 @@
 use Rattle.std.proofs.Common.{rules}
 use Rattle.mst_lang.specs.Words.{words}
-use Rattle.mst_lang.specs.Reading.{command_of}
+use Rattle.mst_lang.specs.Forms.{command_of}
 use Rattle.mst_hints.proofs.Wrong.{of_form, of_no_form}
 use Rattle.mst_hints.proofs.hint.push_command_hint.Goals as goal
 
