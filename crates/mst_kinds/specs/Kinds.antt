@@ -37,6 +37,8 @@ use Rattle.mst_kinds.specs.declared.refusal_line.RefusalLine.{RefusalLine}
 use Rattle.mst_kinds.specs.declared.refusal_line.RefusalLine.TheVariants as refusal_line
 use Rattle.mst_kinds.specs.declared.ask_line.AskLine.{AskLine}
 use Rattle.mst_kinds.specs.declared.ask_line.AskLine.TheVariants as ask_line
+use Rattle.mst_kinds.specs.declared.verify_line.VerifyLine.{VerifyLine}
+use Rattle.mst_kinds.specs.declared.verify_line.VerifyLine.TheVariants as verify_line
 
 -- ---- a query, with its words
 abbrev pub first_of_query : Query → Mark
@@ -58,6 +60,7 @@ first_of_query query.SweepPairs = mark.Sweep
 first_of_query query.SweepPairsPart = mark.Sweep
 first_of_query query.Summary = mark.Summary
 first_of_query query.Check = mark.Check
+first_of_query query.Verify = mark.Verify
 
 abbrev pub parts_of_query : Query → List Part
 -- `showtree T`
@@ -96,6 +99,8 @@ parts_of_query query.SweepPairsPart = part.Said key.Of mark.Pairs ∷ part.Key k
 parts_of_query query.Summary = []
 -- `check`
 parts_of_query query.Check = []
+-- `verify`
+parts_of_query query.Verify = []
 
 -- ---- a line of the text of a tree
 abbrev pub first_of_tree_line : TreeLine → Mark
@@ -414,6 +419,7 @@ first_of_refusal_line refusal_line.OldLine = mark.Old
 first_of_refusal_line refusal_line.NewLine = mark.New
 first_of_refusal_line refusal_line.Explain = mark.Explain
 first_of_refusal_line refusal_line.Dot = mark.Dot
+first_of_refusal_line refusal_line.Policy = mark.Policy
 
 abbrev pub parts_of_refusal_line : RefusalLine → List Part
 -- `line N CODE TEXT`
@@ -428,6 +434,8 @@ parts_of_refusal_line refusal_line.NewLine = part.Told key.Side mark.New ∷ par
 parts_of_refusal_line refusal_line.Explain = part.Key key.Error ∷ part.Key key.Text ∷ []
 -- `dot CODE TEXT`
 parts_of_refusal_line refusal_line.Dot = part.Key key.Error ∷ part.Key key.Text ∷ []
+-- `policy N CODE TEXT`
+parts_of_refusal_line refusal_line.Policy = part.Key key.Line ∷ part.Key key.Error ∷ part.Key key.Text ∷ []
 
 -- ---- a line of a standing planner
 abbrev pub first_of_ask_line : AskLine → Mark
@@ -439,6 +447,59 @@ abbrev pub parts_of_ask_line : AskLine → List Part
 parts_of_ask_line ask_line.Undone = part.Key key.Text ∷ []
 -- `done STATUS`
 parts_of_ask_line ask_line.Done = part.Key key.Status ∷ []
+
+-- ---- a line of whether a network does what a policy promises
+abbrev pub first_of_verify_line : VerifyLine → Mark
+first_of_verify_line verify_line.OtherRoot = mark.Fails
+first_of_verify_line verify_line.NoRoot = mark.Fails
+first_of_verify_line verify_line.OtherNext = mark.Fails
+first_of_verify_line verify_line.Region = mark.Fails
+first_of_verify_line verify_line.Role = mark.Fails
+first_of_verify_line verify_line.Reach = mark.Fails
+first_of_verify_line verify_line.Apart = mark.Fails
+first_of_verify_line verify_line.Leaf = mark.Fails
+first_of_verify_line verify_line.Depth = mark.Fails
+first_of_verify_line verify_line.Carries = mark.Fails
+first_of_verify_line verify_line.Avoids = mark.Fails
+first_of_verify_line verify_line.Hops = mark.Fails
+first_of_verify_line verify_line.Age = mark.Fails
+first_of_verify_line verify_line.ExternalCost = mark.Fails
+first_of_verify_line verify_line.InternalCost = mark.Fails
+first_of_verify_line verify_line.Counts = mark.Verify
+
+abbrev pub parts_of_verify_line : VerifyLine → List Part
+-- `fails N PLACE root T R of M`
+parts_of_verify_line verify_line.OtherRoot = part.Key key.Line ∷ part.Key key.Failure ∷ part.Said key.Expectation mark.Root ∷ part.Key key.Tree ∷ part.Key key.Root ∷ part.Mark mark.Of ∷ part.Key key.BridgeCount ∷ []
+-- `fails N PLACE root T -`
+parts_of_verify_line verify_line.NoRoot = part.Key key.Line ∷ part.Key key.Failure ∷ part.Said key.Expectation mark.Root ∷ part.Key key.Tree ∷ part.Key key.Root ∷ []
+-- `fails N PLACE root T B next D`
+parts_of_verify_line verify_line.OtherNext = part.Key key.Line ∷ part.Key key.Failure ∷ part.Said key.Expectation mark.Root ∷ part.Key key.Tree ∷ part.Key key.Root ∷ part.Mark mark.Next ∷ part.Key key.Next ∷ []
+-- `fails N PLACE region parts B,.. ..`
+parts_of_verify_line verify_line.Region = part.Key key.Line ∷ part.Key key.Failure ∷ part.Said key.Expectation mark.Region ∷ part.Mark mark.Parts ∷ part.Key key.Parts ∷ []
+-- `fails N PLACE role T B:P,.. ROLE`
+parts_of_verify_line verify_line.Role = part.Key key.Line ∷ part.Key key.Failure ∷ part.Said key.Expectation mark.Role ∷ part.Key key.Tree ∷ part.Commas key.Ports ∷ part.Key key.Role ∷ []
+-- `fails N PLACE reach VIDS parts B,.. ..`
+parts_of_verify_line verify_line.Reach = part.Key key.Line ∷ part.Key key.Failure ∷ part.Said key.Expectation mark.Reach ∷ part.Key key.Vids ∷ part.Mark mark.Parts ∷ part.Key key.Parts ∷ []
+-- `fails N PLACE apart VIDS joined B,.. ..`
+parts_of_verify_line verify_line.Apart = part.Key key.Line ∷ part.Key key.Failure ∷ part.Said key.Expectation mark.Apart ∷ part.Key key.Vids ∷ part.Mark mark.Joined ∷ part.Key key.Joined ∷ []
+-- `fails N PLACE leaf T B parent of C,..`
+parts_of_verify_line verify_line.Leaf = part.Key key.Line ∷ part.Key key.Failure ∷ part.Said key.Expectation mark.Leaf ∷ part.Key key.Tree ∷ part.Key key.Bridge ∷ part.Mark mark.Parent ∷ part.Mark mark.Of ∷ part.Commas key.Bridges ∷ []
+-- `fails N PLACE depth T D B,..`
+parts_of_verify_line verify_line.Depth = part.Key key.Line ∷ part.Key key.Failure ∷ part.Said key.Expectation mark.Depth ∷ part.Key key.Tree ∷ part.Key key.Depth ∷ part.Commas key.Bridges ∷ []
+-- `fails N PLACE carries L without VIDS`
+parts_of_verify_line verify_line.Carries = part.Key key.Line ∷ part.Key key.Failure ∷ part.Said key.Expectation mark.Carries ∷ part.Key key.Lan ∷ part.Mark mark.Without ∷ part.Key key.Vids ∷ []
+-- `fails N PLACE avoids L with VIDS`
+parts_of_verify_line verify_line.Avoids = part.Key key.Line ∷ part.Key key.Failure ∷ part.Said key.Expectation mark.Avoids ∷ part.Key key.Lan ∷ part.Mark mark.With ∷ part.Key key.Vids ∷ []
+-- `fails N PLACE note hops T B depth D limit H`
+parts_of_verify_line verify_line.Hops = part.Key key.Line ∷ part.Key key.Failure ∷ part.Told key.Expectation mark.Fits ∷ part.Mark mark.Note ∷ part.Said key.Note mark.Hops ∷ part.Key key.Tree ∷ part.Key key.Bridge ∷ part.Mark mark.Depth ∷ part.Key key.Depth ∷ part.Mark mark.Limit ∷ part.Key key.Limit ∷ []
+-- `fails N PLACE note age B depth D limit M`
+parts_of_verify_line verify_line.Age = part.Key key.Line ∷ part.Key key.Failure ∷ part.Told key.Expectation mark.Fits ∷ part.Mark mark.Note ∷ part.Said key.Note mark.Age ∷ part.Above key.Tree ∷ part.Key key.Bridge ∷ part.Mark mark.Depth ∷ part.Key key.Depth ∷ part.Mark mark.Limit ∷ part.Key key.Limit ∷ []
+-- `fails N PLACE note cost T B ext C`
+parts_of_verify_line verify_line.ExternalCost = part.Key key.Line ∷ part.Key key.Failure ∷ part.Told key.Expectation mark.Fits ∷ part.Mark mark.Note ∷ part.Said key.Note mark.Cost ∷ part.Key key.Tree ∷ part.Key key.Bridge ∷ part.Mark mark.Ext ∷ part.Key key.Ext ∷ []
+-- `fails N PLACE note cost T B int C`
+parts_of_verify_line verify_line.InternalCost = part.Key key.Line ∷ part.Key key.Failure ∷ part.Told key.Expectation mark.Fits ∷ part.Mark mark.Note ∷ part.Said key.Note mark.Cost ∷ part.Key key.Tree ∷ part.Key key.Bridge ∷ part.Mark mark.Int ∷ part.Key key.Int ∷ []
+-- `verify expectations N hold M`
+parts_of_verify_line verify_line.Counts = part.Mark mark.Expectations ∷ part.Key key.ExpectationCount ∷ part.Mark mark.Hold ∷ part.Key key.HoldCount ∷ []
 
 -- ---- all kinds
 abbrev pub first_of : Kind → Mark
@@ -457,6 +518,7 @@ first_of (kind.Summary line) = first_of_summary_line line
 first_of (kind.Capture line) = first_of_capture_line line
 first_of (kind.Refusal line) = first_of_refusal_line line
 first_of (kind.Ask line) = first_of_ask_line line
+first_of (kind.Verify line) = first_of_verify_line line
 
 abbrev pub parts_of : Kind → List Part
 parts_of (kind.Query line) = parts_of_query line
@@ -474,3 +536,4 @@ parts_of (kind.Summary line) = parts_of_summary_line line
 parts_of (kind.Capture line) = parts_of_capture_line line
 parts_of (kind.Refusal line) = parts_of_refusal_line line
 parts_of (kind.Ask line) = parts_of_ask_line line
+parts_of (kind.Verify line) = parts_of_verify_line line

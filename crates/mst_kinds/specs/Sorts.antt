@@ -81,6 +81,9 @@ sort_of key.Line = numbers
 sort_of key.Plan = numbers
 sort_of key.Captured = numbers
 sort_of key.Status = numbers
+sort_of key.Joined = groups
+sort_of key.ExpectationCount = numbers
+sort_of key.HoldCount = numbers
 sort_of k = words
 
 -- the types of the values that a part takes, and those of a kind, in their order

@@ -204,6 +204,14 @@ pub enum Key {
     Side,
     /// How an answer of a standing planner ends: 0, 1 or 3, as the exit status of the program that is asked alone.
     Status,
+    /// The expectation of a policy, by its word.
+    Expectation,
+    /// Bridges that are in one island, each island by these.
+    Joined,
+    /// How many expectations are judged.
+    ExpectationCount,
+    /// How many of them hold.
+    HoldCount,
 }
 
 impl Key {
@@ -312,6 +320,10 @@ impl Key {
             Key::Hint => b"hint",
             Key::Side => b"side",
             Key::Status => b"status",
+            Key::Expectation => b"expectation",
+            Key::Joined => b"joined",
+            Key::ExpectationCount => b"expectation_count",
+            Key::HoldCount => b"hold_count",
         }
     }
 }

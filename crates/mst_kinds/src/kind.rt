@@ -17,6 +17,7 @@ use crate::region_line::RegionLine;
 use crate::summary_line::SummaryLine;
 use crate::sweep_line::SweepLine;
 use crate::tree_line::TreeLine;
+use crate::verify_line::VerifyLine;
 use crate::vlan_line::VlanLine;
 
 /// A kind of rows, by the text that it stands in.
@@ -52,6 +53,8 @@ pub enum Kind {
     Refusal(RefusalLine),
     /// A line of a standing planner, beside those of its answers.
     Ask(AskLine),
+    /// A line of whether a network does what a policy promises.
+    Verify(VerifyLine),
 }
 
 impl Kind {
@@ -75,6 +78,7 @@ impl Kind {
             Kind::Capture(line) => line.first(),
             Kind::Refusal(line) => line.first(),
             Kind::Ask(line) => line.first(),
+            Kind::Verify(line) => line.first(),
         }
     }
 
@@ -98,6 +102,7 @@ impl Kind {
             Kind::Capture(line) => line.parts(),
             Kind::Refusal(line) => line.parts(),
             Kind::Ask(line) => line.parts(),
+            Kind::Verify(line) => line.parts(),
         }
     }
 }

@@ -29,6 +29,7 @@ mod region_line;
 mod summary_line;
 mod sweep_line;
 mod tree_line;
+mod verify_line;
 mod vlan_line;
 
 pub use ask_line::AskLine;
@@ -49,4 +50,5 @@ pub use region_line::RegionLine;
 pub use summary_line::SummaryLine;
 pub use sweep_line::SweepLine;
 pub use tree_line::TreeLine;
+pub use verify_line::VerifyLine;
 pub use vlan_line::VlanLine;

@@ -110,6 +110,20 @@ pub enum Mark {
     Dot,
     Undone,
     Done,
+    Fails,
+    Verify,
+    Policy,
+    Expectations,
+    Hold,
+    Role,
+    Apart,
+    Joined,
+    Leaf,
+    Parent,
+    Without,
+    With,
+    Avoids,
+    Fits,
 }
 
 impl Mark {
@@ -224,6 +238,20 @@ impl Mark {
             Mark::Dot => b"dot",
             Mark::Undone => b"undone",
             Mark::Done => b"done",
+            Mark::Fails => b"fails",
+            Mark::Verify => b"verify",
+            Mark::Policy => b"policy",
+            Mark::Expectations => b"expectations",
+            Mark::Hold => b"hold",
+            Mark::Role => b"role",
+            Mark::Apart => b"apart",
+            Mark::Joined => b"joined",
+            Mark::Leaf => b"leaf",
+            Mark::Parent => b"parent",
+            Mark::Without => b"without",
+            Mark::With => b"with",
+            Mark::Avoids => b"avoids",
+            Mark::Fits => b"fits",
         }
     }
 }

@@ -43,6 +43,8 @@ pub enum Query {
     Summary,
     /// `check`
     Check,
+    /// `verify`
+    Verify,
 }
 
 impl Query {
@@ -69,6 +71,7 @@ impl Query {
             Query::SweepPairsPart => Mark::Sweep,
             Query::Summary => Mark::Summary,
             Query::Check => Mark::Check,
+            Query::Verify => Mark::Verify,
         }
     }
 
@@ -95,6 +98,7 @@ impl Query {
             Query::SweepPairsPart => parts![Said Of Pairs, Key Part, Key PartCount],
             Query::Summary => parts![],
             Query::Check => parts![],
+            Query::Verify => parts![],
         }
     }
 }

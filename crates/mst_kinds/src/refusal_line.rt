@@ -19,6 +19,8 @@ pub enum RefusalLine {
     Explain,
     /// `dot CODE TEXT`
     Dot,
+    /// `policy N CODE TEXT`
+    Policy,
 }
 
 impl RefusalLine {
@@ -33,6 +35,7 @@ impl RefusalLine {
             RefusalLine::NewLine => Mark::New,
             RefusalLine::Explain => Mark::Explain,
             RefusalLine::Dot => Mark::Dot,
+            RefusalLine::Policy => Mark::Policy,
         }
     }
 
@@ -47,6 +50,7 @@ impl RefusalLine {
             RefusalLine::NewLine => parts![Told Side New, Mark Line, Key Line, Key Error, Key Text],
             RefusalLine::Explain => parts![Key Error, Key Text],
             RefusalLine::Dot => parts![Key Error, Key Text],
+            RefusalLine::Policy => parts![Key Line, Key Error, Key Text],
         }
     }
 }

@@ -18,7 +18,7 @@ use Rattle.mst_kinds.specs.declared.refusal_line.RefusalLine.{RefusalLine}
 use Rattle.mst_kinds.specs.declared.refusal_line.RefusalLine.TheVariants as refused
 use Rattle.mst_rows.specs.declared.value.ActivePort.{ActivePort}
 use Rattle.mst_rows.specs.Printed.{comma, json_text, items_text, members_text}
-use Rattle.mst_rows.specs.Cells.{Bare, nothing, text, count, Cell, absent, own, word, number, port, vids, names, ports, trees, groups, active, object, failed_lan, failed_bridge}
+use Rattle.mst_rows.specs.Cells.{Bare, nothing, text, count, Cell, absent, own, word, number, port, vids, names, ports, trees, groups, active, object, failed_lan, failed_bridge, no_failure}
 use Rattle.mst_rows.specs.Rows.{Row, row_of, first_cell, left_cells}
 use Rattle.mst_rows.specs.Records.{natural, items_of, list_value, place, port_value, active_value, run_value, names_value, bare_value, fields, cell_value, bridge_value, number_value, parts_members, row_members, record_value, with_line, answer_value, refusal_value, unanswered_value}
 use Rattle.mst_rows.specs.Answers.{named, joined, array_text, place_text, port_json, flag_text, active_json, run_json, names_json, bare_json, field_json, value_text, bridge_text, number_text, parts_json, row_json, record_text, records_text, line_text, answer_text, record_line, front_json, refusal_line, unanswered_line}
@@ -128,6 +128,7 @@ value_is (active ps) = list_is active_value active_json active_is ps
 value_is (object fs) = json_text-object (fields fs) ∙ ap (λ l. 123 ∷ l) (fields_are false fs)
 value_is (failed_lan n) = failed_is (codes "lan") n
 value_is (failed_bridge n) = failed_is (codes "bridge") n
+value_is no_failure = json_text-null
 
 bridge_is : (c : Cell) → json_text (bridge_value c) ≡ bridge_text c
 bridge_is (port p) = json_text-string p.bridge
@@ -245,6 +246,7 @@ refusal_is refused.OldLine cs = told_front key.Side mark.Old (drop 1 (parts_of_r
 refusal_is refused.NewLine cs = told_front key.Side mark.New (drop 1 (parts_of_refusal_line refused.NewLine)) cs
 refusal_is refused.Explain cs = key_front key.Error (drop 1 (parts_of_refusal_line refused.Explain)) cs
 refusal_is refused.Dot cs = key_front key.Error (drop 1 (parts_of_refusal_line refused.Dot)) cs
+refusal_is refused.Policy cs = key_front key.Line (drop 1 (parts_of_refusal_line refused.Policy)) cs
 
 pub unanswered_is : (row : Row) → json_text (unanswered_value row) ++ 10 ∷ [] ≡ unanswered_line row
 unanswered_is row =

@@ -16,7 +16,7 @@ use Rattle.mst_kinds.specs.declared.part.Part.{Part}
 use Rattle.mst_kinds.specs.declared.part.Part.TheVariants as part
 use Rattle.mst_rows.specs.declared.value.ActivePort.{ActivePort}
 use Rattle.mst_rows.specs.Printed.{json_text}
-use Rattle.mst_rows.specs.Cells.{Bare, nothing, text, count, Cell, absent, own, word, number, port, vids, names, ports, trees, groups, active, object, failed_lan, failed_bridge}
+use Rattle.mst_rows.specs.Cells.{Bare, nothing, text, count, Cell, absent, own, word, number, port, vids, names, ports, trees, groups, active, object, failed_lan, failed_bridge, no_failure}
 use Rattle.mst_rows.specs.Rows.{Row, first_cell, other_cells}
 use Rattle.mst_rows.specs.Records.{natural, items_of, list_value, place, port_value, active_value, run_value, names_value, fields, cell_value, bridge_value, number_value, parts_members, row_members, record_value, answer_value, refusal_value, unanswered_value}
 use Rattle.mst_rows.specs.Small.{Fits64, HasSmall, IsSmall, RowIsSmall}
@@ -120,6 +120,7 @@ flat_cell (active ps) h = flat_list 1 active_value _ flat_active ps h
 flat_cell (object fs) h = deeper 1 2 _ (omega arith) (flat_object 0 (fields fs) (flat_fields fs h))
 flat_cell (failed_lan n) h = deeper 1 2 _ (omega arith) (flat_failed (codes "lan") n)
 flat_cell (failed_bridge n) h = deeper 1 2 _ (omega arith) (flat_failed (codes "bridge") n)
+flat_cell no_failure h = flat_null 2
 
 -- ---- rows
 small_first : (cs : List Cell) → AllByRecursion IsSmall cs → IsSmall (first_cell cs)

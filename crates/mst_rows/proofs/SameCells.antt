@@ -11,7 +11,7 @@ use Rattle.mst_kinds.specs.Sorts as sort
 use Rattle.mst_kinds.specs.declared.key.Key.{Key}
 use Rattle.mst_kinds.proofs.Table.{keys_differ}
 use Rattle.mst_rows.specs.declared.value.ActivePort.{ActivePort}
-use Rattle.mst_rows.specs.Cells.{Bare, nothing, text, count, Cell, absent, own, word, number, port, vids, names, ports, trees, groups, active, object, failed_lan, failed_bridge}
+use Rattle.mst_rows.specs.Cells.{Bare, nothing, text, count, Cell, absent, own, word, number, port, vids, names, ports, trees, groups, active, object, failed_lan, failed_bridge, no_failure}
 use Rattle.mst_rows.specs.Records.{natural, items_of, list_value, port_value, active_value, run_value, names_value, bare_value, fields, cell_value, bridge_value, number_value}
 use Rattle.mst_rows.specs.Small.{Fits64, HasSmall, IsSmall}
 use Rattle.mst_rows.specs.Fits.{IsOf}
@@ -121,6 +121,7 @@ holding sort.groups (Some gs) = groups gs
 holding sort.active_ports (Some ps) = active ps
 holding sort.objects (Some fs) = object fs
 holding sort.failures (Some f) = failed f
+holding sort.failures None = no_failure
 holding sort.own_port (Some p) = port p
 holding s None = absent
 
@@ -143,6 +144,7 @@ held sort.objects (object fs) is = (Some fs, refl)
 held sort.objects absent is = (None, refl)
 held sort.failures (failed_lan n) is = (Some (false, n), refl)
 held sort.failures (failed_bridge n) is = (Some (true, n), refl)
+held sort.failures no_failure is = (None, refl)
 held sort.own_port (port p) is = (Some p, refl)
 held s c is = absurd is
 

@@ -9,7 +9,7 @@ use Rattle.mst_kinds.specs.declared.part.Part.{Part}
 use Rattle.mst_kinds.specs.declared.part.Part.TheVariants as part
 use Rattle.mst_rows.specs.declared.value.ActivePort.{ActivePort}
 use Rattle.mst_rows.specs.Printed.{comma}
-use Rattle.mst_rows.specs.Cells.{Bare, nothing, text, count, Cell, absent, own, word, number, port, vids, names, ports, trees, groups, active, object, failed_lan, failed_bridge}
+use Rattle.mst_rows.specs.Cells.{Bare, nothing, text, count, Cell, absent, own, word, number, port, vids, names, ports, trees, groups, active, object, failed_lan, failed_bridge, no_failure}
 use Rattle.mst_rows.specs.Rows.{Row, first_cell, left_cells}
 
 -- ---- values
@@ -67,6 +67,7 @@ value_text (active ps) = array_text (map active_json ps)
 value_text (object fs) = 123 ∷ (joined false (map field_json fs) ++ 125 ∷ [])
 value_text (failed_lan n) = 123 ∷ (named (codes "lan") (quoted n) ++ 125 ∷ [])
 value_text (failed_bridge n) = 123 ∷ (named (codes "bridge") (quoted n) ++ 125 ∷ [])
+value_text no_failure = codes "null"
 
 -- ---- records
 abbrev pub bridge_text : Cell → List ℕ

@@ -26,3 +26,4 @@ pub data Cell : Type 0 where
   object : List (Key × Bare) → Cell
   failed_lan : List ℕ → Cell
   failed_bridge : List ℕ → Cell
+  no_failure : Cell

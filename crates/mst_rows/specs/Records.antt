@@ -9,7 +9,7 @@ use Rattle.mst_kinds.specs.declared.key.Key.{Key}
 use Rattle.mst_kinds.specs.declared.part.Part.{Part}
 use Rattle.mst_kinds.specs.declared.part.Part.TheVariants as part
 use Rattle.mst_rows.specs.declared.value.ActivePort.{ActivePort}
-use Rattle.mst_rows.specs.Cells.{Bare, nothing, text, count, Cell, absent, own, word, number, port, vids, names, ports, trees, groups, active, object, failed_lan, failed_bridge}
+use Rattle.mst_rows.specs.Cells.{Bare, nothing, text, count, Cell, absent, own, word, number, port, vids, names, ports, trees, groups, active, object, failed_lan, failed_bridge, no_failure}
 use Rattle.mst_rows.specs.Rows.{Row, first_cell, left_cells}
 
 -- ---- values
@@ -64,6 +64,7 @@ cell_value (active ps) = list_value (map active_value ps)
 cell_value (object fs) = json.object (fields fs)
 cell_value (failed_lan n) = json.object (member (codes "lan") (string n) no_members)
 cell_value (failed_bridge n) = json.object (member (codes "bridge") (string n) no_members)
+cell_value no_failure = null
 
 -- ---- records
 -- a record's own port: its bridge and its number

@@ -10,7 +10,7 @@ use Rattle.mst_kinds.specs.declared.part.Part.TheVariants as part
 use Rattle.mst_rows.specs.declared.value.Vector.{Vector}
 use Rattle.mst_rows.specs.declared.value.Value.{Value}
 use Rattle.mst_rows.specs.declared.value.Value.TheVariants as value
-use Rattle.mst_rows.specs.Cells.{Bare, Cell, absent, own, word, number, port, vids, names, ports, trees, groups, active, object, failed_lan, failed_bridge}
+use Rattle.mst_rows.specs.Cells.{Bare, Cell, absent, own, word, number, port, vids, names, ports, trees, groups, active, object, failed_lan, failed_bridge, no_failure}
 use Rattle.mst_rows.specs.Objects.{cist_vector, msti_vector, mstp_region, rstp_region}
 
 -- a port, or a bridge's own vector
@@ -48,6 +48,7 @@ cell (value.Vector v) = object (vector v.now.root v.now)
 cell (value.Region r) = object (region r.now.configuration r.now.first)
 cell (value.FailedLan n) = failed_lan n.now
 cell (value.FailedBridge n) = failed_bridge n.now
+cell value.NoFailure = no_failure
 
 -- these values say this, one by one
 abbrev pub AreCells : List Value → List Cell → Type 0

@@ -160,6 +160,7 @@ fn push_value(value: &Value<'_>, out: &mut Vec<u8>) -> Result<(), AllocError>
             push_word(b"bridge", out)?;
             push_word(bridge.as_bytes(), out)
         }
+        Value::NoFailure => push_word(b"now", out),
     }
 }
 

@@ -41,6 +41,8 @@ pub enum Value<'a> {
     FailedLan(&'a Name),
     /// A bridge that fails: `bridge B` in a line, and an object in a record.
     FailedBridge(&'a Name),
+    /// Nothing fails: `now` in a line, and `null` in a record.
+    NoFailure,
 }
 
 /// A port that is active for a VLAN, and whether it is a member: `B:P` in a line, or `[B:P]`.

@@ -129,7 +129,7 @@ module _ (s : SettledNet) (is : IsSettledNet s) where
   tree_rows_named = λ i. flat_map (λ tree. roots_named tree i ++ blocked_row tree (blocked_named tree i) ∷ []) (trees_named i)
 
   -- ---- what ports carry
-  carries_named : (vid : ℕ) (p : PortInView) → SeenPort net numbers p → seen_carries v f vid p ≡ carries net o vid (named_port p)
+  pub carries_named : (vid : ℕ) (p : PortInView) → SeenPort net numbers p → seen_carries v f vid p ≡ carries net o vid (named_port p)
   carries_named vid p seen = λ i. each_forwards net numbers v f of (forest_of s is) vid p seen i && member vid p i
     where
       member : (vid : ℕ) (p : PortInView) → seen_member v vid p ≡ is_member net vid (named_port p)

@@ -9,11 +9,11 @@ use Rattle.mst_summary.specs.declared.roots.Follower.{Follower}
 use Rattle.mst_summary.specs.Roots.{with_lesser, next_of, IsNext}
 
 -- what is found from a first one on: it is one of them, and none has a lesser identifier
-record Least (a : Follower) (xs : List Follower) : Type 1 where
-  it : Follower
-  is : fold with_lesser (Some a) xs ≡ Some it
-  among : (P : Follower → Type 0) → AllByRecursion P (a ∷ xs) → P it
-  below : AllByRecursion (λ f. it.id ≤ f.id) (a ∷ xs)
+pub record Least (a : Follower) (xs : List Follower) : Type 1 where
+  pub it : Follower
+  pub is : fold with_lesser (Some a) xs ≡ Some it
+  pub among : (P : Follower → Type 0) → AllByRecursion P (a ∷ xs) → P it
+  pub below : AllByRecursion (λ f. it.id ≤ f.id) (a ∷ xs)
 
 less_then : (m x a : ℕ) → m ≤ x → nat_lt x a ≡ true → m ≤ a
 less_then m x a l e = grind (arith, nat_tests)
@@ -24,7 +24,7 @@ less_else m x a l e = grind (arith, nat_tests)
 same_least : (m : ℕ) → m ≤ m
 same_least m = omega arith
 
-least_of : (a : Follower) (xs : List Follower) → Least a xs
+pub least_of : (a : Follower) (xs : List Follower) → Least a xs
 least_of a [] = record { it = a; is = refl; among = λ P h. h.0; below = (same_least a.id, tt) }
 least_of a (x ∷ xs) = go (nat_lt x.id a.id) refl (least_of x xs) (least_of a xs)
   where

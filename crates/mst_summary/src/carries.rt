@@ -18,7 +18,7 @@ use mst_rows::{Rows, Value, put};
 use std::alloc::{AllocError, Global};
 
 /// Whether a port is active for a VID and a member of its VLAN.
-fn carries(plan: &Settled, vid: Vid, port: &PortInView) -> bool
+pub fn port_carries(plan: &Settled, vid: Vid, port: &PortInView) -> bool
     ensures { result ≡ seen_carries plan.now.view plan.now.forest vid port.now }
 {
     port_forwards(plan.view(), plan.forest(), port, vid) && is_member(plan.view(), port, vid)
@@ -28,7 +28,7 @@ fn carries(plan: &Settled, vid: Vid, port: &PortInView) -> bool
 fn all_carry(plan: &Settled, vid: Vid, ports: &[PortInView]) -> bool
     ensures { result ≡ list_all (seen_carries plan.now.view plan.now.forest vid) ports.now }
 {
-    ports.iter().all(|port| carries(plan, vid, port))
+    ports.iter().all(|port| port_carries(plan, vid, port))
 }
 
 /// Whether all of these ports are so for the VIDs at these places, which are counted from 0.
@@ -50,8 +50,8 @@ fn flags_at(
     Ok(flags)
 }
 
-/// Those of these VIDs whose numbers have the flag.
-fn flagged(
+/// Those of these VIDs whose numbers have the flag. `AllocError`: memory was wanted and refused.
+pub fn flagged(
     alloc: Global,
     vids: &[Vid],
     numbers: &[usize],

@@ -6,8 +6,8 @@ use mst_graph::{Numbering, number_keys};
 use mst_lag::View;
 use std::alloc::{AllocError, Global};
 
-/// The classes of VIDs that no table and no set of VLANs of a port tells apart.
-pub(crate) fn classes_of_vids(alloc: Global, view: &View) -> Result<Numbering, AllocError>
+/// The classes of VIDs that no table and no set of VLANs of a port tells apart. `AllocError`: memory was wanted and refused.
+pub fn classes_of_vids(alloc: Global, view: &View) -> Result<Numbering, AllocError>
     ensures { IfOk result (AreClasses view.now) }
 {
     let tables = tables(alloc, view)?;

@@ -14,11 +14,15 @@ mod looked_up;
 mod roots;
 mod summary;
 
+pub use carries::{flagged, port_carries};
+pub use classes::classes_of_vids;
 pub use kept::{kept_for, ports_by_lan};
 pub use looked_up::role;
 pub use mst_diff::{
     Differing, Entries, Forest, Planned, Role, Settled, bridge_id, changes_laws, forwards,
     has_tree, laws as diff_laws, plan_text_laws, port_role, put_changes, put_configuration,
-    put_diff, put_lags, put_plan, put_regions, put_tree, put_vlan, root_of, text_laws, trees_laws,
+    put_diff, put_lags, put_plan, put_regions, put_tree, put_vlan, root_of, set_of, text_laws,
+    trees_laws, vids,
 };
+pub use roots::{Follower, as_follower, least};
 pub use summary::put_summary;

@@ -17,14 +17,14 @@ use std::alloc::{AllocError, Global};
 
 /// A bridge that names a root in a tree: its name, its own identifier there and that of its root.
 #[derive(Clone, Copy)]
-pub(crate) struct Follower {
-    pub(crate) name: Name,
-    pub(crate) id: BridgeId,
-    pub(crate) root: BridgeId,
+pub struct Follower {
+    pub name: Name,
+    pub id: BridgeId,
+    pub root: BridgeId,
 }
 
 /// A bridge with the root that it names in a tree, if it names one.
-fn as_follower(plan: &Settled, tree: Tree, bridge: &BridgeInView) -> Option<Follower>
+pub fn as_follower(plan: &Settled, tree: Tree, bridge: &BridgeInView) -> Option<Follower>
     requires { Contains plan.now.view.bridges bridge.now }
     ensures { result ≡ follower_of plan.now.net (outcome_of plan.now) tree (named_bridge bridge.now) }
 {
@@ -92,7 +92,7 @@ fn lesser(least: Option<Follower>, follower: &Follower) -> Option<Follower>
 }
 
 /// The one of the least identifier.
-fn least(followers: &[Follower]) -> Option<Follower>
+pub fn least(followers: &[Follower]) -> Option<Follower>
     ensures { result ≡ least_of followers.now }
 {
     let mut least = None;

@@ -42,7 +42,7 @@ fn places(alloc: Global, islands: &[Island]) -> Result<IndexMap<BridgeNo, usize>
 }
 
 /// The places of the islands of a VID, by the numbers of the bridges in them. `AllocError`: memory was wanted and refused.
-pub(crate) fn homes_of(
+pub fn homes_of(
     alloc: Global,
     plan: &Planned,
     vid: Vid,

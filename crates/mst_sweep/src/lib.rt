@@ -23,5 +23,6 @@ pub use baseline::Baseline;
 pub use both_failed::{Single, cut_classes, put_last_of_pairs, put_pair};
 pub use failing::Failing;
 pub use failure::{Failure, failures};
+pub use homes::homes_of;
 pub use sweep::{put_failure, put_last};
 pub use sweep_part::SweepPart;
