@@ -1,0 +1,16 @@
+pub mod Turns
+pub mod Held
+pub mod Feeds
+pub mod Whole
+pub mod Lines
+pub mod Loading
+pub mod Kept
+pub mod Requests
+pub mod Asked
+pub mod AsScript
+pub mod Opened
+pub mod Stand
+pub mod Stopped
+pub mod Done
+pub mod Rows
+pub mod Changes

@@ -1,0 +1,13 @@
+use Rattle.std.proofs.Common.{ap, inl}
+use Rattle.mst_engine.specs.report.State.{State}
+use Rattle.mst_tool.specs.Ask.{answer_text, told_of}
+use Rattle.mst_ask.specs.Kept.{standing_of}
+use Rattle.mst_ask.specs.Replies.{replied}
+use Rattle.mst_ask.specs.declared.reply.Reply.TheVariants.{Answer}
+use Rattle.mst_ask.proofs.standing.Standing.answer.Goals as goal
+
+pub returns-in-Ok-clause-asked : goal.returns-in-Ok-clause-asked
+returns-in-Ok-clause-asked c number line =
+    let form = c.args.self.now.form in
+    let answer = c.in-Ok.answer in
+    inl (told_of answer, answer_text form answer, c.in-Ok.ensures.answer, ap (λ (s : State). replied form number (record { state = s; made = (standing_of c.args.self.now).made }) (Answer answer)) c.in-Ok.ensures.state)

@@ -1,0 +1,77 @@
+-- What serving the lines of a script and questions promises.
+use Rattle.std.specs.Prelude.{◌≡◌, ◌≤◌, ◌<◌, ◌+◌, ◌*◌, ℕ, true, false, length, List, [], Option}
+use Rattle.std.specs.Io.KnownBytes.{Appends, Consumes, IsAtEnd}
+use Rattle.mst_io.specs.Devices.{Told, IsCut, IsRead, Works}
+use Rattle.mst_io.specs.Written.{AppendsFront, Reads}
+use Rattle.mst_lang.specs.Lines.{lines_of, ended_lines}
+use Rattle.mst_lang.specs.declared.line.Version.{Version}
+use Rattle.mst_engine.specs.Engine.{version_from}
+use Rattle.mst_engine.specs.Script.{LoadsAll, version_of}
+use Rattle.mst_engine.specs.Steps as steps
+use Rattle.mst_engine.specs.Steps.{Step, left_by, texts_of}
+use Rattle.mst_engine.specs.declared.engine.Engine.{Engine}
+use Rattle.mst_engine.specs.report.Planned.{planned_state}
+use Rattle.mst_engine.specs.report.State.{empty_state}
+use Rattle.mst_print.specs.Shape.{of_script}
+use Rattle.mst_print.specs.declared.form.Form.{Form}
+use Rattle.mst_ask.specs.Standing.{Standing, Turn, AsksBy, answers_of, differing_of, lacks_of, refusals_of}
+use Rattle.mst_ask.specs.Turning.{Tally}
+use Rattle.mst_ask.specs.declared.script.Script.{Script}
+
+-- ---- the script
+-- It was read to its end, or was cut: the source failed, or all turns were used
+pub record IsScript (turns : ℕ) (reads left : Option (List ℕ)) (old new : Told) (script : Script) : Type 0 where
+  pub consumed : Consumes reads left script.bytes.items
+  pub whole : script.is_whole ≡ true → IsAtEnd left × IsRead old new
+  pub cut : script.is_whole ≡ false → IsCut turns old new
+  pub few : length script.bytes.items ≤ 4096 * turns
+
+-- for want of memory it isn't read on, before all turns were used
+pub record IsLeft (turns : ℕ) (old new : Told) : Type 0 where
+  pub some : 0 < turns
+  pub works : Works old new
+  pub few : new.calls < old.calls + turns
+
+-- the lines were loaded, and what they print was written. They were counted, and the version is known
+pub record IsLoaded (form : Form) (lines : List (List ℕ)) (written now : Option (List ℕ)) (engine : Engine) : Type 0 where
+  pub loads : List Step
+  pub loaded : LoadsAll (of_script form) lines loads
+  pub printed : Appends written now (texts_of loads)
+  pub state : planned_state engine.planner ≡ left_by empty_state loads
+  pub refused : engine.refused ≡ steps.refusals_of loads
+  pub memory : engine.memory ≡ steps.lacks_of loads
+  pub version : version_from engine.version [] ≡ version_of lines
+
+-- a front of what the lines print was written
+pub record IsFront (form : Form) (lines : List (List ℕ)) (written now : Option (List ℕ)) : Type 0 where
+  pub loads : List Step
+  pub loaded : LoadsAll (of_script form) lines loads
+  pub front : AppendsFront written now (texts_of loads)
+
+-- ---- the questions
+-- all were answered, from what stood, and what they print was written. They were counted
+pub record Answered (form : Form) (version : Version) (from : Standing) (reads written now : Option (List ℕ)) (t : Tally) : Type 0 where
+  pub bytes : List ℕ
+  pub turns : List Turn
+  pub read : Reads reads bytes
+  pub asks : AsksBy form version 1 from (lines_of bytes) turns
+  pub printed : Appends written now (answers_of turns)
+  pub memory : t.memory ≡ lacks_of turns
+  pub refused : t.refused ≡ refusals_of turns
+  pub differing : t.differing ≡ differing_of turns
+
+-- a front of what they print was written
+pub record AnsweredFront (form : Form) (version : Version) (from : Standing) (reads written now : Option (List ℕ)) : Type 0 where
+  pub bytes : List ℕ
+  pub turns : List Turn
+  pub read : Reads reads bytes
+  pub asks : AsksBy form version 1 from (lines_of bytes) turns
+  pub printed : AppendsFront written now (answers_of turns)
+
+-- those that were complete in what was read were answered, and the whole of what they print was written
+pub record AnsweredEnded (form : Form) (version : Version) (from : Standing) (reads left written now : Option (List ℕ)) : Type 0 where
+  pub read : List ℕ
+  pub turns : List Turn
+  pub consumed : Consumes reads left read
+  pub asks : AsksBy form version 1 from (ended_lines read) turns
+  pub printed : Appends written now (answers_of turns)

@@ -1,0 +1,9 @@
+pub mod Requests
+pub mod Standing
+pub mod Asking
+pub mod Lines
+pub mod Kept
+pub mod Replies
+pub mod Turning
+pub mod Answering
+pub mod Opening

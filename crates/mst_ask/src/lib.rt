@@ -1,0 +1,16 @@
+//! A standing planner: the network of a script, of which questions are asked, one after another, and which edits change and
+//! take back. [`ask_within`] reads the script and then the questions, each of which is a line, and answers each before it
+//! reads on.
+#![tactic(auto)]
+
+mod asking;
+mod feed;
+pub mod laws;
+mod reply;
+mod request;
+mod script;
+mod standing;
+mod undone;
+
+pub use asking::ask_within;
+pub use request::Request;
