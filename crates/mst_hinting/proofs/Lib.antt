@@ -1,1 +1,4 @@
 pub mod Tells
+pub mod Steps
+pub mod Hearing
+pub mod Ended

@@ -2,9 +2,6 @@
 use Rattle.std.proofs.Common.{◌≡◌, ◌≢◌, ◌||◌, ℕ, ◌+◌, ◌<◌, Bool, true, false, nat_eq, cond, List, [], ◌∷◌, ◌++◌, length, Option, Some, None, Result, Ok, Err, refl, sym, ap, subst, ◌∙◌, arith, inl, inr, append_assoc, append-nil, eq-eqb, length-append}
 use Rattle.std.proofs.lemmas.Bool.{lt-ltb}
 use Rattle.std.proofs.lemmas.Grind.{common_steps}
-use Rattle.std.specs.Option.{unwrap_or}
-use Rattle.std.specs.Io.KnownBytes.{Appends, Consumes, IsAtEnd}
-use Rattle.std.proofs.KnownBytes.{Appends-trans}
 use Rattle.mst_hints.specs.lang.Lines.{drop_cr, last_line, no_line, lines_from, lines_of, ended_lines}
 use Rattle.mst_hints.specs.lang.Reading.{reading_as, says_version_2}
 use Rattle.mst_hints.specs.lang.declared.line.Fault.{Fault}
@@ -19,15 +16,12 @@ use Rattle.mst_hints.specs.Records.{added_of}
 use Rattle.mst_hints.specs.Scripts.{Past, nothing, past_after, version_with, reading_with, saying_with, edit_alone, net_with, is_made, is_mark, making_of, noted, read_hint, with_making, hint_after, hints_from, hints_of}
 use Rattle.mst_hints.specs.declared.record.Record.{Record}
 use Rattle.mst_hints.specs.declared.script.ScriptHints.{ScriptHints}
-use Rattle.mst_hints.specs.declared.whose.Script.TheVariants.{Run}
+use Rattle.mst_hints.specs.declared.whose.Script.{Script}
 use Rattle.mst_io.specs.Held.{lines_held, ending}
 use Rattle.mst_io.specs.Held.{hold}
-use Rattle.mst_hinting.specs.Hinted.{Hints, HintsFront, HintsEnded, Tells, IsTold, IsWritten, IsStoppedIn}
-use Rattle.mst_io.specs.Written.{AppendsFront}
+use Rattle.mst_hinting.specs.Hinted.{Tells, IsTold}
 use Rattle.mst_io.proofs.Long.{held_cases, long_reading, none_held_of, one_held_of}
-use Rattle.mst_io.proofs.Known.{AppendsFront-after, AppendsFront-longer}
 use Rattle.mst_io.proofs.Starts.{IsHeld, IsHeld-nothing, IsHeld-push}
-use Rattle.mst_io.proofs.ReadBytes.{Reads-rest, Reads-all}
 
 -- ---- bytes
 pub Tells-nil : (past : Past) (part : List ℕ) → Tells past part [] past part []
@@ -172,11 +166,11 @@ module _ (last : List ℕ → List (List ℕ)) (left : HeldAlike last) where
         | false ↦ lines_alike bs past (part ++ b ∷ []) (hold held b) (IsHeld-push part held b is)
       ]
 
-script_alike : (bytes : List ℕ) → hints_of Run (lines_of bytes) ≡ hints_from (nothing Run) (lines_held last_line [] bytes)
-script_alike bytes = sym (lines_alike last_line last_alike bytes (nothing Run) [] [] IsHeld-nothing)
+script_alike : (of : Script) (bytes : List ℕ) → hints_of of (lines_of bytes) ≡ hints_from (nothing of) (lines_held last_line [] bytes)
+script_alike of bytes = sym (lines_alike last_line last_alike bytes (nothing of) [] [] IsHeld-nothing)
 
-ended_alike : (bytes : List ℕ) → hints_of Run (ended_lines bytes) ≡ hints_from (nothing Run) (lines_held no_line [] bytes)
-ended_alike bytes = sym (lines_alike no_line none_alike bytes (nothing Run) [] [] IsHeld-nothing)
+ended_alike : (of : Script) (bytes : List ℕ) → hints_of of (ended_lines bytes) ≡ hints_from (nothing of) (lines_held no_line [] bytes)
+ended_alike of bytes = sym (lines_alike no_line none_alike bytes (nothing of) [] [] IsHeld-nothing)
 
 -- ---- a whole script
 -- what follows some bytes
@@ -188,81 +182,20 @@ ends_held now end [] more g = g.lines last_line [] ∙ append-nil more
 ends_held now end (b ∷ bs) more g = g.lines last_line [] ∙ append-nil more
 
 -- the script has ended, and its last line was taken
-pub hints_whole : (reads rest written mid new : Option (List ℕ)) (now : Past) (read left text : List ℕ) (hints : ScriptHints) → Consumes reads rest read → IsAtEnd rest → Tells (nothing Run) [] read now left text → Appends written mid text → IsWritten now left (ending left) hints [] mid new → Hints reads written new
-hints_whole reads rest written mid new now read left text hints consumed at_end f went g = record {
-  script = read;
-  read = Reads-all reads rest read consumed at_end;
-  printed = subst (Appends written new)
-      (sym (script_alike read ∙ goes_on (nothing Run) now [] read left text last_line f ∙ ap (λ h. text ++ h) (ends_held now g.now left g.text g.tells)))
-      (Appends-trans written mid new text g.text went g.printed);
-}
+pub hints_whole : (of : Script) (read left text more : List ℕ) (now end : Past) → Tells (nothing of) [] read now left text → Tells now left (ending left) end [] more → hints_of of (lines_of read) ≡ text ++ more
+hints_whole of read left text more now end f g = script_alike of read ∙ goes_on (nothing of) now [] read left text last_line f ∙ ap (λ h. text ++ h) (ends_held now end left more g)
 
--- what was told of the bytes, and a front of what follows
-pub hints_stopped : (reads rest written mid new : Option (List ℕ)) (now : Past) (read left text chunk : List ℕ) → Consumes reads rest (read ++ chunk) → Tells (nothing Run) [] read now left text → Appends written mid text → IsStoppedIn now left chunk mid new → HintsFront reads written new
-hints_stopped reads rest written mid new now read left text chunk consumed f went stopped =
-    let more = unwrap_or rest [] in
-    record {
-      script = (read ++ chunk) ++ more;
-      read = Reads-rest reads rest (read ++ chunk) consumed;
-      printed = subst (AppendsFront written new)
-          (sym (script_alike ((read ++ chunk) ++ more) ∙ ap (λ l. hints_from (nothing Run) (lines_held last_line [] l)) (append_assoc read chunk more) ∙ f.lines last_line (chunk ++ more)))
-          (AppendsFront-after written mid new text (hints_from now (lines_held last_line left (chunk ++ more))) went (stopped more));
-    }
+-- its last line, which no line feed had ended, wasn't
+pub hints_ended : (of : Script) (read left text : List ℕ) (now : Past) → Tells (nothing of) [] read now left text → hints_of of (ended_lines read) ≡ text
+hints_ended of read left text now f = ended_alike of read ∙ goes_on (nothing of) now [] read left text no_line f ∙ append-nil text
 
-pub hints_stopped_last : (reads rest written mid new : Option (List ℕ)) (now : Past) (read left text : List ℕ) → Consumes reads rest read → IsAtEnd rest → Tells (nothing Run) [] read now left text → Appends written mid text → IsStoppedIn now left (ending left) mid new → HintsFront reads written new
-hints_stopped_last reads rest written mid new now read left text consumed at_end f went stopped = record {
-  script = read;
-  read = Reads-all reads rest read consumed at_end;
-  printed = subst (AppendsFront written new)
-      (sym (script_alike read ∙ goes_on (nothing Run) now [] read left text last_line f))
-      (AppendsFront-after written mid new text (hints_from now (last_line left)) went (subst (AppendsFront mid new) (ends left) (stopped [])));
-}
-  where
-    ends : (left : List ℕ) → hints_from now (lines_held last_line left (ending left ++ [])) ≡ hints_from now (last_line left)
-    ends [] = refl
-    ends (b ∷ bs) = refl
-
--- the reader failed
-pub hints_cut : (reads rest written new : Option (List ℕ)) (now : Past) (read left text : List ℕ) → Consumes reads rest read → Tells (nothing Run) [] read now left text → Appends written new text → HintsFront reads written new
-hints_cut reads rest written new now read left text consumed f went =
-    let more = unwrap_or rest [] in
-    record {
-      script = read ++ more;
-      read = Reads-rest reads rest read consumed;
-      printed = record {
-        front = text;
-        rest = hints_from now (lines_held last_line left more);
-        whole = script_alike (read ++ more) ∙ f.lines last_line more;
-        written = went;
-      };
-    }
-
-pub hints_ended : (reads rest written new : Option (List ℕ)) (now : Past) (read left text : List ℕ) → Consumes reads rest read → Tells (nothing Run) [] read now left text → Appends written new text → HintsEnded reads rest written new
-hints_ended reads rest written new now read left text consumed f went = record {
-  read = read;
-  consumed = consumed;
-  printed = subst (Appends written new) (sym (ended_alike read ∙ goes_on (nothing Run) now [] read left text no_line f ∙ append-nil text)) went;
-}
-
--- what was taken was written
-pub written_told : (past : Past) (part bytes left : List ℕ) (hints : ScriptHints) (text : List ℕ) (written new : Option (List ℕ)) → IsTold past part bytes hints left [] text → Appends written new text → IsWritten past part bytes hints left written new
-written_told past part bytes left hints text written new f went = record {
-  now = f.now;
-  text = f.text;
-  tells = f.tells;
-  kept = f.kept;
-  printed = subst (Appends written new) f.appended went;
-}
-
-pub stopped_told : (past : Past) (part bytes left : List ℕ) (hints : ScriptHints) (text : List ℕ) (written new : Option (List ℕ)) → IsTold past part bytes hints left [] text → AppendsFront written new text → IsStoppedIn past part bytes written new
-stopped_told past part bytes left hints text written new f went rest =
-    let more = hints_from f.now (lines_held last_line left rest) in
-    subst (AppendsFront written new) (ap (λ l. l ++ more) f.appended ∙ sym (f.tells.lines last_line rest)) (AppendsFront-longer written new text more went)
-
--- nothing was written
-pub stopped_unwritten : (past : Past) (part bytes : List ℕ) (written : Option (List ℕ)) → Appends written written [] → IsStoppedIn past part bytes written written
-stopped_unwritten past part bytes written none rest = record { front = []; rest = hints_from past (lines_held last_line part (bytes ++ rest)); whole = refl; written = none }
+-- what was told of the bytes, and of what follows
+pub hints_begun : (of : Script) (read more left text : List ℕ) (now : Past) → Tells (nothing of) [] read now left text → hints_of of (lines_of (read ++ more)) ≡ text ++ hints_from now (lines_held last_line left more)
+hints_begun of read more left text now f = script_alike of (read ++ more) ∙ f.lines last_line more
 
 -- the same bytes, by other names of them
-pub told_as : (past : Past) (part bytes left : List ℕ) (hints : ScriptHints) (old same new also : List ℕ) → old ≡ same → new ≡ also → IsTold past part bytes hints left old new → IsTold past part bytes hints left same also
-told_as past part bytes left hints old same new also e f told = record { now = told.now; text = told.text; tells = told.tells; kept = told.kept; appended = sym f ∙ told.appended ∙ ap (λ l. l ++ told.text) e }
+pub told_as : (past : Past) (bytes part left still : List ℕ) (hints also : ScriptHints) (old new now : List ℕ) → hints ≡ also → left ≡ still → new ≡ now → IsTold past part bytes hints left old new → IsTold past part bytes also still old now
+told_as past bytes part left still hints also old new now e f h told =
+    subst (λ x. IsTold past part bytes x still old now) e
+    (subst (λ x. IsTold past part bytes hints x old now) f
+    (subst (λ x. IsTold past part bytes hints left old x) h told))

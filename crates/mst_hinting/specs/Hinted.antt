@@ -1,32 +1,32 @@
--- What giving the hints of a script promises.
+-- What telling the hints of a script promises. `of` says which script it is.
 use Rattle.std.specs.Prelude.{◌≡◌, ℕ, ◌+◌, ◌≤◌, List, ◌++◌, length, Option}
 use Rattle.std.specs.Io.KnownBytes.{Appends, Consumes}
-use Rattle.mst_hints.specs.lang.Lines.{lines_of, ended_lines, last_line}
+use Rattle.mst_hints.specs.lang.Lines.{lines_of, ended_lines}
 use Rattle.mst_hints.specs.Kept.{IsKept}
 use Rattle.mst_hints.specs.Scripts.{Past, hints_from, hints_of}
 use Rattle.mst_hints.specs.declared.script.ScriptHints.{ScriptHints}
-use Rattle.mst_hints.specs.declared.whose.Script.TheVariants.{Run}
+use Rattle.mst_hints.specs.declared.whose.Script.{Script}
 use Rattle.mst_io.specs.Held.{lines_held}
 use Rattle.mst_io.specs.Written.{AppendsFront, Reads}
 
 -- the hints of all of the script's lines were written, and nothing else
-pub record Hints (reads written now : Option (List ℕ)) : Type 0 where
+pub record Hints (of : Script) (reads written now : Option (List ℕ)) : Type 0 where
   pub script : List ℕ
   pub read : Reads reads script
-  pub printed : Appends written now (hints_of Run (lines_of script))
+  pub printed : Appends written now (hints_of of (lines_of script))
 
 -- a front of them was
-pub record HintsFront (reads written now : Option (List ℕ)) : Type 0 where
+pub record HintsFront (of : Script) (reads written now : Option (List ℕ)) : Type 0 where
   pub script : List ℕ
   pub read : Reads reads script
-  pub printed : AppendsFront written now (hints_of Run (lines_of script))
+  pub printed : AppendsFront written now (hints_of of (lines_of script))
 
 -- The reader has given these bytes, as far as it tells, and has these left. The hints of the lines that they complete were
 -- written, and nothing else
-pub record HintsEnded (reads left written now : Option (List ℕ)) : Type 0 where
+pub record HintsEnded (of : Script) (reads left written now : Option (List ℕ)) : Type 0 where
   pub read : List ℕ
   pub consumed : Consumes reads left read
-  pub printed : Appends written now (hints_of Run (ended_lines read))
+  pub printed : Appends written now (hints_of of (ended_lines read))
 
 -- ---- what was done with the bytes of a script that came so far
 -- The bytes were taken, and this is the text of the hints of the lines that they complete: what follows goes on from there,
@@ -42,15 +42,3 @@ pub record IsTold (past : Past) (part bytes : List ℕ) (hints : ScriptHints) (l
   pub tells : Tells past part bytes now left text
   pub kept : IsKept now hints
   pub appended : new ≡ old ++ text
-
--- or it was written
-pub record IsWritten (past : Past) (part bytes : List ℕ) (hints : ScriptHints) (left : List ℕ) (written new : Option (List ℕ)) : Type 0 where
-  pub now : Past
-  pub text : List ℕ
-  pub tells : Tells past part bytes now left text
-  pub kept : IsKept now hints
-  pub printed : Appends written new text
-
--- or a front of it was, however the script goes on
-abbrev pub IsStoppedIn : Past → List ℕ → List ℕ → Option (List ℕ) → Option (List ℕ) → Type 0
-IsStoppedIn past part bytes written new = (rest : List ℕ) → AppendsFront written new (hints_from past (lines_held last_line part (bytes ++ rest)))

@@ -1,6 +1,10 @@
-//! What would be right in the lines of a script that aren't read, or name a record that isn't there, from any reader to any writer.
+//! What would be right in the lines of a script that aren't made, told while the script is read ([`Hinting`]).
 #![tactic(auto)]
 
 mod hinted;
+mod listening;
+mod telling;
 
-pub use hinted::{hints, hints_from, hints_within};
+pub use listening::Hinting;
+pub use mst_hints::Script;
+pub use telling::Telling;

@@ -1,3 +1,4 @@
+mod ask;
 mod asks;
 mod captures;
 mod devices;

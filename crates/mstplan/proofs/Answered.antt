@@ -12,15 +12,15 @@ use Rattle.mst_tool.specs.printing.declared.form.Form.{Form}
 use Rattle.mst_io.specs.declared.outcome.Outcome.{Outcome}
 use Rattle.mst_io.specs.declared.outcome.RunFault.{RunFault}
 use Rattle.mst_io.specs.declared.outcome.RunFault.TheVariants.{Read, Write, Memory}
-use Rattle.mstplan.specs.Buffered.{EndsAsk, LoadsRead, is_broken}
+use Rattle.mstplan.specs.Buffered.{EndsAsk, is_broken}
 use Rattle.mstplan.proofs.Kept.{front_kept}
 
-module _ (form : Form) (question : Question) (reads : Option (List ℕ)) where
+module _ (form : Form) (question : Question) (reads left : Option (List ℕ)) where
   -- what asking says of the buffer's bytes
   pub record Told (written now : Option (List ℕ)) (r : Result Outcome RunFault) : Type 0 where
     pub ok : IfOk r (Asks form question reads written now)
     pub fault : OnErr r (AsksFront form question reads written now)
-    pub read : r ≡ Err Read → LoadsRead form reads written now
+    pub read : r ≡ Err Read → LoadsEnded (of_script form) reads left written now
     pub memory : r ≡ Err Memory → LoadsScript (of_script form) reads written now
 
   asks_kept : (a b c : Option (List ℕ)) (outcome : Outcome) → Asks form question reads a b outcome → Keeps b c → Asks form question reads a c outcome
@@ -61,8 +61,8 @@ module _ (form : Form) (question : Question) (reads : Option (List ℕ)) where
   asks_front_kept a b c (inl h) k = inl (loads_front_kept a b c h k)
   asks_front_kept a b c (inr h) k = inr (answers_front_kept a b c h k)
 
-  loads_ended_kept : (left a b c : Option (List ℕ)) → LoadsEnded (of_script form) reads left a b → Keeps b c → LoadsEnded (of_script form) reads left a c
-  loads_ended_kept left a b c h k = record { read = h.read; steps = h.steps; consumed = h.consumed; loads = h.loads; printed = Appends-kept a b c (texts_of h.steps) h.printed k; only = h.only }
+  loads_ended_kept : (a b c : Option (List ℕ)) → LoadsEnded (of_script form) reads left a b → Keeps b c → LoadsEnded (of_script form) reads left a c
+  loads_ended_kept a b c h k = record { read = h.read; steps = h.steps; consumed = h.consumed; loads = h.loads; printed = Appends-kept a b c (texts_of h.steps) h.printed k; only = h.only }
 
   loads_script_kept : (a b c : Option (List ℕ)) → LoadsScript (of_script form) reads a b → Keeps b c → LoadsScript (of_script form) reads a c
   loads_script_kept a b c h k = record { script = h.script; steps = h.steps; read = h.read; loads = h.loads; printed = Appends-kept a b c (texts_of h.steps) h.printed k; only = h.only }
@@ -87,19 +87,19 @@ module _ (form : Form) (question : Question) (reads : Option (List ℕ)) where
       })
 
   -- the writer stopped it, and some bytes are held back
-  pub ends_broken : (a b : Option (List ℕ)) (held : List ℕ) (r : Result Outcome RunFault) → is_broken r ≡ true → Told a (append_known b held) r → EndsAsk form question reads a b r
+  pub ends_broken : (a b : Option (List ℕ)) (held : List ℕ) (r : Result Outcome RunFault) → is_broken r ≡ true → Told a (append_known b held) r → EndsAsk form question reads left a b r
   ends_broken a b held (Ok outcome) e told = absurd cc
   ends_broken a b held (Err Read) e told = absurd cc
   ends_broken a b held (Err Write) e told = (held, told.fault)
   ends_broken a b held (Err Memory) e told = absurd cc
 
   -- all that was held back was written
-  pub ends_written : (a b c : Option (List ℕ)) (r : Result Outcome RunFault) → is_broken r ≡ false → Told a b r → Keeps b c → EndsAsk form question reads a c r
+  pub ends_written : (a b c : Option (List ℕ)) (r : Result Outcome RunFault) → is_broken r ≡ false → Told a b r → Keeps b c → EndsAsk form question reads left a c r
   ends_written a b c (Ok outcome) e told k = asks_kept a b c outcome told.ok k
-  ends_written a b c (Err Read) e told k = let h = told.read refl in (h.0, loads_ended_kept h.0 a b c h.1 k)
+  ends_written a b c (Err Read) e told k = loads_ended_kept a b c (told.read refl) k
   ends_written a b c (Err Write) e told k = absurd cc
   ends_written a b c (Err Memory) e told k = loads_script_kept a b c (told.memory refl) k
 
   -- or not all
-  pub ends_lost : (a b c : Option (List ℕ)) (held : List ℕ) (r : Result Outcome RunFault) → Told a b r → Keeps b (append_known c held) → EndsAsk form question reads a c (Err Write)
+  pub ends_lost : (a b c : Option (List ℕ)) (held : List ℕ) (r : Result Outcome RunFault) → Told a b r → Keeps b (append_known c held) → EndsAsk form question reads left a c (Err Write)
   ends_lost a b c held r told k = (held, asks_front_kept a b (append_known c held) (front_told a b r told) k)

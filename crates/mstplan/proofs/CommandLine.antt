@@ -18,225 +18,136 @@ use Rattle.clap.proofs.WalkLemmas.{walk_stopped}
 use Rattle.mst_io.specs.declared.outcome.RunFault.TheVariants.{Memory, Write}
 use Rattle.mstplan.specs.declared.endings.Stop.{Stop}
 use Rattle.mstplan.specs.declared.endings.Stop.TheVariants.{Told, Fault}
-use Rattle.mstplan.specs.Words.{IsAnswer, IsRefusal, Request, asked_by, asked_of, by_one, by_one_to_three, by_port, by_two, check, diff, dot, explain, is_help, is_plain, is_version, program, request_of, run, summary, sweep}
-use Rattle.mstplan.proofs.Leaves.{TakesOne, TakesOneToThree, TakesTwo, fits_one, fits_one_to_three, fits_two}
-use Rattle.mstplan.proofs.PlainWords.{Fits, Passes, at, both_so, found_end, head_plain, is_no_help, leaf, leaf_end, leaf_found, leaf_stray, level, passes_next, passes_none, plain_turn, refuses, step}
+use Rattle.mstplan.specs.Words.{IsAnswer, IsRefusal, IsWrong, Request, are_plain, are_values, ask, asked_by, asked_of, by_one, by_one_to_three, by_port, by_two, check, diff, dot, is_dashes, is_help, is_plain, is_version, program, run, summary, sweep, without_dashes}
+use Rattle.mstplan.proofs.PlainWords.{Fits, IsSingle, both_so, fits_values, is_no_help, leaf, leaf_found, level, plain_dashes, plain_turn, refuses, values_found, values_leaf}
 
 -- ---- run
 
 abbrev run_leaf : Shape
 run_leaf = unwrap_or (slice_get (built program).subs 0) (built program).top
 
-run_takes : TakesOne run_leaf run
+run_single : IsSingle run_leaf
 unfolding clap_on_literals
-run_takes = record { free = refl; goes = λ f. refl; none = refl; one = λ f. refl; finds = λ f. refl; full = λ f later end. refl }
+run_single = refl
+
+run_values : (values : List Text) → Fits (by_one run values) (values_leaf run_leaf values) (values_found run_leaf values)
+unfolding clap_on_literals
+run_values [] = refl
+run_values (f ∷ []) = (refl, refl)
+run_values (f ∷ more ∷ rest) = refl
 
 -- ---- check
 
 abbrev check_leaf : Shape
 check_leaf = unwrap_or (slice_get (built program).subs 1) (built program).top
 
-check_takes : TakesTwo check_leaf check
+check_single : IsSingle check_leaf
 unfolding clap_on_literals
-check_takes = record {
-  free = refl;
-  goes = λ f. refl;
-  free_next = λ f. refl;
-  goes_on = λ f c. refl;
-  none = refl;
-  one = λ f. refl;
-  two = λ f c. refl;
-  finds = λ f c. refl;
-  full = λ f c later end. refl;
-}
+check_single = refl
+
+check_values : (values : List Text) → Fits (by_two check values) (values_leaf check_leaf values) (values_found check_leaf values)
+unfolding clap_on_literals
+check_values [] = refl
+check_values (f ∷ []) = refl
+check_values (f ∷ g ∷ []) = (refl, refl)
+check_values (f ∷ g ∷ more ∷ rest) = refl
 
 -- ---- explain
 
 abbrev explain_leaf : Shape
 explain_leaf = unwrap_or (slice_get (built program).subs 2) (built program).top
 
-abbrev explain_1 : Text → Walk
-explain_1 f = step explain_leaf (at nothing_held 1) f
-
-abbrev explain_2 : Text → Text → Walk
-explain_2 f b = step explain_leaf (explain_1 f) b
-
-abbrev explain_3 : Text → Text → Text → Walk
-explain_3 f b p = step explain_leaf (explain_2 f b) p
-
-abbrev explain_4 : Text → Text → Text → Text → Walk
-explain_4 f b p t = step explain_leaf (explain_3 f b p) t
-
-explain_free_1 : step_fault explain_leaf 1 nothing_held value ≡ []
+explain_single : IsSingle explain_leaf
 unfolding clap_on_literals
-explain_free_1 = refl
+explain_single = refl
 
-explain_free_2 : (f : Text) → step_fault explain_leaf 2 (explain_1 f).held value ≡ []
+explain_values : (values : List Text) → Fits (by_port values) (values_leaf explain_leaf values) (values_found explain_leaf values)
 unfolding clap_on_literals
-explain_free_2 f = refl
-
-explain_free_3 : (f b : Text) → step_fault explain_leaf 3 (explain_2 f b).held value ≡ []
-unfolding clap_on_literals
-explain_free_3 f b = refl
-
-explain_free_4 : (f b p : Text) → step_fault explain_leaf 4 (explain_3 f b p).held value ≡ []
-unfolding clap_on_literals
-explain_free_4 f b p = refl
-
-explain_passes_1 : (f : Text) → is_plain f ≡ true → (words : List Text) (there : Walk) → Passes explain_leaf (explain_1 f) there words → Passes explain_leaf (at nothing_held 1) there (f ∷ words)
-explain_passes_1 f plain words there next = passes_next explain_leaf nothing_held 1 f words there explain_free_1 plain next
-
-explain_passes_2 : (f b : Text) → is_plain f ≡ true → is_plain b ≡ true → (words : List Text) (there : Walk) → Passes explain_leaf (explain_2 f b) there words
-    → Passes explain_leaf (at nothing_held 1) there (f ∷ b ∷ words)
-explain_passes_2 f b first second words there next =
-    explain_passes_1 f first (b ∷ words) there (passes_next explain_leaf (explain_1 f).held 2 b words there (explain_free_2 f) second next)
-
-explain_passes_3 : (f b p : Text) → is_plain f ≡ true → is_plain b ≡ true → is_plain p ≡ true → (words : List Text) (there : Walk) → Passes explain_leaf (explain_3 f b p) there words
-    → Passes explain_leaf (at nothing_held 1) there (f ∷ b ∷ p ∷ words)
-explain_passes_3 f b p first second third words there next =
-    explain_passes_2 f b first second (p ∷ words) there (passes_next explain_leaf (explain_2 f b).held 3 p words there (explain_free_3 f b) third next)
-
-explain_passes_4 : (f b p t : Text) → is_plain f ≡ true → is_plain b ≡ true → is_plain p ≡ true → is_plain t ≡ true
-    → Passes explain_leaf (at nothing_held 1) (explain_4 f b p t) (f ∷ b ∷ p ∷ t ∷ [])
-explain_passes_4 f b p t first second third fourth =
-    explain_passes_3 f b p first second third (t ∷ []) (explain_4 f b p t)
-    (passes_next explain_leaf (explain_3 f b p).held 4 t [] (explain_4 f b p t) (explain_free_4 f b p) fourth (passes_none explain_leaf (explain_4 f b p t)))
-
-explain_none_refused : refuses (leaf explain_leaf []) ≡ true
-unfolding clap_on_literals
-explain_none_refused = refl
-
-explain_one_refused : (f : Text) → refuses (level explain_leaf (walk_fault explain_leaf [] (explain_1 f) []) [] false (explain_1 f).held) ≡ true
-unfolding clap_on_literals
-explain_one_refused f = refl
-
-explain_two_refused : (f b : Text) → refuses (level explain_leaf (walk_fault explain_leaf [] (explain_2 f b) []) [] false (explain_2 f b).held) ≡ true
-unfolding clap_on_literals
-explain_two_refused f b = refl
-
-explain_three_faultless : (f b p : Text) → level explain_leaf (walk_fault explain_leaf [] (explain_3 f b p) []) [] false (explain_3 f b p).held ≡ []
-unfolding clap_on_literals
-explain_three_faultless f b p = refl
-
-explain_three_found : (f b p : Text) → request_of explain_leaf.name (finished explain_leaf.rules (explain_3 f b p).held) ≡ explain f b p None
-unfolding clap_on_literals
-explain_three_found f b p = refl
-
-explain_four_faultless : (f b p t : Text) → level explain_leaf (walk_fault explain_leaf [] (explain_4 f b p t) []) [] false (explain_4 f b p t).held ≡ []
-unfolding clap_on_literals
-explain_four_faultless f b p t = refl
-
-explain_four_found : (f b p t : Text) → request_of explain_leaf.name (finished explain_leaf.rules (explain_4 f b p t).held) ≡ explain f b p (Some t)
-unfolding clap_on_literals
-explain_four_found f b p t = refl
-
-explain_stray : (f b p t : Text) (later : Kinds) (end : Held) → refuses (level explain_leaf (or_else (step_fault explain_leaf 5 (explain_4 f b p t).held value) later) [] false end) ≡ true
-unfolding clap_on_literals
-explain_stray f b p t later end = refl
-
-explain_fits : (words : List Text) → list_all is_plain words ≡ true → Fits (by_port words) (leaf explain_leaf words) (leaf_found explain_leaf words)
-explain_fits [] h = explain_none_refused
-explain_fits (f ∷ []) h =
-    ap refuses (leaf_end explain_leaf (f ∷ []) (explain_1 f) (explain_passes_1 f (head_plain f [] h).0 [] (explain_1 f) (passes_none explain_leaf (explain_1 f)))) ∙ explain_one_refused f
-explain_fits (f ∷ b ∷ []) h =
-    let first = head_plain f (b ∷ []) h in
-    let second = head_plain b [] first.1 in
-    ap refuses (leaf_end explain_leaf (f ∷ b ∷ []) (explain_2 f b) (explain_passes_2 f b first.0 second.0 [] (explain_2 f b) (passes_none explain_leaf (explain_2 f b)))) ∙ explain_two_refused f b
-explain_fits (f ∷ b ∷ p ∷ []) h =
-    let first = head_plain f (b ∷ p ∷ []) h in
-    let second = head_plain b (p ∷ []) first.1 in
-    let third = head_plain p [] second.1 in
-    let passes = explain_passes_3 f b p first.0 second.0 third.0 [] (explain_3 f b p) (passes_none explain_leaf (explain_3 f b p)) in (
-      leaf_end explain_leaf (f ∷ b ∷ p ∷ []) (explain_3 f b p) passes ∙ explain_three_faultless f b p,
-      found_end explain_leaf (f ∷ b ∷ p ∷ []) (explain_3 f b p) passes ∙ explain_three_found f b p,
-    )
-explain_fits (f ∷ b ∷ p ∷ t ∷ []) h =
-    let first = head_plain f (b ∷ p ∷ t ∷ []) h in
-    let second = head_plain b (p ∷ t ∷ []) first.1 in
-    let third = head_plain p (t ∷ []) second.1 in
-    let fourth = head_plain t [] third.1 in
-    let passes = explain_passes_4 f b p t first.0 second.0 third.0 fourth.0 in (
-      leaf_end explain_leaf (f ∷ b ∷ p ∷ t ∷ []) (explain_4 f b p t) passes ∙ explain_four_faultless f b p t,
-      found_end explain_leaf (f ∷ b ∷ p ∷ t ∷ []) (explain_4 f b p t) passes ∙ explain_four_found f b p t,
-    )
-explain_fits (f ∷ b ∷ p ∷ t ∷ g ∷ rest) h =
-    let first = head_plain f (b ∷ p ∷ t ∷ g ∷ rest) h in
-    let second = head_plain b (p ∷ t ∷ g ∷ rest) first.1 in
-    let third = head_plain p (t ∷ g ∷ rest) second.1 in
-    let fourth = head_plain t (g ∷ rest) third.1 in
-    let fifth = head_plain g rest fourth.1 in
-    leaf_stray explain_leaf (f ∷ b ∷ p ∷ t ∷ []) (explain_4 f b p t).held 5 g rest (explain_passes_4 f b p t first.0 second.0 third.0 fourth.0) fifth.0 (explain_stray f b p t)
+explain_values [] = refl
+explain_values (f ∷ []) = refl
+explain_values (f ∷ b ∷ []) = refl
+explain_values (f ∷ b ∷ p ∷ []) = (refl, refl)
+explain_values (f ∷ b ∷ p ∷ t ∷ []) = (refl, refl)
+explain_values (f ∷ b ∷ p ∷ t ∷ more ∷ rest) = refl
 
 -- ---- diff
 
 abbrev diff_leaf : Shape
 diff_leaf = unwrap_or (slice_get (built program).subs 3) (built program).top
 
-diff_takes : TakesTwo diff_leaf diff
+diff_single : IsSingle diff_leaf
 unfolding clap_on_literals
-diff_takes = record {
-  free = refl;
-  goes = λ f. refl;
-  free_next = λ f. refl;
-  goes_on = λ f g. refl;
-  none = refl;
-  one = λ f. refl;
-  two = λ f g. refl;
-  finds = λ f g. refl;
-  full = λ f g later end. refl;
-}
+diff_single = refl
+
+diff_values : (values : List Text) → Fits (by_two diff values) (values_leaf diff_leaf values) (values_found diff_leaf values)
+unfolding clap_on_literals
+diff_values [] = refl
+diff_values (f ∷ []) = refl
+diff_values (f ∷ g ∷ []) = (refl, refl)
+diff_values (f ∷ g ∷ more ∷ rest) = refl
 
 -- ---- sweep
 
 abbrev sweep_leaf : Shape
 sweep_leaf = unwrap_or (slice_get (built program).subs 4) (built program).top
 
-sweep_takes : TakesOneToThree sweep_leaf sweep
+sweep_single : IsSingle sweep_leaf
 unfolding clap_on_literals
-sweep_takes = record {
-  free = refl;
-  goes = λ f. refl;
-  free_next = λ f. refl;
-  goes_on = λ f p. refl;
-  free_third = λ f p. refl;
-  goes_further = λ f p k. refl;
-  none = refl;
-  one = λ f. refl;
-  finds_one = λ f. refl;
-  two = λ f p. refl;
-  finds_two = λ f p. refl;
-  three = λ f p k. refl;
-  finds = λ f p k. refl;
-  full = λ f p k later end. refl;
-}
+sweep_single = refl
+
+sweep_values : (values : List Text) → Fits (by_one_to_three sweep values) (values_leaf sweep_leaf values) (values_found sweep_leaf values)
+unfolding clap_on_literals
+sweep_values [] = refl
+sweep_values (f ∷ []) = (refl, refl)
+sweep_values (f ∷ g ∷ []) = (refl, refl)
+sweep_values (f ∷ g ∷ k ∷ []) = (refl, refl)
+sweep_values (f ∷ g ∷ k ∷ more ∷ rest) = refl
 
 -- ---- summary
 
 abbrev summary_leaf : Shape
 summary_leaf = unwrap_or (slice_get (built program).subs 5) (built program).top
 
-summary_takes : TakesOne summary_leaf summary
+summary_single : IsSingle summary_leaf
 unfolding clap_on_literals
-summary_takes = record { free = refl; goes = λ f. refl; none = refl; one = λ f. refl; finds = λ f. refl; full = λ f later end. refl }
+summary_single = refl
+
+summary_values : (values : List Text) → Fits (by_one summary values) (values_leaf summary_leaf values) (values_found summary_leaf values)
+unfolding clap_on_literals
+summary_values [] = refl
+summary_values (f ∷ []) = (refl, refl)
+summary_values (f ∷ more ∷ rest) = refl
 
 -- ---- dot
 
 abbrev dot_leaf : Shape
 dot_leaf = unwrap_or (slice_get (built program).subs 6) (built program).top
 
-dot_takes : TakesTwo dot_leaf dot
+dot_single : IsSingle dot_leaf
 unfolding clap_on_literals
-dot_takes = record {
-  free = refl;
-  goes = λ f. refl;
-  free_next = λ f. refl;
-  goes_on = λ f t. refl;
-  none = refl;
-  one = λ f. refl;
-  two = λ f t. refl;
-  finds = λ f t. refl;
-  full = λ f t later end. refl;
-}
+dot_single = refl
+
+dot_values : (values : List Text) → Fits (by_two dot values) (values_leaf dot_leaf values) (values_found dot_leaf values)
+unfolding clap_on_literals
+dot_values [] = refl
+dot_values (f ∷ []) = refl
+dot_values (f ∷ g ∷ []) = (refl, refl)
+dot_values (f ∷ g ∷ more ∷ rest) = refl
+
+-- ---- ask
+
+abbrev ask_leaf : Shape
+ask_leaf = unwrap_or (slice_get (built program).subs 7) (built program).top
+
+ask_single : IsSingle ask_leaf
+unfolding clap_on_literals
+ask_single = refl
+
+ask_values : (values : List Text) → Fits (by_one ask values) (values_leaf ask_leaf values) (values_found ask_leaf values)
+unfolding clap_on_literals
+ask_values [] = refl
+ask_values (f ∷ []) = (refl, refl)
+ask_values (f ∷ more ∷ rest) = refl
 
 -- ---- the words of the program
 
@@ -257,7 +168,7 @@ abbrev found : List Text → Request
 found words = asked_of (entered (built program) (stop_after (built program).top.rules names words))
 
 abbrev FitsWords : List Text → Type 0
-FitsWords words = Fits (asked_by words) (faults words) (found words)
+FitsWords words = Fits (asked_by (without_dashes words)) (faults words) (found words)
 
 or_else-nil : (kinds : Kinds) → or_else kinds [] ≡ kinds
 or_else-nil [] = refl
@@ -277,6 +188,10 @@ command_faults : (command : Text) (rest : List Text) → walked (built program).
 unfolding walk_fault
 command_faults command rest stops none =
     ap₂ (λ t (w : Walk). or_else t (walk_fault (built program).top names w rest)) none stops ∙ stopped_fault (built program).top names (walk_from nothing_held) (command, []) rest
+
+-- `--` isn't the first word
+no_dashes : (word : Text) (words : List Text) → is_dashes word ≡ false → without_dashes (word ∷ words) ≡ word ∷ without_dashes words
+no_dashes word words e = ap (λ (x : Bool). if x then words else word ∷ without_dashes words) e
 
 -- this command is one of the program, and these are its words
 record IsCommand (command : Text) (s : Shape) : Type 0 where
@@ -313,13 +228,20 @@ dot_command : IsCommand (codes "dot") dot_leaf
 unfolding clap_on_literals
 dot_command = record { stops = refl; faultless = refl; is_whole = λ rest. refl; is_found = λ rest. refl }
 
+ask_command : IsCommand (codes "ask") ask_leaf
+unfolding clap_on_literals
+ask_command = record { stops = refl; faultless = refl; is_whole = λ rest. refl; is_found = λ rest. refl }
+
 -- a command, by what its own words come to
-fits_command : (command : Text) (s : Shape) (rest : List Text) → IsCommand command s → Fits (asked_by (command ∷ rest)) (leaf s rest) (leaf_found s rest) → FitsWords (command ∷ rest)
-fits_command command s rest is fits =
+fits_command : (command : Text) (s : Shape) (rest : List Text) → IsCommand command s → is_dashes command ≡ false → Fits (asked_by (command ∷ without_dashes rest)) (leaf s rest) (leaf_found s rest) → FitsWords (command ∷ rest)
+fits_command command s rest is plain fits =
+    let asks = asked_by (command ∷ without_dashes rest) in
     let goes = at_command command rest is.stops in
     let kinds = ap₂ whole (command_faults command rest is.stops is.faultless) goes ∙ is.is_whole rest ∙ or_else-nil (leaf s rest) in
     let finds = ap whole_found goes ∙ is.is_found rest in
-    subst (λ k. Fits (asked_by (command ∷ rest)) k (found (command ∷ rest))) (sym kinds) (subst (Fits (asked_by (command ∷ rest)) (leaf s rest)) (sym finds) fits)
+    subst (λ (k : Kinds). Fits (asked_by (without_dashes (command ∷ rest))) k (found (command ∷ rest))) (sym kinds)
+    (subst (Fits (asked_by (without_dashes (command ∷ rest))) (leaf s rest)) (sym finds)
+    (subst (λ (asks : Option Request). Fits asks (leaf s rest) (leaf_found s rest)) (sym (ap asked_by (no_dashes command rest plain))) fits))
 
 -- ---- a word that is no command
 
@@ -331,6 +253,7 @@ record IsOther (command : Text) : Type 0 where
   not_sweep : bytes_eq (codes "sweep") command ≡ false
   not_summary : bytes_eq (codes "summary") command ≡ false
   not_dot : bytes_eq (codes "dot") command ≡ false
+  not_ask : bytes_eq (codes "ask") command ≡ false
 
 -- what is found where the first isn't
 abbrev met_or : Text → Bool → Option (Text × List Text) → Option (Text × List Text)
@@ -344,7 +267,8 @@ unfolding clap_on_literals
 names_none command other =
     ap (option_map (λ (s : Text × List Text). s.0))
     (unmet (codes "run") _ _ other.not_run ∙ unmet (codes "check") _ _ other.not_check ∙ unmet (codes "explain") _ _ other.not_explain ∙ unmet (codes "diff") _ _ other.not_diff
-    ∙ unmet (codes "sweep") _ _ other.not_sweep ∙ unmet (codes "summary") _ _ other.not_summary ∙ unmet (codes "dot") _ _ other.not_dot)
+    ∙ unmet (codes "sweep") _ _ other.not_sweep ∙ unmet (codes "summary") _ _ other.not_summary ∙ unmet (codes "dot") _ _ other.not_dot
+    ∙ unmet (codes "ask") _ _ other.not_ask)
 
 stray_refused : (more : Kinds) (end : Walk) → refuses (whole (or_else (step_fault (built program).top 1 nothing_held value) more) end) ≡ true
 unfolding clap_on_literals
@@ -372,10 +296,12 @@ asks_none command rest other =
     ∙ unless (bytes_eq (codes "sweep") command) (by_one_to_three sweep rest) _ other.not_sweep
     ∙ unless (bytes_eq (codes "summary") command) (by_one summary rest) _ other.not_summary
     ∙ unless (bytes_eq (codes "dot") command) (by_two dot rest) _ other.not_dot
+    ∙ unless (bytes_eq (codes "ask") command) (by_one ask rest) _ other.not_ask
 
 fits_other : (command : Text) (rest : List Text) → is_plain command ≡ true → IsOther command → FitsWords (command ∷ rest)
 fits_other command rest plain other =
-    subst (λ asked. Fits asked (faults (command ∷ rest)) (found (command ∷ rest))) (sym (asks_none command rest other)) (other_refused command rest plain (names_none command other))
+    subst (λ (asks : Option Request). Fits asks (faults (command ∷ rest)) (found (command ∷ rest)))
+    (sym (ap asked_by (no_dashes command rest (plain_dashes command plain)) ∙ asks_none command (without_dashes rest) other)) (other_refused command rest plain (names_none command other))
 
 -- ---- the words behind the program's name
 
@@ -391,21 +317,23 @@ is_or_not name command rest fits other = go (bytes_eq name command) refl
     go true e = subst (λ c. FitsWords (c ∷ rest)) ((bytes_eq-Decides name command).0 e) fits
     go false e = other e
 
-words_fit : (words : List Text) → list_all is_plain words ≡ true → FitsWords words
+words_fit : (words : List Text) → are_plain words ≡ true → FitsWords words
 words_fit [] h = fits_none
 words_fit (command ∷ rest) h =
-    let plain = head_plain command rest h in
-    is_or_not (codes "run") command rest (fits_command (codes "run") run_leaf rest run_command (fits_one run_leaf run run_takes rest plain.1))
-    (λ r. is_or_not (codes "check") command rest (fits_command (codes "check") check_leaf rest check_command (fits_two check_leaf check check_takes rest plain.1))
-    (λ c. is_or_not (codes "explain") command rest (fits_command (codes "explain") explain_leaf rest explain_command (explain_fits rest plain.1))
-    (λ e. is_or_not (codes "diff") command rest (fits_command (codes "diff") diff_leaf rest diff_command (fits_two diff_leaf diff diff_takes rest plain.1))
-    (λ d. is_or_not (codes "sweep") command rest (fits_command (codes "sweep") sweep_leaf rest sweep_command (fits_one_to_three sweep_leaf sweep sweep_takes rest plain.1))
-    (λ s. is_or_not (codes "summary") command rest (fits_command (codes "summary") summary_leaf rest summary_command (fits_one summary_leaf summary summary_takes rest plain.1))
-    (λ m. is_or_not (codes "dot") command rest (fits_command (codes "dot") dot_leaf rest dot_command (fits_two dot_leaf dot dot_takes rest plain.1))
-    (λ p. fits_other command rest plain.0 (record { not_run = r; not_check = c; not_explain = e; not_diff = d; not_sweep = s; not_summary = m; not_dot = p }))))))))
+    let both = both_so (is_plain command) (are_values rest) h in
+    let values = both.1 in
+    is_or_not (codes "run") command rest (fits_command (codes "run") run_leaf rest run_command refl (fits_values run_leaf run_single (by_one run) rest values run_values))
+    (λ r. is_or_not (codes "check") command rest (fits_command (codes "check") check_leaf rest check_command refl (fits_values check_leaf check_single (by_two check) rest values check_values))
+    (λ c. is_or_not (codes "explain") command rest (fits_command (codes "explain") explain_leaf rest explain_command refl (fits_values explain_leaf explain_single (by_port) rest values explain_values))
+    (λ e. is_or_not (codes "diff") command rest (fits_command (codes "diff") diff_leaf rest diff_command refl (fits_values diff_leaf diff_single (by_two diff) rest values diff_values))
+    (λ d. is_or_not (codes "sweep") command rest (fits_command (codes "sweep") sweep_leaf rest sweep_command refl (fits_values sweep_leaf sweep_single (by_one_to_three sweep) rest values sweep_values))
+    (λ s. is_or_not (codes "summary") command rest (fits_command (codes "summary") summary_leaf rest summary_command refl (fits_values summary_leaf summary_single (by_one summary) rest values summary_values))
+    (λ m. is_or_not (codes "dot") command rest (fits_command (codes "dot") dot_leaf rest dot_command refl (fits_values dot_leaf dot_single (by_two dot) rest values dot_values))
+    (λ p. is_or_not (codes "ask") command rest (fits_command (codes "ask") ask_leaf rest ask_command refl (fits_values ask_leaf ask_single (by_one ask) rest values ask_values))
+    (λ a. fits_other command rest both.0 (record { not_run = r; not_check = c; not_explain = e; not_diff = d; not_sweep = s; not_summary = m; not_dot = p; not_ask = a })))))))))
 
 -- the same of all the words, the program's name first
-pub all_fit : (words : List Text) → list_all is_plain (drop 1 words) ≡ true → Fits (asked_by (drop 1 words)) (fault_of program words) (asked_of (subcommand_of program words))
+pub all_fit : (words : List Text) → are_plain (drop 1 words) ≡ true → Fits (asked_by (without_dashes (drop 1 words))) (fault_of program words) (asked_of (subcommand_of program words))
 all_fit words h = words_fit (drop 1 words) h
 
 -- what is among such faults is no call for help or the version
@@ -501,16 +429,17 @@ pub fits_asks : (asked : Option Request) (kinds : Kinds) (found : Request) → F
 fits_asks (Some asks) kinds found fit e = ap Some (sym fit.1)
 fits_asks None kinds found fit e = absurd (false≢true (sym (ap refuses e) ∙ fit))
 
-pub memory_refuses : (asked : Option Request) → IsRefusal asked (Fault Memory)
-memory_refuses (Some asks) = refl
-memory_refuses None = inr refl
+module _ (IsThere : Text → Type 0) (words : List Text) where
+  pub memory_refuses : (asked : Option Request) → IsRefusal IsThere words asked (Fault Memory)
+  memory_refuses (Some asks) = refl
+  memory_refuses None = inr refl
 
--- words with a fault are refused, and others only for want of memory
-pub told_refuses : (asked : Option Request) (kinds : Kinds) (found : Request) (kind : ErrorKind) (stop : Stop) → Fits asked kinds found → (kind ≡ OutOfMemory) ⊎ IsAmong kind kinds
-    → (kind ≡ OutOfMemory → stop ≡ Fault Memory) → (kind ≢ DisplayHelp → kind ≢ DisplayVersion → (stop ≡ Told 2) ⊎ (stop ≡ Fault Memory)) → IsRefusal asked stop
-told_refuses (Some asks) kinds found kind stop fit (inl lacks) memory other = memory lacks
-told_refuses (Some asks) kinds found kind stop fit (inr among) memory other = absurd (subst (IsAmong kind) fit.0 among)
-told_refuses None kinds found kind stop fit (inl lacks) memory other = inr (memory lacks)
-told_refuses None kinds found kind stop fit (inr among) memory other =
-    let calls_none = among_refuses kinds kind fit among in
-    other (λ e. false≢true (sym (ap is_no_help e) ∙ calls_none)) (λ e. false≢true (sym (ap is_no_help e) ∙ calls_none))
+  -- words with a fault are refused, and others only for want of memory
+  pub told_refuses : (asked : Option Request) (kinds : Kinds) (found : Request) (kind : ErrorKind) (stop : Stop) → Fits asked kinds found → (kind ≡ OutOfMemory) ⊎ IsAmong kind kinds
+      → (kind ≡ OutOfMemory → stop ≡ Fault Memory) → (kind ≢ DisplayHelp → kind ≢ DisplayVersion → IsWrong IsThere words stop ⊎ (stop ≡ Fault Memory)) → IsRefusal IsThere words asked stop
+  told_refuses (Some asks) kinds found kind stop fit (inl lacks) memory other = memory lacks
+  told_refuses (Some asks) kinds found kind stop fit (inr among) memory other = absurd (subst (IsAmong kind) fit.0 among)
+  told_refuses None kinds found kind stop fit (inl lacks) memory other = inr (memory lacks)
+  told_refuses None kinds found kind stop fit (inr among) memory other =
+      let calls_none = among_refuses kinds kind fit among in
+      other (λ e. false≢true (sym (ap is_no_help e) ∙ calls_none)) (λ e. false≢true (sym (ap is_no_help e) ∙ calls_none))

@@ -1,22 +1,23 @@
--- How a comparison of two inputs ends that goes through a buffer.
+-- How what is told of two inputs ends that goes through a buffer.
 use Rattle.std.proofs.Common.{◌≡◌, ℕ, List, [], ◌++◌, Option, Result, Ok, Err, true, false, refl, sym, subst, append-nil, inl, inr}
 use Rattle.std.specs.Prelude.{IfOk, OnErr}
 use Rattle.std.specs.Io.KnownBytes.{Keeps, append_known}
 use Rattle.std.proofs.KnownBytes.{Appends-kept}
 use Rattle.mst_tool.specs.Check.{Checks, ChecksFront, ChecksEnded, ComparesEnded, ChecksScript}
 use Rattle.mst_tool.specs.Diff.{Diffs, DiffsFront, DiffsEnded, DiffsScripts, LoadsNewEnded, both_texts}
-use Rattle.mst_tool.specs.Load.{LoadsEnded}
+use Rattle.mst_tool.specs.Load.{LoadsEnded, LoadsFront}
+use Rattle.mst_ask.specs.Asking.{Stands, StandsEnded, StandsFront, printed_by}
 use Rattle.mst_tool.specs.Run.{PrintsEnded}
-use Rattle.mst_tool.specs.printing.Shape.{of_old}
+use Rattle.mst_tool.specs.printing.Shape.{of_old, of_script}
 use Rattle.mst_tool.specs.engine.Steps.{texts_of}
 use Rattle.mst_tool.specs.printing.declared.form.Form.{Form}
 use Rattle.mst_io.specs.declared.outcome.Outcome.{Outcome}
 use Rattle.mst_io.specs.declared.outcome.RunFault.{RunFault}
 use Rattle.mst_io.specs.declared.outcome.RunFault.TheVariants.{Read, Write, Memory}
 use Rattle.mstplan.specs.declared.compared.Comparison.{Comparison}
-use Rattle.mstplan.specs.declared.compared.Comparison.TheVariants.{Captures, Networks}
+use Rattle.mstplan.specs.declared.compared.Comparison.TheVariants.{Captures, Networks, Questions}
 use Rattle.mstplan.specs.Buffered.{is_broken}
-use Rattle.mstplan.specs.Compared.{Compared, ComparedEnded, ComparedFront, ComparedRead, ComparedScripts, EndsComparison}
+use Rattle.mstplan.specs.Compared.{Compared, ComparedEnded, ComparedFront, ComparedScripts, EndsComparison}
 use Rattle.mstplan.proofs.Kept.{front_kept}
 
 -- ---- captures
@@ -151,35 +152,72 @@ module _ (form : Form) (olds news : Option (List ℕ)) where
 pub diffs_scripts_same : (form : Form) (olds news a b c d : Option (List ℕ)) → a ≡ c → b ≡ d → DiffsScripts form olds news a b → DiffsScripts form olds news c d
 diffs_scripts_same form olds news a b c d x y h = subst (λ now. DiffsScripts form olds news c now) y (subst (λ written. DiffsScripts form olds news written b) x h)
 
+-- ---- questions
+
+module _ (form : Form) (scripts questions : Option (List ℕ)) where
+  stands_kept : (a b c : Option (List ℕ)) (outcome : Outcome) → Stands form scripts questions a b outcome → Keeps b c → Stands form scripts questions a c outcome
+  stands_kept a b c outcome h k = record {
+    asked = h.asked;
+    answers = h.answers;
+    questions_read = h.questions_read;
+    printed = Appends-kept a b c (printed_by h.answers) h.printed k;
+    memory = h.memory;
+    refused = h.refused;
+    differing = h.differing;
+  }
+
+  stands_scripts_kept : (a b c : Option (List ℕ)) → LoadsFront (of_script form) scripts a b → Keeps b c → LoadsFront (of_script form) scripts a c
+  stands_scripts_kept a b c h k = record { script = h.script; steps = h.steps; read = h.read; loads = h.loads; printed = front_kept a b c (texts_of h.steps) h.printed k; only = h.only }
+
+  stands_front_kept : (a b c : Option (List ℕ)) → StandsFront form scripts questions a b → Keeps b c → StandsFront form scripts questions a c
+  stands_front_kept a b c (inl h) k = inl (stands_scripts_kept a b c h k)
+  stands_front_kept a b c (inr h) k = inr (record { asked = h.asked; answers = h.answers; questions_read = h.questions_read; printed = front_kept a b c (printed_by h.answers) h.printed k })
+
+  -- what was written in full is a front of it
+  stands_front : (a b : Option (List ℕ)) (outcome : Outcome) → Stands form scripts questions a b outcome → StandsFront form scripts questions a b
+  stands_front a b outcome h =
+      let text = printed_by h.answers in
+      inr (record { asked = h.asked; answers = h.answers; questions_read = h.questions_read; printed = record { front = text; rest = []; whole = sym (append-nil text); written = h.printed } })
+
+  stands_ended_kept : (left other_left a b c : Option (List ℕ)) → StandsEnded form scripts left questions other_left a b → Keeps b c → StandsEnded form scripts left questions other_left a c
+  stands_ended_kept left other_left a b c (inl h) k =
+      inl (record { read = h.read; steps = h.steps; consumed = h.consumed; loads = h.loads; printed = Appends-kept a b c (texts_of h.steps) h.printed k; only = h.only })
+  stands_ended_kept left other_left a b c (inr h) k = inr (record { read = h.read; answers = h.answers; consumed = h.consumed; printed = Appends-kept a b c (printed_by h.answers) h.printed k })
+
 -- ---- either
 
 module _ (first second : Option (List ℕ)) where
   compared_kept : (how : Comparison) (a b c : Option (List ℕ)) (outcome : Outcome) → Compared how first second a b outcome → Keeps b c → Compared how first second a c outcome
   compared_kept (Captures form) a b c outcome h k = checks_kept form first second a b c outcome h k
   compared_kept (Networks form) a b c outcome h k = diffs_kept form first second a b c outcome h k
+  compared_kept (Questions form) a b c outcome h k = stands_kept form first second a b c outcome h k
 
   compared_front_kept : (how : Comparison) (a b c : Option (List ℕ)) → ComparedFront how first second a b → Keeps b c → ComparedFront how first second a c
   compared_front_kept (Captures form) a b c h k = checks_front_kept form first second a b c h k
   compared_front_kept (Networks form) a b c h k = diffs_front_kept form first second a b c h k
+  compared_front_kept (Questions form) a b c h k = stands_front_kept form first second a b c h k
 
   compared_front : (how : Comparison) (a b : Option (List ℕ)) (outcome : Outcome) → Compared how first second a b outcome → ComparedFront how first second a b
   compared_front (Captures form) a b outcome h = checks_front form first second a b outcome h
   compared_front (Networks form) a b outcome h = diffs_front form first second a b outcome h
+  compared_front (Questions form) a b outcome h = stands_front form first second a b outcome h
 
   compared_ended_kept : (how : Comparison) (left other_left a b c : Option (List ℕ)) → ComparedEnded how first left second other_left a b → Keeps b c → ComparedEnded how first left second other_left a c
   compared_ended_kept (Captures form) left other_left a b c h k = checks_ended_kept form first second left other_left a b c h k
   compared_ended_kept (Networks form) left other_left a b c h k = diffs_ended_kept form first second left other_left a b c h k
+  compared_ended_kept (Questions form) left other_left a b c h k = stands_ended_kept form first second left other_left a b c h k
 
   compared_scripts_kept : (how : Comparison) (a b c : Option (List ℕ)) → ComparedScripts how first second a b → Keeps b c → ComparedScripts how first second a c
   compared_scripts_kept (Captures form) a b c h k = checks_script_kept form first second a b c h k
   compared_scripts_kept (Networks form) a b c h k = diffs_scripts_kept form first second a b c h k
+  compared_scripts_kept (Questions form) a b c h k = stands_scripts_kept form first second a b c h k
 
-module _ (how : Comparison) (first second : Option (List ℕ)) where
+module _ (how : Comparison) (first first_left second second_left : Option (List ℕ)) where
   -- what a comparison says of the buffer's bytes
   pub record Told (written now : Option (List ℕ)) (r : Result Outcome RunFault) : Type 0 where
     pub ok : IfOk r (Compared how first second written now)
     pub fault : OnErr r (ComparedFront how first second written now)
-    pub read : r ≡ Err Read → ComparedRead how first second written now
+    pub read : r ≡ Err Read → ComparedEnded how first first_left second second_left written now
     pub memory : r ≡ Err Memory → ComparedScripts how first second written now
 
   front_told : (a b : Option (List ℕ)) (r : Result Outcome RunFault) → Told a b r → ComparedFront how first second a b
@@ -187,19 +225,19 @@ module _ (how : Comparison) (first second : Option (List ℕ)) where
   front_told a b (Ok outcome) told = compared_front first second how a b outcome told.ok
 
   -- the writer stopped it, and some bytes are held back
-  pub ends_broken : (a b : Option (List ℕ)) (held : List ℕ) (r : Result Outcome RunFault) → is_broken r ≡ true → Told a (append_known b held) r → EndsComparison how first second a b r
+  pub ends_broken : (a b : Option (List ℕ)) (held : List ℕ) (r : Result Outcome RunFault) → is_broken r ≡ true → Told a (append_known b held) r → EndsComparison how first first_left second second_left a b r
   ends_broken a b held (Ok outcome) e told = absurd cc
   ends_broken a b held (Err Read) e told = absurd cc
   ends_broken a b held (Err Write) e told = (held, told.fault)
   ends_broken a b held (Err Memory) e told = absurd cc
 
   -- all that was held back was written
-  pub ends_written : (a b c : Option (List ℕ)) (r : Result Outcome RunFault) → is_broken r ≡ false → Told a b r → Keeps b c → EndsComparison how first second a c r
+  pub ends_written : (a b c : Option (List ℕ)) (r : Result Outcome RunFault) → is_broken r ≡ false → Told a b r → Keeps b c → EndsComparison how first first_left second second_left a c r
   ends_written a b c (Ok outcome) e told k = compared_kept first second how a b c outcome told.ok k
-  ends_written a b c (Err Read) e told k = let h = told.read refl in (h.0, h.1, compared_ended_kept first second how h.0 h.1 a b c h.2 k)
+  ends_written a b c (Err Read) e told k = compared_ended_kept first second how first_left second_left a b c (told.read refl) k
   ends_written a b c (Err Write) e told k = absurd cc
   ends_written a b c (Err Memory) e told k = compared_scripts_kept first second how a b c (told.memory refl) k
 
   -- or not all
-  pub ends_lost : (a b c : Option (List ℕ)) (held : List ℕ) (r : Result Outcome RunFault) → Told a b r → Keeps b (append_known c held) → EndsComparison how first second a c (Err Write)
+  pub ends_lost : (a b c : Option (List ℕ)) (held : List ℕ) (r : Result Outcome RunFault) → Told a b r → Keeps b (append_known c held) → EndsComparison how first first_left second second_left a c (Err Write)
   ends_lost a b c held r told k = (held, compared_front_kept first second how a b (append_known c held) (front_told a b r told) k)

@@ -3,8 +3,10 @@ pub mod CommandLine
 pub mod Comparisons
 pub mod Entered
 pub mod Kept
-pub mod Leaves
 pub mod Names
 pub mod PlainWords
 pub mod Flagged
-pub mod Hints
+pub mod Hinted
+pub mod Shown
+pub mod Parting
+pub mod Moved

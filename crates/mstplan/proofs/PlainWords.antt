@@ -1,18 +1,20 @@
 -- How words are walked over that aren't options, and what those of a command come to.
-use Rattle.std.proofs.Common.{◌≡◌, ◌==◌, ℕ, Bool, true, false, not, List, [], ◌∷◌, ◌++◌, Option, Some, None, refl, sym, ap, ap₂, ◌∙◌, append-nil}
-use Rattle.std.specs.Prelude.{◌&&◌, if◌then◌else◌, option_and_then, fold}
+use Rattle.std.proofs.Common.{◌≡◌, ◌==◌, ℕ, Bool, true, false, not, List, [], ◌∷◌, Option, Some, None, codes, refl, sym, ap, ap₂, subst, ◌∙◌}
+use Rattle.std.specs.Prelude.{◌&&◌, ◌||◌, if◌then◌else◌, option_and_then, fold, find}
 use Rattle.std.specs.List.{list_all}
 use Rattle.std.specs.Option.{option_map_or}
 use Rattle.std.specs.Str.{bytes_eq}
 use Rattle.std.proofs.lemmas.Bool.{false≢true}
+use Rattle.std.proofs.lemmas.Option.{none-some, same_Some}
+use Rattle.std.proofs.lemmas.Slice.Eq.{bytes_eq-Decides}
 use Rattle.clap.specs.Words.{Rule, Shape, Text}
 use Rattle.clap.specs.Faults.{bundle_fault, check_fault, defaults_fault, flag_word_fault, level_fault, other_fault, settle_fault, step_fault, turn_fault, walk_fault, word_fault}
 use Rattle.clap.specs.Kinds.{Kinds, or_else}
 use Rattle.clap.specs.declared.error.kind.ErrorKind.{ErrorKind}
 use Rattle.clap.specs.declared.error.kind.ErrorKind.TheVariants.{DisplayHelp, DisplayVersion}
 use Rattle.clap.specs.Lexer.{long_of, long_of_rest, short_of, short_of_rest, strip_byte}
-use Rattle.clap.specs.Walk.{Held, Names as Labels, Step, Walk, after_step, finished, idle, long_or_other, nothing_held, rows_after, settled, short_or_plain, subcommand_met, subcommand_or_other, trailing, value, walk, walked, word_met}
-use Rattle.mstplan.specs.Words.{Request, is_plain, request_of}
+use Rattle.clap.specs.Walk.{Held, Names as Labels, Step, Walk, after_step, arg_by_index, finished, idle, is_multiple, long_or_other, next_position, nothing_held, positional, positional_held, rows_after, settled, short_or_plain, subcommand_met, subcommand_or_other, to_positional, trailing, value, walked, word_met}
+use Rattle.mstplan.specs.Words.{Request, are_values, is_dashes, is_plain, request_of, without_dashes}
 
 -- ---- a plain word
 
@@ -23,7 +25,7 @@ not_hyphen b h = go (b == 45) h
     go false e = refl
     go true e = absurd (false≢true e)
 
-plain_dashes : (word : Text) → is_plain word ≡ true → bytes_eq word (45 ∷ 45 ∷ []) ≡ false
+pub plain_dashes : (word : Text) → is_plain word ≡ true → bytes_eq word (45 ∷ 45 ∷ []) ≡ false
 plain_dashes [] h = refl
 plain_dashes (b ∷ []) h = go (b == 45)
   where
@@ -60,14 +62,14 @@ plain_met c names position word h plain none =
     ∙ ap (λ long. long_or_other c idle word long h) (plain_long word plain)
     ∙ ap (λ short. short_or_plain c idle word short h) (plain_short word plain)
 
--- before the word of this position
-abbrev pub at : Held → ℕ → Walk
-at h position = record { held = h; waiting = idle; position = position; is_trailing = false; stopped = None }
+-- before the word of this position, behind `--` or not
+abbrev pub at : Bool → Held → ℕ → Walk
+at marked h position = record { held = h; waiting = idle; position = position; is_trailing = marked; stopped = None }
 
 plain_walked : (c : List Rule) (names : Labels) (position : ℕ) (word : Text) (h : Held) → is_plain word ≡ true → subcommand_met names idle word ≡ None
-    → walked c names (at h position) word ≡ after_step c word (at h position) h value
+    → walked c names (at false h position) word ≡ after_step c word (at false h position) h value
 unfolding walked
-plain_walked c names position word h plain none = ap (λ (met : Held × Step). after_step c word (at h position) met.0 met.1) (plain_met c names position word h plain none)
+plain_walked c names position word h plain none = ap (λ (met : Held × Step). after_step c word (at false h position) met.0 met.1) (plain_met c names position word h plain none)
 
 plain_fault : (s : Shape) (names : Labels) (word : Text) (h : Held) → is_plain word ≡ true → subcommand_met names idle word ≡ None → word_fault s names false idle word h ≡ []
 plain_fault s names word h plain none =
@@ -77,7 +79,7 @@ plain_fault s names word h plain none =
     ∙ ap (λ short. option_map_or (λ flags. bundle_fault s.rules s.args_override_self flags h) short []) (plain_short word plain)
 
 pub plain_turn : (s : Shape) (names : Labels) (position : ℕ) (word : Text) (h : Held) → is_plain word ≡ true → subcommand_met names idle word ≡ None
-    → turn_fault s names (at h position) word ≡ step_fault s position h value
+    → turn_fault s names (at false h position) word ≡ step_fault s position h value
 plain_turn s names position word h plain none =
     ap₂ or_else (plain_fault s names word h plain none) (ap (λ (met : Held × Step). step_fault s position met.0 met.1) (plain_met s.rules names position word h plain none))
 
@@ -111,50 +113,162 @@ leaf s words = level_fault s [] nothing_held words false []
 abbrev pub leaf_found : Shape → List Text → Request
 leaf_found s words = request_of s.name (rows_after s.rules [] words)
 
--- a step that takes a plain word as a value
-abbrev pub step : Shape → Walk → Text → Walk
-step s w word = after_step s.rules word w w.held value
-
--- the walk over plain words has no fault, and leads from here to there
-pub record Passes (s : Shape) (here there : Walk) (words : List Text) : Type 0 where
-  pub faults : (rest : List Text) → walk_fault s [] here (words ++ rest) ≡ walk_fault s [] there rest
-  pub walks : ◌≡◌ {A = Walk} (fold (walked s.rules []) here words) there
-
-pub passes_none : (s : Shape) (w : Walk) → Passes s w w []
-passes_none s w = record { faults = λ rest. refl; walks = refl }
-
-faults_of_next : (s : Shape) (h : Held) (position : ℕ) (f : Text) (rest : List Text) → is_plain f ≡ true
-    → walk_fault s [] (at h position) (f ∷ rest) ≡ or_else (step_fault s position h value) (walk_fault s [] (step s (at h position) f) rest)
-unfolding walk_fault
-faults_of_next s h position f rest plain = ap₂ (λ t w. or_else t (walk_fault s [] w rest)) (plain_turn s [] position f h plain refl) (plain_walked s.rules [] position f h plain refl)
-
--- a word that a place is free for, and the next ones
-pub passes_next : (s : Shape) (h : Held) (position : ℕ) (f : Text) (words : List Text) (there : Walk) → step_fault s position h value ≡ [] → is_plain f ≡ true → Passes s (step s (at h position) f) there words
-    → Passes s (at h position) there (f ∷ words)
-passes_next s h position f words there free plain next = record {
-  faults = λ rest. faults_of_next s h position f (words ++ rest) plain ∙ ap (λ k. or_else k (walk_fault s [] (step s (at h position) f) (words ++ rest))) free ∙ next.faults rest;
-  walks = ap (λ (w : Walk). fold (walked s.rules []) w words) (plain_walked s.rules [] position f h plain refl) ∙ next.walks;
-}
-
--- all words were passed
-pub leaf_end : (s : Shape) (words : List Text) (there : Walk) → Passes s (at nothing_held 1) there words → leaf s words ≡ level s (walk_fault s [] there []) [] false there.held
-leaf_end s words there passes =
-    ap₂ (λ faults (w : Walk). level s faults [] false w.held) (ap (walk_fault s [] (at nothing_held 1)) (sym (append-nil words)) ∙ passes.faults []) passes.walks
-
-pub found_end : (s : Shape) (words : List Text) (there : Walk) → Passes s (at nothing_held 1) there words → leaf_found s words ≡ request_of s.name (finished s.rules there.held)
-found_end s words there passes = ap (λ (w : Walk). request_of s.name (finished s.rules w.held)) passes.walks
-
--- and there is no place for one more
-pub leaf_stray : (s : Shape) (words : List Text) (h : Held) (position : ℕ) (more : Text) (rest : List Text) → Passes s (at nothing_held 1) (at h position) words → is_plain more ≡ true
-    → ((later : Kinds) (end : Held) → refuses (level s (or_else (step_fault s position h value) later) [] false end) ≡ true) → refuses (leaf s (words ++ more ∷ rest)) ≡ true
-leaf_stray s words h position more rest passes plain stray =
-    let end = (walk s.rules [] nothing_held (words ++ more ∷ rest)).held in
-    ap (λ faults. refuses (level s faults [] false end)) (passes.faults (more ∷ rest) ∙ faults_of_next s h position more rest plain)
-    ∙ stray (walk_fault s [] (step s (at h position) more) rest) end
+-- ---- values
 
 pub both_so : (a b : Bool) → (a && b) ≡ true → (a ≡ true) × (b ≡ true)
 both_so true b e = (refl, e)
 both_so false b e = absurd (false≢true e)
 
-pub head_plain : (x : Text) (xs : List Text) → list_all is_plain (x ∷ xs) ≡ true → (is_plain x ≡ true) × (list_all is_plain xs ≡ true)
-head_plain x xs h = both_so (is_plain x) (list_all is_plain xs) h
+not_so : (b : Bool) → not b ≡ true → b ≡ false
+not_so true e = absurd (false≢true e)
+not_so false e = refl
+
+-- what is held after a value for this argument, or for none, and the position of the next
+abbrev pub value_held : List Rule → Option Rule → Text → Held → Held
+value_held c None word h = h
+value_held c (Some rule) word h = positional_held c rule word h
+
+abbrev pub value_position : Option Rule → ℕ → ℕ
+value_position None position = position
+value_position (Some rule) position = next_position rule position
+
+-- what is held after values from this position on, and their faults
+abbrev pub values_held : Shape → Held → ℕ → List Text → Held
+values_held s h position [] = h
+values_held s h position (word ∷ words) =
+    let met = arg_by_index s.rules position in
+    values_held s (value_held s.rules met word h) (value_position met position) words
+
+abbrev pub values_fault : Shape → Held → ℕ → List Text → Kinds
+values_fault s h position [] = []
+values_fault s h position (word ∷ words) =
+    let met = arg_by_index s.rules position in
+    or_else (step_fault s position h value) (values_fault s (value_held s.rules met word h) (value_position met position) words)
+
+-- what values alone come to
+abbrev pub values_leaf : Shape → List Text → Kinds
+values_leaf s words = level s (values_fault s nothing_held 1 words) [] false (values_held s nothing_held 1 words)
+
+abbrev pub values_found : Shape → List Text → Request
+values_found s words = request_of s.name (finished s.rules (values_held s nothing_held 1 words))
+
+-- an argument that takes one value
+abbrev pub is_single : Rule → Bool
+is_single rule = not (is_multiple rule) && not rule.trailing_var_arg
+
+-- the command has such arguments alone
+abbrev pub IsSingle : Shape → Type 0
+IsSingle s = list_all is_single s.rules ≡ true
+
+found_single : (rules : List Rule) (is : Rule → Bool) (rule : Rule) → list_all is_single rules ≡ true → find is rules ≡ Some rule → is_single rule ≡ true
+found_single [] is rule all found = absurd (none-some rule found)
+found_single (first ∷ rules) is rule all found =
+    let both = both_so (is_single first) (list_all is_single rules) all in
+    go both.0 (λ later. found_single rules is rule both.1 later) (is first) found
+  where
+    go : is_single first ≡ true → (find is rules ≡ Some rule → is_single rule ≡ true) → (x : Bool) → ◌≡◌ {A = Option Rule} (if x then Some first else find is rules) (Some rule) → is_single rule ≡ true
+    go here later true e = subst (λ r. is_single r ≡ true) (same_Some first rule e) here
+    go here later false e = later e
+
+or-false : (x : Bool) → (x || false) ≡ x
+or-false true = refl
+or-false false = refl
+
+-- a value leads to the next position, behind `--` or not
+value_step : (s : Shape) → IsSingle s → (marked : Bool) (h : Held) (position : ℕ) (word : Text)
+    → ◌≡◌ {A = Walk} (after_step s.rules word (at marked h position) h value) (at marked (value_held s.rules (arg_by_index s.rules position) word h) (value_position (arg_by_index s.rules position) position))
+value_step s single marked h position word = go (arg_by_index s.rules position) refl
+  where
+    go : (met : Option Rule) → arg_by_index s.rules position ≡ met → ◌≡◌ {A = Walk} (to_positional s.rules met word (at marked h position) h) (at marked (value_held s.rules met word h) (value_position met position))
+    go None e = refl
+    go (Some rule) e =
+        let fit = both_so (not (is_multiple rule)) (not rule.trailing_var_arg) (found_single s.rules _ rule single e) in
+        ap₂ (λ (several trails : Bool). record {
+          held = positional_held s.rules rule word h;
+          waiting = if several then positional else idle;
+          position = next_position rule position;
+          is_trailing = marked || trails;
+          stopped = None;
+        }) (not_so (is_multiple rule) fit.0) (not_so rule.trailing_var_arg fit.1)
+        ∙ ap (λ (x : Bool). at x (positional_held s.rules rule word h) (next_position rule position)) (or-false marked)
+
+-- the walk over words, what is held at its end, and its faults
+abbrev walk_held : Shape → Walk → List Text → Held
+walk_held s w words = (fold (walked s.rules []) w words).held
+
+-- behind `--` every word is a value
+marked_walked : (s : Shape) (h : Held) (position : ℕ) (word : Text) → ◌≡◌ {A = Walk} (walked s.rules [] (at true h position) word) (after_step s.rules word (at true h position) h value)
+unfolding walked
+marked_walked s h position word = refl
+
+marked_held : (s : Shape) → IsSingle s → (words : List Text) (h : Held) (position : ℕ) → walk_held s (at true h position) words ≡ values_held s h position words
+marked_held s single [] h position = refl
+marked_held s single (word ∷ words) h position =
+    let met = arg_by_index s.rules position in
+    ap (λ (w : Walk). walk_held s w words) (marked_walked s h position word ∙ value_step s single true h position word)
+    ∙ marked_held s single words (value_held s.rules met word h) (value_position met position)
+
+marked_fault : (s : Shape) → IsSingle s → (words : List Text) (h : Held) (position : ℕ) → walk_fault s [] (at true h position) words ≡ values_fault s h position words
+unfolding walk_fault
+marked_fault s single [] h position = refl
+marked_fault s single (word ∷ words) h position =
+    let met = arg_by_index s.rules position in
+    ap (λ (w : Walk). or_else (step_fault s position h value) (walk_fault s [] w words)) (marked_walked s h position word ∙ value_step s single true h position word)
+    ∙ ap (or_else (step_fault s position h value)) (marked_fault s single words (value_held s.rules met word h) (value_position met position))
+
+-- `--` itself is none
+dashes_walked : (s : Shape) (h : Held) (position : ℕ) → ◌≡◌ {A = Walk} (walked s.rules [] (at false h position) (codes "--")) (at true h position)
+unfolding walked
+dashes_walked s h position = refl
+
+dashes_fault : (s : Shape) (h : Held) (position : ℕ) → turn_fault s [] (at false h position) (codes "--") ≡ []
+dashes_fault s h position = refl
+
+-- words that aren't options come to what they do as values, without the first `--`
+held_of_values : (s : Shape) → IsSingle s → (words : List Text) (h : Held) (position : ℕ) → are_values words ≡ true → walk_held s (at false h position) words ≡ values_held s h position (without_dashes words)
+held_of_values s single [] h position all = refl
+held_of_values s single (word ∷ words) h position all =
+    let met = arg_by_index s.rules position in
+    go (λ later. held_of_values s single words (value_held s.rules met word h) (value_position met position) later) (is_dashes word) refl all
+  where
+    go : (are_values words ≡ true → walk_held s (at false (value_held s.rules (arg_by_index s.rules position) word h) (value_position (arg_by_index s.rules position) position)) words
+        ≡ values_held s (value_held s.rules (arg_by_index s.rules position) word h) (value_position (arg_by_index s.rules position) position) (without_dashes words))
+        → (x : Bool) → is_dashes word ≡ x → (x || (is_plain word && are_values words)) ≡ true
+        → walk_held s (at false h position) (word ∷ words) ≡ values_held s h position (if x then words else word ∷ without_dashes words)
+    go later true e _ =
+        ap (λ w. walk_held s (walked s.rules [] (at false h position) w) words) ((bytes_eq-Decides word (codes "--")).0 e)
+        ∙ ap (λ (w : Walk). walk_held s w words) (dashes_walked s h position) ∙ marked_held s single words h position
+    go later false e both =
+        let plain = both_so (is_plain word) (are_values words) both in
+        ap (λ (w : Walk). walk_held s w words) (plain_walked s.rules [] position word h plain.0 refl ∙ value_step s single false h position word) ∙ later plain.1
+
+faults_of_values : (s : Shape) → IsSingle s → (words : List Text) (h : Held) (position : ℕ) → are_values words ≡ true → walk_fault s [] (at false h position) words ≡ values_fault s h position (without_dashes words)
+unfolding walk_fault
+faults_of_values s single [] h position all = refl
+faults_of_values s single (word ∷ words) h position all =
+    let met = arg_by_index s.rules position in
+    go (λ later. faults_of_values s single words (value_held s.rules met word h) (value_position met position) later) (is_dashes word) refl all
+  where
+    turn : Text → Kinds
+    turn w = or_else (turn_fault s [] (at false h position) w) (walk_fault s [] (walked s.rules [] (at false h position) w) words)
+
+    go : (are_values words ≡ true → walk_fault s [] (at false (value_held s.rules (arg_by_index s.rules position) word h) (value_position (arg_by_index s.rules position) position)) words
+        ≡ values_fault s (value_held s.rules (arg_by_index s.rules position) word h) (value_position (arg_by_index s.rules position) position) (without_dashes words))
+        → (x : Bool) → is_dashes word ≡ x → (x || (is_plain word && are_values words)) ≡ true → turn word ≡ values_fault s h position (if x then words else word ∷ without_dashes words)
+    go later true e _ =
+        ap turn ((bytes_eq-Decides word (codes "--")).0 e)
+        ∙ ap₂ (λ k (w : Walk). or_else k (walk_fault s [] w words)) (dashes_fault s h position) (dashes_walked s h position)
+        ∙ marked_fault s single words h position
+    go later false e both =
+        let plain = both_so (is_plain word) (are_values words) both in
+        ap₂ (λ k (w : Walk). or_else k (walk_fault s [] w words)) (plain_turn s [] position word h plain.0 refl) (plain_walked s.rules [] position word h plain.0 refl ∙ value_step s single false h position word)
+        ∙ ap (or_else (step_fault s position h value)) (later plain.1)
+
+-- so it is enough to know what values come to
+pub fits_values : (s : Shape) → IsSingle s → (asks : List Text → Option Request) (words : List Text) → are_values words ≡ true
+    → ((values : List Text) → Fits (asks values) (values_leaf s values) (values_found s values)) → Fits (asks (without_dashes words)) (leaf s words) (leaf_found s words)
+fits_values s single asks words all fits =
+    let held = held_of_values s single words nothing_held 1 all in
+    let faults = faults_of_values s single words nothing_held 1 all in
+    subst (λ (k : Kinds). Fits (asks (without_dashes words)) k (leaf_found s words)) (sym (ap₂ (λ k h. level s k [] false h) faults held))
+    (subst (λ (r : Request). Fits (asks (without_dashes words)) (values_leaf s (without_dashes words)) r) (sym (ap (λ h. request_of s.name (finished s.rules h)) held)) (fits (without_dashes words)))

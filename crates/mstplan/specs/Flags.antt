@@ -1,31 +1,31 @@
--- The flags that stand among the program's words, wherever they stand.
-use Rattle.std.specs.Prelude.{ℕ, Bool, true, false, not, ◌||◌, ◌&&◌, List, [], Option, Some, None, String, codes, filter, map, string_bytes, if◌then◌else◌}
-use Rattle.std.specs.List.{list_any}
+-- The flags that stand among the program's words, wherever they stand before the first `--`.
+use Rattle.std.specs.Prelude.{ℕ, Bool, true, false, not, ◌||◌, ◌&&◌, List, [], ◌∷◌, Option, Some, None, codes, if◌then◌else◌}
 use Rattle.std.specs.Option.{option_and_then}
 use Rattle.std.specs.Str.{bytes_eq}
-use Rattle.std.specs.declared.alloc.Global.{Global}
 use Rattle.mst_tool.specs.printing.declared.form.Form.{Form}
 use Rattle.mst_tool.specs.printing.declared.form.Form.TheVariants.{Text, Json}
-use Rattle.mstplan.specs.Words.{Request, asked_by, names_part, run, check, explain, diff, sweep, summary, dot}
+use Rattle.mstplan.specs.Words.{Request, asked_by, is_dashes, names_part, run, check, explain, diff, sweep, summary, dot, ask}
 use Rattle.mstplan.specs.declared.flags.Flags.{Flags}
 
-abbrev pub is_json : List ℕ → Bool
-is_json word = bytes_eq word (codes "--json")
+-- this flag stands among these words, before the first `--`
+abbrev pub has_flag : List ℕ → List (List ℕ) → Bool
+has_flag flag [] = false
+has_flag flag (word ∷ words) = not (is_dashes word) && (bytes_eq word flag || has_flag flag words)
 
-abbrev pub is_hints : List ℕ → Bool
-is_hints word = bytes_eq word (codes "--hints")
+abbrev pub no_flags : Flags
+no_flags = record { json = false; hints = false }
 
--- a word that is no flag
-abbrev pub is_no_flag : List ℕ → Bool
-is_no_flag word = not (is_json word || is_hints word)
-
--- which flags stand among these words
+-- which flags do
 abbrev pub flags_in : List (List ℕ) → Flags
-flags_in words = record { json = list_any is_json words; hints = list_any is_hints words }
+flags_in words = record { json = has_flag (codes "--json") words; hints = has_flag (codes "--hints") words }
 
--- these words but for the flags
+abbrev pub is_flag : List ℕ → Bool
+is_flag word = bytes_eq word (codes "--json") || bytes_eq word (codes "--hints")
+
+-- these words but for the flags. Behind the first `--` no word is a flag
 abbrev pub without_flags : List (List ℕ) → List (List ℕ)
-without_flags words = filter is_no_flag words
+without_flags [] = []
+without_flags (word ∷ words) = if is_dashes word then word ∷ words else if is_flag word then without_flags words else word ∷ without_flags words
 
 -- what is printed by these flags
 abbrev pub form_of : Flags → Form
@@ -40,20 +40,11 @@ has_json (diff old new) = true
 has_json (sweep script word behind) = true
 has_json (summary script) = true
 has_json (dot script tree) = false
+has_json (ask script) = true
 
--- and it has hints: for them its script is read again, so it isn't that on standard input
-abbrev pub has_hints : Request → Bool
-has_hints (run script) = not (bytes_eq script (codes "-"))
-has_hints (check script captures) = not (bytes_eq script (codes "-"))
-has_hints (explain script bridge port tree) = false
-has_hints (diff old new) = false
-has_hints (sweep script word behind) = false
-has_hints (summary script) = false
-has_hints (dot script tree) = false
-
--- it takes these flags
+-- it takes these flags: each takes hints
 abbrev pub takes : Flags → Request → Bool
-takes flags request = (not flags.json || has_json request) && (not flags.hints || has_hints request)
+takes flags request = not flags.json || has_json request
 
 -- what words that aren't options ask for with these flags, where words for a part of a sweep name one
 abbrev pub asked_with : Flags → List (List ℕ) → Option Request

@@ -1,62 +1,63 @@
--- The hints of a script that was run, on standard error.
-use Rattle.std.specs.Prelude.{◌≡◌, ◌⊎◌, ℕ, Bool, true, false, List, Option, Some, None, Result, Ok, Err}
-use Rattle.mst_hinting.specs.Hinted.{Hints, HintsFront}
-use Rattle.mst_io.specs.Devices.{Told, Works, IsBroken}
+-- The hints of the scripts that are run, on standard error.
+use Rattle.std.specs.Prelude.{◌≡◌, ◌⊎◌, ℕ, ◌&&◌, Bool, true, false, List, Option, Result, Ok, Err}
+use Rattle.mst_hinting.specs.Hinted.{Hints, HintsFront, HintsEnded}
+use Rattle.mst_hinting.specs.Listening.{StoppedBy}
+use Rattle.mst_hints.specs.declared.whose.Script.{Script}
+use Rattle.mst_hints.specs.declared.whose.Script.TheVariants.{Run, Loaded, Old, New}
+use Rattle.mst_io.specs.Devices.{Seen, Works}
+use Rattle.mst_io.specs.declared.outcome.Outcome.{Outcome}
 use Rattle.mst_io.specs.declared.outcome.RunFault.{RunFault}
 use Rattle.mst_io.specs.declared.outcome.RunFault.TheVariants.{Read, Write, Memory}
-use Rattle.mstplan.specs.Said.{Errors}
-use Rattle.mstplan.specs.declared.endings.Stop.{Stop}
-use Rattle.mstplan.specs.declared.endings.Stop.TheVariants.{Unopened as unopened, Fault}
-use Rattle.mstplan.specs.declared.hinting.HintsEnd.{HintsEnd}
-use Rattle.mstplan.specs.declared.hinting.HintsEnd.TheVariants.{Unasked, Unopened, Given, Stopped}
-use Rattle.mstplan.specs.declared.words.Asked.{Asked}
-use Rattle.mstplan.specs.declared.words.Asked.TheVariants.{Run, Check, Explain, Diff, Sweep, Summary, Dot}
+use Rattle.mstplan.specs.declared.compared.Comparison.{Comparison}
+use Rattle.mstplan.specs.declared.compared.Comparison.TheVariants.{Captures, Networks, Questions}
 
--- how standard error stands where this stopped the hints: it failed, now or before, or it works
-abbrev pub StoppedBy : RunFault → Told → Told → Type 0
-StoppedBy Write old new = (old.failed ≡ true) ⊎ IsBroken old new
-StoppedBy Read old new = Works old new
-StoppedBy Memory old new = Works old new
+-- the hints of all lines of what was read, or of those that an LF had ended
+abbrev pub HintsEither : Script → Option (List ℕ) → Option (List ℕ) → Option (List ℕ) → Option (List ℕ) → Type 0
+HintsEither of reads left written now = Hints of reads written now ⊎ HintsEnded of reads left written now
 
--- a front of the hints of what a file has came to standard error, where this stopped them
-pub record StopsHints (reads : Option (List ℕ)) (errors now : Errors) (fault : RunFault) : Type 0 where
-  pub front : HintsFront reads errors.text now.text
+-- The hints of a script by how that ended which read it, alone or with another input: of all its lines, where it came to the end;
+-- and of those that were complete, where the script itself couldn't be read so far
+abbrev pub HintsBy : Bool → Result Outcome RunFault → Script → Option (List ℕ) → Option (List ℕ) → Option (List ℕ) → Option (List ℕ) → Type 0
+HintsBy alone (Ok outcome) of reads left written now = Hints of reads written now
+HintsBy true (Err Read) of reads left written now = HintsEnded of reads left written now
+HintsBy false (Err Read) of reads left written now = HintsEither of reads left written now
+HintsBy alone (Err Write) of reads left written now = HintsEither of reads left written now
+HintsBy alone (Err Memory) of reads left written now = HintsEither of reads left written now
+
+-- a front of the hints came to standard error, where this stopped them: that failed, then or before, or there was no memory
+pub record StopsHints (of : Script) (reads : Option (List ℕ)) (errors now : Seen) (fault : RunFault) : Type 0 where
+  pub front : HintsFront of reads errors.bytes now.bytes
   pub by : StoppedBy fault errors.told now.told
 
--- what came to standard error of the hints of the script in the file of this name, by how they ended: all of them; a front of
--- them, where something stopped them; or nothing, where the file couldn't be opened once more
-abbrev pub AreGiven : (List ℕ → Option (List ℕ) → Type 0) → (List ℕ → Type 0) → List ℕ → Errors → Errors → HintsEnd → Type 0
-AreGiven IsFile IsUnopened name errors now Unasked = ⊥
-AreGiven IsFile IsUnopened name errors now (Unopened file) = (file.now ≡ name) × IsUnopened name × (now ≡ errors)
-AreGiven IsFile IsUnopened name errors now Given = (reads : Option (List ℕ)) × IsFile name reads × Hints reads errors.text now.text × Works errors.told now.told
-AreGiven IsFile IsUnopened name errors now (Stopped fault) = (reads : Option (List ℕ)) × IsFile name reads × StopsHints reads errors now fault
+-- Where hints are asked for, those of the script came to standard error, or a front of them, where something stopped them. Else
+-- nothing came
+abbrev pub IsHinted : Bool → Bool → Result Outcome RunFault → Script → Option (List ℕ) → Option (List ℕ) → Seen → Seen → Result (Unit {0}) RunFault → Type 0
+IsHinted false alone ended of reads left errors now hints = (now ≡ errors) × (hints ≡ Ok tt)
+IsHinted true alone ended of reads left errors now (Ok x) = HintsBy alone ended of reads left errors.bytes now.bytes × Works errors.told now.told
+IsHinted true alone ended of reads left errors now (Err fault) = StopsHints of reads errors now fault
 
--- nothing, where there are none to give
-abbrev pub AreNone : Errors → Errors → HintsEnd → Type 0
-AreNone errors now end = (now ≡ errors) × (end ≡ Unasked)
+-- ---- two inputs
 
--- where hints are asked for, those of the script that was run; and else nothing
-abbrev pub IsHinted : (List ℕ → Option (List ℕ) → Type 0) → (List ℕ → Type 0) → Bool → Result Asked Stop → Errors → Errors → HintsEnd → Type 0
-IsHinted IsFile IsUnopened false asked errors now end = AreNone errors now end
-IsHinted IsFile IsUnopened true (Err stop) errors now end = AreNone errors now end
-IsHinted IsFile IsUnopened true (Ok (Run script)) errors now end = AreGiven IsFile IsUnopened script.now errors now end
-IsHinted IsFile IsUnopened true (Ok (Check script captures)) errors now end = AreGiven IsFile IsUnopened script.now errors now end
-IsHinted IsFile IsUnopened true (Ok (Explain script port)) errors now end = AreNone errors now end
-IsHinted IsFile IsUnopened true (Ok (Diff old new)) errors now end = AreNone errors now end
-IsHinted IsFile IsUnopened true (Ok (Sweep script word behind)) errors now end = AreNone errors now end
-IsHinted IsFile IsUnopened true (Ok (Summary script)) errors now end = AreNone errors now end
-IsHinted IsFile IsUnopened true (Ok (Dot script tree)) errors now end = AreNone errors now end
+-- which script the first is
+abbrev pub first_script : Comparison → Script
+first_script (Captures form) = Run
+first_script (Networks form) = Old
+first_script (Questions form) = Loaded
 
--- what is told of hints that didn't come to their end
-abbrev pub told_of_hints : HintsEnd → Option Stop
-told_of_hints Unasked = None
-told_of_hints (Unopened file) = Some (unopened file)
-told_of_hints Given = None
-told_of_hints (Stopped fault) = Some (Fault fault)
+-- the second is a script, too
+abbrev pub has_second : Comparison → Bool
+has_second (Captures form) = false
+has_second (Networks form) = true
+has_second (Questions form) = false
 
--- the exit status with them: 3 where they didn't
-abbrev pub status_with : ℕ → HintsEnd → ℕ
-status_with status Unasked = status
-status_with status (Unopened file) = 3
-status_with status Given = status
-status_with status (Stopped fault) = 3
+-- the hints of the second come behind those of the first, unless something stopped these
+abbrev pub IsHintedBehind : Result (Unit {0}) RunFault → Bool → Result Outcome RunFault → Option (List ℕ) → Option (List ℕ) → Seen → Seen → Result (Unit {0}) RunFault → Type 0
+IsHintedBehind (Ok x) hints ended second left errors now end = IsHinted hints false ended New second left errors now end
+IsHintedBehind (Err fault) hints ended second left errors now end = (now ≡ errors) × (end ≡ Err fault)
+
+-- the hints of both
+pub record AreHinted (hints : Bool) (comparison : Comparison) (ended : Result Outcome RunFault) (first first_left second second_left : Option (List ℕ)) (errors now : Seen) (end : Result (Unit {0}) RunFault) : Type 0 where
+  pub between : Seen
+  pub first_end : Result (Unit {0}) RunFault
+  pub of_first_script : IsHinted hints false ended (first_script comparison) first first_left errors between first_end
+  pub of_second_script : IsHintedBehind first_end (hints && has_second comparison) ended second second_left between now end

@@ -1,10 +1,17 @@
--- What an engineer is told who starts the program at a terminal with no words.
-use Rattle.std.specs.Prelude.{ℕ, Bool, ◌&&◌, ◌++◌, List, [], codes, nat_lt, if◌then◌else◌}
+-- What an engineer is told for whom the program waits at a terminal.
+use Rattle.std.specs.Prelude.{ℕ, Bool, ◌++◌, List, [], Result, Ok, Err, codes, nat_lt, if◌then◌else◌}
+use Rattle.std.specs.Str.{bytes_eq}
+use Rattle.mstplan.specs.declared.endings.Stop.{Stop}
+use Rattle.mstplan.specs.declared.words.Asked.{Asked}
+use Rattle.mstplan.specs.declared.words.Asked.TheVariants.{Run, Ask}
 
--- the program waits for what is typed: it was called with so many words, none but its name, and a terminal is standard input
-abbrev pub waits : ℕ → Bool → Bool
-waits words is_terminal = is_terminal && nat_lt words 2
+-- with so many words, of which the first is the program's name: for a script, where there is no other; and for questions, where
+-- they don't come behind the script
+abbrev pub waits_for : ℕ → Result Asked Stop → List ℕ
+waits_for words (Ok (Run script)) = if nat_lt words 2 then codes "mstplan: reading a script from the terminal, until Ctrl-D; --help tells of its commands\n" else []
+waits_for words (Ok (Ask script)) = if bytes_eq script.now (codes "-") then [] else codes "mstplan: reading questions from the terminal, until Ctrl-D; --help tells of them\n"
+waits_for words _ = []
 
--- the line on standard error, before anything is read
-abbrev pub invitation : Bool → List ℕ
-invitation waiting = if waiting then codes "mstplan: reading a script from the terminal, until Ctrl-D; --help tells of its commands" ++ codes "\n" else []
+-- the line on standard error, before anything is read, where standard input is a terminal
+abbrev pub invitation : Bool → ℕ → Result Asked Stop → List ℕ
+invitation is_terminal words asked = if is_terminal then waits_for words asked else []

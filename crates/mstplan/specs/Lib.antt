@@ -8,3 +8,5 @@ pub mod Compared
 pub mod Named
 pub mod Program
 pub mod Invites
+pub mod Opened
+pub mod Piped

@@ -1,5 +1,5 @@
 -- What the program's words ask for.
-use Rattle.std.specs.Prelude.{◌≡◌, ◌⊎◌, ◌==◌, ℕ, Bool, true, false, not, List, [], ◌∷◌, Option, Some, None, String, codes, drop, is_some, map, option_map, string_bytes, unwrap_or, if◌then◌else◌}
+use Rattle.std.specs.Prelude.{◌≡◌, ◌⊎◌, ◌==◌, ◌&&◌, ◌||◌, ℕ, Bool, true, false, not, List, [], ◌∷◌, Option, Some, None, String, codes, drop, is_some, map, option_map, string_bytes, unwrap_or, if◌then◌else◌}
 use Rattle.std.specs.List.{list_all, list_any}
 use Rattle.std.specs.declared.alloc.Global.{Global}
 use Rattle.std.specs.Str.{bytes_eq}
@@ -7,16 +7,16 @@ use Rattle.clap.specs.Words.{App, Row, Rule, first_of, new_app, new_rule, with_r
 use Rattle.mst_io.specs.declared.outcome.RunFault.TheVariants.{Memory, Write}
 use Rattle.mst_tool.specs.Ask.{sweep_question}
 use Rattle.mstplan.specs.declared.endings.Stop.{Stop}
-use Rattle.mstplan.specs.declared.endings.Stop.TheVariants.{Told, Fault}
+use Rattle.mstplan.specs.declared.endings.Stop.TheVariants.{Told, NoWord, Unopened, Fault}
 use Rattle.mstplan.specs.declared.words.Asked.{Asked}
 use Rattle.mstplan.specs.declared.words.PortWords.{PortWords}
-use Rattle.mstplan.specs.declared.words.Asked.TheVariants.{Run, Check, Explain, Diff, Sweep, Summary, Dot}
+use Rattle.mstplan.specs.declared.words.Asked.TheVariants.{Run, Check, Explain, Diff, Sweep, Summary, Dot, Ask}
 
 -- what words ask for: to run the script of this name; to compare the captures of the second name with the plan of the
 -- script of the first; to explain, in the network that the script leaves, the role of a port, which these words name:
 -- its bridge, its number and, if there is one, a tree; to tell how the network of the first script differs from that of
 -- the second; to tell what each single failure does to the network of the script, or each pair, or each of the part that the words
--- behind it name; to summarize it; or to draw it with the tree that the second word names
+-- behind it name; to summarize it; to draw it with the tree that the second word names; or to answer questions of it
 pub data Request : Type 0 where
   run : List ℕ → Request
   check : List ℕ → List ℕ → Request
@@ -25,6 +25,7 @@ pub data Request : Type 0 where
   sweep : List ℕ → Option (List ℕ) → Option (List ℕ) → Request
   summary : List ℕ → Request
   dot : List ℕ → List ℕ → Request
+  ask : List ℕ → Request
 
 -- the word that names a tree, if there is one
 abbrev pub tree_word : PortWords → Option (List ℕ)
@@ -38,6 +39,7 @@ words_of (Diff old new) = diff old.now new.now
 words_of (Sweep script word behind) = sweep script.now (option_map (λ word. word.now) word) (option_map (λ word. word.now) behind)
 words_of (Summary script) = summary script.now
 words_of (Dot script tree) = dot script.now tree.now
+words_of (Ask script) = ask script.now
 
 -- the value that was found for a word that has to be there. There is one
 abbrev pub value_of : List ℕ → List Row → List ℕ
@@ -52,6 +54,7 @@ request_of command rows =
     else if bytes_eq command (codes "sweep") then sweep (value_of (codes "FILE") rows) (first_of (codes "PART") rows) (first_of (codes "OF_PAIRS") rows)
     else if bytes_eq command (codes "summary") then summary (value_of (codes "FILE") rows)
     else if bytes_eq command (codes "dot") then dot (value_of (codes "FILE") rows) (value_of (codes "TREE") rows)
+    else if bytes_eq command (codes "ask") then ask (value_of (codes "FILE") rows)
     else run (value_of (codes "FILE") rows)
 
 -- what the name of a command, if there is one, and what was found for it ask for. Without a command the script is `-`
@@ -65,8 +68,24 @@ is_plain [] = true
 is_plain (b ∷ []) = true
 is_plain (b ∷ c ∷ rest) = not (b == 45)
 
+-- the word behind which no word is read as an option
+abbrev pub is_dashes : List ℕ → Bool
+is_dashes word = bytes_eq word (codes "--")
+
+-- words that aren't options, of which the first `--` is none and those behind it may be any
+abbrev pub are_values : List (List ℕ) → Bool
+are_values [] = true
+are_values (word ∷ words) = is_dashes word || (is_plain word && are_values words)
+
+-- the words of the program that aren't read as options. `--` stands behind a command
 abbrev pub are_plain : List (List ℕ) → Bool
-are_plain = list_all is_plain
+are_plain [] = true
+are_plain (command ∷ words) = is_plain command && are_values words
+
+-- the same words without the first `--`
+abbrev pub without_dashes : List (List ℕ) → List (List ℕ)
+without_dashes [] = []
+without_dashes (word ∷ words) = if is_dashes word then words else word ∷ without_dashes words
 
 -- the words behind the first, which is the program's name
 abbrev pub behind_name : List (String Global) → List (List ℕ)
@@ -98,7 +117,7 @@ by_port words = None
 -- What words ask for that aren't options, behind the program's name: none for the script on standard input, `run FILE` for
 -- that of a file, `check FILE CAPTURES`, `explain FILE B P`, with or without TREE, `diff OLD NEW`, `sweep FILE`, with or without PART or
 -- `pairs`, and behind that with or without PART,
--- `summary FILE` and `dot FILE TREE`.
+-- `summary FILE`, `dot FILE TREE` and `ask FILE`.
 -- What is asked for are the words themselves. Any other words ask for nothing
 abbrev pub asked_by : List (List ℕ) → Option Request
 asked_by [] = Some (run (codes "-"))
@@ -110,6 +129,7 @@ asked_by (command ∷ words) =
     else if bytes_eq (codes "sweep") command then by_one_to_three sweep words
     else if bytes_eq (codes "summary") command then by_one summary words
     else if bytes_eq (codes "dot") command then by_two dot words
+    else if bytes_eq (codes "ask") command then by_one ask words
     else None
 
 -- where they ask for a part of a sweep, its words name one
@@ -121,6 +141,7 @@ names_part (diff old new) = true
 names_part (sweep script word behind) = is_some (sweep_question word behind)
 names_part (summary script) = true
 names_part (dot script tree) = true
+names_part (ask script) = true
 
 -- words that ask the program for its help alone, and for its version
 abbrev pub is_help : List (List ℕ) → Bool
@@ -135,10 +156,26 @@ is_version words = false
 abbrev pub IsAnswer : Stop → Type 0
 IsAnswer stop = (stop ≡ Told 0) ⊎ ((stop ≡ Fault Write) ⊎ (stop ≡ Fault Memory))
 
--- why words that aren't options aren't served: for want of memory, or since they ask for nothing, which is told with status 2
-abbrev pub IsRefusal : Option Request → Stop → Type 0
-IsRefusal (Some request) stop = stop ≡ Fault Memory
-IsRefusal None stop = (stop ≡ Told 2) ⊎ (stop ≡ Fault Memory)
+-- a byte that a file's name has, and no command's: `.` or `/`
+abbrev pub is_of_path : ℕ → Bool
+is_of_path b = b == 46 || b == 47
+
+-- this word stands alone, in the place of a command, and may be meant for a file: it has such a byte, or a file of this name is there
+pub record IsFileAlone (IsThere : List ℕ → Type 0) (words : List (List ℕ)) (word : List ℕ) : Type 0 where
+  pub alone : words ≡ word ∷ []
+  pub meant : (list_any is_of_path word ≡ true) ⊎ IsThere word
+
+-- words that ask for nothing are told with status 2, or as a file that has no command
+abbrev pub IsWrong : (List ℕ → Type 0) → List (List ℕ) → Stop → Type 0
+IsWrong IsThere words (Told status) = status ≡ 2
+IsWrong IsThere words (NoWord word) = IsFileAlone IsThere words word.now
+IsWrong IsThere words (Unopened file why) = ⊥
+IsWrong IsThere words (Fault fault) = ⊥
+
+-- why words that aren't options aren't served: for want of memory, or since they ask for nothing
+abbrev pub IsRefusal : (List ℕ → Type 0) → List (List ℕ) → Option Request → Stop → Type 0
+IsRefusal IsThere words (Some request) stop = stop ≡ Fault Memory
+IsRefusal IsThere words None stop = IsWrong IsThere words stop ⊎ (stop ≡ Fault Memory)
 
 -- ---- the same words, as they are declared
 
@@ -168,10 +205,13 @@ summary_app = with_rule (new_app (codes "summary")) (wanted_rule (codes "FILE"))
 abbrev pub dot_app : App
 dot_app = with_rule (with_rule (new_app (codes "dot")) (wanted_rule (codes "FILE"))) (wanted_rule (codes "TREE"))
 
+abbrev pub ask_app : App
+ask_app = with_rule (new_app (codes "ask")) (wanted_rule (codes "FILE"))
+
 -- the program with no command, which has a version, and no command that prints help
 abbrev pub no_command : App
 no_command = record { top = record ((new_app (codes "mstplan")).top) { has_version = true; disable_help_subcommand = true }; subs = [] }
 
 abbrev pub program : App
 program =
-    with_subcommand (with_subcommand (with_subcommand (with_subcommand (with_subcommand (with_subcommand (with_subcommand no_command run_app.top) check_app.top) explain_app.top) diff_app.top) sweep_app.top) summary_app.top) dot_app.top
+    with_subcommand (with_subcommand (with_subcommand (with_subcommand (with_subcommand (with_subcommand (with_subcommand (with_subcommand no_command run_app.top) check_app.top) explain_app.top) diff_app.top) sweep_app.top) summary_app.top) dot_app.top) ask_app.top

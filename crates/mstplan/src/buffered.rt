@@ -1,21 +1,27 @@
-ghost use Rattle.std.specs.Prelude.{◌≡◌, ◌≢◌, false, [], Err, IfOk, IfSome, OnErr};
+ghost use Rattle.std.specs.Prelude.{◌≡◌, ◌≢◌, false, true, [], Err, IfOk, IfSome, OnErr, IfNone};
 ghost use Rattle.std.specs.Io.Buffered.{writer_buffer, writer_inner};
+ghost use Rattle.mst_io.specs.Devices.{Hears, seen_by};
 ghost use Rattle.mst_tool.specs.Ask.{Asks, AsksFront};
 ghost use Rattle.mst_tool.specs.Load.{LoadsEnded, LoadsScript};
 ghost use Rattle.mst_tool.specs.Run.{Prints, PrintsFront, PrintsEnded};
 ghost use Rattle.mst_tool.specs.printing.Shape.{of_script};
-ghost use Rattle.mstplan.specs.Buffered.{Ends, EndsAsk, ReadBy, AskedBy, is_broken};
+ghost use Rattle.mstplan.specs.Buffered.{Ends, EndsAsk, EndsAskHinted, EndsHinted, ReadBy, AskedBy, is_broken, outputs};
+ghost use Rattle.mstplan.specs.Hinted.{IsHinted};
 
+use mst_hinting::{Hinting, Script, Telling};
 use mst_tool::{
-    Form, FromRead, Outcome, Question, RunFault, Source, TURNS, ToWrite, ask_within, run_within,
+    Form, FromRead, Outcome, Question, RunFault, Sink, Source, TURNS, ToWrite, ask_within,
+    run_within,
 };
 use std::alloc::Global;
 use std::io::{BufWriter, Read, Write};
 
-/// How it ended, and the writer that it printed to.
+/// How it ended, what came of its hints, and the writer that it printed to.
 #[derive(Drop)]
 pub(crate) struct Ran<W: Drop> {
     pub(crate) ended: Result<Outcome, RunFault>,
+    /// `Err`: this stopped the hints before their end. Where none are asked for, they come to it.
+    pub(crate) hints: Result<(), RunFault>,
     pub(crate) writer: W,
 }
 
@@ -32,6 +38,7 @@ fn run_to<S: Source, W: Write>(
     ensures read { result ≡ Err RunFault.Read → PrintsEnded form (S.remaining source.old) (S.remaining source.new) (W.contents writer.old) (W.contents writer.new) }
     ensures memory { result ≢ Err RunFault.Memory }
     ensures source { ReadBy result (S.told source.old) (S.told source.new) }
+    ensures heard { Hears S.hears source.old source.new }
 {
     let mut sink = ToWrite::new(writer);
     run_within(alloc, form, source, &mut sink, TURNS)
@@ -47,35 +54,71 @@ pub(crate) fn run_into<S: Source, W: Write + Drop>(
 ) -> Result<Outcome, RunFault>
     requires working { (S.told source.old).failed ≡ false }
     requires empty { writer_buffer buffered.old ≡ [] }
-    ensures ends { Ends form (S.remaining source.old) (W.contents (writer_inner buffered.old)) (W.contents (writer_inner buffered.new)) result }
+    ensures ends { Ends form (S.remaining source.old) (S.remaining source.new) (W.contents (writer_inner buffered.old)) (W.contents (writer_inner buffered.new)) result }
     ensures source { ReadBy result (S.told source.old) (S.told source.new) }
+    ensures heard { Hears S.hears source.old source.new }
 {
-    match run_to(alloc, form, source, buffered) {
-        Err(RunFault::Write) => Err(RunFault::Write),
-        ran => match buffered.flush() {
-            Ok(()) => ran,
-            Err(_) => Err(RunFault::Write),
-        },
+    let ended = run_to(alloc, form, source, buffered);
+    if is_write_fault(&ended) {
+        return ended;
+    }
+    match buffered.flush() {
+        Ok(()) => ended,
+        Err(_) => Err(RunFault::Write),
     }
 }
 
-/// Runs a script, and writes what it prints in large parts. `None`: there was no memory for the
-/// buffer, and neither device was called.
-pub(crate) fn run_buffered<R: Read + Drop, W: Write + Drop>(
+/// Runs a script into an empty buffer, with its hints, where they are wanted, as it goes. Answers with how each ended.
+fn run_hinting<S: Source, W: Write + Drop, K: Sink>(
     alloc: Global,
     form: Form,
+    hints: bool,
+    source: &mut S,
+    buffered: &mut BufWriter<W>,
+    errors: &mut K,
+) -> (Result<Outcome, RunFault>, Result<(), RunFault>)
+    requires working { (S.told source.old).failed ≡ false }
+    requires empty { writer_buffer buffered.old ≡ [] }
+    ensures ends { Ends form (S.remaining source.old) (S.remaining source.new) (W.contents (writer_inner buffered.old)) (W.contents (writer_inner buffered.new)) result.0 }
+    ensures hints { IsHinted hints true result.0 Script.Run (S.remaining source.old) (S.remaining source.new) (seen_by K.told K.contents K.lent errors.old) (seen_by K.told K.contents K.lent errors.new) result.1 }
+{
+    let mut telling = Telling::new(alloc, hints, Script::Run);
+    let mut hinting = Hinting::new(source, errors, &mut telling);
+    let ended = run_into(alloc, form, &mut hinting, buffered);
+    (ended, hinting.close())
+}
+
+/// Runs a script, and writes what it prints in large parts, with its hints, where they are wanted. `None`: there was no memory for
+/// the buffer, and no device was called.
+pub(crate) fn run_buffered<R: Read + Drop, W: Write + Drop, K: Sink>(
+    alloc: Global,
+    form: Form,
+    hints: bool,
     mut reader: R,
     writer: W,
+    errors: &mut K,
 ) -> Option<Ran<W>>
-    ensures { IfSome result (λ ran. Ends form (R.remaining reader) (W.contents writer) (W.contents ran.writer) ran.ended) }
+    ensures ran { IfSome result (λ ran. EndsHinted form hints (R.remaining reader) (outputs W.contents (seen_by K.told K.contents K.lent) writer errors.old) (outputs W.contents (seen_by K.told K.contents K.lent) ran.writer errors.new) ran.ended ran.hints) }
+    ensures starved { IfNone result (errors.new ≡ errors.old) }
 {
     match BufWriter::new(alloc, writer) {
         Err(_) => None,
         Ok(mut buffered) => {
             let mut source = FromRead::new(&mut reader);
-            let ended = run_into(alloc, form, &mut source, &mut buffered);
+            let (ended, hints) = run_hinting(
+                alloc,
+                form,
+                hints,
+                &mut source,
+                &mut buffered,
+                errors,
+            );
             let (writer, _) = buffered.into_parts();
-            Some(Ran { ended, writer })
+            Some(Ran {
+                ended,
+                hints,
+                writer,
+            })
         }
     }
 }
@@ -94,6 +137,7 @@ fn ask_to<S: Source, W: Write>(
     ensures read { result ≡ Err RunFault.Read → LoadsEnded (of_script form) (S.remaining source.old) (S.remaining source.new) (W.contents writer.old) (W.contents writer.new) }
     ensures memory { result ≡ Err RunFault.Memory → LoadsScript (of_script form) (S.remaining source.old) (W.contents writer.old) (W.contents writer.new) }
     ensures source { AskedBy result (S.told source.old) (S.told source.new) }
+    ensures heard { Hears S.hears source.old source.new }
 {
     let mut sink = ToWrite::new(writer);
     ask_within(alloc, form, question, source, &mut sink, TURNS)
@@ -110,8 +154,9 @@ pub(crate) fn ask_into<S: Source, W: Write + Drop>(
 ) -> Result<Outcome, RunFault>
     requires working { (S.told source.old).failed ≡ false }
     requires empty { writer_buffer buffered.old ≡ [] }
-    ensures ends { EndsAsk form question.now (S.remaining source.old) (W.contents (writer_inner buffered.old)) (W.contents (writer_inner buffered.new)) result }
+    ensures ends { EndsAsk form question.now (S.remaining source.old) (S.remaining source.new) (W.contents (writer_inner buffered.old)) (W.contents (writer_inner buffered.new)) result }
     ensures source { AskedBy result (S.told source.old) (S.told source.new) }
+    ensures heard { Hears S.hears source.old source.new }
 {
     let ended = ask_to(alloc, form, question, source, buffered);
     if is_write_fault(&ended) {
@@ -133,24 +178,61 @@ pub(crate) fn is_write_fault(ended: &Result<Outcome, RunFault>) -> bool
     }
 }
 
-/// Asks a script's network, and writes what that prints in large parts. `None`: there was no memory for the buffer, and
-/// neither device was called.
-pub(crate) fn ask_buffered<R: Read + Drop, W: Write + Drop>(
+/// Asks a script's network into an empty buffer, with the script's hints, where they are wanted, as it goes. Answers with how each
+/// ended.
+fn ask_hinting<S: Source, W: Write + Drop, K: Sink>(
     alloc: Global,
     form: Form,
+    hints: bool,
+    question: &Question,
+    source: &mut S,
+    buffered: &mut BufWriter<W>,
+    errors: &mut K,
+) -> (Result<Outcome, RunFault>, Result<(), RunFault>)
+    requires working { (S.told source.old).failed ≡ false }
+    requires empty { writer_buffer buffered.old ≡ [] }
+    ensures ends { EndsAsk form question.now (S.remaining source.old) (S.remaining source.new) (W.contents (writer_inner buffered.old)) (W.contents (writer_inner buffered.new)) result.0 }
+    ensures hints { IsHinted hints true result.0 Script.Loaded (S.remaining source.old) (S.remaining source.new) (seen_by K.told K.contents K.lent errors.old) (seen_by K.told K.contents K.lent errors.new) result.1 }
+{
+    let mut telling = Telling::new(alloc, hints, Script::Loaded);
+    let mut hinting = Hinting::new(source, errors, &mut telling);
+    let ended = ask_into(alloc, form, question, &mut hinting, buffered);
+    (ended, hinting.close())
+}
+
+/// Asks a script's network, and writes what that prints in large parts, with the script's hints, where they are wanted. `None`:
+/// there was no memory for the buffer, and no device was called.
+pub(crate) fn ask_buffered<R: Read + Drop, W: Write + Drop, K: Sink>(
+    alloc: Global,
+    form: Form,
+    hints: bool,
     question: &Question,
     mut reader: R,
     writer: W,
+    errors: &mut K,
 ) -> Option<Ran<W>>
-    ensures { IfSome result (λ ran. EndsAsk form question.now (R.remaining reader) (W.contents writer) (W.contents ran.writer) ran.ended) }
+    ensures ran { IfSome result (λ ran. EndsAskHinted form hints question.now (R.remaining reader) (outputs W.contents (seen_by K.told K.contents K.lent) writer errors.old) (outputs W.contents (seen_by K.told K.contents K.lent) ran.writer errors.new) ran.ended ran.hints) }
+    ensures starved { IfNone result (errors.new ≡ errors.old) }
 {
     match BufWriter::new(alloc, writer) {
         Err(_) => None,
         Ok(mut buffered) => {
             let mut source = FromRead::new(&mut reader);
-            let ended = ask_into(alloc, form, question, &mut source, &mut buffered);
+            let (ended, hints) = ask_hinting(
+                alloc,
+                form,
+                hints,
+                question,
+                &mut source,
+                &mut buffered,
+                errors,
+            );
             let (writer, _) = buffered.into_parts();
-            Some(Ran { ended, writer })
+            Some(Ran {
+                ended,
+                hints,
+                writer,
+            })
         }
     }
 }

@@ -1,10 +1,12 @@
-ghost use Rattle.std.specs.Prelude.{◌≡◌, IfOk, IfErr, Some};
-ghost use Rattle.mst_tool.specs.Run.{status_of};
-ghost use Rattle.mstplan.specs.Endings.{told_fault, told_of, message_of, said_of, line_of, status_of_stop};
+ghost use Rattle.std.specs.Prelude.{◌≡◌, option_map};
+ghost use Rattle.mst_io.specs.Devices.{seen_by};
+ghost use Rattle.mstplan.specs.Endings.{before_name as before_file, behind_name as behind_file, is_left as left_alone, line_of, message_of, said_of, status_after, status_of_stop, status_with, told_fault, told_of, told_of_hints};
 ghost use Rattle.mstplan.specs.Said.{IsSaid};
 
-use crate::buffered::Ran;
-use crate::said::say;
+use crate::buffered::{Ran, is_write_fault};
+use crate::piped::Piped;
+use crate::said::{Part, say};
+use crate::sources::Unopened;
 use mst_tool::{Outcome, RunFault, Sink, status};
 
 /// Why a script isn't run, or not to its end, or not in full.
@@ -12,17 +14,20 @@ use mst_tool::{Outcome, RunFault, Sink, status};
 pub(crate) enum Stop<'a> {
     /// The words ask for help or are at fault. That was told, and this is the exit status.
     Told(u8),
-    /// The file of this name can't be opened.
-    Unopened(&'a str),
+    /// This word stands in the place of a command, and may be meant for a file.
+    NoWord(&'a str),
+    /// The file of this name can't be opened, for this reason.
+    Unopened(&'a str, Unopened),
     /// A fault of a device, or want of memory.
     Fault(RunFault),
 }
 
-/// The program's end: its exit status, and what is still to be told.
+/// The program's end after a run: its exit status, and what is still to be told, of the run and then of its hints.
 #[derive(Clone, Copy)]
 pub(crate) struct Ending<'a> {
     pub(crate) status: u8,
     pub(crate) told: Option<Stop<'a>>,
+    pub(crate) of_hints: Option<Stop<'a>>,
 }
 
 /// The fault that is told after a run: the one that stopped it, or want of memory where it refused a
@@ -42,49 +47,69 @@ fn fault_of(ran: &Result<Outcome, RunFault>) -> Option<RunFault>
     }
 }
 
+/// What is told of a fault, if there is one.
+fn stop_of<'a>(fault: Option<RunFault>) -> Option<Stop<'a>>
+    ensures { result ≡ option_map (λ fault. Stop.Fault fault) fault }
+{
+    match fault {
+        Some(fault) => Some(Stop::Fault(fault)),
+        None => None,
+    }
+}
+
+/// Whether the run was stopped since who read its output has closed it, which is no fault.
+fn is_left(is_closed: bool, ran: &Result<Outcome, RunFault>) -> bool
+    ensures { result ≡ left_alone is_closed ran.now }
+{
+    is_closed && is_write_fault(ran)
+}
+
 /// The exit status where no script is run.
-fn status_of_stop(stop: Stop<'_>) -> u8
+pub(crate) fn status_of_stop(stop: Stop<'_>) -> u8
     ensures { result ≡ status_of_stop stop.entry }
 {
     match stop {
         Stop::Told(status) => status,
-        Stop::Unopened(_) | Stop::Fault(_) => 3,
+        Stop::NoWord(_) => 2,
+        Stop::Unopened(_, _) | Stop::Fault(_) => 3,
+    }
+}
+
+/// The exit status after a run whose hints ended so.
+fn status_after_run(
+    is_closed: bool,
+    ran: &Result<Outcome, RunFault>,
+    hints: &Result<(), RunFault>,
+) -> u8
+    ensures { result ≡ status_with (status_after is_closed ran.now) hints.now }
+{
+    if hints.is_err() {
+        3
+    } else if is_left(is_closed, ran) {
+        0
+    } else {
+        status(ran)
     }
 }
 
 /// How the program ends after a run.
-fn after_run<'a>(ran: &Result<Outcome, RunFault>) -> Ending<'a>
-    ensures status { result.status ≡ status_of ran.now }
-    ensures told { result.told ≡ told_of ran.now }
+pub(crate) fn after_run<'a, W: Drop>(ran: &Ran<Piped<W>>) -> Ending<'a>
+    ensures status { result.status ≡ status_with (status_after ran.now.writer.is_closed ran.now.ended) ran.now.hints }
+    ensures told { result.told ≡ told_of ran.now.writer.is_closed ran.now.ended }
+    ensures of_hints { result.of_hints ≡ told_of_hints ran.now.hints }
 {
+    let is_closed = ran.writer.is_closed;
     Ending {
-        status: status(ran),
-        told: match fault_of(ran) {
-            Some(fault) => Some(Stop::Fault(fault)),
-            None => None,
+        status: status_after_run(is_closed, &ran.ended, &ran.hints),
+        told: if is_left(is_closed, &ran.ended) {
+            None
+        } else {
+            stop_of(fault_of(&ran.ended))
         },
-    }
-}
-
-/// How the program ends where no script was run.
-fn after_stop(stop: Stop<'_>) -> Ending<'_>
-    ensures status { result.status ≡ status_of_stop stop.entry }
-    ensures told { result.told ≡ Some stop.entry }
-{
-    Ending {
-        status: status_of_stop(stop),
-        told: Some(stop),
-    }
-}
-
-/// How the program ends.
-pub(crate) fn ending_of<'a, W: Drop>(ran: &Result<Ran<W>, Stop<'a>>) -> Ending<'a>
-    ensures ran { IfOk ran.now (λ ran. (result.status ≡ status_of ran.ended) × (result.told ≡ told_of ran.ended)) }
-    ensures stopped { IfErr ran.now (λ stop. (result.status ≡ status_of_stop stop) × (result.told ≡ Some stop)) }
-{
-    match ran {
-        Ok(ran) => after_run(&ran.ended),
-        Err(stop) => after_stop(*stop),
+        of_hints: match ran.hints {
+            Ok(()) => None,
+            Err(fault) => Some(Stop::Fault(fault)),
+        },
     }
 }
 
@@ -101,7 +126,7 @@ fn message(fault: RunFault) -> &'static str
 
 /// Tells in a line what is still to be told, if anything is.
 pub(crate) fn tell<K: Sink>(errors: &mut K, told: Option<Stop<'_>>)
-    ensures { IsSaid (record { told = K.told errors.old; text = K.contents errors.old }) (record { told = K.told errors.new; text = K.contents errors.new }) (said_of told.entry) }
+    ensures { IsSaid (seen_by K.told K.contents K.lent errors.old) (seen_by K.told K.contents K.lent errors.new) (said_of told.entry) }
 {
     match told {
         None => say(errors, &[]),
@@ -110,14 +135,71 @@ pub(crate) fn tell<K: Sink>(errors: &mut K, told: Option<Stop<'_>>)
 }
 
 /// Tells what stopped the program. What its words said was told before.
-fn tell_stop<K: Sink>(errors: &mut K, stop: Stop<'_>)
-    ensures { IsSaid (record { told = K.told errors.old; text = K.contents errors.old }) (record { told = K.told errors.new; text = K.contents errors.new }) (line_of stop.entry) }
+pub(crate) fn tell_stop<K: Sink>(errors: &mut K, stop: Stop<'_>)
+    ensures { IsSaid (seen_by K.told K.contents K.lent errors.old) (seen_by K.told K.contents K.lent errors.new) (line_of stop.entry) }
 {
     match stop {
         Stop::Told(_) => say(errors, &[]),
-        Stop::Unopened(name) => {
-            say(errors, &[b"mstplan: cannot open ", name.as_bytes(), b"\n"]);
+        Stop::NoWord(word) => tell_word(errors, word),
+        Stop::Unopened(name, why) => tell_unopened(errors, name, why),
+        Stop::Fault(fault) => {
+            say(
+                errors,
+                &[Part::Text(message(fault).as_bytes()), Part::Text(b"\n")],
+            );
         }
-        Stop::Fault(fault) => say(errors, &[message(fault).as_bytes(), b"\n"]),
+    }
+}
+
+/// Tells of a word that stands in the place of a command, and how a script of this name is run.
+fn tell_word<K: Sink>(errors: &mut K, word: &str)
+    ensures { IsSaid (seen_by K.told K.contents K.lent errors.old) (seen_by K.told K.contents K.lent errors.new) (line_of (Stop.NoWord word.entry)) }
+{
+    say(
+        errors,
+        &[
+            Part::Text(b"error: no such word "),
+            Part::Name(word),
+            Part::Text(b"; mstplan run "),
+            Part::Name(word),
+            Part::Text(b"?\n"),
+        ],
+    );
+}
+
+/// Tells why the file of a name can't be opened.
+fn tell_unopened<K: Sink>(errors: &mut K, name: &str, why: Unopened)
+    ensures { IsSaid (seen_by K.told K.contents K.lent errors.old) (seen_by K.told K.contents K.lent errors.new) (line_of (Stop.Unopened name.entry why)) }
+{
+    say(
+        errors,
+        &[
+            Part::Text(before_name(why).as_bytes()),
+            Part::Name(name),
+            Part::Text(behind_name(why).as_bytes()),
+            Part::Text(b"\n"),
+        ],
+    );
+}
+
+/// What stands before the name of a file that can't be opened.
+fn before_name(why: Unopened) -> &'static str
+    ensures { result.now ≡ before_file why }
+{
+    match why {
+        Unopened::Folder => "mstplan: ",
+        Unopened::Missing | Unopened::Denied | Unopened::Other => "mstplan: cannot open ",
+    }
+}
+
+/// What stands behind it.
+fn behind_name(why: Unopened) -> &'static str
+    ensures { result.now ≡ behind_file why }
+{
+    match why {
+        Unopened::Missing => ": no such file",
+        Unopened::Denied => ": permission denied",
+        Unopened::Folder => " is a folder",
+        Unopened::Other => "",
     }
 }

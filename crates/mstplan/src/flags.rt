@@ -1,10 +1,18 @@
-ghost use Rattle.std.specs.Prelude.{◌≡◌, filter, map, string_bytes};
-ghost use Rattle.std.specs.List.{list_any};
-ghost use Rattle.mstplan.specs.Flags.{flags_in, form_of, is_hints as hints_word, is_json as json_word, is_no_flag as no_flag, takes as takes_flags, without_flags};
-ghost use Rattle.mstplan.specs.Words.{words_of};
+ghost use Rattle.std.specs.Prelude.{◌≡◌, map, string_bytes};
+ghost use Rattle.mstplan.specs.Flags.{flags_in, form_of, has_flag as stands_among, has_json as told_in_json, is_flag as flag_word, no_flags, takes as takes_flags, without_flags};
+ghost use Rattle.mstplan.specs.Words.{is_dashes as dashes, words_of};
 
 use crate::words::Asked;
 use mst_tool::Form;
+
+/// What asks for JSON.
+const JSON: &str = "--json";
+
+/// What asks for hints.
+const HINTS: &str = "--hints";
+
+/// The word behind which no word is a flag, and none is read as an option.
+const DASHES: &str = "--";
 
 /// The flags among the program's words.
 #[derive(Clone, Copy)]
@@ -22,55 +30,71 @@ pub(crate) struct Parted {
     pub(crate) words: Vec<String>,
 }
 
-fn is_json(word: &String) -> bool
-    ensures { result ≡ json_word (string_bytes word.now) }
+/// Whether no word behind this one is a flag.
+fn is_dashes(word: &String) -> bool
+    ensures { result ≡ dashes (string_bytes word.now) }
 {
-    word.as_str() == "--json"
+    word.as_str() == DASHES
 }
 
-fn is_hints(word: &String) -> bool
-    ensures { result ≡ hints_word (string_bytes word.now) }
+/// Whether a word is a flag, where it stands before the first `--`.
+fn is_flag(word: &String) -> bool
+    ensures { result ≡ flag_word (string_bytes word.now) }
 {
-    word.as_str() == "--hints"
+    word.as_str() == JSON || word.as_str() == HINTS
 }
 
-/// Whether a word is no flag.
-fn is_no_flag(word: &String) -> bool
-    ensures { result ≡ no_flag (string_bytes word.now) }
+/// Whether a flag stands among these words, before the first `--`.
+fn has_flag(words: &[String], flag: &str) -> bool
+    ensures { result ≡ stands_among flag.now (map string_bytes words.now) }
 {
-    !(is_json(word) || is_hints(word))
+    for word in words {
+        if is_dashes(word) {
+            return false;
+        }
+        if word.as_str() == flag {
+            return true;
+        }
+    }
+    false
 }
 
-/// Whether some word asks for JSON.
-fn any_json(words: &[String]) -> bool
-    ensures { result ≡ list_any (λ word. json_word (string_bytes word)) words.now }
+/// Takes the flags out of the words.
+fn take_flags(words: &mut Vec<String>)
+    ensures { map string_bytes words.new.items ≡ without_flags (map string_bytes words.old.items) }
 {
-    words.iter().any(|word| is_json(word))
-}
-
-/// Whether some word asks for hints.
-fn any_hints(words: &[String]) -> bool
-    ensures { result ≡ list_any (λ word. hints_word (string_bytes word)) words.now }
-{
-    words.iter().any(|word| is_hints(word))
-}
-
-/// The words that are no flags.
-fn plain_words(mut words: Vec<String>) -> Vec<String>
-    ensures { result.items ≡ filter (λ word. no_flag (string_bytes word)) words.items }
-{
-    words.retain(|word| is_no_flag(word));
-    words
+    let mut place = 0;
+    while place < words.len() {
+        let word = &words[place];
+        if is_dashes(word) {
+            return;
+        }
+        if is_flag(word) {
+            let _ = words.remove(place);
+        } else {
+            place += 1;
+        }
+    }
 }
 
 impl Flags {
+    /// No flag.
+    pub(crate) fn none() -> Flags
+        ensures { result ≡ no_flags }
+    {
+        Flags {
+            json: false,
+            hints: false,
+        }
+    }
+
     /// The flags among these words.
     fn among(words: &[String]) -> Flags
         ensures { result ≡ flags_in (map string_bytes words.now) }
     {
         Flags {
-            json: any_json(words),
-            hints: any_hints(words),
+            json: has_flag(words, JSON),
+            hints: has_flag(words, HINTS),
         }
     }
 
@@ -85,29 +109,28 @@ impl Flags {
     pub(crate) fn are_of(self, asked: &Asked<'_>) -> bool
         ensures { result ≡ takes_flags self (words_of asked.now) }
     {
-        let (has_json, has_hints) = match asked {
-            Asked::Run { script } => (true, *script != "-"),
-            Asked::Check { script, .. } => (true, *script != "-"),
-            Asked::Explain { .. }
-            | Asked::Diff { .. }
-            | Asked::Sweep { .. }
-            | Asked::Summary { .. } => (true, false),
-            Asked::Dot { .. } => (false, false),
-        };
-        (!self.json || has_json) && (!self.hints || has_hints)
+        !self.json || has_json(asked)
+    }
+}
+
+/// Whether what is asked for can be told in JSON.
+fn has_json(asked: &Asked<'_>) -> bool
+    ensures { result ≡ told_in_json (words_of asked.now) }
+{
+    match asked {
+        Asked::Dot { .. } => false,
+        _ => true,
     }
 }
 
 impl Parted {
     /// Takes the flags out of the words.
-    pub(crate) fn of(words: Vec<String>) -> Parted
+    pub(crate) fn of(mut words: Vec<String>) -> Parted
         ensures flags { result.flags ≡ flags_in (map string_bytes words.items) }
         ensures words { map string_bytes result.words.items ≡ without_flags (map string_bytes words.items) }
     {
         let flags = Flags::among(words.as_slice());
-        Parted {
-            flags,
-            words: plain_words(words),
-        }
+        take_flags(&mut words);
+        Parted { flags, words }
     }
 }

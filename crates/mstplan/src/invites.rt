@@ -1,22 +1,37 @@
 ghost use Rattle.std.specs.Prelude.{length};
-ghost use Rattle.mstplan.specs.Invites.{invitation, waits};
+ghost use Rattle.mst_io.specs.Devices.{seen_by};
+ghost use Rattle.mstplan.specs.Invites.{invitation};
 ghost use Rattle.mstplan.specs.Said.{IsSaid};
 
-use crate::said::say;
+use crate::endings::Stop;
+use crate::said::{Part, say};
+use crate::words::Asked;
 use mst_tool::Sink;
 
-/// The line that tells whom the program waits for.
-const INVITATION: &[u8] =
-    b"mstplan: reading a script from the terminal, until Ctrl-D; --help tells of its commands";
+/// The lines that tell whom the program waits for.
+const FOR_SCRIPT: &[u8] =
+    b"mstplan: reading a script from the terminal, until Ctrl-D; --help tells of its commands\n";
 
-/// Tells in a line that a script is read from the terminal, where one is standard input and no words say what is to be done.
-/// The first of the words is the program's name.
-pub(crate) fn invite<K: Sink>(errors: &mut K, words: &[String], is_terminal: bool)
-    ensures { IsSaid (record { told = K.told errors.old; text = K.contents errors.old }) (record { told = K.told errors.new; text = K.contents errors.new }) (invitation (waits (length words.now) is_terminal)) }
+const FOR_QUESTIONS: &[u8] =
+    b"mstplan: reading questions from the terminal, until Ctrl-D; --help tells of them\n";
+
+/// Tells in a line what is read from the terminal, where one is standard input: a script, if no words say what is to be done, or
+/// questions. The first of the words is the program's name.
+pub(crate) fn invite<K: Sink>(
+    errors: &mut K,
+    words: &[String],
+    asked: &Result<Asked<'_>, Stop<'_>>,
+    is_terminal: bool,
+)
+    ensures { IsSaid (seen_by K.told K.contents K.lent errors.old) (seen_by K.told K.contents K.lent errors.new) (invitation is_terminal (length words.now) asked.now) }
 {
-    if is_terminal && words.len() < 2 {
-        say(errors, &[INVITATION, b"\n"]);
-    } else {
+    if !is_terminal {
         say(errors, &[]);
+        return;
+    }
+    match asked {
+        Ok(Asked::Run { .. }) if words.len() < 2 => say(errors, &[Part::Text(FOR_SCRIPT)]),
+        Ok(Asked::Ask { script }) if *script != "-" => say(errors, &[Part::Text(FOR_QUESTIONS)]),
+        _ => say(errors, &[]),
     }
 }

@@ -1,6 +1,6 @@
 //! Plans Ethernet networks with rapid and multiple spanning trees: runs a script from a file or from
 //! standard input, compares captured messages with its plan, tells why a port has its role, how
-//! the networks of two scripts differ, and what each single failure does, summarizes a network and draws it.
+//! the networks of two scripts differ, and what each single failure does, summarizes a network, draws it, and answers questions of it.
 #![tactic(auto)]
 
 mod buffered;
@@ -8,10 +8,10 @@ mod closed;
 mod compared;
 mod endings;
 mod flags;
-mod hinting;
 mod invites;
 mod named;
 mod page;
+mod piped;
 mod program;
 mod said;
 mod sources;

@@ -1,33 +1,40 @@
-ghost use Rattle.std.specs.Prelude.{ℕ, List, Option, IfOk, IfErr, codes};
-ghost use Rattle.mstplan.specs.Buffered.{Ends, EndsAsk};
-ghost use Rattle.mstplan.specs.Compared.{EndsComparison};
+ghost use Rattle.std.specs.Prelude.{◌≡◌, ℕ, List, Option, IfOk, IfErr, OnErr, codes};
+ghost use Rattle.mst_io.specs.Devices.{seen_by};
+ghost use Rattle.mstplan.specs.Buffered.{EndsAskHinted, EndsHinted, outputs};
+ghost use Rattle.mstplan.specs.Compared.{EndsComparisonHinted};
+ghost use Rattle.mstplan.specs.Flags.{form_of};
 ghost use Rattle.mstplan.specs.Named.{IsNamed, AreNamed, IsWhyNot, IsWhyNeither};
 
 use crate::buffered::{Ran, ask_buffered, run_buffered};
 use crate::compared::{Comparison, compare_buffered};
 use crate::endings::Stop;
-use crate::sources::{Sources, Unopened};
-use mst_tool::{Form, Question, RunFault};
+use crate::flags::Flags;
+use crate::sources::Sources;
+use mst_tool::{Question, RunFault, Sink};
 use std::alloc::Global;
 use std::io::{Read, Write};
 
 /// Runs the script in the file of a name, or on standard input where the name is `-`.
-pub(crate) fn run_named<'a, S: Sources, W: Write + Drop>(
+pub(crate) fn run_named<'a, S: Sources, W: Write + Drop, K: Sink>(
     alloc: Global,
     sources: &S,
-    form: Form,
+    flags: Flags,
     name: &'a str,
     writer: W,
+    errors: &mut K,
 ) -> Result<Ran<W>, Stop<'a>>
-    ensures ran { IfOk result (λ ran. (script : Option (List ℕ)) × IsNamed (S.is_given sources.now) (S.is_file sources.now) name.entry.now script × Ends form script (W.contents writer) (W.contents ran.writer) ran.ended) }
+    ensures ran { IfOk result (λ ran. (script : Option (List ℕ)) × IsNamed (S.is_given sources.now) (S.is_file sources.now) name.entry.now script
+        × EndsHinted (form_of flags) flags.hints script (outputs W.contents (seen_by K.told K.contents K.lent) writer errors.old) (outputs W.contents (seen_by K.told K.contents K.lent) ran.writer errors.new) ran.ended ran.hints) }
     ensures stopped { IfErr result (IsWhyNot (S.is_unopened sources.now) name.entry) }
+    ensures untold { OnErr result (errors.new ≡ errors.old) }
 {
+    let form = flags.form();
     let ran = if name == "-" {
-        run_buffered(alloc, form, sources.given(), writer)
+        run_buffered(alloc, form, flags.hints, sources.given(), writer, errors)
     } else {
         match sources.open(name) {
-            Ok(file) => run_buffered(alloc, form, file, writer),
-            Err(Unopened) => return Err(Stop::Unopened(name)),
+            Ok(file) => run_buffered(alloc, form, flags.hints, file, writer, errors),
+            Err(why) => return Err(Stop::Unopened(name, why)),
         }
     };
     match ran {
@@ -37,23 +44,35 @@ pub(crate) fn run_named<'a, S: Sources, W: Write + Drop>(
 }
 
 /// Asks the network of the script in the file of a name, or on standard input where the name is `-`.
-pub(crate) fn ask_named<'a, S: Sources, W: Write + Drop>(
+pub(crate) fn ask_named<'a, S: Sources, W: Write + Drop, K: Sink>(
     alloc: Global,
     sources: &S,
-    form: Form,
+    flags: Flags,
     question: &Question,
     name: &'a str,
     writer: W,
+    errors: &mut K,
 ) -> Result<Ran<W>, Stop<'a>>
-    ensures ran { IfOk result (λ ran. (script : Option (List ℕ)) × IsNamed (S.is_given sources.now) (S.is_file sources.now) name.entry.now script × EndsAsk form question.now script (W.contents writer) (W.contents ran.writer) ran.ended) }
+    ensures ran { IfOk result (λ ran. (script : Option (List ℕ)) × IsNamed (S.is_given sources.now) (S.is_file sources.now) name.entry.now script
+        × EndsAskHinted (form_of flags) flags.hints question.now script (outputs W.contents (seen_by K.told K.contents K.lent) writer errors.old) (outputs W.contents (seen_by K.told K.contents K.lent) ran.writer errors.new) ran.ended ran.hints) }
     ensures stopped { IfErr result (IsWhyNot (S.is_unopened sources.now) name.entry) }
+    ensures untold { OnErr result (errors.new ≡ errors.old) }
 {
+    let form = flags.form();
     let ran = if name == "-" {
-        ask_buffered(alloc, form, question, sources.given(), writer)
+        ask_buffered(
+            alloc,
+            form,
+            flags.hints,
+            question,
+            sources.given(),
+            writer,
+            errors,
+        )
     } else {
         match sources.open(name) {
-            Ok(file) => ask_buffered(alloc, form, question, file, writer),
-            Err(Unopened) => return Err(Stop::Unopened(name)),
+            Ok(file) => ask_buffered(alloc, form, flags.hints, question, file, writer, errors),
+            Err(why) => return Err(Stop::Unopened(name, why)),
         }
     };
     match ran {
@@ -62,49 +81,57 @@ pub(crate) fn ask_named<'a, S: Sources, W: Write + Drop>(
     }
 }
 
-/// Compares what is in the files of two names. Either is standard input's where its name is `-`. Where both are, the first
-/// takes all of it, and the second is empty.
-pub(crate) fn compare_named<'a, S: Sources, W: Write + Drop>(
+/// Tells what is asked of what is in the files of two names. Either is standard input's where its name is `-`. Where both are, the
+/// first takes all of it, and the second is empty.
+pub(crate) fn compare_named<'a, S: Sources, W: Write + Drop, K: Sink>(
     alloc: Global,
     sources: &S,
     comparison: Comparison,
+    hints: bool,
     name: &'a str,
     other: &'a str,
     writer: W,
+    errors: &mut K,
 ) -> Result<Ran<W>, Stop<'a>>
     ensures ran { IfOk result (λ ran. (first second : Option (List ℕ)) × AreNamed (S.is_given sources.now) (S.is_file sources.now) name.entry.now other.entry.now first second
-        × EndsComparison comparison first second (W.contents writer) (W.contents ran.writer) ran.ended) }
+        × EndsComparisonHinted comparison hints first second (outputs W.contents (seen_by K.told K.contents K.lent) writer errors.old) (outputs W.contents (seen_by K.told K.contents K.lent) ran.writer errors.new) ran.ended ran.hints) }
     ensures stopped { IfErr result (IsWhyNeither (S.is_unopened sources.now) name.entry other.entry) }
+    ensures untold { OnErr result (errors.new ≡ errors.old) }
 {
     if name == "-" {
-        return compare_given(alloc, sources, comparison, other, writer);
+        return compare_given(alloc, sources, comparison, hints, other, writer, errors);
     }
     match sources.open(name) {
-        Ok(file) => compare_file(alloc, sources, comparison, file, other, writer),
-        Err(Unopened) => Err(Stop::Unopened(name)),
+        Ok(file) => compare_file(
+            alloc, sources, comparison, hints, file, other, writer, errors,
+        ),
+        Err(why) => Err(Stop::Unopened(name, why)),
     }
 }
 
-/// Compares standard input with another input, which is empty where it is named as that.
-fn compare_given<'a, S: Sources, W: Write + Drop>(
+/// Tells what is asked of standard input and another input, which is empty where it is named as that.
+fn compare_given<'a, S: Sources, W: Write + Drop, K: Sink>(
     alloc: Global,
     sources: &S,
     comparison: Comparison,
+    hints: bool,
     other: &'a str,
     writer: W,
+    errors: &mut K,
 ) -> Result<Ran<W>, Stop<'a>>
     ensures ran { IfOk result (λ ran. (first second : Option (List ℕ)) × AreNamed (S.is_given sources.now) (S.is_file sources.now) (codes "-") other.entry.now first second
-        × EndsComparison comparison first second (W.contents writer) (W.contents ran.writer) ran.ended) }
+        × EndsComparisonHinted comparison hints first second (outputs W.contents (seen_by K.told K.contents K.lent) writer errors.old) (outputs W.contents (seen_by K.told K.contents K.lent) ran.writer errors.new) ran.ended ran.hints) }
     ensures stopped { IfErr result (IsWhyNot (S.is_unopened sources.now) other.entry) }
+    ensures untold { OnErr result (errors.new ≡ errors.old) }
 {
     let first = sources.given();
     let ran = if other == "-" {
         let nothing: &[u8] = &[];
-        compare_buffered(alloc, comparison, first, nothing, writer)
+        compare_buffered(alloc, comparison, hints, first, nothing, writer, errors)
     } else {
         match sources.open(other) {
-            Ok(file) => compare_buffered(alloc, comparison, first, file, writer),
-            Err(Unopened) => return Err(Stop::Unopened(other)),
+            Ok(file) => compare_buffered(alloc, comparison, hints, first, file, writer, errors),
+            Err(why) => return Err(Stop::Unopened(other, why)),
         }
     };
     match ran {
@@ -113,25 +140,36 @@ fn compare_given<'a, S: Sources, W: Write + Drop>(
     }
 }
 
-/// Compares an input that isn't standard input with another.
-fn compare_file<'a, S: Sources, R: Read + Drop, W: Write + Drop>(
+/// Tells what is asked of an input that isn't standard input and another.
+fn compare_file<'a, S: Sources, R: Read + Drop, W: Write + Drop, K: Sink>(
     alloc: Global,
     sources: &S,
     comparison: Comparison,
+    hints: bool,
     first: R,
     other: &'a str,
     writer: W,
+    errors: &mut K,
 ) -> Result<Ran<W>, Stop<'a>>
     ensures ran { IfOk result (λ ran. (second : Option (List ℕ)) × IsNamed (S.is_given sources.now) (S.is_file sources.now) other.entry.now second
-        × EndsComparison comparison (R.remaining first) second (W.contents writer) (W.contents ran.writer) ran.ended) }
+        × EndsComparisonHinted comparison hints (R.remaining first) second (outputs W.contents (seen_by K.told K.contents K.lent) writer errors.old) (outputs W.contents (seen_by K.told K.contents K.lent) ran.writer errors.new) ran.ended ran.hints) }
     ensures stopped { IfErr result (IsWhyNot (S.is_unopened sources.now) other.entry) }
+    ensures untold { OnErr result (errors.new ≡ errors.old) }
 {
     let ran = if other == "-" {
-        compare_buffered(alloc, comparison, first, sources.given(), writer)
+        compare_buffered(
+            alloc,
+            comparison,
+            hints,
+            first,
+            sources.given(),
+            writer,
+            errors,
+        )
     } else {
         match sources.open(other) {
-            Ok(file) => compare_buffered(alloc, comparison, first, file, writer),
-            Err(Unopened) => return Err(Stop::Unopened(other)),
+            Ok(file) => compare_buffered(alloc, comparison, hints, first, file, writer, errors),
+            Err(why) => return Err(Stop::Unopened(other, why)),
         }
     };
     match ran {

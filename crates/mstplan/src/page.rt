@@ -1,5 +1,5 @@
 /// The number of this release, which `--version` prints behind the program's name.
-pub(crate) const VERSION: &str = "0.51.0";
+pub(crate) const VERSION: &str = "0.52.0";
 
 /// What stands at the end of the program's help: the commands of scripts, the exit statuses, and where all of it is said.
 pub(crate) const PAGE: &str = "\
@@ -42,11 +42,17 @@ Commands of a script, one a line (a line that begins with # is a comment):
 TREE is 0 for the CIST, VIDS are like 10,20-29. Behind a first line 'mstplan 2' priorities aren't steps but the numbers
 themselves.
 
-Flags, anywhere among the words:
+Lines that ask FILE answers on standard input, of the network that stands then; 'done STATUS' ends each answer:
+  any of these commands           an edit changes the network
+  explain B P, explain B P TREE, summary, sweep, sweep K/N, sweep pairs, sweep pairs K/N, dot TREE
+                                  what the program's words of these names print
+  undo, undo N                    takes back the last edit, or the last N
+
+Flags, anywhere among the words before --, behind which no word is a flag:
   --json    what is printed is JSON, a line for each answer, and for each record of a capture (run, check, explain, diff,
-            sweep, summary)
-  --hints   standard error has what would be right in each line that isn't read, and what stands in the way of each that is
-            refused (run, check, of a script in a regular file)
+            sweep, summary, ask)
+  --hints   standard error has what would be right in each line of a script that isn't read, and what stands in the way of
+            each that is refused
 
 Exit statuses:
   0  nothing of the below

@@ -1,17 +1,19 @@
-ghost use Rattle.std.specs.Prelude.{◌≡◌, ◌⊎◌, map, Err, IfOk, IfErr, option_map, string_bytes};
-ghost use Rattle.mstplan.specs.Flags.{flags_in, without_flags};
-ghost use Rattle.mstplan.specs.Program.{Serves, ServesSweep, port_question, part_question, IsWhyUnserved, IsWhyUnswept, IsCarriedOut, IsProgram, IsReadOnce, hinted_script as hinted_name};
+ghost use Rattle.std.specs.Prelude.{◌≡◌, map, Err, IfOk, IfErr, OnErr, option_map, string_bytes};
+ghost use Rattle.mst_io.specs.Devices.{seen_by};
+ghost use Rattle.mstplan.specs.Buffered.{outputs};
+ghost use Rattle.mstplan.specs.Flags.{flags_in, no_flags, without_flags};
+ghost use Rattle.mstplan.specs.Program.{Serves, ServesSweep, port_question, part_question, IsWhyUnserved, IsWhyUnswept, IsCarriedOut, IsProgram, output_of};
 
 use crate::buffered::Ran;
 use crate::compared::Comparison;
-use crate::endings::{Stop, ending_of, tell};
+use crate::endings::{Stop, after_run, status_of_stop, tell, tell_stop};
 use crate::flags::{Flags, Parted};
-use crate::hinting::{HintsEnd, hint};
 use crate::invites::invite;
 use crate::named::{ask_named, compare_named, run_named};
+use crate::piped::Piped;
 use crate::sources::Sources;
 use crate::words::{Asked, PortWords, asked_for, bytes_of};
-use mst_tool::{Form, Question, Sink};
+use mst_tool::{Question, Sink};
 use std::alloc::Global;
 use std::io::Write;
 
@@ -21,67 +23,76 @@ pub(crate) struct Ended<W: Drop> {
     /// The exit status.
     pub(crate) status: u8,
     /// Standard output. `None`: nothing was run, and it wasn't called.
-    pub(crate) output: Option<W>,
+    pub(crate) output: Option<Piped<W>>,
 }
 
 /// Does what the words ask for.
-fn serve<'a, S: Sources, W: Write + Drop>(
+fn serve<'a, S: Sources, W: Write + Drop, K: Sink>(
     alloc: Global,
     sources: &S,
-    form: Form,
+    flags: Flags,
     asked: Asked<'a>,
     output: W,
+    errors: &mut K,
 ) -> Result<Ran<W>, Stop<'a>>
-    ensures ran { IfOk result (λ ran. Serves (S.is_given sources.now) (S.is_file sources.now) form asked.entry (W.contents output) (W.contents ran.writer) ran.ended) }
+    ensures ran { IfOk result (λ ran. Serves (S.is_given sources.now) (S.is_file sources.now) flags asked.entry (outputs W.contents (seen_by K.told K.contents K.lent) output errors.old) (outputs W.contents (seen_by K.told K.contents K.lent) ran.writer errors.new) ran.ended ran.hints) }
     ensures stopped { IfErr result (IsWhyUnserved (S.is_unopened sources.now) asked.entry) }
+    ensures untold { OnErr result (errors.new ≡ errors.old) }
 {
+    let hints = flags.hints;
+    let form = flags.form();
     match asked {
-        Asked::Run { script } => run_named(alloc, sources, form, script, output),
-        Asked::Check { script, captures } => compare_named(
-            alloc,
-            sources,
-            Comparison::Captures(form),
-            script,
-            captures,
-            output,
-        ),
+        Asked::Run { script } => run_named(alloc, sources, flags, script, output, errors),
+        Asked::Check { script, captures } => {
+            let how = Comparison::Captures(form);
+            compare_named(alloc, sources, how, hints, script, captures, output, errors)
+        }
         Asked::Explain { script, port } => {
-            ask_named(alloc, sources, form, &question_of(port), script, output)
+            let question = question_of(port);
+            ask_named(alloc, sources, flags, &question, script, output, errors)
         }
         Asked::Diff { old, new } => {
-            compare_named(alloc, sources, Comparison::Networks(form), old, new, output)
+            let how = Comparison::Networks(form);
+            compare_named(alloc, sources, how, hints, old, new, output, errors)
         }
         Asked::Sweep {
             script,
             word,
             behind,
-        } => sweep_named(alloc, sources, form, script, word, behind, output),
+        } => sweep_named(alloc, sources, flags, script, word, behind, output, errors),
         Asked::Summary { script } => {
-            ask_named(alloc, sources, form, &Question::Summary, script, output)
+            let question = Question::Summary;
+            ask_named(alloc, sources, flags, &question, script, output, errors)
         }
         Asked::Dot { script, tree } => {
             let question = Question::picture(tree.as_bytes());
-            ask_named(alloc, sources, form, &question, script, output)
+            ask_named(alloc, sources, flags, &question, script, output, errors)
+        }
+        Asked::Ask { script } => {
+            let how = Comparison::Questions(form);
+            compare_named(alloc, sources, how, hints, script, "-", output, errors)
         }
     }
 }
 
 /// Tells what each single failure does to the network of a script, or each pair, or each of the part that the words name. Words that
 /// name none are told with status 2.
-fn sweep_named<'a, S: Sources, W: Write + Drop>(
+fn sweep_named<'a, S: Sources, W: Write + Drop, K: Sink>(
     alloc: Global,
     sources: &S,
-    form: Form,
+    flags: Flags,
     script: &'a str,
     word: Option<&'a str>,
     behind: Option<&'a str>,
     output: W,
+    errors: &mut K,
 ) -> Result<Ran<W>, Stop<'a>>
-    ensures ran { IfOk result (λ ran. ServesSweep (S.is_given sources.now) (S.is_file sources.now) form script.entry word.entry behind.entry (W.contents output) (W.contents ran.writer) ran.ended) }
+    ensures ran { IfOk result (λ ran. ServesSweep (S.is_given sources.now) (S.is_file sources.now) flags script.entry word.entry behind.entry (outputs W.contents (seen_by K.told K.contents K.lent) output errors.old) (outputs W.contents (seen_by K.told K.contents K.lent) ran.writer errors.new) ran.ended ran.hints) }
     ensures stopped { IfErr result (IsWhyUnswept (S.is_unopened sources.now) script.entry (part_question word.entry behind.entry)) }
+    ensures untold { OnErr result (errors.new ≡ errors.old) }
 {
     match Question::sweep(bytes_of(word), bytes_of(behind)) {
-        Some(question) => ask_named(alloc, sources, form, &question, script, output),
+        Some(question) => ask_named(alloc, sources, flags, &question, script, output, errors),
         None => Err(Stop::Told(2)),
     }
 }
@@ -97,69 +108,44 @@ fn question_of(port: PortWords<'_>) -> Question
     )
 }
 
-/// Does what the words ask for, and tells in a line on standard error what stopped it. `Err`: the words ask for nothing
-/// that is run, and this is why.
+/// Does what the words ask for, with the hints of its scripts, and tells in a line on standard error what stopped it, and in another
+/// what stopped the hints. `Err`: the words ask for nothing that is run, and this is why.
 pub(crate) fn carry_out<'a, S: Sources, W: Write + Drop, K: Sink>(
     alloc: Global,
     sources: &S,
-    form: Form,
-    asked: Result<Asked<'a>, Stop<'a>>,
-    output: W,
-    errors: &mut K,
-) -> Ended<W>
-    ensures { IsCarriedOut (S.is_given sources.now) (S.is_file sources.now) (S.is_unopened sources.now) form asked.entry (W.contents output) (option_map (λ w. W.contents w) result.output) (record { told = K.told errors.old; text = K.contents errors.old }) (record { told = K.told errors.new; text = K.contents errors.new }) result.status }
-{
-    let served = match asked {
-        Ok(asked) => serve(alloc, sources, form, asked, output),
-        Err(stop) => Err(stop),
-    };
-    let ending = ending_of(&served);
-    tell(errors, ending.told);
-    Ended {
-        status: ending.status,
-        output: match served {
-            Ok(ran) => Some(ran.writer),
-            Err(_) => None,
-        },
-    }
-}
-
-/// The script that what is asked for has hints of, if it has any.
-fn hinted_script<'a>(asked: &Asked<'a>) -> Option<&'a str>
-    ensures { option_map (λ name. name.now) result ≡ hinted_name asked.now }
-{
-    match asked {
-        Asked::Run { script } | Asked::Check { script, .. } => Some(*script),
-        _ => None,
-    }
-}
-
-/// What is asked for, unless it is to have hints and its script can be read but once: this is told on standard error.
-fn hintable<'a, R: Eprint, S: Sources>(
-    rt: &R,
-    sources: &S,
     flags: Flags,
     asked: Result<Asked<'a>, Stop<'a>>,
-) -> Result<Asked<'a>, Stop<'a>>
-    ensures { (result ≡ asked.entry) ⊎ IsReadOnce (S.is_once sources.now) flags.hints asked.entry result }
+    output: Piped<W>,
+    errors: &mut K,
+) -> Ended<W>
+    ensures { IsCarriedOut (S.is_given sources.now) (S.is_file sources.now) (S.is_unopened sources.now) flags asked.entry (W.contents output.writer) (option_map (output_of W.contents) result.output) (seen_by K.told K.contents K.lent errors.old) (seen_by K.told K.contents K.lent errors.new) result.status }
 {
-    let Ok(words) = &asked else {
-        return asked;
+    let served = match asked {
+        Ok(asked) => serve(alloc, sources, flags, asked, output, errors),
+        Err(stop) => Err(stop),
     };
-    match hinted_script(words) {
-        Some(name) if flags.hints && sources.is_once(name) => {
-            let _ = eprintln!(rt;
-                "error: for --hints the script is read a second time, so it has to be a regular file"
-            );
-            Err(Stop::Told(2))
+    match served {
+        Ok(ran) => {
+            let ending = after_run(&ran);
+            tell(errors, ending.told);
+            tell(errors, ending.of_hints);
+            Ended {
+                status: ending.status,
+                output: Some(ran.writer),
+            }
         }
-        _ => asked,
+        Err(stop) => {
+            tell_stop(errors, stop);
+            Ended {
+                status: status_of_stop(stop),
+                output: None,
+            }
+        }
     }
 }
 
 /// All that the program does with the words that it was called with, its name first, or where it couldn't have them: it tells
-/// who waits at a terminal so, does what they ask for, and gives the hints that they ask for. What it has to tell besides
-/// goes to standard error, until that fails.
+/// who waits at a terminal so, and does what they ask for. What it has to tell besides goes to standard error, until that fails.
 pub(crate) fn run_program<R: Print + Eprint + AllocGlobal, S: Sources, W: Write + Drop, K: Sink>(
     rt: &R,
     sources: &S,
@@ -168,13 +154,21 @@ pub(crate) fn run_program<R: Print + Eprint + AllocGlobal, S: Sources, W: Write 
     output: W,
     errors: &mut K,
 ) -> Ended<W>
-    ensures words { IfOk given.entry (λ words. IsProgram (S.is_given sources.now) (S.is_file sources.now) (S.is_unopened sources.now) (S.is_once sources.now) (flags_in (map string_bytes words.items)) (without_flags (map string_bytes words.items)) is_terminal (W.contents output) (option_map (λ w. W.contents w) result.output)
-        (record { told = K.told errors.old; text = K.contents errors.old }) (record { told = K.told errors.new; text = K.contents errors.new }) result.status) }
-    ensures wordless { IfErr given.entry (λ stop. IsCarriedOut (S.is_given sources.now) (S.is_file sources.now) (S.is_unopened sources.now) Form.Text (Err stop) (W.contents output) (option_map (λ w. W.contents w) result.output)
-        (record { told = K.told errors.old; text = K.contents errors.old }) (record { told = K.told errors.new; text = K.contents errors.new }) result.status) }
+    ensures words { IfOk given.entry (λ words. IsProgram (S.is_given sources.now) (S.is_file sources.now) (S.is_unopened sources.now) (S.is_there sources.now) (flags_in (map string_bytes words.items)) (without_flags (map string_bytes words.items)) is_terminal
+        (W.contents output) (option_map (output_of W.contents) result.output) (seen_by K.told K.contents K.lent errors.old) (seen_by K.told K.contents K.lent errors.new) result.status) }
+    ensures wordless { IfErr given.entry (λ stop. IsCarriedOut (S.is_given sources.now) (S.is_file sources.now) (S.is_unopened sources.now) no_flags (Err stop)
+        (W.contents output) (option_map (output_of W.contents) result.output) (seen_by K.told K.contents K.lent errors.old) (seen_by K.told K.contents K.lent errors.new) result.status) }
 {
+    let output = Piped::new(output);
     match given {
-        Err(stop) => carry_out(rt.alloc(), sources, Form::Text, Err(stop), output, errors),
+        Err(stop) => carry_out(
+            rt.alloc(),
+            sources,
+            Flags::none(),
+            Err(stop),
+            output,
+            errors,
+        ),
         Ok(words) => {
             let parted = Parted::of(words);
             run_words(rt, sources, &parted, is_terminal, output, errors)
@@ -188,27 +182,15 @@ fn run_words<R: Print + Eprint + AllocGlobal, S: Sources, W: Write + Drop, K: Si
     sources: &S,
     parted: &Parted,
     is_terminal: bool,
-    output: W,
+    output: Piped<W>,
     errors: &mut K,
 ) -> Ended<W>
-    ensures { IsProgram (S.is_given sources.now) (S.is_file sources.now) (S.is_unopened sources.now) (S.is_once sources.now) parted.now.flags (map string_bytes parted.now.words.items) is_terminal
-        (W.contents output) (option_map (λ w. W.contents w) result.output)
-        (record { told = K.told errors.old; text = K.contents errors.old }) (record { told = K.told errors.new; text = K.contents errors.new }) result.status }
+    ensures { IsProgram (S.is_given sources.now) (S.is_file sources.now) (S.is_unopened sources.now) (S.is_there sources.now) parted.now.flags (map string_bytes parted.now.words.items) is_terminal
+        (W.contents output.writer) (option_map (output_of W.contents) result.output) (seen_by K.told K.contents K.lent errors.old) (seen_by K.told K.contents K.lent errors.new) result.status }
 {
     let flags = parted.flags;
     let words = parted.words.as_slice();
-    invite(errors, words, is_terminal);
-    let first = asked_for(rt, flags, words);
-    let asked = hintable(rt, sources, flags, first);
-    let ended = carry_out(rt.alloc(), sources, flags.form(), asked, output, errors);
-    let hinted = if ended.output.is_some() {
-        hint(rt.alloc(), sources, flags, asked, errors)
-    } else {
-        HintsEnd::Unasked
-    };
-    tell(errors, hinted.told());
-    Ended {
-        status: hinted.status(ended.status),
-        output: ended.output,
-    }
+    let asked = asked_for(rt, sources, flags, words);
+    invite(errors, words, &asked, is_terminal);
+    carry_out(rt.alloc(), sources, flags, asked, output, errors)
 }

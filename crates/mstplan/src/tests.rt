@@ -1,14 +1,17 @@
 use crate::buffered::{ask_buffered, run_buffered};
 use crate::compared::{Comparison, compare_buffered};
-use mst_tool::{Form, Outcome, Question, RunFault};
+use crate::piped::Piped;
+use crate::said::{Part, say};
+use mst_tool::{Form, Outcome, Question, RunFault, ToWrite};
 use std::io::{Error, ErrorKind, Read, Result, Write};
 
-/// Takes this many bytes, then fails once, and counts the calls after it.
+/// Takes this many bytes, then fails once, with an error of this kind, and counts the calls after it.
 #[derive(Drop)]
 struct Failing {
     room: usize,
     has_failed: bool,
     called_again: u32,
+    kind: ErrorKind,
 }
 
 impl Write for Failing {
@@ -21,7 +24,7 @@ impl Write for Failing {
             return Ok(buf.len());
         }
         self.has_failed = true;
-        Err(Error::from(ErrorKind::Other))
+        Err(Error::from(self.kind))
     }
 
     fn flush(&mut self) -> Result<()> {
@@ -44,24 +47,102 @@ impl Read for Cut {
             return Err(Error::from(ErrorKind::Other));
         }
         self.is_given = true;
-        let mut line: &[u8] = b"no\nshowtree 0\n";
+        let mut line: &[u8] = b"qqq\nshowtree 0\n";
         line.read(buf)
     }
 }
 
 #[test]
 fn what_was_served_before_a_read_fault_is_written(rt: HostRuntime) -> Result<()> {
+    let mut told = Vec::new(rt.alloc());
     let Some(ran) = run_buffered(
         rt.alloc(),
         Form::Text,
+        true,
         Cut { is_given: false },
         Vec::new(rt.alloc()),
+        &mut ToWrite::new(&mut told),
     ) else {
         return Err(Error::from(ErrorKind::OutOfMemory));
     };
     assert_eq!(rt; ran.ended, Err(RunFault::Read));
+    assert_eq!(rt; ran.hints, Ok(()));
     let written: &[u8] = b"line 1 E01 no such command\ntree 0\n";
     assert_eq!(rt; ran.writer.as_slice(), written);
+    let hint: &[u8] = b"line 1 no command qqq\n";
+    assert_eq!(rt; told.as_slice(), hint);
+    Ok(())
+}
+
+#[test]
+fn hints_that_fail_leave_the_run(rt: HostRuntime) -> Result<()> {
+    let script: &[u8] = b"qqq\nshowtree 0\n";
+    let mut full = Failing {
+        room: 0,
+        has_failed: false,
+        called_again: 0,
+        kind: ErrorKind::Other,
+    };
+    let Some(ran) = run_buffered(
+        rt.alloc(),
+        Form::Text,
+        true,
+        script,
+        Vec::new(rt.alloc()),
+        &mut ToWrite::new(&mut full),
+    ) else {
+        return Err(Error::from(ErrorKind::OutOfMemory));
+    };
+    let counted = Outcome {
+        refused: 1,
+        memory: 0,
+        differing: 0,
+    };
+    assert_eq!(rt; ran.ended, Ok(counted));
+    assert_eq!(rt; ran.hints, Err(RunFault::Write));
+    assert_eq!(rt; full.called_again, 0);
+    Ok(())
+}
+
+#[test]
+fn a_reader_that_goes_is_noted(rt: HostRuntime) -> Result<()> {
+    let script: &[u8] = b"showtree 0\n";
+    let mut told = Vec::new(rt.alloc());
+    let left = Piped::new(Failing {
+        room: 0,
+        has_failed: false,
+        called_again: 0,
+        kind: ErrorKind::BrokenPipe,
+    });
+    let Some(ran) = run_buffered(
+        rt.alloc(),
+        Form::Text,
+        false,
+        script,
+        left,
+        &mut ToWrite::new(&mut told),
+    ) else {
+        return Err(Error::from(ErrorKind::OutOfMemory));
+    };
+    assert_eq!(rt; ran.ended, Err(RunFault::Write));
+    assert!(rt; ran.writer.is_closed);
+    assert_eq!(rt; ran.writer.writer.called_again, 0);
+    Ok(())
+}
+
+#[test]
+fn control_characters_of_a_name_are_told_by_their_codes(rt: HostRuntime) -> Result<()> {
+    let mut told = Vec::new(rt.alloc());
+    say(
+        &mut ToWrite::new(&mut told),
+        &[
+            Part::Text(b"a "),
+            Part::Name("\x1b[1m\tb\x7f"),
+            Part::Text(b"\n"),
+        ],
+    );
+    let line: &[u8] = b"a \\x1b[1m\\x09b\\x7f\n";
+    assert_eq!(rt; told.as_slice(), line);
     Ok(())
 }
 
@@ -69,14 +150,23 @@ fn what_was_served_before_a_read_fault_is_written(rt: HostRuntime) -> Result<()>
 fn no_device_is_called_after_a_write_fault(rt: HostRuntime) -> Result<()> {
     let mut script = Vec::new(rt.alloc());
     for _ in 0..2000 {
-        script.write_all(b"no\n")?;
+        script.write_all(b"qqq\n")?;
     }
     let full = Failing {
         room: 0,
         has_failed: false,
         called_again: 0,
+        kind: ErrorKind::Other,
     };
-    let Some(ran) = run_buffered(rt.alloc(), Form::Text, script.as_slice(), full) else {
+    let mut told = Vec::new(rt.alloc());
+    let Some(ran) = run_buffered(
+        rt.alloc(),
+        Form::Text,
+        false,
+        script.as_slice(),
+        full,
+        &mut ToWrite::new(&mut told),
+    ) else {
         return Err(Error::from(ErrorKind::OutOfMemory));
     };
     assert_eq!(rt; ran.ended, Err(RunFault::Write));
@@ -87,8 +177,16 @@ fn no_device_is_called_after_a_write_fault(rt: HostRuntime) -> Result<()> {
 
 #[test]
 fn a_run_to_the_end_is_written(rt: HostRuntime) -> Result<()> {
-    let script: &[u8] = b"no\nshowtree 0\n";
-    let Some(ran) = run_buffered(rt.alloc(), Form::Text, script, Vec::new(rt.alloc())) else {
+    let script: &[u8] = b"qqq\nshowtree 0\n";
+    let mut told = Vec::new(rt.alloc());
+    let Some(ran) = run_buffered(
+        rt.alloc(),
+        Form::Text,
+        false,
+        script,
+        Vec::new(rt.alloc()),
+        &mut ToWrite::new(&mut told),
+    ) else {
         return Err(Error::from(ErrorKind::OutOfMemory));
     };
     let counted = Outcome {
@@ -99,6 +197,8 @@ fn a_run_to_the_end_is_written(rt: HostRuntime) -> Result<()> {
     assert_eq!(rt; ran.ended, Ok(counted));
     let written: &[u8] = b"line 1 E01 no such command\ntree 0\n";
     assert_eq!(rt; ran.writer.as_slice(), written);
+    let nothing: &[u8] = b"";
+    assert_eq!(rt; told.as_slice(), nothing);
     Ok(())
 }
 
@@ -106,12 +206,15 @@ fn a_run_to_the_end_is_written(rt: HostRuntime) -> Result<()> {
 fn a_check_to_the_end_is_written(rt: HostRuntime) -> Result<()> {
     let script: &[u8] = b"showtree 0\n";
     let captures: &[u8] = b"# none\n00\n";
+    let mut told = Vec::new(rt.alloc());
     let compared = compare_buffered(
         rt.alloc(),
         Comparison::Captures(Form::Text),
+        false,
         script,
         captures,
         Vec::new(rt.alloc()),
+        &mut ToWrite::new(&mut told),
     );
     let Some(ran) = compared else {
         return Err(Error::from(ErrorKind::OutOfMemory));
@@ -130,14 +233,17 @@ fn a_check_to_the_end_is_written(rt: HostRuntime) -> Result<()> {
 #[test]
 fn an_explanation_to_the_end_is_written(rt: HostRuntime) -> Result<()> {
     let script: &[u8] =
-        b"no\naddbridge A 02:00:00:00:00:01\naddport A 1\naddlan x\nplug A 1 x\nshowtree 0\n";
+        b"qqq\naddbridge A 02:00:00:00:00:01\naddport A 1\naddlan x\nplug A 1 x\nshowtree 0\n";
     let question = Question::explain(b"A", b"1", None);
+    let mut told = Vec::new(rt.alloc());
     let Some(ran) = ask_buffered(
         rt.alloc(),
         Form::Text,
+        false,
         &question,
         script,
         Vec::new(rt.alloc()),
+        &mut ToWrite::new(&mut told),
     ) else {
         return Err(Error::from(ErrorKind::OutOfMemory));
     };
@@ -160,13 +266,16 @@ fn how_networks_differ_is_written(rt: HostRuntime) -> Result<()> {
         addport A 1\naddport B 1\nplug A 1 x\nplug B 1 x\n";
     let mut new = Vec::new(rt.alloc());
     new.write_all(old)?;
-    new.write_all(b"no\nsettreeprio B 0 4\n")?;
+    new.write_all(b"qqq\nsettreeprio B 0 4\n")?;
+    let mut told = Vec::new(rt.alloc());
     let compared = compare_buffered(
         rt.alloc(),
         Comparison::Networks(Form::Text),
+        true,
         old,
         new.as_slice(),
         Vec::new(rt.alloc()),
+        &mut ToWrite::new(&mut told),
     );
     let Some(ran) = compared else {
         return Err(Error::from(ErrorKind::OutOfMemory));
@@ -184,5 +293,35 @@ fn how_networks_differ_is_written(rt: HostRuntime) -> Result<()> {
         port 0 B 1 Root -> Designated\n\
         diff regions 0 roots 1 ports 2 vlans 0\n";
     assert_eq!(rt; ran.writer.as_slice(), written);
+    let hint: &[u8] = b"new line 8 no command qqq\n";
+    assert_eq!(rt; told.as_slice(), hint);
+    Ok(())
+}
+
+#[test]
+fn questions_of_a_network_are_answered(rt: HostRuntime) -> Result<()> {
+    let script: &[u8] = b"qqq\naddbridge A 02:00:00:00:00:01\n";
+    let questions: &[u8] = b"showtree 0\nundo\n";
+    let mut told = Vec::new(rt.alloc());
+    let answered = compare_buffered(
+        rt.alloc(),
+        Comparison::Questions(Form::Text),
+        true,
+        script,
+        questions,
+        Vec::new(rt.alloc()),
+        &mut ToWrite::new(&mut told),
+    );
+    let Some(ran) = answered else {
+        return Err(Error::from(ErrorKind::OutOfMemory));
+    };
+    let counted = Outcome {
+        refused: 2,
+        memory: 0,
+        differing: 0,
+    };
+    assert_eq!(rt; ran.ended, Ok(counted));
+    let hint: &[u8] = b"line 1 no command qqq\n";
+    assert_eq!(rt; told.as_slice(), hint);
     Ok(())
 }

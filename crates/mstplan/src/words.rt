@@ -1,11 +1,13 @@
-ghost use Rattle.std.specs.Prelude.{◌≡◌, ◌≢◌, ◌⊎◌, true, false, Some, codes, option_map, IfOk, IfErr, IsErrAnd};
+ghost use Rattle.std.specs.Prelude.{◌≡◌, ◌≢◌, ◌⊎◌, true, false, Some, codes, option_map, IfOk, IfErr, IfSome, IsErrAnd};
+ghost use Rattle.std.specs.List.{list_any};
 ghost use Rattle.clap.specs.Words.{app_of, first_of, found_of, kind_of, rows_of, rule_of, subcommand_rows_of, with_subcommand};
 ghost use Rattle.mstplan.specs.Flags.{asked_with};
-ghost use Rattle.mstplan.specs.Words.{words_of, tree_word, value_of, asked_of, request_of, asked_by, are_plain, behind_name, names_part as part_named, is_help, is_version, IsAnswer, IsRefusal, wanted_rule, sweep_app, program};
+ghost use Rattle.mstplan.specs.Words.{words_of, tree_word, value_of, asked_of, request_of, asked_by, are_plain, behind_name, without_dashes, names_part as part_named, is_help, is_version, is_of_path, IsAnswer, IsFileAlone, IsRefusal, IsWrong, wanted_rule, sweep_app, dot_app, ask_app, program, no_command as without_command};
 
 use crate::endings::Stop;
 use crate::flags::Flags;
 use crate::page::{PAGE, VERSION};
+use crate::sources::Sources;
 use clap::error::ErrorKind;
 use clap::{Arg, ArgMatches, Command, Error};
 use mst_tool::{Question, RunFault};
@@ -51,6 +53,10 @@ pub(crate) enum Asked<'a> {
         script: &'a str,
         tree: &'a str,
     },
+    /// To answer the questions of the network of a script that come by standard input.
+    Ask {
+        script: &'a str,
+    },
 }
 
 /// The words that name a port, and a tree if it is one that is asked for. Nothing has looked at what they say.
@@ -61,8 +67,13 @@ pub(crate) struct PortWords<'a> {
     pub(crate) tree: Option<&'a str>,
 }
 
+/// The program's name.
+const NAME: &str = "mstplan";
+
 /// What is said of each word that a command has.
 const SCRIPT: &str = "The script, or - for standard input";
+
+const ASKED: &str = "The script, or - for standard input, which then has no questions";
 
 const CAPTURES: &str = "The captured messages, one a line, or - for standard input";
 
@@ -121,17 +132,18 @@ fn names_part(asked: &Asked<'_>) -> bool
 /// What the words ask for with these flags, of which the first is the program's name. Where none of the others is an option,
 /// an `Err` comes just where they ask for nothing that takes these flags, or for want of memory.
 /// The program's help and its version are told on standard output, and come as an `Err` too.
-pub(crate) fn asked_for<'a, R: Print + Eprint + AllocGlobal>(
+pub(crate) fn asked_for<'a, R: Print + Eprint + AllocGlobal, S: Sources>(
     rt: &R,
+    sources: &S,
     flags: Flags,
     words: &'a [String],
 ) -> Result<Asked<'a>, Stop<'a>>
-    ensures asked { are_plain (behind_name words.now) ≡ true → IfOk result (λ asked. asked_with flags (behind_name words.now) ≡ Some (words_of asked)) }
-    ensures refused { are_plain (behind_name words.now) ≡ true → IfErr result (IsRefusal (asked_with flags (behind_name words.now))) }
+    ensures asked { are_plain (behind_name words.now) ≡ true → IfOk result (λ asked. asked_with flags (without_dashes (behind_name words.now)) ≡ Some (words_of asked)) }
+    ensures refused { are_plain (behind_name words.now) ≡ true → IfErr result (IsRefusal (S.is_there sources.now) (behind_name words.now) (asked_with flags (without_dashes (behind_name words.now)))) }
     ensures help { is_help (behind_name words.now) ≡ true → IsErrAnd result IsAnswer }
     ensures version { is_version (behind_name words.now) ≡ true → IsErrAnd result IsAnswer }
 {
-    match asked_by_words(rt, words) {
+    match asked_by_words(rt, sources, words) {
         Err(stop) => Err(stop),
         Ok(asked) if !names_part(&asked) => {
             let _ = eprintln!(rt;
@@ -142,7 +154,7 @@ pub(crate) fn asked_for<'a, R: Print + Eprint + AllocGlobal>(
         Ok(asked) if flags.are_of(&asked) => Ok(asked),
         Ok(_) => {
             let _ = eprintln!(rt;
-                "error: --json is a flag of run, check, explain, diff, sweep and summary, --hints of run and check with the script in a file"
+                "error: --json is a flag of run, check, explain, diff, sweep, summary and ask"
             );
             Err(Stop::Told(2))
         }
@@ -152,12 +164,13 @@ pub(crate) fn asked_for<'a, R: Print + Eprint + AllocGlobal>(
 /// What the words ask for, of which the first is the program's name. Where none of the others is an option, an `Err`
 /// comes just where they ask for nothing, or for want of memory.
 /// The program's help and its version are told on standard output, and come as an `Err` too.
-fn asked_by_words<'a, R: Print + Eprint + AllocGlobal>(
+fn asked_by_words<'a, R: Print + Eprint + AllocGlobal, S: Sources>(
     rt: &R,
+    sources: &S,
     words: &'a [String],
 ) -> Result<Asked<'a>, Stop<'a>>
-    ensures asked { are_plain (behind_name words.now) ≡ true → IfOk result (λ asked. asked_by (behind_name words.now) ≡ Some (words_of asked)) }
-    ensures refused { are_plain (behind_name words.now) ≡ true → IfErr result (IsRefusal (asked_by (behind_name words.now))) }
+    ensures asked { are_plain (behind_name words.now) ≡ true → IfOk result (λ asked. asked_by (without_dashes (behind_name words.now)) ≡ Some (words_of asked)) }
+    ensures refused { are_plain (behind_name words.now) ≡ true → IfErr result (IsRefusal (S.is_there sources.now) (behind_name words.now) (asked_by (without_dashes (behind_name words.now)))) }
     ensures help { is_help (behind_name words.now) ≡ true → IsErrAnd result IsAnswer }
     ensures version { is_version (behind_name words.now) ≡ true → IsErrAnd result IsAnswer }
 {
@@ -165,30 +178,70 @@ fn asked_by_words<'a, R: Print + Eprint + AllocGlobal>(
         Err(refused) => Err(starved(refused)),
         Ok(command) => match command.try_get_matches_from(words) {
             Ok(matches) => Ok(asked_in(&matches)),
-            Err(error) => Err(tell_words(rt, &error)),
+            Err(error) => Err(tell_words(rt, sources, words, &error)),
         },
     }
 }
 
-/// Tells what the words ask for, on standard output, or what is wrong with them, on standard error.
-fn tell_words<R: Print + Eprint>(rt: &R, error: &Error) -> Stop<'static>
+/// Tells what the words ask for, on standard output, or what is wrong with them, on standard error. Where who reads standard
+/// output has closed it, all is told.
+fn tell_words<'a, R: Print + Eprint, S: Sources>(
+    rt: &R,
+    sources: &S,
+    words: &'a [String],
+    error: &Error,
+) -> Stop<'a>
     ensures memory { kind_of error.now ≡ ErrorKind.OutOfMemory → result ≡ Stop.Fault RunFault.Memory }
     ensures help { kind_of error.now ≡ ErrorKind.DisplayHelp → (result ≡ Stop.Told 0) ⊎ (result ≡ Stop.Fault RunFault.Write) }
     ensures version { kind_of error.now ≡ ErrorKind.DisplayVersion → (result ≡ Stop.Told 0) ⊎ (result ≡ Stop.Fault RunFault.Write) }
-    ensures wrong { kind_of error.now ≢ ErrorKind.OutOfMemory → kind_of error.now ≢ ErrorKind.DisplayHelp → kind_of error.now ≢ ErrorKind.DisplayVersion → result ≡ Stop.Told 2 }
-    ensures refused { kind_of error.now ≢ ErrorKind.DisplayHelp → kind_of error.now ≢ ErrorKind.DisplayVersion → (result ≡ Stop.Told 2) ⊎ (result ≡ Stop.Fault RunFault.Memory) }
+    ensures wrong { kind_of error.now ≢ ErrorKind.OutOfMemory → kind_of error.now ≢ ErrorKind.DisplayHelp → kind_of error.now ≢ ErrorKind.DisplayVersion → IsWrong (S.is_there sources.now) (behind_name words.now) result }
+    ensures refused { kind_of error.now ≢ ErrorKind.DisplayHelp → kind_of error.now ≢ ErrorKind.DisplayVersion → IsWrong (S.is_there sources.now) (behind_name words.now) result ⊎ (result ≡ Stop.Fault RunFault.Memory) }
 {
     match error.kind() {
         ErrorKind::OutOfMemory => Stop::Fault(RunFault::Memory),
-        ErrorKind::DisplayHelp | ErrorKind::DisplayVersion => match error.print(rt) {
-            Ok(()) => Stop::Told(0),
-            Err(_) => Stop::Fault(RunFault::Write),
+        ErrorKind::DisplayHelp | ErrorKind::DisplayVersion => tell_answer(rt, error),
+        _ => match file_alone(sources, words) {
+            Some(word) => Stop::NoWord(word),
+            None => {
+                let _ = error.print(rt);
+                Stop::Told(2)
+            }
         },
-        _ => {
-            let _ = error.print(rt);
-            Stop::Told(2)
-        }
     }
+}
+
+/// Tells the help or the version on standard output.
+fn tell_answer<R: Print + Eprint>(rt: &R, error: &Error) -> Stop<'static>
+    ensures { (result ≡ Stop.Told 0) ⊎ (result ≡ Stop.Fault RunFault.Write) }
+{
+    match error.print(rt) {
+        Ok(()) => Stop::Told(0),
+        Err(error) if error.kind() == io::ErrorKind::BrokenPipe => Stop::Told(0),
+        Err(_) => Stop::Fault(RunFault::Write),
+    }
+}
+
+/// The word behind the program's name, if it is the only one and may be meant for a file: it has a `.` or a `/`, or a file of this
+/// name is there.
+fn file_alone<'a, S: Sources>(sources: &S, words: &'a [String]) -> Option<&'a str>
+    ensures { IfSome result (λ word. IsFileAlone (S.is_there sources.now) (behind_name words.now) word.now) }
+{
+    if words.len() != 2 {
+        return None;
+    }
+    let word = words[1].as_str();
+    if has_path_byte(word.as_bytes()) || sources.is_there(word) {
+        Some(word)
+    } else {
+        None
+    }
+}
+
+/// Whether a name has a byte that no command's has, `.` or `/`.
+fn has_path_byte(name: &[u8]) -> bool
+    ensures { result ≡ list_any is_of_path name.now }
+{
+    name.iter().any(|byte| *byte == b'.' || *byte == b'/')
 }
 
 /// A word that has to be there.
@@ -211,6 +264,29 @@ fn with_sweep<'a>(alloc: Global, before: Command<'a>) -> Result<Command<'a>, All
         .arg(Arg::new(alloc, "PART").help(PART))?
         .arg(Arg::new(alloc, "OF_PAIRS").help(OF_PAIRS))?;
     before.subcommand(sweep)
+}
+
+/// A command line with the command that draws a network behind those that it has.
+fn with_dot<'a>(alloc: Global, before: Command<'a>) -> Result<Command<'a>, AllocError>
+    ensures { IfOk result (λ command. app_of command ≡ with_subcommand (app_of before.entry) dot_app.top) }
+{
+    let dot = Command::new(alloc, "dot")
+        .about("Makes the network of a script, and draws it with one of its trees, for Graphviz")
+        .arg(wanted(alloc, "FILE", SCRIPT))?
+        .arg(wanted(alloc, "TREE", DRAWN))?;
+    before.subcommand(dot)
+}
+
+/// A command line with the command that answers questions behind those that it has.
+fn with_ask<'a>(alloc: Global, before: Command<'a>) -> Result<Command<'a>, AllocError>
+    ensures { IfOk result (λ command. app_of command ≡ with_subcommand (app_of before.entry) ask_app.top) }
+{
+    let ask = Command::new(alloc, "ask")
+        .about(
+            "Makes the network of a script once, and answers the questions of it on standard input",
+        )
+        .arg(wanted(alloc, "FILE", ASKED))?;
+    before.subcommand(ask)
 }
 
 /// The program's command line.
@@ -239,24 +315,27 @@ fn command<'a>(alloc: Global) -> Result<Command<'a>, AllocError>
             "Makes the network of a script, and tells its roots, what blocks and what LANs carry",
         )
         .arg(wanted(alloc, "FILE", SCRIPT))?;
-    let dot = Command::new(alloc, "dot")
-        .about("Makes the network of a script, and draws it with one of its trees, for Graphviz")
-        .arg(wanted(alloc, "FILE", SCRIPT))?
-        .arg(wanted(alloc, "TREE", DRAWN))?;
-    let before = Command::new(alloc, "mstplan")
+    let before = no_command(alloc)?
+        .subcommand(run)?
+        .subcommand(check)?
+        .subcommand(explain)?
+        .subcommand(diff)?;
+    let swept = with_sweep(alloc, before)?.subcommand(summary)?;
+    with_ask(alloc, with_dot(alloc, swept)?)
+}
+
+/// The program's command line without a command. Its usage has this name of the program, whatever its file is called.
+fn no_command<'a>(alloc: Global) -> Result<Command<'a>, AllocError>
+    ensures { IfOk result (λ command. app_of command ≡ without_command) }
+{
+    let named = Command::new(alloc, NAME)
         .about(
             "Plans networks of spanning trees. With no command it reads a script on standard input",
         )
         .after_help(PAGE)
         .version(VERSION)
-        .disable_help_subcommand(true)
-        .subcommand(run)?
-        .subcommand(check)?
-        .subcommand(explain)?
-        .subcommand(diff)?;
-    with_sweep(alloc, before)?
-        .subcommand(summary)?
-        .subcommand(dot)
+        .disable_help_subcommand(true);
+    named.bin_name(NAME)
 }
 
 /// What the words ask for: to run standard input where there is no command.
@@ -297,6 +376,9 @@ fn asked_of_command<'a>(command: &str, found: &ArgMatches<'a>) -> Asked<'a>
         "dot" => Asked::Dot {
             script: value_in(found, "FILE"),
             tree: value_in(found, "TREE"),
+        },
+        "ask" => Asked::Ask {
+            script: value_in(found, "FILE"),
         },
         _ => Asked::Run {
             script: value_in(found, "FILE"),

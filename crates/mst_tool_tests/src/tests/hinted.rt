@@ -1,8 +1,13 @@
 //! What would be right in the lines of a script that are refused.
 
-use mst_hinting::hints;
-use mst_tool::RunFault;
+ghost use Rattle.std.specs.Prelude.{◌≡◌, false};
+
+use super::counts;
+use mst_hinting::{Hinting, Script, Telling};
+use mst_tool::{Form, FromRead, Outcome, RunFault, TURNS, ToWrite, run_within};
 use mst_trials::{Sink, Source};
+use std::alloc::Global;
+use std::io::{Read, Write};
 use std::test::Fail;
 
 const SCRIPT: &[u8] = b"\
@@ -47,14 +52,58 @@ const HINTS: &[u8] = b"\
     line 22 a line with mark comes first; changes tells what differs from the network as it was there\n\
     line 23 no bridge a\n";
 
+/// Runs a script, with the hints of it if they are wanted, and answers with what came of both.
+fn hinted<R: Read + Drop, W: Write>(
+    alloc: Global,
+    wanted: bool,
+    script: Script,
+    mut reader: R,
+    printed: &mut Vec<u8>,
+    writer: &mut W,
+) -> (Result<Outcome, RunFault>, Result<(), RunFault>) {
+    let mut source = FromRead::new(&mut reader);
+    let mut errors = ToWrite::new(writer);
+    listened(alloc, wanted, script, &mut source, printed, &mut errors)
+}
+
+/// The same of a script that a source gives.
+fn listened<S: mst_tool::Source, K: mst_tool::Sink>(
+    alloc: Global,
+    wanted: bool,
+    script: Script,
+    inner: &mut S,
+    printed: &mut Vec<u8>,
+    errors: &mut K,
+) -> (Result<Outcome, RunFault>, Result<(), RunFault>)
+    requires { (S.told inner.old).failed ≡ false }
+{
+    let mut telling = Telling::new(alloc, wanted, script);
+    let mut source = Hinting::new(inner, errors, &mut telling);
+    let mut sink = ToWrite::new(printed);
+    let ran = run_within(alloc, Form::Text, &mut source, &mut sink, TURNS);
+    (ran, source.close())
+}
+
+/// Gives the hints of a script, which is run.
+fn hints<R: Read + Drop, W: Write>(
+    alloc: Global,
+    script: Script,
+    reader: R,
+    writer: &mut W,
+) -> Result<(), RunFault> {
+    let mut printed = Vec::new(alloc);
+    let (_, closed) = hinted(alloc, true, script, reader, &mut printed, writer);
+    closed
+}
+
 #[test]
 fn hints_are_given(rt: HostRuntime) -> Result<(), Fail> {
     let mut whole = Vec::new(rt.alloc());
-    assert_eq!(rt; hints(rt.alloc(), SCRIPT, &mut whole), Ok(()));
+    assert_eq!(rt; hints(rt.alloc(), Script::Run, SCRIPT, &mut whole), Ok(()));
     assert!(rt; whole.as_slice() == HINTS);
     let mut slow = Sink::new(rt.alloc(), usize::MAX);
     assert_eq!(rt;
-        hints(rt.alloc(), Source::new(SCRIPT, 1), &mut slow),
+        hints(rt.alloc(), Script::Run, Source::new(SCRIPT, 1), &mut slow),
         Ok(())
     );
     assert!(rt; slow.taken.as_slice() == HINTS);
@@ -67,7 +116,7 @@ fn version_is_read(rt: HostRuntime) -> Result<(), Fail> {
     let script: &[u8] = b"mstplan 2\nsettreeprio a 0 4096\nmstplan 2\n";
     let told: &[u8] = b"line 2 no bridge a\n\
         line 3 no command mstplan; mstplan 2 is the first line of a script of version 2, and stands in no other\n";
-    assert_eq!(rt; hints(rt.alloc(), script, &mut whole), Ok(()));
+    assert_eq!(rt; hints(rt.alloc(), Script::Run, script, &mut whole), Ok(()));
     assert!(rt; whole.as_slice() == told);
     Ok(())
 }
@@ -75,8 +124,63 @@ fn version_is_read(rt: HostRuntime) -> Result<(), Fail> {
 #[test]
 fn writer_stops_hints(rt: HostRuntime) -> Result<(), Fail> {
     let mut short = Sink::new(rt.alloc(), 7);
-    let stopped = hints(rt.alloc(), SCRIPT, &mut short);
+    let stopped = hints(rt.alloc(), Script::Run, SCRIPT, &mut short);
     assert_eq!(rt; stopped, Err(RunFault::Write));
     assert!(rt; short.taken.as_slice() == &HINTS[..7]);
+    Ok(())
+}
+
+/// A query and a mark say nothing where a script is loaded alone. One that can't be read is refused there, too.
+#[test]
+fn loaded_scripts_ask_nothing(rt: HostRuntime) -> Result<(), Fail> {
+    let mut whole = Vec::new(rt.alloc());
+    let script: &[u8] = b"changes\nshowmstconfid a\nmark 1\naddlna x\n";
+    let told: &[u8] = b"new line 3 mark takes no words; 1 word stands here\n\
+        new line 4 no command addlna; addlan?\n";
+    assert_eq!(rt; hints(rt.alloc(), Script::New, script, &mut whole), Ok(()));
+    assert_eq!(rt; whole.as_slice(), told);
+    Ok(())
+}
+
+/// The run is the same where the hints stop.
+#[test]
+fn stopped_hints_disturb_no_run(rt: HostRuntime) -> Result<(), Fail> {
+    let script: &[u8] = b"addlna x\nlan x up\nshowtree 0\n";
+    let mut short = Sink::new(rt.alloc(), 7);
+    let mut printed = Vec::new(rt.alloc());
+    let (ran, closed) = hinted(
+        rt.alloc(),
+        true,
+        Script::Old,
+        script,
+        &mut printed,
+        &mut short,
+    );
+    assert_eq!(rt; ran, Ok(counts(2, 0)));
+    assert_eq!(rt; closed, Err(RunFault::Write));
+    let lines: &[u8] = b"line 1 E01 no such command\nline 2 E06 no such LAN\ntree 0\n";
+    assert_eq!(rt; printed.as_slice(), lines);
+    let told: &[u8] = b"old lin";
+    assert_eq!(rt; short.taken.as_slice(), told);
+    Ok(())
+}
+
+/// Where no hints are wanted none are written.
+#[test]
+fn unwanted_hints_are_none(rt: HostRuntime) -> Result<(), Fail> {
+    let script: &[u8] = b"addlna x\n";
+    let mut told = Vec::new(rt.alloc());
+    let mut printed = Vec::new(rt.alloc());
+    let (ran, closed) = hinted(
+        rt.alloc(),
+        false,
+        Script::Run,
+        script,
+        &mut printed,
+        &mut told,
+    );
+    assert_eq!(rt; ran, Ok(counts(1, 0)));
+    assert_eq!(rt; closed, Ok(()));
+    assert!(rt; told.is_empty());
     Ok(())
 }

@@ -23,8 +23,8 @@ loop-byte-preserved c =
       few = omega (arith, c.loop-byte.invariant.few, c.in_ok-take_byte.ensures.few);
     }
 
-pub returns : goal.returns
-returns c past kept =
+pub returns-clause-told : goal.returns-clause-told
+returns-clause-told c past kept =
     subst (λ l. IsTold past c.args.held.now l c.loop-byte.hints c.loop-byte.held c.args.out.now.items c.loop-byte.out.items)
     (take_all c.loop-byte.byte-index c.args.bytes.now (omega arith))
     (c.loop-byte.invariant.told past kept)

@@ -10,27 +10,29 @@ returns-then-is_write_fault-clause-ends g c =
     let form = c.args.form in
     let question = c.args.question.now in
     let reads = g.S.Source.remaining c.args.source.now in
+    let left = g.S.Source.remaining c.ask_to-ended.new.source in
     let old = c.args.buffered.now in
     let new = c.ask_to-ended.new.writer in
     let ended = c.ask_to-ended.result in
     let h = c.ask_to-ended.ensures in
-    let told : Told form question reads (writer_contents g.W.Write.contents old) (writer_contents g.W.Write.contents new) ended = record { ok = h.ok; fault = h.fault; read = λ e. (g.S.Source.remaining c.ask_to-ended.new.source, h.read e); memory = h.memory } in
-    ends_broken form question reads (g.W.Write.contents (writer_inner old)) (g.W.Write.contents (writer_inner new)) (writer_buffer new) ended (sym c.is_write_fault.ensures ∙ c.if-is_write_fault.true)
-    (subst (λ written. Told form question reads written (writer_contents g.W.Write.contents new) ended) (append_known-nothing (g.W.Write.contents (writer_inner old)) (writer_buffer old) c.requires.empty) told)
+    let told : Told form question reads left (writer_contents g.W.Write.contents old) (writer_contents g.W.Write.contents new) ended = record { ok = h.ok; fault = h.fault; read = h.read; memory = h.memory } in
+    ends_broken form question reads left (g.W.Write.contents (writer_inner old)) (g.W.Write.contents (writer_inner new)) (writer_buffer new) ended (sym c.is_write_fault.ensures ∙ c.if-is_write_fault.true)
+    (subst (λ written. Told form question reads left written (writer_contents g.W.Write.contents new) ended) (append_known-nothing (g.W.Write.contents (writer_inner old)) (writer_buffer old) c.requires.empty) told)
 
 pub returns-in-Ok-clause-ends : goal.returns-in-Ok-clause-ends
 returns-in-Ok-clause-ends g c =
     let form = c.args.form in
     let question = c.args.question.now in
     let reads = g.S.Source.remaining c.args.source.now in
+    let left = g.S.Source.remaining c.ask_to-ended.new.source in
     let old = c.args.buffered.now in
     let mid = c.ask_to-ended.new.writer in
     let new = c.flush.new.self in
     let ended = c.ask_to-ended.result in
     let h = c.ask_to-ended.ensures in
-    let told : Told form question reads (writer_contents g.W.Write.contents old) (writer_contents g.W.Write.contents mid) ended = record { ok = h.ok; fault = h.fault; read = λ e. (g.S.Source.remaining c.ask_to-ended.new.source, h.read e); memory = h.memory } in
-    ends_written form question reads (g.W.Write.contents (writer_inner old)) (writer_contents g.W.Write.contents mid) (g.W.Write.contents (writer_inner new)) ended (sym c.is_write_fault.ensures ∙ c.if-is_write_fault.false)
-    (subst (λ written. Told form question reads written (writer_contents g.W.Write.contents mid) ended) (append_known-nothing (g.W.Write.contents (writer_inner old)) (writer_buffer old) c.requires.empty) told)
+    let told : Told form question reads left (writer_contents g.W.Write.contents old) (writer_contents g.W.Write.contents mid) ended = record { ok = h.ok; fault = h.fault; read = h.read; memory = h.memory } in
+    ends_written form question reads left (g.W.Write.contents (writer_inner old)) (writer_contents g.W.Write.contents mid) (g.W.Write.contents (writer_inner new)) ended (sym c.is_write_fault.ensures ∙ c.if-is_write_fault.false)
+    (subst (λ written. Told form question reads left written (writer_contents g.W.Write.contents mid) ended) (append_known-nothing (g.W.Write.contents (writer_inner old)) (writer_buffer old) c.requires.empty) told)
     (subst (Keeps (writer_contents g.W.Write.contents mid)) (append_known-nothing (g.W.Write.contents (writer_inner new)) (writer_buffer new) c.in-Ok.ensures.ok) c.in-Ok.ensures.bytes)
 
 pub returns-in-Err-clause-ends : goal.returns-in-Err-clause-ends
@@ -38,12 +40,13 @@ returns-in-Err-clause-ends g c =
     let form = c.args.form in
     let question = c.args.question.now in
     let reads = g.S.Source.remaining c.args.source.now in
+    let left = g.S.Source.remaining c.ask_to-ended.new.source in
     let old = c.args.buffered.now in
     let mid = c.ask_to-ended.new.writer in
     let new = c.flush.new.self in
     let ended = c.ask_to-ended.result in
     let h = c.ask_to-ended.ensures in
-    let told : Told form question reads (writer_contents g.W.Write.contents old) (writer_contents g.W.Write.contents mid) ended = record { ok = h.ok; fault = h.fault; read = λ e. (g.S.Source.remaining c.ask_to-ended.new.source, h.read e); memory = h.memory } in
-    ends_lost form question reads (g.W.Write.contents (writer_inner old)) (writer_contents g.W.Write.contents mid) (g.W.Write.contents (writer_inner new)) (writer_buffer new) ended
-    (subst (λ written. Told form question reads written (writer_contents g.W.Write.contents mid) ended) (append_known-nothing (g.W.Write.contents (writer_inner old)) (writer_buffer old) c.requires.empty) told)
+    let told : Told form question reads left (writer_contents g.W.Write.contents old) (writer_contents g.W.Write.contents mid) ended = record { ok = h.ok; fault = h.fault; read = h.read; memory = h.memory } in
+    ends_lost form question reads left (g.W.Write.contents (writer_inner old)) (writer_contents g.W.Write.contents mid) (g.W.Write.contents (writer_inner new)) (writer_buffer new) ended
+    (subst (λ written. Told form question reads left written (writer_contents g.W.Write.contents mid) ended) (append_known-nothing (g.W.Write.contents (writer_inner old)) (writer_buffer old) c.requires.empty) told)
     c.in-Err.ensures.bytes

@@ -15,7 +15,7 @@ returns-in-Some-clause-ran g c =
           second_given = λ _ n. absurd (n refl);
           no_second = λ _ _. refl;
         },
-        rw (sym w.ran-is ∙ c.in-Some.is) at w.compare_buffered-ran.ensures,
+        rw (sym w.errors-is, sym w.ran-is ∙ c.in-Some.is) at w.compare_buffered-ran.ensures.ran,
       )
       | else-eq+in-Ok w ↦ (
         g.S.Given.Read.remaining c.given-first.result,
@@ -26,6 +26,6 @@ returns-in-Some-clause-ran g c =
           second_given = λ _ n. absurd (n refl);
           no_second = λ e _. absurd (names_differ c.args.other.now (codes "-") c.eq.result c.eq.ensures w.if-eq.false e);
         },
-        rw (sym w.ran-is ∙ c.in-Some.is) at w.compare_buffered.ensures,
+        rw (sym w.errors-is, sym w.ran-is ∙ c.in-Some.is) at w.compare_buffered.ensures.ran,
       )
     ]

@@ -1,12 +1,15 @@
 use Rattle.std.proofs.Common.{ap, inr, map, string_bytes, sym, subst, ◌∙◌, Some}
 use Rattle.clap.specs.Words.{fault_of, is_simple, is_simple_and_free, subcommand_of}
 use Rattle.clap.specs.Kinds.{HasKind}
-use Rattle.mstplan.specs.Words.{IsRefusal, asked_by, asked_of, behind_name}
+use Rattle.mstplan.specs.Words.{IsRefusal, asked_by, asked_of, behind_name, without_dashes}
 use Rattle.mstplan.proofs.CommandLine.{all_fit, called, called_answers, help_calls, version_calls, fits_asks, free, memory_refuses, simple, told_refuses}
 use Rattle.mstplan.proofs.words.asked_by_words.Goals as goal
 
 pub returns-in-Err-clause-refused : goal.returns-in-Err-clause-refused
-returns-in-Err-clause-refused g c = λ plain. subst (IsRefusal (asked_by (behind_name c.args.words.now))) (sym c.starved.ensures) (memory_refuses (asked_by (behind_name c.args.words.now)))
+returns-in-Err-clause-refused g c = λ plain.
+    let words = behind_name c.args.words.now in
+    let asks = asked_by (without_dashes words) in
+    subst (IsRefusal (g.S.Sources.is_there c.args.sources.now) words asks) (sym c.starved.ensures) (memory_refuses (g.S.Sources.is_there c.args.sources.now) words asks)
 
 pub returns-in-Ok-try_get_matches_from-clause-asked : goal.returns-in-Ok-try_get_matches_from-clause-asked
 returns-in-Ok-try_get_matches_from-clause-asked g c = λ plain.
@@ -21,7 +24,7 @@ pub returns-in-Err-try_get_matches_from-clause-refused : goal.returns-in-Err-try
 returns-in-Err-try_get_matches_from-clause-refused g c = λ plain.
     let words = map string_bytes c.args.words.now in
     let app_is = c.in-Ok.ensures in
-    told_refuses _ _ _ _ _ (all_fit words plain) (subst (λ a. HasKind (fault_of a words) c.in-Err-try_get_matches_from.error) app_is (c.in-Err-try_get_matches_from.ensures.kinds (ap is_simple_and_free app_is ∙ free))) c.tell_words.ensures.memory c.tell_words.ensures.refused
+    told_refuses _ _ _ _ _ _ _ (all_fit words plain) (subst (λ a. HasKind (fault_of a words) c.in-Err-try_get_matches_from.error) app_is (c.in-Err-try_get_matches_from.ensures.kinds (ap is_simple_and_free app_is ∙ free))) c.tell_words.ensures.memory c.tell_words.ensures.refused
 
 pub returns-in-Err-clause-help : goal.returns-in-Err-clause-help
 returns-in-Err-clause-help g c = λ asks. inr (inr c.starved.ensures)

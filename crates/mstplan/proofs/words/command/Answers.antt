@@ -4,7 +4,7 @@ use Rattle.std.proofs.lemmas.Result.{IfOk-weaker}
 use Rattle.clap.specs.Words.{App, app_of, new_rule, rule_of, with_rule, with_subcommand}
 use Rattle.clap.specs.Simple.{app_of_fields}
 use Rattle.clap.specs.declared.builder.arg.Arg.{Arg}
-use Rattle.mstplan.specs.Words.{check_app, diff_app, dot_app, explain_app, no_command, run_app, summary_app, sweep_app}
+use Rattle.mstplan.specs.Words.{ask_app, check_app, diff_app, dot_app, explain_app, no_command, run_app, summary_app, sweep_app}
 use Rattle.mstplan.proofs.words.command.Goals as goal
 
 pub returns : goal.returns
@@ -31,24 +31,15 @@ returns c =
     ∙ ap₂ (λ x y. x || y) (c.in_ok-arg-5.ensures.globals ∙ ap₂ (λ x y. x || y) (ap (λ f. f.has_globals) c.about-4.ensures ∙ c.new-5.ensures.local) c.wanted-7.ensures.local) c.wanted-8.ensures.local in
     let summary_is : app_of c.in_ok-summary.summary ≡ summary_app = c.in_ok-summary.ensures.shape c.wanted-9.ensures.local ∙ ap₂ with_rule (ap app_of_fields c.about-5.ensures ∙ c.new-6.ensures.app) c.wanted-9.ensures.rule in
     let summary_local = c.in_ok-summary.ensures.globals ∙ ap₂ (λ x y. x || y) (ap (λ f. f.has_globals) c.about-5.ensures ∙ c.new-6.ensures.local) c.wanted-9.ensures.local in
-    let dot_is : app_of c.in_ok-dot.dot ≡ dot_app = c.in_ok-dot.ensures.shape c.wanted-11.ensures.local
-    ∙ ap₂ with_rule (c.in_ok-arg-6.ensures.shape c.wanted-10.ensures.local ∙ ap₂ with_rule (ap app_of_fields c.about-6.ensures ∙ c.new-7.ensures.app) c.wanted-10.ensures.rule) c.wanted-11.ensures.rule in
-    let dot_local = c.in_ok-dot.ensures.globals
-    ∙ ap₂ (λ x y. x || y) (c.in_ok-arg-6.ensures.globals ∙ ap₂ (λ x y. x || y) (ap (λ f. f.has_globals) c.about-6.ensures ∙ c.new-7.ensures.local) c.wanted-10.ensures.local) c.wanted-11.ensures.local in
-    let none_is : app_of c.disable_help_subcommand.result ≡ no_command = ap app_of_fields c.disable_help_subcommand.ensures
-    ∙ ap (λ f. app_of_fields (record f { disable_help_subcommand = true })) c.version.ensures
-    ∙ ap (λ (a : App). record a { top = record a.top { has_version = true; disable_help_subcommand = true } })
-    (ap app_of_fields c.after_help.ensures ∙ ap app_of_fields c.about-7.ensures ∙ c.new-8.ensures.app) in
     let first_is : app_of c.in_ok-subcommand.field-0 ≡ with_subcommand no_command run_app.top = c.in_ok-subcommand.ensures.shape run_local
-    ∙ ap₂ with_subcommand none_is (ap (λ (a : App). a.top) run_is) in
+    ∙ ap₂ with_subcommand c.in_ok-no_command.ensures (ap (λ (a : App). a.top) run_is) in
     let second_is : app_of c.in_ok-subcommand-2.field-0 ≡ with_subcommand (with_subcommand no_command run_app.top) check_app.top = c.in_ok-subcommand-2.ensures.shape check_local
     ∙ ap₂ with_subcommand first_is (ap (λ (a : App). a.top) check_is) in
     let third_is : app_of c.in_ok-subcommand-3.field-0 ≡ with_subcommand (with_subcommand (with_subcommand no_command run_app.top) check_app.top) explain_app.top = c.in_ok-subcommand-3.ensures.shape explain_local
     ∙ ap₂ with_subcommand second_is (ap (λ (a : App). a.top) explain_is) in
     let fourth_is : app_of c.in_ok-before.before ≡ with_subcommand (with_subcommand (with_subcommand (with_subcommand no_command run_app.top) check_app.top) explain_app.top) diff_app.top = c.in_ok-before.ensures.shape diff_local
     ∙ ap₂ with_subcommand third_is (ap (λ (a : App). a.top) diff_is) in
-    let fifth_is : app_of c.in_ok-with_sweep.field-0 ≡ with_subcommand (with_subcommand (with_subcommand (with_subcommand (with_subcommand no_command run_app.top) check_app.top) explain_app.top) diff_app.top) sweep_app.top = c.in_ok-with_sweep.ensures
-    ∙ ap (λ (a : App). with_subcommand a sweep_app.top) fourth_is in
-    let sixth_is : app_of c.in_ok-subcommand-4.field-0 ≡ with_subcommand (with_subcommand (with_subcommand (with_subcommand (with_subcommand (with_subcommand no_command run_app.top) check_app.top) explain_app.top) diff_app.top) sweep_app.top) summary_app.top = c.in_ok-subcommand-4.ensures.shape summary_local
-    ∙ ap₂ with_subcommand fifth_is (ap (λ (a : App). a.top) summary_is) in
-    IfOk-weaker c.subcommand-6.result _ _ (λ r h. h.shape dot_local ∙ ap₂ with_subcommand sixth_is (ap (λ (a : App). a.top) dot_is)) c.subcommand-6.ensures
+    let fifth_is = c.in_ok-with_sweep.ensures ∙ ap (λ (a : App). with_subcommand a sweep_app.top) fourth_is in
+    let sixth_is = c.in_ok-swept.ensures.shape summary_local ∙ ap₂ with_subcommand fifth_is (ap (λ (a : App). a.top) summary_is) in
+    let seventh_is = c.in_ok-with_dot.ensures ∙ ap (λ (a : App). with_subcommand a dot_app.top) sixth_is in
+    IfOk-weaker c.with_ask.result _ _ (λ r h. h ∙ ap (λ (a : App). with_subcommand a ask_app.top) seventh_is) c.with_ask.ensures

@@ -1,0 +1,58 @@
+ghost use Rattle.std.specs.Prelude.{◌≡◌, ◌||◌, false};
+ghost use Rattle.mstplan.specs.Piped.{closes as closes_pipe};
+
+use std::io::{ErrorKind, Result, Write};
+
+/// A writer that notes whether who reads it has closed it.
+#[derive(Drop)]
+pub(crate) struct Piped<W: Drop> {
+    pub(crate) writer: W,
+    /// A call has failed since no one reads any more what is written.
+    pub(crate) is_closed: bool,
+}
+
+impl<W: Drop> Piped<W> {
+    /// A writer that wasn't called yet.
+    pub(crate) fn new(writer: W) -> Piped<W>
+        ensures writer { result.writer ≡ writer }
+        ensures closed { result.is_closed ≡ false }
+    {
+        Piped {
+            writer,
+            is_closed: false,
+        }
+    }
+
+    /// Notes what a call was answered.
+    fn note<T>(&mut self, answer: &Result<T>)
+        ensures { self.new ≡ record self.old { is_closed = self.old.is_closed || closes_pipe answer.now } }
+    {
+        self.is_closed = self.is_closed || closes(answer);
+    }
+}
+
+impl<W: Write + Drop> Write for Piped<W> {
+    ghost contents = { λ p. W.contents p.writer };
+
+    fn write(&mut self, buf: &[u8]) -> Result<usize> {
+        let answer = self.writer.write(buf);
+        self.note(&answer);
+        answer
+    }
+
+    fn flush(&mut self) -> Result<()> {
+        let answer = self.writer.flush();
+        self.note(&answer);
+        answer
+    }
+}
+
+/// Whether a call has failed since no one reads any more what is written.
+fn closes<T>(answer: &Result<T>) -> bool
+    ensures { result ≡ closes_pipe answer.now }
+{
+    match answer {
+        Ok(_) => false,
+        Err(error) => error.kind() == ErrorKind::BrokenPipe,
+    }
+}
