@@ -37,6 +37,8 @@ ASKED = re.compile(r"\s*(show\w+|changes|save)(\s|$)")
 MOST_EXPLAINED = 3
 ALL_EXPLAINED = 20
 MOST_IN_PAIRS = 20
+# no word prints these queries, or prints them with its records
+UNPRINTED = {("Query", "Check"), ("Query", "Verify")}
 # no script here comes to these: contests in which no component differs, and a root port without a rival
 RARE = {("ContestLine", "DesignatedOver"), ("ContestLine", "RootAlone"), ("ContestLine", "RootOver")}
 # Whether a failure cuts this VID is asked of the campus.
@@ -318,6 +320,16 @@ def is_asked(value, words, script):
     return query_line(value).split() == [number_word(word) for word in asked]
 
 
+def are_asked(values, words, script):
+    """Whether each answer says what asked for it. A standing planner is asked by lines, and ends the answer of each by a record."""
+    asked = [words]
+    if words[0] == "ask":
+        asked = [["its script"], *(line.split() for line in script.split("\n") if line.strip())]
+    ends = list(itertools.accumulate((value.get("kind") == "done" for value in values), initial=0))
+    answers = [(value, asked[end % len(asked)]) for value, end in zip(values, ends) if "records" in value]
+    return all(is_asked(value, words, script) for value, words in answers)
+
+
 def is_each_asked(values, script):
     """Whether each query of a script is answered or refused, once."""
     asked = [number for number, line in enumerate(script.split("\n"), 1) if ASKED.match(line)]
@@ -353,7 +365,7 @@ def difference(program, command, words, script):
             return next(f"{one!r} is told, and {other!r} by its record" for one, other in pairs if one != other)
         if not all(map(order_of, values)):
             return "members in another order"
-        if not all(is_asked(value, [command, *words[1:]] if command != "diff" else [command], script) for value in values if "records" in value):
+        if not are_asked(values, [command, *words[1:]] if command != "diff" else [command], script):
             return "an answer to what isn't asked"
         if command in ("run", "check") and not is_each_asked(values, script):
             return "a query that is answered twice, or never"
@@ -484,6 +496,15 @@ def with_queries(script):
     return script + ("" if script.endswith("\n") or not script else "\n") + "\n".join(lines) + "\n"
 
 
+def standing(script):
+    """What a standing planner is asked of a script: words of the program and queries, before and behind edits, and these taken back."""
+    ports = [f"explain {' '.join(words[1:])}" for words in explained(script)]
+    asked = [*ports[:3], ports[-1], "summary", "sweep", "sweep 2/3", "dot 4095", "explain"]
+    bridge = next(iter(re.findall(r"^addbridge (\S+)", script, re.MULTILINE)), "nobody")
+    edits = ["mark", f"bridge {bridge} off", "addlan a-LAN-more", f"kind {bridge} rstp", f"delbridge {bridge}", "undo", "undo 2", "undo 9"]
+    return "\n".join([*queries_of(script), *asked, *edits, "changes", *asked, "save", "no such line", ""])
+
+
 def quiet(script):
     """Its edits."""
     return "".join(line + "\n" for line in script.split("\n") if not ASKED.match(line) and line.split() != ["mark"])
@@ -509,6 +530,8 @@ def cases(folder):
         yield from ((name, "sweep", ["-", *words], edits) for words in ([], ["2/3"]))
         if edits.count("addbridge ") < MOST_IN_PAIRS:
             yield from ((name, "sweep", ["-", "pairs", *words], edits) for words in ([], ["1/4"]))
+    for number, (name, script) in enumerate(named):
+        yield name, "ask", [written(folder, f"ask{number}", quiet(script))], standing(quiet(script))
     for number, ((name, script), (other, new)) in enumerate(itertools.pairwise(named)):
         path = written(folder, f"old{number}", quiet(script))
         yield f"{name} and {other}", "diff", [path, "-"], quiet(new)
@@ -704,8 +727,8 @@ def user_answers(program):
 
 
 def unmet():
-    """The kinds that no script of these comes to. What is refused says no kind, and each record of `check` stands alone."""
-    return {kind[:2] for kind in KINDS if kind.enum not in ("RefusalLine", "AskLine") and kind[:2] != ("Query", "Check")} - MET - RARE
+    """The kinds that no script of these comes to. What is refused says no kind, each record of `check` stands alone, and no word tells of policies."""
+    return {kind[:2] for kind in KINDS if kind.enum not in ("RefusalLine", "VerifyLine") and kind[:2] not in UNPRINTED} - MET - RARE
 
 
 def main():

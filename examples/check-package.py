@@ -115,7 +115,8 @@ def completion_of(root, commands):
     """What is wrong with the completion."""
     path = os.path.join(root, "usr/share/bash-completion/completions/mstplan")
     wrong = ran("bash", "-n", path, text=True).stderr.splitlines()
-    for words, wanted in (("''", commands), ("su", ["summary"]), ("summary --j", ["--json"]), ("check --h", ["--help", "--hints"])):
+    for words, wanted in (("''", commands), ("su", ["summary"]), ("summary --j", ["--json"]), ("check --h", ["--help", "--hints"]),
+                          ("as", ["ask"]), ("dot --", ["--help", "--hints", "--version"]), ("ask --", ["--help", "--hints", "--json", "--version"])):
         count = len(words.split())
         text = f'. "$1"; COMP_WORDS=(mstplan {words}); COMP_CWORD={count}; _mstplan; echo "${{COMPREPLY[@]}}"'
         found = ran("bash", "-c", text, "bash", path, text=True).stdout.split()

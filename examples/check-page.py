@@ -5,8 +5,9 @@ usage: check-page.py PROGRAM
 
 The networks: each script of the examples, a few drawn ones, two on one page, a campus of 50 switches, and one with strange
 names. Needed: Chromium, its driver and Selenium (Debian: chromium, chromium-driver, python3-selenium). Where one isn't there
-nothing is checked, and a line tells which; where this Python lacks Selenium, /usr/bin/python3 is tried. The exit status is 1
-where something differs, or where it takes longer than its time.
+no page is opened, and a line tells which; where this Python lacks Selenium, /usr/bin/python3 is tried. What page.py does with its
+words, and what stands in a page, is checked in any case. The exit status is 1 where something differs, or where it takes longer than its
+time.
 """
 
 import collections
@@ -14,7 +15,11 @@ import contextlib
 import glob
 import html
 import importlib
+import itertools
+import json
 import os
+import re
+import shlex
 import shutil
 import signal
 import subprocess
@@ -31,6 +36,8 @@ MOST_PORTS, MOST_FAILURES, MOST_VLANS = 16, 16, 6
 CAMPUS = ["4", "10"]
 # Of the drawn networks of check-answers.py some, with shared LANs, links of a class, RSTP bridges and restricted roles.
 DRAWN = (0, 2, 9, 10)
+# What page.py writes of the networks.
+DATA = re.compile(r'<script id="data" type="application/json">(.*)</script>')
 FLAGS = ("headless=new", "no-sandbox", "disable-gpu", "disable-dev-shm-usage", "window-size=1440,1100")
 FORWARDING = {"Root", "Designated", "Master"}
 BLOCKING = {"Alternate", "Backup"}
@@ -466,8 +473,8 @@ def check_words(program, folder, expect):
         ([absent, script], 3, f"page.py: {absent}: No such file or directory"),
         ([program, script, os.path.join(absent, "page.html")], 3, f"page.py: {absent}/page.html: No such file or directory"),
         ([program, script, "--old", absent], 3, f"page.py: {absent}: No such file or directory"),
-        (["false", script], 3, "page.py: false summary -: 0 answers in place of one"),
-        (["echo", script], 3, "page.py: echo summary -: the answer isn't JSON: Expecting value: line 1 column 1 (char 0)"),
+        (["false", script], 3, "page.py: false ask: its script: exit status 1: nothing is told"),
+        (["echo", script], 3, "page.py: echo ask: the answer isn't JSON: Expecting value: line 1 column 1 (char 0)"),
         ([program], 2, "page.py: error: the following arguments are required: SCRIPT"),
         ([program, script, "--other"], 2, "page.py: error: unrecognized arguments: --other"),
     ]
@@ -479,6 +486,38 @@ def check_words(program, folder, expect):
     ran = run_page([program, script, "--no-sweep", "--title", "A & B"])
     found = ran.returncode, html.escape("A & B") in ran.stdout, ran.stdout.endswith("</html>\n")
     expect.equal("page.py on standard output", found, (0, True, True))
+
+
+def check_data(program, folder, expect):
+    """A page has what the program answers that is asked alone; and it is started twice for a page, four times for one of two networks."""
+    counted, starts = os.path.join(folder, "counted"), os.path.join(folder, "starts")
+    with open(counted, "w", encoding="ascii") as file:
+        file.write(f'#!/bin/sh\necho >> {shlex.quote(starts)}\nexec {shlex.quote(program)} "$@"\n')
+    os.chmod(counted, 0o755)
+    old, new = (os.path.join(HERE, name) for name in ("campus.script", "campus-changed.script"))
+    for words, count in (([old], 2), ([new, "--old", old], 4)):
+        with open(starts, "w", encoding="ascii"):
+            pass
+        path = made(counted, folder, "data", expect, words)
+        with open(starts, encoding="ascii") as file:
+            expect.equal(f"page.py {words}: runs of the program", len(file.readlines()), count)
+    with open(path, encoding="utf-8") as file:
+        data = json.loads(DATA.search(file.read())[1])
+    expect.equal("data: differences", data["differences"], answered(program, "diff", old, new))
+    for network, script in ((data["before"], old), (data["after"], new)):
+        expect.equal("data: summary", network["summary"], answered(program, "summary", script))
+        for port, reasons in network["reasons"].items():
+            told = [record for record in answered(program, "explain", script, *port.split(":")) if record["kind"] != "explain"]
+            expect.equal(f"data: {port}", list(itertools.chain.from_iterable(reasons.values())), told)
+        swept = [record for record in answered(program, "sweep", script) if record["kind"] in ("lan", "bridge")]
+        names = [(it["what"], it["name"], it["changed"]) for it in network["failures"]]
+        expect.equal("data: failures", names, [(it["kind"], it[it["kind"]], it["port_count"]) for it in swept])
+
+
+def answered(program, word, *words):
+    """The records of what a program answers that is asked alone."""
+    told = subprocess.run([program, word, "--json", *words], capture_output=True, timeout=SECONDS_OF_A_STEP, check=False).stdout
+    return json.loads(told.splitlines()[-1])["records"]
 
 
 def check_pages(browser, program, folder, expect):
@@ -509,30 +548,36 @@ def late(_signal, _frame):
     raise TimeoutError(f"not done in {SECONDS} seconds")
 
 
+def check_in_browser(program, folder, expect):
+    """All pages in a browser, where there is one."""
+    lacking = missing()
+    if lacking:
+        print(f"skipped, no page is opened: missing {', '.join(lacking)}")
+        return
+    browser = Browser(folder)
+    try:
+        pages, compared = check_pages(browser, program, folder, expect)
+        print(f"{pages} pages, {compared} comparisons of their own")
+    finally:
+        signal.alarm(SECONDS_TO_END)
+        browser.end()
+
+
 def main():
     if len(sys.argv) != 2 or sys.argv[1].startswith("-"):
         sys.exit(__doc__)
     with_selenium()
-    lacking = missing()
-    if lacking:
-        print(f"skipped, the page isn't checked: missing {', '.join(lacking)}")
-        sys.exit(0)
     program, expect = os.path.abspath(sys.argv[1]), Expectations()
     signal.signal(signal.SIGALRM, late)
     signal.alarm(SECONDS)
     with tempfile.TemporaryDirectory(ignore_cleanup_errors=True) as folder:
-        browser = None
         try:
             check_words(program, folder, expect)
-            browser = Browser(folder)
-            pages, compared = check_pages(browser, program, folder, expect)
-            print(f"{pages} pages, {compared} comparisons of their own")
+            check_data(program, folder, expect)
+            check_in_browser(program, folder, expect)
         except Exception as fault:
             expect.equal("the check", f"{type(fault).__name__}: {fault}", "no fault")
-        finally:
-            signal.alarm(SECONDS_TO_END)
-            if browser:
-                browser.end()
+        signal.alarm(0)
     print(f"{expect.passed} passed, {expect.failed} failed")
     sys.exit(1 if expect.failed else 0)
 

@@ -22,8 +22,12 @@ HERE = os.path.dirname(os.path.abspath(__file__))
 sys.dont_write_bytecode = True
 sys.path.insert(0, HERE)
 
+import ask_runs  # noqa: E402
+import hint_runs  # noqa: E402
 import large_runs  # noqa: E402
+from hint_runs import HINTED, HINTED_RUN, HINTS  # noqa: E402
 
+NOBODY = 65534
 # Any text that has a usage line.
 USAGE = object()
 VERSION = re.compile(rb"mstplan \d+\.\d+\.\d+\n")
@@ -142,13 +146,22 @@ NO_BRIDGE = b"explain E04 no such bridge\n"
 NO_PORT = b"explain E05 no such port\n"
 
 
+def unopened(name, why="no such file"):
+    """What is told of a file that can't be opened."""
+    return f"mstplan: cannot open {name}: {why}\n".encode()
+
+
+def is_folder(name):
+    return f"mstplan: {name} is a folder\n".encode()
+
+
 def explain_cases(folder):
     """Each case: its name, the words, standard input, the status, standard output and standard error."""
     script = os.path.join(folder, "explained")
     with open(script, "wb") as file:
         file.write(QUIET)
     absent = os.path.join(folder, "absent")
-    cannot = b"mstplan: cannot open " + absent.encode() + b"\n"
+    cannot = unopened(absent)
 
     def of(words):
         return ["explain", "-"] + words.split()
@@ -184,7 +197,7 @@ def explain_cases(folder):
         ("run with the words of explain", ["run", script, "A", "1"], b"", 2, b"", USAGE),
         ("check with the words of explain", ["check", script, "A", "1", "0"], b"", 2, b"", USAGE),
         ("explain, a file that isn't there", ["explain", absent, "A", "1"], QUIET, 3, b"", cannot),
-        ("explain, a folder", ["explain", folder, "A", "1"], QUIET, 3, b"", b"mstplan: read fault\n"),
+        ("explain, a folder", ["explain", folder, "A", "1"], QUIET, 3, b"", is_folder(folder)),
     ]
 
 
@@ -258,9 +271,9 @@ def diff_cases(folder):
     with open(refused, "wb") as file:
         file.write(b"no\n" + PAIRED)
     absent = os.path.join(folder, "absent")
-    cannot = b"mstplan: cannot open " + absent.encode() + b"\n"
+    cannot = unopened(absent)
     other_absent = absent + " "
-    other = b"mstplan: cannot open " + other_absent.encode() + b"\n"
+    other = unopened(other_absent)
     asks = b"changes\nshowtree 9\nmark\nsave\n"
     return [
         ("diff OLD NEW", ["diff", script, script], b"no\n", 0, NO_DIFFERENCE, b""),
@@ -284,9 +297,8 @@ def diff_cases(folder):
         ("diff, a file that isn't there", ["diff", script, absent], b"", 3, b"", cannot),
         ("diff, two files that aren't there", ["diff", other_absent, absent], b"", 3, b"", other),
         ("diff, of standard input and no file", ["diff", "-", absent], b"no\n", 3, b"", cannot),
-        ("diff, an old script in a folder", ["diff", folder, script], b"", 3, b"", b"mstplan: read fault\n"),
-        ("diff, a new script in a folder", ["diff", refused, folder], b"", 3,
-         b"old line 1 E01 no such command\n", b"mstplan: read fault\n"),
+        ("diff, an old script in a folder", ["diff", folder, script], b"", 3, b"", is_folder(folder)),
+        ("diff, a new script in a folder", ["diff", refused, folder], b"", 3, b"", is_folder(folder)),
     ]
 
 
@@ -392,7 +404,7 @@ def sweep_cases(folder):
     with open(script, "wb") as file:
         file.write(TRIANGLE)
     absent = os.path.join(folder, "absent")
-    cannot = b"mstplan: cannot open " + absent.encode() + b"\n"
+    cannot = unopened(absent)
     asks = b"changes\nshowtree 9\nmark\nsave\n"
     return [
         ("sweep FILE", ["sweep", script], b"no\n", 0, OF_TRIANGLE, b""),
@@ -414,7 +426,7 @@ def sweep_cases(folder):
         ("sweep pairs, what is cut alone", ["sweep", "-", "pairs"], PAIRED, 0, b"sweep pairs 3 cuts 0\n", b""),
         ("sweep pairs with a word that names no part", ["sweep", script, "pairs", "pairs"], b"", 2, b"", NO_PART),
         ("sweep, a file that isn't there", ["sweep", absent], b"", 3, b"", cannot),
-        ("sweep, a folder", ["sweep", folder], b"", 3, b"", b"mstplan: read fault\n"),
+        ("sweep, a folder", ["sweep", folder], b"", 3, b"", is_folder(folder)),
         ("sweep, a part of a script that isn't there", ["sweep", absent, "1/2"], b"", 3, b"", cannot),
         *((f"sweep, the part {word}", ["sweep", script, word], b"", 2, b"", NO_PART) for word in NO_PARTS),
         *part_cases("a triangle", TRIANGLE, OF_TRIANGLE),
@@ -468,7 +480,7 @@ def summary_cases(folder):
     """Each case: its name, the words, standard input, the status, standard output and standard error."""
     script = os.path.join(folder, "swept")
     absent = os.path.join(folder, "absent")
-    cannot = b"mstplan: cannot open " + absent.encode() + b"\n"
+    cannot = unopened(absent)
     return [
         ("summary FILE", ["summary", script], b"no\n", 0, TRIANGLE_IN_SHORT, b""),
         ("summary -", ["summary", "-"], FEW_ON_AB, 0, FEW_IN_SHORT, b""),
@@ -523,7 +535,7 @@ def dot_cases(folder):
     """Each case: its name, the words, standard input, the status, standard output and standard error."""
     script = os.path.join(folder, "swept")
     absent = os.path.join(folder, "absent")
-    cannot = b"mstplan: cannot open " + absent.encode() + b"\n"
+    cannot = unopened(absent)
     return [
         ("dot FILE TREE", ["dot", script, "0"], b"no\n", 0, TRIANGLE_DRAWN, b""),
         ("dot -, boxes", ["dot", "-", "00"], HUB, 0, HUB_DRAWN, b""),
@@ -531,6 +543,20 @@ def dot_cases(folder):
         ("dot, no tree", ["dot", "-", "4095"], b"no\n", 1, REFUSED + b"dot E03 bad VID or tree\n", b""),
         ("dot with no tree", ["dot", script], b"", 2, b"", USAGE),
         ("dot, a file that isn't there", ["dot", absent, "x"], b"", 3, b"", cannot),
+    ]
+
+
+def ask_cases(folder):
+    """Each case: its name, the words, standard input, the status, standard output and standard error. Sessions are in ask_runs.py."""
+    script = os.path.join(folder, "paired")
+    absent = os.path.join(folder, "absent")
+    return ask_runs.cases(folder) + [
+        ("ask -, which takes all", ["ask", "-"], PAIRED + b"no\nsummary\n", 1,
+         b"line 8 E01 no such command\nline 9 E01 no such command\ndone 1\n", b""),
+        ("ask with no file", ["ask"], b"", 2, b"", USAGE),
+        ("ask with a question", ["ask", script, "summary"], b"", 2, b"", USAGE),
+        ("ask, a file that isn't there", ["ask", absent], b"summary\n", 3, b"", unopened(absent)),
+        ("ask, a folder", ["ask", folder], b"summary\n", 3, b"", is_folder(folder)),
     ]
 
 
@@ -550,9 +576,9 @@ def cases(folder):
     with open(blank, "wb") as file:
         file.write(b"no\n")
     absent = os.path.join(folder, "absent")
-    cannot = b"mstplan: cannot open " + absent.encode() + b"\n"
+    cannot = unopened(absent)
     blank_absent = absent + " "
-    other = b"mstplan: cannot open " + blank_absent.encode() + b"\n"
+    other = unopened(blank_absent)
     return [
         ("no words", [], b"showtree 0\n", 0, TREE, b""),
         ("no words and nothing to read", [], b"", 0, b"", b""),
@@ -561,7 +587,7 @@ def cases(folder):
         ("a refused line", ["run", "-"], b"no\n", 1, REFUSED, b""),
         ("a long script", ["run", refused], b"", 1, lines, b""),
         ("a file that isn't there", ["run", absent], b"", 3, b"", cannot),
-        ("a folder", ["run", folder], b"", 3, b"", b"mstplan: read fault\n"),
+        ("a folder", ["run", folder], b"", 3, b"", is_folder(folder)),
         ("help", ["--help"], b"", 0, USAGE, b""),
         ("help, short", ["-h"], b"", 0, USAGE, b""),
         ("help of a command", ["sweep", "--help"], b"", 0, USAGE, b""),
@@ -579,7 +605,7 @@ def cases(folder):
         ("captures that aren't there", ["check", script, absent], b"", 3, b"", cannot),
         ("captures that aren't there, of standard input's script", ["check", "-", absent], b"no\n", 3, b"", cannot),
         ("a script that isn't there", ["check", absent, captures], b"", 3, b"", cannot),
-        ("captures in a folder", ["check", script, folder], b"", 3, TREE, b"mstplan: read fault\n"),
+        ("captures in a folder", ["check", script, folder], b"", 3, b"", is_folder(folder)),
         ("check with no captures", ["check", script], b"", 2, b"", USAGE),
         ("run with captures", ["run", script, captures], b"", 2, b"", USAGE),
         ("check with a third file", ["check", script, captures, captures], b"", 2, b"", USAGE),
@@ -588,7 +614,7 @@ def cases(folder):
         ("check FILE CAPTURES, the other way round", ["check", captures, script], b"", 1,
          b"line 2 E01 no such command\ncapture 1 B01 not hexadecimal\n", b""),
         ("a file whose name ends in a blank", ["run", blank], b"", 1, REFUSED, b""),
-        ("an empty word", ["run", ""], b"", 3, b"", b"mstplan: cannot open \n"),
+        ("an empty word", ["run", ""], b"", 3, b"", unopened("")),
         ("an empty command", [""], b"", 2, b"", USAGE),
         ("a command with a blank", ["run ", script], b"", 2, b"", USAGE),
         ("help is no command", ["help"], b"", 2, b"", USAGE),
@@ -597,50 +623,24 @@ def cases(folder):
 
 
 def word_cases(folder):
-    """The program's words as the system gives them: long ones, and bytes that are no text."""
+    """The program's words as the system gives them: long ones, bytes that are no text, or that a terminal acts on, and names of files that
+    read like flags."""
     long = os.path.join(folder, "a" * 300)
     no_text = b"error: a word isn't text in UTF-8\n"
+    for name in FLAGS_AS_NAMES:
+        with open(os.path.join(folder, name), "wb") as file:
+            file.write(b"no\n")
+    strange, shown = f"{folder}/\x1b[2J\x01\x7f\n\té", f"{folder}/\\x1b[2J\\x01\\x7f\\x0a\\x09é"
     return [
+        ("a name that a terminal acts on", ["run", strange], b"", 3, b"", unopened(shown)),
+        ("a command that a terminal acts on", [strange], b"", 2, b"", no_word(shown)),
         ("a name of 300 bytes", ["run", long], b"", 3, b"", f"mstplan: cannot open {long}\n".encode()),
         ("a name that isn't UTF-8", ["run", b"\xff"], b"", 2, b"", no_text),
         ("a command that isn't UTF-8", [b"r\xffn"], b"", 2, b"", no_text),
     ]
 
 
-# A script whose lines are refused in each way that has a hint, and one that hasn't. What is printed is that of the rules.
-HINTED = b"""addbrigde dist1 02:00:00:00:00:01
-settreeprio B 0
-addbridge B 02:00:00:00:00:02
-settreeprio B 0 4096
-bridge dist1 off
-addport B 0
-addport B 1
-addport B 1
-plug B 1 L
-delport B 0
-showtree 0
-"""
-HINTED_RUN = b"""line 1 E01 no such command
-line 2 E01 no such command
-line 4 E02 bad argument
-line 5 E04 no such bridge
-line 6 E02 bad argument
-line 8 E09 port number taken
-line 9 E06 no such LAN
-line 10 E02 bad argument
-tree 0
-bridge B 8000.02:00:00:00:00:02 root 8000.02:00:00:00:00:02 ext 0 regional 8000.02:00:00:00:00:02 int 0 from 8000.02:00:00:00:00:02 0000 at 0000
-"""
-HINTS = b"""line 1 no command addbrigde; addbridge?
-line 2 settreeprio takes B TREE PRIO; 2 words stand here
-line 4 settreeprio B TREE PRIO: PRIO is 0 to 15, in steps of 4096; 4096 is 1
-line 5 no bridge dist1: line 1 was to add it
-line 6 addport B P: P is 1 to 4095
-line 8 port B:1 is there since line 7
-line 9 no LAN L
-line 10 delport B P: P is 1 to 4095
-"""
-# The same run, and what is explained of it, as JSON.
+# What a script with hints prints (hint_runs.py), and what is explained of it, as JSON.
 HINTED_JSON = [
     {"line": 1, "error": "E01", "text": "no such command"},
     {"line": 2, "error": "E01", "text": "no such command"},
@@ -691,22 +691,39 @@ class Json:
         return text == "".join(lines).encode()
 
 
+# Files whose names are flags, or read like options.
+FLAGS_AS_NAMES = ("--json", "--hints", "-x", "--help", "--")
+
+
+def no_word(name):
+    """What is told of a file that stands alone, without a command."""
+    return f"error: no such word {name}; mstplan run {name}?\n".encode()
+
+
+def alone_cases(folder):
+    """A script's file without a command."""
+    script = os.path.join(folder, "script")
+    absent = os.path.join(folder, "absent")
+    return [
+        ("a file alone", [script], b"", 2, b"", no_word(script)),
+        ("a file alone that isn't there", [absent], b"", 2, b"", no_word(absent)),
+        ("a name alone with a full stop", ["campus.script"], b"", 2, b"", no_word("campus.script")),
+        ("a file alone with a flag", ["--json", script], b"", 2, b"", no_word(script)),
+        ("a file and a word", [script, "0"], b"", 2, b"", USAGE),
+        ("a word that is no file", ["campus"], b"", 2, b"", USAGE),
+    ]
+
+
 def flag_cases(folder):
     """Cases of words with flags."""
     script = os.path.join(folder, "hinted.script")
-    with open(script, "wb") as file:
-        file.write(HINTED)
-    wrong = b"error: --json is a flag of run, check, explain, diff, sweep and summary, --hints of run and check with the script in a file\n"
+    wrong = b"error: --json is a flag of run, check, explain, diff, sweep, summary and ask\n"
     gone = [
         {"kind": "reach", "vids": [[1, 4094]], "old_islands": [["B"]], "new_islands": []},
         {"kind": "diff", "region_count": 0, "root_count": 0, "port_count": 0, "vlan_count": 4094},
     ]
     same = [value for value in HINTED_JSON if "error" in value]
-    return [
-        ("hints of a run", ["run", "--hints", script], b"", 1, HINTED_RUN, HINTS),
-        ("hints behind the script", ["run", script, "--hints"], b"", 1, HINTED_RUN, HINTS),
-        ("hints of a check", ["check", "--hints", script, os.devnull], b"", 1, HINTED_RUN, HINTS),
-        ("no hints of standard input", ["--hints"], HINTED, 2, b"", wrong),
+    return hint_runs.cases(folder) + [
         ("a check in JSON", ["check", "--json", script, "-"], SHORT, 1, Json(*HINTED_JSON, TOO_SHORT_JSON), b""),
         ("no JSON of a picture", ["dot", "--json", script, "0"], b"", 2, b"", wrong),
         ("a run in JSON", ["run", "--json", script], b"", 1, Json(*HINTED_JSON), b""),
@@ -720,7 +737,7 @@ def flag_cases(folder):
 
 def asked_cases(folder):
     """The cases of what is asked of a script's network."""
-    return explain_cases(folder) + diff_cases(folder) + sweep_cases(folder) + summary_cases(folder) + dot_cases(folder)
+    return explain_cases(folder) + diff_cases(folder) + sweep_cases(folder) + summary_cases(folder) + dot_cases(folder) + ask_cases(folder)
 
 
 def fits(text, expected):
@@ -728,7 +745,7 @@ def fits(text, expected):
         return expected.fullmatch(text) is not None
     if isinstance(expected, Json):
         return expected.fits(text)
-    return b"Usage: " in text if expected is USAGE else text == expected
+    return b"Usage: mstplan" in text if expected is USAGE else text == expected
 
 
 def run(program, words, given, out=subprocess.PIPE, seconds=60):
@@ -834,6 +851,7 @@ def check_answered(program):
 
 
 INVITED = b"mstplan: reading a script from the terminal, until Ctrl-D; --help tells of its commands\n"
+ASKED_FOR = b"mstplan: reading questions from the terminal, until Ctrl-D; --help tells of them\n"
 
 
 def check_closed(program, folder, words, closed, status, out, err):
@@ -865,24 +883,10 @@ def closed_cases():
         (["sweep", "-"], "<&-", 3, b"", read),
         (["diff", "script", "-"], "<&-", 3, b"", read),
         (["diff", "script", "script"], ">&-", 3, b"", write),
+        (["ask", "script"], "<&-", 3, b"done 0\n", read),
+        (["ask", "script"], ">&-", 3, b"", write),
+        (["ask", "-"], "<&-", 3, b"", read),
     ]
-
-
-def check_wrong(program):
-    """The lines of wrong-lines.txt, each in a script of version 2, and its hint, of this line alone."""
-    with open(os.path.join(HERE, "wrong-lines.txt"), encoding="ascii") as file:
-        wrong = [line.rstrip("\n").split("\t") for line in file if not line.startswith("#")]
-    with tempfile.TemporaryDirectory() as folder:
-        script = os.path.join(folder, "wrong.script")
-        with open(script, "w", encoding="ascii") as file:
-            file.write("".join(line + "\n" for line in ["mstplan 2", *(line for line, _ in wrong)]))
-        ran = subprocess.run([program, "run", "--hints", script], capture_output=True, text=True, timeout=20, check=False)
-    told = ran.stderr.splitlines()
-    wanted = [f"line {number} {hint}" for number, (_, hint) in enumerate(wrong, 2)]
-    if (ran.returncode, told) == (1, wanted):
-        return True
-    print(f"FAILED wrong lines: status {ran.returncode}, {[pair for pair in zip(told, wanted) if pair[0] != pair[1]][:3]}")
-    return False
 
 
 def failing_hints():
@@ -903,21 +907,71 @@ def check_sample(program):
     return False
 
 
-def check_pipe(program, folder, words):
-    """Hints of a script in a named pipe, which can't be read twice: the words are wrong, and nothing waits for the pipe."""
-    pipe = os.path.join(folder, "pipe")
-    if not os.path.exists(pipe):
-        os.mkfifo(pipe)
-    words = [pipe if word == "pipe" else word for word in words]
+def check_left(program, folder):
+    """Who reads standard output closes it after a line: the program ends quietly, whatever it would still tell."""
+    path = os.path.join(folder, "many.script")
+    with open(path, "wb") as file:
+        file.write(b"no\n" * 100_000)
+    passed = True
+    for words in (["run", path], ["run", "--hints", path], ["summary", path], ["run", "--json", path], ["ask", path]):
+        with open(os.path.join(folder, "many.errors"), "w+b") as errors:
+            with subprocess.Popen([program, *words], stdin=subprocess.DEVNULL, stdout=subprocess.PIPE, stderr=errors) as ran:
+                first = ran.stdout.readline()
+                ran.stdout.close()
+                status = ran.wait(60)
+            errors.seek(0)
+            told = b"" if "--hints" in words else errors.read()
+        if (status, told) != (0, b"") or b"E01" not in first:
+            print(f"FAILED {words} | head -1: status {status}, {first!r}, {told[:200]!r}")
+            passed = False
+    return passed
+
+
+def check_dashes(program, folder):
+    """Behind a word `--` each word is what it says, and none is a flag or an option."""
+    refused = [{"line": 1, "error": "E01", "text": "no such command"}]
+    both = b"old line 1 E01 no such command\nnew line 1 E01 no such command\n" + NO_DIFFERENCE
+    cases = [
+        *((["run", "--", name], 1, REFUSED, b"") for name in FLAGS_AS_NAMES),
+        (["run", "--json", "--", "--hints"], 1, Json(*refused), b""),
+        (["--json", "run", "--", "--json"], 1, Json(*refused), b""),
+        (["diff", "--", "--json", "--hints"], 1, both, b""),
+        (["explain", "--", "-", "A", "-1"], 1, BAD, b""),
+        (["run", "./--json"], 1, REFUSED, b""),
+        (["run", "--", "-"], 0, b"", b""),
+        (["run", "--", "-x", "-x"], 2, b"", USAGE),
+        (["run", "--"], 2, b"", USAGE),
+        (["run", "-x"], 2, b"", USAGE),
+        (["--", "run", "-x"], 2, b"", USAGE),
+    ]
+    passed = True
+    for words, status, out, err in cases:
+        ran = subprocess.run([program, *words], input=b"", capture_output=True, timeout=60, check=False, cwd=folder)
+        if not (ran.returncode == status and fits(ran.stdout, out) and fits(ran.stderr, err)):
+            print(f"FAILED {words}: status {ran.returncode}, {ran.stdout[:200]!r}, {ran.stderr[:200]!r}")
+            passed = False
+    return passed
+
+
+def check_denied(program, folder):
+    """A file that may not be read. Who is root may read each, and runs the program as another user, if that one may run it."""
+    path = os.path.join(folder, "denied.script")
+    with open(path, "wb") as file:
+        file.write(b"no\n")
+    os.chmod(path, 0)
+    other = {"user": NOBODY, "group": NOBODY} if os.access(path, os.R_OK) else {}
     try:
-        ran = run(program, words, b"", seconds=10)
-    except subprocess.TimeoutExpired:
-        print(f"FAILED {words}: it waits for the pipe")
-        return False
-    if (ran.returncode, ran.stdout) == (2, b"") and ran.stderr.strip():
+        subprocess.run([program, "--version"], capture_output=True, timeout=60, check=True, cwd="/", **other)
+    except (OSError, subprocess.SubprocessError) as error:
+        print(f"no file is denied: {error}")
         return True
-    print(f"FAILED {words}: status {ran.returncode}, {ran.stdout[:200]!r}, {ran.stderr[:200]!r}")
-    return False
+    passed = True
+    for words in (["run", path], ["diff", "-", path], ["ask", path], ["check", path, "absent"], ["summary", "--json", path]):
+        ran = subprocess.run([program, *words], input=b"no\n", capture_output=True, timeout=60, check=False, cwd="/", **other)
+        if (ran.returncode, ran.stdout, ran.stderr) != (3, b"", unopened(path, "permission denied")):
+            print(f"FAILED denied, {words}: status {ran.returncode}, {ran.stdout[:200]!r}, {ran.stderr[:200]!r}")
+            passed = False
+    return passed
 
 
 def main():
@@ -925,26 +979,31 @@ def main():
         sys.exit(__doc__)
     program = os.path.abspath(sys.argv[1])
     with tempfile.TemporaryDirectory() as folder:
-        passed = [check(program, *case) for case in cases(folder) + word_cases(folder) + asked_cases(folder) + flag_cases(folder)]
+        passed = [check(program, *case) for case in cases(folder) + word_cases(folder) + alone_cases(folder) + asked_cases(folder) + flag_cases(folder)]
         passed += [
             check_full(program, [], b"showtree 0\n"),
             check_full(program, ["check", "-", os.devnull], b"showtree 0\n"),
             check_full(program, ["explain", "-", "A", "1"], QUIET),
             check_full(program, ["diff", "-", "-"], QUIET),
             check_full(program, ["sweep", "-"], QUIET),
+            check_full(program, ["ask", "-"], QUIET),
             check_full(program, ["--help"], b""),
             check_full(program, ["--version"], b""),
             check_page(program),
             check_terminal(program, [], b"showtree 0\n", 0, TREE, INVITED),
             check_terminal(program, [], b"", 0, b"", INVITED),
             check_terminal(program, ["run", "-"], b"no\n", 1, REFUSED, b""),
+            check_terminal(program, ["ask", os.devnull], b"no\n", 1, b"done 0\n" + REFUSED + b"done 1\n", ASKED_FOR),
+            check_terminal(program, ["ask", "-"], b"no\n", 1, REFUSED + b"done 1\n", b""),
             check_answered(program),
             check_sample(program),
-            check_pipe(program, folder, ["run", "--hints", "pipe"]),
-            check_pipe(program, folder, ["check", "--hints", "pipe", os.devnull]),
+            check_left(program, folder),
+            check_denied(program, folder),
+            check_dashes(program, folder),
         ]
         passed += [check_closed(program, folder, *case) for case in closed_cases() + failing_hints()]
-        passed.append(check_wrong(program))
+        passed += hint_runs.checks(program, folder)
+        passed += ask_runs.checks(program, folder)
         passed += large_runs.checks(program, folder)
     print(f"{sum(passed)} passed, {len(passed) - sum(passed)} failed")
     sys.exit(0 if all(passed) else 1)

@@ -134,11 +134,15 @@ def mesh_cases(folder):
     bridge, number = blocked[len(blocked) // 2]
     summary = {"bridges": 1, "tree": 1, "blocked": 1, "vlan": 1, "carries": len(blocked)}
     moved = words["changes"]["port"]
+    # the mark, the edit, each query, what takes the edit back, and two more
+    questions = ["mark", EDIT, *QUERIES, "undo", "changes", "summary"]
+    answers_to = in_all + collections.Counter(summary) + collections.Counter({"undone": 1, "done": 1 + len(questions)})
     return [
         Large("each query of a mesh", ["run", asking], b"", 0, first_words(in_all)),
         Large("each query of a mesh in JSON", ["run", "--json", asking], b"", 0, answers(sizes)),
         Large("a mesh summarized", ["summary", first], b"", 0, first_words(summary)),
         Large("a mesh and an edited one", ["diff", first, other], b"", 1, first_words({"root": 1, "port": moved, "diff": 1})),
+        Large("a mesh that stands", ["ask", first], as_bytes(questions), 0, first_words(answers_to)),
         Large("a mesh drawn", ["dot", first, "0"], b"", 0, having(4 + load.BRIDGES + ALL_LANS, {b"style=dashed": len(blocked)})),
         Large("a mesh explained", ["explain", first, f"B{bridge:04}", str(number)], b"", 0,
               first_words({"explain": 1, "designated": 1, "root": 1})),
@@ -302,13 +306,23 @@ def region_cases(folder):
     ]
 
 
+def of_both(lines):
+    """These lines of the old script, and then of the new one."""
+    return b"".join(side + line for side in (b"old ", b"new ") for line in lines.splitlines(keepends=True))
+
+
 def hint_cases(folder):
     """As many hints as lines."""
     count = ALL_PORTS
     script = written(folder, "misspelt", ["addbrigde X 02:00:00:00:00:01"] * count)
     refused = b"".join(b"line %d E01 no such command\n" % number for number in range(1, count + 1))
     hints = b"".join(b"line %d no command addbrigde; addbridge?\n" % number for number in range(1, count + 1))
-    return [Large("a hint of each line", ["run", "--hints", script], b"", 1, exactly(refused), hints)]
+    return [
+        Large("a hint of each line", ["run", "--hints", script], b"", 1, exactly(refused), hints),
+        Large("a hint of each line of standard input", ["--hints"], as_bytes(["addbrigde X 02:00:00:00:00:01"] * count), 1, exactly(refused), hints),
+        Large("a hint of each line of two scripts", ["diff", "--hints", script, script], b"", 1,
+              exactly(of_both(refused) + b"diff regions 0 roots 0 ports 0 vlans 0\n"), of_both(hints)),
+    ]
 
 
 # ---- running them

@@ -196,13 +196,13 @@ def manual(version, page, pages):
 
 
 def completion(page, commands):
-    """The completion for bash: commands first, then files; behind - the flags that go with the command."""
+    """The completion for bash: commands first, then files; behind - the flags that go with the command. A flag of which the page names no
+    command goes with each."""
     flags = {}
     for flag, text in re.findall(r"^  (--[a-z-]+) (.+\n(?: {4,}.+\n)*)", page, re.MULTILINE):
         its = re.findall(r"[a-z]+", text.rpartition("(")[2])
-        for command in commands:
-            if command in its:
-                flags.setdefault(command, []).append(flag)
+        for command in [it for it in commands if it in its] or commands:
+            flags.setdefault(command, []).append(flag)
     every = sorted({flag for its in flags.values() for flag in its})
     cases = [f'        "") flags+=" {" ".join(every)}" ;;']
     cases += [f'        {command}) flags+=" {" ".join(its)}" ;;' for command, its in sorted(flags.items())]

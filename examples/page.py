@@ -46,27 +46,28 @@ def page_of(data, title):
 
 
 def read(program, path, sweeping):
-    """The network of a script's file as the page has it, and what `save` makes of it. Refused lines are told."""
+    """The network of a script's file as the page has it, and the script. Refused lines are told."""
     with open(path, "rb") as file:
-        network, saved = answers.network_of(program, file.read(), sweeping)
+        script = file.read()
+    network = answers.network_of(program, script, sweeping)
     network["script"] = os.path.basename(path)
     refused = network["refused"]
     for line in refused[:MOST_REFUSED]:
         print(f"page.py: {path}: line {line['line']} {line['error']} {line['text']}", file=sys.stderr)
     if len(refused) > MOST_REFUSED:
         print(f"page.py: {path}: {len(refused) - MOST_REFUSED} more lines are refused", file=sys.stderr)
-    return network, saved
+    return network, script
 
 
 def data_of(program, script, old, sweeping):
     """All that the page has: one network, or two and what differs in them."""
-    network, saved = read(program, script, sweeping)
+    network, lines = read(program, script, sweeping)
     made = datetime.datetime.now(datetime.timezone.utc).strftime("%Y-%m-%d %H:%M UTC")
     data = {"after": network, "version": program.version(), "made": made}
     if not old:
         return {**data, "places": places.layout(network)}
-    before, saved_before = read(program, old, sweeping)
-    differences = program.differences(saved_before, saved)
+    before, lines_before = read(program, old, sweeping)
+    differences = program.differences(lines_before, lines)
     return {**data, "before": before, "differences": differences, "places": places.layout_of_both(network, before)}
 
 

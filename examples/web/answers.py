@@ -1,18 +1,16 @@
 """What mstplan answers of a script's network, in the form in which the page has it. Speeds are in kb/s."""
 
-import concurrent.futures
+import contextlib
 import json
 import os
 import subprocess
 import tempfile
 
 QUERIES = ["showplan", "showregions", "shownotes", "showlag"]
-VERSION_2 = b"mstplan 2\n"
 DEFAULT_SPEED = 1_000_000
 ALL_VLANS = "1-4094"
 # How an entity fails, and how that is taken back.
 FAILS = {"lan": ("down", "up"), "bridge": ("off", "on")}
-MOST_AT_ONCE = 8
 MOST_OF_A_MESSAGE = 300
 
 
@@ -21,51 +19,108 @@ class Failed(Exception):
 
 
 class Program:
-    """A program that answers as mstplan does. Scripts are bytes, and reach it by its standard input."""
+    """A program that answers as mstplan does. Scripts are bytes, and reach it by files."""
 
     def __init__(self, path):
         self.path = path
 
-    def printed(self, words, script=b""):
+    def failed(self, words, why):
+        return Failed(f"{self.path} {' '.join(words)}: {why}")
+
+    def value(self, words, line):
+        """What stands in a line of an answer."""
+        try:
+            value = json.loads(line)
+        except ValueError as fault:
+            raise self.failed(words, f"the answer isn't JSON: {fault}") from fault
+        if not isinstance(value, dict):
+            raise self.failed(words, f"a line of the answer is no object: {value}")
+        return value
+
+    def printed(self, *words):
         """Standard output of one run, as bytes."""
-        ran = subprocess.run([self.path, *words], input=script, capture_output=True, check=False)
+        ran = subprocess.run([self.path, *words], stdin=subprocess.DEVNULL, capture_output=True, check=False)
         if ran.returncode not in (0, 1):
-            said = ran.stderr.decode(errors="replace").strip()[:MOST_OF_A_MESSAGE]
-            raise Failed(f"{self.path} {' '.join(words)}: exit status {ran.returncode}: {said or 'nothing is told'}")
+            raise self.failed(words, ended(ran.returncode, ran.stderr))
         return ran.stdout
 
-    def lines(self, words, script):
-        """What one run answers with --json: a dictionary of each line."""
-        try:
-            return [json.loads(line) for line in self.printed([words[0], "--json", *words[1:]], script).splitlines()]
-        except ValueError as fault:
-            raise Failed(f"{self.path} {' '.join(words)}: the answer isn't JSON: {fault}") from fault
-
-    def answer(self, words, script):
-        """The records of the answer to what the program's words ask, and the lines of the script that are refused."""
-        lines = self.lines(words, script)
-        records = [line["records"] for line in lines if line.get("query") == words[0] and "records" in line]
-        if len(records) != 1:
-            raise Failed(f"{self.path} {' '.join(words)}: {len(records)} answers in place of one")
-        return records[0], [line for line in lines if "error" in line]
-
     def version(self):
-        return self.printed(["--version"]).decode(errors="replace").strip()
-
-    def saved(self, script):
-        """The script of version 2 that makes the network which a script leaves."""
-        _, heading, rest = self.printed(["run", "-"], script + b"\nsave\n").rpartition(VERSION_2)
-        if not heading:
-            raise Failed(f"{self.path} run -: save isn't answered")
-        return heading + rest
+        return self.printed("--version").decode(errors="replace").strip()
 
     def differences(self, old, new):
         """The records of `diff` for the networks of two scripts."""
-        with tempfile.TemporaryDirectory() as folder:
-            path = os.path.join(folder, "old")
-            with open(path, "wb") as file:
-                file.write(old)
-            return self.answer(["diff", path, "-"], new)[0]
+        with written(old) as old_path, written(new) as new_path:
+            lines = self.printed("diff", "--json", old_path, new_path).splitlines()
+        answers = [it for it in (self.value(["diff"], line) for line in lines) if "records" in it]
+        if len(answers) != 1:
+            raise self.failed(["diff"], f"{len(answers)} answers in place of one")
+        return answers[0]["records"]
+
+    @contextlib.contextmanager
+    def standing(self, script):
+        """The program as it stands with the network of a script, and answers one line after another."""
+        with written(script) as path, tempfile.TemporaryFile() as errors:
+            words = [self.path, "ask", "--json", path]
+            with subprocess.Popen(words, stdin=subprocess.PIPE, stdout=subprocess.PIPE, stderr=errors) as ran:
+                yield Standing(self, ran, errors)
+
+
+class Standing:
+    """A program that stands with a script's network. It is asked in lines, and ends what it tells of each by the line `done`."""
+
+    def __init__(self, program, ran, errors):
+        self.program, self.ran, self.errors = program, ran, errors
+        # The lines of the script that are refused.
+        self.refused = [it for it in self.told("its script") if "error" in it]
+
+    def told(self, asked):
+        """What it tells up to the next `done`: a dictionary of each line."""
+        words, told = ["ask"], []
+        for line in self.ran.stdout:
+            value = self.program.value(words, line)
+            if value.get("kind") != "done":
+                told.append(value)
+            elif value.get("status") in (0, 1):
+                return told
+            else:
+                raise self.program.failed(words, f"{asked}: status {value.get('status')}")
+        status = self.ran.wait()
+        self.errors.seek(0)
+        raise self.program.failed(words, f"{asked}: {ended(status, self.errors.read())}")
+
+    def ask(self, line):
+        """What it tells of a line."""
+        with contextlib.suppress(BrokenPipeError):
+            os.write(self.ran.stdin.fileno(), f"{line}\n".encode())
+        return self.told(line)
+
+    def answer(self, line):
+        """The records of its answer to a line."""
+        told = self.ask(line)
+        if len(told) != 1 or "records" not in told[0]:
+            raise self.program.failed(["ask"], f"{line}: no answer, but {str(told)[:MOST_OF_A_MESSAGE]}")
+        return told[0]["records"]
+
+    def make(self, edit):
+        """Changes the network."""
+        told = self.ask(edit)
+        if told:
+            raise self.program.failed(["ask"], f"{edit}: {str(told)[:MOST_OF_A_MESSAGE]}")
+
+
+def ended(status, said):
+    """How a program ended, and what it said."""
+    return f"exit status {status}: {said.decode(errors='replace').strip()[:MOST_OF_A_MESSAGE] or 'nothing is told'}"
+
+
+@contextlib.contextmanager
+def written(script):
+    """The path of a file that has a script, as long as it is needed."""
+    with tempfile.TemporaryDirectory() as folder:
+        path = os.path.join(folder, "script")
+        with open(path, "wb") as file:
+            file.write(script)
+        yield path
 
 
 def port_of(record):
@@ -83,32 +138,32 @@ def kept_of(record, *keys):
 
 
 def settings_of(saved):
-    """Bridges, LANs and ports by name, with what the lines of `save` set of each, as far as the page tells it."""
+    """Bridges, LANs and ports by name, with what the records of `save` set of each, as far as the page tells it."""
     bridges, lans, ports = {}, {}, {}
-    for command, *words in map(str.split, saved.decode().splitlines()):
-        name, port = words[0], ":".join(words[:2])
+    for record in saved:
+        command, bridge, lan = record["kind"], record.get("bridge"), record.get("lan")
         if command == "addbridge":
-            bridges[name] = {"mac": words[1], "kind": "mstp", "on": True, "vids": {}}
+            bridges[bridge] = {"mac": record["mac"], "kind": "mstp", "on": True, "vids": {}}
         elif command == "bridge":
-            bridges[name]["on"] = words[1] == "on"
+            bridges[bridge]["on"] = record["power"] == "on"
         elif command == "kind":
-            bridges[name]["kind"] = words[1]
+            bridges[bridge]["kind"] = record["bridge_kind"]
         elif command == "setvid2mstid":
             # A long list stands in several lines.
-            mapped = bridges[name]["vids"]
-            mapped[words[1]] = ",".join([*filter(None, [mapped.get(words[1])]), words[2]])
+            mapped, tree = bridges[bridge]["vids"], str(record["tree"])
+            mapped[tree] = ",".join([*filter(None, [mapped.get(tree)]), list_of(record["vids"])])
         elif command == "addport":
-            ports[port] = {"vlans": ALL_VLANS}
+            ports[port_of(record)] = {"vlans": ALL_VLANS}
         elif command == "setportvlans":
-            ports[port]["vlans"] = {"all": ALL_VLANS, "none": ""}.get(words[2], words[2])
+            ports[port_of(record)]["vlans"] = list_of(record["vids"])
         elif command == "setportrestrrole":
-            ports[port]["restricted"] = words[2] == "yes"
+            ports[port_of(record)]["restricted"] = record["restricted"] == "yes"
         elif command == "addlan":
-            lans[name] = {"up": True, "speed": DEFAULT_SPEED}
+            lans[lan] = {"up": True, "speed": DEFAULT_SPEED}
         elif command == "lan":
-            lans[name]["up"] = words[1] == "up"
+            lans[lan]["up"] = record["state"] == "up"
         elif command == "speed":
-            lans[name]["speed"] = int(words[1])
+            lans[lan]["speed"] = record["speed"]
     return bridges, lans, ports
 
 
@@ -156,11 +211,13 @@ def failures_of(records):
     return failures
 
 
-def asked_of(failures):
-    """The lines that ask for what each failure changes, one after another, each taken back before the next."""
-    for failure in failures:
-        entity, (fails, back) = f"{failure['what']} {failure['name']}", FAILS[failure["what"]]
-        yield from (f"{entity} {fails}", "changes", f"{entity} {back}")
+def changed_by(standing, failure):
+    """What a failure changes since the mark, by the records of `changes`. It is taken back."""
+    entity, (fails, back) = f"{failure['what']} {failure['name']}", FAILS[failure["what"]]
+    standing.make(f"{entity} {fails}")
+    changed = standing.answer("changes")
+    standing.make(f"{entity} {back}")
+    return changed
 
 
 def changes_of(records, names):
@@ -184,43 +241,42 @@ def root_in(vector):
     return vector.get("root_id", vector["regional_id"])
 
 
-def reasons_of(program, saved, ports):
-    """Why each of these ports has its role, by port and tree. The program explains one port a run, so several run at once."""
-
-    def explained(port):
-        reasons = {}
-        for record in program.answer(["explain", "-", *port.split(":")], saved)[0]:
-            told = reasons.setdefault(record["tree"], [])
-            if record["kind"] != "explain":
-                told.append(record)
-        return reasons
-
-    with concurrent.futures.ThreadPoolExecutor(min(os.cpu_count() or 1, MOST_AT_ONCE)) as pool:
-        return dict(zip(ports, pool.map(explained, ports)))
+def reasons_for(standing, port):
+    """Why a port has its role, by tree."""
+    reasons = {}
+    for record in standing.answer(f"explain {port.replace(':', ' ')}"):
+        told = reasons.setdefault(record["tree"], [])
+        if record["kind"] != "explain":
+            told.append(record)
+    return reasons
 
 
 def network_of(program, script, sweeping):
-    """All that the page tells of the network which a script leaves, and the script that `save` makes of it.
+    """All that the page tells of the network which a script leaves."""
+    with program.standing(script) as standing:
+        return told_by(standing, sweeping)
+
+
+def told_by(standing, sweeping):
+    """All that the page tells of a standing program's network.
 
     A port that is alone on its LAN isn't explained: there is nothing that it is compared with.
     """
-    summary, refused = program.answer(["summary", "-"], script)
-    saved = program.saved(script)
-    bridges, lans, ports = settings_of(saved)
-    failures = failures_of(program.answer(["sweep", "-"], saved)[0]) if sweeping else []
-    asked = "\n".join([*QUERIES, "mark", *asked_of(failures), ""])
-    answers = [line["records"] for line in program.lines(["run", "-"], saved + asked.encode())]
-    plan, regions, notes, classes = answers[: len(QUERIES)]
+    summary = standing.answer("summary")
+    bridges, lans, ports = settings_of(standing.answer("save"))
+    failures = failures_of(standing.answer("sweep")) if sweeping else []
+    plan, regions, notes, classes = map(standing.answer, QUERIES)
     trees, groups = plan_of(plan)
     names = {told["bridge_id"]: bridge for tree in trees.values() for bridge, told in tree["bridges"].items() if "bridge_id" in told}
-    for failure, changed in zip(failures, answers[len(QUERIES) :], strict=True):
-        failure.update(changes_of(changed, names))
+    standing.make("mark")
+    for failure in failures:
+        failure.update(changes_of(changed_by(standing, failure), names))
     logical_ports = trees[0]["ports"]
     logical = logical_lans(logical_ports, lans, classes)
     compared = [port for port, told in logical_ports.items() if len(logical[told["lan"]]["ports"]) > 1]
     return {
-        "refused": refused, "summary": summary, "bridges": bridges, "lans": logical,
+        "refused": standing.refused, "summary": summary, "bridges": bridges, "lans": logical,
         "up": {lan: told["up"] for lan, told in lans.items()}, "ports": {port: ports[port] for port in logical_ports},
         "trees": trees, "groups": groups, "regions": regions, "notes": notes, "failures": failures, "swept": sweeping,
-        "reasons": reasons_of(program, saved, compared),
-    }, saved
+        "reasons": {port: reasons_for(standing, port) for port in compared},
+    }
