@@ -22,7 +22,10 @@ import sys
 TOP = os.path.join(os.path.dirname(os.path.abspath(__file__)), os.pardir, "crates")
 CALLS = ["mst_tool::runs::run", "mst_tool::checks::check", "mst_vlan::topology::active_ports/named", "mst_vlan::topology::active_ports/joined"]
 ASKED = ["mst_tool::asks::ask", "mst_tool::diffs::diff"]
+STANDING = [f"mst_ask::asking::ask_within/{clause}" for clause in ("ok", "fault", "read", "memory")]
 LOOPS = ["mst_vlan::laws::joined_without_loop"]
+# What the hints of a script are.
+HINTED = [("mst_hints", "Scripts", "hints_of")]
 IMPORT = re.compile(r"^ *(?:ghost )?use Rattle\.(\w+)\.specs\.([\w.]+?)(?:\.\{([^}]*)\}| as (\w+))?;?$", re.MULTILINE)
 GIVEN = re.compile(r"^pub use Rattle\.(\w+)\.specs(?:\.(\w+))? as (\w+)$", re.MULTILINE)
 KIND = "(?:abbrev|unfoldable|opaque|private) "
@@ -154,9 +157,12 @@ def follow(crate, module, name, seen, order):
     order.append((crate, module, len(it.parts[part])))
 
 
-def definitions(calls, seen):
-    """The definitions that these calls rest on and that weren't seen before, each with its crate, its file and its lines."""
+def definitions(calls, seen, named=()):
+    """The definitions that these calls rest on, or these that are named, and that weren't seen before, each with its crate, its file and
+    its lines."""
     order = []
+    for found in named:
+        follow(*found, seen, order)
     for call in calls:
         text, said = clauses(call)
         for found in sorted(names_in(said.splitlines(), imported(text), files_of(text))):
@@ -216,10 +222,11 @@ LIST = re.compile(r"(?:^- `mst_\w+`, \d+ lines: .*\n)+\n^\d+ definitions in .*\.
 
 
 def lists():
-    """The lists of docs/READING.md: that of the loops, the first one, and what is asked besides; and the lines of the first."""
+    """The lists of docs/READING.md: that of the loops, the first one, what is asked besides, what stands and is asked, and what hints are;
+    and the lines of the first."""
     seen = set()
     first = definitions(CALLS, seen)
-    orders = [definitions(LOOPS, set()), first, definitions(ASKED, seen)]
+    orders = [definitions(LOOPS, set()), first, definitions(ASKED, seen), definitions(STANDING, seen), definitions([], seen, HINTED)]
     return [as_text(order) for order in orders], lines_of(first)
 
 
