@@ -28,6 +28,11 @@ pub if_ok : {T E : Type 0} (r : Result T E) (P Q : T → Type 0) → ((x : T) �
 if_ok (Ok x) P Q f h = f x h
 if_ok (Err e) P Q f h = tt
 
+-- what the ports of a view and a forest give is what those of the same view and forest give
+pub same_given : (v w : Viewed) (f g : Forest) → v ≡ w → f ≡ g → (tree : ℕ) (places : List (ℕ × ℕ)) (count : ℕ) (parents : List (Option Parent)) → AreGiven (given v f tree places) v.ports v.ports count parents → AreGiven (given w g tree places) w.ports w.ports count parents
+same_given v w f g same_view same_forest tree places count parents gave =
+    subst (λ (x : Viewed). AreGiven (given x g tree places) x.ports x.ports count parents) same_view (subst (λ (h : Forest). AreGiven (given v h tree places) v.ports v.ports count parents) same_forest gave)
+
 module _ (v : Viewed) (f : Forest) (tree : ℕ) (members : List Member) (are : members ≡ members_in v f tree) (places : List (ℕ × ℕ)) (placed : ArePlaces (λ (m : Member). m.number) members places)
     (parents : List (Option Parent)) (gave : AreGiven (given v f tree places) v.ports v.ports (length members) parents)
     (net : Net) (numbers : Numbers) (is : IsForest net numbers f) (of : AreOf net numbers v f.regions) (settled : IsSettled (trees_of net is.outcome)) where

@@ -20,6 +20,8 @@ mod RootRole
 mod InTrees
 mod Names
 mod Found
+mod AllSteps
+mod TreeChildren
 mod Noting
 mod OneText
 mod Unhad

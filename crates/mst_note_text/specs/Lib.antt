@@ -3,6 +3,7 @@ pub mod Depths
 pub mod Places
 pub mod Walk
 pub mod Listed
+pub mod Children
 pub mod AreDepths
 pub mod NotesText
 pub mod Placed

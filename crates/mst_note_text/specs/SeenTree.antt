@@ -1,6 +1,6 @@
 -- What is seen of a tree, under the numbers of records: its bridges with their root priority vectors, and which of
 -- its ports give a parent.
-use Rattle.std.specs.Prelude.{ℕ, ◌==◌, Bool, not, true, false, List, [], filter_map, slice_get, Option, Some, None, nat_eq, if◌then◌else◌}
+use Rattle.std.specs.Prelude.{ℕ, ◌==◌, Bool, not, true, false, List, [], filter_map, map, slice_get, slice_index_or, Option, Some, None, nat_eq, if◌then◌else◌}
 use Rattle.std.specs.List.{find}
 use Rattle.std.specs.Option.{option_map, option_map_or, option_and_then}
 use Rattle.std.specs.Map.{lookup}
@@ -16,8 +16,11 @@ use Rattle.mst_roles.specs.trees.Forest.{Forest}
 use Rattle.mst_roles.specs.Seen.{seen_role}
 use Rattle.mst_roles.specs.declared.kind.Role.{Role}
 use Rattle.mst_roles.specs.declared.kind.Role.TheVariants.{Root}
+use Rattle.mst_note_text.specs.declared.children.Child.{Child}
+use Rattle.mst_note_text.specs.declared.parent.Depths.{Depths}
 use Rattle.mst_note_text.specs.declared.parent.Parent.{Parent}
 use Rattle.mst_note_text.specs.declared.member.Member.{Member}
+use Rattle.mst_note_text.specs.Places.{depths_at}
 
 -- a bridge with its vector
 abbrev pub cist_member : BridgeInView → CistVector → Member
@@ -57,3 +60,22 @@ parent_by f places q r =
 -- what a port gives, if it is a root port
 abbrev pub given : Viewed → Forest → ℕ → List (ℕ × ℕ) → PortInView → Option (ℕ × Parent)
 given v f tree places q = if is_root_port v f tree q then option_and_then (parent_by f places q) (designated_at v f tree q) else None
+
+-- a parent, with no step between regions
+abbrev pub as_within : Parent → Parent
+as_within p = record { place = p.place; is_between = false }
+
+abbrev pub all_within : List (Option Parent) → List (Option Parent)
+all_within parents = map (option_map as_within) parents
+
+-- the name of a parent
+abbrev pub parent_name : List Member → Option Parent → Option (List ℕ)
+parent_name members parent = option_and_then (λ p. option_map (λ m. m.name) (slice_get members p.place)) parent
+
+-- the bridge at a place with its parent, by the parents' and the depths' places
+abbrev pub child_at : List Member → List (Option Parent) → List Depths → ℕ → Child
+child_at members parents depths place = record {
+  name = name_at members place;
+  parent = parent_name members (slice_index_or parents place None);
+  steps = (depths_at depths place).internal;
+}

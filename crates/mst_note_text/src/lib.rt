@@ -4,6 +4,7 @@
 #![tactic(auto)]
 
 mod bridge;
+mod children;
 pub mod depth_laws;
 mod depths;
 mod find;
@@ -16,4 +17,5 @@ mod parents;
 mod places;
 mod tree;
 
+pub use children::{Child, children_of};
 pub use notes::put_notes;

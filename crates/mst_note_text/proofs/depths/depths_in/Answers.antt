@@ -1,23 +1,14 @@
-use Rattle.std.proofs.Common.{◌≡◌, ◌<◌, ℕ, List, Option, length, Vec, subst}
+use Rattle.std.proofs.Common.{◌≡◌, ◌<◌, ℕ, length, Vec}
 use Rattle.std.specs.declared.alloc.Global.{Global}
-use Rattle.mst_lag.specs.Viewed.{Viewed}
-use Rattle.mst_roles.specs.trees.Forest.{Forest}
 use Rattle.mst_roles.specs.trees.Outcome.{trees_of}
 use Rattle.mst_roles.specs.trees.Settled.{outcome_of}
 use Rattle.mst_roles.proofs.trees_lemmas.SettledNet.{forest_of}
 use Rattle.mst_note_text.specs.Depths.{InternalDepth, ExternalDepth}
-use Rattle.mst_note_text.specs.Parents.{AreGiven}
 use Rattle.mst_note_text.specs.Places.{HasDepths, depths_at}
 use Rattle.mst_note_text.specs.declared.parent.Depths.{Depths}
-use Rattle.mst_note_text.specs.declared.parent.Parent.{Parent}
-use Rattle.mst_note_text.specs.SeenTree.{given, name_at}
-use Rattle.mst_note_text.proofs.Found.{if_ok, is_forest, internal_found, external_found}
+use Rattle.mst_note_text.specs.SeenTree.{name_at}
+use Rattle.mst_note_text.proofs.Found.{if_ok, same_given, is_forest, internal_found, external_found}
 use Rattle.mst_note_text.proofs.depths.depths_in.Goals as goal
-
--- what the ports of a view and a forest give is what those of the same view and forest give
-same_given : (v w : Viewed) (f g : Forest) → v ≡ w → f ≡ g → (tree : ℕ) (places : List (ℕ × ℕ)) (count : ℕ) (parents : List (Option Parent)) → AreGiven (given v f tree places) v.ports v.ports count parents → AreGiven (given w g tree places) w.ports w.ports count parents
-same_given v w f g same_view same_forest tree places count parents gave =
-    subst (λ (x : Viewed). AreGiven (given x g tree places) x.ports x.ports count parents) same_view (subst (λ (h : Forest). AreGiven (given v h tree places) v.ports v.ports count parents) same_forest gave)
 
 pub depths_of-requires : goal.depths_of-requires
 depths_of-requires c =

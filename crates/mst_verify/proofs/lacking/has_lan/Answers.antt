@@ -1,0 +1,6 @@
+use Rattle.std.proofs.Common.{◌∙◌}
+use Rattle.mst_verify.proofs.LackedSeen.{one_seen}
+use Rattle.mst_verify.proofs.lacking.has_lan.Goals as goal
+
+pub returns-in_default : goal.returns-in_default
+returns-in_default c = c.any_lan.ensures ∙ one_seen (λ x. x.name) c.args.lans.now c.args.item.now c.in_default.not-Any

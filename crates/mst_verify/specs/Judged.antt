@@ -1,0 +1,70 @@
+-- In which networks a promise is judged, and that it is kept.
+use Rattle.std.specs.Prelude.{◌≡◌, ℕ, ◌&&◌, ◌||◌, not, Bool, true, false, List, None, Some, Ok}
+use Rattle.std.specs.List.{Contains}
+use Rattle.std.specs.Option.{option_map_or}
+use Rattle.mst_summary.specs.net.After.{after}
+use Rattle.mst_summary.specs.net.Tables.{Net}
+use Rattle.mst_lag.specs.Aggregation.{same_name}
+use Rattle.mst_summary.specs.trees.Outcome.{Outcome, IsOutcome}
+use Rattle.mst_sweep.specs.Failures.{edit_of, failures}
+use Rattle.mst_sweep.specs.declared.failure.Failure.{Failure}
+use Rattle.mst_sweep.specs.declared.failure.Failure.TheVariants as failing
+use Rattle.mst_policy.specs.Items.{has, lists}
+use Rattle.mst_policy.specs.declared.item.NameItem.{NameItem}
+use Rattle.mst_policy.specs.declared.expectation.Expectation.{Expectation}
+use Rattle.mst_policy.specs.declared.expectation.Expectation.TheVariants as expect
+use Rattle.mst_policy.specs.declared.expectation.Scope.{Scope}
+use Rattle.mst_policy.specs.declared.expectation.Scope.TheVariants as scope
+use Rattle.mst_policy.specs.declared.expectation.Promise.{Promise}
+use Rattle.mst_verify.specs.Named.{Gone}
+use Rattle.mst_verify.specs.Holds.{Holds}
+
+-- the bridge that a failure takes away
+abbrev pub gone_of : Failure → Gone
+gone_of (failing.Lan lan) = None
+gone_of (failing.Bridge bridge) = Some bridge
+
+-- a bridge is the B or the C that the expectation names, and a LAN is its LAN
+abbrev pub is_its_bridge : Expectation → List ℕ → Bool
+is_its_bridge (expect.Root tree b next) bridge = same_name b bridge || option_map_or (λ c. same_name c bridge) next false
+is_its_bridge _ bridge = false
+
+abbrev pub is_its_lan : Expectation → List ℕ → Bool
+is_its_lan (expect.Carries own vids) lan = same_name own lan
+is_its_lan (expect.Avoids own vids) lan = same_name own lan
+is_its_lan _ lan = false
+
+-- a failure is of one of these
+abbrev pub fails_its_own : Expectation → Failure → Bool
+fails_its_own expectation (failing.Lan lan) = is_its_lan expectation lan
+fails_its_own expectation (failing.Bridge bridge) = is_its_bridge expectation bridge
+
+-- a list asks for a failure: it has the name, and where the expectation names it, too, the name itself is an item
+abbrev pub asks_for : List NameItem → List ℕ → Bool → Bool
+asks_for names name is_own = has names name && (not is_own || lists names name)
+
+-- the network itself is judged
+abbrev pub asks_now : Scope → Bool
+asks_now scope.Now = true
+asks_now (scope.AfterLan names) = false
+asks_now (scope.AfterBridge names) = false
+asks_now scope.Always = true
+
+-- that of a failure is judged
+abbrev pub scope_asks : Scope → Failure → Bool → Bool
+scope_asks (scope.AfterLan names) (failing.Lan lan) is_own = asks_for names lan is_own
+scope_asks (scope.AfterBridge names) (failing.Bridge bridge) is_own = asks_for names bridge is_own
+scope_asks scope.Always failure is_own = not is_own
+scope_asks _ failure is_own = false
+
+abbrev pub asks : Promise → Failure → Bool
+asks promise failure = scope_asks promise.scope failure (fails_its_own promise.expectation failure)
+
+-- the expectation holds in the network that a failure makes
+abbrev pub HoldsAfter : Net → Failure → Expectation → Type 0
+HoldsAfter net failure expectation = (failed : Net) (o : Outcome) → after (edit_of failure) net ≡ Ok failed → IsOutcome failed o → Holds failed o net (gone_of failure) expectation
+
+-- the promise is kept: the expectation holds in each network in which it is judged
+pub record IsKept (net : Net) (o : Outcome) (promise : Promise) : Type 0 where
+  pub now : asks_now promise.scope ≡ true → Holds net o net None promise.expectation
+  pub failed : (failure : Failure) → Contains (failures net) failure → asks promise failure ≡ true → HoldsAfter net failure promise.expectation

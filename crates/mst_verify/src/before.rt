@@ -1,0 +1,49 @@
+ghost use Rattle.std.specs.Prelude.{◌≡◌, ◌&&◌, IfOk};
+ghost use Rattle.std.specs.List.{list_any};
+ghost use Rattle.std.specs.HashSet.{contains};
+ghost use Rattle.mst_ids.specs.declared.name.PortName.{PortName as PortNameOf};
+ghost use Rattle.mst_summary.specs.net.Tables.{port_eq};
+ghost use Rattle.mst_summary.specs.Kept.{AreClasses};
+ghost use Rattle.mst_verify.specs.Seen.{IsBefore};
+
+use indexmap::IndexSet;
+use mst_graph::Numbering;
+use mst_ids::PortName;
+use mst_lag::View;
+use mst_summary::{Settled, classes_of_vids};
+use std::alloc::{AllocError, Global};
+
+/// What is kept of a network for all its failures: the classes of its VIDs that no table and no set of VLANs tells apart, which no failure
+/// changes, and its enabled logical ports.
+#[derive(Drop)]
+pub struct Before {
+    pub(crate) classes: Numbering,
+    pub(crate) enabled: IndexSet<PortName>,
+}
+
+/// The names of the enabled logical ports.
+fn enabled_ports(alloc: Global, view: &View) -> Result<IndexSet<PortName>, AllocError>
+    ensures { IfOk result (λ names. (port : PortNameOf) → contains port_eq names port ≡ list_any (λ p. p.is_enabled && port_eq p.name port) view.now.ports) }
+{
+    let mut names = IndexSet::new(alloc);
+    for port in view.ports() {
+        if port.is_enabled {
+            names.insert(port.name)?;
+        }
+    }
+    Ok(names)
+}
+
+impl Before {
+    /// Of this network. `AllocError`: memory was wanted and refused.
+    pub fn new(alloc: Global, plan: &Settled) -> Result<Before, AllocError>
+        ensures classes { IfOk result (λ before. AreClasses plan.now.view before.classes) }
+        ensures ports { IfOk result (IsBefore plan.now.net) }
+    {
+        plan.known();
+        let view = plan.view();
+        let classes = classes_of_vids(alloc, view)?;
+        let enabled = enabled_ports(alloc, view)?;
+        Ok(Before { classes, enabled })
+    }
+}

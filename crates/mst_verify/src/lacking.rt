@@ -1,0 +1,324 @@
+ghost use Rattle.std.specs.Prelude.{◌≡◌, ◌++◌, map};
+ghost use Rattle.std.specs.List.{list_all, list_any};
+ghost use Rattle.mst_lag.specs.Aggregation.{same_name};
+ghost use Rattle.mst_policy.specs.Items.{item_has, port_item_has};
+ghost use Rattle.mst_summary.specs.trees.InUse.{is_in_use};
+ghost use Rattle.mst_verify.specs.Missing.{bridges_of, code_of, has_one as has_one_of, has_port as has_port_of, is_all as is_all_of, is_tree as is_tree_of, lacks_bridge as lacks_bridge_of, lacks_lan as lacks_lan_of, lacks_port as lacks_port_of, lacks_tree as lacks_tree_of, lans_of, missing as missing_of, next_item, scope_bridges, scope_lans, text_of};
+
+use mst_ids::{Name, Tree};
+use mst_lag::{BridgeInView, MemberLan, PortInView, View};
+use mst_policy::{Expectation, NameItem, PortItem, PortsOf, Promise, Scope};
+use mst_summary::Settled;
+
+/// What a promise names and the network hasn't.
+#[derive(Clone, Copy)]
+pub enum Missing {
+    /// No bridge has the tree.
+    Tree,
+    /// No bridge has a name, or one that an item of a list is for.
+    Bridge,
+    /// No logical port is one that an item of a list is for.
+    Port,
+    /// No LAN has a name, or one that an item of a list is for.
+    Lan,
+}
+
+impl Missing {
+    /// The number of the refusal.
+    pub fn code(self) -> &'static str
+        ensures { result.now ≡ code_of self }
+    {
+        match self {
+            Missing::Tree => "E03",
+            Missing::Bridge => "E04",
+            Missing::Port => "E05",
+            Missing::Lan => "E06",
+        }
+    }
+
+    /// What is printed after it, as in a script.
+    pub fn text(self) -> &'static str
+        ensures { result.now ≡ text_of self }
+    {
+        match self {
+            Missing::Tree => "bad VID or tree",
+            Missing::Bridge => "no such bridge",
+            Missing::Port => "no such port",
+            Missing::Lan => "no such LAN",
+        }
+    }
+}
+
+/// Whether an item has the name of one of these bridges.
+fn any_bridge(bridges: &[BridgeInView], item: &NameItem) -> bool
+    ensures { result ≡ list_any (λ b. item_has item.now b.name) bridges.now }
+{
+    bridges.iter().any(|bridge| item.has(&bridge.name))
+}
+
+/// Whether an item is for one of these bridges: `*` alone always is.
+fn has_bridge(bridges: &[BridgeInView], item: &NameItem) -> bool
+    ensures { result ≡ has_one_of (map (λ b. b.name) bridges.now) item.now }
+{
+    match item {
+        NameItem::Any => true,
+        _ => any_bridge(bridges, item),
+    }
+}
+
+/// Whether each of these items is.
+fn have_bridges(bridges: &[BridgeInView], items: &[NameItem]) -> bool
+    ensures { result ≡ list_all (has_one_of (map (λ b. b.name) bridges.now)) items.now }
+{
+    items.iter().all(|item| has_bridge(bridges, item))
+}
+
+/// Whether an item has the name of one of these LANs.
+fn any_lan(lans: &[MemberLan], item: &NameItem) -> bool
+    ensures { result ≡ list_any (λ l. item_has item.now l.name) lans.now }
+{
+    lans.iter().any(|lan| item.has(&lan.name))
+}
+
+/// Whether an item is for one of these LANs: `*` alone always is.
+fn has_lan(lans: &[MemberLan], item: &NameItem) -> bool
+    ensures { result ≡ has_one_of (map (λ l. l.name) lans.now) item.now }
+{
+    match item {
+        NameItem::Any => true,
+        _ => any_lan(lans, item),
+    }
+}
+
+/// Whether each of these items is.
+fn have_lans(lans: &[MemberLan], items: &[NameItem]) -> bool
+    ensures { result ≡ list_all (has_one_of (map (λ l. l.name) lans.now)) items.now }
+{
+    items.iter().all(|item| has_lan(lans, item))
+}
+
+/// Whether an item is for all ports of all bridges.
+fn is_all(bridge: NameItem, ports: PortsOf) -> bool
+    ensures { result ≡ is_all_of bridge ports }
+{
+    match (bridge, ports) {
+        (NameItem::Any, PortsOf::All) => true,
+        _ => false,
+    }
+}
+
+/// Whether an item has the name of one of these ports.
+fn any_port(ports: &[PortInView], item: &PortItem) -> bool
+    ensures { result ≡ list_any (λ p. port_item_has item.now p.name) ports.now }
+{
+    ports.iter().any(|port| item.has(&port.name))
+}
+
+/// Whether an item is for one of these ports: `*:*` always is.
+fn has_port(ports: &[PortInView], item: &PortItem) -> bool
+    ensures { result ≡ has_port_of (map (λ p. p.name) ports.now) item.now }
+{
+    is_all(item.bridge, item.ports) || any_port(ports, item)
+}
+
+/// Whether each of these items is.
+fn have_ports(ports: &[PortInView], items: &[PortItem]) -> bool
+    ensures { result ≡ list_all (has_port_of (map (λ p. p.name) ports.now)) items.now }
+{
+    items.iter().all(|item| has_port(ports, item))
+}
+
+/// Whether each of these items of ports is for a bridge.
+fn have_port_bridges(bridges: &[BridgeInView], items: &[PortItem]) -> bool
+    ensures { result ≡ list_all (λ item. has_one_of (map (λ b. b.name) bridges.now) item.bridge) items.now }
+{
+    items.iter().all(|item| has_bridge(bridges, &item.bridge))
+}
+
+/// Whether some bridge of a view has a tree beside the CIST.
+fn is_had(view: &View, tree: Tree) -> bool
+    ensures { result ≡ is_in_use view.now tree }
+{
+    view.bridges()
+        .iter()
+        .any(|bridge| view.has_tree(bridge.bridge.number, tree))
+}
+
+/// Whether some bridge has a tree: the CIST is there always.
+fn is_tree(plan: &Settled, tree: Tree) -> bool
+    ensures { result ≡ is_tree_of plan.now.net tree }
+{
+    plan.known();
+    tree.value() == 0 || is_had(plan.view(), tree)
+}
+
+/// Whether the tree of an expectation isn't there.
+fn lacks_tree(plan: &Settled, promise: &Promise) -> bool
+    ensures { result ≡ lacks_tree_of plan.now.net promise.now }
+{
+    match &promise.expectation {
+        Expectation::Root { tree, .. } => !is_tree(plan, *tree),
+        Expectation::Role { tree, .. } => !is_tree(plan, *tree),
+        Expectation::Leaf { tree, .. } => !is_tree(plan, *tree),
+        Expectation::Depth { tree, .. } => !is_tree(plan, *tree),
+        _ => false,
+    }
+}
+
+/// Whether one of these bridges has a name.
+fn bridge_named(bridges: &[BridgeInView], name: &Name) -> bool
+    ensures { result ≡ list_any (λ b. same_name name.now b.name) bridges.now }
+{
+    bridges.iter().any(|bridge| *name == bridge.name)
+}
+
+/// Whether a bridge is there.
+fn is_bridge(bridges: &[BridgeInView], name: &Name) -> bool
+    ensures { result ≡ has_one_of (map (λ b. b.name) bridges.now) (NameItem.Is name.now) }
+{
+    bridge_named(bridges, name)
+}
+
+/// Whether a bridge is there, if one is named.
+fn is_next(bridges: &[BridgeInView], next: &Option<Name>) -> bool
+    ensures { result ≡ list_all (has_one_of (map (λ b. b.name) bridges.now)) (next_item next.now) }
+{
+    match next {
+        None => true,
+        Some(next) => is_bridge(bridges, next),
+    }
+}
+
+/// Whether each item of two lists is.
+fn have_both(bridges: &[BridgeInView], names: &[NameItem], others: &[NameItem]) -> bool
+    ensures { result ≡ list_all (has_one_of (map (λ b. b.name) bridges.now)) (names.now ++ others.now) }
+{
+    let first = have_bridges(bridges, names);
+    first && have_bridges(bridges, others)
+}
+
+/// Whether the bridges of an expectation are there.
+fn are_bridges(bridges: &[BridgeInView], expectation: &Expectation) -> bool
+    ensures { result ≡ list_all (has_one_of (map (λ b. b.name) bridges.now)) (bridges_of expectation.now) }
+{
+    match expectation {
+        Expectation::Root { bridge, next, .. } => {
+            is_bridge(bridges, bridge) && is_next(bridges, next)
+        }
+        Expectation::Region { names } => have_bridges(bridges, names.as_slice()),
+        Expectation::Role { ports, .. } => have_port_bridges(bridges, ports.as_slice()),
+        Expectation::Reach { names, .. } => have_bridges(bridges, names.as_slice()),
+        Expectation::Apart { names, others, .. } => {
+            have_both(bridges, names.as_slice(), others.as_slice())
+        }
+        Expectation::Leaf { names, .. } => have_bridges(bridges, names.as_slice()),
+        _ => true,
+    }
+}
+
+/// Whether the bridges of a scope are there.
+fn are_scope_bridges(bridges: &[BridgeInView], scope: &Scope) -> bool
+    ensures { result ≡ list_all (has_one_of (map (λ b. b.name) bridges.now)) (scope_bridges scope.now) }
+{
+    match scope {
+        Scope::AfterBridge(names) => have_bridges(bridges, names.as_slice()),
+        _ => true,
+    }
+}
+
+/// Whether the bridges of a promise are there.
+fn are_all_bridges(bridges: &[BridgeInView], promise: &Promise) -> bool
+    ensures { result ≡ list_all (has_one_of (map (λ b. b.name) bridges.now)) (scope_bridges promise.now.scope ++ bridges_of promise.now.expectation) }
+{
+    let first = are_scope_bridges(bridges, &promise.scope);
+    first && are_bridges(bridges, &promise.expectation)
+}
+
+/// Whether a bridge of a promise isn't there.
+fn lacks_bridge(plan: &Settled, promise: &Promise) -> bool
+    ensures { result ≡ lacks_bridge_of plan.now.net promise.now }
+{
+    plan.known();
+    !are_all_bridges(plan.view().bridges(), promise)
+}
+
+/// Whether a port of a promise isn't there.
+fn lacks_port(plan: &Settled, promise: &Promise) -> bool
+    ensures { result ≡ lacks_port_of plan.now.net promise.now }
+{
+    plan.known();
+    match &promise.expectation {
+        Expectation::Role { ports, .. } => !have_ports(plan.view().ports(), ports.as_slice()),
+        _ => false,
+    }
+}
+
+/// Whether one of these LANs has a name.
+fn lan_named(lans: &[MemberLan], name: &Name) -> bool
+    ensures { result ≡ list_any (λ l. same_name name.now l.name) lans.now }
+{
+    lans.iter().any(|lan| *name == lan.name)
+}
+
+/// Whether a LAN is there.
+fn is_lan(lans: &[MemberLan], name: &Name) -> bool
+    ensures { result ≡ has_one_of (map (λ l. l.name) lans.now) (NameItem.Is name.now) }
+{
+    lan_named(lans, name)
+}
+
+/// Whether the LAN of an expectation is there.
+fn are_lans(lans: &[MemberLan], expectation: &Expectation) -> bool
+    ensures { result ≡ list_all (has_one_of (map (λ l. l.name) lans.now)) (lans_of expectation.now) }
+{
+    match expectation {
+        Expectation::Carries { lan, .. } => is_lan(lans, lan),
+        Expectation::Avoids { lan, .. } => is_lan(lans, lan),
+        _ => true,
+    }
+}
+
+/// Whether the LANs of a scope are there.
+fn are_scope_lans(lans: &[MemberLan], scope: &Scope) -> bool
+    ensures { result ≡ list_all (has_one_of (map (λ l. l.name) lans.now)) (scope_lans scope.now) }
+{
+    match scope {
+        Scope::AfterLan(names) => have_lans(lans, names.as_slice()),
+        _ => true,
+    }
+}
+
+/// Whether the LANs of a promise are there.
+fn are_all_lans(lans: &[MemberLan], promise: &Promise) -> bool
+    ensures { result ≡ list_all (has_one_of (map (λ l. l.name) lans.now)) (scope_lans promise.now.scope ++ lans_of promise.now.expectation) }
+{
+    let first = are_scope_lans(lans, &promise.scope);
+    first && are_lans(lans, &promise.expectation)
+}
+
+/// Whether a LAN of a promise isn't there.
+fn lacks_lan(plan: &Settled, promise: &Promise) -> bool
+    ensures { result ≡ lacks_lan_of plan.now.net promise.now }
+{
+    plan.known();
+    !are_all_lans(plan.view().member_lans(), promise)
+}
+
+/// What a promise names and the network hasn't, by its plan: that of the least number, if there is anything. It takes no memory.
+pub fn missing_in(plan: &Settled, promise: &Promise) -> Option<Missing>
+    ensures { result ≡ missing_of plan.now.net promise.now }
+{
+    if lacks_tree(plan, promise) {
+        return Some(Missing::Tree);
+    }
+    if lacks_bridge(plan, promise) {
+        return Some(Missing::Bridge);
+    }
+    if lacks_port(plan, promise) {
+        return Some(Missing::Port);
+    }
+    if lacks_lan(plan, promise) {
+        return Some(Missing::Lan);
+    }
+    None
+}

@@ -1,0 +1,42 @@
+//! Whether a network does what its policy promises: in which networks an expectation is judged, whether it holds in one, by its plan, and
+//! the reasons where it doesn't.
+//!
+//! An expectation is judged in the network itself, and in those that single failures make of it ([`asks_now`], [`asks`]). A network that is
+//! judged is a [`Judged`]: its plan, what is kept of the network before the failure ([`Before`]), the islands that are made already
+//! ([`Homes`]), and the bridge that failed. [`reasons`] says
+//! why an expectation doesn't hold there, each reason as a value, and none where it does: so who asks may keep reasons for as long as it
+//! takes to judge all failures, and tell them afterwards in the order of a policy's lines.
+#![tactic(auto)]
+
+mod apart;
+mod asking;
+mod before;
+mod depth;
+mod fits;
+mod homes;
+mod judged;
+mod lacking;
+pub mod laws;
+mod leaves;
+mod lists;
+mod named;
+mod over;
+mod parting;
+mod reaching;
+mod reason;
+mod regions;
+mod roles;
+mod roots;
+mod told;
+mod vids;
+mod why;
+
+pub use asking::{asks, asks_now};
+pub use before::Before;
+pub use homes::Homes;
+pub use judged::Judged;
+pub use lacking::{Missing, missing_in};
+pub use lists::{BridgeNames, Parts, PortNames, Word};
+pub use reason::Reason;
+pub use told::{put_reason, put_verified};
+pub use why::reasons;
