@@ -7,6 +7,8 @@ pub mod Explained
 pub mod Staying
 pub mod SweepThere
 pub mod Swept
+pub mod Judgements
+pub mod PolicyRows
 pub mod SweptParts
 pub mod Paired
 pub mod Told

@@ -4,6 +4,7 @@ pub use Rattle.mst_picture.specs.roles as roles
 pub use Rattle.mst_picture.specs.changes as changes
 pub use Rattle.mst_picture.specs.diff as diff
 pub use Rattle.mst_sweep.specs as sweep
+pub use Rattle.mst_verify.specs as verify
 pub mod State
 pub mod Answers
 pub mod Refusing
@@ -17,3 +18,4 @@ pub mod Pairing
 pub mod Differing
 pub mod Summarizing
 pub mod Picturing
+pub mod Verifying

@@ -4,6 +4,7 @@
 mod answers;
 mod differing;
 mod explaining;
+mod judging;
 pub mod laws;
 mod pairing;
 mod picturing;
@@ -12,9 +13,11 @@ mod planner;
 mod rows;
 mod summarizing;
 mod sweeping;
+mod verifying;
 
 pub use answers::asks_plan;
 pub use explaining::Unexplained;
 pub use mst_picture::{Differing, Forest, Role, Settled, forwards, port_role, trees_laws};
 pub use mst_sweep::SweepPart;
 pub use planner::Planner;
+pub use verifying::Verdict;

@@ -1,4 +1,4 @@
-ghost use Rattle.std.specs.Prelude.{◌≡◌, ◌≢◌, ◌++◌, true, false, List, Err, IsOk, IfOk, IfErr, OnOk, OnErr, IsTrue};
+ghost use Rattle.std.specs.Prelude.{◌≡◌, ◌≢◌, ◌≤◌, ◌++◌, length, true, false, List, Err, IsOk, IfOk, IfErr, OnOk, OnErr, IsTrue};
 ghost use Rattle.mst_net.specs.After.{after};
 ghost use Rattle.mst_net.specs.Contents.{SameContents, CanCommit, Commits, room_for};
 ghost use Rattle.std.specs.Option.{option_map};
@@ -8,12 +8,14 @@ ghost use Rattle.mst_lag.specs.Viewed.{IsView};
 ghost use Rattle.mst_picture.specs.changes.Stored.{kept_entries};
 ghost use Rattle.mst_report.specs.Pairing.{SweepsPairs};
 ghost use Rattle.mst_report.specs.Sweeping.{SweepsPart};
+ghost use Rattle.mst_report.specs.Verifying.{Verifies, counts_of};
 ghost use Rattle.mst_rows.specs.Rows.{Row};
 
 use crate::laws::entries_of_network;
 use crate::pairing::sweep_pairs;
 use crate::plan::{Plan, next_plan, renew_plan, settle_plan};
 use crate::sweeping::sweep_network;
+use crate::verifying::{Verdict, verify_network};
 use mst_config::laws::regions_stay;
 use mst_config::touches_regions;
 use mst_ids::Tree;
@@ -21,6 +23,7 @@ use mst_lag::View;
 use mst_lang::Edit;
 use mst_net::{Contents, Network, Refusal};
 use mst_picture::{Entries, Forest, Settled};
+use mst_policy::Policy;
 use mst_rows::Rows;
 use mst_sweep::SweepPart;
 use std::alloc::{AllocError, Global};
@@ -288,6 +291,28 @@ impl Planner {
     {
         let plan = self.plan.as_ref().unwrap();
         sweep_pairs(self.alloc, &self.network, plan, part, out)
+    }
+
+    /// Puts whether the network does what a policy promises: the policy's refused lines, then for each line that is judged why it isn't
+    /// kept, in the network itself and then in that of each failure for which it asks, and a last row that counts them. Each failure that
+    /// some line asks for is looked at once, by one repair of the plan that stands, and isn't made. `AllocError`: memory was wanted and
+    /// refused; some of the rows may have been put. The planner is as it was in either case, but for room for edits.
+    pub fn put_verification<R: Rows>(
+        &mut self,
+        policy: &Policy,
+        out: &mut R,
+    ) -> Result<Verdict, AllocError>
+        requires { self.old.is_settled ≡ true }
+        ensures told { (first : R) (before : List Row) → R.grew first out.old before
+            → IfOk result (λ verdict. (rows : List Row) × Verifies self.old.contents.net policy.now (counts_of verdict) rows × R.grew first out.new (before ++ rows)) }
+        ensures few { IfOk result (λ verdict. verdict.refused ≤ length policy.now) }
+        ensures same { SameContents self.old.contents self.new.contents }
+        ensures settled { self.new.is_settled ≡ true }
+        ensures standing { self.new.standing ≡ self.old.standing }
+        ensures mark { self.new.mark ≡ self.old.mark }
+    {
+        let plan = self.plan.as_ref().unwrap();
+        verify_network(self.alloc, &mut self.network, plan, policy.as_slice(), out)
     }
 
     /// What the rows take memory from.
