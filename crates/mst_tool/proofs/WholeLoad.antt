@@ -125,7 +125,7 @@ module _ (one : OneLoad) (shape : Shape) where
   }
 
 -- no line of a script is a message that differs
-loads_same : (shape : Shape) (reads written now : Option (List ℕ)) (t : Tally) (s : Served (Network shape) empty_state reads written now t) → differing_of s.steps ≡ 0
+pub loads_same : (shape : Shape) (reads written now : Option (List ℕ)) (t : Tally) (s : Served (Network shape) empty_state reads written now t) → differing_of s.steps ≡ 0
 loads_same shape reads written now t s = none_differ shape loading (version_of (lines_of s.bytes)) 1 empty_state (lines_of s.bytes) s.steps s.runs
 
 -- the answer of the network that the script left

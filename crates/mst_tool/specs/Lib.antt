@@ -7,3 +7,5 @@ pub mod Asked
 pub mod Shown
 pub mod Ask
 pub mod Diff
+pub mod Policies
+pub mod Verify

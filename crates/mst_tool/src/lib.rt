@@ -1,6 +1,6 @@
 //! Runs a script over any reader and writer: its lines are edits of a network and queries about it. And checks captured
-//! messages against the plan of the network that a script leaves, answers what is asked of that network, and tells the
-//! networks of two scripts apart. A source may listen meanwhile (`mst_hinting`).
+//! messages against the plan of the network that a script leaves, answers what is asked of that network, tells the networks of two
+//! scripts apart, and says whether one does what a policy promises. A source may listen meanwhile (`mst_hinting`).
 #![tactic(auto)]
 
 mod asked;
@@ -8,7 +8,9 @@ mod asks;
 mod checks;
 mod diffs;
 mod opened;
+mod policies;
 mod runs;
+mod verifies;
 
 pub use asked::{Asked, Question};
 pub use asks::{Answer, answer_to, ask, ask_from, ask_within, put_answer};
@@ -18,3 +20,4 @@ pub use mst_engine::{SweepPart, laws, report_laws, trees_laws};
 pub use mst_io::{Failed, FromRead, Outcome, RunFault, Sink, Source, TURNS, ToWrite};
 pub use mst_print::Form;
 pub use runs::{run, run_from, run_within, status};
+pub use verifies::{verify, verify_within};

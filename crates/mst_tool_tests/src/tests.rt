@@ -6,6 +6,7 @@ mod diffs;
 mod faults;
 mod forms;
 mod hinted;
+mod verifies;
 
 use mst_tool::Outcome;
 

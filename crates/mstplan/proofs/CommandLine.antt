@@ -18,7 +18,7 @@ use Rattle.clap.proofs.WalkLemmas.{walk_stopped}
 use Rattle.mst_io.specs.declared.outcome.RunFault.TheVariants.{Memory, Write}
 use Rattle.mstplan.specs.declared.endings.Stop.{Stop}
 use Rattle.mstplan.specs.declared.endings.Stop.TheVariants.{Told, Fault}
-use Rattle.mstplan.specs.Words.{IsAnswer, IsRefusal, IsWrong, Request, are_plain, are_values, ask, asked_by, asked_of, by_one, by_one_to_three, by_port, by_two, check, diff, dot, is_dashes, is_help, is_plain, is_version, program, run, summary, sweep, without_dashes}
+use Rattle.mstplan.specs.Words.{IsAnswer, IsRefusal, IsWrong, Request, are_plain, are_values, ask, asked_by, asked_of, by_one, by_one_to_three, by_port, by_two, check, diff, dot, is_dashes, is_help, is_plain, is_version, program, run, summary, sweep, verify, without_dashes}
 use Rattle.mstplan.proofs.PlainWords.{Fits, IsSingle, both_so, fits_values, is_no_help, leaf, leaf_found, level, plain_dashes, plain_turn, refuses, values_found, values_leaf}
 
 -- ---- run
@@ -149,6 +149,22 @@ ask_values [] = refl
 ask_values (f ∷ []) = (refl, refl)
 ask_values (f ∷ more ∷ rest) = refl
 
+-- ---- verify
+
+abbrev verify_leaf : Shape
+verify_leaf = unwrap_or (slice_get (built program).subs 8) (built program).top
+
+verify_single : IsSingle verify_leaf
+unfolding clap_on_literals
+verify_single = refl
+
+verify_values : (values : List Text) → Fits (by_two verify values) (values_leaf verify_leaf values) (values_found verify_leaf values)
+unfolding clap_on_literals
+verify_values [] = refl
+verify_values (f ∷ []) = refl
+verify_values (f ∷ g ∷ []) = (refl, refl)
+verify_values (f ∷ g ∷ more ∷ rest) = refl
+
 -- ---- the words of the program
 
 abbrev names : Labels
@@ -232,6 +248,10 @@ ask_command : IsCommand (codes "ask") ask_leaf
 unfolding clap_on_literals
 ask_command = record { stops = refl; faultless = refl; is_whole = λ rest. refl; is_found = λ rest. refl }
 
+verify_command : IsCommand (codes "verify") verify_leaf
+unfolding clap_on_literals
+verify_command = record { stops = refl; faultless = refl; is_whole = λ rest. refl; is_found = λ rest. refl }
+
 -- a command, by what its own words come to
 fits_command : (command : Text) (s : Shape) (rest : List Text) → IsCommand command s → is_dashes command ≡ false → Fits (asked_by (command ∷ without_dashes rest)) (leaf s rest) (leaf_found s rest) → FitsWords (command ∷ rest)
 fits_command command s rest is plain fits =
@@ -254,6 +274,7 @@ record IsOther (command : Text) : Type 0 where
   not_summary : bytes_eq (codes "summary") command ≡ false
   not_dot : bytes_eq (codes "dot") command ≡ false
   not_ask : bytes_eq (codes "ask") command ≡ false
+  not_verify : bytes_eq (codes "verify") command ≡ false
 
 -- what is found where the first isn't
 abbrev met_or : Text → Bool → Option (Text × List Text) → Option (Text × List Text)
@@ -268,7 +289,7 @@ names_none command other =
     ap (option_map (λ (s : Text × List Text). s.0))
     (unmet (codes "run") _ _ other.not_run ∙ unmet (codes "check") _ _ other.not_check ∙ unmet (codes "explain") _ _ other.not_explain ∙ unmet (codes "diff") _ _ other.not_diff
     ∙ unmet (codes "sweep") _ _ other.not_sweep ∙ unmet (codes "summary") _ _ other.not_summary ∙ unmet (codes "dot") _ _ other.not_dot
-    ∙ unmet (codes "ask") _ _ other.not_ask)
+    ∙ unmet (codes "ask") _ _ other.not_ask ∙ unmet (codes "verify") _ _ other.not_verify)
 
 stray_refused : (more : Kinds) (end : Walk) → refuses (whole (or_else (step_fault (built program).top 1 nothing_held value) more) end) ≡ true
 unfolding clap_on_literals
@@ -297,6 +318,7 @@ asks_none command rest other =
     ∙ unless (bytes_eq (codes "summary") command) (by_one summary rest) _ other.not_summary
     ∙ unless (bytes_eq (codes "dot") command) (by_two dot rest) _ other.not_dot
     ∙ unless (bytes_eq (codes "ask") command) (by_one ask rest) _ other.not_ask
+    ∙ unless (bytes_eq (codes "verify") command) (by_two verify rest) _ other.not_verify
 
 fits_other : (command : Text) (rest : List Text) → is_plain command ≡ true → IsOther command → FitsWords (command ∷ rest)
 fits_other command rest plain other =
@@ -330,7 +352,8 @@ words_fit (command ∷ rest) h =
     (λ s. is_or_not (codes "summary") command rest (fits_command (codes "summary") summary_leaf rest summary_command refl (fits_values summary_leaf summary_single (by_one summary) rest values summary_values))
     (λ m. is_or_not (codes "dot") command rest (fits_command (codes "dot") dot_leaf rest dot_command refl (fits_values dot_leaf dot_single (by_two dot) rest values dot_values))
     (λ p. is_or_not (codes "ask") command rest (fits_command (codes "ask") ask_leaf rest ask_command refl (fits_values ask_leaf ask_single (by_one ask) rest values ask_values))
-    (λ a. fits_other command rest both.0 (record { not_run = r; not_check = c; not_explain = e; not_diff = d; not_sweep = s; not_summary = m; not_dot = p; not_ask = a })))))))))
+    (λ a. is_or_not (codes "verify") command rest (fits_command (codes "verify") verify_leaf rest verify_command refl (fits_values verify_leaf verify_single (by_two verify) rest values verify_values))
+    (λ v. fits_other command rest both.0 (record { not_run = r; not_check = c; not_explain = e; not_diff = d; not_sweep = s; not_summary = m; not_dot = p; not_ask = a; not_verify = v }))))))))))
 
 -- the same of all the words, the program's name first
 pub all_fit : (words : List Text) → are_plain (drop 1 words) ≡ true → Fits (asked_by (without_dashes (drop 1 words))) (fault_of program words) (asked_of (subcommand_of program words))

@@ -5,7 +5,8 @@ use Rattle.std.specs.Io.KnownBytes.{Keeps, append_known}
 use Rattle.std.proofs.KnownBytes.{Appends-kept}
 use Rattle.mst_tool.specs.Check.{Checks, ChecksFront, ChecksEnded, ComparesEnded, ChecksScript}
 use Rattle.mst_tool.specs.Diff.{Diffs, DiffsFront, DiffsEnded, DiffsScripts, LoadsNewEnded, both_texts}
-use Rattle.mst_tool.specs.Load.{LoadsEnded, LoadsFront}
+use Rattle.mst_tool.specs.Load.{LoadsEnded, LoadsFront, LoadsScript}
+use Rattle.mst_tool.specs.Verify.{Verifies, VerifiesEnded, VerifiesFront}
 use Rattle.mst_ask.specs.Asking.{Stands, StandsEnded, StandsFront, printed_by}
 use Rattle.mst_tool.specs.Run.{PrintsEnded}
 use Rattle.mst_tool.specs.printing.Shape.{of_old, of_script}
@@ -15,7 +16,7 @@ use Rattle.mst_io.specs.declared.outcome.Outcome.{Outcome}
 use Rattle.mst_io.specs.declared.outcome.RunFault.{RunFault}
 use Rattle.mst_io.specs.declared.outcome.RunFault.TheVariants.{Read, Write, Memory}
 use Rattle.mstplan.specs.declared.compared.Comparison.{Comparison}
-use Rattle.mstplan.specs.declared.compared.Comparison.TheVariants.{Captures, Networks, Questions}
+use Rattle.mstplan.specs.declared.compared.Comparison.TheVariants.{Captures, Networks, Policy, Questions}
 use Rattle.mstplan.specs.Buffered.{is_broken}
 use Rattle.mstplan.specs.Compared.{Compared, ComparedEnded, ComparedFront, ComparedScripts, EndsComparison}
 use Rattle.mstplan.proofs.Kept.{front_kept}
@@ -184,6 +185,69 @@ module _ (form : Form) (scripts questions : Option (List ℕ)) where
       inl (record { read = h.read; steps = h.steps; consumed = h.consumed; loads = h.loads; printed = Appends-kept a b c (texts_of h.steps) h.printed k; only = h.only })
   stands_ended_kept left other_left a b c (inr h) k = inr (record { read = h.read; answers = h.answers; consumed = h.consumed; printed = Appends-kept a b c (printed_by h.answers) h.printed k })
 
+-- ---- a policy
+
+module _ (form : Form) (scripts policies : Option (List ℕ)) where
+  verifies_kept : (a b c : Option (List ℕ)) (outcome : Outcome) → Verifies form scripts policies a b outcome → Keeps b c → Verifies form scripts policies a c outcome
+  verifies_kept a b c outcome h k = record {
+    script = h.script;
+    steps = h.steps;
+    lines = h.lines;
+    counts = h.counts;
+    text = h.text;
+    read = h.read;
+    loads = h.loads;
+    are_lines = h.are_lines;
+    tells = h.tells;
+    printed = Appends-kept a b c (texts_of h.steps ++ h.text) h.printed k;
+    memory = h.memory;
+    refused = h.refused;
+    differing = h.differing;
+    only = h.only;
+  }
+
+  verifies_front_kept : (a b c : Option (List ℕ)) → VerifiesFront form scripts policies a b → Keeps b c → VerifiesFront form scripts policies a c
+  verifies_front_kept a b c (inl h) k = inl (record { script = h.script; steps = h.steps; read = h.read; loads = h.loads; printed = front_kept a b c (texts_of h.steps) h.printed k; only = h.only })
+  verifies_front_kept a b c (inr h) k = inr (record {
+    script = h.script;
+    steps = h.steps;
+    lines = h.lines;
+    counts = h.counts;
+    text = h.text;
+    read = h.read;
+    loads = h.loads;
+    are_lines = h.are_lines;
+    tells = h.tells;
+    printed = front_kept a b c (texts_of h.steps ++ h.text) h.printed k;
+    only = h.only;
+  })
+
+  -- what was written in full is a front of it
+  verifies_front : (a b : Option (List ℕ)) (outcome : Outcome) → Verifies form scripts policies a b outcome → VerifiesFront form scripts policies a b
+  verifies_front a b outcome h =
+      let text = texts_of h.steps ++ h.text in
+      inr (record {
+        script = h.script;
+        steps = h.steps;
+        lines = h.lines;
+        counts = h.counts;
+        text = h.text;
+        read = h.read;
+        loads = h.loads;
+        are_lines = h.are_lines;
+        tells = h.tells;
+        printed = record { front = text; rest = []; whole = sym (append-nil text); written = h.printed };
+        only = h.only;
+      })
+
+  verified_script_kept : (a b c : Option (List ℕ)) → LoadsScript (of_script form) scripts a b → Keeps b c → LoadsScript (of_script form) scripts a c
+  verified_script_kept a b c h k = record { script = h.script; steps = h.steps; read = h.read; loads = h.loads; printed = Appends-kept a b c (texts_of h.steps) h.printed k; only = h.only }
+
+  verifies_ended_kept : (left a b c : Option (List ℕ)) → VerifiesEnded form scripts left a b → Keeps b c → VerifiesEnded form scripts left a c
+  verifies_ended_kept left a b c (inl h) k =
+      inl (record { read = h.read; steps = h.steps; consumed = h.consumed; loads = h.loads; printed = Appends-kept a b c (texts_of h.steps) h.printed k; only = h.only })
+  verifies_ended_kept left a b c (inr h) k = inr (verified_script_kept a b c h k)
+
 -- ---- either
 
 module _ (first second : Option (List ℕ)) where
@@ -191,26 +255,31 @@ module _ (first second : Option (List ℕ)) where
   compared_kept (Captures form) a b c outcome h k = checks_kept form first second a b c outcome h k
   compared_kept (Networks form) a b c outcome h k = diffs_kept form first second a b c outcome h k
   compared_kept (Questions form) a b c outcome h k = stands_kept form first second a b c outcome h k
+  compared_kept (Policy form) a b c outcome h k = verifies_kept form first second a b c outcome h k
 
   compared_front_kept : (how : Comparison) (a b c : Option (List ℕ)) → ComparedFront how first second a b → Keeps b c → ComparedFront how first second a c
   compared_front_kept (Captures form) a b c h k = checks_front_kept form first second a b c h k
   compared_front_kept (Networks form) a b c h k = diffs_front_kept form first second a b c h k
   compared_front_kept (Questions form) a b c h k = stands_front_kept form first second a b c h k
+  compared_front_kept (Policy form) a b c h k = verifies_front_kept form first second a b c h k
 
   compared_front : (how : Comparison) (a b : Option (List ℕ)) (outcome : Outcome) → Compared how first second a b outcome → ComparedFront how first second a b
   compared_front (Captures form) a b outcome h = checks_front form first second a b outcome h
   compared_front (Networks form) a b outcome h = diffs_front form first second a b outcome h
   compared_front (Questions form) a b outcome h = stands_front form first second a b outcome h
+  compared_front (Policy form) a b outcome h = verifies_front form first second a b outcome h
 
   compared_ended_kept : (how : Comparison) (left other_left a b c : Option (List ℕ)) → ComparedEnded how first left second other_left a b → Keeps b c → ComparedEnded how first left second other_left a c
   compared_ended_kept (Captures form) left other_left a b c h k = checks_ended_kept form first second left other_left a b c h k
   compared_ended_kept (Networks form) left other_left a b c h k = diffs_ended_kept form first second left other_left a b c h k
   compared_ended_kept (Questions form) left other_left a b c h k = stands_ended_kept form first second left other_left a b c h k
+  compared_ended_kept (Policy form) left other_left a b c h k = verifies_ended_kept form first second left a b c h k
 
   compared_scripts_kept : (how : Comparison) (a b c : Option (List ℕ)) → ComparedScripts how first second a b → Keeps b c → ComparedScripts how first second a c
   compared_scripts_kept (Captures form) a b c h k = checks_script_kept form first second a b c h k
   compared_scripts_kept (Networks form) a b c h k = diffs_scripts_kept form first second a b c h k
   compared_scripts_kept (Questions form) a b c h k = stands_scripts_kept form first second a b c h k
+  compared_scripts_kept (Policy form) a b c h k = verified_script_kept form first second a b c h k
 
 module _ (how : Comparison) (first first_left second second_left : Option (List ℕ)) where
   -- what a comparison says of the buffer's bytes

@@ -1,5 +1,6 @@
 -- What is told of two inputs through the program's buffer, by what that promises of the writer behind it: how captures compare with
--- the plan of a script, how the network of a script differs from that of another, or what answers questions of one.
+-- the plan of a script, how the network of a script differs from that of another, what answers questions of one, or whether one does
+-- what a policy promises.
 use Rattle.std.specs.Prelude.{ℕ, ◌^◌, ◌⊎◌, Bool, List, Option, Result, Ok, Err}
 use Rattle.std.specs.Io.KnownBytes.{append_known}
 use Rattle.mst_tool.specs.Check.{Checks, ChecksFront, ChecksEnded, ChecksScript}
@@ -9,31 +10,35 @@ use Rattle.mst_io.specs.declared.outcome.Outcome.{Outcome}
 use Rattle.mst_io.specs.declared.outcome.RunFault.{RunFault}
 use Rattle.mst_io.specs.declared.outcome.RunFault.TheVariants.{Read, Write, Memory}
 use Rattle.mstplan.specs.declared.compared.Comparison.{Comparison}
-use Rattle.mstplan.specs.declared.compared.Comparison.TheVariants.{Captures, Networks, Questions}
+use Rattle.mstplan.specs.declared.compared.Comparison.TheVariants.{Captures, Networks, Policy, Questions}
 use Rattle.mst_ask.specs.Asking.{Stands, StandsFront, StandsEnded}
-use Rattle.mst_tool.specs.Load.{LoadsFront}
+use Rattle.mst_tool.specs.Load.{LoadsFront, LoadsScript}
+use Rattle.mst_tool.specs.Verify.{Verifies, VerifiesEnded, VerifiesFront}
 use Rattle.mst_tool.specs.printing.Shape.{of_script}
 use Rattle.mstplan.specs.Buffered.{Outputs}
 use Rattle.mstplan.specs.Hinted.{AreHinted}
 
 -- the captures that the second input has were compared with the plan of the first; or the networks of both were told apart; or the
--- questions that the second has were answered
+-- questions that the second has were answered; or the network was verified by the policy that the second is
 abbrev pub Compared : Comparison → Option (List ℕ) → Option (List ℕ) → Option (List ℕ) → Option (List ℕ) → Outcome → Type 0
 Compared (Captures form) first second written now outcome = Checks form first second written now outcome
 Compared (Networks form) first second written now outcome = Diffs form first second written now outcome
 Compared (Questions form) first second written now outcome = Stands form first second written now outcome
+Compared (Policy form) first second written now outcome = Verifies form first second written now outcome
 
 -- a front of what that prints was written
 abbrev pub ComparedFront : Comparison → Option (List ℕ) → Option (List ℕ) → Option (List ℕ) → Option (List ℕ) → Type 0
 ComparedFront (Captures form) first second written now = ChecksFront form first second written now
 ComparedFront (Networks form) first second written now = DiffsFront form first second written now
 ComparedFront (Questions form) first second written now = StandsFront form first second written now
+ComparedFront (Policy form) first second written now = VerifiesFront form first second written now
 
 -- a reader failed: the complete lines of what was read were served
 abbrev pub ComparedEnded : Comparison → Option (List ℕ) → Option (List ℕ) → Option (List ℕ) → Option (List ℕ) → Option (List ℕ) → Option (List ℕ) → Type 0
 ComparedEnded (Captures form) first first_left second second_left written now = ChecksEnded form first first_left second second_left written now
 ComparedEnded (Networks form) first first_left second second_left written now = DiffsEnded form first first_left second second_left written now
 ComparedEnded (Questions form) first first_left second second_left written now = StandsEnded form first first_left second second_left written now
+ComparedEnded (Policy form) first first_left second second_left written now = VerifiesEnded form first first_left written now
 
 -- there is no memory for the plan, or to tell the networks apart: the lines of the script, or of both scripts, were served; or there is
 -- none for the script, and a front of what its lines print was written
@@ -41,6 +46,7 @@ abbrev pub ComparedScripts : Comparison → Option (List ℕ) → Option (List �
 ComparedScripts (Captures form) first second written now = ChecksScript form first written now
 ComparedScripts (Networks form) first second written now = DiffsScripts form first second written now
 ComparedScripts (Questions form) first second written now = LoadsFront (of_script form) first written now
+ComparedScripts (Policy form) first second written now = LoadsScript (of_script form) first written now
 
 -- what the writer has, with some bytes that never came to it, is a front of what both print
 abbrev pub FallsShortOfBoth : Comparison → Option (List ℕ) → Option (List ℕ) → Option (List ℕ) → Option (List ℕ) → Type 0

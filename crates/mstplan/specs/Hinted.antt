@@ -9,7 +9,7 @@ use Rattle.mst_io.specs.declared.outcome.Outcome.{Outcome}
 use Rattle.mst_io.specs.declared.outcome.RunFault.{RunFault}
 use Rattle.mst_io.specs.declared.outcome.RunFault.TheVariants.{Read, Write, Memory}
 use Rattle.mstplan.specs.declared.compared.Comparison.{Comparison}
-use Rattle.mstplan.specs.declared.compared.Comparison.TheVariants.{Captures, Networks, Questions}
+use Rattle.mstplan.specs.declared.compared.Comparison.TheVariants.{Captures, Networks, Policy, Questions}
 
 -- the hints of all lines of what was read, or of those that an LF had ended
 abbrev pub HintsEither : Script → Option (List ℕ) → Option (List ℕ) → Option (List ℕ) → Option (List ℕ) → Type 0
@@ -43,12 +43,14 @@ abbrev pub first_script : Comparison → Script
 first_script (Captures form) = Run
 first_script (Networks form) = Old
 first_script (Questions form) = Loaded
+first_script (Policy form) = Loaded
 
 -- the second is a script, too
 abbrev pub has_second : Comparison → Bool
 has_second (Captures form) = false
 has_second (Networks form) = true
 has_second (Questions form) = false
+has_second (Policy form) = false
 
 -- the hints of the second come behind those of the first, unless something stopped these
 abbrev pub IsHintedBehind : Result (Unit {0}) RunFault → Bool → Result Outcome RunFault → Option (List ℕ) → Option (List ℕ) → Seen → Seen → Result (Unit {0}) RunFault → Type 0

@@ -10,9 +10,9 @@ use Rattle.mst_io.specs.declared.outcome.RunFault.{RunFault}
 use Rattle.mstplan.specs.declared.endings.Stop.{Stop}
 use Rattle.mstplan.specs.declared.endings.Stop.TheVariants.{Told as told_stop}
 use Rattle.mstplan.specs.declared.words.Asked.{Asked}
-use Rattle.mstplan.specs.declared.words.Asked.TheVariants.{Run, Check, Explain, Diff, Sweep, Summary, Dot, Ask}
+use Rattle.mstplan.specs.declared.words.Asked.TheVariants.{Run, Check, Explain, Diff, Sweep, Summary, Dot, Ask, Verify}
 use Rattle.mstplan.specs.declared.compared.Comparison.{Comparison}
-use Rattle.mstplan.specs.declared.compared.Comparison.TheVariants.{Captures, Networks, Questions}
+use Rattle.mstplan.specs.declared.compared.Comparison.TheVariants.{Captures, Networks, Policy, Questions}
 use Rattle.mstplan.specs.declared.words.PortWords.{PortWords}
 use Rattle.mstplan.specs.declared.flags.Flags.{Flags}
 use Rattle.mstplan.specs.declared.piped.Piped.{Piped}
@@ -55,7 +55,7 @@ ServesSweep IsGiven IsFile flags script word behind old new answer hints =
 -- What the words ask for was done with these flags, of the inputs that they name, this came to the outputs, and this was answered: the
 -- script was run; or the captures were compared with its plan; or the network that it leaves was asked of the port, of its failures
 -- or pairs of them, for its summary or for its picture; or the networks of two scripts were told apart; or the questions that came by
--- standard input were answered, of which there are none where the script comes there
+-- standard input were answered, of which there are none where the script comes there; or the network was verified by a policy
 abbrev pub Serves : (Option (List ℕ) → Type 0) → (List ℕ → Option (List ℕ) → Type 0) → Flags → Asked → Outputs → Outputs → Result Outcome RunFault → Result (Unit {0}) RunFault → Type 0
 Serves IsGiven IsFile flags (Run script) old new answer hints = ServesRun IsGiven IsFile flags script old new answer hints
 Serves IsGiven IsFile flags (Check script captures) old new answer hints = ServesBoth IsGiven IsFile flags (Captures (form_of flags)) script.now captures.now old new answer hints
@@ -65,6 +65,7 @@ Serves IsGiven IsFile flags (Sweep script word behind) old new answer hints = Se
 Serves IsGiven IsFile flags (Summary script) old new answer hints = ServesQuestion IsGiven IsFile flags question.Summary script old new answer hints
 Serves IsGiven IsFile flags (Dot script tree) old new answer hints = ServesQuestion IsGiven IsFile flags (picture_question tree.now) script old new answer hints
 Serves IsGiven IsFile flags (Ask script) old new answer hints = ServesBoth IsGiven IsFile flags (Questions (form_of flags)) script.now (codes "-") old new answer hints
+Serves IsGiven IsFile flags (Verify script policy) old new answer hints = ServesBoth IsGiven IsFile flags (Policy (form_of flags)) script.now policy.now old new answer hints
 
 -- why no failures of the script of this name were told of: the words for a part name none, which is told with status 2,
 -- or the script wasn't opened
@@ -82,6 +83,7 @@ IsWhyUnserved IsUnopened (Sweep script word behind) stop = IsWhyUnswept IsUnopen
 IsWhyUnserved IsUnopened (Summary script) stop = IsWhyNot IsUnopened script stop
 IsWhyUnserved IsUnopened (Dot script tree) stop = IsWhyNot IsUnopened script stop
 IsWhyUnserved IsUnopened (Ask script) stop = IsWhyNot IsUnopened script stop
+IsWhyUnserved IsUnopened (Verify script policy) stop = IsWhyNeither IsUnopened script policy stop
 
 -- why nothing was run: what the words said, or what kept that which they ask for from being run
 abbrev pub IsReason : (List ℕ → Why → Type 0) → Result Asked Stop → Stop → Type 0

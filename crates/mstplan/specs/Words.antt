@@ -10,13 +10,14 @@ use Rattle.mstplan.specs.declared.endings.Stop.{Stop}
 use Rattle.mstplan.specs.declared.endings.Stop.TheVariants.{Told, NoWord, Unopened, Fault}
 use Rattle.mstplan.specs.declared.words.Asked.{Asked}
 use Rattle.mstplan.specs.declared.words.PortWords.{PortWords}
-use Rattle.mstplan.specs.declared.words.Asked.TheVariants.{Run, Check, Explain, Diff, Sweep, Summary, Dot, Ask}
+use Rattle.mstplan.specs.declared.words.Asked.TheVariants.{Run, Check, Explain, Diff, Sweep, Summary, Dot, Ask, Verify}
 
 -- what words ask for: to run the script of this name; to compare the captures of the second name with the plan of the
 -- script of the first; to explain, in the network that the script leaves, the role of a port, which these words name:
 -- its bridge, its number and, if there is one, a tree; to tell how the network of the first script differs from that of
 -- the second; to tell what each single failure does to the network of the script, or each pair, or each of the part that the words
--- behind it name; to summarize it; to draw it with the tree that the second word names; or to answer questions of it
+-- behind it name; to summarize it; to draw it with the tree that the second word names; to answer questions of it; or to tell whether
+-- it does what the policy of the second name promises
 pub data Request : Type 0 where
   run : List ℕ → Request
   check : List ℕ → List ℕ → Request
@@ -26,6 +27,7 @@ pub data Request : Type 0 where
   summary : List ℕ → Request
   dot : List ℕ → List ℕ → Request
   ask : List ℕ → Request
+  verify : List ℕ → List ℕ → Request
 
 -- the word that names a tree, if there is one
 abbrev pub tree_word : PortWords → Option (List ℕ)
@@ -40,6 +42,7 @@ words_of (Sweep script word behind) = sweep script.now (option_map (λ word. wor
 words_of (Summary script) = summary script.now
 words_of (Dot script tree) = dot script.now tree.now
 words_of (Ask script) = ask script.now
+words_of (Verify script policy) = verify script.now policy.now
 
 -- the value that was found for a word that has to be there. There is one
 abbrev pub value_of : List ℕ → List Row → List ℕ
@@ -55,6 +58,7 @@ request_of command rows =
     else if bytes_eq command (codes "summary") then summary (value_of (codes "FILE") rows)
     else if bytes_eq command (codes "dot") then dot (value_of (codes "FILE") rows) (value_of (codes "TREE") rows)
     else if bytes_eq command (codes "ask") then ask (value_of (codes "FILE") rows)
+    else if bytes_eq command (codes "verify") then verify (value_of (codes "FILE") rows) (value_of (codes "POLICY") rows)
     else run (value_of (codes "FILE") rows)
 
 -- what the name of a command, if there is one, and what was found for it ask for. Without a command the script is `-`
@@ -117,7 +121,7 @@ by_port words = None
 -- What words ask for that aren't options, behind the program's name: none for the script on standard input, `run FILE` for
 -- that of a file, `check FILE CAPTURES`, `explain FILE B P`, with or without TREE, `diff OLD NEW`, `sweep FILE`, with or without PART or
 -- `pairs`, and behind that with or without PART,
--- `summary FILE`, `dot FILE TREE` and `ask FILE`.
+-- `summary FILE`, `dot FILE TREE`, `ask FILE` and `verify FILE POLICY`.
 -- What is asked for are the words themselves. Any other words ask for nothing
 abbrev pub asked_by : List (List ℕ) → Option Request
 asked_by [] = Some (run (codes "-"))
@@ -130,6 +134,7 @@ asked_by (command ∷ words) =
     else if bytes_eq (codes "summary") command then by_one summary words
     else if bytes_eq (codes "dot") command then by_two dot words
     else if bytes_eq (codes "ask") command then by_one ask words
+    else if bytes_eq (codes "verify") command then by_two verify words
     else None
 
 -- where they ask for a part of a sweep, its words name one
@@ -142,6 +147,7 @@ names_part (sweep script word behind) = is_some (sweep_question word behind)
 names_part (summary script) = true
 names_part (dot script tree) = true
 names_part (ask script) = true
+names_part (verify script policy) = true
 
 -- words that ask the program for its help alone, and for its version
 abbrev pub is_help : List (List ℕ) → Bool
@@ -208,10 +214,13 @@ dot_app = with_rule (with_rule (new_app (codes "dot")) (wanted_rule (codes "FILE
 abbrev pub ask_app : App
 ask_app = with_rule (new_app (codes "ask")) (wanted_rule (codes "FILE"))
 
+abbrev pub verify_app : App
+verify_app = with_rule (with_rule (new_app (codes "verify")) (wanted_rule (codes "FILE"))) (wanted_rule (codes "POLICY"))
+
 -- the program with no command, which has a version, and no command that prints help
 abbrev pub no_command : App
 no_command = record { top = record ((new_app (codes "mstplan")).top) { has_version = true; disable_help_subcommand = true }; subs = [] }
 
 abbrev pub program : App
 program =
-    with_subcommand (with_subcommand (with_subcommand (with_subcommand (with_subcommand (with_subcommand (with_subcommand (with_subcommand no_command run_app.top) check_app.top) explain_app.top) diff_app.top) sweep_app.top) summary_app.top) dot_app.top) ask_app.top
+    with_subcommand (with_subcommand (with_subcommand (with_subcommand (with_subcommand (with_subcommand (with_subcommand (with_subcommand (with_subcommand no_command run_app.top) check_app.top) explain_app.top) diff_app.top) sweep_app.top) summary_app.top) dot_app.top) ask_app.top) verify_app.top

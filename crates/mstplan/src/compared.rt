@@ -5,7 +5,8 @@ ghost use Rattle.mst_io.specs.Devices.{Hears, Works, seen_by};
 ghost use Rattle.mst_io.specs.Written.{AppendsFront};
 ghost use Rattle.mst_tool.specs.Check.{Checks, ChecksFront, ChecksEnded, ChecksScript};
 ghost use Rattle.mst_tool.specs.Diff.{Diffs, DiffsFront, DiffsEnded, DiffsScripts};
-ghost use Rattle.mst_tool.specs.Load.{LoadsFront};
+ghost use Rattle.mst_tool.specs.Load.{LoadsFront, LoadsScript};
+ghost use Rattle.mst_tool.specs.Verify.{Verifies, VerifiesEnded, VerifiesFront};
 ghost use Rattle.mst_hinting.specs.Listening.{Closed, StoppedBy};
 ghost use Rattle.mst_tool.specs.printing.Shape.{of_script};
 ghost use Rattle.mst_ask.specs.Asking.{Stands, StandsFront, StandsEnded};
@@ -18,6 +19,7 @@ use mst_hinting::{Hinting, Script, Telling};
 use mst_io::put;
 use mst_tool::{
     Form, FromRead, Outcome, RunFault, Sink, Source, TURNS, ToWrite, check_within, diff_within,
+    verify_within,
 };
 use std::alloc::Global;
 use std::io::{BufWriter, Read, Write};
@@ -31,6 +33,8 @@ pub(crate) enum Comparison {
     Networks(Form),
     /// What answers the questions that the second has, of the network of the script that is the first, in this form.
     Questions(Form),
+    /// Whether the network of the script that is the first does what the policy that the second is promises, in this form.
+    Policy(Form),
 }
 
 impl Comparison {
@@ -42,6 +46,7 @@ impl Comparison {
             Comparison::Captures(_) => Script::Run,
             Comparison::Networks(_) => Script::Old,
             Comparison::Questions(_) => Script::Loaded,
+            Comparison::Policy(_) => Script::Loaded,
         }
     }
 
@@ -51,7 +56,7 @@ impl Comparison {
     {
         match self {
             Comparison::Networks(_) => true,
-            Comparison::Captures(_) | Comparison::Questions(_) => false,
+            Comparison::Captures(_) | Comparison::Questions(_) | Comparison::Policy(_) => false,
         }
     }
 }
@@ -124,6 +129,28 @@ fn answer_to<S: Source, Q: Source, W: Write>(
     mst_ask::ask_within(alloc, form, script, questions, &mut sink, TURNS)
 }
 
+/// Verifies the network of the script that a source gives by the policy that another gives, and tells how the sources stand.
+fn verify_to<S: Source, P: Source, W: Write>(
+    alloc: Global,
+    form: Form,
+    script: &mut S,
+    policy: &mut P,
+    writer: &mut W,
+) -> Result<Outcome, RunFault>
+    requires script { (S.told script.old).failed ≡ false }
+    requires policy { (P.told policy.old).failed ≡ false }
+    ensures ok { IfOk result (Verifies form (S.remaining script.old) (P.remaining policy.old) (W.contents writer.old) (W.contents writer.new)) }
+    ensures fault { OnErr result (VerifiesFront form (S.remaining script.old) (P.remaining policy.old) (W.contents writer.old) (W.contents writer.new)) }
+    ensures read { result ≡ Err RunFault.Read → VerifiesEnded form (S.remaining script.old) (S.remaining script.new) (W.contents writer.old) (W.contents writer.new) }
+    ensures memory { result ≡ Err RunFault.Memory → LoadsScript (of_script form) (S.remaining script.old) (W.contents writer.old) (W.contents writer.new) }
+    ensures sources { ComparedBy result (S.told script.old) (S.told script.new) (P.told policy.old) (P.told policy.new) }
+    ensures heard_script { Hears S.hears script.old script.new }
+    ensures heard_policy { Hears P.hears policy.old policy.new }
+{
+    let mut sink = ToWrite::new(writer);
+    verify_within(alloc, form, script, policy, &mut sink, TURNS)
+}
+
 /// Tells what is asked of what two sources give, and how they stand.
 fn compare_to<F: Source, S: Source, W: Write>(
     alloc: Global,
@@ -146,6 +173,7 @@ fn compare_to<F: Source, S: Source, W: Write>(
         Comparison::Captures(form) => check_to(alloc, form, first, second, writer),
         Comparison::Networks(form) => diff_to(alloc, form, first, second, writer),
         Comparison::Questions(form) => answer_to(alloc, form, first, second, writer),
+        Comparison::Policy(form) => verify_to(alloc, form, first, second, writer),
     }
 }
 

@@ -1,6 +1,7 @@
 //! Plans Ethernet networks with rapid and multiple spanning trees: runs a script from a file or from
 //! standard input, compares captured messages with its plan, tells why a port has its role, how
-//! the networks of two scripts differ, and what each single failure does, summarizes a network, draws it, and answers questions of it.
+//! the networks of two scripts differ, and what each single failure does, summarizes a network,
+//! draws it, answers questions of it, and tells whether it does what a policy promises.
 #![tactic(auto)]
 
 mod buffered;

@@ -48,16 +48,29 @@ Lines that ask FILE answers on standard input, of the network that stands then; 
                                   what the program's words of these names print
   undo, undo N                    takes back the last edit, or the last N
 
+Lines of a policy, whose promises verify looks at in the network of FILE, and in that of each failure where a line says so:
+  root TREE B, root TREE B next C the bridge is the root in its region, and C comes next
+  region NAMES                    they are of one region
+  role TREE PORTS ROLES           each port has one of the roles
+  reach VIDS NAMES                each of the VLANs joins these bridges
+  apart VIDS NAMES NAMES          none of the VLANs joins a bridge of the first list with one of the second
+  leaf TREE NAMES                 none of them is the parent of a bridge
+  depth TREE N                    no bridge has more than N parents above it
+  carries L VIDS, avoids L VIDS   all of the VLANs go over the LAN, or none
+  fits                            no limit binds
+Before it stands nothing, 'after lan NAMES', 'after bridge NAMES', or 'always': in the network itself and after each failure.
+NAMES are like core1,acc*, PORTS like acc1:2,dist*:*, ROLES like Root,Designated.
+
 Flags, anywhere among the words before --, behind which no word is a flag:
   --json    what is printed is JSON, a line for each answer, and for each record of a capture (run, check, explain, diff,
-            sweep, summary, ask)
+            sweep, summary, ask, verify)
   --hints   standard error has what would be right in each line of a script that isn't read, and what stands in the way of
             each that is refused
 
 Exit statuses:
   0  nothing of the below
-  1  a line or a capture was refused, a capture differs from the plan, a port isn't explained, two networks differ, or a
-     failure cuts a VLAN, or a pair of failures
+  1  a line or a capture was refused, a capture differs from the plan, a port isn't explained, two networks differ, a failure
+     cuts a VLAN, or a pair of failures does, or a promise of a policy isn't kept
   2  the program's words are wrong
   3  a file couldn't be opened, a read or a write failed, or memory was wanted and refused
 

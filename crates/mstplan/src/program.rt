@@ -72,6 +72,10 @@ fn serve<'a, S: Sources, W: Write + Drop, K: Sink>(
             let how = Comparison::Questions(form);
             compare_named(alloc, sources, how, hints, script, "-", output, errors)
         }
+        Asked::Verify { script, policy } => {
+            let how = Comparison::Policy(form);
+            compare_named(alloc, sources, how, hints, script, policy, output, errors)
+        }
     }
 }
 

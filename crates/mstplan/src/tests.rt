@@ -325,3 +325,62 @@ fn questions_of_a_network_are_answered(rt: HostRuntime) -> Result<()> {
     assert_eq!(rt; told.as_slice(), hint);
     Ok(())
 }
+
+#[test]
+fn what_a_policy_promises_is_told(rt: HostRuntime) -> Result<()> {
+    let script: &[u8] = b"qqq\naddbridge A 02:00:00:00:00:01\naddbridge B 02:00:00:00:00:02\n";
+    let policy: &[u8] = b"# of two bridges\nroot 0 C\nreach 10 A,B\napart 10 A B\n";
+    let mut told = Vec::new(rt.alloc());
+    let verified = compare_buffered(
+        rt.alloc(),
+        Comparison::Policy(Form::Text),
+        true,
+        script,
+        policy,
+        Vec::new(rt.alloc()),
+        &mut ToWrite::new(&mut told),
+    );
+    let Some(ran) = verified else {
+        return Err(Error::from(ErrorKind::OutOfMemory));
+    };
+    let counted = Outcome {
+        refused: 2,
+        memory: 0,
+        differing: 1,
+    };
+    assert_eq!(rt; ran.ended, Ok(counted));
+    let written: &[u8] = b"\
+        line 1 E01 no such command\n\
+        policy 2 E04 no such bridge\n\
+        fails 3 now reach 10 parts A B\n\
+        verify expectations 2 hold 1\n";
+    assert_eq!(rt; ran.writer.as_slice(), written);
+    let hint: &[u8] = b"line 1 no command qqq\n";
+    assert_eq!(rt; told.as_slice(), hint);
+    Ok(())
+}
+
+#[test]
+fn nothing_is_told_of_a_policy_that_cannot_be_read(rt: HostRuntime) -> Result<()> {
+    let script: &[u8] = b"qqq\naddbridge A 02:00:00:00:00:01\n";
+    let mut told = Vec::new(rt.alloc());
+    let verified = compare_buffered(
+        rt.alloc(),
+        Comparison::Policy(Form::Text),
+        true,
+        script,
+        Cut { is_given: false },
+        Vec::new(rt.alloc()),
+        &mut ToWrite::new(&mut told),
+    );
+    let Some(ran) = verified else {
+        return Err(Error::from(ErrorKind::OutOfMemory));
+    };
+    assert_eq!(rt; ran.ended, Err(RunFault::Read));
+    assert_eq!(rt; ran.hints, Ok(()));
+    let written: &[u8] = b"line 1 E01 no such command\n";
+    assert_eq!(rt; ran.writer.as_slice(), written);
+    let hint: &[u8] = b"line 1 no command qqq\n";
+    assert_eq!(rt; told.as_slice(), hint);
+    Ok(())
+}

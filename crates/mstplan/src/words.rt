@@ -2,7 +2,7 @@ ghost use Rattle.std.specs.Prelude.{◌≡◌, ◌≢◌, ◌⊎◌, true, false
 ghost use Rattle.std.specs.List.{list_any};
 ghost use Rattle.clap.specs.Words.{app_of, first_of, found_of, kind_of, rows_of, rule_of, subcommand_rows_of, with_subcommand};
 ghost use Rattle.mstplan.specs.Flags.{asked_with};
-ghost use Rattle.mstplan.specs.Words.{words_of, tree_word, value_of, asked_of, request_of, asked_by, are_plain, behind_name, without_dashes, names_part as part_named, is_help, is_version, is_of_path, IsAnswer, IsFileAlone, IsRefusal, IsWrong, wanted_rule, sweep_app, dot_app, ask_app, program, no_command as without_command};
+ghost use Rattle.mstplan.specs.Words.{words_of, tree_word, value_of, asked_of, request_of, asked_by, are_plain, behind_name, without_dashes, names_part as part_named, is_help, is_version, is_of_path, IsAnswer, IsFileAlone, IsRefusal, IsWrong, wanted_rule, sweep_app, dot_app, ask_app, verify_app, program, no_command as without_command};
 
 use crate::endings::Stop;
 use crate::flags::Flags;
@@ -57,6 +57,11 @@ pub(crate) enum Asked<'a> {
     Ask {
         script: &'a str,
     },
+    /// To tell whether the network of a script does what a policy promises.
+    Verify {
+        script: &'a str,
+        policy: &'a str,
+    },
 }
 
 /// The words that name a port, and a tree if it is one that is asked for. Nothing has looked at what they say.
@@ -74,6 +79,8 @@ const NAME: &str = "mstplan";
 const SCRIPT: &str = "The script, or - for standard input";
 
 const ASKED: &str = "The script, or - for standard input, which then has no questions";
+
+const POLICY: &str = "The policy, one promise a line, or - for standard input";
 
 const CAPTURES: &str = "The captured messages, one a line, or - for standard input";
 
@@ -154,7 +161,7 @@ pub(crate) fn asked_for<'a, R: Print + Eprint + AllocGlobal, S: Sources>(
         Ok(asked) if flags.are_of(&asked) => Ok(asked),
         Ok(_) => {
             let _ = eprintln!(rt;
-                "error: --json is a flag of run, check, explain, diff, sweep, summary and ask"
+                "error: --json is a flag of run, check, explain, diff, sweep, summary, ask and verify"
             );
             Err(Stop::Told(2))
         }
@@ -289,6 +296,17 @@ fn with_ask<'a>(alloc: Global, before: Command<'a>) -> Result<Command<'a>, Alloc
     before.subcommand(ask)
 }
 
+/// A command line with the command that verifies a network behind those that it has.
+fn with_verify<'a>(alloc: Global, before: Command<'a>) -> Result<Command<'a>, AllocError>
+    ensures { IfOk result (λ command. app_of command ≡ with_subcommand (app_of before.entry) verify_app.top) }
+{
+    let verify = Command::new(alloc, "verify")
+        .about("Makes the network of a script, and tells whether it does what a policy promises")
+        .arg(wanted(alloc, "FILE", SCRIPT))?
+        .arg(wanted(alloc, "POLICY", POLICY))?;
+    before.subcommand(verify)
+}
+
 /// The program's command line.
 fn command<'a>(alloc: Global) -> Result<Command<'a>, AllocError>
     ensures { IfOk result (λ command. app_of command ≡ program) }
@@ -321,7 +339,7 @@ fn command<'a>(alloc: Global) -> Result<Command<'a>, AllocError>
         .subcommand(explain)?
         .subcommand(diff)?;
     let swept = with_sweep(alloc, before)?.subcommand(summary)?;
-    with_ask(alloc, with_dot(alloc, swept)?)
+    with_verify(alloc, with_ask(alloc, with_dot(alloc, swept)?)?)
 }
 
 /// The program's command line without a command. Its usage has this name of the program, whatever its file is called.
@@ -379,6 +397,10 @@ fn asked_of_command<'a>(command: &str, found: &ArgMatches<'a>) -> Asked<'a>
         },
         "ask" => Asked::Ask {
             script: value_in(found, "FILE"),
+        },
+        "verify" => Asked::Verify {
+            script: value_in(found, "FILE"),
+            policy: value_in(found, "POLICY"),
         },
         _ => Asked::Run {
             script: value_in(found, "FILE"),

@@ -4,7 +4,7 @@ use Rattle.std.proofs.lemmas.Result.{IfOk-weaker}
 use Rattle.clap.specs.Words.{App, app_of, new_rule, rule_of, with_rule, with_subcommand}
 use Rattle.clap.specs.Simple.{app_of_fields}
 use Rattle.clap.specs.declared.builder.arg.Arg.{Arg}
-use Rattle.mstplan.specs.Words.{ask_app, check_app, diff_app, dot_app, explain_app, no_command, run_app, summary_app, sweep_app}
+use Rattle.mstplan.specs.Words.{ask_app, check_app, diff_app, dot_app, explain_app, no_command, run_app, summary_app, sweep_app, verify_app}
 use Rattle.mstplan.proofs.words.command.Goals as goal
 
 pub returns : goal.returns
@@ -42,4 +42,5 @@ returns c =
     let fifth_is = c.in_ok-with_sweep.ensures ∙ ap (λ (a : App). with_subcommand a sweep_app.top) fourth_is in
     let sixth_is = c.in_ok-swept.ensures.shape summary_local ∙ ap₂ with_subcommand fifth_is (ap (λ (a : App). a.top) summary_is) in
     let seventh_is = c.in_ok-with_dot.ensures ∙ ap (λ (a : App). with_subcommand a dot_app.top) sixth_is in
-    IfOk-weaker c.with_ask.result _ _ (λ r h. h ∙ ap (λ (a : App). with_subcommand a ask_app.top) seventh_is) c.with_ask.ensures
+    let eighth_is = c.in_ok-with_ask.ensures ∙ ap (λ (a : App). with_subcommand a ask_app.top) seventh_is in
+    IfOk-weaker c.with_verify.result _ _ (λ r h. h ∙ ap (λ (a : App). with_subcommand a verify_app.top) eighth_is) c.with_verify.ensures

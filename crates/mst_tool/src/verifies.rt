@@ -1,0 +1,158 @@
+ghost use Rattle.std.specs.Prelude.{◌≡◌, ◌≤◌, ◌<◌, ◌↔◌, ◌⊎◌, ◌^◌, false, length, Err, IfOk, IsOk, OnErr};
+ghost use Rattle.mst_engine.specs.Served.{IsFew};
+ghost use Rattle.mst_engine.specs.report.Planned.{planned_state};
+ghost use Rattle.mst_io.specs.Devices.{Hears, Works, IsBroken, IsCut, IsRead, IsCalled, StopsAtZero};
+ghost use Rattle.mst_print.specs.Shape.{of_script};
+ghost use Rattle.mst_tool.specs.Load.{LoadsScript};
+ghost use Rattle.mst_tool.specs.Verify.{Verifies, VerifiesEnded, VerifiesFront, TellsVerification, counted_with, counts_of};
+
+use crate::opened::open_question;
+use crate::policies::read_policy;
+use mst_engine::laws::{one_load, states};
+use mst_engine::{Engine, Input, Planner, serve_input};
+use mst_io::{FromRead, Outcome, RunFault, Sink, Source, TURNS, ToWrite, put};
+use mst_kinds::Query;
+use mst_policy::Policy;
+use mst_print::{Form, Shape, Side};
+use std::alloc::{AllocError, Global};
+use std::io::{Read, Write};
+
+/// Loads the network of a script, and writes whether it does what a policy promises.
+///
+/// The script is read as by [`run`](crate::run), but its queries and its marks do nothing and print nothing, and none is refused. Then
+/// the policy is read: its lines are cut as a script's are, and a blank line or a comment is none. After the lines that the script
+/// prints the answer is written: `policy N CODE TEXT` for each line of the policy that is refused, then for each other one why it isn't
+/// kept, and a last line with how many are judged and how many hold. Each refused line of the policy counts as one of the script does,
+/// and lines that aren't kept as one that differs.
+///
+/// The readers and the writer are called as by [`run`](crate::run), and that of the policy once the script has ended. After
+/// [`RunFault::Read`] all that the complete lines of the script print has gone out, of what was read, and nothing else; after
+/// [`RunFault::Memory`] all that the script prints; after [`RunFault::Write`] a front of all.
+pub fn verify<S: Read + Drop, P: Read + Drop, W: Write>(
+    alloc: Global,
+    form: Form,
+    mut script: S,
+    mut policy: P,
+    writer: &mut W,
+) -> Result<Outcome, RunFault>
+    ensures ok { IfOk result (Verifies form (S.remaining script) (P.remaining policy) (W.contents writer.old) (W.contents writer.new)) }
+    ensures fault { OnErr result (VerifiesFront form (S.remaining script) (P.remaining policy) (W.contents writer.old) (W.contents writer.new)) }
+    ensures memory { result ≡ Err RunFault.Memory → LoadsScript (of_script form) (S.remaining script) (W.contents writer.old) (W.contents writer.new) }
+{
+    let mut script_source = FromRead::new(&mut script);
+    let mut policy_source = FromRead::new(&mut policy);
+    let mut sink = ToWrite::new(writer);
+    verify_within(
+        alloc,
+        form,
+        &mut script_source,
+        &mut policy_source,
+        &mut sink,
+        TURNS,
+    )
+}
+
+/// Verifies the network of the script that the one source gives by the policy that the other gives, in so many turns each, as
+/// [`verify`] does: it is that with 2^32 of them. A turn is one call of a source, the one that finds the end included.
+///
+/// [`RunFault::Read`] is answered just where the sink works and a source has failed, or all turns of it were used and none found the
+/// end, but where memory was wanted for a line of the policy before; [`RunFault::Write`] just where the sink has failed, or took
+/// nothing of a part that had a byte.
+pub fn verify_within<S: Source, P: Source, K: Sink>(
+    alloc: Global,
+    form: Form,
+    script: &mut S,
+    policy: &mut P,
+    sink: &mut K,
+    turns: u64,
+) -> Result<Outcome, RunFault>
+    requires script { (S.told script.old).failed ≡ false }
+    requires policy { (P.told policy.old).failed ≡ false }
+    requires sink { (K.told sink.old).failed ≡ false }
+    requires turns { turns ≤ 2 ^ 32 }
+    ensures ok { IfOk result (Verifies form (S.remaining script.old) (P.remaining policy.old) (K.contents sink.old) (K.contents sink.new)) }
+    ensures fault { OnErr result (VerifiesFront form (S.remaining script.old) (P.remaining policy.old) (K.contents sink.old) (K.contents sink.new)) }
+    ensures read { result ≡ Err RunFault.Read → VerifiesEnded form (S.remaining script.old) (S.remaining script.new) (K.contents sink.old) (K.contents sink.new) }
+    ensures memory { result ≡ Err RunFault.Memory → LoadsScript (of_script form) (S.remaining script.old) (K.contents sink.old) (K.contents sink.new) }
+    ensures ended_script { IsOk result → IsRead (S.told script.old) (S.told script.new) }
+    ensures ended_policy { IsOk result → IsRead (P.told policy.old) (P.told policy.new) }
+    ensures read_fault { result ≡ Err RunFault.Read → (IsCut turns (S.told script.old) (S.told script.new) ⊎ IsCut turns (P.told policy.old) (P.told policy.new)) × Works (K.told sink.old) (K.told sink.new) }
+    ensures cut { IsCut turns (S.told script.old) (S.told script.new) ⊎ IsCut turns (P.told policy.old) (P.told policy.new) → Works (K.told sink.old) (K.told sink.new) → (result ≡ Err RunFault.Read) ⊎ (result ≡ Err RunFault.Memory) }
+    ensures write_fault { result ≡ Err RunFault.Write ↔ IsBroken (K.told sink.old) (K.told sink.new) }
+    ensures script_calls { IsCalled turns (S.told script.old) (S.told script.new) }
+    ensures policy_calls { IsCalled turns (P.told policy.old) (P.told policy.new) }
+    ensures sink_calls { StopsAtZero (K.told sink.old) (K.told sink.new) }
+    ensures lent_script { S.lent script.new ≡ S.lent script.old }
+    ensures lent_policy { P.lent policy.new ≡ P.lent policy.old }
+    ensures lent_sink { K.lent sink.new ≡ K.lent sink.old }
+    ensures heard_script { Hears S.hears script.old script.new }
+    ensures heard_policy { Hears P.hears policy.old policy.new }
+{
+    states();
+    one_load();
+    let mut engine = Engine::new(alloc);
+    let shape = Shape {
+        form,
+        side: Side::Only,
+    };
+    match serve_input(Input::Network(shape), &mut engine, script, sink, turns) {
+        Err(fault) => Err(fault),
+        Ok(()) => {
+            let served = engine.outcome();
+            match read_policy(alloc, policy, turns) {
+                Err(fault) => Err(fault),
+                Ok(lines) => match verified(alloc, form, &mut engine.planner, &lines) {
+                    Err(_) => Err(RunFault::Memory),
+                    Ok(found) => match put(sink, found.text.as_slice()) {
+                        Err(_) => Err(RunFault::Write),
+                        Ok(()) => Ok(with_verdict(&served, &found)),
+                    },
+                },
+            }
+        }
+    }
+}
+
+/// Whether a network does what a policy promises: what is printed of that, and what is counted.
+#[derive(Drop)]
+struct Verification {
+    text: Vec<u8>,
+    refused: u64,
+    judged: u64,
+    failing: u64,
+}
+
+/// Whether the planner's network does what a policy promises, once the plan is settled. `AllocError`: memory was wanted and refused.
+fn verified(
+    alloc: Global,
+    form: Form,
+    planner: &mut Planner,
+    policy: &Policy,
+) -> Result<Verification, AllocError>
+    ensures told { IfOk result (λ found. TellsVerification form (planned_state planner.old).net policy.now (counts_of found) found.text.items) }
+    ensures few { IfOk result (λ found. found.refused ≤ length policy.now) }
+{
+    planner.settle()?;
+    let mut printer = open_question(alloc, form, Query::Verify)?;
+    let verdict = planner.put_verification(policy, &mut printer)?;
+    let text = printer.close()?;
+    Ok(Verification {
+        text,
+        refused: verdict.refused,
+        judged: verdict.judged,
+        failing: verdict.failing,
+    })
+}
+
+/// What was counted of the script and of the policy.
+fn with_verdict(script: &Outcome, found: &Verification) -> Outcome
+    requires script { IsFew script.now }
+    requires policy { found.now.refused < 2 ^ 60 }
+    ensures { result ≡ counted_with script.now (counts_of found.now) }
+{
+    Outcome {
+        refused: script.refused + found.refused,
+        memory: script.memory,
+        differing: script.differing + if found.failing == 0 { 0 } else { 1 },
+    }
+}

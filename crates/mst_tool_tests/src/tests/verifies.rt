@@ -1,0 +1,66 @@
+//! Whether a network does what a policy promises.
+
+use mst_tool::{Form, Outcome, verify};
+use std::test::Fail;
+
+/// Two bridges on one LAN.
+const SCRIPT: &[u8] = b"\
+    addbridge A 02:00:00:00:00:01\n\
+    addbridge B 02:00:00:00:00:02\n\
+    addport A 1\n\
+    addport B 1\n\
+    addlan X\n\
+    plug A 1 X\n\
+    plug B 1 X\n";
+
+const POLICY: &[u8] = b"\
+    # what they promise\n\
+    root 0 A next B\n\
+    always reach 1-4094 *\n\
+    root 0 B\n\
+    carries Y 1\n\
+    \n\
+    reach 1 C*\n\
+    roots 0 A\n";
+
+const TOLD: &[u8] = b"\
+    policy 5 E06 no such LAN\n\
+    policy 7 E04 no such bridge\n\
+    policy 8 E01 no such expectation\n\
+    fails 3 lan X reach 1-4094 parts A B\n\
+    fails 4 now root 0 A of 2\n\
+    verify expectations 3 hold 1\n";
+
+#[test]
+fn policies_are_told(rt: HostRuntime) -> Result<(), Fail> {
+    let mut told = Vec::new(rt.alloc());
+    let outcome = Outcome {
+        refused: 3,
+        memory: 0,
+        differing: 2,
+    };
+    assert_eq!(rt;
+        verify(rt.alloc(), Form::Text, SCRIPT, POLICY, &mut told),
+        Ok(outcome)
+    );
+    assert_eq!(rt; told.as_slice(), TOLD);
+    Ok(())
+}
+
+#[test]
+fn an_empty_policy_is_kept(rt: HostRuntime) -> Result<(), Fail> {
+    let mut told = Vec::new(rt.alloc());
+    let outcome = Outcome {
+        refused: 0,
+        memory: 0,
+        differing: 0,
+    };
+    let nothing: &[u8] = b"";
+    let kept: &[u8] = b"verify expectations 0 hold 0\n";
+    assert_eq!(rt;
+        verify(rt.alloc(), Form::Text, SCRIPT, nothing, &mut told),
+        Ok(outcome)
+    );
+    assert_eq!(rt; told.as_slice(), kept);
+    Ok(())
+}
