@@ -37,8 +37,25 @@ ASKED = re.compile(r"\s*(show\w+|changes|save)(\s|$)")
 MOST_EXPLAINED = 3
 ALL_EXPLAINED = 20
 MOST_IN_PAIRS = 20
-# no word prints these queries, or prints them with its records
-UNPRINTED = {("Query", "Check"), ("Query", "Verify")}
+# What is promised of each script: little of it is kept.
+PROMISES = """# what is promised
+root 0 A
+root 0 B next A
+root 0 core2 next core1
+root 1 A
+region *
+role 0 *:* Disabled
+always reach 1-4094 *
+apart 10,20 * *
+leaf 0 *
+depth 0 0
+always carries X 1-10
+avoids core1-dist1 1-4094
+always avoids X 1-4094
+always fits
+after lan nothing fits
+roots
+"""
 # no script here comes to these: contests in which no component differs, and a root port without a rival
 RARE = {("ContestLine", "DesignatedOver"), ("ContestLine", "RootAlone"), ("ContestLine", "RootOver")}
 # Whether a failure cuts this VID is asked of the campus.
@@ -365,7 +382,7 @@ def difference(program, command, words, script):
             return next(f"{one!r} is told, and {other!r} by its record" for one, other in pairs if one != other)
         if not all(map(order_of, values)):
             return "members in another order"
-        if not are_asked(values, [command, *words[1:]] if command != "diff" else [command], script):
+        if not are_asked(values, [command] if command in ("diff", "verify") else [command, *words[1:]], script):
             return "an answer to what isn't asked"
         if command in ("run", "check") and not is_each_asked(values, script):
             return "a query that is answered twice, or never"
@@ -532,6 +549,7 @@ def cases(folder):
             yield from ((name, "sweep", ["-", "pairs", *words], edits) for words in ([], ["1/4"]))
     for number, (name, script) in enumerate(named):
         yield name, "ask", [written(folder, f"ask{number}", quiet(script))], standing(quiet(script))
+        yield name, "verify", [written(folder, f"promised{number}", quiet(script)), "-"], PROMISES
     for number, ((name, script), (other, new)) in enumerate(itertools.pairwise(named)):
         path = written(folder, f"old{number}", quiet(script))
         yield f"{name} and {other}", "diff", [path, "-"], quiet(new)
@@ -727,8 +745,8 @@ def user_answers(program):
 
 
 def unmet():
-    """The kinds that no script of these comes to. What is refused says no kind, each record of `check` stands alone, and no word tells of policies."""
-    return {kind[:2] for kind in KINDS if kind.enum not in ("RefusalLine", "VerifyLine") and kind[:2] not in UNPRINTED} - MET - RARE
+    """The kinds that no script of these comes to. What is refused says no kind, and each record of `check` stands alone."""
+    return {kind[:2] for kind in KINDS if kind.enum != "RefusalLine" and kind[:2] != ("Query", "Check")} - MET - RARE
 
 
 def main():

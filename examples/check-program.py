@@ -25,6 +25,7 @@ sys.path.insert(0, HERE)
 import ask_runs  # noqa: E402
 import hint_runs  # noqa: E402
 import large_runs  # noqa: E402
+import verify_runs  # noqa: E402
 from hint_runs import HINTED, HINTED_RUN, HINTS  # noqa: E402
 
 NOBODY = 65534
@@ -1004,6 +1005,7 @@ def main():
         passed += [check_closed(program, folder, *case) for case in closed_cases() + failing_hints()]
         passed += hint_runs.checks(program, folder)
         passed += ask_runs.checks(program, folder)
+        passed += verify_runs.checks(program, folder)
         passed += large_runs.checks(program, folder)
     print(f"{sum(passed)} passed, {len(passed) - sum(passed)} failed")
     sys.exit(0 if all(passed) else 1)
