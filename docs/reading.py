@@ -23,6 +23,7 @@ TOP = os.path.join(os.path.dirname(os.path.abspath(__file__)), os.pardir, "crate
 CALLS = ["mst_tool::runs::run", "mst_tool::checks::check", "mst_vlan::topology::active_ports/named", "mst_vlan::topology::active_ports/joined"]
 ASKED = ["mst_tool::asks::ask", "mst_tool::diffs::diff"]
 STANDING = [f"mst_ask::asking::ask_within/{clause}" for clause in ("ok", "fault", "read", "memory")]
+VERIFIED = ["mst_tool::verifies::verify"]
 LOOPS = ["mst_vlan::laws::joined_without_loop"]
 # What the hints of a script are.
 HINTED = [("mst_hints", "Scripts", "hints_of")]
@@ -222,11 +223,12 @@ LIST = re.compile(r"(?:^- `mst_\w+`, \d+ lines: .*\n)+\n^\d+ definitions in .*\.
 
 
 def lists():
-    """The lists of docs/READING.md: that of the loops, the first one, what is asked besides, what stands and is asked, and what hints are;
-    and the lines of the first."""
+    """The lists of docs/READING.md: that of the loops, the first one, what is asked besides, what stands and is asked, what policies are,
+    and what hints are; and the lines of the first."""
     seen = set()
     first = definitions(CALLS, seen)
-    orders = [definitions(LOOPS, set()), first, definitions(ASKED, seen), definitions(STANDING, seen), definitions([], seen, HINTED)]
+    orders = [definitions(LOOPS, set()), first, definitions(ASKED, seen), definitions(STANDING, seen), definitions(VERIFIED, seen),
+              definitions([], seen, HINTED)]
     return [as_text(order) for order in orders], lines_of(first)
 
 
