@@ -56,8 +56,9 @@ always fits
 after lan nothing fits
 roots
 """
-# no script here comes to these: contests in which no component differs, and a root port without a rival
-RARE = {("ContestLine", "DesignatedOver"), ("ContestLine", "RootAlone"), ("ContestLine", "RootOver")}
+# no script here comes to these: contests in which no component differs, a root port without a rival, and an internal cost over its limit that a
+# promise finds
+RARE = {("VerifyLine", "InternalCost"), ("ContestLine", "DesignatedOver"), ("ContestLine", "RootAlone"), ("ContestLine", "RootOver")}
 # Whether a failure cuts this VID is asked of the campus.
 VID = 30
 
@@ -150,7 +151,7 @@ WORDS = {
 
 def words_of(key, value):
     if value is None:
-        return ["own" if TYPES[key] == "port or null" else "-"]
+        return [{"port or null": "own", "failure": "now"}.get(TYPES[key], "-")]
     return WORDS[TYPES[key]](value) or ["-"]
 
 
@@ -216,7 +217,7 @@ def has_types(values):
     """Whether each key has its type, and so has each in an object below it. A list is empty where nothing is there, all else is null."""
     for key, value in values.items():
         if value is None:
-            good = not TYPES[key].startswith(("array", "VIDs", "failure"))
+            good = not TYPES[key].startswith(("array", "VIDs"))
         else:
             good = TESTS[TYPES[key]](value) and (TYPES[key] not in ("object", "failure") or has_types(value))
         if not good:
@@ -259,6 +260,8 @@ class Above:
             return {"failure": {kind.first: values[kind.first]}}
         if kind.enum == "SweepLine" and kind.first == "cut":
             return {key: self.told[key] for key in ("failure", "other_failure") if key in self.told}
+        if kind.enum == "VerifyLine":
+            return {"expectation": "fits", "tree": 0}
         # tree 0 alone has ages and a part of the message without a number; a port that is a member of no VLAN has no VIDs
         of_tree_0 = {"tree": 0, "tree_kind": "cist"} if kind.enum == "CaptureLine" else {"tree": 0}
         return {"setportvlans": {"vids": [], "vlans": "none"}}.get(kind.first, of_tree_0)
