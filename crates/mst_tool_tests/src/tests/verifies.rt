@@ -37,7 +37,7 @@ fn policies_are_told(rt: HostRuntime) -> Result<(), Fail> {
     let outcome = Outcome {
         refused: 3,
         memory: 0,
-        differing: 2,
+        differing: 1,
     };
     assert_eq!(rt;
         verify(rt.alloc(), Form::Text, SCRIPT, POLICY, &mut told),
