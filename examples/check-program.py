@@ -12,7 +12,6 @@ import json
 import os
 import pty
 import re
-import select
 import subprocess
 import sys
 import tempfile
@@ -26,7 +25,7 @@ import ask_runs  # noqa: E402
 import hint_runs  # noqa: E402
 import large_runs  # noqa: E402
 import verify_runs  # noqa: E402
-from hint_runs import HINTED, HINTED_RUN, HINTS  # noqa: E402
+from hint_runs import HINTED, HINTED_RUN, HINTS, told_within  # noqa: E402
 
 NOBODY = 65534
 # Any text that has a usage line.
@@ -823,17 +822,6 @@ def check_terminal(program, words, typed, status, out, err):
         return True
     print(f"FAILED a terminal, {words}: status {ran.returncode}, {ran.stdout[:200]!r}, {ran.stderr[:200]!r}")
     return False
-
-
-def told_within(pipe, length):
-    """What a program writes to a pipe, up to so many bytes, in ten seconds at most."""
-    told = b""
-    while len(told) < length and select.select([pipe], [], [], 10)[0]:
-        part = os.read(pipe.fileno(), length - len(told))
-        if not part:
-            break
-        told += part
-    return told
 
 
 def check_answered(program):
