@@ -39,6 +39,8 @@ use Rattle.mst_kinds.specs.declared.ask_line.AskLine.{AskLine}
 use Rattle.mst_kinds.specs.declared.ask_line.AskLine.TheVariants as ask_line
 use Rattle.mst_kinds.specs.declared.verify_line.VerifyLine.{VerifyLine}
 use Rattle.mst_kinds.specs.declared.verify_line.VerifyLine.TheVariants as verify_line
+use Rattle.mst_kinds.specs.declared.step_line.StepLine.{StepLine}
+use Rattle.mst_kinds.specs.declared.step_line.StepLine.TheVariants as step_line
 
 -- ---- a query, with its words
 abbrev pub first_of_query : Query → Mark
@@ -61,6 +63,8 @@ first_of_query query.SweepPairsPart = mark.Sweep
 first_of_query query.Summary = mark.Summary
 first_of_query query.Check = mark.Check
 first_of_query query.Verify = mark.Verify
+first_of_query query.Steps = mark.Steps
+first_of_query query.Edits = mark.Edits
 
 abbrev pub parts_of_query : Query → List Part
 -- `showtree T`
@@ -101,6 +105,10 @@ parts_of_query query.Summary = []
 parts_of_query query.Check = []
 -- `verify`
 parts_of_query query.Verify = []
+-- `steps`
+parts_of_query query.Steps = []
+-- `edits`
+parts_of_query query.Edits = []
 
 -- ---- a line of the text of a tree
 abbrev pub first_of_tree_line : TreeLine → Mark
@@ -217,6 +225,9 @@ first_of_bridge_command bridge_command.Msti = mark.SetVid2Mstid
 first_of_bridge_command bridge_command.MaxHops = mark.SetMaxHops
 first_of_bridge_command bridge_command.MaxAge = mark.SetMaxAge
 first_of_bridge_command bridge_command.Priority = mark.SetTreePrio
+first_of_bridge_command bridge_command.Delete = mark.DelBridge
+first_of_bridge_command bridge_command.On = mark.Bridge
+first_of_bridge_command bridge_command.Mstp = mark.Kind
 
 abbrev pub parts_of_bridge_command : BridgeCommand → List Part
 -- `mstplan 2`
@@ -239,6 +250,12 @@ parts_of_bridge_command bridge_command.MaxHops = part.Key key.Bridge ∷ part.Ke
 parts_of_bridge_command bridge_command.MaxAge = part.Key key.Bridge ∷ part.Key key.MaxAge ∷ []
 -- `settreeprio B TREE PRIO`
 parts_of_bridge_command bridge_command.Priority = part.Key key.Bridge ∷ part.Key key.Tree ∷ part.Key key.Priority ∷ []
+-- `delbridge B`
+parts_of_bridge_command bridge_command.Delete = part.Key key.Bridge ∷ []
+-- `bridge B on`
+parts_of_bridge_command bridge_command.On = part.Key key.Bridge ∷ part.Said key.Power mark.On ∷ []
+-- `kind B mstp`
+parts_of_bridge_command bridge_command.Mstp = part.Key key.Bridge ∷ part.Said key.BridgeKind mark.Mstp ∷ []
 
 -- ---- a line of a saved network that is of a port or of a LAN
 abbrev pub first_of_port_command : PortCommand → Mark
@@ -254,6 +271,12 @@ first_of_port_command port_command.Plug = mark.Plug
 first_of_port_command port_command.AddLan = mark.AddLan
 first_of_port_command port_command.LanDown = mark.Lan
 first_of_port_command port_command.Speed = mark.Speed
+first_of_port_command port_command.Delete = mark.DelPort
+first_of_port_command port_command.AllVlans = mark.SetPortVlans
+first_of_port_command port_command.Unrestricted = mark.SetPortRestrRole
+first_of_port_command port_command.Unplug = mark.Unplug
+first_of_port_command port_command.DeleteLan = mark.DelLan
+first_of_port_command port_command.LanUp = mark.Lan
 
 abbrev pub parts_of_port_command : PortCommand → List Part
 -- `addport B P`
@@ -280,6 +303,18 @@ parts_of_port_command port_command.AddLan = part.Key key.Lan ∷ []
 parts_of_port_command port_command.LanDown = part.Key key.Lan ∷ part.Said key.State mark.Down ∷ []
 -- `speed L KBPS`
 parts_of_port_command port_command.Speed = part.Key key.Lan ∷ part.Key key.Speed ∷ []
+-- `delport B P`
+parts_of_port_command port_command.Delete = part.Key key.Bridge ∷ part.Key key.Port ∷ []
+-- `setportvlans B P all`
+parts_of_port_command port_command.AllVlans = part.Key key.Bridge ∷ part.Key key.Port ∷ part.Said key.Vlans mark.All ∷ part.Above key.Vids ∷ []
+-- `setportrestrrole B P no`
+parts_of_port_command port_command.Unrestricted = part.Key key.Bridge ∷ part.Key key.Port ∷ part.Said key.Restricted mark.No ∷ []
+-- `unplug B P`
+parts_of_port_command port_command.Unplug = part.Key key.Bridge ∷ part.Key key.Port ∷ []
+-- `dellan L`
+parts_of_port_command port_command.DeleteLan = part.Key key.Lan ∷ []
+-- `lan L up`
+parts_of_port_command port_command.LanUp = part.Key key.Lan ∷ part.Said key.State mark.Up ∷ []
 
 -- ---- a line of why a port has its role
 abbrev pub first_of_explain_line : ExplainLine → Mark
@@ -420,6 +455,7 @@ first_of_refusal_line refusal_line.NewLine = mark.New
 first_of_refusal_line refusal_line.Explain = mark.Explain
 first_of_refusal_line refusal_line.Dot = mark.Dot
 first_of_refusal_line refusal_line.Policy = mark.Policy
+first_of_refusal_line refusal_line.Change = mark.Change
 
 abbrev pub parts_of_refusal_line : RefusalLine → List Part
 -- `line N CODE TEXT`
@@ -436,6 +472,8 @@ parts_of_refusal_line refusal_line.Explain = part.Key key.Error ∷ part.Key key
 parts_of_refusal_line refusal_line.Dot = part.Key key.Error ∷ part.Key key.Text ∷ []
 -- `policy N CODE TEXT`
 parts_of_refusal_line refusal_line.Policy = part.Key key.Line ∷ part.Key key.Error ∷ part.Key key.Text ∷ []
+-- `change N CODE TEXT`
+parts_of_refusal_line refusal_line.Change = part.Key key.Line ∷ part.Key key.Error ∷ part.Key key.Text ∷ []
 
 -- ---- a line of a standing planner
 abbrev pub first_of_ask_line : AskLine → Mark
@@ -501,6 +539,23 @@ parts_of_verify_line verify_line.InternalCost = part.Key key.Line ∷ part.Key k
 -- `verify expectations N hold M`
 parts_of_verify_line verify_line.Counts = part.Mark mark.Expectations ∷ part.Key key.ExpectationCount ∷ part.Mark mark.Hold ∷ part.Key key.HoldCount ∷ []
 
+-- ---- a line of what the steps of a change do
+abbrev pub first_of_step_line : StepLine → Mark
+first_of_step_line step_line.Step = mark.Step
+first_of_step_line step_line.Cut = mark.Cut
+first_of_step_line step_line.Counts = mark.Steps
+first_of_step_line step_line.JudgedCounts = mark.Steps
+
+abbrev pub parts_of_step_line : StepLine → List Part
+-- `step K lines N-M roots T,.. ports N moved VIDS cut VIDS joined VIDS`
+parts_of_step_line step_line.Step = part.Key key.Step ∷ part.Mark mark.Lines ∷ part.Key key.Lines ∷ part.Mark mark.Roots ∷ part.Commas key.Trees ∷ part.Mark mark.Ports ∷ part.Key key.PortCount ∷ part.Mark mark.Moved ∷ part.Key key.MovedVids ∷ part.Mark mark.Cut ∷ part.Key key.CutVids ∷ part.Mark mark.Joined ∷ part.Key key.JoinedVids ∷ []
+-- `cut VIDS parts B,.. ..`, behind a step
+parts_of_step_line step_line.Cut = part.Above key.Step ∷ part.Key key.Vids ∷ part.Mark mark.Parts ∷ part.Key key.Parts ∷ []
+-- `steps K moving M cutting N`
+parts_of_step_line step_line.Counts = part.Key key.StepCount ∷ part.Mark mark.Moving ∷ part.Key key.MovingCount ∷ part.Mark mark.Cutting ∷ part.Key key.CuttingCount ∷ []
+-- `steps K moving M cutting N failing F`
+parts_of_step_line step_line.JudgedCounts = part.Key key.StepCount ∷ part.Mark mark.Moving ∷ part.Key key.MovingCount ∷ part.Mark mark.Cutting ∷ part.Key key.CuttingCount ∷ part.Mark mark.Failing ∷ part.Key key.FailingCount ∷ []
+
 -- ---- all kinds
 abbrev pub first_of : Kind → Mark
 first_of (kind.Query line) = first_of_query line
@@ -519,6 +574,7 @@ first_of (kind.Capture line) = first_of_capture_line line
 first_of (kind.Refusal line) = first_of_refusal_line line
 first_of (kind.Ask line) = first_of_ask_line line
 first_of (kind.Verify line) = first_of_verify_line line
+first_of (kind.Step line) = first_of_step_line line
 
 abbrev pub parts_of : Kind → List Part
 parts_of (kind.Query line) = parts_of_query line
@@ -537,3 +593,4 @@ parts_of (kind.Capture line) = parts_of_capture_line line
 parts_of (kind.Refusal line) = parts_of_refusal_line line
 parts_of (kind.Ask line) = parts_of_ask_line line
 parts_of (kind.Verify line) = parts_of_verify_line line
+parts_of (kind.Step line) = parts_of_step_line line

@@ -84,6 +84,14 @@ sort_of key.Status = numbers
 sort_of key.Joined = groups
 sort_of key.ExpectationCount = numbers
 sort_of key.HoldCount = numbers
+sort_of key.Step = numbers
+sort_of key.MovedVids = vids
+sort_of key.CutVids = vids
+sort_of key.JoinedVids = vids
+sort_of key.StepCount = numbers
+sort_of key.MovingCount = numbers
+sort_of key.CuttingCount = numbers
+sort_of key.FailingCount = numbers
 sort_of k = words
 
 -- the types of the values that a part takes, and those of a kind, in their order

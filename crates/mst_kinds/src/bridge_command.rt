@@ -27,6 +27,12 @@ pub enum BridgeCommand {
     MaxAge,
     /// `settreeprio B TREE PRIO`
     Priority,
+    /// `delbridge B`
+    Delete,
+    /// `bridge B on`
+    On,
+    /// `kind B mstp`
+    Mstp,
 }
 
 impl BridgeCommand {
@@ -45,6 +51,9 @@ impl BridgeCommand {
             BridgeCommand::MaxHops => Mark::SetMaxHops,
             BridgeCommand::MaxAge => Mark::SetMaxAge,
             BridgeCommand::Priority => Mark::SetTreePrio,
+            BridgeCommand::Delete => Mark::DelBridge,
+            BridgeCommand::On => Mark::Bridge,
+            BridgeCommand::Mstp => Mark::Kind,
         }
     }
 
@@ -63,6 +72,9 @@ impl BridgeCommand {
             BridgeCommand::MaxHops => parts![Key Bridge, Key MaxHops],
             BridgeCommand::MaxAge => parts![Key Bridge, Key MaxAge],
             BridgeCommand::Priority => parts![Key Bridge, Key Tree, Key Priority],
+            BridgeCommand::Delete => parts![Key Bridge],
+            BridgeCommand::On => parts![Key Bridge, Said Power On],
+            BridgeCommand::Mstp => parts![Key Bridge, Said BridgeKind Mstp],
         }
     }
 }

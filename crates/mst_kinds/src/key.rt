@@ -212,6 +212,24 @@ pub enum Key {
     ExpectationCount,
     /// How many of them hold.
     HoldCount,
+    /// The number of a step, from 1 on.
+    Step,
+    /// The numbers of the first and of the last line of a step that has an edit, as `N-M`.
+    Lines,
+    /// The VIDs whose links, or whose islands, a step changes.
+    MovedVids,
+    /// The VIDs that a step cuts.
+    CutVids,
+    /// The VIDs of which a step joins islands.
+    JoinedVids,
+    /// How many steps.
+    StepCount,
+    /// How many of them move some VID.
+    MovingCount,
+    /// How many of them cut some VID.
+    CuttingCount,
+    /// After how many of them the policy isn't kept.
+    FailingCount,
 }
 
 impl Key {
@@ -324,6 +342,15 @@ impl Key {
             Key::Joined => b"joined",
             Key::ExpectationCount => b"expectation_count",
             Key::HoldCount => b"hold_count",
+            Key::Step => b"step",
+            Key::Lines => b"lines",
+            Key::MovedVids => b"moved_vids",
+            Key::CutVids => b"cut_vids",
+            Key::JoinedVids => b"joined_vids",
+            Key::StepCount => b"step_count",
+            Key::MovingCount => b"moving_count",
+            Key::CuttingCount => b"cutting_count",
+            Key::FailingCount => b"failing_count",
         }
     }
 }

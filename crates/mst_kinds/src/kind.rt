@@ -14,6 +14,7 @@ use crate::port_command::PortCommand;
 use crate::query::Query;
 use crate::refusal_line::RefusalLine;
 use crate::region_line::RegionLine;
+use crate::step_line::StepLine;
 use crate::summary_line::SummaryLine;
 use crate::sweep_line::SweepLine;
 use crate::tree_line::TreeLine;
@@ -55,6 +56,8 @@ pub enum Kind {
     Ask(AskLine),
     /// A line of whether a network does what a policy promises.
     Verify(VerifyLine),
+    /// A line of what the steps of a change do.
+    Step(StepLine),
 }
 
 impl Kind {
@@ -79,6 +82,7 @@ impl Kind {
             Kind::Refusal(line) => line.first(),
             Kind::Ask(line) => line.first(),
             Kind::Verify(line) => line.first(),
+            Kind::Step(line) => line.first(),
         }
     }
 
@@ -103,6 +107,7 @@ impl Kind {
             Kind::Refusal(line) => line.parts(),
             Kind::Ask(line) => line.parts(),
             Kind::Verify(line) => line.parts(),
+            Kind::Step(line) => line.parts(),
         }
     }
 }

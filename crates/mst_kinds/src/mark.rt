@@ -124,6 +124,21 @@ pub enum Mark {
     With,
     Avoids,
     Fits,
+    Change,
+    Step,
+    Lines,
+    Moved,
+    Steps,
+    Moving,
+    Cutting,
+    Failing,
+    Edits,
+    DelBridge,
+    DelPort,
+    Unplug,
+    DelLan,
+    All,
+    No,
 }
 
 impl Mark {
@@ -252,6 +267,21 @@ impl Mark {
             Mark::With => b"with",
             Mark::Avoids => b"avoids",
             Mark::Fits => b"fits",
+            Mark::Change => b"change",
+            Mark::Step => b"step",
+            Mark::Lines => b"lines",
+            Mark::Moved => b"moved",
+            Mark::Steps => b"steps",
+            Mark::Moving => b"moving",
+            Mark::Cutting => b"cutting",
+            Mark::Failing => b"failing",
+            Mark::Edits => b"edits",
+            Mark::DelBridge => b"delbridge",
+            Mark::DelPort => b"delport",
+            Mark::Unplug => b"unplug",
+            Mark::DelLan => b"dellan",
+            Mark::All => b"all",
+            Mark::No => b"no",
         }
     }
 }

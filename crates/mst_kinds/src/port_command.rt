@@ -31,6 +31,18 @@ pub enum PortCommand {
     LanDown,
     /// `speed L KBPS`
     Speed,
+    /// `delport B P`
+    Delete,
+    /// `setportvlans B P all`
+    AllVlans,
+    /// `setportrestrrole B P no`
+    Unrestricted,
+    /// `unplug B P`
+    Unplug,
+    /// `dellan L`
+    DeleteLan,
+    /// `lan L up`
+    LanUp,
 }
 
 impl PortCommand {
@@ -51,6 +63,12 @@ impl PortCommand {
             PortCommand::AddLan => Mark::AddLan,
             PortCommand::LanDown => Mark::Lan,
             PortCommand::Speed => Mark::Speed,
+            PortCommand::Delete => Mark::DelPort,
+            PortCommand::AllVlans => Mark::SetPortVlans,
+            PortCommand::Unrestricted => Mark::SetPortRestrRole,
+            PortCommand::Unplug => Mark::Unplug,
+            PortCommand::DeleteLan => Mark::DelLan,
+            PortCommand::LanUp => Mark::Lan,
         }
     }
 
@@ -71,6 +89,12 @@ impl PortCommand {
             PortCommand::AddLan => parts![Key Lan],
             PortCommand::LanDown => parts![Key Lan, Said State Down],
             PortCommand::Speed => parts![Key Lan, Key Speed],
+            PortCommand::Delete => parts![Key Bridge, Key Port],
+            PortCommand::AllVlans => parts![Key Bridge, Key Port, Said Vlans All, Above Vids],
+            PortCommand::Unrestricted => parts![Key Bridge, Key Port, Said Restricted No],
+            PortCommand::Unplug => parts![Key Bridge, Key Port],
+            PortCommand::DeleteLan => parts![Key Lan],
+            PortCommand::LanUp => parts![Key Lan, Said State Up],
         }
     }
 }

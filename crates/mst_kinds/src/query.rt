@@ -45,6 +45,10 @@ pub enum Query {
     Check,
     /// `verify`
     Verify,
+    /// `steps`
+    Steps,
+    /// `edits`
+    Edits,
 }
 
 impl Query {
@@ -72,6 +76,8 @@ impl Query {
             Query::Summary => Mark::Summary,
             Query::Check => Mark::Check,
             Query::Verify => Mark::Verify,
+            Query::Steps => Mark::Steps,
+            Query::Edits => Mark::Edits,
         }
     }
 
@@ -99,6 +105,8 @@ impl Query {
             Query::Summary => parts![],
             Query::Check => parts![],
             Query::Verify => parts![],
+            Query::Steps => parts![],
+            Query::Edits => parts![],
         }
     }
 }

@@ -21,6 +21,8 @@ pub enum RefusalLine {
     Dot,
     /// `policy N CODE TEXT`
     Policy,
+    /// `change N CODE TEXT`
+    Change,
 }
 
 impl RefusalLine {
@@ -36,6 +38,7 @@ impl RefusalLine {
             RefusalLine::Explain => Mark::Explain,
             RefusalLine::Dot => Mark::Dot,
             RefusalLine::Policy => Mark::Policy,
+            RefusalLine::Change => Mark::Change,
         }
     }
 
@@ -51,6 +54,7 @@ impl RefusalLine {
             RefusalLine::Explain => parts![Key Error, Key Text],
             RefusalLine::Dot => parts![Key Error, Key Text],
             RefusalLine::Policy => parts![Key Line, Key Error, Key Text],
+            RefusalLine::Change => parts![Key Line, Key Error, Key Text],
         }
     }
 }

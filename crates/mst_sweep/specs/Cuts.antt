@@ -4,6 +4,7 @@ use Rattle.std.specs.Global.{Global}
 use Rattle.std.specs.List.{flat_map}
 use Rattle.mst_ids.specs.Vids.{is_vid, runs_from, set_where}
 use Rattle.mst_kinds.specs.declared.kind.Kind.TheVariants as kind
+use Rattle.mst_kinds.specs.declared.step_line.StepLine.TheVariants as step_line
 use Rattle.mst_kinds.specs.declared.sweep_line.SweepLine.TheVariants as line
 use Rattle.mst_rows.specs.Cells.{Cell}
 use Rattle.mst_rows.specs.Cells as cell
@@ -15,7 +16,7 @@ use Rattle.mst_diff.specs.trees.Outcome.{Outcome}
 use Rattle.mst_diff.specs.plan_text.PlanText.{all_vids}
 use Rattle.mst_diff.specs.Reach.{has_any}
 use Rattle.mst_sweep.specs.declared.cuts.CutBy.{CutBy}
-use Rattle.mst_sweep.specs.declared.cuts.CutBy.TheVariants.{One, Both}
+use Rattle.mst_sweep.specs.declared.cuts.CutBy.TheVariants.{One, Both, Step}
 use Rattle.mst_sweep.specs.declared.cuts.Cuts.{Cuts}
 use Rattle.mst_sweep.specs.declared.failure.Failure.{Failure}
 use Rattle.mst_sweep.specs.declared.failure.Failure.TheVariants.{Lan, Bridge}
@@ -30,10 +31,11 @@ failing (Bridge bridge) = cell.failed_bridge bridge
 abbrev pub runs_of : List ℕ → List (ℕ × ℕ)
 runs_of vids = runs_from 0 (set_where (is_among vids))
 
--- `cut VIDS parts P P ..`, of VIDs that have these parts: the record has what fails, too
+-- `cut VIDS parts P P ..`, of VIDs that have these parts: the record has what fails, or the number of the step, too
 abbrev pub cut_row : CutBy → List (ℕ × ℕ) → List (List (List ℕ)) → Row
 cut_row (One failure) runs parts = row_of (kind.Sweep line.Cut) (failing failure ∷ cell.vids runs ∷ cell.groups parts ∷ [])
 cut_row (Both first second) runs parts = row_of (kind.Sweep line.CutByPair) (failing first ∷ failing second ∷ cell.vids runs ∷ cell.groups parts ∷ [])
+cut_row (Step step) runs parts = row_of (kind.Step step_line.Cut) (cell.number step ∷ cell.vids runs ∷ cell.groups parts ∷ [])
 
 -- of a group of VIDs, by the parts of its first, if there are any
 abbrev pub group_row : CutBy → List ℕ → List (List (List ℕ)) → List Row

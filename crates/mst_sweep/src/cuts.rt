@@ -12,7 +12,7 @@ ghost use Rattle.mst_sweep.specs.Left.{AreLeft};
 ghost use Rattle.mst_sweep.specs.Parts.{AreParts};
 ghost use Rattle.mst_sweep.specs.Cuts.{cut_row, group_row, group_rows, names_of, parts_at as parts_of_vid, rows_of, AreCuts, AreCutsBy};
 ghost use Rattle.mst_sweep.specs.declared.cuts.CutBy.{CutBy as CutByOf};
-ghost use Rattle.mst_sweep.specs.declared.cuts.CutBy.TheVariants.{One as OneOf, Both as BothOf};
+ghost use Rattle.mst_sweep.specs.declared.cuts.CutBy.TheVariants.{One as OneOf, Both as BothOf, Step as StepOf};
 ghost use Rattle.mst_sweep.specs.declared.failure.Failure.{Failure as FailureOf};
 ghost use Rattle.mst_sweep.specs.CutClasses.{AreClasses};
 ghost use Rattle.mst_sweep.specs.Baseline.{AreHomes, IsBaseline};
@@ -29,23 +29,26 @@ use mst_diff::{Both, Planned, set_of, vids};
 use mst_graph::laws::group_lists;
 use mst_graph::{Numbering, groups_by_body};
 use mst_ids::{BridgeNo, Name, Vid, VidSet};
-use mst_kinds::{Kind, SweepLine};
+use mst_kinds::{Kind, StepLine, SweepLine};
 use mst_rows::{Rows, Value, put};
 use std::alloc::{AllocError, Global};
 
 /// What cuts VIDs.
 #[derive(Clone, Copy)]
-pub(crate) enum CutBy {
+pub enum CutBy {
     /// A failure.
     One(Failure),
     /// Two failures together.
     Both(Failure, Failure),
+    /// The step of this number, of a change.
+    Step(u64),
 }
 
 /// The VIDs that are cut: the groups of all VIDs, those of equal parts in one, and the parts of the first VID of each class.
 #[derive(Drop)]
-pub(crate) struct Cuts {
-    pub(crate) vids: Vec<Vid>,
+pub struct Cuts {
+    /// Those that have parts, rising.
+    pub vids: Vec<Vid>,
     pub(crate) groups: Vec<Vec<Vid>>,
     pub(crate) parts: Vec<Vec<Vec<Name>>>,
 }
@@ -219,6 +222,20 @@ fn put_cut_by_both<'a, R: Rows>(
     put::<R>(Kind::Sweep(SweepLine::CutByPair), &values, out)
 }
 
+/// Puts the row of VIDs that a step cuts, with these parts.
+fn put_cut_by_step<'a, R: Rows>(
+    step: u64,
+    vids: &'a VidSet,
+    parts: &'a [Vec<Name>],
+    out: &mut R,
+) -> Result<(), AllocError>
+    ensures { (first : R) (rows : List Row) → R.grew first out.old rows
+        → OnOk result (R.grew first out.new (rows ++ cut_row (StepOf step) (runs_from 0 vids.now) (map (λ names. names.items) parts.now) ∷ [])) }
+{
+    let values = [Value::Number(step), Value::Vids(vids), Value::Groups(parts)];
+    put::<R>(Kind::Step(StepLine::Cut), &values, out)
+}
+
 /// Puts the row of VIDs that are cut, with these parts.
 fn put_cut<R: Rows>(
     by: &CutBy,
@@ -232,6 +249,7 @@ fn put_cut<R: Rows>(
     match by {
         CutBy::One(failure) => put_cut_by_one(failure, vids, parts, out),
         CutBy::Both(first, second) => put_cut_by_both(first, second, vids, parts, out),
+        CutBy::Step(step) => put_cut_by_step(*step, vids, parts, out),
     }
 }
 
@@ -290,7 +308,7 @@ fn put_groups<R: Rows>(
 
 /// Puts the rows of the VIDs that are cut, VIDs of equal parts in one row. `AllocError`: memory was wanted and refused; some of them may
 /// have been put.
-pub(crate) fn put_cuts<R: Rows>(
+pub fn put_cuts<R: Rows>(
     by: &CutBy,
     classes: &Numbering,
     cuts: &Cuts,
@@ -338,7 +356,7 @@ fn cut_of(
 }
 
 /// The VIDs that are cut, by the parts of the first VID of each class. `AllocError`: memory was wanted and refused.
-pub(crate) fn cuts_of(
+pub fn cuts_of(
     alloc: Global,
     classes: &Numbering,
     parts: Vec<Vec<Vec<Name>>>,

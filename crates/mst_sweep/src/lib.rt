@@ -21,8 +21,11 @@ mod whole;
 
 pub use baseline::Baseline;
 pub use both_failed::{Single, cut_classes, put_last_of_pairs, put_pair};
+pub use cuts::{CutBy, Cuts, cuts_of, put_cuts};
 pub use failing::Failing;
 pub use failure::{Failure, failures};
 pub use homes::homes_of;
+pub use parts::{Stays, all_parts, staying};
+pub use roots::moved_roots;
 pub use sweep::{put_failure, put_last};
 pub use sweep_part::SweepPart;

@@ -11,10 +11,10 @@ use std::alloc::{AllocError, Global};
 
 /// A bridge that is on before and afterwards, and the places of its islands.
 #[derive(Clone, Copy)]
-pub(crate) struct Stays {
-    pub(crate) name: Name,
-    pub(crate) before: usize,
-    pub(crate) after: usize,
+pub struct Stays {
+    pub name: Name,
+    pub before: usize,
+    pub after: usize,
 }
 
 /// A bridge with the places of its islands, if it has both.
@@ -35,7 +35,7 @@ fn stays_of(
 }
 
 /// Those of these bridges that stay.
-pub(crate) fn staying(
+pub fn staying(
     alloc: Global,
     olds: &IndexMap<BridgeNo, usize>,
     news: &IndexMap<BridgeNo, usize>,
@@ -124,7 +124,7 @@ fn led(alloc: Global, all: &[Stays]) -> Result<Vec<Vec<Name>>, AllocError>
 }
 
 /// The parts of the islands that came apart, by their first bridges. Where none did, it takes one pass over the bridges.
-pub(crate) fn all_parts(alloc: Global, all: &[Stays]) -> Result<Vec<Vec<Name>>, AllocError>
+pub fn all_parts(alloc: Global, all: &[Stays]) -> Result<Vec<Vec<Name>>, AllocError>
     ensures { IfOk result (λ parts. map (λ names. names.items) parts.items ≡ all_parts_of all.now) }
 {
     if is_whole(alloc, all)? {

@@ -56,7 +56,7 @@ fn tree_moved(old: &Planned, new: &Planned, used: &[bool; 4095], tree: Tree, bot
 /// refused.
 ///
 /// It goes over these bridges once for each tree that the old network has.
-pub(crate) fn moved_roots(
+pub fn moved_roots(
     alloc: Global,
     old: &Planned,
     new: &Planned,
