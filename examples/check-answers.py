@@ -314,7 +314,8 @@ def parts(old, new):
     return " ".join(sorted(apart, key=lambda part: part.split(",")[0]))
 
 
-def failure_lines(what, name, old, new):
+def change_told(old, new):
+    """The trees in which a bridge has another root, how many roles are other ones, and the VIDs that are cut, by their parts."""
     moved, ports = [], 0
     for number in sorted(old.trees.keys() & new.trees.keys()):
         before, after = old.trees[number], new.trees[number]
@@ -322,14 +323,22 @@ def failure_lines(what, name, old, new):
         if any(root_id(before.bridges[b], number) != root_id(after.bridges[b], number) for b in both):
             moved.append(str(number))
         roles = [(port["role"], role_at(new, number, it)) for it, port in before.ports.items()]
-        ports += sum(a != b and DISABLED not in (a, b) for a, b in roles)
+        ports += sum(a != b and not {DISABLED, "-"} & {a, b} for a, b in roles)
     groups = {}
     for vid in range(1, 4095):
         told = parts(old.islands[vid], new.islands[vid])
         if told:
             groups.setdefault(told, []).append(vid)
-    cut = list_of(itertools.chain.from_iterable(groups.values()))
-    first = f"{what} {name} roots {','.join(moved) or '-'} ports {ports} cut {cut}"
+    return ",".join(moved) or "-", ports, groups
+
+
+def vids_in(groups):
+    return list_of(itertools.chain.from_iterable(groups.values()))
+
+
+def failure_lines(what, name, old, new):
+    roots, ports, groups = change_told(old, new)
+    first = f"{what} {name} roots {roots} ports {ports} cut {vids_in(groups)}"
     return [first, *(f"cut {list_of(vids)} parts {told}" for told, vids in groups.items())], bool(groups)
 
 

@@ -3,7 +3,7 @@
 
 usage: check-page.py PROGRAM
 
-The networks: each script of the examples, a few drawn ones, two on one page, a campus of 50 switches, and one with strange
+The networks: each script of the examples, a few drawn ones, two on one page, two judged by a policy, a campus of 50 switches, and one with strange
 names. Needed: Chromium, its driver and Selenium (Debian: chromium, chromium-driver, python3-selenium). Where one isn't there
 no page is opened, and a line tells which; where this Python lacks Selenium, /usr/bin/python3 is tried. What page.py does with its
 words, and what stands in a page, is checked in any case. The exit status is 1 where something differs, or where it takes longer than its
@@ -472,6 +472,7 @@ def check_words(program, folder, expect):
         ([program, absent], 3, f"page.py: {absent}: No such file or directory"),
         ([absent, script], 3, f"page.py: {absent}: No such file or directory"),
         ([program, script, os.path.join(absent, "page.html")], 3, f"page.py: {absent}/page.html: No such file or directory"),
+        ([program, script, "--policy", absent], 3, f"page.py: {absent}: No such file or directory"),
         ([program, script, "--old", absent], 3, f"page.py: {absent}: No such file or directory"),
         (["false", script], 3, "page.py: false ask: its script: exit status 1: nothing is told"),
         (["echo", script], 3, "page.py: echo ask: the answer isn't JSON: Expecting value: line 1 column 1 (char 0)"),
@@ -514,6 +515,35 @@ def check_data(program, folder, expect):
         expect.equal("data: failures", names, [(it["kind"], it[it["kind"]], it["port_count"]) for it in swept])
 
 
+def check_promises(program, folder, expect):
+    """With a policy a page has each promise that isn't kept, as `verify` tells it, of both networks."""
+    policy, old, new = (os.path.join(HERE, name) for name in ("campus.policy", "campus.script", "campus-changed.script"))
+    path = made(program, folder, "promises", expect, [new, "--old", old, "--policy", policy])
+    with open(path, encoding="utf-8") as file:
+        data = json.loads(DATA.search(file.read())[1])
+    for network, script in ((data["before"], old), (data["after"], new)):
+        told, promises = answered(program, "verify", script, policy), network["promises"]
+        counts = promises["expectations"], promises["hold"]
+        expect.equal("promises: counts", counts, (told[-1]["expectation_count"], told[-1]["hold_count"]))
+        found = [(it["line"], dict([it["failure"].split(" ")]) if it["failure"] else None) for it in promises["broken"]]
+        expect.equal("promises: what isn't kept", found, [(it["line"], it["failure"]) for it in told[:-1]])
+    return path, data["after"]["promises"]["broken"]
+
+
+def check_promise_sheet(browser, program, folder, expect):
+    """The lines that fail stand in the first sheet, and a click shows the failure in the picture."""
+    path, broken = check_promises(program, folder, expect)
+    browser.open(path)
+    expect.equal("promises: chip", "14 of 16 promises kept" in browser.view()["chips"], True)
+    failures = [it["failure"] for it in broken if it["failure"]]
+    expect.equal("promises: rows", [row.get("fail") for row in browser.view()["rows"]], failures)
+    for failure in failures:
+        browser.click(f"#sheet .row[data-fail='{failure}']")
+        view = browser.view()
+        expect.equal(f"promises: {failure}", (failure.split(" ")[1] in view["banner"], view["crosses"] > 0), (True, True))
+    expect.equal("promises: errors of the browser", browser.errors(), [])
+
+
 def answered(program, word, *words):
     """The records of what a program answers that is asked alone."""
     told = subprocess.run([program, word, "--json", *words], capture_output=True, timeout=SECONDS_OF_A_STEP, check=False).stdout
@@ -541,7 +571,8 @@ def check_pages(browser, program, folder, expect):
     check_pair(browser, program, folder, expect)
     check_strange(browser, program, folder, expect)
     check_refused(browser, program, folder, expect)
-    return len(scripts) + 4, compared
+    check_promise_sheet(browser, program, folder, expect)
+    return len(scripts) + 5, compared
 
 
 def late(_signal, _frame):
@@ -574,6 +605,7 @@ def main():
         try:
             check_words(program, folder, expect)
             check_data(program, folder, expect)
+            check_promises(program, folder, expect)
             check_in_browser(program, folder, expect)
         except Exception as fault:
             expect.equal("the check", f"{type(fault).__name__}: {fault}", "no fault")

@@ -1,6 +1,6 @@
 #!/usr/bin/env python3
-"""Makes one HTML page of a script's network: its picture with each tree and VLAN, why each port has its role, and what
-each single failure does.
+"""Makes one HTML page of a script's network: its picture with each tree and VLAN, why each port has its role, what each
+single failure does, and which promises of a policy aren't kept.
 
 What the page tells is PROGRAM's answers. Which switches a VLAN joins after a failure the page works out itself, and compares
 with PROGRAM's sweep when it is opened. It needs no network and no other file, so it can be sent in a mail. Graphviz's dot puts
@@ -45,12 +45,19 @@ def page_of(data, title):
     return re.sub("@(TITLE|STYLE|DATA|CODE)@", lambda found: parts[found[1]], web_file("page.html"))
 
 
-def read(program, path, sweeping):
-    """The network of a script's file as the page has it, and the script. Refused lines are told."""
+def bytes_of(path):
     with open(path, "rb") as file:
-        script = file.read()
+        return file.read()
+
+
+def read(program, path, policy, sweeping):
+    """The network of a script's file as the page has it, judged by a policy where there is one, and the script. Refused lines are
+    told."""
+    script = bytes_of(path)
     network = answers.network_of(program, script, sweeping)
     network["script"] = os.path.basename(path)
+    if policy:
+        network["promises"] = {"policy": os.path.basename(policy), **program.promises(script, bytes_of(policy))}
     refused = network["refused"]
     for line in refused[:MOST_REFUSED]:
         print(f"page.py: {path}: line {line['line']} {line['error']} {line['text']}", file=sys.stderr)
@@ -59,14 +66,14 @@ def read(program, path, sweeping):
     return network, script
 
 
-def data_of(program, script, old, sweeping):
+def data_of(program, script, old, policy, sweeping):
     """All that the page has: one network, or two and what differs in them."""
-    network, lines = read(program, script, sweeping)
+    network, lines = read(program, script, policy, sweeping)
     made = datetime.datetime.now(datetime.timezone.utc).strftime("%Y-%m-%d %H:%M UTC")
     data = {"after": network, "version": program.version(), "made": made}
     if not old:
         return {**data, "places": places.layout(network)}
-    before, lines_before = read(program, old, sweeping)
+    before, lines_before = read(program, old, policy, sweeping)
     differences = program.differences(lines_before, lines)
     return {**data, "before": before, "differences": differences, "places": places.layout_of_both(network, before)}
 
@@ -77,6 +84,7 @@ def words_of():
     parser.add_argument("script", metavar="SCRIPT", help="the network's script")
     parser.add_argument("page", metavar="PAGE.html", nargs="?", help="where the page goes; standard output without it")
     parser.add_argument("--old", metavar="OLD", help="another script, which is the network before the change")
+    parser.add_argument("--policy", metavar="POLICY", help="what the network is to promise: the page tells what isn't kept, and where")
     parser.add_argument("--title", metavar="T", help="the page's title; the script's name without it")
     parser.add_argument("--no-sweep", action="store_true", help="without single failures, which take longest in a large network")
     return parser.parse_args()
@@ -90,7 +98,7 @@ def failed(why):
 def main():
     words = words_of()
     try:
-        data = data_of(answers.Program(words.program), words.script, words.old, not words.no_sweep)
+        data = data_of(answers.Program(words.program), words.script, words.old, words.policy, not words.no_sweep)
         page = page_of(data, words.title or data["after"]["script"])
         with open(words.page, "wb") if words.page else sys.stdout.buffer as file:
             file.write(page.encode("utf-8", "replace"))

@@ -56,6 +56,15 @@ class Program:
             raise self.failed(["diff"], f"{len(answers)} answers in place of one")
         return answers[0]["records"]
 
+    def promises(self, script, policy):
+        """What `verify` tells of a script's network and a policy: its refused lines, why others aren't kept, and how many hold."""
+        with written(script) as script_path, written(policy) as policy_path:
+            words = ["verify", script_path, policy_path]
+            lines = self.printed(*words).decode().splitlines()
+            answers = [self.value(words, line) for line in self.printed(*words, "--json").splitlines()]
+        records = [record for it in answers if "records" in it for record in it["records"]]
+        return promises_of(policy, lines[len(lines) - len(records):], records)
+
     @contextlib.contextmanager
     def standing(self, script):
         """The program as it stands with the network of a script, and answers one line after another."""
@@ -121,6 +130,29 @@ def written(script):
         with open(path, "wb") as file:
             file.write(script)
         yield path
+
+
+def key_of(failure):
+    """A failure as the page names it; the network itself has none."""
+    return None if failure is None else " ".join(next(iter(failure.items())))
+
+
+def promises_of(policy, lines, records):
+    """A policy as the page has it: each promise that isn't kept, or is refused, with its own line, where that is, and why."""
+    promises = [line.decode(errors="replace").strip() for line in policy.split(b"\n")]
+    told = {"broken": [], "expectations": 0, "hold": 0}
+    for line, record in zip(lines, records):
+        if record["kind"] == "verify":
+            told["expectations"], told["hold"] = record["expectation_count"], record["hold_count"]
+            continue
+        place = key_of(record.get("failure"))
+        # In front of what is told stand the kind of the line, its number, and where that is.
+        before = 2 if record["kind"] == "policy" else 3 if place is None else 4
+        told["broken"].append({
+            "line": record["line"], "promise": promises[record["line"] - 1], "refused": record["kind"] == "policy",
+            "failure": place, "why": line.split(" ", before)[before],
+        })
+    return told
 
 
 def port_of(record):

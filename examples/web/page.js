@@ -14,8 +14,8 @@ const other = ALL.before ? new Network(ALL[OTHER_TIME]) : null;
 const picture = new Picture(network, ALL.places);
 const sight = new Sight(picture.svg, ALL.places);
 const telling = new Telling(network, ALL, bridge => picture.hue(bridge));
-const SHEETS = [["failures", "Single failures"], ["vlans", "VLANs"], ["links", "Links"], ["blocked", "Blocked ports"]]
-  .filter(([name]) => name !== "failures" || network.swept);
+const SHEETS = [["promises", "Promises"], ["failures", "Single failures"], ["vlans", "VLANs"], ["links", "Links"], ["blocked", "Blocked ports"]]
+  .filter(([name]) => (name === "failures" ? network.swept : name !== "promises" || network.promises));
 const FIRST_TREE = network.treeNumbers[0] ?? CIST;
 const MOST_BUTTONS = 12, MOST_GROUPS = 8;
 const shown = { tree: FIRST_TREE, vid: null, failure: null, selected: null, sheet: SHEETS[0][0], otherTime: "" };
@@ -56,7 +56,7 @@ function showBanner() {
 function showSheet() {
   const isOn = name => (shown.sheet === name ? "on" : "");
   put("tabs", SHEETS.map(([name, title]) => markup`<button class="${isOn(name)}" data-sheet="${name}">${title}</button>`));
-  const sheets = { vlans: "vlanSheet", links: "linkSheet", blocked: "blockedSheet", failures: "failureSheet" };
+  const sheets = { promises: "promiseSheet", vlans: "vlanSheet", links: "linkSheet", blocked: "blockedSheet", failures: "failureSheet" };
   put("sheet", telling[sheets[shown.sheet]](shown));
 }
 
@@ -93,6 +93,8 @@ function showHead(comparison) {
   const chip = (text, kind = "", title = "") => markup`<span class="chip ${kind}" title="${title}">${text}</span>`;
   const cuts = cutting(ALL[TIME]), swept = counted(ALL[TIME].failures.length, "single failure");
   const failing = cuts > 1 ? `${cuts} of ${swept} cut a VLAN` : `${cuts || "none"} of ${swept} cuts a VLAN`;
+  const { promises } = network;
+  const kept = promises && (promises.broken.length ? `${promises.hold} of ${counted(promises.expectations, "promise")} kept` : "all promises kept");
   const scripts = other ? `${ALL.before.script} → ${ALL.after.script}` : ALL.after.script;
   byId("made").textContent = `${scripts} · ${ALL.version} · ${ALL.made}`;
   put("chips", [
@@ -100,6 +102,7 @@ function showHead(comparison) {
     chip(counted(network.lans.size, "link")), chip(counted(counts.region_count, "region")), chip(counted(counts.tree_count, "tree")),
     network.swept ? markup`<button class="chip ${cuts ? "warned" : "well"}" data-open="failures">${failing}</button>` : "",
     other && network.swept ? chip(`${OTHER_TIME}: ${cutting(ALL[OTHER_TIME])}`) : "",
+    promises ? markup`<button class="chip ${promises.broken.length ? "warned" : "well"}" data-open="promises">${kept}</button>` : "",
     network.refused.length ? chip(counted(network.refused.length, "refused line"), "warned") : "",
     comparison.wrong.length ? chip("page and program differ", "warned", comparison.wrong.slice(0, 5).join(", ")) : "",
   ]);

@@ -317,6 +317,20 @@ class Telling {
     return table(["What fails", "VLANs cut", "Parts", "New roots", "#Roles changed"], rows);
   }
 
+  /** Each promise that isn't kept, with its line in the policy, where it isn't, and why; a click shows the failure. */
+  promiseSheet(shown) {
+    const { broken, policy, expectations, hold } = this.network.promises;
+    if (!broken.length) return markup`<div class="fine">All ${expectations} promises of ${policy} are kept.</div>`;
+    const rows = broken.map(it => {
+      const failure = this.network.failures.get(it.failure);
+      const place = it.refused ? "the line is refused" : it.failure ? `after ${it.failure.replace("bridge", "switch").replace("lan", "LAN")} has failed` : "now";
+      const cells = [it.line, markup`<b>${it.promise}</b>`, place, markup`<span class="warning">${listed(it.why)}</span>`];
+      return failure ? { data: { fail: failure.key }, isSelected: shown.failure === failure, cells } : cells;
+    });
+    return [minor(`${hold} of ${counted(expectations, "promise")} of ${policy} ${hold === 1 ? "is" : "are"} kept.`),
+      table(["#Line", "Promise", "Where it isn't kept", "Why"], rows)];
+  }
+
   vlanSheet() {
     const rows = this.network.groups.map(group => {
       const list = vids(group.vids), islands = this.network.inhabited(list.first, null);
