@@ -1,6 +1,7 @@
 //! Whether a network does what a policy promises.
 
-use mst_tool::{Form, Outcome, verify};
+use mst_tool::{Form, Outcome, RunFault, verify};
+use mst_trials::{Sink, Source};
 use std::test::Fail;
 
 /// Two bridges on one LAN.
@@ -63,4 +64,33 @@ fn an_empty_policy_is_kept(rt: HostRuntime) -> Result<(), Fail> {
     );
     assert_eq!(rt; told.as_slice(), kept);
     Ok(())
+}
+
+/// A reader that fails, of the script or of the policy: nothing was refused before, so nothing went out.
+#[test]
+fn readers_fail_in_a_verification(rt: HostRuntime) {
+    for (script_fails, policy_fails) in [(true, false), (false, true)] {
+        let mut script = Source::new(SCRIPT, 4096);
+        script.fails = script_fails;
+        let mut policy = Source::new(POLICY, 4096);
+        policy.fails = policy_fails;
+        let mut writer = Sink::new(rt.alloc(), usize::MAX);
+        let told = verify(rt.alloc(), Form::Text, script, policy, &mut writer);
+        assert_eq!(rt; told, Err(RunFault::Read), "{script_fails}");
+        assert!(rt; writer.taken.is_empty(), "{script_fails}");
+    }
+}
+
+/// A writer that fails, or takes nothing, within a line of the policy, between two, and at the last byte: just what it took before went out.
+#[test]
+fn writers_fail_in_a_verification(rt: HostRuntime) {
+    for fails in [false, true] {
+        for room in [0, 25, 120, TOLD.len() - 1] {
+            let mut writer = Sink::new(rt.alloc(), room);
+            writer.fails = fails;
+            let told = verify(rt.alloc(), Form::Text, SCRIPT, POLICY, &mut writer);
+            assert_eq!(rt; told, Err(RunFault::Write), "{room}");
+            assert_eq!(rt; writer.taken.as_slice(), &TOLD[..room], "{room}");
+        }
+    }
 }
