@@ -36,12 +36,23 @@ is_script_word word = is_some (command_of word)
 unfoldable pub command_text : List ℕ
 command_text = codes "that is a command of scripts"
 
--- what is said of it: that it is a command of scripts, or else which word is nearest to it. Behind `after` stands what fails
+-- a scope stands first in its line
+abbrev pub is_scope : List ℕ → Bool
+is_scope word = is_text word (codes "after") || is_text word (codes "always")
+
+unfoldable pub one_scope_text : List ℕ
+one_scope_text = codes "a line has one scope"
+
+-- what is said of it: of a scope that it is one too many, of a kind of failures that it stands behind `after`, of a command of
+-- scripts that it is one, and else which word is nearest to it
 abbrev pub said_nearest : List ℕ → Option (List ℕ)
 said_nearest word = if is_script_word word then Some command_text else option_map question (nearest word)
 
+abbrev pub said_failing : List ℕ → Option (List ℕ)
+said_failing word = if is_failing word then Some (question (codes "after " ++ word)) else said_nearest word
+
 abbrev pub said_of : List ℕ → Option (List ℕ)
-said_of word = if is_failing word then Some (question (codes "after " ++ word)) else said_nearest word
+said_of word = if is_scope word then Some one_scope_text else said_failing word
 
 abbrev pub unknown_text : List ℕ → List ℕ
 unknown_text word = codes "no expectation " ++ word ++ besides (said_of word)
