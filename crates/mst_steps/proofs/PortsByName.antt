@@ -52,4 +52,3 @@ module _ (ports : List PortInView) (i : ℕ) (x : PortInView) (l : i < length po
           let one : x.name ≡ q = port_is x.name q e in
           before q ∙ was_some first (ap is_some (sym (before q)) ∙ ap (λ n. is_some (lookup (port_eq n) entries)) (sym one) ∙ some) ∙ ap (with_one first) (sym e)
       go false e = before q ∙ no_other first ∙ ap (with_one first) (sym e)
-

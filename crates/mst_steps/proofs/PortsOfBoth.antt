@@ -61,10 +61,10 @@ none_other : (o : Option Role) → is_other_role o None ≡ false
 none_other None = refl
 none_other (Some x) = refl
 
-module _ (a b : Net) (n k : Numbers) (v w : Viewed) (f g : Forest) (of : AreOf a n v f.regions) (so : AreOf b k w g.regions) where
+module _ (a : Net) (n : Numbers) (v : Viewed) (f : Forest) (of : AreOf a n v f.regions) where
   -- they are few
-  pub few_of_both : length (seen_both_ports v w) ≤ 16384
-  few_of_both =
+  pub few_of_both : (w : Viewed) → length (seen_both_ports v w) ≤ 16384
+  few_of_both w =
       let made : length (seen_both_ports v w) ≤ length v.ports = few_made (seen_port_in_both w.ports) v.ports in
       let few : length v.ports ≤ 16384 = few_ports a n v f.regions of in
       omega arith
@@ -72,6 +72,7 @@ module _ (a b : Net) (n k : Numbers) (v w : Viewed) (f g : Forest) (of : AreOf a
   names_named : map (λ (x : PortInView). x.name) v.ports ≡ port_names a
   names_named = sym (mapped_twice (λ (q : LogicalPort). q.name) named_port v.ports) ∙ ap (map (λ (q : LogicalPort). q.name)) of.view.ports
 
+module _ (a b : Net) (n k : Numbers) (v w : Viewed) (f g : Forest) (of : AreOf a n v f.regions) (so : AreOf b k w g.regions) where
   module _ (is : IsForest a n f) (are : IsForest b k g) (tree : ℕ) where
     abbrev moved : BothPorts → Bool
     moved = seen_moved v f w g tree
@@ -102,4 +103,4 @@ module _ (a b : Net) (n k : Numbers) (v w : Viewed) (f g : Forest) (of : AreOf a
         count_made moved (seen_port_in_both w.ports) v.ports
         ∙ count_alike _ (λ (x : PortInView). port_moved a is.outcome b are.outcome tree x.name) v.ports (all_weaker (Contains v.ports) _ each_moved v.ports (all_there v.ports))
         ∙ sym (count_mapped (port_moved a is.outcome b are.outcome tree) (λ (x : PortInView). x.name) v.ports)
-        ∙ ap (count_by (port_moved a is.outcome b are.outcome tree)) names_named
+        ∙ ap (count_by (port_moved a is.outcome b are.outcome tree)) (names_named a n v f of)

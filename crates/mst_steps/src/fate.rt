@@ -1,7 +1,8 @@
-ghost use Rattle.std.specs.Prelude.{◌≡◌, IfOk};
+ghost use Rattle.std.specs.Prelude.{◌≡◌, ◌||◌, map, IfOk};
 ghost use Rattle.mst_net.specs.Tables.{Net, Numbers};
 ghost use Rattle.mst_diff.specs.trees.Agrees.{AreOf, Known};
 ghost use Rattle.mst_diff.specs.trees.Forest.{IsForest};
+ghost use Rattle.mst_diff.specs.Reach.{has_any};
 ghost use Rattle.mst_sweep.specs.Cuts.{names_of};
 ghost use Rattle.mst_sweep.specs.Parts.{AreParts};
 ghost use Rattle.mst_steps.specs.MovedVids.{IsJoined, IsMoved};
@@ -35,6 +36,13 @@ fn differ(
     let olds = between(alloc, change, before)?;
     let news = between(alloc, change, afterwards)?;
     Ok(!are_same(olds.as_slice(), news.as_slice()))
+}
+
+/// Whether a VID of these parts moves.
+fn is_moved(parts: &[Vec<Name>], joins: bool, differ: bool) -> bool
+    ensures { result ≡ (has_any (map (λ names. names.items) parts.now) || joins || differ) }
+{
+    is_any(parts) || joins || differ
 }
 
 /// What becomes of a VID, by what carries it before and afterwards.
@@ -78,7 +86,7 @@ fn fate_by(
     )?;
     let joins = is_any(joined.as_slice());
     let differ = differ(alloc, change, before, afterwards)?;
-    let moves = is_any(apart.as_slice()) || joins || differ;
+    let moves = is_moved(apart.as_slice(), joins, differ);
     Ok(Fate {
         parts: apart,
         joins,
