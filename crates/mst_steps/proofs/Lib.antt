@@ -1,8 +1,9 @@
 pub mod OnNamed
 pub mod Carried
 pub mod Users
+pub mod PortsByName
 pub mod PortsOfBoth
 pub mod Flagged
 pub mod Fates
+pub mod CutMoves
 pub mod OneStep
-pub mod PortsByName

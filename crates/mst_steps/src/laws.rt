@@ -1,5 +1,6 @@
 //! Laws of what a step of a change does. Their functions do nothing: a caller has their clauses.
-ghost use Rattle.std.specs.Prelude.{◌≡◌, Bool, List, Ok};
+ghost use Rattle.std.specs.Prelude.{◌≡◌, ℕ, Bool, true, List, Ok};
+ghost use Rattle.std.specs.List.{Contains};
 ghost use Rattle.mst_rows.specs.Rows.{Row};
 ghost use Rattle.mst_net.specs.After.{after};
 ghost use Rattle.mst_net.specs.Tables.{Net, IsNetwork};
@@ -25,6 +26,15 @@ pub fn one_step()
     one_outcome();
     islands_of_vid();
     group_lists::<Vid>();
+}
+
+/// The VIDs that a step cuts, and those that it joins, are among those that move. So a step that cuts some moves some.
+pub fn cut_moves()
+    ensures cut { (a b : Net) (o p : Outcome) (step : StepOf) (rows : List Row) (told : SteppedOf) → (x : AreStepRows a o b p step rows told) → (vid : ℕ) → Contains x.cut vid → Contains x.moved vid }
+    ensures joined { (a b : Net) (o p : Outcome) (step : StepOf) (rows : List Row) (told : SteppedOf) → (x : AreStepRows a o b p step rows told) → (vid : ℕ) → Contains x.joined vid → Contains x.moved vid }
+    ensures told { (a b : Net) (o p : Outcome) (step : StepOf) (rows : List Row) (told : SteppedOf) → AreStepRows a o b p step rows told → told.cuts ≡ true → told.moves ≡ true }
+{
+    islands_of_vid();
 }
 
 /// Where a failure makes the one network of the other, a step that does the same tells the same roots, number of ports and VIDs that are cut

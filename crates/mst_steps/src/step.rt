@@ -100,10 +100,9 @@ fn put_told<R: Rows>(
     out: &mut R,
 ) -> Result<Stepped, AllocError>
     requires { NumberEach told.now.classes.numbers.items (vec_len told.now.cuts.parts) }
-    ensures moves { IfOk result (λ stepped. stepped.moves ≡ has_any told.now.moved.items) }
-    ensures cuts { IfOk result (λ stepped. stepped.cuts ≡ has_any told.now.cuts.vids.items) }
-    ensures rows { (first : R) (rows : List Row) → R.grew first out.old rows
-        → OnOk result (R.grew first out.new (rows ++ step_row step.now roots.now ports (runs_of told.now.moved.items) (runs_of told.now.cuts.vids.items) (runs_of told.now.joined.items) ∷ rows_of (StepOf step.now.number) told.now.classes.numbers.items told.now.cuts)) }
+    ensures { IfOk result (λ stepped. (stepped.moves ≡ has_any told.now.moved.items) × (stepped.cuts ≡ has_any told.now.cuts.vids.items)
+        × ((first : R) (rows : List Row) → R.grew first out.old rows
+        → R.grew first out.new (rows ++ step_row step.now roots.now ports (runs_of told.now.moved.items) (runs_of told.now.cuts.vids.items) (runs_of told.now.joined.items) ∷ rows_of (StepOf step.now.number) told.now.classes.numbers.items told.now.cuts))) }
 {
     let lines = lines_word(alloc, step.first, step.last)?;
     let moved = told.moved.as_slice();
