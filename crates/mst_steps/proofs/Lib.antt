@@ -4,6 +4,6 @@ pub mod Users
 pub mod PortsByName
 pub mod PortsOfBoth
 pub mod Flagged
-pub mod Fates
+pub mod SameFate
 pub mod CutMoves
 pub mod OneStep

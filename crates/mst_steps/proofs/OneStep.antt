@@ -97,5 +97,5 @@ module _ (a b : Net) (o p : Outcome) (one : OneList) (grouping : OneGrouping) wh
       groups = x.are_cut.groups;
       of_step = x.are ∙ ap (λ rows. step_row step (moved_roots a o b p) (moved_ports a o b p) (runs_of x.moved) (runs_of x.cut) (runs_of x.joined) ∷ rows) x.are_cut.are;
       of_failure = y.are ∙ (λ i. failure_row failure (moved_roots a o b p) (moved_ports a o b p) (runs_of (sym same_cut i)) ∷ sym same_rows i);
-      cuts = x.cuts ∙ ap has_any same_cut ∙ sym y.some;
+      both_cut = x.cuts ∙ ap has_any same_cut ∙ sym y.some;
     }

@@ -57,4 +57,4 @@ pub record IsAsInSweep (step : Step) (failure : Failure) (rows : List Row) (told
   pub groups : List (List ℕ)
   pub of_step : rows ≡ step_row step roots ports moved cut joined ∷ flat_map (group_rows (by.Step step.number) parts) groups
   pub of_failure : failed ≡ failure_row failure roots ports cut ∷ flat_map (group_rows (by.One failure) parts) groups
-  pub cuts : told.cuts ≡ cuts
+  pub both_cut : told.cuts ≡ cuts

@@ -96,7 +96,7 @@ fn fate_by(
 
 /// What becomes of a VID. Where the same active ports are members on the same LANs before and afterwards, no islands are made.
 /// `AllocError`: memory was wanted and refused.
-pub(crate) fn fate(alloc: Global, change: &Change, vid: Vid) -> Result<Fate, AllocError>
+pub(crate) fn fate_of(alloc: Global, change: &Change, vid: Vid) -> Result<Fate, AllocError>
     requires old { Known change.now.old.now.view.now change.now.old.now.forest.now.regions }
     requires new { Known change.now.new.now.view.now change.now.new.now.forest.now.regions }
     ensures parts { IfOk result (λ fate. (a b : Net) (n k : Numbers) (is : IsForest a n change.now.old.now.forest.now) (are : IsForest b k change.now.new.now.forest.now) → AreOf a n change.now.old.now.view.now change.now.old.now.forest.now.regions → AreOf b k change.now.new.now.view.now change.now.new.now.forest.now.regions

@@ -11,7 +11,7 @@ ghost use Rattle.mst_steps.specs.MovedVids.{IsJoined, IsMoved};
 ghost use Rattle.mst_steps.specs.Seen.{flag_at};
 
 use crate::change::Change;
-use crate::fate::{Fate, fate};
+use crate::fate::fate_of;
 use mst_ids::{Name, Vid};
 use std::alloc::{AllocError, Global};
 
@@ -24,7 +24,11 @@ pub(crate) struct Fates {
 }
 
 /// What becomes of the VIDs at these places, which are counted from 0. `AllocError`: memory was wanted and refused.
-pub(crate) fn fates(alloc: Global, change: &Change, places: &[usize]) -> Result<Fates, AllocError>
+pub(crate) fn fates_at(
+    alloc: Global,
+    change: &Change,
+    places: &[usize],
+) -> Result<Fates, AllocError>
     requires old { Known change.now.old.now.view.now change.now.old.now.forest.now.regions }
     requires new { Known change.now.new.now.view.now change.now.new.now.forest.now.regions }
     requires vids { All (λ place. place < 4094) places.now }
@@ -41,7 +45,7 @@ pub(crate) fn fates(alloc: Global, change: &Change, places: &[usize]) -> Result<
     let mut moves = Vec::new(alloc);
     for place in places {
         let vid = Vid::new(*place as u64 + 1).unwrap();
-        let of = fate(alloc, change, vid)?;
+        let of = fate_of(alloc, change, vid)?;
         parts.push(of.parts)?;
         joins.push(of.joins)?;
         moves.push(of.moves)?;

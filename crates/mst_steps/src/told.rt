@@ -10,7 +10,7 @@ ghost use Rattle.mst_steps.specs.MovedVids.{AreVidsWhere, IsJoined, IsMoved};
 
 use crate::change::Change;
 use crate::classes::classes_of_both;
-use crate::fates::{Fates, fates, flagged};
+use crate::fates::{fates_at, flagged};
 use mst_diff::vids;
 use mst_graph::Numbering;
 use mst_ids::Vid;
@@ -41,17 +41,13 @@ pub(crate) fn told_of(alloc: Global, change: &Change) -> Result<Told, AllocError
         → AreVidsWhere (IsMoved a is.outcome b are.outcome) told.moved.items) }
 {
     let classes = classes_of_both(alloc, change.old.view, change.new.view)?;
-    let Fates {
-        parts,
-        joins,
-        moves,
-    } = fates(alloc, change, classes.firsts.as_slice())?;
+    let of = fates_at(alloc, change, classes.firsts.as_slice())?;
     let all = vids(alloc)?;
     let vids = all.as_slice();
     let numbers = classes.numbers.as_slice();
-    let joined = flagged(alloc, vids, numbers, joins.as_slice())?;
-    let moved = flagged(alloc, vids, numbers, moves.as_slice())?;
-    let cuts = cuts_of(alloc, &classes, parts)?;
+    let joined = flagged(alloc, vids, numbers, of.joins.as_slice())?;
+    let moved = flagged(alloc, vids, numbers, of.moves.as_slice())?;
+    let cuts = cuts_of(alloc, &classes, of.parts)?;
     Ok(Told {
         classes,
         cuts,

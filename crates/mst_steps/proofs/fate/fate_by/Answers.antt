@@ -3,7 +3,7 @@ use Rattle.mst_diff.specs.Reach.{has_any}
 use Rattle.mst_sweep.specs.Cuts.{names_of}
 use Rattle.mst_steps.specs.MovedVids.{links_differ}
 use Rattle.mst_steps.specs.Seen.{seen_differ}
-use Rattle.mst_steps.proofs.Fates.{differ_same}
+use Rattle.mst_steps.proofs.SameFate.{differ_same}
 use Rattle.mst_steps.proofs.fate.fate_by.Goals as goal
 
 pub returns-clause-parts : goal.returns-clause-parts

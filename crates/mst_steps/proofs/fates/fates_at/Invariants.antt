@@ -6,7 +6,7 @@ use Rattle.mst_diff.specs.trees.Forest.{IsForest}
 use Rattle.mst_sweep.specs.Cuts.{names_of}
 use Rattle.mst_sweep.specs.Parts.{AreParts}
 use Rattle.mst_steps.specs.MovedVids.{IsJoined, IsMoved}
-use Rattle.mst_steps.proofs.fates.fates.Given as goal
+use Rattle.mst_steps.proofs.fates.fates_at.Given as goal
 
 -- what becomes of the VIDs at the places so far
 abbrev pub invariant-loop-place : goal.invariant-loop-place

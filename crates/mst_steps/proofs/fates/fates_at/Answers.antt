@@ -5,7 +5,7 @@ use Rattle.mst_sweep.specs.Cuts.{names_of}
 use Rattle.mst_sweep.specs.Parts.{AreParts}
 use Rattle.mst_sweep.proofs.Placed.{AtPlaces, places_more, places_all}
 use Rattle.mst_steps.specs.MovedVids.{IsJoined, IsMoved}
-use Rattle.mst_steps.proofs.fates.fates.Goals as goal
+use Rattle.mst_steps.proofs.fates.fates_at.Goals as goal
 
 pub loop-place-preserved : goal.loop-place-preserved
 loop-place-preserved c =

@@ -2,8 +2,8 @@ use Rattle.std.proofs.Common.{◌≡◌, ◌||◌, false, [], refl, sym, ap, sub
 use Rattle.mst_sweep.specs.Parts.{AreParts}
 use Rattle.mst_steps.specs.Links.{carried}
 use Rattle.mst_steps.proofs.Carried.{carried_same}
-use Rattle.mst_steps.proofs.Fates.{links_decide, not_cut, same_differ}
-use Rattle.mst_steps.proofs.fate.fate.Goals as goal
+use Rattle.mst_steps.proofs.SameFate.{links_decide, not_cut, same_differ}
+use Rattle.mst_steps.proofs.fate.fate_of.Goals as goal
 
 pub returns-then-are_same-clause-parts : goal.returns-then-are_same-clause-parts
 returns-then-are_same-clause-parts c a b n k is are of so =
