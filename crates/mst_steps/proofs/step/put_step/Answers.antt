@@ -14,7 +14,7 @@ returns g c = IfOk-weaker c.put_told.result _ _
     let told = c.in_ok-told.told in
     let R : List ℕ = moved_roots a is.outcome b are.outcome in
     let P : ℕ = moved_ports a is.outcome b are.outcome in
-    let roots : c.as_slice-2.result.now ≡ R = c.as_slice-2.ensures.value ∙ c.in_ok-roots.ensures a b n k is are of so in
+    let roots : c.as_slice-4.result.now ≡ R = c.as_slice-4.ensures.value ∙ c.in_ok-roots.ensures a b n k is are of so in
     let ports : c.moved_ports-ports.result ≡ P = c.moved_ports-ports.ensures a b n k is are of so in
     let cuts : List Row = rows_of (Step step.number) told.classes.numbers.items told.cuts in (
       step_row step R P (runs_of told.moved.items) (runs_of told.cuts.vids.items) (runs_of told.joined.items) ∷ cuts,
