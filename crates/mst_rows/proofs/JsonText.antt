@@ -247,6 +247,7 @@ refusal_is refused.NewLine cs = told_front key.Side mark.New (drop 1 (parts_of_r
 refusal_is refused.Explain cs = key_front key.Error (drop 1 (parts_of_refusal_line refused.Explain)) cs
 refusal_is refused.Dot cs = key_front key.Error (drop 1 (parts_of_refusal_line refused.Dot)) cs
 refusal_is refused.Policy cs = key_front key.Line (drop 1 (parts_of_refusal_line refused.Policy)) cs
+refusal_is refused.Change cs = key_front key.Line (drop 1 (parts_of_refusal_line refused.Change)) cs
 
 pub unanswered_is : (row : Row) → json_text (unanswered_value row) ++ 10 ∷ [] ≡ unanswered_line row
 unanswered_is row =
