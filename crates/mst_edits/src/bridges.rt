@@ -247,8 +247,8 @@ fn add_priorities<C: Saved, D: Saved>(
 ) -> Result<(), AllocError>
     ensures { OnOk result (edits.new.items ≡ edits.old.items ++ in_trees (priority_edits (C.tables old.now).net (D.tables new.now).net stays name.now)) }
 {
-    let others = new.priority_trees(name, alloc)?;
     let own = old.priority_trees(name, alloc)?;
+    let others = new.priority_trees(name, alloc)?;
     let trees = either(alloc, &own, &others)?;
     for tree in trees.as_slice() {
         add_priority(old, new, stays, name, *tree, edits)?;

@@ -9,6 +9,7 @@ mod bridges;
 mod edits;
 mod going;
 mod lans;
+pub mod laws;
 mod list;
 mod moves;
 mod ports;

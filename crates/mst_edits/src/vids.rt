@@ -1,6 +1,6 @@
-ghost use Rattle.std.specs.Prelude.{◌≡◌, ℕ, ◌<◌, ◌≤◌, ◌+◌, ◌∷◌, [], ◌||◌, not, length, drop, IfSome, MatchOption};
+ghost use Rattle.std.specs.Prelude.{◌≡◌, ℕ, ◌<◌, ◌≤◌, ◌+◌, ◌∷◌, [], ◌||◌, ◌==◌, not, length, drop, IfSome, MatchOption};
 ghost use Rattle.mst_ids.specs.Vids.{has, is_within, runs_from, set_where, IsVidSet};
-ghost use Rattle.mst_save.specs.Saved.{vids_in};
+ghost use Rattle.mst_net.specs.Table.{tree_in};
 ghost use Rattle.mst_edits.specs.TableLines.{moved_to as moved_of, with_tree};
 
 use mst_ids::{Tree, Vid, VidSet};
@@ -12,7 +12,9 @@ pub(crate) fn run_from(vids: &VidSet, from: u16) -> Option<(u16, u16)>
         (runs_from from (drop from vids.now) ≡ [])
         (λ run. runs_from from (drop from vids.now) ≡ run ∷ runs_from (run.1 + 1) (drop (run.1 + 1) vids.now)) }
     ensures range { IfSome result (λ run. (from ≤ run.1) × (run.1 ≤ 4094)) }
+    ensures set { IsVidSet vids.now }
 {
+    let _set = vids.contains(from);
     let first = first_from(vids, from, true);
     if first > 4095 {
         return None;
@@ -27,7 +29,6 @@ fn first_from(vids: &VidSet, from: u16, member: bool) -> u16
     ensures range { (from ≤ result) × (result ≤ 4096) }
     ensures passed { (n : ℕ) → from ≤ n → n < result → has vids.now n ≡ not member }
     ensures found { result < 4096 → has vids.now result ≡ member }
-    ensures set { IsVidSet vids.now }
 {
     for number in from..4096 {
         if vids.contains(number) == member {
@@ -44,13 +45,22 @@ pub(crate) fn moved_to(before: &[Tree], after: &[Tree], tree: Tree) -> VidSet
     ensures { result ≡ moved_of before.now after.now tree }
 {
     let mut vids = VidSet::none();
-    for index in 0..4094u16 {
-        let place = usize::from(index);
-        if after[place] == tree && before[place] != tree {
-            insert(index + 1, &mut vids);
+    for number in 1..4095u16 {
+        if is_in(after, number, tree) && !is_in(before, number, tree) {
+            insert(number, &mut vids);
         }
     }
     vids
+}
+
+/// Whether a table maps a VID to a tree.
+fn is_in(table: &[Tree], number: u16, tree: Tree) -> bool
+    requires long { length table.now ≡ 4094 }
+    requires least { 1 ≤ number }
+    requires greatest { number ≤ 4094 }
+    ensures { result ≡ (tree_in table.now number == tree) }
+{
+    table[usize::from(number) - 1].value() == tree.value()
 }
 
 /// Adds the VIDs that a table has in a tree.
@@ -58,9 +68,10 @@ pub(crate) fn add_tree(table: &[Tree], tree: Tree, vids: &mut VidSet)
     requires { length table.now ≡ 4094 }
     ensures { vids.new ≡ with_tree table.now vids.old tree }
 {
-    for index in 0..4094u16 {
-        if table[usize::from(index)] == tree {
-            insert(index + 1, vids);
+    let _set = vids.contains(0);
+    for number in 1..4095u16 {
+        if is_in(table, number, tree) {
+            insert(number, vids);
         }
     }
 }
