@@ -90,13 +90,13 @@ module _ (net : Net) (is : IsNetwork net) where
   -- ---- what is set
   no_bridge_set : (q : List ℕ) (row : BridgeRow) → joined (bridge_set net net true q row row) ≡ []
   no_bridge_set q row = λ i.
-    none_when (beq row.is_rstp row.is_rstp) _ (same_flag row.is_rstp) i
-    ++ (none_when (row.system_priority == row.system_priority) _ (same_number row.system_priority) i
-    ++ (none_when (row.revision == row.revision && pointwise nat_eq row.conf_name row.conf_name) _ (ap (λ b. b && pointwise nat_eq row.conf_name row.conf_name) (same_number row.revision) ∙ same_text row.conf_name) i
-    ++ (no_table_edits q (table_of net q) i
-    ++ (none_when (row.max_hops == row.max_hops) _ (same_number row.max_hops) i
-    ++ (none_when (row.max_age == row.max_age) _ (same_number row.max_age) i
-    ++ (flat_none (priority_edits net net true q) (λ t. none_when (priority_of net q t == priority_of net q t) _ (same_number (priority_of net q t))) (range_with_len 0 4095) i ++ []))))))
+      none_when (beq row.is_rstp row.is_rstp) _ (same_flag row.is_rstp) i
+      ++ (none_when (row.system_priority == row.system_priority) _ (same_number row.system_priority) i
+      ++ (none_when (row.revision == row.revision && pointwise nat_eq row.conf_name row.conf_name) _ (ap (λ b. b && pointwise nat_eq row.conf_name row.conf_name) (same_number row.revision) ∙ same_text row.conf_name) i
+      ++ (no_table_edits q (table_of net q) i
+      ++ (none_when (row.max_hops == row.max_hops) _ (same_number row.max_hops) i
+      ++ (none_when (row.max_age == row.max_age) _ (same_number row.max_age) i
+      ++ (flat_none (priority_edits net net true q) (λ t. none_when (priority_of net q t == priority_of net q t) _ (same_number (priority_of net q t))) (range_with_len 0 4095) i ++ []))))))
 
   before_is : (q : List ℕ) (row : BridgeRow) → fin.get net.bridges q ≡ Some row → bridge_before net q row ≡ row
   before_is q row e = ap (λ o. option_map_or (λ old. if old.mac == row.mac then old else new_bridge row.mac) o (new_bridge row.mac)) e ∙ ap (λ b. if b then row else new_bridge row.mac) (same_number row.mac)
@@ -110,12 +110,12 @@ module _ (net : Net) (is : IsNetwork net) where
 
   no_port_set : (p : PortName) (s : PortSettings) → joined (port_set net net true p s s) ≡ []
   no_port_set p s = λ i.
-    none_when (s.key == s.key) _ (same_number s.key) i
-    ++ (none_when (is_same_cost s.external s.external) _ (same_cost s.external) i
-    ++ (flat_none (port_cost_edits net net true p) (λ t. none_when (is_same_cost (port_cost_of net p t) (port_cost_of net p t)) _ (same_cost (port_cost_of net p t))) (range_with_len 0 4095) i
-    ++ (flat_none (port_priority_edits net net true p) (λ t. none_when (port_priority_of net p t == port_priority_of net p t) _ (same_number (port_priority_of net p t))) (range_with_len 0 4095) i
-    ++ (none_when (pointwise beq (vlans_of net p) (vlans_of net p)) _ (same_set (vlans_of net p)) i
-    ++ (none_when (beq s.is_restricted s.is_restricted) _ (same_flag s.is_restricted) i ++ [])))))
+      none_when (s.key == s.key) _ (same_number s.key) i
+      ++ (none_when (is_same_cost s.external s.external) _ (same_cost s.external) i
+      ++ (flat_none (port_cost_edits net net true p) (λ t. none_when (is_same_cost (port_cost_of net p t) (port_cost_of net p t)) _ (same_cost (port_cost_of net p t))) (range_with_len 0 4095) i
+      ++ (flat_none (port_priority_edits net net true p) (λ t. none_when (port_priority_of net p t == port_priority_of net p t) _ (same_number (port_priority_of net p t))) (range_with_len 0 4095) i
+      ++ (none_when (pointwise beq (vlans_of net p) (vlans_of net p)) _ (same_set (vlans_of net p)) i
+      ++ (none_when (beq s.is_restricted s.is_restricted) _ (same_flag s.is_restricted) i ++ [])))))
 
   settings_are : (p : PortName) (row : PortRow) → fin.get net.ports p ≡ Some row → settings_before net true p ≡ row.settings
   settings_are p row e = ap (λ o. (option_map_or (λ r. r) o _).settings) e
@@ -174,12 +174,12 @@ module _ (net : Net) (is : IsNetwork net) where
 
   pub no_edits : edits net net ≡ []
   no_edits = λ i.
-    (all_none (unplug_edits net net) (fin.keys net.ports) (each_port _ no_unplug) i
-    ++ (all_none (del_port_edits net net) (fin.keys net.ports) (each_port _ no_del_port) i
-    ++ (all_none (del_lan_edits net) (fin.keys net.lans) (each_lan _ no_del_lan) i
-    ++ (all_none (del_bridge_edits net net) (fin.keys net.bridges) (each_bridge _ no_del_bridge) i ++ []))))
-    ++ (flat_none (bridge_part net net) no_part (fin.keys net.bridges) i
-    ++ (flat_none (lan_edits net net) no_lan (fin.keys net.lans) i
-    ++ (all_none (plug_edits net net) (fin.keys net.ports) (each_port _ no_plug) i
-    ++ (flat_none (power_edits net net) no_power (fin.keys net.bridges) i
-    ++ (flat_none (state_edits net net) no_state (fin.keys net.lans) i ++ [])))))
+      (all_none (unplug_edits net net) (fin.keys net.ports) (each_port _ no_unplug) i
+      ++ (all_none (del_port_edits net net) (fin.keys net.ports) (each_port _ no_del_port) i
+      ++ (all_none (del_lan_edits net) (fin.keys net.lans) (each_lan _ no_del_lan) i
+      ++ (all_none (del_bridge_edits net net) (fin.keys net.bridges) (each_bridge _ no_del_bridge) i ++ []))))
+      ++ (flat_none (bridge_part net net) no_part (fin.keys net.bridges) i
+      ++ (flat_none (lan_edits net net) no_lan (fin.keys net.lans) i
+      ++ (all_none (plug_edits net net) (fin.keys net.ports) (each_port _ no_plug) i
+      ++ (flat_none (power_edits net net) no_power (fin.keys net.bridges) i
+      ++ (flat_none (state_edits net net) no_state (fin.keys net.lans) i ++ [])))))

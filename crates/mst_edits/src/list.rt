@@ -1,15 +1,13 @@
-ghost use Rattle.std.specs.Prelude.{◌≡◌, ◌++◌, OnOk};
-ghost use Rattle.mst_save.specs.Saved.{when};
+ghost use Rattle.std.specs.Prelude.{◌≡◌, ◌++◌, ◌∷◌, [], OnOk, if◌then◌else◌};
 
-use mst_lang::Edit;
 use std::alloc::AllocError;
 
-/// Adds an edit where a test holds.
-pub(crate) fn push_when(test: bool, edit: &Edit, edits: &mut Vec<Edit>) -> Result<(), AllocError>
-    ensures { OnOk result (edits.new.items ≡ edits.old.items ++ when test edit.now) }
+/// Adds an item where a test holds.
+pub(crate) fn push_when<T: Copy>(test: bool, item: &T, list: &mut Vec<T>) -> Result<(), AllocError>
+    ensures { OnOk result (list.new.items ≡ list.old.items ++ (if test then item.now ∷ [] else [])) }
 {
     if test {
-        edits.push(*edit)?;
+        list.push(*item)?;
     }
     Ok(())
 }

@@ -184,12 +184,13 @@ fn add_cost<C: Saved, D: Saved>(
 {
     let cost = new.port_cost(name, tree);
     let before = port_cost_before(old, stays, name, tree);
+    let is_other = !is_same_cost(cost, before);
     let edit = Edit::SetByTree(TreeChange::PortCost {
         port: *name,
         tree,
         cost,
     });
-    push_when(!is_same_cost(cost, before), &edit, edits)
+    push_when(is_other, &edit, edits)
 }
 
 /// Adds the edits of a port's priorities, by tree.

@@ -1,4 +1,4 @@
-ghost use Rattle.std.specs.Prelude.{◌≡◌};
+ghost use Rattle.std.specs.Prelude.{◌≡◌, ◌==◌, if◌then◌else◌};
 ghost use Rattle.std.specs.Option.{option_map};
 ghost use Rattle.mst_net.specs.Seen.{bridge_row, lan_row, port_row};
 ghost use Rattle.mst_net.specs.After.{has_lan as has_lan_of, new_bridge, new_port};

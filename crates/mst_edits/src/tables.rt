@@ -1,6 +1,7 @@
 ghost use Rattle.std.specs.Prelude.{◌≡◌, ◌++◌, ◌<◌, length, map, IfOk, OnOk};
 ghost use Rattle.mst_edits.specs.TableLines.{edit_of, table_edits, direct_moves as direct_of, crowds as crowds_it, gathered as gathered_of, gathered_first as first_of, ways, with_way as with_way_of, table_after};
 
+use crate::list::push_when;
 use crate::moves::{Move, add_moves, is_one_line};
 use crate::trees::{map_vids, mstis, tree_count, unwanted};
 use crate::vids::{add_tree, moved_to};
@@ -162,11 +163,12 @@ fn make(
     ensures table { OnOk result (now.new ≡ table_after now.old lines.now) }
 {
     for line in lines {
-        edits.push(Edit::SetByTree(TreeChange::Table {
+        let edit = Edit::SetByTree(TreeChange::Table {
             bridge: *name,
             tree: line.tree,
             vids: line.vids,
-        }))?;
+        });
+        push_when(true, &edit, edits)?;
         map_vids(now, &line.vids, line.tree);
     }
     Ok(())

@@ -47,22 +47,8 @@ none_more first old rows row none before = one_more first old old rows row befor
 
 -- a row that is no note tells nothing
 pub not_note : (k : Kind) (cells : List Cell) → ((line : NoteLine) → k ≡ kind.Note line → ⊥) → limit_reason k cells ≡ None
-not_note (kind.Query q) cells h = refl
-not_note (kind.Tree l) cells h = refl
-not_note (kind.Vlan l) cells h = refl
-not_note (kind.Region l) cells h = refl
 not_note (kind.Note l) cells h = absurd (h l refl)
-not_note (kind.Change l) cells h = refl
-not_note (kind.OfBridge l) cells h = refl
-not_note (kind.OfPort l) cells h = refl
-not_note (kind.Explain l) cells h = refl
-not_note (kind.Contest l) cells h = refl
-not_note (kind.Sweep l) cells h = refl
-not_note (kind.Summary l) cells h = refl
-not_note (kind.Capture l) cells h = refl
-not_note (kind.Refusal l) cells h = refl
-not_note (kind.Ask l) cells h = refl
-not_note (kind.Verify l) cells h = refl
+not_note _ cells h = refl
 
 -- ---- a note of a tree and a bridge, with numbers behind them
 pub limit_said : (line : NoteLine) (values : List Value) (first second : Value) (tree : ℕ) (bridge numbers : List ℕ) → 2 ≤ length values → first ≡ get_or values 0 first → second ≡ get_or values 1 second
