@@ -9,9 +9,10 @@ use Rattle.std.specs.FinMap as fin
 use Rattle.std.proofs.lemmas.Bool.{eq-eqb}
 use Rattle.mst_ids.specs.declared.name.PortName.{PortName}
 use Rattle.mst_lang.specs.declared.line.Edit.{Edit}
-use Rattle.mst_lang.specs.declared.line.Edit.TheVariants.{SetByTree, Plug}
+use Rattle.mst_lang.specs.declared.line.Edit.TheVariants.{Unplug, DelPort, DelLan, DelBridge, SetLan, SetByTree, Plug}
+use Rattle.mst_lang.specs.declared.line.LanChange.TheVariants.{Speed}
 use Rattle.mst_lang.specs.declared.line.TreeChange.TheVariants.{Priority, PortPriority, PortCost}
-use Rattle.mst_net.specs.After.{has_port, has_lan, has_bridge, table_of, vlans_of, new_bridge}
+use Rattle.mst_net.specs.After.{has_port, has_lan, has_bridge, table_of, vlans_of, new_bridge, new_port, new_lan}
 use Rattle.mst_net.specs.Contents.{priority_of, port_priority_of, port_cost_of}
 use Rattle.mst_net.specs.Tables.{Net, IsNetwork, BridgeRow, PortRow, LanRow}
 use Rattle.mst_net.specs.declared.settings.PortSettings.{PortSettings}
@@ -19,8 +20,9 @@ use Rattle.mst_net.proofs.Keys.{names, ports}
 use Rattle.mst_save.specs.Saved.{when, joined, ports_of}
 use Rattle.mst_save.proofs.Lists.{all_of, keys_hold}
 use Rattle.mst_edits.specs.Staying.{bridge_stays, port_stays, plug_stays, lan_of, is_same_lan, has_mac, bridge_before, settings_before, lan_before, priority_before, port_priority_before, port_cost_before, vlans_before}
-use Rattle.mst_edits.specs.Edits.{unplug_edits, del_port_edits, del_lan_edits, del_bridge_edits, is_same_cost, in_trees, priority_edits, port_cost_edits, port_priority_edits, bridge_set, port_set, lan_set, bridge_settings, port_settings, lan_settings, bridge_edits, port_edits, lan_edits, bridge_part, plug_edits, power_edits, state_edits, edits}
+use Rattle.mst_edits.specs.Edits.{unplug_edits, del_port_edits, del_lan_edits, del_bridge_edits, is_same_cost, in_trees, priority_edits, port_cost_edits, port_priority_edits, bridge_set, port_set, lan_set, bridge_settings, port_settings, lan_settings, bridge_edits, port_edits, lan_edits, bridge_part, plug_edits, power_settings, power_edits, state_settings, state_edits, is_same_configuration, edits}
 use Rattle.mst_edits.proofs.LinesMade.{no_table_edits, flat_none}
+use Rattle.mst_edits.proofs.Quiet.{none_in_trees}
 
 -- ---- values are the same as themselves
 same_number : (n : ℕ) → (n == n) ≡ true
@@ -54,6 +56,16 @@ found : {X : Type 0} (o : Option X) → is_some o ≡ true → (x : X) × (o ≡
 found None h = absurd (true≢false (sym h))
 found (Some x) h = (x, refl)
 
+joined_none : (ess : List (List Edit)) → AllByRecursion (λ es. es ≡ []) ess → joined ess ≡ []
+joined_none [] none = refl
+joined_none (es ∷ ess) none = ap (λ (l : List Edit). l ++ joined ess) none.0 ∙ joined_none ess none.1
+
+abbrev up_in : LanRow → Bool
+up_in row = row.is_up
+
+abbrev settings_in : PortRow → PortSettings
+settings_in row = row.settings
+
 module _ (net : Net) (is : IsNetwork net) where
   bridge_is : (q : List ℕ) (row : BridgeRow) → fin.get net.bridges q ≡ Some row → bridge_stays net net q ≡ true
   bridge_is q row e = ap (λ o. option_map_or (λ x. has_mac x.mac o) o false) e ∙ same_number row.mac
@@ -74,29 +86,46 @@ module _ (net : Net) (is : IsNetwork net) where
   no_unplug : (p : PortName) → has_port p net ≡ true → unplug_edits net net p ≡ []
   no_unplug p h = by (lan_of net p) refl
     where
-      by : (o : Option (List ℕ)) → lan_of net p ≡ o → when (is_some o && not (plug_stays net net p)) _ ≡ []
+      by : (o : Option (List ℕ)) → lan_of net p ≡ o → when (is_some o && not (plug_stays net net p)) (Unplug p) ≡ []
       by None e = refl
-      by (Some lan) e = let f = found (fin.get net.ports p) h in none_when (plug_stays net net p) _ (plug_is p f.0 lan f.1 e)
+      by (Some lan) e = let f = found (fin.get net.ports p) h in none_when (plug_stays net net p) (Unplug p) (plug_is p f.0 lan f.1 e)
 
   no_del_port : (p : PortName) → has_port p net ≡ true → del_port_edits net net p ≡ []
-  no_del_port p h = let f = found (fin.get net.ports p) h in none_when (port_stays net net p) _ (port_is p f.0 f.1)
+  no_del_port p h = let f = found (fin.get net.ports p) h in none_when (port_stays net net p) (DelPort p) (port_is p f.0 f.1)
 
   no_del_lan : (l : List ℕ) → has_lan l net ≡ true → del_lan_edits net l ≡ []
-  no_del_lan l h = none_when (has_lan l net) _ h
+  no_del_lan l h = none_when (has_lan l net) (DelLan l) h
 
   no_del_bridge : (q : List ℕ) → has_bridge q net ≡ true → del_bridge_edits net net q ≡ []
-  no_del_bridge q h = none_when (bridge_stays net net q) _ (has_is q h)
+  no_del_bridge q h = none_when (bridge_stays net net q) (DelBridge q) (has_is q h)
 
   -- ---- what is set
   no_bridge_set : (q : List ℕ) (row : BridgeRow) → joined (bridge_set net net true q row row) ≡ []
-  no_bridge_set q row = λ i.
-      none_when (beq row.is_rstp row.is_rstp) _ (same_flag row.is_rstp) i
-      ++ (none_when (row.system_priority == row.system_priority) _ (same_number row.system_priority) i
-      ++ (none_when (row.revision == row.revision && pointwise nat_eq row.conf_name row.conf_name) _ (ap (λ b. b && pointwise nat_eq row.conf_name row.conf_name) (same_number row.revision) ∙ same_text row.conf_name) i
-      ++ (no_table_edits q (table_of net q) i
-      ++ (none_when (row.max_hops == row.max_hops) _ (same_number row.max_hops) i
-      ++ (none_when (row.max_age == row.max_age) _ (same_number row.max_age) i
-      ++ (flat_none (priority_edits net net true q) (λ t. none_when (priority_of net q t == priority_of net q t) _ (same_number (priority_of net q t))) (range_with_len 0 4095) i ++ []))))))
+  no_bridge_set q row = joined_none (bridge_set net net true q row row) (
+    refl,
+    (
+      none_when (beq row.is_rstp row.is_rstp) _ (same_flag row.is_rstp),
+      (
+        none_when (row.system_priority == row.system_priority) _ (same_number row.system_priority),
+        (
+          none_when (is_same_configuration row row) _ (ap (λ b. b && pointwise nat_eq row.conf_name row.conf_name) (same_number row.revision) ∙ same_text row.conf_name),
+          (
+            no_table_edits q (table_of net q),
+            (
+              none_when (row.max_hops == row.max_hops) _ (same_number row.max_hops),
+              (
+                none_when (row.max_age == row.max_age) _ (same_number row.max_age),
+                (
+                  none_in_trees (priority_edits net net true q) (λ t. none_when (priority_of net q t == priority_of net q t) (SetByTree (Priority q t (priority_of net q t))) (same_number (priority_of net q t))),
+                  tt,
+                ),
+              ),
+            ),
+          ),
+        ),
+      ),
+    ),
+  )
 
   before_is : (q : List ℕ) (row : BridgeRow) → fin.get net.bridges q ≡ Some row → bridge_before net q row ≡ row
   before_is q row e = ap (λ o. option_map_or (λ old. if old.mac == row.mac then old else new_bridge row.mac) o (new_bridge row.mac)) e ∙ ap (λ b. if b then row else new_bridge row.mac) (same_number row.mac)
@@ -109,16 +138,31 @@ module _ (net : Net) (is : IsNetwork net) where
       by (Some row) e = (λ i. joined (bridge_set net net (bridge_is q row e i) q (before_is q row e i) row)) ∙ no_bridge_set q row
 
   no_port_set : (p : PortName) (s : PortSettings) → joined (port_set net net true p s s) ≡ []
-  no_port_set p s = λ i.
-      none_when (s.key == s.key) _ (same_number s.key) i
-      ++ (none_when (is_same_cost s.external s.external) _ (same_cost s.external) i
-      ++ (flat_none (port_cost_edits net net true p) (λ t. none_when (is_same_cost (port_cost_of net p t) (port_cost_of net p t)) _ (same_cost (port_cost_of net p t))) (range_with_len 0 4095) i
-      ++ (flat_none (port_priority_edits net net true p) (λ t. none_when (port_priority_of net p t == port_priority_of net p t) _ (same_number (port_priority_of net p t))) (range_with_len 0 4095) i
-      ++ (none_when (pointwise beq (vlans_of net p) (vlans_of net p)) _ (same_set (vlans_of net p)) i
-      ++ (none_when (beq s.is_restricted s.is_restricted) _ (same_flag s.is_restricted) i ++ [])))))
+  no_port_set p s = joined_none (port_set net net true p s s) (
+    refl,
+    (
+      none_when (s.key == s.key) _ (same_number s.key),
+      (
+        none_when (is_same_cost s.external s.external) _ (same_cost s.external),
+        (
+          none_in_trees (port_cost_edits net net true p) (λ t. none_when (is_same_cost (port_cost_of net p t) (port_cost_of net p t)) (SetByTree (PortCost p t (port_cost_of net p t))) (same_cost (port_cost_of net p t))),
+          (
+            none_in_trees (port_priority_edits net net true p) (λ t. none_when (port_priority_of net p t == port_priority_of net p t) (SetByTree (PortPriority p t (port_priority_of net p t))) (same_number (port_priority_of net p t))),
+            (
+              none_when (pointwise beq (vlans_of net p) (vlans_of net p)) _ (same_set (vlans_of net p)),
+              (
+                none_when (beq s.is_restricted s.is_restricted) _ (same_flag s.is_restricted),
+                tt,
+              ),
+            ),
+          ),
+        ),
+      ),
+    ),
+  )
 
   settings_are : (p : PortName) (row : PortRow) → fin.get net.ports p ≡ Some row → settings_before net true p ≡ row.settings
-  settings_are p row e = ap (λ o. (option_map_or (λ r. r) o _).settings) e
+  settings_are p row e = ap (λ (o : Option PortRow). settings_in (option_map_or (λ r. r) o new_port)) e
 
   no_port : (p : PortName) → port_edits net net p ≡ []
   no_port p = by (fin.get net.ports p) refl
@@ -135,8 +179,8 @@ module _ (net : Net) (is : IsNetwork net) where
       by : (o : Option LanRow) → fin.get net.lans l ≡ o → option_map_or (lan_settings net l) o [] ≡ []
       by None e = refl
       by (Some row) e =
-          ap (λ o. joined (lan_set (is_some o) l (option_map_or (λ r. r) o _) row)) e
-          ∙ ap (λ (es : List Edit). es ++ []) (none_when (row.speed == row.speed) _ (same_number row.speed))
+          ap (λ (o : Option LanRow). joined (lan_set (is_some o) l (option_map_or (λ r. r) o new_lan) row)) e
+          ∙ ap (λ (es : List Edit). es ++ []) (none_when (row.speed == row.speed) (SetLan l (Speed row.speed)) (same_number row.speed))
 
   no_plug : (p : PortName) → has_port p net ≡ true → plug_edits net net p ≡ []
   no_plug p h = by (lan_of net p) refl
@@ -148,16 +192,16 @@ module _ (net : Net) (is : IsNetwork net) where
   no_power : (q : List ℕ) → power_edits net net q ≡ []
   no_power q = by (fin.get net.bridges q) refl
     where
-      by : (o : Option BridgeRow) → fin.get net.bridges q ≡ o → option_map_or _ o [] ≡ []
+      by : (o : Option BridgeRow) → fin.get net.bridges q ≡ o → option_map_or (power_settings net q) o [] ≡ []
       by None e = refl
       by (Some row) e = none_when (beq row.is_on (bridge_before net q row).is_on) _ (ap (λ r. beq row.is_on r.is_on) (before_is q row e) ∙ same_flag row.is_on)
 
   no_state : (l : List ℕ) → state_edits net net l ≡ []
   no_state l = by (fin.get net.lans l) refl
     where
-      by : (o : Option LanRow) → fin.get net.lans l ≡ o → option_map_or _ o [] ≡ []
+      by : (o : Option LanRow) → fin.get net.lans l ≡ o → option_map_or (state_settings net l) o [] ≡ []
       by None e = refl
-      by (Some row) e = none_when (beq row.is_up (lan_before net l).is_up) _ (ap (λ o. beq row.is_up (option_map_or (λ r. r) o _).is_up) e ∙ same_flag row.is_up)
+      by (Some row) e = none_when (beq row.is_up (lan_before net l).is_up) _ (ap (λ (o : Option LanRow). beq row.is_up (up_in (option_map_or (λ r. r) o new_lan))) e ∙ same_flag row.is_up)
 
   -- ---- all of it
   each_port : (P : PortName → Type 0) → ((p : PortName) → has_port p net ≡ true → P p) → AllByRecursion P (fin.keys net.ports)

@@ -1,8 +1,9 @@
 -- Numbers in a row that pass a test.
-use Rattle.std.proofs.Common.{◌≡◌, ◌⊎◌, inl, inr, ℕ, zero, suc, ◌+◌, ◌<◌, ◌≤◌, Bool, true, false, cond, ◌||◌, List, [], ◌∷◌, ◌++◌, refl, sym, ap, ◌∙◌, arith, append-nil, true≢false}
+use Rattle.std.proofs.Common.{◌≡◌, ◌⊎◌, inl, inr, ℕ, zero, suc, ◌+◌, ◌<◌, ◌≤◌, Bool, true, false, cond, ◌||◌, List, [], ◌∷◌, ◌++◌, length, take, get_or, refl, sym, ap, ◌∙◌, arith, append-nil, true≢false}
 use Rattle.std.specs.Prelude.{◌==◌}
 use Rattle.std.specs.List.{filter, list_any, range_with_len}
 use Rattle.std.proofs.lemmas.Bool.{cases_eq, or_from, ne_eqb, eqb-true, eq-eqb}
+use Rattle.std.proofs.lemmas.List.{take_more}
 use Rattle.std.proofs.lemmas.List.Elements.{filter-append}
 use Rattle.mst_net.proofs.Rising.{range_more}
 use Rattle.mst_net.specs.TreesSet.{trees_where}
@@ -31,19 +32,21 @@ same_passing p q (suc n) a same =
 -- where none passes one of two tests none passes either
 pub none_either : (p q : ℕ → Bool) (xs : List ℕ) → filter p xs ≡ [] → filter q xs ≡ [] → filter (λ x. p x || q x) xs ≡ []
 none_either p q [] e f = refl
-none_either p q (x ∷ xs) e f = by (p x) (q x) refl refl e f
+none_either p q (x ∷ xs) e f = by (p x) (q x) refl refl e f (none_either p q xs)
   where
-    by : (a b : Bool) → p x ≡ a → q x ≡ b → cond a (x ∷ filter p xs) (filter p xs) ≡ [] → cond b (x ∷ filter q xs) (filter q xs) ≡ [] → filter (λ x. p x || q x) (x ∷ xs) ≡ []
-    by false false pe qe pn qn = ap (λ t. cond t (x ∷ filter (λ x. p x || q x) xs) (filter (λ x. p x || q x) xs)) (or_from (p x) (q x) pe qe) ∙ none_either p q xs pn qn
+    by : (a b : Bool) → p x ≡ a → q x ≡ b → cond a (x ∷ filter p xs) (filter p xs) ≡ [] → cond b (x ∷ filter q xs) (filter q xs) ≡ [] → (filter p xs ≡ [] → filter q xs ≡ [] → filter (λ x. p x || q x) xs ≡ []) → filter (λ x. p x || q x) (x ∷ xs) ≡ []
+    by false false pe qe pn qn rest = ap (λ t. cond t (x ∷ filter (λ x. p x || q x) xs) (filter (λ x. p x || q x) xs)) (or_from (p x) (q x) pe qe) ∙ rest pn qn
+    by false true pe qe pn qn rest = let l = ap length qn in absurd (omega (arith, l))
+    by true b pe qe pn qn rest = let l = ap length pn in absurd (omega (arith, l))
 
 -- a number is among those that pass where it does
 not_among : (p : ℕ → Bool) (k : ℕ) → p k ≡ false → (xs : List ℕ) → list_any (λ t. t == k) (filter p xs) ≡ false
 not_among p k fails [] = refl
-not_among p k fails (x ∷ xs) = by (p x) refl
+not_among p k fails (x ∷ xs) = by (p x) refl (not_among p k fails xs)
   where
-    by : (b : Bool) → p x ≡ b → list_any (λ t. t == k) (cond b (x ∷ filter p xs) (filter p xs)) ≡ false
-    by true e = or_from (x == k) _ (ne_eqb x k (λ same. true≢false (sym e ∙ ap p same ∙ fails))) (not_among p k fails xs)
-    by false e = not_among p k fails xs
+    by : (b : Bool) → p x ≡ b → list_any (λ t. t == k) (filter p xs) ≡ false → list_any (λ t. t == k) (cond b (x ∷ filter p xs) (filter p xs)) ≡ false
+    by true e rest = or_from (x == k) _ (ne_eqb x k (λ same. true≢false (sym e ∙ ap p same ∙ fails))) rest
+    by false e rest = rest
 
 pub among : (p : ℕ → Bool) (k : ℕ) → k < 4095 → list_any (λ t. t == k) (trees_where p) ≡ p k
 unfolding trees_where
@@ -64,3 +67,13 @@ no_trees_either p q e f = none_either p q (range_with_len 0 4095) e f
 pub all_trees : (test : ℕ → Bool) → filter test (range_with_len 0 4095) ≡ trees_where test
 unfolding trees_where
 all_trees test = refl
+
+pub or_false : (b : Bool) → (b || false) ≡ b
+or_false true = refl
+or_false false = refl
+
+-- one more element
+pub one_kept : (test : ℕ → Bool) (xs : List ℕ) (i x : ℕ) (b : Bool) → i < length xs → x ≡ get_or xs i x → test x ≡ b → filter test (take (i + 1) xs) ≡ filter test (take i xs) ++ cond b (x ∷ []) []
+one_kept test xs i x b below is passes =
+    ap (filter test) (take_more xs i x below) ∙ filter-append test (take i xs) (get_or xs i x ∷ [])
+    ∙ ap (λ y. filter test (take i xs) ++ filter test (y ∷ [])) (sym is) ∙ ap (λ t. filter test (take i xs) ++ cond t (x ∷ []) []) passes

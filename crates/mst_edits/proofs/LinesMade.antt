@@ -1,5 +1,5 @@
 -- Lines that are made one after another.
-use Rattle.std.proofs.Common.{◌≡◌, ℕ, ◌+◌, ◌<◌, ◌≤◌, Bool, true, false, ◌&&◌, List, [], ◌∷◌, ◌++◌, length, map, take, drop, get_or, not, refl, sym, ap, subst, ◌∙◌, append_assoc, append-nil, arith}
+use Rattle.std.proofs.Common.{◌≡◌, ℕ, ◌+◌, ◌<◌, ◌≤◌, Bool, true, false, ◌&&◌, ◌||◌, List, [], ◌∷◌, ◌++◌, length, map, take, drop, get_or, not, refl, sym, ap, subst, ◌∙◌, append_assoc, append-nil, arith}
 use Rattle.std.specs.Prelude.{◌==◌, if◌then◌else◌}
 use Rattle.std.specs.List.{flat_map, range_with_len}
 use Rattle.std.proofs.lemmas.List.{map-append, take_more, at_drop_more}
@@ -11,9 +11,12 @@ use Rattle.mst_ids.proofs.VidTextLemmas.{no_next_run}
 use Rattle.mst_lang.specs.declared.line.Edit.{Edit}
 use Rattle.mst_net.specs.Table.{tree_in, mapped, mstis_in}
 use Rattle.mst_save.specs.EditLine.{no_vids}
-use Rattle.mst_save.specs.Saved.{fits, cut}
+use Rattle.mst_save.specs.Runs.{vids_of}
+use Rattle.mst_save.specs.Saved.{vids_in, fits, cut}
+use Rattle.mst_save.proofs.Cuts.{vids_in_is}
+use Rattle.mst_edits.proofs.Sets.{set_of_has}
 use Rattle.mst_edits.specs.declared.moves.Move.{Move}
-use Rattle.mst_edits.specs.TableLines.{edit_of, moves_to, moved_to, direct_moves, gathered, is_one_line, with_tree, with_way, with_ways, table_after, table_edits}
+use Rattle.mst_edits.specs.TableLines.{move, edit_of, moves_to, moved_to, direct_moves, gathered, gathered_first, is_one_line, with_tree, with_way, with_ways, table_after, table_edits}
 
 pub length-mapped : (vids : List Bool) (tree : ℕ) (table : List ℕ) → length (mapped vids tree table) ≡ 4094
 unfolding mapped
@@ -48,6 +51,19 @@ gathered_more name table vids trees i tree t below is one =
     at_drop_more (gathered name table vids) trees i tree below ∙ ap (λ x. gathered name table vids (x ∷ drop (i + 1) trees)) (sym is)
     ∙ ap (λ b. if b then gathered name table (with_tree table vids tree) (drop (i + 1) trees) else vids) one
 
+-- the first of some trees
+pub with_none : (table : List ℕ) (tree : ℕ) (none : List Bool) → none ≡ no_vids → with_tree table none tree ≡ vids_in table tree
+with_none table tree none is =
+    ap (λ s. with_tree table s tree) is
+    ∙ set_where-same (λ v. has no_vids v || has (vids_in table tree) v) (has (vids_in table tree)) (λ n small. ap (λ b. b || has (vids_in table tree) n) (has-set_where (λ _. false) n small))
+    ∙ sym (set_of_has (vids_in table tree) (vids_in_is table tree))
+
+pub first_is : (name table trees : List ℕ) (tree : ℕ) (t : Bool) → 1 ≤ length trees → tree ≡ get_or trees 0 tree → is_one_line name (vids_in table tree) ≡ t
+    → gathered_first name table trees ≡ (if t then gathered name table (vids_in table tree) (drop 1 trees) else vids_in table tree)
+first_is name table trees tree t below is one =
+    at_drop_more (gathered_first name table) trees 0 tree below ∙ ap (λ x. gathered_first name table (x ∷ drop 1 trees)) (sym is)
+    ∙ ap (λ b. if b then gathered name table (vids_in table tree) (drop 1 trees) else vids_in table tree) one
+
 -- ---- lines with those before them
 pub ways_step : (name after : List ℕ) (x : Move) (xs : List Move) (s : List ℕ)
     → map (edit_of name) (with_ways name after s (x ∷ xs)) ≡ map (edit_of name) (with_way name after s x) ++ map (edit_of name) (with_ways name after (table_after s (with_way name after s x)) xs)
@@ -66,7 +82,7 @@ pub no_runs : runs_from 0 no_vids ≡ []
 no_runs = no_next_run no_vids 0 4096 (omega arith) (sym (length-set_where (λ _. false))) (λ k low high. has-set_where (λ _. false) k high)
 
 pub no_moves : (name : List ℕ) (tree : ℕ) (vids : List Bool) → vids ≡ no_vids → moves_to name tree vids ≡ []
-no_moves name tree vids none = ap (moves_to name tree) none ∙ ap (λ rs. map (λ runs. _) (cut (fits name tree) rs)) no_runs
+no_moves name tree vids none = ap (moves_to name tree) none ∙ ap (λ rs. map (λ runs. move tree (vids_of runs)) (cut (fits name tree) rs)) no_runs
 
 pub flat_none : {A B : Type 0} (f : A → List B) → ((x : A) → f x ≡ []) → (xs : List A) → flat_map f xs ≡ []
 flat_none f none [] = refl

@@ -35,3 +35,7 @@ only_passing test f none (x ∷ xs) = by (test x) refl (only_passing test f none
     by : (b : Bool) → test x ≡ b → flat_map f (filter test xs) ≡ flat_map f xs → flat_map f (cond b (x ∷ filter test xs) (filter test xs)) ≡ f x ++ flat_map f xs
     by true e rest = ap (λ (l : List _). f x ++ l) rest
     by false e rest = rest ∙ ap (λ (l : List _). l ++ flat_map f xs) (sym (none x e))
+
+-- one more list
+pub onto : {now new old : List Edit} (es : List Edit) → new ≡ now ++ es → now ≡ old → new ≡ old ++ es
+onto es more so_far = more ∙ ap (λ (l : List Edit). l ++ es) so_far

@@ -30,3 +30,6 @@ none_moved before after tree n high = ap (λ b. b && (tree_in after n == tree &&
 
 pub none_in : (table : List ℕ) (tree n : ℕ) → 4095 ≤ n → n < 4096 → has (vids_in table tree) n ≡ false
 none_in table tree n high small = has-set_where (λ v. is_vid v && tree_in table v == tree) n small ∙ ap (λ b. b && tree_in table n == tree) (no_vid n high)
+
+pub zero_out : (table : List ℕ) (tree : ℕ) → has (vids_in table tree) 0 ≡ false
+zero_out table tree = has-set_where (λ v. is_vid v && tree_in table v == tree) 0 (omega arith)

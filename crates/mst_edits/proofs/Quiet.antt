@@ -8,10 +8,11 @@ use Rattle.mst_net.specs.TreesSet.{trees_where}
 use Rattle.mst_save.specs.Saved.{when}
 use Rattle.mst_edits.specs.Edits.{in_trees, is_same_cost}
 use Rattle.mst_edits.proofs.Listing.{only_passing}
+use Rattle.mst_edits.proofs.LinesMade.{flat_none}
 
 -- the edits of the trees that pass a test are all, where the others have none
 pub listed_are : (test : ℕ → Bool) (f : ℕ → List Edit) → ((t : ℕ) → test t ≡ false → f t ≡ []) → flat_map f (trees_where test) ≡ in_trees f
-unfolding trees_where
+unfolding trees_where in_trees
 listed_are test f none = only_passing test f none (range_with_len 0 4095)
 
 either_false : (a b : Bool) → (a || b) ≡ false → (a ≡ false) × (b ≡ false)
@@ -36,3 +37,8 @@ same_cost None None true e quiet = refl
 same_cost None None false e quiet = refl
 same_cost None (Some new) stays e quiet = absurd (true≢false quiet)
 same_cost (Some old) new stays e quiet = absurd (true≢false quiet)
+
+-- where no tree has an edit there is none
+pub none_in_trees : (f : ℕ → List Edit) → ((t : ℕ) → f t ≡ []) → in_trees f ≡ []
+unfolding in_trees
+none_in_trees f none = flat_none f none (range_with_len 0 4095)

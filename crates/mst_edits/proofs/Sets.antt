@@ -31,13 +31,13 @@ module _ (start test : ℕ → Bool) where
       by (inr high) (inr other) = ap (λ b. b && test n) (le-ltb n k high ∙ sym (le-ltb n (k + 1) (omega (arith, other))))
 
   pub none_yet : (set : List Bool) → test 0 ≡ false → set ≡ set_where start → set ≡ set_where (with_below 1)
-  none_yet set no is = is ∙ set_where-same start (with_below 1) (λ n small. sym (or_none (start n) (nat_lt n 1 && test n) (sym (below_same 0 n (λ e. ap test e ∙ no)) ∙ ap (λ b. b && test n) (le-ltb n 0 (omega arith)))))
+  none_yet set out is = is ∙ set_where-same start (with_below 1) (λ n small. sym (or_none (start n) (nat_lt n 1 && test n) (sym (below_same 0 n (λ e. ap test e ∙ out)) ∙ ap (λ b. b && test n) (le-ltb n 0 (omega arith)))))
 
   pub one_out : (k : ℕ) (set : List Bool) → test k ≡ false → set ≡ set_where (with_below k) → set ≡ set_where (with_below (k + 1))
-  one_out k set no is = is ∙ set_where-same (with_below k) (with_below (k + 1)) (λ n small. ap (λ b. start n || b) (below_same k n (λ e. ap test e ∙ no)))
+  one_out k set out is = is ∙ set_where-same (with_below k) (with_below (k + 1)) (λ n small. ap (λ b. start n || b) (below_same k n (λ e. ap test e ∙ out)))
 
   one_more : (k n : ℕ) → test k ≡ true → (with_below k n || is_within (k, k) n) ≡ with_below (k + 1) n
-  one_more k n yes = by (start n) (cases_lt n k) (cases_eq n k)
+  one_more k n passes = by (start n) (cases_lt n k) (cases_eq n k)
     where
       by : (s : Bool) → (n < k) ⊎ (k ≤ n) → (n ≡ k) ⊎ (n ≡ k → ⊥) → ((s || (nat_lt n k && test n)) || (nat_le k n && nat_le n k)) ≡ (s || (nat_lt n (k + 1) && test n))
       by true _ _ = refl
@@ -49,16 +49,16 @@ module _ (start test : ℕ → Bool) where
       by false (inr high) (inl here) =
           ap (λ b. (b && test n) || (nat_le k n && nat_le n k)) (le-ltb n k high)
           ∙ ap (λ b. b && nat_le n k) (le-leb k n high) ∙ le-leb n k (omega (arith, here))
-          ∙ sym (ap (λ b. b && test n) (lt-ltb n (k + 1) (omega (arith, here))) ∙ ap test here ∙ yes)
+          ∙ sym (ap (λ b. b && test n) (lt-ltb n (k + 1) (omega (arith, here))) ∙ ap test here ∙ passes)
       by false (inr high) (inr other) =
           ap (λ b. (b && test n) || (nat_le k n && nat_le n k)) (le-ltb n k high)
           ∙ ap (λ b. b && nat_le n k) (le-leb k n high) ∙ lt-leb n k (omega (arith, other))
           ∙ sym (ap (λ b. b && test n) (le-ltb n (k + 1) (omega (arith, other))))
 
   pub one_in : (k : ℕ) (set new : List Bool) → test k ≡ true → set ≡ set_where (with_below k) → new ≡ set_where (λ n. has set n || is_within (k, k) n) → new ≡ set_where (with_below (k + 1))
-  one_in k set new yes is inserted =
+  one_in k set new passes is inserted =
       inserted ∙ set_where-same (λ n. has set n || is_within (k, k) n) (with_below (k + 1)) (λ n small.
-      ap (λ t. t || is_within (k, k) n) (ap (λ s. has s n) is ∙ has-set_where (with_below k) n small) ∙ one_more k n yes)
+      ap (λ t. t || is_within (k, k) n) (ap (λ s. has s n) is ∙ has-set_where (with_below k) n small) ∙ one_more k n passes)
 
   -- no number from the last on passes
   pub all_in : (k : ℕ) (set : List Bool) → ((n : ℕ) → k ≤ n → n < 4096 → test n ≡ false) → set ≡ set_where (with_below k) → set ≡ set_where (λ n. start n || test n)

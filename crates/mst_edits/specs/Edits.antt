@@ -47,7 +47,7 @@ abbrev pub is_same_configuration : BridgeRow → BridgeRow → Bool
 is_same_configuration row before = row.revision == before.revision && pointwise nat_eq row.conf_name before.conf_name
 
 -- edits by tree, from tree 0 to 4094
-abbrev pub in_trees : (ℕ → List Edit) → List Edit
+unfoldable pub in_trees : (ℕ → List Edit) → List Edit
 in_trees edits = flat_map edits (range_with_len 0 4095)
 
 abbrev pub priority_edits : Net → Net → Bool → List ℕ → ℕ → List Edit

@@ -62,10 +62,21 @@ fn add_del_ports<C: Contents, D: Contents>(
     ensures { OnOk result (edits.new.items ≡ edits.old.items ++ flat_map (del_port_edits (C.tables old.now).net (D.tables new.now).net) ports.now) }
 {
     for port in ports {
-        let goes = !port_stays(old, new, port);
-        push_when(goes, &Edit::DelPort { port: *port }, edits)?;
+        add_del_port(old, new, port, edits)?;
     }
     Ok(())
+}
+
+fn add_del_port<C: Contents, D: Contents>(
+    old: &C,
+    new: &D,
+    port: &PortName,
+    edits: &mut Vec<Edit>,
+) -> Result<(), AllocError>
+    ensures { OnOk result (edits.new.items ≡ edits.old.items ++ del_port_edits (C.tables old.now).net (D.tables new.now).net port.now) }
+{
+    let goes = !port_stays(old, new, port);
+    push_when(goes, &Edit::DelPort { port: *port }, edits)
 }
 
 fn add_del_lans<C: Contents, D: Contents>(
@@ -78,9 +89,15 @@ fn add_del_lans<C: Contents, D: Contents>(
 {
     let lans = old.lan_names(alloc)?;
     for lan in lans.as_slice() {
-        push_when(!has_lan(new, lan), &Edit::DelLan { lan: *lan }, edits)?;
+        add_del_lan(new, lan, edits)?;
     }
     Ok(())
+}
+
+fn add_del_lan<D: Contents>(new: &D, lan: &Name, edits: &mut Vec<Edit>) -> Result<(), AllocError>
+    ensures { OnOk result (edits.new.items ≡ edits.old.items ++ del_lan_edits (D.tables new.now).net lan.now) }
+{
+    push_when(!has_lan(new, lan), &Edit::DelLan { lan: *lan }, edits)
 }
 
 fn add_del_bridges<C: Contents, D: Contents>(
@@ -93,8 +110,19 @@ fn add_del_bridges<C: Contents, D: Contents>(
 {
     let bridges = old.bridge_names(alloc)?;
     for bridge in bridges.as_slice() {
-        let goes = !bridge_stays(old, new, bridge);
-        push_when(goes, &Edit::DelBridge { bridge: *bridge }, edits)?;
+        add_del_bridge(old, new, bridge, edits)?;
     }
     Ok(())
+}
+
+fn add_del_bridge<C: Contents, D: Contents>(
+    old: &C,
+    new: &D,
+    bridge: &Name,
+    edits: &mut Vec<Edit>,
+) -> Result<(), AllocError>
+    ensures { OnOk result (edits.new.items ≡ edits.old.items ++ del_bridge_edits (C.tables old.now).net (D.tables new.now).net bridge.now) }
+{
+    let goes = !bridge_stays(old, new, bridge);
+    push_when(goes, &Edit::DelBridge { bridge: *bridge }, edits)
 }

@@ -182,13 +182,12 @@ fn add_cost<C: Saved, D: Saved>(
 ) -> Result<(), AllocError>
     ensures { OnOk result (edits.new.items ≡ edits.old.items ++ port_cost_edits (C.tables old.now).net (D.tables new.now).net stays name.now tree) }
 {
-    let cost = new.port_cost(name, tree);
     let before = port_cost_before(old, stays, name, tree);
-    let is_other = !is_same_cost(cost, before);
+    let is_other = !is_same_cost(new.port_cost(name, tree), before);
     let edit = Edit::SetByTree(TreeChange::PortCost {
         port: *name,
         tree,
-        cost,
+        cost: new.port_cost(name, tree),
     });
     push_when(is_other, &edit, edits)
 }

@@ -88,11 +88,20 @@ pub(crate) fn unwanted(
     let trees = mstis(alloc, table)?;
     let mut others = Vec::new(alloc);
     for tree in trees.as_slice() {
-        if !wanted[usize::from(tree.value())] {
+        if !has(&wanted, *tree) {
             others.push(*tree)?;
         }
     }
     Ok(others)
+}
+
+/// The flag of a tree.
+fn has(seen: &[bool], tree: Tree) -> bool
+    requires { length seen.now ≡ 4095 }
+    ensures flag { result ≡ slice_index_or seen.now tree false }
+    ensures small { tree < 4095 }
+{
+    seen[usize::from(tree.value())]
 }
 
 /// Maps VIDs of a table to a tree.

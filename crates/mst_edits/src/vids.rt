@@ -1,4 +1,4 @@
-ghost use Rattle.std.specs.Prelude.{◌≡◌, ℕ, ◌<◌, ◌≤◌, ◌+◌, ◌∷◌, [], ◌||◌, ◌==◌, not, length, drop, IfSome, MatchOption};
+ghost use Rattle.std.specs.Prelude.{◌≡◌, ℕ, ◌<◌, ◌≤◌, ◌+◌, ◌∷◌, [], ◌||◌, ◌&&◌, ◌==◌, not, length, drop, IfSome, MatchOption};
 ghost use Rattle.mst_ids.specs.Vids.{has, is_within, runs_from, set_where, IsVidSet};
 ghost use Rattle.mst_net.specs.Table.{tree_in};
 ghost use Rattle.mst_edits.specs.TableLines.{moved_to as moved_of, with_tree};
@@ -46,11 +46,22 @@ pub(crate) fn moved_to(before: &[Tree], after: &[Tree], tree: Tree) -> VidSet
 {
     let mut vids = VidSet::none();
     for number in 1..4095u16 {
-        if is_in(after, number, tree) && !is_in(before, number, tree) {
+        if is_moved(before, after, number, tree) {
             insert(number, &mut vids);
         }
     }
     vids
+}
+
+/// Whether one table maps a VID to a tree and another one doesn't.
+fn is_moved(before: &[Tree], after: &[Tree], number: u16, tree: Tree) -> bool
+    requires before { length before.now ≡ 4094 }
+    requires after { length after.now ≡ 4094 }
+    requires least { 1 ≤ number }
+    requires greatest { number ≤ 4094 }
+    ensures { result ≡ (tree_in after.now number == tree && not (tree_in before.now number == tree)) }
+{
+    is_in(after, number, tree) && !is_in(before, number, tree)
 }
 
 /// Whether a table maps a VID to a tree.

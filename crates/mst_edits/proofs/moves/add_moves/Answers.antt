@@ -54,8 +54,8 @@ loop-run-preserved c =
     ))
     (cases_lt 4096 (line.length + 1 + length (run_text run)))
 
-pub returns-in_ok-push : goal.returns-in_ok-push
-returns-in_ok-push c =
+pub returns : goal.returns
+returns c =
     let name = c.args.name.now in
     let tree = c.args.tree in
     let line = c.loop-run.line in

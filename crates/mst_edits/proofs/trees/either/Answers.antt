@@ -1,8 +1,6 @@
-use Rattle.std.proofs.Common.{◌||◌, sym, ap, ◌∙◌}
-use Rattle.mst_net.specs.Table.{has_tree}
+use Rattle.std.proofs.Common.{◌||◌, refl, sym, ap, ◌∙◌}
 use Rattle.mst_net.specs.TreesSet.{trees_where}
-use Rattle.mst_edits.proofs.Filtered.{among, same_trees, no_trees_either}
 use Rattle.mst_edits.proofs.trees.either.Goals as goal
 
-pub returns : goal.returns
-returns c p q left right = ?
+pub returns-then-is_empty-2 : goal.returns-then-is_empty-2
+returns-then-is_empty-2 c p q left right = ?
