@@ -1,15 +1,15 @@
 -- Lines that are made one after another.
-use Rattle.std.proofs.Common.{◌≡◌, ℕ, ◌+◌, ◌<◌, ◌≤◌, Bool, true, false, ◌&&◌, ◌||◌, List, [], ◌∷◌, ◌++◌, length, map, take, drop, get_or, not, refl, sym, ap, subst, ◌∙◌, append_assoc, append-nil, arith}
+use Rattle.std.proofs.Common.{◌≡◌, ℕ, ◌+◌, ◌<◌, ◌≤◌, Bool, true, false, ◌&&◌, ◌||◌, List, [], ◌∷◌, ◌++◌, length, map, replicate, ◌-◌, take, drop, get_or, not, refl, sym, ap, subst, ◌∙◌, append_assoc, append-nil, length-drop, arith}
 use Rattle.std.specs.Prelude.{◌==◌, if◌then◌else◌}
 use Rattle.std.specs.List.{flat_map, range_with_len}
-use Rattle.std.proofs.lemmas.List.{map-append, take_more, at_drop_more}
+use Rattle.std.proofs.lemmas.List.{map-append, take_more, take_all, at_drop_more}
 use Rattle.std.proofs.lemmas.List.FromFn.{length-map-range_with_len}
 use Rattle.mst_ids.specs.Vids.{has, is_vid, set_where, runs_from}
 use Rattle.mst_ids.specs.VidBits.{length-set_where, has-set_where}
 use Rattle.mst_ids.proofs.VidSetLemmas.{set_where-same}
 use Rattle.mst_ids.proofs.VidTextLemmas.{no_next_run}
 use Rattle.mst_lang.specs.declared.line.Edit.{Edit}
-use Rattle.mst_net.specs.Table.{tree_in, mapped, mstis_in}
+use Rattle.mst_net.specs.Table.{no_table, tree_in, mapped, mstis_in}
 use Rattle.mst_save.specs.EditLine.{no_vids}
 use Rattle.mst_save.specs.Runs.{vids_of}
 use Rattle.mst_save.specs.Saved.{vids_in, fits, cut}
@@ -91,3 +91,12 @@ flat_none f none (x ∷ xs) = ap (λ (l : List _). l ++ flat_map f xs) (none x) 
 pub no_table_edits : (name table : List ℕ) → table_edits name table table ≡ []
 no_table_edits name table =
     ap (λ lines. map (edit_of name) (with_ways name table table lines)) (flat_none (λ tree. moves_to name tree (moved_to table table tree)) (λ tree. no_moves name tree (moved_to table table tree) (none_moved table tree)) (0 ∷ mstis_in table))
+
+-- the table of a new bridge
+pub new_table : (tree : ℕ) → tree ≡ 0 → replicate 4094 tree ≡ no_table
+unfolding no_table
+new_table tree is = ap (replicate 4094) is
+
+-- all but the first
+pub others_are : (xs : List ℕ) → take (length xs - 1) (drop 1 xs) ≡ drop 1 xs
+others_are xs = let l = length-drop 1 xs in take_all (length xs - 1) (drop 1 xs) (omega (arith, l))

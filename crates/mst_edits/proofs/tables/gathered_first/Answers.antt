@@ -1,8 +1,8 @@
-use Rattle.std.proofs.Common.{◌≡◌, true, false, drop, sym, ap, ◌∙◌}
-use Rattle.std.proofs.lemmas.Result.{if_ok_weaker}
+use Rattle.std.proofs.Common.{◌≡◌, ◌-◌, true, false, length, take, drop, sym, ap, ◌∙◌}
+use Rattle.std.proofs.lemmas.Result.{IfOk-weaker}
 use Rattle.mst_save.specs.Saved.{vids_in}
 use Rattle.mst_edits.specs.TableLines.{gathered, is_one_line, with_tree}
-use Rattle.mst_edits.proofs.LinesMade.{with_none, first_is}
+use Rattle.mst_edits.proofs.LinesMade.{with_none, first_is, others_are}
 use Rattle.mst_edits.proofs.tables.gathered_first.Goals as goal
 
 pub returns-then-not-branch : goal.returns-then-not-branch
@@ -20,4 +20,4 @@ returns-else-not-branch c =
     let tree = c.tree-item.result in
     let vids : c.add_tree.new.vids ≡ vids_in table tree = c.add_tree.ensures ∙ with_none table tree c.none-vids.result c.none-vids.ensures in
     let first = first_is name table c.args.trees.now tree true c.in-len1-up.len_at_least c.tree-item.is (ap (is_one_line name) (sym vids) ∙ sym c.in_ok-is_one_line-in-len1-up.ensures ∙ c.if-not-branch.false) in
-    if_ok_weaker c.gathered.result (λ all is. is ∙ ap (λ s. gathered name table s (drop 1 c.args.trees.now)) vids ∙ sym first) c.gathered.ensures
+    IfOk-weaker c.gathered.result _ _ (λ all is. is ∙ ap (λ s. gathered name table s (take (length c.args.trees.now - 1) (drop 1 c.args.trees.now))) vids ∙ ap (gathered name table (vids_in table tree)) (others_are c.args.trees.now) ∙ sym first) c.gathered.ensures
