@@ -1,8 +1,8 @@
 -- There is no edit from a network to itself.
-use Rattle.std.proofs.Common.{◌≡◌, ℕ, Bool, true, false, ◌&&◌, List, [], ◌∷◌, ◌++◌, not, Option, Some, None, is_some, nat_eq, refl, sym, ap, subst, ◌∙◌, true≢false}
+use Rattle.std.proofs.Common.{◌≡◌, ℕ, Bool, true, false, ◌&&◌, List, [], ◌∷◌, ◌++◌, not, Option, Some, None, is_some, nat_eq, refl, sym, ap, ◌∙◌, true≢false}
 use Rattle.std.specs.Prelude.{◌==◌, if◌then◌else◌}
 use Rattle.std.specs.Bool.{beq}
-use Rattle.std.specs.List.{flat_map, range_with_len, AllByRecursion}
+use Rattle.std.specs.List.{flat_map, AllByRecursion}
 use Rattle.std.specs.Option.{option_map_or}
 use Rattle.std.specs.Cmp.Lexicographic.{pointwise}
 use Rattle.std.specs.FinMap as fin
@@ -19,8 +19,8 @@ use Rattle.mst_net.specs.declared.settings.PortSettings.{PortSettings}
 use Rattle.mst_net.proofs.Keys.{names, ports}
 use Rattle.mst_save.specs.Saved.{when, joined, ports_of}
 use Rattle.mst_save.proofs.Lists.{all_of, keys_hold}
-use Rattle.mst_edits.specs.Staying.{bridge_stays, port_stays, plug_stays, lan_of, is_same_lan, has_mac, bridge_before, settings_before, lan_before, priority_before, port_priority_before, port_cost_before, vlans_before}
-use Rattle.mst_edits.specs.Edits.{unplug_edits, del_port_edits, del_lan_edits, del_bridge_edits, is_same_cost, in_trees, priority_edits, port_cost_edits, port_priority_edits, bridge_set, port_set, lan_set, bridge_settings, port_settings, lan_settings, bridge_edits, port_edits, lan_edits, bridge_part, plug_edits, power_settings, power_edits, state_settings, state_edits, is_same_configuration, edits}
+use Rattle.mst_edits.specs.Staying.{bridge_stays, port_stays, plug_stays, lan_of, is_same_lan, has_mac, bridge_before, settings_before, lan_before}
+use Rattle.mst_edits.specs.Edits.{unplug_edits, del_port_edits, del_lan_edits, del_bridge_edits, is_same_cost, priority_edits, port_cost_edits, port_priority_edits, bridge_set, port_set, lan_set, bridge_settings, port_settings, lan_settings, bridge_edits, port_edits, lan_edits, bridge_part, plug_edits, power_settings, power_edits, state_settings, state_edits, is_same_configuration, edits}
 use Rattle.mst_edits.proofs.LinesMade.{no_table_edits, flat_none}
 use Rattle.mst_edits.proofs.Quiet.{none_in_trees}
 

@@ -1,10 +1,10 @@
 -- Lines that are made one after another.
-use Rattle.std.proofs.Common.{◌≡◌, ℕ, ◌+◌, ◌<◌, ◌≤◌, Bool, true, false, ◌&&◌, ◌||◌, List, [], ◌∷◌, ◌++◌, length, map, replicate, ◌-◌, take, drop, get_or, not, refl, sym, ap, subst, ◌∙◌, append_assoc, append-nil, length-drop, arith}
+use Rattle.std.proofs.Common.{◌≡◌, ℕ, ◌+◌, ◌<◌, ◌≤◌, Bool, true, false, ◌&&◌, ◌||◌, List, [], ◌∷◌, ◌++◌, length, map, replicate, ◌-◌, take, drop, get_or, not, refl, sym, ap, ◌∙◌, append_assoc, length-drop, arith}
 use Rattle.std.specs.Prelude.{◌==◌, if◌then◌else◌}
-use Rattle.std.specs.List.{flat_map, range_with_len}
+use Rattle.std.specs.List.{flat_map}
 use Rattle.std.proofs.lemmas.List.{map-append, take_more, take_all, at_drop_more}
 use Rattle.std.proofs.lemmas.List.FromFn.{length-map-range_with_len}
-use Rattle.mst_ids.specs.Vids.{has, is_vid, set_where, runs_from}
+use Rattle.mst_ids.specs.Vids.{has, is_vid, runs_from}
 use Rattle.mst_ids.specs.VidBits.{length-set_where, has-set_where}
 use Rattle.mst_ids.proofs.VidSetLemmas.{set_where-same}
 use Rattle.mst_ids.proofs.VidTextLemmas.{no_next_run}
@@ -16,7 +16,7 @@ use Rattle.mst_save.specs.Saved.{vids_in, fits, cut}
 use Rattle.mst_save.proofs.Cuts.{vids_in_is}
 use Rattle.mst_edits.proofs.Sets.{set_of_has}
 use Rattle.mst_edits.specs.declared.moves.Move.{Move}
-use Rattle.mst_edits.specs.TableLines.{move, edit_of, moves_to, moved_to, direct_moves, gathered, gathered_first, is_one_line, with_tree, with_way, with_ways, table_after, table_edits}
+use Rattle.mst_edits.specs.TableLines.{move, edit_of, moves_to, moved_to, gathered, gathered_first, is_one_line, with_tree, with_way, with_ways, table_after, table_edits}
 
 pub length-mapped : (vids : List Bool) (tree : ℕ) (table : List ℕ) → length (mapped vids tree table) ≡ 4094
 unfolding mapped

@@ -1,5 +1,5 @@
 -- The rows of edits: of those that are saved, and of those that delete, unplug or set a default.
-use Rattle.std.specs.Prelude.{true, false, List, [], ◌∷◌, if◌then◌else◌}
+use Rattle.std.specs.Prelude.{false, List, [], ◌∷◌, if◌then◌else◌}
 use Rattle.std.specs.Bool.{beq}
 use Rattle.std.specs.List.{flat_map}
 use Rattle.std.specs.Cmp.Lexicographic.{pointwise}
@@ -7,7 +7,7 @@ use Rattle.mst_ids.specs.Vids.{runs_from}
 use Rattle.mst_kinds.specs.declared.bridge_command.BridgeCommand.TheVariants as bridge_command
 use Rattle.mst_kinds.specs.declared.port_command.PortCommand.TheVariants as port_command
 use Rattle.mst_lang.specs.declared.line.Edit.{Edit}
-use Rattle.mst_lang.specs.declared.line.Edit.TheVariants.{AddBridge, DelBridge, SetBridge, AddPort, DelPort, SetPort, AddLan, DelLan, SetLan, Plug, Unplug, SetByTree}
+use Rattle.mst_lang.specs.declared.line.Edit.TheVariants.{DelBridge, SetBridge, DelPort, SetPort, DelLan, SetLan, Unplug, SetByTree}
 use Rattle.mst_lang.specs.declared.line.BridgeChange.TheVariants.{Power as PowerOf, Kind as KindOf}
 use Rattle.mst_lang.specs.declared.line.PortChange.TheVariants.{RestrictedRole}
 use Rattle.mst_lang.specs.declared.line.LanChange.TheVariants.{State}

@@ -7,7 +7,7 @@ use Rattle.mst_ids.specs.declared.name.PortName.{PortName}
 use Rattle.mst_net.specs.After.{has_port, new_bridge, new_port, new_lan, all_vids, table_of, vlans_of}
 use Rattle.mst_net.specs.Contents.{priority_of, port_priority_of, port_cost_of}
 use Rattle.mst_net.specs.Table.{no_table}
-use Rattle.mst_net.specs.Tables.{Net, BridgeRow, PortRow, LanRow}
+use Rattle.mst_net.specs.Tables.{Net, BridgeRow, LanRow}
 use Rattle.mst_net.specs.declared.settings.PortSettings.{PortSettings}
 
 -- a bridge stays where both have one of that name with the same MAC

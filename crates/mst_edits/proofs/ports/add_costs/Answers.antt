@@ -1,9 +1,8 @@
-use Rattle.std.proofs.Common.{ℕ, Bool, ◌||◌, not, is_some, ap, ◌∙◌, ◌++◌}
-use Rattle.std.specs.Prelude.{◌==◌}
+use Rattle.std.proofs.Common.{ℕ, Bool, ◌||◌, is_some, ap, ◌∙◌, ◌++◌}
 use Rattle.mst_lang.specs.declared.line.Edit.TheVariants.{SetByTree}
-use Rattle.mst_lang.specs.declared.line.TreeChange.TheVariants.{Priority, PortPriority, PortCost}
+use Rattle.mst_lang.specs.declared.line.TreeChange.TheVariants.{PortCost}
 use Rattle.mst_net.specs.Contents.{port_cost_of}
-use Rattle.mst_edits.specs.Edits.{port_cost_edits, in_trees}
+use Rattle.mst_edits.specs.Edits.{port_cost_edits}
 use Rattle.mst_edits.proofs.Listing.{one_given, all_given}
 use Rattle.mst_edits.proofs.Quiet.{listed_are, same_cost}
 use Rattle.mst_edits.proofs.ports.add_costs.Goals as goal

@@ -1,4 +1,4 @@
-use Rattle.std.proofs.Common.{◌≡◌, ◌||◌, length, sym, ap, ◌∙◌}
+use Rattle.std.proofs.Common.{◌||◌, length, sym, ap, ◌∙◌}
 use Rattle.std.specs.Prelude.{ℕ, ◌==◌, List}
 use Rattle.std.specs.List.{list_any}
 use Rattle.std.proofs.lemmas.Bool.{eqb-true}

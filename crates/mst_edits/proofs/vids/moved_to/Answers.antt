@@ -1,4 +1,4 @@
-use Rattle.std.proofs.Common.{◌≡◌, ℕ, Bool, false, true, ◌∙◌, sym, refl, arith}
+use Rattle.std.proofs.Common.{ℕ, Bool, false, ◌∙◌, sym, refl, arith}
 use Rattle.mst_edits.proofs.Sets.{none_yet, one_in, one_out, all_in}
 use Rattle.mst_edits.proofs.Moved.{is_moved as moved, moved_is, none_moved}
 use Rattle.mst_edits.proofs.vids.moved_to.Goals as goal

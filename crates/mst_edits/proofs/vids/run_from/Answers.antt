@@ -1,5 +1,4 @@
 use Rattle.std.proofs.Common.{arith}
-use Rattle.mst_ids.specs.Vids.{IsVidSet}
 use Rattle.mst_ids.proofs.VidTextLemmas.{no_next_run, run_ends, next_run}
 use Rattle.mst_edits.proofs.vids.run_from.Goals as goal
 
