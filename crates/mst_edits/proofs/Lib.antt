@@ -6,3 +6,4 @@ mod Filtered
 mod Quiet
 pub mod LinesMade
 mod Equal
+mod TablesMade

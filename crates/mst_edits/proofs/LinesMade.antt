@@ -36,7 +36,7 @@ edit_made name lines i line old now new below is so_far more =
     more ∙ ap (λ (l : List Edit). l ++ edit_of name line ∷ []) so_far ∙ append_assoc old (map (edit_of name) (take i lines)) (edit_of name line ∷ [])
     ∙ ap (λ (l : List Edit). old ++ l) (sym (ap (map (edit_of name)) (line_taken lines i line below is) ∙ map-append (edit_of name) (take i lines) (line ∷ [])))
 
-after_append : (xs ys : List Move) (now : List ℕ) → table_after now (xs ++ ys) ≡ table_after (table_after now xs) ys
+pub after_append : (xs ys : List Move) (now : List ℕ) → table_after now (xs ++ ys) ≡ table_after (table_after now xs) ys
 after_append [] ys now = refl
 after_append (x ∷ xs) ys now = after_append xs ys (mapped x.vids x.tree now)
 
