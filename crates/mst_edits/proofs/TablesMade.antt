@@ -1,22 +1,22 @@
 -- The lines make the table that is wanted.
-use Rattle.std.proofs.Common.{◌≡◌, ℕ, zero, suc, ◌+◌, ◌<◌, ◌≤◌, ◌⊎◌, inl, inr, Bool, true, false, ◌&&◌, ◌||◌, List, [], ◌∷◌, ◌++◌, length, map, get_or, nat_eq, not, refl, sym, ap, subst, ◌∙◌, arith, true≢false}
+use Rattle.std.proofs.Common.{◌≡◌, ℕ, zero, suc, ◌<◌, ◌≤◌, ◌⊎◌, inl, inr, Bool, true, false, ◌&&◌, ◌||◌, List, [], ◌∷◌, length, map, get_or, nat_eq, not, refl, sym, ap, ◌∙◌, arith, true≢false}
 use Rattle.std.specs.Prelude.{◌==◌, nat_le, if◌then◌else◌}
 use Rattle.std.specs.Cmp.{unsigned_Decides}
-use Rattle.std.specs.List.{flat_map, filter, list_any, range_with_len, AllByRecursion}
-use Rattle.std.proofs.lemmas.Bool.{cases_lt, leb-true, eqb-true, eq-eqb, and_parts, and_from, le-leb, or_left, or_right, or_parts}
+use Rattle.std.specs.List.{list_any, AllByRecursion}
+use Rattle.std.proofs.lemmas.Bool.{cases_lt, leb-true, eqb-true, eq-eqb, and_parts, and_from, le-leb, or_left, or_right}
 use Rattle.std.proofs.lemmas.List.{ext_get_or, get_or_past}
-use Rattle.mst_ids.specs.Vids.{has, is_vid, set_where, runs_from, IsVidSet}
+use Rattle.mst_ids.specs.Vids.{has, is_vid, runs_from, IsVidSet}
 use Rattle.mst_ids.specs.VidBits.{has-set_where, length-set_where}
 use Rattle.mst_ids.proofs.VidRangeLemmas.{is_vid_set}
 use Rattle.mst_lang.specs.Ranges.{IsName}
-use Rattle.mst_net.specs.Table.{tree_in, has_tree, mapped, mstis_in, tree_count}
+use Rattle.mst_net.specs.Table.{tree_in, has_tree, mapped, mstis_in}
 use Rattle.mst_save.specs.EditLine.{no_vids}
 use Rattle.mst_save.specs.Runs.{vids_of}
 use Rattle.mst_save.specs.Saved.{vids_in, fits, cut}
-use Rattle.mst_save.proofs.Lists.{all_append, all_map_of, all_flat_of, all_as, all_filter}
+use Rattle.mst_save.proofs.Lists.{all_map_of, all_flat_of, all_as, all_filter}
 use Rattle.mst_save.proofs.RunLemmas.{covers, runs_of_set, set_of_runs}
-use Rattle.mst_save.proofs.Cuts.{IsLine, lines_are, some_line, one_fits, mapped_is, vids_in_is}
-use Rattle.mst_save.proofs.Tables.{tree_in-mapped, tree_of_none, has_place}
+use Rattle.mst_save.proofs.Cuts.{IsLine, lines_are, some_line, one_fits, vids_in_is}
+use Rattle.mst_save.proofs.Tables.{tree_in-mapped, has_place}
 use Rattle.mst_save.proofs.BridgeEnds.{mstis_fit}
 use Rattle.mst_save.proofs.Steps.{any_flat, any_passing}
 use Rattle.mst_edits.specs.declared.moves.Move.{Move}
