@@ -98,7 +98,8 @@ fn put_settings<C: Saved, R: Rows>(
     put_priorities(alloc, contents, name, out)
 }
 
-fn put_add<R: Rows>(name: &Name, mac: Mac, out: &mut R) -> Result<(), AllocError>
+/// Puts a new bridge.
+pub fn put_add<R: Rows>(name: &Name, mac: Mac, out: &mut R) -> Result<(), AllocError>
     ensures { (first : R) (rows : List Row) → R.grew first out.old rows → OnOk result (R.grew first out.new (rows ++ edit_rows (AddBridge name.now mac))) }
 {
     let values = [Value::Name(name), Value::Mac(mac)];

@@ -69,13 +69,13 @@ fn put_tree<R: Rows>(name: &Name, table: &Table, tree: Tree, out: &mut R) -> Res
 
 /// A line that isn't put yet: its VIDs, and how many bytes it has.
 #[derive(Clone, Copy)]
-struct Line {
-    vids: VidSet,
-    length: usize,
+pub struct Line {
+    pub vids: VidSet,
+    pub length: usize,
 }
 
 /// The line of one run.
-fn begun(name: &Name, tree: Tree, run: (u16, u16)) -> Line
+pub fn begun(name: &Name, tree: Tree, run: (u16, u16)) -> Line
     requires least { 1 ≤ run.0 }
     requires order { run.0 ≤ run.1 }
     requires greatest { run.1 ≤ 4094 }
@@ -119,7 +119,7 @@ fn put_next<R: Rows>(
 }
 
 /// Puts the row that maps VIDs to a tree.
-fn put_line<'a, R: Rows>(
+pub fn put_line<'a, R: Rows>(
     name: &'a Name,
     tree: Tree,
     vids: &'a VidSet,

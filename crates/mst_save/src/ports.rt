@@ -103,7 +103,8 @@ fn put_costs<C: Saved, R: Rows>(
     Ok(())
 }
 
-fn put_cost<R: Rows>(
+/// Puts the internal path cost of a port in a tree, 0 where it is automatic.
+pub fn put_cost<R: Rows>(
     name: &PortName,
     tree: Tree,
     cost: Option<Cost>,
@@ -159,7 +160,8 @@ fn put_vlans<R: Rows>(name: &PortName, vids: &VidSet, out: &mut R) -> Result<(),
     put_vlan_list(name, vids, out)
 }
 
-fn put_vlan_list<'a, R: Rows>(
+/// Puts the VLANs of a port.
+pub fn put_vlan_list<'a, R: Rows>(
     name: &'a PortName,
     vids: &'a VidSet,
     out: &mut R,
@@ -224,7 +226,8 @@ fn put_own_plug<R: Rows>(name: &PortName, port: &Port, out: &mut R) -> Result<()
     }
 }
 
-fn put_plug_into<'a, R: Rows>(
+/// Puts a plug.
+pub fn put_plug_into<'a, R: Rows>(
     name: &'a PortName,
     lan: &'a Name,
     out: &mut R,

@@ -51,7 +51,7 @@ fn is_mapped(table: &Table, tree: Tree, number: u16) -> bool
 }
 
 /// How long the text of a run is.
-pub(crate) fn run_length(run: (u16, u16)) -> usize
+pub fn run_length(run: (u16, u16)) -> usize
     requires greatest { run.1 ≤ 4094 }
     requires order { run.0 ≤ run.1 }
     ensures value { result ≡ length (run_text run) }
@@ -65,7 +65,7 @@ pub(crate) fn run_length(run: (u16, u16)) -> usize
 }
 
 /// How many digits a number has.
-pub(crate) fn digits(number: u16) -> usize
+pub fn digits(number: u16) -> usize
     ensures value { result ≡ length (decimal number) }
     ensures small { result ≤ 5 }
 {
@@ -74,7 +74,7 @@ pub(crate) fn digits(number: u16) -> usize
 }
 
 /// A set with the VIDs of one more run.
-pub(crate) fn with_run(vids: &VidSet, run: (u16, u16)) -> VidSet
+pub fn with_run(vids: &VidSet, run: (u16, u16)) -> VidSet
     requires least { 1 ≤ run.0 }
     requires order { run.0 ≤ run.1 }
     requires greatest { run.1 ≤ 4094 }

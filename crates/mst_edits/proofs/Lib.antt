@@ -1,0 +1,9 @@
+pub mod Listing
+pub mod Sets
+mod Moved
+mod MovesInTurn
+mod Filtered
+mod Quiet
+pub mod LinesMade
+mod Equal
+mod TablesMade

@@ -1,0 +1,4 @@
+pub mod Staying
+pub mod TableLines
+pub mod Edits
+pub mod EditRows

@@ -1,0 +1,23 @@
+//! The edits that make one network of another: each that is needed, and no other.
+//!
+//! [`put_edits`] puts the rows of a script of version 2, which behind the lines of the old network makes the new one.
+//! It goes over the records of both networks in the order of their names: first what goes, then what comes and what is
+//! set, then plugs, and states last. The [laws] say that there is no edit from a network to itself, and that the lines of
+//! a table make it.
+#![tactic(auto)]
+
+mod bridges;
+mod edits;
+mod going;
+mod lans;
+pub mod laws;
+mod list;
+mod moves;
+mod ports;
+mod rows;
+mod staying;
+mod tables;
+mod trees;
+mod vids;
+
+pub use edits::put_edits;

@@ -1,0 +1,238 @@
+ghost use Rattle.std.specs.Prelude.{◌++◌, ◌∷◌, [], List, OnOk};
+ghost use Rattle.mst_lang.specs.declared.line.Edit.TheVariants.{SetBridge, SetPort, SetLan, SetByTree};
+ghost use Rattle.mst_ids.specs.Vids.{runs_from};
+ghost use Rattle.mst_kinds.specs.declared.port_command.PortCommand.TheVariants.{AllVlans};
+ghost use Rattle.mst_lang.specs.declared.line.BridgeChange.TheVariants.{Power as PowerOf, Kind as KindOf, Configuration};
+ghost use Rattle.mst_lang.specs.declared.line.PortChange.TheVariants.{PathCost, RestrictedRole};
+ghost use Rattle.mst_lang.specs.declared.line.LanChange.TheVariants.{State};
+ghost use Rattle.mst_lang.specs.declared.line.TreeChange.TheVariants.{Priority as PriorityOf, PortPriority, Vlans};
+ghost use Rattle.mst_rows.specs.Cells.{vids as vids_cell};
+ghost use Rattle.mst_save.specs.SaveRows.{of_port};
+ghost use Rattle.mst_rows.specs.Rows.{Row};
+ghost use Rattle.mst_edits.specs.EditRows.{edit_rows_of};
+
+use mst_ids::{ConfName, Cost, Name, PortName, Priority, Tree, VidSet};
+use mst_kinds::{BridgeCommand, Kind, PortCommand};
+use mst_lang::{
+    BridgeChange, Edit, Kind as BridgeKind, LanChange, LanState, PortChange, Power, TreeChange,
+};
+use mst_rows::{Rows, Value, put};
+use mst_save::{
+    put_add, put_cost, put_line, put_named, put_number, put_of_port, put_plug_into,
+    put_port_number, put_port_tree, put_vlan_list,
+};
+use std::alloc::AllocError;
+
+/// Puts the row of an edit.
+pub(crate) fn put_edit<R: Rows>(edit: &Edit, out: &mut R) -> Result<(), AllocError>
+    ensures { (first : R) (rows : List Row) → R.grew first out.old rows → OnOk result (R.grew first out.new (rows ++ edit_rows_of edit.now)) }
+{
+    match edit {
+        Edit::AddBridge { bridge, mac } => put_add(bridge, *mac, out),
+        Edit::DelBridge { bridge } => {
+            put_named(Kind::OfBridge(BridgeCommand::Delete), bridge, out)
+        }
+        Edit::SetBridge { bridge, change } => put_bridge(bridge, change, out),
+        Edit::AddPort { port } => put_of_port(PortCommand::Add, port, out),
+        Edit::DelPort { port } => put_of_port(PortCommand::Delete, port, out),
+        Edit::SetPort { port, change } => put_port(port, change, out),
+        Edit::AddLan { lan } => put_named(Kind::OfPort(PortCommand::AddLan), lan, out),
+        Edit::DelLan { lan } => put_named(Kind::OfPort(PortCommand::DeleteLan), lan, out),
+        Edit::SetLan { lan, change } => put_lan(lan, change, out),
+        Edit::Plug { port, lan } => put_plug_into(port, lan, out),
+        Edit::Unplug { port } => put_of_port(PortCommand::Unplug, port, out),
+        Edit::SetByTree(change) => put_by_tree(change, out),
+    }
+}
+
+fn put_bridge<R: Rows>(name: &Name, change: &BridgeChange, out: &mut R) -> Result<(), AllocError>
+    ensures { (first : R) (rows : List Row) → R.grew first out.old rows → OnOk result (R.grew first out.new (rows ++ edit_rows_of (SetBridge name.now change.now))) }
+{
+    match change {
+        BridgeChange::Power(power) => put_power(name, *power, out),
+        BridgeChange::Kind(kind) => put_kind(name, *kind, out),
+        BridgeChange::SystemPriority(priority) => put_number(
+            Kind::OfBridge(BridgeCommand::SystemPriority),
+            name,
+            u64::from(*priority),
+            out,
+        ),
+        BridgeChange::Configuration {
+            revision,
+            name: conf_name,
+        } => put_configuration(name, *revision, conf_name, out),
+        BridgeChange::MaxHops(limit) => put_number(
+            Kind::OfBridge(BridgeCommand::MaxHops),
+            name,
+            limit.value(),
+            out,
+        ),
+        BridgeChange::MaxAge(limit) => put_number(
+            Kind::OfBridge(BridgeCommand::MaxAge),
+            name,
+            limit.value(),
+            out,
+        ),
+    }
+}
+
+fn put_power<R: Rows>(name: &Name, power: Power, out: &mut R) -> Result<(), AllocError>
+    ensures { (first : R) (rows : List Row) → R.grew first out.old rows → OnOk result (R.grew first out.new (rows ++ edit_rows_of (SetBridge name.now (PowerOf power)))) }
+{
+    match power {
+        Power::On => put_named(Kind::OfBridge(BridgeCommand::On), name, out),
+        Power::Off => put_named(Kind::OfBridge(BridgeCommand::Off), name, out),
+    }
+}
+
+fn put_kind<R: Rows>(name: &Name, kind: BridgeKind, out: &mut R) -> Result<(), AllocError>
+    ensures { (first : R) (rows : List Row) → R.grew first out.old rows → OnOk result (R.grew first out.new (rows ++ edit_rows_of (SetBridge name.now (KindOf kind)))) }
+{
+    match kind {
+        BridgeKind::Mstp => put_named(Kind::OfBridge(BridgeCommand::Mstp), name, out),
+        BridgeKind::Rstp => put_named(Kind::OfBridge(BridgeCommand::Rstp), name, out),
+    }
+}
+
+fn put_configuration<'a, R: Rows>(
+    name: &'a Name,
+    revision: u16,
+    conf_name: &'a ConfName,
+    out: &mut R,
+) -> Result<(), AllocError>
+    ensures { (first : R) (rows : List Row) → R.grew first out.old rows → OnOk result (R.grew first out.new (rows ++ edit_rows_of (SetBridge name.now (Configuration revision conf_name.now)))) }
+{
+    let values = [
+        Value::Name(name),
+        Value::Number(u64::from(revision)),
+        Value::Word(conf_name.as_bytes()),
+    ];
+    put::<R>(Kind::OfBridge(BridgeCommand::Configuration), &values, out)
+}
+
+fn put_port<R: Rows>(name: &PortName, change: &PortChange, out: &mut R) -> Result<(), AllocError>
+    ensures { (first : R) (rows : List Row) → R.grew first out.old rows → OnOk result (R.grew first out.new (rows ++ edit_rows_of (SetPort name.now change.now))) }
+{
+    match change {
+        PortChange::Key(key) => put_port_number(PortCommand::Key, name, u64::from(*key), out),
+        PortChange::PathCost(cost) => put_external(name, *cost, out),
+        PortChange::RestrictedRole(is_restricted) => put_restricted(name, *is_restricted, out),
+    }
+}
+
+fn put_external<R: Rows>(name: &PortName, cost: Option<Cost>, out: &mut R) -> Result<(), AllocError>
+    ensures { (first : R) (rows : List Row) → R.grew first out.old rows → OnOk result (R.grew first out.new (rows ++ edit_rows_of (SetPort name.now (PathCost cost)))) }
+{
+    match cost {
+        None => put_port_number(PortCommand::ExternalCost, name, 0, out),
+        Some(cost) => put_port_number(PortCommand::ExternalCost, name, cost.value(), out),
+    }
+}
+
+fn put_restricted<R: Rows>(
+    name: &PortName,
+    is_restricted: bool,
+    out: &mut R,
+) -> Result<(), AllocError>
+    ensures { (first : R) (rows : List Row) → R.grew first out.old rows → OnOk result (R.grew first out.new (rows ++ edit_rows_of (SetPort name.now (RestrictedRole is_restricted)))) }
+{
+    if is_restricted {
+        return put_of_port(PortCommand::Restricted, name, out);
+    }
+    put_of_port(PortCommand::Unrestricted, name, out)
+}
+
+fn put_lan<R: Rows>(name: &Name, change: &LanChange, out: &mut R) -> Result<(), AllocError>
+    ensures { (first : R) (rows : List Row) → R.grew first out.old rows → OnOk result (R.grew first out.new (rows ++ edit_rows_of (SetLan name.now change.now))) }
+{
+    match change {
+        LanChange::State(state) => put_state(name, *state, out),
+        LanChange::Speed(speed) => put_number(
+            Kind::OfPort(PortCommand::Speed),
+            name,
+            speed.value(),
+            out,
+        ),
+    }
+}
+
+fn put_state<R: Rows>(name: &Name, state: LanState, out: &mut R) -> Result<(), AllocError>
+    ensures { (first : R) (rows : List Row) → R.grew first out.old rows → OnOk result (R.grew first out.new (rows ++ edit_rows_of (SetLan name.now (State state)))) }
+{
+    match state {
+        LanState::Up => put_named(Kind::OfPort(PortCommand::LanUp), name, out),
+        LanState::Down => put_named(Kind::OfPort(PortCommand::LanDown), name, out),
+    }
+}
+
+fn put_by_tree<R: Rows>(change: &TreeChange, out: &mut R) -> Result<(), AllocError>
+    ensures { (first : R) (rows : List Row) → R.grew first out.old rows → OnOk result (R.grew first out.new (rows ++ edit_rows_of (SetByTree change.now))) }
+{
+    match change {
+        TreeChange::Priority {
+            bridge,
+            tree,
+            priority,
+        } => put_priority(bridge, *tree, *priority, out),
+        TreeChange::PortPriority {
+            port,
+            tree,
+            priority,
+        } => put_port_priority(port, *tree, *priority, out),
+        TreeChange::PortCost { port, tree, cost } => put_cost(port, *tree, *cost, out),
+        TreeChange::Table { bridge, tree, vids } => put_line(bridge, *tree, vids, out),
+        TreeChange::Vlans { port, vids } => put_vlans(port, vids, out),
+    }
+}
+
+fn put_priority<R: Rows>(
+    name: &Name,
+    tree: Tree,
+    priority: Priority,
+    out: &mut R,
+) -> Result<(), AllocError>
+    ensures { (first : R) (rows : List Row) → R.grew first out.old rows → OnOk result (R.grew first out.new (rows ++ edit_rows_of (SetByTree (PriorityOf name.now tree priority)))) }
+{
+    let values = [
+        Value::Name(name),
+        Value::Number(u64::from(tree.value())),
+        Value::Number(u64::from(priority.step()) * 4096),
+    ];
+    put::<R>(Kind::OfBridge(BridgeCommand::Priority), &values, out)
+}
+
+fn put_port_priority<R: Rows>(
+    name: &PortName,
+    tree: Tree,
+    priority: Priority,
+    out: &mut R,
+) -> Result<(), AllocError>
+    ensures { (first : R) (rows : List Row) → R.grew first out.old rows → OnOk result (R.grew first out.new (rows ++ edit_rows_of (SetByTree (PortPriority name.now tree priority)))) }
+{
+    let priority = u64::from(priority.step()) * 16;
+    put_port_tree(PortCommand::Priority, name, tree, priority, out)
+}
+
+fn put_vlans<R: Rows>(name: &PortName, vids: &VidSet, out: &mut R) -> Result<(), AllocError>
+    ensures { (first : R) (rows : List Row) → R.grew first out.old rows → OnOk result (R.grew first out.new (rows ++ edit_rows_of (SetByTree (Vlans name.now vids.now)))) }
+{
+    if *vids == VidSet::all() {
+        return put_all_vlans(name, vids, out);
+    }
+    put_vlan_list(name, vids, out)
+}
+
+fn put_all_vlans<'a, R: Rows>(
+    name: &'a PortName,
+    vids: &'a VidSet,
+    out: &mut R,
+) -> Result<(), AllocError>
+    ensures { (first : R) (rows : List Row) → R.grew first out.old rows → OnOk result (R.grew first out.new (rows ++ of_port AllVlans name.now (vids_cell (runs_from 0 vids.now) ∷ []))) }
+{
+    let values = [
+        Value::Name(&name.bridge),
+        Value::Number(u64::from(name.number.value())),
+        Value::Vids(vids),
+    ];
+    put::<R>(Kind::OfPort(PortCommand::AllVlans), &values, out)
+}
