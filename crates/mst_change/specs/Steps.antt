@@ -1,5 +1,6 @@
 -- The steps of a change.
 use Rattle.std.specs.Prelude.{ℕ, ◌+◌, List, [], ◌∷◌, ◌++◌, if◌then◌else◌}
+use Rattle.std.specs.List.{flat_map}
 use Rattle.mst_lang.specs.declared.line.Version.{Version}
 use Rattle.mst_lang.specs.declared.line.Version.TheVariants.{V1}
 use Rattle.mst_change.specs.Reading.{version_at, read_at, parts_steps, line_read, LineRead}
@@ -19,6 +20,10 @@ steps_from known n begun (line ∷ lines) =
 -- the steps of a change of these lines
 abbrev pub change_of : List (List ℕ) → List (List LineRead)
 change_of lines = steps_from V1 1 [] lines
+
+-- the lines of steps
+abbrev pub all_lines : List (List LineRead) → List LineRead
+all_lines steps = flat_map (λ lines. lines) steps
 
 -- what was read of a change so far: its version, the steps that have ended, and the lines of the one that has begun
 pub record ReadSoFar : Type 0 where
