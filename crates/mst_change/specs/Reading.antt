@@ -1,5 +1,6 @@
 -- How the lines of a change are read.
 use Rattle.std.specs.Prelude.{ℕ, ◌==◌, Bool, true, false, List, [], ◌∷◌, Result, Ok, Err, if◌then◌else◌}
+use Rattle.mst_lang.specs.Ranges.{InRange}
 use Rattle.mst_lang.specs.Reading.{reading_as, says_version_2}
 use Rattle.mst_lang.specs.Words.{words}
 use Rattle.mst_lang.specs.declared.line.Edit.{Edit}
@@ -42,6 +43,14 @@ pub record LineRead : Type 0 where
 
 abbrev pub numbered : ℕ → Result Edit Fault → LineRead
 numbered number read = record { number = number; read = read }
+
+-- what it says is in its range
+abbrev pub SaysInRange : Result Edit Fault → Type 0
+SaysInRange (Err fault) = Unit {0}
+SaysInRange (Ok e) = InRange e
+
+abbrev pub IsInRange : LineRead → Type 0
+IsInRange line = SaysInRange line.read
 
 -- what a line that is read so does in its step, under its number: an edit, or a fault in the place of one
 abbrev pub line_read : ℕ → Result Line Fault → List LineRead

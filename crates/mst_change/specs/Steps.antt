@@ -21,7 +21,12 @@ steps_from known n begun (line ∷ lines) =
 abbrev pub change_of : List (List ℕ) → List (List LineRead)
 change_of lines = steps_from V1 1 [] lines
 
--- the lines of steps
+-- the lines that do something, of lines that are numbered from n on
+abbrev pub lines_from : Version → ℕ → List (List ℕ) → List LineRead
+lines_from known n [] = []
+lines_from known n (line ∷ lines) = line_read n (read_at known n line) ++ lines_from (version_at known n line) (n + 1) lines
+
+-- those of steps
 abbrev pub all_lines : List (List LineRead) → List LineRead
 all_lines steps = flat_map (λ lines. lines) steps
 

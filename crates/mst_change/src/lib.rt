@@ -5,5 +5,6 @@
 #![tactic(auto)]
 
 mod change;
+pub mod laws;
 
 pub use change::{Change, ChangeStep, StepLine};
