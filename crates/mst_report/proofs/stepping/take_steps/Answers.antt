@@ -18,8 +18,12 @@ with-course-requires-clause-refused g c =
     let was = c.loop-step.invariant in
     let took = c.in_ok-taken.ensures.told in
     let policy : Option (List PolicyLine) = option_map (λ p. p.now) c.args.policy in
-    omega (arith, c.requires.few, refused_counted c.args.network.now.net policy c.args.steps.now c.loop-step.step-index c.step-item.result c.loop-step-test.true c.step-item.is c.loop-step.course was.rows was.told
-        c.loop-step.network.net (c.loop-step.course.steps + 1) c.lines.result.now c.lines.ensures took.told c.in_ok-taken.taken took.is took.counted)
+    omega (
+      arith,
+      c.requires.few,
+      refused_counted c.args.network.now.net policy c.args.steps.now c.loop-step.step-index c.step-item.result c.loop-step-test.true c.step-item.is c.loop-step.course was.rows was.told
+          c.loop-step.network.net (c.loop-step.course.steps + 1) c.lines.result.now c.lines.ensures took.told c.in_ok-taken.taken took.is took.counted,
+    )
 
 pub with-course-requires-clause-steps : goal.with-course-requires-clause-steps
 with-course-requires-clause-steps g c =

@@ -1,12 +1,8 @@
-use Rattle.std.proofs.Common.{◌≡◌, ◌+◌, ◌-◌, ◌≤◌, ◌∷◌, [], ◌++◌, List, arith, sym, subst, ◌∙◌}
-use Rattle.mst_verify.specs.Told.{verified_row}
-use Rattle.mst_verify.specs.Verified.{joined}
-use Rattle.mst_report.specs.Verifying.{AreFound, AreTold, plan_outcome}
-use Rattle.mst_report.specs.Sweeping.{Puts}
+use Rattle.std.proofs.Common.{◌-◌, List, arith, sym, subst, ◌∙◌}
+use Rattle.mst_report.specs.Verifying.{AreFound, plan_outcome}
 use Rattle.mst_report.specs.declared.judging.Finding.{Finding}
 use Rattle.mst_report.proofs.Judgements.{flags_counted}
 use Rattle.mst_report.proofs.PolicyRows.{all_counted}
-use Rattle.mst_report.proofs.Swept.{put_then}
 use Rattle.mst_report.proofs.verifying.put_judged.Goals as goal
 
 pub returns-clause-told : goal.returns-clause-told
@@ -14,7 +10,6 @@ returns-clause-told g c =
     let old = c.args.network.now in
     let j = c.args.judging.now in
     let o = plan_outcome old.net old.numbers j.plan.now in
-    let grew = g.R.Rows.grew in
     let told = c.in_ok-failing.ensures old.net o (subst (λ (l : List Finding). AreFound old.net o j.lines.now l) (sym c.as_slice.ensures.value) c.in_ok-found.ensures.found) in
     let all = all_counted old.net o j.lines.now told.told told.each in
     let flags = flags_counted old.net j.lines.now j.flags.now c.requires.judging.flags in

@@ -1,12 +1,12 @@
-use Rattle.std.proofs.Common.{◌≡◌, ◌+◌, ◌-◌, ◌∷◌, [], ◌++◌, List, arith, ap, sym, subst}
+use Rattle.std.proofs.Common.{◌≡◌, ◌-◌, ◌∷◌, [], ◌++◌, List, arith, subst}
 use Rattle.mst_rows.specs.Rows.{Row}
 use Rattle.mst_verify.specs.Told.{verified_row}
 use Rattle.mst_report.specs.Verifying.{Verifies, counts_of}
 use Rattle.mst_report.proofs.Swept.{put_then}
 use Rattle.mst_report.proofs.verifying.verify_network.Goals as goal
 
-pub overflow_sub : goal.overflow_sub
-overflow_sub g c = ?
+pub overflow_sub-verdict : goal.overflow_sub-verdict
+overflow_sub-verdict g c = omega (arith, c.in_ok-verdict.ensures.told.1.hold)
 
 pub returns-clause-told : goal.returns-clause-told
 returns-clause-told g c =
