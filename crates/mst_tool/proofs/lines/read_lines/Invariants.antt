@@ -1,16 +1,15 @@
 use Rattle.std.proofs.Common.{◌≡◌, ◌≤◌, ◌+◌, ◌*◌, List, [], ℕ, length}
 use Rattle.std.specs.Io.KnownBytes.{Consumes}
 use Rattle.mst_io.specs.Devices.{Hears, Works}
-use Rattle.mst_tool.specs.Policies.{IsCounted, ReadsOn}
-use Rattle.mst_tool.proofs.PolicyLines.{begun}
-use Rattle.mst_tool.proofs.policies.read_policy.Given as goal
+use Rattle.mst_tool.specs.Lines.{ReadsOn}
+use Rattle.mst_tool.proofs.LinesTaken.{begun}
+use Rattle.mst_tool.proofs.lines.read_lines.Given as goal
 
 abbrev pub invariant-turns : goal.invariant-turns
 invariant-turns g l = record {
   read : List ℕ;
   consumed : Consumes (g.S.Source.remaining l.fn.source) (g.S.Source.remaining l.source) read;
-  reads : ReadsOn begun [] read l.reading l.held;
-  counted : IsCounted l.reading;
+  reads : ReadsOn g.L.TakesLines.with_lines (begun g.L.TakesLines.with_lines l.fn.lines) [] read l.reading l.held;
   number : l.reading.number ≤ length read + 1;
   working : Works (g.S.Source.told l.fn.source) (g.S.Source.told l.source);
   calls : (g.S.Source.told l.source).calls ≡ (g.S.Source.told l.fn.source).calls + l.turn;
