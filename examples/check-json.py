@@ -37,6 +37,8 @@ ASKED = re.compile(r"\s*(show\w+|changes|save)(\s|$)")
 MOST_EXPLAINED = 3
 ALL_EXPLAINED = 20
 MOST_IN_PAIRS = 20
+# Their answers say no words behind these.
+BARE = ("diff", "verify", "steps", "edits")
 # What is promised of each script: little of it is kept.
 PROMISES = """# what is promised
 root 0 A
@@ -55,6 +57,25 @@ always avoids X 1-4094
 always fits
 after lan nothing fits
 roots
+"""
+# What is done to each network: some of it to bridges, LANs and ports that are there.
+CHANGE = """mark
+bridge A off
+lan X down
+
+settreeprio core1 0 8
+settreeprio B 0 0
+showplan
+settreeprio nobody 0 0
+no such line
+
+# nothing
+
+bridge A on
+lan X up
+setportvlans B 1 none
+
+delport A 1
 """
 # no script here comes to these: contests in which no component differs, a root port without a rival, and an internal cost over its limit that a
 # promise finds
@@ -385,7 +406,7 @@ def difference(program, command, words, script):
             return next(f"{one!r} is told, and {other!r} by its record" for one, other in pairs if one != other)
         if not all(map(order_of, values)):
             return "members in another order"
-        if not are_asked(values, [command] if command in ("diff", "verify") else [command, *words[1:]], script):
+        if not are_asked(values, [command] if command in BARE else [command, *words[1:]], script):
             return "an answer to what isn't asked"
         if command in ("run", "check") and not is_each_asked(values, script):
             return "a query that is answered twice, or never"
@@ -552,10 +573,17 @@ def cases(folder):
             yield from ((name, "sweep", ["-", "pairs", *words], edits) for words in ([], ["1/4"]))
     for number, (name, script) in enumerate(named):
         yield name, "ask", [written(folder, f"ask{number}", quiet(script))], standing(quiet(script))
-        yield name, "verify", [written(folder, f"promised{number}", quiet(script)), "-"], PROMISES
+        path = written(folder, f"promised{number}", quiet(script))
+        yield name, "verify", [path, "-"], PROMISES
+        yield name, "steps", [path, "-"], CHANGE
+        yield name, "steps", [path, written(folder, "change", CHANGE), "-"], PROMISES
     for number, ((name, script), (other, new)) in enumerate(itertools.pairwise(named)):
         path = written(folder, f"old{number}", quiet(script))
         yield f"{name} and {other}", "diff", [path, "-"], quiet(new)
+        yield f"{name} and {other}", "edits", [path, "-"], quiet(new)
+    plain = "".join(f"{line}\n" for line in SET.splitlines() if line.startswith(("add", "plug")))
+    for name, old, new in (("settings that go", SET, plain), ("settings that come", plain, SET)):
+        yield name, "edits", [written(folder, name, old), "-"], new
     yield from capture_cases(folder)
 
 

@@ -22,8 +22,10 @@ sys.dont_write_bytecode = True
 sys.path.insert(0, HERE)
 
 import ask_runs  # noqa: E402
+import edits_runs  # noqa: E402
 import hint_runs  # noqa: E402
 import large_runs  # noqa: E402
+import steps_runs  # noqa: E402
 import verify_runs  # noqa: E402
 from hint_runs import HINTED, HINTED_RUN, HINTS, told_within  # noqa: E402
 
@@ -976,6 +978,9 @@ def main():
             check_full(program, ["diff", "-", "-"], QUIET),
             check_full(program, ["sweep", "-"], QUIET),
             check_full(program, ["ask", "-"], QUIET),
+            check_full(program, ["verify", "-", "-"], QUIET),
+            check_full(program, ["edits", "-", "-"], QUIET),
+            check_full(program, ["steps", "-", "-"], QUIET),
             check_full(program, ["--help"], b""),
             check_full(program, ["--version"], b""),
             check_page(program),
@@ -994,6 +999,8 @@ def main():
         passed += hint_runs.checks(program, folder)
         passed += ask_runs.checks(program, folder)
         passed += verify_runs.checks(program, folder)
+        passed += edits_runs.checks(program, folder)
+        passed += steps_runs.checks(program, folder)
         passed += large_runs.checks(program, folder)
     print(f"{sum(passed)} passed, {len(passed) - sum(passed)} failed")
     sys.exit(0 if all(passed) else 1)

@@ -79,6 +79,34 @@ UNREAD_LINE, UNREAD_HINT = ASKING_LINES[ASKING_LINES.index(b"line 3"):], ASKING_
 NO_NETWORK = b"bridges 0 on 0 ports 0 enabled 0 regions 0 trees 0\nvlan 1-4094 islands 0\n"
 CAPTURES = b"# none\n00\n"
 TOO_SHORT = b"capture 2 B02 too short\n"
+# Lines of a policy that aren't read, each with its hint; and a change with two such lines, each of which is a step.
+PROMISES = {
+    "rot 0 A": ("E01 no such expectation", "no expectation rot; root?"),
+    "root 0 A B": ("E01 no such expectation", "root takes TREE B, or TREE B next C; 3 words stand here"),
+    "root 4095 A": ("E03 bad VID or tree", "root TREE B: TREE is 0 to 4094"),
+    "lan X root 0 A": ("E01 no such expectation", "no expectation lan; after lan?"),
+    "after lan": ("E01 no such expectation", "after takes lan NAMES or bridge NAMES, and an expectation behind it"),
+    "always": ("E01 no such expectation", "a scope has an expectation behind it"),
+    "role 0 A:1 Rootish": ("E02 bad argument", "role TREE PORTS ROLES: ROLES is of Root, Designated, Alternate, Backup, Master and Disabled, "
+                           "as in Root,Designated"),
+    "reach 1 * # all": ("E01 no such expectation", "a comment is a line of its own"),
+    "showtree 0": ("E01 no such expectation", "no expectation showtree; that is a command of scripts"),
+    "always always fits": ("E01 no such expectation", "no expectation always; a line has one scope"),
+}
+POLICY = "".join(f"{line}\n" for line in PROMISES).encode()
+POLICY_LINES = "".join(f"policy {number} {told}\n" for number, (told, _) in enumerate(PROMISES.values(), 1)).encode()
+POLICY_HINTS = "".join(f"policy line {number} {hint}\n" for number, (_, hint) in enumerate(PROMISES.values(), 1)).encode()
+VERIFIED = b"verify expectations 0 hold 0\n"
+CHANGE = b"settreeprio A 0 4096\n\nbridg A off\n"
+STEPS = b"""change 1 E02 bad argument
+step 1 lines 1-1 roots - ports 0 moved - cut - joined -
+%schange 3 E01 no such command
+step 2 lines 3-3 roots - ports 0 moved - cut - joined -
+%ssteps 2 moving 0 cutting 0%s
+"""
+CHANGE_HINTS = b"""change line 1 settreeprio B TREE PRIO: PRIO is 0 to 15, in steps of 4096; 4096 is 1
+change line 3 no command bridg; bridge?
+"""
 
 
 def of_side(side, lines):
@@ -89,7 +117,8 @@ def of_side(side, lines):
 def cases(folder):
     """Each case: its name, the words, standard input, the status, standard output and standard error."""
     script, other, captures = (os.path.join(folder, name) for name in ("hinted.script", "misspelt.script", "hinted.captures"))
-    for path, text in ((script, HINTED), (other, MISSPELT), (captures, CAPTURES)):
+    change = os.path.join(folder, "hinted.change")
+    for path, text in ((script, HINTED), (other, MISSPELT), (captures, CAPTURES), (change, CHANGE)):
         with open(path, "wb") as file:
             file.write(text)
     both = of_side(b"old", HINTED_LINES) + of_side(b"new", MISSPELT_LINES)
@@ -118,6 +147,12 @@ def cases(folder):
         ("hints of a script that is asked, and none of questions", ["ask", "--hints", script], b"no\nsummary\n", 1,
          HINTED_LINES + b"done 1\nline 1 E01 no such command\ndone 1\n" + SUMMARY + b"done 0\n", HINTS),
         ("hints of two scripts", ["diff", "--hints", script, other], b"", 1, both + TO_NOTHING, both_hints),
+        ("hints of two scripts of edits", ["edits", "--hints", script, other], b"", 1, both + b"mstplan 2\ndelport B 1\ndelbridge B\n", both_hints),
+        ("hints of a policy", ["verify", "--hints", os.devnull, "-"], POLICY, 1, POLICY_LINES + VERIFIED, POLICY_HINTS),
+        ("hints of a script and its policy", ["verify", "--hints", script, "-"], POLICY, 1, HINTED_LINES + POLICY_LINES + VERIFIED, HINTS + POLICY_HINTS),
+        ("hints of a change", ["steps", "--hints", os.devnull, "-"], CHANGE, 1, STEPS % (b"", b"", b""), CHANGE_HINTS),
+        ("hints of a change and a policy", ["steps", "--hints", os.devnull, change, "-"], POLICY, 1,
+         STEPS % (POLICY_LINES, POLICY_LINES, b" failing 2"), CHANGE_HINTS + POLICY_HINTS),
         ("hints of the new script", ["diff", "--hints", os.devnull, "-"], MISSPELT, 1, of_side(b"new", MISSPELT_LINES) + DIFFERENCE,
          of_side(b"new", MISSPELT_HINTS)),
         ("hints of all of standard input", ["diff", "--hints", "-", "-"], MISSPELT, 1, of_side(b"old", MISSPELT_LINES) + DIFFERENCE,

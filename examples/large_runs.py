@@ -195,6 +195,33 @@ def lan_cases(folder):
     ]
 
 
+# ---- what is to be set, and steps of a change
+
+# So many steps: LANs go down and come up again, a few at a time, and a port's cost changes.
+STEPS = 60
+
+
+def step_lines():
+    for number in range(STEPS):
+        i = 37 * (number // 2) % load.BRIDGES
+        yield from (f"lan L{i:04}-{number // 2 % load.LANS_EACH} {'up' if number % 2 else 'down'}", f"setportpathcost B{i:04} {1 + number % 16} {19_000 + number}", "")
+
+
+def change_cases(folder):
+    """All of a mesh goes, or comes, or is replaced; and steps of it, each of which leaves all bridges joined."""
+    mesh = [*load.load(load.BRIDGES)]
+    first, nothing = written(folder, "mesh", mesh), written(folder, "nothing", [])
+    replaced = written(folder, "mesh, replaced", [line.replace(" 02:00:", " 02:01:") for line in mesh])
+    ports = {"unplug": ALL_PORTS, "delport": ALL_PORTS, "delbridge": load.BRIDGES}
+    come = {"addbridge": load.BRIDGES, "addport": ALL_PORTS, "plug": ALL_PORTS}
+    return [
+        Large("all of a mesh goes", ["edits", first, nothing], b"", 1, first_words({"mstplan": 1, **ports, "dellan": ALL_LANS})),
+        Large("all of a mesh comes", ["edits", nothing, first], b"", 1, first_words({"mstplan": 1, **come, "addlan": ALL_LANS})),
+        Large("each bridge of a mesh replaced", ["edits", first, replaced], b"", 1, first_words({"mstplan": 1, **ports, **come})),
+        Large("steps of a mesh", ["steps", first, "-"], as_bytes(step_lines()), 0, first_words({"step": STEPS, "steps": 1})),
+    ]
+
+
 # ---- chains
 
 
@@ -396,7 +423,7 @@ def check_reads(program):
 
 
 def cases(folder):
-    return [limit_case()] + mesh_cases(folder) + lan_cases(folder) + chain_cases(folder) + region_cases(folder) + hint_cases(folder)
+    return [limit_case()] + mesh_cases(folder) + lan_cases(folder) + chain_cases(folder) + region_cases(folder) + hint_cases(folder) + change_cases(folder)
 
 
 def checks(program, folder):

@@ -3,17 +3,17 @@ use Rattle.std.proofs.Common.{◌≡◌, ℕ, ◌==◌, Bool, true, false, List,
 use Rattle.std.specs.Prelude.{if◌then◌else◌}
 use Rattle.std.specs.Io.KnownBytes.{Consumes}
 use Rattle.mst_io.specs.Written.{Reads}
-use Rattle.mst_hints.specs.Scripts.{Past, hint_after, hints_from, hints_of, nothing, past_after}
-use Rattle.mst_hints.specs.lang.Lines.{drop_cr, ended_lines, last_line, lines_from, no_line}
+use Rattle.mst_hinting.specs.Lines.{Before, hint_after, hints_from, hints_of, nothing, past_after}
+use Rattle.mst_lang.specs.Lines.{drop_cr, ended_lines, last_line, lines_from, no_line}
 use Rattle.mst_hints.specs.declared.whose.Script.{Script}
 use Rattle.mst_hinting.specs.Hinted.{HintsEnded, HintsFront}
 
 -- the hints of the complete lines are a front of all
-abbrev Begun : Past → List ℕ → List ℕ → List ℕ → Type 0
+abbrev Begun : Before → List ℕ → List ℕ → List ℕ → Type 0
 Begun past part bytes more = (rest : List ℕ) × (hints_from past (lines_from last_line part (bytes ++ more)) ≡ hints_from past (lines_from no_line part bytes) ++ rest)
 
 -- in each case of the next byte
-begun_by : (past : Past) (part bytes more : List ℕ) (b : ℕ) → ((now : Past) (left : List ℕ) → Begun now left bytes more) → Begun past part (b ∷ bytes) more
+begun_by : (past : Before) (part bytes more : List ℕ) (b : ℕ) → ((now : Before) (left : List ℕ) → Begun now left bytes more) → Begun past part (b ∷ bytes) more
 begun_by past part bytes more b later = go (b == 10)
   where
     all : Bool → List ℕ
@@ -30,7 +30,7 @@ begun_by past part bytes more b later = go (b == 10)
         (begun.0, ap (λ l. hint ++ l) begun.1 ∙ sym (append_assoc hint (hints_from now (lines_from no_line [] bytes)) begun.0))
     go false = later past (part ++ b ∷ [])
 
-lines_begun : (bytes more : List ℕ) (past : Past) (part : List ℕ) → Begun past part bytes more
+lines_begun : (bytes more : List ℕ) (past : Before) (part : List ℕ) → Begun past part bytes more
 lines_begun [] more past part = (hints_from past (lines_from last_line part more), refl)
 lines_begun (b ∷ bytes) more past part = begun_by past part bytes more b (λ now left. lines_begun bytes more now left)
 

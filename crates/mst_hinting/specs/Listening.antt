@@ -1,8 +1,6 @@
 -- What a source that listens promises of the hints of what goes through it.
 use Rattle.std.specs.Prelude.{◌≡◌, ◌⊎◌, ℕ, ◌<◌, ◌||◌, Bool, true, false, List, [], ◌++◌, length, Result, Ok, Err, if◌then◌else◌}
 use Rattle.std.specs.Io.KnownBytes.{Appends, Consumes}
-use Rattle.mst_hints.specs.Kept.{IsKept}
-use Rattle.mst_hints.specs.Scripts.{Past, nothing}
 use Rattle.mst_hints.specs.declared.whose.Script.{Script}
 use Rattle.mst_io.specs.Devices.{Told, Seen, Works, IsStopped, IsRead, IsCut, Hears, given, is_zero}
 use Rattle.mst_io.specs.Held.{ending}
@@ -11,6 +9,8 @@ use Rattle.mst_io.specs.declared.devices.Failed.{Failed}
 use Rattle.mst_io.specs.declared.outcome.RunFault.{RunFault}
 use Rattle.mst_io.specs.declared.outcome.RunFault.TheVariants.{Read, Write, Memory}
 use Rattle.mst_hinting.specs.Hinted.{Hints, HintsFront, HintsEnded, Tells, IsTold}
+use Rattle.mst_hinting.specs.Kept.{IsKept}
+use Rattle.mst_hinting.specs.Lines.{Before, nothing}
 use Rattle.mst_hinting.specs.declared.listening.Hinting.{Hinting}
 use Rattle.mst_hinting.specs.declared.telling.State.{State}
 use Rattle.mst_hinting.specs.declared.telling.State.TheVariants.{Off, On, Stopped}
@@ -51,7 +51,7 @@ pub record Finds (source source_now : Seen) (read : List ℕ) (at_end : Bool) : 
 -- The source has given these bytes. The hints of the lines that they complete were written, but for a text that is still to be;
 -- a sink that had failed before wasn't called
 pub record IsTelling (of : Script) (source source_now errors errors_now : Seen) (read : List ℕ) (telling : Telling) : Type 0 where
-  pub past : Past
+  pub past : Before
   pub told : List ℕ
   pub consumed : Consumes source.bytes source_now.bytes read
   pub finds : Finds source source_now read telling.at_end
@@ -141,7 +141,7 @@ pub record Wrote (errors errors_now : Seen) (old new : Telling) : Type 0 where
 -- bytes were taken
 pub record IsTaken (bytes : List ℕ) (old new : Telling) : Type 0 where
   pub on : new.state ≡ On
-  pub told : (past : Past) → IsKept past old.hints → IsTold past old.held bytes new.hints new.held old.text.items new.text.items
+  pub told : (past : Before) → IsKept past old.hints → IsTold past old.held bytes new.hints new.held old.text.items new.text.items
   pub at_end : new.at_end ≡ old.at_end
 
 -- or there was no memory for them
@@ -157,7 +157,7 @@ ends_by at_end (Ok count) size = at_end || is_zero (Ok count) size
 -- what a call gave was taken
 pub record IsHeard (answer : Result ℕ Failed) (buffer : List ℕ) (old new : Telling) : Type 0 where
   pub on : new.state ≡ On
-  pub told : (past : Past) → IsKept past old.hints → IsTold past old.held (given answer buffer) new.hints new.held old.text.items new.text.items
+  pub told : (past : Before) → IsKept past old.hints → IsTold past old.held (given answer buffer) new.hints new.held old.text.items new.text.items
   pub at_end : new.at_end ≡ ends_by old.at_end answer (length buffer)
 
 pub record Heard (answer : Result ℕ Failed) (buffer : List ℕ) (old new : Telling) : Type 0 where
@@ -167,7 +167,7 @@ pub record Heard (answer : Result ℕ Failed) (buffer : List ℕ) (old new : Tel
 -- the last line was taken
 pub record IsLast (old new : Telling) : Type 0 where
   pub on : new.state ≡ On
-  pub told : (past : Past) → IsKept past old.hints → IsTold past old.held (ending old.held) new.hints [] old.text.items new.text.items
+  pub told : (past : Before) → IsKept past old.hints → IsTold past old.held (ending old.held) new.hints [] old.text.items new.text.items
 
 pub record Ended (old new : Telling) : Type 0 where
   pub on : is_on old.state ≡ true → old.at_end ≡ true → IsLast old new ⊎ (new.state ≡ Stopped Memory)

@@ -1,10 +1,11 @@
 ghost use Rattle.std.specs.Prelude.{◌≡◌, ◌+◌, ◌<◌, ◌≤◌, ◌^◌, [], ◌∷◌, length, OnOk};
-ghost use Rattle.mst_hints.specs.Kept.{IsKept};
-ghost use Rattle.mst_hints.specs.Scripts.{Past};
 ghost use Rattle.mst_io.specs.Held.{ending};
 ghost use Rattle.mst_hinting.specs.Hinted.{IsTold};
+ghost use Rattle.mst_hinting.specs.Kept.{IsKept, number_of};
+ghost use Rattle.mst_hinting.specs.Lines.{Before};
 
-use mst_hints::{Script, ScriptHints};
+use crate::lines::LineHints;
+use mst_hints::Script;
 use mst_io::HeldLine;
 use std::alloc::{AllocError, Global};
 
@@ -12,14 +13,14 @@ use std::alloc::{AllocError, Global};
 /// refused; some of them may have been appended, and nothing is kept of the script.
 pub(crate) fn take_bytes(
     alloc: Global,
-    hints: &mut ScriptHints,
+    hints: &mut LineHints,
     held: &mut HeldLine,
     bytes: &[u8],
     out: &mut Vec<u8>,
 ) -> Result<(), AllocError>
-    requires few { hints.old.number + length bytes.now < 2 ^ 60 }
-    ensures told { OnOk result ((past : Past) → IsKept past hints.old → IsTold past held.old bytes.now hints.new held.new out.old.items out.new.items) }
-    ensures few { hints.new.number ≤ hints.old.number + length bytes.now }
+    requires few { number_of hints.old + length bytes.now < 2 ^ 60 }
+    ensures told { OnOk result ((past : Before) → IsKept past hints.old → IsTold past held.old bytes.now hints.new held.new out.old.items out.new.items) }
+    ensures few { number_of hints.new ≤ number_of hints.old + length bytes.now }
 {
     for byte in bytes {
         take_byte(alloc, hints, held, *byte, out)?;
@@ -31,13 +32,13 @@ pub(crate) fn take_bytes(
 /// wanted and refused; part of the hint may have been appended, and nothing is kept of the script.
 pub(crate) fn take_last(
     alloc: Global,
-    hints: &mut ScriptHints,
+    hints: &mut LineHints,
     held: &mut HeldLine,
     out: &mut Vec<u8>,
 ) -> Result<(), AllocError>
-    requires few { hints.old.number < 2 ^ 60 }
-    ensures told { OnOk result ((past : Past) → IsKept past hints.old → IsTold past held.old (ending held.old) hints.new [] out.old.items out.new.items) }
-    ensures few { hints.new.number ≤ hints.old.number + 1 }
+    requires few { number_of hints.old < 2 ^ 60 }
+    ensures told { OnOk result ((past : Before) → IsKept past hints.old → IsTold past held.old (ending held.old) hints.new [] out.old.items out.new.items) }
+    ensures few { number_of hints.new ≤ number_of hints.old + 1 }
 {
     if held.is_empty() {
         return Ok(());
@@ -49,20 +50,20 @@ pub(crate) fn take_last(
 /// wanted and refused; part of the hint may have been appended, and nothing is kept of the script.
 fn take_byte(
     alloc: Global,
-    hints: &mut ScriptHints,
+    hints: &mut LineHints,
     held: &mut HeldLine,
     byte: u8,
     out: &mut Vec<u8>,
 ) -> Result<(), AllocError>
-    requires few { hints.old.number < 2 ^ 60 }
-    ensures told { OnOk result ((past : Past) → IsKept past hints.old → IsTold past held.old (byte ∷ []) hints.new held.new out.old.items out.new.items) }
-    ensures few { hints.new.number ≤ hints.old.number + 1 }
+    requires few { number_of hints.old < 2 ^ 60 }
+    ensures told { OnOk result ((past : Before) → IsKept past hints.old → IsTold past held.old (byte ∷ []) hints.new held.new out.old.items out.new.items) }
+    ensures few { number_of hints.new ≤ number_of hints.old + 1 }
     ensures ended { OnOk result (byte ≡ 10 → held.new ≡ []) }
 {
     if byte == b'\n' {
         match hints.push_hint(held.line(), out) {
             Err(error) => {
-                *hints = ScriptHints::new(alloc, Script::Loaded);
+                *hints = LineHints::new(alloc, Script::Loaded);
                 return Err(error);
             }
             Ok(()) => held.clear(),

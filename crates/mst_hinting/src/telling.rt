@@ -1,9 +1,11 @@
 ghost use Rattle.std.specs.Prelude.{◌≡◌, ◌+◌, ◌<◌, ◌^◌};
 ghost use Rattle.std.specs.Io.{ReadsAtMost};
 ghost use Rattle.mst_io.specs.Devices.{seen_by};
+ghost use Rattle.mst_hinting.specs.Kept.{number_of};
 
 use crate::hinted::{take_bytes, take_last};
-use mst_hints::{Script, ScriptHints};
+use crate::lines::LineHints;
+use mst_hints::Script;
 use mst_io::{Failed, HeldLine, RunFault, Sink, put};
 use std::alloc::Global;
 
@@ -25,7 +27,7 @@ pub(crate) enum State {
 pub struct Telling {
     alloc: Global,
     state: State,
-    hints: ScriptHints,
+    hints: LineHints,
     /// What has come of the next line.
     held: HeldLine,
     /// The hints that are still to be written.
@@ -34,7 +36,7 @@ pub struct Telling {
     at_end: bool,
     /// How many bytes more are taken.
     room: u64,
-    ghost few: { hints.number + room < 2 ^ 60 },
+    ghost few: { number_of hints + room < 2 ^ 60 },
 }
 
 impl Telling {
@@ -49,7 +51,7 @@ impl Telling {
         Telling {
             alloc,
             state: if wanted { State::On } else { State::Off },
-            hints: ScriptHints::new(alloc, of),
+            hints: LineHints::new(alloc, of),
             held: HeldLine::new(),
             text: Vec::new(alloc),
             at_end: false,

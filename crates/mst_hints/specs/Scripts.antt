@@ -19,15 +19,17 @@ use Rattle.mst_hints.specs.Records.{missing_of, added_of, made_by, same_record}
 use Rattle.mst_hints.specs.Standing.{Making, record_text, standing_of}
 use Rattle.mst_hints.specs.declared.record.Record.{Record}
 use Rattle.mst_hints.specs.declared.whose.Script.{Script}
-use Rattle.mst_hints.specs.declared.whose.Script.TheVariants.{Run, Loaded, Old, New}
+use Rattle.mst_hints.specs.declared.whose.Script.TheVariants.{Run, Loaded, Old, New, Policy, Change}
 
 -- ---- the scripts that hints are of
--- what stands before each hint, which tells the scripts of a comparison apart
+-- what stands before each hint, which tells the two inputs apart
 abbrev pub text_before : Script → List ℕ
 text_before Run = []
 text_before Loaded = []
 text_before Old = codes "old "
 text_before New = codes "new "
+text_before Policy = codes "policy "
+text_before Change = codes "change "
 
 -- whether the script's queries are asked and its marks made. Else its network alone is loaded
 abbrev pub is_run : Script → Bool
@@ -35,6 +37,8 @@ is_run Run = true
 is_run Loaded = false
 is_run Old = false
 is_run New = false
+is_run Policy = false
+is_run Change = false
 
 -- what a line says where the network alone is loaded: a query and a mark say nothing then
 abbrev pub edit_alone : Result Line Fault → Result Line Fault

@@ -18,7 +18,7 @@ pub(crate) fn form_of(word: &[u8]) -> Option<&'static [Argument]>
 }
 
 /// Whether the word is a command.
-pub(crate) fn is_command(word: &[u8]) -> bool
+pub fn is_command(word: &[u8]) -> bool
     ensures { result ≡ is_some (command_of word.now) }
 {
     form_of(word).is_some()

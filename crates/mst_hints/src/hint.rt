@@ -1,7 +1,7 @@
 ghost use Rattle.std.specs.Prelude.{◌≡◌, ◌++◌, ◌∷◌, [], true, Some, IfOk, OnOk, is_some, length, codes, decimal};
 ghost use Rattle.mst_lang.specs.Forms.{command_of};
 ghost use Rattle.mst_lang.specs.Words.{words};
-ghost use Rattle.mst_hints.specs.Hints.{hint_of, hint_line, too_long, byte_text, is_pcap as pcap, is_utf16 as utf16, unknown_text as unknown_of, number_text, words_text, wrong_text, form_hint, command_hint, form_text as form_text_of, takes_text as takes_text_of, count_text as count_text_of, besides, meant_text};
+ghost use Rattle.mst_hints.specs.Hints.{hint_of, hint_line, too_long, byte_text, is_pcap as pcap, is_utf16 as utf16, has_order_mark as order_mark, unknown_text as unknown_of, number_text, words_text, wrong_text, form_hint, command_hint, form_text as form_text_of, takes_text as takes_text_of, count_text as count_text_of, besides, meant_text};
 
 use crate::advice::push_advice;
 use crate::form::form_of;
@@ -65,7 +65,7 @@ fn push_byte(of: &[u8], number: u64, line: &[u8], out: &mut Vec<u8>) -> Result<b
 fn byte_words(line: &[u8]) -> &'static str
     ensures { result.now ≡ byte_text line.now }
 {
-    if line.starts_with(&[0xEF, 0xBB, 0xBF]) {
+    if has_order_mark(line) {
         "a byte order mark stands before the first word; a script has none"
     } else if is_utf16(line) {
         "this is UTF-16; a script is plain text of one byte a character"
@@ -76,7 +76,15 @@ fn byte_words(line: &[u8]) -> &'static str
     }
 }
 
-fn is_utf16(line: &[u8]) -> bool
+/// Whether it begins with a byte order mark.
+pub fn has_order_mark(line: &[u8]) -> bool
+    ensures { result ≡ order_mark line.now }
+{
+    line.starts_with(&[0xEF, 0xBB, 0xBF])
+}
+
+/// Whether it begins as a text in UTF-16 does, in either order of bytes.
+pub fn is_utf16(line: &[u8]) -> bool
     ensures { result ≡ utf16 line.now }
 {
     line.starts_with(&[0xFF, 0xFE]) || line.starts_with(&[0xFE, 0xFF])
@@ -101,13 +109,8 @@ fn push_too_long(of: &[u8], number: u64, out: &mut Vec<u8>) -> Result<bool, Allo
     push_text(of, number, "a line has at most 4096 bytes", out)
 }
 
-/// Appends a hint that is this text.
-pub(crate) fn push_text(
-    of: &[u8],
-    number: u64,
-    text: &str,
-    out: &mut Vec<u8>,
-) -> Result<bool, AllocError>
+/// Appends a hint that is this text, and says that there is one.
+pub fn push_text(of: &[u8], number: u64, text: &str, out: &mut Vec<u8>) -> Result<bool, AllocError>
     ensures hinted { IfOk result (λ there. there ≡ true) }
     ensures text { OnOk result (out.new.items ≡ out.old.items ++ hint_line of.now number (Some text.now)) }
 {
@@ -118,7 +121,7 @@ pub(crate) fn push_text(
 }
 
 /// Appends what a hint's line begins with.
-pub(crate) fn push_start(of: &[u8], number: u64, out: &mut Vec<u8>) -> Result<(), AllocError>
+pub fn push_start(of: &[u8], number: u64, out: &mut Vec<u8>) -> Result<(), AllocError>
     ensures { OnOk result (out.new.items ≡ out.old.items ++ of.now ++ codes "line " ++ decimal number ++ 32 ∷ []) }
 {
     push_bytes(of, out)?;
@@ -241,7 +244,9 @@ fn push_taken(form: &[Argument], out: &mut Vec<u8>) -> Result<(), AllocError>
     }
 }
 
-fn push_count(count: usize, out: &mut Vec<u8>) -> Result<(), AllocError>
+/// Appends how many words stand behind a first one. `AllocError`: memory was wanted and refused; part of the text may have been
+/// appended, as with each function here.
+pub fn push_count(count: usize, out: &mut Vec<u8>) -> Result<(), AllocError>
     ensures { OnOk result (out.new.items ≡ out.old.items ++ count_text_of count) }
 {
     if count == 1 {

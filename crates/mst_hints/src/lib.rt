@@ -22,6 +22,10 @@ mod unknown;
 mod whose;
 mod words;
 
-pub use hint::push_hint;
+pub use form::is_command;
+pub use hint::{has_order_mark, is_utf16, push_count, push_hint, push_start, push_text};
+pub use near::{is_in_case, is_within_one, is_within_two};
 pub use script::ScriptHints;
+pub use unknown::{push_question, push_saying};
 pub use whose::Script;
+pub use words::{has_comment, word_count};

@@ -4,7 +4,7 @@ ghost use Rattle.mst_hints.specs.Near.{one_change, is_in_case as in_case, is_joi
 
 /// Whether one word becomes the other by at most one change: a letter put in, left out, or exchanged with its
 /// neighbour.
-pub(crate) fn is_within_one(one: &[u8], other: &[u8]) -> bool
+pub fn is_within_one(one: &[u8], other: &[u8]) -> bool
     ensures { result ≡ within_one one.now other.now }
 {
     if is_one_change(one, other) {
@@ -40,7 +40,7 @@ fn is_one_change(one: &[u8], other: &[u8]) -> bool
 }
 
 /// Whether one word becomes the other by at most two changes.
-pub(crate) fn is_within_two(one: &[u8], other: &[u8]) -> bool
+pub fn is_within_two(one: &[u8], other: &[u8]) -> bool
     ensures { result ≡ within_two one.now other.now }
 {
     if are_two_changes(one, other) {
@@ -76,7 +76,7 @@ fn are_two_changes(one: &[u8], other: &[u8]) -> bool
 }
 
 /// Whether the word is the command but for its case.
-pub(crate) fn is_in_case(command: &[u8], word: &[u8]) -> bool
+pub fn is_in_case(command: &[u8], word: &[u8]) -> bool
     ensures { result ≡ in_case command.now word.now }
 {
     match command {

@@ -46,7 +46,7 @@ fn push_said_behind(word: &[u8], arguments: &[u8], out: &mut Vec<u8>) -> Result<
 }
 
 /// Appends a text behind what was said already.
-pub(crate) fn push_saying(saying: &[u8], out: &mut Vec<u8>) -> Result<(), AllocError>
+pub fn push_saying(saying: &[u8], out: &mut Vec<u8>) -> Result<(), AllocError>
     ensures { OnOk result (out.new.items ≡ out.old.items ++ besides (Some saying.now)) }
 {
     push_bytes(b"; ", out)?;
@@ -54,7 +54,7 @@ pub(crate) fn push_saying(saying: &[u8], out: &mut Vec<u8>) -> Result<(), AllocE
 }
 
 /// Asks whether the command was meant.
-fn push_question(command: &[u8], out: &mut Vec<u8>) -> Result<(), AllocError>
+pub fn push_question(command: &[u8], out: &mut Vec<u8>) -> Result<(), AllocError>
     ensures { OnOk result (out.new.items ≡ out.old.items ++ besides (Some (question command.now))) }
 {
     push_bytes(b"; ", out)?;

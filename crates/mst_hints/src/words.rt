@@ -24,7 +24,7 @@ pub(crate) fn are_plain(bytes: &[u8]) -> bool
 }
 
 /// How many words there are.
-pub(crate) fn word_count(text: &[u8]) -> usize
+pub fn word_count(text: &[u8]) -> usize
     ensures { result ≡ length (words text.now) }
 {
     let mut count = 0;
@@ -37,7 +37,7 @@ pub(crate) fn word_count(text: &[u8]) -> usize
 }
 
 /// Whether some word begins a comment.
-pub(crate) fn has_comment(text: &[u8]) -> bool
+pub fn has_comment(text: &[u8]) -> bool
     ensures { result ≡ list_any is_comment (words text.now) }
 {
     match next_word(text) {

@@ -1,7 +1,8 @@
 -- The values of the items of a list, one behind another.
-use Rattle.std.proofs.Common.{◌≡◌, ℕ, ◌+◌, ◌<◌, List, [], ◌∷◌, ◌++◌, length, get_or, drop, Option, Some, None, refl, sym, ap, ◌∙◌, append_assoc, arith}
+use Rattle.std.proofs.Common.{◌≡◌, ℕ, ◌+◌, ◌<◌, ◌&&◌, Bool, true, false, cond, is_some, is_ok, List, [], ◌∷◌, ◌++◌, length, get_or, drop, Option, Some, None, refl, sym, ap, ◌∙◌, append_assoc, arith}
 use Rattle.std.proofs.lemmas.List.{append-nil, at_drop_more, at_drop_all}
-use Rattle.std.specs.Option.{option_map, option_and_then}
+use Rattle.std.specs.Option.{option_map, option_and_then, ok_or}
+use Rattle.std.specs.List.{list_all}
 use Rattle.mst_policy.specs.Arguments.{all_values}
 
 -- some values, and those of further items behind them
@@ -53,3 +54,18 @@ good_item value made more x items item n m next is has adds whole =
 pub all_items : {A : Type 0} (value : List ℕ → Option A) (made : List A) (items : List (List ℕ)) (n : ℕ) → n ≡ length items → with_values value made (drop n items) ≡ all_values value items → all_values value items ≡ Some made
 all_items value made items n is whole =
     sym whole ∙ at_drop_all (with_values value made) items n (omega arith) ∙ with_values-nil value made
+
+-- ---- whether there is a value of a list
+pub there_where : {A F : Type 0} (b : Bool) (a : A) (fault : F) → is_ok (ok_or (cond b (Some a) None) fault) ≡ b
+there_where true a fault = refl
+there_where false a fault = refl
+
+-- of an item and of those behind it
+one_there : {A F : Type 0} (o : Option A) (all : Option (List A)) (fault : F) (b : Bool) → is_ok (ok_or all fault) ≡ b → is_ok (ok_or (option_and_then (λ first. option_map (λ others. first ∷ others) all) o) fault) ≡ (is_some o && b)
+one_there None all fault b same = refl
+one_there (Some a) None fault b same = same
+one_there (Some a) (Some others) fault b same = same
+
+pub values_there : {A F : Type 0} (value : List ℕ → Option A) (fault : F) (items : List (List ℕ)) → is_ok (ok_or (all_values value items) fault) ≡ list_all (λ item. is_some (value item)) items
+values_there value fault [] = refl
+values_there value fault (item ∷ items) = one_there (value item) (all_values value items) fault (list_all (λ i. is_some (value i)) items) (values_there value fault items)

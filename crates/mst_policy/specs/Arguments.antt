@@ -7,7 +7,7 @@ use Rattle.std.specs.Result.{result_ok}
 use Rattle.mst_lang.specs.Words.{one_of, two_of, three_of}
 use Rattle.mst_lang.specs.Arguments.{is_text, number_of, name, port_number}
 use Rattle.mst_lang.specs.declared.line.Fault.{Fault}
-use Rattle.mst_lang.specs.declared.line.Fault.TheVariants.{E01, E02, E03}
+use Rattle.mst_lang.specs.declared.line.Fault.TheVariants.{E01, E02}
 use Rattle.mst_policy.specs.Items.{port_item}
 use Rattle.mst_policy.specs.declared.item.NameItem.{NameItem}
 use Rattle.mst_policy.specs.declared.item.NameItem.TheVariants.{Is, Begins, Any}

@@ -1,5 +1,6 @@
 pub mod Items
 pub mod Faults
 pub mod Arguments
+pub mod Forms
 pub mod Reading
 pub mod Lines

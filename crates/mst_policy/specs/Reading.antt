@@ -1,54 +1,18 @@
 -- What a line of a policy promises, or the least fault of it.
-use Rattle.std.specs.Prelude.{ℕ, Bool, List, [], ◌∷◌, length, nat_lt, Result, Ok, Err, Option, Some, None, if◌then◌else◌, codes, find}
-use Rattle.std.specs.Option.{option_map, option_map_or}
+use Rattle.std.specs.Prelude.{ℕ, Bool, List, [], ◌∷◌, length, nat_lt, Result, Ok, Err, Option, Some, None, if◌then◌else◌, codes}
+use Rattle.std.specs.Option.{option_map}
 use Rattle.std.specs.List.{list_all}
-use Rattle.mst_lang.specs.Words.{words, is_plain, four_of}
-use Rattle.mst_lang.specs.Arguments.{is_text, name, tree, vids}
+use Rattle.mst_lang.specs.Words.{words, is_plain}
+use Rattle.mst_lang.specs.Arguments.{is_text}
 use Rattle.mst_lang.specs.Reading.{is_comment}
 use Rattle.mst_lang.specs.declared.line.Fault.{Fault}
 use Rattle.mst_lang.specs.declared.line.Fault.TheVariants.{E01, E02}
-use Rattle.mst_policy.specs.Arguments.{with, names_value, names, ports, roles, steps, none_of, one, two, three}
+use Rattle.mst_policy.specs.Arguments.{with, names_value}
+use Rattle.mst_policy.specs.Forms.{expected}
 use Rattle.mst_policy.specs.declared.expectation.Scope.{Scope}
 use Rattle.mst_policy.specs.declared.expectation.Scope.TheVariants.{Now, AfterLan, AfterBridge, Always}
 use Rattle.mst_policy.specs.declared.expectation.Expectation.{Expectation}
-use Rattle.mst_policy.specs.declared.expectation.Expectation.TheVariants.{Root, Region, Role, Reach, Apart, Leaf, Depth, Carries, Avoids, Fits}
 use Rattle.mst_policy.specs.declared.expectation.Promise.{Promise}
-
--- ---- expectations
--- a bridge is the root, and which one comes next isn't said, or is
-abbrev pub root_alone : ℕ → List ℕ → Expectation
-root_alone number bridge = Root number bridge None
-
-abbrev pub root_next : ℕ → List ℕ → List ℕ → Expectation
-root_next number bridge other = Root number bridge (Some other)
-
--- `TREE B next C`, or else `TREE B`
-abbrev pub with_next : List ℕ × List ℕ × List ℕ × List ℕ → Result Expectation Fault
-with_next w = if is_text w.2 (codes "next") then three tree name name root_next (w.0 ∷ w.1 ∷ w.3 ∷ []) else Err E01
-
-abbrev pub root : List (List ℕ) → Result Expectation Fault
-root arguments = option_map_or with_next (four_of arguments) (two tree name root_alone arguments)
-
--- the forms of expectations. Each is a word and what it makes of those behind it: how many they are, what each of them is in
--- their order, and what is expected by their values
-abbrev pub forms : List (List ℕ × (List (List ℕ) → Result Expectation Fault))
-forms =
-    (codes "root", root) ∷
-    (codes "region", one names Region) ∷
-    (codes "role", three tree ports roles Role) ∷
-    (codes "reach", two vids names Reach) ∷
-    (codes "apart", three vids names names Apart) ∷
-    (codes "leaf", two tree names Leaf) ∷
-    (codes "depth", two tree steps Depth) ∷
-    (codes "carries", two name vids Carries) ∷
-    (codes "avoids", two name vids Avoids) ∷
-    (codes "fits", none_of Fits) ∷
-    []
-
--- what words expect, by the form of the first of them; E01 where it has none
-abbrev pub expected : List (List ℕ) → Result Expectation Fault
-expected [] = Err E01
-expected (word ∷ arguments) = option_map_or (λ form. form.1 arguments) (find (λ form. is_text word form.0) forms) (Err E01)
 
 -- ---- scopes
 abbrev pub promise : Scope → Expectation → Promise

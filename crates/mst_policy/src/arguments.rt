@@ -1,4 +1,4 @@
-ghost use Rattle.std.specs.Prelude.{◌≡◌, ◌<◌, ◌==◌, length, position, IfOk, IfSome};
+ghost use Rattle.std.specs.Prelude.{◌≡◌, ◌<◌, ◌==◌, is_some, is_ok, length, position, IfOk, IfSome};
 ghost use Rattle.std.specs.Option.{option_map};
 ghost use Rattle.std.specs.List.{list_all};
 ghost use Rattle.mst_policy.specs.Arguments as values;
@@ -22,6 +22,20 @@ pub(crate) fn names(alloc: Global, word: &[u8]) -> Result<Option<NameList>, Allo
         items.push(item)?;
     }
     Ok(Some(items))
+}
+
+/// Whether a word is a list of names.
+pub(crate) fn are_names(word: &[u8]) -> bool
+    ensures { result ≡ is_ok (values.names word.now) }
+{
+    are_name_items(word)
+}
+
+fn are_name_items(word: &[u8]) -> bool
+    ensures { result ≡ list_all (λ item. is_some (values.name_item item)) (values.items_of word.now) }
+{
+    word.split(|byte| *byte == b',')
+        .all(|item| name_item(item).is_some())
 }
 
 /// An item of a list of names.
@@ -70,6 +84,20 @@ pub(crate) fn ports(alloc: Global, word: &[u8]) -> Result<Option<PortList>, Allo
     Ok(Some(items))
 }
 
+/// Whether a word is a list of ports.
+pub(crate) fn are_ports(word: &[u8]) -> bool
+    ensures { result ≡ is_ok (values.ports word.now) }
+{
+    are_port_items(word)
+}
+
+fn are_port_items(word: &[u8]) -> bool
+    ensures { result ≡ list_all (λ item. is_some (values.port_item_value item)) (values.items_of word.now) }
+{
+    word.split(|byte| *byte == b',')
+        .all(|item| port_item(item).is_some())
+}
+
 /// An item of a list of ports.
 fn port_item(item: &[u8]) -> Option<PortItem>
     ensures { result ≡ values.port_item_value item.now }
@@ -109,7 +137,7 @@ fn ports_of(word: &[u8]) -> Option<PortsOf>
 pub(crate) fn roles(word: &[u8]) -> Option<Roles>
     ensures { result ≡ values.roles_value word.now }
 {
-    if !are_roles(word) {
+    if !are_role_names(word) {
         return None;
     }
     Some(Roles {
@@ -122,7 +150,14 @@ pub(crate) fn roles(word: &[u8]) -> Option<Roles>
     })
 }
 
-fn are_roles(word: &[u8]) -> bool
+/// Whether a word is a list of roles.
+pub(crate) fn are_roles(word: &[u8]) -> bool
+    ensures { result ≡ is_ok (values.roles word.now) }
+{
+    are_role_names(word)
+}
+
+fn are_role_names(word: &[u8]) -> bool
     ensures { result ≡ list_all (values.is_among values.role_names) (values.items_of word.now) }
 {
     word.split(|byte| *byte == b',').all(|item| is_role(item))

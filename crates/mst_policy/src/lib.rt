@@ -2,13 +2,15 @@
 //!
 //! A policy is cut into lines and words as a script is, and its lines have a script's names, port numbers, trees and VIDs. A
 //! line is an expectation, or a scope and an expectation behind it: the scope says in which networks it is judged.
-//! [`parse_promise`] gives what a line promises, or the least [`Fault`](mst_lang::Fault) of it.
+//! [`parse_promise`] gives what a line promises, or the least [`Fault`](mst_lang::Fault) of it. [`forms`] is the table of
+//! expectations that it goes by.
 #![tactic(auto)]
 
 mod arguments;
 mod expectation;
+mod expected;
 mod fault;
-mod forms;
+mod form;
 mod item;
 pub mod laws;
 mod policy;
@@ -16,6 +18,7 @@ mod read;
 
 pub use expectation::{Expectation, Promise, Roles, Scope};
 pub use fault::text;
+pub use form::{Argument, Form, Kind, form_of, forms, is_argument};
 pub use item::{NameItem, NameList, PortItem, PortList, PortsOf};
 pub use policy::{Policy, PolicyLine};
 pub use read::parse_promise;

@@ -7,7 +7,7 @@ ghost use Rattle.mst_policy.specs.declared.expectation.Scope.TheVariants.{AfterL
 
 use crate::arguments::names;
 use crate::expectation::{Expectation, Promise, Scope};
-use crate::forms::{expectation, is_word};
+use crate::expected::{expectation, is_word};
 use mst_lang::{Fault, LONGEST, are_plain, next_word};
 use std::alloc::{AllocError, Global};
 

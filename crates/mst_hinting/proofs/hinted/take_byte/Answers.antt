@@ -1,6 +1,6 @@
 use Rattle.std.proofs.Common.{◌∷◌, [], ◌++◌, sym, subst, ap, ◌∙◌}
-use Rattle.mst_hints.specs.Kept.{IsKept}
-use Rattle.mst_hints.specs.Scripts.{past_after, hint_after}
+use Rattle.mst_hinting.specs.Kept.{IsKept}
+use Rattle.mst_hinting.specs.Lines.{past_after, hint_after}
 use Rattle.mst_hinting.specs.Hinted.{IsTold}
 use Rattle.mst_hinting.proofs.Tells.{told_byte, told_line}
 use Rattle.mst_hinting.proofs.hinted.take_byte.Goals as goal

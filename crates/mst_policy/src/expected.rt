@@ -5,11 +5,12 @@ ghost use Rattle.mst_lang.specs.Words.{words};
 ghost use Rattle.mst_lang.specs.Arguments as scripts;
 ghost use Rattle.mst_policy.specs.Arguments as values;
 ghost use Rattle.mst_policy.specs.Arguments.{none_of, one, two, three};
-ghost use Rattle.mst_policy.specs.Reading.{expected, root as root_words, root_alone as alone, root_next as and_next};
+ghost use Rattle.mst_policy.specs.Forms.{expected, rule_of, root as root_words, root_alone as alone, root_next as and_next};
 ghost use Rattle.mst_policy.specs.declared.expectation.Expectation.TheVariants as expectations;
 
 use crate::arguments::{names, ports, roles, steps};
 use crate::expectation::Expectation;
+use crate::form::{Kind, kind_of};
 use mst_lang::{Fault, four_words, name, next_word, one_word, three_words, tree, two_words, vids};
 use std::alloc::{AllocError, Global};
 
@@ -23,28 +24,32 @@ pub(crate) fn expectation(
     let Some((word, arguments)) = next_word(line) else {
         return Ok(Err(Fault::E01));
     };
-    if is_word(word, b"root") {
-        Ok(root(arguments))
-    } else if is_word(word, b"region") {
-        region(alloc, arguments)
-    } else if is_word(word, b"role") {
-        role(alloc, arguments)
-    } else if is_word(word, b"reach") {
-        reach(alloc, arguments)
-    } else if is_word(word, b"apart") {
-        apart(alloc, arguments)
-    } else if is_word(word, b"leaf") {
-        leaf(alloc, arguments)
-    } else if is_word(word, b"depth") {
-        Ok(depth(arguments))
-    } else if is_word(word, b"carries") {
-        Ok(carries(arguments))
-    } else if is_word(word, b"avoids") {
-        Ok(avoids(arguments))
-    } else if is_word(word, b"fits") {
-        Ok(fits(arguments))
-    } else {
-        Ok(Err(Fault::E01))
+    match kind_of(word, arguments) {
+        Some(kind) => of_kind(alloc, kind, arguments),
+        None => Ok(Err(Fault::E01)),
+    }
+}
+
+/// What words of a form expect, which stand behind its word.
+fn of_kind(
+    alloc: Global,
+    kind: Kind,
+    arguments: &[u8],
+) -> Result<Result<Expectation, Fault>, AllocError>
+    ensures { IfOk result (λ read. read ≡ (rule_of kind).says (words arguments.now)) }
+{
+    match kind {
+        Kind::Root => Ok(root_alone(arguments)),
+        Kind::RootNext => Ok(root(arguments)),
+        Kind::Region => region(alloc, arguments),
+        Kind::Role => role(alloc, arguments),
+        Kind::Reach => reach(alloc, arguments),
+        Kind::Apart => apart(alloc, arguments),
+        Kind::Leaf => leaf(alloc, arguments),
+        Kind::Depth => Ok(depth(arguments)),
+        Kind::Carries => Ok(carries(arguments)),
+        Kind::Avoids => Ok(avoids(arguments)),
+        Kind::Fits => Ok(fits(arguments)),
     }
 }
 
@@ -55,14 +60,13 @@ pub(crate) fn is_word(word: &[u8], text: &[u8]) -> bool
     word == text
 }
 
-/// A root, alone or with another bridge next.
+/// A root, with another bridge next.
 fn root(arguments: &[u8]) -> Result<Expectation, Fault>
     ensures { result ≡ root_words (words arguments.now) }
 {
     match four_words(arguments) {
-        Some((tree, bridge, b"next", next)) => root_next(tree, bridge, next),
-        Some(_) => Err(Fault::E01),
-        None => root_alone(arguments),
+        Some((tree, bridge, _, next)) => root_next(tree, bridge, next),
+        None => Err(Fault::E01),
     }
 }
 

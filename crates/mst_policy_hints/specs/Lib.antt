@@ -1,0 +1,3 @@
+pub use Rattle.mst_hints.specs as hints
+pub mod Near
+pub mod Hints

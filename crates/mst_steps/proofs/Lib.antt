@@ -1,0 +1,9 @@
+pub mod OnNamed
+pub mod Carried
+pub mod Users
+pub mod PortsByName
+pub mod PortsOfBoth
+pub mod Flagged
+pub mod SameFate
+pub mod CutMoves
+pub mod OneStep

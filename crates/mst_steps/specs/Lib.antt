@@ -1,0 +1,4 @@
+pub mod Links
+pub mod MovedVids
+pub mod StepText
+pub mod Seen

@@ -1,0 +1,60 @@
+-- The rows of what the steps of a change do.
+use Rattle.std.specs.Prelude.{◌≡◌, ℕ, Bool, List, [], ◌∷◌, ◌++◌, Option, Some, None, decimal, codes}
+use Rattle.std.specs.List.{flat_map}
+use Rattle.mst_kinds.specs.declared.kind.Kind.TheVariants as kind
+use Rattle.mst_kinds.specs.declared.step_line.StepLine.TheVariants as line
+use Rattle.mst_rows.specs.Cells.{number, trees, vids, word}
+use Rattle.mst_rows.specs.Rows.{Row, row_of}
+use Rattle.mst_net.specs.Tables.{Net}
+use Rattle.mst_diff.specs.trees.Outcome.{Outcome}
+use Rattle.mst_diff.specs.Reach.{has_any}
+use Rattle.mst_sweep.specs.declared.cuts.CutBy.TheVariants as by
+use Rattle.mst_sweep.specs.declared.failure.Failure.{Failure}
+use Rattle.mst_sweep.specs.Cuts.{AreCutsBy, group_rows, runs_of}
+use Rattle.mst_sweep.specs.Moved.{moved_roots, moved_ports}
+use Rattle.mst_sweep.specs.Parts.{AreParts}
+use Rattle.mst_sweep.specs.SweepText.{failure_row}
+use Rattle.mst_steps.specs.MovedVids.{AreVidsWhere, IsJoined, IsMoved}
+use Rattle.mst_steps.specs.declared.step.Step.{Step}
+use Rattle.mst_steps.specs.declared.step.Stepped.{Stepped}
+use Rattle.mst_steps.specs.declared.step.Walked.{Walked}
+
+-- `N-M`: the numbers of the first and of the last line
+abbrev pub lines_word : ℕ → ℕ → List ℕ
+lines_word first last = decimal first ++ codes "-" ++ decimal last
+
+-- `step K lines N-M roots T,T ports P moved VIDS cut VIDS joined VIDS`
+abbrev pub step_row : Step → List ℕ → ℕ → List (ℕ × ℕ) → List (ℕ × ℕ) → List (ℕ × ℕ) → Row
+step_row step roots ports moved cut joined =
+    row_of (kind.Step line.Step) (number step.number ∷ word (lines_word step.first step.last) ∷ trees roots ∷ number ports ∷ vids moved ∷ vids cut ∷ vids joined ∷ [])
+
+-- these are the rows of a step that makes the one network of the other, and whether it moves some VID and cuts some
+pub record AreStepRows (a : Net) (o : Outcome) (b : Net) (p : Outcome) (step : Step) (rows : List Row) (told : Stepped) : Type 0 where
+  pub moved : List ℕ
+  pub cut : List ℕ
+  pub joined : List ℕ
+  pub cut_rows : List Row
+  pub are_moved : AreVidsWhere (IsMoved a o b p) moved
+  pub are_cut : AreCutsBy (AreParts a o b p) (by.Step step.number) cut cut_rows
+  pub are_joined : AreVidsWhere (IsJoined a o b p) joined
+  pub moves : told.moves ≡ has_any moved
+  pub cuts : told.cuts ≡ has_any cut
+  pub are : rows ≡ step_row step (moved_roots a o b p) (moved_ports a o b p) (runs_of moved) (runs_of cut) (runs_of joined) ∷ cut_rows
+
+-- `steps K moving M cutting C`, and with a policy ` failing F`
+abbrev pub last_row : Walked → Option ℕ → Row
+last_row walked None = row_of (kind.Step line.Counts) (number walked.steps ∷ number walked.moving ∷ number walked.cutting ∷ [])
+last_row walked (Some failing) = row_of (kind.Step line.JudgedCounts) (number walked.steps ∷ number walked.moving ∷ number walked.cutting ∷ number failing ∷ [])
+
+-- a step is told as a failure is in a sweep: the same roots, the same number of ports, and the same VIDs cut into the same parts
+pub record IsAsInSweep (step : Step) (failure : Failure) (rows : List Row) (told : Stepped) (failed : List Row) (cuts : Bool) : Type 0 where
+  pub roots : List ℕ
+  pub ports : ℕ
+  pub moved : List (ℕ × ℕ)
+  pub cut : List (ℕ × ℕ)
+  pub joined : List (ℕ × ℕ)
+  pub parts : ℕ → List (List (List ℕ))
+  pub groups : List (List ℕ)
+  pub of_step : rows ≡ step_row step roots ports moved cut joined ∷ flat_map (group_rows (by.Step step.number) parts) groups
+  pub of_failure : failed ≡ failure_row failure roots ports cut ∷ flat_map (group_rows (by.One failure) parts) groups
+  pub both_cut : told.cuts ≡ cuts

@@ -1,0 +1,120 @@
+ghost use Rattle.std.specs.Prelude.{◌≡◌, ◌||◌, map, IfOk};
+ghost use Rattle.mst_net.specs.Tables.{Net, Numbers};
+ghost use Rattle.mst_diff.specs.trees.Agrees.{AreOf, Known};
+ghost use Rattle.mst_diff.specs.trees.Forest.{IsForest};
+ghost use Rattle.mst_diff.specs.Reach.{has_any};
+ghost use Rattle.mst_sweep.specs.Cuts.{names_of};
+ghost use Rattle.mst_sweep.specs.Parts.{AreParts};
+ghost use Rattle.mst_steps.specs.MovedVids.{IsJoined, IsMoved};
+ghost use Rattle.mst_steps.specs.Seen.{seen_carried, seen_differ};
+
+use crate::change::Change;
+use crate::links::{Link, are_same, between, carried};
+use crate::parts::{is_any, parts};
+use mst_diff::vlan_laws::islands_of_vid;
+use mst_ids::{Name, Vid};
+use mst_sweep::homes_of;
+use std::alloc::{AllocError, Global};
+
+/// What becomes of a VID: the parts that it is cut into, whether it is joined, and whether it moves.
+#[derive(Drop)]
+pub(crate) struct Fate {
+    pub(crate) parts: Vec<Vec<Name>>,
+    pub(crate) joins: bool,
+    pub(crate) moves: bool,
+}
+
+/// Whether the links between bridges that are on in both networks, of these before and afterwards, aren't the same.
+fn differ(
+    alloc: Global,
+    change: &Change,
+    before: &[Link],
+    afterwards: &[Link],
+) -> Result<bool, AllocError>
+    ensures { IfOk result (λ differ. differ ≡ seen_differ change.now.old.now.view.now change.now.new.now.view.now before.now afterwards.now) }
+{
+    let olds = between(alloc, change, before)?;
+    let news = between(alloc, change, afterwards)?;
+    Ok(!are_same(olds.as_slice(), news.as_slice()))
+}
+
+/// Whether a VID of these parts moves.
+fn is_moved(parts: &[Vec<Name>], joins: bool, differ: bool) -> bool
+    ensures { result ≡ (has_any (map (λ names. names.items) parts.now) || joins || differ) }
+{
+    is_any(parts) || joins || differ
+}
+
+/// What becomes of a VID, by what carries it before and afterwards.
+fn fate_by(
+    alloc: Global,
+    change: &Change,
+    before: &[Link],
+    afterwards: &[Link],
+    vid: Vid,
+) -> Result<Fate, AllocError>
+    requires old { Known change.now.old.now.view.now change.now.old.now.forest.now.regions }
+    requires new { Known change.now.new.now.view.now change.now.new.now.forest.now.regions }
+    requires before { before.now ≡ seen_carried change.now.old.now.view.now change.now.old.now.forest.now vid }
+    requires afterwards { afterwards.now ≡ seen_carried change.now.new.now.view.now change.now.new.now.forest.now vid }
+    ensures parts { IfOk result (λ fate. (a b : Net) (n k : Numbers) (is : IsForest a n change.now.old.now.forest.now) (are : IsForest b k change.now.new.now.forest.now) → AreOf a n change.now.old.now.view.now change.now.old.now.forest.now.regions → AreOf b k change.now.new.now.view.now change.now.new.now.forest.now.regions
+        → AreParts a is.outcome b are.outcome vid (names_of fate.parts)) }
+    ensures joins { IfOk result (λ fate. (a b : Net) (n k : Numbers) (is : IsForest a n change.now.old.now.forest.now) (are : IsForest b k change.now.new.now.forest.now) → AreOf a n change.now.old.now.view.now change.now.old.now.forest.now.regions → AreOf b k change.now.new.now.view.now change.now.new.now.forest.now.regions
+        → IsJoined a is.outcome b are.outcome vid fate.joins) }
+    ensures moves { IfOk result (λ fate. (a b : Net) (n k : Numbers) (is : IsForest a n change.now.old.now.forest.now) (are : IsForest b k change.now.new.now.forest.now) → AreOf a n change.now.old.now.view.now change.now.old.now.forest.now.regions → AreOf b k change.now.new.now.view.now change.now.new.now.forest.now.regions
+        → IsMoved a is.outcome b are.outcome vid fate.moves) }
+{
+    let olds = homes_of(alloc, change.old, vid)?;
+    let news = homes_of(alloc, change.new, vid)?;
+    let apart = parts(
+        alloc,
+        change.old,
+        change.new,
+        &olds,
+        &news,
+        change.both,
+        vid,
+    )?;
+    let joined = parts(
+        alloc,
+        change.new,
+        change.old,
+        &news,
+        &olds,
+        change.turned,
+        vid,
+    )?;
+    let joins = is_any(joined.as_slice());
+    let differ = differ(alloc, change, before, afterwards)?;
+    let moves = is_moved(apart.as_slice(), joins, differ);
+    Ok(Fate {
+        parts: apart,
+        joins,
+        moves,
+    })
+}
+
+/// What becomes of a VID. Where the same active ports are members on the same LANs before and afterwards, no islands are made.
+/// `AllocError`: memory was wanted and refused.
+pub(crate) fn fate_of(alloc: Global, change: &Change, vid: Vid) -> Result<Fate, AllocError>
+    requires old { Known change.now.old.now.view.now change.now.old.now.forest.now.regions }
+    requires new { Known change.now.new.now.view.now change.now.new.now.forest.now.regions }
+    ensures parts { IfOk result (λ fate. (a b : Net) (n k : Numbers) (is : IsForest a n change.now.old.now.forest.now) (are : IsForest b k change.now.new.now.forest.now) → AreOf a n change.now.old.now.view.now change.now.old.now.forest.now.regions → AreOf b k change.now.new.now.view.now change.now.new.now.forest.now.regions
+        → AreParts a is.outcome b are.outcome vid (names_of fate.parts)) }
+    ensures joins { IfOk result (λ fate. (a b : Net) (n k : Numbers) (is : IsForest a n change.now.old.now.forest.now) (are : IsForest b k change.now.new.now.forest.now) → AreOf a n change.now.old.now.view.now change.now.old.now.forest.now.regions → AreOf b k change.now.new.now.view.now change.now.new.now.forest.now.regions
+        → IsJoined a is.outcome b are.outcome vid fate.joins) }
+    ensures moves { IfOk result (λ fate. (a b : Net) (n k : Numbers) (is : IsForest a n change.now.old.now.forest.now) (are : IsForest b k change.now.new.now.forest.now) → AreOf a n change.now.old.now.view.now change.now.old.now.forest.now.regions → AreOf b k change.now.new.now.view.now change.now.new.now.forest.now.regions
+        → IsMoved a is.outcome b are.outcome vid fate.moves) }
+{
+    islands_of_vid();
+    let before = carried(alloc, change.old, vid)?;
+    let afterwards = carried(alloc, change.new, vid)?;
+    if are_same(before.as_slice(), afterwards.as_slice()) {
+        return Ok(Fate {
+            parts: Vec::new(alloc),
+            joins: false,
+            moves: false,
+        });
+    }
+    fate_by(alloc, change, before.as_slice(), afterwards.as_slice(), vid)
+}

@@ -1,0 +1,18 @@
+//! What one step of a change does between two settled networks: the trees whose roots move, how many roles, and the VIDs that move, that
+//! are cut and that are joined. So a step of which no VID moves is work that no traffic notices.
+#![tactic(auto)]
+
+mod change;
+mod classes;
+mod fate;
+mod fates;
+pub mod laws;
+mod links;
+mod on;
+mod parts;
+mod ports;
+mod step;
+mod told;
+
+pub use links::Link;
+pub use step::{Step, Stepped, Walked, put_last, put_step};

@@ -1,0 +1,224 @@
+ghost use Rattle.std.specs.Prelude.{◌≡◌, ◌++◌, ◌∷◌, [], List, IfOk, OnOk, None, Some, vec_len};
+ghost use Rattle.mst_ids.specs.Vids.{runs_from};
+ghost use Rattle.mst_rows.specs.Rows.{Row};
+ghost use Rattle.mst_net.specs.Tables.{Net, Numbers};
+ghost use Rattle.mst_diff.specs.trees.Agrees.{AreOf, Known};
+ghost use Rattle.mst_diff.specs.trees.Forest.{IsForest};
+ghost use Rattle.mst_diff.specs.plan_text.Bodies.{NumberEach};
+ghost use Rattle.mst_diff.specs.Reach.{has_any};
+ghost use Rattle.mst_diff.specs.Seen.{seen_both};
+ghost use Rattle.mst_sweep.specs.declared.cuts.CutBy.{CutBy as CutByOf};
+ghost use Rattle.mst_sweep.specs.declared.cuts.CutBy.TheVariants.{Step as StepOf};
+ghost use Rattle.mst_sweep.specs.Cuts.{rows_of, runs_of, AreCutsBy};
+ghost use Rattle.mst_sweep.specs.Parts.{AreParts};
+ghost use Rattle.mst_steps.specs.MovedVids.{AreVidsWhere, IsJoined, IsMoved};
+ghost use Rattle.mst_steps.specs.StepText.{last_row, lines_word as lines_word_of, step_row, AreStepRows};
+
+use crate::change::Change;
+use crate::fates::are_some;
+use crate::on::bridges_on;
+use crate::ports::{moved_ports, ports_of_both};
+use crate::told::{Told, told_of};
+use mst_diff::{Both, Planned, bridges_of_both, set_of};
+use mst_ids::{Tree, VidSet, push_bytes, push_decimal};
+use mst_kinds::{Kind, StepLine};
+use mst_rows::{Rows, Value, put};
+use mst_sweep::{CutBy, moved_roots, put_cuts};
+use std::alloc::{AllocError, Global};
+
+/// A step of a change.
+#[derive(Clone, Copy)]
+pub struct Step {
+    /// Its number, counted from 1.
+    pub number: u64,
+    /// The number of its first line with an edit.
+    pub first: u64,
+    /// And of its last.
+    pub last: u64,
+}
+
+/// Whether a step moves some VID, and whether it cuts some.
+#[derive(Clone, Copy)]
+pub struct Stepped {
+    pub moves: bool,
+    pub cuts: bool,
+}
+
+/// How many steps a change has, how many of them move some VID, and how many cut some.
+#[derive(Clone, Copy)]
+pub struct Walked {
+    pub steps: u64,
+    pub moving: u64,
+    pub cutting: u64,
+}
+
+/// The numbers of a first and a last line, as one word.
+fn lines_word(alloc: Global, first: u64, last: u64) -> Result<Vec<u8>, AllocError>
+    ensures { IfOk result (λ word. word.items ≡ lines_word_of first last) }
+{
+    let mut word = Vec::new(alloc);
+    push_decimal(first, &mut word)?;
+    push_bytes(b"-", &mut word)?;
+    push_decimal(last, &mut word)?;
+    Ok(word)
+}
+
+/// Puts the row of a step, by the word of its lines.
+fn put_row<'a, R: Rows>(
+    step: &Step,
+    lines: &'a [u8],
+    roots: &'a [Tree],
+    ports: u64,
+    moved: &'a VidSet,
+    cut: &'a VidSet,
+    joined: &'a VidSet,
+    out: &mut R,
+) -> Result<(), AllocError>
+    requires { lines.now ≡ lines_word_of step.now.first step.now.last }
+    ensures { (first : R) (rows : List Row) → R.grew first out.old rows
+        → OnOk result (R.grew first out.new (rows ++ step_row step.now roots.now ports (runs_from 0 moved.now) (runs_from 0 cut.now) (runs_from 0 joined.now) ∷ [])) }
+{
+    let values = [
+        Value::Number(step.number),
+        Value::Word(lines),
+        Value::Trees(roots),
+        Value::Number(ports),
+        Value::Vids(moved),
+        Value::Vids(cut),
+        Value::Vids(joined),
+    ];
+    put::<R>(Kind::Step(StepLine::Step), &values, out)
+}
+
+/// Puts the rows of a step, by what is told of it.
+fn put_told<R: Rows>(
+    alloc: Global,
+    step: &Step,
+    roots: &[Tree],
+    ports: u64,
+    told: &Told,
+    out: &mut R,
+) -> Result<Stepped, AllocError>
+    requires { NumberEach told.now.classes.numbers.items (vec_len told.now.cuts.parts) }
+    ensures { IfOk result (λ stepped. (stepped.moves ≡ has_any told.now.moved.items) × (stepped.cuts ≡ has_any told.now.cuts.vids.items)
+        × ((first : R) (rows : List Row) → R.grew first out.old rows
+        → R.grew first out.new (rows ++ step_row step.now roots.now ports (runs_of told.now.moved.items) (runs_of told.now.cuts.vids.items) (runs_of told.now.joined.items) ∷ rows_of (StepOf step.now.number) told.now.classes.numbers.items told.now.cuts))) }
+{
+    let lines = lines_word(alloc, step.first, step.last)?;
+    let moved = told.moved.as_slice();
+    let cut = told.cuts.vids.as_slice();
+    let joined = told.joined.as_slice();
+    put_row(
+        step,
+        lines.as_slice(),
+        roots,
+        ports,
+        &set_of(moved),
+        &set_of(cut),
+        &set_of(joined),
+        out,
+    )?;
+    put_cuts(&CutBy::Step(step.number), &told.classes, &told.cuts, out)?;
+    Ok(Stepped {
+        moves: are_some(moved),
+        cuts: are_some(cut),
+    })
+}
+
+/// The VIDs that a step cuts, joins and moves, by the bridges that both networks have.
+fn told_between(
+    alloc: Global,
+    old: &Planned,
+    new: &Planned,
+    both: &[Both],
+) -> Result<Told, AllocError>
+    requires old { Known old.now.view.now old.now.forest.now.regions }
+    requires new { Known new.now.view.now new.now.forest.now.regions }
+    requires both { both.now ≡ seen_both old.now.view.now new.now.view.now }
+    ensures numbered { IfOk result (λ told. NumberEach told.classes.numbers.items (vec_len told.cuts.parts)) }
+    ensures cut { IfOk result (λ told. (a b : Net) (n k : Numbers) (is : IsForest a n old.now.forest.now) (are : IsForest b k new.now.forest.now) → AreOf a n old.now.view.now old.now.forest.now.regions → AreOf b k new.now.view.now new.now.forest.now.regions
+        → (by : CutByOf) → AreCutsBy (AreParts a is.outcome b are.outcome) by told.cuts.vids.items (rows_of by told.classes.numbers.items told.cuts)) }
+    ensures joined { IfOk result (λ told. (a b : Net) (n k : Numbers) (is : IsForest a n old.now.forest.now) (are : IsForest b k new.now.forest.now) → AreOf a n old.now.view.now old.now.forest.now.regions → AreOf b k new.now.view.now new.now.forest.now.regions
+        → AreVidsWhere (IsJoined a is.outcome b are.outcome) told.joined.items) }
+    ensures moved { IfOk result (λ told. (a b : Net) (n k : Numbers) (is : IsForest a n old.now.forest.now) (are : IsForest b k new.now.forest.now) → AreOf a n old.now.view.now old.now.forest.now.regions → AreOf b k new.now.view.now new.now.forest.now.regions
+        → AreVidsWhere (IsMoved a is.outcome b are.outcome) told.moved.items) }
+{
+    let turned = bridges_of_both(alloc, new.view, old.view)?;
+    let old_on = bridges_on(alloc, old.view)?;
+    let new_on = bridges_on(alloc, new.view)?;
+    let change = Change {
+        old,
+        new,
+        both,
+        turned: turned.as_slice(),
+        old_on: &old_on,
+        new_on: &new_on,
+    };
+    told_of(alloc, &change)
+}
+
+/// Puts the rows of a step: which trees' roots move, how many roles, which VIDs move, which are cut and into which parts, and which are
+/// joined, and answers whether some move and whether some are cut. `old` is the plan of the network before the step, `new` that of the
+/// network after it. `AllocError`: memory was wanted and refused; some of the rows may have been put.
+///
+/// It looks at the roles of each logical port once for each tree, and once at what carries each class of VIDs that nothing tells apart in
+/// either network. Islands are made only of a class of which that isn't the same.
+pub fn put_step<R: Rows>(
+    alloc: Global,
+    step: &Step,
+    old: &Planned,
+    new: &Planned,
+    out: &mut R,
+) -> Result<Stepped, AllocError>
+    requires old { Known old.now.view.now old.now.forest.now.regions }
+    requires new { Known new.now.view.now new.now.forest.now.regions }
+    ensures { IfOk result (λ told. (a b : Net) (n k : Numbers) (is : IsForest a n old.now.forest.now) (are : IsForest b k new.now.forest.now) → AreOf a n old.now.view.now old.now.forest.now.regions → AreOf b k new.now.view.now new.now.forest.now.regions
+        → (own : List Row) × AreStepRows a is.outcome b are.outcome step.now own told × ((first : R) (rows : List Row) → R.grew first out.old rows → R.grew first out.new (rows ++ own))) }
+{
+    let both = bridges_of_both(alloc, old.view, new.view)?;
+    let told = told_between(alloc, old, new, both.as_slice())?;
+    let roots = moved_roots(alloc, old, new, both.as_slice())?;
+    let shared = ports_of_both(alloc, old.view, new.view)?;
+    let ports = moved_ports(old, new, shared.as_slice());
+    put_told(alloc, step, roots.as_slice(), ports, &told, out)
+}
+
+/// Puts the row of how many steps there are, how many of them move some VID and how many cut some.
+fn put_counts<R: Rows>(walked: &Walked, out: &mut R) -> Result<(), AllocError>
+    ensures { (first : R) (rows : List Row) → R.grew first out.old rows → OnOk result (R.grew first out.new (rows ++ last_row walked.now None ∷ [])) }
+{
+    let values = [
+        Value::Number(walked.steps),
+        Value::Number(walked.moving),
+        Value::Number(walked.cutting),
+    ];
+    put::<R>(Kind::Step(StepLine::Counts), &values, out)
+}
+
+/// Puts that row with how many steps a policy fails after.
+fn put_judged_counts<R: Rows>(walked: &Walked, failing: u64, out: &mut R) -> Result<(), AllocError>
+    ensures { (first : R) (rows : List Row) → R.grew first out.old rows → OnOk result (R.grew first out.new (rows ++ last_row walked.now (Some failing) ∷ [])) }
+{
+    let values = [
+        Value::Number(walked.steps),
+        Value::Number(walked.moving),
+        Value::Number(walked.cutting),
+        Value::Number(failing),
+    ];
+    put::<R>(Kind::Step(StepLine::JudgedCounts), &values, out)
+}
+
+/// Puts the last row: how many steps there are, how many of them move some VID, how many cut some, and with a policy after how many of them
+/// it isn't kept. `AllocError`: memory was wanted and refused; part of the row may have been put.
+pub fn put_last<R: Rows>(
+    walked: &Walked,
+    failing: Option<u64>,
+    out: &mut R,
+) -> Result<(), AllocError>
+    ensures { (first : R) (rows : List Row) → R.grew first out.old rows → OnOk result (R.grew first out.new (rows ++ last_row walked.now failing ∷ [])) }
+{
+    match failing {
+        None => put_counts(walked, out),
+        Some(failing) => put_judged_counts(walked, failing, out),
+    }
+}

@@ -1,0 +1,57 @@
+ghost use Rattle.std.specs.Prelude.{◌≡◌, ◌∷◌, ℕ, IfOk, vec_len};
+ghost use Rattle.mst_net.specs.Tables.{Net, Numbers};
+ghost use Rattle.mst_diff.specs.trees.Agrees.{AreOf, Known};
+ghost use Rattle.mst_diff.specs.trees.Forest.{IsForest};
+ghost use Rattle.mst_diff.specs.plan_text.Bodies.{NumberEach};
+ghost use Rattle.mst_sweep.specs.declared.cuts.CutBy.{CutBy as CutByOf};
+ghost use Rattle.mst_sweep.specs.Cuts.{rows_of, AreCutsBy};
+ghost use Rattle.mst_sweep.specs.Parts.{AreParts};
+ghost use Rattle.mst_steps.specs.MovedVids.{AreVidsWhere, IsJoined, IsMoved};
+
+use crate::change::Change;
+use crate::classes::classes_of_both;
+use crate::fates::{fates_at, flagged};
+use mst_diff::vids;
+use mst_graph::Numbering;
+use mst_ids::Vid;
+use mst_sweep::{Cuts, cuts_of};
+use std::alloc::{AllocError, Global};
+
+/// What is told of VIDs: those that are cut, by classes, those that are joined, and those that move.
+#[derive(Drop)]
+pub(crate) struct Told {
+    pub(crate) classes: Numbering,
+    pub(crate) cuts: Cuts,
+    pub(crate) joined: Vec<Vid>,
+    pub(crate) moved: Vec<Vid>,
+}
+
+/// The VIDs that a step cuts, joins and moves. `AllocError`: memory was wanted and refused.
+///
+/// It looks once at what carries each class of VIDs that nothing tells apart in either network, and makes islands where that isn't the same.
+pub(crate) fn told_of(alloc: Global, change: &Change) -> Result<Told, AllocError>
+    requires old { Known change.now.old.now.view.now change.now.old.now.forest.now.regions }
+    requires new { Known change.now.new.now.view.now change.now.new.now.forest.now.regions }
+    ensures numbered { IfOk result (λ told. NumberEach told.classes.numbers.items (vec_len told.cuts.parts)) }
+    ensures cut { IfOk result (λ told. (a b : Net) (n k : Numbers) (is : IsForest a n change.now.old.now.forest.now) (are : IsForest b k change.now.new.now.forest.now) → AreOf a n change.now.old.now.view.now change.now.old.now.forest.now.regions → AreOf b k change.now.new.now.view.now change.now.new.now.forest.now.regions
+        → (by : CutByOf) → AreCutsBy (AreParts a is.outcome b are.outcome) by told.cuts.vids.items (rows_of by told.classes.numbers.items told.cuts)) }
+    ensures joined { IfOk result (λ told. (a b : Net) (n k : Numbers) (is : IsForest a n change.now.old.now.forest.now) (are : IsForest b k change.now.new.now.forest.now) → AreOf a n change.now.old.now.view.now change.now.old.now.forest.now.regions → AreOf b k change.now.new.now.view.now change.now.new.now.forest.now.regions
+        → AreVidsWhere (IsJoined a is.outcome b are.outcome) told.joined.items) }
+    ensures moved { IfOk result (λ told. (a b : Net) (n k : Numbers) (is : IsForest a n change.now.old.now.forest.now) (are : IsForest b k change.now.new.now.forest.now) → AreOf a n change.now.old.now.view.now change.now.old.now.forest.now.regions → AreOf b k change.now.new.now.view.now change.now.new.now.forest.now.regions
+        → AreVidsWhere (IsMoved a is.outcome b are.outcome) told.moved.items) }
+{
+    let classes = classes_of_both(alloc, change.old.view, change.new.view)?;
+    let of = fates_at(alloc, change, classes.firsts.as_slice())?;
+    let all = vids(alloc)?;
+    let vids = all.as_slice();
+    let numbers = classes.numbers.as_slice();
+    let joined = flagged(alloc, vids, numbers, of.joins.as_slice())?;
+    let moved = flagged(alloc, vids, numbers, of.moves.as_slice())?;
+    let cuts = cuts_of(alloc, &classes, of.parts)?;
+    Ok(Told {
+        classes,
+        cuts,
+        joined,
+        moved,
+    })
+}
