@@ -6,6 +6,7 @@ pub mod EditNumbers
 pub mod Explained
 pub mod Staying
 pub mod SweepThere
+pub mod VerifyThere
 pub mod Swept
 pub mod Judgements
 pub mod PolicyRows

@@ -22,6 +22,9 @@ ghost use Rattle.mst_report.specs.Picturing.{Depicts};
 ghost use Rattle.mst_report.specs.Summarizing.{Summarizes};
 ghost use Rattle.mst_report.specs.Pairing.{SweepsPairs, SweepPairsParts};
 ghost use Rattle.mst_report.specs.Sweeping.{Sweeps, SweepsPart, SweepParts};
+ghost use Rattle.mst_report.specs.Verifying.{Verifies};
+ghost use Rattle.mst_policy.specs.declared.policy.PolicyLine.{PolicyLine as LineOf};
+ghost use Rattle.mst_verify.specs.Verified.{Counts as PolicyCounts};
 ghost use Rattle.mst_sweep.specs.SweepParts.{PartOf, ToldOfPart, whole_part, but_last_row};
 ghost use Rattle.mst_report.specs.State.{State, IsState, IsMark, IsMarkNow};
 ghost use Rattle.mst_picture.specs.changes.declared.subject.Entry.{Entry};
@@ -34,6 +37,7 @@ use mst_picture::plan_text_laws::{has_plan, one_plan};
 use mst_picture::text_laws::{has_rows, one_rows};
 use mst_picture::trees_laws::{has_outcome, one_outcome};
 use mst_sweep::laws::one_failure;
+use mst_verify::laws::reason_lists;
 
 /// Each query has an answer in each state, rows or a refusal.
 pub fn has_answer()
@@ -144,6 +148,17 @@ pub fn pair_parts()
 {
     one_outcome();
     mst_sweep::laws::pairs();
+}
+
+/// What is told of a policy: each network has one list of rows and one count of its lines, which the network and the lines alone settle.
+pub fn one_verification()
+    ensures some { (net : Net) (lines : List LineOf) → IsNetwork net → (counts : PolicyCounts) × (rows : List Row) × Verifies net lines counts rows }
+    ensures one { (net : Net) (lines : List LineOf) (c d : PolicyCounts) (rows other : List Row) → IsNetwork net → Verifies net lines c rows → Verifies net lines d other → (c ≡ d) × (rows ≡ other) }
+{
+    has_outcome();
+    networks();
+    reason_lists();
+    mst_verify::laws::one_verification();
 }
 
 /// What the change from one network to another does: there is one list of rows and one count of what differs, which the networks

@@ -2,7 +2,6 @@
 use Rattle.std.proofs.Common.{◌≡◌, ℕ, Bool, List, [], ◌∷◌, map, refl, sym, ap, ◌∙◌}
 use Rattle.std.specs.List.{AllByRecursion, filter}
 use Rattle.mst_ids.specs.Vids.{has}
-use Rattle.mst_ids.specs.declared.name.PortName.{PortName}
 use Rattle.mst_graph.specs.Islands.{Link as Ends}
 use Rattle.mst_graph.proofs.Splits.{map_of_map}
 use Rattle.mst_net.specs.ByTree.{table_in, vlans_in}

@@ -1,6 +1,6 @@
 -- The VIDs that a step cuts or joins move.
 use Rattle.std.proofs.Common.{◌≡◌, ◌||◌, ℕ, Bool, true, false, List, [], ◌∷◌, refl, sym, ap, subst, ◌∙◌, true≢false}
-use Rattle.std.specs.List.{Contains, filter}
+use Rattle.std.specs.List.{Contains}
 use Rattle.mst_ids.specs.Vids.{is_vid}
 use Rattle.mst_graph.proofs.Members.{from_filter, here, in_filter, in_none}
 use Rattle.mst_net.specs.Tables.{Net}

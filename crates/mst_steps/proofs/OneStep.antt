@@ -1,8 +1,6 @@
 -- A step has one list of rows, and one answer of whether it moves and whether it cuts.
-use Rattle.std.proofs.Common.{◌≡◌, ℕ, ◌||◌, Bool, true, List, ◌∷◌, refl, sym, ap, ◌∙◌}
-use Rattle.std.specs.List.{Contains, filter, flat_map}
-use Rattle.mst_ids.specs.Vids.{is_vid}
-use Rattle.mst_graph.specs.Groups.{AreGroups}
+use Rattle.std.proofs.Common.{◌≡◌, ℕ, ◌||◌, Bool, List, ◌∷◌, refl, sym, ap, ◌∙◌}
+use Rattle.std.specs.List.{Contains, flat_map}
 use Rattle.mst_net.specs.Tables.{Net}
 use Rattle.mst_rows.specs.Rows.{Row}
 use Rattle.mst_diff.specs.trees.Outcome.{Outcome}
@@ -13,7 +11,6 @@ use Rattle.mst_diff.proofs.trees_lemmas.Lists.{all_there}
 use Rattle.mst_diff.proofs.trees_lemmas.Looking.{filter_alike}
 use Rattle.mst_diff.proofs.plan_text_lemmas.OnePlan.{is_vid_there, OneGrouping}
 use Rattle.mst_diff.proofs.OneDiff.{OneList}
-use Rattle.mst_sweep.specs.declared.cuts.CutBy.{CutBy}
 use Rattle.mst_sweep.specs.declared.cuts.CutBy.TheVariants as by
 use Rattle.mst_sweep.specs.declared.failure.Failure.{Failure}
 use Rattle.mst_sweep.specs.Cuts.{group_rows, runs_of, AreCutsBy}

@@ -1,14 +1,11 @@
 -- The logical ports that two networks have, and their roles, under names.
-use Rattle.std.proofs.Common.{◌≡◌, ℕ, ◌+◌, ◌<◌, ◌≤◌, Bool, true, false, cond, List, [], ◌∷◌, ◌++◌, length, take, get_or, map, Option, Some, None, is_some, refl, sym, ap, ◌∙◌, arith, true≢false}
+use Rattle.std.proofs.Common.{◌≡◌, ℕ, ◌+◌, ◌≤◌, Bool, false, cond, List, [], ◌∷◌, length, map, Option, Some, None, refl, sym, ap, ◌∙◌, arith}
 use Rattle.std.specs.List.{AllByRecursion, Contains, filter_map, find, count_by, cons_option}
-use Rattle.std.specs.Map.{lookup}
-use Rattle.std.specs.Option.{option_map, option_map_or, option_and_then, option_or}
-use Rattle.std.proofs.lemmas.List.{take_more}
-use Rattle.std.proofs.lemmas.List.Folds.{find-append}
+use Rattle.std.specs.Option.{option_map, option_map_or, option_and_then}
 use Rattle.std.proofs.lemmas.List.Sums.{sum_by-cons}
 use Rattle.mst_ids.specs.declared.name.PortName.{PortName}
 use Rattle.mst_net.specs.Tables.{Net, Numbers, port_eq}
-use Rattle.mst_lag.specs.View.{LogicalPort, view_ports}
+use Rattle.mst_lag.specs.View.{LogicalPort}
 use Rattle.mst_lag.specs.Viewed.{Viewed, named_port}
 use Rattle.mst_lag.specs.declared.in_view.PortInView.{PortInView}
 use Rattle.mst_diff.specs.trees.Agrees.{AreOf}
@@ -24,7 +21,7 @@ use Rattle.mst_diff.proofs.Lists.{find-found, find-map}
 use Rattle.mst_sweep.specs.Moved.{is_other_role, port_moved}
 use Rattle.mst_sweep.proofs.Moved.{few_ports}
 use Rattle.mst_steps.specs.declared.ports.BothPorts.{BothPorts}
-use Rattle.mst_steps.specs.Seen.{seen_port_in_both, seen_both_ports, seen_moved, ArePortsByName}
+use Rattle.mst_steps.specs.Seen.{seen_port_in_both, seen_both_ports, seen_moved}
 
 -- ---- counts
 count_cons : {A : Type 0} (test : A → Bool) (x : A) (xs : List A) → count_by test (x ∷ xs) ≡ cond (test x) 1 0 + count_by test xs

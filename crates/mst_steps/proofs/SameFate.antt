@@ -1,5 +1,5 @@
 -- What becomes of VIDs: where nothing else carries one, it isn't cut, joined or moved; and VIDs that nothing tells apart have one fate.
-use Rattle.std.proofs.Common.{◌≡◌, ℕ, ◌||◌, not, Bool, true, false, List, [], map, refl, sym, ap, subst, ◌∙◌}
+use Rattle.std.proofs.Common.{◌≡◌, ℕ, ◌||◌, not, Bool, false, List, [], map, sym, ap, subst, ◌∙◌}
 use Rattle.std.specs.Bool.{Decides}
 use Rattle.std.specs.Cmp.Lexicographic.{bytes_decides, pointwise_decides}
 use Rattle.std.specs.List.{filter}
@@ -20,7 +20,7 @@ use Rattle.mst_sweep.proofs.StillJoined.{no_parts}
 use Rattle.mst_steps.specs.declared.links.Link.{Link}
 use Rattle.mst_steps.specs.Links.{carried, shared, staying, stays, same_link, same_links}
 use Rattle.mst_steps.specs.MovedVids.{IsCut, IsJoined, IsMoved, links_differ}
-use Rattle.mst_steps.specs.Seen.{seen_carried, seen_stays, seen_differ, HasOnly}
+use Rattle.mst_steps.specs.Seen.{seen_carried, seen_differ, HasOnly}
 use Rattle.mst_steps.proofs.Carried.{carried_alike, carried_same, ends_alike, ends_by, links_by}
 use Rattle.mst_steps.proofs.OnNamed.{stays_same}
 

@@ -1,6 +1,7 @@
 mod ask;
 mod asks;
 mod captures;
+mod changes;
 mod devices;
 mod diffs;
 mod faults;

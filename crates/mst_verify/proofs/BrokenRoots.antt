@@ -120,7 +120,7 @@ module _ (net : Net) (ok : IsNetwork net) (o : Outcome) (tree : ℕ) (roots_ther
     key_of : (bridge : List ℕ) → Contains bridges bridge → (row : BridgeRow) × (fin.get net.bridges bridge ≡ Some row)
     key_of bridge h = key_row net bridge (from_filter (is_concerned net o tree b) (fin.keys net.bridges) bridge h).0
 
-    one_next : (c d : List ℕ) → IsNextRoot net o tree b c → IsNextRoot net o tree b d → c ≡ d
+    pub one_next : (c d : List ℕ) → IsNextRoot net o tree b c → IsNextRoot net o tree b d → c ≡ d
     one_next c d x y =
         let r = key_of c x.among in
         let s = key_of d y.among in

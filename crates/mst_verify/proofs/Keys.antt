@@ -25,6 +25,7 @@ use Rattle.mst_summary.proofs.trees_lemmas.MstiTopology.{msti_is_sight}
 use Rattle.mst_summary.proofs.trees_lemmas.Sights.{bridge_from}
 use Rattle.mst_summary.proofs.trees_lemmas.Views.{bridges_are, bridges_rise, entry_there, names_differ}
 use Rattle.mst_summary.specs.roles.nested.Trees.{HasTree}
+use Rattle.mst_vlan.specs.Reach.{bridges_on}
 use Rattle.mst_note_text.specs.Depths.{ParentIn}
 
 -- ---- names
@@ -35,9 +36,18 @@ rising_once (a ∷ names) h = (λ there. names_differ a a (all_contained (λ b. 
 keys_rise : (net : Net) → Apart (λ a b. name_cmp a b ≡ Less) (fin.keys net.bridges)
 keys_rise net = apart_mapped (λ (e f : List ℕ × BridgeRow). name_cmp e.0 f.0 ≡ Less) (λ a b. name_cmp a b ≡ Less) (λ (e : List ℕ × BridgeRow). e.0) (λ e f l. l) (fin.entries net.bridges) (bridges_rise net)
 
--- those of the names that pass a test stand once
+-- the names stand once, and those of them that pass a test, and those that are on
+pub keys_once : (net : Net) → StandOnce (fin.keys net.bridges)
+keys_once net = rising_once (fin.keys net.bridges) (keys_rise net)
+
 pub names_once : (net : Net) (test : List ℕ → Bool) → StandOnce (filter test (fin.keys net.bridges))
 names_once net test = rising_once (filter test (fin.keys net.bridges)) (apart_filtered (λ a b. name_cmp a b ≡ Less) test (fin.keys net.bridges) (keys_rise net))
+
+pub on_once : (net : Net) → StandOnce (bridges_on net)
+on_once net =
+    rising_once (bridges_on net)
+    (apart_mapped (λ (e f : List ℕ × BridgeRow). name_cmp e.0 f.0 ≡ Less) (λ a b. name_cmp a b ≡ Less) (λ (e : List ℕ × BridgeRow). e.0) (λ e f l. l) (filter (λ (e : List ℕ × BridgeRow). e.1.is_on) (fin.entries net.bridges))
+    (apart_filtered (λ (e f : List ℕ × BridgeRow). name_cmp e.0 f.0 ≡ Less) (λ (e : List ℕ × BridgeRow). e.1.is_on) (fin.entries net.bridges) (bridges_rise net)))
 
 -- a bridge that has a row is one of them, and the other way round
 pub key_there : (net : Net) (name : List ℕ) (row : BridgeRow) → fin.get net.bridges name ≡ Some row → Contains (fin.keys net.bridges) name

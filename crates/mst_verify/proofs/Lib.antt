@@ -31,3 +31,10 @@ pub mod FlatMore
 pub mod OverSeen
 pub mod VidFlags
 pub mod NoLimitRows
+pub mod Failed
+pub mod OneReasons
+pub mod SomeChildren
+pub mod SomeReasons
+pub mod OneVerified
+pub mod ReachLinked
+pub mod CutsFail

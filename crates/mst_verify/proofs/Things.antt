@@ -1,8 +1,8 @@
 -- Lists: whether there is something, and what a filter and a map to lists leave.
-use Rattle.std.proofs.Common.{◌≡◌, ◌↔◌, ◌⊎◌, inl, inr, Bool, true, false, ◌||◌, true≢false, List, [], ◌∷◌, ◌++◌, map, Option, Some, None, refl, sym, ap, subst, ◌∙◌}
+use Rattle.std.proofs.Common.{◌≡◌, ◌↔◌, ◌⊎◌, inl, inr, Bool, true, false, cond, ◌||◌, true≢false, List, [], ◌∷◌, ◌++◌, map, Option, Some, None, refl, sym, ap, subst, ◌∙◌}
 use Rattle.std.specs.Prelude.{if◌then◌else◌}
 use Rattle.std.specs.List.{Contains, filter, filter_map, flat_map, list_any}
-use Rattle.mst_graph.specs.Groups.{IsThinned, nothing, kept, left_out}
+use Rattle.mst_graph.specs.Groups.{IsThinned, StandOnce, nothing, kept, left_out}
 use Rattle.mst_graph.proofs.Members.{here, there, cases, in_none, in_filter, from_filter}
 use Rattle.mst_summary.specs.diff.Reach.{has_any}
 use Rattle.mst_summary.proofs.trees_lemmas.Lists.{kept_in, kept_from, no_some}
@@ -88,6 +88,20 @@ none_kept f xs h = no_any (filter_map f xs) (not_any (filter_map f xs) (λ y k. 
 pub thinned_self : {A : Type 0} (xs : List A) → IsThinned xs xs
 thinned_self [] = nothing
 thinned_self (x ∷ xs) = kept (thinned_self xs)
+
+-- ---- lists without repeats
+pub once_filtered : {A : Type 0} (test : A → Bool) (xs : List A) → StandOnce xs → StandOnce (filter test xs)
+once_filtered test [] h = tt
+once_filtered test (x ∷ xs) h = go (test x) (once_filtered test xs h.1)
+  where
+    go : (b : Bool) → StandOnce (filter test xs) → StandOnce (cond b (x ∷ filter test xs) (filter test xs))
+    go true rest = (λ there. h.0 (from_filter test xs x there).0, rest)
+    go false rest = rest
+
+-- ---- the same of each
+pub each_same : {A B : Type 0} (f g : A → List B) (xs : List A) → ((x : A) → Contains xs x → f x ≡ g x) → flat_map f xs ≡ flat_map g xs
+each_same f g [] h = refl
+each_same f g (x ∷ xs) h = let first = h x (here x xs) in let others = each_same f g xs (λ y k. h y (there x y xs k)) in λ i. first i ++ others i
 
 -- ---- lists of what there is of names
 pub flat_named : {A B C : Type 0} (name : A → B) (f g : B → List C) → ((x : B) → f x ≡ g x) → (xs : List A) → flat_map (λ x. f (name x)) xs ≡ flat_map g (map name xs)

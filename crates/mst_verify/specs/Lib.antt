@@ -16,3 +16,6 @@ pub mod Seen
 pub mod Islands
 pub mod Told
 pub mod Verified
+pub mod OneText
+pub mod Linked
+pub mod Whole

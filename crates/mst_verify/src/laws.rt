@@ -1,15 +1,29 @@
 //! Laws of what a policy promises. Their functions do nothing: a caller has their clauses.
-ghost use Rattle.std.specs.Prelude.{◌≡◌, ◌↔◌, [], List};
+ghost use Rattle.std.specs.Prelude.{◌≡◌, ◌↔◌, ℕ, Bool, false, [], List};
+ghost use Rattle.std.specs.List.{Contains};
 ghost use Rattle.mst_policy.specs.declared.expectation.Expectation.{Expectation as ExpectationOf};
+ghost use Rattle.mst_policy.specs.declared.item.NameItem.{NameItem as ItemOf};
+ghost use Rattle.mst_policy.specs.declared.policy.PolicyLine.{PolicyLine as LineOf};
+ghost use Rattle.mst_rows.specs.Rows.{Row};
 ghost use Rattle.mst_summary.specs.net.Tables.{Net, IsNetwork};
 ghost use Rattle.mst_summary.specs.trees.Outcome.{Outcome, IsOutcome};
+ghost use Rattle.mst_sweep.specs.Cuts.{AreCuts};
+ghost use Rattle.mst_sweep.specs.Failures.{failures};
+ghost use Rattle.mst_sweep.specs.SweepText.{Told, IsTold};
+ghost use Rattle.mst_sweep.specs.declared.failure.Failure.{Failure as FailureOf};
 ghost use Rattle.mst_verify.specs.Named.{Gone};
-ghost use Rattle.mst_verify.specs.Holds.{Holds};
+ghost use Rattle.mst_verify.specs.Holds.{AllReach, Holds};
+ghost use Rattle.mst_verify.specs.Judged.{HoldsAfter, IsKept};
+ghost use Rattle.mst_verify.specs.Linked.{AllPass, AllAreLinked, StayLinked, always_reach};
+ghost use Rattle.mst_verify.specs.OneText.{AreOneText, HasOneList};
 ghost use Rattle.mst_verify.specs.Reasons.{AreReasons};
+ghost use Rattle.mst_verify.specs.Whole.{AreAllVids, Fails, IsWhole, NoneIsCut, reach_all};
 ghost use Rattle.mst_verify.specs.declared.reason.Reason.{Reason as ReasonOf};
 
+use mst_net::laws::networks;
 use mst_note_text::laws::notes;
-use mst_summary::trees_laws::nested;
+use mst_summary::trees_laws::{has_outcome, nested, one_outcome};
+use mst_vlan::laws::{islands_of_vid, joined_without_loop};
 
 /// A reason is told exactly where an expectation doesn't hold.
 pub fn told_where_broken()
@@ -18,4 +32,47 @@ pub fn told_where_broken()
 {
     nested();
     notes();
+}
+
+/// There is one list of reasons why an expectation doesn't hold in a network.
+pub fn reason_lists()
+    ensures one { (net : Net) (o : Outcome) (before : Net) (gone : Gone) (expectation : ExpectationOf) → IsNetwork net → IsOutcome net o → HasOneList net o before gone expectation }
+    ensures some { (net : Net) (o : Outcome) (before : Net) (gone : Gone) (expectation : ExpectationOf) → IsNetwork net → IsOutcome net o → (reasons : List ReasonOf) × AreReasons net o before gone expectation reasons }
+{
+    nested();
+    notes();
+    islands_of_vid();
+}
+
+/// A policy has one list of rows of a network, and one count of its lines, whichever settled outcome it is judged by.
+pub fn one_verification()
+    ensures { (net : Net) (o p : Outcome) (lines : List LineOf) → IsNetwork net → IsOutcome net o → IsOutcome net p → AreOneText net o p lines }
+{
+    one_outcome();
+    networks();
+    reason_lists();
+}
+
+/// Where no logical port's role is restricted and each is a member of the VLANs of the VIDs, of which there is one, bridges reach each other in
+/// these exactly where any two of them are on, and enabled ports link them. And so it is always promised exactly of bridges that are linked
+/// so, and stay it after each failure.
+pub fn reach_where_linked()
+    ensures now { (net : Net) (o : Outcome) (vids : List Bool) (bridges : List (List ℕ)) → IsNetwork net → IsOutcome net o → AllPass net vids → AllReach net o vids bridges ↔ AllAreLinked net bridges }
+    ensures always { (net : Net) (o : Outcome) (vids : List Bool) (names : List ItemOf) → IsNetwork net → IsOutcome net o → AllPass net vids → IsKept net o (always_reach vids names) ↔ StayLinked net names }
+{
+    joined_without_loop();
+    has_outcome();
+    networks();
+}
+
+/// Where all bridges of a network reach each other in some VIDs, those that a failure leaves do afterwards exactly where it cuts none of these. And of
+/// all VIDs, where a sweep doesn't count it among those that cut some.
+pub fn cuts_are_failures()
+    ensures vids { (net failed : Net) (o p : Outcome) (failure : FailureOf) (vids : List Bool) (cut : List ℕ) (rows : List Row)
+        → Fails net o failure failed p → IsWhole net o vids → AreCuts net o failed p failure cut rows → HoldsAfter net failure (reach_all vids) ↔ NoneIsCut vids cut }
+    ensures counted { (net : Net) (o : Outcome) (failure : FailureOf) (vids : List Bool) (told : Told)
+        → IsNetwork net → IsOutcome net o → Contains (failures net) failure → AreAllVids vids → IsWhole net o vids → IsTold net o failure told → HoldsAfter net failure (reach_all vids) ↔ (told.cuts ≡ false) }
+{
+    one_outcome();
+    networks();
 }

@@ -1,4 +1,4 @@
-use Rattle.std.proofs.Common.{ℕ, Bool, List, sym, subst}
+use Rattle.std.proofs.Common.{ℕ, Bool, List, subst}
 use Rattle.std.proofs.lemmas.Result.{IfOk-weaker}
 use Rattle.mst_diff.specs.plan_text.Alike.{TellApart}
 use Rattle.mst_steps.proofs.classes.classes_of_both.Goals as goal

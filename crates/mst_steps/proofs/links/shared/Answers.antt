@@ -1,4 +1,4 @@
-use Rattle.std.proofs.Common.{◌≡◌, ℕ, List, sym, ap, subst, ◌∙◌, filter}
+use Rattle.std.proofs.Common.{◌∙◌}
 use Rattle.std.specs.HashSet.{contains}
 use Rattle.std.proofs.lemmas.Result.{IfOk-weaker}
 use Rattle.mst_lag.specs.Aggregation.{same_name}

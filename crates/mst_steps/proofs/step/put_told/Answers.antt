@@ -1,4 +1,4 @@
-use Rattle.std.proofs.Common.{◌≡◌, ℕ, List, ◌∷◌, ◌++◌, [], ap, subst, ◌∙◌, append_assoc}
+use Rattle.std.proofs.Common.{◌≡◌, List, ◌∷◌, ◌++◌, [], ap, subst, ◌∙◌, append_assoc}
 use Rattle.mst_ids.specs.Vids.{runs_from, set_where}
 use Rattle.mst_lag.specs.Trees.{is_among}
 use Rattle.mst_rows.specs.Rows.{Row}

@@ -1,8 +1,6 @@
 use Rattle.std.proofs.Common.{◌≡◌, ◌+◌, ℕ, Bool, false, List, length, map, filter, sym, ap, subst, ◌∙◌}
 use Rattle.std.specs.List.{AllZip}
-use Rattle.mst_diff.specs.plan_text.Alike.{AreAlike}
 use Rattle.mst_diff.specs.plan_text.Bodies.{NumberEach}
-use Rattle.mst_diff.specs.plan_text.PlanText.{all_vids}
 use Rattle.mst_diff.proofs.plan_text_lemmas.Classes.{numbers_below}
 use Rattle.mst_sweep.specs.Cuts.{names_of, parts_at, rows_of}
 use Rattle.mst_sweep.specs.Parts.{AreParts}

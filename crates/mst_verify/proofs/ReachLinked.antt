@@ -1,0 +1,91 @@
+-- Where all may pass, bridges reach each other just where enabled ports link them.
+use Rattle.std.proofs.Common.{◌≡◌, ◌≢◌, ◌↔◌, ◌⊎◌, inl, inr, ℕ, Bool, true, false, true≢false, List, None, Ok, refl, sym, ◌∙◌}
+use Rattle.std.specs.Cmp.Lexicographic.{bytes_decides}
+use Rattle.std.specs.List.{Contains}
+use Rattle.mst_lang.specs.Ranges.{InRange}
+use Rattle.mst_lang.specs.declared.line.Edit.{Edit}
+use Rattle.mst_net.specs.After.{after}
+use Rattle.mst_net.specs.Tables.{Net, IsNetwork}
+use Rattle.mst_lag.specs.Aggregation.{same_name}
+use Rattle.mst_lag.specs.View.{IsUnrestricted}
+use Rattle.mst_graph.specs.Walks.{Node, Walk, bridge_at}
+use Rattle.mst_policy.specs.declared.item.NameItem.{NameItem}
+use Rattle.mst_summary.specs.trees.Outcome.{Outcome, IsOutcome}
+use Rattle.mst_vlan.specs.Active.{active_ports, port_ends, IsEnabled}
+use Rattle.mst_sweep.specs.Failures.{edit_of, failures}
+use Rattle.mst_sweep.specs.declared.failure.Failure.{Failure}
+use Rattle.mst_sweep.specs.declared.failure.Failure.TheVariants.{Lan, Bridge}
+use Rattle.mst_sweep.proofs.CutApart.{joined_linked, linked_joined}
+use Rattle.mst_verify.specs.Holds.{AllReach, IsReached}
+use Rattle.mst_verify.specs.Judged.{asks, gone_of, IsKept}
+use Rattle.mst_verify.specs.Linked.{AllPass, AllAreLinked, AreLinkedOn, StayLinked, always_reach}
+use Rattle.mst_verify.specs.Named.{named, vids_in}
+use Rattle.mst_verify.proofs.Failed.{in_range, stay_members, stays_free}
+use Rattle.mst_verify.proofs.Things.{any_there}
+
+-- what enabled ports link, active ports do, in any network where no role is restricted
+abbrev ActiveLink : Type 0
+ActiveLink = (net : Net) (o : Outcome) (vid : ℕ) → IsNetwork net → IsOutcome net o → IsUnrestricted net → (x y : Node (List ℕ) (List ℕ)) → Walk port_ends (IsEnabled net) x y → Walk port_ends (Contains (active_ports net o vid)) x y
+
+-- names are one or are two
+pub same_or_not : (x y : List ℕ) → (x ≡ y) ⊎ (x ≢ y)
+same_or_not x y = go (same_name x y) refl
+  where
+    go : (b : Bool) → same_name x y ≡ b → (x ≡ y) ⊎ (x ≢ y)
+    go true e = inl ((bytes_decides x y).0 e)
+    go false e = inr (λ same. true≢false (sym ((bytes_decides x y).1 same) ∙ e))
+
+module _ (active : ActiveLink) (net : Net) (o : Outcome) (vids : List Bool) (bridges : List (List ℕ)) (ok : IsNetwork net) (is : IsOutcome net o) (pass : AllPass net vids) where
+  reach_linked : AllReach net o vids bridges → AllAreLinked net bridges
+  reach_linked all x y hx hy other = let vid = any_there (vids_in vids) pass.some in go vid.0 vid.1 (all vid.0 vid.1 x y hx hy)
+    where
+      go : (vid : ℕ) → Contains (vids_in vids) vid → IsReached net o vid x y → AreLinkedOn net x y
+      go vid h (inl same) = absurd (other same)
+      go vid h (inr t) = record { first = t.first; second = t.second; linked = joined_linked net o vid (pass.members vid h) x y t.joined }
+
+  linked_reach : AllAreLinked net bridges → AllReach net o vids bridges
+  linked_reach all vid h x y hx hy = elim (same_or_not x y) [
+    | inl same ↦ inl same
+    | inr other ↦
+        let l = all x y hx hy other in
+        inr (record { first = l.first; second = l.second; joined = linked_joined net o vid (pass.members vid h) (λ x y. active net o vid ok is pass.unrestricted (bridge_at x) (bridge_at y)) x y l.linked })
+  ]
+
+  pub reach_where_linked : AllReach net o vids bridges ↔ AllAreLinked net bridges
+  reach_where_linked = (reach_linked, linked_reach)
+
+-- `always` asks for each failure
+asked : (vids : List Bool) (names : List NameItem) (failure : Failure) → asks (always_reach vids names) failure ≡ true
+asked vids names (Lan lan) = refl
+asked vids names (Bridge bridge) = refl
+
+module _ (active : ActiveLink) (outcomes : (net : Net) → IsNetwork net → (o : Outcome) × IsOutcome net o)
+    (networks : (edit : Edit) (net new : Net) → InRange edit → IsNetwork net → after edit net ≡ Ok new → IsNetwork new) (net : Net) (o : Outcome) (vids : List Bool) (names : List NameItem) (ok : IsNetwork net) (is : IsOutcome net o)
+    (pass : AllPass net vids) where
+  still : (failure : Failure) (failed : Net) → after (edit_of failure) net ≡ Ok failed → AllPass failed vids
+  still failure failed e = record {
+    some = pass.some;
+    members = λ vid h. stay_members failure net failed e vid (pass.members vid h);
+    unrestricted = stays_free failure net failed e pass.unrestricted;
+  }
+
+  network : (failure : Failure) → Contains (failures net) failure → (failed : Net) → after (edit_of failure) net ≡ Ok failed → IsNetwork failed
+  network failure h failed e = networks (edit_of failure) net failed (in_range net ok failure h) ok e
+
+  kept_linked : IsKept net o (always_reach vids names) → StayLinked net names
+  kept_linked kept = record {
+    now = reach_linked active net o vids (named net None names) ok is pass (kept.now refl);
+    failed = λ failure h left e.
+        let its = network failure h left e in
+        let p = outcomes left its in
+        reach_linked active left p.0 vids (named left (gone_of failure) names) its p.1 (still failure left e) (kept.failed failure h (asked vids names failure) left p.0 e p.1);
+  }
+
+  linked_kept : StayLinked net names → IsKept net o (always_reach vids names)
+  linked_kept stay = record {
+    now = λ _. linked_reach active net o vids (named net None names) ok is pass stay.now;
+    failed = λ failure h _ failed p e its. linked_reach active failed p vids (named failed (gone_of failure) names) (network failure h failed e) its (still failure failed e) (stay.failed failure h failed e);
+  }
+
+  pub kept_where_linked : IsKept net o (always_reach vids names) ↔ StayLinked net names
+  kept_where_linked = (kept_linked, linked_kept)

@@ -1,0 +1,42 @@
+-- Bridges that enabled ports link, and that stay so.
+use Rattle.std.specs.Prelude.{◌≡◌, ◌≢◌, ℕ, true, Bool, List, Ok, None}
+use Rattle.std.specs.List.{Contains}
+use Rattle.mst_lag.specs.View.{IsUnrestricted}
+use Rattle.mst_policy.specs.declared.expectation.Expectation.TheVariants as expect
+use Rattle.mst_policy.specs.declared.expectation.Promise.{Promise}
+use Rattle.mst_policy.specs.declared.expectation.Scope.TheVariants as scope
+use Rattle.mst_policy.specs.declared.item.NameItem.{NameItem}
+use Rattle.mst_summary.specs.diff.Reach.{has_any}
+use Rattle.mst_summary.specs.net.After.{after}
+use Rattle.mst_summary.specs.net.Tables.{Net}
+use Rattle.mst_vlan.specs.Reach.{bridges_on}
+use Rattle.mst_sweep.specs.Apart.{AllAreMembers, AreLinked}
+use Rattle.mst_sweep.specs.Failures.{edit_of, failures}
+use Rattle.mst_sweep.specs.declared.failure.Failure.{Failure}
+use Rattle.mst_verify.specs.Judged.{gone_of}
+use Rattle.mst_verify.specs.Named.{named, vids_in}
+
+-- there are such VIDs, every logical port is a member of each of their VLANs, and no port's role is restricted
+pub record AllPass (net : Net) (vids : List Bool) : Type 0 where
+  pub some : has_any (vids_in vids) ≡ true
+  pub members : (vid : ℕ) → Contains (vids_in vids) vid → AllAreMembers net vid
+  pub unrestricted : IsUnrestricted net
+
+-- two bridges are on, and a walk of enabled ports links them
+pub record AreLinkedOn (net : Net) (x y : List ℕ) : Type 0 where
+  pub first : Contains (bridges_on net) x
+  pub second : Contains (bridges_on net) y
+  pub linked : AreLinked net x y
+
+-- so are any two different ones of these
+abbrev pub AllAreLinked : Net → List (List ℕ) → Type 0
+AllAreLinked net bridges = (x y : List ℕ) → Contains bridges x → Contains bridges y → x ≢ y → AreLinkedOn net x y
+
+-- the bridges of NAMES are so in the network itself, and those that are left in that of each failure
+pub record StayLinked (net : Net) (names : List NameItem) : Type 0 where
+  pub now : AllAreLinked net (named net None names)
+  pub failed : (failure : Failure) → Contains (failures net) failure → (left : Net) → after (edit_of failure) net ≡ Ok left → AllAreLinked left (named left (gone_of failure) names)
+
+-- `always reach VIDS NAMES`
+abbrev pub always_reach : List Bool → List NameItem → Promise
+always_reach vids names = record { scope = scope.Always; expectation = expect.Reach vids names }

@@ -1,0 +1,40 @@
+-- Networks in which all bridges reach each other, and what a failure cuts of these.
+use Rattle.std.specs.Prelude.{◌≡◌, ℕ, true, Bool, List, [], ◌∷◌, Ok}
+use Rattle.std.specs.List.{Contains}
+use Rattle.std.specs.FinMap as fin
+use Rattle.mst_ids.specs.Vids.{has}
+use Rattle.mst_policy.specs.declared.expectation.Expectation.{Expectation}
+use Rattle.mst_policy.specs.declared.expectation.Expectation.TheVariants as expect
+use Rattle.mst_policy.specs.declared.item.NameItem.TheVariants.{Any}
+use Rattle.mst_summary.specs.net.After.{after}
+use Rattle.mst_summary.specs.net.Tables.{Net, IsNetwork}
+use Rattle.mst_summary.specs.plan_text.PlanText.{all_vids}
+use Rattle.mst_summary.specs.trees.Outcome.{Outcome, IsOutcome}
+use Rattle.mst_sweep.specs.Failures.{edit_of, failures}
+use Rattle.mst_sweep.specs.declared.failure.Failure.{Failure}
+use Rattle.mst_verify.specs.Holds.{AllReach}
+use Rattle.mst_verify.specs.Named.{vids_in}
+
+-- in each of the VIDs all bridges reach each other
+abbrev pub IsWhole : Net → Outcome → List Bool → Type 0
+IsWhole net o vids = AllReach net o vids (fin.keys net.bridges)
+
+-- `reach VIDS *`
+abbrev pub reach_all : List Bool → Expectation
+reach_all vids = expect.Reach vids (Any ∷ [])
+
+-- a failure of a network with this outcome makes this network, which has that outcome
+pub record Fails (net : Net) (o : Outcome) (failure : Failure) (failed : Net) (p : Outcome) : Type 0 where
+  pub is_network : IsNetwork net
+  pub is_outcome : IsOutcome net o
+  pub can_fail : Contains (failures net) failure
+  pub made : after (edit_of failure) net ≡ Ok failed
+  pub is_made : IsOutcome failed p
+
+-- none of the VIDs is cut
+abbrev pub NoneIsCut : List Bool → List ℕ → Type 0
+NoneIsCut vids cut = (vid : ℕ) → Contains (vids_in vids) vid → Contains cut vid → ⊥
+
+-- these are all VIDs
+abbrev pub AreAllVids : List Bool → Type 0
+AreAllVids vids = (vid : ℕ) → Contains all_vids vid → has vids vid ≡ true
