@@ -389,8 +389,11 @@ fn nothing_is_told_of_a_policy_that_cannot_be_read(rt: HostRuntime) -> Result<()
     assert_eq!(rt; ran.hints, Ok(()));
     let written: &[u8] = b"line 1 E01 no such command\n";
     assert_eq!(rt; ran.writer.as_slice(), written);
-    let hint: &[u8] = b"line 1 no command qqq\n";
-    assert_eq!(rt; told.as_slice(), hint);
+    let hints: &[u8] = b"\
+        line 1 no command qqq\n\
+        policy line 1 no expectation qqq\n\
+        policy line 2 no expectation showtree; that is a command of scripts\n";
+    assert_eq!(rt; told.as_slice(), hints);
     Ok(())
 }
 
@@ -459,9 +462,9 @@ fn what_the_steps_of_a_change_do_is_told(rt: HostRuntime) -> Result<()> {
     let written: &[u8] = b"\
         line 1 E01 no such command\n\
         change 2 E01 no such command\n\
-        step 1 lines 3-3 roots 0 ports 2 moved 1-4094 cut 1-4094 joined -\n\
+        step 1 lines 2-3 roots 0 ports 0 moved 1-4094 cut 1-4094 joined -\n\
         cut 1-4094 parts A B\n\
-        fails 1 now root 0 B of 2\n\
+        fails 1 now root 0 B of 1\n\
         fails 2 now reach 1-4094 parts A B\n\
         steps 1 moving 1 cutting 1 failing 1\n";
     assert_eq!(rt; ran.writer.as_slice(), written);
