@@ -1,0 +1,160 @@
+-- What the edits make of a LAN: that of the new network.
+use Rattle.std.proofs.Common.{◌≡◌, ℕ, Bool, true, false, not, List, [], Option, Some, None, is_some, refl, sym, ap, ◌∙◌, true≢false}
+use Rattle.std.specs.Prelude.{◌==◌, if◌then◌else◌}
+use Rattle.std.specs.Bool.{beq}
+use Rattle.std.specs.List.{flat_map, AllByRecursion}
+use Rattle.std.specs.Option.{option_map, option_map_or}
+use Rattle.std.specs.FinMap as fin
+use Rattle.std.specs.Cmp.{booleans_Decides}
+use Rattle.std.proofs.lemmas.Bool.{eqb-true}
+use Rattle.mst_lang.specs.declared.line.Edit.TheVariants.{AddLan, DelLan, SetLan}
+use Rattle.mst_lang.specs.declared.line.LanChange.{LanChange}
+use Rattle.mst_lang.specs.declared.line.LanChange.TheVariants.{State, Speed}
+use Rattle.mst_net.specs.Tables.{Net, LanRow}
+use Rattle.mst_net.specs.After.{has_lan, new_lan, lan_with, is_up}
+use Rattle.mst_net.specs.Settings.{state_of}
+use Rattle.mst_net.proofs.Keys.{name_eq, names}
+use Rattle.mst_net.proofs.Changed.{itself}
+use Rattle.mst_save.specs.Making.{made}
+use Rattle.mst_save.specs.Saved.{when, joined, ports_of}
+use Rattle.mst_save.proofs.Lists.{all_append, all_flat, all_as, keys_distinct, keys_hold}
+use Rattle.mst_save.proofs.Steps.{steps, Stays, steps-append, stays, steps-when, steps-joined, steps_one, steps_none}
+use Rattle.mst_save.proofs.PortEnds.{lan_step, lan_made}
+use Rattle.mst_edits.specs.Staying.{lan_before}
+use Rattle.mst_edits.specs.Edits.{unplug_edits, del_port_edits, del_lan_edits, del_bridge_edits, lan_set, lan_settings, bridge_edits, port_edits, lan_edits, bridge_part, plug_edits, power_edits, state_settings, state_edits, going, coming, edits}
+use Rattle.mst_edit_laws.proofs.Whose.{BridgeEdit, PortEdit, LanEdit, lan_by_bridge, lan_by_port, lan_by_other, unplugs_of, del_ports_of, del_lans_of, del_bridges_of, bridges_of, ports_are_of, lans_of, plugs_of, powers_of, states_of, others_leave}
+
+not_found : {X : Type 0} (o : Option X) → is_some o ≡ false → o ≡ None
+not_found None h = refl
+not_found (Some x) h = absurd (true≢false h)
+
+not_not : (b : Bool) → not b ≡ false → b ≡ true
+not_not true h = refl
+not_not false h = absurd (true≢false h)
+
+state_is : (b : Bool) → is_up (state_of b) ≡ b
+state_is true = refl
+state_is false = refl
+
+module _ (q : List ℕ) where
+  row_when : (same : Bool) (change : LanChange) (old new : LanRow) → lan_with change old ≡ new → (same ≡ true → old ≡ new) → steps (lan_step q) (when (not same) (SetLan q change)) (Some old) ≡ Some new
+  row_when same change old new set kept =
+      steps-when (lan_step q) (not same) (SetLan q change) (Some old) (Some new)
+      (λ h. ap (λ b. if b then option_map (lan_with change) (Some old) else Some old) (itself names q) ∙ ap Some set) (λ h. ap Some (kept (not_not same h)))
+
+module _ (a b : Net) (q : List ℕ) where
+  abbrev stayed : Bool → Option LanRow
+  stayed stays = if stays then fin.get a.lans q else None
+
+  goes : steps (lan_step q) (flat_map (del_lan_edits b) (fin.keys a.lans)) (fin.get a.lans q) ≡ stayed (has_lan q b)
+  goes = by (has_lan q a) refl
+    where
+      others : (k : List ℕ) → name_eq k q ≡ false → AllByRecursion (Stays (lan_step q)) (del_lan_edits b k)
+      others k other = all_as (LanEdit k) (Stays (lan_step q)) (lan_by_other q k other) (del_lan_edits b k) (del_lans_of a b k)
+
+      gone : (s : Bool) → steps (lan_step q) (when (not s) (DelLan q)) (fin.get a.lans q) ≡ stayed s
+      gone true = refl
+      gone false = ap (λ c. if c then None else fin.get a.lans q) (itself names q)
+
+      absent : (s : Bool) → has_lan q a ≡ false → fin.get a.lans q ≡ stayed s
+      absent true h = refl
+      absent false h = not_found (fin.get a.lans q) h
+
+      by : (h : Bool) → has_lan q a ≡ h → steps (lan_step q) (flat_map (del_lan_edits b) (fin.keys a.lans)) (fin.get a.lans q) ≡ stayed (has_lan q b)
+      by true e = steps_one (lan_step q) names (del_lan_edits b) q others (fin.keys a.lans) (fin.get a.lans q) (keys_distinct names a.lans) (keys_hold names a.lans q ∙ e) ∙ gone (has_lan q b)
+      by false e = steps_none (lan_step q) names (del_lan_edits b) q others (fin.keys a.lans) (fin.get a.lans q) (keys_hold names a.lans q ∙ e) ∙ absent (has_lan q b) e
+
+  gone_all : steps (lan_step q) (joined (going a b)) (fin.get a.lans q) ≡ stayed (has_lan q b)
+  gone_all =
+      let step = lan_step q in
+      let s = fin.get a.lans q in
+      let new = stayed (has_lan q b) in
+      steps-joined step (going a b) s new (
+        s,
+        others_leave step PortEdit (lan_by_port q) (unplug_edits a b) (unplugs_of a b) (fin.keys a.ports) s,
+        (
+          s,
+          others_leave step PortEdit (lan_by_port q) (del_port_edits a b) (del_ports_of a b) (fin.keys a.ports) s,
+          (
+            new,
+            goes,
+            (new, others_leave step BridgeEdit (lan_by_bridge q) (del_bridge_edits a b) (del_bridges_of a b) (fin.keys a.bridges) new, refl),
+          ),
+        ),
+      )
+
+  abbrev before : LanRow
+  before = lan_before a q
+
+  module _ (row : LanRow) (there : fin.get b.lans q ≡ Some row) where
+    begins : steps (lan_step q) (when (not (has_lan q a)) (AddLan q)) (stayed (has_lan q b)) ≡ Some before
+    begins = ap (λ o. steps (lan_step q) (when (not (has_lan q a)) (AddLan q)) (stayed (is_some o))) there ∙ by (fin.get a.lans q)
+      where
+        by : (o : Option LanRow) → steps (lan_step q) (when (not (is_some o)) (AddLan q)) o ≡ Some (option_map_or (λ row. row) o new_lan)
+        by None = ap (λ (c : Bool). if c then Some new_lan else None) (itself names q)
+        by (Some old) = refl
+
+    is_set : steps (lan_step q) (lan_settings a q row) (stayed (has_lan q b)) ≡ Some (record row { is_up = before.is_up })
+    is_set =
+        let new : LanRow = record row { is_up = before.is_up } in
+        steps-joined (lan_step q) (lan_set (has_lan q a) q before row) (stayed (has_lan q b)) (Some new)
+        (Some before, begins, (Some new, row_when q (row.speed == before.speed) (Speed row.speed) before new refl (λ h. ap (λ n. record before { speed = n }) (sym (eqb-true row.speed before.speed h))), refl))
+
+    is_in_state : steps (lan_step q) (state_settings a q row) (Some (record row { is_up = before.is_up })) ≡ Some row
+    is_in_state = row_when q (beq row.is_up before.is_up) (State (state_of row.is_up)) (record row { is_up = before.is_up }) row (ap (λ c. record row { is_up = c }) (state_is row.is_up))
+        (λ h. ap (λ c. record row { is_up = c }) (sym ((booleans_Decides row.is_up before.is_up).0 h)))
+
+  others_part : (k : List ℕ) → AllByRecursion (Stays (lan_step q)) (bridge_part a b k)
+  others_part k = all_append (Stays (lan_step q)) (bridge_edits a b k) (flat_map (port_edits a b) (ports_of b k))
+      (all_as (BridgeEdit k) (Stays (lan_step q)) (lan_by_bridge q k) (bridge_edits a b k) (bridges_of a b k))
+      (all_flat (Stays (lan_step q)) (port_edits a b) (ports_of b k) (λ p. all_as (PortEdit p) (Stays (lan_step q)) (lan_by_port q p) (port_edits a b p) (ports_are_of a b p)))
+
+  other_lan : (k : List ℕ) → name_eq k q ≡ false → AllByRecursion (Stays (lan_step q)) (lan_edits a b k)
+  other_lan k other = all_as (LanEdit k) (Stays (lan_step q)) (lan_by_other q k other) (lan_edits a b k) (lans_of a b k)
+
+  other_state : (k : List ℕ) → name_eq k q ≡ false → AllByRecursion (Stays (lan_step q)) (state_edits a b k)
+  other_state k other = all_as (LanEdit k) (Stays (lan_step q)) (lan_by_other q k other) (state_edits a b k) (states_of a b k)
+
+  abbrev stateless : Option LanRow → Option LanRow
+  stateless o = option_map (λ (row : LanRow). record row { is_up = (lan_before a q).is_up }) o
+
+  comes : (o : Option LanRow) → fin.get b.lans q ≡ o → steps (lan_step q) (flat_map (lan_edits a b) (fin.keys b.lans)) (stayed (has_lan q b)) ≡ stateless o
+  comes None e = steps_none (lan_step q) names (lan_edits a b) q other_lan (fin.keys b.lans) (stayed (has_lan q b)) (keys_hold names b.lans q ∙ ap is_some e) ∙ ap (λ o. stayed (is_some o)) e
+  comes (Some row) e =
+      steps_one (lan_step q) names (lan_edits a b) q other_lan (fin.keys b.lans) (stayed (has_lan q b)) (keys_distinct names b.lans) (keys_hold names b.lans q ∙ ap is_some e)
+      ∙ ap (λ x. steps (lan_step q) (option_map_or (lan_settings a q) x []) (stayed (has_lan q b))) e ∙ is_set row e
+
+  in_state : (o : Option LanRow) → fin.get b.lans q ≡ o → steps (lan_step q) (flat_map (state_edits a b) (fin.keys b.lans)) (stateless o) ≡ fin.get b.lans q
+  in_state None e = steps_none (lan_step q) names (state_edits a b) q other_state (fin.keys b.lans) None (keys_hold names b.lans q ∙ ap is_some e) ∙ sym e
+  in_state (Some row) e =
+      steps_one (lan_step q) names (state_edits a b) q other_state (fin.keys b.lans) (stateless (Some row)) (keys_distinct names b.lans) (keys_hold names b.lans q ∙ ap is_some e)
+      ∙ ap (λ x. steps (lan_step q) (option_map_or (state_settings a q) x []) (stateless (Some row))) e ∙ is_in_state row e ∙ sym e
+
+  come_all : steps (lan_step q) (joined (coming a b)) (stayed (has_lan q b)) ≡ fin.get b.lans q
+  come_all =
+      let step = lan_step q in
+      let s = stayed (has_lan q b) in
+      let mid = stateless (fin.get b.lans q) in
+      let new = fin.get b.lans q in
+      steps-joined step (coming a b) s new (
+        s,
+        stays step (flat_map (bridge_part a b) (fin.keys b.bridges)) s (all_flat (Stays step) (bridge_part a b) (fin.keys b.bridges) others_part),
+        (
+          mid,
+          comes (fin.get b.lans q) refl,
+          (
+            mid,
+            others_leave step PortEdit (lan_by_port q) (plug_edits a b) (plugs_of a b) (fin.keys b.ports) mid,
+            (
+              mid,
+              others_leave step BridgeEdit (lan_by_bridge q) (power_edits a b) (powers_of a b) (fin.keys b.bridges) mid,
+              (new, in_state (fin.get b.lans q) refl, refl),
+            ),
+          ),
+        ),
+      )
+
+  pub lan_changed : fin.get (made (edits a b) a).lans q ≡ fin.get b.lans q
+  lan_changed =
+      lan_made q (edits a b) a ∙ steps-append (lan_step q) (joined (going a b)) (joined (coming a b)) (fin.get a.lans q)
+      ∙ ap (steps (lan_step q) (joined (coming a b))) gone_all ∙ come_all

@@ -1,0 +1,5 @@
+mod NoDefaults
+mod Whose
+mod BridgeMade
+mod PortMade
+mod LanMade
