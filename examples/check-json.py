@@ -281,11 +281,13 @@ class Above:
             return {"failure": {kind.first: values[kind.first]}}
         if kind.enum == "SweepLine" and kind.first == "cut":
             return {key: self.told[key] for key in ("failure", "other_failure") if key in self.told}
+        if kind.enum == "StepLine":
+            return {"step": self.told["step"]}
         if kind.enum == "VerifyLine":
             return {"expectation": "fits", "tree": 0}
-        # tree 0 alone has ages and a part of the message without a number; a port that is a member of no VLAN has no VIDs
+        # tree 0 alone has ages and a part of the message without a number; a port that is a member of no VLAN has no VIDs, and one of all has all
         of_tree_0 = {"tree": 0, "tree_kind": "cist"} if kind.enum == "CaptureLine" else {"tree": 0}
-        return {"setportvlans": {"vids": [], "vlans": "none"}}.get(kind.first, of_tree_0)
+        return {"NoVlans": {"vids": []}, "AllVlans": {"vids": [[1, 4094]]}}.get(kind.name, of_tree_0)
 
     def is_kept(self, kind, values):
         """Whether the record has what stands above its line; what it says itself is kept for the next ones."""
@@ -293,7 +295,7 @@ class Above:
         wanted = self.wanted(kind, values) if above else {}
         if any(values[key] != wanted[key] for key in above):
             raise ValueError(f"{values}, and above it stands {wanted}")
-        if kind.first in ("tree", "vlan", "mstconfid", "explain", "lan", "bridge", "pair") and kind.enum != "BridgeCommand":
+        if kind.first in ("tree", "vlan", "mstconfid", "explain", "lan", "bridge", "pair", "step") and kind.enum != "BridgeCommand":
             self.told = {**self.told, **values} if kind.enum == "TreeLine" else dict(values)
         return True
 
