@@ -3,3 +3,7 @@ mod Whose
 mod BridgeMade
 mod PortMade
 mod LanMade
+mod Accepting
+mod Going
+mod Coming
+mod Room
