@@ -7,7 +7,7 @@ use Rattle.std.specs.Option.{option_map, option_map_or, unwrap_or}
 use Rattle.std.specs.FinMap as fin
 use Rattle.std.specs.FinMap.{get-empty}
 use Rattle.mst_ids.specs.Names.{name_cmp}
-use Rattle.std.specs.Cmp.{unsigned_Decides, booleans_Decides}
+use Rattle.std.specs.Cmp.{unsigned_Decides}
 use Rattle.std.specs.Cmp.Lexicographic.{pointwise, pointwise_decides}
 use Rattle.std.proofs.lemmas.Bool.{and_parts, eqb-true}
 use Rattle.std.proofs.lemmas.List.{length-replicate}
@@ -35,22 +35,7 @@ use Rattle.mst_edits.specs.Staying.{has_mac, bridge_stays, bridge_before, table_
 use Rattle.mst_edits.specs.TableLines.{edit_of, table_after, with_ways, direct_moves, table_edits}
 use Rattle.mst_edits.specs.Edits.{unplug_edits, del_port_edits, del_lan_edits, del_bridge_edits, in_trees, is_same_configuration, priority_edits, bridge_set, bridge_settings, bridge_edits, port_edits, lan_edits, bridge_part, plug_edits, power_settings, power_edits, state_edits, going, coming, edits}
 use Rattle.mst_edit_laws.proofs.Whose.{BridgeEdit, PortEdit, LanEdit, bridge_by_port, bridge_by_lan, bridge_by_other, trees_set, unplugs_of, del_ports_of, del_lans_of, del_bridges_of, bridges_of, ports_are_of, lans_of, plugs_of, powers_of, states_of, others_leave}
-
-found : {X : Type 0} (o : Option X) → is_some o ≡ true → (x : X) × (o ≡ Some x)
-found None h = absurd (true≢false (sym h))
-found (Some x) h = (x, refl)
-
-not_found : {X : Type 0} (o : Option X) → is_some o ≡ false → o ≡ None
-not_found None h = refl
-not_found (Some x) h = absurd (true≢false h)
-
-not_not : (b : Bool) → not b ≡ false → b ≡ true
-not_not true h = refl
-not_not false h = absurd (true≢false h)
-
-is_not : (b : Bool) → not b ≡ true → b ≡ false
-is_not true h = absurd (true≢false (sym h))
-is_not false h = refl
+use Rattle.mst_edit_laws.proofs.Plain.{not_found, not_not, same_flag}
 
 abbrev at : BridgeRow → ℕ → List ℕ → AtBridge
 at row priority table = record { row = Some row; priority = priority; table = table }
@@ -126,9 +111,6 @@ power_is : (b : Bool) → is_on (power_of b) ≡ b
 power_is true = refl
 power_is false = refl
 
-same_flag : (a b : Bool) → beq a b ≡ true → a ≡ b
-same_flag a b e = (booleans_Decides a b).0 e
-
 module _ (tables_made : TableMade) (a b : Net) (is_a : IsNetwork a) (is_b : IsNetwork b) (q : List ℕ) (t : ℕ) where
   -- what stays of it, and nothing else
   abbrev pub stayed : Bool → AtBridge
@@ -182,9 +164,6 @@ module _ (tables_made : TableMade) (a b : Net) (is_a : IsNetwork a) (is_b : IsNe
   module _ (row : BridgeRow) (there : fin.get b.bridges q ≡ Some row) where
     abbrev before : BridgeRow
     before = bridge_before a q row
-
-    abbrev stays_now : Bool
-    stays_now = bridge_stays a b q
 
     abbrev priority_was : ℕ
     priority_was = priority_before a (bridge_stays a b q) q t

@@ -43,10 +43,7 @@ use Rattle.mst_edit_laws.proofs.BridgeMade as of_bridge
 use Rattle.mst_edit_laws.proofs.PortMade as of_port
 use Rattle.mst_edit_laws.proofs.LanMade as of_lan
 use Rattle.mst_edit_laws.proofs.Whose.{BridgeEdit, LanEdit, bridge_by_lan, port_by_bridge, port_by_lan, bridges_of, lans_of, all_leave, all_in_trees}
-
-found : {X : Type 0} (o : Option X) → is_some o ≡ true → (x : X) × (o ≡ Some x)
-found None h = absurd (true≢false (sym h))
-found (Some x) h = (x, refl)
+use Rattle.mst_edit_laws.proofs.Plain.{found}
 
 -- ---- lists of edits each of which is fine
 all_fine : (I : Net → Type 0) (P : Edit → Type 0) → ((e : Edit) (net : Net) → P e → I net → (refusal_of e net ≡ None) × I (effect e net)) → (es : List Edit) → AllByRecursion P es → (net : Net) → I net → Fine I es net
@@ -410,9 +407,6 @@ module _ (tables_made : of_bridge.TableMade) (room : TableRoom) (a b : Net) (is_
       of_lans : (q : List ℕ) (s : Bool) → has_lan q b ≡ s → is_some (of_lan.stayed a b q s) ≡ true → has_lan q b ≡ true
       of_lans q true e h = e
       of_lans q false e h = absurd (true≢false (sym h))
-
-  abbrev bridge_parts : List Edit
-  bridge_parts = flat_map (bridge_part a b) (fin.keys b.bridges)
 
   parts_fine : Fine In (flat_map (bridge_part a b) (fin.keys b.bridges)) gone
   parts_fine = in_turn names In PartSeen (bridge_part a b) part_fine part_kept (fin.keys b.bridges) (keys_distinct names b.bridges) gone within_gone

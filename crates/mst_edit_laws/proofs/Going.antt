@@ -27,14 +27,7 @@ use Rattle.mst_edits.specs.Edits.{unplug_edits, del_port_edits, del_lan_edits, d
 use Rattle.mst_edit_laws.proofs.Accepting.{Fine, fine_none, fine_append, in_turn, keeps_bridge, keeps_port, keeps_lan}
 use Rattle.mst_edit_laws.proofs.PortMade as of_port
 use Rattle.mst_edit_laws.proofs.Whose.{BridgeEdit, PortEdit, LanEdit, bridge_by_lan, bridge_by_other, lan_by_port, lan_by_other, unplugs_of, del_ports_of, del_lans_of, del_bridges_of, all_leave}
-
-found : {X : Type 0} (o : Option X) → is_some o ≡ true → (x : X) × (o ≡ Some x)
-found None h = absurd (true≢false (sym h))
-found (Some x) h = (x, refl)
-
-is_not : (b : Bool) → not b ≡ true → b ≡ false
-is_not true h = absurd (true≢false (sym h))
-is_not false h = refl
+use Rattle.mst_edit_laws.proofs.Plain.{found}
 
 fails : (b : Bool) → (b ≡ true → ⊥) → b ≡ false
 fails true h = absurd (h refl)

@@ -1,11 +1,10 @@
 -- What the edits make of a LAN: that of the new network.
-use Rattle.std.proofs.Common.{◌≡◌, ℕ, Bool, true, false, not, List, [], Option, Some, None, is_some, refl, sym, ap, ◌∙◌, true≢false}
+use Rattle.std.proofs.Common.{◌≡◌, ℕ, Bool, true, false, not, List, [], Option, Some, None, is_some, refl, sym, ap, ◌∙◌}
 use Rattle.std.specs.Prelude.{◌==◌, if◌then◌else◌}
 use Rattle.std.specs.Bool.{beq}
 use Rattle.std.specs.List.{flat_map, AllByRecursion}
 use Rattle.std.specs.Option.{option_map, option_map_or}
 use Rattle.std.specs.FinMap as fin
-use Rattle.std.specs.Cmp.{booleans_Decides}
 use Rattle.std.proofs.lemmas.Bool.{eqb-true}
 use Rattle.mst_lang.specs.declared.line.Edit.TheVariants.{AddLan, DelLan, SetLan}
 use Rattle.mst_lang.specs.declared.line.LanChange.{LanChange}
@@ -23,14 +22,7 @@ use Rattle.mst_save.proofs.PortEnds.{lan_step, lan_made}
 use Rattle.mst_edits.specs.Staying.{lan_before}
 use Rattle.mst_edits.specs.Edits.{unplug_edits, del_port_edits, del_lan_edits, del_bridge_edits, lan_set, lan_settings, bridge_edits, port_edits, lan_edits, bridge_part, plug_edits, power_edits, state_settings, state_edits, going, coming, edits}
 use Rattle.mst_edit_laws.proofs.Whose.{BridgeEdit, PortEdit, LanEdit, lan_by_bridge, lan_by_port, lan_by_other, unplugs_of, del_ports_of, del_lans_of, del_bridges_of, bridges_of, ports_are_of, lans_of, plugs_of, powers_of, states_of, others_leave}
-
-not_found : {X : Type 0} (o : Option X) → is_some o ≡ false → o ≡ None
-not_found None h = refl
-not_found (Some x) h = absurd (true≢false h)
-
-not_not : (b : Bool) → not b ≡ false → b ≡ true
-not_not true h = refl
-not_not false h = absurd (true≢false h)
+use Rattle.mst_edit_laws.proofs.Plain.{same_flag, not_found, not_not}
 
 state_is : (b : Bool) → is_up (state_of b) ≡ b
 state_is true = refl
@@ -102,7 +94,7 @@ module _ (a b : Net) (q : List ℕ) where
 
     is_in_state : steps (lan_step q) (state_settings a q row) (Some (record row { is_up = before.is_up })) ≡ Some row
     is_in_state = row_when q (beq row.is_up before.is_up) (State (state_of row.is_up)) (record row { is_up = before.is_up }) row (ap (λ c. record row { is_up = c }) (state_is row.is_up))
-        (λ h. ap (λ c. record row { is_up = c }) (sym ((booleans_Decides row.is_up before.is_up).0 h)))
+        (λ h. ap (λ c. record row { is_up = c }) (sym (same_flag row.is_up before.is_up h)))
 
   pub others_part : (k : List ℕ) → AllByRecursion (Stays (lan_step q)) (bridge_part a b k)
   others_part k = all_append (Stays (lan_step q)) (bridge_edits a b k) (flat_map (port_edits a b) (ports_of b k))

@@ -1,3 +1,4 @@
+mod Plain
 mod NoDefaults
 mod Whose
 mod BridgeMade

@@ -28,18 +28,7 @@ use Rattle.mst_save.proofs.PortEnds.{AtPort, at_port, port_step, port_made}
 use Rattle.mst_edits.specs.Staying.{bridge_stays, port_stays, plug_stays, lan_of, is_same_lan, settings_before, port_priority_before, port_cost_before, vlans_before}
 use Rattle.mst_edits.specs.Edits.{unplug_edits, del_port_edits, del_lan_edits, del_bridge_edits, in_trees, is_same_cost, port_cost_edits, port_priority_edits, port_set, port_settings, bridge_edits, port_edits, lan_edits, bridge_part, plug_edits, power_edits, state_edits, going, coming, edits}
 use Rattle.mst_edit_laws.proofs.Whose.{BridgeEdit, PortEdit, LanEdit, port_by_bridge, port_by_lan, port_by_other, trees_set, unplugs_of, del_ports_of, del_lans_of, del_bridges_of, bridges_of, ports_are_of, lans_of, plugs_of, powers_of, states_of, others_leave}
-
-found : {X : Type 0} (o : Option X) → is_some o ≡ true → (x : X) × (o ≡ Some x)
-found None h = absurd (true≢false (sym h))
-found (Some x) h = (x, refl)
-
-not_found : {X : Type 0} (o : Option X) → is_some o ≡ false → o ≡ None
-not_found None h = refl
-not_found (Some x) h = absurd (true≢false h)
-
-not_not : (b : Bool) → not b ≡ false → b ≡ true
-not_not true h = refl
-not_not false h = absurd (true≢false h)
+use Rattle.mst_edit_laws.proofs.Plain.{not_found, not_not, same_flag}
 
 abbrev at : PortRow → ℕ → Option ℕ → List Bool → AtPort
 at row priority cost vlans = record { row = Some row; priority = priority; cost = cost; vlans = vlans }
@@ -67,9 +56,6 @@ same_lans (Some other) lan e = ap Some ((pointwise_decides unsigned_Decides othe
 and_none : (a b : Bool) → b ≡ false → (a && b) ≡ false
 and_none true b e = e
 and_none false b e = refl
-
-same_flag : (a b : Bool) → beq a b ≡ true → a ≡ b
-same_flag a b e = (booleans_Decides a b).0 e
 
 module _ (q : PortName) (t : ℕ) where
   row_set : (f : PortRow → PortRow) (row : PortRow) (p : ℕ) (c : Option ℕ) (v : List Bool) → record (at row p c v) { row = if port_eq q q then option_map f (Some row) else Some row } ≡ at (f row) p c v
@@ -142,15 +128,6 @@ module _ (a b : Net) (is_a : IsNetwork a) (is_b : IsNetwork b) (q : PortName) (t
   pub unplugs : steps (port_step q t) (flat_map (unplug_edits a b) (fin.keys a.ports)) (at_port q t a) ≡ unplugged
   unplugs = by (fin.get a.ports q) refl
     where
-      p : ℕ
-      p = port_priority_of a q t
-
-      c : Option ℕ
-      c = port_cost_of a q t
-
-      v : List Bool
-      v = vlans_of a q
-
       one : (old : PortRow) (lan : Option (List ℕ)) (s : Bool) → old.lan ≡ lan
           → steps (port_step q t) (when (is_some lan && not s) (Unplug q)) (at old (port_priority_of a q t) (port_cost_of a q t) (vlans_of a q)) ≡ at (in_lan (if s then lan else None) old) (port_priority_of a q t) (port_cost_of a q t) (vlans_of a q)
       one old None true e = ap (λ o. at (in_lan o old) (port_priority_of a q t) (port_cost_of a q t) (vlans_of a q)) e
@@ -312,16 +289,13 @@ module _ (a b : Net) (is_a : IsNetwork a) (is_b : IsNetwork b) (q : PortName) (t
             ∙ row_set q t (in_lan (Some lan)) (row_of None row.settings) p c v ∙ ap (λ o. at (row_of o row.settings) p c v) (sym e)
 
   -- ---- what comes
+  pub other_port : (p : PortName) → port_eq p q ≡ false → AllByRecursion (Stays (port_step q t)) (port_edits a b p)
+  other_port p other = all_as (PortEdit p) (Stays (port_step q t)) (port_by_other q t p other) (port_edits a b p) (ports_are_of a b p)
+
   pub other_bridges : (k : List ℕ) → name_eq k q.bridge ≡ false → AllByRecursion (Stays (port_step q t)) (bridge_part a b k)
   other_bridges k other = all_append (Stays (port_step q t)) (bridge_edits a b k) (flat_map (port_edits a b) (ports_of b k)) (all_as (BridgeEdit k) (Stays (port_step q t)) (port_by_bridge q t k) (bridge_edits a b k) (bridges_of a b k))
       (all_flat_of (Stays (port_step q t)) (λ p. name_eq k p.bridge ≡ true) (port_edits a b) (ports_of b k) (all_of ports (λ p. name_eq k p.bridge ≡ true) (ports_of b k) (λ p h. (in_filter ports (λ port. pointwise nat_eq k port.bridge) (fin.keys b.ports) p h).1))
       (λ p home. other_port p (and_left (name_eq p.bridge q.bridge) (nat_eq p.number q.number) (ap (λ x. name_eq x q.bridge) (sym (same_keys names k p.bridge home)) ∙ other))))
-    where
-      other_port : (p : PortName) → port_eq p q ≡ false → AllByRecursion (Stays (port_step q t)) (port_edits a b p)
-      other_port p other = all_as (PortEdit p) (Stays (port_step q t)) (port_by_other q t p other) (port_edits a b p) (ports_are_of a b p)
-
-  pub other_port : (p : PortName) → port_eq p q ≡ false → AllByRecursion (Stays (port_step q t)) (port_edits a b p)
-  other_port p other = all_as (PortEdit p) (Stays (port_step q t)) (port_by_other q t p other) (port_edits a b p) (ports_are_of a b p)
 
   pub other_plug : (p : PortName) → port_eq p q ≡ false → AllByRecursion (Stays (port_step q t)) (plug_edits a b p)
   other_plug p other = all_as (PortEdit p) (Stays (port_step q t)) (port_by_other q t p other) (plug_edits a b p) (plugs_of a b p)
