@@ -24,9 +24,10 @@ CALLS = ["mst_tool::runs::run", "mst_tool::checks::check", "mst_vlan::topology::
 ASKED = ["mst_tool::asks::ask", "mst_tool::diffs::diff"]
 STANDING = [f"mst_ask::asking::ask_within/{clause}" for clause in ("ok", "fault", "read", "memory")]
 VERIFIED = ["mst_tool::verifies::verify"]
+ALTERED = ["mst_tool::alters::steps"]
 LOOPS = ["mst_vlan::laws::joined_without_loop"]
-# What the hints of a script are.
-HINTED = [("mst_hints", "Scripts", "hints_of")]
+# What the hints of a script, a policy and a change are.
+HINTED = [("mst_hinting", "Lines", "hints_of")]
 IMPORT = re.compile(r"^ *(?:ghost )?use Rattle\.(\w+)\.specs\.([\w.]+?)(?:\.\{([^}]*)\}| as (\w+))?;?$", re.MULTILINE)
 GIVEN = re.compile(r"^pub use Rattle\.(\w+)\.specs(?:\.(\w+))? as (\w+)$", re.MULTILINE)
 KIND = "(?:abbrev|unfoldable|opaque|private) "
@@ -223,12 +224,12 @@ LIST = re.compile(r"(?:^- `mst_\w+`, \d+ lines: .*\n)+\n^\d+ definitions in .*\.
 
 
 def lists():
-    """The lists of docs/READING.md: that of the loops, the first one, what is asked besides, what stands and is asked, what policies are,
-    and what hints are; and the lines of the first."""
+    """The lists of docs/READING.md: that of the loops, the first one, what is asked besides, what stands and is asked, what policies
+    and steps of changes are, and what hints are; and the lines of the first."""
     seen = set()
     first = definitions(CALLS, seen)
     orders = [definitions(LOOPS, set()), first, definitions(ASKED, seen), definitions(STANDING, seen), definitions(VERIFIED, seen),
-              definitions([], seen, HINTED)]
+              definitions(ALTERED, seen), definitions([], seen, HINTED)]
     return [as_text(order) for order in orders], lines_of(first)
 
 

@@ -719,7 +719,7 @@ def alone_cases(folder):
 def flag_cases(folder):
     """Cases of words with flags."""
     script = os.path.join(folder, "hinted.script")
-    wrong = b"error: --json is a flag of run, check, explain, diff, sweep, summary, ask and verify\n"
+    wrong = b"error: --json is a flag of run, check, explain, diff, sweep, summary, ask, verify, edits and steps\n"
     gone = [
         {"kind": "reach", "vids": [[1, 4094]], "old_islands": [["B"]], "new_islands": []},
         {"kind": "diff", "region_count": 0, "root_count": 0, "port_count": 0, "vlan_count": 4094},

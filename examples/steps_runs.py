@@ -69,9 +69,14 @@ def step_lines(number, numbers, old, new):
 # ---- the steps of a change
 
 
+def behind(script, change, last=None):
+    """A script with the lines of a change behind its own, or those up to a number; blank ones are comments there."""
+    return [*script, *(line or "#" for line in change[:last])]
+
+
 def refused_in(program, script, change):
     """The refused lines of a change behind a script, by their numbers: what is told of each, and whether it isn't read."""
-    lines = [line.split() for line in texts.refused(program, [*script, *change])]
+    lines = [line.split() for line in texts.refused(program, behind(script, change))]
     here = [line for line in lines if int(line[1]) > len(script)]
     return {int(line[1]) - len(script): (" ".join(line[2:]), line[2] in texts.UNREAD) for line in here}
 
@@ -103,11 +108,11 @@ def wanted_of(program, script, change, policy):
     old, counts, is_bad = texts.text_of(program, script), [0, 0, 0], bool(lines)
     steps = steps_of(change, refused)
     for number, numbers in enumerate(steps, 1):
-        behind = [*script, *change[: numbers[-1]]]
-        new = texts.text_of(program, behind)
+        made = behind(script, change, numbers[-1])
+        new = texts.text_of(program, made)
         lines += [f"change {it} {refused[it][0]}" for it in numbers if it in refused]
         told, moves, cuts = step_lines(number, numbers, old, new)
-        fails = judged(program, behind, policy) if policy is not None else []
+        fails = judged(program, made, policy) if policy is not None else []
         lines += [*told, *fails]
         counts = [a + b for a, b in zip(counts, (moves, cuts, bool(fails)))]
         is_bad = is_bad or cuts or bool(fails) or any(it in refused for it in numbers)

@@ -13,3 +13,6 @@ pub mod PolicyRows
 pub mod SweptParts
 pub mod Paired
 pub mod Told
+pub mod Made
+pub mod Walked
+pub mod Tells

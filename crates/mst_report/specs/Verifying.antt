@@ -1,5 +1,5 @@
 -- Whether a network does what a policy promises, and what is kept of its lines while they are judged.
-use Rattle.std.specs.Prelude.{◌≡◌, ◌+◌, ◌++◌, ◌<◌, ℕ, Bool, is_some, count_by, List, [], ◌∷◌, Option, None, Some, Result, Ok, Err, MatchOption, Vec, length, get_or, map, slice_index_or, if◌then◌else◌}
+use Rattle.std.specs.Prelude.{◌≡◌, ◌+◌, ◌++◌, ◌<◌, ℕ, Bool, is_some, count_by, List, [], ◌∷◌, Option, None, Some, Result, Ok, Err, MatchOption, Vec, length, get_or, map, slice_index_or, nat_lt, ◌||◌, if◌then◌else◌}
 use Rattle.std.specs.List.{AllZip, flat_map}
 use Rattle.std.specs.declared.alloc.Global.{Global}
 use Rattle.mst_lang.specs.declared.line.Fault.{Fault}
@@ -34,6 +34,16 @@ pub record Verifies (net : Net) (lines : List PolicyLine) (counts : Counts) (row
 
 abbrev pub counts_of : Verdict → Counts
 counts_of v = record { refused = v.refused; judged = v.judged; failing = v.failing }
+
+-- these are its rows but for the last one, which says so
+pub record Judges (net : Net) (lines : List PolicyLine) (counts : Counts) (rows : List Row) : Type 0 where
+  pub holding : ℕ
+  pub hold : counts.judged ≡ counts.failing + holding
+  pub told : Verifies net lines counts (rows ++ verified_row counts.judged holding ∷ [])
+
+-- some line is refused, or isn't kept
+abbrev pub tells_some : Counts → Bool
+tells_some counts = nat_lt 0 counts.refused || nat_lt 0 counts.failing
 
 -- the outcome that a plan of these tables has
 abbrev pub plan_outcome : Net → Numbers → Plan → Outcome
@@ -112,7 +122,7 @@ pub record AreTold (net : Net) (o : Outcome) (lines : List PolicyLine) (failing 
   pub counted : failing ≡ count_by has_any told
   pub put : Put (joined told)
 
--- and the last row behind them
+-- and so many are judged
 pub record AreCounted (net : Net) (o : Outcome) (lines : List PolicyLine) (judged_count failing : ℕ) (Put : List Row → Type 0) : Type 0 where
   pub told : List (List Row)
   pub each : AllZip (IsTold net o) lines told
@@ -120,7 +130,7 @@ pub record AreCounted (net : Net) (o : Outcome) (lines : List PolicyLine) (judge
   pub counted : failing ≡ count_by has_any told
   pub holding : ℕ
   pub hold : judged_count ≡ failing + holding
-  pub put : Put (joined told ++ verified_row judged_count holding ∷ [])
+  pub put : Put (joined told)
 
 -- what is known of a policy before a line is judged is that of the network
 pub record IsOpened (net : Net) (plan : Plan) (lines : List PolicyLine) (opened : Opened) : Type 0 where

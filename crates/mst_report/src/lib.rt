@@ -3,6 +3,7 @@
 
 mod answers;
 mod differing;
+mod editing;
 mod explaining;
 mod judging;
 pub mod laws;
@@ -11,6 +12,8 @@ mod picturing;
 mod plan;
 mod planner;
 mod rows;
+mod setting;
+mod stepping;
 mod summarizing;
 mod sweeping;
 mod verifying;
@@ -20,4 +23,5 @@ pub use explaining::Unexplained;
 pub use mst_picture::{Differing, Forest, Role, Settled, forwards, port_role, trees_laws};
 pub use mst_sweep::SweepPart;
 pub use planner::Planner;
+pub use stepping::Course;
 pub use verifying::Verdict;

@@ -53,6 +53,21 @@ pub(crate) fn next_plan<C: Contents>(
     }
 }
 
+/// The plan of a network beside another that stands: its trees are repaired from those, and its regions are copied where they stand.
+/// `AllocError`: memory was wanted and refused.
+pub(crate) fn plan_beside<C: Contents>(
+    alloc: Global,
+    contents: &C,
+    standing: &Plan,
+    regions_stand: bool,
+) -> Result<Plan, AllocError>
+    requires { regions_stand ≡ true → AreRegions (C.tables contents.now).net (C.tables contents.now).numbers standing.now.regions }
+    ensures { IfOk result (IsPlan (C.tables contents.now).net (C.tables contents.now).numbers) }
+{
+    let regions = regions_now(alloc, contents, standing, regions_stand)?;
+    plan_from(alloc, contents, regions, &standing.forest)
+}
+
 /// The regions and the trees of a network, by a plan whose view is the network's.
 fn next_trees<C: Contents>(
     alloc: Global,

@@ -1,4 +1,5 @@
-ghost use Rattle.std.specs.Prelude.{◌≡◌, ◌≢◌, ◌≤◌, ◌++◌, length, true, false, List, Err, IsOk, IfOk, IfErr, OnOk, OnErr, IsTrue};
+ghost use Rattle.std.specs.Prelude.{◌≡◌, ◌≢◌, ◌≤◌, ◌<◌, ◌^◌, ◌++◌, length, true, false, List, Err, IsOk, IfOk, IfErr, OnOk, OnErr, IsTrue};
+ghost use Rattle.mst_change.specs.Steps.{all_lines};
 ghost use Rattle.mst_net.specs.After.{after};
 ghost use Rattle.mst_net.specs.Contents.{SameContents, CanCommit, Commits, room_for};
 ghost use Rattle.std.specs.Option.{option_map};
@@ -7,6 +8,8 @@ ghost use Rattle.mst_picture.specs.trees.Forest.{IsForest, SettlesNoUnused};
 ghost use Rattle.mst_lag.specs.Viewed.{IsView};
 ghost use Rattle.mst_picture.specs.changes.Stored.{kept_entries};
 ghost use Rattle.mst_report.specs.Pairing.{SweepsPairs};
+ghost use Rattle.mst_report.specs.Setting.{after_steps};
+ghost use Rattle.mst_report.specs.Stepping.{IsFew, Steps};
 ghost use Rattle.mst_report.specs.Sweeping.{SweepsPart};
 ghost use Rattle.mst_report.specs.Verifying.{Verifies, counts_of};
 ghost use Rattle.mst_rows.specs.Rows.{Row};
@@ -14,8 +17,10 @@ ghost use Rattle.mst_rows.specs.Rows.{Row};
 use crate::laws::entries_of_network;
 use crate::pairing::sweep_pairs;
 use crate::plan::{Plan, next_plan, renew_plan, settle_plan};
+use crate::stepping::{Course, step_network};
 use crate::sweeping::sweep_network;
 use crate::verifying::{Verdict, verify_network};
+use mst_change::Change;
 use mst_config::laws::regions_stay;
 use mst_config::touches_regions;
 use mst_ids::Tree;
@@ -313,6 +318,46 @@ impl Planner {
     {
         let plan = self.plan.as_ref().unwrap();
         verify_network(self.alloc, &mut self.network, plan, policy.as_slice(), out)
+    }
+
+    /// Takes the steps of a change one after another, each settled before the next, and puts what each does: which of its lines are refused,
+    /// which roots, roles and VIDs it moves, which VIDs it cuts and joins, and with a policy what that has to tell of the network after it.
+    /// A last row counts the steps, and the answer is what is counted. The planner is then that of the network after the last step.
+    ///
+    /// Two plans stand at a time: a step costs one repair of the trees, and what carries VIDs is looked at once. `AllocError`: memory was
+    /// wanted and refused; some of the rows may have been put, and the planner is that of a network between, which isn't settled.
+    pub fn put_steps<R: Rows>(
+        &mut self,
+        change: &Change,
+        policy: Option<&Policy>,
+        out: &mut R,
+    ) -> Result<Course, AllocError>
+        requires settled { self.old.is_settled ≡ true }
+        requires few { length (all_lines change.now.ended) < 2 ^ 64 }
+        ensures told { (first : R) (before : List Row) → R.grew first out.old before
+            → IfOk result (λ course. (rows : List Row) × Steps self.old.contents.net change.now.ended (option_map (λ p. p.now) policy.entry) course rows × R.grew first out.new (before ++ rows)) }
+        ensures few { IfOk result (λ course. IsFew course change.now.ended) }
+        ensures network { OnOk result (self.new.contents.net ≡ after_steps self.old.contents.net change.now.ended) }
+        ensures settled { OnOk result (self.new.is_settled ≡ true) }
+        ensures mark { self.new.mark ≡ self.old.mark }
+    {
+        self.is_settled = false;
+        self.regions_stand = false;
+        self.view_stands = false;
+        let mut plan = self.plan.take().unwrap();
+        let course = step_network(
+            self.alloc,
+            &mut self.network,
+            &mut plan,
+            change.steps(),
+            policy,
+            out,
+        )?;
+        self.plan = Some(plan);
+        self.is_settled = true;
+        self.regions_stand = true;
+        self.view_stands = true;
+        Ok(course)
     }
 
     /// What the rows take memory from.

@@ -6,7 +6,7 @@ ghost use Rattle.mst_picture.specs.diff.Reach.{has_any};
 ghost use Rattle.mst_picture.specs.trees.Outcome.{IsOutcome, Outcome};
 ghost use Rattle.mst_report.specs.Kept.{IsPlan};
 ghost use Rattle.mst_report.specs.Sweeping.{Puts};
-ghost use Rattle.mst_report.specs.Verifying.{AreCounted, AreFound, AreTold, IsJudging, IsOpened, Verifies, counts_of, found_at, plan_outcome, rows_at};
+ghost use Rattle.mst_report.specs.Verifying.{AreCounted, AreFound, AreTold, IsJudging, IsOpened, Judges, Verifies, counts_of, found_at, plan_outcome, rows_at, tells_some};
 ghost use Rattle.mst_rows.specs.Rows.{Row};
 ghost use Rattle.mst_verify.specs.Verified.{reason_rows, refused_row, refused_rows};
 
@@ -30,6 +30,15 @@ pub struct Verdict {
     pub judged: u64,
     /// How many of these aren't kept.
     pub failing: u64,
+}
+
+impl Verdict {
+    /// Whether something is told but the counts: a line is refused, or isn't kept.
+    pub(crate) fn tells(&self) -> bool
+        ensures { result ≡ tells_some (counts_of self.now) }
+    {
+        self.refused > 0 || self.failing > 0
+    }
 }
 
 /// Puts that a line is refused.
@@ -193,7 +202,7 @@ fn count_set(flags: &[bool]) -> u64
     flags.iter().filter(|flag| **flag).count() as u64
 }
 
-/// Puts why the lines of a policy that are judged aren't kept, and the last row, and answers how many aren't.
+/// Puts why the lines of a policy that are judged aren't kept, and answers how many are judged and how many of these aren't kept.
 fn put_judged<R: Rows>(
     alloc: Global,
     network: &mut Network,
@@ -207,14 +216,12 @@ fn put_judged<R: Rows>(
 {
     let found = find_all(alloc, network, judging)?;
     let failing = put_lines(judging.lines, found.as_slice(), out)?;
-    let judged = count_set(judging.flags);
-    put_verified(judged, judged - failing, out)?;
-    Ok((judged, failing))
+    Ok((count_set(judging.flags), failing))
 }
 
-/// Puts whether a network does what the lines of a policy promise, by its plan. `AllocError`: memory was wanted and refused; some of the
-/// rows may have been put. The network is as it was in either case.
-pub(crate) fn verify_network<R: Rows>(
+/// Puts the rows of a policy of a network but for the last one, by the network's plan. `AllocError`: memory was wanted and refused; some
+/// of the rows may have been put. The network is as it was in either case.
+pub(crate) fn judge_network<R: Rows>(
     alloc: Global,
     network: &mut Network,
     plan: &Plan,
@@ -222,7 +229,7 @@ pub(crate) fn verify_network<R: Rows>(
     out: &mut R,
 ) -> Result<Verdict, AllocError>
     requires { IsPlan network.old.net network.old.numbers plan.now }
-    ensures told { IfOk result (λ verdict. (rows : List Row) × Verifies network.old.net lines.now (counts_of verdict) rows × Puts R.grew out.old out.new rows) }
+    ensures told { IfOk result (λ verdict. (rows : List Row) × Judges network.old.net lines.now (counts_of verdict) rows × Puts R.grew out.old out.new rows) }
     ensures few { IfOk result (λ verdict. verdict.refused ≤ length lines.now) }
     ensures same { SameContents network.old network.new }
 {
@@ -239,4 +246,23 @@ pub(crate) fn verify_network<R: Rows>(
         judged,
         failing,
     })
+}
+
+/// Puts whether a network does what the lines of a policy promise, by its plan. `AllocError`: memory was wanted and refused; some of the
+/// rows may have been put. The network is as it was in either case.
+pub(crate) fn verify_network<R: Rows>(
+    alloc: Global,
+    network: &mut Network,
+    plan: &Plan,
+    lines: &[PolicyLine],
+    out: &mut R,
+) -> Result<Verdict, AllocError>
+    requires { IsPlan network.old.net network.old.numbers plan.now }
+    ensures told { IfOk result (λ verdict. (rows : List Row) × Verifies network.old.net lines.now (counts_of verdict) rows × Puts R.grew out.old out.new rows) }
+    ensures few { IfOk result (λ verdict. verdict.refused ≤ length lines.now) }
+    ensures same { SameContents network.old network.new }
+{
+    let verdict = judge_network(alloc, network, plan, lines, out)?;
+    put_verified(verdict.judged, verdict.judged - verdict.failing, out)?;
+    Ok(verdict)
 }

@@ -1,7 +1,10 @@
 pub mod Plain
+pub mod LinesTaken
 pub mod PolicyLines
+pub mod ChangeLines
 pub mod Shown
 pub mod WholeCheck
 pub mod WholeLoad
 pub mod WholeDiff
 pub mod WholeVerify
+pub mod WholeAlter

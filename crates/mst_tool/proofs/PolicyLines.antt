@@ -1,11 +1,9 @@
 -- The lines of a policy that were read, as its bytes came.
-use Rattle.std.proofs.Common.{◌≡◌, ◌≢◌, ℕ, ◌+◌, ◌<◌, ◌≤◌, true, false, nat_eq, cond, List, [], ◌∷◌, ◌++◌, length, length-append, Result, Ok, Err, Option, None, Some, refl, sym, ap, ◌∙◌, inl, inr, arith, append_assoc, append-nil, eq-eqb}
+use Rattle.std.proofs.Common.{◌≡◌, ℕ, ◌+◌, ◌<◌, ◌≤◌, ◌^◌, true, false, nat_eq, cond, List, [], ◌∷◌, ◌++◌, length, length-append, Result, Ok, Err, Option, None, Some, refl, sym, ap, ◌∙◌, inl, inr, arith, append_assoc, append-nil}
 use Rattle.std.proofs.lemmas.Bool.{lt-ltb}
-use Rattle.std.proofs.lemmas.Grind.{common_steps}
 use Rattle.std.specs.List.{list_all}
 use Rattle.mst_lang.specs.Words.{is_plain, words}
-use Rattle.mst_io.specs.Held.{ending, hold, lines_held}
-use Rattle.mst_io.specs.Written.{Reads}
+use Rattle.mst_io.specs.Held.{hold, lines_held}
 use Rattle.mst_io.proofs.Long.{held_cases, none_held_of, one_held_of}
 use Rattle.mst_io.proofs.Starts.{IsHeld, IsHeld-nothing, IsHeld-push}
 use Rattle.mst_lang.specs.Lines.{drop_cr, last_line, lines_from, lines_of}
@@ -15,8 +13,12 @@ use Rattle.mst_policy.specs.Lines.{line_of, line_read, policy_from}
 use Rattle.mst_policy.specs.Reading.{reading, worded}
 use Rattle.mst_policy.specs.declared.expectation.Promise.{Promise}
 use Rattle.mst_policy.specs.declared.policy.PolicyLine.{PolicyLine}
-use Rattle.mst_tool.specs.Policies.{AreLines, ReadsOn}
-use Rattle.mst_tool.specs.declared.policies.Reading.{Reading}
+use Rattle.mst_tool.specs.Lines.{AreLines, AreTaken, policy_with}
+use Rattle.mst_tool.proofs.LinesTaken.{lines_short}
+
+-- ---- a line
+pub policy_takes : (old new : List PolicyLine) (n : ℕ) (line : List ℕ) → new ≡ old ++ line_of n line → (others : List (List ℕ)) → policy_with new (n + 1) others ≡ policy_with old n (line ∷ others)
+policy_takes old new n line more others = ap (λ l. l ++ policy_from (n + 1) others) more ∙ append_assoc old (line_of n line) (policy_from (n + 1) others)
 
 -- ---- it is enough to hold a part of a line that is too long
 long_says : (line : List ℕ) → 4096 < length line → reading line ≡ Err E01
@@ -43,59 +45,23 @@ policy_held (b ∷ bs) part held n is =
       | false ↦ policy_held bs (part ++ b ∷ []) (hold held b) n (IsHeld-push part held b is)
     ]
 
--- ---- bytes that are taken
-line_first : (last : List ℕ → List (List ℕ)) (p rest : List ℕ) (b : ℕ) → b ≡ 10 → lines_held last p (b ∷ rest) ≡ drop_cr p ∷ lines_held last [] rest
-line_first last p rest b e = ap (λ c. cond c (drop_cr p ∷ lines_held last [] rest) (lines_held last (hold p b) rest)) (eq-eqb b 10 e)
-
-not_end : (b : ℕ) → b ≢ 10 → nat_eq b 10 ≡ false
-not_end b h = grind (arith, common_steps)
-
-byte_first : (last : List ℕ → List (List ℕ)) (p rest : List ℕ) (b : ℕ) → b ≢ 10 → lines_held last p (b ∷ rest) ≡ lines_held last (hold p b) rest
-byte_first last p rest b other = ap (λ c. cond c (drop_cr p ∷ lines_held last [] rest) (lines_held last (hold p b) rest)) (not_end b other)
-
-pub reads_none : (r : Reading) (part : List ℕ) → ReadsOn r part [] r part
-reads_none r part last rest = refl
-
-pub reads_byte : (r : Reading) (part : List ℕ) (b : ℕ) → b ≢ 10 → ReadsOn r part (b ∷ []) r (hold part b)
-reads_byte r part b other last rest = ap (λ l. r.policy ++ policy_from r.number l) (byte_first last part rest b other)
-
-pub reads_line : (old new : Reading) (part : List ℕ) (b : ℕ) → b ≡ 10 → new.policy ≡ old.policy ++ line_of old.number (drop_cr part) → new.number ≡ old.number + 1 → ReadsOn old part (b ∷ []) new []
-reads_line old new part b e policy number last rest =
-    ap (λ l. old.policy ++ policy_from old.number l) (line_first last part rest b e)
-    ∙ sym (append_assoc old.policy (line_of old.number (drop_cr part)) (policy_from (old.number + 1) (lines_held last [] rest)))
-    ∙ (λ i. sym policy i ++ policy_from (sym number i) (lines_held last [] rest))
-
-pub reads_join : (a b c : Reading) (p q r xs ys : List ℕ) → ReadsOn a p xs b q → ReadsOn b q ys c r → ReadsOn a p (xs ++ ys) c r
-reads_join a b c p q r xs ys f g last rest = ap (λ l. a.policy ++ policy_from a.number (lines_held last p l)) (append_assoc xs ys rest) ∙ f last (ys ++ rest) ∙ g last rest
-
--- the end of the input ends its last line, where that has a byte
-end_alike : (n : ℕ) (held : List ℕ) → policy_from n (lines_held last_line held []) ≡ policy_from n (lines_held last_line held (ending held ++ []))
-end_alike n [] = refl
-end_alike n (b ∷ bs) = refl
-
 -- ---- how many there are
 read_short : (n : ℕ) (read : Result (Option Promise) Fault) → length (line_read n read) ≤ 1
 read_short n (Ok None) = omega arith
 read_short n (Ok (Some promise)) = omega arith
 read_short n (Err fault) = omega arith
 
-pub line_short : (n : ℕ) (line : List ℕ) → length (line_of n line) ≤ 1
-line_short n line = read_short n (reading line)
+policy_short : (n : ℕ) (lines : List (List ℕ)) → length (policy_from n lines) ≤ length lines
+policy_short n [] = omega arith
+policy_short n (line ∷ lines) = omega (arith, length-append (line_of n line) (policy_from (n + 1) lines), read_short n (reading line), policy_short (n + 1) lines)
 
-pub counted_on : (old new part : List PolicyLine) (n m : ℕ) → length old + 1 ≤ n → length part ≤ 1 → new ≡ old ++ part → m ≡ n + 1 → length new + 1 ≤ m
-counted_on old new part n m was short more next = omega (arith, ap length more, length-append old part)
+-- ---- so they are the lines of the policy
+module _ (begun : List PolicyLine) (reads : Option (List ℕ)) (policy : List PolicyLine) (none : begun ≡ []) (taken : AreTaken policy_with begun reads policy) where
+  policy_is : policy ≡ policy_from 1 (lines_of taken.bytes)
+  policy_is = sym (append-nil policy) ∙ taken.comes ∙ ap (λ l. l ++ policy_from 1 (lines_held last_line [] taken.bytes)) none ∙ policy_held taken.bytes [] [] 1 IsHeld-nothing
 
-abbrev pub begun : Reading
-begun = record { policy = []; number = 1 }
+  pub are_lines : AreLines reads policy
+  are_lines = (taken.bytes, taken.read, policy_is)
 
-pub reads_begun : (policy : List PolicyLine) (held : List ℕ) → policy ≡ [] → held ≡ [] → ReadsOn begun [] [] (record { policy = policy; number = 1 }) held
-reads_begun policy held none nothing last rest = λ i. sym none i ++ policy_from 1 (lines_held last (sym nothing i) rest)
-
--- so all lines were read
-pub all_read : (read held : List ℕ) (now end : Reading) → ReadsOn begun [] read now held → ReadsOn now held (ending held) end [] → end.policy ≡ policy_from 1 (lines_of read)
-all_read read held now end f g =
-    sym (append-nil end.policy) ∙ sym (g last_line []) ∙ sym (ap (λ l. now.policy ++ l) (end_alike now.number held)) ∙ sym (f last_line [])
-    ∙ ap (λ l. policy_from 1 (lines_held last_line [] l)) (append-nil read) ∙ policy_held read [] [] 1 IsHeld-nothing
-
-pub are_lines : (reads : Option (List ℕ)) (read held : List ℕ) (now end : Reading) → Reads reads read → ReadsOn begun [] read now held → ReadsOn now held (ending held) end [] → AreLines reads end.policy
-are_lines reads read held now end all f g = (read, all, all_read read held now end f g)
+  pub few_lines : length policy < 2 ^ 60
+  few_lines = omega (arith, ap length policy_is, policy_short 1 (lines_of taken.bytes), lines_short taken.bytes [], taken.few)

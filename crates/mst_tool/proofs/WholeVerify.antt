@@ -17,7 +17,7 @@ use Rattle.mst_io.proofs.Known.{AppendsFront-after}
 use Rattle.mst_print.specs.Shape.{of_script, shown}
 use Rattle.mst_print.specs.declared.form.Form.{Form}
 use Rattle.mst_rows.specs.Rows.{Row}
-use Rattle.mst_tool.specs.Policies.{AreLines}
+use Rattle.mst_tool.specs.Lines.{AreLines}
 use Rattle.mst_tool.specs.Shown.{verify_row}
 use Rattle.mst_tool.specs.Verify.{TellsVerification, Verifies, VerifiesFront, counted_with}
 use Rattle.mst_tool.proofs.WholeLoad.{OneLoad, loads_same}

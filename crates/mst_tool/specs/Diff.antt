@@ -1,14 +1,17 @@
 -- What telling the networks of two scripts apart promises, where it prints in this form.
-use Rattle.std.specs.Prelude.{◌≡◌, ◌+◌, ◌++◌, ◌⊎◌, ◌==◌, ◌&&◌, ℕ, Bool, List, Option, if◌then◌else◌}
+use Rattle.std.specs.Prelude.{◌≡◌, ◌+◌, ◌++◌, ◌⊎◌, ◌==◌, ◌&&◌, ℕ, Bool, not, List, Option, if◌then◌else◌}
 use Rattle.std.specs.Io.KnownBytes.{Appends, Consumes}
 use Rattle.mst_engine.specs.diff.declared.diff.Differing.{Differing}
 use Rattle.mst_lang.specs.Lines.{lines_of, ended_lines}
 use Rattle.mst_engine.specs.net.Tables.{Net}
 use Rattle.mst_engine.specs.report.Differing.{Differs}
+use Rattle.mst_engine.specs.report.Editing.{EditsTo}
 use Rattle.mst_engine.specs.report.State.{empty_state}
 use Rattle.mst_tool.specs.Load.{LoadsEnded}
 use Rattle.mst_engine.specs.Script.{LoadsAll}
-use Rattle.mst_tool.specs.Shown.{IsShown, diff_row}
+use Rattle.mst_tool.specs.Shown.{IsShown, diff_row, edits_row}
+use Rattle.mst_tool.specs.declared.diffs.Between.{Between}
+use Rattle.mst_tool.specs.declared.diffs.Between.TheVariants.{Plans, Settings}
 use Rattle.mst_print.specs.Shape.{of_old, of_new}
 use Rattle.mst_engine.specs.Steps.{Step, left_by, texts_of, refusals_of, lacks_of, lacking_of}
 use Rattle.mst_io.specs.Written.{AppendsFront, Reads}
@@ -19,13 +22,23 @@ use Rattle.mst_io.specs.declared.outcome.Outcome.{Outcome}
 abbrev pub is_nothing : Differing → Bool
 is_nothing d = d.regions == 0 && d.roots == 0 && d.ports == 0 && d.vlans == 0
 
--- 1 where something differs, else 0
-abbrev pub differing_by : Differing → ℕ
-differing_by counts = if is_nothing counts then 0 else 1
+-- what is counted between two networks: of their plans how much of each differs, of their settings whether there is an edit
+abbrev pub CountsOf : Between → Type 0
+CountsOf Plans = Differing
+CountsOf Settings = Bool
 
--- what is counted of two scripts and of how their networks differ. Of a script alone nothing differs
-abbrev pub counted_both : Outcome → Outcome → Differing → Outcome
-counted_both old new counts = record { refused = old.refused + new.refused; memory = old.memory + new.memory; differing = differing_by counts }
+-- whether something differs
+abbrev pub differs_by : (between : Between) → CountsOf between → Bool
+differs_by Plans counts = not (is_nothing counts)
+differs_by Settings differs = differs
+
+-- 1 where something differs, else 0
+abbrev pub differing_by : (between : Between) → CountsOf between → ℕ
+differing_by between counts = if differs_by between counts then 1 else 0
+
+-- what is counted of two scripts and of whether their networks differ. Of a script alone nothing differs
+abbrev pub counted_both : Outcome → Outcome → Bool → Outcome
+counted_both old new differs = record { refused = old.refused + new.refused; memory = old.memory + new.memory; differing = if differs then 1 else 0 }
 
 -- both scripts, which the readers give, and what their lines do, from the empty state on, where their networks are loaded.
 -- Neither has other steps that lack memory at the same lines
@@ -51,32 +64,33 @@ old_net both = (left_by empty_state both.old_steps).net
 abbrev pub new_net : {form : Form} {olds news : Option (List ℕ)} → LoadsBoth form olds news → Net
 new_net both = (left_by empty_state both.new_steps).net
 
--- what tells how two networks differ
-abbrev pub TellsDifference : Form → Net → Net → Differing → List ℕ → Type 0
-TellsDifference form old new counts = IsShown form diff_row (Differs old new counts)
+-- what tells how two networks differ, or which edits make the new one of the old one
+abbrev pub TellsDifference : (between : Between) → Form → Net → Net → CountsOf between → List ℕ → Type 0
+TellsDifference Plans form old new counts = IsShown form diff_row (Differs old new counts)
+TellsDifference Settings form old new differs = IsShown form edits_row (EditsTo old new differs)
 
 -- The edits of both scripts' lines were served, and what they print was written, that of the old one first, and after it how
 -- the network that the new one leaves differs from the old one's. The outcome counts the lines of both that were refused, and
 -- 1 where something differs. How both networks differ is one text
-pub record Diffs (form : Form) (olds news written now : Option (List ℕ)) (outcome : Outcome) : Type 0 where
+pub record Diffs (between : Between) (form : Form) (olds news written now : Option (List ℕ)) (outcome : Outcome) : Type 0 where
   pub both : LoadsBoth form olds news
-  pub counts : Differing
+  pub counts : CountsOf between
   pub text : List ℕ
-  pub differs : TellsDifference form (old_net both) (new_net both) counts text
+  pub differs : TellsDifference between form (old_net both) (new_net both) counts text
   pub printed : Appends written now (both_texts both ++ text)
   pub memory : outcome.memory ≡ lacks_of both.old_steps + lacks_of both.new_steps
   pub refused : outcome.refused ≡ refusals_of both.old_steps + refusals_of both.new_steps
-  pub differing : outcome.differing ≡ differing_by counts
-  pub only_difference : (also : Differing) (other : List ℕ) → TellsDifference form (old_net both) (new_net both) also other → (also ≡ counts) × (other ≡ text)
+  pub differing : outcome.differing ≡ differing_by between counts
+  pub only_difference : (also : CountsOf between) (other : List ℕ) → TellsDifference between form (old_net both) (new_net both) also other → (also ≡ counts) × (other ≡ text)
 
 -- a front of what the lines of both scripts and how their networks differ print was written
-pub record DiffsFront (form : Form) (olds news written now : Option (List ℕ)) : Type 0 where
+pub record DiffsFront (between : Between) (form : Form) (olds news written now : Option (List ℕ)) : Type 0 where
   pub both : LoadsBoth form olds news
-  pub counts : Differing
+  pub counts : CountsOf between
   pub text : List ℕ
-  pub differs : TellsDifference form (old_net both) (new_net both) counts text
+  pub differs : TellsDifference between form (old_net both) (new_net both) counts text
   pub printed : AppendsFront written now (both_texts both ++ text)
-  pub only_difference : (also : Differing) (other : List ℕ) → TellsDifference form (old_net both) (new_net both) also other → (also ≡ counts) × (other ≡ text)
+  pub only_difference : (also : CountsOf between) (other : List ℕ) → TellsDifference between form (old_net both) (new_net both) also other → (also ≡ counts) × (other ≡ text)
 
 -- The edits of the whole of the old script were served, and the reader of the new one has given these bytes, as far as it
 -- tells, and has some left. Those of the lines that they complete were served too, and the whole of what all these print was

@@ -7,5 +7,6 @@ pub mod Asked
 pub mod Shown
 pub mod Ask
 pub mod Diff
-pub mod Policies
+pub mod Lines
 pub mod Verify
+pub mod Alter

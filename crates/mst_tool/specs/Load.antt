@@ -1,5 +1,5 @@
 -- What loading the network of a script promises. A script has no other steps that lack memory at the same lines.
-use Rattle.std.specs.Prelude.{◌≡◌, ℕ, List, Option}
+use Rattle.std.specs.Prelude.{◌≡◌, ◌⊎◌, ℕ, List, Option}
 use Rattle.std.specs.Io.KnownBytes.{Appends, Consumes}
 use Rattle.mst_lang.specs.Lines.{lines_of, ended_lines}
 use Rattle.mst_engine.specs.Script.{LoadsAll}
@@ -34,3 +34,7 @@ pub record LoadsScript (shape : Shape) (reads written now : Option (List ℕ)) :
   pub loads : LoadsAll shape (lines_of script) steps
   pub printed : Appends written now (texts_of steps)
   pub only : (others : List Step) → LoadsAll shape (lines_of script) others → lacking_of others ≡ lacking_of steps → others ≡ steps
+
+-- a reader failed: that of the script, or that of an input behind it, of which nothing is told then
+abbrev pub LoadsOrEnded : Shape → Option (List ℕ) → Option (List ℕ) → Option (List ℕ) → Option (List ℕ) → Type 0
+LoadsOrEnded shape reads left written now = LoadsEnded shape reads left written now ⊎ LoadsScript shape reads written now

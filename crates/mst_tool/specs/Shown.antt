@@ -3,7 +3,7 @@ use Rattle.std.specs.Prelude.{◌≡◌, ◌==◌, ℕ, List, [], ◌∷◌, Opt
 use Rattle.mst_ids.specs.declared.name.PortName.{PortName}
 use Rattle.mst_kinds.specs.declared.kind.Kind.TheVariants.{Query as OfQuery}
 use Rattle.mst_kinds.specs.declared.query.Query.{Query}
-use Rattle.mst_kinds.specs.declared.query.Query.TheVariants.{Explain, ExplainIn, Diff, Sweep, SweepPart, SweepPairs, SweepPairsPart, Summary, Verify}
+use Rattle.mst_kinds.specs.declared.query.Query.TheVariants.{Explain, ExplainIn, Diff, Sweep, SweepPart, SweepPairs, SweepPairsPart, Summary, Verify, Steps, Edits}
 use Rattle.mst_engine.specs.sweep.SweepParts.{PartOf}
 use Rattle.mst_print.specs.Shape.{shown}
 use Rattle.mst_print.specs.declared.form.Form.{Form}
@@ -47,3 +47,9 @@ diff_row = question_row Diff []
 
 abbrev pub verify_row : Row
 verify_row = question_row Verify []
+
+abbrev pub edits_row : Row
+edits_row = question_row Edits []
+
+abbrev pub steps_row : Row
+steps_row = question_row Steps []

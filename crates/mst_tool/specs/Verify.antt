@@ -13,8 +13,8 @@ use Rattle.mst_io.specs.Written.{AppendsFront, Reads}
 use Rattle.mst_io.specs.declared.outcome.Outcome.{Outcome}
 use Rattle.mst_print.specs.Shape.{of_script}
 use Rattle.mst_print.specs.declared.form.Form.{Form}
-use Rattle.mst_tool.specs.Load.{LoadsEnded, LoadsFront, LoadsScript}
-use Rattle.mst_tool.specs.Policies.{AreLines}
+use Rattle.mst_tool.specs.Load.{LoadsFront}
+use Rattle.mst_tool.specs.Lines.{AreLines}
 use Rattle.mst_tool.specs.Shown.{IsShown, verify_row}
 use Rattle.mst_tool.specs.declared.verifies.Verification.{Verification}
 
@@ -69,7 +69,3 @@ pub record VerifiesPart (form : Form) (scripts policies written now : Option (Li
 -- a front of what the script's lines print was written, or all of that and a front of what tells of the policy
 abbrev pub VerifiesFront : Form → Option (List ℕ) → Option (List ℕ) → Option (List ℕ) → Option (List ℕ) → Type 0
 VerifiesFront form scripts policies written now = LoadsFront (of_script form) scripts written now ⊎ VerifiesPart form scripts policies written now
-
--- a reader failed: that of the script, so that no line of the policy was read, or that of the policy, of which nothing is told then
-abbrev pub VerifiesEnded : Form → Option (List ℕ) → Option (List ℕ) → Option (List ℕ) → Option (List ℕ) → Type 0
-VerifiesEnded form scripts left written now = LoadsEnded (of_script form) scripts left written now ⊎ LoadsScript (of_script form) scripts written now

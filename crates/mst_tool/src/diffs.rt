@@ -1,18 +1,27 @@
-ghost use Rattle.std.specs.Prelude.{◌≡◌, ◌≤◌, ◌↔◌, ◌⊎◌, ◌^◌, ℕ, false, List, Option, Ok, Err, IfOk, IsOk, OnErr};
+ghost use Rattle.std.specs.Prelude.{◌≡◌, ◌≤◌, ◌↔◌, ◌⊎◌, ◌^◌, ℕ, false, List, Option, Err, IfOk, IsOk, OnErr};
 ghost use Rattle.mst_engine.specs.report.Planned.{planned_state};
 ghost use Rattle.mst_io.specs.Devices.{Hears, Works, IsBroken, IsCut, IsRead, IsCalled, StopsAtZero};
-ghost use Rattle.mst_tool.specs.Diff.{Diffs, DiffsFront, DiffsEnded, DiffsScripts, TellsDifference, counted_both};
+ghost use Rattle.mst_tool.specs.Diff.{CountsOf, Diffs, DiffsFront, DiffsEnded, DiffsScripts, TellsDifference, counted_both, differs_by};
 ghost use Rattle.mst_engine.specs.Served.{IsFew};
 
 use crate::opened::open_question;
 use mst_engine::laws::{has_load, one_load, states};
 use mst_engine::report_laws::one_difference;
-use mst_engine::{Differing, Engine, Input, Planner, serve_input};
+use mst_engine::{Engine, Input, Planner, serve_input};
 use mst_io::{FromRead, Outcome, RunFault, Sink, Source, TURNS, ToWrite, put};
 use mst_kinds::Query;
 use mst_print::{Form, Shape, Side};
 use std::alloc::{AllocError, Global};
 use std::io::{Read, Write};
+
+/// What is told of the networks of two scripts.
+#[derive(Clone, Copy, Debug, PartialEq, Eq)]
+pub enum Between {
+    /// How the new one's differs from the old one's, by the plans of both.
+    Plans,
+    /// The edits that make the new one's of the old one's, by the settings of both. Nothing is planned.
+    Settings,
+}
 
 /// Loads the networks of two scripts, of the old one first, and writes how the new one's differs. Where nothing meets want of
 /// memory, what is written is a function of the two scripts.
@@ -31,32 +40,59 @@ pub fn diff<O: Read + Drop, N: Read + Drop, W: Write>(
     mut new: N,
     writer: &mut W,
 ) -> Result<Outcome, RunFault>
-    ensures ok { IfOk result (Diffs Form.Text (O.remaining old) (N.remaining new) (W.contents writer.old) (W.contents writer.new)) }
-    ensures fault { OnErr result (DiffsFront Form.Text (O.remaining old) (N.remaining new) (W.contents writer.old) (W.contents writer.new)) }
+    ensures ok { IfOk result (Diffs Between.Plans Form.Text (O.remaining old) (N.remaining new) (W.contents writer.old) (W.contents writer.new)) }
+    ensures fault { OnErr result (DiffsFront Between.Plans Form.Text (O.remaining old) (N.remaining new) (W.contents writer.old) (W.contents writer.new)) }
     ensures read { result ≡ Err RunFault.Read → (old_left new_left : Option (List ℕ)) × DiffsEnded Form.Text (O.remaining old) old_left (N.remaining new) new_left (W.contents writer.old) (W.contents writer.new) }
     ensures memory { result ≡ Err RunFault.Memory → DiffsScripts Form.Text (O.remaining old) (N.remaining new) (W.contents writer.old) (W.contents writer.new) }
 {
-    diff_from(alloc, &mut old, &mut new, writer)
+    diff_from(
+        alloc,
+        Form::Text,
+        Between::Plans,
+        &mut old,
+        &mut new,
+        writer,
+    )
 }
 
-/// The same as [`diff`], for readers that the caller keeps: so its contract says how far they were read.
+/// Loads the networks of two scripts, as [`diff`] does, and writes the edits that make the new one's of the old one's: a script of
+/// version 2, whose first line says so. It counts as one that differs where there is an edit.
+pub fn edits<O: Read + Drop, N: Read + Drop, W: Write>(
+    alloc: Global,
+    form: Form,
+    mut old: O,
+    mut new: N,
+    writer: &mut W,
+) -> Result<Outcome, RunFault>
+    ensures ok { IfOk result (Diffs Between.Settings form (O.remaining old) (N.remaining new) (W.contents writer.old) (W.contents writer.new)) }
+    ensures fault { OnErr result (DiffsFront Between.Settings form (O.remaining old) (N.remaining new) (W.contents writer.old) (W.contents writer.new)) }
+    ensures read { result ≡ Err RunFault.Read → (old_left new_left : Option (List ℕ)) × DiffsEnded form (O.remaining old) old_left (N.remaining new) new_left (W.contents writer.old) (W.contents writer.new) }
+    ensures memory { result ≡ Err RunFault.Memory → DiffsScripts form (O.remaining old) (N.remaining new) (W.contents writer.old) (W.contents writer.new) }
+{
+    diff_from(alloc, form, Between::Settings, &mut old, &mut new, writer)
+}
+
+/// The same as [`diff`] and [`edits`], for readers that the caller keeps: so its contract says how far they were read.
 pub fn diff_from<O: Read, N: Read, W: Write>(
     alloc: Global,
+    form: Form,
+    between: Between,
     old: &mut O,
     new: &mut N,
     writer: &mut W,
 ) -> Result<Outcome, RunFault>
-    ensures ok { IfOk result (Diffs Form.Text (O.remaining old.old) (N.remaining new.old) (W.contents writer.old) (W.contents writer.new)) }
-    ensures fault { OnErr result (DiffsFront Form.Text (O.remaining old.old) (N.remaining new.old) (W.contents writer.old) (W.contents writer.new)) }
-    ensures read { result ≡ Err RunFault.Read → DiffsEnded Form.Text (O.remaining old.old) (O.remaining old.new) (N.remaining new.old) (N.remaining new.new) (W.contents writer.old) (W.contents writer.new) }
-    ensures memory { result ≡ Err RunFault.Memory → DiffsScripts Form.Text (O.remaining old.old) (N.remaining new.old) (W.contents writer.old) (W.contents writer.new) }
+    ensures ok { IfOk result (Diffs between form (O.remaining old.old) (N.remaining new.old) (W.contents writer.old) (W.contents writer.new)) }
+    ensures fault { OnErr result (DiffsFront between form (O.remaining old.old) (N.remaining new.old) (W.contents writer.old) (W.contents writer.new)) }
+    ensures read { result ≡ Err RunFault.Read → DiffsEnded form (O.remaining old.old) (O.remaining old.new) (N.remaining new.old) (N.remaining new.new) (W.contents writer.old) (W.contents writer.new) }
+    ensures memory { result ≡ Err RunFault.Memory → DiffsScripts form (O.remaining old.old) (N.remaining new.old) (W.contents writer.old) (W.contents writer.new) }
 {
     let mut old_source = FromRead::new(old);
     let mut new_source = FromRead::new(new);
     let mut sink = ToWrite::new(writer);
     diff_within(
         alloc,
-        Form::Text,
+        form,
+        between,
         &mut old_source,
         &mut new_source,
         &mut sink,
@@ -64,14 +100,15 @@ pub fn diff_from<O: Read, N: Read, W: Write>(
     )
 }
 
-/// Tells apart the networks of the two scripts that the sources give in so many turns each, as [`diff`] does: it is that with
-/// 2^32 of them. A turn is one call of a source, the one that finds the end included.
+/// Tells the networks of the two scripts apart that the sources give in so many turns each, as [`diff`] and [`edits`] do: it is
+/// these with 2^32 of them. A turn is one call of a source, the one that finds the end included.
 ///
 /// [`RunFault::Read`] is answered just where the sink works and a source has failed, or all turns of it were used and
 /// none found the end; [`RunFault::Write`] just where the sink has failed, or took nothing of a part that had a byte.
 pub fn diff_within<O: Source, N: Source, K: Sink>(
     alloc: Global,
     form: Form,
+    between: Between,
     old: &mut O,
     new: &mut N,
     sink: &mut K,
@@ -81,8 +118,8 @@ pub fn diff_within<O: Source, N: Source, K: Sink>(
     requires new { (N.told new.old).failed ≡ false }
     requires sink { (K.told sink.old).failed ≡ false }
     requires turns { turns ≤ 2 ^ 32 }
-    ensures ok { IfOk result (Diffs form (O.remaining old.old) (N.remaining new.old) (K.contents sink.old) (K.contents sink.new)) }
-    ensures fault { OnErr result (DiffsFront form (O.remaining old.old) (N.remaining new.old) (K.contents sink.old) (K.contents sink.new)) }
+    ensures ok { IfOk result (Diffs between form (O.remaining old.old) (N.remaining new.old) (K.contents sink.old) (K.contents sink.new)) }
+    ensures fault { OnErr result (DiffsFront between form (O.remaining old.old) (N.remaining new.old) (K.contents sink.old) (K.contents sink.new)) }
     ensures read { result ≡ Err RunFault.Read → DiffsEnded form (O.remaining old.old) (O.remaining old.new) (N.remaining new.old) (N.remaining new.new) (K.contents sink.old) (K.contents sink.new) }
     ensures memory { result ≡ Err RunFault.Memory → DiffsScripts form (O.remaining old.old) (N.remaining new.old) (K.contents sink.old) (K.contents sink.new) }
     ensures ended_old { IsOk result → IsRead (O.told old.old) (O.told old.new) }
@@ -117,14 +154,20 @@ pub fn diff_within<O: Source, N: Source, K: Sink>(
             };
             match serve_input(Input::Network(of_new), &mut after, new, sink, turns) {
                 Err(fault) => Err(fault),
-                Ok(()) => match what_differs(alloc, form, &mut before.planner, &mut after.planner) {
+                Ok(()) => match what_differs(
+                    alloc,
+                    form,
+                    between,
+                    &mut before.planner,
+                    &mut after.planner,
+                ) {
                     Err(_) => Err(RunFault::Memory),
                     Ok(found) => match put(sink, found.text.as_slice()) {
                         Err(_) => Err(RunFault::Write),
                         Ok(()) => {
                             let old_served = before.outcome();
                             let new_served = after.outcome();
-                            Ok(with_difference(&old_served, &new_served, &found.counts))
+                            Ok(with_difference(&old_served, &new_served, found.differs))
                         }
                     },
                 },
@@ -133,40 +176,73 @@ pub fn diff_within<O: Source, N: Source, K: Sink>(
     }
 }
 
-/// What tells how two networks differ, and how much of each does.
+/// What tells two networks apart, and whether anything differs.
 #[derive(Drop)]
 struct Difference {
     text: Vec<u8>,
-    counts: Differing,
+    differs: bool,
 }
 
-/// How the network of the new planner differs from that of the old one, once both plans are settled. `AllocError`: memory was
-/// wanted and refused.
+/// How the network of the new planner differs from that of the old one. `AllocError`: memory was wanted and refused.
 fn what_differs(
+    alloc: Global,
+    form: Form,
+    between: Between,
+    old: &mut Planner,
+    new: &mut Planner,
+) -> Result<Difference, AllocError>
+    ensures { IfOk result (λ found. (counts : CountsOf between) × (found.differs ≡ differs_by between counts) × TellsDifference between form (planned_state old.old).net (planned_state new.old).net counts found.text.items) }
+{
+    match between {
+        Between::Plans => planned_apart(alloc, form, old, new),
+        Between::Settings => set_apart(alloc, form, old, new),
+    }
+}
+
+/// How it differs by the plans of both, once they are settled.
+fn planned_apart(
     alloc: Global,
     form: Form,
     old: &mut Planner,
     new: &mut Planner,
 ) -> Result<Difference, AllocError>
-    ensures { IfOk result (λ found. TellsDifference form (planned_state old.old).net (planned_state new.old).net found.counts found.text.items) }
+    ensures { IfOk result (λ found. (counts : CountsOf Between.Plans) × (found.differs ≡ differs_by Between.Plans counts) × TellsDifference Between.Plans form (planned_state old.old).net (planned_state new.old).net counts found.text.items) }
 {
     old.settle()?;
     new.settle()?;
     let mut printer = open_question(alloc, form, Query::Diff)?;
     let counts = old.put_difference(new, &mut printer)?;
     let text = printer.close()?;
-    Ok(Difference { text, counts })
+    Ok(Difference {
+        text,
+        differs: !counts.is_nothing(),
+    })
+}
+
+/// The edits that make the network of the new planner of that of the old one.
+fn set_apart(
+    alloc: Global,
+    form: Form,
+    old: &Planner,
+    new: &Planner,
+) -> Result<Difference, AllocError>
+    ensures { IfOk result (λ found. (counts : CountsOf Between.Settings) × (found.differs ≡ differs_by Between.Settings counts) × TellsDifference Between.Settings form (planned_state old.now).net (planned_state new.now).net counts found.text.items) }
+{
+    let mut printer = open_question(alloc, form, Query::Edits)?;
+    let differs = old.put_edits(new, &mut printer)?;
+    let text = printer.close()?;
+    Ok(Difference { text, differs })
 }
 
 /// What was counted of two scripts and of how their networks differ.
-fn with_difference(old: &Outcome, new: &Outcome, counts: &Differing) -> Outcome
+fn with_difference(old: &Outcome, new: &Outcome, differs: bool) -> Outcome
     requires old { IsFew old.now }
     requires new { IsFew new.now }
-    ensures { result ≡ counted_both old.now new.now counts.now }
+    ensures { result ≡ counted_both old.now new.now differs }
 {
     Outcome {
         refused: old.refused + new.refused,
         memory: old.memory + new.memory,
-        differing: if counts.is_nothing() { 0 } else { 1 },
+        differing: if differs { 1 } else { 0 },
     }
 }

@@ -1,21 +1,25 @@
 //! Runs a script over any reader and writer: its lines are edits of a network and queries about it. And checks captured
 //! messages against the plan of the network that a script leaves, answers what is asked of that network, tells the networks of two
-//! scripts apart, and says whether one does what a policy promises. A source may listen meanwhile (`mst_hinting`).
+//! scripts apart, or the edits that make the one of the other, says whether one does what a policy promises, and what the steps of a
+//! change do to it. A source may listen meanwhile (`mst_hinting`).
 #![tactic(auto)]
 
+mod alters;
 mod asked;
 mod asks;
 mod checks;
 mod diffs;
+mod lines;
 mod opened;
 mod policies;
 mod runs;
 mod verifies;
 
+pub use alters::{steps, steps_within};
 pub use asked::{Asked, Question};
 pub use asks::{Answer, answer_to, ask, ask_from, ask_within, put_answer};
 pub use checks::{check, check_from, check_within};
-pub use diffs::{diff, diff_from, diff_within};
+pub use diffs::{Between, diff, diff_from, diff_within, edits};
 pub use mst_engine::{SweepPart, laws, report_laws, trees_laws};
 pub use mst_io::{Failed, FromRead, Outcome, RunFault, Sink, Source, TURNS, ToWrite};
 pub use mst_print::Form;

@@ -1,10 +1,10 @@
-ghost use Rattle.std.specs.Prelude.{◌≡◌, ◌≤◌, ◌<◌, ◌↔◌, ◌⊎◌, ◌^◌, false, length, Err, IfOk, IsOk, OnErr};
+ghost use Rattle.std.specs.Prelude.{◌≡◌, ◌≤◌, ◌<◌, ◌↔◌, ◌⊎◌, ◌^◌, ℕ, false, length, List, Option, Err, IfOk, IsOk, OnErr};
 ghost use Rattle.mst_engine.specs.Served.{IsFew};
 ghost use Rattle.mst_engine.specs.report.Planned.{planned_state};
 ghost use Rattle.mst_io.specs.Devices.{Hears, Works, IsBroken, IsCut, IsRead, IsCalled, StopsAtZero};
 ghost use Rattle.mst_print.specs.Shape.{of_script};
-ghost use Rattle.mst_tool.specs.Load.{LoadsScript};
-ghost use Rattle.mst_tool.specs.Verify.{Verifies, VerifiesEnded, VerifiesFront, TellsVerification, counted_with, counts_of};
+ghost use Rattle.mst_tool.specs.Load.{LoadsOrEnded, LoadsScript};
+ghost use Rattle.mst_tool.specs.Verify.{Verifies, VerifiesFront, TellsVerification, counted_with, counts_of};
 
 use crate::opened::open_question;
 use crate::policies::read_policy;
@@ -37,6 +37,7 @@ pub fn verify<S: Read + Drop, P: Read + Drop, W: Write>(
 ) -> Result<Outcome, RunFault>
     ensures ok { IfOk result (Verifies form (S.remaining script) (P.remaining policy) (W.contents writer.old) (W.contents writer.new)) }
     ensures fault { OnErr result (VerifiesFront form (S.remaining script) (P.remaining policy) (W.contents writer.old) (W.contents writer.new)) }
+    ensures read { result ≡ Err RunFault.Read → (left : Option (List ℕ)) × LoadsOrEnded (of_script form) (S.remaining script) left (W.contents writer.old) (W.contents writer.new) }
     ensures memory { result ≡ Err RunFault.Memory → LoadsScript (of_script form) (S.remaining script) (W.contents writer.old) (W.contents writer.new) }
 {
     let mut script_source = FromRead::new(&mut script);
@@ -72,7 +73,7 @@ pub fn verify_within<S: Source, P: Source, K: Sink>(
     requires turns { turns ≤ 2 ^ 32 }
     ensures ok { IfOk result (Verifies form (S.remaining script.old) (P.remaining policy.old) (K.contents sink.old) (K.contents sink.new)) }
     ensures fault { OnErr result (VerifiesFront form (S.remaining script.old) (P.remaining policy.old) (K.contents sink.old) (K.contents sink.new)) }
-    ensures read { result ≡ Err RunFault.Read → VerifiesEnded form (S.remaining script.old) (S.remaining script.new) (K.contents sink.old) (K.contents sink.new) }
+    ensures read { result ≡ Err RunFault.Read → LoadsOrEnded (of_script form) (S.remaining script.old) (S.remaining script.new) (K.contents sink.old) (K.contents sink.new) }
     ensures memory { result ≡ Err RunFault.Memory → LoadsScript (of_script form) (S.remaining script.old) (K.contents sink.old) (K.contents sink.new) }
     ensures ended_script { IsOk result → IsRead (S.told script.old) (S.told script.new) }
     ensures ended_policy { IsOk result → IsRead (P.told policy.old) (P.told policy.new) }

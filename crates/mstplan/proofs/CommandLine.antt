@@ -10,7 +10,7 @@ use Rattle.clap.specs.Faults.{built_fault, entered_fault, step_fault, turn_fault
 use Rattle.clap.specs.Kinds.{Kinds, IsAmong, or_else}
 use Rattle.clap.specs.declared.error.kind.ErrorKind.{ErrorKind}
 use Rattle.clap.specs.declared.error.kind.ErrorKind.TheVariants.{DisplayHelp, DisplayVersion, OutOfMemory}
-use Rattle.clap.specs.Walk.{Held, Names as Labels, Walk, finished, idle, nothing_held, stop_after, subcommand_met, value, walk, walk_from, walked}
+use Rattle.clap.specs.Walk.{Names as Labels, Walk, idle, nothing_held, stop_after, subcommand_met, value, walk, walk_from, walked}
 use Rattle.clap.specs.Simple.{entered, names_of}
 use Rattle.clap.proofs.FaultLemmas.{stopped_fault}
 use Rattle.clap.proofs.OnLiterals.{clap_on_literals}
@@ -18,7 +18,7 @@ use Rattle.clap.proofs.WalkLemmas.{walk_stopped}
 use Rattle.mst_io.specs.declared.outcome.RunFault.TheVariants.{Memory, Write}
 use Rattle.mstplan.specs.declared.endings.Stop.{Stop}
 use Rattle.mstplan.specs.declared.endings.Stop.TheVariants.{Told, Fault}
-use Rattle.mstplan.specs.Words.{IsAnswer, IsRefusal, IsWrong, Request, are_plain, are_values, ask, asked_by, asked_of, by_one, by_one_to_three, by_port, by_two, check, diff, dot, is_dashes, is_help, is_plain, is_version, program, run, summary, sweep, verify, without_dashes}
+use Rattle.mstplan.specs.Words.{IsAnswer, IsRefusal, IsWrong, Request, are_plain, are_values, ask, asked_by, asked_of, by_one, by_one_to_three, by_port, by_two, by_two_or_three, check, diff, dot, edits, is_dashes, is_help, is_plain, is_version, program, run, steps, summary, sweep, verify, without_dashes}
 use Rattle.mstplan.proofs.PlainWords.{Fits, IsSingle, both_so, fits_values, is_no_help, leaf, leaf_found, level, plain_dashes, plain_turn, refuses, values_found, values_leaf}
 
 -- ---- run
@@ -165,6 +165,39 @@ verify_values (f ∷ []) = refl
 verify_values (f ∷ g ∷ []) = (refl, refl)
 verify_values (f ∷ g ∷ more ∷ rest) = refl
 
+-- ---- edits
+
+abbrev edits_leaf : Shape
+edits_leaf = unwrap_or (slice_get (built program).subs 9) (built program).top
+
+edits_single : IsSingle edits_leaf
+unfolding clap_on_literals
+edits_single = refl
+
+edits_values : (values : List Text) → Fits (by_two edits values) (values_leaf edits_leaf values) (values_found edits_leaf values)
+unfolding clap_on_literals
+edits_values [] = refl
+edits_values (f ∷ []) = refl
+edits_values (f ∷ g ∷ []) = (refl, refl)
+edits_values (f ∷ g ∷ more ∷ rest) = refl
+
+-- ---- steps
+
+abbrev steps_leaf : Shape
+steps_leaf = unwrap_or (slice_get (built program).subs 10) (built program).top
+
+steps_single : IsSingle steps_leaf
+unfolding clap_on_literals
+steps_single = refl
+
+steps_values : (values : List Text) → Fits (by_two_or_three steps values) (values_leaf steps_leaf values) (values_found steps_leaf values)
+unfolding clap_on_literals
+steps_values [] = refl
+steps_values (f ∷ []) = refl
+steps_values (f ∷ g ∷ []) = (refl, refl)
+steps_values (f ∷ g ∷ k ∷ []) = (refl, refl)
+steps_values (f ∷ g ∷ k ∷ more ∷ rest) = refl
+
 -- ---- the words of the program
 
 abbrev names : Labels
@@ -252,6 +285,14 @@ verify_command : IsCommand (codes "verify") verify_leaf
 unfolding clap_on_literals
 verify_command = record { stops = refl; faultless = refl; is_whole = λ rest. refl; is_found = λ rest. refl }
 
+edits_command : IsCommand (codes "edits") edits_leaf
+unfolding clap_on_literals
+edits_command = record { stops = refl; faultless = refl; is_whole = λ rest. refl; is_found = λ rest. refl }
+
+steps_command : IsCommand (codes "steps") steps_leaf
+unfolding clap_on_literals
+steps_command = record { stops = refl; faultless = refl; is_whole = λ rest. refl; is_found = λ rest. refl }
+
 -- a command, by what its own words come to
 fits_command : (command : Text) (s : Shape) (rest : List Text) → IsCommand command s → is_dashes command ≡ false → Fits (asked_by (command ∷ without_dashes rest)) (leaf s rest) (leaf_found s rest) → FitsWords (command ∷ rest)
 fits_command command s rest is plain fits =
@@ -275,6 +316,8 @@ record IsOther (command : Text) : Type 0 where
   not_dot : bytes_eq (codes "dot") command ≡ false
   not_ask : bytes_eq (codes "ask") command ≡ false
   not_verify : bytes_eq (codes "verify") command ≡ false
+  not_edits : bytes_eq (codes "edits") command ≡ false
+  not_steps : bytes_eq (codes "steps") command ≡ false
 
 -- what is found where the first isn't
 abbrev met_or : Text → Bool → Option (Text × List Text) → Option (Text × List Text)
@@ -289,7 +332,7 @@ names_none command other =
     ap (option_map (λ (s : Text × List Text). s.0))
     (unmet (codes "run") _ _ other.not_run ∙ unmet (codes "check") _ _ other.not_check ∙ unmet (codes "explain") _ _ other.not_explain ∙ unmet (codes "diff") _ _ other.not_diff
     ∙ unmet (codes "sweep") _ _ other.not_sweep ∙ unmet (codes "summary") _ _ other.not_summary ∙ unmet (codes "dot") _ _ other.not_dot
-    ∙ unmet (codes "ask") _ _ other.not_ask ∙ unmet (codes "verify") _ _ other.not_verify)
+    ∙ unmet (codes "ask") _ _ other.not_ask ∙ unmet (codes "verify") _ _ other.not_verify ∙ unmet (codes "edits") _ _ other.not_edits ∙ unmet (codes "steps") _ _ other.not_steps)
 
 stray_refused : (more : Kinds) (end : Walk) → refuses (whole (or_else (step_fault (built program).top 1 nothing_held value) more) end) ≡ true
 unfolding clap_on_literals
@@ -319,6 +362,8 @@ asks_none command rest other =
     ∙ unless (bytes_eq (codes "dot") command) (by_two dot rest) _ other.not_dot
     ∙ unless (bytes_eq (codes "ask") command) (by_one ask rest) _ other.not_ask
     ∙ unless (bytes_eq (codes "verify") command) (by_two verify rest) _ other.not_verify
+    ∙ unless (bytes_eq (codes "edits") command) (by_two edits rest) _ other.not_edits
+    ∙ unless (bytes_eq (codes "steps") command) (by_two_or_three steps rest) _ other.not_steps
 
 fits_other : (command : Text) (rest : List Text) → is_plain command ≡ true → IsOther command → FitsWords (command ∷ rest)
 fits_other command rest plain other =
@@ -353,7 +398,9 @@ words_fit (command ∷ rest) h =
     (λ m. is_or_not (codes "dot") command rest (fits_command (codes "dot") dot_leaf rest dot_command refl (fits_values dot_leaf dot_single (by_two dot) rest values dot_values))
     (λ p. is_or_not (codes "ask") command rest (fits_command (codes "ask") ask_leaf rest ask_command refl (fits_values ask_leaf ask_single (by_one ask) rest values ask_values))
     (λ a. is_or_not (codes "verify") command rest (fits_command (codes "verify") verify_leaf rest verify_command refl (fits_values verify_leaf verify_single (by_two verify) rest values verify_values))
-    (λ v. fits_other command rest both.0 (record { not_run = r; not_check = c; not_explain = e; not_diff = d; not_sweep = s; not_summary = m; not_dot = p; not_ask = a; not_verify = v }))))))))))
+    (λ v. is_or_not (codes "edits") command rest (fits_command (codes "edits") edits_leaf rest edits_command refl (fits_values edits_leaf edits_single (by_two edits) rest values edits_values))
+    (λ t. is_or_not (codes "steps") command rest (fits_command (codes "steps") steps_leaf rest steps_command refl (fits_values steps_leaf steps_single (by_two_or_three steps) rest values steps_values))
+    (λ u. fits_other command rest both.0 (record { not_run = r; not_check = c; not_explain = e; not_diff = d; not_sweep = s; not_summary = m; not_dot = p; not_ask = a; not_verify = v; not_edits = t; not_steps = u }))))))))))))
 
 -- the same of all the words, the program's name first
 pub all_fit : (words : List Text) → are_plain (drop 1 words) ≡ true → Fits (asked_by (without_dashes (drop 1 words))) (fault_of program words) (asked_of (subcommand_of program words))

@@ -1,12 +1,14 @@
--- How what is told of two inputs ends that goes through a buffer.
-use Rattle.std.proofs.Common.{◌≡◌, ℕ, List, [], ◌++◌, Option, Result, Ok, Err, true, false, refl, sym, subst, append-nil, inl, inr}
+-- How what is told of some inputs ends that goes through a buffer.
+use Rattle.std.proofs.Common.{◌≡◌, ℕ, Bool, List, [], ◌++◌, Option, Result, Ok, Err, true, false, refl, sym, subst, append-nil, inl, inr}
 use Rattle.std.specs.Prelude.{IfOk, OnErr}
 use Rattle.std.specs.Io.KnownBytes.{Keeps, append_known}
 use Rattle.std.proofs.KnownBytes.{Appends-kept}
+use Rattle.mst_tool.specs.Alter.{Alters, AltersFront}
 use Rattle.mst_tool.specs.Check.{Checks, ChecksFront, ChecksEnded, ComparesEnded, ChecksScript}
 use Rattle.mst_tool.specs.Diff.{Diffs, DiffsFront, DiffsEnded, DiffsScripts, LoadsNewEnded, both_texts}
-use Rattle.mst_tool.specs.Load.{LoadsEnded, LoadsFront, LoadsScript}
-use Rattle.mst_tool.specs.Verify.{Verifies, VerifiesEnded, VerifiesFront}
+use Rattle.mst_tool.specs.Load.{LoadsEnded, LoadsFront, LoadsOrEnded, LoadsScript}
+use Rattle.mst_tool.specs.Verify.{Verifies, VerifiesFront}
+use Rattle.mst_tool.specs.declared.diffs.Between.{Between}
 use Rattle.mst_ask.specs.Asking.{Stands, StandsEnded, StandsFront, printed_by}
 use Rattle.mst_tool.specs.Run.{PrintsEnded}
 use Rattle.mst_tool.specs.printing.Shape.{of_old, of_script}
@@ -16,9 +18,10 @@ use Rattle.mst_io.specs.declared.outcome.Outcome.{Outcome}
 use Rattle.mst_io.specs.declared.outcome.RunFault.{RunFault}
 use Rattle.mst_io.specs.declared.outcome.RunFault.TheVariants.{Read, Write, Memory}
 use Rattle.mstplan.specs.declared.compared.Comparison.{Comparison}
-use Rattle.mstplan.specs.declared.compared.Comparison.TheVariants.{Captures, Networks, Policy, Questions}
+use Rattle.mstplan.specs.declared.compared.Comparison.TheVariants.{Captures, Networks, Policy, Questions, Steps}
 use Rattle.mstplan.specs.Buffered.{is_broken}
 use Rattle.mstplan.specs.Compared.{Compared, ComparedEnded, ComparedFront, ComparedScripts, EndsComparison}
+use Rattle.mstplan.specs.Inputs.{Inputs}
 use Rattle.mstplan.proofs.Kept.{front_kept}
 
 -- ---- captures
@@ -102,8 +105,8 @@ module _ (form : Form) (scripts captures : Option (List ℕ)) where
 
 -- ---- networks
 
-module _ (form : Form) (olds news : Option (List ℕ)) where
-  diffs_kept : (a b c : Option (List ℕ)) (outcome : Outcome) → Diffs form olds news a b outcome → Keeps b c → Diffs form olds news a c outcome
+module _ (between : Between) (form : Form) (olds news : Option (List ℕ)) where
+  diffs_kept : (a b c : Option (List ℕ)) (outcome : Outcome) → Diffs between form olds news a b outcome → Keeps b c → Diffs between form olds news a c outcome
   diffs_kept a b c outcome h k = record {
     both = h.both;
     counts = h.counts;
@@ -116,14 +119,15 @@ module _ (form : Form) (olds news : Option (List ℕ)) where
     only_difference = h.only_difference;
   }
 
-  diffs_front_kept : (a b c : Option (List ℕ)) → DiffsFront form olds news a b → Keeps b c → DiffsFront form olds news a c
+  diffs_front_kept : (a b c : Option (List ℕ)) → DiffsFront between form olds news a b → Keeps b c → DiffsFront between form olds news a c
   diffs_front_kept a b c h k = record { both = h.both; counts = h.counts; text = h.text; differs = h.differs; printed = front_kept a b c (both_texts h.both ++ h.text) h.printed k; only_difference = h.only_difference }
 
-  diffs_front : (a b : Option (List ℕ)) (outcome : Outcome) → Diffs form olds news a b outcome → DiffsFront form olds news a b
+  diffs_front : (a b : Option (List ℕ)) (outcome : Outcome) → Diffs between form olds news a b outcome → DiffsFront between form olds news a b
   diffs_front a b outcome h =
       let text = both_texts h.both ++ h.text in
       record { both = h.both; counts = h.counts; text = h.text; differs = h.differs; printed = record { front = text; rest = []; whole = sym (append-nil text); written = h.printed }; only_difference = h.only_difference }
 
+module _ (form : Form) (olds news : Option (List ℕ)) where
   loads_ended_kept : (left a b c : Option (List ℕ)) → LoadsEnded (of_old form) olds left a b → Keeps b c → LoadsEnded (of_old form) olds left a c
   loads_ended_kept left a b c h k = record { read = h.read; steps = h.steps; consumed = h.consumed; loads = h.loads; printed = Appends-kept a b c (texts_of h.steps) h.printed k; only = h.only }
 
@@ -240,73 +244,143 @@ module _ (form : Form) (scripts policies : Option (List ℕ)) where
         only = h.only;
       })
 
-  verified_script_kept : (a b c : Option (List ℕ)) → LoadsScript (of_script form) scripts a b → Keeps b c → LoadsScript (of_script form) scripts a c
-  verified_script_kept a b c h k = record { script = h.script; steps = h.steps; read = h.read; loads = h.loads; printed = Appends-kept a b c (texts_of h.steps) h.printed k; only = h.only }
+-- ---- a change
 
-  verifies_ended_kept : (left a b c : Option (List ℕ)) → VerifiesEnded form scripts left a b → Keeps b c → VerifiesEnded form scripts left a c
-  verifies_ended_kept left a b c (inl h) k =
+module _ (form : Form) (judged : Bool) (scripts changes policies : Option (List ℕ)) where
+  alters_kept : (a b c : Option (List ℕ)) (outcome : Outcome) → Alters form judged scripts changes policies a b outcome → Keeps b c → Alters form judged scripts changes policies a c outcome
+  alters_kept a b c outcome h k = record {
+    script = h.script;
+    steps = h.steps;
+    change = h.change;
+    policy = h.policy;
+    course = h.course;
+    text = h.text;
+    read = h.read;
+    loads = h.loads;
+    are_steps = h.are_steps;
+    is_policy = h.is_policy;
+    tells = h.tells;
+    printed = Appends-kept a b c (texts_of h.steps ++ h.text) h.printed k;
+    memory = h.memory;
+    refused = h.refused;
+    differing = h.differing;
+    only = h.only;
+  }
+
+  alters_front_kept : (a b c : Option (List ℕ)) → AltersFront form judged scripts changes policies a b → Keeps b c → AltersFront form judged scripts changes policies a c
+  alters_front_kept a b c (inl h) k = inl (record { script = h.script; steps = h.steps; read = h.read; loads = h.loads; printed = front_kept a b c (texts_of h.steps) h.printed k; only = h.only })
+  alters_front_kept a b c (inr h) k = inr (record {
+    script = h.script;
+    steps = h.steps;
+    change = h.change;
+    policy = h.policy;
+    course = h.course;
+    text = h.text;
+    read = h.read;
+    loads = h.loads;
+    are_steps = h.are_steps;
+    is_policy = h.is_policy;
+    tells = h.tells;
+    printed = front_kept a b c (texts_of h.steps ++ h.text) h.printed k;
+    only = h.only;
+  })
+
+  -- what was written in full is a front of it
+  alters_front : (a b : Option (List ℕ)) (outcome : Outcome) → Alters form judged scripts changes policies a b outcome → AltersFront form judged scripts changes policies a b
+  alters_front a b outcome h =
+      let text = texts_of h.steps ++ h.text in
+      inr (record {
+        script = h.script;
+        steps = h.steps;
+        change = h.change;
+        policy = h.policy;
+        course = h.course;
+        text = h.text;
+        read = h.read;
+        loads = h.loads;
+        are_steps = h.are_steps;
+        is_policy = h.is_policy;
+        tells = h.tells;
+        printed = record { front = text; rest = []; whole = sym (append-nil text); written = h.printed };
+        only = h.only;
+      })
+
+-- ---- a script before a policy or a change
+
+module _ (form : Form) (scripts : Option (List ℕ)) where
+  loaded_kept : (a b c : Option (List ℕ)) → LoadsScript (of_script form) scripts a b → Keeps b c → LoadsScript (of_script form) scripts a c
+  loaded_kept a b c h k = record { script = h.script; steps = h.steps; read = h.read; loads = h.loads; printed = Appends-kept a b c (texts_of h.steps) h.printed k; only = h.only }
+
+  loaded_or_ended_kept : (left a b c : Option (List ℕ)) → LoadsOrEnded (of_script form) scripts left a b → Keeps b c → LoadsOrEnded (of_script form) scripts left a c
+  loaded_or_ended_kept left a b c (inl h) k =
       inl (record { read = h.read; steps = h.steps; consumed = h.consumed; loads = h.loads; printed = Appends-kept a b c (texts_of h.steps) h.printed k; only = h.only })
-  verifies_ended_kept left a b c (inr h) k = inr (verified_script_kept a b c h k)
+  loaded_or_ended_kept left a b c (inr h) k = inr (loaded_kept a b c h k)
 
--- ---- either
+-- ---- each
 
-module _ (first second : Option (List ℕ)) where
-  compared_kept : (how : Comparison) (a b c : Option (List ℕ)) (outcome : Outcome) → Compared how first second a b outcome → Keeps b c → Compared how first second a c outcome
-  compared_kept (Captures form) a b c outcome h k = checks_kept form first second a b c outcome h k
-  compared_kept (Networks form) a b c outcome h k = diffs_kept form first second a b c outcome h k
-  compared_kept (Questions form) a b c outcome h k = stands_kept form first second a b c outcome h k
-  compared_kept (Policy form) a b c outcome h k = verifies_kept form first second a b c outcome h k
+module _ (given : Inputs) where
+  compared_kept : (how : Comparison) (a b c : Option (List ℕ)) (outcome : Outcome) → Compared how given a b outcome → Keeps b c → Compared how given a c outcome
+  compared_kept (Captures form) a b c outcome h k = checks_kept form given.first given.second a b c outcome h k
+  compared_kept (Networks between form) a b c outcome h k = diffs_kept between form given.first given.second a b c outcome h k
+  compared_kept (Questions form) a b c outcome h k = stands_kept form given.first given.second a b c outcome h k
+  compared_kept (Policy form) a b c outcome h k = verifies_kept form given.first given.second a b c outcome h k
+  compared_kept (Steps judged form) a b c outcome h k = alters_kept form judged given.first given.second given.third a b c outcome h k
 
-  compared_front_kept : (how : Comparison) (a b c : Option (List ℕ)) → ComparedFront how first second a b → Keeps b c → ComparedFront how first second a c
-  compared_front_kept (Captures form) a b c h k = checks_front_kept form first second a b c h k
-  compared_front_kept (Networks form) a b c h k = diffs_front_kept form first second a b c h k
-  compared_front_kept (Questions form) a b c h k = stands_front_kept form first second a b c h k
-  compared_front_kept (Policy form) a b c h k = verifies_front_kept form first second a b c h k
+  compared_front_kept : (how : Comparison) (a b c : Option (List ℕ)) → ComparedFront how given a b → Keeps b c → ComparedFront how given a c
+  compared_front_kept (Captures form) a b c h k = checks_front_kept form given.first given.second a b c h k
+  compared_front_kept (Networks between form) a b c h k = diffs_front_kept between form given.first given.second a b c h k
+  compared_front_kept (Questions form) a b c h k = stands_front_kept form given.first given.second a b c h k
+  compared_front_kept (Policy form) a b c h k = verifies_front_kept form given.first given.second a b c h k
+  compared_front_kept (Steps judged form) a b c h k = alters_front_kept form judged given.first given.second given.third a b c h k
 
-  compared_front : (how : Comparison) (a b : Option (List ℕ)) (outcome : Outcome) → Compared how first second a b outcome → ComparedFront how first second a b
-  compared_front (Captures form) a b outcome h = checks_front form first second a b outcome h
-  compared_front (Networks form) a b outcome h = diffs_front form first second a b outcome h
-  compared_front (Questions form) a b outcome h = stands_front form first second a b outcome h
-  compared_front (Policy form) a b outcome h = verifies_front form first second a b outcome h
+  compared_front : (how : Comparison) (a b : Option (List ℕ)) (outcome : Outcome) → Compared how given a b outcome → ComparedFront how given a b
+  compared_front (Captures form) a b outcome h = checks_front form given.first given.second a b outcome h
+  compared_front (Networks between form) a b outcome h = diffs_front between form given.first given.second a b outcome h
+  compared_front (Questions form) a b outcome h = stands_front form given.first given.second a b outcome h
+  compared_front (Policy form) a b outcome h = verifies_front form given.first given.second a b outcome h
+  compared_front (Steps judged form) a b outcome h = alters_front form judged given.first given.second given.third a b outcome h
 
-  compared_ended_kept : (how : Comparison) (left other_left a b c : Option (List ℕ)) → ComparedEnded how first left second other_left a b → Keeps b c → ComparedEnded how first left second other_left a c
-  compared_ended_kept (Captures form) left other_left a b c h k = checks_ended_kept form first second left other_left a b c h k
-  compared_ended_kept (Networks form) left other_left a b c h k = diffs_ended_kept form first second left other_left a b c h k
-  compared_ended_kept (Questions form) left other_left a b c h k = stands_ended_kept form first second left other_left a b c h k
-  compared_ended_kept (Policy form) left other_left a b c h k = verifies_ended_kept form first second left a b c h k
+  compared_ended_kept : (how : Comparison) (left : Inputs) (a b c : Option (List ℕ)) → ComparedEnded how given left a b → Keeps b c → ComparedEnded how given left a c
+  compared_ended_kept (Captures form) left a b c h k = checks_ended_kept form given.first given.second left.first left.second a b c h k
+  compared_ended_kept (Networks between form) left a b c h k = diffs_ended_kept form given.first given.second left.first left.second a b c h k
+  compared_ended_kept (Questions form) left a b c h k = stands_ended_kept form given.first given.second left.first left.second a b c h k
+  compared_ended_kept (Policy form) left a b c h k = loaded_or_ended_kept form given.first left.first a b c h k
+  compared_ended_kept (Steps judged form) left a b c h k = loaded_or_ended_kept form given.first left.first a b c h k
 
-  compared_scripts_kept : (how : Comparison) (a b c : Option (List ℕ)) → ComparedScripts how first second a b → Keeps b c → ComparedScripts how first second a c
-  compared_scripts_kept (Captures form) a b c h k = checks_script_kept form first second a b c h k
-  compared_scripts_kept (Networks form) a b c h k = diffs_scripts_kept form first second a b c h k
-  compared_scripts_kept (Questions form) a b c h k = stands_scripts_kept form first second a b c h k
-  compared_scripts_kept (Policy form) a b c h k = verified_script_kept form first second a b c h k
+  compared_scripts_kept : (how : Comparison) (a b c : Option (List ℕ)) → ComparedScripts how given a b → Keeps b c → ComparedScripts how given a c
+  compared_scripts_kept (Captures form) a b c h k = checks_script_kept form given.first given.second a b c h k
+  compared_scripts_kept (Networks between form) a b c h k = diffs_scripts_kept form given.first given.second a b c h k
+  compared_scripts_kept (Questions form) a b c h k = stands_scripts_kept form given.first given.second a b c h k
+  compared_scripts_kept (Policy form) a b c h k = loaded_kept form given.first a b c h k
+  compared_scripts_kept (Steps judged form) a b c h k = loaded_kept form given.first a b c h k
 
-module _ (how : Comparison) (first first_left second second_left : Option (List ℕ)) where
+module _ (how : Comparison) (given left : Inputs) where
   -- what a comparison says of the buffer's bytes
   pub record Told (written now : Option (List ℕ)) (r : Result Outcome RunFault) : Type 0 where
-    pub ok : IfOk r (Compared how first second written now)
-    pub fault : OnErr r (ComparedFront how first second written now)
-    pub read : r ≡ Err Read → ComparedEnded how first first_left second second_left written now
-    pub memory : r ≡ Err Memory → ComparedScripts how first second written now
+    pub ok : IfOk r (Compared how given written now)
+    pub fault : OnErr r (ComparedFront how given written now)
+    pub read : r ≡ Err Read → ComparedEnded how given left written now
+    pub memory : r ≡ Err Memory → ComparedScripts how given written now
 
-  front_told : (a b : Option (List ℕ)) (r : Result Outcome RunFault) → Told a b r → ComparedFront how first second a b
+  -- what was written in full is a front of it
+  front_told : (a b : Option (List ℕ)) (r : Result Outcome RunFault) → Told a b r → ComparedFront how given a b
   front_told a b (Err f) told = told.fault
-  front_told a b (Ok outcome) told = compared_front first second how a b outcome told.ok
+  front_told a b (Ok outcome) told = compared_front given how a b outcome told.ok
 
   -- the writer stopped it, and some bytes are held back
-  pub ends_broken : (a b : Option (List ℕ)) (held : List ℕ) (r : Result Outcome RunFault) → is_broken r ≡ true → Told a (append_known b held) r → EndsComparison how first first_left second second_left a b r
+  pub ends_broken : (a b : Option (List ℕ)) (held : List ℕ) (r : Result Outcome RunFault) → is_broken r ≡ true → Told a (append_known b held) r → EndsComparison how given left a b r
   ends_broken a b held (Ok outcome) e told = absurd cc
   ends_broken a b held (Err Read) e told = absurd cc
   ends_broken a b held (Err Write) e told = (held, told.fault)
   ends_broken a b held (Err Memory) e told = absurd cc
 
   -- all that was held back was written
-  pub ends_written : (a b c : Option (List ℕ)) (r : Result Outcome RunFault) → is_broken r ≡ false → Told a b r → Keeps b c → EndsComparison how first first_left second second_left a c r
-  ends_written a b c (Ok outcome) e told k = compared_kept first second how a b c outcome told.ok k
-  ends_written a b c (Err Read) e told k = compared_ended_kept first second how first_left second_left a b c (told.read refl) k
+  pub ends_written : (a b c : Option (List ℕ)) (r : Result Outcome RunFault) → is_broken r ≡ false → Told a b r → Keeps b c → EndsComparison how given left a c r
+  ends_written a b c (Ok outcome) e told k = compared_kept given how a b c outcome told.ok k
+  ends_written a b c (Err Read) e told k = compared_ended_kept given how left a b c (told.read refl) k
   ends_written a b c (Err Write) e told k = absurd cc
-  ends_written a b c (Err Memory) e told k = compared_scripts_kept first second how a b c (told.memory refl) k
+  ends_written a b c (Err Memory) e told k = compared_scripts_kept given how a b c (told.memory refl) k
 
   -- or not all
-  pub ends_lost : (a b c : Option (List ℕ)) (held : List ℕ) (r : Result Outcome RunFault) → Told a b r → Keeps b (append_known c held) → EndsComparison how first first_left second second_left a c (Err Write)
-  ends_lost a b c held r told k = (held, compared_front_kept first second how a b (append_known c held) (front_told a b r told) k)
+  pub ends_lost : (a b c : Option (List ℕ)) (held : List ℕ) (r : Result Outcome RunFault) → Told a b r → Keeps b (append_known c held) → EndsComparison how given left a c (Err Write)
+  ends_lost a b c held r told k = (held, compared_front_kept given how a b (append_known c held) (front_told a b r told) k)

@@ -1,21 +1,22 @@
 -- What came of the hints, by how that ended which read their script.
 use Rattle.std.proofs.Common.{◌≡◌, ℕ, ◌^◌, Bool, true, false, List, [], ◌++◌, Option, Some, Result, Ok, Err, refl, sym, ap, subst, ◌∙◌, append_assoc, append-nil, inl, inr}
-use Rattle.std.specs.Prelude.{IfErr, IsOk, OnOk, is_ok}
+use Rattle.std.specs.Prelude.{◌&&◌}
 use Rattle.std.proofs.lemmas.Bool.{false≢true}
 use Rattle.std.specs.Io.KnownBytes.{Appends}
-use Rattle.mst_io.specs.Devices.{Seen, Told, IsRead, Works}
+use Rattle.mst_io.specs.Devices.{Seen, Told, IsRead}
 use Rattle.mst_io.specs.Written.{AppendsFront}
 use Rattle.mst_io.specs.declared.outcome.Outcome.{Outcome}
 use Rattle.mst_io.specs.declared.outcome.RunFault.{RunFault}
 use Rattle.mst_io.specs.declared.outcome.RunFault.TheVariants.{Read, Write, Memory}
 use Rattle.mst_hinting.specs.Hinted.{Hints, HintsFront, HintsEnded}
 use Rattle.mst_hints.specs.declared.whose.Script.{Script}
-use Rattle.mst_hints.specs.declared.whose.Script.TheVariants.{New}
-use Rattle.mst_hinting.specs.Listening.{AreStopped, AreTold, Closed, StoppedBy}
+use Rattle.mst_hinting.specs.Listening.{AreTold, Closed}
 use Rattle.mst_hinting.proofs.Ended.{ended_front}
 use Rattle.mstplan.specs.Buffered.{AskedBy, ReadBy}
-use Rattle.mstplan.specs.Compared.{ComparedBy}
-use Rattle.mstplan.specs.Hinted.{HintsBy, HintsEither, IsHinted, IsHintedBehind, StopsHints}
+use Rattle.mstplan.specs.Compared.{AlteredBy, ComparedAllBy, ComparedBy}
+use Rattle.mstplan.specs.Hinted.{HintsBy, HintsEither, IsHinted, IsHintedBehind, IsKeptTold, IsToldBehind, are_told, script_of, third_script}
+use Rattle.mstplan.specs.declared.compared.Comparison.{Comparison}
+use Rattle.mstplan.specs.declared.compared.Comparison.TheVariants.{Captures, Networks, Policy, Questions, Steps}
 
 -- ---- a script alone
 
@@ -41,18 +42,45 @@ asked_as_run (Err Memory) old new by = absurd by
 
 -- ---- a script with another input
 
--- where it ended well, both were read to their ends
+untold : (hints : Bool) → (hints && false) ≡ true → ⊥
+untold true told = false≢true told
+untold false told = false≢true told
+
+-- where it ended well, they were read to their ends
 abbrev pub ReadIf : Result Outcome RunFault → Told → Told → Type 0
 ReadIf (Ok outcome) old new = IsRead old new
 ReadIf (Err fault) old new = Unit {0}
 
-pub first_read : (ended : Result Outcome RunFault) (first first_now second second_now : Told) → ComparedBy ended first first_now second second_now → ReadIf ended first first_now
-first_read (Ok outcome) first first_now second second_now by = by.0
-first_read (Err fault) first first_now second second_now by = tt
+two_read : (ended : Result Outcome RunFault) (first first_now second second_now : Told) → ComparedBy ended first first_now second second_now → ReadIf ended first first_now × ReadIf ended second second_now
+two_read (Ok outcome) first first_now second second_now by = by
+two_read (Err fault) first first_now second second_now by = (tt, tt)
 
-pub second_read : (ended : Result Outcome RunFault) (first first_now second second_now : Told) → ComparedBy ended first first_now second second_now → ReadIf ended second second_now
-second_read (Ok outcome) first first_now second second_now by = by.1
-second_read (Err fault) first first_now second second_now by = tt
+three_read : (ended : Result Outcome RunFault) (first first_now second second_now third third_now : Told) → AlteredBy ended first first_now second second_now third third_now
+    → ReadIf ended first first_now × ReadIf ended second second_now × ReadIf ended third third_now
+three_read (Ok outcome) first first_now second second_now third third_now by = by
+three_read (Err fault) first first_now second second_now third third_now by = (tt, tt, tt)
+
+module _ (ended : Result Outcome RunFault) (first first_now second second_now third third_now : Told) where
+  both_read : (how : Comparison) → ComparedAllBy how ended first first_now second second_now third third_now → ReadIf ended first first_now × ReadIf ended second second_now
+  both_read (Captures form) by = two_read ended first first_now second second_now by
+  both_read (Networks between form) by = two_read ended first first_now second second_now by
+  both_read (Questions form) by = two_read ended first first_now second second_now by
+  both_read (Policy form) by = two_read ended first first_now second second_now by
+  both_read (Steps judged form) by = let all = three_read ended first first_now second second_now third third_now by in (all.0, all.1)
+
+  pub first_read : (how : Comparison) → ComparedAllBy how ended first first_now second second_now third third_now → ReadIf ended first first_now
+  first_read how by = (both_read how by).0
+
+  pub second_read : (how : Comparison) → ComparedAllBy how ended first first_now second second_now third third_now → ReadIf ended second second_now
+  second_read how by = (both_read how by).1
+
+  -- the third, where its hints are told
+  pub third_read : (how : Comparison) (hints : Bool) → ComparedAllBy how ended first first_now second second_now third third_now → are_told hints (third_script how) ≡ true → ReadIf ended third third_now
+  third_read (Captures form) hints by told = absurd (untold hints told)
+  third_read (Networks between form) hints by told = absurd (untold hints told)
+  third_read (Questions form) hints by told = absurd (untold hints told)
+  third_read (Policy form) hints by told = absurd (untold hints told)
+  third_read (Steps judged form) hints by told = (three_read ended first first_now second second_now third third_now by).2
 
 hints_beside : (ended : Result Outcome RunFault) (of : Script) (source source_now errors now : Seen) → ReadIf ended source.told source_now.told → AreTold of source source_now errors now
     → HintsBy false ended of source.bytes source_now.bytes errors.bytes now.bytes
@@ -113,31 +141,37 @@ closed_front : (of : Script) (source source_now aside aside_now : Seen) (end : R
 closed_front of source source_now aside aside_now (Ok x) told = either_front of source.bytes source_now.bytes aside.bytes aside_now.bytes told.either
 closed_front of source source_now aside aside_now (Err fault) stopped = stopped.front
 
--- the hints that were kept of a script were told in the end
-pub closed_kept : (ended : Result Outcome RunFault) (of : Script) (source source_now aside aside_now errors now : Seen) (kept : List ℕ) (end told : Result (Unit {0}) RunFault) → aside.bytes ≡ Some [] → aside_now.bytes ≡ Some kept
-    → ReadIf ended source.told source_now.told → Closed true of source source_now aside aside_now end
-    → OnOk told (Appends errors.bytes now.bytes kept) → (IsOk told → IsOk end) → OnOk told (Works errors.told now.told) → IfErr told (λ fault. AppendsFront errors.bytes now.bytes kept × StoppedBy fault errors.told now.told)
-    → IsHinted true false ended of source.bytes source_now.bytes errors now told
-closed_kept ended of source source_now aside aside_now errors now kept (Ok y) (Ok x) empty is by closed went whole works stopped =
+-- the hints that were kept of an input were told in the end
+closed_kept : (ended : Result Outcome RunFault) (of : Script) (source source_now aside aside_now errors now : Seen) (kept : List ℕ) (end told : Result (Unit {0}) RunFault) → aside.bytes ≡ Some [] → aside_now.bytes ≡ Some kept
+    → ReadIf ended source.told source_now.told → Closed true of source source_now aside aside_now end → IsKeptTold kept end errors now told → IsHinted true false ended of source.bytes source_now.bytes errors now told
+closed_kept ended of source source_now aside aside_now errors now kept (Ok y) (Ok x) empty is by closed went =
     let here = hints_beside ended of source source_now aside aside_now by closed in
     let mine = subst (λ (b : Option (List ℕ)). HintsBy false ended of source.bytes source_now.bytes b (Some kept)) empty (subst (λ (b : Option (List ℕ)). HintsBy false ended of source.bytes source_now.bytes aside.bytes b) is here) in
-    (by_kept ended of source.bytes source_now.bytes errors.bytes now.bytes kept mine went, works)
-closed_kept ended of source source_now aside aside_now errors now kept (Err fault) (Ok x) empty is by closed went whole works stopped = absurd (false≢true (whole refl))
-closed_kept ended of source source_now aside aside_now errors now kept end (Err fault) empty is by closed went whole works stopped =
+    (by_kept ended of source.bytes source_now.bytes errors.bytes now.bytes kept mine went.ok, went.works)
+closed_kept ended of source source_now aside aside_now errors now kept (Err fault) (Ok x) empty is by closed went = absurd (false≢true (went.whole refl))
+closed_kept ended of source source_now aside aside_now errors now kept end (Err fault) empty is by closed went =
     let here = closed_front of source source_now aside aside_now end closed in
     let mine = subst (λ (b : Option (List ℕ)). HintsFront of source.bytes b (Some kept)) empty (subst (λ (b : Option (List ℕ)). HintsFront of source.bytes aside.bytes b) is here) in
-    record { front = hints_front_kept of source.bytes errors.bytes now.bytes kept mine stopped.0; by = stopped.1 }
+    record { front = hints_front_kept of source.bytes errors.bytes now.bytes kept mine went.err.0; by = went.err.1 }
 
--- ---- of both
+-- ---- those of a further input, behind those before
 
-module _ (ended : Result Outcome RunFault) (second left : Option (List ℕ)) where
-  -- the hints of the second script were told behind those of the first
-  pub behind_told : (between now : Seen) (first_end end : Result (Unit {0}) RunFault) (behind : Bool) → is_ok first_end ≡ true → behind ≡ true → IsHinted true false ended New second left between now end
-      → IsHintedBehind first_end behind ended second left between now end
-  behind_told between now (Ok x) end behind ok on told = subst (λ (b : Bool). IsHinted b false ended New second left between now end) (sym on) told
-  behind_told between now (Err fault) end behind ok on told = absurd (false≢true ok)
+-- it has some, or none
+pub told_some : (hints : Bool) → (hints && true) ≡ hints
+told_some true = refl
+told_some false = refl
 
-  -- or there are none to tell, or something has stopped those of the first
-  pub behind_none : (between : Seen) (first_end : Result (Unit {0}) RunFault) (behind : Bool) → (is_ok first_end ≡ true → behind ≡ false) → IsHintedBehind first_end behind ended second left between between first_end
-  behind_none between (Ok x) behind none = subst (λ (b : Bool). IsHinted b false ended New second left between between (Ok x)) (sym (none refl)) (refl, refl)
-  behind_none between (Err fault) behind none = (refl, refl)
+pub told_none : (hints : Bool) → (hints && false) ≡ false
+told_none true = refl
+told_none false = refl
+
+pub told_behind : (ended : Result Outcome RunFault) (hints : Bool) (of : Option Script) (source source_now aside aside_now errors now : Seen) (kept : List ℕ) (before end told : Result (Unit {0}) RunFault) → aside.bytes ≡ Some [] → aside_now.bytes ≡ Some kept
+    → (are_told hints of ≡ true → ReadIf ended source.told source_now.told) → Closed (are_told hints of) (script_of of) source source_now aside aside_now end → IsToldBehind before (are_told hints of) kept end errors now told
+    → IsHintedBehind before hints of ended source.bytes source_now.bytes errors now told
+told_behind ended hints of source source_now aside aside_now errors now kept (Err fault) end told empty is by closed went = went
+told_behind ended hints of source source_now aside aside_now errors now kept (Ok x) end told empty is by closed went = go (are_told hints of) by closed went
+  where
+    go : (some : Bool) → (some ≡ true → ReadIf ended source.told source_now.told) → Closed some (script_of of) source source_now aside aside_now end → IsToldBehind (Ok x) some kept end errors now told
+        → IsHinted some false ended (script_of of) source.bytes source_now.bytes errors now told
+    go false by closed went = went
+    go true by closed went = closed_kept ended (script_of of) source source_now aside aside_now errors now kept end told empty is (by refl) closed went

@@ -4,7 +4,7 @@ use Rattle.std.specs.Option.{option_and_then}
 use Rattle.std.specs.Str.{bytes_eq}
 use Rattle.mst_tool.specs.printing.declared.form.Form.{Form}
 use Rattle.mst_tool.specs.printing.declared.form.Form.TheVariants.{Text, Json}
-use Rattle.mstplan.specs.Words.{Request, asked_by, is_dashes, names_part, run, check, explain, diff, sweep, summary, dot, ask, verify}
+use Rattle.mstplan.specs.Words.{Request, asked_by, is_dashes, names_part, run, check, explain, diff, sweep, summary, dot, ask, verify, edits, steps}
 use Rattle.mstplan.specs.declared.flags.Flags.{Flags}
 
 -- this flag stands among these words, before the first `--`
@@ -42,6 +42,8 @@ has_json (summary script) = true
 has_json (dot script tree) = false
 has_json (ask script) = true
 has_json (verify script policy) = true
+has_json (edits old new) = true
+has_json (steps script change policy) = true
 
 -- it takes these flags: each takes hints
 abbrev pub takes : Flags → Request → Bool

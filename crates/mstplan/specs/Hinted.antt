@@ -1,15 +1,18 @@
--- The hints of the scripts that are run, on standard error.
-use Rattle.std.specs.Prelude.{◌≡◌, ◌⊎◌, ℕ, ◌&&◌, Bool, true, false, List, Option, Result, Ok, Err}
+-- The hints of the program's inputs, on standard error.
+use Rattle.std.specs.Prelude.{◌≡◌, ◌⊎◌, ℕ, ◌&&◌, Bool, true, false, is_some, List, Option, None, Some, Result, Ok, Err, OnOk, IfErr, IsOk}
+use Rattle.std.specs.Io.KnownBytes.{Appends}
 use Rattle.mst_hinting.specs.Hinted.{Hints, HintsFront, HintsEnded}
 use Rattle.mst_hinting.specs.Listening.{StoppedBy}
 use Rattle.mst_hints.specs.declared.whose.Script.{Script}
-use Rattle.mst_hints.specs.declared.whose.Script.TheVariants.{Run, Loaded, Old, New}
+use Rattle.mst_hints.specs.declared.whose.Script.TheVariants.{Run, Loaded, Old, New, Policy as of_policy, Change as of_change}
 use Rattle.mst_io.specs.Devices.{Seen, Works}
+use Rattle.mst_io.specs.Written.{AppendsFront}
 use Rattle.mst_io.specs.declared.outcome.Outcome.{Outcome}
 use Rattle.mst_io.specs.declared.outcome.RunFault.{RunFault}
 use Rattle.mst_io.specs.declared.outcome.RunFault.TheVariants.{Read, Write, Memory}
 use Rattle.mstplan.specs.declared.compared.Comparison.{Comparison}
-use Rattle.mstplan.specs.declared.compared.Comparison.TheVariants.{Captures, Networks, Policy, Questions}
+use Rattle.mstplan.specs.declared.compared.Comparison.TheVariants.{Captures, Networks, Policy, Questions, Steps}
+use Rattle.mstplan.specs.Inputs.{Inputs}
 
 -- the hints of all lines of what was read, or of those that an LF had ended
 abbrev pub HintsEither : Script → Option (List ℕ) → Option (List ℕ) → Option (List ℕ) → Option (List ℕ) → Type 0
@@ -36,30 +39,64 @@ IsHinted false alone ended of reads left errors now hints = (now ≡ errors) × 
 IsHinted true alone ended of reads left errors now (Ok x) = HintsBy alone ended of reads left errors.bytes now.bytes × Works errors.told now.told
 IsHinted true alone ended of reads left errors now (Err fault) = StopsHints of reads errors now fault
 
--- ---- two inputs
+-- ---- several inputs
 
--- which script the first is
+-- what the first is, whose lines have hints
 abbrev pub first_script : Comparison → Script
 first_script (Captures form) = Run
-first_script (Networks form) = Old
+first_script (Networks between form) = Old
 first_script (Questions form) = Loaded
 first_script (Policy form) = Loaded
+first_script (Steps judged form) = Loaded
 
--- the second is a script, too
-abbrev pub has_second : Comparison → Bool
-has_second (Captures form) = false
-has_second (Networks form) = true
-has_second (Questions form) = false
-has_second (Policy form) = false
+-- what the second is, if its lines have hints
+abbrev pub second_script : Comparison → Option Script
+second_script (Captures form) = None
+second_script (Networks between form) = Some New
+second_script (Questions form) = None
+second_script (Policy form) = Some of_policy
+second_script (Steps judged form) = Some of_change
 
--- the hints of the second come behind those of the first, unless something stopped these
-abbrev pub IsHintedBehind : Result (Unit {0}) RunFault → Bool → Result Outcome RunFault → Option (List ℕ) → Option (List ℕ) → Seen → Seen → Result (Unit {0}) RunFault → Type 0
-IsHintedBehind (Ok x) hints ended second left errors now end = IsHinted hints false ended New second left errors now end
-IsHintedBehind (Err fault) hints ended second left errors now end = (now ≡ errors) × (end ≡ Err fault)
+-- and what a third is
+abbrev pub third_script : Comparison → Option Script
+third_script (Steps true form) = Some of_policy
+third_script _ = None
 
--- the hints of both
-pub record AreHinted (hints : Bool) (comparison : Comparison) (ended : Result Outcome RunFault) (first first_left second second_left : Option (List ℕ)) (errors now : Seen) (end : Result (Unit {0}) RunFault) : Type 0 where
-  pub between : Seen
+-- the hints of an input are told: they are asked for, and it has some
+abbrev pub are_told : Bool → Option Script → Bool
+are_told hints of = hints && is_some of
+
+-- what it is then
+abbrev pub script_of : Option Script → Script
+script_of None = Run
+script_of (Some of) = of
+
+-- the hints of a further input come behind those before, unless something stopped these
+abbrev pub IsHintedBehind : Result (Unit {0}) RunFault → Bool → Option Script → Result Outcome RunFault → Option (List ℕ) → Option (List ℕ) → Seen → Seen → Result (Unit {0}) RunFault → Type 0
+IsHintedBehind (Ok x) hints of ended reads left errors now end = IsHinted (are_told hints of) false ended (script_of of) reads left errors now end
+IsHintedBehind (Err fault) hints of ended reads left errors now end = (now ≡ errors) × (end ≡ Err fault)
+
+-- the hints of all
+pub record AreHinted (hints : Bool) (comparison : Comparison) (ended : Result Outcome RunFault) (given left : Inputs) (errors now : Seen) (end : Result (Unit {0}) RunFault) : Type 0 where
+  pub behind_first : Seen
+  pub behind_second : Seen
   pub first_end : Result (Unit {0}) RunFault
-  pub of_first_script : IsHinted hints false ended (first_script comparison) first first_left errors between first_end
-  pub of_second_script : IsHintedBehind first_end (hints && has_second comparison) ended second second_left between now end
+  pub second_end : Result (Unit {0}) RunFault
+  pub of_first : IsHinted hints false ended (first_script comparison) given.first left.first errors behind_first first_end
+  pub of_second : IsHintedBehind first_end hints (second_script comparison) ended given.second left.second behind_first behind_second second_end
+  pub of_third : IsHintedBehind second_end hints (third_script comparison) ended given.third left.third behind_second now end
+
+-- ---- hints that were kept while another input's went out
+
+-- they were told: all of them, where nothing stopped them and nothing had stopped what kept them, or a front of them
+pub record IsKeptTold (kept : List ℕ) (end : Result (Unit {0}) RunFault) (errors now : Seen) (told : Result (Unit {0}) RunFault) : Type 0 where
+  pub ok : OnOk told (Appends errors.bytes now.bytes kept)
+  pub whole : IsOk told → IsOk end
+  pub works : OnOk told (Works errors.told now.told)
+  pub err : IfErr told (λ fault. AppendsFront errors.bytes now.bytes kept × StoppedBy fault errors.told now.told)
+
+-- they were, where there are some and nothing had stopped the hints before them
+abbrev pub IsToldBehind : Result (Unit {0}) RunFault → Bool → List ℕ → Result (Unit {0}) RunFault → Seen → Seen → Result (Unit {0}) RunFault → Type 0
+IsToldBehind (Err fault) some kept end errors now told = (now ≡ errors) × (told ≡ Err fault)
+IsToldBehind (Ok x) false kept end errors now told = (now ≡ errors) × (told ≡ Ok tt)
+IsToldBehind (Ok x) true kept end errors now told = IsKeptTold kept end errors now told

@@ -2,6 +2,7 @@ pub mod Endings
 pub mod Said
 pub mod Words
 pub mod Flags
+pub mod Inputs
 pub mod Hinted
 pub mod Buffered
 pub mod Compared

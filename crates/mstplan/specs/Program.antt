@@ -1,5 +1,5 @@
 -- What the program does and how it ends, by what its words ask for.
-use Rattle.std.specs.Prelude.{◌≡◌, ℕ, Bool, true, List, codes, drop, length, option_map, Option, Some, None, Result, Ok, Err, IfOk, IfErr, IsErrAnd}
+use Rattle.std.specs.Prelude.{◌≡◌, ℕ, Bool, true, List, codes, drop, length, option_map, is_some, Option, Some, None, Result, Ok, Err, IfOk, IfErr, IsErrAnd}
 use Rattle.std.specs.Borrow.{Bor}
 use Rattle.mst_tool.specs.Ask.{explain_question, picture_question, sweep_question}
 use Rattle.mst_tool.specs.declared.asked.Question.{Question}
@@ -10,9 +10,10 @@ use Rattle.mst_io.specs.declared.outcome.RunFault.{RunFault}
 use Rattle.mstplan.specs.declared.endings.Stop.{Stop}
 use Rattle.mstplan.specs.declared.endings.Stop.TheVariants.{Told as told_stop}
 use Rattle.mstplan.specs.declared.words.Asked.{Asked}
-use Rattle.mstplan.specs.declared.words.Asked.TheVariants.{Run, Check, Explain, Diff, Sweep, Summary, Dot, Ask, Verify}
+use Rattle.mstplan.specs.declared.words.Asked.TheVariants.{Run, Check, Explain, Diff, Sweep, Summary, Dot, Ask, Verify, Edits, Steps}
 use Rattle.mstplan.specs.declared.compared.Comparison.{Comparison}
-use Rattle.mstplan.specs.declared.compared.Comparison.TheVariants.{Captures, Networks, Policy, Questions}
+use Rattle.mstplan.specs.declared.compared.Comparison.TheVariants.{Captures, Networks, Policy, Questions, Steps as steps_of}
+use Rattle.mst_tool.specs.declared.diffs.Between.TheVariants.{Plans, Settings}
 use Rattle.mstplan.specs.declared.words.PortWords.{PortWords}
 use Rattle.mstplan.specs.declared.flags.Flags.{Flags}
 use Rattle.mstplan.specs.declared.piped.Piped.{Piped}
@@ -21,21 +22,26 @@ use Rattle.mstplan.specs.Buffered.{EndsAskHinted, EndsHinted, Outputs}
 use Rattle.mstplan.specs.Compared.{EndsComparisonHinted}
 use Rattle.mstplan.specs.Endings.{told_of, told_of_hints, said_of, line_of, status_after, status_of_stop, status_with}
 use Rattle.mstplan.specs.Flags.{form_of, asked_with}
+use Rattle.mstplan.specs.Inputs.{Inputs}
 use Rattle.mstplan.specs.Invites.{invitation}
 use Rattle.mstplan.specs.Said.{IsSaid}
-use Rattle.mstplan.specs.Named.{IsNamed, AreNamed, IsWhyNot, IsWhyNeither}
+use Rattle.mstplan.specs.Named.{IsNamed, AreNamed, IsWhyNot, IsWhyNone}
 use Rattle.mstplan.specs.Words.{tree_word, words_of, are_plain, without_dashes, is_help, is_version, IsAnswer, IsRefusal}
 
 -- what the words that name a port ask of a network
 abbrev pub port_question : PortWords → Question
 port_question port = explain_question port.bridge.now port.number.now (tree_word port)
 
+-- a word that may be there
+abbrev pub word_of : Option (Bor (List ℕ)) → Option (List ℕ)
+word_of word = option_map (λ word. word.now) word
+
 -- what the words for a part of a sweep, if there are some, ask of it: nothing, where they name none
 abbrev pub part_question : Option (Bor (List ℕ)) → Option (Bor (List ℕ)) → Option Question
-part_question word behind = sweep_question (option_map (λ word. word.now) word) (option_map (λ word. word.now) behind)
+part_question word behind = sweep_question (word_of word) (word_of behind)
 
 -- the script of this name was run in the form that the flags say, with its hints, where they ask for them; or its network was asked
--- this; or this was told of the inputs of two names
+-- this; or this was told of the inputs of two names, or of three
 abbrev pub ServesRun : (Option (List ℕ) → Type 0) → (List ℕ → Option (List ℕ) → Type 0) → Flags → Bor (List ℕ) → Outputs → Outputs → Result Outcome RunFault → Result (Unit {0}) RunFault → Type 0
 ServesRun IsGiven IsFile flags script old new answer hints = (reads : Option (List ℕ)) × IsNamed IsGiven IsFile script.now reads × EndsHinted (form_of flags) flags.hints reads old new answer hints
 
@@ -43,9 +49,12 @@ abbrev pub ServesQuestion : (Option (List ℕ) → Type 0) → (List ℕ → Opt
 ServesQuestion IsGiven IsFile flags question script old new answer hints =
     (reads : Option (List ℕ)) × IsNamed IsGiven IsFile script.now reads × EndsAskHinted (form_of flags) flags.hints question reads old new answer hints
 
+abbrev pub ServesAll : (Option (List ℕ) → Type 0) → (List ℕ → Option (List ℕ) → Type 0) → Flags → Comparison → List ℕ → List ℕ → Option (List ℕ) → Outputs → Outputs → Result Outcome RunFault → Result (Unit {0}) RunFault → Type 0
+ServesAll IsGiven IsFile flags comparison name other third old new answer hints =
+    (given : Inputs) × AreNamed IsGiven IsFile name other third given × EndsComparisonHinted comparison flags.hints given old new answer hints
+
 abbrev pub ServesBoth : (Option (List ℕ) → Type 0) → (List ℕ → Option (List ℕ) → Type 0) → Flags → Comparison → List ℕ → List ℕ → Outputs → Outputs → Result Outcome RunFault → Result (Unit {0}) RunFault → Type 0
-ServesBoth IsGiven IsFile flags comparison name other old new answer hints =
-    (first second : Option (List ℕ)) × AreNamed IsGiven IsFile name other first second × EndsComparisonHinted comparison flags.hints first second old new answer hints
+ServesBoth IsGiven IsFile flags comparison name other old new answer hints = ServesAll IsGiven IsFile flags comparison name other None old new answer hints
 
 -- failures of the script of this name were told of, by the question that the words for a part ask
 abbrev pub ServesSweep : (Option (List ℕ) → Type 0) → (List ℕ → Option (List ℕ) → Type 0) → Flags → Bor (List ℕ) → Option (Bor (List ℕ)) → Option (Bor (List ℕ)) → Outputs → Outputs → Result Outcome RunFault → Result (Unit {0}) RunFault → Type 0
@@ -55,17 +64,22 @@ ServesSweep IsGiven IsFile flags script word behind old new answer hints =
 -- What the words ask for was done with these flags, of the inputs that they name, this came to the outputs, and this was answered: the
 -- script was run; or the captures were compared with its plan; or the network that it leaves was asked of the port, of its failures
 -- or pairs of them, for its summary or for its picture; or the networks of two scripts were told apart; or the questions that came by
--- standard input were answered, of which there are none where the script comes there; or the network was verified by a policy
+-- standard input were answered, of which there are none where the script comes there; or the network was verified by a policy; or the
+-- edits were told that make the network of the second script of that of the first; or what the steps of a change do, with a policy, if
+-- one is named
 abbrev pub Serves : (Option (List ℕ) → Type 0) → (List ℕ → Option (List ℕ) → Type 0) → Flags → Asked → Outputs → Outputs → Result Outcome RunFault → Result (Unit {0}) RunFault → Type 0
 Serves IsGiven IsFile flags (Run script) old new answer hints = ServesRun IsGiven IsFile flags script old new answer hints
 Serves IsGiven IsFile flags (Check script captures) old new answer hints = ServesBoth IsGiven IsFile flags (Captures (form_of flags)) script.now captures.now old new answer hints
 Serves IsGiven IsFile flags (Explain script port) old new answer hints = ServesQuestion IsGiven IsFile flags (port_question port) script old new answer hints
-Serves IsGiven IsFile flags (Diff before after) old new answer hints = ServesBoth IsGiven IsFile flags (Networks (form_of flags)) before.now after.now old new answer hints
+Serves IsGiven IsFile flags (Diff before after) old new answer hints = ServesBoth IsGiven IsFile flags (Networks Plans (form_of flags)) before.now after.now old new answer hints
 Serves IsGiven IsFile flags (Sweep script word behind) old new answer hints = ServesSweep IsGiven IsFile flags script word behind old new answer hints
 Serves IsGiven IsFile flags (Summary script) old new answer hints = ServesQuestion IsGiven IsFile flags question.Summary script old new answer hints
 Serves IsGiven IsFile flags (Dot script tree) old new answer hints = ServesQuestion IsGiven IsFile flags (picture_question tree.now) script old new answer hints
 Serves IsGiven IsFile flags (Ask script) old new answer hints = ServesBoth IsGiven IsFile flags (Questions (form_of flags)) script.now (codes "-") old new answer hints
 Serves IsGiven IsFile flags (Verify script policy) old new answer hints = ServesBoth IsGiven IsFile flags (Policy (form_of flags)) script.now policy.now old new answer hints
+Serves IsGiven IsFile flags (Edits before after) old new answer hints = ServesBoth IsGiven IsFile flags (Networks Settings (form_of flags)) before.now after.now old new answer hints
+Serves IsGiven IsFile flags (Steps script change policy) old new answer hints =
+    ServesAll IsGiven IsFile flags (steps_of (is_some policy) (form_of flags)) script.now change.now (word_of policy) old new answer hints
 
 -- why no failures of the script of this name were told of: the words for a part name none, which is told with status 2,
 -- or the script wasn't opened
@@ -76,14 +90,16 @@ IsWhyUnswept IsUnopened script (Some question) stop = IsWhyNot IsUnopened script
 -- why nothing was done with the inputs of these names
 abbrev pub IsWhyUnserved : (List ℕ → Why → Type 0) → Asked → Stop → Type 0
 IsWhyUnserved IsUnopened (Run script) stop = IsWhyNot IsUnopened script stop
-IsWhyUnserved IsUnopened (Check script captures) stop = IsWhyNeither IsUnopened script captures stop
+IsWhyUnserved IsUnopened (Check script captures) stop = IsWhyNone IsUnopened script captures None stop
 IsWhyUnserved IsUnopened (Explain script port) stop = IsWhyNot IsUnopened script stop
-IsWhyUnserved IsUnopened (Diff old new) stop = IsWhyNeither IsUnopened old new stop
+IsWhyUnserved IsUnopened (Diff old new) stop = IsWhyNone IsUnopened old new None stop
 IsWhyUnserved IsUnopened (Sweep script word behind) stop = IsWhyUnswept IsUnopened script (part_question word behind) stop
 IsWhyUnserved IsUnopened (Summary script) stop = IsWhyNot IsUnopened script stop
 IsWhyUnserved IsUnopened (Dot script tree) stop = IsWhyNot IsUnopened script stop
 IsWhyUnserved IsUnopened (Ask script) stop = IsWhyNot IsUnopened script stop
-IsWhyUnserved IsUnopened (Verify script policy) stop = IsWhyNeither IsUnopened script policy stop
+IsWhyUnserved IsUnopened (Verify script policy) stop = IsWhyNone IsUnopened script policy None stop
+IsWhyUnserved IsUnopened (Edits old new) stop = IsWhyNone IsUnopened old new None stop
+IsWhyUnserved IsUnopened (Steps script change policy) stop = IsWhyNone IsUnopened script change policy stop
 
 -- why nothing was run: what the words said, or what kept that which they ask for from being run
 abbrev pub IsReason : (List ℕ → Why → Type 0) → Result Asked Stop → Stop → Type 0

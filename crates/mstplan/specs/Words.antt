@@ -1,6 +1,6 @@
 -- What the program's words ask for.
 use Rattle.std.specs.Prelude.{◌≡◌, ◌⊎◌, ◌==◌, ◌&&◌, ◌||◌, ℕ, Bool, true, false, not, List, [], ◌∷◌, Option, Some, None, String, codes, drop, is_some, map, option_map, string_bytes, unwrap_or, if◌then◌else◌}
-use Rattle.std.specs.List.{list_all, list_any}
+use Rattle.std.specs.List.{list_any}
 use Rattle.std.specs.declared.alloc.Global.{Global}
 use Rattle.std.specs.Str.{bytes_eq}
 use Rattle.clap.specs.Words.{App, Row, Rule, first_of, new_app, new_rule, with_rule, with_subcommand}
@@ -10,14 +10,15 @@ use Rattle.mstplan.specs.declared.endings.Stop.{Stop}
 use Rattle.mstplan.specs.declared.endings.Stop.TheVariants.{Told, NoWord, Unopened, Fault}
 use Rattle.mstplan.specs.declared.words.Asked.{Asked}
 use Rattle.mstplan.specs.declared.words.PortWords.{PortWords}
-use Rattle.mstplan.specs.declared.words.Asked.TheVariants.{Run, Check, Explain, Diff, Sweep, Summary, Dot, Ask, Verify}
+use Rattle.mstplan.specs.declared.words.Asked.TheVariants.{Run, Check, Explain, Diff, Sweep, Summary, Dot, Ask, Verify, Edits, Steps}
 
 -- what words ask for: to run the script of this name; to compare the captures of the second name with the plan of the
 -- script of the first; to explain, in the network that the script leaves, the role of a port, which these words name:
 -- its bridge, its number and, if there is one, a tree; to tell how the network of the first script differs from that of
 -- the second; to tell what each single failure does to the network of the script, or each pair, or each of the part that the words
--- behind it name; to summarize it; to draw it with the tree that the second word names; to answer questions of it; or to tell whether
--- it does what the policy of the second name promises
+-- behind it name; to summarize it; to draw it with the tree that the second word names; to answer questions of it; to tell whether
+-- it does what the policy of the second name promises; to tell the edits that make the network of the second script of that of the first;
+-- or to tell what the steps of the change of the second name do to it, with the policy of a third, if there is one
 pub data Request : Type 0 where
   run : List ℕ → Request
   check : List ℕ → List ℕ → Request
@@ -28,6 +29,8 @@ pub data Request : Type 0 where
   dot : List ℕ → List ℕ → Request
   ask : List ℕ → Request
   verify : List ℕ → List ℕ → Request
+  edits : List ℕ → List ℕ → Request
+  steps : List ℕ → List ℕ → Option (List ℕ) → Request
 
 -- the word that names a tree, if there is one
 abbrev pub tree_word : PortWords → Option (List ℕ)
@@ -43,6 +46,8 @@ words_of (Summary script) = summary script.now
 words_of (Dot script tree) = dot script.now tree.now
 words_of (Ask script) = ask script.now
 words_of (Verify script policy) = verify script.now policy.now
+words_of (Edits old new) = edits old.now new.now
+words_of (Steps script change policy) = steps script.now change.now (option_map (λ word. word.now) policy)
 
 -- the value that was found for a word that has to be there. There is one
 abbrev pub value_of : List ℕ → List Row → List ℕ
@@ -59,6 +64,8 @@ request_of command rows =
     else if bytes_eq command (codes "dot") then dot (value_of (codes "FILE") rows) (value_of (codes "TREE") rows)
     else if bytes_eq command (codes "ask") then ask (value_of (codes "FILE") rows)
     else if bytes_eq command (codes "verify") then verify (value_of (codes "FILE") rows) (value_of (codes "POLICY") rows)
+    else if bytes_eq command (codes "edits") then edits (value_of (codes "OLD") rows) (value_of (codes "NEW") rows)
+    else if bytes_eq command (codes "steps") then steps (value_of (codes "FILE") rows) (value_of (codes "CHANGE") rows) (first_of (codes "POLICY") rows)
     else run (value_of (codes "FILE") rows)
 
 -- what the name of a command, if there is one, and what was found for it ask for. Without a command the script is `-`
@@ -112,6 +119,12 @@ by_one_to_three asks (word ∷ other ∷ []) = Some (asks word (Some other) None
 by_one_to_three asks (word ∷ other ∷ third ∷ []) = Some (asks word (Some other) (Some third))
 by_one_to_three asks words = None
 
+-- and behind one that takes two and may take a third
+abbrev pub by_two_or_three : (List ℕ → List ℕ → Option (List ℕ) → Request) → List (List ℕ) → Option Request
+by_two_or_three asks (word ∷ other ∷ []) = Some (asks word other None)
+by_two_or_three asks (word ∷ other ∷ third ∷ []) = Some (asks word other (Some third))
+by_two_or_three asks words = None
+
 -- what they ask for behind `explain`: FILE B P, or FILE B P TREE
 abbrev pub by_port : List (List ℕ) → Option Request
 by_port (script ∷ bridge ∷ port ∷ []) = Some (explain script bridge port None)
@@ -121,7 +134,7 @@ by_port words = None
 -- What words ask for that aren't options, behind the program's name: none for the script on standard input, `run FILE` for
 -- that of a file, `check FILE CAPTURES`, `explain FILE B P`, with or without TREE, `diff OLD NEW`, `sweep FILE`, with or without PART or
 -- `pairs`, and behind that with or without PART,
--- `summary FILE`, `dot FILE TREE`, `ask FILE` and `verify FILE POLICY`.
+-- `summary FILE`, `dot FILE TREE`, `ask FILE`, `verify FILE POLICY`, `edits OLD NEW`, and `steps FILE CHANGE`, with or without POLICY.
 -- What is asked for are the words themselves. Any other words ask for nothing
 abbrev pub asked_by : List (List ℕ) → Option Request
 asked_by [] = Some (run (codes "-"))
@@ -135,6 +148,8 @@ asked_by (command ∷ words) =
     else if bytes_eq (codes "dot") command then by_two dot words
     else if bytes_eq (codes "ask") command then by_one ask words
     else if bytes_eq (codes "verify") command then by_two verify words
+    else if bytes_eq (codes "edits") command then by_two edits words
+    else if bytes_eq (codes "steps") command then by_two_or_three steps words
     else None
 
 -- where they ask for a part of a sweep, its words name one
@@ -148,6 +163,8 @@ names_part (summary script) = true
 names_part (dot script tree) = true
 names_part (ask script) = true
 names_part (verify script policy) = true
+names_part (edits old new) = true
+names_part (steps script change policy) = true
 
 -- words that ask the program for its help alone, and for its version
 abbrev pub is_help : List (List ℕ) → Bool
@@ -189,18 +206,22 @@ IsRefusal IsThere words None stop = IsWrong IsThere words stop ⊎ (stop ≡ Fau
 abbrev pub wanted_rule : List ℕ → Rule
 wanted_rule id = record (new_rule id) { required = true }
 
+-- a command of this name that takes two words
+abbrev pub two_app : List ℕ → List ℕ → List ℕ → App
+two_app name first second = with_rule (with_rule (new_app name) (wanted_rule first)) (wanted_rule second)
+
 abbrev pub run_app : App
 run_app = with_rule (new_app (codes "run")) (wanted_rule (codes "FILE"))
 
 abbrev pub check_app : App
-check_app = with_rule (with_rule (new_app (codes "check")) (wanted_rule (codes "FILE"))) (wanted_rule (codes "CAPTURES"))
+check_app = two_app (codes "check") (codes "FILE") (codes "CAPTURES")
 
 abbrev pub explain_app : App
 explain_app =
     with_rule (with_rule (with_rule (with_rule (new_app (codes "explain")) (wanted_rule (codes "FILE"))) (wanted_rule (codes "B"))) (wanted_rule (codes "P"))) (new_rule (codes "TREE"))
 
 abbrev pub diff_app : App
-diff_app = with_rule (with_rule (new_app (codes "diff")) (wanted_rule (codes "OLD"))) (wanted_rule (codes "NEW"))
+diff_app = two_app (codes "diff") (codes "OLD") (codes "NEW")
 
 abbrev pub sweep_app : App
 sweep_app = with_rule (with_rule (with_rule (new_app (codes "sweep")) (wanted_rule (codes "FILE"))) (new_rule (codes "PART"))) (new_rule (codes "OF_PAIRS"))
@@ -209,13 +230,19 @@ abbrev pub summary_app : App
 summary_app = with_rule (new_app (codes "summary")) (wanted_rule (codes "FILE"))
 
 abbrev pub dot_app : App
-dot_app = with_rule (with_rule (new_app (codes "dot")) (wanted_rule (codes "FILE"))) (wanted_rule (codes "TREE"))
+dot_app = two_app (codes "dot") (codes "FILE") (codes "TREE")
 
 abbrev pub ask_app : App
 ask_app = with_rule (new_app (codes "ask")) (wanted_rule (codes "FILE"))
 
 abbrev pub verify_app : App
-verify_app = with_rule (with_rule (new_app (codes "verify")) (wanted_rule (codes "FILE"))) (wanted_rule (codes "POLICY"))
+verify_app = two_app (codes "verify") (codes "FILE") (codes "POLICY")
+
+abbrev pub edits_app : App
+edits_app = two_app (codes "edits") (codes "OLD") (codes "NEW")
+
+abbrev pub steps_app : App
+steps_app = with_rule (two_app (codes "steps") (codes "FILE") (codes "CHANGE")) (new_rule (codes "POLICY"))
 
 -- the program with no command, which has a version, and no command that prints help
 abbrev pub no_command : App
@@ -223,4 +250,4 @@ no_command = record { top = record ((new_app (codes "mstplan")).top) { has_versi
 
 abbrev pub program : App
 program =
-    with_subcommand (with_subcommand (with_subcommand (with_subcommand (with_subcommand (with_subcommand (with_subcommand (with_subcommand (with_subcommand no_command run_app.top) check_app.top) explain_app.top) diff_app.top) sweep_app.top) summary_app.top) dot_app.top) ask_app.top) verify_app.top
+    with_subcommand (with_subcommand (with_subcommand (with_subcommand (with_subcommand (with_subcommand (with_subcommand (with_subcommand (with_subcommand (with_subcommand (with_subcommand no_command run_app.top) check_app.top) explain_app.top) diff_app.top) sweep_app.top) summary_app.top) dot_app.top) ask_app.top) verify_app.top) edits_app.top) steps_app.top

@@ -1,7 +1,8 @@
 //! Plans Ethernet networks with rapid and multiple spanning trees: runs a script from a file or from
 //! standard input, compares captured messages with its plan, tells why a port has its role, how
 //! the networks of two scripts differ, and what each single failure does, summarizes a network,
-//! draws it, answers questions of it, and tells whether it does what a policy promises.
+//! draws it, answers questions of it, tells whether it does what a policy promises, which edits make
+//! the network of one script that of another, and what each step of a change does.
 #![tactic(auto)]
 
 mod buffered;
@@ -9,6 +10,8 @@ mod closed;
 mod compared;
 mod endings;
 mod flags;
+mod hinting;
+mod inputs;
 mod invites;
 mod named;
 mod page;

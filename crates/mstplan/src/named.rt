@@ -1,18 +1,21 @@
-ghost use Rattle.std.specs.Prelude.{◌≡◌, ℕ, List, Option, IfOk, IfErr, OnErr, codes};
+ghost use Rattle.std.specs.Prelude.{◌≡◌, ℕ, List, Option, IfOk, IfErr, OnErr, option_map};
 ghost use Rattle.mst_io.specs.Devices.{seen_by};
 ghost use Rattle.mstplan.specs.Buffered.{EndsAskHinted, EndsHinted, outputs};
 ghost use Rattle.mstplan.specs.Compared.{EndsComparisonHinted};
 ghost use Rattle.mstplan.specs.Flags.{form_of};
-ghost use Rattle.mstplan.specs.Named.{IsNamed, AreNamed, IsWhyNot, IsWhyNeither};
+ghost use Rattle.mstplan.specs.Inputs.{Inputs};
+ghost use Rattle.mstplan.specs.Named.{IsNamed, AreNamed, IsWhyNot, IsWhyNone};
 
 use crate::buffered::{Ran, ask_buffered, run_buffered};
-use crate::compared::{Comparison, compare_buffered};
+use crate::compared::Comparison;
 use crate::endings::Stop;
 use crate::flags::Flags;
+use crate::hinting::compare_buffered;
+use crate::inputs::{is_standard, open_input, open_named};
 use crate::sources::Sources;
 use mst_tool::{Question, RunFault, Sink};
 use std::alloc::Global;
-use std::io::{Read, Write};
+use std::io::Write;
 
 /// Runs the script in the file of a name, or on standard input where the name is `-`.
 pub(crate) fn run_named<'a, S: Sources, W: Write + Drop, K: Sink>(
@@ -81,8 +84,8 @@ pub(crate) fn ask_named<'a, S: Sources, W: Write + Drop, K: Sink>(
     }
 }
 
-/// Tells what is asked of what is in the files of two names. Either is standard input's where its name is `-`. Where both are, the
-/// first takes all of it, and the second is empty.
+/// Tells what is asked of what is in the files of two names, or of three. An input is standard input's where its name is `-`: the first
+/// of these takes all of it, and the others are empty, as is a third without a name.
 pub(crate) fn compare_named<'a, S: Sources, W: Write + Drop, K: Sink>(
     alloc: Global,
     sources: &S,
@@ -90,89 +93,31 @@ pub(crate) fn compare_named<'a, S: Sources, W: Write + Drop, K: Sink>(
     hints: bool,
     name: &'a str,
     other: &'a str,
+    third: Option<&'a str>,
     writer: W,
     errors: &mut K,
 ) -> Result<Ran<W>, Stop<'a>>
-    ensures ran { IfOk result (λ ran. (first second : Option (List ℕ)) × AreNamed (S.is_given sources.now) (S.is_file sources.now) name.entry.now other.entry.now first second
-        × EndsComparisonHinted comparison hints first second (outputs W.contents (seen_by K.told K.contents K.lent) writer errors.old) (outputs W.contents (seen_by K.told K.contents K.lent) ran.writer errors.new) ran.ended ran.hints) }
-    ensures stopped { IfErr result (IsWhyNeither (S.is_unopened sources.now) name.entry other.entry) }
+    ensures ran { IfOk result (λ ran. (given : Inputs) × AreNamed (S.is_given sources.now) (S.is_file sources.now) name.entry.now other.entry.now (option_map (λ word. word.now) third.entry) given
+        × EndsComparisonHinted comparison hints given (outputs W.contents (seen_by K.told K.contents K.lent) writer errors.old) (outputs W.contents (seen_by K.told K.contents K.lent) ran.writer errors.new) ran.ended ran.hints) }
+    ensures stopped { IfErr result (IsWhyNone (S.is_unopened sources.now) name.entry other.entry third.entry) }
     ensures untold { OnErr result (errors.new ≡ errors.old) }
 {
-    if name == "-" {
-        return compare_given(alloc, sources, comparison, hints, other, writer, errors);
-    }
-    match sources.open(name) {
-        Ok(file) => compare_file(
-            alloc, sources, comparison, hints, file, other, writer, errors,
-        ),
-        Err(why) => Err(Stop::Unopened(name, why)),
-    }
-}
-
-/// Tells what is asked of standard input and another input, which is empty where it is named as that.
-fn compare_given<'a, S: Sources, W: Write + Drop, K: Sink>(
-    alloc: Global,
-    sources: &S,
-    comparison: Comparison,
-    hints: bool,
-    other: &'a str,
-    writer: W,
-    errors: &mut K,
-) -> Result<Ran<W>, Stop<'a>>
-    ensures ran { IfOk result (λ ran. (first second : Option (List ℕ)) × AreNamed (S.is_given sources.now) (S.is_file sources.now) (codes "-") other.entry.now first second
-        × EndsComparisonHinted comparison hints first second (outputs W.contents (seen_by K.told K.contents K.lent) writer errors.old) (outputs W.contents (seen_by K.told K.contents K.lent) ran.writer errors.new) ran.ended ran.hints) }
-    ensures stopped { IfErr result (IsWhyNot (S.is_unopened sources.now) other.entry) }
-    ensures untold { OnErr result (errors.new ≡ errors.old) }
-{
-    let first = sources.given();
-    let ran = if other == "-" {
-        let nothing: &[u8] = &[];
-        compare_buffered(alloc, comparison, hints, first, nothing, writer, errors)
-    } else {
-        match sources.open(other) {
-            Ok(file) => compare_buffered(alloc, comparison, hints, first, file, writer, errors),
-            Err(why) => return Err(Stop::Unopened(other, why)),
-        }
+    let first = match open_input(sources, false, name) {
+        Ok(first) => first,
+        Err(stop) => return Err(stop),
     };
-    match ran {
-        Some(ran) => Ok(ran),
-        None => Err(Stop::Fault(RunFault::Memory)),
-    }
-}
-
-/// Tells what is asked of an input that isn't standard input and another.
-fn compare_file<'a, S: Sources, R: Read + Drop, W: Write + Drop, K: Sink>(
-    alloc: Global,
-    sources: &S,
-    comparison: Comparison,
-    hints: bool,
-    first: R,
-    other: &'a str,
-    writer: W,
-    errors: &mut K,
-) -> Result<Ran<W>, Stop<'a>>
-    ensures ran { IfOk result (λ ran. (second : Option (List ℕ)) × IsNamed (S.is_given sources.now) (S.is_file sources.now) other.entry.now second
-        × EndsComparisonHinted comparison hints (R.remaining first) second (outputs W.contents (seen_by K.told K.contents K.lent) writer errors.old) (outputs W.contents (seen_by K.told K.contents K.lent) ran.writer errors.new) ran.ended ran.hints) }
-    ensures stopped { IfErr result (IsWhyNot (S.is_unopened sources.now) other.entry) }
-    ensures untold { OnErr result (errors.new ≡ errors.old) }
-{
-    let ran = if other == "-" {
-        compare_buffered(
-            alloc,
-            comparison,
-            hints,
-            first,
-            sources.given(),
-            writer,
-            errors,
-        )
-    } else {
-        match sources.open(other) {
-            Ok(file) => compare_buffered(alloc, comparison, hints, first, file, writer, errors),
-            Err(why) => return Err(Stop::Unopened(other, why)),
-        }
+    let second = match open_input(sources, is_standard(name), other) {
+        Ok(second) => second,
+        Err(stop) => return Err(stop),
     };
-    match ran {
+    let is_taken = is_standard(name) || is_standard(other);
+    let behind = match open_named(sources, is_taken, third) {
+        Ok(behind) => behind,
+        Err(stop) => return Err(stop),
+    };
+    match compare_buffered(
+        alloc, comparison, hints, first, second, behind, writer, errors,
+    ) {
         Some(ran) => Ok(ran),
         None => Err(Stop::Fault(RunFault::Memory)),
     }

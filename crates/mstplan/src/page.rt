@@ -1,5 +1,5 @@
 /// The number of this release, which `--version` prints behind the program's name.
-pub(crate) const VERSION: &str = "0.52.0";
+pub(crate) const VERSION: &str = "0.53.0";
 
 /// What stands at the end of the program's help: the commands of scripts, the exit statuses, and where all of it is said.
 pub(crate) const PAGE: &str = "\
@@ -61,16 +61,19 @@ Lines of a policy, whose promises verify looks at in the network of FILE, and in
 Before it stands nothing, 'after lan NAMES', 'after bridge NAMES', or 'always': in the network itself and after each failure.
 NAMES are like core1,acc*, PORTS like acc1:2,dist*:*, ROLES like Root,Designated.
 
+A change, of which steps tells what it does, is a script of edits: a step is made of the lines between two blank ones, and the network
+settles after it. With a policy it is looked at after each step. What edits prints is a change, one step of version 2.
+
 Flags, anywhere among the words before --, behind which no word is a flag:
   --json    what is printed is JSON, a line for each answer, and for each record of a capture (run, check, explain, diff,
-            sweep, summary, ask, verify)
-  --hints   standard error has what would be right in each line of a script that isn't read, and what stands in the way of
-            each that is refused
+            sweep, summary, ask, verify, edits, steps)
+  --hints   standard error has what would be right in each line of a script, a policy or a change that isn't read, and what
+            stands in the way of each line of a script that is refused
 
 Exit statuses:
   0  nothing of the below
-  1  a line or a capture was refused, a capture differs from the plan, a port isn't explained, two networks differ, a failure
-     cuts a VLAN, or a pair of failures does, or a promise of a policy isn't kept
+  1  a line or a capture was refused, a capture differs from the plan, a port isn't explained, two networks differ, a failure, a
+     pair of failures or a step of a change cuts a VLAN, or a promise of a policy isn't kept
   2  the program's words are wrong
   3  a file couldn't be opened, a read or a write failed, or memory was wanted and refused
 

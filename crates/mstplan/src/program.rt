@@ -13,7 +13,7 @@ use crate::named::{ask_named, compare_named, run_named};
 use crate::piped::Piped;
 use crate::sources::Sources;
 use crate::words::{Asked, PortWords, asked_for, bytes_of};
-use mst_tool::{Question, Sink};
+use mst_tool::{Between, Question, Sink};
 use std::alloc::Global;
 use std::io::Write;
 
@@ -45,15 +45,17 @@ fn serve<'a, S: Sources, W: Write + Drop, K: Sink>(
         Asked::Run { script } => run_named(alloc, sources, flags, script, output, errors),
         Asked::Check { script, captures } => {
             let how = Comparison::Captures(form);
-            compare_named(alloc, sources, how, hints, script, captures, output, errors)
+            compare_named(
+                alloc, sources, how, hints, script, captures, None, output, errors,
+            )
         }
         Asked::Explain { script, port } => {
             let question = question_of(port);
             ask_named(alloc, sources, flags, &question, script, output, errors)
         }
         Asked::Diff { old, new } => {
-            let how = Comparison::Networks(form);
-            compare_named(alloc, sources, how, hints, old, new, output, errors)
+            let how = Comparison::Networks(Between::Plans, form);
+            compare_named(alloc, sources, how, hints, old, new, None, output, errors)
         }
         Asked::Sweep {
             script,
@@ -70,11 +72,29 @@ fn serve<'a, S: Sources, W: Write + Drop, K: Sink>(
         }
         Asked::Ask { script } => {
             let how = Comparison::Questions(form);
-            compare_named(alloc, sources, how, hints, script, "-", output, errors)
+            compare_named(
+                alloc, sources, how, hints, script, "-", None, output, errors,
+            )
         }
         Asked::Verify { script, policy } => {
             let how = Comparison::Policy(form);
-            compare_named(alloc, sources, how, hints, script, policy, output, errors)
+            compare_named(
+                alloc, sources, how, hints, script, policy, None, output, errors,
+            )
+        }
+        Asked::Edits { old, new } => {
+            let how = Comparison::Networks(Between::Settings, form);
+            compare_named(alloc, sources, how, hints, old, new, None, output, errors)
+        }
+        Asked::Steps {
+            script,
+            change,
+            policy,
+        } => {
+            let how = Comparison::Steps(policy.is_some(), form);
+            compare_named(
+                alloc, sources, how, hints, script, change, policy, output, errors,
+            )
         }
     }
 }

@@ -1,9 +1,13 @@
 use crate::buffered::{ask_buffered, run_buffered};
-use crate::compared::{Comparison, compare_buffered};
+use crate::compared::Comparison;
+use crate::hinting::compare_buffered;
 use crate::piped::Piped;
 use crate::said::{Part, say};
-use mst_tool::{Form, Outcome, Question, RunFault, ToWrite};
+use mst_tool::{Between, Form, Outcome, Question, RunFault, ToWrite};
 use std::io::{Error, ErrorKind, Read, Result, Write};
+
+/// What an input gives that isn't there.
+const NOTHING: &[u8] = &[];
 
 /// Takes this many bytes, then fails once, with an error of this kind, and counts the calls after it.
 #[derive(Drop)]
@@ -213,6 +217,7 @@ fn a_check_to_the_end_is_written(rt: HostRuntime) -> Result<()> {
         false,
         script,
         captures,
+        NOTHING,
         Vec::new(rt.alloc()),
         &mut ToWrite::new(&mut told),
     );
@@ -270,10 +275,11 @@ fn how_networks_differ_is_written(rt: HostRuntime) -> Result<()> {
     let mut told = Vec::new(rt.alloc());
     let compared = compare_buffered(
         rt.alloc(),
-        Comparison::Networks(Form::Text),
+        Comparison::Networks(Between::Plans, Form::Text),
         true,
         old,
         new.as_slice(),
+        NOTHING,
         Vec::new(rt.alloc()),
         &mut ToWrite::new(&mut told),
     );
@@ -309,6 +315,7 @@ fn questions_of_a_network_are_answered(rt: HostRuntime) -> Result<()> {
         true,
         script,
         questions,
+        NOTHING,
         Vec::new(rt.alloc()),
         &mut ToWrite::new(&mut told),
     );
@@ -337,6 +344,7 @@ fn what_a_policy_promises_is_told(rt: HostRuntime) -> Result<()> {
         true,
         script,
         policy,
+        NOTHING,
         Vec::new(rt.alloc()),
         &mut ToWrite::new(&mut told),
     );
@@ -370,6 +378,7 @@ fn nothing_is_told_of_a_policy_that_cannot_be_read(rt: HostRuntime) -> Result<()
         true,
         script,
         Cut { is_given: false },
+        NOTHING,
         Vec::new(rt.alloc()),
         &mut ToWrite::new(&mut told),
     );
@@ -380,7 +389,86 @@ fn nothing_is_told_of_a_policy_that_cannot_be_read(rt: HostRuntime) -> Result<()
     assert_eq!(rt; ran.hints, Ok(()));
     let written: &[u8] = b"line 1 E01 no such command\n";
     assert_eq!(rt; ran.writer.as_slice(), written);
-    let hint: &[u8] = b"line 1 no command qqq\n";
+    let hints: &[u8] = b"\
+        line 1 no command qqq\n\
+        policy line 1 no expectation qqq\n\
+        policy line 2 no expectation showtree; that is a command of scripts\n";
+    assert_eq!(rt; told.as_slice(), hints);
+    Ok(())
+}
+
+#[test]
+fn the_edits_between_networks_are_told(rt: HostRuntime) -> Result<()> {
+    let old: &[u8] = b"addbridge A 02:00:00:00:00:01\naddlan x\n";
+    let new: &[u8] = b"qqq\naddbridge A 02:00:00:00:00:01\nsettreeprio A 0 4\n";
+    let mut told = Vec::new(rt.alloc());
+    let compared = compare_buffered(
+        rt.alloc(),
+        Comparison::Networks(Between::Settings, Form::Text),
+        true,
+        old,
+        new,
+        NOTHING,
+        Vec::new(rt.alloc()),
+        &mut ToWrite::new(&mut told),
+    );
+    let Some(ran) = compared else {
+        return Err(Error::from(ErrorKind::OutOfMemory));
+    };
+    let counted = Outcome {
+        refused: 1,
+        memory: 0,
+        differing: 1,
+    };
+    assert_eq!(rt; ran.ended, Ok(counted));
+    let written: &[u8] = b"\
+        new line 1 E01 no such command\n\
+        mstplan 2\n\
+        dellan x\n\
+        settreeprio A 0 16384\n";
+    assert_eq!(rt; ran.writer.as_slice(), written);
+    let hint: &[u8] = b"new line 1 no command qqq\n";
     assert_eq!(rt; told.as_slice(), hint);
+    Ok(())
+}
+
+#[test]
+fn what_the_steps_of_a_change_do_is_told(rt: HostRuntime) -> Result<()> {
+    let script: &[u8] = b"\
+        qqq\naddbridge A 02:00:00:00:00:01\naddbridge B 02:00:00:00:00:02\naddlan x\n\
+        addport A 1\naddport B 1\nplug A 1 x\nplug B 1 x\n";
+    let change: &[u8] = b"# the only LAN\nrrr\nlan x down\n";
+    let policy: &[u8] = b"root 0 A\nreach 1-4094 A,B\n";
+    let mut told = Vec::new(rt.alloc());
+    let altered = compare_buffered(
+        rt.alloc(),
+        Comparison::Steps(true, Form::Text),
+        true,
+        script,
+        change,
+        policy,
+        Vec::new(rt.alloc()),
+        &mut ToWrite::new(&mut told),
+    );
+    let Some(ran) = altered else {
+        return Err(Error::from(ErrorKind::OutOfMemory));
+    };
+    let counted = Outcome {
+        refused: 2,
+        memory: 0,
+        differing: 1,
+    };
+    assert_eq!(rt; ran.ended, Ok(counted));
+    let written: &[u8] = b"\
+        line 1 E01 no such command\n\
+        change 2 E01 no such command\n\
+        step 1 lines 2-3 roots 0 ports 0 moved 1-4094 cut 1-4094 joined -\n\
+        cut 1-4094 parts A B\n\
+        fails 1 now root 0 B of 1\n\
+        fails 2 now reach 1-4094 parts A B\n\
+        steps 1 moving 1 cutting 1 failing 1\n";
+    assert_eq!(rt; ran.writer.as_slice(), written);
+    let hints: &[u8] = b"line 1 no command qqq\nchange line 2 no command rrr\n";
+    assert_eq!(rt; told.as_slice(), hints);
     Ok(())
 }

@@ -2,7 +2,7 @@ ghost use Rattle.std.specs.Prelude.{◌≡◌, ◌≢◌, ◌⊎◌, true, false
 ghost use Rattle.std.specs.List.{list_any};
 ghost use Rattle.clap.specs.Words.{app_of, first_of, found_of, kind_of, rows_of, rule_of, subcommand_rows_of, with_subcommand};
 ghost use Rattle.mstplan.specs.Flags.{asked_with};
-ghost use Rattle.mstplan.specs.Words.{words_of, tree_word, value_of, asked_of, request_of, asked_by, are_plain, behind_name, without_dashes, names_part as part_named, is_help, is_version, is_of_path, IsAnswer, IsFileAlone, IsRefusal, IsWrong, wanted_rule, sweep_app, dot_app, ask_app, verify_app, program, no_command as without_command};
+ghost use Rattle.mstplan.specs.Words.{words_of, tree_word, value_of, asked_of, request_of, asked_by, are_plain, behind_name, without_dashes, names_part as part_named, is_help, is_version, is_of_path, IsAnswer, IsFileAlone, IsRefusal, IsWrong, wanted_rule, sweep_app, ask_app, steps_app, two_app, program, no_command as without_command};
 
 use crate::endings::Stop;
 use crate::flags::Flags;
@@ -62,6 +62,18 @@ pub(crate) enum Asked<'a> {
         script: &'a str,
         policy: &'a str,
     },
+    /// To tell which edits make the network of a script that of another.
+    Edits {
+        old: &'a str,
+        new: &'a str,
+    },
+    /// To tell what each step of a change does to the network of a script, and whether it does what a policy promises afterwards, where
+    /// one is named.
+    Steps {
+        script: &'a str,
+        change: &'a str,
+        policy: Option<&'a str>,
+    },
 }
 
 /// The words that name a port, and a tree if it is one that is asked for. Nothing has looked at what they say.
@@ -81,6 +93,11 @@ const SCRIPT: &str = "The script, or - for standard input";
 const ASKED: &str = "The script, or - for standard input, which then has no questions";
 
 const POLICY: &str = "The policy, one promise a line, or - for standard input";
+
+const CHANGE: &str =
+    "The change, a script whose blank lines stand between its steps, or - for standard input";
+
+const KEPT: &str = "The policy, which is looked at after each step, or - for standard input";
 
 const CAPTURES: &str = "The captured messages, one a line, or - for standard input";
 
@@ -161,7 +178,7 @@ pub(crate) fn asked_for<'a, R: Print + Eprint + AllocGlobal, S: Sources>(
         Ok(asked) if flags.are_of(&asked) => Ok(asked),
         Ok(_) => {
             let _ = eprintln!(rt;
-                "error: --json is a flag of run, check, explain, diff, sweep, summary, ask and verify"
+                "error: --json is a flag of run, check, explain, diff, sweep, summary, ask, verify, edits and steps"
             );
             Err(Stop::Told(2))
         }
@@ -273,15 +290,45 @@ fn with_sweep<'a>(alloc: Global, before: Command<'a>) -> Result<Command<'a>, All
     before.subcommand(sweep)
 }
 
+/// A word of a command that has to be there: what it is called, and what is said of it.
+#[derive(Clone, Copy)]
+struct Word<'a> {
+    id: &'a str,
+    help: &'a str,
+}
+
+/// A command line with a command of this name that takes two words behind those that it has.
+fn with_two<'a>(
+    alloc: Global,
+    before: Command<'a>,
+    name: &'a str,
+    about: &'a str,
+    first: Word<'a>,
+    second: Word<'a>,
+) -> Result<Command<'a>, AllocError>
+    ensures { IfOk result (λ command. app_of command ≡ with_subcommand (app_of before.entry) (two_app name.entry.now first.entry.id.now second.entry.id.now).top) }
+{
+    let command = Command::new(alloc, name)
+        .about(about)
+        .arg(wanted(alloc, first.id, first.help))?
+        .arg(wanted(alloc, second.id, second.help))?;
+    before.subcommand(command)
+}
+
 /// A command line with the command that draws a network behind those that it has.
 fn with_dot<'a>(alloc: Global, before: Command<'a>) -> Result<Command<'a>, AllocError>
-    ensures { IfOk result (λ command. app_of command ≡ with_subcommand (app_of before.entry) dot_app.top) }
+    ensures { IfOk result (λ command. app_of command ≡ with_subcommand (app_of before.entry) (two_app (codes "dot") (codes "FILE") (codes "TREE")).top) }
 {
-    let dot = Command::new(alloc, "dot")
-        .about("Makes the network of a script, and draws it with one of its trees, for Graphviz")
-        .arg(wanted(alloc, "FILE", SCRIPT))?
-        .arg(wanted(alloc, "TREE", DRAWN))?;
-    before.subcommand(dot)
+    let about = "Makes the network of a script, and draws it with one of its trees, for Graphviz";
+    let file = Word {
+        id: "FILE",
+        help: SCRIPT,
+    };
+    let tree = Word {
+        id: "TREE",
+        help: DRAWN,
+    };
+    with_two(alloc, before, "dot", about, file, tree)
 }
 
 /// A command line with the command that answers questions behind those that it has.
@@ -298,13 +345,47 @@ fn with_ask<'a>(alloc: Global, before: Command<'a>) -> Result<Command<'a>, Alloc
 
 /// A command line with the command that verifies a network behind those that it has.
 fn with_verify<'a>(alloc: Global, before: Command<'a>) -> Result<Command<'a>, AllocError>
-    ensures { IfOk result (λ command. app_of command ≡ with_subcommand (app_of before.entry) verify_app.top) }
+    ensures { IfOk result (λ command. app_of command ≡ with_subcommand (app_of before.entry) (two_app (codes "verify") (codes "FILE") (codes "POLICY")).top) }
 {
-    let verify = Command::new(alloc, "verify")
-        .about("Makes the network of a script, and tells whether it does what a policy promises")
+    let about = "Makes the network of a script, and tells whether it does what a policy promises";
+    let file = Word {
+        id: "FILE",
+        help: SCRIPT,
+    };
+    let policy = Word {
+        id: "POLICY",
+        help: POLICY,
+    };
+    with_two(alloc, before, "verify", about, file, policy)
+}
+
+/// A command line with the command that tells the edits between two networks behind those that it has.
+fn with_edits<'a>(alloc: Global, before: Command<'a>) -> Result<Command<'a>, AllocError>
+    ensures { IfOk result (λ command. app_of command ≡ with_subcommand (app_of before.entry) (two_app (codes "edits") (codes "OLD") (codes "NEW")).top) }
+{
+    let about =
+        "Makes the networks of two scripts, and tells the edits that make the second of the first";
+    let old = Word {
+        id: "OLD",
+        help: OLD,
+    };
+    let new = Word {
+        id: "NEW",
+        help: NEW,
+    };
+    with_two(alloc, before, "edits", about, old, new)
+}
+
+/// A command line with the command that tells what the steps of a change do behind those that it has.
+fn with_steps<'a>(alloc: Global, before: Command<'a>) -> Result<Command<'a>, AllocError>
+    ensures { IfOk result (λ command. app_of command ≡ with_subcommand (app_of before.entry) steps_app.top) }
+{
+    let steps = Command::new(alloc, "steps")
+        .about("Makes the network of a script, and tells what each step of a change does to it")
         .arg(wanted(alloc, "FILE", SCRIPT))?
-        .arg(wanted(alloc, "POLICY", POLICY))?;
-    before.subcommand(verify)
+        .arg(wanted(alloc, "CHANGE", CHANGE))?
+        .arg(Arg::new(alloc, "POLICY").help(KEPT))?;
+    before.subcommand(steps)
 }
 
 /// The program's command line.
@@ -339,7 +420,8 @@ fn command<'a>(alloc: Global) -> Result<Command<'a>, AllocError>
         .subcommand(explain)?
         .subcommand(diff)?;
     let swept = with_sweep(alloc, before)?.subcommand(summary)?;
-    with_verify(alloc, with_ask(alloc, with_dot(alloc, swept)?)?)
+    let verified = with_verify(alloc, with_ask(alloc, with_dot(alloc, swept)?)?)?;
+    with_steps(alloc, with_edits(alloc, verified)?)
 }
 
 /// The program's command line without a command. Its usage has this name of the program, whatever its file is called.
@@ -401,6 +483,15 @@ fn asked_of_command<'a>(command: &str, found: &ArgMatches<'a>) -> Asked<'a>
         "verify" => Asked::Verify {
             script: value_in(found, "FILE"),
             policy: value_in(found, "POLICY"),
+        },
+        "edits" => Asked::Edits {
+            old: value_in(found, "OLD"),
+            new: value_in(found, "NEW"),
+        },
+        "steps" => Asked::Steps {
+            script: value_in(found, "FILE"),
+            change: value_in(found, "CHANGE"),
+            policy: word_in(found, "POLICY"),
         },
         _ => Asked::Run {
             script: value_in(found, "FILE"),

@@ -5,8 +5,8 @@ use super::captures::REGION;
 use super::counts;
 use super::diffs::{NEW, OLD};
 use mst_tool::{
-    Form, FromRead, Outcome, Question, RunFault, SweepPart, TURNS, ToWrite, ask_within, check,
-    diff_within, run_within,
+    Between, Form, FromRead, Outcome, Question, RunFault, SweepPart, TURNS, ToWrite, ask_within,
+    check, diff_within, run_within,
 };
 use std::alloc::Global;
 use std::test::Fail;
@@ -90,6 +90,7 @@ fn told_apart(
     diff_within(
         alloc,
         Form::Json,
+        Between::Plans,
         &mut old_source,
         &mut new_source,
         &mut sink,

@@ -1,41 +1,26 @@
-use Rattle.std.proofs.Common.{◌≡◌, ◌+◌, ◌-◌, ◌≤◌, ◌∷◌, [], ◌++◌, List, arith, sym, subst, ◌∙◌}
-use Rattle.mst_verify.specs.Told.{verified_row}
-use Rattle.mst_verify.specs.Verified.{joined}
-use Rattle.mst_report.specs.Verifying.{AreFound, AreTold, plan_outcome}
-use Rattle.mst_report.specs.Sweeping.{Puts}
+use Rattle.std.proofs.Common.{◌-◌, List, arith, sym, subst, ◌∙◌}
+use Rattle.mst_report.specs.Verifying.{AreFound, plan_outcome}
 use Rattle.mst_report.specs.declared.judging.Finding.{Finding}
 use Rattle.mst_report.proofs.Judgements.{flags_counted}
 use Rattle.mst_report.proofs.PolicyRows.{all_counted}
-use Rattle.mst_report.proofs.Swept.{put_then}
 use Rattle.mst_report.proofs.verifying.put_judged.Goals as goal
-
-pub overflow_sub-judged : goal.overflow_sub-judged
-overflow_sub-judged g c =
-    let old = c.args.network.now in
-    let j = c.args.judging.now in
-    let o = plan_outcome old.net old.numbers j.plan.now in
-    let told = c.in_ok-failing.ensures old.net o (subst (λ (l : List Finding). AreFound old.net o j.lines.now l) (sym c.as_slice.ensures.value) c.in_ok-found.ensures.found) in
-    let all = all_counted old.net o j.lines.now told.told told.each in
-    let flags = flags_counted old.net j.lines.now j.flags.now c.requires.judging.flags in
-    omega (arith, c.count_set-judged.ensures, flags, told.counted, all.1)
 
 pub returns-clause-told : goal.returns-clause-told
 returns-clause-told g c =
     let old = c.args.network.now in
     let j = c.args.judging.now in
     let o = plan_outcome old.net old.numbers j.plan.now in
-    let grew = g.R.Rows.grew in
     let told = c.in_ok-failing.ensures old.net o (subst (λ (l : List Finding). AreFound old.net o j.lines.now l) (sym c.as_slice.ensures.value) c.in_ok-found.ensures.found) in
     let all = all_counted old.net o j.lines.now told.told told.each in
     let flags = flags_counted old.net j.lines.now j.flags.now c.requires.judging.flags in
-    let judged = c.count_set-judged.result in
+    let judged = c.count_set.result in
     let failing = c.in_ok-failing.failing in
     record {
       told = told.told;
       each = told.each;
-      judged_are = c.count_set-judged.ensures ∙ flags;
+      judged_are = c.count_set.ensures ∙ flags;
       counted = told.counted;
       holding = judged - failing;
-      hold = omega (arith, c.count_set-judged.ensures, flags, told.counted, all.1);
-      put = put_then grew c.args.out.now c.put_lines.new.out c.put_verified.new.out (joined told.told) (verified_row judged (judged - failing) ∷ []) told.put (λ first before h. c.in_ok-put_verified.ensures first before h);
+      hold = omega (arith, c.count_set.ensures, flags, told.counted, all.1);
+      put = told.put;
     }

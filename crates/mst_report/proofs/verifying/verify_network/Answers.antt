@@ -1,41 +1,20 @@
-use Rattle.std.proofs.Common.{◌≡◌, ◌∷◌, [], ◌++◌, append_assoc, List, Bool, sym, subst}
-use Rattle.std.specs.List.{flat_map}
+use Rattle.std.proofs.Common.{◌≡◌, ◌-◌, ◌∷◌, [], ◌++◌, List, arith, subst}
+use Rattle.mst_rows.specs.Rows.{Row}
 use Rattle.mst_verify.specs.Told.{verified_row}
-use Rattle.mst_verify.specs.Verified.{joined, refused_rows}
-use Rattle.mst_report.specs.Verifying.{AreJudged, plan_outcome}
+use Rattle.mst_report.specs.Verifying.{Verifies, counts_of}
 use Rattle.mst_report.proofs.Swept.{put_then}
 use Rattle.mst_report.proofs.verifying.verify_network.Goals as goal
 
-pub put_judged-requires-clause-judging : goal.put_judged-requires-clause-judging
-put_judged-requires-clause-judging g c =
-    let opened = c.in_ok-opened.ensures.opened in
-    record {
-      flags = subst (λ (l : List Bool). AreJudged c.args.network.now.net c.args.lines.now l) (sym c.as_slice.ensures.value) opened.flags;
-      classes = opened.classes;
-      before = opened.before;
-    }
+pub overflow_sub-verdict : goal.overflow_sub-verdict
+overflow_sub-verdict g c = omega (arith, c.in_ok-verdict.ensures.told.1.hold)
 
 pub returns-clause-told : goal.returns-clause-told
 returns-clause-told g c =
-    let old = c.args.network.now in
-    let opened = c.in_ok-opened.ensures in
-    let counted = c.in_ok-judged.ensures.told in
-    let refused = flat_map (refused_rows old.net) c.args.lines.now in
-    let others = joined counted.told ++ verified_row c.in_ok-judged.judged counted.holding ∷ [] in (
-      refused ++ others,
-      record {
-        outcome = plan_outcome old.net old.numbers c.args.plan.now;
-        is_outcome = opened.outcome;
-        told = record {
-          told = counted.told;
-          each = counted.each;
-          refused = opened.opened.refused;
-          judged_are = counted.judged_are;
-          failing = counted.counted;
-          holding = counted.holding;
-          hold = counted.hold;
-          are = sym (append_assoc refused (joined counted.told) (verified_row c.in_ok-judged.judged counted.holding ∷ []));
-        };
-      },
-      put_then g.R.Rows.grew c.args.out.now c.opening.new.out c.put_judged.new.out refused others (λ first before h. opened.put first before h) counted.put,
+    let said = c.in_ok-verdict.ensures.told in
+    let verdict = c.in_ok-verdict.verdict in
+    let held : said.1.holding ≡ verdict.judged - verdict.failing = omega (arith, said.1.hold) in
+    let last : List Row = verified_row verdict.judged (verdict.judged - verdict.failing) ∷ [] in (
+      said.0 ++ last,
+      subst (λ n. Verifies c.args.network.now.net c.args.lines.now (counts_of verdict) (said.0 ++ verified_row verdict.judged n ∷ [])) held said.1.told,
+      put_then g.R.Rows.grew c.args.out.now c.judge_network.new.out c.put_verified.new.out said.0 last said.2 (λ first before h. c.in_ok-put_verified.ensures first before h),
     )

@@ -30,7 +30,7 @@ returns-in-Err-clause-fault g c =
     let olds = g.O.Source.remaining c.args.old.now in
     let written = g.K.Sink.contents c.args.sink.now in
     let now = g.K.Sink.contents c.serve_input.new.sink in
-    front_in_old c.one_difference.ensures.some c.one_difference.ensures.one c.one_load.ensures.same c.states.ensures.network c.has_load.ensures.script c.args.form olds (g.N.Source.remaining c.args.new.now) written now
+    front_in_old (record { one = c.one_difference.ensures.one; some = c.one_difference.ensures.some }) c.one_load.ensures.same c.states.ensures.network c.has_load.ensures.script c.args.between c.args.form olds (g.N.Source.remaining c.args.new.now) written now
     (subst (λ from. ServedFront (Network (of_old c.args.form)) from olds written now) c.new-before.ensures.empty c.in-Err.ensures.fault)
 
 pub returns-in-Err-clause-read : goal.returns-in-Err-clause-read
@@ -51,7 +51,7 @@ returns-in-Err-serve_input-clause-fault g c =
     let now = g.K.Sink.contents c.serve_input-in-Ok.new.sink in
     let t = tally_of c.serve_input.new.engine in
     front_in_new c.one_load.ensures.same c.args.form olds news written mid t (subst (λ from. Served (Network (of_old c.args.form)) from olds written mid t) c.new-before.ensures.empty c.in-Ok.ensures.ok)
-    c.one_difference.ensures.some c.one_difference.ensures.one c.states.ensures.network now
+    (record { one = c.one_difference.ensures.one; some = c.one_difference.ensures.some }) c.states.ensures.network c.args.between now
     (subst (λ from. ServedFront (Network (of_new c.args.form)) from news mid now) c.new-after.ensures.empty c.in-Err-serve_input.ensures.fault)
 
 pub returns-in-Err-serve_input-clause-read : goal.returns-in-Err-serve_input-clause-read
@@ -77,7 +77,8 @@ returns-in-Err-what_differs-clause-fault g c =
     let t = tally_of c.serve_input.new.engine in
     let u = tally_of c.serve_input-in-Ok.new.engine in
     both_whole c.one_load.ensures.same c.args.form olds news written mid t (subst (λ from. Served (Network (of_old c.args.form)) from olds written mid t) c.new-before.ensures.empty c.in-Ok.ensures.ok)
-    end u (subst (λ from. Served (Network (of_new c.args.form)) from news mid end u) c.new-after.ensures.empty c.in-Ok-serve_input.ensures.ok) c.one_difference.ensures.some c.one_difference.ensures.one c.states.ensures.network
+    end u (subst (λ from. Served (Network (of_new c.args.form)) from news mid end u) c.new-after.ensures.empty c.in-Ok-serve_input.ensures.ok)
+    (record { one = c.one_difference.ensures.one; some = c.one_difference.ensures.some }) c.states.ensures.network c.args.between
 
 pub returns-in-Err-what_differs-clause-memory : goal.returns-in-Err-what_differs-clause-memory
 returns-in-Err-what_differs-clause-memory g c is =
@@ -102,9 +103,10 @@ returns-in-Err-put-clause-fault g c =
     let t = tally_of c.serve_input.new.engine in
     let u = tally_of c.serve_input-in-Ok.new.engine in
     let found = c.in-Ok-what_differs.found in
+    let told = c.in-Ok-what_differs.ensures in
     differs_front c.one_load.ensures.same c.args.form olds news written mid t (subst (λ from. Served (Network (of_old c.args.form)) from olds written mid t) c.new-before.ensures.empty c.in-Ok.ensures.ok)
     end u (subst (λ from. Served (Network (of_new c.args.form)) from news mid end u) c.new-after.ensures.empty c.in-Ok-serve_input.ensures.ok)
-    found.counts found.text.items c.in-Ok-what_differs.ensures now c.one_difference.ensures.one c.states.ensures.network (subst (AppendsFront end now) c.as_slice.ensures.value c.in-Err-put.ensures.err)
+    c.args.between told.0 found.text.items told.2 now (record { one = c.one_difference.ensures.one; some = c.one_difference.ensures.some }) c.states.ensures.network (subst (AppendsFront end now) c.as_slice.ensures.value c.in-Err-put.ensures.err)
 
 pub returns-in-Err-put-clause-read_fault : goal.returns-in-Err-put-clause-read_fault
 returns-in-Err-put-clause-read_fault g c =
@@ -145,10 +147,11 @@ returns-clause-ok g c =
     let t = tally_of c.serve_input.new.engine in
     let u = tally_of c.serve_input-in-Ok.new.engine in
     let found = c.in-Ok-what_differs.found in
-    subst (Diffs c.args.form olds news written now) (sym (c.with_difference.ensures ∙ (λ i. counted_both (c.outcome-old_served.ensures i) (c.outcome-new_served.ensures i) found.counts)))
+    let told = c.in-Ok-what_differs.ensures in
+    subst (Diffs c.args.between c.args.form olds news written now) (sym (c.with_difference.ensures ∙ (λ i. counted_both (c.outcome-old_served.ensures i) (c.outcome-new_served.ensures i) found.differs)))
     (diffs c.one_load.ensures.same c.args.form olds news written mid t (subst (λ from. Served (Network (of_old c.args.form)) from olds written mid t) c.new-before.ensures.empty c.in-Ok.ensures.ok)
     end u (subst (λ from. Served (Network (of_new c.args.form)) from news mid end u) c.new-after.ensures.empty c.in-Ok-serve_input.ensures.ok)
-    found.counts found.text.items c.in-Ok-what_differs.ensures now c.states.ensures.network c.one_difference.ensures.one (subst (Appends end now) c.as_slice.ensures.value c.in-Ok-put.ensures.ok))
+    c.args.between told.0 found.text.items told.2 now (record { one = c.one_difference.ensures.one; some = c.one_difference.ensures.some }) c.states.ensures.network found.differs told.1 (subst (Appends end now) c.as_slice.ensures.value c.in-Ok-put.ensures.ok))
 
 pub returns-in-Err-clause-heard_new : goal.returns-in-Err-clause-heard_new
 returns-in-Err-clause-heard_new g c = Hears-none g.N.Source.hears c.args.new.now

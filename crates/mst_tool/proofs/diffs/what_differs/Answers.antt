@@ -1,15 +1,15 @@
-use Rattle.std.proofs.Common.{[], None, ap}
-use Rattle.mst_engine.specs.net.Contents.{Contents}
-use Rattle.mst_print.proofs.Shown.{grew_none}
-use Rattle.mst_tool.specs.Shown.{diff_row}
-use Rattle.mst_tool.proofs.WholeDiff.{difference_shown}
+use Rattle.std.proofs.Common.{◌≡◌, sym, subst}
+use Rattle.std.specs.Prelude.{IfOk}
+use Rattle.mst_tool.specs.Diff.{CountsOf, TellsDifference, differs_by}
+use Rattle.mst_tool.specs.declared.diffs.Between.{Between}
 use Rattle.mst_tool.proofs.diffs.what_differs.Goals as goal
 
-pub returns : goal.returns
-returns c =
-    let printer = c.in_ok-printer.printer in
-    let counts = c.in_ok-counts.counts in
-    let put = c.in_ok-counts.ensures printer [] (grew_none printer) in
-    difference_shown c.args.form c.args.old.now.contents.net c.args.new.now.contents.net c.settle.new.self.contents.net c.settle-2.new.self.contents.net counts put.0 c.in_ok-text.text.items
-    (ap (λ (k : Contents). k.net) c.settle.ensures.same) (ap (λ (k : Contents). k.net) c.settle-2.ensures.same) put.1
-    (c.in_ok-text.ensures c.args.form None diff_row printer put.0 c.in_ok-printer.ensures put.2)
+pub returns-in-Plans : goal.returns-in-Plans
+returns-in-Plans c =
+    subst (λ (between : Between). IfOk c.planned_apart.result (λ found. (counts : CountsOf between) × (found.differs ≡ differs_by between counts) × TellsDifference between c.args.form c.args.old.now.contents.net c.args.new.now.contents.net counts found.text.items))
+    (sym c.in-Plans.is) c.planned_apart.ensures
+
+pub returns-in-Settings : goal.returns-in-Settings
+returns-in-Settings c =
+    subst (λ (between : Between). IfOk c.set_apart.result (λ found. (counts : CountsOf between) × (found.differs ≡ differs_by between counts) × TellsDifference between c.args.form c.args.old.now.contents.net c.args.new.now.contents.net counts found.text.items))
+    (sym c.in-Settings.is) c.set_apart.ensures

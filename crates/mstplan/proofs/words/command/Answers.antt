@@ -1,10 +1,10 @@
-use Rattle.std.proofs.Common.{ap, ap₂, codes, false, true, ◌≡◌, ◌∙◌}
+use Rattle.std.proofs.Common.{ap, ap₂, codes, false, ◌≡◌, ◌∙◌}
 use Rattle.std.specs.Prelude.{◌||◌}
 use Rattle.std.proofs.lemmas.Result.{IfOk-weaker}
 use Rattle.clap.specs.Words.{App, app_of, new_rule, rule_of, with_rule, with_subcommand}
 use Rattle.clap.specs.Simple.{app_of_fields}
 use Rattle.clap.specs.declared.builder.arg.Arg.{Arg}
-use Rattle.mstplan.specs.Words.{ask_app, check_app, diff_app, dot_app, explain_app, no_command, run_app, summary_app, sweep_app, verify_app}
+use Rattle.mstplan.specs.Words.{ask_app, check_app, diff_app, dot_app, edits_app, explain_app, no_command, run_app, steps_app, summary_app, sweep_app, verify_app}
 use Rattle.mstplan.proofs.words.command.Goals as goal
 
 pub returns : goal.returns
@@ -43,4 +43,6 @@ returns c =
     let sixth_is = c.in_ok-swept.ensures.shape summary_local ∙ ap₂ with_subcommand fifth_is (ap (λ (a : App). a.top) summary_is) in
     let seventh_is = c.in_ok-with_dot.ensures ∙ ap (λ (a : App). with_subcommand a dot_app.top) sixth_is in
     let eighth_is = c.in_ok-with_ask.ensures ∙ ap (λ (a : App). with_subcommand a ask_app.top) seventh_is in
-    IfOk-weaker c.with_verify.result _ _ (λ r h. h ∙ ap (λ (a : App). with_subcommand a verify_app.top) eighth_is) c.with_verify.ensures
+    let ninth_is = c.in_ok-verified.ensures ∙ ap (λ (a : App). with_subcommand a verify_app.top) eighth_is in
+    let tenth_is = c.in_ok-with_edits.ensures ∙ ap (λ (a : App). with_subcommand a edits_app.top) ninth_is in
+    IfOk-weaker c.with_steps.result _ _ (λ r h. h ∙ ap (λ (a : App). with_subcommand a steps_app.top) tenth_is) c.with_steps.ensures

@@ -1,0 +1,233 @@
+ghost use Rattle.std.specs.Prelude.{◌≡◌, ◌≢◌, ◌≤◌, ◌<◌, ◌↔◌, ◌⊎◌, ◌^◌, ℕ, false, length, List, Option, Err, IfOk, IsOk, OnErr, option_map};
+ghost use Rattle.mst_change.specs.Steps.{all_lines};
+ghost use Rattle.mst_engine.specs.Served.{IsFew};
+ghost use Rattle.mst_engine.specs.report.Planned.{planned_state};
+ghost use Rattle.mst_io.specs.Devices.{Hears, Works, IsBroken, IsCut, IsRead, IsCalled, StopsAtZero};
+ghost use Rattle.mst_print.specs.Shape.{of_script};
+ghost use Rattle.mst_tool.specs.Alter.{Alters, AltersFront, TellsSteps, counted_along, course_of, policy_if};
+ghost use Rattle.mst_tool.specs.Lines.{AreLines, AreSteps};
+ghost use Rattle.mst_tool.specs.Load.{LoadsOrEnded, LoadsScript};
+
+use crate::opened::open_question;
+use crate::policies::{read_change, read_policy};
+use mst_change::Change;
+use mst_engine::laws::{one_load, states};
+use mst_engine::{Engine, Input, Planner, serve_input};
+use mst_io::{FromRead, Outcome, RunFault, Sink, Source, TURNS, ToWrite, put};
+use mst_kinds::Query;
+use mst_policy::Policy;
+use mst_print::{Form, Shape, Side};
+use std::alloc::{AllocError, Global};
+use std::io::{Read, Write};
+
+/// Loads the network of a script, and writes what each step of a change does to it and, where it is judged, whether the network then
+/// does what a policy promises.
+///
+/// The script is read as by [`run`](crate::run), but its queries and its marks do nothing and print nothing, and none is refused. Then
+/// the change is read, a script of its own version, whose steps stand between blank lines, and then the policy, of which nothing is told
+/// where it isn't judged. After the lines that the script prints the answer is written: for each step `change N CODE TEXT` for each of
+/// its lines that is refused, what the step does, and the lines of [`verify`](crate::verify) but the last, and at the end how many steps
+/// there are, how many of them move and cut VLANs, and after how many the policy isn't kept. Each refused line of the change counts as one
+/// of the script does, and steps that cut, or after which the policy isn't kept, as one that differs.
+///
+/// The readers and the writer are called as by [`run`](crate::run), each reader once that before it has ended. After
+/// [`RunFault::Read`] all that the complete lines of the script print has gone out, of what was read, and nothing else; after
+/// [`RunFault::Memory`] all that the script prints; after [`RunFault::Write`] a front of all.
+pub fn steps<S: Read + Drop, C: Read + Drop, P: Read + Drop, W: Write>(
+    alloc: Global,
+    form: Form,
+    is_judged: bool,
+    mut script: S,
+    mut change: C,
+    mut policy: P,
+    writer: &mut W,
+) -> Result<Outcome, RunFault>
+    ensures ok { IfOk result (Alters form is_judged (S.remaining script) (C.remaining change) (P.remaining policy) (W.contents writer.old) (W.contents writer.new)) }
+    ensures fault { OnErr result (AltersFront form is_judged (S.remaining script) (C.remaining change) (P.remaining policy) (W.contents writer.old) (W.contents writer.new)) }
+    ensures read { result ≡ Err RunFault.Read → (left : Option (List ℕ)) × LoadsOrEnded (of_script form) (S.remaining script) left (W.contents writer.old) (W.contents writer.new) }
+    ensures memory { result ≡ Err RunFault.Memory → LoadsScript (of_script form) (S.remaining script) (W.contents writer.old) (W.contents writer.new) }
+{
+    let mut script_source = FromRead::new(&mut script);
+    let mut change_source = FromRead::new(&mut change);
+    let mut policy_source = FromRead::new(&mut policy);
+    let mut sink = ToWrite::new(writer);
+    steps_within(
+        alloc,
+        form,
+        is_judged,
+        &mut script_source,
+        &mut change_source,
+        &mut policy_source,
+        &mut sink,
+        TURNS,
+    )
+}
+
+/// Tells what the steps of the change that the second source gives do to the network of the script that the first gives, with the
+/// policy that the third gives, in so many turns each, as [`steps`] does: it is that with 2^32 of them. A turn is one call of a source,
+/// the one that finds the end included.
+///
+/// [`RunFault::Read`] is answered just where the sink works and a source has failed, or all turns of it were used and none found the
+/// end, but where memory was wanted for a line of the change or of the policy before; [`RunFault::Write`] just where the sink has failed,
+/// or took nothing of a part that had a byte.
+pub fn steps_within<S: Source, C: Source, P: Source, K: Sink>(
+    alloc: Global,
+    form: Form,
+    is_judged: bool,
+    script: &mut S,
+    change: &mut C,
+    policy: &mut P,
+    sink: &mut K,
+    turns: u64,
+) -> Result<Outcome, RunFault>
+    requires script { (S.told script.old).failed ≡ false }
+    requires change { (C.told change.old).failed ≡ false }
+    requires policy { (P.told policy.old).failed ≡ false }
+    requires sink { (K.told sink.old).failed ≡ false }
+    requires turns { turns ≤ 2 ^ 32 }
+    ensures ok { IfOk result (Alters form is_judged (S.remaining script.old) (C.remaining change.old) (P.remaining policy.old) (K.contents sink.old) (K.contents sink.new)) }
+    ensures fault { OnErr result (AltersFront form is_judged (S.remaining script.old) (C.remaining change.old) (P.remaining policy.old) (K.contents sink.old) (K.contents sink.new)) }
+    ensures read { result ≡ Err RunFault.Read → LoadsOrEnded (of_script form) (S.remaining script.old) (S.remaining script.new) (K.contents sink.old) (K.contents sink.new) }
+    ensures memory { result ≡ Err RunFault.Memory → LoadsScript (of_script form) (S.remaining script.old) (K.contents sink.old) (K.contents sink.new) }
+    ensures ended_script { IsOk result → IsRead (S.told script.old) (S.told script.new) }
+    ensures ended_change { IsOk result → IsRead (C.told change.old) (C.told change.new) }
+    ensures ended_policy { IsOk result → IsRead (P.told policy.old) (P.told policy.new) }
+    ensures read_fault { result ≡ Err RunFault.Read → (IsCut turns (S.told script.old) (S.told script.new) ⊎ (IsCut turns (C.told change.old) (C.told change.new) ⊎ IsCut turns (P.told policy.old) (P.told policy.new))) × Works (K.told sink.old) (K.told sink.new) }
+    ensures cut { IsCut turns (S.told script.old) (S.told script.new) ⊎ (IsCut turns (C.told change.old) (C.told change.new) ⊎ IsCut turns (P.told policy.old) (P.told policy.new)) → Works (K.told sink.old) (K.told sink.new) → (result ≡ Err RunFault.Read) ⊎ (result ≡ Err RunFault.Memory) }
+    ensures write_fault { result ≡ Err RunFault.Write ↔ IsBroken (K.told sink.old) (K.told sink.new) }
+    ensures script_calls { IsCalled turns (S.told script.old) (S.told script.new) }
+    ensures change_calls { IsCalled turns (C.told change.old) (C.told change.new) }
+    ensures policy_calls { IsCalled turns (P.told policy.old) (P.told policy.new) }
+    ensures sink_calls { StopsAtZero (K.told sink.old) (K.told sink.new) }
+    ensures lent_script { S.lent script.new ≡ S.lent script.old }
+    ensures lent_change { C.lent change.new ≡ C.lent change.old }
+    ensures lent_policy { P.lent policy.new ≡ P.lent policy.old }
+    ensures lent_sink { K.lent sink.new ≡ K.lent sink.old }
+    ensures heard_script { Hears S.hears script.old script.new }
+    ensures heard_change { Hears C.hears change.old change.new }
+    ensures heard_policy { Hears P.hears policy.old policy.new }
+{
+    states();
+    one_load();
+    let mut engine = Engine::new(alloc);
+    let shape = Shape {
+        form,
+        side: Side::Only,
+    };
+    match serve_input(Input::Network(shape), &mut engine, script, sink, turns) {
+        Err(fault) => Err(fault),
+        Ok(()) => {
+            let served = engine.outcome();
+            match read_both(alloc, change, policy, turns) {
+                Err(fault) => Err(fault),
+                Ok(both) => match stepped(alloc, form, is_judged, &mut engine.planner, &both) {
+                    Err(_) => Err(RunFault::Memory),
+                    Ok(found) => match put(sink, found.text.as_slice()) {
+                        Err(_) => Err(RunFault::Write),
+                        Ok(()) => Ok(with_course(&served, &found)),
+                    },
+                },
+            }
+        }
+    }
+}
+
+/// A change, and the policy that is looked at after its steps.
+#[derive(Drop)]
+struct Both {
+    change: Change,
+    policy: Policy,
+}
+
+/// Reads a change and then a policy, each in so many turns.
+fn read_both<C: Source, P: Source>(
+    alloc: Global,
+    change: &mut C,
+    policy: &mut P,
+    turns: u64,
+) -> Result<Both, RunFault>
+    requires change { (C.told change.old).failed ≡ false }
+    requires policy { (P.told policy.old).failed ≡ false }
+    requires turns { turns ≤ 2 ^ 32 }
+    ensures ok_change { IfOk result (λ both. AreSteps (C.remaining change.old) both.change.ended) }
+    ensures ok_policy { IfOk result (λ both. AreLines (P.remaining policy.old) both.policy) }
+    ensures few { IfOk result (λ both. length (all_lines both.change.ended) < 2 ^ 60) }
+    ensures ended_change { IsOk result → IsRead (C.told change.old) (C.told change.new) }
+    ensures ended_policy { IsOk result → IsRead (P.told policy.old) (P.told policy.new) }
+    ensures read { result ≡ Err RunFault.Read → IsCut turns (C.told change.old) (C.told change.new) ⊎ IsCut turns (P.told policy.old) (P.told policy.new) }
+    ensures write { result ≢ Err RunFault.Write }
+    ensures change_calls { IsCalled turns (C.told change.old) (C.told change.new) }
+    ensures policy_calls { IsCalled turns (P.told policy.old) (P.told policy.new) }
+    ensures lent_change { C.lent change.new ≡ C.lent change.old }
+    ensures lent_policy { P.lent policy.new ≡ P.lent policy.old }
+    ensures heard_change { Hears C.hears change.old change.new }
+    ensures heard_policy { Hears P.hears policy.old policy.new }
+{
+    match read_change(alloc, change, turns) {
+        Err(fault) => Err(fault),
+        Ok(change) => match read_policy(alloc, policy, turns) {
+            Err(fault) => Err(fault),
+            Ok(policy) => Ok(Both { change, policy }),
+        },
+    }
+}
+
+/// What the steps of a change do: what is printed of them, and what is counted.
+#[derive(Drop)]
+struct Stepping {
+    text: Vec<u8>,
+    refused: u64,
+    steps: u64,
+    moving: u64,
+    cutting: u64,
+    failing: u64,
+}
+
+/// What the steps of a change do to the planner's network, once the plan is settled. `AllocError`: memory was wanted and refused.
+fn stepped(
+    alloc: Global,
+    form: Form,
+    is_judged: bool,
+    planner: &mut Planner,
+    both: &Both,
+) -> Result<Stepping, AllocError>
+    requires { length (all_lines both.now.change.ended) < 2 ^ 60 }
+    ensures told { IfOk result (λ found. TellsSteps form (planned_state planner.old).net both.now.change.ended (policy_if is_judged both.now.policy) (course_of found) found.text.items) }
+    ensures few { IfOk result (λ found. found.refused ≤ length (all_lines both.now.change.ended)) }
+{
+    planner.settle()?;
+    let mut printer = open_question(alloc, form, Query::Steps)?;
+    let course = planner.put_steps(&both.change, both.judged(is_judged), &mut printer)?;
+    let text = printer.close()?;
+    Ok(Stepping {
+        text,
+        refused: course.refused,
+        steps: course.steps,
+        moving: course.moving,
+        cutting: course.cutting,
+        failing: course.failing,
+    })
+}
+
+impl Both {
+    /// The policy, where it is judged.
+    fn judged(&self, is_judged: bool) -> Option<&Policy>
+        ensures { option_map (λ policy. policy.now) result ≡ policy_if is_judged self.now.policy }
+    {
+        if is_judged { Some(&self.policy) } else { None }
+    }
+}
+
+/// What was counted of the script and of the change.
+fn with_course(script: &Outcome, found: &Stepping) -> Outcome
+    requires script { IsFew script.now }
+    requires change { found.now.refused < 2 ^ 60 }
+    ensures { result ≡ counted_along script.now (course_of found.now) }
+{
+    let differs = found.cutting != 0 || found.failing != 0;
+    Outcome {
+        refused: script.refused + found.refused,
+        memory: script.memory,
+        differing: script.differing + if differs { 1 } else { 0 },
+    }
+}
