@@ -448,11 +448,11 @@ module _ (tables_made : of_bridge.TableMade) (room : TableRoom) (a b : Net) (is_
 
   -- ---- plugs
   -- all bridges and LANs are there
-  record All (net : Net) : Type 0 where
+  record HasAll (net : Net) : Type 0 where
     bridges : (q : List ℕ) → has_bridge q b ≡ true → has_bridge q net ≡ true
     lans : (q : List ℕ) → has_lan q b ≡ true → has_lan q net ≡ true
 
-  all_there : All with_lans
+  all_there : HasAll with_lans
   all_there = record {
     bridges = λ q h.
         let row = found (fin.get b.bridges q) h in
@@ -472,12 +472,12 @@ module _ (tables_made : of_bridge.TableMade) (room : TableRoom) (a b : Net) (is_
   abbrev PlugSeen : PortName → Net → Type 0
   PlugSeen p net = (at_port p 0 net ≡ of_port.but_plug a b is_a is_b p 0 (fin.get b.ports p)) × (has_port p b ≡ true)
 
-  plug_fine : (p : PortName) (net : Net) → All net → PlugSeen p net → Fine All (plug_edits a b p) net
+  plug_fine : (p : PortName) (net : Net) → HasAll net → PlugSeen p net → Fine HasAll (plug_edits a b p) net
   plug_fine p net there seen = by (lan_of b p) refl (plug_stays a b p) refl
     where
-      by : (o : Option (List ℕ)) → lan_of b p ≡ o → (s : Bool) → plug_stays a b p ≡ s → Fine All (option_map_or (λ lan. when (not s) (Plug p lan)) o []) net
-      by None e s f = fine_none All net there
-      by (Some lan) e true f = fine_none All net there
+      by : (o : Option (List ℕ)) → lan_of b p ≡ o → (s : Bool) → plug_stays a b p ≡ s → Fine HasAll (option_map_or (λ lan. when (not s) (Plug p lan)) o []) net
+      by None e s f = fine_none HasAll net there
+      by (Some lan) e true f = fine_none HasAll net there
       by (Some lan) e false f =
           let row = found (fin.get b.ports p) seen.1 in
           let now : fin.get net.ports p ≡ Some (record { lan = None; settings = row.0.settings }) =
@@ -488,8 +488,8 @@ module _ (tables_made : of_bridge.TableMade) (room : TableRoom) (a b : Net) (is_
           let free : is_plugged p net ≡ false = ap (λ (o : Option PortRow). option_map_or (λ r. is_some r.lan) o false) now in
           record { accepted = (λ i. first_of ((not (x i), E04) ∷ (not (y i), E05) ∷ (not (z i), E06) ∷ (free i, E10) ∷ []), tt); kept = record { bridges = there.bridges; lans = there.lans } }
 
-  plugs_fine : Fine All (flat_map (plug_edits a b) (fin.keys b.ports)) with_lans
-  plugs_fine = in_turn ports All PlugSeen (plug_edits a b) plug_fine
+  plugs_fine : Fine HasAll (flat_map (plug_edits a b) (fin.keys b.ports)) with_lans
+  plugs_fine = in_turn ports HasAll PlugSeen (plug_edits a b) plug_fine
       (λ k q net other seen. (keeps_port q (plug_edits a b k) net (of_port.other_plug a b is_a is_b q 0 k other) ∙ seen.0, seen.1))
       (fin.keys b.ports) (keys_distinct ports b.ports) with_lans all_there
       (λ q h. (
@@ -503,42 +503,42 @@ module _ (tables_made : of_bridge.TableMade) (room : TableRoom) (a b : Net) (is_
   abbrev InNew : List ℕ → Net → Type 0
   InNew q net = has_bridge q b ≡ true
 
-  power_fine : (q : List ℕ) (net : Net) → All net → InNew q net → Fine All (power_edits a b q) net
+  power_fine : (q : List ℕ) (net : Net) → HasAll net → InNew q net → Fine HasAll (power_edits a b q) net
   power_fine q net there h = by (fin.get b.bridges q)
     where
-      at : (t : Bool) (row : BridgeRow) → Fine All (when (not t) (SetBridge q (PowerOf (power_of row.is_on)))) net
-      at true row = fine_none All net there
+      at : (t : Bool) (row : BridgeRow) → Fine HasAll (when (not t) (SetBridge q (PowerOf (power_of row.is_on)))) net
+      at true row = fine_none HasAll net there
       at false row = record {
         accepted = (bridge_named net q (there.bridges q h), tt);
         kept = record { bridges = λ k i. contains_changed names net.bridges q (bridge_with (PowerOf (power_of row.is_on))) k ∙ there.bridges k i; lans = there.lans };
       }
 
-      by : (o : Option BridgeRow) → Fine All (option_map_or (power_settings a q) o []) net
-      by None = fine_none All net there
+      by : (o : Option BridgeRow) → Fine HasAll (option_map_or (power_settings a q) o []) net
+      by None = fine_none HasAll net there
       by (Some row) = at (beq row.is_on (bridge_before a q row).is_on) row
 
   abbrev LanInNew : List ℕ → Net → Type 0
   LanInNew q net = has_lan q b ≡ true
 
-  state_fine : (q : List ℕ) (net : Net) → All net → LanInNew q net → Fine All (state_edits a b q) net
+  state_fine : (q : List ℕ) (net : Net) → HasAll net → LanInNew q net → Fine HasAll (state_edits a b q) net
   state_fine q net there h = by (fin.get b.lans q)
     where
-      at : (t : Bool) (row : LanRow) → Fine All (when (not t) (SetLan q (State (state_of row.is_up)))) net
-      at true row = fine_none All net there
+      at : (t : Bool) (row : LanRow) → Fine HasAll (when (not t) (SetLan q (State (state_of row.is_up)))) net
+      at true row = fine_none HasAll net there
       at false row = record {
         accepted = (lan_named net q (there.lans q h), tt);
         kept = record { bridges = there.bridges; lans = λ k i. contains_changed names net.lans q (lan_with (State (state_of row.is_up))) k ∙ there.lans k i };
       }
 
-      by : (o : Option LanRow) → Fine All (option_map_or (state_settings a q) o []) net
-      by None = fine_none All net there
+      by : (o : Option LanRow) → Fine HasAll (option_map_or (state_settings a q) o []) net
+      by None = fine_none HasAll net there
       by (Some row) = at (beq row.is_up (lan_before a q).is_up) row
 
   -- ---- all of it
   pub coming_accepted : Accepted (joined (coming a b)) gone
   coming_accepted =
-      (fine_append In All (flat_map (bridge_part a b) (fin.keys b.bridges)) _ gone parts_fine (λ _.
-      fine_append In All (flat_map (lan_edits a b) (fin.keys b.lans)) _ with_bridges lans_fine (λ _.
-      fine_append All All (flat_map (plug_edits a b) (fin.keys b.ports)) _ with_lans plugs_fine (λ there.
-      fine_append All All (flat_map (power_edits a b) (fin.keys b.bridges)) _ _ (in_turn names All InNew (power_edits a b) power_fine (λ k q net other i. i) (fin.keys b.bridges) (keys_distinct names b.bridges) _ there (λ q h. sym (keys_hold names b.bridges q) ∙ h)) (λ there.
-      fine_append All All (flat_map (state_edits a b) (fin.keys b.lans)) [] _ (in_turn names All LanInNew (state_edits a b) state_fine (λ k q net other i. i) (fin.keys b.lans) (keys_distinct names b.lans) _ there (λ q h. sym (keys_hold names b.lans q) ∙ h)) (λ there. fine_none All _ there)))))).accepted
+      (fine_append In HasAll (flat_map (bridge_part a b) (fin.keys b.bridges)) _ gone parts_fine (λ _.
+      fine_append In HasAll (flat_map (lan_edits a b) (fin.keys b.lans)) _ with_bridges lans_fine (λ _.
+      fine_append HasAll HasAll (flat_map (plug_edits a b) (fin.keys b.ports)) _ with_lans plugs_fine (λ there.
+      fine_append HasAll HasAll (flat_map (power_edits a b) (fin.keys b.bridges)) _ _ (in_turn names HasAll InNew (power_edits a b) power_fine (λ k q net other i. i) (fin.keys b.bridges) (keys_distinct names b.bridges) _ there (λ q h. sym (keys_hold names b.bridges q) ∙ h)) (λ there.
+      fine_append HasAll HasAll (flat_map (state_edits a b) (fin.keys b.lans)) [] _ (in_turn names HasAll LanInNew (state_edits a b) state_fine (λ k q net other i. i) (fin.keys b.lans) (keys_distinct names b.lans) _ there (λ q h. sym (keys_hold names b.lans q) ∙ h)) (λ there. fine_none HasAll _ there)))))).accepted

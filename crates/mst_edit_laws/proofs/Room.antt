@@ -34,8 +34,8 @@ use Rattle.mst_edit_laws.proofs.Whose.{numbers, some_within}
 at_most : (x y : ℕ) → x ≤ y → y ≤ 64 → x ≤ 64
 at_most x y h i = omega (arith, h, i)
 
-last : (u : ℕ) → u ≤ 4094 → u < 1 + 4094
-last u h = omega (arith, h)
+below : (u : ℕ) → u ≤ 4094 → u < 1 + 4094
+below u h = omega (arith, h)
 
 -- ---- how many trees there are where one more is used and another one no longer
 one_at : (u a n : ℕ) → a ≤ u → u < a + n → 1 ≤ count_by (λ k. k == u) (range_with_len a n)
@@ -141,7 +141,7 @@ no_more new old h = count_within (has_tree new) (has_tree old) 1 4094 h
 
 one_over : (new old : List ℕ) (u tree : ℕ) → has_tree old u ≡ true → 1 ≤ u → u ≤ 4094 → ((j : ℕ) → 1 ≤ j → has_tree new j ≡ true → (j ≡ tree) ⊎ ((has_tree old j ≡ true) × (j ≡ u → ⊥))) → tree_count new ≤ tree_count old
 unfolding tree_count
-one_over new old u tree used low high h = changed_over (has_tree new) (has_tree old) u tree used h 1 4094 (omega arith) low (last u high)
+one_over new old u tree used low high h = changed_over (has_tree new) (has_tree old) u tree used h 1 4094 (omega arith) low (below u high)
 
 -- VIDs that are mapped to tree 0
 under_zero : (vids : List Bool) (part whole : List ℕ) → IsUnder part whole → IsUnder (mapped vids 0 part) whole
