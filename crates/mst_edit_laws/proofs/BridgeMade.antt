@@ -1,11 +1,13 @@
 -- What the edits make of a bridge, its priority in a tree and its table: those of the new network.
-use Rattle.std.proofs.Common.{◌≡◌, ℕ, ◌≤◌, Bool, true, false, not, ◌&&◌, List, [], ◌∷◌, map, length, Option, Some, None, is_some, nat_eq, refl, sym, ap, ◌∙◌, arith, true≢false}
+use Rattle.std.proofs.Common.{◌≡◌, ℕ, ◌≤◌, Bool, true, false, not, ◌&&◌, List, [], ◌∷◌, map, length, Option, Some, None, is_some, nat_eq, refl, sym, ap, subst, ◌∙◌, arith, true≢false}
 use Rattle.std.specs.Prelude.{◌==◌, if◌then◌else◌}
 use Rattle.std.specs.Bool.{beq}
 use Rattle.std.specs.List.{flat_map, AllByRecursion}
 use Rattle.std.specs.Option.{option_map, option_map_or, unwrap_or}
 use Rattle.std.specs.FinMap as fin
-use Rattle.std.specs.Cmp.{unsigned_Decides, booleans_Decides}
+use Rattle.std.specs.FinMap.{get-empty}
+use Rattle.mst_ids.specs.Names.{name_cmp}
+use Rattle.std.specs.Cmp.{unsigned_Decides}
 use Rattle.std.specs.Cmp.Lexicographic.{pointwise, pointwise_decides}
 use Rattle.std.proofs.lemmas.Bool.{and_parts, eqb-true}
 use Rattle.std.proofs.lemmas.List.{length-replicate}
@@ -15,8 +17,9 @@ use Rattle.mst_lang.specs.declared.line.Edit.TheVariants.{AddBridge, DelBridge, 
 use Rattle.mst_lang.specs.declared.line.BridgeChange.{BridgeChange}
 use Rattle.mst_lang.specs.declared.line.BridgeChange.TheVariants.{Power as PowerOf, Kind as KindOf, SystemPriority, Configuration, MaxHops, MaxAge}
 use Rattle.mst_lang.specs.declared.line.TreeChange.TheVariants.{Priority}
-use Rattle.mst_net.specs.Table.{no_table}
-use Rattle.mst_net.specs.Tables.{Net, IsNetwork, BridgeRow, IsTable}
+use Rattle.mst_net.specs.Table.{no_table, tree_count}
+use Rattle.mst_net.specs.Tables.{Net, IsNetwork, BridgeRow, IsTable, empty_net}
+use Rattle.mst_net.proofs.AfterLemmas.{no_network}
 use Rattle.mst_net.specs.After.{has_bridge, table_of, new_bridge, bridge_with, is_rstp, is_on}
 use Rattle.mst_net.specs.Contents.{priority_of}
 use Rattle.mst_net.specs.Settings.{kind_of, power_of}
@@ -32,32 +35,20 @@ use Rattle.mst_edits.specs.Staying.{has_mac, bridge_stays, bridge_before, table_
 use Rattle.mst_edits.specs.TableLines.{edit_of, table_after, with_ways, direct_moves, table_edits}
 use Rattle.mst_edits.specs.Edits.{unplug_edits, del_port_edits, del_lan_edits, del_bridge_edits, in_trees, is_same_configuration, priority_edits, bridge_set, bridge_settings, bridge_edits, port_edits, lan_edits, bridge_part, plug_edits, power_settings, power_edits, state_edits, going, coming, edits}
 use Rattle.mst_edit_laws.proofs.Whose.{BridgeEdit, PortEdit, LanEdit, bridge_by_port, bridge_by_lan, bridge_by_other, trees_set, unplugs_of, del_ports_of, del_lans_of, del_bridges_of, bridges_of, ports_are_of, lans_of, plugs_of, powers_of, states_of, others_leave}
-
-found : {X : Type 0} (o : Option X) → is_some o ≡ true → (x : X) × (o ≡ Some x)
-found None h = absurd (true≢false (sym h))
-found (Some x) h = (x, refl)
-
-not_found : {X : Type 0} (o : Option X) → is_some o ≡ false → o ≡ None
-not_found None h = refl
-not_found (Some x) h = absurd (true≢false h)
-
-not_not : (b : Bool) → not b ≡ false → b ≡ true
-not_not true h = refl
-not_not false h = absurd (true≢false h)
-
-is_not : (b : Bool) → not b ≡ true → b ≡ false
-is_not true h = absurd (true≢false (sym h))
-is_not false h = refl
+use Rattle.mst_edit_laws.proofs.Plain.{not_found, not_not, same_flag}
 
 abbrev at : BridgeRow → ℕ → List ℕ → AtBridge
 at row priority table = record { row = Some row; priority = priority; table = table }
 
-abbrev none_set : AtBridge
+abbrev pub none_set : AtBridge
 none_set = record { row = None; priority = 8; table = no_table }
 
-no_table_long : length no_table ≡ 4094
+pub no_table_long : length no_table ≡ 4094
 unfolding no_table
 no_table_long = length-replicate {A = ℕ} 4094 0
+
+pub no_table_count : tree_count no_table ≤ 64
+no_table_count = subst (λ (o : Option (List ℕ)). tree_count (unwrap_or o no_table) ≤ 64) (get-empty {X = List ℕ} name_cmp []) (few_trees empty_net no_network [])
 
 -- what each line of a table makes, for lines of any kind
 lines_made : {M : Type 0} (after : List ℕ → List M → List ℕ) (edit : M → Edit) (q : List ℕ) (t : ℕ) (row : BridgeRow) (priority : ℕ)
@@ -84,7 +75,7 @@ module _ (q : List ℕ) (t : ℕ) where
       steps-when (bridge_step q t) (not same) (SetBridge q change) (at old p table) (at new p table)
       (λ h. row_set (bridge_with change) old p table ∙ ap (λ r. at r p table) set) (λ h. ap (λ r. at r p table) (kept (not_not same h)))
 
-  table_steps : (row : BridgeRow) (p : ℕ) (before after : List ℕ) → steps (bridge_step q t) (table_edits q before after) (at row p before) ≡ at row p (table_after before (with_ways q after before (direct_moves q before after)))
+  pub table_steps : (row : BridgeRow) (p : ℕ) (before after : List ℕ) → steps (bridge_step q t) (table_edits q before after) (at row p before) ≡ at row p (table_after before (with_ways q after before (direct_moves q before after)))
   table_steps row p before after =
       lines_made table_after (edit_of q) q t row p (λ now. refl) (λ now line lines. ap (λ b. at row p (if b then table_after now (line ∷ []) else now)) (itself names q)) (λ now line lines. refl) (with_ways q after before (direct_moves q before after)) before
 
@@ -120,15 +111,12 @@ power_is : (b : Bool) → is_on (power_of b) ≡ b
 power_is true = refl
 power_is false = refl
 
-same_flag : (a b : Bool) → beq a b ≡ true → a ≡ b
-same_flag a b e = (booleans_Decides a b).0 e
-
 module _ (tables_made : TableMade) (a b : Net) (is_a : IsNetwork a) (is_b : IsNetwork b) (q : List ℕ) (t : ℕ) where
   -- what stays of it, and nothing else
-  abbrev stayed : Bool → AtBridge
+  abbrev pub stayed : Bool → AtBridge
   stayed stays = if stays then at_bridge q t a else none_set
 
-  stays_there : bridge_stays a b q ≡ true → has_bridge q a ≡ true
+  pub stays_there : bridge_stays a b q ≡ true → has_bridge q a ≡ true
   stays_there h = by (fin.get b.bridges q) h
     where
       old : (mac : ℕ) (o : Option BridgeRow) → has_mac mac o ≡ true → is_some o ≡ true
@@ -139,7 +127,7 @@ module _ (tables_made : TableMade) (a b : Net) (is_a : IsNetwork a) (is_b : IsNe
       by None h = absurd (true≢false (sym h))
       by (Some row) h = old row.mac (fin.get a.bridges q) h
 
-  goes : steps (bridge_step q t) (flat_map (del_bridge_edits a b) (fin.keys a.bridges)) (at_bridge q t a) ≡ stayed (bridge_stays a b q)
+  pub goes : steps (bridge_step q t) (flat_map (del_bridge_edits a b) (fin.keys a.bridges)) (at_bridge q t a) ≡ stayed (bridge_stays a b q)
   goes = by (has_bridge q a) refl
     where
       others : (k : List ℕ) → name_eq k q ≡ false → AllByRecursion (Stays (bridge_step q t)) (del_bridge_edits a b k)
@@ -157,7 +145,7 @@ module _ (tables_made : TableMade) (a b : Net) (is_a : IsNetwork a) (is_b : IsNe
       by true e = steps_one (bridge_step q t) names (del_bridge_edits a b) q others (fin.keys a.bridges) (at_bridge q t a) (keys_distinct names a.bridges) (keys_hold names a.bridges q ∙ e) ∙ gone (bridge_stays a b q)
       by false e = steps_none (bridge_step q t) names (del_bridge_edits a b) q others (fin.keys a.bridges) (at_bridge q t a) (keys_hold names a.bridges q ∙ e) ∙ absent (bridge_stays a b q) refl e
 
-  gone_all : steps (bridge_step q t) (joined (going a b)) (at_bridge q t a) ≡ stayed (bridge_stays a b q)
+  pub gone_all : steps (bridge_step q t) (joined (going a b)) (at_bridge q t a) ≡ stayed (bridge_stays a b q)
   gone_all =
       let step = bridge_step q t in
       let s = at_bridge q t a in
@@ -177,9 +165,6 @@ module _ (tables_made : TableMade) (a b : Net) (is_a : IsNetwork a) (is_b : IsNe
     abbrev before : BridgeRow
     before = bridge_before a q row
 
-    abbrev stays_now : Bool
-    stays_now = bridge_stays a b q
-
     abbrev priority_was : ℕ
     priority_was = priority_before a (bridge_stays a b q) q t
 
@@ -187,7 +172,7 @@ module _ (tables_made : TableMade) (a b : Net) (is_a : IsNetwork a) (is_b : IsNe
     table_was = table_before a (bridge_stays a b q) q
 
     -- it begins with the old row, or with a new one
-    begins : steps (bridge_step q t) (when (not (bridge_stays a b q)) (AddBridge q row.mac)) (stayed (bridge_stays a b q)) ≡ at before priority_was table_was
+    pub begins : steps (bridge_step q t) (when (not (bridge_stays a b q)) (AddBridge q row.mac)) (stayed (bridge_stays a b q)) ≡ at before priority_was table_was
     begins = by (fin.get a.bridges q) refl
       where
         new : (o : Option BridgeRow) → steps (bridge_step q t) (AddBridge q row.mac ∷ []) none_set ≡ at (new_bridge row.mac) 8 no_table
@@ -225,20 +210,20 @@ module _ (tables_made : TableMade) (a b : Net) (is_a : IsNetwork a) (is_b : IsNe
         by None = refl
         by (Some o) = at_old o (o.mac == row.mac) refl
 
-    table_long : length table_was ≡ 4094
+    pub table_long : length table_was ≡ 4094
     table_long = by (bridge_stays a b q)
       where
         by : (s : Bool) → length (table_before a s q) ≡ 4094
         by true = (table_is a is_a q).0
         by false = no_table_long
 
-    table_wanted : IsTable (table_of b q)
+    pub table_wanted : IsTable (table_of b q)
     table_wanted = let fits = table_is b is_b q in (fits.0, fits.1, few_trees b is_b q)
 
     abbrev seen_off : BridgeRow
     seen_off = record row { is_on = before.is_on }
 
-    is_set : steps (bridge_step q t) (bridge_settings a b q row) (stayed (bridge_stays a b q)) ≡ at seen_off (priority_of b q t) (table_of b q)
+    pub is_set : steps (bridge_step q t) (bridge_settings a b q row) (stayed (bridge_stays a b q)) ≡ at seen_off (priority_of b q t) (table_of b q)
     is_set =
         let step = bridge_step q t in
         let r0 : BridgeRow = before in
@@ -289,18 +274,18 @@ module _ (tables_made : TableMade) (a b : Net) (is_a : IsNetwork a) (is_b : IsNe
         (ap (λ c. record row { is_on = c }) (power_is row.is_on)) (λ h. ap (λ c. record row { is_on = c }) (sym (same_flag row.is_on before.is_on h)))
 
   -- ---- what comes
-  others_part : (k : List ℕ) → name_eq k q ≡ false → AllByRecursion (Stays (bridge_step q t)) (bridge_part a b k)
+  pub others_part : (k : List ℕ) → name_eq k q ≡ false → AllByRecursion (Stays (bridge_step q t)) (bridge_part a b k)
   others_part k other = all_append (Stays (bridge_step q t)) (bridge_edits a b k) (flat_map (port_edits a b) (ports_of b k))
       (all_as (BridgeEdit k) (Stays (bridge_step q t)) (bridge_by_other q t k other) (bridge_edits a b k) (bridges_of a b k))
       (all_flat (Stays (bridge_step q t)) (port_edits a b) (ports_of b k) (λ p. all_as (PortEdit p) (Stays (bridge_step q t)) (bridge_by_port q t p) (port_edits a b p) (ports_are_of a b p)))
 
-  others_powered : (k : List ℕ) → name_eq k q ≡ false → AllByRecursion (Stays (bridge_step q t)) (power_edits a b k)
+  pub others_powered : (k : List ℕ) → name_eq k q ≡ false → AllByRecursion (Stays (bridge_step q t)) (power_edits a b k)
   others_powered k other = all_as (BridgeEdit k) (Stays (bridge_step q t)) (bridge_by_other q t k other) (power_edits a b k) (powers_of a b k)
 
-  abbrev unpowered : Option BridgeRow → AtBridge
+  abbrev pub unpowered : Option BridgeRow → AtBridge
   unpowered o = option_map_or (λ row. at (record row { is_on = (bridge_before a q row).is_on }) (priority_of b q t) (table_of b q)) o (at_bridge q t b)
 
-  comes : (o : Option BridgeRow) → fin.get b.bridges q ≡ o → steps (bridge_step q t) (flat_map (bridge_part a b) (fin.keys b.bridges)) (stayed (bridge_stays a b q)) ≡ unpowered o
+  pub comes : (o : Option BridgeRow) → fin.get b.bridges q ≡ o → steps (bridge_step q t) (flat_map (bridge_part a b) (fin.keys b.bridges)) (stayed (bridge_stays a b q)) ≡ unpowered o
   comes None e =
       steps_none (bridge_step q t) names (bridge_part a b) q others_part (fin.keys b.bridges) (stayed (bridge_stays a b q)) (keys_hold names b.bridges q ∙ ap is_some e)
       ∙ ap stayed (ap (λ x. option_map_or (λ x. has_mac x.mac (fin.get a.bridges q)) x false) e) ∙ absent_bridge q t b is_b (ap is_some e)

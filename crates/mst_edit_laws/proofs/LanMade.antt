@@ -1,11 +1,10 @@
 -- What the edits make of a LAN: that of the new network.
-use Rattle.std.proofs.Common.{◌≡◌, ℕ, Bool, true, false, not, List, [], Option, Some, None, is_some, refl, sym, ap, ◌∙◌, true≢false}
+use Rattle.std.proofs.Common.{◌≡◌, ℕ, Bool, true, false, not, List, [], Option, Some, None, is_some, refl, sym, ap, ◌∙◌}
 use Rattle.std.specs.Prelude.{◌==◌, if◌then◌else◌}
 use Rattle.std.specs.Bool.{beq}
 use Rattle.std.specs.List.{flat_map, AllByRecursion}
 use Rattle.std.specs.Option.{option_map, option_map_or}
 use Rattle.std.specs.FinMap as fin
-use Rattle.std.specs.Cmp.{booleans_Decides}
 use Rattle.std.proofs.lemmas.Bool.{eqb-true}
 use Rattle.mst_lang.specs.declared.line.Edit.TheVariants.{AddLan, DelLan, SetLan}
 use Rattle.mst_lang.specs.declared.line.LanChange.{LanChange}
@@ -23,14 +22,7 @@ use Rattle.mst_save.proofs.PortEnds.{lan_step, lan_made}
 use Rattle.mst_edits.specs.Staying.{lan_before}
 use Rattle.mst_edits.specs.Edits.{unplug_edits, del_port_edits, del_lan_edits, del_bridge_edits, lan_set, lan_settings, bridge_edits, port_edits, lan_edits, bridge_part, plug_edits, power_edits, state_settings, state_edits, going, coming, edits}
 use Rattle.mst_edit_laws.proofs.Whose.{BridgeEdit, PortEdit, LanEdit, lan_by_bridge, lan_by_port, lan_by_other, unplugs_of, del_ports_of, del_lans_of, del_bridges_of, bridges_of, ports_are_of, lans_of, plugs_of, powers_of, states_of, others_leave}
-
-not_found : {X : Type 0} (o : Option X) → is_some o ≡ false → o ≡ None
-not_found None h = refl
-not_found (Some x) h = absurd (true≢false h)
-
-not_not : (b : Bool) → not b ≡ false → b ≡ true
-not_not true h = refl
-not_not false h = absurd (true≢false h)
+use Rattle.mst_edit_laws.proofs.Plain.{same_flag, not_found, not_not}
 
 state_is : (b : Bool) → is_up (state_of b) ≡ b
 state_is true = refl
@@ -43,10 +35,10 @@ module _ (q : List ℕ) where
       (λ h. ap (λ b. if b then option_map (lan_with change) (Some old) else Some old) (itself names q) ∙ ap Some set) (λ h. ap Some (kept (not_not same h)))
 
 module _ (a b : Net) (q : List ℕ) where
-  abbrev stayed : Bool → Option LanRow
+  abbrev pub stayed : Bool → Option LanRow
   stayed stays = if stays then fin.get a.lans q else None
 
-  goes : steps (lan_step q) (flat_map (del_lan_edits b) (fin.keys a.lans)) (fin.get a.lans q) ≡ stayed (has_lan q b)
+  pub goes : steps (lan_step q) (flat_map (del_lan_edits b) (fin.keys a.lans)) (fin.get a.lans q) ≡ stayed (has_lan q b)
   goes = by (has_lan q a) refl
     where
       others : (k : List ℕ) → name_eq k q ≡ false → AllByRecursion (Stays (lan_step q)) (del_lan_edits b k)
@@ -64,7 +56,7 @@ module _ (a b : Net) (q : List ℕ) where
       by true e = steps_one (lan_step q) names (del_lan_edits b) q others (fin.keys a.lans) (fin.get a.lans q) (keys_distinct names a.lans) (keys_hold names a.lans q ∙ e) ∙ gone (has_lan q b)
       by false e = steps_none (lan_step q) names (del_lan_edits b) q others (fin.keys a.lans) (fin.get a.lans q) (keys_hold names a.lans q ∙ e) ∙ absent (has_lan q b) e
 
-  gone_all : steps (lan_step q) (joined (going a b)) (fin.get a.lans q) ≡ stayed (has_lan q b)
+  pub gone_all : steps (lan_step q) (joined (going a b)) (fin.get a.lans q) ≡ stayed (has_lan q b)
   gone_all =
       let step = lan_step q in
       let s = fin.get a.lans q in
@@ -87,14 +79,14 @@ module _ (a b : Net) (q : List ℕ) where
   before = lan_before a q
 
   module _ (row : LanRow) (there : fin.get b.lans q ≡ Some row) where
-    begins : steps (lan_step q) (when (not (has_lan q a)) (AddLan q)) (stayed (has_lan q b)) ≡ Some before
+    pub begins : steps (lan_step q) (when (not (has_lan q a)) (AddLan q)) (stayed (has_lan q b)) ≡ Some before
     begins = ap (λ o. steps (lan_step q) (when (not (has_lan q a)) (AddLan q)) (stayed (is_some o))) there ∙ by (fin.get a.lans q)
       where
         by : (o : Option LanRow) → steps (lan_step q) (when (not (is_some o)) (AddLan q)) o ≡ Some (option_map_or (λ row. row) o new_lan)
         by None = ap (λ (c : Bool). if c then Some new_lan else None) (itself names q)
         by (Some old) = refl
 
-    is_set : steps (lan_step q) (lan_settings a q row) (stayed (has_lan q b)) ≡ Some (record row { is_up = before.is_up })
+    pub is_set : steps (lan_step q) (lan_settings a q row) (stayed (has_lan q b)) ≡ Some (record row { is_up = before.is_up })
     is_set =
         let new : LanRow = record row { is_up = before.is_up } in
         steps-joined (lan_step q) (lan_set (has_lan q a) q before row) (stayed (has_lan q b)) (Some new)
@@ -102,23 +94,23 @@ module _ (a b : Net) (q : List ℕ) where
 
     is_in_state : steps (lan_step q) (state_settings a q row) (Some (record row { is_up = before.is_up })) ≡ Some row
     is_in_state = row_when q (beq row.is_up before.is_up) (State (state_of row.is_up)) (record row { is_up = before.is_up }) row (ap (λ c. record row { is_up = c }) (state_is row.is_up))
-        (λ h. ap (λ c. record row { is_up = c }) (sym ((booleans_Decides row.is_up before.is_up).0 h)))
+        (λ h. ap (λ c. record row { is_up = c }) (sym (same_flag row.is_up before.is_up h)))
 
-  others_part : (k : List ℕ) → AllByRecursion (Stays (lan_step q)) (bridge_part a b k)
+  pub others_part : (k : List ℕ) → AllByRecursion (Stays (lan_step q)) (bridge_part a b k)
   others_part k = all_append (Stays (lan_step q)) (bridge_edits a b k) (flat_map (port_edits a b) (ports_of b k))
       (all_as (BridgeEdit k) (Stays (lan_step q)) (lan_by_bridge q k) (bridge_edits a b k) (bridges_of a b k))
       (all_flat (Stays (lan_step q)) (port_edits a b) (ports_of b k) (λ p. all_as (PortEdit p) (Stays (lan_step q)) (lan_by_port q p) (port_edits a b p) (ports_are_of a b p)))
 
-  other_lan : (k : List ℕ) → name_eq k q ≡ false → AllByRecursion (Stays (lan_step q)) (lan_edits a b k)
+  pub other_lan : (k : List ℕ) → name_eq k q ≡ false → AllByRecursion (Stays (lan_step q)) (lan_edits a b k)
   other_lan k other = all_as (LanEdit k) (Stays (lan_step q)) (lan_by_other q k other) (lan_edits a b k) (lans_of a b k)
 
-  other_state : (k : List ℕ) → name_eq k q ≡ false → AllByRecursion (Stays (lan_step q)) (state_edits a b k)
+  pub other_state : (k : List ℕ) → name_eq k q ≡ false → AllByRecursion (Stays (lan_step q)) (state_edits a b k)
   other_state k other = all_as (LanEdit k) (Stays (lan_step q)) (lan_by_other q k other) (state_edits a b k) (states_of a b k)
 
-  abbrev stateless : Option LanRow → Option LanRow
+  abbrev pub stateless : Option LanRow → Option LanRow
   stateless o = option_map (λ (row : LanRow). record row { is_up = (lan_before a q).is_up }) o
 
-  comes : (o : Option LanRow) → fin.get b.lans q ≡ o → steps (lan_step q) (flat_map (lan_edits a b) (fin.keys b.lans)) (stayed (has_lan q b)) ≡ stateless o
+  pub comes : (o : Option LanRow) → fin.get b.lans q ≡ o → steps (lan_step q) (flat_map (lan_edits a b) (fin.keys b.lans)) (stayed (has_lan q b)) ≡ stateless o
   comes None e = steps_none (lan_step q) names (lan_edits a b) q other_lan (fin.keys b.lans) (stayed (has_lan q b)) (keys_hold names b.lans q ∙ ap is_some e) ∙ ap (λ o. stayed (is_some o)) e
   comes (Some row) e =
       steps_one (lan_step q) names (lan_edits a b) q other_lan (fin.keys b.lans) (stayed (has_lan q b)) (keys_distinct names b.lans) (keys_hold names b.lans q ∙ ap is_some e)

@@ -1,5 +1,10 @@
+mod Plain
 mod NoDefaults
 mod Whose
 mod BridgeMade
 mod PortMade
 mod LanMade
+mod Accepting
+mod Going
+mod Coming
+mod Room

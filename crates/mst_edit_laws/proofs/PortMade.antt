@@ -28,18 +28,7 @@ use Rattle.mst_save.proofs.PortEnds.{AtPort, at_port, port_step, port_made}
 use Rattle.mst_edits.specs.Staying.{bridge_stays, port_stays, plug_stays, lan_of, is_same_lan, settings_before, port_priority_before, port_cost_before, vlans_before}
 use Rattle.mst_edits.specs.Edits.{unplug_edits, del_port_edits, del_lan_edits, del_bridge_edits, in_trees, is_same_cost, port_cost_edits, port_priority_edits, port_set, port_settings, bridge_edits, port_edits, lan_edits, bridge_part, plug_edits, power_edits, state_edits, going, coming, edits}
 use Rattle.mst_edit_laws.proofs.Whose.{BridgeEdit, PortEdit, LanEdit, port_by_bridge, port_by_lan, port_by_other, trees_set, unplugs_of, del_ports_of, del_lans_of, del_bridges_of, bridges_of, ports_are_of, lans_of, plugs_of, powers_of, states_of, others_leave}
-
-found : {X : Type 0} (o : Option X) → is_some o ≡ true → (x : X) × (o ≡ Some x)
-found None h = absurd (true≢false (sym h))
-found (Some x) h = (x, refl)
-
-not_found : {X : Type 0} (o : Option X) → is_some o ≡ false → o ≡ None
-not_found None h = refl
-not_found (Some x) h = absurd (true≢false h)
-
-not_not : (b : Bool) → not b ≡ false → b ≡ true
-not_not true h = refl
-not_not false h = absurd (true≢false h)
+use Rattle.mst_edit_laws.proofs.Plain.{not_found, not_not, same_flag}
 
 abbrev at : PortRow → ℕ → Option ℕ → List Bool → AtPort
 at row priority cost vlans = record { row = Some row; priority = priority; cost = cost; vlans = vlans }
@@ -47,7 +36,7 @@ at row priority cost vlans = record { row = Some row; priority = priority; cost 
 abbrev row_of : Option (List ℕ) → PortSettings → PortRow
 row_of lan settings = record { lan = lan; settings = settings }
 
-abbrev no_port : AtPort
+abbrev pub no_port : AtPort
 no_port = record { row = None; priority = 8; cost = None; vlans = all_vids }
 
 same_costs : (x y : Option ℕ) → is_same_cost x y ≡ true → x ≡ y
@@ -60,16 +49,13 @@ no_same_lan : (o : Option (List ℕ)) → is_same_lan o None ≡ false
 no_same_lan None = refl
 no_same_lan (Some lan) = refl
 
-same_lans : (o : Option (List ℕ)) (lan : List ℕ) → is_same_lan o (Some lan) ≡ true → o ≡ Some lan
+pub same_lans : (o : Option (List ℕ)) (lan : List ℕ) → is_same_lan o (Some lan) ≡ true → o ≡ Some lan
 same_lans None lan e = absurd (true≢false (sym e))
 same_lans (Some other) lan e = ap Some ((pointwise_decides unsigned_Decides other lan).0 e)
 
 and_none : (a b : Bool) → b ≡ false → (a && b) ≡ false
 and_none true b e = e
 and_none false b e = refl
-
-same_flag : (a b : Bool) → beq a b ≡ true → a ≡ b
-same_flag a b e = (booleans_Decides a b).0 e
 
 module _ (q : PortName) (t : ℕ) where
   row_set : (f : PortRow → PortRow) (row : PortRow) (p : ℕ) (c : Option ℕ) (v : List Bool) → record (at row p c v) { row = if port_eq q q then option_map f (Some row) else Some row } ≡ at (f row) p c v
@@ -120,37 +106,28 @@ module _ (net : Net) (is : IsNetwork net) (q : PortName) (t : ℕ) (high : 4095 
 
 module _ (a b : Net) (is_a : IsNetwork a) (is_b : IsNetwork b) (q : PortName) (t : ℕ) where
   -- the LAN that it stays in
-  abbrev lan_kept : Option (List ℕ)
+  abbrev pub lan_kept : Option (List ℕ)
   lan_kept = if plug_stays a b q then lan_of a q else None
 
-  abbrev unplugged : AtPort
+  abbrev pub unplugged : AtPort
   unplugged = record (at_port q t a) { row = option_map (in_lan lan_kept) (fin.get a.ports q) }
 
   -- what stays of it, and nothing else
-  abbrev stayed : Bool → AtPort
+  abbrev pub stayed : Bool → AtPort
   stayed stays = if stays then unplugged else no_port
 
-  stays_there : port_stays a b q ≡ true → has_port q a ≡ true
+  pub stays_there : port_stays a b q ≡ true → has_port q a ≡ true
   stays_there h = (and_parts (has_port q a) (has_port q b) (and_parts (bridge_stays a b q.bridge) (has_port q a && has_port q b) h).1).0
 
-  others_unplug : (p : PortName) → port_eq p q ≡ false → AllByRecursion (Stays (port_step q t)) (unplug_edits a b p)
+  pub others_unplug : (p : PortName) → port_eq p q ≡ false → AllByRecursion (Stays (port_step q t)) (unplug_edits a b p)
   others_unplug p other = all_as (PortEdit p) (Stays (port_step q t)) (port_by_other q t p other) (unplug_edits a b p) (unplugs_of a b p)
 
-  others_go : (p : PortName) → port_eq p q ≡ false → AllByRecursion (Stays (port_step q t)) (del_port_edits a b p)
+  pub others_go : (p : PortName) → port_eq p q ≡ false → AllByRecursion (Stays (port_step q t)) (del_port_edits a b p)
   others_go p other = all_as (PortEdit p) (Stays (port_step q t)) (port_by_other q t p other) (del_port_edits a b p) (del_ports_of a b p)
 
-  unplugs : steps (port_step q t) (flat_map (unplug_edits a b) (fin.keys a.ports)) (at_port q t a) ≡ unplugged
+  pub unplugs : steps (port_step q t) (flat_map (unplug_edits a b) (fin.keys a.ports)) (at_port q t a) ≡ unplugged
   unplugs = by (fin.get a.ports q) refl
     where
-      p : ℕ
-      p = port_priority_of a q t
-
-      c : Option ℕ
-      c = port_cost_of a q t
-
-      v : List Bool
-      v = vlans_of a q
-
       one : (old : PortRow) (lan : Option (List ℕ)) (s : Bool) → old.lan ≡ lan
           → steps (port_step q t) (when (is_some lan && not s) (Unplug q)) (at old (port_priority_of a q t) (port_cost_of a q t) (vlans_of a q)) ≡ at (in_lan (if s then lan else None) old) (port_priority_of a q t) (port_cost_of a q t) (vlans_of a q)
       one old None true e = ap (λ o. at (in_lan o old) (port_priority_of a q t) (port_cost_of a q t) (vlans_of a q)) e
@@ -168,7 +145,7 @@ module _ (a b : Net) (is_a : IsNetwork a) (is_b : IsNetwork b) (q : PortName) (t
           ∙ one old old.lan (plug_stays a b q) refl
           ∙ sym (λ i. record (at_port q t a) { row = option_map (in_lan (if plug_stays a b q then option_map_or (λ row. row.lan) (e i) None else None)) (e i) })
 
-  goes : steps (port_step q t) (flat_map (del_port_edits a b) (fin.keys a.ports)) unplugged ≡ stayed (port_stays a b q)
+  pub goes : steps (port_step q t) (flat_map (del_port_edits a b) (fin.keys a.ports)) unplugged ≡ stayed (port_stays a b q)
   goes = by (has_port q a) refl
     where
       gone : (s : Bool) → steps (port_step q t) (when (not s) (DelPort q)) unplugged ≡ stayed s
@@ -183,7 +160,7 @@ module _ (a b : Net) (is_a : IsNetwork a) (is_b : IsNetwork b) (q : PortName) (t
       by true e = steps_one (port_step q t) ports (del_port_edits a b) q others_go (fin.keys a.ports) unplugged (keys_distinct ports a.ports) (keys_hold ports a.ports q ∙ e) ∙ gone (port_stays a b q)
       by false e = steps_none (port_step q t) ports (del_port_edits a b) q others_go (fin.keys a.ports) unplugged (keys_hold ports a.ports q ∙ e) ∙ absent (port_stays a b q) e
 
-  gone_all : steps (port_step q t) (joined (going a b)) (at_port q t a) ≡ stayed (port_stays a b q)
+  pub gone_all : steps (port_step q t) (joined (going a b)) (at_port q t a) ≡ stayed (port_stays a b q)
   gone_all =
       let step = port_step q t in
       let new = stayed (port_stays a b q) in
@@ -215,7 +192,7 @@ module _ (a b : Net) (is_a : IsNetwork a) (is_b : IsNetwork b) (q : PortName) (t
     abbrev vlans_were : List Bool
     vlans_were = vlans_before a (port_stays a b q) q
 
-    begins : steps (port_step q t) (when (not (port_stays a b q)) (AddPort q)) (stayed (port_stays a b q)) ≡ at (row_of lan_kept was) priority_was cost_was vlans_were
+    pub begins : steps (port_step q t) (when (not (port_stays a b q)) (AddPort q)) (stayed (port_stays a b q)) ≡ at (row_of lan_kept was) priority_was cost_was vlans_were
     begins = by (port_stays a b q) refl
       where
         old : (o : Option PortRow) → fin.get a.ports q ≡ o → is_some o ≡ true → unplugged ≡ at (row_of lan_kept (settings_before a true q)) (port_priority_of a q t) (port_cost_of a q t) (vlans_of a q)
@@ -230,7 +207,7 @@ module _ (a b : Net) (is_a : IsNetwork a) (is_b : IsNetwork b) (q : PortName) (t
             ap (λ (c : Bool). record no_port { row = if c then Some new_port else None }) (itself ports q)
             ∙ sym (ap (λ c. at (row_of (if c && is_same_lan (lan_of a q) (lan_of b q) then lan_of a q else None) new_settings) 8 None all_vids) e)
 
-    is_set : steps (port_step q t) (port_settings a b q row) (stayed (port_stays a b q)) ≡ at (row_of lan_kept row.settings) (port_priority_of b q t) (port_cost_of b q t) (vlans_of b q)
+    pub is_set : steps (port_step q t) (port_settings a b q row) (stayed (port_stays a b q)) ≡ at (row_of lan_kept row.settings) (port_priority_of b q t) (port_cost_of b q t) (vlans_of b q)
     is_set =
         let step = port_step q t in
         let lan = lan_kept in
@@ -289,7 +266,7 @@ module _ (a b : Net) (is_a : IsNetwork a) (is_b : IsNetwork b) (q : PortName) (t
             (λ low. one_priority r) (λ high. ap (λ n. at r n (port_cost_of b q t) vlans_were) (priority_old high (port_stays a b q) ∙ sym (priority_beyond b is_b q t high)))
 
     -- and the plug
-    is_plugged : (p : ℕ) (c : Option ℕ) (v : List Bool) → steps (port_step q t) (plug_edits a b q) (at (row_of lan_kept row.settings) p c v) ≡ at row p c v
+    pub is_plugged : (p : ℕ) (c : Option ℕ) (v : List Bool) → steps (port_step q t) (plug_edits a b q) (at (row_of lan_kept row.settings) p c v) ≡ at row p c v
     is_plugged p c v = by row.lan refl (plug_stays a b q) refl
       where
         same : lan_of b q ≡ row.lan
@@ -312,25 +289,22 @@ module _ (a b : Net) (is_a : IsNetwork a) (is_b : IsNetwork b) (q : PortName) (t
             ∙ row_set q t (in_lan (Some lan)) (row_of None row.settings) p c v ∙ ap (λ o. at (row_of o row.settings) p c v) (sym e)
 
   -- ---- what comes
-  other_bridges : (k : List ℕ) → name_eq k q.bridge ≡ false → AllByRecursion (Stays (port_step q t)) (bridge_part a b k)
+  pub other_port : (p : PortName) → port_eq p q ≡ false → AllByRecursion (Stays (port_step q t)) (port_edits a b p)
+  other_port p other = all_as (PortEdit p) (Stays (port_step q t)) (port_by_other q t p other) (port_edits a b p) (ports_are_of a b p)
+
+  pub other_bridges : (k : List ℕ) → name_eq k q.bridge ≡ false → AllByRecursion (Stays (port_step q t)) (bridge_part a b k)
   other_bridges k other = all_append (Stays (port_step q t)) (bridge_edits a b k) (flat_map (port_edits a b) (ports_of b k)) (all_as (BridgeEdit k) (Stays (port_step q t)) (port_by_bridge q t k) (bridge_edits a b k) (bridges_of a b k))
       (all_flat_of (Stays (port_step q t)) (λ p. name_eq k p.bridge ≡ true) (port_edits a b) (ports_of b k) (all_of ports (λ p. name_eq k p.bridge ≡ true) (ports_of b k) (λ p h. (in_filter ports (λ port. pointwise nat_eq k port.bridge) (fin.keys b.ports) p h).1))
       (λ p home. other_port p (and_left (name_eq p.bridge q.bridge) (nat_eq p.number q.number) (ap (λ x. name_eq x q.bridge) (sym (same_keys names k p.bridge home)) ∙ other))))
-    where
-      other_port : (p : PortName) → port_eq p q ≡ false → AllByRecursion (Stays (port_step q t)) (port_edits a b p)
-      other_port p other = all_as (PortEdit p) (Stays (port_step q t)) (port_by_other q t p other) (port_edits a b p) (ports_are_of a b p)
 
-  other_port : (p : PortName) → port_eq p q ≡ false → AllByRecursion (Stays (port_step q t)) (port_edits a b p)
-  other_port p other = all_as (PortEdit p) (Stays (port_step q t)) (port_by_other q t p other) (port_edits a b p) (ports_are_of a b p)
-
-  other_plug : (p : PortName) → port_eq p q ≡ false → AllByRecursion (Stays (port_step q t)) (plug_edits a b p)
+  pub other_plug : (p : PortName) → port_eq p q ≡ false → AllByRecursion (Stays (port_step q t)) (plug_edits a b p)
   other_plug p other = all_as (PortEdit p) (Stays (port_step q t)) (port_by_other q t p other) (plug_edits a b p) (plugs_of a b p)
 
   -- all but the plug
-  abbrev but_plug : Option PortRow → AtPort
+  abbrev pub but_plug : Option PortRow → AtPort
   but_plug o = option_map_or (λ row. at (row_of lan_kept row.settings) (port_priority_of b q t) (port_cost_of b q t) (vlans_of b q)) o (at_port q t b)
 
-  comes : (o : Option PortRow) → fin.get b.ports q ≡ o → steps (port_step q t) (flat_map (bridge_part a b) (fin.keys b.bridges)) (stayed (port_stays a b q)) ≡ but_plug o
+  pub comes : (o : Option PortRow) → fin.get b.ports q ≡ o → steps (port_step q t) (flat_map (bridge_part a b) (fin.keys b.bridges)) (stayed (port_stays a b q)) ≡ but_plug o
   comes o e = home (has_bridge q.bridge b) refl o e
     where
       stays_in_b : port_stays a b q ≡ true → has_port q b ≡ true

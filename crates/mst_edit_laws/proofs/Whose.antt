@@ -136,11 +136,11 @@ module _ (q : List ℕ) where
   lan_by_other l other e of u = absurd of
 
 -- ---- settings by tree
-all_in_trees : (P : Edit → Type 0) (f : ℕ → List Edit) → ((t : ℕ) → AllByRecursion P (f t)) → AllByRecursion P (in_trees f)
+pub all_in_trees : (P : Edit → Type 0) (f : ℕ → List Edit) → ((t : ℕ) → AllByRecursion P (f t)) → AllByRecursion P (in_trees f)
 unfolding in_trees
 all_in_trees P f each = all_flat P f (range_with_len 0 4095) each
 
-numbers : IsKeyed nat_eq nat_cmp
+pub numbers : IsKeyed nat_eq nat_cmp
 numbers = record { total = nat_cmp_total; same = nat_cmp-IsAntisymmetric; ties = unsigned_ties }
 
 none_below : (q a n : ℕ) → q < a → holds nat_eq q (range_with_len a n) ≡ false
@@ -151,7 +151,7 @@ none_above : (q a n : ℕ) → a + n ≤ q → holds nat_eq q (range_with_len a 
 none_above q a zero high = refl
 none_above q a (suc n) high = or_from (nat_eq a q) _ (ne_eqb a q (λ e. omega (arith, e, high))) (none_above q (a + 1) n (omega arith))
 
-some_within : (q a n : ℕ) → a ≤ q → q < a + n → holds nat_eq q (range_with_len a n) ≡ true
+pub some_within : (q a n : ℕ) → a ≤ q → q < a + n → holds nat_eq q (range_with_len a n) ≡ true
 some_within q a zero low high = absurd (omega arith)
 some_within q a (suc n) low high = by (cases_lt a q) (λ less. some_within q (a + 1) n (omega (arith, less)) (omega arith))
   where
@@ -278,5 +278,8 @@ module _ (a b : Net) where
       by (Some row) = all_when (LanEdit l) (not (beq row.is_up (lan_before a l).is_up)) _ (λ _. refl)
 
 -- lists of which each element's edits leave what is looked at
+pub all_leave : {K S : Type 0} (step : Edit → S → S) (P : K → Edit → Type 0) → ((k : K) (e : Edit) → P k e → Stays step e) → (f : K → List Edit) → ((k : K) → AllByRecursion (P k) (f k)) → (ks : List K) → AllByRecursion (Stays step) (flat_map f ks)
+all_leave step P each f of ks = all_flat (Stays step) f ks (λ k. all_as (P k) (Stays step) (each k) (f k) (of k))
+
 pub others_leave : {K S : Type 0} (step : Edit → S → S) (P : K → Edit → Type 0) → ((k : K) (e : Edit) → P k e → Stays step e) → (f : K → List Edit) → ((k : K) → AllByRecursion (P k) (f k)) → (ks : List K) (s : S) → steps step (flat_map f ks) s ≡ s
-others_leave step P each f of ks s = stays step (flat_map f ks) s (all_flat (Stays step) f ks (λ k. all_as (P k) (Stays step) (each k) (f k) (of k)))
+others_leave step P each f of ks s = stays step (flat_map f ks) s (all_leave step P each f of ks)

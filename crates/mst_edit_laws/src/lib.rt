@@ -1,4 +1,4 @@
-//! Laws of the edits between networks: that they make one network of the other.
+//! Laws of the edits between networks: none of them is refused, and they make one network of the other.
 #![tactic(auto)]
 
 pub mod laws;
