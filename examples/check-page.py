@@ -15,6 +15,7 @@ import contextlib
 import glob
 import html
 import importlib
+import importlib.util
 import itertools
 import json
 import os
