@@ -605,6 +605,16 @@ def faults_of(program, number, script):
     return faults + (pairs(program, number, script, text, lines) if len(ups) + len(ons) <= 16 else [])
 
 
+def check_drawn(check, count, told, usage):
+    """What a check of drawn networks comes to, by the words PROGRAM [COUNT] [FIRST]: a few faults, or what is told of none."""
+    if not 2 <= len(sys.argv) <= 4:
+        sys.exit(usage)
+    count, first = [*map(int, sys.argv[2:]), *[count, 0][len(sys.argv) - 2 :]]
+    faults = check(sys.argv[1], count, first)
+    print("\n\n".join(faults[:5]) or f"{count} {told}")
+    sys.exit(1 if faults else 0)
+
+
 def lines_of(path):
     """A script's lines, blank ones and comments as `#`."""
     with open(path, encoding="ascii") as file:

@@ -343,14 +343,5 @@ def checks(program, _folder):
     return [*check_examples(program), not faults]
 
 
-def main():
-    if not 2 <= len(sys.argv) <= 4:
-        sys.exit(__doc__)
-    count, first = [*map(int, sys.argv[2:]), *[COUNT, 0][len(sys.argv) - 2 :]]
-    faults = check(sys.argv[1], count, first)
-    print("\n\n".join(faults[:5]) or f"{count} pairs: as the rules say")
-    sys.exit(1 if faults else 0)
-
-
 if __name__ == "__main__":
-    main()
+    texts.check_drawn(check, COUNT, "pairs: as the rules say", __doc__)

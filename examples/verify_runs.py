@@ -321,14 +321,5 @@ def checks(program, _folder):
     return [*check_examples(program), not faults]
 
 
-def main():
-    if not 2 <= len(sys.argv) <= 4:
-        sys.exit(__doc__)
-    count, first = [*map(int, sys.argv[2:]), *[COUNT, 0][len(sys.argv) - 2 :]]
-    faults = check(sys.argv[1], count, first)
-    print("\n\n".join(faults[:5]) or f"{count} networks: as the texts say")
-    sys.exit(1 if faults else 0)
-
-
 if __name__ == "__main__":
-    main()
+    texts.check_drawn(check, COUNT, "networks: as the texts say", __doc__)
