@@ -1,5 +1,8 @@
 -- Sets of VIDs: their flags, and the bits that keep them.
-use Rattle.std.proofs.Common.{◌≡◌, ◌≢◌, ℕ, ◌+◌, ◌*◌, ◌/◌, ◌%◌, ◌^◌, ◌<◌, ◌≤◌, ◌&&◌, Bool, true, false, ◌||◌, List, length, get_or, set, refl, sym, ap, subst, nat_eq, ◌∙◌, ⊎_elim, arith, replicate, w64}
+use Rattle.std.specs.List.{list_all, range_with_len}
+use Rattle.std.proofs.lemmas.Bool.{and_parts, ltb-true}
+use Rattle.std.proofs.lemmas.List.FromFn.{get_or-range_with_len, length-range_with_len}
+use Rattle.std.proofs.Common.{◌≡◌, ◌≢◌, ℕ, ◌+◌, ◌*◌, ◌/◌, ◌%◌, ◌^◌, ◌<◌, ◌≤◌, ◌&&◌, Bool, true, false, ◌||◌, List, [], ◌∷◌, zero, suc, length, get_or, set, refl, sym, ap, subst, nat_eq, ◌∙◌, ⊎_elim, arith, replicate, w64}
 use Rattle.std.specs.Int.{bit_at}
 use Rattle.std.specs.Prelude.{◌==◌, bit_or, nat_le, nat_lt}
 use Rattle.std.specs.Bool.{beq}
@@ -151,10 +154,40 @@ fits-set words i word fits small j = ⊎_elim same (λ other. subst (λ x. x < 2
 pub set_where-has : (test : ℕ → Bool) → set_where (has (set_where test)) ≡ set_where test
 set_where-has test = set_where-same (has (set_where test)) test (has-set_where test)
 
--- the empty set, and the numbers from 1 to 4094
-pub all_is : (vids : List Bool) → vids ≡ set_where (λ _. false) → set_where (λ n. has vids n || is_within (1, 4094) n) ≡ set_where is_vid
-all_is vids is = set_where-same (λ n. has vids n || is_within (1, 4094) n) is_vid (λ n h.
-    ap (λ b. b || is_within (1, 4094) n) (ap (λ s. has s n) is ∙ has-set_where (λ _. false) n h))
+-- ---- the words of all VIDs
+-- all bits, but those of the two numbers that are no VIDs
+abbrev pub all_words : List ℕ
+all_words = set (set (replicate 64 18446744073709551615) 0 18446744073709551614) 63 9223372036854775807
+
+-- what all elements pass, each does
+each_passes : {X : Type 0} (p : X → Bool) (d : X) (xs : List X) (i : ℕ) → list_all p xs ≡ true → i < length xs → p (get_or xs i d) ≡ true
+each_passes p d [] i all h = absurd (omega arith)
+each_passes p d (x ∷ xs) zero all h = (and_parts (p x) (list_all p xs) all).0
+each_passes p d (x ∷ xs) (suc i) all h = each_passes p d xs i (and_parts (p x) (list_all p xs) all).1 (omega arith)
+
+all_bits : list_all (λ n. beq (bit_of all_words n) (is_vid n)) (range_with_len 0 4096) ≡ true
+all_bits = refl
+
+all_fit : list_all (λ word. nat_lt word (2 ^ 64)) all_words ≡ true
+all_fit = refl
+
+pub IsKeptSet-all : IsKeptSet (record { words = all_words })
+IsKeptSet-all = record {
+  long = refl;
+  fits = λ i. ⊎_elim
+      (λ below. ltb-true (get_or all_words i 0) (2 ^ 64) (each_passes (λ word. nat_lt word (2 ^ 64)) 0 all_words i all_fit below))
+      (λ past. let none : get_or all_words i 0 ≡ 0 = get_or_past {X = ℕ} all_words i 0 past in omega arith)
+      (cases_lt i 64);
+  first = refl;
+  last = refl;
+}
+
+plus_zero : (n : ℕ) → 0 + n ≡ n
+plus_zero n = omega arith
+
+pub set_of_all : set_where (bit_of all_words) ≡ set_where is_vid
+set_of_all = set_where-same (bit_of all_words) is_vid (λ n h.
+    (booleans_Decides (bit_of all_words n) (is_vid n)).0 (subst (λ m. beq (bit_of all_words m) (is_vid m) ≡ true) (get_or-range_with_len 0 4096 n 0 h ∙ plus_zero n) (each_passes (λ m. beq (bit_of all_words m) (is_vid m)) 0 (range_with_len 0 4096) n all_bits (omega (arith, length-range_with_len 0 4096)))))
 
 -- ---- sets are equal where their words are
 pub same_test : (x y : List Bool) (a b : Inside) → IsKeptSet a → IsKeptSet b → set_of a ≡ x → set_of b ≡ y → pointwise nat_eq a.words b.words ≡ pointwise beq x y

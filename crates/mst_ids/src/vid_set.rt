@@ -47,9 +47,10 @@ impl VidSet {
     pub fn all() -> VidSet
         ensures { result ≡ set_where is_vid }
     {
-        let mut vids = VidSet::none();
-        vids.insert_all(1, 4094);
-        vids
+        let mut words = [u64::MAX; 64];
+        words[0] = u64::MAX - 1;
+        words[63] = u64::MAX >> 1;
+        VidSet { words }
     }
 
     /// Whether a number is a VID of the set; 0, and any from 4095 on, never is.

@@ -41,6 +41,8 @@ use Rattle.mst_kinds.specs.declared.verify_line.VerifyLine.{VerifyLine}
 use Rattle.mst_kinds.specs.declared.verify_line.VerifyLine.TheVariants as verify_line
 use Rattle.mst_kinds.specs.declared.step_line.StepLine.{StepLine}
 use Rattle.mst_kinds.specs.declared.step_line.StepLine.TheVariants as step_line
+use Rattle.mst_kinds.specs.declared.advise_line.AdviseLine.{AdviseLine}
+use Rattle.mst_kinds.specs.declared.advise_line.AdviseLine.TheVariants as advise_line
 
 -- ---- a query, with its words
 abbrev pub first_of_query : Query → Mark
@@ -65,6 +67,8 @@ first_of_query query.Check = mark.Check
 first_of_query query.Verify = mark.Verify
 first_of_query query.Steps = mark.Steps
 first_of_query query.Edits = mark.Edits
+first_of_query query.AdviseRoot = mark.Advise
+first_of_query query.AdviseForward = mark.Advise
 
 abbrev pub parts_of_query : Query → List Part
 -- `showtree T`
@@ -109,6 +113,10 @@ parts_of_query query.Verify = []
 parts_of_query query.Steps = []
 -- `edits`
 parts_of_query query.Edits = []
+-- `advise root T B`
+parts_of_query query.AdviseRoot = part.Said key.Goal mark.Root ∷ part.Key key.Tree ∷ part.Key key.Bridge ∷ []
+-- `advise forward T B P`
+parts_of_query query.AdviseForward = part.Said key.Goal mark.Forward ∷ part.Key key.Tree ∷ part.Key key.Bridge ∷ part.Key key.Port ∷ []
 
 -- ---- a line of the text of a tree
 abbrev pub first_of_tree_line : TreeLine → Mark
@@ -399,6 +407,9 @@ first_of_summary_line summary_line.RootAlone = mark.Tree
 first_of_summary_line summary_line.Blocked = mark.Blocked
 first_of_summary_line summary_line.Vlan = mark.Vlan
 first_of_summary_line summary_line.Carries = mark.Carries
+first_of_summary_line summary_line.CarriesAll = mark.Carries
+first_of_summary_line summary_line.LookRegion = mark.Look
+first_of_summary_line summary_line.LookLan = mark.Look
 
 abbrev pub parts_of_summary_line : SummaryLine → List Part
 -- `bridges N on N ports N enabled N regions N trees N`
@@ -413,6 +424,12 @@ parts_of_summary_line summary_line.Blocked = part.Key key.Tree ∷ part.Commas k
 parts_of_summary_line summary_line.Vlan = part.Key key.Vids ∷ part.Mark mark.Islands ∷ part.Key key.IslandCount ∷ []
 -- `carries LAN VIDS`
 parts_of_summary_line summary_line.Carries = part.Key key.Lan ∷ part.Key key.Vids ∷ []
+-- `carries * L,..`
+parts_of_summary_line summary_line.CarriesAll = part.Mark mark.Every ∷ part.Commas key.Lans ∷ []
+-- `look region CNAME B,.. CNAME B,..`
+parts_of_summary_line summary_line.LookRegion = part.Said key.Look mark.Region ∷ part.Key key.Name ∷ part.Commas key.Bridges ∷ part.Key key.OtherName ∷ part.Commas key.OtherBridges ∷ []
+-- `look lan L speed S next S`
+parts_of_summary_line summary_line.LookLan = part.Said key.Look mark.Lan ∷ part.Key key.Lan ∷ part.Mark mark.Speed ∷ part.Key key.Speed ∷ part.Mark mark.Next ∷ part.Key key.NextSpeed ∷ []
 
 -- ---- a line of what a capture has
 abbrev pub first_of_capture_line : CaptureLine → Mark
@@ -456,6 +473,7 @@ first_of_refusal_line refusal_line.Explain = mark.Explain
 first_of_refusal_line refusal_line.Dot = mark.Dot
 first_of_refusal_line refusal_line.Policy = mark.Policy
 first_of_refusal_line refusal_line.Change = mark.Change
+first_of_refusal_line refusal_line.Advise = mark.Advise
 
 abbrev pub parts_of_refusal_line : RefusalLine → List Part
 -- `line N CODE TEXT`
@@ -474,6 +492,8 @@ parts_of_refusal_line refusal_line.Dot = part.Key key.Error ∷ part.Key key.Tex
 parts_of_refusal_line refusal_line.Policy = part.Key key.Line ∷ part.Key key.Error ∷ part.Key key.Text ∷ []
 -- `change N CODE TEXT`
 parts_of_refusal_line refusal_line.Change = part.Key key.Line ∷ part.Key key.Error ∷ part.Key key.Text ∷ []
+-- `advise CODE TEXT`
+parts_of_refusal_line refusal_line.Advise = part.Key key.Error ∷ part.Key key.Text ∷ []
 
 -- ---- a line of a standing planner
 abbrev pub first_of_ask_line : AskLine → Mark
@@ -556,6 +576,32 @@ parts_of_step_line step_line.Counts = part.Key key.StepCount ∷ part.Mark mark.
 -- `steps K moving M cutting N failing F`
 parts_of_step_line step_line.JudgedCounts = part.Key key.StepCount ∷ part.Mark mark.Moving ∷ part.Key key.MovingCount ∷ part.Mark mark.Cutting ∷ part.Key key.CuttingCount ∷ part.Mark mark.Failing ∷ part.Key key.FailingCount ∷ []
 
+-- ---- a line of which settings bring about what is wanted
+abbrev pub first_of_advise_line : AdviseLine → Mark
+first_of_advise_line advise_line.Priority = mark.Edit
+first_of_advise_line advise_line.ExternalCost = mark.Edit
+first_of_advise_line advise_line.InternalCost = mark.Edit
+first_of_advise_line advise_line.Does = mark.Does
+first_of_advise_line advise_line.Cut = mark.Cut
+first_of_advise_line advise_line.Counts = mark.Advise
+first_of_advise_line advise_line.None = mark.Advise
+
+abbrev pub parts_of_advise_line : AdviseLine → List Part
+-- `edit settreeprio B T PRIO`
+parts_of_advise_line advise_line.Priority = part.Said key.Command mark.SetTreePrio ∷ part.Key key.Bridge ∷ part.Key key.Tree ∷ part.Key key.Priority ∷ []
+-- `edit setportpathcost B P COST`
+parts_of_advise_line advise_line.ExternalCost = part.Said key.Command mark.SetPortPathCost ∷ part.Key key.Bridge ∷ part.Key key.Port ∷ part.Key key.Ext ∷ []
+-- `edit settreeportcost B P T COST`
+parts_of_advise_line advise_line.InternalCost = part.Said key.Command mark.SetTreePortCost ∷ part.Key key.Bridge ∷ part.Key key.Port ∷ part.Key key.Tree ∷ part.Key key.Int ∷ []
+-- `does roots T,.. ports N moved VIDS cut VIDS joined VIDS`
+parts_of_advise_line advise_line.Does = part.Mark mark.Roots ∷ part.Commas key.Trees ∷ part.Mark mark.Ports ∷ part.Key key.PortCount ∷ part.Mark mark.Moved ∷ part.Key key.MovedVids ∷ part.Mark mark.Cut ∷ part.Key key.CutVids ∷ part.Mark mark.Joined ∷ part.Key key.JoinedVids ∷ []
+-- `cut VIDS parts B,.. ..`, behind what the edits do
+parts_of_advise_line advise_line.Cut = part.Key key.Vids ∷ part.Mark mark.Parts ∷ part.Key key.Parts ∷ []
+-- `advise edits N`
+parts_of_advise_line advise_line.Counts = part.Mark mark.Edits ∷ part.Key key.EditCount ∷ []
+-- `advise none`
+parts_of_advise_line advise_line.None = part.Said key.Result mark.None ∷ []
+
 -- ---- all kinds
 abbrev pub first_of : Kind → Mark
 first_of (kind.Query line) = first_of_query line
@@ -575,6 +621,7 @@ first_of (kind.Refusal line) = first_of_refusal_line line
 first_of (kind.Ask line) = first_of_ask_line line
 first_of (kind.Verify line) = first_of_verify_line line
 first_of (kind.Step line) = first_of_step_line line
+first_of (kind.Advise line) = first_of_advise_line line
 
 abbrev pub parts_of : Kind → List Part
 parts_of (kind.Query line) = parts_of_query line
@@ -594,3 +641,4 @@ parts_of (kind.Refusal line) = parts_of_refusal_line line
 parts_of (kind.Ask line) = parts_of_ask_line line
 parts_of (kind.Verify line) = parts_of_verify_line line
 parts_of (kind.Step line) = parts_of_step_line line
+parts_of (kind.Advise line) = parts_of_advise_line line

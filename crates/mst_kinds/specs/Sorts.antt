@@ -92,6 +92,9 @@ sort_of key.StepCount = numbers
 sort_of key.MovingCount = numbers
 sort_of key.CuttingCount = numbers
 sort_of key.FailingCount = numbers
+sort_of key.EditCount = numbers
+sort_of key.OtherBridges = names
+sort_of key.NextSpeed = numbers
 sort_of k = words
 
 -- the types of the values that a part takes, and those of a kind, in their order

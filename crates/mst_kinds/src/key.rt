@@ -230,6 +230,20 @@ pub enum Key {
     CuttingCount,
     /// After how many of them the policy isn't kept.
     FailingCount,
+    /// `root` or `forward`: what advice is asked for.
+    Goal,
+    /// The command of an edit, its first word.
+    Command,
+    /// How many edits.
+    EditCount,
+    /// `region` or `lan`: where a slip may be.
+    Look,
+    /// The name of an MST configuration, too.
+    OtherName,
+    /// The names of bridges, too.
+    OtherBridges,
+    /// The least speed of the other LANs, in kb/s.
+    NextSpeed,
 }
 
 impl Key {
@@ -351,6 +365,13 @@ impl Key {
             Key::MovingCount => b"moving_count",
             Key::CuttingCount => b"cutting_count",
             Key::FailingCount => b"failing_count",
+            Key::Goal => b"goal",
+            Key::Command => b"command",
+            Key::EditCount => b"edit_count",
+            Key::Look => b"look",
+            Key::OtherName => b"other_name",
+            Key::OtherBridges => b"other_bridges",
+            Key::NextSpeed => b"next_speed",
         }
     }
 }

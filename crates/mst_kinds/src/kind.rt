@@ -1,6 +1,7 @@
 ghost use Rattle.std.specs.Prelude.{◌≡◌};
 ghost use Rattle.mst_kinds.specs.Kinds.{first_of, parts_of};
 
+use crate::advise_line::AdviseLine;
 use crate::ask_line::AskLine;
 use crate::bridge_command::BridgeCommand;
 use crate::capture_line::CaptureLine;
@@ -58,6 +59,8 @@ pub enum Kind {
     Verify(VerifyLine),
     /// A line of what the steps of a change do.
     Step(StepLine),
+    /// A line of which settings bring about what is wanted.
+    Advise(AdviseLine),
 }
 
 impl Kind {
@@ -83,6 +86,7 @@ impl Kind {
             Kind::Ask(line) => line.first(),
             Kind::Verify(line) => line.first(),
             Kind::Step(line) => line.first(),
+            Kind::Advise(line) => line.first(),
         }
     }
 
@@ -108,6 +112,7 @@ impl Kind {
             Kind::Ask(line) => line.parts(),
             Kind::Verify(line) => line.parts(),
             Kind::Step(line) => line.parts(),
+            Kind::Advise(line) => line.parts(),
         }
     }
 }

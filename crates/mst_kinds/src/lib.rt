@@ -10,6 +10,7 @@
 //! of a contest: a cost is a number (`value`), an identifier a string (`value_id`). A key that a form of a line hasn't is left out.
 #![tactic(auto)]
 
+mod advise_line;
 mod ask_line;
 mod bridge_command;
 mod capture_line;
@@ -33,6 +34,7 @@ mod tree_line;
 mod verify_line;
 mod vlan_line;
 
+pub use advise_line::AdviseLine;
 pub use ask_line::AskLine;
 pub use bridge_command::BridgeCommand;
 pub use capture_line::CaptureLine;

@@ -139,6 +139,12 @@ pub enum Mark {
     DelLan,
     All,
     No,
+    Advise,
+    Forward,
+    Edit,
+    Does,
+    Look,
+    Every,
 }
 
 impl Mark {
@@ -282,6 +288,12 @@ impl Mark {
             Mark::DelLan => b"dellan",
             Mark::All => b"all",
             Mark::No => b"no",
+            Mark::Advise => b"advise",
+            Mark::Forward => b"forward",
+            Mark::Edit => b"edit",
+            Mark::Does => b"does",
+            Mark::Look => b"look",
+            Mark::Every => b"*",
         }
     }
 }

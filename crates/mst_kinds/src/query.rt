@@ -49,6 +49,10 @@ pub enum Query {
     Steps,
     /// `edits`
     Edits,
+    /// `advise root T B`
+    AdviseRoot,
+    /// `advise forward T B P`
+    AdviseForward,
 }
 
 impl Query {
@@ -78,6 +82,8 @@ impl Query {
             Query::Verify => Mark::Verify,
             Query::Steps => Mark::Steps,
             Query::Edits => Mark::Edits,
+            Query::AdviseRoot => Mark::Advise,
+            Query::AdviseForward => Mark::Advise,
         }
     }
 
@@ -107,6 +113,8 @@ impl Query {
             Query::Verify => parts![],
             Query::Steps => parts![],
             Query::Edits => parts![],
+            Query::AdviseRoot => parts![Said Goal Root, Key Tree, Key Bridge],
+            Query::AdviseForward => parts![Said Goal Forward, Key Tree, Key Bridge, Key Port],
         }
     }
 }

@@ -23,6 +23,8 @@ pub enum RefusalLine {
     Policy,
     /// `change N CODE TEXT`
     Change,
+    /// `advise CODE TEXT`
+    Advise,
 }
 
 impl RefusalLine {
@@ -39,6 +41,7 @@ impl RefusalLine {
             RefusalLine::Dot => Mark::Dot,
             RefusalLine::Policy => Mark::Policy,
             RefusalLine::Change => Mark::Change,
+            RefusalLine::Advise => Mark::Advise,
         }
     }
 
@@ -55,6 +58,7 @@ impl RefusalLine {
             RefusalLine::Dot => parts![Key Error, Key Text],
             RefusalLine::Policy => parts![Key Line, Key Error, Key Text],
             RefusalLine::Change => parts![Key Line, Key Error, Key Text],
+            RefusalLine::Advise => parts![Key Error, Key Text],
         }
     }
 }

@@ -19,6 +19,12 @@ pub enum SummaryLine {
     Vlan,
     /// `carries LAN VIDS`
     Carries,
+    /// `carries * L,..`
+    CarriesAll,
+    /// `look region CNAME B,.. CNAME B,..`
+    LookRegion,
+    /// `look lan L speed S next S`
+    LookLan,
 }
 
 impl SummaryLine {
@@ -33,6 +39,9 @@ impl SummaryLine {
             SummaryLine::Blocked => Mark::Blocked,
             SummaryLine::Vlan => Mark::Vlan,
             SummaryLine::Carries => Mark::Carries,
+            SummaryLine::CarriesAll => Mark::Carries,
+            SummaryLine::LookRegion => Mark::Look,
+            SummaryLine::LookLan => Mark::Look,
         }
     }
 
@@ -50,6 +59,11 @@ impl SummaryLine {
             SummaryLine::Blocked => parts![Key Tree, Commas Ports],
             SummaryLine::Vlan => parts![Key Vids, Mark Islands, Key IslandCount],
             SummaryLine::Carries => parts![Key Lan, Key Vids],
+            SummaryLine::CarriesAll => parts![Mark Every, Commas Lans],
+            SummaryLine::LookRegion =>
+                parts![Said Look Region, Key Name, Commas Bridges, Key OtherName, Commas OtherBridges],
+            SummaryLine::LookLan =>
+                parts![Said Look Lan, Key Lan, Mark Speed, Key Speed, Mark Next, Key NextSpeed],
         }
     }
 }

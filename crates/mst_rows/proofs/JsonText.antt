@@ -248,6 +248,7 @@ refusal_is refused.Explain cs = key_front key.Error (drop 1 (parts_of_refusal_li
 refusal_is refused.Dot cs = key_front key.Error (drop 1 (parts_of_refusal_line refused.Dot)) cs
 refusal_is refused.Policy cs = key_front key.Line (drop 1 (parts_of_refusal_line refused.Policy)) cs
 refusal_is refused.Change cs = key_front key.Line (drop 1 (parts_of_refusal_line refused.Change)) cs
+refusal_is refused.Advise cs = key_front key.Error (drop 1 (parts_of_refusal_line refused.Advise)) cs
 
 pub unanswered_is : (row : Row) → json_text (unanswered_value row) ++ 10 ∷ [] ≡ unanswered_line row
 unanswered_is row =
