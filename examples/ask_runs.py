@@ -282,7 +282,7 @@ SESSION = [
     ("", []),
     ("# summary", []),
     ("summary", ["bridges 2 on 2 ports 2 enabled 2 regions 2 trees 1", "tree 0 root A 32768 of 2 next B 32768", "blocked 0 -",
-                 "vlan 1-4094 islands 1", "done 0"]),
+                 "vlan 1-4094 islands 1", "carries * x", "done 0"]),
     ("explain B 1", ["explain 0 B:1 x Root", "designated A:1 over B:1 ext 0 20000", f"root B:1 over own root {A_ID} {B_ID}", "done 0"]),
     ("mark", ["done 0"]),
     ("settreeprio B 0 4", ["done 0"]),

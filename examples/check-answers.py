@@ -404,12 +404,23 @@ def priority(identifier):
 
 
 def carried(text, lan):
-    """The VIDs for which all ports of a LAN forward in their bridges' trees of them, and are members."""
-    ports = [name for name, port in text.trees[0].ports.items() if port["lan"] == lan]
-    return [vid for vid in range(1, 4095) if all(at(name) in text.active[vid] for name in ports)]
+    """The VIDs for which ports of a logical LAN on two bridges forward in their bridges' trees of them, and are members."""
+    bridges = {at(name): name[0] for name, port in text.trees[0].ports.items() if port["lan"] == lan}
+    return [vid for vid in range(1, 4095) if len({bridges[it] for it in bridges.keys() & text.active[vid]}) > 1]
 
 
-def summary(text, bridges, off, down):
+def carries(text, enabled):
+    """What each logical LAN carries at which two bridges have enabled ports, and last those that carry all VIDs."""
+    ends = {}
+    for name in enabled:
+        ends.setdefault(text.trees[0].ports[name]["lan"], set()).add(name[0])
+    vids = {lan: carried(text, lan) for lan in sorted(ends) if len(ends[lan]) > 1}
+    full = [lan for lan, those in vids.items() if len(those) == 4094]
+    some = [f"carries {lan} {list_of(those)}" for lan, those in vids.items() if lan not in full]
+    return some + [f"carries * {','.join(full)}"] * bool(full)
+
+
+def summary(text, bridges, off):
     ports = text.trees[0].ports if 0 in text.trees else {}
     enabled = [name for name, port in ports.items() if port["role"] != DISABLED]
     firsts = {region[-1] for region in text.regions.values()}
@@ -424,12 +435,84 @@ def summary(text, bridges, off, down):
     for vid in range(1, 4095):
         groups.setdefault(len(text.islands[vid]), []).append(vid)
     lines += [f"vlan {list_of(vids)} islands {count}" for count, vids in groups.items()]
-    for lan in sorted({port["lan"] for port in ports.values()}):
-        if lan in down and is_down(text, lan, off):
-            continue
-        vids = carried(text, lan)
-        lines += [f"carries {lan} {list_of(vids)}"] * (len(vids) < 4094)
+    return lines + carries(text, enabled) + looks(text.saved)
+
+
+# ---- what is most often a slip, from the lines of `save` alone
+
+
+def settings_of(saved, word, default):
+    """The last words of the lines of a command, by the name behind it."""
+    told = {words[1]: words[2:] for words in saved if words[0] == word}
+    return lambda name: told.get(name, default)
+
+
+def bridges_told(saved):
+    """Bridges by name: (name, MAC, kind, name and revision of the configuration, trees of VIDs where it isn't 0)."""
+    kinds, confs = settings_of(saved, "kind", ["mstp"]), settings_of(saved, "setmstconfid", None)
+    tables = {}
+    for words in saved:
+        if words[0] == "setvid2mstid":
+            tables.setdefault(words[1], {}).update(dict.fromkeys(numbers_in(words[3]), int(words[2])))
+    told = []
+    for words in sorted(words for words in saved if words[0] == "addbridge"):
+        name, mac = words[1:]
+        revision, conf = confs(name) or ["0", mac]
+        table = {vid: tree for vid, tree in tables.get(name, {}).items() if tree}
+        told.append((name, mac, kinds(name)[0], conf, int(revision), table))
+    return told
+
+
+def lans_told(saved):
+    """Logical LANs by name: (name, speed, whether it is up, the bridges of its ports)."""
+    speeds, states = settings_of(saved, "speed", ["1000000"]), settings_of(saved, "lan", ["up"])
+    keys = {(words[1], words[2]): int(words[3]) for words in saved if words[0] == "setkey"}
+    plugs, classes = {words[1]: [] for words in saved if words[0] == "addlan"}, {}
+    for words in saved:
+        if words[0] == "plug":
+            plugs[words[3]].append((words[1], keys.get((words[1], words[2]), 0)))
+    for lan, sides in sorted(plugs.items()):
+        alone = len(sides) != 2 or sides[0][0] == sides[1][0] or not all(key for _, key in sides)
+        classes.setdefault(lan if alone else frozenset(sides), []).append(lan)
+    told = []
+    for lans in classes.values():
+        ups = [lan for lan in lans if states(lan) == ["up"]]
+        told.append((lans[0], sum(int(speeds(lan)[0]) for lan in ups), bool(ups), [bridge for bridge, _ in plugs[lans[0]]]))
+    return sorted(told)
+
+
+def is_near(one, other):
+    """Whether two names are one but for the case of letters, or but for one letter."""
+    short, long = sorted((one, other), key=len)
+    if len(short) == len(long):
+        return one.lower() == other.lower() or sum(a != b for a, b in zip(one, other)) == 1
+    return any(long[:at] + long[at + 1 :] == short for at in range(len(long)))
+
+
+def looks_at_regions(bridges):
+    regions = {}
+    for name, mac, kind, conf, revision, table in bridges:
+        if kind == "mstp":
+            regions.setdefault((conf, revision, tuple(sorted(table.items()))), []).append((name, mac))
+    named = [(key, [name for name, _ in members]) for key, members in regions.items() if key[0] != members[0][1]]
+    return [
+        f"look region {one[0]} {','.join(members)} {other[0]} {','.join(others)}"
+        for (one, members), (other, others) in itertools.combinations(named, 2)
+        if one[1:] == other[1:] and is_near(one[0], other[0])
+    ]
+
+
+def looks_at_lans(lans):
+    lines = []
+    for name, speed, up, ports in lans:
+        beside = [s for lan, s, is_up, others in lans if lan != name and is_up and set(others) & set(ports)]
+        if up and len(set(ports)) == 2 and beside and min(beside) >= 100 * speed:
+            lines.append(f"look lan {name} speed {speed} next {min(beside)}")
     return lines
+
+
+def looks(saved):
+    return looks_at_regions(bridges_told(saved)) + looks_at_lans(lans_told(saved))
 
 
 # ---- networks
@@ -457,13 +540,14 @@ def settings(draws, bridges):
         f"settreeportprio {bridge} {port} {draws.below(3)} {draws.below(16)}",
         f"setportpathcost {bridge} {port} {draws.below(3)}0000",
         f"settreeportcost {bridge} {port} {draws.below(3)} {draws.below(3)}0000",
-        f"setmstconfid {bridge} {draws.below(2)} area",
+        f"setmstconfid {bridge} {draws.below(2)} {draws.one_of(['area', 'area', 'Area', 'areas', 'arena', 'lab'])}",
         f"setvid2mstid {bridge} {draws.below(3)} {vid}-{vid + draws.below(9)}",
         f"setportvlans {bridge} {port} {draws.one_of(['all', 'none', '5-12', '1-4000'])}",
         f"setportrestrrole {bridge} {port} {draws.one_of(['no', 'yes'])}",
         f"kind {bridge} {draws.one_of(['mstp', 'rstp'])}",
         f"bridge {bridge} {draws.one_of(['on', 'on', 'off'])}",
         f"lan L{draws.below(9)} {draws.one_of(['up', 'up', 'down'])}",
+        f"speed L{draws.below(9)} {draws.one_of([1000, 10000, 100000, 1000000, 10000000])}",
         draws.one_of(["showplan", "showvlan 0", "showmstconfid nobody"]),
         "mark",
         "settreeprio nowhere 0 1",
@@ -596,7 +680,7 @@ def faults_of(program, number, script):
     with tempfile.TemporaryDirectory() as folder:
         faults = explains(program, script, text, lines) + diffs(program, script, other, text, folder)
     ups, ons = [it for it in lans if it not in down], [it for it in bridges if it not in off]
-    wanted = [*lines, *summary(text, bridges, off, down)]
+    wanted = [*lines, *summary(text, bridges, off)]
     faults += differing(program, ["summary", "-"], script, wanted, 1 if lines else 0)
     wanted = swept(program, script, text, ups, ons)
     cuts = not wanted[-1].endswith(" cuts 0")

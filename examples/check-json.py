@@ -509,6 +509,23 @@ bridge 0 off
 """
 
 
+# Two links, of which the second has a VLAN alone: whoever moves there is cut off from all others.
+ONE_VLAN = """addbridge A 02:00:00:00:00:01
+addbridge B 02:00:00:00:00:02
+addlan X
+addlan Y
+addport A 1
+addport A 2
+addport B 1
+addport B 2
+plug A 1 X
+plug A 2 Y
+plug B 1 X
+plug B 2 Y
+setportvlans B 2 10
+"""
+
+
 def scripts():
     """All scripts, by name."""
     for path in sorted(glob.glob(os.path.join(HERE, "*.script")) + glob.glob(os.path.join(HERE, "small", "*.script"))):
@@ -519,6 +536,7 @@ def scripts():
     yield "a chain of regions", chain(26, "rstp", 200000000)
     yield "each setting", SET
     yield "names that are words", NAMED
+    yield "a link of one VLAN", ONE_VLAN
     yield "nothing", ""
 
 
@@ -542,7 +560,7 @@ def with_queries(script):
 def standing(script):
     """What a standing planner is asked of a script: words of the program and queries, before and behind edits, and these taken back."""
     ports = [f"explain {' '.join(words[1:])}" for words in explained(script)]
-    asked = [*ports[:3], ports[-1], "summary", "sweep", "sweep 2/3", "dot 4095", "explain"]
+    asked = [*ports[:3], ports[-1], "summary", "sweep", "sweep 2/3", "dot 4095", "dot vlan 4095", "explain"]
     bridge = next(iter(re.findall(r"^addbridge (\S+)", script, re.MULTILINE)), "nobody")
     edits = ["mark", f"bridge {bridge} off", "addlan a-LAN-more", f"kind {bridge} rstp", f"delbridge {bridge}", "undo", "undo 2", "undo 9"]
     return "\n".join([*queries_of(script), *asked, *edits, "changes", *asked, "save", "no such line", ""])
@@ -562,6 +580,15 @@ def explained(script):
     yield ["-", "nobody", "1"]
 
 
+def wanted(script):
+    """Some bridges as roots of a script's trees, and some ports that are to forward there."""
+    bridges = list(dict.fromkeys(re.findall(r"^addbridge (\S+)", script, re.MULTILINE)))
+    plugged = list(dict.fromkeys(re.findall(r"^plug (\S+) (\d+) ", script, re.MULTILINE)))
+    trees = list(dict.fromkeys(["00", *re.findall(r"^setvid2mstid \S+ (\d+)", script, re.MULTILINE)]))[:3]
+    yield from (["-", "root", tree, bridge] for tree in trees for bridge in [*bridges[-2:], "nobody"])
+    yield from (["-", "forward", tree, *port] for tree in trees for port in plugged[-4:])
+
+
 def cases(folder):
     """Each case: its name, the command, its words, and standard input."""
     named = list(scripts())
@@ -570,6 +597,7 @@ def cases(folder):
         yield name, "run", ["-"], with_queries(script)
         yield name, "summary", ["-"], edits
         yield from ((name, "explain", words, edits) for words in explained(edits))
+        yield from ((name, "advise", words, edits) for words in wanted(edits))
         yield from ((name, "sweep", ["-", *words], edits) for words in ([], ["2/3"]))
         if edits.count("addbridge ") < MOST_IN_PAIRS:
             yield from ((name, "sweep", ["-", "pairs", *words], edits) for words in ([], ["1/4"]))

@@ -4,13 +4,15 @@
 usage: check-pictures.py PROGRAM [SCRIPT ..]
 
 Each script's network, or that of each script of the examples, is drawn with each tree that a bridge has and with one that none
-has. Bridges, roots, the ends of logical LANs, their order and which lines are dashed are told from `showtree`, `save` and `showlag`.
-The exit status is 1 where a picture differs. Graphviz isn't needed.
+has, and with the first VLAN of each group of `showplan` and of each line of a table. Bridges, roots, the ends of logical LANs, their
+order and which lines are dashed are told from `showtree`, `save` and `showlag`, and with a VLAN from `showvlan`, too. The exit status
+is 1 where a picture differs. Graphviz isn't needed; where its `dot` is installed, it reads each picture.
 """
 
 import glob
 import os
 import re
+import shutil
 import subprocess
 import sys
 
@@ -19,7 +21,8 @@ QUIET = ("show", "mark", "changes", "save")
 UNUSED = 4094
 LETTERS = {"Root": "R", "Designated": "D", "Alternate": "A", "Backup": "B", "Master": "M", "Disabled": "X"}
 FORWARDS = set("RDM")
-LINE = re.compile(r'  "([^"]+)"(?: -- "([^"]+)")?(?: \[(.*)\])?;')
+LINE = re.compile(r' +"([^"]+)"(?: -- "([^"]+)")?(?: \[(.*)\])?;')
+CLUSTER = re.compile(r'  subgraph "(cluster \d+)" \{')
 ATTRIBUTE = re.compile(r'(\w+)=(?:"([^"]*)"|([^,]+))(?:, |$)')
 
 
@@ -64,29 +67,86 @@ def lans_of(lines, edits):
     return sorted(names)
 
 
+class Vlan:
+    """A VLAN's text: the bridges of its islands, and the ports that are active for it, each with whether it is a member."""
+
+    def __init__(self, lines):
+        self.islands, self.active = [], {}
+        for words in map(str.split, lines):
+            if words[0] == "active":
+                for port in words[1:]:
+                    if port != "-":
+                        bridge, number = port.strip("[]").split(":")
+                        self.active[bridge, int(number)] = not port.startswith("[")
+            elif words[0] == "island":
+                bridges = words[2 : words.index("lans")]
+                if bridges != ["-"]:
+                    self.islands.append(bridges)
+
+
+def tables_of(edits):
+    """The tree of each bridge and each VID that isn't the CIST, by what the script sets, and a VID of each line that does."""
+    tables, firsts, rstp = {}, set(), {line.split()[1] for line in edits if line.startswith("kind ") and line.endswith(" rstp")}
+    for words in map(str.split, edits):
+        if words[0] == "setvid2mstid":
+            runs = [list(map(int, run.split("-"))) for run in words[3].split(",")]
+            firsts.add(runs[0][0])
+            if words[1] not in rstp:
+                tables.update({(words[1], vid): int(words[2]) for run in runs for vid in range(run[0], run[-1] + 1)})
+    return tables, firsts
+
+
+GRAY = {"style": "dashed", "color": "gray", "fontcolor": "gray"}
+
+
 def expected(cist, tree, lans):
-    """The nodes and the lines that the picture is to have, in order."""
-    ends = {lan: [] for lan in lans}
-    for (bridge, number), (lan, _) in sorted(cist.ports.items()):
-        letter = tree.ports[bridge, number][1] if (bridge, number) in tree.ports else None
-        ends[lan].append((bridge, f"{number} {letter}" if letter else str(number), letter))
+    """The nodes and the lines that the picture with a tree is to have, in order."""
     drawn = []
     for bridge in cist.bridges:
         style = {}
         if bridge in cist.off:
-            style = {"style": "dashed", "color": "gray", "fontcolor": "gray"}
+            style = GRAY
         elif bridge not in tree.bridges:
             style = {"color": "gray", "fontcolor": "gray"}
         elif bridge in tree.roots:
             style = {"peripheries": "2"}
         drawn.append((bridge, None, style))
+    ends = {}
+    for port in cist.ports:
+        letter = tree.ports[port][1] if port in tree.ports else None
+        ends[port] = (letter, letter in FORWARDS)
+    return drawn + lines_between(cist, ends, lans)
+
+
+def expected_with(vlan, vid, trees, tables, lans):
+    """Those that the picture with a VLAN is to have."""
+    cist, drawn, ends = trees[0], [], {}
+    for number, bridges in enumerate(vlan.islands, 1):
+        drawn.append((f"cluster {number}", None, None))
+        for bridge in bridges:
+            tree = tables.get((bridge, vid), 0)
+            drawn.append((bridge, None, {"label": f"{bridge}\\ntree {tree}", **({"peripheries": "2"} if bridge in trees[tree].roots else {})}))
+        drawn.append(("}", None, None))
+    drawn += [(bridge, None, GRAY) for bridge in cist.bridges if bridge in cist.off]
+    for port in cist.ports:
+        ends[port] = (trees[tables.get((port[0], vid), 0)].ports[port][1], vlan.active.get(port, False))
+    return drawn + lines_between(cist, ends, lans)
+
+
+def lines_between(cist, ends, lans):
+    """The lines and the boxes of the logical LANs, by the letter of each port and whether it is open."""
+    there = {lan: [] for lan in lans}
+    for (bridge, number), (lan, _) in sorted(cist.ports.items()):
+        letter, is_open = ends[bridge, number]
+        there[lan].append((bridge, f"{number} {letter}" if letter else str(number), letter, is_open))
+    drawn = []
     for lan in lans:
-        if len(ends[lan]) == 2:
-            tail, head = sorted(ends[lan], key=lambda end: end[2] != "D")
+        if len(there[lan]) == 2:
+            tail, head = sorted(there[lan], key=lambda end: end[2] != "D")
             drawn.append((tail[0], head[0], line_of({"label": lan, "taillabel": tail[1], "headlabel": head[1]}, tail, head)))
             continue
         drawn.append(("lan " + lan, None, {"shape": "box", "fontsize": "10", "height": "0.3", "label": lan}))
-        for end in ends[lan]:
+        for end in there[lan]:
             if end[2] == "D":
                 drawn.append((end[0], "lan " + lan, line_of({"taillabel": end[1]}, end)))
             else:
@@ -95,19 +155,23 @@ def expected(cist, tree, lans):
 
 
 def line_of(labels, *ends):
-    return labels if all(end[2] in FORWARDS for end in ends) else {**labels, "style": "dashed"}
+    return labels if all(end[3] for end in ends) else {**labels, "style": "dashed"}
 
 
 # ---- what a picture says
 
 
-def picture_of(lines, tree):
-    """The nodes and the lines of a picture, in order."""
-    if lines[0] != f'graph "tree {tree}" {{' or lines[-1] != "}":
+def picture_of(lines, name):
+    """The nodes and the lines of a picture, in order. A cluster is the nodes between its name and a brace."""
+    if lines[:2] != [f'graph "{name}" {{', f'  graph [label="{name}", nodesep=0.6, ranksep=0.8];'] or lines[-1] != "}":
         raise ValueError(lines[0])
     drawn = []
-    for line in lines[1:-1]:
-        if line.startswith(("  graph [", "  edge [")):
+    for line in lines[2:-1]:
+        if line.startswith("  edge ["):
+            continue
+        cluster = CLUSTER.fullmatch(line)
+        if cluster or line == "  }":
+            drawn.append((cluster.group(1) if cluster else "}", None, None))
             continue
         tail, head, attributes = LINE.fullmatch(line).groups()
         found = ATTRIBUTE.findall(attributes or "")
@@ -115,24 +179,43 @@ def picture_of(lines, tree):
     return drawn
 
 
+def is_read(lines):
+    """Whether Graphviz reads a picture without a word, where it is installed."""
+    if not shutil.which("dot"):
+        return True
+    ran = subprocess.run(["dot", "-Tcanon"], input="\n".join(lines).encode(), capture_output=True)
+    return ran.returncode == 0 and not ran.stderr
+
+
+def is_as_wanted(program, script, text, words, wanted):
+    """Whether the picture that these words ask for has these nodes and lines."""
+    name = " ".join(words if len(words) > 1 else ["tree", *words])
+    lines = printed(program, ["dot", "-", *words], text, 0)
+    drawn = picture_of(lines, name)
+    for one, other in zip(drawn + [None] * len(wanted), wanted + [None] * len(drawn)):
+        if one != other:
+            print(f"{script}: {name}: {one} in place of {other}")
+            return False
+    if not is_read(lines):
+        print(f"{script}: {name}: Graphviz doesn't read it")
+        return False
+    return True
+
+
 def check(program, script):
-    """How many trees the script's network was drawn with, and whether all pictures were right."""
+    """How many pictures of the script's network were made, and whether all were right."""
     edits = edits_of(program, script)
     text = "\n".join(edits) + "\n"
     plan = printed(program, ["run", "-"], text + "showplan\n", 0)
     used = [int(line.split()[1]) for line in plan if line.startswith("tree ")]
     shown = {tree: Tree(printed(program, ["run", "-"], f"{text}showtree {tree}\n", 0)) for tree in [*used, UNUSED]}
     lans = lans_of(printed(program, ["run", "-"], text + "showlag\n", 0), edits)
-    right = True
-    for tree in shown:
-        drawn = picture_of(printed(program, ["dot", "-", str(tree)], text, 0), tree)
-        wanted = expected(shown[0], shown[tree], lans)
-        for one, other in zip(drawn + [None] * len(wanted), wanted + [None] * len(drawn)):
-            if one != other:
-                print(f"{script}: tree {tree}: {one} in place of {other}")
-                right = False
-                break
-    return len(shown), right
+    tables, firsts = tables_of(edits)
+    vids = sorted(firsts | {int(re.match(r"vlan (\d+)", line).group(1)) for line in plan if line.startswith("vlan ")})
+    vlans = {vid: Vlan(printed(program, ["run", "-"], f"{text}showvlan {vid}\n", 0)) for vid in vids}
+    right = [is_as_wanted(program, script, text, [str(tree)], expected(shown[0], shown[tree], lans)) for tree in shown]
+    right += [is_as_wanted(program, script, text, ["vlan", str(vid)], expected_with(vlans[vid], vid, shown, tables, lans)) for vid in vids]
+    return len(right), all(right)
 
 
 def main():

@@ -21,6 +21,7 @@ HERE = os.path.dirname(os.path.abspath(__file__))
 sys.dont_write_bytecode = True
 sys.path.insert(0, HERE)
 
+import advise_runs  # noqa: E402
 import ask_runs  # noqa: E402
 import edits_runs  # noqa: E402
 import hint_runs  # noqa: E402
@@ -459,6 +460,7 @@ tree 0 root A 32768 of 3 next B 32768
 blocked 0 C:2
 vlan 1-4094 islands 1
 carries bc -
+carries * ab,ac
 """
 # B's port of the link to A has two VLANs alone, and B is the next after A no longer.
 FEW_ON_AB = TRIANGLE + b"setportvlans B 1 10,20\nsettreeprio B 0 9\n"
@@ -469,12 +471,51 @@ vlan 1-9,11-19,21-4094 islands 2
 vlan 10,20 islands 1
 carries ab 10,20
 carries bc -
+carries * ac
 """
 OFF_IN_SHORT = b"""bridges 3 on 2 ports 6 enabled 3 regions 3 trees 1
 tree 0 root A 32768 of 2 next B 32768
 blocked 0 -
 vlan 1-4094 islands 1
-carries bc -
+carries * ab
+"""
+
+
+# C's way to A by y is the better one, so its port at x blocks; x goes from A to B all the same. At h there are hosts alone.
+OF_THREE = b"""addbridge A 02:00:00:00:00:01
+addbridge B 02:00:00:00:00:02
+addbridge C 02:00:00:00:00:03
+addlan h
+addlan x
+addlan y
+speed y 10000000
+addport A 1
+addport A 2
+addport A 3
+addport B 1
+addport C 1
+addport C 2
+plug A 1 x
+plug A 2 y
+plug A 3 h
+plug B 1 x
+plug C 1 x
+plug C 2 y
+"""
+THREE_IN_SHORT = b"""bridges 3 on 3 ports 6 enabled 6 regions 3 trees 1
+tree 0 root A 32768 of 3 next B 32768
+blocked 0 C:1
+vlan 1-4094 islands 1
+carries * x,y
+"""
+SLIPS_IN_SHORT = b"""bridges 3 on 3 ports 4 enabled 4 regions 3 trees 1
+tree 0 root A 32768 of 3 next B 32768
+blocked 0 -
+vlan 1-4094 islands 1
+carries * X,Y
+look region campus A Campus B
+look region campus A canpus C
+look lan X speed 1000 next 1000000
 """
 
 
@@ -487,6 +528,8 @@ def summary_cases(folder):
         ("summary FILE", ["summary", script], b"no\n", 0, TRIANGLE_IN_SHORT, b""),
         ("summary -", ["summary", "-"], FEW_ON_AB, 0, FEW_IN_SHORT, b""),
         ("summary, what is down and off", ["summary", "-"], C_IS_OFF, 0, OFF_IN_SHORT, b""),
+        ("summary, a LAN of three and one of hosts", ["summary", "-"], OF_THREE, 0, THREE_IN_SHORT, b""),
+        ("summary, slips", ["summary", os.path.join(HERE, "small", "slips.script")], b"", 0, SLIPS_IN_SHORT, b""),
         ("summary, nothing to read", ["summary", "-"], b"", 0, NO_NETWORK, b""),
         ("summary, a refused line", ["summary", "-"], b"no\n" + TRIANGLE + b"showplan\n", 1, REFUSED + TRIANGLE_IN_SHORT, b""),
         ("summary with no file", ["summary"], b"", 2, b"", USAGE),
@@ -531,6 +574,15 @@ HUB_DRAWN = OPENING + b"""  "A" [peripheries=2];
   "lan none" [shape=box, fontsize=10, height=0.3, label="none"];
 }
 """
+# All bridges are in one island, each with tree 0, the root of which is A.
+VLAN_OPENING = OPENING.replace(b"tree 0", b"vlan 10")
+TRIANGLE_WITH_VLAN = VLAN_OPENING + rb"""  subgraph "cluster 1" {
+    "A" [label="A\ntree 0", peripheries=2];
+    "B" [label="B\ntree 0"];
+    "C" [label="C\ntree 0"];
+  }
+""" + TRIANGLE_DRAWN[TRIANGLE_DRAWN.index(b'  "A" -- "B"'):]
+NO_DRAWING = b"error: VID stands behind the word vlan alone\n"
 
 
 def dot_cases(folder):
@@ -544,7 +596,50 @@ def dot_cases(folder):
         ("dot, a refused line", ["dot", "-", "0"], b"no\n", 1, REFUSED + OPENING + b"}\n", b""),
         ("dot, no tree", ["dot", "-", "4095"], b"no\n", 1, REFUSED + b"dot E03 bad VID or tree\n", b""),
         ("dot with no tree", ["dot", script], b"", 2, b"", USAGE),
+        ("dot FILE vlan VID", ["dot", script, "vlan", "10"], b"no\n", 0, TRIANGLE_WITH_VLAN, b""),
+        ("dot, a VLAN, a refused line", ["dot", "-", "vlan", "010"], b"no\n", 1, REFUSED + VLAN_OPENING + b"}\n", b""),
+        ("dot, no VLAN", ["dot", "-", "vlan", "0"], b"no\n", 1, REFUSED + b"dot E03 bad VID or tree\n", b""),
+        ("dot, vlan alone", ["dot", "-", "vlan"], b"no\n", 1, REFUSED + b"dot E03 bad VID or tree\n", b""),
+        ("dot, a VLAN behind a tree", ["dot", script, "0", "10"], b"", 2, b"", NO_DRAWING),
+        ("dot, a VLAN of a script that isn't there", ["dot", absent, "vlan", "10"], b"", 3, b"", cannot),
+        ("dot, a VLAN behind a tree of a script that isn't there", ["dot", absent, "0", "10"], b"", 2, b"", NO_DRAWING),
+        ("dot with two VLANs", ["dot", script, "vlan", "10", "20"], b"", 2, b"", USAGE),
         ("dot, a file that isn't there", ["dot", absent, "x"], b"", 3, b"", cannot),
+    ]
+
+
+# B is the root then: the link of A and B turns round, that of B and C is open, and that of A and C isn't at A or at C.
+OF_B = re.compile(rb"edit settreeprio B 0 28672\ndoes roots 0 ports \d+ moved 1-4094 cut - joined -\nadvise edits 1\n")
+NO_GOAL = b"error: GOAL is root, behind which no P stands, or forward, with P\n"
+
+
+def advise_cases(folder):
+    """Each case: its name, the words, standard input, the status, standard output and standard error. What is advised is in advise_runs.py."""
+    script = os.path.join(folder, "swept")
+    absent = os.path.join(folder, "absent")
+    json_of_none = {"query": "advise", "goal": "root", "tree": 0, "bridge": "A", "records": [{"kind": "advise", "edit_count": 0}]}
+    return [
+        ("advise FILE root TREE B", ["advise", script, "root", "0", "A"], b"no\n", 0, b"advise edits 0\n", b""),
+        ("advise -, a refused line", ["advise", "-", "root", "00", "A"], b"no\n" + TRIANGLE, 1, REFUSED + b"advise edits 0\n", b""),
+        ("advise, queries and marks", ["advise", "-", "root", "0", "B"], b"changes\n" + TRIANGLE + b"mark\nshowtree 0\n", 0, OF_B, b""),
+        ("advise, no bridge's name", ["advise", script, "root", "4095", "b-" * 20], b"", 1, b"advise E02 bad argument\n", b""),
+        ("advise, no port's number", ["advise", script, "forward", "4095", "A", "0"], b"", 1, b"advise E02 bad argument\n", b""),
+        ("advise, no tree", ["advise", script, "forward", "x", "A", "1"], b"", 1, b"advise E03 bad VID or tree\n", b""),
+        ("advise, no such bridge", ["advise", script, "root", "7", "Z"], b"", 1, b"advise E04 no such bridge\n", b""),
+        ("advise, no such port", ["advise", script, "forward", "7", "A", "9"], b"", 1, b"advise E05 no such port\n", b""),
+        ("advise, a tree that the bridge hasn't", ["advise", script, "root", "7", "A"], b"", 1, b"advise E03 bad VID or tree\n", b""),
+        ("advise, another word", ["advise", script, "block", "0", "A"], b"", 2, b"", NO_GOAL),
+        ("advise, a root with a port", ["advise", script, "root", "0", "A", "1"], b"", 2, b"", NO_GOAL),
+        ("advise, no port to forward", ["advise", script, "forward", "0", "A"], b"", 2, b"", NO_GOAL),
+        ("advise with too few words", ["advise", script, "root", "0"], b"", 2, b"", USAGE),
+        ("advise with too many words", ["advise", script, "forward", "0", "A", "1", "2"], b"", 2, b"", USAGE),
+        ("advise, a file that isn't there", ["advise", absent, "root", "0", "A"], b"", 3, b"", unopened(absent)),
+        ("advise, a folder", ["advise", folder, "root", "0", "A"], b"", 3, b"", is_folder(folder)),
+        ("advise in JSON", ["--json", "advise", script, "root", "0", "A"], b"", 0, Json(json_of_none), b""),
+        ("no advice in JSON", ["advise", script, "root", "0", "Z", "--json"], b"", 1,
+         Json({"query": "advise", "error": "E04", "text": "no such bridge"}), b""),
+        ("advise with hints", ["advise", "--hints", "-", "root", "0", "A"], b"no\n" + TRIANGLE, 1, REFUSED + b"advise edits 0\n",
+         re.compile(rb"line 1 no command no.*\n")),
     ]
 
 
@@ -719,7 +814,7 @@ def alone_cases(folder):
 def flag_cases(folder):
     """Cases of words with flags."""
     script = os.path.join(folder, "hinted.script")
-    wrong = b"error: --json is a flag of run, check, explain, diff, sweep, summary, ask, verify, edits and steps\n"
+    wrong = b"error: --json is a flag of run, check, explain, diff, sweep, summary, ask, verify, edits, steps and advise\n"
     gone = [
         {"kind": "reach", "vids": [[1, 4094]], "old_islands": [["B"]], "new_islands": []},
         {"kind": "diff", "region_count": 0, "root_count": 0, "port_count": 0, "vlan_count": 4094},
@@ -728,6 +823,7 @@ def flag_cases(folder):
     return hint_runs.cases(folder) + [
         ("a check in JSON", ["check", "--json", script, "-"], SHORT, 1, Json(*HINTED_JSON, TOO_SHORT_JSON), b""),
         ("no JSON of a picture", ["dot", "--json", script, "0"], b"", 2, b"", wrong),
+        ("no JSON of a picture of a VLAN", ["dot", script, "vlan", "10", "--json"], b"", 2, b"", wrong),
         ("a run in JSON", ["run", "--json", script], b"", 1, Json(*HINTED_JSON), b""),
         ("standard input in JSON", ["--json"], HINTED, 1, Json(*HINTED_JSON), b""),
         ("JSON and hints", ["--json", "run", "--hints", script], b"", 1, Json(*HINTED_JSON), HINTS),
@@ -739,7 +835,7 @@ def flag_cases(folder):
 
 def asked_cases(folder):
     """The cases of what is asked of a script's network."""
-    return explain_cases(folder) + diff_cases(folder) + sweep_cases(folder) + summary_cases(folder) + dot_cases(folder) + ask_cases(folder)
+    return explain_cases(folder) + diff_cases(folder) + sweep_cases(folder) + summary_cases(folder) + dot_cases(folder) + advise_cases(folder) + ask_cases(folder)
 
 
 def fits(text, expected):
@@ -981,6 +1077,8 @@ def main():
             check_full(program, ["verify", "-", "-"], QUIET),
             check_full(program, ["edits", "-", "-"], QUIET),
             check_full(program, ["steps", "-", "-"], QUIET),
+            check_full(program, ["advise", "-", "root", "0", "A"], QUIET),
+            check_full(program, ["dot", "-", "vlan", "10"], QUIET),
             check_full(program, ["--help"], b""),
             check_full(program, ["--version"], b""),
             check_page(program),
@@ -1001,6 +1099,7 @@ def main():
         passed += verify_runs.checks(program, folder)
         passed += edits_runs.checks(program, folder)
         passed += steps_runs.checks(program, folder)
+        passed += advise_runs.checks(program, folder)
         passed += large_runs.checks(program, folder)
     print(f"{sum(passed)} passed, {len(passed) - sum(passed)} failed")
     sys.exit(0 if all(passed) else 1)

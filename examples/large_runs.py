@@ -132,7 +132,7 @@ def mesh_cases(folder):
     sizes = [(query, sum(counts.values())) for query, counts in words.items()]
     blocked = before.blocked()
     bridge, number = blocked[len(blocked) // 2]
-    summary = {"bridges": 1, "tree": 1, "blocked": 1, "vlan": 1, "carries": len(blocked)}
+    summary = {"bridges": 1, "tree": 1, "blocked": 1, "vlan": 1, "carries": len(blocked) + 1}
     moved = words["changes"]["port"]
     # the mark, the edit, each query, what takes the edit back, and two more
     questions = ["mark", EDIT, *QUERIES, "undo", "changes", "summary"]
@@ -188,7 +188,7 @@ def lan_cases(folder):
     explained = ("explain 0 B0255:16 L Alternate", "designated B0000:1 over B0255:16 ext 0 20000",
                  "root B0255:1 over B0255:16 receiver 8001 8010")
     return [
-        Large("a LAN summarized", ["summary", first], b"", 0, having(5, {b":": blocked, b"\ncarries L -\n": 1})),
+        Large("a LAN summarized", ["summary", first], b"", 0, having(5, {b":": blocked, b"\ncarries * L\n": 1})),
         Large("a LAN and an edited one", ["diff", first, other], b"", 1, first_words({"root": 1, "port": 2 * each, "diff": 1})),
         Large("a LAN drawn", ["dot", first, "0"], b"", 0, having(5 + bridges + bridges * each, {b"style=dashed": blocked})),
         Large("a LAN explained", ["explain", first, "B0255", "16"], b"", 0, exactly(as_bytes(explained))),

@@ -65,9 +65,7 @@ class Judged:
 
     def over(self, lan):
         """The VIDs for which ports on two bridges of a logical LAN are active and members."""
-        ports = [name for name, port in self.text.trees[0].ports.items() if port["lan"] == lan]
-        words = {texts.at(it): it[0] for it in ports}
-        return frozenset(vid for vid in ALL_VIDS if len({words[it] for it in words.keys() & self.text.active[vid]}) > 1)
+        return frozenset(texts.carried(self.text, lan))
 
     def concerned(self, tree, bridge):
         """The bridges that have a root in the tree, with their entries; in a tree other than 0 those of the bridge's region."""

@@ -20,7 +20,7 @@ use Rattle.mst_print.specs.Shape.{of_script}
 use Rattle.mst_print.specs.declared.form.Form.{Form}
 use Rattle.mst_print.specs.declared.form.Shape.{Shape}
 use Rattle.mst_rows.specs.Rows.{Row}
-use Rattle.mst_tool.proofs.WholeLoad.{OneExplanation, OneSweep, OnePairs, OneSummary, OnePicture, one_answer}
+use Rattle.mst_tool.proofs.WholeLoad.{OneOfEach, one_answer}
 use Rattle.mst_ask.specs.Requests.{request_of}
 use Rattle.mst_ask.specs.Standing.{Made, Standing, Turn, Asks, AsksBy, AsksLine, IsStanding, answered, back, declined, edited, lacking_of, left_after, passed, starved, stepped, undone}
 use Rattle.mst_ask.specs.declared.request.Request.{Request}
@@ -152,8 +152,7 @@ module _ (laws : Laws) (form : Form) where
   steps_alike : (now : Standing) (s t : Turn) (a b : Step) → s ≡ stepped form now a → t ≡ stepped form now b → s.lacking ≡ t.lacking → a.lacking ≡ b.lacking
   steps_alike now s t a b h k alike = sym (ap (λ (u : Turn). u.lacking) h) ∙ alike ∙ ap (λ (u : Turn). u.lacking) k
 
-  module _ (answers : (q : Query) (now : State) (a b : Result (List Row) Refusal) → IsNetwork now.net → Answers q now a → Answers q now b → a ≡ b)
-      (explains : OneExplanation) (sweeps : OneSweep) (pairs : OnePairs) (summaries : OneSummary) (pictures : OnePicture) where
+  module _ (answers : (q : Query) (now : State) (a b : Result (List Row) Refusal) → IsNetwork now.net → Answers q now a → Answers q now b → a ≡ b) (one : OneOfEach) where
     one_turn : (number : ℕ) (now : Standing) (line : List ℕ) (request : Result Request Fault) (s t : Turn) → IsStanding now → Asks form number now line request s → Asks form number now line request t → s.lacking ≡ t.lacking → s ≡ t
     one_turn number now line (Err f) s t is h k alike = h ∙ sym k
     one_turn number now line (Ok (Script Blank)) s t is h k alike = h ∙ sym k
@@ -173,7 +172,7 @@ module _ (laws : Laws) (form : Form) where
     one_turn number now line (Ok (Word question)) s t is (inl h) (inr k) alike = absurd (not_both s t (answered form now h.0 h.1) number now refl h.3 k alike)
     one_turn number now line (Ok (Word question)) s t is (inr h) (inl k) alike = absurd (not_both t s (answered form now k.0 k.1) number now refl k.3 h (sym alike))
     one_turn number now line (Ok (Word question)) s t is (inl h) (inl k) alike =
-        let same = one_answer explains sweeps pairs summaries pictures form now.state.net question h.0 k.0 h.1 k.1 is.state.network h.2 k.2 in
+        let same = one_answer one form now.state.net question h.0 k.0 h.1 k.1 is.state.network h.2 k.2 in
         h.3 ∙ (λ i. answered form now (sym same.0 i) (sym same.1 i)) ∙ sym k.3
 
     pub one_asked : (version : Version) (number : ℕ) (now : Standing) (lines : List (List ℕ)) (a b : List Turn) → IsStanding now → AsksBy form version number now lines a → AsksBy form version number now lines b → lacking_of a ≡ lacking_of b → a ≡ b

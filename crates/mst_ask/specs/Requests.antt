@@ -1,5 +1,5 @@
 -- What a line asks of a standing planner: what it says as a line of a script, or what a word of the program asks.
-use Rattle.std.specs.Prelude.{ℕ, ◌==◌, ◌&&◌, Bool, not, nat_lt, List, [], ◌∷◌, length, codes, Option, None, Some, Result, Ok, Err, if◌then◌else◌}
+use Rattle.std.specs.Prelude.{◌≡◌, ℕ, ◌==◌, ◌&&◌, Bool, true, not, nat_lt, List, [], ◌∷◌, length, codes, Option, None, Some, Result, Ok, Err, if◌then◌else◌}
 use Rattle.std.specs.List.{list_all}
 use Rattle.std.specs.Option.{option_map_or}
 use Rattle.std.specs.Str.{bytes_eq}
@@ -10,7 +10,7 @@ use Rattle.mst_lang.specs.declared.line.Fault.{Fault}
 use Rattle.mst_lang.specs.declared.line.Fault.TheVariants.{E01, E02}
 use Rattle.mst_lang.specs.declared.line.Line.{Line}
 use Rattle.mst_lang.specs.declared.line.Version.{Version}
-use Rattle.mst_tool.specs.Ask.{explain_question, picture_question, sweep_question}
+use Rattle.mst_tool.specs.Ask.{dot_question, explain_question, keeps, sweep_question}
 use Rattle.mst_tool.specs.declared.asked.Question.{Question}
 use Rattle.mst_tool.specs.declared.asked.Question.TheVariants.{Summary}
 use Rattle.mst_ask.specs.declared.request.Request.{Request}
@@ -38,10 +38,15 @@ sweep_words (word ∷ []) = sweep_of (sweep_question (Some word) None)
 sweep_words (word ∷ part ∷ []) = sweep_of (sweep_question (Some word) (Some part))
 sweep_words _ = Err E01
 
--- behind `dot`: TREE
-abbrev pub picture_words : List (List ℕ) → Result Request Fault
-picture_words (tree ∷ []) = Ok (Word (picture_question tree))
-picture_words _ = Err E01
+-- behind `dot`: TREE, or `vlan` and VID
+abbrev pub dot_of : Option Question → Result Request Fault
+dot_of (Some question) = Ok (Word question)
+dot_of None = Err E01
+
+abbrev pub dot_words : List (List ℕ) → Result Request Fault
+dot_words (word ∷ []) = dot_of (dot_question word None)
+dot_words (word ∷ vid ∷ []) = dot_of (dot_question word (Some vid))
+dot_words _ = Err E01
 
 -- behind `undo`: nothing, for the last edit, or how many of the last ones, from 1
 abbrev pub counted : Option ℕ → Result Request Fault
@@ -62,7 +67,7 @@ asked_as word behind =
     if bytes_eq word (codes "explain") then Some (explain_words behind)
     else (if bytes_eq word (codes "summary") then Some (summary_words behind)
     else (if bytes_eq word (codes "sweep") then Some (sweep_words behind)
-    else (if bytes_eq word (codes "dot") then Some (picture_words behind)
+    else (if bytes_eq word (codes "dot") then Some (dot_words behind)
     else (if bytes_eq word (codes "undo") then Some (undo_words behind) else None))))
 
 abbrev pub asked_by : List (List ℕ) → Option (Result Request Fault)
@@ -84,3 +89,9 @@ said_of (Err fault) = Err fault
 -- what a line asks, or the least fault of it, where scripts' lines are of this version
 abbrev pub request_of : Version → List ℕ → Result Request Fault
 request_of version line = option_map_or (λ request. request) (asked_in line) (said_of (reading_as version line))
+
+-- the planner stays as it was where its network is asked this
+abbrev pub Stays : Request → Type 0
+Stays (Script line) = Unit {0}
+Stays (Word question) = keeps question ≡ true
+Stays (Undo count) = Unit {0}

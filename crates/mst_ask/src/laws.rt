@@ -13,8 +13,8 @@ ghost use Rattle.mst_ask.specs.Standing.{AsksBy, IsStanding, Standing, Turn, edi
 
 use mst_engine::laws::states;
 use mst_engine::report_laws::{
-    entries_of_network, has_answer, one_answer, one_explanation, one_picture, one_summary,
-    pair_parts, sweep_parts,
+    entries_of_network, has_answer, one_advice, one_answer, one_explanation, one_picture,
+    one_summary, one_vlan_picture, pair_parts, sweep_parts,
 };
 use mst_lang::laws::edits_in_range;
 use mst_net::laws::networks;
@@ -43,6 +43,8 @@ pub fn one_asking()
     pair_parts();
     one_summary();
     one_picture();
+    one_vlan_picture();
+    one_advice();
 }
 
 /// What stands after a script was loaded, and after questions.

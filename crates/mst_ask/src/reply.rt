@@ -107,13 +107,18 @@ fn of_answer(answer: &Answer) -> Verdict
     ensures { result ≡ verdict_of_answer answer.now }
 {
     match answer {
-        Answer::Text(_) => Verdict::GIVEN,
-        Answer::Unread(_) | Answer::Refused(_) | Answer::Undrawn(_) => Verdict::REFUSED,
+        Answer::Text(_) | Answer::Advised { is_none: false, .. } => Verdict::GIVEN,
+        Answer::Unread(_)
+        | Answer::Refused(_)
+        | Answer::Undrawn(_)
+        | Answer::NotAdvised(_)
+        | Answer::UnreadGoal(_) => Verdict::REFUSED,
         Answer::Swept { cuts, .. } => Verdict {
             refused: false,
             lacking: false,
             differs: *cuts != 0,
         },
+        Answer::Advised { is_none: true, .. } => Verdict::DIFFERS,
     }
 }
 

@@ -1,10 +1,8 @@
-ghost use Rattle.std.specs.Prelude.{◌≡◌};
+ghost use Rattle.std.specs.Prelude.{◌≡◌, IfOk};
 ghost use Rattle.mst_lang.specs.Words.{words};
-ghost use Rattle.mst_ask.specs.Requests.{asked_as, asked_in, count_of, explain_words, picture_words, request_of, summary_words, sweep_of, sweep_words, undo_words};
+ghost use Rattle.mst_ask.specs.Requests.{Stays, asked_as, asked_in, count_of, dot_of, dot_words, explain_words, request_of, summary_words, sweep_of, sweep_words, undo_words};
 
-use mst_lang::{
-    Fault, LONGEST, Line, Version, are_plain, next_word, one_word, parse_line_as, parse_number,
-};
+use mst_lang::{Fault, LONGEST, Line, Version, are_plain, next_word, parse_line_as, parse_number};
 use mst_tool::Question;
 
 /// What a line asks of a standing planner.
@@ -17,9 +15,11 @@ pub enum Request {
     Undo(u64),
 }
 
-/// What a line asks, where scripts' lines are of this version, or the least fault of it.
+/// What a line asks, where scripts' lines are of this version, or the least fault of it. No word of the program that a line may have
+/// makes another network of the planner's: advice isn't among them.
 pub(crate) fn read_request(version: Version, line: &[u8]) -> Result<Request, Fault>
-    ensures { result ≡ request_of version line.now }
+    ensures request { result ≡ request_of version line.now }
+    ensures stays { IfOk result Stays }
 {
     match asked(line) {
         Some(request) => request,
@@ -52,7 +52,7 @@ fn asked_by_word(word: &[u8], behind: &[u8]) -> Option<Result<Request, Fault>>
     } else if word == b"sweep".as_slice() {
         Some(sweep(behind))
     } else if word == b"dot".as_slice() {
-        Some(picture(behind))
+        Some(dot(behind))
     } else if word == b"undo".as_slice() {
         Some(undo(behind))
     } else {
@@ -111,12 +111,26 @@ fn swept(question: Option<Question>) -> Result<Request, Fault>
     }
 }
 
-/// What `dot` asks with the word behind it.
-fn picture(behind: &[u8]) -> Result<Request, Fault>
-    ensures { result ≡ picture_words (words behind.now) }
+/// What `dot` asks with the words behind it.
+fn dot(behind: &[u8]) -> Result<Request, Fault>
+    ensures { result ≡ dot_words (words behind.now) }
 {
-    match one_word(behind) {
-        Some(tree) => Ok(Request::Word(Question::picture(tree))),
+    let (word, rest) = next_word(behind).ok_or(Fault::E01)?;
+    match next_word(rest) {
+        None => drawn(Question::dot(word, None)),
+        Some((vid, more)) => match next_word(more) {
+            None => drawn(Question::dot(word, Some(vid))),
+            Some(_) => Err(Fault::E01),
+        },
+    }
+}
+
+/// What such words ask, if they ask something.
+fn drawn(question: Option<Question>) -> Result<Request, Fault>
+    ensures { result ≡ dot_of question }
+{
+    match question {
+        Some(question) => Ok(Request::Word(question)),
         None => Err(Fault::E01),
     }
 }

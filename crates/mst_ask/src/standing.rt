@@ -1,4 +1,4 @@
-ghost use Rattle.std.specs.Prelude.{◌≡◌, ◌<◌, ◌≤◌, ◌^◌, ℕ, List, [], false, length, take, drop, vec_len, Ok, IfOk, OnOk, OnErr};
+ghost use Rattle.std.specs.Prelude.{◌≡◌, ◌<◌, ◌≤◌, ◌^◌, ℕ, List, [], false, true, length, take, drop, vec_len, Ok, IfOk, OnOk, OnErr};
 ghost use Rattle.std.specs.Io.KnownBytes.{Appends};
 ghost use Rattle.mst_lang.specs.Lines.{lines_of};
 ghost use Rattle.mst_lang.specs.Reading.{reading_as};
@@ -12,6 +12,7 @@ ghost use Rattle.mst_engine.specs.report.State.{IsState};
 ghost use Rattle.mst_io.specs.Devices.{Works, IsStopped};
 ghost use Rattle.mst_io.specs.Written.{AppendsFront};
 ghost use Rattle.mst_print.specs.Shape.{listed, of_script};
+ghost use Rattle.mst_tool.specs.Ask.{keeps};
 ghost use Rattle.mst_ask.specs.declared.request.Request.TheVariants.{Script as Said, Word, Undo};
 ghost use Rattle.mst_ask.specs.Answering.{IsFront, IsLoaded};
 ghost use Rattle.mst_ask.specs.Kept.{IsKept, Keeps, SameScript, lines_kept, lines_net, made_by, net_of_script, rows_of, standing_of};
@@ -247,9 +248,10 @@ impl Standing {
         }
     }
 
-    /// Answers a word of the program.
+    /// Answers a word of the program that leaves the planner as it is.
     fn answer(&mut self, question: &Question) -> Reply
         requires kept { IsKept self.old }
+        requires keeps { keeps question.now ≡ true }
         ensures kept { IsKept self.new }
         ensures same { SameScript self.old self.new }
         ensures asked { (number : ℕ) (line : List ℕ) → Asks self.old.form number (standing_of self.old) line (Ok (Word question.now)) (replied self.old.form number (standing_of self.new) result) }

@@ -12,4 +12,5 @@ pub mod Pieces
 pub mod Bridges
 pub mod Lans
 pub mod Picture
+pub mod VlanPicture
 pub mod InView

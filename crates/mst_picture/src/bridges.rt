@@ -3,11 +3,11 @@ ghost use Rattle.std.specs.List.{Contains, flat_map};
 ghost use Rattle.mst_lag.specs.Viewed.{named_bridge};
 ghost use Rattle.mst_summary.specs.net.Seen.{bridge_row};
 ghost use Rattle.mst_summary.specs.trees.Settled.{outcome_of};
-ghost use Rattle.mst_picture.specs.Bridges.{is_root as is_root_in, style as style_by};
-ghost use Rattle.mst_picture.specs.InView.{style_of as style_in, bridge_of};
+ghost use Rattle.mst_picture.specs.Bridges.{bridge_line, is_root as is_root_in, style as style_by};
+ghost use Rattle.mst_picture.specs.InView.{style_of as style_in, bridge_of, off_of};
 
 use crate::pieces::push_pieces;
-use mst_ids::{Tree, push_bytes};
+use mst_ids::Tree;
 use mst_lag::BridgeInView;
 use mst_lang::Power;
 use mst_summary::{Settled, bridge_id, root_of};
@@ -21,7 +21,7 @@ fn is_on(bridge: &BridgeInView) -> bool
 }
 
 /// Whether a bridge names itself as its root in a tree, in an MSTI as its regional root.
-fn is_root(plan: &Settled, tree: Tree, bridge: &BridgeInView) -> bool
+pub(crate) fn is_root(plan: &Settled, tree: Tree, bridge: &BridgeInView) -> bool
     requires { Contains plan.now.view.bridges bridge.now }
     ensures { result ≡ is_root_in plan.now.net (outcome_of plan.now) tree (named_bridge bridge.now) }
 {
@@ -58,6 +58,20 @@ fn style_of(plan: &Settled, tree: Tree, bridge: &BridgeInView) -> &'static str
     )
 }
 
+/// Appends the node of a bridge that is drawn so.
+fn push_styled(bridge: &BridgeInView, style: &str, out: &mut Vec<u8>) -> Result<(), AllocError>
+    ensures { OnOk result (out.new.items ≡ out.old.items ++ bridge_line bridge.now.name style.now) }
+{
+    let pieces: [&[u8]; 5] = [
+        b"  \"",
+        bridge.name.as_bytes(),
+        b"\"",
+        style.as_bytes(),
+        b";\n",
+    ];
+    push_pieces(&pieces, out)
+}
+
 /// Appends the node of a bridge.
 fn push_bridge(
     plan: &Settled,
@@ -68,10 +82,7 @@ fn push_bridge(
     requires { Contains plan.now.view.bridges bridge.now }
     ensures { OnOk result (out.new.items ≡ out.old.items ++ bridge_of plan.now tree bridge.now) }
 {
-    let pieces: [&[u8]; 3] = [b"  \"", bridge.name.as_bytes(), b"\""];
-    push_pieces(&pieces, out)?;
-    push_bytes(style_of(plan, tree, bridge).as_bytes(), out)?;
-    push_bytes(b";\n", out)
+    push_styled(bridge, style_of(plan, tree, bridge), out)
 }
 
 /// Appends the nodes of the bridges, by their names.
@@ -80,6 +91,26 @@ pub(crate) fn push_bridges(plan: &Settled, tree: Tree, out: &mut Vec<u8>) -> Res
 {
     for bridge in plan.view().bridges() {
         push_bridge(plan, tree, bridge, out)?;
+    }
+    Ok(())
+}
+
+/// Appends the node of a bridge, if it is off.
+fn push_unless_on(bridge: &BridgeInView, out: &mut Vec<u8>) -> Result<(), AllocError>
+    ensures { OnOk result (out.new.items ≡ out.old.items ++ off_of bridge.now) }
+{
+    if is_on(bridge) {
+        return Ok(());
+    }
+    push_styled(bridge, style(false, false, false), out)
+}
+
+/// Appends the nodes of the bridges that are off, by their names.
+pub(crate) fn push_off(plan: &Settled, out: &mut Vec<u8>) -> Result<(), AllocError>
+    ensures { OnOk result (out.new.items ≡ out.old.items ++ flat_map off_of plan.now.view.bridges) }
+{
+    for bridge in plan.view().bridges() {
+        push_unless_on(bridge, out)?;
     }
     Ok(())
 }

@@ -6,10 +6,10 @@ ghost use Rattle.mst_summary.specs.Seen.{seen_on};
 ghost use Rattle.mst_picture.specs.Lans.{link_line, link_text, box_line, down_line, up_line, end_line, box_text, ends_on, lan_text};
 ghost use Rattle.mst_picture.specs.InView.{AreAmong, end_at, lan_of};
 
-use crate::ends::{End, are_open, designates, end_of, is_open, line_end, push_label};
+use crate::ends::{Drawn, End, are_open, designates, end_of, line_end, push_label};
 use crate::pieces::push_pieces;
 use indexmap::IndexMap;
-use mst_ids::{Name, Tree, push_bytes};
+use mst_ids::{Name, push_bytes};
 use mst_lag::{LanInView, PortInView};
 use mst_summary::{Settled, kept_for, ports_by_lan};
 use std::alloc::{AllocError, Global};
@@ -72,7 +72,7 @@ fn push_down(lan: &Name, end: &End, out: &mut Vec<u8>) -> Result<(), AllocError>
     ];
     push_pieces(&pieces, out)?;
     push_label(end, out)?;
-    push_bytes(line_end(is_open(end)).as_bytes(), out)
+    push_bytes(line_end(end.is_open).as_bytes(), out)
 }
 
 /// Appends the line from an end up to the box of its LAN.
@@ -88,7 +88,7 @@ fn push_up(lan: &Name, end: &End, out: &mut Vec<u8>) -> Result<(), AllocError>
     ];
     push_pieces(&pieces, out)?;
     push_label(end, out)?;
-    push_bytes(line_end(is_open(end)).as_bytes(), out)
+    push_bytes(line_end(end.is_open).as_bytes(), out)
 }
 
 /// Appends the line between an end and the box of its LAN.
@@ -134,15 +134,15 @@ fn push_by_ends(lan: &Name, ends: &[End], out: &mut Vec<u8>) -> Result<(), Alloc
 fn ends_of(
     alloc: Global,
     plan: &Settled,
-    tree: Tree,
+    drawn: Drawn,
     ports: &[PortInView],
 ) -> Result<Vec<End>, AllocError>
     requires { AreAmong plan.now.view.ports ports.now }
-    ensures { IfOk result (λ ends. ends.items ≡ map (end_at plan.now tree) ports.now) }
+    ensures { IfOk result (λ ends. ends.items ≡ map (end_at plan.now drawn) ports.now) }
 {
     ports
         .iter()
-        .map(|port| end_of(plan, tree, port))
+        .map(|port| end_of(plan, drawn, port))
         .collect(alloc)
 }
 
@@ -150,16 +150,16 @@ fn ends_of(
 fn push_by_ports(
     alloc: Global,
     plan: &Settled,
-    tree: Tree,
+    drawn: Drawn,
     lan: &Name,
     ports: &[PortInView],
     out: &mut Vec<u8>,
 ) -> Result<(), AllocError>
     requires { ports.now ≡ seen_on plan.now.view lan.now }
-    ensures { OnOk result (out.new.items ≡ out.old.items ++ lan_text lan.now (ends_on plan.now.net (outcome_of plan.now) tree lan.now)) }
+    ensures { OnOk result (out.new.items ≡ out.old.items ++ lan_text lan.now (ends_on plan.now.net (outcome_of plan.now) drawn lan.now)) }
 {
     plan.known();
-    let ends = ends_of(alloc, plan, tree, ports)?;
+    let ends = ends_of(alloc, plan, drawn, ports)?;
     push_by_ends(lan, ends.as_slice(), out)
 }
 
@@ -167,30 +167,37 @@ fn push_by_ports(
 fn push_lan(
     alloc: Global,
     plan: &Settled,
-    tree: Tree,
+    drawn: &Drawn,
     kept: &IndexMap<Name, Vec<PortInView>>,
     lan: &LanInView,
     out: &mut Vec<u8>,
 ) -> Result<(), AllocError>
     requires { (name : List ℕ) → kept_at kept.now name ≡ seen_on plan.now.view name }
-    ensures { OnOk result (out.new.items ≡ out.old.items ++ lan_of plan.now tree lan.now) }
+    ensures { OnOk result (out.new.items ≡ out.old.items ++ lan_of plan.now drawn.now lan.now) }
 {
-    push_by_ports(alloc, plan, tree, &lan.name, kept_for(kept, &lan.name), out)
+    push_by_ports(
+        alloc,
+        plan,
+        *drawn,
+        &lan.name,
+        kept_for(kept, &lan.name),
+        out,
+    )
 }
 
 /// Appends these LANs, by the ports that are kept for each.
 fn push_each(
     alloc: Global,
     plan: &Settled,
-    tree: Tree,
+    drawn: &Drawn,
     kept: &IndexMap<Name, Vec<PortInView>>,
     out: &mut Vec<u8>,
 ) -> Result<(), AllocError>
     requires { (name : List ℕ) → kept_at kept.now name ≡ seen_on plan.now.view name }
-    ensures { OnOk result (out.new.items ≡ out.old.items ++ flat_map (lan_of plan.now tree) plan.now.view.lans) }
+    ensures { OnOk result (out.new.items ≡ out.old.items ++ flat_map (lan_of plan.now drawn.now) plan.now.view.lans) }
 {
     for lan in plan.view().lans() {
-        push_lan(alloc, plan, tree, kept, lan, out)?;
+        push_lan(alloc, plan, drawn, kept, lan, out)?;
     }
     Ok(())
 }
@@ -199,11 +206,11 @@ fn push_each(
 pub(crate) fn push_lans(
     alloc: Global,
     plan: &Settled,
-    tree: Tree,
+    drawn: Drawn,
     out: &mut Vec<u8>,
 ) -> Result<(), AllocError>
-    ensures { OnOk result (out.new.items ≡ out.old.items ++ flat_map (lan_of plan.now tree) plan.now.view.lans) }
+    ensures { OnOk result (out.new.items ≡ out.old.items ++ flat_map (lan_of plan.now drawn) plan.now.view.lans) }
 {
     let kept = ports_by_lan(alloc, plan.view())?;
-    push_each(alloc, plan, tree, &kept, out)
+    push_each(alloc, plan, &drawn, &kept, out)
 }

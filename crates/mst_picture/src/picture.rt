@@ -3,6 +3,7 @@ ghost use Rattle.mst_summary.specs.trees.Settled.{outcome_of};
 ghost use Rattle.mst_picture.specs.Picture.{opening, picture};
 
 use crate::bridges::push_bridges;
+use crate::ends::Drawn;
 use crate::lans::push_lans;
 use crate::pieces::push_pieces;
 use itoa::Buffer;
@@ -10,18 +11,20 @@ use mst_ids::{Tree, push_bytes};
 use mst_summary::Settled;
 use std::alloc::{AllocError, Global};
 
-/// Appends the first lines.
-fn push_opening(tree: Tree, out: &mut Vec<u8>) -> Result<(), AllocError>
-    ensures { OnOk result (out.new.items ≡ out.old.items ++ opening tree) }
+/// Appends the first lines, which name a tree or a VLAN by this word and this number.
+pub(crate) fn push_opening(word: &[u8], number: u16, out: &mut Vec<u8>) -> Result<(), AllocError>
+    ensures { OnOk result (out.new.items ≡ out.old.items ++ opening word.now number) }
 {
-    let mut number = Buffer::new();
-    let tree = number.format(tree.value()).as_bytes();
-    let pieces: [&[u8]; 7] = [
-        b"graph \"tree ",
-        tree,
+    let mut digits = Buffer::new();
+    let number = digits.format(number).as_bytes();
+    let pieces: [&[u8]; 9] = [
+        b"graph \"",
+        word,
+        number,
         b"\" {\n",
-        b"  graph [label=\"tree ",
-        tree,
+        b"  graph [label=\"",
+        word,
+        number,
         b"\", nodesep=0.6, ranksep=0.8];\n",
         b"  edge [fontsize=10, labeldistance=1.8];\n",
     ];
@@ -44,8 +47,8 @@ pub fn push_picture(
     ensures { OnOk result (out.new.items ≡ out.old.items ++ picture plan.now.net (outcome_of plan.now) tree) }
 {
     plan.known();
-    push_opening(tree, out)?;
+    push_opening(b"tree ", tree.value(), out)?;
     push_bridges(plan, tree, out)?;
-    push_lans(alloc, plan, tree, out)?;
+    push_lans(alloc, plan, Drawn::Tree(tree), out)?;
     push_bytes(b"}\n", out)
 }

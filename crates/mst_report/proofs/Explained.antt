@@ -1,5 +1,5 @@
 -- What is asked about a port, under the numbers of records and by name.
-use Rattle.std.proofs.Common.{◌≡◌, ℕ, ◌==◌, ◌||◌, Bool, true, false, not, cond, List, [], ◌∷◌, ◌++◌, map, Option, Some, None, is_some, refl, sym, ap, subst, ◌∙◌, true≢false, append-nil}
+use Rattle.std.proofs.Common.{◌≡◌, ℕ, ◌==◌, ◌||◌, Bool, true, false, not, cond, List, [], ◌∷◌, map, Option, Some, None, is_some, refl, sym, ap, subst, ◌∙◌, true≢false, append-nil}
 use Rattle.std.specs.Prelude.{if◌then◌else◌}
 use Rattle.std.specs.List.{AllByRecursion, Contains, find}
 use Rattle.std.specs.Option.{option_map, option_map_or}
@@ -7,12 +7,14 @@ use Rattle.std.specs.FinMap as fin
 use Rattle.std.proofs.lemmas.Bool.{eqb-true}
 use Rattle.mst_ids.specs.declared.name.PortName.{PortName}
 use Rattle.mst_net.specs.After.{has_bridge}
-use Rattle.mst_net.specs.Tables.{Net, BridgeRow, IsNetwork, port_eq}
+use Rattle.mst_net.specs.Tables.{Net, Numbers, BridgeRow, IsNetwork, port_eq}
 use Rattle.mst_rows.specs.Rows.{Row}
 use Rattle.mst_lag.specs.Trees.{mstis_of, is_among}
 use Rattle.mst_lag.specs.View.{LogicalPort, view_ports}
-use Rattle.mst_lag.specs.Viewed.{named_port}
+use Rattle.mst_lag.specs.Viewed.{Viewed, named_port}
 use Rattle.mst_lag.specs.declared.in_view.PortInView.{PortInView}
+use Rattle.mst_picture.specs.trees.Agrees.{AreOf}
+use Rattle.mst_picture.specs.trees.InUse.{seen_has}
 use Rattle.mst_picture.specs.trees.Msti.{has_msti}
 use Rattle.mst_picture.specs.trees.Outcome.{Outcome, IsOutcome}
 use Rattle.mst_picture.specs.trees.Settled.{SettledNet, outcome_of, IsSettledNet}
@@ -24,6 +26,7 @@ use Rattle.mst_picture.proofs.trees_lemmas.Looking.{has_tree_at}
 use Rattle.mst_picture.proofs.roles_lemmas.Named.{port_is, port_found, found_in}
 use Rattle.mst_explain.specs.Explained.{IsExplained, AreExplained, trees_of_bridge}
 use Rattle.mst_explain.proofs.Texts.{tree_there as among_trees}
+use Rattle.mst_report.specs.Advising.{unrooted_of}
 use Rattle.mst_report.specs.Explaining.{logical_port_of, has_tree, has_asked, unexplained_of, asked_trees, Explains}
 use Rattle.mst_report.specs.declared.explaining.Unexplained.{Unexplained}
 use Rattle.mst_report.specs.declared.explaining.Unexplained.TheVariants.{NoBridge, NoPort, NoTree}
@@ -155,6 +158,21 @@ module _ (s : SettledNet) (is : IsSettledNet s) where
     -- it is among those of the network
     pub port_there : Contains (view_ports s.net) (named_port port)
     port_there = found_in (λ (q : LogicalPort). port_eq q.name port.name) (view_ports s.net) (named_port port) is_port
+
+-- ---- why a bridge can't be the root of a tree
+abbrev root_of : Bool → Bool → Option Unexplained
+root_of bridge tree = if not bridge then Some NoBridge else (if not tree then Some NoTree else None)
+
+-- of the bridge under a number, by whether it is seen to have the tree
+pub rootless_by : (net : Net) (numbers : Numbers) (v : Viewed) (region_ids : List (ℕ × ℕ)) → AreOf net numbers v region_ids
+    → (name : List ℕ) (tree number : ℕ) → fin.get numbers.bridges name ≡ Some number → (has : Bool) → has ≡ seen_has v tree number → (if not has then Some NoTree else None) ≡ unrooted_of net tree name
+rootless_by net numbers v region_ids of name tree number numbered has seen = λ i. root_of (there i) (tree_had i)
+  where
+    there : true ≡ has_bridge name net
+    there = sym (ap is_some numbered) ∙ of.numbered.bridges name
+
+    tree_had : has ≡ has_tree net name tree
+    tree_had = seen ∙ ap (λ h. tree == 0 || h) (has_tree_at net numbers v region_ids of tree name number numbered)
 
 -- ---- by the law that a port's explanations are one list of rows
 module _ (one : (net : Net) (o q : Outcome) → IsNetwork net → IsOutcome net o → IsOutcome net q

@@ -16,3 +16,6 @@ pub mod Told
 pub mod Made
 pub mod Walked
 pub mod Tells
+pub mod Tried
+pub mod OneAdvice
+pub mod Costs

@@ -9,6 +9,7 @@ pub use Rattle.mst_change.specs as change
 pub use Rattle.mst_steps.specs as steps
 pub use Rattle.mst_edits.specs as edits
 pub mod State
+pub mod Advising
 pub mod Answers
 pub mod Refusing
 pub mod Standing

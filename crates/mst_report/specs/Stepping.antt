@@ -10,9 +10,9 @@ use Rattle.mst_picture.specs.diff.Reach.{has_any}
 use Rattle.mst_picture.specs.trees.Outcome.{Outcome, IsOutcome}
 use Rattle.mst_policy.specs.declared.policy.PolicyLine.{PolicyLine}
 use Rattle.mst_steps.specs.StepText.{AreStepRows, last_row}
+use Rattle.mst_steps.specs.declared.step.Deed.TheVariants as deed
 use Rattle.mst_steps.specs.declared.step.Step.{Step}
 use Rattle.mst_steps.specs.declared.step.Stepped.{Stepped}
-use Rattle.mst_steps.specs.declared.step.Walked.{Walked}
 use Rattle.mst_verify.specs.Verified.{Counts}
 use Rattle.mst_report.specs.Setting.{after_lines, refused_lines}
 use Rattle.mst_report.specs.Verifying.{Judges}
@@ -67,7 +67,7 @@ pub record IsStepTold (policy : Option (List PolicyLine)) (s : StepMade) (t : St
   pub now : Outcome
   pub is_now : IsOutcome s.now now
   pub refused : t.refused ≡ refused_lines s.before s.lines
-  pub own : AreStepRows s.before before s.now now (numbers_of s.number s.lines) t.own t.does
+  pub own : AreStepRows s.before before s.now now (deed.Step (numbers_of s.number s.lines)) t.own t.does
   pub judged : AreJudgedBy policy s.now t.judged
 
 -- ---- and of all of them

@@ -13,12 +13,15 @@ ghost use Rattle.mst_picture.specs.diff.AlikeNets.{AreAlike};
 ghost use Rattle.mst_picture.specs.diff.DiffText.{diff_row};
 ghost use Rattle.mst_picture.specs.diff.declared.diff.Differing.{Differing as Counts};
 ghost use Rattle.mst_rows.specs.Rows.{Row};
+ghost use Rattle.mst_advise.specs.declared.goal.Goal.{Goal as GoalOf};
+ghost use Rattle.mst_report.specs.Advising.{Advises};
 ghost use Rattle.mst_report.specs.Answers.{Answers};
+ghost use Rattle.mst_report.specs.declared.advising.Advised.{Advised as AdvisedOf};
 ghost use Rattle.mst_report.specs.ByName.{KeepsBoundByName, KeepBoundsByName, KeepFirstBounds, StandsFor, KeepNumbers};
 ghost use Rattle.mst_report.specs.Standing.{KeepsBounds, nothing, standing_of, settlings_of, msti_settlings};
 ghost use Rattle.mst_report.specs.Differing.{Differs};
 ghost use Rattle.mst_report.specs.Explaining.{Explains, unexplained_of};
-ghost use Rattle.mst_report.specs.Picturing.{Depicts};
+ghost use Rattle.mst_report.specs.Picturing.{Depicts, DepictsVlan};
 ghost use Rattle.mst_report.specs.Summarizing.{Summarizes};
 ghost use Rattle.mst_report.specs.Pairing.{SweepsPairs, SweepPairsParts};
 ghost use Rattle.mst_report.specs.Sweeping.{Sweeps, SweepsPart, SweepParts};
@@ -214,4 +217,22 @@ pub fn one_picture()
 {
     has_outcome();
     mst_picture::laws::one_picture();
+}
+
+/// A network has one advice for a goal, which the network alone settles.
+pub fn one_advice()
+    ensures { (net : Net) (goal : GoalOf) (a b : AdvisedOf) (rows other : List Row) → IsNetwork net → Advises net goal a rows → Advises net goal b other → (a ≡ b) × (rows ≡ other) }
+{
+    one_outcome();
+    mst_advise::laws::one_candidates();
+    mst_steps::laws::one_step();
+}
+
+/// A network has one picture with each VLAN, which the network alone settles.
+pub fn one_vlan_picture()
+    ensures some { (net : Net) (vid : ℕ) → IsNetwork net → (text : List ℕ) × DepictsVlan net vid text }
+    ensures one { (net : Net) (vid : ℕ) (text other : List ℕ) → IsNetwork net → DepictsVlan net vid text → DepictsVlan net vid other → text ≡ other }
+{
+    has_outcome();
+    mst_picture::laws::one_vlan_picture();
 }

@@ -1,6 +1,7 @@
 //! The planner: a network, its settled trees, and the rows that answer queries about them.
 #![tactic(auto)]
 
+mod advising;
 mod answers;
 mod differing;
 mod editing;
@@ -18,6 +19,7 @@ mod summarizing;
 mod sweeping;
 mod verifying;
 
+pub use advising::Advised;
 pub use answers::asks_plan;
 pub use explaining::Unexplained;
 pub use mst_picture::{Differing, Forest, Role, Settled, forwards, port_role, trees_laws};

@@ -1,9 +1,9 @@
 ghost use Rattle.std.specs.Prelude.{◌≡◌, true, IfOk};
-ghost use Rattle.mst_report.specs.Picturing.{Depicts};
+ghost use Rattle.mst_report.specs.Picturing.{Depicts, DepictsVlan};
 
 use crate::planner::Planner;
-use mst_ids::Tree;
-use mst_picture::push_picture;
+use mst_ids::{Tree, Vid};
+use mst_picture::{push_picture, push_vlan_picture};
 use std::alloc::AllocError;
 
 impl Planner {
@@ -18,6 +18,20 @@ impl Planner {
         plan.known();
         let mut text = Vec::new(self.alloc());
         push_picture(self.alloc(), &plan, tree, &mut text)?;
+        Ok(text)
+    }
+
+    /// The picture of the network with a VLAN, as a text for Graphviz: the islands of the VID, each bridge with its own tree of it,
+    /// what lies between the bridges, and where the VLAN isn't carried. The network alone settles it. `AllocError`: memory was
+    /// wanted and refused.
+    pub fn vlan_picture(&self, vid: Vid) -> Result<Vec<u8>, AllocError>
+        requires { self.now.is_settled ≡ true }
+        ensures { IfOk result (λ text. DepictsVlan self.now.contents.net vid text.items) }
+    {
+        let plan = self.settled();
+        plan.known();
+        let mut text = Vec::new(self.alloc());
+        push_vlan_picture(self.alloc(), &plan, vid, &mut text)?;
         Ok(text)
     }
 }

@@ -1,4 +1,4 @@
-ghost use Rattle.std.specs.Prelude.{◌≡◌, ◌≢◌, ◌≤◌, ◌<◌, ◌^◌, ◌++◌, length, true, false, List, Err, IsOk, IfOk, IfErr, OnOk, OnErr, IsTrue};
+ghost use Rattle.std.specs.Prelude.{◌≡◌, ◌≢◌, ◌≤◌, ◌<◌, ◌^◌, ◌++◌, length, true, false, List, None, Err, IsOk, IfOk, IfErr, OnOk, OnErr, IsTrue};
 ghost use Rattle.mst_change.specs.Steps.{all_lines};
 ghost use Rattle.mst_net.specs.After.{after};
 ghost use Rattle.mst_net.specs.Contents.{SameContents, CanCommit, Commits, room_for};
@@ -7,6 +7,7 @@ ghost use Rattle.mst_picture.specs.trees.Agrees.{AreOf};
 ghost use Rattle.mst_picture.specs.trees.Forest.{IsForest, SettlesNoUnused};
 ghost use Rattle.mst_lag.specs.Viewed.{IsView};
 ghost use Rattle.mst_picture.specs.changes.Stored.{kept_entries};
+ghost use Rattle.mst_report.specs.Advising.{Advises, unadvised_of};
 ghost use Rattle.mst_report.specs.Pairing.{SweepsPairs};
 ghost use Rattle.mst_report.specs.Setting.{after_steps};
 ghost use Rattle.mst_report.specs.Stepping.{IsFew, Steps};
@@ -14,12 +15,14 @@ ghost use Rattle.mst_report.specs.Sweeping.{SweepsPart};
 ghost use Rattle.mst_report.specs.Verifying.{Verifies, counts_of};
 ghost use Rattle.mst_rows.specs.Rows.{Row};
 
+use crate::advising::{Advised, advise_network};
 use crate::laws::entries_of_network;
 use crate::pairing::sweep_pairs;
 use crate::plan::{Plan, next_plan, renew_plan, settle_plan};
 use crate::stepping::{Course, step_network};
 use crate::sweeping::sweep_network;
 use crate::verifying::{Verdict, verify_network};
+use mst_advise::Goal;
 use mst_change::Change;
 use mst_config::laws::regions_stay;
 use mst_config::touches_regions;
@@ -358,6 +361,23 @@ impl Planner {
         self.regions_stand = true;
         self.view_stands = true;
         Ok(course)
+    }
+
+    /// Puts which settings bring about what is wanted of the network, which nothing leaves [unadvised](Planner::unadvised): the first of
+    /// its candidates after which the goal holds, with what they do. `AllocError`: memory was wanted and refused; some of the rows may
+    /// have been put. In either case the planner is then of any network, and isn't settled; it keeps its mark.
+    pub fn put_advice<R: Rows>(&mut self, goal: &Goal, out: &mut R) -> Result<Advised, AllocError>
+        requires settled { self.old.is_settled ≡ true }
+        requires advised { unadvised_of self.old.contents.net goal.now ≡ None }
+        ensures told { (first : R) (before : List Row) → R.grew first out.old before
+            → IfOk result (λ advice. (rows : List Row) × Advises self.old.contents.net goal.now advice rows × R.grew first out.new (before ++ rows)) }
+        ensures mark { self.new.mark ≡ self.old.mark }
+    {
+        self.is_settled = false;
+        self.regions_stand = false;
+        self.view_stands = false;
+        let plan = self.plan.take().unwrap();
+        advise_network(self.alloc, goal, &mut self.network, &plan, out)
     }
 
     /// What the rows take memory from.

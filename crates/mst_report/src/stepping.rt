@@ -20,7 +20,7 @@ use mst_net::Network;
 use mst_picture::Planned;
 use mst_policy::Policy;
 use mst_rows::Rows;
-use mst_steps::{Step, Stepped, Walked, put_last, put_step};
+use mst_steps::{Deed, Step, Stepped, Walked, put_last, put_step};
 use std::alloc::{AllocError, Global};
 
 /// What is counted of the steps of a change.
@@ -90,10 +90,10 @@ fn step_of_lines(number: u64, lines: &[StepLine]) -> Step
     }
 }
 
-/// Puts what a step does, by the plan before it and the one after it.
-fn put_between<R: Rows>(
+/// Puts what a step does, or edits that are advised, by the plan before it and the one after it.
+pub(crate) fn put_between<R: Rows>(
     alloc: Global,
-    step: &Step,
+    deed: &Deed,
     old: &Plan,
     new: &Plan,
     out: &mut R,
@@ -101,7 +101,7 @@ fn put_between<R: Rows>(
     requires old { Known old.now.view old.now.forest.regions }
     requires new { Known new.now.view new.now.forest.regions }
     ensures { IfOk result (λ does. (a b : Net) (n k : Numbers) (is : IsPlan a n old.now) (are : IsPlan b k new.now)
-        → (own : List Row) × AreStepRows a is.forest.outcome b are.forest.outcome step.now own does × Puts R.grew out.old out.new own) }
+        → (own : List Row) × AreStepRows a is.forest.outcome b are.forest.outcome deed.now own does × Puts R.grew out.old out.new own) }
 {
     let old = Planned {
         view: &old.view,
@@ -111,7 +111,7 @@ fn put_between<R: Rows>(
         view: &new.view,
         forest: &new.forest,
     };
-    put_step(alloc, step, &old, &new, out)
+    put_step(alloc, deed, &old, &new, out)
 }
 
 /// Puts the rows of a policy of a network but for the last one, if there is a policy, and answers whether there are some.
@@ -154,7 +154,7 @@ fn take_step<R: Rows>(
     let made = make_lines(network, lines, out)?;
     let next = plan_beside(alloc, network, plan, made.regions_stand)?;
     let step = step_of_lines(number, lines);
-    let does = put_between(alloc, &step, plan, &next, out)?;
+    let does = put_between(alloc, &Deed::Step(step), plan, &next, out)?;
     let fails = put_judgement(alloc, network, &next, policy, out)?;
     *plan = next;
     Ok(Taken {

@@ -1,5 +1,5 @@
 -- What the steps of a change do is one thing.
-use Rattle.std.proofs.Common.{◌≡◌, ℕ, ◌+◌, List, [], ◌∷◌, ◌++◌, Option, Some, None, Result, Ok, Err, refl, sym, ap, subst, ◌∙◌}
+use Rattle.std.proofs.Common.{◌≡◌, ℕ, ◌+◌, List, [], ◌∷◌, ◌++◌, Option, Some, None, Result, Ok, Err, refl, sym, ap, ◌∙◌}
 use Rattle.std.specs.List.{AllByRecursion, AllZip, flat_map}
 use Rattle.mst_change.specs.Reading.{IsInRange, LineRead, SaysInRange}
 use Rattle.mst_change.specs.Steps.{all_lines}
@@ -13,13 +13,14 @@ use Rattle.mst_report.specs.trees.Outcome.{IsOutcome, Outcome}
 use Rattle.mst_policy.specs.declared.policy.PolicyLine.{PolicyLine}
 use Rattle.mst_rows.specs.Rows.{Row}
 use Rattle.mst_steps.specs.StepText.{AreStepRows}
-use Rattle.mst_steps.specs.declared.step.Step.{Step}
+use Rattle.mst_steps.specs.declared.step.Deed.{Deed}
+use Rattle.mst_steps.specs.declared.step.Deed.TheVariants as deed
 use Rattle.mst_steps.specs.declared.step.Stepped.{Stepped}
 use Rattle.mst_verify.specs.Told.{verified_row}
 use Rattle.mst_verify.specs.Verified.{Counts}
 use Rattle.mst_report.specs.Setting.{after_lines, after_steps, kept_or, set_by}
 use Rattle.mst_report.specs.Stepping.{AreJudgedBy, IsStepTold, StepMade, StepTold, Steps, course_of, course_row, numbers_of, rows_told, step_made, steps_made}
-use Rattle.mst_report.specs.Verifying.{Judges, Verifies}
+use Rattle.mst_report.specs.Verifying.{Verifies}
 use Rattle.mst_report.specs.declared.stepping.Course.{Course}
 
 -- ---- lists that end with one element more
@@ -57,11 +58,11 @@ pub lines_behind : (net : Net) (script : List LineRead) (steps : List (List Line
 lines_behind net script steps = steps_lines (after_lines net script) steps ∙ sym (lines_then net script (all_lines steps))
 
 -- ---- networks
-all_first : {A : Type 0} (P : A → Type 0) (xs ys : List A) → AllByRecursion P (xs ++ ys) → AllByRecursion P xs
+pub all_first : {A : Type 0} (P : A → Type 0) (xs ys : List A) → AllByRecursion P (xs ++ ys) → AllByRecursion P xs
 all_first P [] ys h = tt
 all_first P (x ∷ xs) ys h = (h.0, all_first P xs ys h.1)
 
-all_others : {A : Type 0} (P : A → Type 0) (xs ys : List A) → AllByRecursion P (xs ++ ys) → AllByRecursion P ys
+pub all_others : {A : Type 0} (P : A → Type 0) (xs ys : List A) → AllByRecursion P (xs ++ ys) → AllByRecursion P ys
 all_others P [] ys h = h
 all_others P (x ∷ xs) ys h = all_others P xs ys h.1
 
@@ -74,13 +75,13 @@ module _ (stay : (edit : Edit) (net new : Net) → InRange edit → IsNetwork ne
   read_network net (Err fault) fits is = is
   read_network net (Ok edit) fits is = kept_network edit net fits is (after edit net) refl
 
-  lines_network : (net : Net) (lines : List LineRead) → AllByRecursion IsInRange lines → IsNetwork net → IsNetwork (after_lines net lines)
+  pub lines_network : (net : Net) (lines : List LineRead) → AllByRecursion IsInRange lines → IsNetwork net → IsNetwork (after_lines net lines)
   lines_network net [] fit is = is
   lines_network net (line ∷ lines) fit is = lines_network (set_by net line.read) lines fit.1 (read_network net line.read fit.0 is)
 
   -- ---- what is told of a step
   module _ (one : (a b : Net) (o p q r : Outcome) → IsNetwork a → IsNetwork b → IsOutcome a o → IsOutcome b p → IsOutcome a q → IsOutcome b r
-      → (step : Step) (rows other : List Row) (told said : Stepped) → AreStepRows a o b p step rows told → AreStepRows a q b r step other said → (rows ≡ other) × (told ≡ said))
+      → (step : Deed) (rows other : List Row) (told said : Stepped) → AreStepRows a o b p step rows told → AreStepRows a q b r step other said → (rows ≡ other) × (told ≡ said))
       (verified : (net : Net) (lines : List PolicyLine) (c d : Counts) (rows other : List Row) → IsNetwork net → Verifies net lines c rows → Verifies net lines d other → (c ≡ d) × (rows ≡ other)) where
     one_judged : (policy : Option (List PolicyLine)) (net : Net) (rows other : List Row) → IsNetwork net → AreJudgedBy policy net rows → AreJudgedBy policy net other → rows ≡ other
     one_judged None net rows other is x y = x ∙ sym y
@@ -93,7 +94,7 @@ module _ (stay : (edit : Edit) (net new : Net) → InRange edit → IsNetwork ne
     one_told : (policy : Option (List PolicyLine)) (s : StepMade) (t u : StepTold) → IsNetwork s.before → IsNetwork s.now → IsStepTold policy s t → IsStepTold policy s u → t ≡ u
     one_told policy s t u before now x y =
         let refused : t.refused ≡ u.refused = x.refused ∙ sym y.refused in
-        let same = one s.before s.now x.before x.now y.before y.now before now x.is_before x.is_now y.is_before y.is_now (numbers_of s.number s.lines) t.own u.own t.does u.does x.own y.own in
+        let same = one s.before s.now x.before x.now y.before y.now before now x.is_before x.is_now y.is_before y.is_now (deed.Step (numbers_of s.number s.lines)) t.own u.own t.does u.does x.own y.own in
         let judged : t.judged ≡ u.judged = one_judged policy s.now t.judged u.judged now x.judged y.judged in
         λ i. record { refused = refused i; own = same.0 i; does = same.1 i; judged = judged i }
 

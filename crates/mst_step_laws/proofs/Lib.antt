@@ -1,1 +1,4 @@
 mod Courses
+mod CourseThere
+mod ReachTold
+mod StepThere

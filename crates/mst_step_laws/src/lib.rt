@@ -1,4 +1,5 @@
-//! Laws of the steps of a change: that there is one list of what they do, and which networks stand between them.
+//! Laws of the steps of a change: that there is one list of what they do, which networks stand between them, and that a diff tells each VID that
+//! they cut or join.
 #![tactic(auto)]
 
 pub mod laws;

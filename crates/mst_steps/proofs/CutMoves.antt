@@ -11,7 +11,7 @@ use Rattle.mst_diff.specs.Reach.{has_any}
 use Rattle.mst_diff.proofs.plan_text_lemmas.OnePlan.{is_vid_there}
 use Rattle.mst_diff.proofs.OneDiff.{OneList}
 use Rattle.mst_sweep.proofs.OneSweep.{one_parts}
-use Rattle.mst_steps.specs.declared.step.Step.{Step}
+use Rattle.mst_steps.specs.declared.step.Deed.{Deed}
 use Rattle.mst_steps.specs.declared.step.Stepped.{Stepped}
 use Rattle.mst_steps.specs.MovedVids.{links_differ}
 use Rattle.mst_steps.specs.StepText.{AreStepRows}
@@ -32,7 +32,7 @@ first_there : (xs : List ℕ) → has_any xs ≡ true → (x : ℕ) × Contains 
 first_there [] e = absurd (true≢false (sym e))
 first_there (x ∷ xs) e = (x, here x xs)
 
-module _ (a b : Net) (o p : Outcome) (one : OneList) (step : Step) (rows : List Row) (told : Stepped) (x : AreStepRows a o b p step rows told) where
+module _ (a b : Net) (o p : Outcome) (one : OneList) (step : Deed) (rows : List Row) (told : Stepped) (x : AreStepRows a o b p step rows told) where
   flagged_moves : (vid : ℕ) → Contains all_vids vid → x.are_moved.flags vid ≡ true → Contains x.moved vid
   flagged_moves vid h e = subst (λ vids. Contains vids vid) (sym x.are_moved.are) (in_filter x.are_moved.flags all_vids vid h e)
 

@@ -19,10 +19,10 @@ use Rattle.mst_sweep.specs.Parts.{AreParts}
 use Rattle.mst_sweep.specs.SweepText.{failure_row, AreFailureRows}
 use Rattle.mst_sweep.proofs.CutsBy.{one_list, one_cut}
 use Rattle.mst_sweep.proofs.OneSweep.{one_parts}
-use Rattle.mst_steps.specs.declared.step.Step.{Step}
+use Rattle.mst_steps.specs.declared.step.Deed.{Deed}
 use Rattle.mst_steps.specs.declared.step.Stepped.{Stepped}
 use Rattle.mst_steps.specs.MovedVids.{AreVidsWhere, IsCut, IsJoined, IsMoved, links_differ}
-use Rattle.mst_steps.specs.StepText.{step_row, AreStepRows, IsAsInSweep}
+use Rattle.mst_steps.specs.StepText.{cut_by, deed_row, AreStepRows, IsAsInSweep}
 
 -- the VIDs that are so are one list, where of each VID one is so
 one_where : (Is : ℕ → Bool → Type 0) → ((vid : ℕ) (c d : Bool) → Is vid c → Is vid d → c ≡ d) → (us vs : List ℕ) → AreVidsWhere Is us → AreVidsWhere Is vs → us ≡ vs
@@ -42,7 +42,7 @@ module _ (a b : Net) (o p : Outcome) (one : OneList) (grouping : OneGrouping) wh
       let joined : x.1 ≡ y.1 = one_cut_flag b a p o one vid x.1 y.1 x.3 y.3 in
       x.4 ∙ (λ i. cut i || joined i || links_differ a o b p vid) ∙ sym y.4
 
-  module _ (step : Step) (rows other : List Row) (told said : Stepped) (x : AreStepRows a o b p step rows told) (y : AreStepRows a o b p step other said) where
+  module _ (step : Deed) (rows other : List Row) (told said : Stepped) (x : AreStepRows a o b p step rows told) (y : AreStepRows a o b p step other said) where
     moved : x.moved ≡ y.moved
     moved = one_where (IsMoved a o b p) one_moved x.moved y.moved x.are_moved y.are_moved
 
@@ -50,13 +50,13 @@ module _ (a b : Net) (o p : Outcome) (one : OneList) (grouping : OneGrouping) wh
     joined = one_where (IsJoined a o b p) (one_cut_flag b a p o one) x.joined y.joined x.are_joined y.are_joined
 
     cut : x.cut ≡ y.cut
-    cut = one_cut (AreParts a o b p) (one_parts a b o p one) grouping (by.Step step.number) x.cut y.cut x.cut_rows y.cut_rows x.are_cut y.are_cut
+    cut = one_cut (AreParts a o b p) (one_parts a b o p one) grouping (cut_by step) x.cut y.cut x.cut_rows y.cut_rows x.are_cut y.are_cut
 
     cut_rows : x.cut_rows ≡ y.cut_rows
-    cut_rows = one_list (AreParts a o b p) (one_parts a b o p one) grouping (by.Step step.number) x.cut y.cut x.cut_rows y.cut_rows x.are_cut y.are_cut
+    cut_rows = one_list (AreParts a o b p) (one_parts a b o p one) grouping (cut_by step) x.cut y.cut x.cut_rows y.cut_rows x.are_cut y.are_cut
 
     pub rows_same : rows ≡ other
-    rows_same = x.are ∙ (λ i. step_row step (moved_roots a o b p) (moved_ports a o b p) (runs_of (moved i)) (runs_of (cut i)) (runs_of (joined i)) ∷ cut_rows i) ∙ sym y.are
+    rows_same = x.are ∙ (λ i. deed_row step (moved_roots a o b p) (moved_ports a o b p) (runs_of (moved i)) (runs_of (cut i)) (runs_of (joined i)) ∷ cut_rows i) ∙ sym y.are
 
     pub told_same : told ≡ said
     told_same =
@@ -65,7 +65,7 @@ module _ (a b : Net) (o p : Outcome) (one : OneList) (grouping : OneGrouping) wh
         λ i. record { moves = moves i; cuts = cuts i }
 
   -- ---- beside a failure
-  module _ (step : Step) (failure : Failure) (rows failed : List Row) (told : Stepped) (cuts : Bool) (x : AreStepRows a o b p step rows told) (y : AreFailureRows a o b p failure failed cuts) where
+  module _ (step : Deed) (failure : Failure) (rows failed : List Row) (told : Stepped) (cuts : Bool) (x : AreStepRows a o b p step rows told) (y : AreFailureRows a o b p failure failed cuts) where
     -- the VIDs that the step cuts are cut by the failure, into the same parts
     by_failure : AreCutsBy (AreParts a o b p) (by.One failure) x.cut (flat_map (group_rows (by.One failure) x.are_cut.parts) x.are_cut.groups)
     by_failure = record {
@@ -92,7 +92,7 @@ module _ (a b : Net) (o p : Outcome) (one : OneList) (grouping : OneGrouping) wh
       joined = runs_of x.joined;
       parts = x.are_cut.parts;
       groups = x.are_cut.groups;
-      of_step = x.are ∙ ap (λ rows. step_row step (moved_roots a o b p) (moved_ports a o b p) (runs_of x.moved) (runs_of x.cut) (runs_of x.joined) ∷ rows) x.are_cut.are;
+      of_step = x.are ∙ ap (λ rows. deed_row step (moved_roots a o b p) (moved_ports a o b p) (runs_of x.moved) (runs_of x.cut) (runs_of x.joined) ∷ rows) x.are_cut.are;
       of_failure = y.are ∙ (λ i. failure_row failure (moved_roots a o b p) (moved_ports a o b p) (runs_of (sym same_cut i)) ∷ sym same_rows i);
       both_cut = x.cuts ∙ ap has_any same_cut ∙ sym y.some;
     }

@@ -9,7 +9,7 @@ ghost use Rattle.mst_sweep.specs.Failures.{edit_of};
 ghost use Rattle.mst_sweep.specs.declared.failure.Failure.{Failure as FailureOf};
 ghost use Rattle.mst_sweep.specs.SweepText.{AreFailureRows};
 ghost use Rattle.mst_steps.specs.StepText.{AreStepRows, IsAsInSweep};
-ghost use Rattle.mst_steps.specs.declared.step.Step.{Step as StepOf};
+ghost use Rattle.mst_steps.specs.declared.step.Deed.{Deed as DeedOf};
 ghost use Rattle.mst_steps.specs.declared.step.Stepped.{Stepped as SteppedOf};
 
 use mst_diff::trees_laws::one_outcome;
@@ -21,7 +21,7 @@ use mst_ids::Vid;
 /// none.
 pub fn one_step()
     ensures { (a b : Net) (o p q r : Outcome) → IsNetwork a → IsNetwork b → IsOutcome a o → IsOutcome b p → IsOutcome a q → IsOutcome b r
-        → (step : StepOf) (rows other : List Row) (told said : SteppedOf) → AreStepRows a o b p step rows told → AreStepRows a q b r step other said → (rows ≡ other) × (told ≡ said) }
+        → (step : DeedOf) (rows other : List Row) (told said : SteppedOf) → AreStepRows a o b p step rows told → AreStepRows a q b r step other said → (rows ≡ other) × (told ≡ said) }
 {
     one_outcome();
     islands_of_vid();
@@ -30,9 +30,9 @@ pub fn one_step()
 
 /// The VIDs that a step cuts, and those that it joins, are among those that move. So a step that cuts some moves some.
 pub fn cut_moves()
-    ensures cut { (a b : Net) (o p : Outcome) (step : StepOf) (rows : List Row) (told : SteppedOf) → (x : AreStepRows a o b p step rows told) → (vid : ℕ) → Contains x.cut vid → Contains x.moved vid }
-    ensures joined { (a b : Net) (o p : Outcome) (step : StepOf) (rows : List Row) (told : SteppedOf) → (x : AreStepRows a o b p step rows told) → (vid : ℕ) → Contains x.joined vid → Contains x.moved vid }
-    ensures told { (a b : Net) (o p : Outcome) (step : StepOf) (rows : List Row) (told : SteppedOf) → AreStepRows a o b p step rows told → told.cuts ≡ true → told.moves ≡ true }
+    ensures cut { (a b : Net) (o p : Outcome) (step : DeedOf) (rows : List Row) (told : SteppedOf) → (x : AreStepRows a o b p step rows told) → (vid : ℕ) → Contains x.cut vid → Contains x.moved vid }
+    ensures joined { (a b : Net) (o p : Outcome) (step : DeedOf) (rows : List Row) (told : SteppedOf) → (x : AreStepRows a o b p step rows told) → (vid : ℕ) → Contains x.joined vid → Contains x.moved vid }
+    ensures told { (a b : Net) (o p : Outcome) (step : DeedOf) (rows : List Row) (told : SteppedOf) → AreStepRows a o b p step rows told → told.cuts ≡ true → told.moves ≡ true }
 {
     islands_of_vid();
 }
@@ -41,7 +41,7 @@ pub fn cut_moves()
 /// as the failure in a sweep does, and these VIDs have the same parts.
 pub fn as_in_sweep()
     ensures { (a b : Net) (o p q r : Outcome) (failure : FailureOf) → IsNetwork a → IsNetwork b → IsOutcome a o → IsOutcome b p → IsOutcome a q → IsOutcome b r → after (edit_of failure) a ≡ Ok b
-        → (step : StepOf) (rows failed : List Row) (told : SteppedOf) (cuts : Bool) → AreStepRows a o b p step rows told → AreFailureRows a q b r failure failed cuts → IsAsInSweep step failure rows told failed cuts }
+        → (step : DeedOf) (rows failed : List Row) (told : SteppedOf) (cuts : Bool) → AreStepRows a o b p step rows told → AreFailureRows a q b r failure failed cuts → IsAsInSweep step failure rows told failed cuts }
 {
     one_outcome();
     islands_of_vid();

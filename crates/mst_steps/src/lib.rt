@@ -15,4 +15,4 @@ mod step;
 mod told;
 
 pub use links::Link;
-pub use step::{Step, Stepped, Walked, put_last, put_step};
+pub use step::{Deed, Step, Stepped, Walked, put_last, put_step};

@@ -8,11 +8,10 @@ ghost use Rattle.mst_diff.specs.plan_text.Bodies.{NumberEach};
 ghost use Rattle.mst_diff.specs.Reach.{has_any};
 ghost use Rattle.mst_diff.specs.Seen.{seen_both};
 ghost use Rattle.mst_sweep.specs.declared.cuts.CutBy.{CutBy as CutByOf};
-ghost use Rattle.mst_sweep.specs.declared.cuts.CutBy.TheVariants.{Step as StepOf};
 ghost use Rattle.mst_sweep.specs.Cuts.{rows_of, runs_of, AreCutsBy};
 ghost use Rattle.mst_sweep.specs.Parts.{AreParts};
 ghost use Rattle.mst_steps.specs.MovedVids.{AreVidsWhere, IsJoined, IsMoved};
-ghost use Rattle.mst_steps.specs.StepText.{last_row, lines_word as lines_word_of, step_row, AreStepRows};
+ghost use Rattle.mst_steps.specs.StepText.{cut_by as cut_by_of, deed_row, does_row, last_row, lines_word as lines_word_of, step_row, AreStepRows};
 
 use crate::change::Change;
 use crate::fates::are_some;
@@ -21,7 +20,7 @@ use crate::ports::{moved_ports, ports_of_both};
 use crate::told::{Told, told_of};
 use mst_diff::{Both, Planned, bridges_of_both, set_of};
 use mst_ids::{Tree, VidSet, push_bytes, push_decimal};
-use mst_kinds::{Kind, StepLine};
+use mst_kinds::{AdviseLine, Kind, StepLine};
 use mst_rows::{Rows, Value, put};
 use mst_sweep::{CutBy, moved_roots, put_cuts};
 use std::alloc::{AllocError, Global};
@@ -35,6 +34,15 @@ pub struct Step {
     pub first: u64,
     /// And of its last.
     pub last: u64,
+}
+
+/// What makes one network of another: a step of a change, or edits that are advised.
+#[derive(Clone, Copy)]
+pub enum Deed {
+    /// A step.
+    Step(Step),
+    /// Edits.
+    Edits,
 }
 
 /// Whether a step moves some VID, and whether it cuts some.
@@ -90,10 +98,74 @@ fn put_row<'a, R: Rows>(
     put::<R>(Kind::Step(StepLine::Step), &values, out)
 }
 
+/// Puts the row of edits that are advised.
+fn put_does<'a, R: Rows>(
+    roots: &'a [Tree],
+    ports: u64,
+    moved: &'a VidSet,
+    cut: &'a VidSet,
+    joined: &'a VidSet,
+    out: &mut R,
+) -> Result<(), AllocError>
+    ensures { (first : R) (rows : List Row) → R.grew first out.old rows
+        → OnOk result (R.grew first out.new (rows ++ does_row roots.now ports (runs_from 0 moved.now) (runs_from 0 cut.now) (runs_from 0 joined.now) ∷ [])) }
+{
+    let values = [
+        Value::Trees(roots),
+        Value::Number(ports),
+        Value::Vids(moved),
+        Value::Vids(cut),
+        Value::Vids(joined),
+    ];
+    put::<R>(Kind::Advise(AdviseLine::Does), &values, out)
+}
+
+/// Puts the row of either.
+fn put_deed<R: Rows>(
+    alloc: Global,
+    deed: &Deed,
+    roots: &[Tree],
+    ports: u64,
+    moved: &VidSet,
+    cut: &VidSet,
+    joined: &VidSet,
+    out: &mut R,
+) -> Result<(), AllocError>
+    ensures { (first : R) (rows : List Row) → R.grew first out.old rows
+        → OnOk result (R.grew first out.new (rows ++ deed_row deed.now roots.now ports (runs_from 0 moved.now) (runs_from 0 cut.now) (runs_from 0 joined.now) ∷ [])) }
+{
+    match deed {
+        Deed::Step(step) => {
+            let lines = lines_word(alloc, step.first, step.last)?;
+            put_row(
+                step,
+                lines.as_slice(),
+                roots,
+                ports,
+                moved,
+                cut,
+                joined,
+                out,
+            )
+        }
+        Deed::Edits => put_does(roots, ports, moved, cut, joined, out),
+    }
+}
+
+/// By what VIDs are cut.
+fn cut_by(deed: &Deed) -> CutBy
+    ensures { result ≡ cut_by_of deed.now }
+{
+    match deed {
+        Deed::Step(step) => CutBy::Step(step.number),
+        Deed::Edits => CutBy::Edits,
+    }
+}
+
 /// Puts the rows of a step, by what is told of it.
 fn put_told<R: Rows>(
     alloc: Global,
-    step: &Step,
+    deed: &Deed,
     roots: &[Tree],
     ports: u64,
     told: &Told,
@@ -102,15 +174,14 @@ fn put_told<R: Rows>(
     requires { NumberEach told.now.classes.numbers.items (vec_len told.now.cuts.parts) }
     ensures { IfOk result (λ stepped. (stepped.moves ≡ has_any told.now.moved.items) × (stepped.cuts ≡ has_any told.now.cuts.vids.items)
         × ((first : R) (rows : List Row) → R.grew first out.old rows
-        → R.grew first out.new (rows ++ step_row step.now roots.now ports (runs_of told.now.moved.items) (runs_of told.now.cuts.vids.items) (runs_of told.now.joined.items) ∷ rows_of (StepOf step.now.number) told.now.classes.numbers.items told.now.cuts))) }
+        → R.grew first out.new (rows ++ deed_row deed.now roots.now ports (runs_of told.now.moved.items) (runs_of told.now.cuts.vids.items) (runs_of told.now.joined.items) ∷ rows_of (cut_by_of deed.now) told.now.classes.numbers.items told.now.cuts))) }
 {
-    let lines = lines_word(alloc, step.first, step.last)?;
     let moved = told.moved.as_slice();
     let cut = told.cuts.vids.as_slice();
     let joined = told.joined.as_slice();
-    put_row(
-        step,
-        lines.as_slice(),
+    put_deed(
+        alloc,
+        deed,
         roots,
         ports,
         &set_of(moved),
@@ -118,7 +189,7 @@ fn put_told<R: Rows>(
         &set_of(joined),
         out,
     )?;
-    put_cuts(&CutBy::Step(step.number), &told.classes, &told.cuts, out)?;
+    put_cuts(&cut_by(deed), &told.classes, &told.cuts, out)?;
     Ok(Stepped {
         moves: are_some(moved),
         cuts: are_some(cut),
@@ -157,7 +228,7 @@ fn told_between(
     told_of(alloc, &change)
 }
 
-/// Puts the rows of a step: which trees' roots move, how many roles, which VIDs move, which are cut and into which parts, and which are
+/// Puts the rows of a step, or of edits that are advised: which trees' roots move, how many roles, which VIDs move, which are cut and into which parts, and which are
 /// joined, and answers whether some move and whether some are cut. `old` is the plan of the network before the step, `new` that of the
 /// network after it. `AllocError`: memory was wanted and refused; some of the rows may have been put.
 ///
@@ -165,7 +236,7 @@ fn told_between(
 /// either network. Islands are made only of a class of which that isn't the same.
 pub fn put_step<R: Rows>(
     alloc: Global,
-    step: &Step,
+    deed: &Deed,
     old: &Planned,
     new: &Planned,
     out: &mut R,
@@ -173,14 +244,14 @@ pub fn put_step<R: Rows>(
     requires old { Known old.now.view.now old.now.forest.now.regions }
     requires new { Known new.now.view.now new.now.forest.now.regions }
     ensures { IfOk result (λ told. (a b : Net) (n k : Numbers) (is : IsForest a n old.now.forest.now) (are : IsForest b k new.now.forest.now) → AreOf a n old.now.view.now old.now.forest.now.regions → AreOf b k new.now.view.now new.now.forest.now.regions
-        → (own : List Row) × AreStepRows a is.outcome b are.outcome step.now own told × ((first : R) (rows : List Row) → R.grew first out.old rows → R.grew first out.new (rows ++ own))) }
+        → (own : List Row) × AreStepRows a is.outcome b are.outcome deed.now own told × ((first : R) (rows : List Row) → R.grew first out.old rows → R.grew first out.new (rows ++ own))) }
 {
     let both = bridges_of_both(alloc, old.view, new.view)?;
     let told = told_between(alloc, old, new, both.as_slice())?;
     let roots = moved_roots(alloc, old, new, both.as_slice())?;
     let shared = ports_of_both(alloc, old.view, new.view)?;
     let ports = moved_ports(old, new, shared.as_slice());
-    put_told(alloc, step, roots.as_slice(), ports, &told, out)
+    put_told(alloc, deed, roots.as_slice(), ports, &told, out)
 }
 
 /// Puts the row of how many steps there are, how many of them move some VID and how many cut some.

@@ -4,6 +4,7 @@ pub use Rattle.mst_diff.proofs.plan_text_lemmas as plan_text_lemmas
 pub mod Lists
 pub mod Added
 pub mod Named
+pub mod OverSeen
 pub mod Next
 pub mod VidClasses
 pub mod OneSummary

@@ -31,10 +31,6 @@ pub all_mapped : {A B : Type 0} (test : B → Bool) (f : A → B) (xs : List A) 
 all_mapped test f [] = refl
 all_mapped test f (x ∷ xs) = ap (λ t. test (f x) && t) (all_mapped test f xs)
 
-pub all_alike : {A : Type 0} (f g : A → Bool) (xs : List A) → AllByRecursion (λ x. f x ≡ g x) xs → list_all f xs ≡ list_all g xs
-all_alike f g [] h = refl
-all_alike f g (x ∷ xs) h = let first = h.0 in let rest = all_alike f g xs h.1 in λ i. first i && rest i
-
 pub any_mapped : {A B : Type 0} (test : B → Bool) (f : A → B) (xs : List A) → list_any test (map f xs) ≡ list_any (λ x. test (f x)) xs
 any_mapped test f [] = refl
 any_mapped test f (x ∷ xs) = ap (λ t. test (f x) || t) (any_mapped test f xs)

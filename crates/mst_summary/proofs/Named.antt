@@ -1,7 +1,6 @@
 -- What is seen of a summary, under names.
-use Rattle.std.proofs.Common.{◌≡◌, ℕ, ◌==◌, ◌&&◌, ◌||◌, Bool, true, false, true≢false, cond, List, [], ◌∷◌, ◌++◌, map, length, Some, refl, sym, ap, ◌∙◌, eq-eqb, arith}
-use Rattle.std.specs.Prelude.{if◌then◌else◌}
-use Rattle.std.specs.List.{filter, filter_map, flat_map, list_all, list_any, count_by}
+use Rattle.std.proofs.Common.{◌≡◌, ℕ, ◌==◌, ◌&&◌, ◌||◌, Bool, true, false, true≢false, List, [], ◌∷◌, ◌++◌, map, length, Some, refl, sym, ap, ◌∙◌, eq-eqb, arith}
+use Rattle.std.specs.List.{filter, filter_map, flat_map, list_any, count_by}
 use Rattle.std.specs.Option.{option_map_or, unwrap_or}
 use Rattle.std.specs.FinMap as fin
 use Rattle.std.specs.Cmp.Lexicographic.{bytes_decides}
@@ -10,7 +9,6 @@ use Rattle.std.proofs.lemmas.List.{length-map}
 use Rattle.std.proofs.lemmas.List.Folds.{flat_map-map}
 use Rattle.mst_ids.specs.Identifiers.{bridge_id}
 use Rattle.mst_ids.specs.Vids.{has}
-use Rattle.mst_rows.specs.Rows.{Row}
 use Rattle.mst_diff.specs.net.ByTree.{by_tree, vlans_in}
 use Rattle.mst_diff.specs.net.Seen.{bridge_row}
 use Rattle.mst_diff.specs.net.Tables.{Net, BridgeRow, IsNetwork}
@@ -28,23 +26,23 @@ use Rattle.mst_diff.specs.trees.Outcome.{Outcome}
 use Rattle.mst_diff.specs.trees.Settled.{SettledNet, outcome_of, IsSettledNet}
 use Rattle.mst_diff.proofs.trees_lemmas.Entries.{all_weaker}
 use Rattle.mst_diff.proofs.trees_lemmas.Lists.{all_passing, filter_mapped, mapped_twice, some_is}
-use Rattle.mst_diff.proofs.trees_lemmas.Looking.{has_tree_at}
+use Rattle.mst_diff.proofs.trees_lemmas.Looking.{filter_alike, has_tree_at}
 use Rattle.mst_diff.proofs.trees_lemmas.Seen.{SeenBridge, SeenPort, bridges_seen, ports_seen}
 use Rattle.mst_diff.proofs.trees_lemmas.SettledNet.{forest_of}
 use Rattle.mst_diff.specs.text.TreeText.{has_tree}
 use Rattle.mst_diff.proofs.roles_lemmas.Forwarded.{each_forwards}
-use Rattle.mst_vlan.specs.Reach.{is_member}
+use Rattle.mst_vlan.specs.Reach.{is_member, lans_up}
 use Rattle.mst_vlan.specs.Seen.{seen_member}
 use Rattle.mst_diff.specs.changes.Subjects.{all_trees, bridge_names}
 use Rattle.mst_diff.proofs.changes_lemmas.Lists.{filter_map-map}
 use Rattle.mst_diff.proofs.Named.{names_are}
 use Rattle.mst_summary.specs.Blocked.{is_blocked, blocked, blocked_row}
-use Rattle.mst_summary.specs.Carries.{ports_on, carries, carried, carries_rows, all_carries}
+use Rattle.mst_summary.specs.Carries.{are_of_two, carriers, carries, goes_over, joins, joining_lans, ports_on}
 use Rattle.mst_summary.specs.Counts.{is_first, is_used, used_trees, counts_of}
 use Rattle.mst_summary.specs.Roots.{follower, followers, rows_of_root, root_rows}
-use Rattle.mst_summary.specs.Seen.{seen_used, seen_trees, seen_first, seen_counts, seen_root, blocked_of, seen_tree_rows, seen_on, seen_carries, seen_up}
+use Rattle.mst_summary.specs.Seen.{seen_used, seen_trees, seen_first, seen_counts, seen_root, blocked_of, seen_tree_rows, seen_on, seen_carries, seen_over, seen_joins, seen_lans_up, seen_joining_lans}
 use Rattle.mst_summary.specs.SummaryText.{all_trees_rows}
-use Rattle.mst_summary.proofs.Lists.{count_mapped, count_alike, all_mapped, all_alike, any_mapped, any_alike}
+use Rattle.mst_summary.proofs.Lists.{count_mapped, count_alike, any_mapped, any_alike}
 
 same_mac : (m n : ℕ) → bridge_id 0 0 m ≡ bridge_id 0 0 n → m ≡ n
 same_mac m n e = omega arith
@@ -135,28 +133,29 @@ module _ (s : SettledNet) (is : IsSettledNet s) where
       member : (vid : ℕ) (p : PortInView) → seen_member v vid p ≡ is_member net vid (named_port p)
       member vid p = λ i. has (vlans_in (of.view.settings i).vlans p.name) vid
 
-  pub all_carry_named : (lan : List ℕ) (vid : ℕ) → list_all (seen_carries v f vid) (seen_on v lan) ≡ list_all (carries net o vid) (ports_on net lan)
-  all_carry_named lan vid =
-      all_alike (seen_carries v f vid) (λ (p : PortInView). carries net o vid (named_port p)) (seen_on v lan)
-      (all_passing (SeenPort net numbers) _ (λ (p : PortInView). same_name p.lan lan) (λ p seen _. carries_named vid p seen) v.ports (ports_seen net numbers v of.view))
-      ∙ sym (all_mapped (carries net o vid) named_port (seen_on v lan))
-      ∙ ap (list_all (carries net o vid)) (sym (filter_mapped (λ (p : LogicalPort). same_name p.lan lan) named_port v.ports) ∙ ap (filter (λ (p : LogicalPort). same_name p.lan lan)) of.view.ports)
+  ports_named : (lan : List ℕ) → map named_port (seen_on v lan) ≡ ports_on net lan
+  ports_named lan = sym (filter_mapped (λ (p : LogicalPort). same_name p.lan lan) named_port v.ports) ∙ ap (filter (λ (p : LogicalPort). same_name p.lan lan)) of.view.ports
 
-  -- the rows of LANs
-  pub lans_named : flat_map (seen_up s) v.lans ≡ all_carries net o
-  lans_named = go v.lans ∙ ap (λ lans. flat_map g (map (λ (l : LogicalLan). l.name) (filter (λ (l : LogicalLan). l.is_up) lans))) of.view.lans
-    where
-      g : List ℕ → List Row
-      g lan = carries_rows lan (carried net o lan)
+  carriers_named : (lan : List ℕ) (vid : ℕ) → map named_port (filter (seen_carries v f vid) (seen_on v lan)) ≡ carriers net o lan vid
+  carriers_named lan vid =
+      ap (map named_port)
+      (filter_alike (seen_carries v f vid) (λ (p : PortInView). carries net o vid (named_port p)) (seen_on v lan)
+      (all_passing (SeenPort net numbers) _ (λ (p : PortInView). same_name p.lan lan) (λ p seen _. carries_named vid p seen) v.ports (ports_seen net numbers v of.view)))
+      ∙ sym (filter_mapped (carries net o vid) named_port (seen_on v lan))
+      ∙ ap (filter (carries net o vid)) (ports_named lan)
 
-      go : (lans : List LanInView) → flat_map (seen_up s) lans ≡ flat_map g (map (λ (l : LogicalLan). l.name) (filter (λ (l : LogicalLan). l.is_up) (map named_lan lans)))
-      go [] = refl
-      go (l ∷ ls) = one l.is_up (go ls)
-        where
-          rest : List LogicalLan
-          rest = filter (λ (l : LogicalLan). l.is_up) (map named_lan ls)
+  pub over_named : (lan : List ℕ) (vid : ℕ) → seen_over v f (seen_on v lan) vid ≡ goes_over net o lan vid
+  over_named lan vid = ap are_of_two (carriers_named lan vid)
 
-          one : (b : Bool) → flat_map (seen_up s) ls ≡ flat_map g (map (λ (l : LogicalLan). l.name) rest)
-              → (if b then g l.name else []) ++ flat_map (seen_up s) ls ≡ flat_map g (map (λ (l : LogicalLan). l.name) (cond b (named_lan l ∷ rest) rest))
-          one true e = ap (λ t. g l.name ++ t) e
-          one false e = e
+  -- ---- the logical LANs that are up and join bridges
+  joins_named : (lan : List ℕ) → seen_joins (seen_on v lan) ≡ joins net lan
+  joins_named lan =
+      ap are_of_two (sym (filter_mapped (λ (p : LogicalPort). p.is_enabled) named_port (seen_on v lan)) ∙ ap (filter (λ (p : LogicalPort). p.is_enabled)) (ports_named lan))
+
+  up_named : seen_lans_up v ≡ lans_up net
+  up_named =
+      sym (mapped_twice (λ (l : LogicalLan). l.name) named_lan (filter (λ (l : LanInView). l.is_up) v.lans))
+      ∙ ap (map (λ (l : LogicalLan). l.name)) (sym (filter_mapped (λ (l : LogicalLan). l.is_up) named_lan v.lans) ∙ ap (filter (λ (l : LogicalLan). l.is_up)) of.view.lans)
+
+  pub joining_named : seen_joining_lans v ≡ joining_lans net
+  joining_named = λ i. filter (λ lan. joins_named lan i) (up_named i)

@@ -13,8 +13,9 @@ use Rattle.mst_diff.specs.trees.Outcome.{Outcome}
 use Rattle.mst_vlan.specs.Reach.{AreIslandsOf}
 use Rattle.mst_diff.specs.plan_text.PlanText.{all_vids}
 use Rattle.mst_diff.proofs.plan_text_lemmas.OnePlan.{vids_once, is_vid_there, OneGrouping}
-use Rattle.mst_summary.specs.Carries.{all_carries}
+use Rattle.mst_summary.specs.Carries.{all_carries, full_carries}
 use Rattle.mst_summary.specs.Counts.{counts_of, counts_row}
+use Rattle.mst_slips.specs.Slips.{slip_rows}
 use Rattle.mst_summary.specs.SummaryText.{all_trees_rows, AreSummaryRows}
 use Rattle.mst_summary.specs.Vlans.{with_bridge, HasIslands, islands_row, group_rows, AreVlanRows}
 
@@ -57,7 +58,7 @@ module _ (net : Net) (o : Outcome) (one : (vid : ℕ) (islands others : List (Is
 
   pub one_list : (rows other : List Row) → AreSummaryRows net o rows → AreSummaryRows net o other → rows ≡ other
   one_list rows other x y =
-      x.is ∙ ap (λ (vlans : List Row). ((counts_row (counts_of net) ∷ all_trees_rows net o) ++ vlans) ++ all_carries net o) (one_vlans x.vlans y.vlans x.are_vlans y.are_vlans) ∙ sym y.is
+      x.is ∙ ap (λ (vlans : List Row). ((((counts_row (counts_of net) ∷ all_trees_rows net o) ++ vlans) ++ all_carries net o) ++ full_carries net o) ++ slip_rows net) (one_vlans x.vlans y.vlans x.are_vlans y.are_vlans) ∙ sym y.is
 
 -- and there is one
 module _ (net : Net) (o : Outcome) (some : (vid : ℕ) → (islands : List (Island (List ℕ) (List ℕ))) × AreIslandsOf net o vid islands)
@@ -91,4 +92,4 @@ module _ (net : Net) (o : Outcome) (some : (vid : ℕ) → (islands : List (Isla
   pub has_rows : (rows : List Row) × AreSummaryRows net o rows
   has_rows =
       let vlans = has_vlans in
-      (((counts_row (counts_of net) ∷ all_trees_rows net o) ++ vlans.0) ++ all_carries net o, record { vlans = vlans.0; are_vlans = vlans.1; is = refl })
+      (((((counts_row (counts_of net) ∷ all_trees_rows net o) ++ vlans.0) ++ all_carries net o) ++ full_carries net o) ++ slip_rows net, record { vlans = vlans.0; are_vlans = vlans.1; is = refl })

@@ -1,7 +1,7 @@
 -- What holds of a class of VIDs holds of each of its VIDs.
 use Rattle.std.proofs.Common.{◌≡◌, ℕ, ◌+◌, ◌-◌, ◌<◌, ◌≤◌, ◌==◌, nat_eq, ◌&&◌, Bool, true, false, cond, List, [], ◌∷◌, ◌++◌, length, take, get_or, map, Some, refl, sym, ap, subst, ◌∙◌, arith, eq-eqb}
 use Rattle.std.specs.Prelude.{if◌then◌else◌}
-use Rattle.std.specs.List.{AllByRecursion, AllZip, Contains, find, list_all, count_by}
+use Rattle.std.specs.List.{AllByRecursion, AllZip, Contains, find, count_by}
 use Rattle.std.specs.Option.{option_map_or}
 use Rattle.std.specs.FinMap as fin
 use Rattle.std.proofs.lemmas.Bool.{eqb-true}
@@ -18,13 +18,14 @@ use Rattle.mst_diff.specs.net.Seen.{bridge_row}
 use Rattle.mst_diff.specs.net.Table.{tree_in}
 use Rattle.mst_diff.specs.net.Tables.{Numbers}
 use Rattle.mst_lag.specs.Aggregation.{same_name}
-use Rattle.mst_lag.specs.Viewed.{Viewed}
+use Rattle.mst_lag.specs.Viewed.{Viewed, named_port}
 use Rattle.mst_lag.specs.declared.in_view.BridgeInView.{BridgeInView}
 use Rattle.mst_lag.specs.declared.in_view.PortInView.{PortInView}
 use Rattle.mst_diff.specs.trees.Forest.{Forest}
 use Rattle.mst_diff.specs.trees.Settled.{SettledNet, outcome_of, IsSettledNet}
 use Rattle.mst_diff.proofs.trees_lemmas.Entries.{all_weaker}
 use Rattle.mst_diff.proofs.trees_lemmas.Lists.{all_contained, all_passing, all_there}
+use Rattle.mst_diff.proofs.trees_lemmas.Looking.{filter_alike}
 use Rattle.mst_diff.specs.roles.Roles.{forwards}
 use Rattle.mst_diff.specs.roles.Seen.{seen_role, seen_tree}
 use Rattle.mst_vlan.specs.Reach.{bridges_on, lans_up}
@@ -37,10 +38,11 @@ use Rattle.mst_diff.proofs.plan_text_lemmas.Bodied.{zip_at}
 use Rattle.mst_diff.proofs.plan_text_lemmas.Classes.{links_shared}
 use Rattle.mst_diff.proofs.plan_text_lemmas.Grouped.{place_of_vid, vids_long}
 use Rattle.mst_diff.specs.Reach.{has_any}
+use Rattle.mst_summary.specs.Carries.{are_of_two}
 use Rattle.mst_summary.specs.Kept.{AreClasses, count_at}
-use Rattle.mst_summary.specs.Seen.{seen_with_bridge, seen_on, seen_carries}
+use Rattle.mst_summary.specs.Seen.{seen_with_bridge, seen_on, seen_carries, seen_over}
 use Rattle.mst_summary.specs.Vlans.{with_bridge, HasIslands}
-use Rattle.mst_summary.proofs.Lists.{all_alike, count_mapped, count_alike}
+use Rattle.mst_summary.proofs.Lists.{count_mapped, count_alike}
 
 -- ---- things at places
 -- one more of each
@@ -163,6 +165,7 @@ module _ (v : Viewed) (c : Numbering) (k : AreClasses v c) where
         all_contained (λ set. has set x ≡ has set y) sets (vlans_in v.settings.vlans p.name) a.same_sets (all_contained (λ (q : PortInView). Contains sets (vlans_in v.settings.vlans q.name)) v.ports p have_sets there) in
         λ i. option_map_or forwards (seen_role v f (tree_alike p.bridge i) p) false && member i
 
-    pub all_carry_alike : (f : Forest) (lan : List ℕ) → list_all (seen_carries v f x) (seen_on v lan) ≡ list_all (seen_carries v f y) (seen_on v lan)
-    all_carry_alike f lan =
-        all_alike (seen_carries v f x) (seen_carries v f y) (seen_on v lan) (all_passing (Contains v.ports) _ (λ (p : PortInView). same_name p.lan lan) (λ p there _. carries_alike f p there) v.ports (all_there v.ports))
+    pub over_alike : (f : Forest) (lan : List ℕ) → seen_over v f (seen_on v lan) x ≡ seen_over v f (seen_on v lan) y
+    over_alike f lan =
+        ap (λ (ports : List PortInView). are_of_two (map named_port ports))
+        (filter_alike (seen_carries v f x) (seen_carries v f y) (seen_on v lan) (all_passing (Contains v.ports) _ (λ (p : PortInView). same_name p.lan lan) (λ p there _. carries_alike f p there) v.ports (all_there v.ports)))

@@ -1,5 +1,5 @@
 -- What is seen of a summary in the view of a settled network.
-use Rattle.std.specs.Prelude.{ℕ, ◌==◌, ◌&&◌, ◌++◌, Bool, false, List, [], ◌∷◌, filter, length, map, nat_eq, if◌then◌else◌}
+use Rattle.std.specs.Prelude.{ℕ, ◌==◌, ◌&&◌, ◌++◌, Bool, false, List, [], ◌∷◌, filter, length, map, nat_eq}
 use Rattle.std.specs.List.{count_by, flat_map, list_any}
 use Rattle.std.specs.Map.{lookup}
 use Rattle.std.specs.Option.{option_map_or}
@@ -11,7 +11,6 @@ use Rattle.mst_diff.specs.net.Seen.{bridge_row}
 use Rattle.mst_lag.specs.Aggregation.{same_name}
 use Rattle.mst_lag.specs.Viewed.{Viewed, named_port}
 use Rattle.mst_lag.specs.declared.in_view.BridgeInView.{BridgeInView}
-use Rattle.mst_lag.specs.declared.in_view.LanInView.{LanInView}
 use Rattle.mst_lag.specs.declared.in_view.PortInView.{PortInView}
 use Rattle.mst_diff.specs.trees.Forest.{Forest}
 use Rattle.mst_diff.specs.trees.InUse.{id_in, seen_has}
@@ -25,7 +24,7 @@ use Rattle.mst_summary.specs.declared.roots.Follower.{Follower}
 use Rattle.mst_summary.specs.declared.counts.Counts.{Counts}
 use Rattle.mst_summary.specs.Blocked.{is_blocked, blocked_row}
 use Rattle.mst_summary.specs.Roots.{followers, rows_of_root}
-use Rattle.mst_summary.specs.Carries.{carried, carries_rows}
+use Rattle.mst_summary.specs.Carries.{are_of_two}
 
 -- ---- counts
 -- some bridge has the tree
@@ -72,6 +71,17 @@ seen_on v lan = filter (λ p. same_name p.lan lan) v.ports
 abbrev pub seen_carries : Viewed → Forest → ℕ → PortInView → Bool
 seen_carries v f vid p = seen_forwards v f vid p && seen_member v vid p
 
--- the row of a logical LAN, where it is up
-abbrev pub seen_up : SettledNet → LanInView → List Row
-seen_up s l = if l.is_up then carries_rows l.name (carried s.net (outcome_of s) l.name) else []
+-- frames of a VID go over a logical LAN that has these ports
+abbrev pub seen_over : Viewed → Forest → List PortInView → ℕ → Bool
+seen_over v f ports vid = are_of_two (map named_port (filter (seen_carries v f vid) ports))
+
+-- it joins bridges
+abbrev pub seen_joins : List PortInView → Bool
+seen_joins ports = are_of_two (map named_port (filter (λ p. p.is_enabled) ports))
+
+-- the logical LANs that are up, and those of them that join bridges
+abbrev pub seen_lans_up : Viewed → List (List ℕ)
+seen_lans_up v = map (λ l. l.name) (filter (λ l. l.is_up) v.lans)
+
+abbrev pub seen_joining_lans : Viewed → List (List ℕ)
+seen_joining_lans v = filter (λ lan. seen_joins (seen_on v lan)) (seen_lans_up v)

@@ -1,37 +1,25 @@
 ghost use Rattle.std.specs.Prelude.{◌≡◌, ◌++◌, ◌∷◌, [], ◌+◌, ◌<◌, ℕ, List, filter, length, vec_len, IfOk, OnOk};
-ghost use Rattle.std.specs.List.{All, AllZip, flat_map, list_all};
+ghost use Rattle.std.specs.List.{All, AllZip, flat_map};
 ghost use Rattle.mst_rows.specs.Rows.{Row};
 ghost use Rattle.mst_diff.specs.trees.Settled.{outcome_of};
 ghost use Rattle.mst_diff.specs.plan_text.Bodies.{NumberEach};
-ghost use Rattle.mst_summary.specs.Carries.{all_carries, carried, carries_row, carries_rows};
+ghost use Rattle.mst_summary.specs.Carries.{all_carries, are_all as all_vids_are, carried as carried_over, carries_row, carries_rows, full_carries, full_of, full_rows};
 ghost use Rattle.mst_summary.specs.Kept.{AreClasses, flag_at, kept_at};
-ghost use Rattle.mst_summary.specs.Seen.{seen_on, seen_carries, seen_up};
+ghost use Rattle.mst_summary.specs.Seen.{seen_on, seen_over};
 
+use crate::joining::joining_lans;
 use crate::kept::{kept_for, ports_by_lan};
+use crate::over::goes_over;
 use indexmap::IndexMap;
-use mst_diff::{Settled, is_member, port_forwards, set_of, vids};
+use mst_diff::{Settled, set_of, vids};
 use mst_graph::Numbering;
 use mst_ids::{Name, Vid, VidSet};
 use mst_kinds::{Kind, SummaryLine};
-use mst_lag::{LanInView, PortInView};
+use mst_lag::PortInView;
 use mst_rows::{Rows, Value, put};
 use std::alloc::{AllocError, Global};
 
-/// Whether a port is active for a VID and a member of its VLAN.
-pub fn port_carries(plan: &Settled, vid: Vid, port: &PortInView) -> bool
-    ensures { result ≡ seen_carries plan.now.view plan.now.forest vid port.now }
-{
-    port_forwards(plan.view(), plan.forest(), port, vid) && is_member(plan.view(), port, vid)
-}
-
-/// Whether all of these ports are so.
-fn all_carry(plan: &Settled, vid: Vid, ports: &[PortInView]) -> bool
-    ensures { result ≡ list_all (seen_carries plan.now.view plan.now.forest vid) ports.now }
-{
-    ports.iter().all(|port| port_carries(plan, vid, port))
-}
-
-/// Whether all of these ports are so for the VIDs at these places, which are counted from 0.
+/// Whether the VIDs at these places, which are counted from 0, go over a logical LAN that has these ports.
 fn flags_at(
     alloc: Global,
     plan: &Settled,
@@ -40,12 +28,12 @@ fn flags_at(
 ) -> Result<Vec<bool>, AllocError>
     requires { All (λ place. place < 4094) places.now }
     ensures as_long { IfOk result (λ flags. vec_len flags ≡ length places.now) }
-    ensures flags { IfOk result (λ flags. AllZip (λ place flag. flag ≡ list_all (seen_carries plan.now.view plan.now.forest (place + 1)) ports.now) places.now flags.items) }
+    ensures flags { IfOk result (λ flags. AllZip (λ place flag. flag ≡ seen_over plan.now.view plan.now.forest ports.now (place + 1)) places.now flags.items) }
 {
     let mut flags = Vec::new(alloc);
     for place in places {
         let vid = Vid::new(*place as u64 + 1).unwrap();
-        flags.push(all_carry(plan, vid, ports))?;
+        flags.push(goes_over(alloc, plan, vid, ports)?)?;
     }
     Ok(flags)
 }
@@ -69,14 +57,34 @@ pub fn flagged(
     Ok(flagged)
 }
 
-/// Puts the row of a logical LAN that carries these VIDs, if these aren't all.
-fn put_some<R: Rows>(lan: &Name, vids: &[Vid], out: &mut R) -> Result<(), AllocError>
-    ensures { (first : R) (rows : List Row) → R.grew first out.old rows → OnOk result (R.grew first out.new (rows ++ carries_rows lan.now vids.now)) }
+/// The VIDs that go over a logical LAN, by the ports that are kept for each.
+fn carried(
+    alloc: Global,
+    plan: &Settled,
+    classes: &Numbering,
+    kept: &IndexMap<Name, Vec<PortInView>>,
+    lan: &Name,
+) -> Result<Vec<Vid>, AllocError>
+    requires classes { AreClasses plan.now.view classes.now }
+    requires kept { (name : List ℕ) → kept_at kept.now name ≡ seen_on plan.now.view name }
+    ensures { IfOk result (λ vids. vids.items ≡ carried_over plan.now.net (outcome_of plan.now) lan.now) }
 {
-    if vids.len() == 4094 {
-        return Ok(());
-    }
-    put_row(lan, &set_of(vids), out)
+    plan.known();
+    let flags = flags_at(alloc, plan, kept_for(kept, lan), classes.firsts.as_slice())?;
+    let vids = vids(alloc)?;
+    flagged(
+        alloc,
+        vids.as_slice(),
+        classes.numbers.as_slice(),
+        flags.as_slice(),
+    )
+}
+
+/// Whether these VIDs are all.
+fn are_all(vids: &[Vid]) -> bool
+    ensures { result ≡ all_vids_are vids.now }
+{
+    vids.len() == 4094
 }
 
 /// Puts the row of a logical LAN that carries the VIDs of this set.
@@ -87,77 +95,58 @@ fn put_row<'a, R: Rows>(lan: &'a Name, vids: &'a VidSet, out: &mut R) -> Result<
     put::<R>(Kind::Summary(SummaryLine::Carries), &values, out)
 }
 
-/// Puts the row of a logical LAN that has these ports, if it doesn't carry all VIDs.
-fn put_lan<R: Rows>(
-    alloc: Global,
-    plan: &Settled,
-    classes: &Numbering,
-    lan: &Name,
-    ports: &[PortInView],
-    out: &mut R,
-) -> Result<(), AllocError>
-    requires classes { AreClasses plan.now.view classes.now }
-    requires ports { ports.now ≡ seen_on plan.now.view lan.now }
-    ensures { (first : R) (rows : List Row) → R.grew first out.old rows → OnOk result (R.grew first out.new (rows ++ carries_rows lan.now (carried plan.now.net (outcome_of plan.now) lan.now))) }
+/// Puts the row of a logical LAN that carries these VIDs, if these aren't all.
+fn put_some<R: Rows>(lan: &Name, vids: &[Vid], out: &mut R) -> Result<(), AllocError>
+    ensures { (first : R) (rows : List Row) → R.grew first out.old rows → OnOk result (R.grew first out.new (rows ++ carries_rows lan.now vids.now)) }
 {
-    plan.known();
-    let flags = flags_at(alloc, plan, ports, classes.firsts.as_slice())?;
-    let vids = vids(alloc)?;
-    let carried = flagged(
-        alloc,
-        vids.as_slice(),
-        classes.numbers.as_slice(),
-        flags.as_slice(),
-    )?;
-    put_some(lan, carried.as_slice(), out)
-}
-
-/// Puts the row of a logical LAN, by the ports that are kept for each, if it is up and doesn't carry all VIDs.
-fn put_up<R: Rows>(
-    alloc: Global,
-    plan: &Settled,
-    classes: &Numbering,
-    kept: &IndexMap<Name, Vec<PortInView>>,
-    lan: &LanInView,
-    out: &mut R,
-) -> Result<(), AllocError>
-    requires classes { AreClasses plan.now.view classes.now }
-    requires kept { (name : List ℕ) → kept_at kept.now name ≡ seen_on plan.now.view name }
-    ensures { (first : R) (rows : List Row) → R.grew first out.old rows → OnOk result (R.grew first out.new (rows ++ seen_up plan.now lan.now)) }
-{
-    if !lan.is_up {
+    if are_all(vids) {
         return Ok(());
     }
-    put_lan(
-        alloc,
-        plan,
-        classes,
-        &lan.name,
-        kept_for(kept, &lan.name),
-        out,
-    )
+    put_row(lan, &set_of(vids), out)
 }
 
-/// Puts the rows of those of these logical LANs that are up and don't carry all VIDs.
+/// Puts the rows of those of these logical LANs that don't carry all VIDs, and gives those that do.
 fn put_lans<R: Rows>(
     alloc: Global,
     plan: &Settled,
     classes: &Numbering,
     kept: &IndexMap<Name, Vec<PortInView>>,
-    lans: &[LanInView],
+    lans: &[Name],
     out: &mut R,
-) -> Result<(), AllocError>
+) -> Result<Vec<Name>, AllocError>
     requires classes { AreClasses plan.now.view classes.now }
     requires kept { (name : List ℕ) → kept_at kept.now name ≡ seen_on plan.now.view name }
-    ensures { (first : R) (rows : List Row) → R.grew first out.old rows → OnOk result (R.grew first out.new (rows ++ flat_map (seen_up plan.now) lans.now)) }
+    ensures rows { (first : R) (rows : List Row) → R.grew first out.old rows
+        → OnOk result (R.grew first out.new (rows ++ flat_map (λ lan. carries_rows lan (carried_over plan.now.net (outcome_of plan.now) lan)) lans.now)) }
+    ensures full { IfOk result (λ full. full.items ≡ full_of plan.now.net (outcome_of plan.now) lans.now) }
 {
+    let mut full = Vec::new(alloc);
     for lan in lans {
-        put_up(alloc, plan, classes, kept, lan, out)?;
+        let vids = carried(alloc, plan, classes, kept, lan)?;
+        put_some(lan, vids.as_slice(), out)?;
+        if are_all(vids.as_slice()) {
+            full.push(*lan)?;
+        }
     }
-    Ok(())
+    Ok(full)
 }
 
-/// Puts the rows of the logical LANs that are up and don't carry all VIDs, by name.
+/// Puts the row of the logical LANs that carry all VIDs, if there is one.
+fn put_full<R: Rows>(lans: &[Name], out: &mut R) -> Result<(), AllocError>
+    ensures { (first : R) (rows : List Row) → R.grew first out.old rows → OnOk result (R.grew first out.new (rows ++ full_rows lans.now)) }
+{
+    match lans {
+        [] => Ok(()),
+        [..] => put::<R>(
+            Kind::Summary(SummaryLine::CarriesAll),
+            &[Value::Names(lans)],
+            out,
+        ),
+    }
+}
+
+/// Puts the rows of the logical LANs that are up and join bridges: of each that carries some VIDs or none, by name, and then of
+/// those that carry all.
 ///
 /// It asks each port once for each class of VIDs.
 pub(crate) fn put_carries<R: Rows>(
@@ -167,10 +156,13 @@ pub(crate) fn put_carries<R: Rows>(
     out: &mut R,
 ) -> Result<(), AllocError>
     requires { AreClasses plan.now.view classes.now }
-    ensures { (first : R) (rows : List Row) → R.grew first out.old rows → OnOk result (R.grew first out.new (rows ++ all_carries plan.now.net (outcome_of plan.now))) }
+    ensures { (first : R) (rows : List Row) → R.grew first out.old rows
+        → OnOk result (R.grew first out.new (rows ++ all_carries plan.now.net (outcome_of plan.now) ++ full_carries plan.now.net (outcome_of plan.now))) }
 {
     plan.known();
     let view = plan.view();
     let kept = ports_by_lan(alloc, view)?;
-    put_lans(alloc, plan, classes, &kept, view.lans(), out)
+    let lans = joining_lans(alloc, view, &kept)?;
+    let full = put_lans(alloc, plan, classes, &kept, lans.as_slice(), out)?;
+    put_full(full.as_slice(), out)
 }

@@ -1,5 +1,5 @@
 //! The first screen that an engineer sees of a network: how much there is, the roots and the ports that block in each
-//! tree, the islands of VIDs, and the logical LANs that don't carry all VIDs.
+//! tree, the islands of VIDs, and what the logical LANs between bridges carry.
 #![tactic(auto)]
 
 mod blocked;
@@ -8,13 +8,15 @@ mod classes;
 mod counts;
 mod in_use;
 mod islands;
+mod joining;
 mod kept;
 pub mod laws;
 mod looked_up;
+mod over;
 mod roots;
 mod summary;
 
-pub use carries::{flagged, port_carries};
+pub use carries::flagged;
 pub use classes::classes_of_vids;
 pub use kept::{kept_for, ports_by_lan};
 pub use looked_up::role;
@@ -24,5 +26,6 @@ pub use mst_diff::{
     put_diff, put_lags, put_plan, put_regions, put_tree, put_vlan, root_of, set_of, text_laws,
     trees_laws, vids,
 };
+pub use over::goes_over;
 pub use roots::{Follower, as_follower, least};
 pub use summary::put_summary;

@@ -17,6 +17,7 @@ use mst_config::Regions;
 use mst_diff::Settled;
 use mst_ids::Tree;
 use mst_rows::Rows;
+use mst_slips::put_slips;
 use std::alloc::{AllocError, Global};
 
 /// Puts the rows of a tree.
@@ -48,9 +49,9 @@ fn put_trees<R: Rows>(
 }
 
 /// Puts the summary of a settled network, by its regions too: how much there is, for each tree that some bridge has
-/// its roots with their followers and the enabled ports that don't forward, how many islands VIDs have, and the logical
-/// LANs that are up and don't carry all VIDs. `AllocError`: memory was wanted and refused; some of the rows may have been
-/// put.
+/// its roots with their followers and the enabled ports that don't forward, how many islands VIDs have, and of the logical
+/// LANs that join bridges those that carry some VIDs or none, and those that carry all. `AllocError`: memory was wanted and
+/// refused; some of the rows may have been put.
 ///
 /// It goes over the ports once for each tree and once for each class of VIDs, which no table and no set of VLANs tells
 /// apart, and makes islands once for each class.
@@ -72,5 +73,6 @@ pub fn put_summary<R: Rows>(
     put_trees(alloc, plan, trees.as_slice(), out)?;
     let numbering = classes_of_vids(alloc, view)?;
     put_vlans(alloc, plan, &numbering, out)?;
-    put_carries(alloc, plan, &numbering, out)
+    put_carries(alloc, plan, &numbering, out)?;
+    put_slips(alloc, view, regions, out)
 }

@@ -3,6 +3,7 @@ use Rattle.std.specs.Prelude.{◌≡◌, ℕ, ◌-◌, true, List, [], ◌∷◌
 use Rattle.std.specs.Global.{Global}
 use Rattle.std.specs.List.{flat_map}
 use Rattle.mst_ids.specs.Vids.{is_vid, runs_from, set_where}
+use Rattle.mst_kinds.specs.declared.advise_line.AdviseLine.TheVariants as advise_line
 use Rattle.mst_kinds.specs.declared.kind.Kind.TheVariants as kind
 use Rattle.mst_kinds.specs.declared.step_line.StepLine.TheVariants as step_line
 use Rattle.mst_kinds.specs.declared.sweep_line.SweepLine.TheVariants as line
@@ -16,7 +17,7 @@ use Rattle.mst_diff.specs.trees.Outcome.{Outcome}
 use Rattle.mst_diff.specs.plan_text.PlanText.{all_vids}
 use Rattle.mst_diff.specs.Reach.{has_any}
 use Rattle.mst_sweep.specs.declared.cuts.CutBy.{CutBy}
-use Rattle.mst_sweep.specs.declared.cuts.CutBy.TheVariants.{One, Both, Step}
+use Rattle.mst_sweep.specs.declared.cuts.CutBy.TheVariants.{One, Both, Step, Edits}
 use Rattle.mst_sweep.specs.declared.cuts.Cuts.{Cuts}
 use Rattle.mst_sweep.specs.declared.failure.Failure.{Failure}
 use Rattle.mst_sweep.specs.declared.failure.Failure.TheVariants.{Lan, Bridge}
@@ -36,6 +37,7 @@ abbrev pub cut_row : CutBy → List (ℕ × ℕ) → List (List (List ℕ)) → 
 cut_row (One failure) runs parts = row_of (kind.Sweep line.Cut) (failing failure ∷ cell.vids runs ∷ cell.groups parts ∷ [])
 cut_row (Both first second) runs parts = row_of (kind.Sweep line.CutByPair) (failing first ∷ failing second ∷ cell.vids runs ∷ cell.groups parts ∷ [])
 cut_row (Step step) runs parts = row_of (kind.Step step_line.Cut) (cell.number step ∷ cell.vids runs ∷ cell.groups parts ∷ [])
+cut_row Edits runs parts = row_of (kind.Advise advise_line.Cut) (cell.vids runs ∷ cell.groups parts ∷ [])
 
 -- of a group of VIDs, by the parts of its first, if there are any
 abbrev pub group_row : CutBy → List ℕ → List (List (List ℕ)) → List Row

@@ -12,7 +12,7 @@ ghost use Rattle.mst_sweep.specs.Left.{AreLeft};
 ghost use Rattle.mst_sweep.specs.Parts.{AreParts};
 ghost use Rattle.mst_sweep.specs.Cuts.{cut_row, group_row, group_rows, names_of, parts_at as parts_of_vid, rows_of, AreCuts, AreCutsBy};
 ghost use Rattle.mst_sweep.specs.declared.cuts.CutBy.{CutBy as CutByOf};
-ghost use Rattle.mst_sweep.specs.declared.cuts.CutBy.TheVariants.{One as OneOf, Both as BothOf, Step as StepOf};
+ghost use Rattle.mst_sweep.specs.declared.cuts.CutBy.TheVariants.{One as OneOf, Both as BothOf, Step as StepOf, Edits as EditsOf};
 ghost use Rattle.mst_sweep.specs.declared.failure.Failure.{Failure as FailureOf};
 ghost use Rattle.mst_sweep.specs.CutClasses.{AreClasses};
 ghost use Rattle.mst_sweep.specs.Baseline.{AreHomes, IsBaseline};
@@ -29,7 +29,7 @@ use mst_diff::{Both, Planned, set_of, vids};
 use mst_graph::laws::group_lists;
 use mst_graph::{Numbering, groups_by_body};
 use mst_ids::{BridgeNo, Name, Vid, VidSet};
-use mst_kinds::{Kind, StepLine, SweepLine};
+use mst_kinds::{AdviseLine, Kind, StepLine, SweepLine};
 use mst_rows::{Rows, Value, put};
 use std::alloc::{AllocError, Global};
 
@@ -42,6 +42,8 @@ pub enum CutBy {
     Both(Failure, Failure),
     /// The step of this number, of a change.
     Step(u64),
+    /// Edits that are advised.
+    Edits,
 }
 
 /// The VIDs that are cut: the groups of all VIDs, those of equal parts in one, and the parts of the first VID of each class.
@@ -236,6 +238,19 @@ fn put_cut_by_step<'a, R: Rows>(
     put::<R>(Kind::Step(StepLine::Cut), &values, out)
 }
 
+/// Puts the row of VIDs that edits which are advised cut, with these parts.
+fn put_cut_by_edits<'a, R: Rows>(
+    vids: &'a VidSet,
+    parts: &'a [Vec<Name>],
+    out: &mut R,
+) -> Result<(), AllocError>
+    ensures { (first : R) (rows : List Row) → R.grew first out.old rows
+        → OnOk result (R.grew first out.new (rows ++ cut_row EditsOf (runs_from 0 vids.now) (map (λ names. names.items) parts.now) ∷ [])) }
+{
+    let values = [Value::Vids(vids), Value::Groups(parts)];
+    put::<R>(Kind::Advise(AdviseLine::Cut), &values, out)
+}
+
 /// Puts the row of VIDs that are cut, with these parts.
 fn put_cut<R: Rows>(
     by: &CutBy,
@@ -250,6 +265,7 @@ fn put_cut<R: Rows>(
         CutBy::One(failure) => put_cut_by_one(failure, vids, parts, out),
         CutBy::Both(first, second) => put_cut_by_both(first, second, vids, parts, out),
         CutBy::Step(step) => put_cut_by_step(*step, vids, parts, out),
+        CutBy::Edits => put_cut_by_edits(vids, parts, out),
     }
 }
 

@@ -1,35 +1,39 @@
 -- What is asked of the network that a script leaves, and what asking it promises, where it prints in this form.
-use Rattle.std.specs.Prelude.{◌≡◌, ◌+◌, ◌++◌, ◌⊎◌, ◌==◌, ℕ, List, Option, None, Some, Result, Ok, Err, codes, if◌then◌else◌}
+use Rattle.std.specs.Prelude.{◌≡◌, ◌+◌, ◌++◌, ◌⊎◌, ◌==◌, ℕ, Bool, true, false, List, Option, None, Some, Result, Ok, Err, codes, if◌then◌else◌}
 use Rattle.std.specs.Io.KnownBytes.{Appends}
 use Rattle.std.specs.Option.{option_map}
 use Rattle.std.specs.Str.{bytes_eq}
-use Rattle.mst_lang.specs.Arguments.{tree}
+use Rattle.mst_lang.specs.Arguments.{tree, vid}
 use Rattle.mst_lang.specs.Faults as fault
 use Rattle.mst_lang.specs.Lines.{lines_of}
 use Rattle.mst_lang.specs.declared.line.Fault.{Fault}
 use Rattle.mst_kinds.specs.declared.refusal_line.RefusalLine.TheVariants as refusal
+use Rattle.mst_advise.specs.declared.goal.Goal.{Goal}
 use Rattle.mst_engine.specs.net.Tables.{Net}
+use Rattle.mst_engine.specs.report.Advising.{Advises, unadvised_of}
 use Rattle.mst_engine.specs.report.Explaining.{Explains, unexplained_of}
 use Rattle.mst_engine.specs.report.Explaining as unexplained
-use Rattle.mst_engine.specs.report.Picturing.{Depicts}
+use Rattle.mst_engine.specs.report.Picturing.{Depicts, DepictsVlan}
 use Rattle.mst_engine.specs.report.State.{empty_state}
 use Rattle.mst_engine.specs.report.Summarizing.{Summarizes}
 use Rattle.mst_engine.specs.report.Pairing.{SweepsPairs}
 use Rattle.mst_engine.specs.report.Sweeping.{SweepsPart}
 use Rattle.mst_engine.specs.sweep.SweepParts.{whole_part}
+use Rattle.mst_engine.specs.report.declared.advising.Advised.{Advised as WhatIsAdvised}
+use Rattle.mst_engine.specs.report.declared.advising.Advised.TheVariants.{Already, Edits, Nothing}
 use Rattle.mst_engine.specs.report.declared.explaining.Unexplained.{Unexplained}
-use Rattle.mst_tool.specs.Asked.{asked_of, part_value}
+use Rattle.mst_tool.specs.Asked.{asked_of, forward_of, part_value, root_of}
 use Rattle.mst_tool.specs.Load.{LoadsFront}
-use Rattle.mst_tool.specs.Shown.{IsShown, explain_row, pairs_row, summary_row, sweep_row}
+use Rattle.mst_tool.specs.Shown.{IsShown, advice_row, explain_row, pairs_row, summary_row, sweep_row}
 use Rattle.mst_engine.specs.Script.{LoadsAll}
 use Rattle.mst_print.specs.Shape.{of_script, unanswered}
 use Rattle.mst_engine.specs.Steps.{Step, left_by, texts_of, refusals_of, lacks_of, lacking_of}
 use Rattle.mst_io.specs.Written.{AppendsFront, Reads}
 use Rattle.mst_tool.specs.declared.asked.Asked.{Asked}
 use Rattle.mst_tool.specs.declared.asked.Question.{Question}
-use Rattle.mst_tool.specs.declared.asked.Question.TheVariants.{Explain, Unread as unread_question, Sweep, Pairs, Summary, Picture, Undrawn as undrawn_question}
+use Rattle.mst_tool.specs.declared.asked.Question.TheVariants.{Explain, Unread as unread_question, Sweep, Pairs, Summary, Picture, VlanPicture, Undrawn as undrawn_question, Advice, Unadvised}
 use Rattle.mst_tool.specs.declared.asks.Answer.{Answer}
-use Rattle.mst_tool.specs.declared.asks.Answer.TheVariants.{Text, Unread, Refused, Swept, Undrawn}
+use Rattle.mst_tool.specs.declared.asks.Answer.TheVariants.{Text, Unread, Refused, Swept, Undrawn, Advised, NotAdvised, UnreadGoal}
 use Rattle.mst_print.specs.declared.form.Form.{Form}
 use Rattle.mst_io.specs.declared.outcome.Outcome.{Outcome}
 
@@ -48,6 +52,34 @@ drawn_of (Ok n) = Picture n
 
 abbrev pub picture_question : List ℕ → Question
 picture_question word = drawn_of (tree word)
+
+-- and of a VLAN
+abbrev pub vlan_drawn_of : Result ℕ Fault → Question
+vlan_drawn_of (Err f) = undrawn_question f
+vlan_drawn_of (Ok n) = VlanPicture n
+
+abbrev pub vlan_picture_question : List ℕ → Question
+vlan_picture_question word = vlan_drawn_of (vid word)
+
+-- what the words of a picture ask: a word for a tree alone, or `vlan` and a word for a VLAN
+abbrev pub dot_question : List ℕ → Option (List ℕ) → Option Question
+dot_question word None = Some (picture_question word)
+dot_question word (Some behind) = if bytes_eq word (codes "vlan") then Some (vlan_picture_question behind) else None
+
+-- what words for what is wanted ask: which settings bring it about. Or they ask nothing, by their fault. It is that a bridge is the root
+-- of a tree, behind `root`, or, behind `forward`, that a port forwards there. There is no other word, nor these with or without a port
+abbrev pub wanted_of : Result Goal Fault → Question
+wanted_of (Err f) = Unadvised f
+wanted_of (Ok goal) = Advice goal
+
+abbrev pub advice_question : List ℕ → List ℕ → List ℕ → Option (List ℕ) → Option Question
+advice_question goal number bridge None = if bytes_eq goal (codes "root") then Some (wanted_of (root_of number bridge)) else None
+advice_question goal number bridge (Some port) = if bytes_eq goal (codes "forward") then Some (wanted_of (forward_of number bridge port)) else None
+
+-- what is asked leaves the planner as it was: all but advice, for which edits are made
+abbrev pub keeps : Question → Bool
+keeps (Advice goal) = false
+keeps other = true
 
 -- what a word for a part, if there is one, asks behind `pairs`: what pairs of failures of the part do, or all. A word that is none
 -- asks nothing
@@ -84,16 +116,33 @@ not_given = record { refused = 1; differing = 0 }
 abbrev pub swept : ℕ → Told
 swept cuts = record { refused = 0; differing = if cuts == 0 then 0 else 1 }
 
+-- advice, and that there is none, which counts as one that tells of a difference
+abbrev pub is_nothing : WhatIsAdvised → Bool
+is_nothing Already = false
+is_nothing (Edits count) = false
+is_nothing Nothing = true
+
+abbrev pub advised : Bool → Told
+advised is_none = record { refused = 0; differing = if is_none then 1 else 0 }
+
 abbrev pub unexplained_in : Form → List ℕ → List ℕ → List ℕ
 unexplained_in form = unanswered form refusal.Explain
 
 abbrev pub undrawn_in : Form → List ℕ → List ℕ → List ℕ
 undrawn_in form = unanswered form refusal.Dot
 
+abbrev pub unadvised_in : Form → List ℕ → List ℕ → List ℕ
+unadvised_in form = unanswered form refusal.Advise
+
 -- what is printed of a port, by whether something is in the way: that, in a line, or the rows that explain it
 abbrev pub Tells : Form → Net → Asked → Option Unexplained → Told → List ℕ → Type 0
 Tells form net asked (Some why) told text = (told ≡ not_given) × (text ≡ unexplained_in form (unexplained.code_of why) (unexplained.text_of why))
 Tells form net asked None told text = (told ≡ given) × IsShown form (explain_row asked) (Explains net asked.port asked.tree) text
+
+-- what is printed of what is wanted, by whether something is in the way: that, in a line, or the rows that advise
+abbrev pub TellsAdvice : Form → Net → Goal → Option Unexplained → Told → List ℕ → Type 0
+TellsAdvice form net goal (Some why) told text = (told ≡ not_given) × (text ≡ unadvised_in form (unexplained.code_of why) (unexplained.text_of why))
+TellsAdvice form net goal None told text = (advice : WhatIsAdvised) × IsShown form (advice_row goal) (Advises net goal advice) text × (told ≡ advised (is_nothing advice))
 
 -- what is printed of what was asked of a network, and what that counts. Words that aren't in their forms come before all
 -- else. A picture is a text in each form
@@ -104,7 +153,10 @@ IsAnswer form net (Sweep part) told text = (cuts : ℕ) × IsShown form (sweep_r
 IsAnswer form net (Pairs part) told text = (cuts : ℕ) × IsShown form (pairs_row part) (SweepsPairs part net cuts) text × (told ≡ swept cuts)
 IsAnswer form net Summary told text = (told ≡ given) × IsShown form summary_row (Summarizes net) text
 IsAnswer form net (Picture n) told text = (told ≡ given) × Depicts net n text
+IsAnswer form net (VlanPicture n) told text = (told ≡ given) × DepictsVlan net n text
 IsAnswer form net (undrawn_question f) told text = (told ≡ not_given) × (text ≡ undrawn_in form (fault.code_of f) (fault.text_of f))
+IsAnswer form net (Advice goal) told text = TellsAdvice form net goal (unadvised_of net goal) told text
+IsAnswer form net (Unadvised f) told text = (told ≡ not_given) × (text ≡ unadvised_in form (fault.code_of f) (fault.text_of f))
 
 -- what is counted of a script with what is asked of its network
 abbrev pub counted_with : Outcome → Told → Outcome
@@ -152,6 +204,9 @@ answer_text form (Unread f) = unexplained_in form (fault.code_of f) (fault.text_
 answer_text form (Refused why) = unexplained_in form (unexplained.code_of why) (unexplained.text_of why)
 answer_text form (Swept text cuts) = text.items
 answer_text form (Undrawn f) = undrawn_in form (fault.code_of f) (fault.text_of f)
+answer_text form (Advised text is_none) = text.items
+answer_text form (NotAdvised why) = unadvised_in form (unexplained.code_of why) (unexplained.text_of why)
+answer_text form (UnreadGoal f) = unadvised_in form (fault.code_of f) (fault.text_of f)
 
 abbrev pub told_of : Answer → Told
 told_of (Text text) = given
@@ -159,3 +214,6 @@ told_of (Unread f) = not_given
 told_of (Refused why) = not_given
 told_of (Swept text cuts) = swept cuts
 told_of (Undrawn f) = not_given
+told_of (Advised text is_none) = advised is_none
+told_of (NotAdvised why) = not_given
+told_of (UnreadGoal f) = not_given

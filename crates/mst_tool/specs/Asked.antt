@@ -1,8 +1,10 @@
--- Which port is to be explained, and which part of a sweep to be told: what words ask for.
+-- Which port is to be explained, which part of a sweep to be told, and what is wanted of a network: what words ask for.
 use Rattle.std.specs.Prelude.{ℕ, ◌+◌, ◌==◌, List, take, drop, position, Option, None, Some, Result, Ok, Err}
 use Rattle.std.specs.Option.{option_map, option_and_then}
 use Rattle.mst_lang.specs.Arguments.{name, number_value, port_number, tree}
 use Rattle.mst_lang.specs.declared.line.Fault.{Fault}
+use Rattle.mst_advise.specs.declared.goal.Goal.{Goal}
+use Rattle.mst_advise.specs.declared.goal.Goal.TheVariants as goal
 use Rattle.mst_engine.specs.sweep.SweepParts.{PartOf, part_at}
 use Rattle.mst_tool.specs.declared.asked.Asked.{Asked}
 
@@ -38,3 +40,22 @@ part_named number count = option_and_then (λ k. option_and_then (λ n. part_at 
 -- the part of a sweep that a word K/N names, of two numbers that have the form of a script's
 abbrev pub part_value : List ℕ → Option PartOf
 part_value word = option_and_then (λ halves. part_named (number_value halves.0) (number_value halves.1)) (halves_of word)
+
+-- that a bridge is the root of a tree, or the first fault of these words
+abbrev pub root_in : Result (List ℕ) Fault → Result ℕ Fault → Result Goal Fault
+root_in (Err fault) tree = Err fault
+root_in (Ok bridge) (Err fault) = Err fault
+root_in (Ok bridge) (Ok tree) = Ok (goal.Root tree bridge)
+
+abbrev pub root_of : List ℕ → List ℕ → Result Goal Fault
+root_of number bridge = root_in (name bridge) (tree number)
+
+-- that a port forwards in a tree, or the first fault of these words
+abbrev pub forward_in : Result (List ℕ) Fault → Result ℕ Fault → Result ℕ Fault → Result Goal Fault
+forward_in (Err fault) port tree = Err fault
+forward_in (Ok bridge) (Err fault) tree = Err fault
+forward_in (Ok bridge) (Ok port) (Err fault) = Err fault
+forward_in (Ok bridge) (Ok port) (Ok tree) = Ok (goal.Forward tree (record { bridge = bridge; number = port }))
+
+abbrev pub forward_of : List ℕ → List ℕ → List ℕ → Result Goal Fault
+forward_of number bridge port = forward_in (name bridge) (port_number port) (tree number)

@@ -3,7 +3,9 @@ use Rattle.std.specs.Prelude.{◌≡◌, ◌==◌, ℕ, List, [], ◌∷◌, Opt
 use Rattle.mst_ids.specs.declared.name.PortName.{PortName}
 use Rattle.mst_kinds.specs.declared.kind.Kind.TheVariants.{Query as OfQuery}
 use Rattle.mst_kinds.specs.declared.query.Query.{Query}
-use Rattle.mst_kinds.specs.declared.query.Query.TheVariants.{Explain, ExplainIn, Diff, Sweep, SweepPart, SweepPairs, SweepPairsPart, Summary, Verify, Steps, Edits}
+use Rattle.mst_kinds.specs.declared.query.Query.TheVariants.{Explain, ExplainIn, Diff, Sweep, SweepPart, SweepPairs, SweepPairsPart, Summary, Verify, Steps, Edits, AdviseRoot, AdviseForward}
+use Rattle.mst_advise.specs.declared.goal.Goal.{Goal}
+use Rattle.mst_advise.specs.declared.goal.Goal.TheVariants.{Root, Forward}
 use Rattle.mst_engine.specs.sweep.SweepParts.{PartOf}
 use Rattle.mst_print.specs.Shape.{shown}
 use Rattle.mst_print.specs.declared.form.Form.{Form}
@@ -38,6 +40,11 @@ sweep_row part = if part.count == 1 then question_row Sweep [] else question_row
 -- `sweep pairs`, or `sweep pairs K/N`
 abbrev pub pairs_row : PartOf → Row
 pairs_row part = if part.count == 1 then question_row SweepPairs [] else question_row SweepPairsPart (part_words part)
+
+-- `advise root TREE B`, or `advise forward TREE B P`
+abbrev pub advice_row : Goal → Row
+advice_row (Root tree bridge) = question_row AdviseRoot (number tree ∷ word bridge ∷ [])
+advice_row (Forward tree port) = question_row AdviseForward (number tree ∷ word port.bridge ∷ number port.number ∷ [])
 
 abbrev pub summary_row : Row
 summary_row = question_row Summary []

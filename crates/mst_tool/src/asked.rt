@@ -1,10 +1,12 @@
 ghost use Rattle.std.specs.Prelude.{◌≡◌, ◌<◌, ◌==◌, length, position, IfSome};
 ghost use Rattle.std.specs.Option.{option_map};
-ghost use Rattle.mst_tool.specs.Ask.{explain_question, pairs_question, picture_question, sweep_by_word, sweep_question};
-ghost use Rattle.mst_tool.specs.Asked.{asked_of, asked_tree, halves_of, part_value};
+ghost use Rattle.mst_lang.specs.Arguments as arguments;
+ghost use Rattle.mst_tool.specs.Ask.{advice_question, dot_question, explain_question, pairs_question, picture_question, sweep_by_word, sweep_question, vlan_picture_question, wanted_of};
+ghost use Rattle.mst_tool.specs.Asked.{asked_of, asked_tree, forward_of, halves_of, part_value, root_of};
 
+use mst_advise::Goal;
 use mst_engine::SweepPart;
-use mst_ids::{PortName, Tree};
+use mst_ids::{PortName, Tree, Vid};
 use mst_lang::{Fault, name, parse_number, port_number, tree};
 
 /// What is asked of the network that a script leaves.
@@ -22,8 +24,14 @@ pub enum Question {
     Summary,
     /// The picture of the network with this tree, as a text for Graphviz.
     Picture(Tree),
-    /// A word was to name the tree of a picture and doesn't: this fault is told.
+    /// The picture of the network with this VLAN, as a text for Graphviz.
+    VlanPicture(Vid),
+    /// A word was to name the tree or the VLAN of a picture and doesn't: this fault is told.
     Undrawn(Fault),
+    /// Which settings bring about what is wanted of the network.
+    Advice(Goal),
+    /// Words were to say what is wanted and don't: this fault is told.
+    Unadvised(Fault),
 }
 
 impl Question {
@@ -61,6 +69,107 @@ impl Question {
             Err(fault) => Question::Undrawn(fault),
         }
     }
+
+    /// What the words of a picture ask: it with the tree that the word names, or behind the word `vlan` with the VLAN that the one behind
+    /// it names. Nothing for another word with one behind it.
+    pub fn dot(word: &[u8], behind: Option<&[u8]>) -> Option<Question>
+        ensures { result ≡ dot_question word.now (option_map (λ word. word.now) behind.entry) }
+    {
+        match behind {
+            None => Some(Question::picture(word)),
+            Some(vid) => {
+                if word == b"vlan".as_slice() {
+                    Some(Question::vlan_picture(vid))
+                } else {
+                    None
+                }
+            }
+        }
+    }
+
+    /// What the word VID asks: the picture with this VLAN. It has the form that a script's has, and else asks nothing, by the
+    /// fault [`Fault::E03`].
+    pub fn vlan_picture(word: &[u8]) -> Question
+        ensures { result ≡ vlan_picture_question word.now }
+    {
+        match vid(word) {
+            Ok(vid) => Question::VlanPicture(vid),
+            Err(fault) => Question::Undrawn(fault),
+        }
+    }
+
+    /// What the words of an advice ask: behind `root` which settings make the bridge B the root of TREE, and behind `forward`, with
+    /// P, which make the port forward there. They have the forms that a script's have, and a fault of them is a script's:
+    /// [`Fault::E02`] where B or P isn't in its form, and else [`Fault::E03`] where TREE isn't. Nothing for another word, for P
+    /// behind `root`, and for `forward` without it.
+    pub fn advice(
+        goal: &[u8],
+        number: &[u8],
+        bridge: &[u8],
+        port: Option<&[u8]>,
+    ) -> Option<Question>
+        ensures { result ≡ advice_question goal.now number.now bridge.now (option_map (λ word. word.now) port.entry) }
+    {
+        match port {
+            None => {
+                if goal == b"root".as_slice() {
+                    Some(wanted(root(number, bridge)))
+                } else {
+                    None
+                }
+            }
+            Some(port) => {
+                if goal == b"forward".as_slice() {
+                    Some(wanted(forward(number, bridge, port)))
+                } else {
+                    None
+                }
+            }
+        }
+    }
+}
+
+/// What asks for advice, by what words want.
+fn wanted(goal: Result<Goal, Fault>) -> Question
+    ensures { result ≡ wanted_of goal }
+{
+    match goal {
+        Ok(goal) => Question::Advice(goal),
+        Err(fault) => Question::Unadvised(fault),
+    }
+}
+
+/// That the bridge B is the root of TREE, or the first fault of these words.
+fn root(number: &[u8], bridge: &[u8]) -> Result<Goal, Fault>
+    ensures { result ≡ root_of number.now bridge.now }
+{
+    let bridge = name(bridge)?;
+    let tree = tree(number)?;
+    Ok(Goal::Root { tree, bridge })
+}
+
+/// That the port P of the bridge B forwards in TREE, or the first fault of these words.
+fn forward(number: &[u8], bridge: &[u8], port: &[u8]) -> Result<Goal, Fault>
+    ensures { result ≡ forward_of number.now bridge.now port.now }
+{
+    let bridge = name(bridge)?;
+    let port = port_number(port)?;
+    let tree = tree(number)?;
+    Ok(Goal::Forward {
+        tree,
+        port: PortName {
+            bridge,
+            number: port,
+        },
+    })
+}
+
+/// A VLAN's identifier, 1 to 4094. [`Fault::E03`] where the word is none.
+fn vid(word: &[u8]) -> Result<Vid, Fault>
+    ensures { result ≡ arguments.vid word.now }
+{
+    let number = parse_number(word).ok_or(Fault::E03)?;
+    Vid::new(number).ok_or(Fault::E03)
 }
 
 /// Which port is to be explained, and in which tree, or in each that its bridge has.

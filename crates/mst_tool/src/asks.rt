@@ -1,21 +1,25 @@
-ghost use Rattle.std.specs.Prelude.{◌≡◌, ◌≤◌, ◌↔◌, ◌^◌, ℕ, false, List, Option, Err, IfOk, IsOk, OnOk, OnErr};
+ghost use Rattle.std.specs.Prelude.{◌≡◌, ◌≤◌, ◌↔◌, ◌^◌, ℕ, false, true, List, Option, Err, IfOk, IsOk, OnOk, OnErr};
 ghost use Rattle.std.specs.Io.KnownBytes.{Appends};
-ghost use Rattle.mst_engine.specs.report.Picturing.{Depicts};
+ghost use Rattle.mst_engine.specs.report.Picturing.{Depicts, DepictsVlan};
 ghost use Rattle.mst_engine.specs.report.Planned.{planned_state};
-ghost use Rattle.mst_tool.specs.Ask.{Asks, AsksFront, IsAnswer, answer_text, told_of, counted_with};
+ghost use Rattle.mst_tool.specs.Ask.{Asks, AsksFront, IsAnswer, answer_text, told_of, counted_with, is_nothing as none_advised, keeps};
 ghost use Rattle.mst_io.specs.Devices.{Hears, Works, IsBroken, IsCut, IsRead, IsCalled, IsStopped, StopsAtZero};
 ghost use Rattle.mst_tool.specs.Load.{LoadsEnded, LoadsScript};
 ghost use Rattle.mst_engine.specs.Served.{IsFew};
 ghost use Rattle.mst_print.specs.Shape.{of_script};
 ghost use Rattle.mst_io.specs.Written.{AppendsFront};
-ghost use Rattle.mst_tool.specs.declared.asked.Question.TheVariants.{Explain};
+ghost use Rattle.mst_tool.specs.declared.asked.Question.TheVariants.{Advice, Explain};
 
 use crate::asked::{Asked, Question};
-use crate::opened::{open_explanation, open_pairs, open_question, open_sweep};
+use crate::opened::{open_advice, open_explanation, open_pairs, open_question, open_sweep};
+use mst_advise::Goal;
 use mst_engine::laws::{one_load, states};
-use mst_engine::report_laws::{one_explanation, one_picture, one_summary, pair_parts, sweep_parts};
-use mst_engine::{Engine, Input, Planner, SweepPart, Unexplained, serve_input};
-use mst_ids::Tree;
+use mst_engine::report_laws::{
+    one_advice, one_explanation, one_picture, one_summary, one_vlan_picture, pair_parts,
+    sweep_parts,
+};
+use mst_engine::{Advised, Engine, Input, Planner, SweepPart, Unexplained, serve_input};
+use mst_ids::{Tree, Vid};
 use mst_io::{FromRead, Outcome, RunFault, Sink, Source, TURNS, ToWrite, WriteFailed, put};
 use mst_kinds::{Query, RefusalLine};
 use mst_lang::Fault;
@@ -34,8 +38,14 @@ pub enum Answer {
     Refused(Unexplained),
     /// What each single failure of a part does, or each pair, and how many of these cut some VID.
     Swept { text: Vec<u8>, cuts: u64 },
-    /// The word names no tree.
+    /// The word names no tree, or no VLAN.
     Undrawn(Fault),
+    /// Which settings bring about what is wanted, or that none was found.
+    Advised { text: Vec<u8>, is_none: bool },
+    /// What is wanted can't be advised.
+    NotAdvised(Unexplained),
+    /// The words don't say what is wanted.
+    UnreadGoal(Fault),
 }
 
 /// Loads the network of the script that the reader gives, and writes the answer to what is asked of it. Where nothing meets
@@ -48,8 +58,11 @@ pub enum Answer {
 /// For [`Question::Sweep`] it is what each single failure of the part does, and counts as one that differs where some failure of it
 /// cuts a VID, and for [`Question::Pairs`] what each pair of failures of the part does, and counts so where some pair of it cuts a
 /// VID that neither failure cuts alone.
-/// For [`Question::Summary`] it is the summary of the network, and for [`Question::Picture`] its picture with the tree. Where the
-/// word for the tree has a fault, a line `dot CODE TEXT` says so, and counts as one refused line more.
+/// For [`Question::Summary`] it is the summary of the network, and for [`Question::Picture`] its picture with the tree, or with the VLAN
+/// for [`Question::VlanPicture`]. Where the word for the tree or the VLAN has a fault, a line `dot CODE TEXT` says so, and counts as one
+/// refused line more.
+/// For [`Question::Advice`] it is which settings bring about what is wanted, with what they do, and counts as one that differs where none
+/// does. Where that isn't told, a line `advise CODE TEXT` says why, as for a port that isn't explained, and counts as one refused line more.
 ///
 /// The reader and the writer are called as by [`run`](crate::run). After [`RunFault::Read`] all that the complete lines
 /// print has gone out, of what was read; after [`RunFault::Memory`] all that the script's lines print, where there was no
@@ -121,6 +134,8 @@ pub fn ask_within<S: Source, K: Sink>(
     pair_parts();
     one_summary();
     one_picture();
+    one_vlan_picture();
+    one_advice();
     let mut engine = Engine::new(alloc);
     let shape = Shape {
         form,
@@ -141,8 +156,8 @@ pub fn ask_within<S: Source, K: Sink>(
     }
 }
 
-/// The answer to what is asked, of the planner's network as it stands, which stays as it is, with its mark. `AllocError`: memory
-/// was wanted and refused.
+/// The answer to what is asked, of the planner's network as it stands. It stays as it is, with its mark, but where advice is asked:
+/// then the planner is of any network afterwards. `AllocError`: memory was wanted and refused.
 pub fn answer_to(
     alloc: Global,
     planner: &mut Planner,
@@ -150,7 +165,7 @@ pub fn answer_to(
     question: &Question,
 ) -> Result<Answer, AllocError>
     ensures answer { IfOk result (λ answer. IsAnswer form (planned_state planner.old).net question.now (told_of answer) (answer_text form answer)) }
-    ensures state { planned_state planner.new ≡ planned_state planner.old }
+    ensures state { keeps question.now ≡ true → planned_state planner.new ≡ planned_state planner.old }
 {
     match question {
         Question::Explain(asked) => explained(alloc, planner, form, asked),
@@ -162,7 +177,13 @@ pub fn answer_to(
             let text = depicted(planner, *tree)?;
             Ok(Answer::Text(text))
         }
+        Question::VlanPicture(vid) => {
+            let text = depicted_vlan(planner, *vid)?;
+            Ok(Answer::Text(text))
+        }
         Question::Undrawn(fault) => Ok(Answer::Undrawn(*fault)),
+        Question::Advice(goal) => advise(alloc, planner, form, goal),
+        Question::Unadvised(fault) => Ok(Answer::UnreadGoal(*fault)),
     }
 }
 
@@ -243,6 +264,50 @@ fn depicted(planner: &mut Planner, tree: Tree) -> Result<Vec<u8>, AllocError>
     planner.picture(tree)
 }
 
+/// Draws the network with a VLAN, once the plan is settled: a text in each form. `AllocError`: memory was wanted and refused.
+fn depicted_vlan(planner: &mut Planner, vid: Vid) -> Result<Vec<u8>, AllocError>
+    ensures picture { IfOk result (λ text. DepictsVlan (planned_state planner.old).net vid text.items) }
+    ensures state { planned_state planner.new ≡ planned_state planner.old }
+{
+    planner.settle()?;
+    planner.vlan_picture(vid)
+}
+
+/// Tells which settings bring about what is wanted, once the plan is settled. For that edits are made, and the planner is of any network
+/// afterwards. `AllocError`: memory was wanted and refused.
+fn advise(
+    alloc: Global,
+    planner: &mut Planner,
+    form: Form,
+    goal: &Goal,
+) -> Result<Answer, AllocError>
+    ensures { IfOk result (λ answer. IsAnswer form (planned_state planner.old).net (Advice goal.now) (told_of answer) (answer_text form answer)) }
+{
+    planner.settle()?;
+    match planner.unadvised(goal) {
+        Some(why) => Ok(Answer::NotAdvised(why)),
+        None => {
+            let mut printer = open_advice(alloc, form, goal)?;
+            let told = planner.put_advice(goal, &mut printer)?;
+            let text = printer.close()?;
+            Ok(Answer::Advised {
+                text,
+                is_none: is_nothing(told),
+            })
+        }
+    }
+}
+
+/// Whether nothing is advised.
+fn is_nothing(advised: Advised) -> bool
+    ensures { result ≡ none_advised advised }
+{
+    match advised {
+        Advised::Nothing => true,
+        Advised::Already | Advised::Edits(_) => false,
+    }
+}
+
 /// Writes an answer. After a failure a front of it went out.
 pub fn put_answer<K: Sink>(sink: &mut K, form: Form, answer: &Answer) -> Result<(), WriteFailed>
     requires working { (K.told sink.old).failed ≡ false }
@@ -264,6 +329,13 @@ pub fn put_answer<K: Sink>(sink: &mut K, form: Form, answer: &Answer) -> Result<
         Answer::Undrawn(fault) => {
             put_unanswered(sink, form, RefusalLine::Dot, fault.code(), fault.text())
         }
+        Answer::Advised { text, .. } => put(sink, text.as_slice()),
+        Answer::NotAdvised(why) => {
+            put_unanswered(sink, form, RefusalLine::Advise, why.code(), why.text())
+        }
+        Answer::UnreadGoal(fault) => {
+            put_unanswered(sink, form, RefusalLine::Advise, fault.code(), fault.text())
+        }
     }
 }
 
@@ -273,9 +345,14 @@ fn with_answer(script: &Outcome, answer: &Answer) -> Outcome
     ensures { result ≡ counted_with script.now (told_of answer.now) }
 {
     let (refused, differing) = match answer {
-        Answer::Text(_) => (0, 0),
-        Answer::Unread(_) | Answer::Refused(_) | Answer::Undrawn(_) => (1, 0),
+        Answer::Text(_) | Answer::Advised { is_none: false, .. } => (0, 0),
+        Answer::Unread(_)
+        | Answer::Refused(_)
+        | Answer::Undrawn(_)
+        | Answer::NotAdvised(_)
+        | Answer::UnreadGoal(_) => (1, 0),
         Answer::Swept { cuts, .. } => (0, if *cuts == 0 { 0 } else { 1 }),
+        Answer::Advised { is_none: true, .. } => (0, 1),
     };
     Outcome {
         refused: script.refused + refused,

@@ -1,7 +1,7 @@
 //! Runs a script over any reader and writer: its lines are edits of a network and queries about it. And checks captured
 //! messages against the plan of the network that a script leaves, answers what is asked of that network, tells the networks of two
 //! scripts apart, or the edits that make the one of the other, says whether one does what a policy promises, and what the steps of a
-//! change do to it. A source may listen meanwhile (`mst_hinting`).
+//! change do to it. Of a network it advises settings, too, and draws it. A source may listen meanwhile (`mst_hinting`).
 #![tactic(auto)]
 
 mod alters;

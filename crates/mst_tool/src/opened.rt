@@ -1,8 +1,9 @@
 ghost use Rattle.std.specs.Prelude.{[], None, IfOk};
 ghost use Rattle.mst_print.specs.Shape.{IsOpen};
-ghost use Rattle.mst_tool.specs.Shown.{explain_row, pairs_row, part_words, question_row, sweep_row};
+ghost use Rattle.mst_tool.specs.Shown.{advice_row, explain_row, pairs_row, part_words, question_row, sweep_row};
 
 use crate::asked::Asked;
+use mst_advise::Goal;
 use mst_engine::SweepPart;
 use mst_kinds::{Kind, Query};
 use mst_print::{Form, Printer};
@@ -31,6 +32,26 @@ pub(crate) fn open_explanation(
             let tree = Value::Number(u64::from(tree.value()));
             let words = [bridge, number, tree];
             Printer::open(alloc, form, None, Kind::Query(Query::ExplainIn), &words)
+        }
+    }
+}
+
+/// A printer of what advises.
+pub(crate) fn open_advice(alloc: Global, form: Form, goal: &Goal) -> Result<Printer, AllocError>
+    ensures { IfOk result (IsOpen form None (advice_row goal.now)) }
+{
+    match goal {
+        Goal::Root { tree, bridge } => {
+            let tree = Value::Number(u64::from(tree.value()));
+            let words = [tree, Value::Name(bridge)];
+            Printer::open(alloc, form, None, Kind::Query(Query::AdviseRoot), &words)
+        }
+        Goal::Forward { tree, port } => {
+            let tree = Value::Number(u64::from(tree.value()));
+            let bridge = Value::Name(&port.bridge);
+            let number = Value::Number(u64::from(port.number.value()));
+            let words = [tree, bridge, number];
+            Printer::open(alloc, form, None, Kind::Query(Query::AdviseForward), &words)
         }
     }
 }

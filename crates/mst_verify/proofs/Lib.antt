@@ -28,7 +28,6 @@ pub mod RegionOf
 pub mod RootsSeen
 pub mod LimitRows
 pub mod FlatMore
-pub mod OverSeen
 pub mod VidFlags
 pub mod NoLimitRows
 pub mod Failed

@@ -1,6 +1,6 @@
--- Which VIDs go over a LAN, as it is seen of its ports, and classes of VIDs share it.
+-- Which VIDs go over a LAN, as it is seen of the ports of its logical LAN.
 use Rattle.std.proofs.Common.{◌≡◌, ℕ, Bool, true, false, true≢false, List, map, Option, refl, sym, ap, subst, ◌∙◌, Less, Equal, Greater}
-use Rattle.std.specs.List.{Contains, filter}
+use Rattle.std.specs.List.{Contains}
 use Rattle.std.specs.Option.{option_map_or}
 use Rattle.std.specs.Ordering.{eq_by_cmp, is_eq}
 use Rattle.std.specs.declared.cmp.Ordering.{Ordering}
@@ -10,25 +10,17 @@ use Rattle.mst_ids.specs.Names.{name_cmp}
 use Rattle.mst_graph.proofs.Members.{from_map, in_map}
 use Rattle.mst_summary.specs.net.Tables.{Net, LanRow}
 use Rattle.mst_lag.specs.Aggregation.{same_name}
-use Rattle.mst_lag.specs.View.{LogicalPort, logical_lan}
-use Rattle.mst_lag.specs.Viewed.{Viewed, named_port, member_lan}
+use Rattle.mst_lag.specs.View.{logical_lan}
+use Rattle.mst_lag.specs.Viewed.{Viewed, member_lan}
 use Rattle.mst_lag.specs.declared.in_view.MemberLan.{MemberLan}
-use Rattle.mst_lag.specs.declared.in_view.PortInView.{PortInView}
-use Rattle.mst_summary.specs.trees.Forest.{Forest}
 use Rattle.mst_summary.specs.trees.Settled.{SettledNet, IsSettledNet, outcome_of}
-use Rattle.mst_summary.specs.plan_text.Alike.{AreAlike}
-use Rattle.mst_summary.specs.Carries.{carries, ports_on}
-use Rattle.mst_summary.specs.Kept.{AreClasses}
-use Rattle.mst_summary.specs.Seen.{seen_on, seen_carries}
-use Rattle.mst_graph.specs.declared.keys.Numbering.{Numbering}
-use Rattle.mst_summary.proofs.Named.{carries_named}
-use Rattle.mst_summary.proofs.VidClasses.{carries_alike}
-use Rattle.mst_summary.proofs.trees_lemmas.Lists.{all_passing, all_there, filter_mapped, passed}
-use Rattle.mst_summary.proofs.trees_lemmas.Looking.{filter_alike, first_found}
-use Rattle.mst_summary.proofs.trees_lemmas.Seen.{SeenPort, ports_seen}
+use Rattle.mst_summary.specs.Seen.{seen_on, seen_over}
+use Rattle.mst_summary.proofs.Named.{over_named as logical_over}
+use Rattle.mst_summary.proofs.trees_lemmas.Lists.{passed}
+use Rattle.mst_summary.proofs.trees_lemmas.Looking.{first_found}
 use Rattle.mst_summary.proofs.trees_lemmas.Views.{name_is}
-use Rattle.mst_verify.specs.Over.{are_of_two, goes_over, is_lan}
-use Rattle.mst_verify.specs.Seen.{seen_logical, seen_over}
+use Rattle.mst_verify.specs.Over.{goes_over, is_lan}
+use Rattle.mst_verify.specs.Seen.{seen_logical}
 
 -- ---- the LAN of a name
 tied : (o : Ordering) → is_eq o ≡ true → o ≡ Equal
@@ -55,26 +47,7 @@ logical_named net v are lan here =
     ap (λ (m : Option MemberLan). option_map_or (λ m. m.lan) m lan) f.found ∙ ap (λ (m : MemberLan). m.lan) (sym e.2) ∙ ap (logical_lan net) name
 
 -- ---- its ports
-module _ (s : SettledNet) (is : IsSettledNet s) where
-  open s use {net, numbers, view, forest}
-
-  ports_named : (lan : List ℕ) → map named_port (seen_on view lan) ≡ ports_on net lan
-  ports_named lan = sym (filter_mapped (λ (p : LogicalPort). same_name p.lan lan) named_port view.ports) ∙ ap (filter (λ (p : LogicalPort). same_name p.lan lan)) is.of.view.ports
-
-  carriers_named : (lan : List ℕ) (vid : ℕ) → map named_port (filter (seen_carries view forest vid) (seen_on view lan)) ≡ filter (carries net (outcome_of s) vid) (ports_on net lan)
-  carriers_named lan vid =
-      ap (map named_port)
-      (filter_alike (seen_carries view forest vid) (λ (p : PortInView). carries net (outcome_of s) vid (named_port p)) (seen_on view lan)
-      (all_passing (SeenPort net numbers) _ (λ (p : PortInView). same_name p.lan lan) (λ p seen _. carries_named s is vid p seen) view.ports (ports_seen net numbers view is.of.view)))
-      ∙ sym (filter_mapped (carries net (outcome_of s) vid) named_port (seen_on view lan))
-      ∙ ap (filter (carries net (outcome_of s) vid)) (ports_named lan)
-
-  pub over_named : (lan : List ℕ) → is_lan net lan ≡ true → (vid : ℕ) → seen_over view forest (seen_on view (seen_logical view lan)) vid ≡ goes_over net (outcome_of s) lan vid
-  over_named lan here vid =
-      ap (λ (l : List ℕ). seen_over view forest (seen_on view l) vid) (logical_named net view is.of.view.member_lans lan here) ∙ ap are_of_two (carriers_named (logical_lan net lan) vid)
-
--- ---- alike VIDs
-pub over_alike : (v : Viewed) (c : Numbering) (k : AreClasses v c) (x y : ℕ) → AreAlike k.tables k.sets x y → (f : Forest) (lan : List ℕ) → seen_over v f (seen_on v lan) x ≡ seen_over v f (seen_on v lan) y
-over_alike v c k x y alike f lan =
-    ap (λ (ports : List PortInView). are_of_two (map named_port ports))
-    (filter_alike (seen_carries v f x) (seen_carries v f y) (seen_on v lan) (all_passing (Contains v.ports) _ (λ (p : PortInView). same_name p.lan lan) (λ p there _. carries_alike v c k x y alike f p there) v.ports (all_there v.ports)))
+pub over_named : (s : SettledNet) → IsSettledNet s → (lan : List ℕ) → is_lan s.net lan ≡ true → (vid : ℕ)
+    → seen_over s.view s.forest (seen_on s.view (seen_logical s.view lan)) vid ≡ goes_over s.net (outcome_of s) lan vid
+over_named s is lan here vid =
+    ap (λ (l : List ℕ). seen_over s.view s.forest (seen_on s.view l) vid) (logical_named s.net s.view is.of.view.member_lans lan here) ∙ logical_over s is (logical_lan s.net lan) vid

@@ -1,28 +1,17 @@
 -- Which VIDs go over a LAN.
-use Rattle.std.specs.Prelude.{◌≡◌, ℕ, Bool, true, false, not, List, [], ◌∷◌, filter, if◌then◌else◌, ⊤}
-use Rattle.std.specs.List.{list_any}
+use Rattle.std.specs.Prelude.{◌≡◌, ℕ, Bool, true, not, List, filter, if◌then◌else◌, ⊤}
 use Rattle.std.specs.FinMap as fin
 use Rattle.mst_summary.specs.net.Tables.{Net}
-use Rattle.mst_lag.specs.Aggregation.{same_name}
-use Rattle.mst_lag.specs.View.{LogicalPort, logical_lan}
+use Rattle.mst_lag.specs.View.{logical_lan}
 use Rattle.mst_summary.specs.trees.Outcome.{Outcome}
-use Rattle.mst_summary.specs.Carries.{carries, ports_on}
+use Rattle.mst_summary.specs.Carries as carries
 use Rattle.mst_policy.specs.declared.expectation.Expectation.{Expectation}
 use Rattle.mst_policy.specs.declared.expectation.Expectation.TheVariants as expect
 use Rattle.mst_verify.specs.Named.{vids_in}
 
--- the ports of a LAN's logical LAN that are active for a VID, and members
-abbrev pub carriers : Net → Outcome → List ℕ → ℕ → List LogicalPort
-carriers net o lan vid = filter (carries net o vid) (ports_on net (logical_lan net lan))
-
--- ports are of two bridges: one is of another bridge than the first
-abbrev pub are_of_two : List LogicalPort → Bool
-are_of_two [] = false
-are_of_two (p ∷ ps) = list_any (λ q. not (same_name q.name.bridge p.name.bridge)) ps
-
--- frames of a VID go over a LAN
+-- frames of a VID go over a LAN: over its logical LAN
 abbrev pub goes_over : Net → Outcome → List ℕ → ℕ → Bool
-goes_over net o lan vid = are_of_two (carriers net o lan vid)
+goes_over net o lan vid = carries.goes_over net o (logical_lan net lan) vid
 
 -- a LAN of this name is there
 abbrev pub is_lan : Net → List ℕ → Bool

@@ -12,7 +12,7 @@ use Rattle.mst_summary.specs.net.Seen.{bridge_row}
 use Rattle.mst_summary.specs.net.Tables.{Net, BridgeRow, port_eq}
 use Rattle.mst_summary.specs.plan_text.config.Regions.{same_region}
 use Rattle.mst_lag.specs.Aggregation.{same_name}
-use Rattle.mst_lag.specs.Viewed.{Viewed, named_port}
+use Rattle.mst_lag.specs.Viewed.{Viewed}
 use Rattle.mst_lag.specs.declared.in_view.BridgeInView.{BridgeInView}
 use Rattle.mst_lag.specs.declared.in_view.PortInView.{PortInView}
 use Rattle.mst_note_text.specs.declared.children.Child.{Child}
@@ -23,14 +23,12 @@ use Rattle.mst_summary.specs.roles.Seen.{seen_role}
 use Rattle.mst_summary.specs.roles.declared.kind.Role.{Role}
 use Rattle.mst_summary.specs.diff.Reach.{has_any}
 use Rattle.mst_summary.specs.Roots.{follower}
-use Rattle.mst_summary.specs.Seen.{seen_carries}
 use Rattle.mst_summary.specs.declared.roots.Follower.{Follower}
 use Rattle.mst_policy.specs.Items as policy
 use Rattle.mst_policy.specs.declared.expectation.Roles.{Roles}
 use Rattle.mst_policy.specs.declared.item.NameItem.{NameItem}
 use Rattle.mst_policy.specs.declared.item.PortItem.{PortItem}
 use Rattle.mst_verify.specs.Named.{Gone, is_named, is_enabled}
-use Rattle.mst_verify.specs.Over.{are_of_two}
 use Rattle.mst_verify.specs.Holds.{is_wanted}
 use Rattle.mst_verify.specs.Reasons.{same_role}
 use Rattle.mst_verify.specs.declared.before.Before.{Before}
@@ -65,10 +63,6 @@ seen_ports_named v before ports = filter (λ p. policy.has_port ports p.name && 
 -- the logical LAN of a LAN
 abbrev pub seen_logical : Viewed → List ℕ → List ℕ
 seen_logical v lan = option_map_or (λ m. m.lan) (find (λ m. same_name m.name lan) v.member_lans) lan
-
--- frames of a VID go over a logical LAN that has these ports
-abbrev pub seen_over : Viewed → Forest → List PortInView → ℕ → Bool
-seen_over v f ports vid = are_of_two (map named_port (filter (seen_carries v f vid) ports))
 
 -- ---- roles
 -- the names of those of these ports that have a role

@@ -1,20 +1,19 @@
-ghost use Rattle.std.specs.Prelude.{◌≡◌, ◌+◌, ◌<◌, true, false, not, IfOk, filter, length, map, option_copied, vec_len};
-ghost use Rattle.std.specs.List.{All, AllZip, find, list_any};
+ghost use Rattle.std.specs.Prelude.{◌≡◌, ◌+◌, ◌<◌, true, false, IfOk, filter, length, option_copied, vec_len};
+ghost use Rattle.std.specs.List.{All, AllZip, find};
 ghost use Rattle.mst_lag.specs.Aggregation.{same_name};
-ghost use Rattle.mst_lag.specs.Viewed.{named_port};
 ghost use Rattle.mst_summary.specs.trees.Settled.{outcome_of};
-ghost use Rattle.mst_summary.specs.Seen.{seen_on, seen_carries};
+ghost use Rattle.mst_summary.specs.Seen.{seen_on, seen_over};
 ghost use Rattle.mst_verify.specs.Islands.{AreKept};
-ghost use Rattle.mst_verify.specs.Over.{are_of_two as ports_of_two, is_lan, is_wrong as wrong_of, not_as_wanted};
+ghost use Rattle.mst_verify.specs.Over.{is_lan, is_wrong as wrong_of, not_as_wanted};
 ghost use Rattle.mst_verify.specs.Reasons.{avoids_reason, carries_reason};
-ghost use Rattle.mst_verify.specs.Seen.{seen_logical, seen_over};
+ghost use Rattle.mst_verify.specs.Seen.{seen_logical};
 
 use crate::judged::Judged;
 use crate::reason::Reason;
 use crate::vids::vids_of;
 use mst_ids::{Name, Vid, VidSet};
 use mst_lag::{MemberLan, PortInView, View};
-use mst_summary::{Settled, flagged, port_carries, set_of};
+use mst_summary::{Settled, flagged, goes_over, set_of};
 use std::alloc::{AllocError, Global};
 
 /// The LAN of a name.
@@ -45,54 +44,6 @@ fn ports_on(alloc: Global, view: &View, lan: &Name) -> Result<Vec<PortInView>, A
         .collect(alloc)
 }
 
-/// Those of these ports that are active for a VID and members of its VLAN.
-fn carriers(
-    alloc: Global,
-    plan: &Settled,
-    vid: Vid,
-    ports: &[PortInView],
-) -> Result<Vec<PortInView>, AllocError>
-    ensures { IfOk result (λ carriers. carriers.items ≡ filter (seen_carries plan.now.view plan.now.forest vid) ports.now) }
-{
-    ports
-        .iter()
-        .filter(|port| port_carries(plan, vid, port))
-        .copied()
-        .collect(alloc)
-}
-
-/// Whether one of these ports is of another bridge than the first.
-fn any_of_other(first: &PortInView, ports: &[PortInView]) -> bool
-    ensures { result ≡ list_any (λ p. not (same_name p.name.bridge first.now.name.bridge)) ports.now }
-{
-    ports
-        .iter()
-        .any(|port| port.name.bridge != first.name.bridge)
-}
-
-/// Whether ports are of two bridges.
-fn are_of_two(ports: &[PortInView]) -> bool
-    ensures { result ≡ ports_of_two (map named_port ports.now) }
-{
-    match ports {
-        [] => false,
-        [first, others @ ..] => any_of_other(first, others),
-    }
-}
-
-/// Whether frames of a VID go over a logical LAN that has these ports.
-fn is_over(
-    alloc: Global,
-    plan: &Settled,
-    vid: Vid,
-    ports: &[PortInView],
-) -> Result<bool, AllocError>
-    ensures { IfOk result (λ over. over ≡ seen_over plan.now.view plan.now.forest ports.now vid) }
-{
-    let carriers = carriers(alloc, plan, vid, ports)?;
-    Ok(are_of_two(carriers.as_slice()))
-}
-
 /// Whether it isn't as it is wanted.
 fn is_wrong(is_wanted: bool, is_over: bool) -> bool
     ensures { result ≡ wrong_of is_wanted is_over }
@@ -115,7 +66,7 @@ fn flags_at(
     let mut flags = Vec::new(alloc);
     for place in places {
         let vid = Vid::new(*place as u64 + 1).unwrap();
-        flags.push(is_wrong(is_wanted, is_over(alloc, plan, vid, ports)?))?;
+        flags.push(is_wrong(is_wanted, goes_over(alloc, plan, vid, ports)?))?;
     }
     Ok(flags)
 }

@@ -72,8 +72,9 @@ fn concerned(
     }
 }
 
-/// The bridges whose root is asked of.
-fn followers(
+/// The bridges whose root is asked of, where it is asked whether the bridge of this name is the root of all: those that are on, have the tree
+/// and, in a tree other than 0, are of its region. `AllocError`: memory was wanted and refused.
+pub fn followers(
     alloc: Global,
     plan: &Settled,
     tree: Tree,

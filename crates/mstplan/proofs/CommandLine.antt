@@ -18,7 +18,7 @@ use Rattle.clap.proofs.WalkLemmas.{walk_stopped}
 use Rattle.mst_io.specs.declared.outcome.RunFault.TheVariants.{Memory, Write}
 use Rattle.mstplan.specs.declared.endings.Stop.{Stop}
 use Rattle.mstplan.specs.declared.endings.Stop.TheVariants.{Told, Fault}
-use Rattle.mstplan.specs.Words.{IsAnswer, IsRefusal, IsWrong, Request, are_plain, are_values, ask, asked_by, asked_of, by_one, by_one_to_three, by_port, by_two, by_two_or_three, check, diff, dot, edits, is_dashes, is_help, is_plain, is_version, program, run, steps, summary, sweep, verify, without_dashes}
+use Rattle.mstplan.specs.Words.{IsAnswer, IsRefusal, IsWrong, Request, advise, are_plain, are_values, ask, asked_by, asked_of, by_goal, by_one, by_one_to_three, by_port, by_two, by_two_or_three, check, diff, dot, edits, is_dashes, is_help, is_plain, is_version, program, run, steps, summary, sweep, verify, without_dashes}
 use Rattle.mstplan.proofs.PlainWords.{Fits, IsSingle, both_so, fits_values, is_no_help, leaf, leaf_found, level, plain_dashes, plain_turn, refuses, values_found, values_leaf}
 
 -- ---- run
@@ -127,12 +127,13 @@ dot_single : IsSingle dot_leaf
 unfolding clap_on_literals
 dot_single = refl
 
-dot_values : (values : List Text) → Fits (by_two dot values) (values_leaf dot_leaf values) (values_found dot_leaf values)
+dot_values : (values : List Text) → Fits (by_two_or_three dot values) (values_leaf dot_leaf values) (values_found dot_leaf values)
 unfolding clap_on_literals
 dot_values [] = refl
 dot_values (f ∷ []) = refl
 dot_values (f ∷ g ∷ []) = (refl, refl)
-dot_values (f ∷ g ∷ more ∷ rest) = refl
+dot_values (f ∷ g ∷ k ∷ []) = (refl, refl)
+dot_values (f ∷ g ∷ k ∷ more ∷ rest) = refl
 
 -- ---- ask
 
@@ -197,6 +198,25 @@ steps_values (f ∷ []) = refl
 steps_values (f ∷ g ∷ []) = (refl, refl)
 steps_values (f ∷ g ∷ k ∷ []) = (refl, refl)
 steps_values (f ∷ g ∷ k ∷ more ∷ rest) = refl
+
+-- ---- advise
+
+abbrev advise_leaf : Shape
+advise_leaf = unwrap_or (slice_get (built program).subs 11) (built program).top
+
+advise_single : IsSingle advise_leaf
+unfolding clap_on_literals
+advise_single = refl
+
+advise_values : (values : List Text) → Fits (by_goal values) (values_leaf advise_leaf values) (values_found advise_leaf values)
+unfolding clap_on_literals
+advise_values [] = refl
+advise_values (f ∷ []) = refl
+advise_values (f ∷ g ∷ []) = refl
+advise_values (f ∷ g ∷ t ∷ []) = refl
+advise_values (f ∷ g ∷ t ∷ b ∷ []) = (refl, refl)
+advise_values (f ∷ g ∷ t ∷ b ∷ p ∷ []) = (refl, refl)
+advise_values (f ∷ g ∷ t ∷ b ∷ p ∷ more ∷ rest) = refl
 
 -- ---- the words of the program
 
@@ -293,6 +313,10 @@ steps_command : IsCommand (codes "steps") steps_leaf
 unfolding clap_on_literals
 steps_command = record { stops = refl; faultless = refl; is_whole = λ rest. refl; is_found = λ rest. refl }
 
+advise_command : IsCommand (codes "advise") advise_leaf
+unfolding clap_on_literals
+advise_command = record { stops = refl; faultless = refl; is_whole = λ rest. refl; is_found = λ rest. refl }
+
 -- a command, by what its own words come to
 fits_command : (command : Text) (s : Shape) (rest : List Text) → IsCommand command s → is_dashes command ≡ false → Fits (asked_by (command ∷ without_dashes rest)) (leaf s rest) (leaf_found s rest) → FitsWords (command ∷ rest)
 fits_command command s rest is plain fits =
@@ -318,6 +342,7 @@ record IsOther (command : Text) : Type 0 where
   not_verify : bytes_eq (codes "verify") command ≡ false
   not_edits : bytes_eq (codes "edits") command ≡ false
   not_steps : bytes_eq (codes "steps") command ≡ false
+  not_advise : bytes_eq (codes "advise") command ≡ false
 
 -- what is found where the first isn't
 abbrev met_or : Text → Bool → Option (Text × List Text) → Option (Text × List Text)
@@ -332,7 +357,8 @@ names_none command other =
     ap (option_map (λ (s : Text × List Text). s.0))
     (unmet (codes "run") _ _ other.not_run ∙ unmet (codes "check") _ _ other.not_check ∙ unmet (codes "explain") _ _ other.not_explain ∙ unmet (codes "diff") _ _ other.not_diff
     ∙ unmet (codes "sweep") _ _ other.not_sweep ∙ unmet (codes "summary") _ _ other.not_summary ∙ unmet (codes "dot") _ _ other.not_dot
-    ∙ unmet (codes "ask") _ _ other.not_ask ∙ unmet (codes "verify") _ _ other.not_verify ∙ unmet (codes "edits") _ _ other.not_edits ∙ unmet (codes "steps") _ _ other.not_steps)
+    ∙ unmet (codes "ask") _ _ other.not_ask ∙ unmet (codes "verify") _ _ other.not_verify ∙ unmet (codes "edits") _ _ other.not_edits ∙ unmet (codes "steps") _ _ other.not_steps
+    ∙ unmet (codes "advise") _ _ other.not_advise)
 
 stray_refused : (more : Kinds) (end : Walk) → refuses (whole (or_else (step_fault (built program).top 1 nothing_held value) more) end) ≡ true
 unfolding clap_on_literals
@@ -359,11 +385,12 @@ asks_none command rest other =
     ∙ unless (bytes_eq (codes "diff") command) (by_two diff rest) _ other.not_diff
     ∙ unless (bytes_eq (codes "sweep") command) (by_one_to_three sweep rest) _ other.not_sweep
     ∙ unless (bytes_eq (codes "summary") command) (by_one summary rest) _ other.not_summary
-    ∙ unless (bytes_eq (codes "dot") command) (by_two dot rest) _ other.not_dot
+    ∙ unless (bytes_eq (codes "dot") command) (by_two_or_three dot rest) _ other.not_dot
     ∙ unless (bytes_eq (codes "ask") command) (by_one ask rest) _ other.not_ask
     ∙ unless (bytes_eq (codes "verify") command) (by_two verify rest) _ other.not_verify
     ∙ unless (bytes_eq (codes "edits") command) (by_two edits rest) _ other.not_edits
     ∙ unless (bytes_eq (codes "steps") command) (by_two_or_three steps rest) _ other.not_steps
+    ∙ unless (bytes_eq (codes "advise") command) (by_goal rest) _ other.not_advise
 
 fits_other : (command : Text) (rest : List Text) → is_plain command ≡ true → IsOther command → FitsWords (command ∷ rest)
 fits_other command rest plain other =
@@ -395,12 +422,13 @@ words_fit (command ∷ rest) h =
     (λ e. is_or_not (codes "diff") command rest (fits_command (codes "diff") diff_leaf rest diff_command refl (fits_values diff_leaf diff_single (by_two diff) rest values diff_values))
     (λ d. is_or_not (codes "sweep") command rest (fits_command (codes "sweep") sweep_leaf rest sweep_command refl (fits_values sweep_leaf sweep_single (by_one_to_three sweep) rest values sweep_values))
     (λ s. is_or_not (codes "summary") command rest (fits_command (codes "summary") summary_leaf rest summary_command refl (fits_values summary_leaf summary_single (by_one summary) rest values summary_values))
-    (λ m. is_or_not (codes "dot") command rest (fits_command (codes "dot") dot_leaf rest dot_command refl (fits_values dot_leaf dot_single (by_two dot) rest values dot_values))
+    (λ m. is_or_not (codes "dot") command rest (fits_command (codes "dot") dot_leaf rest dot_command refl (fits_values dot_leaf dot_single (by_two_or_three dot) rest values dot_values))
     (λ p. is_or_not (codes "ask") command rest (fits_command (codes "ask") ask_leaf rest ask_command refl (fits_values ask_leaf ask_single (by_one ask) rest values ask_values))
     (λ a. is_or_not (codes "verify") command rest (fits_command (codes "verify") verify_leaf rest verify_command refl (fits_values verify_leaf verify_single (by_two verify) rest values verify_values))
     (λ v. is_or_not (codes "edits") command rest (fits_command (codes "edits") edits_leaf rest edits_command refl (fits_values edits_leaf edits_single (by_two edits) rest values edits_values))
     (λ t. is_or_not (codes "steps") command rest (fits_command (codes "steps") steps_leaf rest steps_command refl (fits_values steps_leaf steps_single (by_two_or_three steps) rest values steps_values))
-    (λ u. fits_other command rest both.0 (record { not_run = r; not_check = c; not_explain = e; not_diff = d; not_sweep = s; not_summary = m; not_dot = p; not_ask = a; not_verify = v; not_edits = t; not_steps = u }))))))))))))
+    (λ u. is_or_not (codes "advise") command rest (fits_command (codes "advise") advise_leaf rest advise_command refl (fits_values advise_leaf advise_single by_goal rest values advise_values))
+    (λ w. fits_other command rest both.0 (record { not_run = r; not_check = c; not_explain = e; not_diff = d; not_sweep = s; not_summary = m; not_dot = p; not_ask = a; not_verify = v; not_edits = t; not_steps = u; not_advise = w })))))))))))))
 
 -- the same of all the words, the program's name first
 pub all_fit : (words : List Text) → are_plain (drop 1 words) ≡ true → Fits (asked_by (without_dashes (drop 1 words))) (fault_of program words) (asked_of (subcommand_of program words))

@@ -3,15 +3,15 @@ use Rattle.std.proofs.Common.{ℕ, Bool, true, false, List, Option, Some, None, 
 use Rattle.std.specs.Prelude.{◌&&◌, if◌then◌else◌}
 use Rattle.std.specs.Option.{option_and_then}
 use Rattle.mstplan.specs.Flags.{takes}
-use Rattle.mstplan.specs.Words.{IsRefusal, Request, names_part}
+use Rattle.mstplan.specs.Words.{IsRefusal, Request, are_worded}
 use Rattle.mstplan.specs.declared.endings.Stop.{Stop}
 use Rattle.mstplan.specs.declared.flags.Flags.{Flags}
 
 -- what refuses words refuses them with flags, too
 pub refused_with : (IsThere : List ℕ → Type 0) (words : List (List ℕ)) (flags : Flags) (asked : Option Request) (stop : Stop) → IsRefusal IsThere words asked stop
-    → IsRefusal IsThere words (option_and_then (λ request. if names_part request && takes flags request then Some request else None) asked) stop
+    → IsRefusal IsThere words (option_and_then (λ request. if are_worded request && takes flags request then Some request else None) asked) stop
 refused_with IsThere words flags None stop h = h
-refused_with IsThere words flags (Some request) stop h = by (names_part request && takes flags request)
+refused_with IsThere words flags (Some request) stop h = by (are_worded request && takes flags request)
   where
     by : (b : Bool) → IsRefusal IsThere words (if b then Some request else None) stop
     by true = h

@@ -4,7 +4,7 @@ use Rattle.std.specs.Option.{option_and_then}
 use Rattle.std.specs.Str.{bytes_eq}
 use Rattle.mst_tool.specs.printing.declared.form.Form.{Form}
 use Rattle.mst_tool.specs.printing.declared.form.Form.TheVariants.{Text, Json}
-use Rattle.mstplan.specs.Words.{Request, asked_by, is_dashes, names_part, run, check, explain, diff, sweep, summary, dot, ask, verify, edits, steps}
+use Rattle.mstplan.specs.Words.{Request, are_worded, asked_by, is_dashes, run, check, explain, diff, sweep, summary, dot, ask, verify, edits, steps, advise}
 use Rattle.mstplan.specs.declared.flags.Flags.{Flags}
 
 -- this flag stands among these words, before the first `--`
@@ -39,16 +39,17 @@ has_json (explain script bridge port tree) = true
 has_json (diff old new) = true
 has_json (sweep script word behind) = true
 has_json (summary script) = true
-has_json (dot script tree) = false
+has_json (dot script tree vid) = false
 has_json (ask script) = true
 has_json (verify script policy) = true
 has_json (edits old new) = true
 has_json (steps script change policy) = true
+has_json (advise script goal tree bridge port) = true
 
 -- it takes these flags: each takes hints
 abbrev pub takes : Flags → Request → Bool
 takes flags request = not flags.json || has_json request
 
--- what words that aren't options ask for with these flags, where words for a part of a sweep name one
+-- what words that aren't options ask for with these flags, where those for a part of a sweep, a picture or advice are some
 abbrev pub asked_with : Flags → List (List ℕ) → Option Request
-asked_with flags words = option_and_then (λ request. if names_part request && takes flags request then Some request else None) (asked_by words)
+asked_with flags words = option_and_then (λ request. if are_worded request && takes flags request then Some request else None) (asked_by words)

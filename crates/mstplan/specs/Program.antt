@@ -1,7 +1,7 @@
 -- What the program does and how it ends, by what its words ask for.
 use Rattle.std.specs.Prelude.{◌≡◌, ℕ, Bool, true, List, codes, drop, length, option_map, is_some, Option, Some, None, Result, Ok, Err, IfOk, IfErr, IsErrAnd}
 use Rattle.std.specs.Borrow.{Bor}
-use Rattle.mst_tool.specs.Ask.{explain_question, picture_question, sweep_question}
+use Rattle.mst_tool.specs.Ask.{advice_question, dot_question, explain_question, sweep_question}
 use Rattle.mst_tool.specs.declared.asked.Question.{Question}
 use Rattle.mst_tool.specs.declared.asked.Question.TheVariants as question
 use Rattle.mst_io.specs.Devices.{Seen}
@@ -10,10 +10,11 @@ use Rattle.mst_io.specs.declared.outcome.RunFault.{RunFault}
 use Rattle.mstplan.specs.declared.endings.Stop.{Stop}
 use Rattle.mstplan.specs.declared.endings.Stop.TheVariants.{Told as told_stop}
 use Rattle.mstplan.specs.declared.words.Asked.{Asked}
-use Rattle.mstplan.specs.declared.words.Asked.TheVariants.{Run, Check, Explain, Diff, Sweep, Summary, Dot, Ask, Verify, Edits, Steps}
+use Rattle.mstplan.specs.declared.words.Asked.TheVariants.{Run, Check, Explain, Diff, Sweep, Summary, Dot, Ask, Verify, Edits, Steps, Advise}
 use Rattle.mstplan.specs.declared.compared.Comparison.{Comparison}
 use Rattle.mstplan.specs.declared.compared.Comparison.TheVariants.{Captures, Networks, Policy, Questions, Steps as steps_of}
 use Rattle.mst_tool.specs.declared.diffs.Between.TheVariants.{Plans, Settings}
+use Rattle.mstplan.specs.declared.words.GoalWords.{GoalWords}
 use Rattle.mstplan.specs.declared.words.PortWords.{PortWords}
 use Rattle.mstplan.specs.declared.flags.Flags.{Flags}
 use Rattle.mstplan.specs.declared.piped.Piped.{Piped}
@@ -26,7 +27,7 @@ use Rattle.mstplan.specs.Inputs.{Inputs}
 use Rattle.mstplan.specs.Invites.{invitation}
 use Rattle.mstplan.specs.Said.{IsSaid}
 use Rattle.mstplan.specs.Named.{IsNamed, AreNamed, IsWhyNot, IsWhyNone}
-use Rattle.mstplan.specs.Words.{tree_word, words_of, are_plain, without_dashes, is_help, is_version, IsAnswer, IsRefusal}
+use Rattle.mstplan.specs.Words.{port_word, tree_word, words_of, are_plain, without_dashes, is_help, is_version, IsAnswer, IsRefusal}
 
 -- what the words that name a port ask of a network
 abbrev pub port_question : PortWords → Question
@@ -39,6 +40,13 @@ word_of word = option_map (λ word. word.now) word
 -- what the words for a part of a sweep, if there are some, ask of it: nothing, where they name none
 abbrev pub part_question : Option (Bor (List ℕ)) → Option (Bor (List ℕ)) → Option Question
 part_question word behind = sweep_question (word_of word) (word_of behind)
+
+-- what the words of a picture ask, and those of what is wanted: nothing, where they are none that do
+abbrev pub drawn_question : Bor (List ℕ) → Option (Bor (List ℕ)) → Option Question
+drawn_question tree vid = dot_question tree.now (word_of vid)
+
+abbrev pub goal_question : GoalWords → Option Question
+goal_question goal = advice_question goal.goal.now goal.tree.now goal.bridge.now (port_word goal)
 
 -- the script of this name was run in the form that the flags say, with its hints, where they ask for them; or its network was asked
 -- this; or this was told of the inputs of two names, or of three
@@ -56,14 +64,14 @@ ServesAll IsGiven IsFile flags comparison name other third old new answer hints 
 abbrev pub ServesBoth : (Option (List ℕ) → Type 0) → (List ℕ → Option (List ℕ) → Type 0) → Flags → Comparison → List ℕ → List ℕ → Outputs → Outputs → Result Outcome RunFault → Result (Unit {0}) RunFault → Type 0
 ServesBoth IsGiven IsFile flags comparison name other old new answer hints = ServesAll IsGiven IsFile flags comparison name other None old new answer hints
 
--- failures of the script of this name were told of, by the question that the words for a part ask
-abbrev pub ServesSweep : (Option (List ℕ) → Type 0) → (List ℕ → Option (List ℕ) → Type 0) → Flags → Bor (List ℕ) → Option (Bor (List ℕ)) → Option (Bor (List ℕ)) → Outputs → Outputs → Result Outcome RunFault → Result (Unit {0}) RunFault → Type 0
-ServesSweep IsGiven IsFile flags script word behind old new answer hints =
-    (question : Question) × (part_question word behind ≡ Some question) × ServesQuestion IsGiven IsFile flags question script old new answer hints
+-- the network of the script of this name was asked what words ask that ask something
+abbrev pub ServesWords : (Option (List ℕ) → Type 0) → (List ℕ → Option (List ℕ) → Type 0) → Flags → Option Question → Bor (List ℕ) → Outputs → Outputs → Result Outcome RunFault → Result (Unit {0}) RunFault → Type 0
+ServesWords IsGiven IsFile flags asked script old new answer hints =
+    (question : Question) × (asked ≡ Some question) × ServesQuestion IsGiven IsFile flags question script old new answer hints
 
 -- What the words ask for was done with these flags, of the inputs that they name, this came to the outputs, and this was answered: the
 -- script was run; or the captures were compared with its plan; or the network that it leaves was asked of the port, of its failures
--- or pairs of them, for its summary or for its picture; or the networks of two scripts were told apart; or the questions that came by
+-- or pairs of them, for its summary, for its picture or for advice; or the networks of two scripts were told apart; or the questions that came by
 -- standard input were answered, of which there are none where the script comes there; or the network was verified by a policy; or the
 -- edits were told that make the network of the second script of that of the first; or what the steps of a change do, with a policy, if
 -- one is named
@@ -72,20 +80,21 @@ Serves IsGiven IsFile flags (Run script) old new answer hints = ServesRun IsGive
 Serves IsGiven IsFile flags (Check script captures) old new answer hints = ServesBoth IsGiven IsFile flags (Captures (form_of flags)) script.now captures.now old new answer hints
 Serves IsGiven IsFile flags (Explain script port) old new answer hints = ServesQuestion IsGiven IsFile flags (port_question port) script old new answer hints
 Serves IsGiven IsFile flags (Diff before after) old new answer hints = ServesBoth IsGiven IsFile flags (Networks Plans (form_of flags)) before.now after.now old new answer hints
-Serves IsGiven IsFile flags (Sweep script word behind) old new answer hints = ServesSweep IsGiven IsFile flags script word behind old new answer hints
+Serves IsGiven IsFile flags (Sweep script word behind) old new answer hints = ServesWords IsGiven IsFile flags (part_question word behind) script old new answer hints
 Serves IsGiven IsFile flags (Summary script) old new answer hints = ServesQuestion IsGiven IsFile flags question.Summary script old new answer hints
-Serves IsGiven IsFile flags (Dot script tree) old new answer hints = ServesQuestion IsGiven IsFile flags (picture_question tree.now) script old new answer hints
+Serves IsGiven IsFile flags (Dot script tree vid) old new answer hints = ServesWords IsGiven IsFile flags (drawn_question tree vid) script old new answer hints
 Serves IsGiven IsFile flags (Ask script) old new answer hints = ServesBoth IsGiven IsFile flags (Questions (form_of flags)) script.now (codes "-") old new answer hints
 Serves IsGiven IsFile flags (Verify script policy) old new answer hints = ServesBoth IsGiven IsFile flags (Policy (form_of flags)) script.now policy.now old new answer hints
 Serves IsGiven IsFile flags (Edits before after) old new answer hints = ServesBoth IsGiven IsFile flags (Networks Settings (form_of flags)) before.now after.now old new answer hints
 Serves IsGiven IsFile flags (Steps script change policy) old new answer hints =
     ServesAll IsGiven IsFile flags (steps_of (is_some policy) (form_of flags)) script.now change.now (word_of policy) old new answer hints
+Serves IsGiven IsFile flags (Advise script goal) old new answer hints = ServesWords IsGiven IsFile flags (goal_question goal) script old new answer hints
 
--- why no failures of the script of this name were told of: the words for a part name none, which is told with status 2,
--- or the script wasn't opened
-abbrev pub IsWhyUnswept : (List ℕ → Why → Type 0) → Bor (List ℕ) → Option Question → Stop → Type 0
-IsWhyUnswept IsUnopened script None stop = stop ≡ told_stop 2
-IsWhyUnswept IsUnopened script (Some question) stop = IsWhyNot IsUnopened script stop
+-- why the network of the script of this name wasn't asked what words ask: they ask nothing, which is told with status 2, or the script
+-- wasn't opened
+abbrev pub IsWhyUnasked : (List ℕ → Why → Type 0) → Bor (List ℕ) → Option Question → Stop → Type 0
+IsWhyUnasked IsUnopened script None stop = stop ≡ told_stop 2
+IsWhyUnasked IsUnopened script (Some question) stop = IsWhyNot IsUnopened script stop
 
 -- why nothing was done with the inputs of these names
 abbrev pub IsWhyUnserved : (List ℕ → Why → Type 0) → Asked → Stop → Type 0
@@ -93,13 +102,14 @@ IsWhyUnserved IsUnopened (Run script) stop = IsWhyNot IsUnopened script stop
 IsWhyUnserved IsUnopened (Check script captures) stop = IsWhyNone IsUnopened script captures None stop
 IsWhyUnserved IsUnopened (Explain script port) stop = IsWhyNot IsUnopened script stop
 IsWhyUnserved IsUnopened (Diff old new) stop = IsWhyNone IsUnopened old new None stop
-IsWhyUnserved IsUnopened (Sweep script word behind) stop = IsWhyUnswept IsUnopened script (part_question word behind) stop
+IsWhyUnserved IsUnopened (Sweep script word behind) stop = IsWhyUnasked IsUnopened script (part_question word behind) stop
 IsWhyUnserved IsUnopened (Summary script) stop = IsWhyNot IsUnopened script stop
-IsWhyUnserved IsUnopened (Dot script tree) stop = IsWhyNot IsUnopened script stop
+IsWhyUnserved IsUnopened (Dot script tree vid) stop = IsWhyUnasked IsUnopened script (drawn_question tree vid) stop
 IsWhyUnserved IsUnopened (Ask script) stop = IsWhyNot IsUnopened script stop
 IsWhyUnserved IsUnopened (Verify script policy) stop = IsWhyNone IsUnopened script policy None stop
 IsWhyUnserved IsUnopened (Edits old new) stop = IsWhyNone IsUnopened old new None stop
 IsWhyUnserved IsUnopened (Steps script change policy) stop = IsWhyNone IsUnopened script change policy stop
+IsWhyUnserved IsUnopened (Advise script goal) stop = IsWhyUnasked IsUnopened script (goal_question goal) stop
 
 -- why nothing was run: what the words said, or what kept that which they ask for from being run
 abbrev pub IsReason : (List ℕ → Why → Type 0) → Result Asked Stop → Stop → Type 0

@@ -5,20 +5,23 @@ use Rattle.std.specs.declared.alloc.Global.{Global}
 use Rattle.std.specs.Str.{bytes_eq}
 use Rattle.clap.specs.Words.{App, Row, Rule, first_of, new_app, new_rule, with_rule, with_subcommand}
 use Rattle.mst_io.specs.declared.outcome.RunFault.TheVariants.{Memory, Write}
-use Rattle.mst_tool.specs.Ask.{sweep_question}
+use Rattle.mst_tool.specs.Ask.{advice_question, dot_question, sweep_question}
 use Rattle.mstplan.specs.declared.endings.Stop.{Stop}
 use Rattle.mstplan.specs.declared.endings.Stop.TheVariants.{Told, NoWord, Unopened, Fault}
 use Rattle.mstplan.specs.declared.words.Asked.{Asked}
+use Rattle.mstplan.specs.declared.words.GoalWords.{GoalWords}
 use Rattle.mstplan.specs.declared.words.PortWords.{PortWords}
-use Rattle.mstplan.specs.declared.words.Asked.TheVariants.{Run, Check, Explain, Diff, Sweep, Summary, Dot, Ask, Verify, Edits, Steps}
+use Rattle.mstplan.specs.declared.words.Asked.TheVariants.{Run, Check, Explain, Diff, Sweep, Summary, Dot, Ask, Verify, Edits, Steps, Advise}
 
 -- what words ask for: to run the script of this name; to compare the captures of the second name with the plan of the
 -- script of the first; to explain, in the network that the script leaves, the role of a port, which these words name:
 -- its bridge, its number and, if there is one, a tree; to tell how the network of the first script differs from that of
 -- the second; to tell what each single failure does to the network of the script, or each pair, or each of the part that the words
--- behind it name; to summarize it; to draw it with the tree that the second word names; to answer questions of it; to tell whether
--- it does what the policy of the second name promises; to tell the edits that make the network of the second script of that of the first;
--- or to tell what the steps of the change of the second name do to it, with the policy of a third, if there is one
+-- behind it name; to summarize it; to draw it with the tree that the second word names, or with the VLAN that a third names; to answer
+-- questions of it; to tell whether it does what the policy of the second name promises; to tell the edits that make the network of the
+-- second script of that of the first; to tell what the steps of the change of the second name do to it, with the policy of a third, if
+-- there is one; or to tell which settings bring about what the words behind it want: of what kind it is, a tree, a bridge and, if there
+-- is one, a port
 pub data Request : Type 0 where
   run : List ℕ → Request
   check : List ℕ → List ℕ → Request
@@ -26,15 +29,20 @@ pub data Request : Type 0 where
   diff : List ℕ → List ℕ → Request
   sweep : List ℕ → Option (List ℕ) → Option (List ℕ) → Request
   summary : List ℕ → Request
-  dot : List ℕ → List ℕ → Request
+  dot : List ℕ → List ℕ → Option (List ℕ) → Request
   ask : List ℕ → Request
   verify : List ℕ → List ℕ → Request
   edits : List ℕ → List ℕ → Request
   steps : List ℕ → List ℕ → Option (List ℕ) → Request
+  advise : List ℕ → List ℕ → List ℕ → List ℕ → Option (List ℕ) → Request
 
 -- the word that names a tree, if there is one
 abbrev pub tree_word : PortWords → Option (List ℕ)
 tree_word port = option_map (λ word. word.now) port.tree
+
+-- the word that names a port, if there is one
+abbrev pub port_word : GoalWords → Option (List ℕ)
+port_word goal = option_map (λ word. word.now) goal.port
 
 abbrev pub words_of : Asked → Request
 words_of (Run script) = run script.now
@@ -43,11 +51,12 @@ words_of (Explain script port) = explain script.now port.bridge.now port.number.
 words_of (Diff old new) = diff old.now new.now
 words_of (Sweep script word behind) = sweep script.now (option_map (λ word. word.now) word) (option_map (λ word. word.now) behind)
 words_of (Summary script) = summary script.now
-words_of (Dot script tree) = dot script.now tree.now
+words_of (Dot script tree vid) = dot script.now tree.now (option_map (λ word. word.now) vid)
 words_of (Ask script) = ask script.now
 words_of (Verify script policy) = verify script.now policy.now
 words_of (Edits old new) = edits old.now new.now
 words_of (Steps script change policy) = steps script.now change.now (option_map (λ word. word.now) policy)
+words_of (Advise script goal) = advise script.now goal.goal.now goal.tree.now goal.bridge.now (port_word goal)
 
 -- the value that was found for a word that has to be there. There is one
 abbrev pub value_of : List ℕ → List Row → List ℕ
@@ -61,11 +70,12 @@ request_of command rows =
     else if bytes_eq command (codes "diff") then diff (value_of (codes "OLD") rows) (value_of (codes "NEW") rows)
     else if bytes_eq command (codes "sweep") then sweep (value_of (codes "FILE") rows) (first_of (codes "PART") rows) (first_of (codes "OF_PAIRS") rows)
     else if bytes_eq command (codes "summary") then summary (value_of (codes "FILE") rows)
-    else if bytes_eq command (codes "dot") then dot (value_of (codes "FILE") rows) (value_of (codes "TREE") rows)
+    else if bytes_eq command (codes "dot") then dot (value_of (codes "FILE") rows) (value_of (codes "TREE") rows) (first_of (codes "VID") rows)
     else if bytes_eq command (codes "ask") then ask (value_of (codes "FILE") rows)
     else if bytes_eq command (codes "verify") then verify (value_of (codes "FILE") rows) (value_of (codes "POLICY") rows)
     else if bytes_eq command (codes "edits") then edits (value_of (codes "OLD") rows) (value_of (codes "NEW") rows)
     else if bytes_eq command (codes "steps") then steps (value_of (codes "FILE") rows) (value_of (codes "CHANGE") rows) (first_of (codes "POLICY") rows)
+    else if bytes_eq command (codes "advise") then advise (value_of (codes "FILE") rows) (value_of (codes "GOAL") rows) (value_of (codes "TREE") rows) (value_of (codes "B") rows) (first_of (codes "P") rows)
     else run (value_of (codes "FILE") rows)
 
 -- what the name of a command, if there is one, and what was found for it ask for. Without a command the script is `-`
@@ -131,10 +141,17 @@ by_port (script ∷ bridge ∷ port ∷ []) = Some (explain script bridge port N
 by_port (script ∷ bridge ∷ port ∷ tree ∷ []) = Some (explain script bridge port (Some tree))
 by_port words = None
 
+-- behind `advise`: FILE GOAL TREE B, or FILE GOAL TREE B P
+abbrev pub by_goal : List (List ℕ) → Option Request
+by_goal (script ∷ goal ∷ tree ∷ bridge ∷ []) = Some (advise script goal tree bridge None)
+by_goal (script ∷ goal ∷ tree ∷ bridge ∷ port ∷ []) = Some (advise script goal tree bridge (Some port))
+by_goal words = None
+
 -- What words ask for that aren't options, behind the program's name: none for the script on standard input, `run FILE` for
 -- that of a file, `check FILE CAPTURES`, `explain FILE B P`, with or without TREE, `diff OLD NEW`, `sweep FILE`, with or without PART or
 -- `pairs`, and behind that with or without PART,
--- `summary FILE`, `dot FILE TREE`, `ask FILE`, `verify FILE POLICY`, `edits OLD NEW`, and `steps FILE CHANGE`, with or without POLICY.
+-- `summary FILE`, `dot FILE TREE`, with or without VID, `ask FILE`, `verify FILE POLICY`, `edits OLD NEW`, `steps FILE CHANGE`, with or
+-- without POLICY, and `advise FILE GOAL TREE B`, with or without P.
 -- What is asked for are the words themselves. Any other words ask for nothing
 abbrev pub asked_by : List (List ℕ) → Option Request
 asked_by [] = Some (run (codes "-"))
@@ -145,26 +162,28 @@ asked_by (command ∷ words) =
     else if bytes_eq (codes "diff") command then by_two diff words
     else if bytes_eq (codes "sweep") command then by_one_to_three sweep words
     else if bytes_eq (codes "summary") command then by_one summary words
-    else if bytes_eq (codes "dot") command then by_two dot words
+    else if bytes_eq (codes "dot") command then by_two_or_three dot words
     else if bytes_eq (codes "ask") command then by_one ask words
     else if bytes_eq (codes "verify") command then by_two verify words
     else if bytes_eq (codes "edits") command then by_two edits words
     else if bytes_eq (codes "steps") command then by_two_or_three steps words
+    else if bytes_eq (codes "advise") command then by_goal words
     else None
 
--- where they ask for a part of a sweep, its words name one
-abbrev pub names_part : Request → Bool
-names_part (run script) = true
-names_part (check script captures) = true
-names_part (explain script bridge port tree) = true
-names_part (diff old new) = true
-names_part (sweep script word behind) = is_some (sweep_question word behind)
-names_part (summary script) = true
-names_part (dot script tree) = true
-names_part (ask script) = true
-names_part (verify script policy) = true
-names_part (edits old new) = true
-names_part (steps script change policy) = true
+-- where they ask for a part of a sweep, a picture or advice, its words are some that do
+abbrev pub are_worded : Request → Bool
+are_worded (run script) = true
+are_worded (check script captures) = true
+are_worded (explain script bridge port tree) = true
+are_worded (diff old new) = true
+are_worded (sweep script word behind) = is_some (sweep_question word behind)
+are_worded (summary script) = true
+are_worded (dot script tree vid) = is_some (dot_question tree vid)
+are_worded (ask script) = true
+are_worded (verify script policy) = true
+are_worded (edits old new) = true
+are_worded (steps script change policy) = true
+are_worded (advise script goal tree bridge port) = is_some (advice_question goal tree bridge port)
 
 -- words that ask the program for its help alone, and for its version
 abbrev pub is_help : List (List ℕ) → Bool
@@ -230,7 +249,7 @@ abbrev pub summary_app : App
 summary_app = with_rule (new_app (codes "summary")) (wanted_rule (codes "FILE"))
 
 abbrev pub dot_app : App
-dot_app = two_app (codes "dot") (codes "FILE") (codes "TREE")
+dot_app = with_rule (two_app (codes "dot") (codes "FILE") (codes "TREE")) (new_rule (codes "VID"))
 
 abbrev pub ask_app : App
 ask_app = with_rule (new_app (codes "ask")) (wanted_rule (codes "FILE"))
@@ -244,10 +263,14 @@ edits_app = two_app (codes "edits") (codes "OLD") (codes "NEW")
 abbrev pub steps_app : App
 steps_app = with_rule (two_app (codes "steps") (codes "FILE") (codes "CHANGE")) (new_rule (codes "POLICY"))
 
+abbrev pub advise_app : App
+advise_app =
+    with_rule (with_rule (with_rule (two_app (codes "advise") (codes "FILE") (codes "GOAL")) (wanted_rule (codes "TREE"))) (wanted_rule (codes "B"))) (new_rule (codes "P"))
+
 -- the program with no command, which has a version, and no command that prints help
 abbrev pub no_command : App
 no_command = record { top = record ((new_app (codes "mstplan")).top) { has_version = true; disable_help_subcommand = true }; subs = [] }
 
 abbrev pub program : App
 program =
-    with_subcommand (with_subcommand (with_subcommand (with_subcommand (with_subcommand (with_subcommand (with_subcommand (with_subcommand (with_subcommand (with_subcommand (with_subcommand no_command run_app.top) check_app.top) explain_app.top) diff_app.top) sweep_app.top) summary_app.top) dot_app.top) ask_app.top) verify_app.top) edits_app.top) steps_app.top
+    with_subcommand (with_subcommand (with_subcommand (with_subcommand (with_subcommand (with_subcommand (with_subcommand (with_subcommand (with_subcommand (with_subcommand (with_subcommand (with_subcommand no_command run_app.top) check_app.top) explain_app.top) diff_app.top) sweep_app.top) summary_app.top) dot_app.top) ask_app.top) verify_app.top) edits_app.top) steps_app.top) advise_app.top

@@ -1,5 +1,5 @@
 /// The number of this release, which `--version` prints behind the program's name.
-pub(crate) const VERSION: &str = "0.53.0";
+pub(crate) const VERSION: &str = "0.54.0";
 
 /// What stands at the end of the program's help: the commands of scripts, the exit statuses, and where all of it is said.
 pub(crate) const PAGE: &str = "\
@@ -44,7 +44,7 @@ themselves.
 
 Lines that ask FILE answers on standard input, of the network that stands then; 'done STATUS' ends each answer:
   any of these commands           an edit changes the network
-  explain B P, explain B P TREE, summary, sweep, sweep K/N, sweep pairs, sweep pairs K/N, dot TREE
+  explain B P, explain B P TREE, summary, sweep, sweep K/N, sweep pairs, sweep pairs K/N, dot TREE, dot vlan VID
                                   what the program's words of these names print
   undo, undo N                    takes back the last edit, or the last N
 
@@ -66,14 +66,14 @@ settles after it. With a policy it is looked at after each step. What edits prin
 
 Flags, anywhere among the words before --, behind which no word is a flag:
   --json    what is printed is JSON, a line for each answer, and for each record of a capture (run, check, explain, diff,
-            sweep, summary, ask, verify, edits, steps)
+            sweep, summary, ask, verify, edits, steps, advise)
   --hints   standard error has what would be right in each line of a script, a policy or a change that isn't read, and what
             stands in the way of each line of a script that is refused
 
 Exit statuses:
   0  nothing of the below
   1  a line or a capture was refused, a capture differs from the plan, a port isn't explained, two networks differ, a failure, a
-     pair of failures or a step of a change cuts a VLAN, or a promise of a policy isn't kept
+     pair of failures or a step of a change cuts a VLAN, a promise of a policy isn't kept, or nothing is advised
   2  the program's words are wrong
   3  a file couldn't be opened, a read or a write failed, or memory was wanted and refused
 

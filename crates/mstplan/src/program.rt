@@ -2,7 +2,7 @@ ghost use Rattle.std.specs.Prelude.{◌≡◌, map, Err, IfOk, IfErr, OnErr, opt
 ghost use Rattle.mst_io.specs.Devices.{seen_by};
 ghost use Rattle.mstplan.specs.Buffered.{outputs};
 ghost use Rattle.mstplan.specs.Flags.{flags_in, no_flags, without_flags};
-ghost use Rattle.mstplan.specs.Program.{Serves, ServesSweep, port_question, part_question, IsWhyUnserved, IsWhyUnswept, IsCarriedOut, IsProgram, output_of};
+ghost use Rattle.mstplan.specs.Program.{Serves, ServesWords, drawn_question, goal_question, part_question, port_question, IsWhyUnserved, IsWhyUnasked, IsCarriedOut, IsProgram, output_of};
 
 use crate::buffered::Ran;
 use crate::compared::Comparison;
@@ -12,7 +12,7 @@ use crate::invites::invite;
 use crate::named::{ask_named, compare_named, run_named};
 use crate::piped::Piped;
 use crate::sources::Sources;
-use crate::words::{Asked, PortWords, asked_for, bytes_of};
+use crate::words::{Asked, GoalWords, PortWords, asked_for, bytes_of};
 use mst_tool::{Between, Question, Sink};
 use std::alloc::Global;
 use std::io::Write;
@@ -61,14 +61,17 @@ fn serve<'a, S: Sources, W: Write + Drop, K: Sink>(
             script,
             word,
             behind,
-        } => sweep_named(alloc, sources, flags, script, word, behind, output, errors),
+        } => {
+            let question = part_of(word, behind);
+            ask_by_words(alloc, sources, flags, question, script, output, errors)
+        }
         Asked::Summary { script } => {
             let question = Question::Summary;
             ask_named(alloc, sources, flags, &question, script, output, errors)
         }
-        Asked::Dot { script, tree } => {
-            let question = Question::picture(tree.as_bytes());
-            ask_named(alloc, sources, flags, &question, script, output, errors)
+        Asked::Dot { script, tree, vid } => {
+            let question = drawn_of(tree, vid);
+            ask_by_words(alloc, sources, flags, question, script, output, errors)
         }
         Asked::Ask { script } => {
             let how = Comparison::Questions(form);
@@ -96,26 +99,28 @@ fn serve<'a, S: Sources, W: Write + Drop, K: Sink>(
                 alloc, sources, how, hints, script, change, policy, output, errors,
             )
         }
+        Asked::Advise { script, goal } => {
+            let question = advice_of(goal);
+            ask_by_words(alloc, sources, flags, question, script, output, errors)
+        }
     }
 }
 
-/// Tells what each single failure does to the network of a script, or each pair, or each of the part that the words name. Words that
-/// name none are told with status 2.
-fn sweep_named<'a, S: Sources, W: Write + Drop, K: Sink>(
+/// Asks the network of a script what words ask. Words that ask nothing are told with status 2.
+fn ask_by_words<'a, S: Sources, W: Write + Drop, K: Sink>(
     alloc: Global,
     sources: &S,
     flags: Flags,
+    asked: Option<Question>,
     script: &'a str,
-    word: Option<&'a str>,
-    behind: Option<&'a str>,
     output: W,
     errors: &mut K,
 ) -> Result<Ran<W>, Stop<'a>>
-    ensures ran { IfOk result (λ ran. ServesSweep (S.is_given sources.now) (S.is_file sources.now) flags script.entry word.entry behind.entry (outputs W.contents (seen_by K.told K.contents K.lent) output errors.old) (outputs W.contents (seen_by K.told K.contents K.lent) ran.writer errors.new) ran.ended ran.hints) }
-    ensures stopped { IfErr result (IsWhyUnswept (S.is_unopened sources.now) script.entry (part_question word.entry behind.entry)) }
+    ensures ran { IfOk result (λ ran. ServesWords (S.is_given sources.now) (S.is_file sources.now) flags asked script.entry (outputs W.contents (seen_by K.told K.contents K.lent) output errors.old) (outputs W.contents (seen_by K.told K.contents K.lent) ran.writer errors.new) ran.ended ran.hints) }
+    ensures stopped { IfErr result (IsWhyUnasked (S.is_unopened sources.now) script.entry asked) }
     ensures untold { OnErr result (errors.new ≡ errors.old) }
 {
-    match Question::sweep(bytes_of(word), bytes_of(behind)) {
+    match asked {
         Some(question) => ask_named(alloc, sources, flags, &question, script, output, errors),
         None => Err(Stop::Told(2)),
     }
@@ -129,6 +134,32 @@ fn question_of(port: PortWords<'_>) -> Question
         port.bridge.as_bytes(),
         port.number.as_bytes(),
         bytes_of(port.tree),
+    )
+}
+
+/// What the words for a part of a sweep ask, if they name one.
+fn part_of(word: Option<&str>, behind: Option<&str>) -> Option<Question>
+    ensures { result ≡ part_question word.entry behind.entry }
+{
+    Question::sweep(bytes_of(word), bytes_of(behind))
+}
+
+/// What the words of a picture ask, if they are some.
+fn drawn_of(tree: &str, vid: Option<&str>) -> Option<Question>
+    ensures { result ≡ drawn_question tree.entry vid.entry }
+{
+    Question::dot(tree.as_bytes(), bytes_of(vid))
+}
+
+/// Which settings the words of what is wanted ask for, if they say what it is.
+fn advice_of(goal: GoalWords<'_>) -> Option<Question>
+    ensures { result ≡ goal_question goal.entry }
+{
+    Question::advice(
+        goal.goal.as_bytes(),
+        goal.tree.as_bytes(),
+        goal.bridge.as_bytes(),
+        bytes_of(goal.port),
     )
 }
 

@@ -2,7 +2,7 @@ ghost use Rattle.std.specs.Prelude.{◌≡◌, ◌≢◌, ◌⊎◌, true, false
 ghost use Rattle.std.specs.List.{list_any};
 ghost use Rattle.clap.specs.Words.{app_of, first_of, found_of, kind_of, rows_of, rule_of, subcommand_rows_of, with_subcommand};
 ghost use Rattle.mstplan.specs.Flags.{asked_with};
-ghost use Rattle.mstplan.specs.Words.{words_of, tree_word, value_of, asked_of, request_of, asked_by, are_plain, behind_name, without_dashes, names_part as part_named, is_help, is_version, is_of_path, IsAnswer, IsFileAlone, IsRefusal, IsWrong, wanted_rule, sweep_app, ask_app, steps_app, two_app, program, no_command as without_command};
+ghost use Rattle.mstplan.specs.Words.{words_of, port_word, tree_word, value_of, asked_of, request_of, asked_by, are_plain, are_worded as words_asking, behind_name, without_dashes, is_help, is_version, is_of_path, IsAnswer, IsFileAlone, IsRefusal, IsWrong, wanted_rule, sweep_app, dot_app, ask_app, steps_app, advise_app, two_app, program, no_command as without_command};
 
 use crate::endings::Stop;
 use crate::flags::Flags;
@@ -48,10 +48,12 @@ pub(crate) enum Asked<'a> {
     Summary {
         script: &'a str,
     },
-    /// To draw the network of a script with one of its trees. Nothing has looked at what the word for the tree says.
+    /// To draw the network of a script with one of its trees, or with a VLAN. Nothing has looked at what the words behind the script
+    /// say.
     Dot {
         script: &'a str,
         tree: &'a str,
+        vid: Option<&'a str>,
     },
     /// To answer the questions of the network of a script that come by standard input.
     Ask {
@@ -74,6 +76,11 @@ pub(crate) enum Asked<'a> {
         change: &'a str,
         policy: Option<&'a str>,
     },
+    /// To tell which settings bring about what is wanted of the network of a script.
+    Advise {
+        script: &'a str,
+        goal: GoalWords<'a>,
+    },
 }
 
 /// The words that name a port, and a tree if it is one that is asked for. Nothing has looked at what they say.
@@ -82,6 +89,16 @@ pub(crate) struct PortWords<'a> {
     pub(crate) bridge: &'a str,
     pub(crate) number: &'a str,
     pub(crate) tree: Option<&'a str>,
+}
+
+/// The words that say what is wanted: of what kind it is, a tree, a bridge, and a port if it is one that is wanted to forward. Nothing has
+/// looked at what they say.
+#[derive(Clone, Copy)]
+pub(crate) struct GoalWords<'a> {
+    pub(crate) goal: &'a str,
+    pub(crate) tree: &'a str,
+    pub(crate) bridge: &'a str,
+    pub(crate) port: Option<&'a str>,
 }
 
 /// The program's name.
@@ -112,7 +129,17 @@ const PART: &str =
 
 const OF_PAIRS: &str = "K/N, the K-th of N equal parts of the pairs. Without it, all of them";
 
-const DRAWN: &str = "The tree, 0 to 4094";
+const DRAWN: &str = "The tree, 0 to 4094, or the word vlan";
+
+const DRAWN_VLAN: &str = "The VLAN behind the word vlan, 1 to 4094";
+
+const GOAL: &str = "What is wanted: root, or forward";
+
+const OF_TREE: &str = "The tree, 0 to 4094";
+
+const ROOT: &str = "The name of the bridge that is to be the root, or whose port is to forward";
+
+const FORWARDS: &str = "The number of the port that is to forward";
 
 const OLD: &str = "The script of the network before, or - for standard input";
 
@@ -141,15 +168,34 @@ pub(crate) fn given_words<R: Env + Eprint + AllocGlobal>(
     }
 }
 
-/// Whether the words for a part of a sweep, if there are some, name a part.
-fn names_part(asked: &Asked<'_>) -> bool
-    ensures { result ≡ part_named (words_of asked.now) }
+/// Whether the words for a part of a sweep, a picture or advice, if there are some, are some that ask.
+fn are_worded(asked: &Asked<'_>) -> bool
+    ensures { result ≡ words_asking (words_of asked.now) }
 {
     match asked {
         Asked::Sweep { word, behind, .. } => {
             Question::sweep(bytes_of(*word), bytes_of(*behind)).is_some()
         }
+        Asked::Dot { tree, vid, .. } => Question::dot(tree.as_bytes(), bytes_of(*vid)).is_some(),
+        Asked::Advise { goal, .. } => Question::advice(
+            goal.goal.as_bytes(),
+            goal.tree.as_bytes(),
+            goal.bridge.as_bytes(),
+            bytes_of(goal.port),
+        )
+        .is_some(),
         _ => true,
+    }
+}
+
+/// What is told of such words that are none.
+fn wrong_words(asked: &Asked<'_>) -> &'static str {
+    match asked {
+        Asked::Dot { .. } => "error: VID stands behind the word vlan alone",
+        Asked::Advise { .. } => "error: GOAL is root, behind which no P stands, or forward, with P",
+        _ => {
+            "error: PART is K/N, two numbers in decimal with 1 <= K <= N <= 65536, and pairs or nothing stands before it"
+        }
     }
 }
 
@@ -169,16 +215,14 @@ pub(crate) fn asked_for<'a, R: Print + Eprint + AllocGlobal, S: Sources>(
 {
     match asked_by_words(rt, sources, words) {
         Err(stop) => Err(stop),
-        Ok(asked) if !names_part(&asked) => {
-            let _ = eprintln!(rt;
-                "error: PART is K/N, two numbers in decimal with 1 <= K <= N <= 65536, and pairs or nothing stands before it"
-            );
+        Ok(asked) if !are_worded(&asked) => {
+            let _ = eprintln!(rt; "{}", wrong_words(&asked));
             Err(Stop::Told(2))
         }
         Ok(asked) if flags.are_of(&asked) => Ok(asked),
         Ok(_) => {
             let _ = eprintln!(rt;
-                "error: --json is a flag of run, check, explain, diff, sweep, summary, ask, verify, edits and steps"
+                "error: --json is a flag of run, check, explain, diff, sweep, summary, ask, verify, edits, steps and advise"
             );
             Err(Stop::Told(2))
         }
@@ -317,18 +361,16 @@ fn with_two<'a>(
 
 /// A command line with the command that draws a network behind those that it has.
 fn with_dot<'a>(alloc: Global, before: Command<'a>) -> Result<Command<'a>, AllocError>
-    ensures { IfOk result (λ command. app_of command ≡ with_subcommand (app_of before.entry) (two_app (codes "dot") (codes "FILE") (codes "TREE")).top) }
+    ensures { IfOk result (λ command. app_of command ≡ with_subcommand (app_of before.entry) dot_app.top) }
 {
-    let about = "Makes the network of a script, and draws it with one of its trees, for Graphviz";
-    let file = Word {
-        id: "FILE",
-        help: SCRIPT,
-    };
-    let tree = Word {
-        id: "TREE",
-        help: DRAWN,
-    };
-    with_two(alloc, before, "dot", about, file, tree)
+    let dot = Command::new(alloc, "dot")
+        .about(
+            "Makes the network of a script, and draws it with one of its trees or with a VLAN, for Graphviz",
+        )
+        .arg(wanted(alloc, "FILE", SCRIPT))?
+        .arg(wanted(alloc, "TREE", DRAWN))?
+        .arg(Arg::new(alloc, "VID").help(DRAWN_VLAN))?;
+    before.subcommand(dot)
 }
 
 /// A command line with the command that answers questions behind those that it has.
@@ -388,6 +430,20 @@ fn with_steps<'a>(alloc: Global, before: Command<'a>) -> Result<Command<'a>, All
     before.subcommand(steps)
 }
 
+/// A command line with the command that advises settings behind those that it has.
+fn with_advise<'a>(alloc: Global, before: Command<'a>) -> Result<Command<'a>, AllocError>
+    ensures { IfOk result (λ command. app_of command ≡ with_subcommand (app_of before.entry) advise_app.top) }
+{
+    let advise = Command::new(alloc, "advise")
+        .about("Makes the network of a script, and tells which settings bring about what is wanted")
+        .arg(wanted(alloc, "FILE", SCRIPT))?
+        .arg(wanted(alloc, "GOAL", GOAL))?
+        .arg(wanted(alloc, "TREE", OF_TREE))?
+        .arg(wanted(alloc, "B", ROOT))?
+        .arg(Arg::new(alloc, "P").help(FORWARDS))?;
+    before.subcommand(advise)
+}
+
 /// The program's command line.
 fn command<'a>(alloc: Global) -> Result<Command<'a>, AllocError>
     ensures { IfOk result (λ command. app_of command ≡ program) }
@@ -421,7 +477,8 @@ fn command<'a>(alloc: Global) -> Result<Command<'a>, AllocError>
         .subcommand(diff)?;
     let swept = with_sweep(alloc, before)?.subcommand(summary)?;
     let verified = with_verify(alloc, with_ask(alloc, with_dot(alloc, swept)?)?)?;
-    with_steps(alloc, with_edits(alloc, verified)?)
+    let stepped = with_steps(alloc, with_edits(alloc, verified)?)?;
+    with_advise(alloc, stepped)
 }
 
 /// The program's command line without a command. Its usage has this name of the program, whatever its file is called.
@@ -476,6 +533,7 @@ fn asked_of_command<'a>(command: &str, found: &ArgMatches<'a>) -> Asked<'a>
         "dot" => Asked::Dot {
             script: value_in(found, "FILE"),
             tree: value_in(found, "TREE"),
+            vid: word_in(found, "VID"),
         },
         "ask" => Asked::Ask {
             script: value_in(found, "FILE"),
@@ -493,6 +551,10 @@ fn asked_of_command<'a>(command: &str, found: &ArgMatches<'a>) -> Asked<'a>
             change: value_in(found, "CHANGE"),
             policy: word_in(found, "POLICY"),
         },
+        "advise" => Asked::Advise {
+            script: value_in(found, "FILE"),
+            goal: goal_in(found),
+        },
         _ => Asked::Run {
             script: value_in(found, "FILE"),
         },
@@ -509,6 +571,21 @@ fn port_in<'a>(found: &ArgMatches<'a>) -> PortWords<'a>
         bridge: value_in(found, "B"),
         number: value_in(found, "P"),
         tree: word_in(found, "TREE"),
+    }
+}
+
+/// The words that say what is wanted.
+fn goal_in<'a>(found: &ArgMatches<'a>) -> GoalWords<'a>
+    ensures goal { result.goal.now ≡ value_of (codes "GOAL") (rows_of (found_of found.now)) }
+    ensures tree { result.tree.now ≡ value_of (codes "TREE") (rows_of (found_of found.now)) }
+    ensures bridge { result.bridge.now ≡ value_of (codes "B") (rows_of (found_of found.now)) }
+    ensures port { port_word result ≡ first_of (codes "P") (rows_of (found_of found.now)) }
+{
+    GoalWords {
+        goal: value_in(found, "GOAL"),
+        tree: value_in(found, "TREE"),
+        bridge: value_in(found, "B"),
+        port: word_in(found, "P"),
     }
 }
 

@@ -141,3 +141,58 @@ fn answers_are_records(rt: HostRuntime) -> Result<(), Fail> {
     );
     Ok(())
 }
+
+// A picture with a VLAN is asked by two words behind `dot`, and advice not at all.
+#[test]
+fn a_picture_has_one_word_or_two(rt: HostRuntime) -> Result<(), Fail> {
+    let questions: &[u8] = b"dot vlan\ndot vlan 4095\ndot 0 10\ndot vlan 10 11\nadvise root 0 B\n";
+    let expected: &[u8] = b"line 10 E07 name taken\n\
+        done 1\n\
+        dot E03 bad VID or tree\n\
+        done 1\n\
+        dot E03 bad VID or tree\n\
+        done 1\n\
+        line 3 E01 no such command\n\
+        done 1\n\
+        line 4 E01 no such command\n\
+        done 1\n\
+        line 5 E01 no such command\n\
+        done 1\n";
+    let mut written = Vec::new(rt.alloc());
+    let ran = asked(rt.alloc(), Form::Text, questions, 4096, &mut written);
+    assert_eq!(rt; written.as_slice(), expected);
+    assert_eq!(rt;
+        ran,
+        Ok(Outcome {
+            refused: 6,
+            memory: 0,
+            differing: 0
+        })
+    );
+    Ok(())
+}
+
+// The network with a VLAN as it stands: behind an edit, and as it was.
+#[test]
+fn a_standing_network_is_drawn_with_a_vlan(rt: HostRuntime) -> Result<(), Fail> {
+    let questions: &[u8] = b"bridge B off\nbridge A off\ndot vlan 7\n";
+    let expected: &[u8] = b"line 10 E07 name taken\n\
+        done 1\n\
+        done 0\n\
+        done 0\n\
+        graph \"vlan 7\" {\n  \
+        graph [label=\"vlan 7\", nodesep=0.6, ranksep=0.8];\n  \
+        edge [fontsize=10, labeldistance=1.8];\n  \
+        \"A\" [style=dashed, color=gray, fontcolor=gray];\n  \
+        \"B\" [style=dashed, color=gray, fontcolor=gray];\n  \
+        \"C\" [style=dashed, color=gray, fontcolor=gray];\n  \
+        \"A\" -- \"B\" [label=\"X\", taillabel=\"1 X\", headlabel=\"1 X\", style=dashed];\n  \
+        \"A\" -- \"C\" [label=\"Y\", taillabel=\"2 X\", headlabel=\"1 X\", style=dashed];\n\
+        }\n\
+        done 0\n";
+    let mut written = Vec::new(rt.alloc());
+    let ran = asked(rt.alloc(), Form::Text, questions, 4096, &mut written);
+    assert_eq!(rt; written.as_slice(), expected);
+    assert!(rt; ran.is_ok());
+    Ok(())
+}

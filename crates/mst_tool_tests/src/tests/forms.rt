@@ -75,6 +75,44 @@ fn answers_are_json(rt: HostRuntime) -> Result<(), Fail> {
     Ok(())
 }
 
+// What is wanted stands in front, and each edit is a record.
+#[test]
+fn advice_is_json(rt: HostRuntime) -> Result<(), Fail> {
+    let advised: &[u8] = b"{\"line\":10,\"error\":\"E07\",\"text\":\"name taken\"}\n\
+        {\"query\":\"advise\",\"goal\":\"root\",\"tree\":0,\"bridge\":\"B\",\"records\":[{\"kind\":\"edit\",\"command\":\"settreeprio\",\"bridge\":\"B\",\"tree\":0,\"priority\":28672},\
+        {\"kind\":\"does\",\"trees\":[0],\"port_count\":2,\"moved_vids\":[],\"cut_vids\":[],\"joined_vids\":[]},\
+        {\"kind\":\"advise\",\"edit_count\":1}]}\n";
+    let none: &[u8] = b"{\"line\":10,\"error\":\"E07\",\"text\":\"name taken\"}\n\
+        {\"query\":\"advise\",\"goal\":\"forward\",\"tree\":0,\"bridge\":\"C\",\"port\":1,\"records\":[{\"kind\":\"advise\",\"result\":\"none\"}]}\n";
+    let unadvised: &[u8] = b"{\"line\":10,\"error\":\"E07\",\"text\":\"name taken\"}\n\
+        {\"query\":\"advise\",\"error\":\"E05\",\"text\":\"no such port\"}\n";
+    let cases: [(Option<Question>, &[u8], Outcome); 3] = [
+        (
+            Question::advice(b"root", b"0", b"B", None),
+            advised,
+            counts(1, 0),
+        ),
+        (
+            Question::advice(b"forward", b"0", b"C", Some(b"1")),
+            none,
+            differing(1),
+        ),
+        (
+            Question::advice(b"forward", b"0", b"C", Some(b"2")),
+            unadvised,
+            counts(2, 0),
+        ),
+    ];
+    for (question, expected, ended) in cases {
+        let question = question.ok_or("no question")?;
+        let mut written = Vec::new(rt.alloc());
+        let ran = asked(rt.alloc(), &question, &mut written);
+        assert_eq!(rt; written.as_slice(), expected);
+        assert_eq!(rt; ran, Ok(ended));
+    }
+    Ok(())
+}
+
 /// Tells two networks apart in JSON.
 fn told_apart(
     alloc: Global,

@@ -11,5 +11,5 @@ ends_of-requires c = subst (AreAmong c.args.plan.now.view.ports) (sym c.requires
 pub returns : goal.returns
 returns c =
     let s = c.args.plan.now in
-    let ends = c.as_slice.ensures.value ∙ c.in_ok-ends.ensures ∙ ap (map (end_at s c.args.tree)) c.requires ∙ ends_named s c.known.ensures c.args.tree c.args.lan.now in
+    let ends = c.as_slice.ensures.value ∙ c.in_ok-ends.ensures ∙ ap (map (end_at s c.args.drawn)) c.requires ∙ ends_named s c.known.ensures c.args.drawn c.args.lan.now in
     on_ok_weaker c.push_by_ends.result (λ e. e ∙ ap (λ ends. c.args.out.now.items ++ lan_text c.args.lan.now ends) ends) c.push_by_ends.ensures

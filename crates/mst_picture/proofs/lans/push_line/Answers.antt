@@ -1,7 +1,7 @@
 use Rattle.std.proofs.Common.{◌≡◌, ℕ, List, [], ◌∷◌, ◌++◌, codes, ap, ◌∙◌}
 use Rattle.std.specs.Prelude.{◌&&◌}
 use Rattle.std.proofs.lemmas.Result.{on_ok_weaker}
-use Rattle.mst_picture.specs.Lans.{is_open, label, line_end}
+use Rattle.mst_picture.specs.Lans.{label, line_end}
 use Rattle.mst_picture.specs.Pieces.{joined}
 use Rattle.mst_picture.proofs.Lines.{and_four}
 use Rattle.mst_picture.proofs.lans.push_line.Goals as goal
@@ -13,7 +13,7 @@ returns c =
     let head = c.args.head.now in
     let first : List (List ℕ) = codes "  \"" ∷ tail.port.bridge ∷ codes "\" -- \"" ∷ head.port.bridge ∷ codes "\" [label=\"" ∷ c.args.lan.now ∷ codes "\", taillabel=\"" ∷ [] in
     let between : List ℕ = codes "\", headlabel=\"" in
-    let end : List ℕ = line_end (is_open tail && is_open head) in
+    let end : List ℕ = line_end (tail.is_open && head.is_open) in
     let one : c.push_pieces.new.out.items ≡ out ++ joined first = c.in_ok-push_pieces.ensures {u = tt}
     ∙ (λ i. out ++ joined (codes "  \"" ∷ c.as_bytes.ensures.text i ∷ codes "\" -- \"" ∷ c.as_bytes-2.ensures.text i ∷ codes "\" [label=\"" ∷ c.as_bytes-3.ensures.text i ∷ codes "\", taillabel=\"" ∷ [])) in
     let two : c.push_label.new.out.items ≡ (out ++ joined first) ++ label tail = c.in_ok-push_label.ensures {u = tt} ∙ ap (λ t. t ++ label tail) one in

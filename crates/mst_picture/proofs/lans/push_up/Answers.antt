@@ -1,6 +1,6 @@
 use Rattle.std.proofs.Common.{◌≡◌, ℕ, List, [], ◌∷◌, ◌++◌, codes, ap, ◌∙◌}
 use Rattle.std.proofs.lemmas.Result.{on_ok_weaker}
-use Rattle.mst_picture.specs.Lans.{is_open, label, line_end}
+use Rattle.mst_picture.specs.Lans.{label, line_end}
 use Rattle.mst_picture.specs.Pieces.{joined}
 use Rattle.mst_picture.proofs.Lines.{and_two}
 use Rattle.mst_picture.proofs.lans.push_up.Goals as goal
@@ -14,4 +14,4 @@ returns c =
     ∙ (λ i. out ++ joined (codes "  \"lan " ∷ c.as_bytes.ensures.text i ∷ codes "\" -- \"" ∷ c.as_bytes-2.ensures.text i ∷ codes "\" [headlabel=\"" ∷ [])) in
     let two : c.push_label.new.out.items ≡ (out ++ joined first) ++ label end = c.in_ok-push_label.ensures {u = tt} ∙ ap (λ t. t ++ label end) one in
     on_ok_weaker c.push_bytes.result
-    (λ last. last ∙ (λ i. two i ++ (c.as_bytes-3.ensures.value ∙ c.line_end.ensures ∙ ap line_end c.is_open.ensures) i) ∙ and_two out first (label end) (line_end (is_open end))) c.push_bytes.ensures.ok
+    (λ last. last ∙ (λ i. two i ++ (c.as_bytes-3.ensures.value ∙ c.line_end.ensures) i) ∙ and_two out first (label end) (line_end end.is_open)) c.push_bytes.ensures.ok

@@ -8,6 +8,7 @@ use Rattle.mst_report.specs.Stepping.{IsStepTold, StepTold}
 use Rattle.mst_report.proofs.Judgements.{to_now}
 use Rattle.mst_report.proofs.Swept.{put_then}
 use Rattle.mst_steps.specs.StepText.{AreStepRows}
+use Rattle.mst_steps.specs.declared.step.Deed.TheVariants as deed
 use Rattle.mst_steps.specs.declared.step.Step.{Step}
 use Rattle.mst_report.proofs.stepping.take_step.Goals as goal
 
@@ -42,7 +43,7 @@ returns-clause-told g c =
             now = after.outcome;
             is_now = after.is_outcome;
             refused = refl;
-            own = subst (λ (step : Step). AreStepRows old.net before.outcome now.net after.outcome step said.0 c.in_ok-does.does) c.step_of_lines-step.ensures said.1;
+            own = subst (λ (step : Step). AreStepRows old.net before.outcome now.net after.outcome (deed.Step step) said.0 c.in_ok-does.does) c.step_of_lines-step.ensures said.1;
             judged = judged.1;
           });
       counted = record { refused = c.in_ok-made.ensures.made.refused; does = refl; fails = judged.2 };

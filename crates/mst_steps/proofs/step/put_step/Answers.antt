@@ -1,30 +1,29 @@
 use Rattle.std.proofs.Common.{◌≡◌, ℕ, List, ◌∷◌, ◌++◌, refl, subst, ◌∙◌}
 use Rattle.std.proofs.lemmas.Result.{IfOk-weaker}
 use Rattle.mst_rows.specs.Rows.{Row}
-use Rattle.mst_sweep.specs.declared.cuts.CutBy.TheVariants.{Step}
 use Rattle.mst_sweep.specs.Cuts.{rows_of, runs_of}
 use Rattle.mst_sweep.specs.Moved.{moved_roots, moved_ports}
-use Rattle.mst_steps.specs.StepText.{step_row}
+use Rattle.mst_steps.specs.StepText.{cut_by, deed_row}
 use Rattle.mst_steps.proofs.step.put_step.Goals as goal
 
 pub returns : goal.returns
 returns g c = IfOk-weaker c.put_told.result _ _
     (λ stepped is_told a b n k is are of so.
-    let step = c.args.step.now in
+    let step = c.args.deed.now in
     let told = c.in_ok-told.told in
     let R : List ℕ = moved_roots a is.outcome b are.outcome in
     let P : ℕ = moved_ports a is.outcome b are.outcome in
     let roots : c.as_slice-4.result.now ≡ R = c.as_slice-4.ensures.value ∙ c.in_ok-roots.ensures a b n k is are of so in
     let ports : c.moved_ports-ports.result ≡ P = c.moved_ports-ports.ensures a b n k is are of so in
-    let cuts : List Row = rows_of (Step step.number) told.classes.numbers.items told.cuts in (
-      step_row step R P (runs_of told.moved.items) (runs_of told.cuts.vids.items) (runs_of told.joined.items) ∷ cuts,
+    let cuts : List Row = rows_of (cut_by step) told.classes.numbers.items told.cuts in (
+      deed_row step R P (runs_of told.moved.items) (runs_of told.cuts.vids.items) (runs_of told.joined.items) ∷ cuts,
       record {
         moved = told.moved.items;
         cut = told.cuts.vids.items;
         joined = told.joined.items;
         cut_rows = cuts;
         are_moved = c.in_ok-told.ensures.moved a b n k is are of so;
-        are_cut = c.in_ok-told.ensures.cut a b n k is are of so (Step step.number);
+        are_cut = c.in_ok-told.ensures.cut a b n k is are of so (cut_by step);
         are_joined = c.in_ok-told.ensures.joined a b n k is are of so;
         moves = is_told.0;
         cuts = is_told.1;
@@ -32,6 +31,6 @@ returns g c = IfOk-weaker c.put_told.result _ _
       },
       λ first rows grew.
           subst (λ (all : List Row). g.R.Rows.grew first c.put_told.new.out all)
-          (λ i. rows ++ step_row step (roots i) (ports i) (runs_of told.moved.items) (runs_of told.cuts.vids.items) (runs_of told.joined.items) ∷ cuts)
+          (λ i. rows ++ deed_row step (roots i) (ports i) (runs_of told.moved.items) (runs_of told.cuts.vids.items) (runs_of told.joined.items) ∷ cuts)
           (is_told.2 first rows grew),
     )) c.put_told.ensures

@@ -7,7 +7,7 @@ use Rattle.mst_engine.specs.declared.engine.Input.TheVariants.{Network}
 use Rattle.mst_io.specs.declared.outcome.Outcome.{Outcome}
 use Rattle.mst_io.specs.declared.outcome.RunFault.{RunFault}
 use Rattle.mst_io.specs.declared.outcome.RunFault.TheVariants.{Read}
-use Rattle.mst_tool.proofs.WholeLoad.{loads_front, loads_ended, loads_script, loads_whole, asks, answers_front}
+use Rattle.mst_tool.proofs.WholeLoad.{OneOfEach, loads_front, loads_ended, loads_script, loads_whole, asks, answers_front}
 use Rattle.mst_tool.proofs.asks.ask_within.Goals as goal
 
 pub returns-in-Err-clause-fault : goal.returns-in-Err-clause-fault
@@ -53,7 +53,16 @@ returns-in-Err-put_answer-clause-fault g c =
     let now = g.K.Sink.contents c.put_answer.new.sink in
     let t = tally_of c.serve_input.new.engine in
     let answer = c.in-Ok-answer_to.answer in
-    answers_front c.one_load.ensures.same c.states.ensures.network c.one_explanation.ensures.one c.sweep_parts.ensures.one c.pair_parts.ensures.one c.one_summary.ensures.one c.one_picture.ensures.one c.args.form c.args.question.now reads written mid now t (told_of answer) (answer_text c.args.form answer)
+    let one : OneOfEach = record {
+      explanation = c.one_explanation.ensures.one;
+      sweep = c.sweep_parts.ensures.one;
+      pairs = c.pair_parts.ensures.one;
+      summary = c.one_summary.ensures.one;
+      picture = c.one_picture.ensures.one;
+      vlan_picture = c.one_vlan_picture.ensures.one;
+      advice = c.one_advice.ensures;
+    } in
+    answers_front c.one_load.ensures.same c.states.ensures.network one c.args.form c.args.question.now reads written mid now t (told_of answer) (answer_text c.args.form answer)
     (subst (λ from. Served (Network (of_script c.args.form)) from reads written mid t) c.new-engine.ensures.empty c.in-Ok.ensures.ok) c.in-Ok-answer_to.ensures.answer c.in-Err-put_answer.ensures.err
 
 pub returns-clause-ok : goal.returns-clause-ok
@@ -64,6 +73,15 @@ returns-clause-ok g c =
     let now = g.K.Sink.contents c.put_answer.new.sink in
     let t = tally_of c.serve_input.new.engine in
     let answer = c.in-Ok-answer_to.answer in
+    let one : OneOfEach = record {
+      explanation = c.one_explanation.ensures.one;
+      sweep = c.sweep_parts.ensures.one;
+      pairs = c.pair_parts.ensures.one;
+      summary = c.one_summary.ensures.one;
+      picture = c.one_picture.ensures.one;
+      vlan_picture = c.one_vlan_picture.ensures.one;
+      advice = c.one_advice.ensures;
+    } in
     subst (Asks c.args.form c.args.question.now reads written now) (sym (c.with_answer.ensures ∙ (λ i. counted_with (c.outcome-served.ensures i) (told_of answer))))
-    (asks c.one_load.ensures.same c.states.ensures.network c.one_explanation.ensures.one c.sweep_parts.ensures.one c.pair_parts.ensures.one c.one_summary.ensures.one c.one_picture.ensures.one c.args.form c.args.question.now reads written mid now t (told_of answer) (answer_text c.args.form answer)
+    (asks c.one_load.ensures.same c.states.ensures.network one c.args.form c.args.question.now reads written mid now t (told_of answer) (answer_text c.args.form answer)
     (subst (λ from. Served (Network (of_script c.args.form)) from reads written mid t) c.new-engine.ensures.empty c.in-Ok.ensures.ok) c.in-Ok-answer_to.ensures.answer c.in-Ok-put_answer.ensures.ok)

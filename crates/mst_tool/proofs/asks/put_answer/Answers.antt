@@ -21,3 +21,15 @@ put_unanswered-requires-in-Undrawn-clause-plain_code g c = subst IsPlain (sym c.
 
 pub put_unanswered-requires-in-Undrawn-clause-plain_text : goal.put_unanswered-requires-in-Undrawn-clause-plain_text
 put_unanswered-requires-in-Undrawn-clause-plain_text g c = subst IsPlain (sym c.text-in-Undrawn.ensures) (plain_text c.in-Undrawn.fault)
+
+pub put_unanswered-requires-in-NotAdvised-clause-plain_code : goal.put_unanswered-requires-in-NotAdvised-clause-plain_code
+put_unanswered-requires-in-NotAdvised-clause-plain_code g c = subst IsPlain (sym c.code-in-NotAdvised.ensures) (why_code c.in-NotAdvised.why)
+
+pub put_unanswered-requires-in-NotAdvised-clause-plain_text : goal.put_unanswered-requires-in-NotAdvised-clause-plain_text
+put_unanswered-requires-in-NotAdvised-clause-plain_text g c = subst IsPlain (sym c.text-in-NotAdvised.ensures) (why_text c.in-NotAdvised.why)
+
+pub put_unanswered-requires-in-UnreadGoal-clause-plain_code : goal.put_unanswered-requires-in-UnreadGoal-clause-plain_code
+put_unanswered-requires-in-UnreadGoal-clause-plain_code g c = subst IsPlain (sym c.code-in-UnreadGoal.ensures) (plain_code c.in-UnreadGoal.fault)
+
+pub put_unanswered-requires-in-UnreadGoal-clause-plain_text : goal.put_unanswered-requires-in-UnreadGoal-clause-plain_text
+put_unanswered-requires-in-UnreadGoal-clause-plain_text g c = subst IsPlain (sym c.text-in-UnreadGoal.ensures) (plain_text c.in-UnreadGoal.fault)

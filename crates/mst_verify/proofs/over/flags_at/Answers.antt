@@ -2,7 +2,7 @@ use Rattle.std.proofs.Common.{◌≡◌, refl, take, ◌+◌, ℕ, Bool, List, g
 use Rattle.std.proofs.lemmas.Grind.{common_steps}
 use Rattle.mst_summary.proofs.VidClasses.{AtPlaces, more_at, all_at}
 use Rattle.mst_verify.specs.Over.{is_wrong}
-use Rattle.mst_verify.specs.Seen.{seen_over}
+use Rattle.mst_summary.specs.Seen.{seen_over}
 use Rattle.mst_verify.proofs.over.flags_at.Goals as goal
 
 pub loop-place-preserved : goal.loop-place-preserved
@@ -16,7 +16,7 @@ loop-place-preserved c = record {
       let place : ℕ = get_or places i 0 in
       let vid : c.unwrap-vid.result ≡ place + 1 = first_of (grind (arith, common_steps), search (rules, common_steps)) in
       subst (AtPlaces R (take (i + 1) places)) (sym {A = List Bool} c.in_ok-push.ensures.items)
-      (more_at R places i place c.unwrap-vid.result c.loop-place-test.true refl vid c.loop-place.flags.items c.is_wrong.result c.loop-place.invariant.flags (c.is_wrong.ensures ∙ ap (is_wrong c.args.is_wanted) c.in_ok-is_over.ensures));
+      (more_at R places i place c.unwrap-vid.result c.loop-place-test.true refl vid c.loop-place.flags.items c.is_wrong.result c.loop-place.invariant.flags (c.is_wrong.ensures ∙ ap (is_wrong c.args.is_wanted) c.in_ok-goes_over.ensures));
 }
 
 pub returns-clause-flags : goal.returns-clause-flags

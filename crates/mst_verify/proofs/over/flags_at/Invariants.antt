@@ -1,7 +1,7 @@
 use Rattle.std.proofs.Common.{◌≡◌, ◌+◌, length, take}
 use Rattle.std.specs.List.{AllZip}
 use Rattle.mst_verify.specs.Over.{is_wrong}
-use Rattle.mst_verify.specs.Seen.{seen_over}
+use Rattle.mst_summary.specs.Seen.{seen_over}
 use Rattle.mst_verify.proofs.over.flags_at.Given as goal
 
 -- the flags of the places so far

@@ -12,12 +12,12 @@ use Rattle.mst_summary.specs.plan_text.PlanText.{all_vids}
 use Rattle.mst_summary.proofs.plan_text_lemmas.Classes.{numbers_below}
 use Rattle.mst_summary.proofs.plan_text_lemmas.OnePlan.{is_vid_there}
 use Rattle.mst_summary.specs.Kept.{flag_at}
-use Rattle.mst_summary.specs.Seen.{seen_on}
-use Rattle.mst_summary.proofs.VidClasses.{AtPlaces, things_have}
+use Rattle.mst_summary.specs.Seen.{seen_on, seen_over}
+use Rattle.mst_summary.proofs.VidClasses.{AtPlaces, things_have, over_alike}
 use Rattle.mst_verify.specs.Named.{vids_in}
 use Rattle.mst_verify.specs.Over.{goes_over, is_wrong}
-use Rattle.mst_verify.specs.Seen.{seen_logical, seen_over}
-use Rattle.mst_verify.proofs.OverNamed.{over_alike, over_named}
+use Rattle.mst_verify.specs.Seen.{seen_logical}
+use Rattle.mst_verify.proofs.OverNamed.{over_named}
 use Rattle.mst_verify.proofs.VidParts.{each_class}
 use Rattle.mst_verify.proofs.over.wrong_vids.Goals as goal
 

@@ -4,7 +4,7 @@ use Rattle.std.proofs.lemmas.Result.{IfOk-weaker}
 use Rattle.clap.specs.Words.{App, app_of, new_rule, rule_of, with_rule, with_subcommand}
 use Rattle.clap.specs.Simple.{app_of_fields}
 use Rattle.clap.specs.declared.builder.arg.Arg.{Arg}
-use Rattle.mstplan.specs.Words.{ask_app, check_app, diff_app, dot_app, edits_app, explain_app, no_command, run_app, steps_app, summary_app, sweep_app, verify_app}
+use Rattle.mstplan.specs.Words.{advise_app, ask_app, check_app, diff_app, dot_app, edits_app, explain_app, no_command, run_app, steps_app, summary_app, sweep_app, verify_app}
 use Rattle.mstplan.proofs.words.command.Goals as goal
 
 pub returns : goal.returns
@@ -45,4 +45,5 @@ returns c =
     let eighth_is = c.in_ok-with_ask.ensures ∙ ap (λ (a : App). with_subcommand a ask_app.top) seventh_is in
     let ninth_is = c.in_ok-verified.ensures ∙ ap (λ (a : App). with_subcommand a verify_app.top) eighth_is in
     let tenth_is = c.in_ok-with_edits.ensures ∙ ap (λ (a : App). with_subcommand a edits_app.top) ninth_is in
-    IfOk-weaker c.with_steps.result _ _ (λ r h. h ∙ ap (λ (a : App). with_subcommand a steps_app.top) tenth_is) c.with_steps.ensures
+    let eleventh_is = c.in_ok-stepped.ensures ∙ ap (λ (a : App). with_subcommand a steps_app.top) tenth_is in
+    IfOk-weaker c.with_advise.result _ _ (λ r h. h ∙ ap (λ (a : App). with_subcommand a advise_app.top) eleventh_is) c.with_advise.ensures

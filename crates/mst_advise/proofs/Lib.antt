@@ -1,0 +1,7 @@
+pub mod ContestRows
+pub mod PortsNamed
+pub mod ForwardingPort
+pub mod BridgeNamed
+pub mod GreatestUpto
+pub mod OthersSeen
+pub mod OneCandidates

@@ -1,0 +1,12 @@
+use Rattle.std.proofs.Common.{None, sym, subst}
+use Rattle.std.specs.Prelude.{◌↔◌, IfOk, IsTrue}
+use Rattle.mst_roles.specs.trees.Settled.{outcome_of}
+use Rattle.mst_verify.specs.Holds.{Holds}
+use Rattle.mst_advise.specs.Goals.{expectation_of}
+use Rattle.mst_advise.specs.declared.goal.Goal.{Goal}
+use Rattle.mst_advise.proofs.holding.holds.Goals as goal
+
+pub returns-in-Root : goal.returns-in-Root
+returns-in-Root c =
+    let s = c.args.plan.now in
+    subst (λ (g : Goal). IfOk c.is_root.result (λ holds. IsTrue holds ↔ Holds s.net (outcome_of s) s.net None (expectation_of g))) (sym c.in-Root.is) c.is_root.ensures

@@ -1,0 +1,11 @@
+pub use Rattle.mst_roles.specs.net as net
+pub use Rattle.mst_roles.specs.trees as trees
+pub use Rattle.mst_verify.specs as verify
+pub mod Goals
+pub mod Settings
+pub mod Contests
+pub mod Priorities
+pub mod Costs
+pub mod Candidates
+pub mod Told
+pub mod Seen

@@ -1,0 +1,84 @@
+ghost use Rattle.std.specs.Prelude.{◌≡◌, ◌↔◌, not, IfOk, IsTrue, None};
+ghost use Rattle.std.specs.List.{Contains};
+ghost use Rattle.mst_lag.specs.Viewed.{named_port};
+ghost use Rattle.mst_policy.specs.declared.expectation.Expectation.TheVariants as expect;
+ghost use Rattle.mst_roles.specs.Roles.{role_in};
+ghost use Rattle.mst_roles.specs.trees.Settled.{outcome_of};
+ghost use Rattle.mst_summary.specs.diff.Reach.{has_any};
+ghost use Rattle.mst_verify.specs.Holds.{Holds, is_wanted};
+ghost use Rattle.mst_advise.specs.Goals.{expectation_of, forwarding, this_port};
+
+use crate::goal::Goal;
+use crate::named::port_named;
+use mst_ids::{Name, PortName, Tree, VidSet};
+use mst_lag::PortInView;
+use mst_policy::Expectation;
+use mst_roles::{Settled, role_of};
+use mst_verify::laws::told_where_broken;
+use mst_verify::{Before, Homes, Judged, Reason, reasons};
+use std::alloc::{AllocError, Global};
+
+/// Whether a goal holds in a settled network: what a line of a policy says that expects it. `AllocError`: memory was wanted and refused.
+pub fn holds(alloc: Global, plan: &Settled, goal: &Goal) -> Result<bool, AllocError>
+    ensures { IfOk result (λ holds. IsTrue holds ↔ Holds plan.now.net (outcome_of plan.now) plan.now.net None (expectation_of goal.now)) }
+{
+    match goal {
+        Goal::Root { tree, bridge } => is_root(alloc, plan, *tree, bridge),
+        Goal::Forward { tree, port } => Ok(is_forwarding(plan, *tree, port)),
+    }
+}
+
+/// Whether a bridge is the one root of a tree in its region.
+fn is_root(alloc: Global, plan: &Settled, tree: Tree, bridge: &Name) -> Result<bool, AllocError>
+    ensures { IfOk result (λ holds. IsTrue holds ↔ Holds plan.now.net (outcome_of plan.now) plan.now.net None (expect.Root tree bridge.now None)) }
+{
+    plan.known();
+    told_where_broken();
+    let before = Before::new(alloc, plan)?;
+    let homes = Homes::new(alloc, plan, &before, &VidSet::none())?;
+    let judged = Judged {
+        plan,
+        before: &before,
+        homes: &homes,
+        gone: None,
+    };
+    let expectation = Expectation::Root {
+        tree,
+        bridge: *bridge,
+        next: None,
+    };
+    let reasons = reasons(alloc, &judged, &expectation)?;
+    Ok(are_none(reasons.as_slice()))
+}
+
+/// Whether there is no reason.
+fn are_none(reasons: &[Reason]) -> bool
+    ensures { result ≡ not (has_any reasons.now) }
+{
+    match reasons {
+        [] => true,
+        [..] => false,
+    }
+}
+
+/// Whether the logical port of this name, if there is one, forwards in a tree.
+fn is_forwarding(plan: &Settled, tree: Tree, name: &PortName) -> bool
+    ensures { IsTrue result ↔ Holds plan.now.net (outcome_of plan.now) plan.now.net None (expect.Role tree (this_port name.now) forwarding) }
+{
+    plan.known();
+    match port_named(plan, name) {
+        None => true,
+        Some(port) => forwards(plan, tree, port),
+    }
+}
+
+/// Whether a logical port of the view forwards in a tree.
+fn forwards(plan: &Settled, tree: Tree, port: &PortInView) -> bool
+    requires { Contains plan.now.view.ports port.now }
+    ensures { result ≡ is_wanted forwarding (role_in plan.now.net (outcome_of plan.now) tree (named_port port.now)) }
+{
+    match role_of(plan, port, tree) {
+        None => false,
+        Some(role) => role.forwards(),
+    }
+}

@@ -1,0 +1,19 @@
+//! Laws of advice. Their functions do nothing: a caller has their clauses.
+ghost use Rattle.std.specs.Prelude.{◌≡◌, List};
+ghost use Rattle.mst_roles.specs.net.Tables.{Net, IsNetwork};
+ghost use Rattle.mst_roles.specs.trees.Outcome.{Outcome, IsOutcome};
+ghost use Rattle.mst_advise.specs.Candidates.{AreCandidates};
+ghost use Rattle.mst_advise.specs.declared.goal.Goal.{Goal as GoalOf};
+ghost use Rattle.mst_advise.specs.declared.setting.Setting.{Setting as SettingOf};
+
+use mst_explain::laws::one_explained;
+use mst_summary::trees_laws::one_outcome;
+
+/// There is one list of candidates for a goal in a network, whichever settled outcome they are by.
+pub fn one_candidates()
+    ensures { (net : Net) (o q : Outcome) (goal : GoalOf) (candidates others : List (List SettingOf)) → IsNetwork net → IsOutcome net o → IsOutcome net q
+        → AreCandidates net o goal candidates → AreCandidates net q goal others → candidates ≡ others }
+{
+    one_outcome();
+    one_explained();
+}

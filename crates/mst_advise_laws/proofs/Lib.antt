@@ -1,0 +1,4 @@
+mod OwnRoot
+mod PrioritySet
+mod Failing
+mod NoGreater

@@ -1,0 +1,30 @@
+-- Greater priorities than the one that is advised.
+use Rattle.std.specs.Prelude.{◌≡◌, ℕ, ◌<◌, ◌≤◌, List, [], ◌∷◌, Ok, None}
+use Rattle.mst_net.specs.After.{after}
+use Rattle.mst_net.specs.Tables.{Net}
+use Rattle.mst_trees.specs.Outcome.{Outcome, IsOutcome}
+use Rattle.mst_verify.specs.Holds.{Holds}
+use Rattle.mst_advise.specs.Candidates.{AreCandidates}
+use Rattle.mst_advise.specs.Goals.{expectation_of}
+use Rattle.mst_advise.specs.Settings.{edit_of}
+use Rattle.mst_advise.specs.declared.goal.Goal.{Goal}
+use Rattle.mst_advise.specs.declared.goal.Goal.TheVariants.{Root}
+use Rattle.mst_advise.specs.declared.setting.Setting.{Setting}
+use Rattle.mst_advise.specs.declared.setting.Setting.TheVariants.{Priority}
+
+-- that a bridge may be the root of a tree there is one candidate, and it sets this priority of the bridge alone
+abbrev pub IsAdvised : Net → Outcome → ℕ → List ℕ → ℕ → Type 0
+IsAdvised net o tree b p = AreCandidates net o (Root tree b) ((Priority b tree p ∷ []) ∷ [])
+
+-- a setting makes this network of another one, and it has this settled outcome
+pub record IsMade (net : Net) (setting : Setting) (now : Net) (r : Outcome) : Type 0 where
+  pub is_made : after (edit_of setting) net ≡ Ok now
+  pub is_outcome : IsOutcome now r
+
+-- a goal holds in a network with this outcome
+abbrev pub HasGoal : Net → Outcome → Goal → Type 0
+HasGoal now r goal = Holds now r now None (expectation_of goal)
+
+-- with no priority of B in the tree that is greater than p, to 15, is B its one root, whichever settled outcome the network has then
+abbrev pub NoGreaterSuffices : Net → ℕ → List ℕ → ℕ → Type 0
+NoGreaterSuffices net tree b p = (q : ℕ) → p < q → q ≤ 15 → (now : Net) (r : Outcome) → IsMade net (Priority b tree q) now r → HasGoal now r (Root tree b) → ⊥

@@ -1,0 +1,10 @@
+use Rattle.std.proofs.Common.{◌≡◌, [], ◌∷◌, ◌++◌, codes, decimal, ◌∙◌}
+use Rattle.std.proofs.lemmas.Result.{on_ok_weaker}
+use Rattle.mst_picture.specs.Pieces.{joined}
+use Rattle.mst_picture.proofs.clusters.push_cluster_opening.Goals as goal
+
+pub returns : goal.returns
+returns c =
+    let out = c.args.out.now.items in
+    let number : c.as_bytes-number.result.now ≡ decimal c.args.number = c.as_bytes-number.ensures.value ∙ c.format.ensures.text in
+    on_ok_weaker c.push_pieces.result (λ e. e ∙ (λ i. out ++ joined (codes "  subgraph \"cluster " ∷ number i ∷ codes "\" {\n" ∷ []))) c.push_pieces.ensures

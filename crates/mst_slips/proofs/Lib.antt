@@ -1,0 +1,5 @@
+mod Added
+mod Fronts
+mod OneLetter
+mod SlowLans
+mod NearRegions

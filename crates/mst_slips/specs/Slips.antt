@@ -1,0 +1,10 @@
+-- What of a network is most often a slip.
+use Rattle.std.specs.Prelude.{◌++◌, List}
+use Rattle.mst_rows.specs.Rows.{Row}
+use Rattle.mst_net.specs.Tables.{Net}
+use Rattle.mst_slips.specs.Regions.{region_rows}
+use Rattle.mst_slips.specs.Lans.{lan_rows}
+
+-- the rows of regions that are nearly one, and those of logical LANs that are far slower than others beside them
+abbrev pub slip_rows : Net → List Row
+slip_rows net = region_rows net ++ lan_rows net
