@@ -3,11 +3,11 @@
 
 usage: check-page.py PROGRAM
 
-The networks: each script of the examples, a few drawn ones, two on one page, two judged by a policy, a campus of 50 switches, and one with strange
-names. Needed: Chromium, its driver and Selenium (Debian: chromium, chromium-driver, python3-selenium). Where one isn't there
-no page is opened, and a line tells which; where this Python lacks Selenium, /usr/bin/python3 is tried. What page.py does with its
-words, and what stands in a page, is checked in any case. The exit status is 1 where something differs, or where it takes longer than its
-time.
+The networks: each script of the examples, a few drawn ones, two on one page, two judged by a policy, those behind the steps of a few changes, a
+campus of 50 switches, and one with strange names. Needed: Chromium, its driver and Selenium (Debian: chromium, chromium-driver,
+python3-selenium). Where one isn't there no page is opened, and a line tells which; where this Python lacks Selenium, /usr/bin/python3 is
+tried. What page.py does with its words, and what stands in a page, is checked in any case. The exit status is 1 where something differs, or
+where it takes longer than its time.
 """
 
 import collections
@@ -31,12 +31,14 @@ import xml.etree.ElementTree
 
 HERE = os.path.dirname(os.path.abspath(__file__))
 SYSTEM_PYTHON = "/usr/bin/python3"
-# It takes a minute or two.
-SECONDS, SECONDS_OF_A_STEP, SECONDS_TO_END = 300, 60, 20
+# It takes two or three minutes.
+SECONDS, SECONDS_OF_A_STEP, SECONDS_TO_END = 420, 60, 20
 MOST_PORTS, MOST_FAILURES, MOST_VLANS = 16, 16, 6
 CAMPUS = ["4", "10"]
 # Of the drawn networks of check-answers.py some, with shared LANs, links of a class, RSTP bridges and restricted roles.
 DRAWN = (0, 2, 9, 10)
+# And of the drawn changes of steps_runs.py some that move roots, cut VLANs and join them.
+DRAWN_CHANGES = (48, 67, 107)
 # What page.py writes of the networks.
 DATA = re.compile(r'<script id="data" type="application/json">(.*)</script>')
 FLAGS = ("headless=new", "no-sandbox", "disable-gpu", "disable-dev-shm-usage", "window-size=1440,1100")
@@ -47,6 +49,7 @@ BLOCKING = {"Alternate", "Backup"}
 sys.dont_write_bytecode = True
 sys.path.insert(0, HERE)
 texts = importlib.import_module("check-answers")
+steps_runs = importlib.import_module("steps_runs")
 
 # A region, a title and names that a page without care would take for its own; of two links that one is down; a port alone.
 STRANGE_TITLE = '</title><script>document.title = "taken"</script> & "@DATA@"'
@@ -80,6 +83,12 @@ plug 7 3 alone
 setportvlans 7 1 none
 lan spare down
 """
+# Promises that the campus doesn't keep, of each kind, and some that are refused.
+REASONS = [
+    "root 0 core2", "root 1 core1 next dist1", "region *", "role 0 acc*:2 Root,Designated", "role 1 acc*:* Disabled", "always reach 1-4094 acc1,nobody",
+    "always apart 10,20 acc1 acc2", "leaf 0 core1,dist*", "depth 0 1", "carries dist2-acc1 10-12", "avoids core2-dist1 30", "root 9 core1", "no such",
+    "after bridge dist* avoids core1-dist1 1-4094", "after lan * depth 1 0", "carries nothing 1",
+]
 REFUSED = "addbridge A 02:00:00:00:00:01\nno <b>such</b> line\nplug A 1 x\nsettreeprio A 0 16\n"
 
 # What the page shows, in one question.
@@ -98,6 +107,13 @@ return {
   title: document.title,
   elements: all("header b, header script, #panel script").length,
   chips: all(".chip.warned").map(it => it.textContent),
+};"""
+# What it shows of a change, or nothing where it has none.
+STEP = """
+const at = id => document.getElementById(id), told = at("steptold").querySelector("code");
+return at("change").hidden ? null : {
+  place: at("place").textContent, value: at("step").value, max: at("step").max, address: location.hash,
+  printed: told ? told.textContent.split("\\n") : [], told: at("steptold").innerText, otherwise: network !== networks[place],
 };"""
 CLICK = """
 const at = document.querySelector(arguments[0]);
@@ -402,7 +418,7 @@ def check_pair(browser, program, folder, expect):
     old, new = [Page(browser, "pair", program, texts.lines_of(it), expect) for it in paths]
     for time_shown, page, other in (("after", new, old), ("before", old, new), ("after", new, old)):
         browser.click(f"#times [data-net='{time_shown}']")
-        browser.until(f"return typeof TIME !== 'undefined' && TIME === '{time_shown}' && document.documentElement.dataset.checked")
+        page.equal(f"{time_shown} by its address", "net=before" in browser.run("return location.hash"), time_shown == "before")
         page.check_comparison()
         for tree in page.text.trees:
             browser.click(f"#trees [data-tree='{tree}']")
@@ -475,6 +491,8 @@ def check_words(program, folder, expect):
         ([program, script, os.path.join(absent, "page.html")], 3, f"page.py: {absent}/page.html: No such file or directory"),
         ([program, script, "--policy", absent], 3, f"page.py: {absent}: No such file or directory"),
         ([program, script, "--old", absent], 3, f"page.py: {absent}: No such file or directory"),
+        ([program, script, "--change", absent], 3, f"page.py: {absent}: No such file or directory"),
+        ([program, script, "--change", script, "--old", script], 2, "page.py: error: argument --old: not allowed with argument --change"),
         (["false", script], 3, "page.py: false ask: its script: exit status 1: nothing is told"),
         (["echo", script], 3, "page.py: echo ask: the answer isn't JSON: Expecting value: line 1 column 1 (char 0)"),
         ([program], 2, "page.py: error: the following arguments are required: SCRIPT"),
@@ -491,20 +509,22 @@ def check_words(program, folder, expect):
 
 
 def check_data(program, folder, expect):
-    """A page has what the program answers that is asked alone; and it is started twice for a page, four times for one of two networks."""
+    """A page has what the program answers that is asked alone; and it is started twice for a page, once more for a policy and for all steps of a
+    change, and four times for two networks."""
     counted, starts = os.path.join(folder, "counted"), os.path.join(folder, "starts")
     with open(counted, "w", encoding="ascii") as file:
         file.write(f'#!/bin/sh\necho >> {shlex.quote(starts)}\nexec {shlex.quote(program)} "$@"\n')
     os.chmod(counted, 0o755)
     old, new = (os.path.join(HERE, name) for name in ("campus.script", "campus-changed.script"))
-    for words, count in (([old], 2), ([new, "--old", old], 4)):
+    keep, change = (os.path.join(HERE, name) for name in ("keep.policy", "campus.change"))
+    asked = [([old], 2), ([old, "--policy", keep], 3), ([old, "--policy", keep, "--change", change], 4), ([new, "--old", old], 4)]
+    for words, count in asked:
         with open(starts, "w", encoding="ascii"):
             pass
         path = made(counted, folder, "data", expect, words)
         with open(starts, encoding="ascii") as file:
             expect.equal(f"page.py {words}: runs of the program", len(file.readlines()), count)
-    with open(path, encoding="utf-8") as file:
-        data = json.loads(DATA.search(file.read())[1])
+    data = data_in(path)
     expect.equal("data: differences", data["differences"], answered(program, "diff", old, new))
     for network, script in ((data["before"], old), (data["after"], new)):
         expect.equal("data: summary", network["summary"], answered(program, "summary", script))
@@ -520,15 +540,47 @@ def check_promises(program, folder, expect):
     """With a policy a page has each promise that isn't kept, as `verify` tells it, of both networks."""
     policy, old, new = (os.path.join(HERE, name) for name in ("campus.policy", "campus.script", "campus-changed.script"))
     path = made(program, folder, "promises", expect, [new, "--old", old, "--policy", policy])
-    with open(path, encoding="utf-8") as file:
-        data = json.loads(DATA.search(file.read())[1])
+    data = data_in(path)
     for network, script in ((data["before"], old), (data["after"], new)):
         told, promises = answered(program, "verify", script, policy), network["promises"]
         counts = promises["expectations"], promises["hold"]
         expect.equal("promises: counts", counts, (told[-1]["expectation_count"], told[-1]["hold_count"]))
         found = [(it["line"], dict([it["failure"].split(" ")]) if it["failure"] else None) for it in promises["broken"]]
         expect.equal("promises: what isn't kept", found, [(it["line"], it["failure"]) for it in told[:-1]])
+        check_reasons(program, [script, policy], promises["broken"], expect)
     return path, data["after"]["promises"]["broken"]
+
+
+def check_reasons(program, words, broken, expect):
+    """What a page has of promises is what `verify` prints of them."""
+    printed = subprocess.run([program, "verify", *words], capture_output=True, text=True, timeout=SECONDS_OF_A_STEP, check=False).stdout
+    found = [f"policy {it['line']} {it['why']}" if it["refused"] else f"fails {it['line']} {it['failure'] or 'now'} {it['why']}" for it in broken]
+    expect.equal(f"reasons of {words}", found, [line for line in printed.splitlines()[:-1] if not line.startswith("line ")])
+
+
+def check_all_reasons(program, folder, expect):
+    """Each reason once."""
+    script, policy = os.path.join(HERE, "campus.script"), written(folder, "all.policy", REASONS)
+    data = data_in(made(program, folder, "reasons", expect, [script, "--policy", policy]))
+    check_reasons(program, [script, policy], data["after"]["promises"]["broken"], expect)
+    expect.equal("reasons: lines", sorted({it["line"] for it in data["after"]["promises"]["broken"]}), list(range(1, len(REASONS) + 1)))
+    script, policy = written(folder, "long.script", long_script()), written(folder, "long.policy", ["fits", "root 1 Z"])
+    broken = data_in(made(program, folder, "long", expect, [script, "--policy", policy]))["after"]["promises"]["broken"]
+    check_reasons(program, [script, policy], broken, expect)
+    expect.equal("notes", {it["why"].split()[1] for it in broken}, {"hops", "age", "cost", "1"})
+
+
+def long_script():
+    """Two rows of switches that are too long, one of MSTP in a region and one of RSTP, and one that is off and has a tree."""
+    lines = ["addbridge Z 02:00:00:00:02:00", "setvid2mstid Z 1 1", "bridge Z off"]
+    for row, kind in enumerate(("mstp", "rstp")):
+        for place in range(24):
+            name, last = f"{kind}{place}", f"{kind}{place - 1}"
+            lines += [f"addbridge {name} 02:00:00:00:0{row}:{place:02x}", f"kind {name} {kind}", f"setmstconfid {name} 0 row"]
+            lines += [f"addport {name} 1", f"addport {name} 2", f"setportpathcost {name} 1 200000000", f"settreeportcost {name} 1 0 200000000"]
+            if place:
+                lines += [f"addlan {name}", f"plug {name} 1 {name}", f"plug {last} 2 {name}"]
+    return lines
 
 
 def check_promise_sheet(browser, program, folder, expect):
@@ -543,6 +595,188 @@ def check_promise_sheet(browser, program, folder, expect):
         view = browser.view()
         expect.equal(f"promises: {failure}", (failure.split(" ")[1] in view["banner"], view["crosses"] > 0), (True, True))
     expect.equal("promises: errors of the browser", browser.errors(), [])
+
+
+def script_of(path):
+    with open(path, encoding="ascii") as file:
+        return file.read().splitlines()
+
+
+def written(folder, name, lines):
+    path = os.path.join(folder, name)
+    with open(path, "w", encoding="ascii") as file:
+        file.write("\n".join([*lines, ""]))
+    return path
+
+
+def told_in_steps(program, script, change, policy):
+    """What `steps` prints of a script and a change: what it refuses of the script, the lines of each step, and the last one."""
+    files = [change, *([policy] if policy else [])]
+    printed = subprocess.run([program, "steps", script, *files], capture_output=True, text=True, timeout=SECONDS_OF_A_STEP, check=False).stdout
+    *lines, last = printed.splitlines()
+    groups, refused = [], [line for line in lines if line.startswith("line ")]
+    for line in lines[len(refused):]:
+        is_done = bool(groups) and any(it.startswith("step ") for it in groups[-1])
+        if not groups or is_done and line.startswith(("change ", "step ")):
+            groups.append([])
+        groups[-1].append(line)
+    return refused, groups, last
+
+
+class Steps:
+    """The page of a change to a script's network, and what the program says of it."""
+
+    def __init__(self, program, folder, expect, name, paths, policy=None):
+        self.program, self.expect, self.name, (self.path, self.change_path), self.policy = program, expect, name, paths, policy
+        self.script, self.change = texts.edits_of([line or "#" for line in script_of(self.path)]), script_of(self.change_path)
+        refused, self.groups, self.last = told_in_steps(program, *paths, policy)
+        told = [f"page.py: {self.path}: {line}" for line in refused]
+        lines = [line.split(" ", 1)[1] for group in self.groups for line in group if line.startswith("change ")]
+        told += [f"page.py: {self.change_path}: line {line}" for line in lines]
+        words = [self.path, "--change", self.change_path, *(["--policy", policy] if policy else [])]
+        self.page = made(program, folder, name, expect, words, 1 if told else 0, told)
+
+    def equal(self, what, found, wanted):
+        self.expect.equal(f"{self.name}: {what}", found, wanted)
+
+    def step_line(self, place):
+        return next(line.split() for line in self.groups[place - 1] if line.startswith("step "))
+
+    def made(self, place):
+        """The script with the lines of the first steps behind it."""
+        last = int(self.step_line(place)[3].split("-")[1]) if place else 0
+        return steps_runs.behind(self.script, self.change, last)
+
+    def check(self, browser):
+        """Each step, from the first to the last, by the right arrow; and back, and by its address."""
+        from selenium.webdriver.common.by import By
+        from selenium.webdriver.common.keys import Keys
+
+        browser.open(self.page)
+        slider, count = browser.driver.find_element(By.ID, "step"), len(self.groups)
+        page = Page(browser, f"{self.name}, as it is", self.program, self.made(0), self.expect)
+        compared = page.check_comparison()
+        self.equal("slider", browser.run(STEP)["max"], str(count))
+        self.equal("steps in the sheet", [row.get("step") for row in browser.view()["rows"]], [str(it + 1) for it in range(count)])
+        before = page.text
+        self.check_step(page, 0, before)
+        for place in range(1, count + 1):
+            slider.send_keys(Keys.ARROW_RIGHT)
+            page = Page(browser, f"{self.name}, step {place}", self.program, self.made(place), self.expect)
+            self.check_step(page, place, before)
+            before = page.text
+        if count:
+            slider.send_keys(Keys.ARROW_LEFT)
+            self.equal("left arrow", browser.run(STEP)["value"], str(count - 1))
+            browser.open(self.page, f"step={count}")
+            self.check_step(page, count, self.text_before(count))
+        browser.open(self.page, f"step={count + 1}")
+        self.equal("no such step", browser.run(STEP)["value"], "0")
+        self.equal("errors of the browser", browser.errors(), [])
+        return compared
+
+    def text_before(self, place):
+        return texts.text_of(self.program, self.made(place - 1))
+
+    def check_step(self, page, place, before):
+        """The network behind a step, with rings where the one before it had other roles, and what is told of the step."""
+        browser, step = page.browser, page.browser.run(STEP)
+        page.equal("place", (step["value"], step["place"].startswith(f"Step {place} of" if place else "As it is")), (str(place), True))
+        page.equal("address", f"step={place}" in step["address"], place > 0)
+        page.equal("as printed", step["printed"], self.groups[place - 1] if place else [])
+        page.equal("the network of the place", step["otherwise"], False)
+        for tree in page.text.trees:
+            browser.click(f"#trees [data-tree='{tree}']")
+            page.shows("behind the step", tree, page.text, before)
+        kinds = list({str(islands): vid for vid, islands in page.text.islands.items()}.values())
+        found = [sorted(it) for it in browser.run(ISLANDS, kinds)]
+        page.equal("islands", found, [sorted(map(list, page.text.islands[vid])) for vid in kinds])
+        page.check_sheets()
+        if self.policy:
+            fails = [line for line in self.groups[place - 1] if line.split()[0] in ("fails", "policy")] if place else []
+            browser.click("#tabs [data-sheet='promises']")
+            found = browser.run("return network.promises.broken.map(it => it.line);") if place else []
+            page.equal("promises", [str(it) for it in found], [line.split()[1] for line in fails])
+        swept = [line.split() for line in page.answer(["sweep", "-"]) if line.split()[0] in ("lan", "bridge")]
+        browser.click("#tabs [data-sheet='failures']")
+        page.equal("failures", sorted(row["fail"] for row in browser.view()["rows"]), sorted(" ".join(words[:2]) for words in swept))
+        browser.click("#tabs [data-sheet='steps']")
+        browser.click("#trees [data-tree='0']")
+
+
+def check_other_versions(program, folder, expect):
+    """Priorities of a change in another version than the script's are those of its own."""
+    old, new, second = (os.path.join(HERE, name) for name in ("campus.script", "campus-changed.script", "version-2.script"))
+    made_of = subprocess.run([program, "edits", old, new], capture_output=True, text=True, timeout=SECONDS_OF_A_STEP, check=False).stdout
+    data = data_in(made(program, folder, "edits", expect, [old, "--change", written(folder, "edits.change", made_of.splitlines())]))
+    step, = data["change"]["steps"]
+    expect.equal("edits: the network behind them", step["network"]["summary"], answered(program, "summary", new))
+    bridges = [line.split()[1] for line in script_of(second) if line.startswith("addbridge ")]
+    lines = ["", *(f"settreeprio {bridge} 0 {place % 16}" for place, bridge in enumerate(bridges, 3)), "", "showplan", "mark"]
+    change = written(folder, "first.change", [*lines, "mstplan 2"])
+    path = made(program, folder, "first", expect, [second, "--change", change], 1, [f"page.py: {change}: line {len(lines) + 1} E01 no such command"])
+    step, last = data_in(path)["change"]["steps"]
+    wanted = [*script_of(second), *(f"settreeprio {bridge} 0 {place % 16 * 4096}" for place, bridge in enumerate(bridges, 3))]
+    wanted = answered(program, "summary", written(folder, "first.script", wanted))
+    for network in (step["network"], last["network"]):
+        expect.equal("a change of version 1 to a script of version 2", network["summary"], wanted)
+
+
+def check_steps_data(program, folder, expect):
+    """With a change a page has the steps that `steps` tells, and the network behind each as the program tells it alone."""
+    script, change, policy = (os.path.join(HERE, name) for name in ("campus.script", "worse.change", "keep.policy"))
+    told = [f"page.py: {change}: line 8 E04 no such bridge"]
+    data = data_in(made(program, folder, "worse", expect, [script, "--change", change, "--policy", policy], 1, told))
+    records = answered(program, "steps", script, change, policy)
+    names = {"lines": "lines", "trees": "trees", "changed": "port_count"}
+    steps = [record for record in records if record["kind"] == "step"]
+    expect.equal("steps: counts", [data["change"][it] for it in ("moving", "cutting", "failing")], [3, 1, 1])
+    for step, record in itertools.zip_longest(data["change"]["steps"], steps):
+        expect.equal("steps: a step", {key: step[key] for key in names}, {key: record[name] for key, name in names.items()})
+        for word in ("moved", "cut", "joined"):
+            expect.equal(f"steps: {word}", step[word], ",".join(f"{a}-{b}" if a < b else str(a) for a, b in record[f"{word}_vids"]))
+        lines = [*script_of(script), *script_of(change)[:int(step["lines"].split("-")[1])]]
+        behind = written(folder, "behind.script", lines)
+        for word in ("summary", "sweep"):
+            found = step["network"]["summary"] if word == "summary" else [[it["what"], it["name"], it["changed"]] for it in step["network"]["failures"]]
+            wanted = answered(program, word, behind)
+            swept = [[it["kind"], it[it["kind"]], it["port_count"]] for it in wanted if it["kind"] in ("lan", "bridge")]
+            expect.equal(f"steps: {word}", found, wanted if word == "summary" else swept)
+        last = answered(program, "verify", behind, policy)[-1]
+        kept = step["network"]["promises"]
+        expect.equal("steps: promises", (kept["expectations"], kept["hold"]), (last["expectation_count"], last["hold_count"]))
+
+
+def data_in(path):
+    with open(path, encoding="utf-8") as file:
+        return json.loads(DATA.search(file.read())[1])
+
+
+def check_changes(browser, program, folder, expect):
+    """The slider over the steps of the examples and of drawn changes. How many pages, and how many comparisons they made."""
+    script, keep = (os.path.join(HERE, name) for name in ("campus.script", "keep.policy"))
+    cases = [("drained", (script, os.path.join(HERE, "campus.change")), keep), ("worse", (script, os.path.join(HERE, "worse.change")), keep)]
+    empty = written(folder, "empty.change", ["# nothing"])
+    cases.append(("no step", (script, empty), None))
+    for number in DRAWN_CHANGES:
+        paths = written(folder, f"drawn-{number}.script", texts.drawn(number)), written(folder, f"drawn-{number}.change", steps_runs.drawn_change(number))
+        policy = written(folder, "drawn.policy", steps_runs.POLICY) if number % 3 == 0 else None
+        cases.append((f"change {number}", paths, policy))
+    compared = sum(Steps(program, folder, expect, *case).check(browser) for case in cases)
+    check_other_step(browser, folder, expect)
+    return len(cases), compared
+
+
+def check_other_step(browser, folder, expect):
+    """A page that was changed in what a step does says that it differs."""
+    with open(os.path.join(folder, "drained.html"), encoding="utf-8") as file:
+        page = file.read()
+    for word, told, other in (("moved", '"1-4094"', '"2-4094"'), ("joined", '""', '"7"'), ("trees", "[]", "[1]")):
+        path = os.path.join(folder, "other.html")
+        with open(path, "w", encoding="utf-8") as file:
+            file.write(page.replace(f'"{word}":{told}', f'"{word}":{other}', 1))
+        browser.open(path)
+        expect.equal(f"a step with another {word}", browser.compared()[1] > 0, True)
 
 
 def answered(program, word, *words):
@@ -573,7 +807,8 @@ def check_pages(browser, program, folder, expect):
     check_strange(browser, program, folder, expect)
     check_refused(browser, program, folder, expect)
     check_promise_sheet(browser, program, folder, expect)
-    return len(scripts) + 5, compared
+    changes, more = check_changes(browser, program, folder, expect)
+    return len(scripts) + 5 + changes, compared + more
 
 
 def late(_signal, _frame):
@@ -607,6 +842,9 @@ def main():
             check_words(program, folder, expect)
             check_data(program, folder, expect)
             check_promises(program, folder, expect)
+            check_all_reasons(program, folder, expect)
+            check_steps_data(program, folder, expect)
+            check_other_versions(program, folder, expect)
             check_in_browser(program, folder, expect)
         except Exception as fault:
             expect.equal("the check", f"{type(fault).__name__}: {fault}", "no fault")

@@ -3,6 +3,7 @@
 import contextlib
 import json
 import os
+import re
 import subprocess
 import tempfile
 
@@ -12,6 +13,9 @@ ALL_VLANS = "1-4094"
 # How an entity fails, and how that is taken back.
 FAILS = {"lan": ("down", "up"), "bridge": ("off", "on")}
 MOST_OF_A_MESSAGE = 300
+# Of a script's words those that say its version, those that ask, and, of each priority, which word it is and how version 2 counts it.
+SECOND, ASKING, PRIORITIES = [b"mstplan", b"2"], (b"mark", b"changes", b"save"), {b"settreeprio": (3, 4096), b"settreeportprio": (4, 16)}
+LONGEST = 4096
 
 
 class Failed(Exception):
@@ -47,23 +51,43 @@ class Program:
     def version(self):
         return self.printed("--version").decode(errors="replace").strip()
 
+    def records(self, word, *files):
+        """The records of what a word of the program's answers of these files."""
+        with contextlib.ExitStack() as paths:
+            words = [word, "--json", *(paths.enter_context(written(file)) for file in files)]
+            answers = [self.value([word], line) for line in self.printed(*words).splitlines()]
+        answers = [it["records"] for it in answers if "records" in it]
+        if len(answers) != 1:
+            raise self.failed([word], f"{len(answers)} answers in place of one")
+        return answers[0]
+
     def differences(self, old, new):
         """The records of `diff` for the networks of two scripts."""
-        with written(old) as old_path, written(new) as new_path:
-            lines = self.printed("diff", "--json", old_path, new_path).splitlines()
-        answers = [it for it in (self.value(["diff"], line) for line in lines) if "records" in it]
-        if len(answers) != 1:
-            raise self.failed(["diff"], f"{len(answers)} answers in place of one")
-        return answers[0]["records"]
+        return self.records("diff", old, new)
 
     def promises(self, script, policy):
         """What `verify` tells of a script's network and a policy: its refused lines, why others aren't kept, and how many hold."""
-        with written(script) as script_path, written(policy) as policy_path:
-            words = ["verify", script_path, policy_path]
-            lines = self.printed(*words).decode().splitlines()
-            answers = [self.value(words, line) for line in self.printed(*words, "--json").splitlines()]
-        records = [record for it in answers if "records" in it for record in it["records"]]
-        return promises_of(policy, lines[len(lines) - len(records):], records)
+        records = self.records("verify", script, policy)
+        counts = records[-1]["expectation_count"], records[-1]["hold_count"]
+        return {"broken": broken_in(policy, records[:-1]), "expectations": counts[0], "hold": counts[1]}
+
+    def steps(self, script, change, policy):
+        """The steps of a change to a script's network, in their order, and how many move, cut and fail. There may be no policy."""
+        *records, last = self.records("steps", script, change, *([] if policy is None else [policy]))
+        lines, steps, refused = lines_in(change), [], []
+        for record in records:
+            kind = record["kind"]
+            if kind == "change":
+                refused.append(kept_of(record, "line", "error", "text"))
+            elif kind == "step":
+                steps.append({**step_of(record, lines), "refused": refused, "failing": []})
+                refused = []
+            elif kind == "cut":
+                steps[-1]["parts"].append(parts_in(record))
+            else:
+                steps[-1]["failing"].append(record)
+        counts = {word: last.get(f"{word}_count") for word in ("moving", "cutting", "failing")}
+        return [{**step, "failing": broken_in(policy or b"", step["failing"])} for step in steps], counts
 
     @contextlib.contextmanager
     def standing(self, script):
@@ -137,22 +161,104 @@ def key_of(failure):
     return None if failure is None else " ".join(next(iter(failure.items())))
 
 
-def promises_of(policy, lines, records):
-    """A policy as the page has it: each promise that isn't kept, or is refused, with its own line, where that is, and why."""
+def broken_in(policy, records):
+    """Each promise of a policy that isn't kept, or is refused, with its own line, where that is, and why."""
     promises = [line.decode(errors="replace").strip() for line in policy.split(b"\n")]
-    told = {"broken": [], "expectations": 0, "hold": 0}
-    for line, record in zip(lines, records):
-        if record["kind"] == "verify":
-            told["expectations"], told["hold"] = record["expectation_count"], record["hold_count"]
+    return [{
+        "line": record["line"], "promise": promises[record["line"] - 1], "refused": record["kind"] == "policy",
+        "failure": key_of(record.get("failure")), "why": reason_in(record),
+    } for record in records]
+
+
+def reason_in(record):
+    """What `verify` prints of a promise behind its number and its place."""
+    if record["kind"] == "policy":
+        return f"{record['error']} {record['text']}"
+    it = {key: list_told(value) for key, value in record.items()}
+    word, tree = it["expectation"], it.get("tree")
+    if word == "root":
+        behind = f" next {it['next']}" if "next" in it else f" of {it['bridge_count']}" if "bridge_count" in it else ""
+        return f"root {tree} {it['root']}{behind}"
+    if word == "fits":
+        return note_in(it)
+    return {
+        "region": "region parts {parts}", "role": "role {tree} {ports} {role}", "reach": "reach {vids} parts {parts}",
+        "apart": "apart {vids} joined {joined}", "leaf": "leaf {tree} {bridge} parent of {bridges}", "depth": "depth {tree} {depth} {bridges}",
+        "carries": "carries {lan} without {vids}", "avoids": "avoids {lan} with {vids}",
+    }[word].format(**it)
+
+
+def note_in(it):
+    """The line of a limit that binds."""
+    if it["note"] == "cost":
+        return f"note cost {it['tree']} {it['bridge']} {'ext' if 'ext' in it else 'int'} {it.get('ext', it.get('int'))}"
+    tree = f" {it['tree']}" if it["note"] == "hops" else ""
+    return f"note {it['note']}{tree} {it['bridge']} depth {it['depth']} limit {it['limit']}"
+
+
+def list_told(value):
+    """A value of a record as a text has it: names and ports with `,` between, parts with spaces, VIDs as runs."""
+    if value is None:
+        return "-"
+    if not isinstance(value, list):
+        return value
+    if all(isinstance(it, list) for it in value):
+        is_of_runs = all(isinstance(number, int) for it in value for number in it)
+        return list_of(value) if is_of_runs else " ".join(map(",".join, value))
+    return ",".join(port_of(it) if isinstance(it, dict) else it for it in value)
+
+
+def kept_behind(promises, failing):
+    """What is told of a policy that these promises are of, as they are in one network, of another one with what fails there."""
+    lines = promises["expectations"] + sum(it["refused"] for it in promises["broken"])
+    judged = lines - sum(it["refused"] for it in failing)
+    return {**promises, "broken": failing, "expectations": judged, "hold": judged - len({it["line"] for it in failing if not it["refused"]})}
+
+
+def words_in(line):
+    return re.split(rb"[ \t]+", line.strip(b" \t"))
+
+
+def lines_in(script):
+    """A script's lines, without their ends."""
+    return [line.removesuffix(b"\r") for line in script.split(b"\n")]
+
+
+def is_second(lines):
+    """Whether a script is of version 2."""
+    return len(lines[0]) <= LONGEST and words_in(lines[0]) == SECOND
+
+
+def step_of(record, lines):
+    """A step by its record, with all lines of the change that stand with its own, and their numbers."""
+    first, last = map(int, record["lines"].split("-"))
+    while first > 1 and lines[first - 2].strip(b" \t"):
+        first -= 1
+    while last < len(lines) and lines[last].strip(b" \t"):
+        last += 1
+    typed = [[number, lines[number - 1].decode(errors="replace")] for number in range(first, last + 1)]
+    vids = {word: list_of(record[f"{word}_vids"]) for word in ("moved", "cut", "joined")}
+    return {"lines": record["lines"], "typed": typed, "trees": record["trees"], "changed": record["port_count"], **vids, "parts": []}
+
+
+def edits_in(step, script, change):
+    """The edits of a step that aren't refused, as lines of the script's version. Queries and marks aren't among them."""
+    factor, lines = is_second(lines_in(script)) - is_second(lines_in(change)), lines_in(change)
+    passed = {it["line"] for it in step["refused"]}
+    first, last = map(int, step["lines"].split("-"))
+    for number in sorted(set(range(first, last + 1)) - passed):
+        words = words_in(lines[number - 1])
+        if words[0].startswith((b"#", b"show")) or words[0] in ASKING or words == SECOND:
             continue
-        place = key_of(record.get("failure"))
-        # In front of what is told stand the kind of the line, its number, and where that is.
-        before = 2 if record["kind"] == "policy" else 3 if place is None else 4
-        told["broken"].append({
-            "line": record["line"], "promise": promises[record["line"] - 1], "refused": record["kind"] == "policy",
-            "failure": place, "why": line.split(" ", before)[before],
-        })
-    return told
+        at, size = PRIORITIES.get(words[0], (0, 1))
+        if factor and at:
+            words[at] = b"%d" % (int(words[at]) * size if factor > 0 else int(words[at]) // size)
+        yield b" ".join(words).decode()
+
+
+def parts_in(record):
+    """VIDs that are cut alike, and the parts that are left."""
+    return [list_of(record["vids"]), [",".join(names) for names in record["parts"]]]
 
 
 def port_of(record):
@@ -236,7 +342,7 @@ def failures_of(records):
     failures = []
     for record in records:
         if record["kind"] == "cut":
-            failures[-1]["parts"].append([list_of(record["vids"]), [",".join(names) for names in record["parts"]]])
+            failures[-1]["parts"].append(parts_in(record))
         elif record["kind"] in FAILS:
             told = {"what": record["kind"], "name": record[record["kind"]], "trees": record["trees"]}
             failures.append({**told, "changed": record["port_count"], "cut": list_of(record["vids"]), "parts": []})
@@ -283,10 +389,14 @@ def reasons_for(standing, port):
     return reasons
 
 
-def network_of(program, script, sweeping):
-    """All that the page tells of the network which a script leaves."""
+def networks_of(program, script, steps, sweeping):
+    """All that the page tells of the network which a script leaves, and then of that after the edits of each step, one after another."""
     with program.standing(script) as standing:
-        return told_by(standing, sweeping)
+        yield told_by(standing, sweeping)
+        for edits in steps:
+            for edit in edits:
+                standing.make(edit)
+            yield told_by(standing, sweeping)
 
 
 def told_by(standing, sweeping):

@@ -71,7 +71,8 @@ class Network {
     this.treeNumbers = [...this.trees.keys()].filter(tree => this.trees.get(tree).bridges.size).sort((a, b) => a - b);
     this.regionAt = new Map(told.regions.flatMap(region => region.bridges.map(bridge => [bridge, region])));
     this.failures = new Map(told.failures.map(it => new Failure(it)).map(it => [it.key, it]));
-    this.carriedBy = new Map(told.summary.filter(it => it.kind === "carries").map(it => [it.lan, listOf(it.vids)]));
+    this.carriedBy = new Map(told.summary.filter(it => it.kind === "carries").flatMap(it =>
+      it.lans ? it.lans.map(lan => [lan, `1-${LAST_VID}`]) : [[it.lan, listOf(it.vids)]]));
     this.joins = new Map();
   }
 
@@ -145,29 +146,32 @@ class Network {
     return [...islands.values()].map(island => island.sort()).sort((a, b) => b.length - a.length || byOrder(a[0], b[0]));
   }
 
-  /** The VIDs for which a LAN joins bridges: the program's word, and on more than two ports those for which two of them do. */
-  carried(lan) {
-    const { ports } = this.lans.get(lan);
-    if (ports.length < 3) return vids(this.isDown(lan, null) ? "" : this.carriedBy.get(lan) ?? `1-${LAST_VID}`);
-    const passes = (port, vid) => this.isMember(port, vid) && this.isActive(port, vid, null);
-    const joins = list => new Set(ports.filter(port => passes(port, vids(list).first)).map(bridgeOf)).size > 1;
-    return vids(this.groups.map(group => group.vids).filter(joins).join(","));
-  }
+  /** Whether a LAN has ports of two bridges. */
+  isBetween(lan) { return new Set(this.lans.get(lan).ports.map(bridgeOf)).size > 1; }
 
-  /** Classes of VIDs that every bridge has in one tree, and every port is a member of alike: the least VID, and how many. */
-  classes() {
-    const lists = new Set([...this.ports.values()].map(port => port.vlans));
-    for (const bridge of this.bridges.values()) for (const list of Object.values(bridge.vids)) lists.add(list);
-    const sets = [...lists].map(vids);
-    const begins = new Set([1, ...sets.flatMap(set => set.runs.flatMap(([first, last]) => [first, last + 1]))]);
-    const sorted = [...begins].filter(vid => vid <= LAST_VID).sort((a, b) => a - b);
-    const classes = new Map();
-    sorted.forEach((first, i) => {
-      const same = kept(classes, sets.map(set => Number(set.has(first))).join(""), () => ({ first, count: 0 }));
-      same.count += (sorted[i + 1] ?? LAST_VID + 1) - first;
-    });
-    return [...classes.values()];
+  /** The VIDs that go over a LAN from bridge to bridge: a LAN that the program doesn't tell of has none. */
+  carried(lan) { return vids(this.carriedBy.get(lan) ?? ""); }
+
+  /** The identifier of a bridge's root in the CIST, of its regional root in an MSTI; null where it is off or hasn't the tree. */
+  rootId(tree, bridge) {
+    const told = this.bridgeIn(tree, bridge);
+    return told && told.power !== "off" ? (tree === CIST ? told.root_id : told.regional_id) : null;
   }
+}
+
+/** Classes of VIDs that every bridge of these networks has in one tree, and every port is a member of alike: the least VID, and how many. */
+function classesOf(networks) {
+  const ports = networks.flatMap(network => [...network.ports.values()]), bridges = networks.flatMap(network => [...network.bridges.values()]);
+  const lists = new Set([...ports.map(port => port.vlans), ...bridges.flatMap(bridge => Object.values(bridge.vids))]);
+  const sets = [...lists].map(vids);
+  const begins = new Set([1, ...sets.flatMap(set => set.runs.flatMap(([first, last]) => [first, last + 1]))]);
+  const sorted = [...begins].filter(vid => vid <= LAST_VID).sort((a, b) => a - b);
+  const classes = new Map();
+  sorted.forEach((first, i) => {
+    const same = kept(classes, sets.map(set => Number(set.has(first))).join(""), () => ({ first, count: 0 }));
+    same.count += (sorted[i + 1] ?? LAST_VID + 1) - first;
+  });
+  return [...classes.values()];
 }
 
 /** Of each island before from which two bridges that stay came apart, those that are in one island afterwards. */
@@ -183,53 +187,57 @@ function partsOf(before, after) {
 }
 
 /** What the page works out itself beside what the program tells of the same: they must be equal. */
-class Comparison {
-  constructor(network) {
-    this.network = network;
-    this.classes = network.classes();
-    this.islands = new Map(this.classes.map(({ first }) => [first, network.islands(first, null)]));
-    this.compared = 0;
-    this.wrong = [];
-  }
+class Tally {
+  compared = 0;
+  wrong = [];
 
   /** Lists are compared as sets of texts. */
   expect(what, own, told) {
     this.compared += 1;
     if ([...own].map(String).sort().join(" ") !== [...told].map(String).sort().join(" ")) this.wrong.push(what);
   }
+}
+
+/** A network beside what is told of it and of its failures. */
+class Comparison {
+  constructor(network, tally) {
+    Object.assign(this, { network, tally });
+    this.classes = classesOf([network]);
+    this.islands = new Map(this.classes.map(({ first }) => [first, network.islands(first, null)]));
+  }
 
   standing() {
-    const { network } = this;
+    const { network, tally } = this;
     for (const { first } of this.classes) {
       const group = network.groups.find(it => vids(it.vids).has(first));
-      this.expect(`islands of VLAN ${first}`, this.islands.get(first), group.islands.map(island => [...island].sort()));
+      tally.expect(`islands of VLAN ${first}`, this.islands.get(first), group.islands.map(island => [...island].sort()));
     }
     for (const { tree, ports: blocked } of network.summary.filter(it => it.kind === "blocked")) {
       const ports = [...network.trees.get(tree).ports.keys()].filter(port => BLOCKING.has(network.role(tree, port, null)));
-      this.expect(`blocked ports of tree ${tree}`, ports, blocked.map(portText));
+      tally.expect(`blocked ports of tree ${tree}`, ports, blocked.map(portText));
     }
     for (const [lan, { ports }] of network.lans) {
       if (network.isDown(lan, null)) continue;
-      const passes = vid => ports.every(port => network.isMember(port, vid) && network.isActive(port, vid, null));
-      const own = this.classes.filter(({ first }) => passes(first));
-      const told = vids(network.carriedBy.get(lan) ?? `1-${LAST_VID}`);
+      const passing = vid => ports.filter(port => network.isMember(port, vid) && network.isActive(port, vid, null));
+      const own = this.classes.filter(({ first }) => new Set(passing(first).map(bridgeOf)).size > 1);
+      const told = network.carried(lan);
       const fits = own.every(({ first }) => told.has(first)) && own.reduce((sum, { count }) => sum + count, 0) === told.count;
-      this.expect(`VLANs that LAN ${lan} carries`, [fits], [true]);
+      tally.expect(`VLANs that LAN ${lan} carries`, [fits], [true]);
     }
   }
 
   after(failure) {
-    const { network } = this;
+    const { network, tally } = this;
     let cut = 0;
     for (const { first, count } of this.classes) {
       const parts = partsOf(this.islands.get(first), network.islands(first, failure)).map(part => part.join(","));
-      this.expect(`${failure.key}, VLAN ${first}`, parts, failure.partsOf(first));
+      tally.expect(`${failure.key}, VLAN ${first}`, parts, failure.partsOf(first));
       if (parts.length) cut += count;
     }
-    this.expect(`VLANs that ${failure.key} cuts`, [cut], [vids(failure.cut).count]);
-    this.expect(`roots after ${failure.key}`, new Set(failure.roots.map(([tree]) => tree)), failure.trees);
+    tally.expect(`VLANs that ${failure.key} cuts`, [cut], [vids(failure.cut).count]);
+    tally.expect(`roots after ${failure.key}`, new Set(failure.roots.map(([tree]) => tree)), failure.trees);
     const isUsed = ([tree, port, role]) => role !== "Disabled" && network.role(tree, port, null) !== "Disabled";
     const changed = failure.roles.filter(isUsed);
-    this.expect(`roles after ${failure.key}`, [changed.length], [failure.changed]);
+    tally.expect(`roles after ${failure.key}`, [changed.length], [failure.changed]);
   }
 }

@@ -4,21 +4,32 @@
 const byId = id => document.getElementById(id);
 const ALL = JSON.parse(byId("data").textContent);
 const TIMES = ["before", "after"];
-// With two networks the page shows one at a time, and rings are roles that the other one has otherwise.
-const addressed = () => new URLSearchParams(location.hash.slice(1));
-const timeAddressed = () => (ALL.before && addressed().get("net") === "before" ? "before" : "after");
-const TIME = timeAddressed();
-const network = new Network(ALL[TIME]);
-const OTHER_TIME = TIMES.find(time => time !== TIME);
-const other = ALL.before ? new Network(ALL[OTHER_TIME]) : null;
-const picture = new Picture(network, ALL.places);
-const sight = new Sight(picture.svg, ALL.places);
-const telling = new Telling(network, ALL, bridge => picture.hue(bridge));
-const SHEETS = [["promises", "Promises"], ["failures", "Single failures"], ["vlans", "VLANs"], ["links", "Links"], ["blocked", "Blocked ports"]]
-  .filter(([name]) => (name === "failures" ? network.swept : name !== "promises" || network.promises));
-const FIRST_TREE = network.treeNumbers[0] ?? CIST;
+// The networks of the page, of which one is shown at a time: one, or those before and after a change, or those before and behind its steps.
+const networks = (ALL.before ? [ALL.before, ALL.after] : [ALL.after, ...(ALL.change?.steps ?? []).map(it => it.network)]).map(told => new Network(told));
+const change = ALL.change ? new Change(ALL.change, networks) : null;
+const FIRST_PLACE = ALL.before ? 1 : 0;
+const sight = new Sight(byId("network"), ALL.places);
+const tally = new Tally();
+const LACKS = { steps: !change, promises: !networks[0].promises, failures: !networks[0].swept };
+const SHEETS = [
+  ["steps", "Steps"], ["promises", "Promises"], ["failures", "Single failures"], ["vlans", "VLANs"], ["links", "Links"], ["blocked", "Blocked ports"],
+].filter(([name]) => !LACKS[name]);
 const MOST_BUTTONS = 12, MOST_GROUPS = 8;
-const shown = { tree: FIRST_TREE, vid: null, failure: null, selected: null, sheet: SHEETS[0][0], otherTime: "" };
+const shown = { tree: CIST, vid: null, failure: null, selected: null, sheet: SHEETS[0][0], otherTime: "" };
+// What is shown of the network at a place. Rings are roles that the other one, where there is one, has otherwise.
+let place, network, other, picture, telling;
+
+/** Goes to a network of the page, with what is selected as far as it is there. */
+function goTo(at) {
+  if (at === place) return;
+  place = at;
+  network = networks[place];
+  other = (ALL.before ? networks[1 - place] : networks[place - 1]) ?? null;
+  picture = new Picture(network, ALL.places);
+  telling = new Telling(network, ALL, bridge => picture.hue(bridge));
+  if (!network.trees.has(shown.tree)) shown.tree = CIST;
+  shown.failure = network.failures.get(shown.failure?.key) ?? null;
+}
 
 function roleBefore(tree, port) {
   return other && !shown.failure ? other.role(tree, port, null) : network.role(tree, port, null);
@@ -32,7 +43,7 @@ function showControls() {
   const button = (key, value, text, isOn, title = "") =>
     markup`<button data-${key}="${value}" class="${isOn ? "on" : ""}" title="${title}">${text}</button>`;
   const { treeNumbers: trees, groups } = network;
-  if (other) put("times", TIMES.map(time => button("net", time, time === "before" ? "Before" : "After", time === TIME)));
+  if (ALL.before) put("times", TIMES.map((time, i) => button("net", time, i ? "After" : "Before", i === place)));
   const isShown = tree => shown.vid === null && shown.tree === tree;
   const more = trees.slice(MOST_BUTTONS).map(tree => markup`<option ${isShown(tree) ? "selected" : ""}>${tree}</option>`);
   put("trees", [
@@ -53,16 +64,27 @@ function showBanner() {
   put("banner", told[1]);
 }
 
+function showStep() {
+  byId("change").hidden = !change;
+  if (!change) return;
+  Object.assign(byId("step"), { max: networks.length - 1, value: place, disabled: networks.length === 1 });
+  put("place", change.heading(place));
+  put("steptold", change.told(place));
+}
+
 function showSheet() {
   const isOn = name => (shown.sheet === name ? "on" : "");
   put("tabs", SHEETS.map(([name, title]) => markup`<button class="${isOn(name)}" data-sheet="${name}">${title}</button>`));
   const sheets = { promises: "promiseSheet", vlans: "vlanSheet", links: "linkSheet", blocked: "blockedSheet", failures: "failureSheet" };
-  put("sheet", telling[sheets[shown.sheet]](shown));
+  put("sheet", shown.sheet === "steps" ? change.sheet(place) : telling[sheets[shown.sheet]](shown));
 }
 
 function showAll() {
-  shown.otherTime = shown.failure ? "was" : TIME === "after" ? "before the change" : "after the change";
+  const otherTime = change ? "before the step" : `${TIMES[1 - place]} the change`;
+  shown.otherTime = shown.failure ? "was" : otherTime;
+  showHead();
   showControls();
+  showStep();
   showBanner();
   picture.paint(shown, roleBefore);
   put("panel", telling.panel(shown));
@@ -88,23 +110,25 @@ function showLegend() {
   put("legend", [roles, lines]);
 }
 
-function showHead(comparison) {
-  const counts = network.summary.find(it => it.kind === "bridges"), cutting = told => told.failures.filter(it => it.cut).length;
+function showHead() {
+  const counts = network.summary.find(it => it.kind === "bridges"), { promises, failures, refused } = network;
+  const cutting = told => [...told.failures.values()].filter(it => it.cut).length;
   const chip = (text, kind = "", title = "") => markup`<span class="chip ${kind}" title="${title}">${text}</span>`;
-  const cuts = cutting(ALL[TIME]), swept = counted(ALL[TIME].failures.length, "single failure");
+  const jump = (sheet, text, isWarned) => markup`<button class="chip ${isWarned ? "warned" : "well"}" data-open="${sheet}">${text}</button>`;
+  const cuts = cutting(network), swept = counted(failures.size, "single failure");
   const failing = cuts > 1 ? `${cuts} of ${swept} cut a VLAN` : `${cuts || "none"} of ${swept} cuts a VLAN`;
-  const { promises } = network;
   const kept = promises && (promises.broken.length ? `${promises.hold} of ${counted(promises.expectations, "promise")} kept` : "all promises kept");
-  const scripts = other ? `${ALL.before.script} → ${ALL.after.script}` : ALL.after.script;
+  const scripts = ALL.before ? `${ALL.before.script} → ${ALL.after.script}` : [ALL.after.script, ALL.change?.name].filter(Boolean).join(", ");
   byId("made").textContent = `${scripts} · ${ALL.version} · ${ALL.made}`;
   put("chips", [
     chip(`${counted(counts.bridge_count, "switch", "switches")}${counts.on_count === counts.bridge_count ? "" : `, ${counts.on_count} on`}`),
     chip(counted(network.lans.size, "link")), chip(counted(counts.region_count, "region")), chip(counted(counts.tree_count, "tree")),
-    network.swept ? markup`<button class="chip ${cuts ? "warned" : "well"}" data-open="failures">${failing}</button>` : "",
-    other && network.swept ? chip(`${OTHER_TIME}: ${cutting(ALL[OTHER_TIME])}`) : "",
-    promises ? markup`<button class="chip ${promises.broken.length ? "warned" : "well"}" data-open="promises">${kept}</button>` : "",
-    network.refused.length ? chip(counted(network.refused.length, "refused line"), "warned") : "",
-    comparison.wrong.length ? chip("page and program differ", "warned", comparison.wrong.slice(0, 5).join(", ")) : "",
+    network.swept ? jump("failures", failing, cuts) : "",
+    ALL.before && network.swept ? chip(`${TIMES[1 - place]}: ${cutting(other)}`) : "",
+    promises ? jump("promises", kept, promises.broken.length) : "",
+    change ? jump("steps", `${counted(change.steps.length, "step")}: ${change.counts}`, change.isWarned) : "",
+    refused.length ? chip(counted(refused.length, "refused line"), "warned") : "",
+    tally.wrong.length ? chip("page and program differ", "warned", tally.wrong.slice(0, 5).join(", ")) : "",
   ]);
 }
 
@@ -112,9 +136,10 @@ function showHead(comparison) {
 
 function showAddress() {
   const told = new URLSearchParams();
-  if (TIME === "before") told.set("net", TIME);
+  if (ALL.before && place === 0) told.set("net", "before");
+  if (change && place) told.set("step", place);
   if (shown.vid !== null) told.set("vlan", shown.vid);
-  else if (shown.tree !== FIRST_TREE) told.set("tree", shown.tree);
+  else if (shown.tree !== CIST) told.set("tree", shown.tree);
   if (shown.failure) told.set("fail", shown.failure.key);
   if (shown.selected) told.set("at", shown.selected);
   if (shown.sheet !== SHEETS[0][0]) told.set("sheet", shown.sheet);
@@ -126,23 +151,21 @@ function showAddress() {
   }
 }
 
+/** The place of the network that an address says. */
+function placeIn(told) {
+  if (ALL.before) return told.get("net") === "before" ? 0 : 1;
+  const step = Number(told.get("step"));
+  return Number.isInteger(step) && networks[step] ? step : FIRST_PLACE;
+}
+
 function readAddress() {
-  const told = addressed(), tree = Number(told.get("tree") ?? FIRST_TREE), vid = Number(told.get("vlan"));
-  shown.tree = network.trees.has(tree) ? tree : FIRST_TREE;
+  const told = new URLSearchParams(location.hash.slice(1)), tree = Number(told.get("tree") ?? CIST), vid = Number(told.get("vlan"));
+  goTo(placeIn(told));
+  shown.tree = network.trees.has(tree) ? tree : CIST;
   shown.vid = Number.isInteger(vid) && vid >= 1 && vid <= LAST_VID ? vid : null;
   shown.failure = network.failures.get(told.get("fail")) ?? null;
   shown.selected = told.get("at");
   shown.sheet = SHEETS.some(([name]) => name === told.get("sheet")) ? told.get("sheet") : SHEETS[0][0];
-}
-
-/** Both networks are in the page; the other one is shown by loading it again. */
-function goToTime(time) {
-  if (time === TIME) return;
-  const told = addressed();
-  told.delete("fail");
-  if (time === "before") told.set("net", time);
-  else told.delete("net");
-  location.hash = told;
 }
 
 // ---- clicks and keys
@@ -153,8 +176,15 @@ const isInSheet = at => Boolean(at.closest("#sheet"));
 /** What a click does, by the first of these names that the element has as data-NAME. */
 const CLICKS = {
   zoom: how => ({ in: () => sight.scale(0.75), out: () => sight.scale(1.33), fit: () => sight.see(sight.whole),
-    save: () => picture.save(`${ALL[TIME].script.replace(/\.\w+$/, "")}.svg`, sight.whole) })[how](),
-  net: goToTime,
+    save: () => picture.save(`${network.script.replace(/\.\w+$/, "")}${change && place ? `-step-${place}` : ""}.svg`, sight.whole) })[how](),
+  net: time => {
+    shown.failure = null;
+    goTo(TIMES.indexOf(time));
+  },
+  step: (number, at) => {
+    goTo(Number(number));
+    if (isInSheet(at)) toTop();
+  },
   fail: (key, at) => {
     const failure = network.failures.get(key);
     shown.failure = shown.failure === failure ? null : failure;
@@ -200,11 +230,15 @@ document.addEventListener("click", event => {
   const name = at && Object.keys(CLICKS).find(it => it in at.dataset);
   if (at) CLICKS[name](at.dataset[name], at);
   else shown.selected = null;
-  if (name !== "net" && name !== "zoom") changed();
+  if (name !== "zoom") changed();
 });
 document.addEventListener("change", event => {
   if (event.target.id !== "moretrees") return;
   CLICKS.tree(Number(event.target.value) || CIST);
+  changed();
+});
+byId("step").addEventListener("input", ({ target }) => {
+  goTo(Number(target.value));
   changed();
 });
 byId("vlan").addEventListener("input", ({ target }) => {
@@ -219,30 +253,35 @@ document.addEventListener("keydown", event => {
   changed();
 });
 addEventListener("hashchange", () => {
-  if (timeAddressed() !== TIME) location.reload();
   readAddress();
   showAll();
 });
 
-/** Compares, failure by failure, and lets the page answer between. */
-async function compareAll(comparison) {
-  comparison.standing();
+/** What is compared, one after another: the network that is shown first, all others, and the steps. */
+function* comparisons() {
+  for (const it of [network, ...networks.filter(other => other !== network)]) {
+    const comparison = new Comparison(it, tally);
+    yield comparison.standing();
+    for (const failure of it.failures.values()) yield comparison.after(failure);
+  }
+  for (const step of change?.steps ?? []) yield step.compare(tally);
+}
+
+/** Compares, and lets the page answer between. */
+async function compareAll() {
   let begun = performance.now();
-  for (const failure of network.failures.values()) {
-    comparison.after(failure);
+  for (const _ of comparisons()) {
     if (performance.now() - begun > 50) {
       await new Promise(done => setTimeout(done, 0));
       begun = performance.now();
     }
   }
-  document.documentElement.dataset.checked = comparison.compared;
-  document.documentElement.dataset.wrong = comparison.wrong.length;
-  showHead(comparison);
+  document.documentElement.dataset.checked = tally.compared;
+  document.documentElement.dataset.wrong = tally.wrong.length;
+  showHead();
 }
 
 readAddress();
 showLegend();
 showAll();
-const comparison = new Comparison(network);
-showHead(comparison);
-compareAll(comparison);
+compareAll();

@@ -97,6 +97,7 @@ class Picture {
   constructor(network, places) {
     this.network = network;
     this.svg = document.getElementById("network");
+    this.svg.replaceChildren();
     this.spots = this.spotsOf(places);
     this.cables = this.cablesOf();
     this.spreadEnds();

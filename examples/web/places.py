@@ -17,7 +17,6 @@ BROAD, NARROW, FEW = 210, 110, 14
 FOLDS, FORM = (8, 6, 5, 4, 3, 2), 1.7
 POINTS_OF_AN_INCH = 72
 DOT_SECONDS = 60
-BEFORE = " before"
 
 
 def lan_node(lan):
@@ -160,20 +159,29 @@ def fitted(spots, rank):
     return {"spots": placed, "width": round(right - left), "height": height}
 
 
-def layout(network):
-    """The places of all nodes of a network, in rows that make the picture's form best."""
-    near = neighbours_of(network)
-    rank = ranks_of(near, tops_of(network, near))
-    tried = [laid_out(network, near, rank, fold) for fold in FOLDS]
-    return min(tried, key=lambda it: (abs(math.log(max(it["width"], 1) / it["height"] / FORM)), it["width"]))
+def layout(networks):
+    """The places of all nodes of networks, in rows that make the picture's form best: a switch stands in each where it stands in the
+    others. The first one says which switches stand above."""
+    whole = network_of_all(networks)
+    near = neighbours_of(whole)
+    rank = ranks_of(near, tops_of(whole, near))
+    tried = [laid_out(whole, near, rank, fold) for fold in FOLDS]
+    best = min(tried, key=lambda it: (abs(math.log(max(it["width"], 1) / it["height"] / FORM)), it["width"]))
+    spots = {}
+    for name, spot in best["spots"].items():
+        spots.setdefault(" ".join(name.split(" ")[:2]), spot)
+    return {**best, "spots": spots}
 
 
-def layout_of_both(new, old):
-    """Places for two networks, so that a switch stands in the one where it stands in the other."""
-    ends = {lan: sorted(told["ports"]) for lan, told in new["lans"].items()}
-    others = {lan + BEFORE: told for lan, told in old["lans"].items() if ends.get(lan) != sorted(told["ports"])}
-    both = {"bridges": {**old["bridges"], **new["bridges"]}, "lans": {**new["lans"], **others}, "summary": new["summary"]}
-    places = layout(both)
-    spots = places["spots"]
-    spots.update({name.removesuffix(BEFORE): spots.pop(name) for name in list(spots) if name.endswith(BEFORE)})
-    return places
+def network_of_all(networks):
+    """The switches and LANs of several networks as those of one: a LAN with other ports in another one is one more, named by its number
+    behind a space, since no name has one."""
+    bridges, lans, forms = {}, {}, set()
+    for place, network in enumerate(networks):
+        bridges = {**network["bridges"], **bridges}
+        for lan, told in network["lans"].items():
+            form = lan, tuple(sorted(told["ports"]))
+            if form not in forms:
+                forms.add(form)
+                lans[f"{lan} {place}" if lan in lans else lan] = told
+    return {"bridges": bridges, "lans": lans, "summary": networks[0]["summary"]}

@@ -291,7 +291,7 @@ class Telling {
 
   spares() {
     const { network } = this, isUsed = port => network.role(CIST, port, null) !== "Disabled";
-    const isSpare = ([lan, { ports }]) => ports.length > 1 && ports.every(isUsed) && !network.carried(lan).count;
+    const isSpare = ([lan, { ports }]) => network.isBetween(lan) && ports.every(isUsed) && !network.carried(lan).count;
     const spare = [...network.lans].filter(isSpare);
     if (!spare.length) return "";
     const told = spare.length > MOST_NAMES ? `${spare.length} links` : joined(spare.map(([lan]) => lanJump(lan)), ", ");
@@ -348,7 +348,8 @@ class Telling {
     links.sort((a, b) => b.carried.count - a.carried.count || byOrder(a.lan, b.lan));
     const rows = links.map(({ lan, ports, speed, carried }) => ({ data: { lan }, cells: [
       markup`<b>${lan}</b>`, ports.join(` ${DASH} `), speedText(speed), carried.count,
-      carried.count === LAST_VID ? "all" : carried.count ? listed(carried.text) : minor("spare: carries nothing while all is well"),
+      carried.count === LAST_VID ? "all" : carried.count ? listed(carried.text)
+        : minor(this.network.isBetween(lan) ? "spare: carries nothing while all is well" : "one switch alone"),
     ] }));
     return table(["LAN", "Ends", "Speed", "#VLANs carried", ""], rows);
   }
