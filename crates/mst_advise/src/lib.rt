@@ -26,5 +26,6 @@ pub use candidate::Candidate;
 pub use for_goal::candidates;
 pub use goal::Goal;
 pub use holding::holds;
+pub use named::port_named;
 pub use setting::{Setting, edit_of};
 pub use told::{put_count, put_none, put_settings};

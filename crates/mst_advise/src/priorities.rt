@@ -1,29 +1,16 @@
-ghost use Rattle.std.specs.Prelude.{◌≡◌, ◌≤◌, ◌∷◌, [], not, None, IfOk, filter, filter_map};
+ghost use Rattle.std.specs.Prelude.{◌≡◌, ◌≤◌, ◌∷◌, [], None, IfOk, filter_map};
 ghost use Rattle.std.specs.List.{Contains};
-ghost use Rattle.mst_lag.specs.Aggregation.{same_name};
 ghost use Rattle.mst_roles.specs.trees.Settled.{outcome_of};
 ghost use Rattle.mst_advise.specs.Priorities.{greatest_upto, root_candidates as root_candidates_of};
 ghost use Rattle.mst_advise.specs.Seen.{seen_first, seen_next, seen_others, seen_priorities};
 
 use crate::candidate::Candidate;
-use crate::named::bridge_named;
 use crate::setting::Setting;
 use mst_ids::{BridgeId, Mac, Name, Priority, Tree};
 use mst_lag::BridgeInView;
 use mst_summary::{Follower, Settled};
-use mst_verify::followers;
+use mst_verify::{all_but, bridge_named, followers};
 use std::alloc::{AllocError, Global};
-
-/// Those of these but the bridge of this name.
-fn but(alloc: Global, name: &Name, followers: &[Follower]) -> Result<Vec<Follower>, AllocError>
-    ensures { IfOk result (λ others. others.items ≡ filter (λ f. not (same_name f.name name.now)) followers.now) }
-{
-    followers
-        .iter()
-        .filter(|follower| follower.name != *name)
-        .copied()
-        .collect(alloc)
-}
 
 /// The other bridges in question, where it is asked whether this one is the root.
 fn others(
@@ -35,7 +22,7 @@ fn others(
     ensures { IfOk result (λ others. others.items ≡ seen_others plan.now.net (outcome_of plan.now) tree name.now) }
 {
     let followers = followers(alloc, plan, tree, name)?;
-    but(alloc, name, followers.as_slice())
+    all_but(alloc, name, followers.as_slice())
 }
 
 /// Whether a bridge of this MAC address and this priority has a lesser identifier than each of these.

@@ -3,20 +3,14 @@ use Rattle.std.proofs.Common.{ℕ, ◌++◌, Bool, List, subst}
 use Rattle.std.specs.List.{AllByRecursion, Contains}
 use Rattle.std.proofs.lemmas.List.Elements.{Contains-append_left, Contains-append_right}
 use Rattle.mst_graph.specs.Islands.{AreIslands}
-use Rattle.mst_net.specs.ByTree.{table_in, vlans_in}
-use Rattle.mst_lag.specs.Viewed.{Viewed}
 use Rattle.mst_plan_text.specs.trees.Settled.{SettledNet, outcome_of, IsSettledNet}
 use Rattle.mst_plan_text.proofs.trees_lemmas.Entries.{all_weaker}
 use Rattle.mst_plan_text.specs.vlan.Reach.{bridges_on, lans_up}
 use Rattle.mst_plan_text.specs.Alike.{AreAlike}
 use Rattle.mst_plan_text.proofs.Classes.{links_shared}
 use Rattle.mst_diff.specs.Reach.{Sides}
+use Rattle.mst_diff.specs.Classes.{HasOnly}
 use Rattle.mst_diff.specs.Seen.{AreSidesOf}
-
--- the tables and the sets of a view are among these
-pub record AreTold (v : Viewed) (all_tables : List (List ℕ)) (all_sets : List (List Bool)) : Type 0 where
-  pub tables : AllByRecursion (λ b. Contains all_tables (table_in v.settings.tables b.name)) v.bridges
-  pub sets : AllByRecursion (λ p. Contains all_sets (vlans_in v.settings.vlans p.name)) v.ports
 
 -- what is in the first list, or in the second, is in both
 pub in_first : {A X : Type 0} (key : A → X) (xs ys : List X) (things : List A) → AllByRecursion (λ a. Contains xs (key a)) things → AllByRecursion (λ a. Contains (xs ++ ys) (key a)) things
@@ -25,12 +19,12 @@ in_first key xs ys things h = all_weaker _ _ (λ a there. Contains-append_left x
 pub in_second : {A X : Type 0} (key : A → X) (xs ys : List X) (things : List A) → AllByRecursion (λ a. Contains ys (key a)) things → AllByRecursion (λ a. Contains (xs ++ ys) (key a)) things
 in_second key xs ys things h = all_weaker _ _ (λ a there. Contains-append_right xs ys (key a) there) things h
 
-module _ (s t : SettledNet) (is : IsSettledNet s) (are : IsSettledNet t) (tables : List (List ℕ)) (sets : List (List Bool)) (old : AreTold s.view tables sets) (new : AreTold t.view tables sets) where
+module _ (s t : SettledNet) (is : IsSettledNet s) (are : IsSettledNet t) (tables : List (List ℕ)) (sets : List (List Bool)) (old : HasOnly s.view tables sets) (new : HasOnly t.view tables sets) where
   pub sides_moved : (x y : ℕ) → AreAlike tables sets x y → (sides : Sides) → AreSidesOf s t x sides → AreSidesOf s t y sides
   sides_moved x y alike sides h = (
     h.0,
     h.1,
-    subst (λ ks. AreIslands (bridges_on s.net) (lans_up s.net) ks h.0) (links_shared s.net s.numbers s.view s.forest is.of (outcome_of s) tables sets old.tables old.sets x y alike) h.2,
-    subst (λ ks. AreIslands (bridges_on t.net) (lans_up t.net) ks h.1) (links_shared t.net t.numbers t.view t.forest are.of (outcome_of t) tables sets new.tables new.sets x y alike) h.3,
+    subst (λ ks. AreIslands (bridges_on s.net) (lans_up s.net) ks h.0) (links_shared s.net s.numbers s.view s.forest is.of (outcome_of s) tables sets old.tables_there old.sets_there x y alike) h.2,
+    subst (λ ks. AreIslands (bridges_on t.net) (lans_up t.net) ks h.1) (links_shared t.net t.numbers t.view t.forest are.of (outcome_of t) tables sets new.tables_there new.sets_there x y alike) h.3,
     h.4,
   )

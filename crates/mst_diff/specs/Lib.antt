@@ -9,6 +9,7 @@ pub use Rattle.mst_plan_text.specs as plan_text
 pub mod Regions
 pub mod Roots
 pub mod Ports
+pub mod Classes
 pub mod Reach
 pub mod DiffText
 pub mod Seen

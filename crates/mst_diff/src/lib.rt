@@ -4,6 +4,7 @@
 mod all_roots;
 mod both;
 mod change;
+mod classes;
 mod diff;
 pub mod laws;
 mod ports;
@@ -13,6 +14,7 @@ mod roots;
 mod sides;
 
 pub use both::{Both, bridges_of_both};
+pub use classes::{classes_of_both, flagged};
 pub use diff::{Differing, put_diff};
 pub use mst_changes::{Entries, Planned, laws as changes_laws, put_changes};
 pub use mst_plan_text::{
@@ -22,3 +24,4 @@ pub use mst_plan_text::{
     text_laws, trees_in_use, trees_laws, vids, vlan_laws, vlan_sets,
 };
 pub use roots::{root, root_of};
+pub use sides::has_bridge;

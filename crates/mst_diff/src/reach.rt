@@ -1,20 +1,18 @@
-ghost use Rattle.std.specs.Prelude.{◌≡◌, ◌++◌, ◌∷◌, [], ◌+◌, ◌<◌, ℕ, List, IfOk, OnOk, length, map, vec_len};
-ghost use Rattle.std.specs.List.{All, AllZip, AllByRecursion, Contains, flat_map, count_by};
+ghost use Rattle.std.specs.Prelude.{◌≡◌, ◌++◌, ◌∷◌, [], ◌+◌, ◌<◌, List, IfOk, OnOk, length, map, vec_len};
+ghost use Rattle.std.specs.List.{All, AllZip, flat_map, count_by};
 ghost use Rattle.mst_ids.specs.Vids.{runs_from};
-ghost use Rattle.mst_net.specs.ByTree.{table_in, vlans_in};
 ghost use Rattle.mst_rows.specs.Rows.{Row};
 ghost use Rattle.mst_plan_text.specs.trees.Settled.{outcome_of};
 ghost use Rattle.mst_plan_text.specs.Bodies.{NumberEach};
 ghost use Rattle.mst_diff.specs.Reach.{has_any, differ, reach_row, reach_unless, group_rows, AreReachRows};
 ghost use Rattle.mst_diff.specs.Seen.{AreSidesOf, seen_sides, sides_at as sides_at_vid};
 
+use crate::classes::classes_of_both;
 use crate::sides::{Sides, copies, sides_of_vid};
-use mst_graph::{groups_by_body, number_keys};
+use mst_graph::groups_by_body;
 use mst_ids::{Name, Vid, VidSet};
 use mst_kinds::{ChangeLine, Kind};
-use mst_lag::View;
-use mst_net::Table;
-use mst_plan_text::{Settled, numbers_of_vids, set_of, tables, vids, vlan_sets};
+use mst_plan_text::{Settled, set_of, vids};
 use mst_rows::{Rows, Value, put};
 use std::alloc::{AllocError, Global};
 
@@ -35,28 +33,6 @@ fn sides_at(
         all.push(sides_of_vid(alloc, old, new, vid)?)?;
     }
     Ok(all)
-}
-
-/// The tables of the bridges of both networks.
-fn both_tables(alloc: Global, old: &View, new: &View) -> Result<Vec<Table>, AllocError>
-    ensures old { IfOk result (λ both. AllByRecursion (λ b. Contains both.items (table_in old.now.settings.tables b.name)) old.now.bridges) }
-    ensures new { IfOk result (λ both. AllByRecursion (λ b. Contains both.items (table_in new.now.settings.tables b.name)) new.now.bridges) }
-{
-    let mut both = tables(alloc, old)?;
-    let others = tables(alloc, new)?;
-    both.extend_from_slice(others.as_slice())?;
-    Ok(both)
-}
-
-/// The sets of VLANs of the logical ports of both networks.
-fn both_sets(alloc: Global, old: &View, new: &View) -> Result<Vec<VidSet>, AllocError>
-    ensures old { IfOk result (λ both. AllByRecursion (λ p. Contains both.items (vlans_in old.now.settings.vlans p.name)) old.now.ports) }
-    ensures new { IfOk result (λ both. AllByRecursion (λ p. Contains both.items (vlans_in new.now.settings.vlans p.name)) new.now.ports) }
-{
-    let mut both = vlan_sets(alloc, old)?;
-    let others = vlan_sets(alloc, new)?;
-    both.extend_from_slice(others.as_slice())?;
-    Ok(both)
 }
 
 /// Whether there is an island.
@@ -174,10 +150,7 @@ pub(crate) fn put_reach<R: Rows>(
     new.known();
     let before = old.view();
     let after = new.view();
-    let tables = both_tables(alloc, before, after)?;
-    let sets = both_sets(alloc, before, after)?;
-    let numbers = numbers_of_vids(alloc, tables.as_slice(), sets.as_slice())?;
-    let classes = number_keys(alloc, numbers)?;
+    let classes = classes_of_both(alloc, before, after)?;
     let sides = sides_at(alloc, old, new, classes.firsts.as_slice())?;
     let kept = copies(alloc, sides.as_slice())?;
     let vids = vids(alloc)?;

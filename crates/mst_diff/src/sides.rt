@@ -21,7 +21,7 @@ pub(crate) struct Sides {
 }
 
 /// Whether an island has a bridge.
-fn has_bridge(island: &Island) -> bool
+pub fn has_bridge(island: &Island) -> bool
     ensures { result ≡ has_any island.now.bridges }
 {
     match island.bridges.as_slice() {

@@ -1,6 +1,5 @@
 ghost use Rattle.std.specs.Prelude.{◌≡◌, ℕ, ◌++◌, List, OnOk};
 ghost use Rattle.std.specs.List.{Contains, flat_map};
-ghost use Rattle.mst_summary.specs.diff.Reach.{has_any};
 ghost use Rattle.mst_summary.specs.trees.Settled.{outcome_of};
 ghost use Rattle.mst_vlan.specs.graph.Islands.{Island as NamedIsland};
 ghost use Rattle.mst_vlan.specs.Reach.{AreIslandsOf};
@@ -13,7 +12,7 @@ use itoa::Buffer;
 use mst_ids::{BridgeNo, Name, Tree, Vid, push_bytes};
 use mst_lag::BridgeInView;
 use mst_roles::vid_tree;
-use mst_summary::Settled;
+use mst_summary::{Settled, has_bridge};
 use mst_vlan::{Island, active_ports, reach_from};
 use std::alloc::{AllocError, Global};
 
@@ -105,16 +104,6 @@ fn push_cluster(
     push_cluster_opening(number, out)?;
     push_nodes(plan, vid, island.bridges.as_slice(), out)?;
     push_bytes(b"  }\n", out)
-}
-
-/// Whether an island has a bridge.
-fn has_bridge(island: &Island) -> bool
-    ensures { result ≡ has_any island.now.bridges }
-{
-    match island.bridges.as_slice() {
-        [] => false,
-        [..] => true,
-    }
 }
 
 /// Appends the clusters of those of these islands that have a bridge, numbered from 1 on.

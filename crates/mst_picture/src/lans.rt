@@ -1,7 +1,7 @@
 ghost use Rattle.std.specs.Prelude.{◌≡◌, ◌++◌, ℕ, List, map, IfOk, OnOk};
 ghost use Rattle.std.specs.List.{flat_map};
 ghost use Rattle.mst_summary.specs.trees.Settled.{outcome_of};
-ghost use Rattle.mst_summary.specs.Kept.{kept_at};
+ghost use Rattle.mst_summary.specs.slips.Kept.{kept_at};
 ghost use Rattle.mst_summary.specs.Seen.{seen_on};
 ghost use Rattle.mst_picture.specs.Lans.{link_line, link_text, box_line, down_line, up_line, end_line, box_text, ends_on, lan_text};
 ghost use Rattle.mst_picture.specs.InView.{AreAmong, end_at, lan_of};

@@ -1,12 +1,11 @@
 ghost use Rattle.std.specs.Prelude.{◌≡◌, ◌++◌, true, not, if◌then◌else◌, List, None, Some, OnOk};
-ghost use Rattle.std.specs.List.{Contains, find};
-ghost use Rattle.std.specs.Option.{option_copied};
+ghost use Rattle.std.specs.List.{Contains};
 ghost use Rattle.mst_net.specs.After.{has_bridge};
-ghost use Rattle.mst_net.specs.Tables.{port_eq};
 ghost use Rattle.mst_rows.specs.Rows.{Row};
 ghost use Rattle.mst_report.specs.Explaining.{Explains, has_tree as has_tree_in, has_asked, unexplained_of, code_of, text_of};
 
 use crate::planner::Planner;
+use mst_advise::port_named;
 use mst_explain::laws::some_explained;
 use mst_explain::{put_explanation, put_explanations};
 use mst_ids::{PortName, Tree};
@@ -52,13 +51,6 @@ impl Unexplained {
             Unexplained::NoTree => "bad VID or tree",
         }
     }
-}
-
-/// The logical port of this name of a settled network.
-fn port_named<'a>(plan: &'a Settled, name: &PortName) -> Option<&'a PortInView>
-    ensures { option_copied result ≡ find (λ port. port_eq port.name name.now) plan.now.view.ports }
-{
-    plan.view().ports().iter().find(|port| port.name == *name)
 }
 
 impl Planner {

@@ -23,17 +23,14 @@ pub(crate) fn keep(alloc: Global, ports: &[PortInView]) -> Result<Kept, AllocErr
     let mut by_lan = IndexMap::new(alloc);
     let mut by_bridge = IndexMap::new(alloc);
     for port in ports {
-        add(alloc, &port.lan, port, &mut by_lan)?;
-        add(alloc, &port.name.bridge, port, &mut by_bridge)?;
+        add_port(alloc, &port.lan, port, &mut by_lan)?;
+        add_port(alloc, &port.name.bridge, port, &mut by_bridge)?;
     }
     Ok(Kept { by_lan, by_bridge })
 }
 
 /// What is kept for a name: nothing where it has no port.
-pub(crate) fn kept_for<'a>(
-    kept: &'a IndexMap<Name, Vec<PortInView>>,
-    name: &Name,
-) -> &'a [PortInView]
+pub fn kept_for<'a>(kept: &'a IndexMap<Name, Vec<PortInView>>, name: &Name) -> &'a [PortInView]
     ensures { result.now ≡ kept_at kept.now name.now }
 {
     match kept.get(name) {
@@ -42,8 +39,8 @@ pub(crate) fn kept_for<'a>(
     }
 }
 
-/// Adds a port to those of a name.
-fn add(
+/// Adds a logical port to those that are kept for a name. `AllocError`: memory was wanted and refused; what was kept for the name may be gone.
+pub fn add_port(
     alloc: Global,
     name: &Name,
     port: &PortInView,

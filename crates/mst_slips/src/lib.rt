@@ -9,4 +9,6 @@ mod near;
 mod regions;
 mod slips;
 
+pub use kept::{add_port, kept_for};
+pub use regions::is_first;
 pub use slips::put_slips;

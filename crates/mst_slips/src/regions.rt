@@ -19,7 +19,7 @@ use mst_rows::{Rows, Value, put};
 use std::alloc::{AllocError, Global};
 
 /// Whether a bridge is the first of its region: the region's identifier has its MAC then.
-fn is_first(regions: &Regions, bridge: &BridgeInView) -> bool
+pub fn is_first(regions: &Regions, bridge: &BridgeInView) -> bool
     ensures { result ≡ seen_first regions.now bridge.now }
 {
     match regions.region(bridge.bridge.number) {

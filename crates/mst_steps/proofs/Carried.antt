@@ -24,7 +24,8 @@ use Rattle.mst_diff.proofs.trees_lemmas.Lists.{all_contained, filter_mapped}
 use Rattle.mst_diff.proofs.plan_text_lemmas.VidsAlike.{links_alike, ports_alike}
 use Rattle.mst_steps.specs.declared.links.Link.{Link}
 use Rattle.mst_steps.specs.Links.{link_of, carried}
-use Rattle.mst_steps.specs.Seen.{seen_link_of, seen_carried, HasOnly}
+use Rattle.mst_diff.specs.Classes.{HasOnly}
+use Rattle.mst_steps.specs.Seen.{seen_link_of, seen_carried}
 
 module _ (net : Net) (numbers : Numbers) (v : Viewed) (f : Forest) (of : AreOf net numbers v f.regions) (is : IsForest net numbers f) (vid : ℕ) where
   pub carried_same : seen_carried v f vid ≡ carried net is.outcome vid

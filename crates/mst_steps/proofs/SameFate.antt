@@ -20,7 +20,8 @@ use Rattle.mst_sweep.proofs.StillJoined.{no_parts}
 use Rattle.mst_steps.specs.declared.links.Link.{Link}
 use Rattle.mst_steps.specs.Links.{carried, shared, staying, stays, same_link, same_links}
 use Rattle.mst_steps.specs.MovedVids.{IsCut, IsJoined, IsMoved, links_differ}
-use Rattle.mst_steps.specs.Seen.{seen_carried, seen_differ, HasOnly}
+use Rattle.mst_diff.specs.Classes.{HasOnly}
+use Rattle.mst_steps.specs.Seen.{seen_carried, seen_differ}
 use Rattle.mst_steps.proofs.Carried.{carried_alike, carried_same, ends_alike, ends_by, links_by}
 use Rattle.mst_steps.proofs.OnNamed.{stays_same}
 

@@ -1,12 +1,9 @@
 -- What is seen of a step in two views with their forests, and how it is kept.
-use Rattle.std.specs.Prelude.{◌≡◌, ℕ, ◌-◌, ◌&&◌, not, Bool, false, List, Option, Some, nat_eq, map, filter, filter_map, slice_index, slice_index_or}
-use Rattle.std.specs.List.{AllByRecursion, Contains, find, list_any}
+use Rattle.std.specs.Prelude.{◌≡◌, ℕ, ◌&&◌, not, Bool, false, List, Option, Some, map, filter, filter_map}
+use Rattle.std.specs.List.{Contains, find, list_any}
 use Rattle.std.specs.Map.{lookup}
 use Rattle.std.specs.Option.{option_map, option_map_or}
 use Rattle.mst_ids.specs.declared.name.PortName.{PortName}
-use Rattle.mst_graph.specs.Numbers.{AreNumbers}
-use Rattle.mst_graph.specs.declared.keys.Numbering.{Numbering}
-use Rattle.mst_net.specs.ByTree.{table_in, vlans_in}
 use Rattle.mst_net.specs.Seen.{bridge_row}
 use Rattle.mst_net.specs.Tables.{port_eq}
 use Rattle.mst_lag.specs.Aggregation.{same_name}
@@ -14,7 +11,6 @@ use Rattle.mst_lag.specs.Viewed.{Viewed}
 use Rattle.mst_lag.specs.declared.in_view.PortInView.{PortInView}
 use Rattle.mst_vlan.specs.Seen.{seen_active, seen_member}
 use Rattle.mst_diff.specs.trees.Forest.{Forest}
-use Rattle.mst_diff.specs.plan_text.Alike.{TellApart}
 use Rattle.mst_sweep.specs.Seen.{seen_port_moved}
 use Rattle.mst_steps.specs.Links.{shared, staying, same_links}
 use Rattle.mst_steps.specs.declared.links.Link.{Link}
@@ -62,23 +58,3 @@ seen_both_ports v w = filter_map (seen_port_in_both w.ports) v.ports
 -- it has another role in a tree afterwards, and neither is Disabled
 abbrev pub seen_moved : Viewed → Forest → Viewed → Forest → ℕ → BothPorts → Bool
 seen_moved v f w g tree both = seen_port_moved v f w g tree both.old both.new
-
--- ---- classes of VIDs
--- the tables and the sets of VLANs of a view are among these
-pub record HasOnly (v : Viewed) (tables : List (List ℕ)) (sets : List (List Bool)) : Type 0 where
-  pub tables_there : AllByRecursion (λ b. Contains tables (table_in v.settings.tables b.name)) v.bridges
-  pub sets_there : AllByRecursion (λ p. Contains sets (vlans_in v.settings.vlans p.name)) v.ports
-
--- VIDs of one class have one tree in each table of either view, and are in the same of their sets
-pub record AreClassesOf (v w : Viewed) (classes : Numbering) : Type 0 where
-  pub tables : List (List ℕ)
-  pub sets : List (List Bool)
-  pub old : HasOnly v tables sets
-  pub new : HasOnly w tables sets
-  pub numbers : List ℕ
-  pub tell : TellApart tables sets numbers
-  pub are : AreNumbers nat_eq numbers classes.numbers.items classes.firsts.items
-
--- the flag of a VID's class
-abbrev pub flag_at : List ℕ → List Bool → ℕ → Bool
-flag_at numbers flags vid = slice_index_or flags (slice_index numbers (vid - 1)) false

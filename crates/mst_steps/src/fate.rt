@@ -1,8 +1,7 @@
 ghost use Rattle.std.specs.Prelude.{◌≡◌, ◌||◌, map, IfOk};
-ghost use Rattle.mst_net.specs.Tables.{Net, Numbers};
-ghost use Rattle.mst_diff.specs.trees.Agrees.{AreOf, Known};
-ghost use Rattle.mst_diff.specs.trees.Forest.{IsForest};
+ghost use Rattle.mst_diff.specs.trees.Agrees.{Known};
 ghost use Rattle.mst_diff.specs.Reach.{has_any};
+ghost use Rattle.mst_sweep.specs.Between.{OfNetworks};
 ghost use Rattle.mst_sweep.specs.Cuts.{names_of};
 ghost use Rattle.mst_sweep.specs.Parts.{AreParts};
 ghost use Rattle.mst_steps.specs.MovedVids.{IsJoined, IsMoved};
@@ -57,12 +56,9 @@ fn fate_by(
     requires new { Known change.now.new.now.view.now change.now.new.now.forest.now.regions }
     requires before { before.now ≡ seen_carried change.now.old.now.view.now change.now.old.now.forest.now vid }
     requires afterwards { afterwards.now ≡ seen_carried change.now.new.now.view.now change.now.new.now.forest.now vid }
-    ensures parts { IfOk result (λ fate. (a b : Net) (n k : Numbers) (is : IsForest a n change.now.old.now.forest.now) (are : IsForest b k change.now.new.now.forest.now) → AreOf a n change.now.old.now.view.now change.now.old.now.forest.now.regions → AreOf b k change.now.new.now.view.now change.now.new.now.forest.now.regions
-        → AreParts a is.outcome b are.outcome vid (names_of fate.parts)) }
-    ensures joins { IfOk result (λ fate. (a b : Net) (n k : Numbers) (is : IsForest a n change.now.old.now.forest.now) (are : IsForest b k change.now.new.now.forest.now) → AreOf a n change.now.old.now.view.now change.now.old.now.forest.now.regions → AreOf b k change.now.new.now.view.now change.now.new.now.forest.now.regions
-        → IsJoined a is.outcome b are.outcome vid fate.joins) }
-    ensures moves { IfOk result (λ fate. (a b : Net) (n k : Numbers) (is : IsForest a n change.now.old.now.forest.now) (are : IsForest b k change.now.new.now.forest.now) → AreOf a n change.now.old.now.view.now change.now.old.now.forest.now.regions → AreOf b k change.now.new.now.view.now change.now.new.now.forest.now.regions
-        → IsMoved a is.outcome b are.outcome vid fate.moves) }
+    ensures parts { IfOk result (λ fate. OfNetworks change.now.old.now change.now.new.now (λ a before b afterwards. AreParts a before b afterwards vid (names_of fate.parts))) }
+    ensures joins { IfOk result (λ fate. OfNetworks change.now.old.now change.now.new.now (λ a before b afterwards. IsJoined a before b afterwards vid fate.joins)) }
+    ensures moves { IfOk result (λ fate. OfNetworks change.now.old.now change.now.new.now (λ a before b afterwards. IsMoved a before b afterwards vid fate.moves)) }
 {
     let olds = homes_of(alloc, change.old, vid)?;
     let news = homes_of(alloc, change.new, vid)?;
@@ -99,12 +95,9 @@ fn fate_by(
 pub(crate) fn fate_of(alloc: Global, change: &Change, vid: Vid) -> Result<Fate, AllocError>
     requires old { Known change.now.old.now.view.now change.now.old.now.forest.now.regions }
     requires new { Known change.now.new.now.view.now change.now.new.now.forest.now.regions }
-    ensures parts { IfOk result (λ fate. (a b : Net) (n k : Numbers) (is : IsForest a n change.now.old.now.forest.now) (are : IsForest b k change.now.new.now.forest.now) → AreOf a n change.now.old.now.view.now change.now.old.now.forest.now.regions → AreOf b k change.now.new.now.view.now change.now.new.now.forest.now.regions
-        → AreParts a is.outcome b are.outcome vid (names_of fate.parts)) }
-    ensures joins { IfOk result (λ fate. (a b : Net) (n k : Numbers) (is : IsForest a n change.now.old.now.forest.now) (are : IsForest b k change.now.new.now.forest.now) → AreOf a n change.now.old.now.view.now change.now.old.now.forest.now.regions → AreOf b k change.now.new.now.view.now change.now.new.now.forest.now.regions
-        → IsJoined a is.outcome b are.outcome vid fate.joins) }
-    ensures moves { IfOk result (λ fate. (a b : Net) (n k : Numbers) (is : IsForest a n change.now.old.now.forest.now) (are : IsForest b k change.now.new.now.forest.now) → AreOf a n change.now.old.now.view.now change.now.old.now.forest.now.regions → AreOf b k change.now.new.now.view.now change.now.new.now.forest.now.regions
-        → IsMoved a is.outcome b are.outcome vid fate.moves) }
+    ensures parts { IfOk result (λ fate. OfNetworks change.now.old.now change.now.new.now (λ a before b afterwards. AreParts a before b afterwards vid (names_of fate.parts))) }
+    ensures joins { IfOk result (λ fate. OfNetworks change.now.old.now change.now.new.now (λ a before b afterwards. IsJoined a before b afterwards vid fate.joins)) }
+    ensures moves { IfOk result (λ fate. OfNetworks change.now.old.now change.now.new.now (λ a before b afterwards. IsMoved a before b afterwards vid fate.moves)) }
 {
     islands_of_vid();
     let before = carried(alloc, change.old, vid)?;

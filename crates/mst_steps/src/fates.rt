@@ -1,14 +1,11 @@
-ghost use Rattle.std.specs.Prelude.{◌≡◌, ◌<◌, ◌+◌, IfOk, filter, length, map, vec_len};
+ghost use Rattle.std.specs.Prelude.{◌≡◌, ◌<◌, ◌+◌, IfOk, length, map, vec_len};
 ghost use Rattle.std.specs.List.{All, AllZip};
-ghost use Rattle.mst_net.specs.Tables.{Net, Numbers};
-ghost use Rattle.mst_diff.specs.trees.Agrees.{AreOf, Known};
-ghost use Rattle.mst_diff.specs.trees.Forest.{IsForest};
-ghost use Rattle.mst_diff.specs.plan_text.Bodies.{NumberEach};
+ghost use Rattle.mst_diff.specs.trees.Agrees.{Known};
 ghost use Rattle.mst_diff.specs.Reach.{has_any};
+ghost use Rattle.mst_sweep.specs.Between.{OfNetworks};
 ghost use Rattle.mst_sweep.specs.Cuts.{names_of};
 ghost use Rattle.mst_sweep.specs.Parts.{AreParts};
 ghost use Rattle.mst_steps.specs.MovedVids.{IsJoined, IsMoved};
-ghost use Rattle.mst_steps.specs.Seen.{flag_at};
 
 use crate::change::Change;
 use crate::fate::fate_of;
@@ -33,12 +30,12 @@ pub(crate) fn fates_at(
     requires new { Known change.now.new.now.view.now change.now.new.now.forest.now.regions }
     requires vids { All (λ place. place < 4094) places.now }
     ensures as_long { IfOk result (λ fates. (vec_len fates.parts ≡ length places.now) × (vec_len fates.joins ≡ length places.now) × (vec_len fates.moves ≡ length places.now)) }
-    ensures parts { IfOk result (λ fates. (a b : Net) (n k : Numbers) (is : IsForest a n change.now.old.now.forest.now) (are : IsForest b k change.now.new.now.forest.now) → AreOf a n change.now.old.now.view.now change.now.old.now.forest.now.regions → AreOf b k change.now.new.now.view.now change.now.new.now.forest.now.regions
-        → AllZip (λ place parts. AreParts a is.outcome b are.outcome (place + 1) parts) places.now (map names_of fates.parts.items)) }
-    ensures joins { IfOk result (λ fates. (a b : Net) (n k : Numbers) (is : IsForest a n change.now.old.now.forest.now) (are : IsForest b k change.now.new.now.forest.now) → AreOf a n change.now.old.now.view.now change.now.old.now.forest.now.regions → AreOf b k change.now.new.now.view.now change.now.new.now.forest.now.regions
-        → AllZip (λ place joins. IsJoined a is.outcome b are.outcome (place + 1) joins) places.now fates.joins.items) }
-    ensures moves { IfOk result (λ fates. (a b : Net) (n k : Numbers) (is : IsForest a n change.now.old.now.forest.now) (are : IsForest b k change.now.new.now.forest.now) → AreOf a n change.now.old.now.view.now change.now.old.now.forest.now.regions → AreOf b k change.now.new.now.view.now change.now.new.now.forest.now.regions
-        → AllZip (λ place moves. IsMoved a is.outcome b are.outcome (place + 1) moves) places.now fates.moves.items) }
+    ensures parts { IfOk result (λ fates. OfNetworks change.now.old.now change.now.new.now (λ a before b afterwards.
+        AllZip (λ place parts. AreParts a before b afterwards (place + 1) parts) places.now (map names_of fates.parts.items))) }
+    ensures joins { IfOk result (λ fates. OfNetworks change.now.old.now change.now.new.now (λ a before b afterwards.
+        AllZip (λ place joins. IsJoined a before b afterwards (place + 1) joins) places.now fates.joins.items)) }
+    ensures moves { IfOk result (λ fates. OfNetworks change.now.old.now change.now.new.now (λ a before b afterwards.
+        AllZip (λ place moves. IsMoved a before b afterwards (place + 1) moves) places.now fates.moves.items)) }
 {
     let mut parts = Vec::new(alloc);
     let mut joins = Vec::new(alloc);
@@ -55,25 +52,6 @@ pub(crate) fn fates_at(
         joins,
         moves,
     })
-}
-
-/// Those of these VIDs whose classes have the flag. `AllocError`: memory was wanted and refused.
-pub(crate) fn flagged(
-    alloc: Global,
-    vids: &[Vid],
-    numbers: &[usize],
-    flags: &[bool],
-) -> Result<Vec<Vid>, AllocError>
-    requires { NumberEach numbers.now (length flags.now) }
-    ensures { IfOk result (λ flagged. flagged.items ≡ filter (flag_at numbers.now flags.now) vids.now) }
-{
-    let mut flagged = Vec::new(alloc);
-    for vid in vids {
-        if flags[numbers[usize::from(vid.value()) - 1]] {
-            flagged.push(*vid)?;
-        }
-    }
-    Ok(flagged)
 }
 
 /// Whether there are VIDs.

@@ -3,7 +3,6 @@
 #![tactic(auto)]
 
 mod change;
-mod classes;
 mod fate;
 mod fates;
 pub mod laws;

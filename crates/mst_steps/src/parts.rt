@@ -1,9 +1,7 @@
 ghost use Rattle.std.specs.Prelude.{◌≡◌, map, IfOk};
-ghost use Rattle.mst_net.specs.Tables.{Net, Numbers};
-ghost use Rattle.mst_diff.specs.trees.Agrees.{AreOf};
-ghost use Rattle.mst_diff.specs.trees.Forest.{IsForest};
 ghost use Rattle.mst_diff.specs.Reach.{has_any};
 ghost use Rattle.mst_diff.specs.Seen.{seen_both};
+ghost use Rattle.mst_sweep.specs.Between.{OfNumbered};
 ghost use Rattle.mst_sweep.specs.Baseline.{AreHomes};
 ghost use Rattle.mst_sweep.specs.Cuts.{names_of};
 ghost use Rattle.mst_sweep.specs.Parts.{AreParts};
@@ -26,8 +24,8 @@ pub(crate) fn parts(
     vid: Vid,
 ) -> Result<Vec<Vec<Name>>, AllocError>
     requires { both.now ≡ seen_both old.now.view.now new.now.view.now }
-    ensures { IfOk result (λ parts. (a b : Net) (n k : Numbers) (is : IsForest a n old.now.forest.now) (are : IsForest b k new.now.forest.now) → AreOf a n old.now.view.now old.now.forest.now.regions → AreOf b k new.now.view.now new.now.forest.now.regions
-        → AreHomes a n is.outcome vid olds.now.entries → AreHomes b k are.outcome vid news.now.entries → AreParts a is.outcome b are.outcome vid (names_of parts)) }
+    ensures { IfOk result (λ parts. OfNumbered old.now new.now (λ a n before b k afterwards.
+        AreHomes a n before vid olds.now.entries → AreHomes b k afterwards vid news.now.entries → AreParts a before b afterwards vid (names_of parts))) }
 {
     let all = staying(alloc, olds, news, both)?;
     all_parts(alloc, all.as_slice())

@@ -1,17 +1,17 @@
 ghost use Rattle.std.specs.Prelude.{◌≡◌, ◌≤◌, ◌*◌, IfOk, filter_map, length};
 ghost use Rattle.std.specs.List.{count_by};
-ghost use Rattle.mst_net.specs.Tables.{Net, Numbers};
-ghost use Rattle.mst_diff.specs.trees.Agrees.{AreOf, Known};
-ghost use Rattle.mst_diff.specs.trees.Forest.{IsForest};
+ghost use Rattle.mst_diff.specs.trees.Agrees.{Known};
 ghost use Rattle.mst_diff.specs.trees.InUse.{AreInUse};
 ghost use Rattle.mst_diff.specs.changes.Subjects.{port_names};
-ghost use Rattle.mst_sweep.specs.Moved.{takes_part as takes, is_other_role, port_moved as port_moved_in, moved_ports as all_moved_ports};
+ghost use Rattle.mst_sweep.specs.Between.{OfNetworks};
+ghost use Rattle.mst_sweep.specs.Moved.{port_moved as port_moved_in, moved_ports as all_moved_ports};
 ghost use Rattle.mst_steps.specs.Seen.{seen_both_ports, seen_port_in_both, seen_moved, ArePortsByName};
 
 use indexmap::IndexMap;
-use mst_diff::{Planned, Role, is_had, port_role, trees_in_use};
+use mst_diff::{Planned, is_had, port_role, trees_in_use};
 use mst_ids::{PortName, Tree};
 use mst_lag::{PortInView, View};
+use mst_sweep::changes_role;
 use std::alloc::{AllocError, Global};
 
 /// A logical port that two networks have, by name.
@@ -83,30 +83,13 @@ pub(crate) fn ports_of_both(
     with_others(alloc, old.ports(), others, &named)
 }
 
-/// Whether a role is other than Disabled.
-fn takes_part(role: Role) -> bool
-    ensures { result ≡ takes role }
-{
-    !matches!(role, Role::Disabled)
-}
-
-/// Whether there are two roles other than Disabled that aren't the same.
-fn is_other(old: Option<Role>, new: Option<Role>) -> bool
-    ensures { result ≡ is_other_role old new }
-{
-    match (old, new) {
-        (Some(old), Some(new)) => takes_part(old) && takes_part(new) && old != new,
-        _ => false,
-    }
-}
-
 /// Whether a port has another role in a tree afterwards, and neither is Disabled.
 fn has_moved(old: &Planned, new: &Planned, tree: Tree, both: &BothPorts) -> bool
     ensures { result ≡ seen_moved old.now.view.now old.now.forest.now new.now.view.now new.now.forest.now tree both.now }
 {
     let before = port_role(old.view, old.forest, &both.old, tree);
     let afterwards = port_role(new.view, new.forest, &both.new, tree);
-    is_other(before, afterwards)
+    changes_role(before, afterwards)
 }
 
 /// How many of these ports have.
@@ -131,8 +114,7 @@ fn moved_in_tree(
     requires used { AreInUse old.now.view.now used.now }
     requires both { both.now ≡ seen_both_ports old.now.view.now new.now.view.now }
     ensures few { result ≤ 16384 }
-    ensures moved { (a b : Net) (n k : Numbers) (is : IsForest a n old.now.forest.now) (are : IsForest b k new.now.forest.now) → AreOf a n old.now.view.now old.now.forest.now.regions → AreOf b k new.now.view.now new.now.forest.now.regions
-        → result ≡ count_by (port_moved_in a is.outcome b are.outcome tree) (port_names a) }
+    ensures moved { OfNetworks old.now new.now (λ a before b afterwards. result ≡ count_by (port_moved_in a before b afterwards tree) (port_names a)) }
 {
     if !is_had(used, tree) {
         return 0;
@@ -146,8 +128,7 @@ fn moved_in_tree(
 pub(crate) fn moved_ports(old: &Planned, new: &Planned, both: &[BothPorts]) -> u64
     requires known { Known old.now.view.now old.now.forest.now.regions }
     requires both { both.now ≡ seen_both_ports old.now.view.now new.now.view.now }
-    ensures { (a b : Net) (n k : Numbers) (is : IsForest a n old.now.forest.now) (are : IsForest b k new.now.forest.now) → AreOf a n old.now.view.now old.now.forest.now.regions → AreOf b k new.now.view.now new.now.forest.now.regions
-        → result ≡ all_moved_ports a is.outcome b are.outcome }
+    ensures { OfNetworks old.now new.now (λ a before b afterwards. result ≡ all_moved_ports a before b afterwards) }
 {
     let used = trees_in_use(old.view);
     let mut count = 0;

@@ -1,12 +1,11 @@
 ghost use Rattle.std.specs.Prelude.{◌≡◌, ◌++◌, ◌∷◌, [], List, IfOk, OnOk, None, Some, vec_len};
 ghost use Rattle.mst_ids.specs.Vids.{runs_from};
 ghost use Rattle.mst_rows.specs.Rows.{Row};
-ghost use Rattle.mst_net.specs.Tables.{Net, Numbers};
-ghost use Rattle.mst_diff.specs.trees.Agrees.{AreOf, Known};
-ghost use Rattle.mst_diff.specs.trees.Forest.{IsForest};
+ghost use Rattle.mst_diff.specs.trees.Agrees.{Known};
 ghost use Rattle.mst_diff.specs.plan_text.Bodies.{NumberEach};
 ghost use Rattle.mst_diff.specs.Reach.{has_any};
 ghost use Rattle.mst_diff.specs.Seen.{seen_both};
+ghost use Rattle.mst_sweep.specs.Between.{OfNetworks};
 ghost use Rattle.mst_sweep.specs.declared.cuts.CutBy.{CutBy as CutByOf};
 ghost use Rattle.mst_sweep.specs.Cuts.{rows_of, runs_of, AreCutsBy};
 ghost use Rattle.mst_sweep.specs.Parts.{AreParts};
@@ -207,12 +206,10 @@ fn told_between(
     requires new { Known new.now.view.now new.now.forest.now.regions }
     requires both { both.now ≡ seen_both old.now.view.now new.now.view.now }
     ensures numbered { IfOk result (λ told. NumberEach told.classes.numbers.items (vec_len told.cuts.parts)) }
-    ensures cut { IfOk result (λ told. (a b : Net) (n k : Numbers) (is : IsForest a n old.now.forest.now) (are : IsForest b k new.now.forest.now) → AreOf a n old.now.view.now old.now.forest.now.regions → AreOf b k new.now.view.now new.now.forest.now.regions
-        → (by : CutByOf) → AreCutsBy (AreParts a is.outcome b are.outcome) by told.cuts.vids.items (rows_of by told.classes.numbers.items told.cuts)) }
-    ensures joined { IfOk result (λ told. (a b : Net) (n k : Numbers) (is : IsForest a n old.now.forest.now) (are : IsForest b k new.now.forest.now) → AreOf a n old.now.view.now old.now.forest.now.regions → AreOf b k new.now.view.now new.now.forest.now.regions
-        → AreVidsWhere (IsJoined a is.outcome b are.outcome) told.joined.items) }
-    ensures moved { IfOk result (λ told. (a b : Net) (n k : Numbers) (is : IsForest a n old.now.forest.now) (are : IsForest b k new.now.forest.now) → AreOf a n old.now.view.now old.now.forest.now.regions → AreOf b k new.now.view.now new.now.forest.now.regions
-        → AreVidsWhere (IsMoved a is.outcome b are.outcome) told.moved.items) }
+    ensures cut { IfOk result (λ told. OfNetworks old.now new.now (λ a before b afterwards.
+        (by : CutByOf) → AreCutsBy (AreParts a before b afterwards) by told.cuts.vids.items (rows_of by told.classes.numbers.items told.cuts))) }
+    ensures joined { IfOk result (λ told. OfNetworks old.now new.now (λ a before b afterwards. AreVidsWhere (IsJoined a before b afterwards) told.joined.items)) }
+    ensures moved { IfOk result (λ told. OfNetworks old.now new.now (λ a before b afterwards. AreVidsWhere (IsMoved a before b afterwards) told.moved.items)) }
 {
     let turned = bridges_of_both(alloc, new.view, old.view)?;
     let old_on = bridges_on(alloc, old.view)?;
@@ -243,8 +240,8 @@ pub fn put_step<R: Rows>(
 ) -> Result<Stepped, AllocError>
     requires old { Known old.now.view.now old.now.forest.now.regions }
     requires new { Known new.now.view.now new.now.forest.now.regions }
-    ensures { IfOk result (λ told. (a b : Net) (n k : Numbers) (is : IsForest a n old.now.forest.now) (are : IsForest b k new.now.forest.now) → AreOf a n old.now.view.now old.now.forest.now.regions → AreOf b k new.now.view.now new.now.forest.now.regions
-        → (own : List Row) × AreStepRows a is.outcome b are.outcome deed.now own told × ((first : R) (rows : List Row) → R.grew first out.old rows → R.grew first out.new (rows ++ own))) }
+    ensures { IfOk result (λ told. OfNetworks old.now new.now (λ a before b afterwards.
+        (own : List Row) × AreStepRows a before b afterwards deed.now own told × ((first : R) (rows : List Row) → R.grew first out.old rows → R.grew first out.new (rows ++ own)))) }
 {
     let both = bridges_of_both(alloc, old.view, new.view)?;
     let told = told_between(alloc, old, new, both.as_slice())?;

@@ -1,17 +1,15 @@
 ghost use Rattle.std.specs.Prelude.{◌≡◌, ◌∷◌, ℕ, IfOk, vec_len};
-ghost use Rattle.mst_net.specs.Tables.{Net, Numbers};
-ghost use Rattle.mst_diff.specs.trees.Agrees.{AreOf, Known};
-ghost use Rattle.mst_diff.specs.trees.Forest.{IsForest};
+ghost use Rattle.mst_diff.specs.trees.Agrees.{Known};
 ghost use Rattle.mst_diff.specs.plan_text.Bodies.{NumberEach};
+ghost use Rattle.mst_sweep.specs.Between.{OfNetworks};
 ghost use Rattle.mst_sweep.specs.declared.cuts.CutBy.{CutBy as CutByOf};
 ghost use Rattle.mst_sweep.specs.Cuts.{rows_of, AreCutsBy};
 ghost use Rattle.mst_sweep.specs.Parts.{AreParts};
 ghost use Rattle.mst_steps.specs.MovedVids.{AreVidsWhere, IsJoined, IsMoved};
 
 use crate::change::Change;
-use crate::classes::classes_of_both;
-use crate::fates::{fates_at, flagged};
-use mst_diff::vids;
+use crate::fates::fates_at;
+use mst_diff::{classes_of_both, flagged, vids};
 use mst_graph::Numbering;
 use mst_ids::Vid;
 use mst_sweep::{Cuts, cuts_of};
@@ -33,12 +31,12 @@ pub(crate) fn told_of(alloc: Global, change: &Change) -> Result<Told, AllocError
     requires old { Known change.now.old.now.view.now change.now.old.now.forest.now.regions }
     requires new { Known change.now.new.now.view.now change.now.new.now.forest.now.regions }
     ensures numbered { IfOk result (λ told. NumberEach told.classes.numbers.items (vec_len told.cuts.parts)) }
-    ensures cut { IfOk result (λ told. (a b : Net) (n k : Numbers) (is : IsForest a n change.now.old.now.forest.now) (are : IsForest b k change.now.new.now.forest.now) → AreOf a n change.now.old.now.view.now change.now.old.now.forest.now.regions → AreOf b k change.now.new.now.view.now change.now.new.now.forest.now.regions
-        → (by : CutByOf) → AreCutsBy (AreParts a is.outcome b are.outcome) by told.cuts.vids.items (rows_of by told.classes.numbers.items told.cuts)) }
-    ensures joined { IfOk result (λ told. (a b : Net) (n k : Numbers) (is : IsForest a n change.now.old.now.forest.now) (are : IsForest b k change.now.new.now.forest.now) → AreOf a n change.now.old.now.view.now change.now.old.now.forest.now.regions → AreOf b k change.now.new.now.view.now change.now.new.now.forest.now.regions
-        → AreVidsWhere (IsJoined a is.outcome b are.outcome) told.joined.items) }
-    ensures moved { IfOk result (λ told. (a b : Net) (n k : Numbers) (is : IsForest a n change.now.old.now.forest.now) (are : IsForest b k change.now.new.now.forest.now) → AreOf a n change.now.old.now.view.now change.now.old.now.forest.now.regions → AreOf b k change.now.new.now.view.now change.now.new.now.forest.now.regions
-        → AreVidsWhere (IsMoved a is.outcome b are.outcome) told.moved.items) }
+    ensures cut { IfOk result (λ told. OfNetworks change.now.old.now change.now.new.now (λ a before b afterwards.
+        (by : CutByOf) → AreCutsBy (AreParts a before b afterwards) by told.cuts.vids.items (rows_of by told.classes.numbers.items told.cuts))) }
+    ensures joined { IfOk result (λ told. OfNetworks change.now.old.now change.now.new.now (λ a before b afterwards.
+        AreVidsWhere (IsJoined a before b afterwards) told.joined.items)) }
+    ensures moved { IfOk result (λ told. OfNetworks change.now.old.now change.now.new.now (λ a before b afterwards.
+        AreVidsWhere (IsMoved a before b afterwards) told.moved.items)) }
 {
     let classes = classes_of_both(alloc, change.old.view, change.new.view)?;
     let of = fates_at(alloc, change, classes.firsts.as_slice())?;

@@ -40,7 +40,8 @@ use Rattle.mst_summary.specs.Blocked.{is_blocked, blocked, blocked_row}
 use Rattle.mst_summary.specs.Carries.{are_of_two, carriers, carries, goes_over, joins, joining_lans, ports_on}
 use Rattle.mst_summary.specs.Counts.{is_first, is_used, used_trees, counts_of}
 use Rattle.mst_summary.specs.Roots.{follower, followers, rows_of_root, root_rows}
-use Rattle.mst_summary.specs.Seen.{seen_used, seen_trees, seen_first, seen_counts, seen_root, blocked_of, seen_tree_rows, seen_on, seen_carries, seen_over, seen_joins, seen_lans_up, seen_joining_lans}
+use Rattle.mst_slips.specs.Seen.{seen_first}
+use Rattle.mst_summary.specs.Seen.{seen_used, seen_trees, seen_counts, seen_root, blocked_of, seen_tree_rows, seen_on, seen_carries, seen_over, seen_joins, seen_lans_up, seen_joining_lans}
 use Rattle.mst_summary.specs.SummaryText.{all_trees_rows}
 use Rattle.mst_summary.proofs.Lists.{count_mapped, count_alike, any_mapped, any_alike}
 

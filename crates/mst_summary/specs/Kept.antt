@@ -1,4 +1,4 @@
--- What is kept for logical LANs, and for classes of VIDs.
+-- What is kept for classes of VIDs.
 use Rattle.std.specs.Prelude.{ℕ, ◌-◌, Bool, false, List, [], Vec, slice_index, slice_index_or, nat_eq}
 use Rattle.std.specs.List.{AllByRecursion, Contains}
 use Rattle.std.specs.Option.{option_map_or}
@@ -12,17 +12,9 @@ use Rattle.mst_lag.specs.Viewed.{Viewed}
 use Rattle.mst_lag.specs.declared.in_view.PortInView.{PortInView}
 use Rattle.mst_diff.specs.plan_text.Alike.{TellApart}
 
--- the ports that are kept for a logical LAN, none where nothing is kept
-abbrev pub kept_at : {S : Type 0} → HashMap (List ℕ) (Vec PortInView Global) S → List ℕ → List PortInView
-kept_at ports lan = option_map_or (λ p. p.items) (get same_name ports lan) []
-
 -- the count of a VID, by the numbers of VIDs and the counts of the numbers
 abbrev pub count_at : List ℕ → List ℕ → ℕ → ℕ
 count_at numbers counts vid = slice_index_or counts (slice_index numbers (vid - 1)) 0
-
--- its flag
-abbrev pub flag_at : List ℕ → List Bool → ℕ → Bool
-flag_at numbers flags vid = slice_index_or flags (slice_index numbers (vid - 1)) false
 
 -- VIDs of one class have one tree in each table and are in the same sets of VLANs of ports
 pub record AreClasses (v : Viewed) (c : Numbering) : Type 0 where

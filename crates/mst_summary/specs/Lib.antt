@@ -8,6 +8,7 @@ pub use Rattle.mst_diff.specs.changes as changes
 pub use Rattle.mst_diff.specs.text as text
 pub use Rattle.mst_diff.specs.plan_text as plan_text
 pub use Rattle.mst_diff.specs as diff
+pub use Rattle.mst_slips.specs as slips
 pub mod Counts
 pub mod Roots
 pub mod Blocked

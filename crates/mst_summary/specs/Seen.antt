@@ -1,9 +1,6 @@
 -- What is seen of a summary in the view of a settled network.
-use Rattle.std.specs.Prelude.{ℕ, ◌==◌, ◌&&◌, ◌++◌, Bool, false, List, [], ◌∷◌, filter, length, map, nat_eq}
+use Rattle.std.specs.Prelude.{ℕ, ◌&&◌, ◌++◌, Bool, List, [], ◌∷◌, filter, length, map}
 use Rattle.std.specs.List.{count_by, flat_map, list_any}
-use Rattle.std.specs.Map.{lookup}
-use Rattle.std.specs.Option.{option_map_or}
-use Rattle.mst_ids.specs.Identifiers.{bridge_id}
 use Rattle.mst_ids.specs.declared.name.PortName.{PortName}
 use Rattle.mst_rows.specs.Rows.{Row}
 use Rattle.mst_diff.specs.net.ByTree.{by_tree}
@@ -20,6 +17,7 @@ use Rattle.mst_vlan.specs.Seen.{seen_member}
 use Rattle.mst_vlan.specs.declared.island.Island.{Island}
 use Rattle.mst_diff.specs.changes.Subjects.{all_trees}
 use Rattle.mst_diff.specs.Reach.{has_any}
+use Rattle.mst_slips.specs.Seen.{seen_first}
 use Rattle.mst_summary.specs.declared.roots.Follower.{Follower}
 use Rattle.mst_summary.specs.declared.counts.Counts.{Counts}
 use Rattle.mst_summary.specs.Blocked.{is_blocked, blocked_row}
@@ -33,10 +31,6 @@ seen_used v tree = list_any (λ b. seen_has v tree b.bridge.number) v.bridges
 
 abbrev pub seen_trees : Viewed → List ℕ
 seen_trees v = filter (seen_used v) all_trees
-
--- a bridge is the first of its region, whose identifier has its MAC then
-abbrev pub seen_first : List (ℕ × ℕ) → BridgeInView → Bool
-seen_first classes b = option_map_or (λ region. region == bridge_id 0 0 b.bridge.mac) (lookup (nat_eq b.bridge.number) classes) false
 
 abbrev pub seen_counts : Viewed → List (ℕ × ℕ) → List ℕ → Counts
 seen_counts v classes trees = record {

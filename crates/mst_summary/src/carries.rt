@@ -1,22 +1,23 @@
-ghost use Rattle.std.specs.Prelude.{◌≡◌, ◌++◌, ◌∷◌, [], ◌+◌, ◌<◌, ℕ, List, filter, length, vec_len, IfOk, OnOk};
+ghost use Rattle.std.specs.Prelude.{◌≡◌, ◌++◌, ◌∷◌, [], ◌+◌, ◌<◌, ℕ, List, length, vec_len, IfOk, OnOk};
 ghost use Rattle.std.specs.List.{All, AllZip, flat_map};
 ghost use Rattle.mst_rows.specs.Rows.{Row};
 ghost use Rattle.mst_diff.specs.trees.Settled.{outcome_of};
-ghost use Rattle.mst_diff.specs.plan_text.Bodies.{NumberEach};
 ghost use Rattle.mst_summary.specs.Carries.{all_carries, are_all as all_vids_are, carried as carried_over, carries_row, carries_rows, full_carries, full_of, full_rows};
-ghost use Rattle.mst_summary.specs.Kept.{AreClasses, flag_at, kept_at};
+ghost use Rattle.mst_slips.specs.Kept.{kept_at};
+ghost use Rattle.mst_summary.specs.Kept.{AreClasses};
 ghost use Rattle.mst_summary.specs.Seen.{seen_on, seen_over};
 
 use crate::joining::joining_lans;
-use crate::kept::{kept_for, ports_by_lan};
+use crate::kept::ports_by_lan;
 use crate::over::goes_over;
 use indexmap::IndexMap;
-use mst_diff::{Settled, set_of, vids};
+use mst_diff::{Settled, flagged, set_of, vids};
 use mst_graph::Numbering;
 use mst_ids::{Name, Vid, VidSet};
 use mst_kinds::{Kind, SummaryLine};
 use mst_lag::PortInView;
 use mst_rows::{Rows, Value, put};
+use mst_slips::kept_for;
 use std::alloc::{AllocError, Global};
 
 /// Whether the VIDs at these places, which are counted from 0, go over a logical LAN that has these ports.
@@ -36,25 +37,6 @@ fn flags_at(
         flags.push(goes_over(alloc, plan, vid, ports)?)?;
     }
     Ok(flags)
-}
-
-/// Those of these VIDs whose numbers have the flag. `AllocError`: memory was wanted and refused.
-pub fn flagged(
-    alloc: Global,
-    vids: &[Vid],
-    numbers: &[usize],
-    flags: &[bool],
-) -> Result<Vec<Vid>, AllocError>
-    requires { NumberEach numbers.now (length flags.now) }
-    ensures { IfOk result (λ flagged. flagged.items ≡ filter (flag_at numbers.now flags.now) vids.now) }
-{
-    let mut flagged = Vec::new(alloc);
-    for vid in vids {
-        if flags[numbers[usize::from(vid.value()) - 1]] {
-            flagged.push(*vid)?;
-        }
-    }
-    Ok(flagged)
 }
 
 /// The VIDs that go over a logical LAN, by the ports that are kept for each.

@@ -2,14 +2,16 @@ ghost use Rattle.std.specs.Prelude.{◌≡◌, ◌++◌, ◌∷◌, [], List, On
 ghost use Rattle.std.specs.List.{count_by};
 ghost use Rattle.mst_rows.specs.Rows.{Row};
 ghost use Rattle.mst_diff.specs.net.Seen.{bridge_row};
+ghost use Rattle.mst_slips.specs.Seen.{seen_first};
 ghost use Rattle.mst_summary.specs.Counts.{counts_row};
-ghost use Rattle.mst_summary.specs.Seen.{seen_first, seen_counts};
+ghost use Rattle.mst_summary.specs.Seen.{seen_counts};
 
 use mst_config::Regions;
-use mst_ids::{BridgeId, Tree};
+use mst_ids::Tree;
 use mst_kinds::{Kind, SummaryLine};
 use mst_lag::{BridgeInView, PortInView, View};
 use mst_rows::{Rows, Value, put};
+use mst_slips::is_first;
 use std::alloc::AllocError;
 
 /// How much there is of a network: bridges, those that are on, logical ports, those that are enabled, regions and trees.
@@ -38,16 +40,6 @@ fn count_enabled(ports: &[PortInView]) -> u64
     ensures { result ≡ count_by (λ p. p.is_enabled) ports.now }
 {
     ports.iter().filter(|port| port.is_enabled).count() as u64
-}
-
-/// Whether a bridge is the first of its region: the region's identifier has its MAC then.
-fn is_first(regions: &Regions, bridge: &BridgeInView) -> bool
-    ensures { result ≡ seen_first regions.now bridge.now }
-{
-    match regions.region(bridge.bridge.number) {
-        None => false,
-        Some(region) => region == BridgeId::of_region(bridge.bridge.mac),
-    }
 }
 
 /// How many of these bridges are the first of their regions.

@@ -3,28 +3,17 @@ ghost use Rattle.std.specs.List.{All, AllZip, flat_map};
 ghost use Rattle.mst_rows.specs.Rows.{Row};
 ghost use Rattle.mst_diff.specs.trees.Settled.{outcome_of};
 ghost use Rattle.mst_diff.specs.plan_text.Bodies.{NumberEach};
-ghost use Rattle.mst_diff.specs.Reach.{has_any};
 ghost use Rattle.mst_summary.specs.Kept.{AreClasses, count_at};
 ghost use Rattle.mst_summary.specs.Seen.{seen_with_bridge};
 ghost use Rattle.mst_summary.specs.Vlans.{HasIslands, islands_row, group_rows, AreVlanRows};
 
-use mst_diff::{Settled, set_of, vids};
+use mst_diff::{Settled, has_bridge, set_of, vids};
 use mst_graph::{Numbering, groups_by_body};
 use mst_ids::Vid;
 use mst_kinds::{Kind, SummaryLine};
 use mst_rows::{Rows, Value, put};
 use mst_vlan::{Island, active_ports, reach_from};
 use std::alloc::{AllocError, Global};
-
-/// Whether an island has a bridge.
-fn has_bridge(island: &Island) -> bool
-    ensures { result ≡ has_any island.now.bridges }
-{
-    match island.bridges.as_slice() {
-        [] => false,
-        [..] => true,
-    }
-}
 
 /// How many of these islands have a bridge.
 fn with_bridge(islands: &[Island]) -> u64

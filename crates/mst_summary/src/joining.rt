@@ -1,12 +1,12 @@
 ghost use Rattle.std.specs.Prelude.{◌≡◌, ℕ, List, IfOk, filter};
-ghost use Rattle.mst_summary.specs.Kept.{kept_at};
+ghost use Rattle.mst_slips.specs.Kept.{kept_at};
 ghost use Rattle.mst_summary.specs.Seen.{seen_joins, seen_joining_lans, seen_lans_up, seen_on};
 
-use crate::kept::kept_for;
 use crate::over::joins;
 use indexmap::IndexMap;
 use mst_ids::Name;
 use mst_lag::{PortInView, View};
+use mst_slips::kept_for;
 use std::alloc::{AllocError, Global};
 
 /// The logical LANs that are up.

@@ -31,7 +31,7 @@ use Rattle.mst_diff.proofs.changes_lemmas.Lists.{filter_map-map}
 use Rattle.mst_diff.specs.Seen.{seen_in_both, seen_both}
 use Rattle.mst_diff.proofs.Lists.{filter_map-filter_map, find-found}
 use Rattle.mst_diff.proofs.Named.{found_named, names_are}
-use Rattle.mst_diff.proofs.Reached.{AreTold}
+use Rattle.mst_diff.specs.Classes.{HasOnly}
 use Rattle.mst_net.proofs.Keys.{names}
 use Rattle.mst_sweep.specs.declared.parts.Stays.{Stays}
 use Rattle.mst_sweep.specs.Parts.{home, stays_at, staying, AreParts}
@@ -102,7 +102,7 @@ module _ (a b : Net) (n k : Numbers) (v w : Viewed) (f g : Forest) (of : AreOf a
       ∙ ap (filter_map (stays_at olds news)) (names_are a n v f of)
 
 -- ---- VIDs that the tables and the sets of the old network don't tell apart
-module _ (a b : Net) (n k : Numbers) (v w : Viewed) (f g : Forest) (of : AreOf a n v f.regions) (so : AreOf b k w g.regions) (left : AreLeft a b) (tables : List (List ℕ)) (sets : List (List Bool)) (told : AreTold v tables sets) where
+module _ (a b : Net) (n k : Numbers) (v w : Viewed) (f g : Forest) (of : AreOf a n v f.regions) (so : AreOf b k w g.regions) (left : AreLeft a b) (tables : List (List ℕ)) (sets : List (List Bool)) (told : HasOnly v tables sets) where
   settings : v.settings ≡ w.settings
   settings = of.view.settings ∙ left.settings ∙ sym so.view.settings
 
@@ -120,22 +120,22 @@ module _ (a b : Net) (n k : Numbers) (v w : Viewed) (f g : Forest) (of : AreOf a
   abbrev HasSet : ByTree → PortName → Type 0
   HasSet set port = Contains sets (vlans_in set.vlans port)
 
-  pub told_too : AreTold w tables sets
+  pub told_too : HasOnly w tables sets
   told_too = record {
-    tables =
+    tables_there =
         all_unmapped (HasTable w.settings) (λ (y : BridgeInView). y.name) w.bridges
         (subst (AllByRecursion (HasTable w.settings)) bridges
-        (subst (λ set. AllByRecursion (HasTable set) (map (λ (x : BridgeInView). x.name) v.bridges)) settings (all_mapped (HasTable v.settings) (λ (x : BridgeInView). x.name) v.bridges told.tables)));
-    sets =
+        (subst (λ set. AllByRecursion (HasTable set) (map (λ (x : BridgeInView). x.name) v.bridges)) settings (all_mapped (HasTable v.settings) (λ (x : BridgeInView). x.name) v.bridges told.tables_there)));
+    sets_there =
         all_unmapped (HasSet w.settings) (λ (y : PortInView). y.name) w.ports
-        (subst (AllByRecursion (HasSet w.settings)) ports (subst (λ set. AllByRecursion (HasSet set) (map (λ (x : PortInView). x.name) v.ports)) settings (all_mapped (HasSet v.settings) (λ (x : PortInView). x.name) v.ports told.sets)));
+        (subst (AllByRecursion (HasSet w.settings)) ports (subst (λ set. AllByRecursion (HasSet set) (map (λ (x : PortInView). x.name) v.ports)) settings (all_mapped (HasSet v.settings) (λ (x : PortInView). x.name) v.ports told.sets_there)));
   }
 
   pub parts_moved : (o p : Outcome) (x y : ℕ) → AreAlike tables sets x y → (parts : List (List (List ℕ))) → AreParts a o b p x parts → AreParts a o b p y parts
   parts_moved o p x y alike parts s = (
     s.0,
     s.1,
-    subst (λ ks. AreIslands (bridges_on a) (lans_up a) ks s.0) (links_shared a n v f of o tables sets told.tables told.sets x y alike) s.2,
-    subst (λ ks. AreIslands (bridges_on b) (lans_up b) ks s.1) (links_shared b k w g so p tables sets told_too.tables told_too.sets x y alike) s.3,
+    subst (λ ks. AreIslands (bridges_on a) (lans_up a) ks s.0) (links_shared a n v f of o tables sets told.tables_there told.sets_there x y alike) s.2,
+    subst (λ ks. AreIslands (bridges_on b) (lans_up b) ks s.1) (links_shared b k w g so p tables sets told_too.tables_there told_too.sets_there x y alike) s.3,
     s.4,
   )

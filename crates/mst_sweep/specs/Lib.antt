@@ -1,3 +1,4 @@
+pub mod Between
 pub mod Failures
 pub mod Left
 pub mod Moved

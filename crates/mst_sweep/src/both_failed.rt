@@ -2,20 +2,18 @@ ghost use Rattle.std.specs.Prelude.{◌≡◌, ◌++◌, ◌<◌, ◌||◌, fals
 ghost use Rattle.std.specs.Bool.{MatchBool};
 ghost use Rattle.mst_ids.specs.Vids.{runs_from};
 ghost use Rattle.mst_rows.specs.Rows.{Row};
-ghost use Rattle.mst_net.specs.Tables.{Net, Numbers};
-ghost use Rattle.mst_diff.specs.trees.Agrees.{AreOf, Known};
-ghost use Rattle.mst_diff.specs.trees.Forest.{IsForest};
-ghost use Rattle.mst_diff.specs.trees.Outcome.{Outcome};
+ghost use Rattle.mst_diff.specs.trees.Agrees.{Known};
 ghost use Rattle.mst_diff.specs.plan_text.Bodies.{NumberEach};
 ghost use Rattle.mst_diff.specs.Reach.{has_any};
 ghost use Rattle.mst_diff.specs.Seen.{seen_both};
+ghost use Rattle.mst_sweep.specs.Between.{OfNetworks, OfPair, pair_of};
 ghost use Rattle.mst_sweep.specs.Baseline.{IsBaseline};
 ghost use Rattle.mst_sweep.specs.Parts.{AreParts};
 ghost use Rattle.mst_sweep.specs.CutClasses.{AreCutClasses, ArePartsBut};
 ghost use Rattle.mst_sweep.specs.Left.{AreLeft};
 ghost use Rattle.mst_sweep.specs.Cuts.{names_of, rows_of};
 ghost use Rattle.mst_sweep.specs.declared.cuts.CutBy.TheVariants.{Both as BothOf};
-ghost use Rattle.mst_sweep.specs.Pairs.{failed, pair_row, pair_rows, pairs_row, ArePairRows};
+ghost use Rattle.mst_sweep.specs.Pairs.{pair_row, pair_rows, pairs_row, ArePairRows};
 ghost use Rattle.mst_sweep.specs.Touched.{AreWhereTouched};
 
 use crate::baseline::Baseline;
@@ -64,8 +62,7 @@ pub fn cut_classes(
 ) -> Result<Vec<bool>, AllocError>
     requires new { Known new.now.view.now new.now.forest.now.regions }
     requires baseline { IsBaseline old.now.view.now old.now.forest.now baseline.now }
-    ensures { IfOk result (λ flags. (a b : Net) (n k : Numbers) (is : IsForest a n old.now.forest.now) (are : IsForest b k new.now.forest.now) → AreOf a n old.now.view.now old.now.forest.now.regions → AreOf b k new.now.view.now new.now.forest.now.regions
-        → AreLeft a b → AreCutClasses a is.outcome b are.outcome baseline.now.classes flags.items) }
+    ensures { IfOk result (λ flags. OfNetworks old.now new.now (λ a before b afterwards. AreLeft a b → AreCutClasses a before b afterwards baseline.now.classes flags.items)) }
 {
     let both = pairs(alloc, old, new)?;
     let places = where_touched(alloc, old, new)?;
@@ -96,8 +93,8 @@ fn parts_unless(
     requires touched { AreWhereTouched old.now.view.now old.now.forest.now new.now.view.now new.now.forest.now touched.now }
     requires baseline { IsBaseline old.now.view.now old.now.forest.now baseline.now }
     requires there { class < length baseline.now.classes.firsts.items }
-    ensures { IfOk result (λ parts. (a b : Net) (n k : Numbers) (is : IsForest a n old.now.forest.now) (are : IsForest b k new.now.forest.now) → AreOf a n old.now.view.now old.now.forest.now.regions → AreOf b k new.now.view.now new.now.forest.now.regions
-        → AreLeft a b → MatchBool flag (names_of parts ≡ []) (AreParts a is.outcome b are.outcome (slice_index baseline.now.classes.firsts.items class + 1) (names_of parts))) }
+    ensures { IfOk result (λ parts. OfNetworks old.now new.now (λ a before b afterwards.
+        AreLeft a b → MatchBool flag (names_of parts ≡ []) (AreParts a before b afterwards (slice_index baseline.now.classes.firsts.items class + 1) (names_of parts)))) }
 {
     if flag {
         return Ok(Vec::new(alloc));
@@ -128,8 +125,8 @@ fn parts_but(
     requires one { length one.now ≡ length baseline.now.classes.firsts.items }
     requires other { length other.now ≡ length baseline.now.classes.firsts.items }
     ensures as_long { IfOk result (λ parts. vec_len parts ≡ length baseline.now.classes.firsts.items) }
-    ensures parts { IfOk result (λ parts. (a b : Net) (n k : Numbers) (is : IsForest a n old.now.forest.now) (are : IsForest b k new.now.forest.now) → AreOf a n old.now.view.now old.now.forest.now.regions → AreOf b k new.now.view.now new.now.forest.now.regions
-        → AreLeft a b → ArePartsBut a is.outcome b are.outcome baseline.now.classes.firsts.items one.now other.now (map names_of parts.items)) }
+    ensures parts { IfOk result (λ parts. OfNetworks old.now new.now (λ a before b afterwards.
+        AreLeft a b → ArePartsBut a before b afterwards baseline.now.classes.firsts.items one.now other.now (map names_of parts.items))) }
 {
     let both = pairs(alloc, old, new)?;
     let places = where_touched(alloc, old, new)?;
@@ -215,12 +212,8 @@ pub fn put_pair<R: Rows>(
     requires baseline { IsBaseline old.now.view.now old.now.forest.now baseline.now }
     requires first { length first.now.cuts.items ≡ length baseline.now.classes.firsts.items }
     requires second { length second.now.cuts.items ≡ length baseline.now.classes.firsts.items }
-    ensures { IfOk result (λ cuts. (net : Net) (n : Numbers) (is : IsForest net n old.now.forest.now) (are : IsForest (failed (first.now.failure ∷ second.now.failure ∷ []) net) n new.now.forest.now) (one other : Outcome) → AreOf net n old.now.view.now old.now.forest.now.regions
-        → AreOf (failed (first.now.failure ∷ second.now.failure ∷ []) net) n new.now.view.now new.now.forest.now.regions
-        → AreCutClasses net is.outcome (failed (first.now.failure ∷ []) net) one baseline.now.classes first.now.cuts.items
-        → AreCutClasses net is.outcome (failed (second.now.failure ∷ []) net) other baseline.now.classes second.now.cuts.items
-        → (pair : List Row) × ArePairRows net (record { first = first.now.failure; second = second.now.failure }) (record { none = is.outcome; first = one; second = other; both = are.outcome }) pair cuts
-        × ((grown : R) (rows : List Row) → R.grew grown out.old rows → R.grew grown out.new (rows ++ pair))) }
+    ensures { IfOk result (λ cuts. OfPair old.now new.now first.now second.now baseline.now.classes (λ net outcomes.
+        (pair : List Row) × ArePairRows net (pair_of first.now second.now) outcomes pair cuts × ((grown : R) (rows : List Row) → R.grew grown out.old rows → R.grew grown out.new (rows ++ pair)))) }
 {
     let one = first.cuts.as_slice();
     let other = second.cuts.as_slice();

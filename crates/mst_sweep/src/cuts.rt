@@ -2,12 +2,11 @@ ghost use Rattle.std.specs.Prelude.{◌≡◌, ◌<◌, ◌+◌, ◌++◌, ◌�
 ghost use Rattle.std.specs.List.{AllZip, flat_map, list_any};
 ghost use Rattle.mst_ids.specs.Vids.{runs_from};
 ghost use Rattle.mst_rows.specs.Rows.{Row};
-ghost use Rattle.mst_net.specs.Tables.{Net, Numbers};
-ghost use Rattle.mst_diff.specs.trees.Agrees.{AreOf, Known};
-ghost use Rattle.mst_diff.specs.trees.Forest.{IsForest};
+ghost use Rattle.mst_diff.specs.trees.Agrees.{Known};
 ghost use Rattle.mst_diff.specs.plan_text.Bodies.{NumberEach};
 ghost use Rattle.mst_diff.specs.Reach.{has_any};
 ghost use Rattle.mst_diff.specs.Seen.{seen_both};
+ghost use Rattle.mst_sweep.specs.Between.{OfNetworks, OfNumbered};
 ghost use Rattle.mst_sweep.specs.Left.{AreLeft};
 ghost use Rattle.mst_sweep.specs.Parts.{AreParts};
 ghost use Rattle.mst_sweep.specs.Cuts.{cut_row, group_row, group_rows, names_of, parts_at as parts_of_vid, rows_of, AreCuts, AreCutsBy};
@@ -66,8 +65,8 @@ fn parts(
 ) -> Result<Vec<Vec<Name>>, AllocError>
     requires new { Known new.now.view.now new.now.forest.now.regions }
     requires both { both.now ≡ seen_both old.now.view.now new.now.view.now }
-    ensures { IfOk result (λ parts. (a b : Net) (n k : Numbers) (is : IsForest a n old.now.forest.now) (are : IsForest b k new.now.forest.now) → AreOf a n old.now.view.now old.now.forest.now.regions → AreOf b k new.now.view.now new.now.forest.now.regions
-        → AreHomes a n is.outcome vid homes.now.entries → AreParts a is.outcome b are.outcome vid (names_of parts)) }
+    ensures { IfOk result (λ parts. OfNumbered old.now new.now (λ a n before b k afterwards.
+        AreHomes a n before vid homes.now.entries → AreParts a before b afterwards vid (names_of parts))) }
 {
     let news = homes_of(alloc, new, vid)?;
     let all = staying(alloc, homes, &news, both)?;
@@ -87,8 +86,8 @@ fn parts_if_cut(
     requires new { Known new.now.view.now new.now.forest.now.regions }
     requires both { both.now ≡ seen_both old.now.view.now new.now.view.now }
     requires touched { AreWhereTouched old.now.view.now old.now.forest.now new.now.view.now new.now.forest.now touched.now }
-    ensures { IfOk result (λ parts. (a b : Net) (n k : Numbers) (is : IsForest a n old.now.forest.now) (are : IsForest b k new.now.forest.now) → AreOf a n old.now.view.now old.now.forest.now.regions → AreOf b k new.now.view.now new.now.forest.now.regions
-        → AreLeft a b → AreHomes a n is.outcome vid homes.now.entries → AreParts a is.outcome b are.outcome vid (names_of parts)) }
+    ensures { IfOk result (λ parts. OfNumbered old.now new.now (λ a n before b k afterwards.
+        AreLeft a b → AreHomes a n before vid homes.now.entries → AreParts a before b afterwards vid (names_of parts))) }
 {
     islands_of_vid();
     if breaks_no_link(old, new, vid, touched) {
@@ -112,8 +111,8 @@ pub(crate) fn parts_at(
     requires touched { AreWhereTouched old.now.view.now old.now.forest.now new.now.view.now new.now.forest.now touched.now }
     requires baseline { IsBaseline old.now.view.now old.now.forest.now baseline.now }
     requires there { class < length baseline.now.classes.firsts.items }
-    ensures { IfOk result (λ parts. (a b : Net) (n k : Numbers) (is : IsForest a n old.now.forest.now) (are : IsForest b k new.now.forest.now) → AreOf a n old.now.view.now old.now.forest.now.regions → AreOf b k new.now.view.now new.now.forest.now.regions
-        → AreLeft a b → AreParts a is.outcome b are.outcome (slice_index baseline.now.classes.firsts.items class + 1) (names_of parts)) }
+    ensures { IfOk result (λ parts. OfNetworks old.now new.now (λ a before b afterwards.
+        AreLeft a b → AreParts a before b afterwards (slice_index baseline.now.classes.firsts.items class + 1) (names_of parts))) }
 {
     let firsts = baseline.classes.firsts.as_slice();
     let homes = baseline.homes.as_slice();
@@ -135,8 +134,8 @@ pub(crate) fn parts_of_firsts(
     requires touched { AreWhereTouched old.now.view.now old.now.forest.now new.now.view.now new.now.forest.now touched.now }
     requires baseline { IsBaseline old.now.view.now old.now.forest.now baseline.now }
     ensures as_long { IfOk result (λ parts. vec_len parts ≡ length baseline.now.classes.firsts.items) }
-    ensures parts { IfOk result (λ parts. (a b : Net) (n k : Numbers) (is : IsForest a n old.now.forest.now) (are : IsForest b k new.now.forest.now) → AreOf a n old.now.view.now old.now.forest.now.regions → AreOf b k new.now.view.now new.now.forest.now.regions
-        → AreLeft a b → AllZip (λ place parts. AreParts a is.outcome b are.outcome (place + 1) parts) baseline.now.classes.firsts.items (map names_of parts.items)) }
+    ensures parts { IfOk result (λ parts. OfNetworks old.now new.now (λ a before b afterwards.
+        AreLeft a b → AllZip (λ place parts. AreParts a before b afterwards (place + 1) parts) baseline.now.classes.firsts.items (map names_of parts.items))) }
 {
     let mut parts = Vec::new(alloc);
     for class in 0..baseline.classes.firsts.len() {
@@ -419,8 +418,8 @@ pub(crate) fn cuts_by_failure(
     requires touched { AreWhereTouched old.now.view.now old.now.forest.now new.now.view.now new.now.forest.now touched.now }
     requires baseline { IsBaseline old.now.view.now old.now.forest.now baseline.now }
     ensures numbered { IfOk result (λ cuts. NumberEach baseline.now.classes.numbers.items (vec_len cuts.parts)) }
-    ensures cut { IfOk result (λ cuts. (a b : Net) (n k : Numbers) (is : IsForest a n old.now.forest.now) (are : IsForest b k new.now.forest.now) → AreOf a n old.now.view.now old.now.forest.now.regions → AreOf b k new.now.view.now new.now.forest.now.regions
-        → AreLeft a b → (failure : FailureOf) → AreCuts a is.outcome b are.outcome failure cuts.vids.items (rows_of (OneOf failure) baseline.now.classes.numbers.items cuts)) }
+    ensures cut { IfOk result (λ cuts. OfNetworks old.now new.now (λ a before b afterwards.
+        AreLeft a b → (failure : FailureOf) → AreCuts a before b afterwards failure cuts.vids.items (rows_of (OneOf failure) baseline.now.classes.numbers.items cuts))) }
 {
     let parts = parts_of_firsts(alloc, old, new, baseline, both, touched)?;
     cuts_of(alloc, &baseline.classes, parts)

@@ -26,6 +26,7 @@ pub use failing::Failing;
 pub use failure::{Failure, failures};
 pub use homes::homes_of;
 pub use parts::{Stays, all_parts, staying};
+pub use ports::changes_role;
 pub use roots::moved_roots;
 pub use sweep::{put_failure, put_last};
 pub use sweep_part::SweepPart;

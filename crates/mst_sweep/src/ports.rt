@@ -2,12 +2,11 @@ ghost use Rattle.std.specs.Prelude.{◌≡◌, ◌≤◌, ◌<◌, ◌∷◌, Ok
 ghost use Rattle.std.specs.List.{Contains, count_by};
 ghost use Rattle.mst_ids.specs.declared.name.PortName.{PortName};
 ghost use Rattle.mst_net.specs.After.{after};
-ghost use Rattle.mst_net.specs.Tables.{Net, Numbers};
-ghost use Rattle.mst_diff.specs.trees.Agrees.{AreOf, Known};
-ghost use Rattle.mst_diff.specs.trees.Forest.{IsForest};
+ghost use Rattle.mst_diff.specs.trees.Agrees.{Known};
 ghost use Rattle.mst_diff.specs.trees.InUse.{AreInUse, seen_mstis};
 ghost use Rattle.mst_diff.specs.changes.Subjects.{port_names};
 ghost use Rattle.mst_diff.specs.changes.Values.{role_number};
+ghost use Rattle.mst_sweep.specs.Between.{OfNetworks};
 ghost use Rattle.mst_sweep.specs.declared.failure.Failure.{Failure as FailureOf};
 ghost use Rattle.mst_sweep.specs.Failures.{edit_of};
 ghost use Rattle.mst_sweep.specs.Moved.{takes_part as takes, is_other_role, port_moved as port_moved_in, moved_ports as all_moved_ports};
@@ -26,7 +25,7 @@ fn takes_part(role: Role) -> bool
 }
 
 /// Whether there are two roles other than Disabled that aren't the same.
-fn is_other(old: Option<Role>, new: Option<Role>) -> bool
+pub fn changes_role(old: Option<Role>, new: Option<Role>) -> bool
     ensures { result ≡ is_other_role old new }
 {
     match (old, new) {
@@ -47,14 +46,14 @@ fn port_moved(
 {
     let old_role = port_role(old.view, old.forest, before, tree);
     let new_role = port_role(new.view, new.forest, afterwards, tree);
-    is_other(old_role, new_role)
+    changes_role(old_role, new_role)
 }
 
 /// Whether the port at a place has another role in a tree afterwards. A failure leaves all ports in their places.
 fn role_moved_at(old: &Planned, new: &Planned, tree: Tree, place: usize) -> bool
     requires { place < length old.now.view.now.ports }
-    ensures { (failure : FailureOf) (a b : Net) (n k : Numbers) (is : IsForest a n old.now.forest.now) (are : IsForest b k new.now.forest.now) → AreOf a n old.now.view.now old.now.forest.now.regions → AreOf b k new.now.view.now new.now.forest.now.regions
-        → after (edit_of failure) a ≡ Ok b → (name : PortName) → slice_index_or (port_names a) place name ≡ name → result ≡ port_moved_in a is.outcome b are.outcome tree name }
+    ensures { (failure : FailureOf) → OfNetworks old.now new.now (λ a before b afterwards.
+        after (edit_of failure) a ≡ Ok b → (name : PortName) → slice_index_or (port_names a) place name ≡ name → result ≡ port_moved_in a before b afterwards tree name) }
 {
     let Some(afterwards) = new.view.ports().get(place) else {
         return false;
@@ -69,8 +68,8 @@ fn moved_at(old: &Planned, new: &Planned, tree: Tree, touched: &[bool], place: u
     requires tree { Contains (0 ∷ seen_mstis old.now.view.now) tree }
     requires as_long { length touched.now ≡ length old.now.view.now.ports }
     requires touched { AreTouched old.now.view.now old.now.forest.now new.now.view.now new.now.forest.now touched.now }
-    ensures { (failure : FailureOf) (a b : Net) (n k : Numbers) (is : IsForest a n old.now.forest.now) (are : IsForest b k new.now.forest.now) → AreOf a n old.now.view.now old.now.forest.now.regions → AreOf b k new.now.view.now new.now.forest.now.regions
-        → after (edit_of failure) a ≡ Ok b → (name : PortName) → slice_index_or (port_names a) place name ≡ name → result ≡ port_moved_in a is.outcome b are.outcome tree name }
+    ensures { (failure : FailureOf) → OfNetworks old.now new.now (λ a before b afterwards.
+        after (edit_of failure) a ≡ Ok b → (name : PortName) → slice_index_or (port_names a) place name ≡ name → result ≡ port_moved_in a before b afterwards tree name) }
 {
     if touched[place] {
         role_moved_at(old, new, tree, place)
@@ -85,8 +84,8 @@ fn moved_in(old: &Planned, new: &Planned, tree: Tree, touched: &[bool]) -> u64
     requires as_long { length touched.now ≡ length old.now.view.now.ports }
     requires touched { AreTouched old.now.view.now old.now.forest.now new.now.view.now new.now.forest.now touched.now }
     ensures few { result ≤ length old.now.view.now.ports }
-    ensures moved { (failure : FailureOf) (a b : Net) (n k : Numbers) (is : IsForest a n old.now.forest.now) (are : IsForest b k new.now.forest.now) → AreOf a n old.now.view.now old.now.forest.now.regions → AreOf b k new.now.view.now new.now.forest.now.regions
-        → after (edit_of failure) a ≡ Ok b → result ≡ count_by (port_moved_in a is.outcome b are.outcome tree) (port_names a) }
+    ensures moved { (failure : FailureOf) → OfNetworks old.now new.now (λ a before b afterwards.
+        after (edit_of failure) a ≡ Ok b → result ≡ count_by (port_moved_in a before b afterwards tree) (port_names a)) }
 {
     let mut count = 0;
     for place in 0..old.view.ports().len() {
@@ -110,8 +109,8 @@ fn moved_in_tree(
     requires as_long { length touched.now ≡ length old.now.view.now.ports }
     requires touched { AreTouched old.now.view.now old.now.forest.now new.now.view.now new.now.forest.now touched.now }
     ensures few { result ≤ 16384 }
-    ensures moved { (failure : FailureOf) (a b : Net) (n k : Numbers) (is : IsForest a n old.now.forest.now) (are : IsForest b k new.now.forest.now) → AreOf a n old.now.view.now old.now.forest.now.regions → AreOf b k new.now.view.now new.now.forest.now.regions
-        → after (edit_of failure) a ≡ Ok b → result ≡ count_by (port_moved_in a is.outcome b are.outcome tree) (port_names a) }
+    ensures moved { (failure : FailureOf) → OfNetworks old.now new.now (λ a before b afterwards.
+        after (edit_of failure) a ≡ Ok b → result ≡ count_by (port_moved_in a before b afterwards tree) (port_names a)) }
 {
     if !is_had(used, tree) {
         return 0;
@@ -128,8 +127,7 @@ pub(crate) fn moved_ports(old: &Planned, new: &Planned, touched: &[bool]) -> u64
     requires known { Known old.now.view.now old.now.forest.now.regions }
     requires as_long { length touched.now ≡ length old.now.view.now.ports }
     requires touched { AreTouched old.now.view.now old.now.forest.now new.now.view.now new.now.forest.now touched.now }
-    ensures { (failure : FailureOf) (a b : Net) (n k : Numbers) (is : IsForest a n old.now.forest.now) (are : IsForest b k new.now.forest.now) → AreOf a n old.now.view.now old.now.forest.now.regions → AreOf b k new.now.view.now new.now.forest.now.regions
-        → after (edit_of failure) a ≡ Ok b → result ≡ all_moved_ports a is.outcome b are.outcome }
+    ensures { (failure : FailureOf) → OfNetworks old.now new.now (λ a before b afterwards. after (edit_of failure) a ≡ Ok b → result ≡ all_moved_ports a before b afterwards) }
 {
     let used = trees_in_use(old.view);
     let mut count = 0;

@@ -1,11 +1,9 @@
 ghost use Rattle.std.specs.Prelude.{◌≡◌, IfOk};
 ghost use Rattle.std.specs.List.{list_any};
-ghost use Rattle.mst_net.specs.Tables.{Net, Numbers};
-ghost use Rattle.mst_diff.specs.trees.Agrees.{AreOf};
-ghost use Rattle.mst_diff.specs.trees.Forest.{IsForest};
 ghost use Rattle.mst_diff.specs.trees.InUse.{AreInUse};
 ghost use Rattle.mst_diff.specs.changes.Subjects.{bridge_names};
 ghost use Rattle.mst_diff.specs.Seen.{seen_both};
+ghost use Rattle.mst_sweep.specs.Between.{OfNetworks};
 ghost use Rattle.mst_sweep.specs.Moved.{is_other_root, root_moved as root_moved_in, moved_roots as all_moved_roots};
 ghost use Rattle.mst_sweep.specs.Seen.{seen_root_moved};
 
@@ -43,8 +41,7 @@ fn any_moved(old: &Planned, new: &Planned, tree: Tree, both: &[Both]) -> bool
 fn tree_moved(old: &Planned, new: &Planned, used: &[bool; 4095], tree: Tree, both: &[Both]) -> bool
     requires used { AreInUse old.now.view.now used.now }
     requires both { both.now ≡ seen_both old.now.view.now new.now.view.now }
-    ensures { (a b : Net) (n k : Numbers) (is : IsForest a n old.now.forest.now) (are : IsForest b k new.now.forest.now) → AreOf a n old.now.view.now old.now.forest.now.regions → AreOf b k new.now.view.now new.now.forest.now.regions
-        → result ≡ list_any (root_moved_in a is.outcome b are.outcome tree) (bridge_names a) }
+    ensures { OfNetworks old.now new.now (λ a before b afterwards. result ≡ list_any (root_moved_in a before b afterwards tree) (bridge_names a)) }
 {
     if !is_had(used, tree) {
         return false;
@@ -63,8 +60,7 @@ pub fn moved_roots(
     both: &[Both],
 ) -> Result<Vec<Tree>, AllocError>
     requires { both.now ≡ seen_both old.now.view.now new.now.view.now }
-    ensures { IfOk result (λ trees. (a b : Net) (n k : Numbers) (is : IsForest a n old.now.forest.now) (are : IsForest b k new.now.forest.now) → AreOf a n old.now.view.now old.now.forest.now.regions → AreOf b k new.now.view.now new.now.forest.now.regions
-        → trees.items ≡ all_moved_roots a is.outcome b are.outcome) }
+    ensures { IfOk result (λ trees. OfNetworks old.now new.now (λ a before b afterwards. trees.items ≡ all_moved_roots a before b afterwards)) }
 {
     let used = trees_in_use(old.view);
     let mut trees = Vec::new(alloc);

@@ -3,9 +3,8 @@ ghost use Rattle.std.specs.List.{count_by};
 ghost use Rattle.mst_ids.specs.Vids.{runs_from};
 ghost use Rattle.mst_rows.specs.Rows.{Row};
 ghost use Rattle.mst_net.specs.After.{after};
-ghost use Rattle.mst_net.specs.Tables.{Net, Numbers};
-ghost use Rattle.mst_diff.specs.trees.Agrees.{AreOf, Known};
-ghost use Rattle.mst_diff.specs.trees.Forest.{IsForest};
+ghost use Rattle.mst_diff.specs.trees.Agrees.{Known};
+ghost use Rattle.mst_sweep.specs.Between.{OfNetworks};
 ghost use Rattle.mst_sweep.specs.Failures.{edit_of};
 ghost use Rattle.mst_sweep.specs.Baseline.{IsBaseline};
 ghost use Rattle.mst_sweep.specs.SweepText.{failure_row, AreFailureRows, is_lan as is_lan_of, is_bridge as is_bridge_of, sweep_row};
@@ -98,9 +97,9 @@ pub fn put_failure<R: Rows>(
     requires old { Known old.now.view.now old.now.forest.now.regions }
     requires new { Known new.now.view.now new.now.forest.now.regions }
     requires baseline { IsBaseline old.now.view.now old.now.forest.now baseline.now }
-    ensures { IfOk result (λ cuts. (a b : Net) (n k : Numbers) (is : IsForest a n old.now.forest.now) (are : IsForest b k new.now.forest.now) → AreOf a n old.now.view.now old.now.forest.now.regions → AreOf b k new.now.view.now new.now.forest.now.regions
-        → after (edit_of failure.now) a ≡ Ok b → (failed : List Row) × AreFailureRows a is.outcome b are.outcome failure.now failed cuts
-        × ((first : R) (rows : List Row) → R.grew first out.old rows → R.grew first out.new (rows ++ failed))) }
+    ensures { IfOk result (λ cuts. OfNetworks old.now new.now (λ a before b afterwards.
+        after (edit_of failure.now) a ≡ Ok b → (failed : List Row) × AreFailureRows a before b afterwards failure.now failed cuts
+        × ((first : R) (rows : List Row) → R.grew first out.old rows → R.grew first out.new (rows ++ failed)))) }
 {
     let both = pairs(alloc, old, new)?;
     let roots = moved_roots(alloc, old, new, both.as_slice())?;

@@ -13,7 +13,8 @@ use Rattle.mst_summary.specs.plan_text.Bodies.{NumberEach}
 use Rattle.mst_summary.specs.plan_text.PlanText.{all_vids}
 use Rattle.mst_summary.specs.trees.Outcome.{Outcome}
 use Rattle.mst_summary.specs.trees.Settled.{SettledNet, IsSettledNet, outcome_of}
-use Rattle.mst_summary.specs.Kept.{AreClasses, flag_at}
+use Rattle.mst_summary.specs.Kept.{AreClasses}
+use Rattle.mst_summary.specs.diff.Classes.{flag_at}
 use Rattle.mst_summary.proofs.plan_text_lemmas.Classes.{links_shared, numbers_below}
 use Rattle.mst_summary.proofs.plan_text_lemmas.Grouped.{vid_place}
 use Rattle.mst_sweep.specs.Cuts.{parts_at}

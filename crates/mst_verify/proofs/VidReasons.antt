@@ -10,7 +10,8 @@ use Rattle.mst_lag.specs.Viewed.{Viewed}
 use Rattle.mst_summary.specs.plan_text.Alike.{AreAlike}
 use Rattle.mst_summary.specs.plan_text.Bodies.{NumberEach}
 use Rattle.mst_summary.specs.plan_text.PlanText.{all_vids}
-use Rattle.mst_summary.specs.Kept.{AreClasses, flag_at}
+use Rattle.mst_summary.specs.Kept.{AreClasses}
+use Rattle.mst_summary.specs.diff.Classes.{flag_at}
 use Rattle.mst_sweep.specs.Cuts.{names_of, parts_at}
 use Rattle.mst_verify.specs.Islands.{AreOfClasses}
 use Rattle.mst_verify.specs.Named.{vids_in}

@@ -38,6 +38,6 @@ pub use judged::Judged;
 pub use lacking::{Missing, missing_in};
 pub use lists::{BridgeNames, Parts, PortNames, Word};
 pub use reason::Reason;
-pub use roots::followers;
+pub use roots::{all_but, bridge_named, followers};
 pub use told::{put_reason, put_verified};
 pub use why::reasons;

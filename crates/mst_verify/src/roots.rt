@@ -22,7 +22,7 @@ use mst_summary::{Follower, Settled, as_follower, bridge_id, least};
 use std::alloc::{AllocError, Global};
 
 /// The bridge of a name.
-fn bridge_named<'a>(plan: &'a Settled, name: &Name) -> Option<&'a BridgeInView>
+pub fn bridge_named<'a>(plan: &'a Settled, name: &Name) -> Option<&'a BridgeInView>
     ensures { option_copied result ≡ find (λ b. same_name b.name name.now) plan.now.view.bridges }
 {
     plan.view()
@@ -169,7 +169,11 @@ fn others(
 }
 
 /// Those of these but the one of this name.
-fn but_root(alloc: Global, name: &Name, followers: &[Follower]) -> Result<Vec<Follower>, AllocError>
+pub fn all_but(
+    alloc: Global,
+    name: &Name,
+    followers: &[Follower],
+) -> Result<Vec<Follower>, AllocError>
     ensures { IfOk result (λ others. others.items ≡ filter (λ f. not (same_name f.name name.now)) followers.now) }
 {
     followers
@@ -183,7 +187,7 @@ fn but_root(alloc: Global, name: &Name, followers: &[Follower]) -> Result<Vec<Fo
 fn next(alloc: Global, name: &Name, followers: &[Follower]) -> Result<Option<Name>, AllocError>
     ensures { IfOk result (λ next. next ≡ option_map (λ f. f.name) (least_of (filter (λ f. not (same_name f.name name.now)) followers.now))) }
 {
-    let others = but_root(alloc, name, followers)?;
+    let others = all_but(alloc, name, followers)?;
     match least(others.as_slice()) {
         None => Ok(None),
         Some(next) => Ok(Some(next.name)),

@@ -1,6 +1,6 @@
 ghost use Rattle.std.specs.Prelude.{◌≡◌, ◌-◌, ◌<◌, ℕ, IfOk, length, map, slice_index, true};
 ghost use Rattle.std.specs.List.{All, Contains};
-ghost use Rattle.mst_summary.specs.Kept.{flag_at};
+ghost use Rattle.mst_summary.specs.diff.Classes.{flag_at};
 ghost use Rattle.mst_summary.specs.plan_text.Bodies.{NumberEach};
 ghost use Rattle.mst_verify.specs.Named.{vids_in};
 

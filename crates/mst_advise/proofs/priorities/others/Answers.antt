@@ -7,4 +7,4 @@ use Rattle.mst_advise.proofs.priorities.others.Goals as goal
 
 pub returns : goal.returns
 returns c =
-    IfOk-weaker c.but.result _ _ (λ those told. told ∙ ap (filter (λ (f : Follower). not (same_name f.name c.args.name.now))) (c.as_slice.ensures.value ∙ c.in_ok-followers.ensures)) c.but.ensures
+    IfOk-weaker c.all_but.result _ _ (λ those told. told ∙ ap (filter (λ (f : Follower). not (same_name f.name c.args.name.now))) (c.as_slice.ensures.value ∙ c.in_ok-followers.ensures)) c.all_but.ensures

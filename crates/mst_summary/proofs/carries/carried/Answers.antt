@@ -8,7 +8,7 @@ use Rattle.mst_diff.specs.trees.Settled.{outcome_of}
 use Rattle.mst_diff.specs.plan_text.PlanText.{all_vids}
 use Rattle.mst_diff.proofs.plan_text_lemmas.OnePlan.{is_vid_there}
 use Rattle.mst_summary.specs.Carries.{goes_over, carried}
-use Rattle.mst_summary.specs.Kept.{flag_at}
+use Rattle.mst_diff.specs.Classes.{flag_at}
 use Rattle.mst_summary.specs.Seen.{seen_on, seen_over}
 use Rattle.mst_summary.proofs.Named.{over_named}
 use Rattle.mst_summary.proofs.VidClasses.{AtPlaces, things_have, over_alike}

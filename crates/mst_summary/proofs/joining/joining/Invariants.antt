@@ -1,5 +1,5 @@
 use Rattle.std.proofs.Common.{◌≡◌, filter, take}
-use Rattle.mst_summary.specs.Kept.{kept_at}
+use Rattle.mst_slips.specs.Kept.{kept_at}
 use Rattle.mst_summary.specs.Seen.{seen_joins}
 use Rattle.mst_summary.proofs.joining.joining.Given as goal
 

@@ -1,5 +1,5 @@
 use Rattle.std.proofs.Common.{◌≡◌, ℕ, List, [], ◌∷◌, map, refl, sym, ap, subst, ◌∙◌}
-use Rattle.mst_diff.proofs.Reached.{AreTold}
+use Rattle.mst_diff.specs.Classes.{HasOnly}
 use Rattle.mst_diff.specs.Reach.{has_any}
 use Rattle.mst_sweep.specs.declared.cuts.CutBy.{CutBy}
 use Rattle.mst_sweep.specs.declared.cuts.CutBy.TheVariants.{Both}
@@ -32,7 +32,7 @@ returns g c net n is are one other of so first second =
     let flagged : ArePartsBut net is.outcome both are.outcome firsts c.args.first.now.cuts.items c.args.second.now.cuts.items each =
     subst (λ flags. ArePartsBut net is.outcome both are.outcome firsts c.args.first.now.cuts.items flags each) c.as_slice-other.ensures.value
     (subst (λ flags. ArePartsBut net is.outcome both are.outcome firsts flags c.as_slice-other.result.now each) c.as_slice-one.ensures.value made) in
-    let told_by : AreTold c.args.old.now.view.now s.tables s.sets = record { tables = s.have_tables; sets = s.have_sets } in
+    let told_by : HasOnly c.args.old.now.view.now s.tables s.sets = record { tables_there = s.have_tables; sets_there = s.have_sets } in
     let moved = parts_moved net both n n c.args.old.now.view.now c.args.new.now.view.now c.args.old.now.forest.now c.args.new.now.forest.now of so (failed_left (pair.first ∷ pair.second ∷ []) net) s.tables s.sets told_by is.outcome are.outcome in
     let have = pair_parts net pair outcomes s.tables s.sets s.numbers s.tell c.args.baseline.now.classes s.classes moved c.args.first.now.cuts.items c.args.second.now.cuts.items first second each flagged in
     let cuts = c.in_ok-cuts.cuts in

@@ -1,6 +1,6 @@
 use Rattle.std.proofs.Common.{◌≡◌, ℕ, List, map, sym, subst}
 use Rattle.std.proofs.lemmas.Result.{IfOk-weaker}
-use Rattle.mst_diff.proofs.Reached.{AreTold}
+use Rattle.mst_diff.specs.Classes.{HasOnly}
 use Rattle.mst_sweep.specs.declared.cuts.CutBy.TheVariants.{One}
 use Rattle.mst_sweep.specs.Cuts.{names_of, parts_at, rows_of}
 use Rattle.mst_sweep.specs.Parts.{AreParts}
@@ -26,6 +26,6 @@ returns-clause-cut c = IfOk-weaker c.cuts_of.result _ _
     let g = c.args.new.now.forest.now in
     let each : List (List (List (List ℕ))) = map names_of c.in_ok-parts.parts.items in
     let R : ℕ → List (List (List ℕ)) → Type 0 = AreParts a is.outcome b are.outcome in
-    let told_by : AreTold v s.tables s.sets = record { tables = s.have_tables; sets = s.have_sets } in
+    let told_by : HasOnly v s.tables s.sets = record { tables_there = s.have_tables; sets_there = s.have_sets } in
     let have = have_parts R s.tables s.sets (parts_moved a b n k v w f g of so left s.tables s.sets told_by is.outcome are.outcome) s.numbers classes firsts s.tell s.classes each (c.in_ok-parts.ensures.parts a b n k is are of so left) in
     cuts_too (λ vid parts. parts ≡ parts_at classes each vid) R (λ vid v parts e. subst (R vid) (sym e) (have vid v)) (One failure) cuts.vids.items (rows_of (One failure) classes cuts) (told (One failure))) c.cuts_of.ensures.cut

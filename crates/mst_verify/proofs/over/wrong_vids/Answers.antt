@@ -11,7 +11,7 @@ use Rattle.mst_summary.specs.plan_text.Bodies.{NumberEach}
 use Rattle.mst_summary.specs.plan_text.PlanText.{all_vids}
 use Rattle.mst_summary.proofs.plan_text_lemmas.Classes.{numbers_below}
 use Rattle.mst_summary.proofs.plan_text_lemmas.OnePlan.{is_vid_there}
-use Rattle.mst_summary.specs.Kept.{flag_at}
+use Rattle.mst_summary.specs.diff.Classes.{flag_at}
 use Rattle.mst_summary.specs.Seen.{seen_on, seen_over}
 use Rattle.mst_summary.proofs.VidClasses.{AtPlaces, things_have, over_alike}
 use Rattle.mst_verify.specs.Named.{vids_in}

@@ -1,7 +1,7 @@
 use Rattle.std.proofs.Common.{ℕ, Bool, List, subst}
 use Rattle.std.proofs.lemmas.Result.{IfOk-weaker}
-use Rattle.mst_diff.specs.plan_text.Alike.{TellApart}
-use Rattle.mst_steps.proofs.classes.classes_of_both.Goals as goal
+use Rattle.mst_plan_text.specs.Alike.{TellApart}
+use Rattle.mst_diff.proofs.classes.classes_of_both.Goals as goal
 
 pub returns-clause-classes : goal.returns-clause-classes
 returns-clause-classes c = IfOk-weaker c.number_keys.result _ _

@@ -1,6 +1,6 @@
 use Rattle.std.proofs.Common.{[], ◌∷◌, ◌++◌, ◌∙◌, ap}
 use Rattle.mst_slips.proofs.Added.{port_added}
-use Rattle.mst_slips.proofs.kept.add.Goals as goal
+use Rattle.mst_slips.proofs.kept.add_port.Goals as goal
 
 pub returns : goal.returns
 returns c =

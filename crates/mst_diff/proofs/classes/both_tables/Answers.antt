@@ -3,7 +3,7 @@ use Rattle.std.specs.List.{AllByRecursion, Contains}
 use Rattle.mst_net.specs.ByTree.{table_in}
 use Rattle.mst_lag.specs.declared.in_view.BridgeInView.{BridgeInView}
 use Rattle.mst_diff.proofs.Reached.{in_first, in_second}
-use Rattle.mst_steps.proofs.classes.both_tables.Goals as goal
+use Rattle.mst_diff.proofs.classes.both_tables.Goals as goal
 
 pub returns-clause-old : goal.returns-clause-old
 returns-clause-old c =

@@ -1,9 +1,0 @@
-use Rattle.std.proofs.Common.{[], ◌∷◌, ◌++◌, ◌∙◌, ap}
-use Rattle.mst_summary.proofs.Added.{port_added}
-use Rattle.mst_summary.proofs.kept.add.Goals as goal
-
-pub returns : goal.returns
-returns c =
-    let port = c.args.port.now in
-    port_added c.args.kept.now c.taken.new.kept c.insert.new.self port.lan port c.in_ok-ports.ports c.taken.ensures.gone c.in_ok-insert.ensures.updates.0
-    (c.in_ok-ports.ensures ∙ ap (λ t. t ++ port ∷ []) c.taken.ensures.kept)

@@ -1,0 +1,35 @@
+-- What is so of any two networks, by the plans of both.
+use Rattle.std.specs.Prelude.{[], ◌∷◌}
+use Rattle.mst_graph.specs.declared.keys.Numbering.{Numbering}
+use Rattle.mst_net.specs.Tables.{Net, Numbers}
+use Rattle.mst_diff.specs.changes.declared.ports.Planned.{Planned}
+use Rattle.mst_diff.specs.trees.Agrees.{AreOf}
+use Rattle.mst_diff.specs.trees.Forest.{IsForest}
+use Rattle.mst_diff.specs.trees.Outcome.{Outcome}
+use Rattle.mst_sweep.specs.CutClasses.{AreCutClasses}
+use Rattle.mst_sweep.specs.Pairs.{Pair, Outcomes, failed}
+use Rattle.mst_sweep.specs.declared.both_failed.Single.{Single}
+
+-- it is so of all networks that these plans are of, with the numbers of their records and their settled outcomes
+abbrev pub OfNumbered : Planned → Planned → (Net → Numbers → Outcome → Net → Numbers → Outcome → Type 0) → Type 0
+OfNumbered old new IsSo =
+    (a b : Net) (n k : Numbers) (is : IsForest a n old.forest.now) (are : IsForest b k new.forest.now)
+    → AreOf a n old.view.now old.forest.now.regions → AreOf b k new.view.now new.forest.now.regions → IsSo a n is.outcome b k are.outcome
+
+-- and whatever those numbers are
+abbrev pub OfNetworks : Planned → Planned → (Net → Outcome → Net → Outcome → Type 0) → Type 0
+OfNetworks old new IsSo = OfNumbered old new (λ a n before b k afterwards. IsSo a before b afterwards)
+
+-- two failures, each with what it cuts alone
+abbrev pub pair_of : Single → Single → Pair
+pair_of first second = record { first = first.failure; second = second.failure }
+
+-- it is so of any network of the first plan where the second is that of it with both failures, by outcomes with either in which these
+-- classes are cut
+abbrev pub OfPair : Planned → Planned → Single → Single → Numbering → (Net → Outcomes → Type 0) → Type 0
+OfPair old new first second classes IsSo =
+    (net : Net) (n : Numbers) (is : IsForest net n old.forest.now) (are : IsForest (failed (first.failure ∷ second.failure ∷ []) net) n new.forest.now) (one other : Outcome)
+    → AreOf net n old.view.now old.forest.now.regions → AreOf (failed (first.failure ∷ second.failure ∷ []) net) n new.view.now new.forest.now.regions
+    → AreCutClasses net is.outcome (failed (first.failure ∷ []) net) one classes first.cuts.items
+    → AreCutClasses net is.outcome (failed (second.failure ∷ []) net) other classes second.cuts.items
+    → IsSo net (record { none = is.outcome; first = one; second = other; both = are.outcome })
