@@ -442,6 +442,7 @@ first_of_capture_line capture_line.Unplanned = mark.Capture
 first_of_capture_line capture_line.Repeated = mark.Capture
 first_of_capture_line capture_line.Missing = mark.Capture
 first_of_capture_line capture_line.Unread = mark.Capture
+first_of_capture_line capture_line.Counts = mark.Check
 
 abbrev pub parts_of_capture_line : CaptureLine → List Part
 -- `capture N B:P agrees`
@@ -462,6 +463,7 @@ parts_of_capture_line capture_line.Repeated = part.Key key.Line ∷ part.Port �
 parts_of_capture_line capture_line.Missing = part.Key key.Line ∷ part.Port ∷ part.Said key.TreeKind mark.Msti ∷ part.Key key.Tree ∷ part.Said key.Result mark.Missing ∷ []
 -- `capture N CODE TEXT`
 parts_of_capture_line capture_line.Unread = part.Key key.Line ∷ part.Key key.Error ∷ part.Key key.Text ∷ []
+parts_of_capture_line capture_line.Counts = part.Mark mark.Captures ∷ part.Key key.CaptureCount ∷ part.Mark mark.Agree ∷ part.Key key.AgreeCount ∷ []
 
 -- ---- a line that says what is refused
 abbrev pub first_of_refusal_line : RefusalLine → Mark

@@ -25,6 +25,8 @@ pub enum CaptureLine {
     Missing,
     /// `capture N CODE TEXT`
     Unread,
+    /// `check captures N agree M`
+    Counts,
 }
 
 impl CaptureLine {
@@ -42,6 +44,7 @@ impl CaptureLine {
             CaptureLine::Repeated => Mark::Capture,
             CaptureLine::Missing => Mark::Capture,
             CaptureLine::Unread => Mark::Capture,
+            CaptureLine::Counts => Mark::Check,
         }
     }
 
@@ -66,6 +69,8 @@ impl CaptureLine {
             CaptureLine::Missing =>
                 parts![Key Line, Port, Said TreeKind Msti, Key Tree, Said Result Missing],
             CaptureLine::Unread => parts![Key Line, Key Error, Key Text],
+            CaptureLine::Counts =>
+                parts![Mark Captures, Key CaptureCount, Mark Agree, Key AgreeCount],
         }
     }
 }

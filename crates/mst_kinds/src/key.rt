@@ -18,7 +18,7 @@ pub enum Key {
     PartCount,
     /// `pairs`, where pairs of failures are asked for.
     Of,
-    /// `off`, of a bridge that is off.
+    /// `off`, or `on` where it is set so: whether a bridge is on.
     Power,
     /// The identifier of the bridge.
     BridgeId,
@@ -56,7 +56,7 @@ pub enum Key {
     Lans,
     /// A region, by the name of its first bridge.
     Region,
-    /// `mstp` or `rstp`; of a side of `changes` only the latter.
+    /// `mstp` or `rstp`; of a side of `diff` only the latter.
     RegionKind,
     /// The name of an MST configuration.
     Name,
@@ -78,21 +78,21 @@ pub enum Key {
     Depth,
     /// The limit of the depth.
     Limit,
-    /// The root priority vector before.
+    /// The root priority vector before, or null.
     OldVector,
-    /// The root priority vector afterwards.
+    /// The root priority vector afterwards, or null.
     NewVector,
-    /// The role before.
+    /// The role before, or null.
     OldRole,
-    /// The role afterwards.
+    /// The role afterwards, or null.
     NewRole,
-    /// What tells the region before.
+    /// What tells the region before, or null.
     OldRegion,
-    /// What tells the region afterwards.
+    /// What tells the region afterwards, or null.
     NewRegion,
-    /// The name of the root before.
+    /// The name of the root before, or null.
     OldRoot,
-    /// The name of the root afterwards.
+    /// The name of the root afterwards, or null.
     NewRoot,
     /// Islands before, each by its bridges.
     OldIslands,
@@ -110,7 +110,7 @@ pub enum Key {
     Version,
     /// The MAC address of a bridge.
     Mac,
-    /// The kind of a bridge, `rstp`.
+    /// The kind of a bridge: `rstp`, or `mstp` where it is set so.
     BridgeKind,
     /// The system priority of a bridge.
     SystemPriority,
@@ -124,11 +124,11 @@ pub enum Key {
     AggregationKey,
     /// The priority of a port in a tree, a multiple of 16.
     PortPriority,
-    /// `none`, of a port that is a member of no VLAN.
+    /// `none`, of a port that is a member of no VLAN, or `all` where it is set so.
     Vlans,
-    /// `yes`, of a port whose role is restricted.
+    /// `yes`, of a port whose role is restricted, or `no` where it is set so.
     Restricted,
-    /// `down`, of a LAN that is down.
+    /// `down`, of a LAN that is down, or `up` where it is set so.
     State,
     /// The designated port of the LAN in tree 0.
     Designated,
@@ -150,7 +150,7 @@ pub enum Key {
     ValueId,
     /// The value of the loser, of an identifier.
     LoserId,
-    /// What fails.
+    /// What fails, or null where nothing does.
     Failure,
     /// What fails, too.
     OtherFailure,
@@ -174,7 +174,7 @@ pub enum Key {
     TreeCount,
     /// The name of a root.
     Root,
-    /// The name of the bridge that would be the root next.
+    /// The name of the bridge that would be the root next, or null.
     Next,
     /// Its priority.
     NextPriority,
@@ -182,7 +182,7 @@ pub enum Key {
     IslandCount,
     /// The number of a line, from 1 on.
     Line,
-    /// `agrees`, `unplanned`, `repeated` or `missing`.
+    /// `agrees`, `unplanned`, `repeated` or `missing` of a capture; `none` of advice.
     Result,
     /// `cist` or `msti`: which part of the message.
     TreeKind,
@@ -196,7 +196,7 @@ pub enum Key {
     CapturedText,
     /// The code of a refusal.
     Error,
-    /// What a refusal says.
+    /// What a refusal says: the words behind its code.
     Text,
     /// What would be right.
     Hint,
@@ -244,6 +244,10 @@ pub enum Key {
     OtherBridges,
     /// The least speed of the other LANs, in kb/s.
     NextSpeed,
+    /// How many captured messages.
+    CaptureCount,
+    /// How many of them agree with the plan.
+    AgreeCount,
 }
 
 impl Key {
@@ -372,6 +376,8 @@ impl Key {
             Key::OtherName => b"other_name",
             Key::OtherBridges => b"other_bridges",
             Key::NextSpeed => b"next_speed",
+            Key::CaptureCount => b"capture_count",
+            Key::AgreeCount => b"agree_count",
         }
     }
 }

@@ -145,6 +145,8 @@ pub enum Mark {
     Does,
     Look,
     Every,
+    Captures,
+    Agree,
 }
 
 impl Mark {
@@ -294,6 +296,8 @@ impl Mark {
             Mark::Does => b"does",
             Mark::Look => b"look",
             Mark::Every => b"*",
+            Mark::Captures => b"captures",
+            Mark::Agree => b"agree",
         }
     }
 }

@@ -16,7 +16,7 @@ use Rattle.mst_net.specs.Table.{no_table, mapped}
 use Rattle.mst_net.specs.Tables.{Net, Numbers, port_eq, bridge_tree_eq, port_tree_eq}
 use Rattle.mst_net.specs.After.{effect, refusal_of, own_priority, own_table, own_vlans, all_vids, table_of, vlans_of, new_bridge, new_port, new_lan, bridge_with, port_with, lan_with, in_lan}
 use Rattle.mst_net.specs.Contents.{PerKind, IsNumbered, numbers_after, priority_of, port_priority_of, port_cost_of}
-use Rattle.mst_net.specs.Foreseen.{bridge_row_after, port_row_after, lan_row_after, bridge_number_after, port_number_after, lan_number_after, priority_after, port_priority_after, port_cost_after, table_after, vlans_after, without, bridge_name_after}
+use Rattle.mst_net.specs.Foreseen.{bridge_row_after, port_row_after, lan_row_after, bridge_number_after, port_number_after, lan_number_after, priority_after, port_priority_after, port_cost_after, table_after, vlans_after, without, bridge_name_after, port_name_after, lan_name_after}
 use Rattle.mst_net.proofs.Somes.{some_is, no_some}
 use Rattle.mst_net.proofs.Keyed.{IsKeyed, same_keys, after_insert, get_inserted, get_removed, get_kept}
 use Rattle.mst_net.proofs.AfterLemmas.{bridge_addable, port_addable, lan_addable}
@@ -303,3 +303,33 @@ foreseen_bridge_name (Plug port lan) net next numbers is can fresh number o was 
 foreseen_bridge_name (Unplug port) net next numbers is can fresh number o was = was
 foreseen_bridge_name (SetPort port change) net next numbers is can fresh number o was = was
 foreseen_bridge_name (SetByTree change) net next numbers is can fresh number o was = was
+
+pub foreseen_port_name : (e : Edit) (net : Net) (next : PerKind) (numbers : Numbers) → IsNumbered net numbers → refusal_of e net ≡ None → ((q : PortName) → fin.get numbers.ports q ≡ Some next.port → ⊥) → (number : ℕ) (o : Option (PortName))
+    → IsNamed numbers.ports number o → IsNamed (numbers_after e next numbers).ports number (port_name_after e next.port number o)
+foreseen_port_name (AddBridge bridge mac) net next numbers is can fresh number o was = was
+foreseen_port_name (DelBridge bridge) net next numbers is can fresh number o was = was
+foreseen_port_name (SetBridge bridge change) net next numbers is can fresh number o was = was
+foreseen_port_name (AddPort port) net next numbers is can fresh number o was = name_added ports numbers.ports number o was port next.port (is.ports port ∙ (port_addable net port can).1) fresh
+foreseen_port_name (DelPort port) net next numbers is can fresh number o was = name_removed ports numbers.ports number o was port is.ports_differ
+foreseen_port_name (AddLan lan) net next numbers is can fresh number o was = was
+foreseen_port_name (DelLan lan) net next numbers is can fresh number o was = was
+foreseen_port_name (SetLan lan change) net next numbers is can fresh number o was = was
+foreseen_port_name (Plug port lan) net next numbers is can fresh number o was = was
+foreseen_port_name (Unplug port) net next numbers is can fresh number o was = was
+foreseen_port_name (SetPort port change) net next numbers is can fresh number o was = was
+foreseen_port_name (SetByTree change) net next numbers is can fresh number o was = was
+
+pub foreseen_lan_name : (e : Edit) (net : Net) (next : PerKind) (numbers : Numbers) → IsNumbered net numbers → refusal_of e net ≡ None → ((q : List ℕ) → fin.get numbers.lans q ≡ Some next.lan → ⊥) → (number : ℕ) (o : Option (List ℕ))
+    → IsNamed numbers.lans number o → IsNamed (numbers_after e next numbers).lans number (lan_name_after e next.lan number o)
+foreseen_lan_name (AddBridge bridge mac) net next numbers is can fresh number o was = was
+foreseen_lan_name (DelBridge bridge) net next numbers is can fresh number o was = was
+foreseen_lan_name (SetBridge bridge change) net next numbers is can fresh number o was = was
+foreseen_lan_name (AddPort port) net next numbers is can fresh number o was = was
+foreseen_lan_name (DelPort port) net next numbers is can fresh number o was = was
+foreseen_lan_name (AddLan lan) net next numbers is can fresh number o was = name_added names numbers.lans number o was lan next.lan (is.lans lan ∙ (lan_addable net lan can).0) fresh
+foreseen_lan_name (DelLan lan) net next numbers is can fresh number o was = name_removed names numbers.lans number o was lan is.lans_differ
+foreseen_lan_name (SetLan lan change) net next numbers is can fresh number o was = was
+foreseen_lan_name (Plug port lan) net next numbers is can fresh number o was = was
+foreseen_lan_name (Unplug port) net next numbers is can fresh number o was = was
+foreseen_lan_name (SetPort port change) net next numbers is can fresh number o was = was
+foreseen_lan_name (SetByTree change) net next numbers is can fresh number o was = was

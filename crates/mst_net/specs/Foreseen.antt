@@ -56,6 +56,16 @@ bridge_name_after (AddBridge bridge mac) next number there = if nat_eq next numb
 bridge_name_after (DelBridge bridge) next number there = without (pointwise nat_eq bridge) there
 bridge_name_after _ next number there = there
 
+abbrev pub port_name_after : Edit → ℕ → ℕ → Option PortName → Option PortName
+port_name_after (AddPort port) next number there = if nat_eq next number then Some port else there
+port_name_after (DelPort port) next number there = without (port_eq port) there
+port_name_after _ next number there = there
+
+abbrev pub lan_name_after : Edit → ℕ → ℕ → Option (List ℕ) → Option (List ℕ)
+lan_name_after (AddLan lan) next number there = if nat_eq next number then Some lan else there
+lan_name_after (DelLan lan) next number there = without (pointwise nat_eq lan) there
+lan_name_after _ next number there = there
+
 -- what it makes of what is set by tree or VID
 abbrev pub priority_after : Edit → List ℕ → ℕ → ℕ → ℕ
 priority_after (DelBridge bridge) name other there = if pointwise nat_eq bridge name then 8 else there

@@ -1,7 +1,7 @@
 ghost use Rattle.std.specs.Prelude.{◌≡◌};
 ghost use Rattle.std.specs.Option.{option_map};
 ghost use Rattle.mst_net.specs.After.{bridge_with, port_with, lan_with, in_lan};
-ghost use Rattle.mst_net.specs.Foreseen.{bridge_row_after, port_row_after, lan_row_after, bridge_number_after, port_number_after, lan_number_after, bridge_name_after, table_after};
+ghost use Rattle.mst_net.specs.Foreseen.{bridge_row_after, port_row_after, lan_row_after, bridge_number_after, port_number_after, lan_number_after, bridge_name_after, port_name_after, lan_name_after, table_after};
 
 use crate::contents::{Bridge, Contents, Lan, Port};
 use crate::names::{with_name, without_name};
@@ -9,7 +9,7 @@ use crate::network::{Network, kept_bridge, kept_lan, kept_port};
 use crate::settings::{BridgeSettings, KeptPort, LanSettings};
 use crate::table::Table;
 use crate::tree_settings::TreeSettings;
-use mst_ids::{BridgeNo, Name, PortName, Tree};
+use mst_ids::{BridgeNo, LanNo, Name, PortName, PortNo, Tree};
 use mst_lang::{BridgeChange, Edit, LanChange, PortChange, TreeChange};
 use mst_records::Record;
 use std::alloc::{AllocError, Global};
@@ -80,6 +80,26 @@ impl Contents for Ahead<'_> {
             BridgeNo(self.network.next_bridge()),
             number,
             self.network.bridge_name(number),
+        )
+    }
+
+    fn port_name(&self, number: PortNo) -> Option<PortName> {
+        self.network.known();
+        port_name_ahead(
+            self.edit,
+            PortNo(self.network.next_port()),
+            number,
+            self.network.port_name(number),
+        )
+    }
+
+    fn lan_name(&self, number: LanNo) -> Option<Name> {
+        self.network.known();
+        lan_name_ahead(
+            self.edit,
+            LanNo(self.network.next_lan()),
+            number,
+            self.network.lan_name(number),
         )
     }
 
@@ -259,6 +279,33 @@ fn bridge_name_ahead(
     match *edit {
         Edit::AddBridge { bridge, .. } if next == number => Some(bridge),
         Edit::DelBridge { bridge } if there == Some(bridge) => None,
+        _ => there,
+    }
+}
+
+/// What the edit makes of the name of the port that has a number.
+fn port_name_ahead(
+    edit: &Edit,
+    next: PortNo,
+    number: PortNo,
+    there: Option<PortName>,
+) -> Option<PortName>
+    ensures { result ≡ port_name_after edit.now next number there }
+{
+    match *edit {
+        Edit::AddPort { port } if next == number => Some(port),
+        Edit::DelPort { port } if there == Some(port) => None,
+        _ => there,
+    }
+}
+
+/// What the edit makes of the name of the LAN that has a number.
+fn lan_name_ahead(edit: &Edit, next: LanNo, number: LanNo, there: Option<Name>) -> Option<Name>
+    ensures { result ≡ lan_name_after edit.now next number there }
+{
+    match *edit {
+        Edit::AddLan { lan } if next == number => Some(lan),
+        Edit::DelLan { lan } if there == Some(lan) => None,
         _ => there,
     }
 }

@@ -3,6 +3,7 @@ ghost use Rattle.std.specs.Option.{option_map, ForSome};
 ghost use Rattle.std.specs.FinMap as fin;
 ghost use Rattle.mst_net.specs.ByTree.{by_tree};
 ghost use Rattle.mst_net.specs.Tables.{IsNetwork};
+ghost use Rattle.mst_ids.specs.declared.name.PortName.{PortName};
 ghost use Rattle.mst_net.specs.Contents.{Tables, IsNumbered};
 ghost use Rattle.mst_net.specs.After.{table_of};
 ghost use Rattle.mst_net.specs.Table.{mstis_in};
@@ -92,6 +93,16 @@ pub trait Contents {
     fn bridge_name(&self, number: BridgeNo) -> Option<Name>
         ensures found { ForSome result (λ name. fin.get (tables self.now).numbers.bridges name ≡ Some number) }
         ensures none { result ≡ None → (name : List ℕ) → fin.get (tables self.now).numbers.bridges name ≡ Some number → ⊥ };
+
+    /// The name of the port that has the number.
+    fn port_name(&self, number: PortNo) -> Option<PortName>
+        ensures found { ForSome result (λ name. fin.get (tables self.now).numbers.ports name ≡ Some number) }
+        ensures none { result ≡ None → (name : PortName) → fin.get (tables self.now).numbers.ports name ≡ Some number → ⊥ };
+
+    /// The name of the LAN that has the number.
+    fn lan_name(&self, number: LanNo) -> Option<Name>
+        ensures found { ForSome result (λ name. fin.get (tables self.now).numbers.lans name ≡ Some number) }
+        ensures none { result ≡ None → (name : List ℕ) → fin.get (tables self.now).numbers.lans name ≡ Some number → ⊥ };
 
     /// The names of the bridges, in the order of their bytes. It takes memory, as every list does.
     fn bridge_names(&self, alloc: Global) -> Result<Vec<Name>, AllocError>

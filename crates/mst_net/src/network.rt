@@ -323,6 +323,14 @@ impl Contents for Network {
         self.bridges.key(number.0)
     }
 
+    fn port_name(&self, number: PortNo) -> Option<PortName> {
+        self.ports.key(number.0)
+    }
+
+    fn lan_name(&self, number: LanNo) -> Option<Name> {
+        self.lans.key(number.0)
+    }
+
     fn bridge_names(&self, alloc: Global) -> Result<Vec<Name>, AllocError> {
         let mut names = self.bridges.keys(alloc)?;
         names.sort()?;

@@ -4,7 +4,7 @@ ghost use Rattle.mst_net.specs.Seen.{bridge_row, lan_row};
 ghost use Rattle.mst_sweep.specs.Failing.{fails_lan as fails_lan_of, fails_bridge as fails_bridge_of, down_if as row_down_if, off_if as row_off_if};
 
 use crate::failure::Failure;
-use mst_ids::{BridgeNo, Name, PortName, Tree};
+use mst_ids::{BridgeNo, LanNo, Name, PortName, PortNo, Tree};
 use mst_lang::{LanState, Power};
 use mst_net::{Bridge, Contents, Lan, Network, Port, Table, TreeSettings};
 use std::alloc::{AllocError, Global};
@@ -108,6 +108,14 @@ impl Contents for Failing<'_> {
 
     fn bridge_name(&self, number: BridgeNo) -> Option<Name> {
         self.network.bridge_name(number)
+    }
+
+    fn port_name(&self, number: PortNo) -> Option<PortName> {
+        self.network.port_name(number)
+    }
+
+    fn lan_name(&self, number: LanNo) -> Option<Name> {
+        self.network.lan_name(number)
     }
 
     fn bridge_names(&self, alloc: Global) -> Result<Vec<Name>, AllocError> {
