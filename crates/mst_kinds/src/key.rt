@@ -28,13 +28,13 @@ pub enum Key {
     Ext,
     /// The identifier of the regional root.
     RegionalId,
-    /// The name of the bridge that has the identifier of the regional root.
+    /// The name of the bridge that has the identifier of the regional root, or null.
     Regional,
     /// An internal cost.
     Int,
     /// The identifier of the designated bridge.
     DesignatedId,
-    /// The name of the bridge that has the identifier of the designated bridge.
+    /// The name of the bridge that has the identifier of the designated bridge, or null.
     DesignatedBridge,
     /// The identifier of the designated port.
     DesignatedPortId,
@@ -42,7 +42,7 @@ pub enum Key {
     ReceiverId,
     /// The name of a LAN.
     Lan,
-    /// The role of the port.
+    /// The role of the port; null in `fails` where it has none.
     Role,
     /// The identifier of the port.
     PortId,
@@ -86,13 +86,13 @@ pub enum Key {
     OldRole,
     /// The role afterwards, or null.
     NewRole,
-    /// What tells the region before, or null.
+    /// What tells the region before.
     OldRegion,
-    /// What tells the region afterwards, or null.
+    /// What tells the region afterwards.
     NewRegion,
-    /// The name of the root before, or null.
+    /// The name of the root before.
     OldRoot,
-    /// The name of the root afterwards, or null.
+    /// The name of the root afterwards.
     NewRoot,
     /// Islands before, each by its bridges.
     OldIslands,
@@ -172,7 +172,7 @@ pub enum Key {
     EnabledCount,
     /// How many trees.
     TreeCount,
-    /// The name of a root.
+    /// The name of a root, or null where there is none, or none that has its identifier.
     Root,
     /// The name of the bridge that would be the root next, or null.
     Next,
