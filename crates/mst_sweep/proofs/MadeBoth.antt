@@ -1,14 +1,10 @@
 -- The networks of one failure and of two are those that their edits make, one after the other.
-use Rattle.std.proofs.Common.{◌≡◌, ◌++◌, ◌∷◌, [], Bool, true, List, Option, Some, None, Ok, Err, is_some, not, map, refl, sym, ap, subst, absurd, ◌∙◌, inl, inr, ℕ}
+use Rattle.std.proofs.Common.{◌≡◌, ◌∷◌, [], true, List, Option, Some, None, Ok, Err, is_some, not, map, refl, ap, subst, ◌∙◌, inl, inr, ℕ}
 use Rattle.std.specs.FinMap as fin
-use Rattle.std.specs.List.{Contains, filter, list_any}
+use Rattle.std.specs.List.{Contains, filter}
 use Rattle.std.specs.Option.{option_map, option_map_or}
 use Rattle.std.proofs.lemmas.List.Elements.{Contains-append_cases}
 use Rattle.mst_graph.proofs.Members.{here, there, from_map, from_filter, in_none}
-use Rattle.mst_lang.specs.declared.line.BridgeChange.TheVariants.{Power}
-use Rattle.mst_lang.specs.declared.line.LanChange.TheVariants.{State}
-use Rattle.mst_lang.specs.declared.line.LanState.TheVariants.{Down}
-use Rattle.mst_lang.specs.declared.line.Power.TheVariants.{Off}
 use Rattle.mst_net.specs.After.{after, first_of, has_bridge, has_lan}
 use Rattle.mst_net.specs.Tables.{Net, BridgeRow, LanRow}
 use Rattle.mst_net.specs.declared.refusal.Refusal.TheVariants.{E04, E06}
@@ -20,10 +16,10 @@ use Rattle.mst_sweep.specs.declared.failure.Failure.{Failure}
 use Rattle.mst_sweep.specs.declared.failure.Failure.TheVariants.{Lan, Bridge}
 use Rattle.mst_sweep.specs.Failures.{edit_of, failures}
 use Rattle.mst_sweep.specs.Pairs.{AreMade, Pair, failed, pairs_of, with_each}
-use Rattle.mst_sweep.proofs.Together.{bridge_failed, down_if, fails_bridge, fails_lan, lan_failed, off_if}
+use Rattle.mst_sweep.proofs.Together.{bridge_failed, lan_failed}
 
 -- what fails is there
-IsThere : Net → Failure → Type 0
+abbrev IsThere : Net → Failure → Type 0
 IsThere net (Lan lan) = has_lan lan net ≡ true
 IsThere net (Bridge bridge) = has_bridge bridge net ≡ true
 
@@ -52,8 +48,8 @@ failure_there net failure h = elim (Contains-append_cases (map (λ (e : List ℕ
 
 -- and still does where others have failed
 still_there : (fs : List Failure) (net : Net) (failure : Failure) → IsThere net failure → IsThere (failed fs net) failure
-still_there fs net (Lan lan) h = ap is_some (lan_failed fs net.lans lan) ∙ still_some (down_if (list_any (fails_lan lan) fs)) (fin.get net.lans lan) h
-still_there fs net (Bridge bridge) h = ap is_some (bridge_failed fs net.bridges bridge) ∙ still_some (off_if (list_any (fails_bridge bridge) fs)) (fin.get net.bridges bridge) h
+still_there fs net (Lan lan) h = ap is_some (lan_failed fs net.lans lan) ∙ still_some _ (fin.get net.lans lan) h
+still_there fs net (Bridge bridge) h = ap is_some (bridge_failed fs net.bridges bridge) ∙ still_some _ (fin.get net.bridges bridge) h
 
 -- so its edit isn't refused, and makes the network with that failure
 one_made : (net : Net) (failure : Failure) → IsThere net failure → after (edit_of failure) net ≡ Ok (failed (failure ∷ []) net)
