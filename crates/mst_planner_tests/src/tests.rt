@@ -1,4 +1,3 @@
-mod answers;
 mod calls;
 mod edits;
 mod groups;

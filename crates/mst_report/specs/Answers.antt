@@ -1,11 +1,13 @@
 -- What answers a query.
 use Rattle.std.specs.Prelude.{◌≡◌, ℕ, Bool, true, false, List, Option, None, Some, Result, Ok, Err}
+use Rattle.std.specs.List.{flat_map}
 use Rattle.std.specs.Option.{option_map_or}
 use Rattle.mst_lang.specs.declared.line.Query.{Query}
 use Rattle.mst_lang.specs.declared.line.Query.TheVariants.{ShowPlan, ShowLag, ShowRegions, ShowNotes, ShowTree, ShowVlan, ShowConfiguration, Changes, Save}
 use Rattle.mst_net.specs.Tables.{Net}
 use Rattle.mst_net.specs.declared.refusal.Refusal.{Refusal}
 use Rattle.mst_net.specs.declared.refusal.Refusal.TheVariants.{E04, E16}
+use Rattle.mst_rows.specs.Lines.{row_line}
 use Rattle.mst_rows.specs.Rows.{Row}
 use Rattle.mst_picture.specs.trees.Outcome.{Outcome, IsOutcome}
 use Rattle.mst_picture.specs.changes.ChangesText.{all_changes}
@@ -44,6 +46,10 @@ Answers ShowRegions s answer = answer ≡ Ok (regions_rows s.net)
 Answers (ShowConfiguration bridge) s answer = answer ≡ option_map_or (λ rows. Ok rows) (configuration_rows s.net bridge) (Err E04)
 Answers Changes s answer = TellsChanges s.mark s.net answer
 Answers Save s answer = answer ≡ Ok (save_rows s.net)
+
+-- these bytes are the lines of rows that answer a query
+abbrev pub AnswersInLines : Query → State → List ℕ → Type 0
+AnswersInLines query s text = (rows : List Row) × Answers query s (Ok rows) × (text ≡ flat_map row_line rows)
 
 -- whether a query is asked of a settled plan. What saves the network is not: the tables alone settle it
 abbrev pub asks_plan : Query → Bool

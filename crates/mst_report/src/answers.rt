@@ -1,8 +1,8 @@
-ghost use Rattle.std.specs.Prelude.{◌≡◌};
+ghost use Rattle.std.specs.Prelude.{◌≡◌, ◌≢◌, Err, IfOk, IfErr};
 ghost use Rattle.mst_lang.specs.declared.line.Query.TheVariants.{ShowConfiguration, Changes};
-ghost use Rattle.mst_report.specs.Answers.{asks_plan as is_of_plan};
+ghost use Rattle.mst_report.specs.Answers.{Answers, AnswersInLines, asks_plan as is_of_plan};
 ghost use Rattle.mst_report.specs.Planned.{planned_state};
-ghost use Rattle.mst_report.specs.Refusing.{IsRefusal};
+ghost use Rattle.mst_report.specs.Refusing.{HasRows, IsRefusal};
 
 use crate::laws::has_answer;
 use crate::planner::Planner;
@@ -29,6 +29,29 @@ impl Planner {
             Query::ShowConfiguration { bridge } => self.no_bridge(bridge),
             Query::Changes => self.no_mark(),
             _ => None,
+        }
+    }
+
+    /// The text that answers a query, be the plan settled or not: the lines of its rows. Where the query is asked of a settled plan, it is
+    /// settled first. E04 and E16 come just where [`refusal`](Planner::refusal) gives them, without memory; E99 only where none does and
+    /// memory was wanted and refused. The network and the mark are as they were in any case.
+    pub fn answer(&mut self, query: &Query) -> Result<Vec<u8>, Refusal>
+        ensures text { IfOk result (λ text. AnswersInLines query.now (planned_state self.old) text.items) }
+        ensures refused { IfErr result (λ refusal. refusal ≢ Refusal.E99 → Answers query.now (planned_state self.old) (Err refusal)) }
+        ensures memory { result ≡ Err Refusal.E99 → HasRows query.now (planned_state self.old) }
+        ensures same { self.new.contents ≡ self.old.contents }
+        ensures mark { self.new.mark ≡ self.old.mark }
+    {
+        if let Some(refusal) = self.refusal(query) {
+            return Err(refusal);
+        }
+        if asks_plan(query) && self.settle().is_err() {
+            return Err(Refusal::E99);
+        }
+        let mut text = Vec::new(self.alloc());
+        match self.put::<Vec<u8>>(query, &mut text) {
+            Ok(()) => Ok(text),
+            Err(_) => Err(Refusal::E99),
         }
     }
 

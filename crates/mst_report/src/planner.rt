@@ -205,6 +205,22 @@ impl Planner {
         }
     }
 
+    /// Whether an edit would be made: nothing is made of it. It is refused with the least number that applies, which takes no memory,
+    /// and with E99 only where none does and there was no room for it. The planner is as it was in either case, but for room.
+    pub fn rehearse(&mut self, edit: &Edit) -> Result<(), Refusal>
+        ensures accepted { OnOk result (IsOk (after edit.now self.old.contents.net)) }
+        ensures refused { IfErr result (λ refusal. refusal ≢ Refusal.E99 → after edit.now self.old.contents.net ≡ Err refusal) }
+        ensures memory { result ≡ Err Refusal.E99 → IsOk (after edit.now self.old.contents.net) }
+        ensures same { SameContents self.old.contents self.new.contents }
+        ensures settled { self.new.is_settled ≡ self.old.is_settled }
+        ensures standing { self.new.standing ≡ self.old.standing }
+        ensures mark { self.new.mark ≡ self.old.mark }
+    {
+        let prepared = self.network.prepare(edit)?;
+        self.network.abandon(prepared);
+        Ok(())
+    }
+
     /// Brings the plan up to the network, whatever edits were staged since: each tree is repaired from the one that
     /// stands. `AllocError`: memory was wanted and refused, and the planner is as it was.
     pub fn settle(&mut self) -> Result<(), AllocError>

@@ -1,5 +1,5 @@
 -- What pairs of failures of a network do: the VIDs that both together cut, and neither alone.
-use Rattle.std.specs.Prelude.{◌≡◌, ℕ, ◌||◌, Bool, List, [], ◌∷◌, ◌++◌, length, map, if◌then◌else◌}
+use Rattle.std.specs.Prelude.{◌≡◌, ℕ, ◌||◌, Bool, List, [], ◌∷◌, ◌++◌, length, map, Ok, if◌then◌else◌}
 use Rattle.std.specs.Bool.{MatchBool}
 use Rattle.std.specs.List.{AllZip, range_with_len}
 use Rattle.std.specs.FinMap as fin
@@ -12,13 +12,13 @@ use Rattle.mst_lang.specs.declared.line.BridgeChange.TheVariants.{Power}
 use Rattle.mst_lang.specs.declared.line.LanChange.TheVariants.{State}
 use Rattle.mst_lang.specs.declared.line.Power.TheVariants.{Off}
 use Rattle.mst_lang.specs.declared.line.LanState.TheVariants.{Down}
-use Rattle.mst_net.specs.After.{change, bridge_with, lan_with}
+use Rattle.mst_net.specs.After.{after, change, bridge_with, lan_with}
 use Rattle.mst_net.specs.Tables.{Net, BridgeRow, LanRow}
 use Rattle.mst_diff.specs.trees.Outcome.{Outcome, IsOutcome}
 use Rattle.mst_diff.specs.Reach.{has_any}
 use Rattle.mst_sweep.specs.declared.failure.Failure.{Failure}
 use Rattle.mst_sweep.specs.declared.failure.Failure.TheVariants.{Lan, Bridge}
-use Rattle.mst_sweep.specs.Failures.{failures}
+use Rattle.mst_sweep.specs.Failures.{edit_of, failures}
 use Rattle.mst_sweep.specs.Parts.{AreParts}
 use Rattle.mst_sweep.specs.declared.cuts.CutBy.TheVariants.{Both}
 use Rattle.mst_sweep.specs.Cuts.{AreCutsBy, failing, runs_of}
@@ -53,6 +53,12 @@ with_each first others = map (λ second. record { first = first; second = second
 abbrev pub pairs_of : List Failure → List Pair
 pairs_of [] = []
 pairs_of (first ∷ others) = with_each first others ++ pairs_of others
+
+-- the networks of the one, of the other and of both failures are those that their edits make, of both one after the other
+pub record AreMade (net : Net) (pair : Pair) : Type 0 where
+  pub first : after (edit_of pair.first) net ≡ Ok (failed (pair.first ∷ []) net)
+  pub second : after (edit_of pair.second) net ≡ Ok (failed (pair.second ∷ []) net)
+  pub both : after (edit_of pair.second) (failed (pair.first ∷ []) net) ≡ Ok (failed (pair.first ∷ pair.second ∷ []) net)
 
 -- the settled outcomes of a network, of it with the one and with the other failure of a pair, and with both
 pub record Outcomes : Type 0 where

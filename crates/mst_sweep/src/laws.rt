@@ -1,6 +1,6 @@
 //! Laws of the rows of what each single failure does. Their functions do nothing: a caller has their clauses.
 ghost use Rattle.std.specs.Prelude.{◌≡◌, ◌↔◌, ◌+◌, ◌-◌, ◌*◌, ◌/◌, ◌≤◌, ℕ, Bool, true, List, length, Ok};
-ghost use Rattle.std.specs.List.{flat_map, sum_by};
+ghost use Rattle.std.specs.List.{Contains, flat_map, sum_by};
 ghost use Rattle.mst_net.specs.After.{after};
 ghost use Rattle.mst_net.specs.Tables.{Net, IsNetwork};
 ghost use Rattle.mst_lag.specs.View.{IsUnrestricted};
@@ -8,7 +8,7 @@ ghost use Rattle.mst_diff.specs.trees.Outcome.{Outcome, IsOutcome};
 ghost use Rattle.mst_diff.specs.Reach.{has_any};
 ghost use Rattle.mst_sweep.specs.Apart.{AllAreMembers, ComeApart};
 ghost use Rattle.mst_sweep.specs.Failures.{edit_of, failures};
-ghost use Rattle.mst_sweep.specs.Pairs.{pairs_of, IsPairs, IsPairsPart, ArePairsParts};
+ghost use Rattle.mst_sweep.specs.Pairs.{AreMade, Pair as PairOf, pairs_of, IsPairs, IsPairsPart, ArePairsParts};
 ghost use Rattle.mst_sweep.specs.Parts.{AreParts};
 ghost use Rattle.mst_sweep.specs.declared.failure.Failure.{Failure as FailureOf};
 ghost use Rattle.mst_rows.specs.Rows.{Row};
@@ -63,13 +63,15 @@ pub fn sweep_parts()
 /// What pairs of failures do is one list of rows and one number of pairs that cut some VID together, too, of each part of the pairs,
 /// and there is one. The parts are the whole: so many of them, each without its last row, are one after another its rows without the
 /// last, and their numbers have its number as their sum. A part has as many pairs as all over the number of parts, rounded down, or one
-/// more; and twice as many as there are in all are each failure with each other.
+/// more; and twice as many as there are in all are each failure with each other. The networks that are looked at are those that the
+/// edits of the failures make, one after the other.
 pub fn pairs()
     ensures one { (net : Net) (o p : Outcome) (part : PartOf) (rows other : List Row) (c d : ℕ) → IsNetwork net → IsOutcome net o → IsOutcome net p → IsPairsPart part net o rows c → IsPairsPart part net p other d → (rows ≡ other) × (c ≡ d) }
     ensures some { (net : Net) (part : PartOf) → IsNetwork net → (o : Outcome) × (rows : List Row) × (cuts : ℕ) × IsOutcome net o × IsPairsPart part net o rows cuts }
     ensures joined { (net : Net) (o : Outcome) (count : ℕ) (parts : List ToldOfPart) (rows : List Row) (cuts : ℕ) → IsNetwork net → 1 ≤ count → ArePairsParts net o count parts → IsPairs net o rows cuts
         → (flat_map (λ part. but_last_row part.rows) parts ≡ but_last_row rows) × (sum_by (λ part. part.cuts) parts ≡ cuts) }
     ensures lengths { (net : Net) (part : PartOf) → IsPart part → (length (pairs_of (failures net)) / part.count ≤ length (part_of part (pairs_of (failures net)))) × (length (part_of part (pairs_of (failures net))) ≤ length (pairs_of (failures net)) / part.count + 1) }
+    ensures made { (net : Net) (pair : PairOf) → Contains (pairs_of (failures net)) pair → AreMade net pair }
     ensures many { (net : Net) → 2 * length (pairs_of (failures net)) ≡ length (failures net) * (length (failures net) - 1) }
     ensures whole { (net : Net) (o : Outcome) (rows : List Row) (cuts : ℕ) → IsPairsPart whole_part net o rows cuts ↔ IsPairs net o rows cuts }
 {

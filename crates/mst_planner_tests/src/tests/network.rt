@@ -2,7 +2,7 @@
 
 use super::edits::{code_of, edit_of, name, network_of};
 use mst_config::regions_of;
-use mst_ids::{Tree, Vid};
+use mst_ids::{Name, PortName, Tree, Vid};
 use mst_lag::view;
 use mst_lang::Edit;
 use mst_net::{Contents, Network, Table, laws};
@@ -55,13 +55,35 @@ fn tree_of_ten<C: Contents>(contents: &C) -> Option<u16> {
     )
 }
 
+/// How many of these ports have their names by their numbers.
+fn ports_by_number<C: Contents>(contents: &C, names: &[PortName]) -> Option<usize> {
+    let mut count: usize = 0;
+    for name in names {
+        if contents.port_name(contents.port(name)?.number) == Some(*name) {
+            count = count.saturating_add(1);
+        }
+    }
+    Some(count)
+}
+
+/// How many of these LANs have theirs.
+fn lans_by_number<C: Contents>(contents: &C, names: &[Name]) -> Option<usize> {
+    let mut count: usize = 0;
+    for name in names {
+        if contents.lan_name(contents.lan(name)?.number) == Some(*name) {
+            count = count.saturating_add(1);
+        }
+    }
+    Some(count)
+}
+
 /// What is seen of a network, or of one ahead of an edit.
 fn figures_of<C: Contents>(alloc: Global, contents: &C) -> Option<Figures> {
     let settings = contents.settings().ok()?;
     Some(Figures {
         bridges: contents.bridge_names(alloc).ok()?.len(),
-        ports: contents.port_names(alloc).ok()?.len(),
-        lans: contents.lan_names(alloc).ok()?.len(),
+        ports: ports_by_number(contents, contents.port_names(alloc).ok()?.as_slice())?,
+        lans: lans_by_number(contents, contents.lan_names(alloc).ok()?.as_slice())?,
         logical_ports: view(alloc, contents).ok()?.ports().len(),
         one_region: share_region(alloc, contents) == Some(true),
         tree: tree_of_ten(contents)?,

@@ -3,7 +3,6 @@
 //! With ample memory these tests say little. `rt try --test --fail-alloc N` refuses the Nth allocation that a test makes,
 //! and `examples/refuse-memory.py` each in turn: then each of them has to pass, whatever N is.
 
-use super::answers::answered;
 use super::records::held_again;
 use mst_compare::Planner;
 use mst_ids::Tree;
@@ -44,17 +43,18 @@ struct Seen {
 }
 
 /// The answer to a query, which is asked again where memory was refused for it.
-fn answer_again(
-    alloc: Global,
-    planner: &Planner,
-    query: &Query,
-) -> Result<Option<Vec<u8>>, Broken> {
+fn answer_again(planner: &mut Planner, query: &Query) -> Result<Option<Vec<u8>>, Broken> {
     if !planner.is_settled() {
         return Err(Broken::Changed);
     }
-    match answered(alloc, planner, query) {
-        Ok(found) => Ok(found),
-        Err(_) => twice(answered(alloc, planner, query)),
+    let mut answer = planner.answer(query);
+    if answer == Err(Refusal::E99) {
+        answer = planner.answer(query);
+    }
+    match answer {
+        Ok(text) => Ok(Some(text)),
+        Err(Refusal::E99) => Err(Broken::Twice),
+        Err(_) => Ok(None),
     }
 }
 
@@ -65,11 +65,11 @@ fn settlings(planner: &Planner, tree: u64) -> u64 {
     }
 }
 
-fn seen_of(alloc: Global, planner: &Planner) -> Result<Seen, Broken> {
+fn seen_of(alloc: Global, planner: &mut Planner) -> Result<Seen, Broken> {
     Ok(Seen {
         held: held_again(alloc, planner.network())?,
-        plan: answer_again(alloc, planner, &Query::ShowPlan)?,
-        changes: answer_again(alloc, planner, &Query::Changes)?,
+        plan: answer_again(planner, &Query::ShowPlan)?,
+        changes: answer_again(planner, &Query::Changes)?,
         settlings: [
             settlings(planner, 0),
             settlings(planner, 1),
@@ -114,7 +114,7 @@ fn seen_before(alloc: Global, script: &[u8], place: usize) -> Result<Seen, Broke
             return Err(Broken::Twice);
         }
     }
-    seen_of(alloc, &planner)
+    seen_of(alloc, &mut planner)
 }
 
 /// Makes a line's call. Where memory is refused for it, the planner is compared with one that is made anew, and the call
@@ -139,9 +139,9 @@ fn serve_again(
 }
 
 /// The answer to a line that is a query.
-fn answer_of(alloc: Global, planner: &Planner, line: &[u8]) -> Result<Option<Vec<u8>>, Broken> {
+fn answer_of(planner: &mut Planner, line: &[u8]) -> Result<Option<Vec<u8>>, Broken> {
     match parse_line(line) {
-        Ok(Line::Query(query)) => answer_again(alloc, planner, &query),
+        Ok(Line::Query(query)) => answer_again(planner, &query),
         _ => Ok(None),
     }
 }
@@ -161,12 +161,12 @@ fn served(alloc: Global, script: &[u8]) -> Result<(Vec<u8>, Seen), Broken> {
     let mut place = 0;
     for line in script.split(|byte| *byte == b'\n') {
         serve_again(&mut planner, alloc, script, place, line)?;
-        if let Some(text) = answer_of(alloc, &planner, line)? {
+        if let Some(text) = answer_of(&mut planner, line)? {
             add(&mut answers, text.as_slice())?;
         }
         place = place.saturating_add(1);
     }
-    let last = seen_of(alloc, &planner)?;
+    let last = seen_of(alloc, &mut planner)?;
     Ok((answers, last))
 }
 

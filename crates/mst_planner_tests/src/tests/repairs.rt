@@ -1,7 +1,6 @@
 //! Edits that a planner makes one at a time: how often bridges are settled, and that what it answers is what a
 //! planner that is made anew answers.
 
-use super::answers::answered;
 use super::edits::edit_of;
 use mst_compare::Planner;
 use mst_ids::{Tree, Vid};
@@ -296,32 +295,16 @@ fn drawn_line(alloc: Global, draws: &mut Draws) -> Result<String, AllocError> {
     }
 }
 
-/// What answers a query, once the planner is settled.
-fn text_of(alloc: Global, planner: &mut Planner, query: &Query) -> Option<Vec<u8>> {
-    planner.settle().ok()?;
-    answered(alloc, planner, query).ok()?
-}
-
 /// The texts of the trees and of a VLAN, one after another.
 fn plan_text(alloc: Global, planner: &mut Planner) -> Option<Vec<u8>> {
-    let mut texts = text_of(alloc, planner, &Query::ShowTree { tree: Tree::cist() })?;
-    let first = text_of(
-        alloc,
-        planner,
-        &Query::ShowTree {
-            tree: Tree::new(1)?,
-        },
-    )?;
-    texts.extend_from_slice(first.as_slice()).ok()?;
-    let second = text_of(
-        alloc,
-        planner,
-        &Query::ShowTree {
-            tree: Tree::new(2)?,
-        },
-    )?;
-    texts.extend_from_slice(second.as_slice()).ok()?;
-    let vlan = text_of(alloc, planner, &Query::ShowVlan { vid: Vid::new(10)? })?;
+    let mut texts = Vec::new(alloc);
+    for tree in 0..3_u64 {
+        let tree = Tree::new(tree)?;
+        let text = planner.answer(&Query::ShowTree { tree }).ok()?;
+        texts.extend_from_slice(text.as_slice()).ok()?;
+    }
+    let vid = Vid::new(10)?;
+    let vlan = planner.answer(&Query::ShowVlan { vid }).ok()?;
     texts.extend_from_slice(vlan.as_slice()).ok()?;
     Some(texts)
 }

@@ -1,0 +1,90 @@
+-- The networks of one failure and of two are those that their edits make, one after the other.
+use Rattle.std.proofs.Common.{◌≡◌, ◌++◌, ◌∷◌, [], Bool, true, List, Option, Some, None, Ok, Err, is_some, not, map, refl, sym, ap, subst, absurd, ◌∙◌, inl, inr, ℕ}
+use Rattle.std.specs.FinMap as fin
+use Rattle.std.specs.List.{Contains, filter, list_any}
+use Rattle.std.specs.Option.{option_map, option_map_or}
+use Rattle.std.proofs.lemmas.List.Elements.{Contains-append_cases}
+use Rattle.mst_graph.proofs.Members.{here, there, from_map, from_filter, in_none}
+use Rattle.mst_lang.specs.declared.line.BridgeChange.TheVariants.{Power}
+use Rattle.mst_lang.specs.declared.line.LanChange.TheVariants.{State}
+use Rattle.mst_lang.specs.declared.line.LanState.TheVariants.{Down}
+use Rattle.mst_lang.specs.declared.line.Power.TheVariants.{Off}
+use Rattle.mst_net.specs.After.{after, first_of, has_bridge, has_lan}
+use Rattle.mst_net.specs.Tables.{Net, BridgeRow, LanRow}
+use Rattle.mst_net.specs.declared.refusal.Refusal.TheVariants.{E04, E06}
+use Rattle.mst_net.proofs.Keys.{names}
+use Rattle.mst_diff.proofs.trees_lemmas.Entries.{entries_found}
+use Rattle.mst_diff.proofs.trees_lemmas.Lists.{all_contained}
+use Rattle.mst_vlan.specs.Reach.{bridges_on}
+use Rattle.mst_sweep.specs.declared.failure.Failure.{Failure}
+use Rattle.mst_sweep.specs.declared.failure.Failure.TheVariants.{Lan, Bridge}
+use Rattle.mst_sweep.specs.Failures.{edit_of, failures}
+use Rattle.mst_sweep.specs.Pairs.{AreMade, Pair, failed, pairs_of, with_each}
+use Rattle.mst_sweep.proofs.Together.{bridge_failed, down_if, fails_bridge, fails_lan, lan_failed, off_if}
+
+-- what fails is there
+IsThere : Net → Failure → Type 0
+IsThere net (Lan lan) = has_lan lan net ≡ true
+IsThere net (Bridge bridge) = has_bridge bridge net ≡ true
+
+some_is : {A : Type 0} (o : Option A) (x : A) → o ≡ Some x → is_some o ≡ true
+some_is o x e = ap is_some e
+
+still_some : {A : Type 0} (f : A → A) (o : Option A) → is_some o ≡ true → is_some (option_map f o) ≡ true
+still_some f (Some x) e = refl
+still_some f None e = e
+
+-- each failure of a network is of a record that it has
+failure_there : (net : Net) (failure : Failure) → Contains (failures net) failure → IsThere net failure
+failure_there net failure h = elim (Contains-append_cases (map (λ (e : List ℕ × LanRow). Lan e.0) (filter (λ (e : List ℕ × LanRow). e.1.is_up) (fin.entries net.lans))) (map Bridge (bridges_on net)) failure h) [
+  | inl x ↦
+      let e = from_map (λ (e : List ℕ × LanRow). Lan e.0) (filter (λ (e : List ℕ × LanRow). e.1.is_up) (fin.entries net.lans)) failure x in
+      let own = (from_filter (λ (e : List ℕ × LanRow). e.1.is_up) (fin.entries net.lans) e.0 e.1).0 in
+      let found = all_contained (λ (e : List ℕ × LanRow). fin.get net.lans e.0 ≡ Some e.1) (fin.entries net.lans) e.0 (entries_found names.total net.lans) own in
+      subst (IsThere net) e.2 (some_is (fin.get net.lans e.0.0) e.0.1 found)
+  | inr y ↦
+      let b = from_map Bridge (bridges_on net) failure y in
+      let e = from_map (λ (e : List ℕ × BridgeRow). e.0) (filter (λ (e : List ℕ × BridgeRow). e.1.is_on) (fin.entries net.bridges)) b.0 b.1 in
+      let own = (from_filter (λ (e : List ℕ × BridgeRow). e.1.is_on) (fin.entries net.bridges) e.0 e.1).0 in
+      let found = all_contained (λ (e : List ℕ × BridgeRow). fin.get net.bridges e.0 ≡ Some e.1) (fin.entries net.bridges) e.0 (entries_found names.total net.bridges) own in
+      subst (IsThere net) (ap Bridge e.2 ∙ b.2) (some_is (fin.get net.bridges e.0.0) e.0.1 found)
+]
+
+-- and still does where others have failed
+still_there : (fs : List Failure) (net : Net) (failure : Failure) → IsThere net failure → IsThere (failed fs net) failure
+still_there fs net (Lan lan) h = ap is_some (lan_failed fs net.lans lan) ∙ still_some (down_if (list_any (fails_lan lan) fs)) (fin.get net.lans lan) h
+still_there fs net (Bridge bridge) h = ap is_some (bridge_failed fs net.bridges bridge) ∙ still_some (off_if (list_any (fails_bridge bridge) fs)) (fin.get net.bridges bridge) h
+
+-- so its edit isn't refused, and makes the network with that failure
+one_made : (net : Net) (failure : Failure) → IsThere net failure → after (edit_of failure) net ≡ Ok (failed (failure ∷ []) net)
+one_made net (Lan lan) h = ap (λ has. option_map_or Err (first_of ((not has, E06) ∷ [])) (Ok (failed (Lan lan ∷ []) net))) h
+one_made net (Bridge bridge) h = ap (λ has. option_map_or Err (first_of ((not has, E04) ∷ [])) (Ok (failed (Bridge bridge ∷ []) net))) h
+
+one_by_one : (net : Net) (first second : Failure) → failed (second ∷ []) (failed (first ∷ []) net) ≡ failed (first ∷ second ∷ []) net
+one_by_one net (Lan lan) (Lan other) = refl
+one_by_one net (Lan lan) (Bridge bridge) = refl
+one_by_one net (Bridge bridge) (Lan lan) = refl
+one_by_one net (Bridge bridge) (Bridge other) = refl
+
+-- ---- pairs
+of_both : (fs : List Failure) (pair : Pair) → Contains (pairs_of fs) pair → Contains fs pair.first × Contains fs pair.second
+of_both [] pair h = absurd (in_none pair h)
+of_both (f ∷ fs) pair h = elim (Contains-append_cases (with_each f fs) (pairs_of fs) pair h) [
+  | inl x ↦
+      let e = from_map (λ (second : Failure). record { first = f; second = second }) fs pair x in
+      (subst (λ (p : Pair). Contains (f ∷ fs) p.first) e.2 (here f fs), subst (λ (p : Pair). Contains (f ∷ fs) p.second) e.2 (there f e.0 fs e.1))
+  | inr y ↦
+      let both = of_both fs pair y in
+      (there f pair.first fs both.0, there f pair.second fs both.1)
+]
+
+pub pair_made : (net : Net) (pair : Pair) → Contains (pairs_of (failures net)) pair → AreMade net pair
+pair_made net pair h =
+    let both = of_both (failures net) pair h in
+    let first = failure_there net pair.first both.0 in
+    let second = failure_there net pair.second both.1 in
+    record {
+      first = one_made net pair.first first;
+      second = one_made net pair.second second;
+      both = one_made (failed (pair.first ∷ []) net) pair.second (still_there (pair.first ∷ []) net pair.second second) ∙ ap Ok (one_by_one net pair.first pair.second);
+    }
