@@ -28,6 +28,8 @@ ALTERED = ["mst_tool::alters::steps"]
 LOOPS = ["mst_vlan::laws::joined_without_loop"]
 # What the hints of a script, a policy and a change are.
 HINTED = [("mst_hinting", "Lines", "hints_of")]
+# From the program's words to its exit status.
+PROGRAM = ["mstplan::program::run_program"]
 IMPORT = re.compile(r"^ *(?:ghost )?use Rattle\.(\w+)\.specs\.([\w.]+?)(?:\.\{([^}]*)\}| as (\w+))?;?$", re.MULTILINE)
 GIVEN = re.compile(r"^pub use Rattle\.(\w+)\.specs(?:\.(\w+))? as (\w+)$", re.MULTILINE)
 KIND = "(?:abbrev|unfoldable|opaque|private) "
@@ -118,7 +120,7 @@ def clauses(call):
     crate, *modules, name = call.split("::")
     with open(os.path.join(TOP, crate, "src", *modules) + ".rt", encoding="utf-8") as file:
         text = file.read()
-    found = re.search(rf"^ *pub fn {name}\b.*?^ *\{{\}}?$", text, re.MULTILINE | re.DOTALL)
+    found = re.search(rf"^ *pub(?:\(crate\))? fn {name}\b.*?^ *\{{\}}?$", text, re.MULTILINE | re.DOTALL)
     if not found:
         sys.exit(f"no function {call}")
     said = found.group()
@@ -220,17 +222,28 @@ def minutes(lines):
 # ---- a page with lists
 
 STEP = re.compile(r"^\d+\. ((?:`mst_\w+`:\s+(?:`\w+`(?:,\s+)?)+(?:;\s+)?)+)\s+\((\d+ lines, \d+ minutes)\)", re.MULTILINE)
-LIST = re.compile(r"(?:^- `mst_\w+`, \d+ lines: .*\n)+\n^\d+ definitions in .*\.$", re.MULTILINE)
+LIST = re.compile(r"(?:^- `mst\w+`, \d+ lines: .*\n)+\n^\d+ definitions in .*\.$", re.MULTILINE)
+WHOLE = re.compile(r"^`run_program` rests on \d+ definitions in all, .*$", re.MULTILINE)
 
 
 def lists():
     """The lists of docs/READING.md: that of the loops, the first one, what is asked besides, what stands and is asked, what policies
-    and steps of changes are, and what hints are; and the lines of the first."""
+    and steps of changes are, what hints are, and what the program does; and the lines of the first."""
     seen = set()
     first = definitions(CALLS, seen)
     orders = [definitions(LOOPS, set()), first, definitions(ASKED, seen), definitions(STANDING, seen), definitions(VERIFIED, seen),
-              definitions(ALTERED, seen), definitions([], seen, HINTED)]
+              definitions(ALTERED, seen), definitions([], seen, HINTED), definitions(PROGRAM, seen)]
     return [as_text(order) for order in orders], lines_of(first)
+
+
+def whole():
+    """How much the program's statement rests on, and how much of that isn't in the first list."""
+    seen = set()
+    definitions(CALLS, seen)
+    order, besides = definitions(PROGRAM, set()), definitions(PROGRAM, seen)
+    total = sum(lines for _, _, lines in order)
+    return (f"`run_program` rests on {len(order)} definitions in all, {total} lines, some {minutes(total)} minutes; "
+            f"{len(besides)} of them aren't in the list of `run` and `check`.")
 
 
 def as_text(order):
@@ -255,6 +268,7 @@ def updated(text):
     made, counted = lists()
     left = iter(made)
     text = LIST.sub(lambda found: next(left, found.group()), text)
+    text = WHOLE.sub(lambda found: whole(), text)
     return STEP.sub(lambda found: found[0].replace(found[2], size_of(found[1], counted)), text)
 
 
@@ -267,6 +281,8 @@ def faults(text):
     made, counted = lists()
     if len(LIST.findall(text)) != len(made):
         yield f"it has {len(LIST.findall(text))} lists, and not {len(made)}"
+    if len(WHOLE.findall(text)) != 1:
+        yield "it doesn't say how much the program rests on"
     steps = [file for step, _ in STEP.findall(text) for file in files_in(step)]
     listed = [(crate, module) for crate, files in counted.items() for module in files]
     yield from (f"not in one step: {crate}/{module}" for crate, module in sorted(set(steps) ^ set(listed)))
