@@ -8,3 +8,7 @@ mod Accepting
 mod Going
 mod Coming
 mod Room
+mod RowLines
+mod Reading
+mod Sayable
+mod ReadAgain

@@ -208,7 +208,7 @@ gathered_has name table vids (tree ∷ trees) v small h =
     by false rest = h
 
 module _ (name table : List ℕ) (tree : ℕ) (trees : List ℕ) where
-  first_is : IsVidSet (gathered_first name table (tree ∷ trees))
+  pub first_is : IsVidSet (gathered_first name table (tree ∷ trees))
   first_is = by (is_one_line name (vids_in table tree)) (gathered_is name table (vids_in table tree) trees (vids_in_is table tree))
     where
       by : (b : Bool) → IsVidSet (gathered name table (vids_in table tree) trees) → IsVidSet (if b then gathered name table (vids_in table tree) trees else vids_in table tree)
