@@ -5,8 +5,8 @@ what the texts of `run` say of the network, and of the network after a failure.
 usage: verify_runs.py PROGRAM [COUNT] [FIRST]    (so many networks, or 200; check-program.py takes fewer)
 
 Networks are drawn by their numbers. A policy is made of each of them: of its roots, its regions, the ports that block, what VLANs reach and
-what LANs carry. All of it holds. Then each promise is turned into its contrary, and behind these stand some of both after failures. The exit
-status is 1 where an answer differs.
+what LANs carry. All of it holds. Then each promise is turned into its contrary, and behind these stand some of both after failures. Of lists
+of what fails the lines are told of which nothing is judged. The exit status is 1 where an answer differs.
 """
 
 import concurrent.futures
@@ -30,6 +30,8 @@ IN_THE_GATE = 20
 ALL_VIDS = range(1, 4095)
 ROLES = ["Root", "Designated", "Alternate", "Backup", "Master", "Disabled", "-"]
 BLOCKS = ("Alternate", "Backup")
+NOTHING = "policy 0 E17 nothing to judge"
+NOTHING_RECORD = '{"kind":"policy","line":0,"error":"E17","text":"nothing to judge"}'
 
 
 # ---- what a network is like, and where a promise isn't kept in it
@@ -223,7 +225,7 @@ def lines_of(judged):
 def answer(policy, told, lines):
     """What is printed of a policy, by what is told of each of its lines."""
     holding = sum(not it for it in told)
-    return [*lines, *itertools.chain.from_iterable(told), f"verify expectations {len(policy)} hold {holding}"]
+    return [*lines, *([] if policy else [NOTHING]), *itertools.chain.from_iterable(told), f"verify expectations {len(policy)} hold {holding}"]
 
 
 def differing(program, script, policy, wanted, status):
@@ -242,6 +244,39 @@ def failed(program, script, text, choice):
         yield f"{what} {name}", Judged(after, text, name if what == "bridge" else None)
 
 
+def lists_of(names, choice):
+    """A few lists of names, of beginnings of names, and of both."""
+    items = sorted({*names, *(f"{it[:-1]}*" for it in names if len(it) > 1), "*"})
+    return [",".join(choice.one_of(items) for _ in range(choice.below(3) + 1)) for _ in range(4)]
+
+
+def is_judged(items, fail, own):
+    """Whether each item has a failure that is judged, of these names, where the expectation names one."""
+    items = items.split(",")
+    judged = [it for it in fail if any(has(item, it) for item in items) and (it != own or it in items)]
+    return all(any(has(item, it) for it in judged) for item in items)
+
+
+def unjudged(program, script, text, choice):
+    """Lines of which nothing is judged are refused, and no others: after failures of lists of bridges and of LANs."""
+    bridges, lans, off, down, _ = texts.states_of(text.saved)
+    policy, wanted = [], []
+    for what, names, gone in ("bridge", bridges, off), ("lan", lans, down):
+        for items in lists_of(names, choice) if names else []:
+            own = choice.one_of(names)
+            policy.append(f"after {what} {items} {f'root 0 {own}' if what == 'bridge' else f'carries {own} 1-9'}")
+            if not is_judged(items, [it for it in names if it not in gone], own):
+                wanted.append(f"policy {len(policy)} E17 nothing to judge")
+    with tempfile.NamedTemporaryFile("w", suffix=".policy", encoding="ascii") as file:
+        file.write("\n".join([*policy, ""]))
+        file.flush()
+        printed = texts.run(program, ["verify", "-", file.name], script)[0].splitlines()
+    told = [it for it in printed if it.startswith("policy ")]
+    if told == wanted and printed[-1].startswith(f"verify expectations {len(policy) - len(wanted)} "):
+        return []
+    return ["\n".join([f"{told}, in place of {wanted}, of", *policy, "and", *script])]
+
+
 def faults_of(program, number):
     script, draws = texts.drawn(number), texts.Draws(number + 10**7)
     text, refused = texts.text_of(program, script), texts.refused(program, script)
@@ -251,16 +286,17 @@ def faults_of(program, number):
     all_lines = lines_of(judged)
     told = {line: reasons(judged, line) for line in all_lines}
     kept, broken = [it for it in all_lines if not told[it]], [it for it in all_lines if told[it]]
-    status = 1 if refused else 0
+    status = 1 if refused or not kept else 0
     faults = differing(program, script, kept, answer(kept, [[] for _ in kept], refused), status)
+    faults += unjudged(program, script, text, draws)
     now = [[f"fails {place} now {it}" for it in told[line]] for place, line in enumerate(broken, 1)]
-    faults += differing(program, script, broken, answer(broken, now, refused), 1 if refused or broken else 0)
+    faults += differing(program, script, broken, answer(broken, now, refused), 1)
     policy, later = [], []
     for place, after in failed(program, script, text, draws):
         for line in all_lines[draws.below(3) :: 3]:
             policy.append(f"after {place} {line}")
             later.append([f"fails {len(policy)} {place} {it}" for it in reasons(after, line)])
-    return faults + differing(program, script, policy, answer(policy, later, refused), 1 if refused or any(later) else 0)
+    return faults + differing(program, script, policy, answer(policy, later, refused), 1 if refused or any(later) or not policy else 0)
 
 
 def check(program, count, first=0):
@@ -288,6 +324,20 @@ BAD = {
 }
 
 
+# What a policy promises of a network that has nothing, and of what can't fail in the campus with a bridge off and a LAN down.
+EMPTY = {
+    "reach 10 *": "E04 no such bridge", "fits": "E04 no such bridge", "always depth 0 3": "E04 no such bridge", "role 0 *:* Root": "E04 no such bridge",
+    "after lan * fits": "E04 no such bridge", "carries nolan 10": "E04 no such bridge", "depth 7 3": "E03 bad VID or tree",
+}
+OFF = ["bridge acc2 off", "lan dist1-acc1 down"]
+UNJUDGED = {
+    "after bridge acc2 root 0 core1": "E17 nothing to judge", "after lan dist1-acc1 fits": "E17 nothing to judge",
+    "after bridge core1* root 0 core1": "E17 nothing to judge", "after lan dist2-acc*,dist1-acc1 fits": "E17 nothing to judge",
+    "after bridge core1 root 0 core2": "", "after bridge core1,core1* root 0 core1 next core2": "",
+    "after lan * carries core1-dist1 1-4094": "", "after lan core1-dist1 avoids core1-dist1 1-4094": "",
+}
+
+
 def check_words(program, words, typed, status, printed):
     ran = subprocess.run([program, "verify", *words], input=typed.encode(), capture_output=True, check=False)
     if (ran.returncode, ran.stdout.decode(), ran.stderr) == (status, printed, b""):
@@ -296,19 +346,40 @@ def check_words(program, words, typed, status, printed):
     return False
 
 
+def rows_of(lines):
+    return "".join(f"policy {place} {told}\n" for place, told in enumerate(lines.values(), 1) if told)
+
+
+def check_unjudged(program, script):
+    """What can't fail is no item of a scope."""
+    with open(script, encoding="ascii") as file:
+        lines = [*file.read().splitlines(), *OFF]
+    with tempfile.NamedTemporaryFile("w", suffix=".policy", encoding="ascii") as file:
+        file.write("\n".join([*UNJUDGED, ""]))
+        file.flush()
+        printed = texts.run(program, ["verify", "-", file.name], lines)[0].splitlines(keepends=True)
+    if "".join(it for it in printed if it.startswith("policy")) == rows_of(UNJUDGED):
+        return True
+    print("".join(["of what can't fail\n", *printed]))
+    return False
+
+
 def check_examples(program):
     script, changed, policy = [os.path.join(HERE, it) for it in ("campus.script", "campus-changed.script", "campus.policy")]
-    refused = "".join(f"policy {place} {told}\n" for place, told in enumerate(BAD.values(), 1))
     with open(policy, encoding="ascii") as file:
         promises = file.read()
     return [
         check_words(program, [script, policy], "", 0, "verify expectations 16 hold 16\n"),
         check_words(program, [changed, policy], "", 1, CHANGED),
         check_words(program, [changed, "-"], promises.replace("\n", "\r\n"), 1, CHANGED),
-        check_words(program, [script, "-"], "\n".join(BAD), 1, refused + "verify expectations 0 hold 0\n"),
-        check_words(program, ["-", os.devnull], "no\n", 1, "line 1 E01 no such command\nverify expectations 0 hold 0\n"),
-        check_words(program, ["-", "-"], "addbridge A 00:00:00:00:00:01\n", 0, "verify expectations 0 hold 0\n"),
-        check_words(program, ["--json", "-", os.devnull], "", 0, '{"query":"verify","records":[{"kind":"verify","expectation_count":0,"hold_count":0}]}\n'),
+        check_words(program, [script, "-"], "\n".join(BAD), 1, rows_of(BAD) + "verify expectations 0 hold 0\n"),
+        check_words(program, ["-", os.devnull], "no\n", 1, f"line 1 E01 no such command\n{NOTHING}\nverify expectations 0 hold 0\n"),
+        check_words(program, ["-", "-"], "addbridge A 00:00:00:00:00:01\n", 1, f"{NOTHING}\nverify expectations 0 hold 0\n"),
+        check_words(program, [script, "-"], "# none yet\n\n", 1, f"{NOTHING}\nverify expectations 0 hold 0\n"),
+        check_words(program, [script, "-"], "roots\n", 1, "policy 1 E01 no such expectation\nverify expectations 0 hold 0\n"),
+        check_words(program, [os.devnull, "-"], "\n".join(EMPTY), 1, rows_of(EMPTY) + "verify expectations 0 hold 0\n"),
+        check_words(program, ["--json", "-", os.devnull], "", 1, f'{{"query":"verify","records":[{NOTHING_RECORD},{{"kind":"verify","expectation_count":0,"hold_count":0}}]}}\n'),
+        check_unjudged(program, script),
     ]
 
 

@@ -44,13 +44,13 @@ use Rattle.mst_sweep.specs.declared.failure.Failure.{Failure}
 use Rattle.mst_sweep.specs.declared.failure.Failure.TheVariants.{Lan, Bridge}
 use Rattle.mst_sweep.proofs.Failed.{are_left}
 use Rattle.mst_sweep.proofs.SweptParts.{zip_joined}
-use Rattle.mst_verify.specs.Missing.{has_one, lacks_bridge, lacks_lan, lacks_port, lacks_tree, lans_of, missing, scope_lans}
+use Rattle.mst_verify.specs.Missing.{has_one, lans_of, missing, scope_lans}
 use Rattle.mst_verify.specs.Over.{HasItsLan, is_lan}
-use Rattle.mst_verify.specs.Judged.{gone_of}
-use Rattle.mst_verify.specs.Verified.{AreLineReasons, AreReasonsAfter, asks_at, expected_at, judged, judged_of, where_whole}
+use Rattle.mst_verify.specs.Judged.{asks_at, gone_of}
+use Rattle.mst_verify.specs.Verified.{AreLineReasons, AreReasonsAfter, expected_at, judged, judged_of, where_whole}
 use Rattle.mst_verify.specs.declared.lacking.Missing.{Missing}
-use Rattle.mst_verify.specs.declared.lacking.Missing.TheVariants as lacking
 use Rattle.mst_verify.specs.declared.reason.Reason.{Reason}
+use Rattle.mst_verify.proofs.JudgedSomewhere.{whole}
 use Rattle.mst_report.specs.Verifying.{AreJudged, AreReasonsEach, AreReasonsIf, HaveLans, asked_by, expected_by}
 use Rattle.mst_report.proofs.SweepThere.{all_joined}
 
@@ -102,17 +102,6 @@ all_appended : {A : Type 0} (test : A → Bool) (xs ys : List A) → list_all te
 all_appended test [] ys e = e
 all_appended test (x ∷ xs) ys e = all_appended test xs ys (and_second (test x) (list_all test (xs ++ ys)) e)
 
--- nothing is missing: so no LAN is
-whole_lans : (net : Net) (promise : Promise) → missing net promise ≡ None → lacks_lan net promise ≡ false
-whole_lans net promise e = by (lacks_tree net promise) (lacks_bridge net promise) (lacks_port net promise) (lacks_lan net promise) e
-  where
-    by : (a b c d : Bool) → cond a (Some lacking.Tree) (cond b (Some lacking.Bridge) (cond c (Some lacking.Port) (cond d (Some lacking.Lan) None))) ≡ None → d ≡ false
-    by a b c false e = refl
-    by true b c true e = absurd (cc)
-    by false true c true e = absurd (cc)
-    by false false true true e = absurd (cc)
-    by false false false true e = absurd (cc)
-
 -- so the LAN that it names is there
 tied_names : (net : Net) (lan : List ℕ) → list_any (item_has (Is lan)) (fin.keys net.lans) ≡ list_any (eq_by_cmp name_cmp lan) (fin.keys net.lans)
 tied_names net lan = λ i. list_any (λ x. names.ties lan x i) (fin.keys net.lans)
@@ -139,7 +128,7 @@ has_lan net expect.Fits h = tt
 judged_lan : (net : Net) (promise : Promise) → missing net promise ≡ None → HasItsLan net promise.expectation
 judged_lan net promise e =
     has_lan net promise.expectation (all_appended (has_one (fin.keys net.lans)) (scope_lans promise.scope) (lans_of promise.expectation)
-    (not_false (list_all (has_one (fin.keys net.lans)) (scope_lans promise.scope ++ lans_of promise.expectation)) (whole_lans net promise e)))
+    (not_false (list_all (has_one (fin.keys net.lans)) (scope_lans promise.scope ++ lans_of promise.expectation)) (whole net promise e).0))
 
 pub have_lans : (net : Net) (place : Option Failure) → HaveLans net net place
 have_lans net place line e h = go line.read h

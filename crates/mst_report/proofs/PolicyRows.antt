@@ -14,7 +14,8 @@ use Rattle.mst_picture.specs.trees.Outcome.{Outcome}
 use Rattle.mst_rows.specs.Rows.{Row}
 use Rattle.mst_sweep.specs.declared.failure.Failure.{Failure}
 use Rattle.mst_sweep.proofs.SweptParts.{zip_joined}
-use Rattle.mst_verify.specs.Verified.{AreLineReasons, AreReasonsAt, IsTold, IsToldAt, IsToldIn, asks_at, expected_at, joined, judged, places, reason_rows}
+use Rattle.mst_verify.specs.Judged.{asks_at, places}
+use Rattle.mst_verify.specs.Verified.{AreLineReasons, AreReasonsAt, IsTold, IsToldAt, IsToldIn, expected_at, joined, judged, reason_rows}
 use Rattle.mst_verify.specs.declared.reason.Reason.{Reason}
 use Rattle.mst_report.specs.Verifying.{AreReasonsEach, FindsAt, FoundIn, StandsAt, rows_at}
 use Rattle.mst_report.specs.declared.judging.Finding.{Finding}

@@ -6,28 +6,9 @@ use Rattle.mst_net.specs.Tables.{Net}
 use Rattle.mst_policy.specs.declared.policy.PolicyLine.{PolicyLine}
 use Rattle.mst_picture.specs.diff.Reach.{has_any}
 use Rattle.mst_rows.specs.Rows.{Row}
-use Rattle.mst_verify.specs.Told.{verified_row}
 use Rattle.mst_verify.specs.Verified.{Counts, joined, refused_rows}
 use Rattle.mst_report.specs.Verifying.{Judges, tells_some}
 use Rattle.mst_report.proofs.PolicyRows.{any_joined, counts}
-
-none_joined : {A : Type 0} (ys : List A) (y : A) → [] ≡ ys ++ y ∷ [] → ⊥
-none_joined [] y e = absurd (cc)
-none_joined (z ∷ zs) y e = absurd (cc)
-
--- lists with one behind them each that are the same are so without it
-pub same_front : {A : Type 0} (xs ys : List A) (x y : A) → xs ++ x ∷ [] ≡ ys ++ y ∷ [] → xs ≡ ys
-same_front [] [] x y e = refl
-same_front [] (z ∷ zs) x y e =
-    let none : [] ≡ zs ++ y ∷ [] = cc in
-    absurd (none_joined zs y none)
-same_front (w ∷ ws) [] x y e =
-    let none : [] ≡ ws ++ x ∷ [] = cc in
-    absurd (none_joined ws x none)
-same_front (w ∷ ws) (z ∷ zs) x y e =
-    let first : w ≡ z = cc in
-    let others : ws ++ x ∷ [] ≡ zs ++ y ∷ [] = cc in
-    λ i. first i ∷ same_front ws zs x y others i
 
 -- rows one after another are some just where one of them is counted
 some_counted : (b : Bool) (n : ℕ) → nat_lt 0 (counts b + n) ≡ (b || nat_lt 0 n)
@@ -40,13 +21,12 @@ any_counted f (x ∷ xs) =
     ap (nat_lt 0) (sum_by-cons (λ y. counts (has_any (f y))) x xs) ∙ some_counted (has_any (f x)) (count_by (λ y. has_any (f y)) xs)
     ∙ ap (λ b. has_any (f x) || b) (any_counted f xs) ∙ sym (any_joined (f x) (flat_map f xs))
 
--- so a policy has rows but the last one just where some line is refused or isn't kept
+-- so a policy's lines have rows just where some line is refused or isn't kept
 pub judged_some : (net : Net) (lines : List PolicyLine) (n : Counts) (rows : List Row) → Judges net lines n rows → tells_some n ≡ has_any rows
 judged_some net lines n rows j =
-    let is = j.told.told in
+    let is = j.told in
     let refused : List Row = flat_map (refused_rows net) lines in
     let others : List Row = joined is.told in
-    let front : rows ≡ refused ++ others = same_front rows (refused ++ others) (verified_row n.judged j.holding) (verified_row n.judged is.holding) is.are in
     (λ i. nat_lt 0 (is.refused i) || nat_lt 0 (is.failing i))
     ∙ (λ i. any_counted (refused_rows net) lines i || any_counted (λ (r : List Row). r) is.told i)
-    ∙ sym (any_joined refused others) ∙ ap has_any (sym front)
+    ∙ sym (any_joined refused others) ∙ ap has_any (sym is.are)

@@ -15,21 +15,29 @@ use Rattle.mst_picture.proofs.trees_lemmas.Lists.{no_some, some_is}
 use Rattle.mst_rows.specs.Rows.{Row}
 use Rattle.mst_sweep.specs.Failures.{edit_of, failures}
 use Rattle.mst_sweep.specs.declared.failure.Failure.{Failure}
-use Rattle.mst_verify.specs.Judged.{gone_of}
+use Rattle.mst_verify.specs.Judged.{gone_of, places}
 use Rattle.mst_verify.specs.Named.{Gone}
 use Rattle.mst_verify.specs.Reasons.{AreReasons}
 use Rattle.mst_verify.specs.Told.{verified_row}
-use Rattle.mst_verify.specs.Verified.{AreLineReasons, AreReasonsAfter, AreReasonsAt, Counts, IsTold, IsToldAt, expected_at, joined, judged, places, reason_rows, refused_rows}
+use Rattle.mst_verify.specs.Verified.{AreLineReasons, AreReasonsAfter, AreReasonsAt, Counts, IsJudged, IsTold, IsToldAt, IsToldWhereBroken, expected_at, joined, judged, reason_rows, refused_rows, whole_rows, with_whole}
 use Rattle.mst_verify.specs.declared.reason.Reason.{Reason}
 use Rattle.mst_verify.proofs.Failed.{can_fail}
-use Rattle.mst_report.specs.Verifying.{Verifies}
+use Rattle.mst_report.specs.Verifying.{Judges, Verifies}
+use Rattle.mst_report.proofs.Judgements.{zip_weaker}
 use Rattle.mst_report.proofs.PolicyRows.{all_counted}
 
 module _ (net : Net) (is : IsNetwork net) (outcomes : (net : Net) → IsNetwork net → (o : Outcome) × IsOutcome net o)
     (networks : (edit : Edit) (net new : Net) → InRange edit → IsNetwork net → after edit net ≡ Ok new → IsNetwork new)
-    (some : (net : Net) (o : Outcome) (before : Net) (gone : Gone) (e : Expectation) → IsNetwork net → IsOutcome net o → (reasons : List Reason) × AreReasons net o before gone e reasons) where
+    (some : (net : Net) (o : Outcome) (before : Net) (gone : Gone) (e : Expectation) → IsNetwork net → IsOutcome net o → (reasons : List Reason) × AreReasons net o before gone e reasons)
+    (unkept : (net : Net) (o : Outcome) (line : PolicyLine) (rows : List Row) → IsNetwork net → IsOutcome net o → IsTold net o line rows → IsToldWhereBroken net o line rows) where
   abbrev o : Outcome
   o = (outcomes net is).0
+
+  abbrev settled : IsOutcome net o
+  settled = (outcomes net is).1
+
+  broken : (line : PolicyLine) (rows : List Row) → IsTold net o line rows → IsToldWhereBroken net o line rows
+  broken line rows told = unkept net o line rows is settled told
 
   -- ---- one place
   after_it : (failure : Failure) → Contains (failures net) failure → (e : Expectation) → (reasons : List Reason) × AreReasonsAfter net failure e reasons
@@ -75,17 +83,35 @@ module _ (net : Net) (is : IsNetwork net) (outcomes : (net : Net) → IsNetwork 
   all_told [] = ([], tt)
   all_told (line ∷ lines) = let first = line_told line in let rest = all_told lines in (first.0 ∷ rest.0, (first.1, rest.1))
 
-  pub has_verification : (lines : List PolicyLine) → (counts : Counts) × (rows : List Row) × Verifies net lines counts rows
-  has_verification lines =
+  all_judged : (lines : List PolicyLine) → (counts : Counts) × (rows : List Row) × IsJudged net o lines counts rows
+  all_judged lines =
       let t = all_told lines in
       let counted = all_counted net o lines t.0 t.1 in
       let counts : Counts =
       record { refused = count_by (λ line. has_any (refused_rows net line)) lines; judged = count_by (λ line. is_some (judged net line)) lines; failing = count_by has_any t.0 } in (
         counts,
-        flat_map (refused_rows net) lines ++ joined t.0 ++ verified_row counts.judged counted.0 ∷ [],
+        flat_map (refused_rows net) lines ++ joined t.0,
         record {
-          outcome = o;
-          is_outcome = (outcomes net is).1;
-          told = record { told = t.0; each = t.1; refused = refl; judged_are = refl; failing = refl; holding = counted.0; hold = counted.1; are = refl };
+          told = t.0;
+          each = t.1;
+          broken = zip_weaker (IsTold net o) (IsToldWhereBroken net o) broken lines t.0 t.1;
+          refused = refl;
+          judged_are = refl;
+          failing = refl;
+          holding = counted.0;
+          hold = counted.1;
+          are = refl;
         },
+      )
+
+  pub has_judgement : (lines : List PolicyLine) → (counts : Counts) × (rows : List Row) × Judges net lines counts rows
+  has_judgement lines = let own = all_judged lines in (own.0, own.1, record { outcome = o; is_outcome = settled; told = own.2 })
+
+  pub has_verification : (lines : List PolicyLine) → (counts : Counts) × (rows : List Row) × Verifies net lines counts rows
+  has_verification lines =
+      let own = all_judged lines in
+      let told = own.2 in (
+        with_whole lines own.0,
+        whole_rows lines ++ own.1 ++ verified_row own.0.judged told.holding ∷ [],
+        record { outcome = o; is_outcome = settled; told = record { own = own.0; told = own.1; judged = told; counted = refl; are = refl } },
       )

@@ -45,7 +45,7 @@ abbrev pub numbers_of : ℕ → List LineRead → Step
 numbers_of n lines = record { number = n; first = number_at lines 0; last = number_at lines (length lines - 1) }
 
 -- ---- what is told of a step
--- with a policy, these are its rows in the network, but for the last one
+-- with a policy, these are the rows of its lines in the network
 abbrev pub AreJudgedBy : Option (List PolicyLine) → Net → List Row → Type 0
 AreJudgedBy None net rows = rows ≡ []
 AreJudgedBy (Some lines) net rows = (counts : Counts) × Judges net lines counts rows

@@ -13,12 +13,12 @@ use Rattle.mst_picture.specs.trees.Settled.{outcome_of}
 use Rattle.mst_picture.specs.diff.Reach.{has_any}
 use Rattle.mst_picture.specs.summary.Kept.{AreClasses}
 use Rattle.mst_sweep.specs.declared.failure.Failure.{Failure}
+use Rattle.mst_verify.specs.Judged.{asks_at, places}
 use Rattle.mst_verify.specs.Named.{Gone}
 use Rattle.mst_verify.specs.Over.{HasItsLan}
 use Rattle.mst_verify.specs.Reasons.{AreReasons}
 use Rattle.mst_verify.specs.Seen.{IsBefore}
-use Rattle.mst_verify.specs.Verified.{AreLineReasons, Counts, IsTold, IsToldAt, IsToldIn, IsVerified, asks_at, expected_at, joined, judged, places, reason_rows, refused_rows}
-use Rattle.mst_verify.specs.Told.{verified_row}
+use Rattle.mst_verify.specs.Verified.{AreLineReasons, Counts, IsJudged, IsTold, IsToldAt, IsToldIn, IsVerified, expected_at, joined, judged, reason_rows, refused_rows}
 use Rattle.mst_verify.specs.declared.reason.Reason.{Reason}
 use Rattle.mst_report.specs.declared.judging.Finding.{Finding}
 use Rattle.mst_report.specs.declared.judging.Judging.{Judging}
@@ -35,11 +35,11 @@ pub record Verifies (net : Net) (lines : List PolicyLine) (counts : Counts) (row
 abbrev pub counts_of : Verdict → Counts
 counts_of v = record { refused = v.refused; judged = v.judged; failing = v.failing }
 
--- these are its rows but for the last one, which says so
+-- these are the rows of its lines alone
 pub record Judges (net : Net) (lines : List PolicyLine) (counts : Counts) (rows : List Row) : Type 0 where
-  pub holding : ℕ
-  pub hold : counts.judged ≡ counts.failing + holding
-  pub told : Verifies net lines counts (rows ++ verified_row counts.judged holding ∷ [])
+  pub outcome : Outcome
+  pub is_outcome : IsOutcome net outcome
+  pub told : IsJudged net outcome lines counts rows
 
 -- some line is refused, or isn't kept
 abbrev pub tells_some : Counts → Bool

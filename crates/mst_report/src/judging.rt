@@ -12,10 +12,10 @@ ghost use Rattle.mst_report.specs.Sweeping.{IsViewBut};
 ghost use Rattle.mst_report.specs.Verifying.{AreFound, AreJudged, AreReasonsEach, AreReasonsIf, FindsAt, HaveLans, IsJudging, expected_by, plan_outcome, reasons_in, rows_at};
 ghost use Rattle.mst_sweep.specs.Failures.{edit_of};
 ghost use Rattle.mst_verify.specs.Islands.{AreKept};
-ghost use Rattle.mst_verify.specs.Judged.{gone_of};
+ghost use Rattle.mst_verify.specs.Judged.{asks_at, gone_of};
 ghost use Rattle.mst_verify.specs.Over.{HasItsLan};
 ghost use Rattle.mst_verify.specs.Seen.{IsBefore};
-ghost use Rattle.mst_verify.specs.Verified.{asks_at, expected_at, judged as judged_in, reason_rows};
+ghost use Rattle.mst_verify.specs.Verified.{expected_at, judged as judged_in, reason_rows};
 
 use crate::plan::Plan;
 use crate::sweeping::{renew, trees_ahead};
@@ -46,7 +46,7 @@ pub(crate) struct Judging<'a> {
     pub(crate) flags: &'a [bool],
 }
 
-/// Whether a line is judged: it is read, and the network has what it names.
+/// Whether a line is judged: it is read, the network has what it names, and something is judged of it there.
 fn is_judged(plan: &Settled, line: &PolicyLine) -> bool
     ensures { result ≡ is_some (judged_in plan.now.net line.now) }
 {

@@ -25,7 +25,7 @@ ghost use Rattle.mst_report.specs.Picturing.{Depicts, DepictsVlan};
 ghost use Rattle.mst_report.specs.Summarizing.{Summarizes};
 ghost use Rattle.mst_report.specs.Pairing.{SweepsPairs, SweepPairsParts};
 ghost use Rattle.mst_report.specs.Sweeping.{Sweeps, SweepsPart, SweepParts};
-ghost use Rattle.mst_report.specs.Verifying.{Verifies};
+ghost use Rattle.mst_report.specs.Verifying.{Judges, Verifies};
 ghost use Rattle.mst_policy.specs.declared.policy.PolicyLine.{PolicyLine as LineOf};
 ghost use Rattle.mst_verify.specs.Verified.{Counts as PolicyCounts};
 ghost use Rattle.mst_sweep.specs.SweepParts.{PartOf, ToldOfPart, whole_part, but_last_row};
@@ -40,7 +40,7 @@ use mst_picture::plan_text_laws::{has_plan, one_plan};
 use mst_picture::text_laws::{has_rows, one_rows};
 use mst_picture::trees_laws::{has_outcome, one_outcome};
 use mst_sweep::laws::one_failure;
-use mst_verify::laws::reason_lists;
+use mst_verify::laws::{reason_lists, told_where_unkept};
 
 /// Each query has an answer in each state, rows or a refusal.
 pub fn has_answer()
@@ -161,6 +161,19 @@ pub fn one_verification()
     has_outcome();
     networks();
     reason_lists();
+    told_where_unkept();
+    mst_verify::laws::one_verification();
+}
+
+/// What is told of a policy's lines alone, as behind a step: each network has one list of rows and one count of them, too.
+pub fn one_judgement()
+    ensures some { (net : Net) (lines : List LineOf) → IsNetwork net → (counts : PolicyCounts) × (rows : List Row) × Judges net lines counts rows }
+    ensures one { (net : Net) (lines : List LineOf) (c d : PolicyCounts) (rows other : List Row) → IsNetwork net → Judges net lines c rows → Judges net lines d other → (c ≡ d) × (rows ≡ other) }
+{
+    has_outcome();
+    networks();
+    reason_lists();
+    told_where_unkept();
     mst_verify::laws::one_verification();
 }
 

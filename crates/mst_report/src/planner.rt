@@ -318,8 +318,9 @@ impl Planner {
     }
 
     /// Puts whether the network does what a policy promises: the policy's refused lines, then for each line that is judged why it isn't
-    /// kept, in the network itself and then in that of each failure for which it asks, and a last row that counts them. Each failure that
-    /// some line asks for is looked at once, by one repair of the plan that stands, and isn't made. `AllocError`: memory was wanted and
+    /// kept, in the network itself and then in that of each failure for which it asks, and a last row that counts them. A line that is
+    /// judged has no rows just where its promise is kept. A policy that has no line is refused as a whole, and so counts as a refused
+    /// line. Each failure that some line asks for is looked at once, by one repair of the plan that stands, and isn't made. `AllocError`: memory was wanted and
     /// refused; some of the rows may have been put. The planner is as it was in either case, but for room for edits.
     pub fn put_verification<R: Rows>(
         &mut self,
@@ -329,7 +330,7 @@ impl Planner {
         requires { self.old.is_settled ≡ true }
         ensures told { (first : R) (before : List Row) → R.grew first out.old before
             → IfOk result (λ verdict. (rows : List Row) × Verifies self.old.contents.net policy.now (counts_of verdict) rows × R.grew first out.new (before ++ rows)) }
-        ensures few { IfOk result (λ verdict. verdict.refused ≤ length policy.now) }
+        ensures few { IfOk result (λ verdict. verdict.refused ≤ length policy.now + 1) }
         ensures same { SameContents self.old.contents self.new.contents }
         ensures settled { self.new.is_settled ≡ true }
         ensures standing { self.new.standing ≡ self.old.standing }

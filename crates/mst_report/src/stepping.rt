@@ -114,7 +114,7 @@ pub(crate) fn put_between<R: Rows>(
     put_step(alloc, deed, &old, &new, out)
 }
 
-/// Puts the rows of a policy of a network but for the last one, if there is a policy, and answers whether there are some.
+/// Puts the rows of a policy's lines of a network, if there is a policy, and answers whether there are some.
 fn put_judgement<R: Rows>(
     alloc: Global,
     network: &mut Network,

@@ -1,4 +1,4 @@
-ghost use Rattle.std.specs.Prelude.{◌≡◌, ◌++◌, ◌∷◌, [], ◌≤◌, List, IfOk, OnOk, count_by, length};
+ghost use Rattle.std.specs.Prelude.{◌≡◌, ◌+◌, ◌++◌, ◌∷◌, [], ◌≤◌, List, IfOk, OnOk, count_by, length};
 ghost use Rattle.std.specs.List.{flat_map};
 ghost use Rattle.mst_net.specs.Contents.{SameContents};
 ghost use Rattle.mst_net.specs.Tables.{Net};
@@ -8,7 +8,7 @@ ghost use Rattle.mst_report.specs.Kept.{IsPlan};
 ghost use Rattle.mst_report.specs.Sweeping.{Puts};
 ghost use Rattle.mst_report.specs.Verifying.{AreCounted, AreFound, AreTold, IsJudging, IsOpened, Judges, Verifies, counts_of, found_at, plan_outcome, rows_at, tells_some};
 ghost use Rattle.mst_rows.specs.Rows.{Row};
-ghost use Rattle.mst_verify.specs.Verified.{reason_rows, refused_row, refused_rows};
+ghost use Rattle.mst_verify.specs.Verified.{reason_rows, refused_row, refused_rows, whole_rows};
 
 use crate::judging::{Finding, Judging, find_all, judged_lines};
 use crate::plan::Plan;
@@ -18,7 +18,8 @@ use mst_picture::Settled;
 use mst_policy::{Policy, PolicyLine, text};
 use mst_rows::{Rows, Value, put};
 use mst_sweep::Failure;
-use mst_verify::{Before, Reason, missing_in, put_reason, put_verified};
+use mst_verify::laws::told_where_unkept;
+use mst_verify::{Before, Missing, Reason, missing_in, put_reason, put_verified};
 use std::alloc::{AllocError, Global};
 
 /// What is counted of a policy's lines.
@@ -58,7 +59,8 @@ fn put_refusal<'a, R: Rows>(
     put::<R>(Kind::Refusal(RefusalLine::Policy), &values, out)
 }
 
-/// Puts that a line is refused, if it is: it isn't read, or names what the network hasn't. Answers whether it is.
+/// Puts that a line is refused, if it is: it isn't read, names what the network hasn't, or nothing is judged of it there. Answers whether
+/// it is.
 fn put_refused_line<R: Rows>(
     plan: &Settled,
     line: &PolicyLine,
@@ -219,8 +221,8 @@ fn put_judged<R: Rows>(
     Ok((count_set(judging.flags), failing))
 }
 
-/// Puts the rows of a policy of a network but for the last one, by the network's plan. `AllocError`: memory was wanted and refused; some
-/// of the rows may have been put. The network is as it was in either case.
+/// Puts the rows of the lines of a policy of a network, by the network's plan. `AllocError`: memory was wanted and refused; some of the
+/// rows may have been put. The network is as it was in either case.
 pub(crate) fn judge_network<R: Rows>(
     alloc: Global,
     network: &mut Network,
@@ -233,6 +235,7 @@ pub(crate) fn judge_network<R: Rows>(
     ensures few { IfOk result (λ verdict. verdict.refused ≤ length lines.now) }
     ensures same { SameContents network.old network.new }
 {
+    told_where_unkept();
     let opened = opening(alloc, network, plan, lines, out)?;
     let judging = Judging {
         plan,
@@ -248,6 +251,21 @@ pub(crate) fn judge_network<R: Rows>(
     })
 }
 
+/// Puts that a policy as a whole is refused, if it is: it has no line. Answers how many lines that counts for.
+fn put_whole<R: Rows>(lines: &[PolicyLine], out: &mut R) -> Result<u64, AllocError>
+    ensures count { IfOk result (λ count. count ≡ length (whole_rows lines.now)) }
+    ensures few { IfOk result (λ count. count ≤ 1) }
+    ensures put { (first : R) (rows : List Row) → R.grew first out.old rows → OnOk result (R.grew first out.new (rows ++ whole_rows lines.now)) }
+{
+    match lines {
+        [] => {
+            put_refusal(0, Missing::Failure.code(), Missing::Failure.text(), out)?;
+            Ok(1)
+        }
+        _ => Ok(0),
+    }
+}
+
 /// Puts whether a network does what the lines of a policy promise, by its plan. `AllocError`: memory was wanted and refused; some of the
 /// rows may have been put. The network is as it was in either case.
 pub(crate) fn verify_network<R: Rows>(
@@ -259,10 +277,15 @@ pub(crate) fn verify_network<R: Rows>(
 ) -> Result<Verdict, AllocError>
     requires { IsPlan network.old.net network.old.numbers plan.now }
     ensures told { IfOk result (λ verdict. (rows : List Row) × Verifies network.old.net lines.now (counts_of verdict) rows × Puts R.grew out.old out.new rows) }
-    ensures few { IfOk result (λ verdict. verdict.refused ≤ length lines.now) }
+    ensures few { IfOk result (λ verdict. verdict.refused ≤ length lines.now + 1) }
     ensures same { SameContents network.old network.new }
 {
+    let whole = put_whole(lines, out)?;
     let verdict = judge_network(alloc, network, plan, lines, out)?;
     put_verified(verdict.judged, verdict.judged - verdict.failing, out)?;
-    Ok(verdict)
+    Ok(Verdict {
+        refused: whole + verdict.refused,
+        judged: verdict.judged,
+        failing: verdict.failing,
+    })
 }

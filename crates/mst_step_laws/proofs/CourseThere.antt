@@ -1,5 +1,5 @@
 -- There are rows of what the steps of a change do.
-use Rattle.std.proofs.Common.{◌≡◌, ℕ, ◌+◌, List, [], ◌∷◌, ◌++◌, Option, Some, None, Ok, refl, subst}
+use Rattle.std.proofs.Common.{◌≡◌, ℕ, ◌+◌, List, [], ◌∷◌, ◌++◌, Option, Some, None, Ok, refl}
 use Rattle.std.specs.List.{AllByRecursion, AllZip, flat_map}
 use Rattle.mst_change.specs.Reading.{IsInRange, LineRead}
 use Rattle.mst_change.specs.Steps.{all_lines}
@@ -11,11 +11,10 @@ use Rattle.mst_policy.specs.declared.policy.PolicyLine.{PolicyLine}
 use Rattle.mst_rows.specs.Rows.{Row}
 use Rattle.mst_diff.specs.trees.Outcome.{IsOutcome, Outcome}
 use Rattle.mst_steps.specs.declared.step.Deed.TheVariants as deed
-use Rattle.mst_verify.specs.Told.{verified_row}
-use Rattle.mst_verify.specs.Verified.{Counts, IsVerified, joined, refused_rows}
+use Rattle.mst_verify.specs.Verified.{Counts}
 use Rattle.mst_report.specs.Setting.{after_lines, refused_lines}
 use Rattle.mst_report.specs.Stepping.{AreJudgedBy, IsStepTold, StepMade, StepTold, Steps, course_of, course_row, numbers_of, rows_told, step_made, steps_made}
-use Rattle.mst_report.specs.Verifying.{Verifies}
+use Rattle.mst_report.specs.Verifying.{Judges}
 use Rattle.mst_report.specs.declared.stepping.Course.{Course}
 use Rattle.mst_step_laws.proofs.Courses.{all_first, all_others, lines_network}
 use Rattle.mst_step_laws.proofs.StepThere.{HasGroups, HasIslands, has_step}
@@ -24,26 +23,20 @@ module _ (stay : (edit : Edit) (net new : Net) → InRange edit → IsNetwork ne
     (settled : (net : Net) → IsNetwork net → (o : Outcome) × IsOutcome net o)
     (islands : (net : Net) (o : Outcome) → IsNetwork net → HasIslands net o)
     (grouping : HasGroups)
-    (verified : (net : Net) (lines : List PolicyLine) → IsNetwork net → (counts : Counts) × (rows : List Row) × Verifies net lines counts rows) where
-  -- the rows of a policy but for the last
+    (judged : (net : Net) (lines : List PolicyLine) → IsNetwork net → (counts : Counts) × (rows : List Row) × Judges net lines counts rows) where
+  -- the rows of a policy's lines
   some_judged : (policy : Option (List PolicyLine)) (net : Net) → IsNetwork net → (rows : List Row) × AreJudgedBy policy net rows
   some_judged None net is = ([], refl)
-  some_judged (Some lines) net is =
-      let v = verified net lines is in
-      let t = v.2.told in
-      let refused = flat_map (refused_rows net) lines in
-      let reasons = joined t.told in
-      let all : IsVerified net v.2.outcome lines v.0 (refused ++ reasons ++ verified_row v.0.judged t.holding ∷ []) = subst (IsVerified net v.2.outcome lines v.0) t.are t in
-      (refused ++ reasons, (v.0, record { holding = t.holding; hold = t.hold; told = record { outcome = v.2.outcome; is_outcome = v.2.is_outcome; told = all } }))
+  some_judged (Some lines) net is = let j = judged net lines is in (j.1, (j.0, j.2))
 
   some_told : (policy : Option (List PolicyLine)) (s : StepMade) → IsNetwork s.before → IsNetwork s.now → (t : StepTold) × IsStepTold policy s t
   some_told policy s before now =
       let o = settled s.before before in
       let p = settled s.now now in
       let own = has_step s.before s.now o.0 p.0 (islands s.before o.0 before) (islands s.now p.0 now) grouping (deed.Step (numbers_of s.number s.lines)) in
-      let judged = some_judged policy s.now now in (
-        record { refused = refused_lines s.before s.lines; own = own.0; does = own.1; judged = judged.0 },
-        record { before = o.0; is_before = o.1; now = p.0; is_now = p.1; refused = refl; own = own.2; judged = judged.1 },
+      let told = some_judged policy s.now now in (
+        record { refused = refused_lines s.before s.lines; own = own.0; does = own.1; judged = told.0 },
+        record { before = o.0; is_before = o.1; now = p.0; is_now = p.1; refused = refl; own = own.2; judged = told.1 },
       )
 
   some_list : (policy : Option (List PolicyLine)) (n : ℕ) (net : Net) (steps : List (List LineRead)) → IsNetwork net → AllByRecursion IsInRange (all_lines steps) → (told : List StepTold) × AllZip (IsStepTold policy) (steps_made n net steps) told

@@ -16,30 +16,11 @@ use Rattle.mst_steps.specs.StepText.{AreStepRows}
 use Rattle.mst_steps.specs.declared.step.Deed.{Deed}
 use Rattle.mst_steps.specs.declared.step.Deed.TheVariants as deed
 use Rattle.mst_steps.specs.declared.step.Stepped.{Stepped}
-use Rattle.mst_verify.specs.Told.{verified_row}
 use Rattle.mst_verify.specs.Verified.{Counts}
 use Rattle.mst_report.specs.Setting.{after_lines, after_steps, kept_or, set_by}
 use Rattle.mst_report.specs.Stepping.{AreJudgedBy, IsStepTold, StepMade, StepTold, Steps, course_of, course_row, numbers_of, rows_told, step_made, steps_made}
-use Rattle.mst_report.specs.Verifying.{Verifies}
+use Rattle.mst_report.specs.Verifying.{Judges}
 use Rattle.mst_report.specs.declared.stepping.Course.{Course}
-
--- ---- lists that end with one element more
-none_joined : {A : Type 0} (xs : List A) (x : A) → [] ≡ xs ++ x ∷ [] → ⊥
-none_joined [] x e = absurd (cc)
-none_joined (y ∷ xs) x e = absurd (cc)
-
-same_front : {A : Type 0} (xs ys : List A) (x y : A) → xs ++ x ∷ [] ≡ ys ++ y ∷ [] → xs ≡ ys
-same_front [] [] x y e = refl
-same_front [] (z ∷ zs) x y e =
-    let none : [] ≡ zs ++ y ∷ [] = cc in
-    absurd (none_joined zs y none)
-same_front (w ∷ ws) [] x y e =
-    let none : [] ≡ ws ++ x ∷ [] = cc in
-    absurd (none_joined ws x none)
-same_front (w ∷ ws) (z ∷ zs) x y e =
-    let first : w ≡ z = cc in
-    let others : ws ++ x ∷ [] ≡ zs ++ y ∷ [] = cc in
-    λ i. first i ∷ same_front ws zs x y others i
 
 -- ---- lines one after another
 pub steps_then : (net : Net) (steps others : List (List LineRead)) → after_steps net (steps ++ others) ≡ after_steps (after_steps net steps) others
@@ -82,21 +63,17 @@ module _ (stay : (edit : Edit) (net new : Net) → InRange edit → IsNetwork ne
   -- ---- what is told of a step
   module _ (one : (a b : Net) (o p q r : Outcome) → IsNetwork a → IsNetwork b → IsOutcome a o → IsOutcome b p → IsOutcome a q → IsOutcome b r
       → (step : Deed) (rows other : List Row) (told said : Stepped) → AreStepRows a o b p step rows told → AreStepRows a q b r step other said → (rows ≡ other) × (told ≡ said))
-      (verified : (net : Net) (lines : List PolicyLine) (c d : Counts) (rows other : List Row) → IsNetwork net → Verifies net lines c rows → Verifies net lines d other → (c ≡ d) × (rows ≡ other)) where
+      (judged : (net : Net) (lines : List PolicyLine) (c d : Counts) (rows other : List Row) → IsNetwork net → Judges net lines c rows → Judges net lines d other → (c ≡ d) × (rows ≡ other)) where
     one_judged : (policy : Option (List PolicyLine)) (net : Net) (rows other : List Row) → IsNetwork net → AreJudgedBy policy net rows → AreJudgedBy policy net other → rows ≡ other
     one_judged None net rows other is x y = x ∙ sym y
-    one_judged (Some lines) net rows other is x y =
-        let a = x.1 in
-        let b = y.1 in
-        same_front rows other (verified_row x.0.judged a.holding) (verified_row y.0.judged b.holding)
-        (verified net lines x.0 y.0 (rows ++ verified_row x.0.judged a.holding ∷ []) (other ++ verified_row y.0.judged b.holding ∷ []) is a.told b.told).1
+    one_judged (Some lines) net rows other is x y = (judged net lines x.0 y.0 rows other is x.1 y.1).1
 
     one_told : (policy : Option (List PolicyLine)) (s : StepMade) (t u : StepTold) → IsNetwork s.before → IsNetwork s.now → IsStepTold policy s t → IsStepTold policy s u → t ≡ u
     one_told policy s t u before now x y =
         let refused : t.refused ≡ u.refused = x.refused ∙ sym y.refused in
         let same = one s.before s.now x.before x.now y.before y.now before now x.is_before x.is_now y.is_before y.is_now (deed.Step (numbers_of s.number s.lines)) t.own u.own t.does u.does x.own y.own in
-        let judged : t.judged ≡ u.judged = one_judged policy s.now t.judged u.judged now x.judged y.judged in
-        λ i. record { refused = refused i; own = same.0 i; does = same.1 i; judged = judged i }
+        let told : t.judged ≡ u.judged = one_judged policy s.now t.judged u.judged now x.judged y.judged in
+        λ i. record { refused = refused i; own = same.0 i; does = same.1 i; judged = told i }
 
     one_list : (policy : Option (List PolicyLine)) (n : ℕ) (net : Net) (steps : List (List LineRead)) (told said : List StepTold) → IsNetwork net → AllByRecursion IsInRange (all_lines steps)
         → AllZip (IsStepTold policy) (steps_made n net steps) told → AllZip (IsStepTold policy) (steps_made n net steps) said → told ≡ said

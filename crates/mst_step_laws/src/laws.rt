@@ -19,7 +19,7 @@ use mst_diff::vlan_laws::islands_of_vid;
 use mst_graph::laws::group_lists;
 use mst_ids::Vid;
 use mst_net::laws::networks;
-use mst_report::laws::one_verification;
+use mst_report::laws::one_judgement;
 use mst_steps::laws::one_step;
 
 /// What the steps of a change do in a network: there is one list of rows and one count of them, which the network, the lines of the steps
@@ -30,7 +30,7 @@ pub fn one_course()
 {
     networks();
     one_step();
-    one_verification();
+    one_judgement();
 }
 
 /// Each change has rows of what its steps do in a network, with a policy or without one.
@@ -42,7 +42,7 @@ pub fn has_course()
     has_outcome();
     islands_of_vid();
     group_lists::<Vid>();
-    one_verification();
+    one_judgement();
 }
 
 /// Each VID that a step cuts or joins is in a `reach` row of the diff of the networks before it and after it. Where the step cuts the VID, the row

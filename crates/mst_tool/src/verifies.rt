@@ -1,4 +1,4 @@
-ghost use Rattle.std.specs.Prelude.{◌≡◌, ◌≤◌, ◌<◌, ◌↔◌, ◌⊎◌, ◌^◌, ℕ, false, length, List, Option, Err, IfOk, IsOk, OnErr};
+ghost use Rattle.std.specs.Prelude.{◌≡◌, ◌+◌, ◌≤◌, ◌↔◌, ◌⊎◌, ◌^◌, ℕ, false, length, List, Option, Err, IfOk, IsOk, OnErr};
 ghost use Rattle.mst_engine.specs.Served.{IsFew};
 ghost use Rattle.mst_engine.specs.report.Planned.{planned_state};
 ghost use Rattle.mst_io.specs.Devices.{Hears, Works, IsBroken, IsCut, IsRead, IsCalled, StopsAtZero};
@@ -22,8 +22,9 @@ use std::io::{Read, Write};
 /// The script is read as by [`run`](crate::run), but its queries and its marks do nothing and print nothing, and none is refused. Then
 /// the policy is read: its lines are cut as a script's are, and a blank line or a comment is none. After the lines that the script
 /// prints the answer is written: `policy N CODE TEXT` for each line of the policy that is refused, then for each other one why it isn't
-/// kept, and a last line with how many are judged and how many hold. Each refused line of the policy counts as one of the script does,
-/// and lines that aren't kept as one that differs.
+/// kept, and a last line with how many are judged and how many hold. Of a line that is judged something is told just where its promise
+/// isn't kept, and each of them is judged in some network: a line of which nothing is judged is refused, and so is, as line 0, a policy
+/// that has no line. Each refused line of the policy counts as one of the script does, and lines that aren't kept as one that differs.
 ///
 /// The readers and the writer are called as by [`run`](crate::run), and that of the policy once the script has ended. After
 /// [`RunFault::Read`] all that the complete lines of the script print has gone out, of what was read, and nothing else; after
@@ -131,7 +132,7 @@ fn verified(
     policy: &Policy,
 ) -> Result<Verification, AllocError>
     ensures told { IfOk result (λ found. TellsVerification form (planned_state planner.old).net policy.now (counts_of found) found.text.items) }
-    ensures few { IfOk result (λ found. found.refused ≤ length policy.now) }
+    ensures few { IfOk result (λ found. found.refused ≤ length policy.now + 1) }
 {
     planner.settle()?;
     let mut printer = open_question(alloc, form, Query::Verify)?;
@@ -148,7 +149,7 @@ fn verified(
 /// What was counted of the script and of the policy.
 fn with_verdict(script: &Outcome, found: &Verification) -> Outcome
     requires script { IsFew script.now }
-    requires policy { found.now.refused < 2 ^ 60 }
+    requires policy { found.now.refused ≤ 2 ^ 60 }
     ensures { result ≡ counted_with script.now (counts_of found.now) }
 {
     Outcome {

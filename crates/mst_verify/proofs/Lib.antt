@@ -37,3 +37,5 @@ pub mod SomeReasons
 pub mod OneVerified
 pub mod ReachLinked
 pub mod CutsFail
+pub mod KeptTold
+pub mod JudgedSomewhere

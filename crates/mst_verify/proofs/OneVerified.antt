@@ -16,12 +16,12 @@ use Rattle.mst_summary.proofs.trees_lemmas.Lists.{no_some, some_is}
 use Rattle.mst_sweep.specs.Failures.{edit_of, failures}
 use Rattle.mst_sweep.specs.declared.failure.Failure.{Failure}
 use Rattle.mst_sweep.proofs.OneSweep.{zip_same}
-use Rattle.mst_verify.specs.Judged.{gone_of}
+use Rattle.mst_verify.specs.Judged.{gone_of, places}
 use Rattle.mst_verify.specs.Named.{Gone}
-use Rattle.mst_verify.specs.OneText.{HasOneList, AreOneText}
+use Rattle.mst_verify.specs.OneText.{AreOneJudgement, AreOneText, HasOneList}
 use Rattle.mst_verify.specs.Reasons.{AreReasons}
 use Rattle.mst_verify.specs.Told.{verified_row}
-use Rattle.mst_verify.specs.Verified.{AreReasonsAfter, AreReasonsAt, AreLineReasons, Counts, IsTold, IsToldAt, IsVerified, expected_at, joined, places, reason_rows, refused_rows}
+use Rattle.mst_verify.specs.Verified.{AreReasonsAfter, AreReasonsAt, AreLineReasons, Counts, IsJudged, IsTold, IsToldAt, IsVerified, expected_at, joined, reason_rows, refused_rows, whole_rows, with_whole}
 use Rattle.mst_verify.specs.declared.reason.Reason.{Reason}
 use Rattle.mst_verify.proofs.Failed.{in_range}
 
@@ -67,7 +67,7 @@ module _ (single : (net : Net) (o p : Outcome) → IsNetwork net → IsOutcome n
     one_line rows other x y = x.are ∙ ap joined (zip_same (IsToldAt net o line) (IsToldAt net o line) (places net) x.told y.told told_same x.each y.each) ∙ sym y.are
 
   -- ---- all lines
-  module _ (lines : List PolicyLine) (c d : Counts) (rows other : List Row) (x : IsVerified net o lines c rows) (y : IsVerified net o lines d other) where
+  module _ (lines : List PolicyLine) (c d : Counts) (rows other : List Row) (x : IsJudged net o lines c rows) (y : IsJudged net o lines d other) where
     all_same : x.told ≡ y.told
     all_same = zip_same (IsTold net o) (IsTold net o) lines x.told y.told (λ line _. one_line line) x.each y.each
 
@@ -85,11 +85,28 @@ module _ (single : (net : Net) (o p : Outcome) → IsNetwork net → IsOutcome n
         let failing = failing_same in
         omega arith
 
-    pub counts_same : c ≡ d
+    counts_same : c ≡ d
     counts_same = λ i. record { refused = (x.refused ∙ sym y.refused) i; judged = judged_same i; failing = failing_same i }
 
-    pub rows_same : rows ≡ other
-    rows_same = x.are ∙ (λ i. flat_map (refused_rows net) lines ++ joined (all_same i) ++ verified_row (judged_same i) (holding_same i) ∷ []) ∙ sym y.are
+    rows_same : rows ≡ other
+    rows_same = x.are ∙ (λ i. flat_map (refused_rows net) lines ++ joined (all_same i)) ∙ sym y.are
+
+  pub one_judgement : (lines : List PolicyLine) → AreOneJudgement net o o lines
+  one_judgement lines = λ c d rows other x y. (counts_same lines c d rows other x y, rows_same lines c d rows other x y)
+
+  -- ---- and of the whole
+  module _ (lines : List PolicyLine) (c d : Counts) (rows other : List Row) (x : IsVerified net o lines c rows) (y : IsVerified net o lines d other) where
+    own_same : x.own ≡ y.own
+    own_same = counts_same lines x.own y.own x.told y.told x.judged y.judged
+
+    all_counts_same : c ≡ d
+    all_counts_same = x.counted ∙ ap (with_whole lines) own_same ∙ sym y.counted
+
+    all_rows_same : rows ≡ other
+    all_rows_same =
+        let told = rows_same lines x.own y.own x.told y.told x.judged y.judged in
+        let holding = holding_same lines x.own y.own x.told y.told x.judged y.judged in
+        x.are ∙ (λ i. whole_rows lines ++ told i ++ verified_row (own_same i).judged (holding i) ∷ []) ∙ sym y.are
 
   pub one_text : (lines : List PolicyLine) → AreOneText net o o lines
-  one_text lines = λ c d rows other x y. (counts_same lines c d rows other x y, rows_same lines c d rows other x y)
+  one_text lines = λ c d rows other x y. (all_counts_same lines c d rows other x y, all_rows_same lines c d rows other x y)

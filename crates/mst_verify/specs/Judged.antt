@@ -1,5 +1,5 @@
 -- In which networks a promise is judged, and that it is kept.
-use Rattle.std.specs.Prelude.{◌≡◌, ℕ, ◌&&◌, ◌||◌, not, Bool, true, false, List, None, Some, Ok}
+use Rattle.std.specs.Prelude.{◌≡◌, ℕ, ◌&&◌, ◌||◌, not, Bool, true, false, List, ◌∷◌, Option, None, Some, Ok, map}
 use Rattle.std.specs.List.{Contains}
 use Rattle.std.specs.Option.{option_map_or}
 use Rattle.mst_summary.specs.net.After.{after}
@@ -18,6 +18,11 @@ use Rattle.mst_policy.specs.declared.expectation.Scope.TheVariants as scope
 use Rattle.mst_policy.specs.declared.expectation.Promise.{Promise}
 use Rattle.mst_verify.specs.Named.{Gone}
 use Rattle.mst_verify.specs.Holds.{Holds}
+
+-- the name of what fails
+abbrev pub name_of : Failure → List ℕ
+name_of (failing.Lan lan) = lan
+name_of (failing.Bridge bridge) = bridge
 
 -- the bridge that a failure takes away
 abbrev pub gone_of : Failure → Gone
@@ -59,6 +64,21 @@ scope_asks _ failure is_own = false
 
 abbrev pub asks : Promise → Failure → Bool
 asks promise failure = scope_asks promise.scope failure (fails_its_own promise.expectation failure)
+
+-- where promises can be judged: in the network itself, and in that of each failure
+abbrev pub places : Net → List (Option Failure)
+places net = None ∷ map Some (failures net)
+
+-- one is judged there
+abbrev pub asks_at : Promise → Option Failure → Bool
+asks_at promise None = asks_now promise.scope
+asks_at promise (Some failure) = asks promise failure
+
+-- it is judged somewhere
+pub record IsJudgedSomewhere (net : Net) (promise : Promise) : Type 0 where
+  pub place : Option Failure
+  pub there : Contains (places net) place
+  pub is_asked : asks_at promise place ≡ true
 
 -- the expectation holds in the network that a failure makes
 abbrev pub HoldsAfter : Net → Failure → Expectation → Type 0

@@ -14,6 +14,7 @@ use Rattle.mst_summary.specs.plan_text.config.Regions.{same_region}
 use Rattle.mst_lag.specs.Aggregation.{same_name}
 use Rattle.mst_lag.specs.Viewed.{Viewed}
 use Rattle.mst_lag.specs.declared.in_view.BridgeInView.{BridgeInView}
+use Rattle.mst_lag.specs.declared.in_view.MemberLan.{MemberLan}
 use Rattle.mst_lag.specs.declared.in_view.PortInView.{PortInView}
 use Rattle.mst_note_text.specs.declared.children.Child.{Child}
 use Rattle.mst_summary.specs.trees.Forest.{Forest}
@@ -25,9 +26,12 @@ use Rattle.mst_summary.specs.diff.Reach.{has_any}
 use Rattle.mst_summary.specs.Roots.{follower}
 use Rattle.mst_summary.specs.declared.roots.Follower.{Follower}
 use Rattle.mst_policy.specs.Items as policy
+use Rattle.mst_policy.specs.declared.expectation.Promise.{Promise}
 use Rattle.mst_policy.specs.declared.expectation.Roles.{Roles}
 use Rattle.mst_policy.specs.declared.item.NameItem.{NameItem}
 use Rattle.mst_policy.specs.declared.item.PortItem.{PortItem}
+use Rattle.mst_sweep.specs.declared.failure.Failure.TheVariants as failing
+use Rattle.mst_verify.specs.Judged.{asks}
 use Rattle.mst_verify.specs.Named.{Gone, is_named, is_enabled}
 use Rattle.mst_verify.specs.Holds.{is_wanted}
 use Rattle.mst_verify.specs.Reasons.{same_role}
@@ -50,6 +54,14 @@ seen_either gone names others b = (bridge_row b.bridge).is_on && (is_named gone 
 -- a part has bridges of both lists
 abbrev pub are_of_both : Gone → List NameItem → List NameItem → List (List ℕ) → Bool
 are_of_both gone names others part = list_any (is_named gone names) part && list_any (is_named gone others) part
+
+-- ---- failures
+-- a LAN is up, or a bridge on, that an item has, and a promise is judged after its failure
+abbrev pub seen_lan_fails : Promise → NameItem → MemberLan → Bool
+seen_lan_fails promise item lan = lan.is_up && (policy.item_has item lan.name && asks promise (failing.Lan lan.name))
+
+abbrev pub seen_bridge_fails : Promise → NameItem → BridgeInView → Bool
+seen_bridge_fails promise item b = (bridge_row b.bridge).is_on && (policy.item_has item b.name && asks promise (failing.Bridge b.name))
 
 -- ---- ports
 -- a port isn't enabled that was so before

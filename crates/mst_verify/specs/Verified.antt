@@ -1,5 +1,5 @@
 -- The rows of a whole policy: its refused lines, why each other one isn't kept, and how many are.
-use Rattle.std.specs.Prelude.{◌≡◌, ◌+◌, ℕ, Bool, is_some, count_by, List, [], ◌∷◌, ◌++◌, Option, None, Some, Result, Ok, Err, MatchOption, map, if◌then◌else◌}
+use Rattle.std.specs.Prelude.{◌≡◌, ◌↔◌, ◌+◌, ℕ, is_some, count_by, length, List, [], ◌∷◌, ◌++◌, Option, None, Some, Result, Ok, Err, MatchOption, map, if◌then◌else◌}
 use Rattle.std.specs.List.{AllZip, flat_map}
 use Rattle.std.specs.Option.{option_and_then}
 use Rattle.mst_kinds.specs.declared.kind.Kind.TheVariants as kind
@@ -12,18 +12,19 @@ use Rattle.mst_summary.specs.diff.Reach.{has_any}
 use Rattle.mst_summary.specs.net.After.{after}
 use Rattle.mst_summary.specs.net.Tables.{Net}
 use Rattle.mst_summary.specs.trees.Outcome.{Outcome, IsOutcome}
-use Rattle.mst_sweep.specs.Failures.{edit_of, failures}
+use Rattle.mst_sweep.specs.Failures.{edit_of}
 use Rattle.mst_sweep.specs.declared.failure.Failure.{Failure}
 use Rattle.mst_policy.specs.Faults as policies
 use Rattle.mst_policy.specs.declared.expectation.Expectation.{Expectation}
 use Rattle.mst_policy.specs.declared.expectation.Promise.{Promise}
 use Rattle.mst_policy.specs.declared.policy.PolicyLine.{PolicyLine}
-use Rattle.mst_verify.specs.Judged.{asks, asks_now, gone_of}
+use Rattle.mst_verify.specs.Judged.{IsKept, asks_at, gone_of, places}
 use Rattle.mst_verify.specs.Missing.{missing}
 use Rattle.mst_verify.specs.Missing as lacking
 use Rattle.mst_verify.specs.Reasons.{AreReasons}
 use Rattle.mst_verify.specs.Told.{reason_row, verified_row}
 use Rattle.mst_verify.specs.declared.lacking.Missing.{Missing}
+use Rattle.mst_verify.specs.declared.lacking.Missing.TheVariants as missed
 use Rattle.mst_verify.specs.declared.reason.Reason.{Reason}
 
 -- ---- refused lines
@@ -31,12 +32,12 @@ use Rattle.mst_verify.specs.declared.reason.Reason.{Reason}
 abbrev pub refused_row : ℕ → List ℕ → List ℕ → Row
 refused_row n code text = row_of (kind.Refusal refusal_line.Policy) (number n ∷ word code ∷ word text ∷ [])
 
--- that of a promise which names what the network hasn't
+-- that of a promise which names what the network hasn't, or of which nothing is judged
 abbrev pub missing_rows : ℕ → Option Missing → List Row
 missing_rows n None = []
 missing_rows n (Some what) = refused_row n (lacking.code_of what) (lacking.text_of what) ∷ []
 
--- that of a line, if it is refused: it isn't read, or names what the network hasn't
+-- that of a line, if it is refused: it isn't read, names what the network hasn't, or nothing is judged of it
 abbrev pub refused_by : Net → ℕ → Result Promise Fault → List Row
 refused_by net n (Err fault) = refused_row n (scripts.code_of fault) (policies.text_of fault) ∷ []
 refused_by net n (Ok promise) = missing_rows n (missing net promise)
@@ -57,15 +58,6 @@ judged_of net (Ok promise) = where_whole promise (missing net promise)
 
 abbrev pub judged : Net → PolicyLine → Option Promise
 judged net line = judged_of net line.read
-
--- where promises can be judged: in the network itself, and in that of each failure
-abbrev pub places : Net → List (Option Failure)
-places net = None ∷ map Some (failures net)
-
--- one is judged there
-abbrev pub asks_at : Promise → Option Failure → Bool
-asks_at promise None = asks_now promise.scope
-asks_at promise (Some failure) = asks promise failure
 
 -- what a line expects there, if it asks for it
 abbrev pub expected_at : Net → PolicyLine → Option Failure → Option Expectation
@@ -119,14 +111,36 @@ pub record Counts : Type 0 where
   pub judged : ℕ
   pub failing : ℕ
 
--- These are the rows of a policy, and what is counted of it: all refused lines, then the rows of each other one, and the last row.
--- A line holds that has no rows
-pub record IsVerified (net : Net) (o : Outcome) (lines : List PolicyLine) (counts : Counts) (rows : List Row) : Type 0 where
+-- a line that is judged has no rows just where its promise is kept. One that isn't has none
+abbrev pub IsToldWhereBroken : Net → Outcome → PolicyLine → List Row → Type 0
+IsToldWhereBroken net o line rows = MatchOption (judged net line) (rows ≡ []) (λ promise. (rows ≡ []) ↔ IsKept net o promise)
+
+-- These are the rows of a policy's lines, and this is counted of them: all refused lines, and then the rows of each other one. A line
+-- holds that has no rows
+pub record IsJudged (net : Net) (o : Outcome) (lines : List PolicyLine) (counts : Counts) (rows : List Row) : Type 0 where
   pub told : List (List Row)
   pub each : AllZip (IsTold net o) lines told
+  pub broken : AllZip (IsToldWhereBroken net o) lines told
   pub refused : counts.refused ≡ count_by (λ line. has_any (refused_rows net line)) lines
   pub judged_are : counts.judged ≡ count_by (λ line. is_some (judged net line)) lines
   pub failing : counts.failing ≡ count_by has_any told
   pub holding : ℕ
   pub hold : counts.judged ≡ counts.failing + holding
-  pub are : rows ≡ flat_map (refused_rows net) lines ++ joined told ++ verified_row counts.judged holding ∷ []
+  pub are : rows ≡ flat_map (refused_rows net) lines ++ joined told
+
+-- a policy that has no line, read or not, has nothing to judge: as a whole it is a refused line, of the number 0
+abbrev pub whole_rows : List PolicyLine → List Row
+whole_rows [] = refused_row 0 (lacking.code_of missed.Failure) (lacking.text_of missed.Failure) ∷ []
+whole_rows (line ∷ lines) = []
+
+abbrev pub with_whole : List PolicyLine → Counts → Counts
+with_whole lines counts = record counts { refused = length (whole_rows lines) + counts.refused }
+
+-- These are the rows of a policy, and this is counted of it: that of the policy as a whole, if it is refused, those of its lines, and
+-- the last row
+pub record IsVerified (net : Net) (o : Outcome) (lines : List PolicyLine) (counts : Counts) (rows : List Row) : Type 0 where
+  pub own : Counts
+  pub told : List Row
+  pub judged : IsJudged net o lines own told
+  pub counted : counts ≡ with_whole lines own
+  pub are : rows ≡ whole_rows lines ++ told ++ verified_row own.judged judged.holding ∷ []

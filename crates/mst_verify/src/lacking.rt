@@ -1,16 +1,19 @@
-ghost use Rattle.std.specs.Prelude.{◌≡◌, ◌++◌, map};
+ghost use Rattle.std.specs.Prelude.{◌≡◌, ◌&&◌, ◌||◌, ◌++◌, map};
 ghost use Rattle.std.specs.List.{list_all, list_any};
-ghost use Rattle.mst_lag.specs.Aggregation.{same_name};
 ghost use Rattle.mst_policy.specs.Items.{item_has, port_item_has};
+ghost use Rattle.mst_summary.specs.diff.Reach.{has_any};
 ghost use Rattle.mst_summary.specs.trees.InUse.{is_in_use};
-ghost use Rattle.mst_verify.specs.Missing.{bridges_of, code_of, has_one as has_one_of, has_port as has_port_of, is_all as is_all_of, is_tree as is_tree_of, lacks_bridge as lacks_bridge_of, lacks_lan as lacks_lan_of, lacks_port as lacks_port_of, lacks_tree as lacks_tree_of, lans_of, missing as missing_of, next_item, scope_bridges, scope_lans, text_of};
+ghost use Rattle.mst_verify.specs.Missing.{bridges_of, code_of, has_failure as has_failure_of, has_one as has_one_of, has_port as has_port_of, have_failures as have_failures_of, is_tree as is_tree_of, lacks_bridge as lacks_bridge_of, lacks_failure as lacks_failure_of, lacks_lan as lacks_lan_of, lacks_port as lacks_port_of, lacks_tree as lacks_tree_of, lans_of, missing as missing_of, next_item, scope_bridges, scope_lans, text_of};
+ghost use Rattle.mst_verify.specs.Seen.{seen_bridge_fails, seen_lan_fails};
 
+use crate::asking::asks;
 use mst_ids::{Name, Tree};
 use mst_lag::{BridgeInView, MemberLan, PortInView, View};
-use mst_policy::{Expectation, NameItem, PortItem, PortsOf, Promise, Scope};
+use mst_policy::{Expectation, NameItem, PortItem, Promise, Scope};
 use mst_summary::Settled;
+use mst_sweep::Failure;
 
-/// What a promise names and the network hasn't.
+/// What a promise names and the network hasn't, or that nothing is judged of it there.
 #[derive(Clone, Copy)]
 pub enum Missing {
     /// No bridge has the tree.
@@ -21,6 +24,8 @@ pub enum Missing {
     Port,
     /// No LAN has a name, or one that an item of a list is for.
     Lan,
+    /// An item of a list has no failure after which the promise is judged.
+    Failure,
 }
 
 impl Missing {
@@ -33,10 +38,11 @@ impl Missing {
             Missing::Bridge => "E04",
             Missing::Port => "E05",
             Missing::Lan => "E06",
+            Missing::Failure => "E17",
         }
     }
 
-    /// What is printed after it, as in a script.
+    /// What is printed after it: of the first four as in a script.
     pub fn text(self) -> &'static str
         ensures { result.now ≡ text_of self }
     {
@@ -45,6 +51,7 @@ impl Missing {
             Missing::Bridge => "no such bridge",
             Missing::Port => "no such port",
             Missing::Lan => "no such LAN",
+            Missing::Failure => "nothing to judge",
         }
     }
 }
@@ -56,14 +63,11 @@ fn any_bridge(bridges: &[BridgeInView], item: &NameItem) -> bool
     bridges.iter().any(|bridge| item.has(&bridge.name))
 }
 
-/// Whether an item is for one of these bridges: `*` alone always is.
+/// Whether an item is for one of these bridges.
 fn has_bridge(bridges: &[BridgeInView], item: &NameItem) -> bool
     ensures { result ≡ has_one_of (map (λ b. b.name) bridges.now) item.now }
 {
-    match item {
-        NameItem::Any => true,
-        _ => any_bridge(bridges, item),
-    }
+    any_bridge(bridges, item)
 }
 
 /// Whether each of these items is.
@@ -80,14 +84,11 @@ fn any_lan(lans: &[MemberLan], item: &NameItem) -> bool
     lans.iter().any(|lan| item.has(&lan.name))
 }
 
-/// Whether an item is for one of these LANs: `*` alone always is.
+/// Whether an item is for one of these LANs.
 fn has_lan(lans: &[MemberLan], item: &NameItem) -> bool
     ensures { result ≡ has_one_of (map (λ l. l.name) lans.now) item.now }
 {
-    match item {
-        NameItem::Any => true,
-        _ => any_lan(lans, item),
-    }
+    any_lan(lans, item)
 }
 
 /// Whether each of these items is.
@@ -97,16 +98,6 @@ fn have_lans(lans: &[MemberLan], items: &[NameItem]) -> bool
     items.iter().all(|item| has_lan(lans, item))
 }
 
-/// Whether an item is for all ports of all bridges.
-fn is_all(bridge: NameItem, ports: PortsOf) -> bool
-    ensures { result ≡ is_all_of bridge ports }
-{
-    match (bridge, ports) {
-        (NameItem::Any, PortsOf::All) => true,
-        _ => false,
-    }
-}
-
 /// Whether an item has the name of one of these ports.
 fn any_port(ports: &[PortInView], item: &PortItem) -> bool
     ensures { result ≡ list_any (λ p. port_item_has item.now p.name) ports.now }
@@ -114,11 +105,11 @@ fn any_port(ports: &[PortInView], item: &PortItem) -> bool
     ports.iter().any(|port| item.has(&port.name))
 }
 
-/// Whether an item is for one of these ports: `*:*` always is.
+/// Whether an item is for one of these ports.
 fn has_port(ports: &[PortInView], item: &PortItem) -> bool
     ensures { result ≡ has_port_of (map (λ p. p.name) ports.now) item.now }
 {
-    is_all(item.bridge, item.ports) || any_port(ports, item)
+    any_port(ports, item)
 }
 
 /// Whether each of these items is.
@@ -165,18 +156,11 @@ fn lacks_tree(plan: &Settled, promise: &Promise) -> bool
     }
 }
 
-/// Whether one of these bridges has a name.
-fn bridge_named(bridges: &[BridgeInView], name: &Name) -> bool
-    ensures { result ≡ list_any (λ b. same_name name.now b.name) bridges.now }
-{
-    bridges.iter().any(|bridge| *name == bridge.name)
-}
-
 /// Whether a bridge is there.
 fn is_bridge(bridges: &[BridgeInView], name: &Name) -> bool
     ensures { result ≡ has_one_of (map (λ b. b.name) bridges.now) (NameItem.Is name.now) }
 {
-    bridge_named(bridges, name)
+    has_bridge(bridges, &NameItem::Is(*name))
 }
 
 /// Whether a bridge is there, if one is named.
@@ -234,12 +218,22 @@ fn are_all_bridges(bridges: &[BridgeInView], promise: &Promise) -> bool
     first && are_bridges(bridges, &promise.expectation)
 }
 
-/// Whether a bridge of a promise isn't there.
+/// Whether there is some bridge, and the bridges of a promise are there.
+fn has_bridges(bridges: &[BridgeInView], promise: &Promise) -> bool
+    ensures { result ≡ (has_any (map (λ b. b.name) bridges.now) && list_all (has_one_of (map (λ b. b.name) bridges.now)) (scope_bridges promise.now.scope ++ bridges_of promise.now.expectation)) }
+{
+    if bridges.is_empty() {
+        return false;
+    }
+    are_all_bridges(bridges, promise)
+}
+
+/// Whether a bridge of a promise isn't there, or no bridge at all.
 fn lacks_bridge(plan: &Settled, promise: &Promise) -> bool
     ensures { result ≡ lacks_bridge_of plan.now.net promise.now }
 {
     plan.known();
-    !are_all_bridges(plan.view().bridges(), promise)
+    !has_bridges(plan.view().bridges(), promise)
 }
 
 /// Whether a port of a promise isn't there.
@@ -253,18 +247,11 @@ fn lacks_port(plan: &Settled, promise: &Promise) -> bool
     }
 }
 
-/// Whether one of these LANs has a name.
-fn lan_named(lans: &[MemberLan], name: &Name) -> bool
-    ensures { result ≡ list_any (λ l. same_name name.now l.name) lans.now }
-{
-    lans.iter().any(|lan| *name == lan.name)
-}
-
 /// Whether a LAN is there.
 fn is_lan(lans: &[MemberLan], name: &Name) -> bool
     ensures { result ≡ has_one_of (map (λ l. l.name) lans.now) (NameItem.Is name.now) }
 {
-    lan_named(lans, name)
+    has_lan(lans, &NameItem::Is(*name))
 }
 
 /// Whether the LAN of an expectation is there.
@@ -304,7 +291,85 @@ fn lacks_lan(plan: &Settled, promise: &Promise) -> bool
     !are_all_lans(plan.view().member_lans(), promise)
 }
 
-/// What a promise names and the network hasn't, by its plan: that of the least number, if there is anything. It takes no memory.
+/// Whether a LAN can fail that an item has, and a promise is judged then.
+fn lan_fails(promise: &Promise, item: &NameItem, lan: &MemberLan) -> bool
+    ensures { result ≡ seen_lan_fails promise.now item.now lan.now }
+{
+    lan.is_up && (item.has(&lan.name) && asks(promise, &Failure::Lan(lan.name)))
+}
+
+/// Whether some LAN of these does.
+fn any_lan_fails(lans: &[MemberLan], promise: &Promise, item: &NameItem) -> bool
+    ensures { result ≡ list_any (seen_lan_fails promise.now item.now) lans.now }
+{
+    lans.iter().any(|lan| lan_fails(promise, item, lan))
+}
+
+/// Whether a bridge can fail that an item has, and a promise is judged then.
+fn bridge_fails(promise: &Promise, item: &NameItem, bridge: &BridgeInView) -> bool
+    ensures { result ≡ seen_bridge_fails promise.now item.now bridge.now }
+{
+    bridge.bridge.is_on()
+        && (item.has(&bridge.name) && asks(promise, &Failure::Bridge(bridge.name)))
+}
+
+/// Whether some bridge of these does.
+fn any_bridge_fails(bridges: &[BridgeInView], promise: &Promise, item: &NameItem) -> bool
+    ensures { result ≡ list_any (seen_bridge_fails promise.now item.now) bridges.now }
+{
+    bridges
+        .iter()
+        .any(|bridge| bridge_fails(promise, item, bridge))
+}
+
+/// Whether some LAN or some bridge of these does.
+fn any_fails(
+    lans: &[MemberLan],
+    bridges: &[BridgeInView],
+    promise: &Promise,
+    item: &NameItem,
+) -> bool
+    ensures { result ≡ (list_any (seen_lan_fails promise.now item.now) lans.now || list_any (seen_bridge_fails promise.now item.now) bridges.now) }
+{
+    any_lan_fails(lans, promise, item) || any_bridge_fails(bridges, promise, item)
+}
+
+/// Whether a promise is judged after some failure that an item has.
+fn has_failure(plan: &Settled, promise: &Promise, item: &NameItem) -> bool
+    ensures { result ≡ has_failure_of plan.now.net promise.now item.now }
+{
+    plan.known();
+    let view = plan.view();
+    any_fails(view.member_lans(), view.bridges(), promise, item)
+}
+
+/// Whether each of these items has one.
+fn all_have_failures(plan: &Settled, promise: &Promise, items: &[NameItem]) -> bool
+    ensures { result ≡ list_all (has_failure_of plan.now.net promise.now) items.now }
+{
+    items.iter().all(|item| has_failure(plan, promise, item))
+}
+
+/// Whether there are items, and each has one.
+fn have_failures(plan: &Settled, promise: &Promise, items: &[NameItem]) -> bool
+    ensures { result ≡ have_failures_of plan.now.net promise.now items.now }
+{
+    !items.is_empty() && all_have_failures(plan, promise, items)
+}
+
+/// Whether an item of a promise of what comes after failures has none after which it is judged.
+fn lacks_failure(plan: &Settled, promise: &Promise) -> bool
+    ensures { result ≡ lacks_failure_of plan.now.net promise.now }
+{
+    match &promise.scope {
+        Scope::AfterLan(names) => !have_failures(plan, promise, names.as_slice()),
+        Scope::AfterBridge(names) => !have_failures(plan, promise, names.as_slice()),
+        _ => false,
+    }
+}
+
+/// What a promise names and the network hasn't, or that nothing is judged of it there, by the network's plan: that of the least number,
+/// if there is anything. It takes no memory.
 pub fn missing_in(plan: &Settled, promise: &Promise) -> Option<Missing>
     ensures { result ≡ missing_of plan.now.net promise.now }
 {
@@ -319,6 +384,9 @@ pub fn missing_in(plan: &Settled, promise: &Promise) -> Option<Missing>
     }
     if lacks_lan(plan, promise) {
         return Some(Missing::Lan);
+    }
+    if lacks_failure(plan, promise) {
+        return Some(Missing::Failure);
     }
     None
 }

@@ -1,7 +1,8 @@
 //! Laws of what a policy promises. Their functions do nothing: a caller has their clauses.
-ghost use Rattle.std.specs.Prelude.{◌≡◌, ◌↔◌, ℕ, Bool, false, [], List};
+ghost use Rattle.std.specs.Prelude.{◌≡◌, ◌↔◌, ℕ, Bool, false, [], List, None};
 ghost use Rattle.std.specs.List.{Contains};
 ghost use Rattle.mst_policy.specs.declared.expectation.Expectation.{Expectation as ExpectationOf};
+ghost use Rattle.mst_policy.specs.declared.expectation.Promise.{Promise as PromiseOf};
 ghost use Rattle.mst_policy.specs.declared.item.NameItem.{NameItem as ItemOf};
 ghost use Rattle.mst_policy.specs.declared.policy.PolicyLine.{PolicyLine as LineOf};
 ghost use Rattle.mst_rows.specs.Rows.{Row};
@@ -13,10 +14,12 @@ ghost use Rattle.mst_sweep.specs.SweepText.{Told, IsTold};
 ghost use Rattle.mst_sweep.specs.declared.failure.Failure.{Failure as FailureOf};
 ghost use Rattle.mst_verify.specs.Named.{Gone};
 ghost use Rattle.mst_verify.specs.Holds.{AllReach, Holds};
-ghost use Rattle.mst_verify.specs.Judged.{HoldsAfter, IsKept};
+ghost use Rattle.mst_verify.specs.Judged.{HoldsAfter, IsJudgedSomewhere, IsKept};
 ghost use Rattle.mst_verify.specs.Linked.{AllPass, AllAreLinked, StayLinked, always_reach};
-ghost use Rattle.mst_verify.specs.OneText.{AreOneText, HasOneList};
+ghost use Rattle.mst_verify.specs.Missing.{missing};
+ghost use Rattle.mst_verify.specs.OneText.{AreOneJudgement, AreOneText, HasOneList};
 ghost use Rattle.mst_verify.specs.Reasons.{AreReasons};
+ghost use Rattle.mst_verify.specs.Verified.{IsTold as IsLineTold, IsToldWhereBroken};
 ghost use Rattle.mst_verify.specs.Whole.{AreAllVids, Fails, IsWhole, NoneIsCut, reach_all};
 ghost use Rattle.mst_verify.specs.declared.reason.Reason.{Reason as ReasonOf};
 
@@ -44,9 +47,25 @@ pub fn reason_lists()
     islands_of_vid();
 }
 
-/// A policy has one list of rows of a network, and one count of its lines, whichever settled outcome it is judged by.
+/// A line that is judged has no rows just where its promise is kept, and one that isn't has none.
+pub fn told_where_unkept()
+    ensures { (net : Net) (o : Outcome) (line : LineOf) (rows : List Row) → IsNetwork net → IsOutcome net o → IsLineTold net o line rows → IsToldWhereBroken net o line rows }
+{
+    one_outcome();
+    networks();
+    told_where_broken();
+}
+
+/// A promise of which the network lacks nothing is judged in some network: in the network itself, or in that of some failure.
+pub fn judged_somewhere()
+    ensures { (net : Net) (promise : PromiseOf) → missing net promise ≡ None → IsJudgedSomewhere net promise }
+{}
+
+/// A policy has one list of rows of a network, and one count of its lines, whichever settled outcome it is judged by; and so its lines
+/// have by themselves.
 pub fn one_verification()
-    ensures { (net : Net) (o p : Outcome) (lines : List LineOf) → IsNetwork net → IsOutcome net o → IsOutcome net p → AreOneText net o p lines }
+    ensures whole { (net : Net) (o p : Outcome) (lines : List LineOf) → IsNetwork net → IsOutcome net o → IsOutcome net p → AreOneText net o p lines }
+    ensures lines { (net : Net) (o p : Outcome) (lines : List LineOf) → IsNetwork net → IsOutcome net o → IsOutcome net p → AreOneJudgement net o p lines }
 {
     one_outcome();
     networks();

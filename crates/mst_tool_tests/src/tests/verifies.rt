@@ -49,20 +49,20 @@ fn policies_are_told(rt: HostRuntime) -> Result<(), Fail> {
 }
 
 #[test]
-fn an_empty_policy_is_kept(rt: HostRuntime) -> Result<(), Fail> {
+fn an_empty_policy_is_refused(rt: HostRuntime) -> Result<(), Fail> {
     let mut told = Vec::new(rt.alloc());
     let outcome = Outcome {
-        refused: 0,
+        refused: 1,
         memory: 0,
         differing: 0,
     };
     let nothing: &[u8] = b"";
-    let kept: &[u8] = b"verify expectations 0 hold 0\n";
+    let refused: &[u8] = b"policy 0 E17 nothing to judge\nverify expectations 0 hold 0\n";
     assert_eq!(rt;
         verify(rt.alloc(), Form::Text, SCRIPT, nothing, &mut told),
         Ok(outcome)
     );
-    assert_eq!(rt; told.as_slice(), kept);
+    assert_eq!(rt; told.as_slice(), refused);
     Ok(())
 }
 

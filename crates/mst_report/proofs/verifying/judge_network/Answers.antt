@@ -1,9 +1,9 @@
-use Rattle.std.proofs.Common.{◌∷◌, [], ◌++◌, refl, List, Bool, sym, subst}
+use Rattle.std.proofs.Common.{◌++◌, refl, List, Bool, sym, subst}
 use Rattle.std.specs.List.{flat_map}
 use Rattle.mst_rows.specs.Rows.{Row}
-use Rattle.mst_verify.specs.Told.{verified_row}
-use Rattle.mst_verify.specs.Verified.{joined, refused_rows}
+use Rattle.mst_verify.specs.Verified.{IsTold, IsToldWhereBroken, joined, refused_rows}
 use Rattle.mst_report.specs.Verifying.{AreJudged, plan_outcome}
+use Rattle.mst_report.proofs.Judgements.{zip_weaker}
 use Rattle.mst_report.proofs.Swept.{put_then}
 use Rattle.mst_report.proofs.verifying.judge_network.Goals as goal
 
@@ -19,27 +19,25 @@ put_judged-requires-clause-judging g c =
 pub returns-clause-told : goal.returns-clause-told
 returns-clause-told g c =
     let old = c.args.network.now in
+    let lines = c.args.lines.now in
+    let o = plan_outcome old.net old.numbers c.args.plan.now in
     let opened = c.in_ok-opened.ensures in
     let counted = c.in_ok-judged.ensures.told in
-    let refused = flat_map (refused_rows old.net) c.args.lines.now in
-    let last : List Row = verified_row c.in_ok-judged.judged counted.holding ∷ [] in (
+    let refused : List Row = flat_map (refused_rows old.net) lines in (
       refused ++ joined counted.told,
       record {
-        holding = counted.holding;
-        hold = counted.hold;
+        outcome = o;
+        is_outcome = opened.outcome;
         told = record {
-          outcome = plan_outcome old.net old.numbers c.args.plan.now;
-          is_outcome = opened.outcome;
-          told = record {
-            told = counted.told;
-            each = counted.each;
-            refused = opened.opened.refused;
-            judged_are = counted.judged_are;
-            failing = counted.counted;
-            holding = counted.holding;
-            hold = counted.hold;
-            are = refl;
-          };
+          told = counted.told;
+          each = counted.each;
+          broken = zip_weaker (IsTold old.net o) (IsToldWhereBroken old.net o) (λ line rows told. c.told_where_unkept.ensures old.net o line rows c.requires.of.network opened.outcome told) lines counted.told counted.each;
+          refused = opened.opened.refused;
+          judged_are = counted.judged_are;
+          failing = counted.counted;
+          holding = counted.holding;
+          hold = counted.hold;
+          are = refl;
         };
       },
       put_then g.R.Rows.grew c.args.out.now c.opening.new.out c.put_judged.new.out refused (joined counted.told) (λ first before h. opened.put first before h) counted.put,

@@ -1,6 +1,7 @@
-use Rattle.std.proofs.Common.{◌∙◌}
-use Rattle.mst_verify.proofs.LackedSeen.{one_seen}
+use Rattle.std.proofs.Common.{sym, ◌∙◌}
+use Rattle.mst_policy.specs.Items.{item_has}
+use Rattle.mst_summary.proofs.Lists.{any_mapped}
 use Rattle.mst_verify.proofs.lacking.has_bridge.Goals as goal
 
-pub returns-in_default : goal.returns-in_default
-returns-in_default c = c.any_bridge.ensures ∙ one_seen (λ x. x.name) c.args.bridges.now c.args.item.now c.in_default.not-Any
+pub returns : goal.returns
+returns c = c.any_bridge.ensures ∙ sym (any_mapped (item_has c.args.item.now) (λ x. x.name) c.args.bridges.now)

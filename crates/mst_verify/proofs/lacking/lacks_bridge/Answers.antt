@@ -1,6 +1,7 @@
-use Rattle.std.proofs.Common.{◌++◌, List, not, map, ap, ◌∙◌}
+use Rattle.std.proofs.Common.{◌&&◌, ◌++◌, List, ℕ, not, map, ap, ◌∙◌}
 use Rattle.std.specs.List.{list_all}
 use Rattle.mst_lag.specs.declared.in_view.BridgeInView.{BridgeInView}
+use Rattle.mst_summary.specs.diff.Reach.{has_any}
 use Rattle.mst_verify.specs.Missing.{bridges_of, has_one, scope_bridges}
 use Rattle.mst_verify.proofs.NamedIn.{names_are}
 use Rattle.mst_verify.proofs.lacking.lacks_bridge.Goals as goal
@@ -11,4 +12,4 @@ returns c =
     let is = c.known.ensures in
     let promise = c.args.promise.now in
     let names = ap (map (λ (x : BridgeInView). x.name)) (c.bridges.ensures ∙ ap (λ v. v.bridges) c.view.ensures) ∙ names_are s.net s.numbers s.view is.of.view in
-    ap not (c.are_all_bridges.ensures ∙ ap (λ names. list_all (has_one names) (scope_bridges promise.scope ++ bridges_of promise.expectation)) names)
+    ap not (c.has_bridges.ensures ∙ ap (λ (names : List (List ℕ)). has_any names && list_all (has_one names) (scope_bridges promise.scope ++ bridges_of promise.expectation)) names)

@@ -1,0 +1,57 @@
+-- A promise of which nothing is missing is judged in some network.
+use Rattle.std.proofs.Common.{◌≡◌, ◌&&◌, not, Bool, true, false, true≢false, List, [], ◌∷◌, cond, map, Option, Some, None, refl, sym, ◌∙◌}
+use Rattle.std.specs.List.{Contains, list_all}
+use Rattle.mst_graph.proofs.Members.{here, in_map, passing, there}
+use Rattle.mst_net.specs.Tables.{Net}
+use Rattle.mst_policy.specs.Items.{item_has}
+use Rattle.mst_policy.specs.declared.expectation.Promise.{Promise}
+use Rattle.mst_policy.specs.declared.expectation.Scope.{Scope}
+use Rattle.mst_policy.specs.declared.expectation.Scope.TheVariants as scope
+use Rattle.mst_policy.specs.declared.item.NameItem.{NameItem}
+use Rattle.mst_sweep.specs.Failures.{failures}
+use Rattle.mst_sweep.specs.declared.failure.Failure.{Failure}
+use Rattle.mst_sweep.proofs.CutApart.{both_true}
+use Rattle.mst_verify.specs.Judged.{IsJudgedSomewhere, asks, asks_now, name_of}
+use Rattle.mst_verify.specs.Missing.{has_failure, have_failures, lacks_bridge, lacks_failure, lacks_failure_of, lacks_lan, lacks_port, lacks_tree, missing}
+use Rattle.mst_verify.specs.declared.lacking.Missing.{Missing}
+use Rattle.mst_verify.specs.declared.lacking.Missing.TheVariants as lacking
+
+-- nothing is missing: so neither a LAN is, nor a failure
+pub whole : (net : Net) (promise : Promise) → missing net promise ≡ None → (lacks_lan net promise ≡ false) × (lacks_failure net promise ≡ false)
+whole net promise e = by (lacks_tree net promise) (lacks_bridge net promise) (lacks_port net promise) (lacks_lan net promise) (lacks_failure net promise) e
+  where
+    by : (a b c d f : Bool) → cond a (Some lacking.Tree) (cond b (Some lacking.Bridge) (cond c (Some lacking.Port) (cond d (Some lacking.Lan) (cond f (Some lacking.Failure) None)))) ≡ None → (d ≡ false) × (f ≡ false)
+    by true b c d f e = absurd (cc)
+    by false true c d f e = absurd (cc)
+    by false false true d f e = absurd (cc)
+    by false false false true f e = absurd (cc)
+    by false false false false true e = absurd (cc)
+    by false false false false false e = (refl, refl)
+
+not_false : (b : Bool) → not b ≡ false → b ≡ true
+not_false true e = refl
+not_false false e = sym e
+
+module _ (net : Net) (promise : Promise) where
+  after_one : (items : List NameItem) → have_failures net promise items ≡ true → IsJudgedSomewhere net promise
+  after_one [] e = absurd (true≢false (sym e))
+  after_one (item ∷ items) e =
+      let first = both_true (has_failure net promise item) (list_all (has_failure net promise) items) e in
+      let f = passing (λ failure. item_has item (name_of failure) && asks promise failure) (failures net) first.0 in
+      record {
+        place = Some f.0;
+        there = there None (Some f.0) (map Some (failures net)) (in_map Some (failures net) f.0 f.1);
+        is_asked = (both_true (item_has item (name_of f.0)) (asks promise f.0) f.2).1;
+      }
+
+  in_itself : asks_now promise.scope ≡ true → IsJudgedSomewhere net promise
+  in_itself e = record { place = None; there = here None (map Some (failures net)); is_asked = e }
+
+  by_scope : (s : Scope) → promise.scope ≡ s → lacks_failure_of net promise s ≡ false → IsJudgedSomewhere net promise
+  by_scope scope.Now is e = in_itself (λ i. asks_now (is i))
+  by_scope (scope.AfterLan names) is e = after_one names (not_false (have_failures net promise names) e)
+  by_scope (scope.AfterBridge names) is e = after_one names (not_false (have_failures net promise names) e)
+  by_scope scope.Always is e = in_itself (λ i. asks_now (is i))
+
+  pub judged_somewhere : missing net promise ≡ None → IsJudgedSomewhere net promise
+  judged_somewhere e = by_scope promise.scope refl (whole net promise e).1
