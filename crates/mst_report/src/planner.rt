@@ -1,4 +1,4 @@
-ghost use Rattle.std.specs.Prelude.{◌≡◌, ◌≢◌, ◌≤◌, ◌<◌, ◌^◌, ◌++◌, length, true, false, List, None, Err, IsOk, IfOk, IfErr, OnOk, OnErr, IsTrue};
+ghost use Rattle.std.specs.Prelude.{◌≡◌, ◌≢◌, ◌≤◌, ◌<◌, ◌^◌, ◌+◌, ◌++◌, length, true, false, List, None, Err, IsOk, IfOk, IfErr, OnOk, OnErr, IsTrue};
 ghost use Rattle.mst_change.specs.Steps.{all_lines};
 ghost use Rattle.mst_net.specs.After.{after};
 ghost use Rattle.mst_net.specs.Contents.{SameContents, CanCommit, Commits, room_for};

@@ -1,4 +1,4 @@
-use Rattle.std.proofs.Common.{◌≤◌, length, List, subst}
+use Rattle.std.proofs.Common.{◌+◌, ◌≤◌, length, List, subst}
 use Rattle.std.proofs.lemmas.Result.{IfOk-weaker}
 use Rattle.mst_policy.specs.declared.policy.PolicyLine.{PolicyLine}
 use Rattle.mst_report.specs.Planned.{Planned}
@@ -17,4 +17,4 @@ returns-clause-told g c first before grew =
     c.verify_network.ensures.told
 
 pub returns-clause-few : goal.returns-clause-few
-returns-clause-few g c = IfOk-weaker c.verify_network.result _ _ (λ verdict few. subst (λ (lines : List PolicyLine). verdict.refused ≤ length lines) c.as_slice.ensures few) c.verify_network.ensures.few
+returns-clause-few g c = IfOk-weaker c.verify_network.result _ _ (λ verdict few. subst (λ (lines : List PolicyLine). verdict.refused ≤ length lines + 1) c.as_slice.ensures few) c.verify_network.ensures.few
