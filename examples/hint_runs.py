@@ -68,6 +68,25 @@ MISSPELT = b"addlna x\nlan x up\n"
 MISSPELT_LINES = b"line 1 E01 no such command\nline 2 E06 no such LAN\n"
 MISSPELT_HINTS = b"line 1 no command addlna; addlan?\nline 2 no LAN x: line 1 was to add it\n"
 TO_NOTHING = b"reach 1-4094 B -> -\ndiff regions 0 roots 0 ports 0 vlans 4094\n"
+# A bridge that has as many trees as one may have, and gets one more; records that are taken away while something holds them, also
+# where what was put there first has gone; and a MAC address that is had already.
+FULL = b"".join([b"addbridge a 02:00:00:00:00:01\n", *(b"setvid2mstid a %d %d\n" % (tree, tree) for tree in range(1, 66)),
+                 b"addport a 2\naddport a 1\naddlan l\nplug a 2 l\nplug a 1 l\ndellan l\ndelbridge a\nunplug a 2\ndellan l\ndelport a 2\ndelbridge a\n",
+                 b"addbridge b 02:00:00:00:00:01\n"])
+FULL_LINES = b"""line 66 E15 more than 64 trees
+line 72 E13 LAN has plugs
+line 73 E12 bridge has ports
+line 75 E13 LAN has plugs
+line 77 E12 bridge has ports
+line 78 E08 MAC taken
+"""
+FULL_HINTS = b"""line 66 bridge a has 64 trees besides tree 0
+line 72 LAN l has port a:2; unplug comes first
+line 73 bridge a has port a:2; delport comes first
+line 75 LAN l has port a:1; unplug comes first
+line 77 bridge a has port a:1; delport comes first
+line 78 bridge a has this MAC address since line 1
+"""
 # Queries, which are refused where they are asked, and the last one anywhere, since it can't be read.
 ASKING = b"changes\nshowmstconfid x\nshowtree 4095\n"
 ASKING_LINES = b"line 1 E16 no mark\nline 2 E04 no such bridge\nline 3 E03 bad VID or tree\n"
@@ -133,6 +152,7 @@ def cases(folder):
         ("hints of queries that aren't asked", ["summary", "--hints", "-"], ASKING, 1, UNREAD_LINE + NO_NETWORK, UNREAD_HINT),
         ("hints of two scripts' queries", ["diff", "--hints", os.devnull, "-"], ASKING, 1, of_side(b"new", UNREAD_LINE) + DIFFERENCE,
          of_side(b"new", UNREAD_HINT)),
+        ("hints of what is full or held", ["run", "--hints", "-"], FULL, 1, FULL_LINES, FULL_HINTS),
         ("no hints of what isn't refused", ["run", "--hints", "-"], b"showlag\n# addlna\n\n", 0, b"", b""),
         ("no hints of nothing", ["--hints"], b"", 0, b"", b""),
         ("hints of a check", ["check", "--hints", script, os.devnull], b"", 1, HINTED_RUN, HINTS),

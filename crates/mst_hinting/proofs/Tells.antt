@@ -1,7 +1,6 @@
 -- How the hints of a script go on from byte to byte.
-use Rattle.std.proofs.Common.{◌≡◌, ◌≢◌, ◌||◌, ℕ, ◌+◌, ◌<◌, Bool, true, false, nat_eq, cond, List, [], ◌∷◌, ◌++◌, length, Option, Some, None, Result, Ok, Err, refl, sym, ap, subst, ◌∙◌, arith, inl, inr, append_assoc, append-nil, eq-eqb, length-append}
+use Rattle.std.proofs.Common.{◌≡◌, ◌||◌, ℕ, ◌+◌, ◌<◌, Bool, true, false, nat_eq, cond, List, [], ◌∷◌, ◌++◌, length, Option, Some, None, Result, Ok, Err, refl, sym, ap, subst, ◌∙◌, arith, inl, inr, append_assoc, append-nil, eq-eqb, length-append}
 use Rattle.std.proofs.lemmas.Bool.{lt-ltb}
-use Rattle.std.proofs.lemmas.Grind.{common_steps}
 use Rattle.mst_lang.specs.Lines.{drop_cr, last_line, no_line, lines_from, lines_of, ended_lines}
 use Rattle.mst_lang.specs.Reading.{reading_as, says_version_2}
 use Rattle.mst_lang.specs.declared.line.Fault.{Fault}
@@ -14,7 +13,8 @@ use Rattle.mst_hints.specs.Hints.{hint_of, hint_line, too_long}
 use Rattle.mst_hinting.specs.Kept.{IsKept}
 use Rattle.mst_hints.specs.Records.{added_of}
 use Rattle.mst_hints.specs.Scripts as scripts
-use Rattle.mst_hints.specs.Scripts.{Past, version_with, reading_with, saying_with, edit_alone, net_with, is_made, is_mark, making_of, noted, read_hint, with_making}
+use Rattle.mst_hints.specs.Scripts.{Past, version_with, reading_with, saying_with, edit_alone, net_with, is_made, is_mark, making_of, noted, put_of, read_hint, with_making}
+use Rattle.mst_hints.specs.Puts.{with_put}
 use Rattle.mst_hints.specs.declared.record.Record.{Record}
 use Rattle.mst_hints.specs.declared.whose.Script.{Script}
 use Rattle.mst_hints.specs.declared.whose.Script.TheVariants.{Policy, Change}
@@ -41,17 +41,7 @@ Tells-join p q r a b c xs ys s t f g = record {
   few = omega (arith, f.few, g.few, length-append xs ys);
 }
 
-not_end : (b : ℕ) → b ≢ 10 → nat_eq b 10 ≡ false
-not_end b h = grind (arith, common_steps)
-
--- a byte that ends no line
-Tells-byte : (past : Before) (part : List ℕ) (b : ℕ) → b ≢ 10 → Tells past part (b ∷ []) past (hold part b) []
-Tells-byte past part b other = record {
-  lines = λ last rest. ap (λ t. hints_from past (cond t (drop_cr part ∷ lines_held last [] rest) (lines_held last (hold part b) rest))) (not_end b other);
-  few = omega arith;
-}
-
--- and one that does
+-- a byte that ends a line
 next_number : (past : Before) (line : List ℕ) → number_at (past_after past line) ≡ number_at past + 1
 next_number (of_script past) line = refl
 next_number (of_policy number) line = refl
@@ -66,9 +56,6 @@ Tells-line past part b end = record {
 -- what was told of bytes is appended
 pub told_nothing : (past : Before) (part : List ℕ) (hints : LineHints) (out : List ℕ) → IsKept past hints → IsTold past part [] hints part out out
 told_nothing past part hints out kept = record { now = past; text = []; tells = Tells-nil past part; kept = kept; appended = sym (append-nil out) }
-
-pub told_byte : (past : Before) (part : List ℕ) (b : ℕ) (hints : LineHints) (out : List ℕ) → b ≢ 10 → IsKept past hints → IsTold past part (b ∷ []) hints (hold part b) out out
-told_byte past part b hints out other kept = record { now = past; text = []; tells = Tells-byte past part b other; kept = kept; appended = sym (append-nil out) }
 
 pub told_line : (past : Before) (part : List ℕ) (b : ℕ) (hints : LineHints) (old new : List ℕ) → b ≡ 10 → IsKept (past_after past (drop_cr part)) hints → new ≡ old ++ hint_after past (drop_cr part) → IsTold past part (b ∷ []) hints [] old new
 told_line past part b hints old new end kept appended = record {
@@ -126,6 +113,7 @@ after_by past version reading added = let made = is_made past.marked past.net re
       marked = past.marked || is_mark reading;
       adds = noted past.number past.adds added made;
       makings = with_making past.number past.makings (making_of made reading);
+      puts = with_put past.puts (put_of made reading);
     }
 
 past_long : (past : Past) (line : List ℕ) → 4096 < length line → scripts.past_after past line ≡ after_by past (version_with past.version []) (Err E01) None

@@ -61,15 +61,33 @@ fn take_byte(
     ensures ended { OnOk result (byte ≡ 10 → held.new ≡ []) }
 {
     if byte == b'\n' {
-        match hints.push_hint(held.line(), out) {
-            Err(error) => {
-                *hints = LineHints::new(alloc, Script::Loaded);
-                return Err(error);
-            }
-            Ok(()) => held.clear(),
-        }
-    } else {
-        held.push(byte);
+        return end_line(alloc, hints, held, out);
     }
+    held.push(byte);
     Ok(())
+}
+
+/// Ends the line and appends its hint, if it has one. `AllocError`: as above. It is a function of its own, since what it makes anew
+/// where memory is refused takes more room than a byte that ends no line should pay for.
+fn end_line(
+    alloc: Global,
+    hints: &mut LineHints,
+    held: &mut HeldLine,
+    out: &mut Vec<u8>,
+) -> Result<(), AllocError>
+    requires few { number_of hints.old < 2 ^ 60 }
+    ensures told { OnOk result ((past : Before) → IsKept past hints.old → IsTold past held.old (10 ∷ []) hints.new held.new out.old.items out.new.items) }
+    ensures few { number_of hints.new ≤ number_of hints.old + 1 }
+    ensures ended { OnOk result (held.new ≡ []) }
+{
+    match hints.push_hint(held.line(), out) {
+        Ok(()) => {
+            held.clear();
+            Ok(())
+        }
+        Err(error) => {
+            *hints = LineHints::new(alloc, Script::Loaded);
+            Err(error)
+        }
+    }
 }

@@ -49,7 +49,7 @@ wrong_passes version (argument ∷ form) (word ∷ arguments) =
 
 form_passes : (version : Version) (word : List ℕ) (form : List Argument) (arguments : List (List ℕ)) → is_some (form_hint version word form arguments) ≡ not (passes (map (is_right version) form) arguments)
 form_passes version word form arguments =
-    some_or (wrong_text version word form) (length arguments == length form) (first_wrong version form arguments) (words_text word form arguments) ∙ wrong_passes version form arguments
+    some_or (wrong_text version word form arguments) (length arguments == length form) (first_wrong version form arguments) (words_text word form arguments) ∙ wrong_passes version form arguments
 
 -- ---- what the grammar makes of some words
 and_false : (a : Bool) → true ≡ not (a && false)

@@ -4,3 +4,5 @@ pub mod Hinted
 pub mod Wrong
 pub mod Noted
 pub mod Lined
+pub mod Held
+pub mod Refused

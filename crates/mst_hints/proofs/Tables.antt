@@ -1,8 +1,7 @@
 -- The table of forms, as the code keeps it and as the grammar has it.
 use Rattle.std.proofs.Common.{◌≡◌, ◌∙◌, ℕ, Bool, List, Option, Some, None, find, map, Bor, refl, ap}
 use Rattle.std.specs.Option.{option_map}
-use Rattle.mst_lang.specs.Forms.{all_commands, commands, rule_of, form_of, Row, row_of, written}
-use Rattle.mst_lang.specs.declared.form.Argument.{Argument}
+use Rattle.mst_lang.specs.Forms.{all_commands, rule_of, form_of, Row, row_of, written}
 use Rattle.mst_lang.specs.declared.form.Form.{Form}
 use Rattle.mst_lang.specs.declared.line.Command.{Command}
 use Rattle.mst_lang.proofs.Tables.{find_map, form_found}

@@ -1,11 +1,11 @@
 -- Steps of the code along the definitions of hints.
-use Rattle.std.proofs.Common.{◌≡◌, Bor, ℕ, List, [], ◌∷◌, Option, Some, None, is_some, true, false, refl, ap, true≢false, sym}
+use Rattle.std.proofs.Common.{◌≡◌, ◌∙◌, ◌==◌, Bor, ℕ, List, [], ◌∷◌, length, Option, Some, None, is_some, true, false, cond, refl, ap, true≢false, sym}
 use Rattle.std.specs.Option.{option_map, unwrap_or}
 use Rattle.mst_lang.specs.declared.line.Version.{Version}
 use Rattle.mst_lang.specs.declared.line.Command.{Command}
 use Rattle.mst_lang.specs.declared.form.Argument.{Argument}
 use Rattle.mst_lang.specs.Forms.{form_of}
-use Rattle.mst_hints.specs.Hints.{first_wrong, form_hint, command_hint, unknown_text}
+use Rattle.mst_hints.specs.Hints.{first_wrong, form_hint, command_hint, unknown_text, words_text, wrong_text}
 
 -- where no word is left, none is wrong
 pub none_left : (version : Version) (form : List Argument) → first_wrong version form [] ≡ None
@@ -37,3 +37,10 @@ some_alike None None e = refl
 some_alike None (Some command) e = ap is_some e
 some_alike (Some form) None e = ap is_some e
 some_alike (Some form) (Some command) e = refl
+
+-- where as many words stand as there are arguments, and one is wrong
+pub of_wrong : (version : Version) (word : List ℕ) (form : List Argument) (arguments : List (List ℕ)) (wrong : Argument × List ℕ) → (length arguments == length form) ≡ true → Some wrong ≡ first_wrong version form arguments
+    → Some (wrong_text version word form arguments wrong) ≡ form_hint version word form arguments
+of_wrong version word form arguments wrong same found =
+    ap (option_map (wrong_text version word form arguments)) found
+    ∙ ap (λ t. cond t (option_map (wrong_text version word form arguments) (first_wrong version form arguments)) (Some (words_text word form arguments))) (sym same)

@@ -1,9 +1,9 @@
 -- What would be right where a line isn't read.
-use Rattle.std.specs.Prelude.{ℕ, ◌+◌, ◌==◌, ◌||◌, ◌&&◌, Bool, true, false, List, [], ◌∷◌, ◌++◌, length, take, drop, position, nat_eq, nat_lt, Option, Some, None, is_some, is_ok, if◌then◌else◌, codes, decimal, find}
+use Rattle.std.specs.Prelude.{ℕ, ◌+◌, ◌==◌, ◌||◌, ◌&&◌, Bool, true, false, not, List, [], ◌∷◌, ◌++◌, length, take, drop, position, nat_eq, nat_lt, Option, Some, None, is_some, is_ok, if◌then◌else◌, codes, decimal, find}
 use Rattle.std.specs.Option.{option_map, option_map_or, option_and_then, option_or}
 use Rattle.std.specs.List.{flat_map, list_all, list_any, starts_with}
 use Rattle.mst_ids.specs.Words.{after_space}
-use Rattle.mst_lang.specs.Arguments.{is_text, name, port_number}
+use Rattle.mst_lang.specs.Arguments.{is_text, name, number_value, port_number}
 use Rattle.mst_lang.specs.Forms.{commands, command_of, form_of, word_of, is_right, range_of}
 use Rattle.mst_lang.specs.Words.{words, is_plain}
 use Rattle.mst_lang.specs.Reading.{is_comment}
@@ -73,12 +73,12 @@ abbrev pub next_command : List (List ℕ) → Option (List ℕ)
 next_command [] = None
 next_command (word ∷ others) = if is_some (command_of word) then Some word else None
 
--- the nearest command of a word that asks for nothing in other tools
+-- the nearest command of a word that asks for nothing by itself, in other tools, in this program or in a policy
 abbrev pub near_alone : List ℕ → Option (List ℕ)
 near_alone word = if asks word then None else nearest word
 
--- what is said of a word: the command that it was to be, what it or one of the words behind it asks for in other tools, or the
--- command that stands behind it
+-- what is said of a word: the command that it was to be, what it or one of the words behind it asks for, or the command that
+-- stands behind it
 abbrev pub question : List ℕ → List ℕ
 question command = command ++ codes "?"
 
@@ -86,7 +86,7 @@ abbrev pub meant : List ℕ → List (List ℕ) → Option (List ℕ)
 meant word arguments = option_or (parted word arguments) (near_alone word)
 
 abbrev pub said_behind : List ℕ → List (List ℕ) → Option (List ℕ)
-said_behind word arguments = option_or (saying_among (word ∷ arguments)) (option_map question (next_command arguments))
+said_behind word arguments = option_or (saying_among word arguments) (option_map question (next_command arguments))
 
 abbrev pub said_of : List ℕ → List (List ℕ) → Option (List ℕ)
 said_of word arguments = option_or (option_map question (meant word arguments)) (said_behind word arguments)
@@ -139,7 +139,7 @@ list_apart form arguments = if list_any is_list form && nat_lt (length form) (le
 
 -- Linux has a command of the name `bridge`, too
 abbrev pub other_bridge : List ℕ → List (List ℕ) → Option (List ℕ)
-other_bridge word arguments = if is_text word (codes "bridge") then saying_among (word ∷ arguments) else None
+other_bridge word arguments = if is_text word (codes "bridge") then saying_among word arguments else None
 
 abbrev pub advice : List ℕ → List Argument → List (List ℕ) → Option (List ℕ)
 advice word form arguments = option_or (port_apart form arguments) (option_or (list_apart form arguments) (other_bridge word arguments))
@@ -166,14 +166,40 @@ first_wrong version (argument ∷ form) (word ∷ arguments) = if is_right versi
 abbrev pub meant_text : Version → Argument → List ℕ → Option (List ℕ)
 meant_text version argument word = option_map (λ meant. word_is word (meaning word meant)) (meant_by version argument word)
 
-abbrev pub wrong_text : Version → List ℕ → List Argument → Argument × List ℕ → List ℕ
-wrong_text version word form wrong =
-    word ++ form_text form ++ codes ": " ++ range_of version wrong.0 ++ besides (meant_text version wrong.0 wrong.1)
+-- the first two neighbours among some words that are to be exchanged, so that each word is in the form of its argument. Of two
+-- numbers either may be meant where it stands
+abbrev pub are_numbers : List ℕ → List ℕ → Bool
+are_numbers a b = is_some (number_value a) && is_some (number_value b)
+
+abbrev pub reads_exchanged : Version → List Argument → List (List ℕ) → Bool
+reads_exchanged version (first ∷ second ∷ form) (a ∷ b ∷ words) =
+    not (are_numbers a b) && (is_right version first b && (is_right version second a && not (is_some (first_wrong version form words))))
+reads_exchanged version form words = false
+
+abbrev pub exchanged : Version → List Argument → List (List ℕ) → Option (List ℕ × List ℕ)
+exchanged version (argument ∷ form) (a ∷ b ∷ words) =
+    if reads_exchanged version (argument ∷ form) (a ∷ b ∷ words) then Some (a, b)
+    else (if is_right version argument a then exchanged version form (b ∷ words) else None)
+exchanged version form words = None
+
+abbrev pub pair_text : List ℕ × List ℕ → List ℕ
+pair_text pair = word_is (pair.0 ++ 32 ∷ pair.1) (pair.1 ++ 32 ∷ pair.0)
+
+abbrev pub exchanged_text : Version → List Argument → List (List ℕ) → Option (List ℕ)
+exchanged_text version form arguments = option_map pair_text (exchanged version form arguments)
+
+-- what the word was meant to be, or which words are to be exchanged
+abbrev pub right_text : Version → List Argument → List (List ℕ) → Argument × List ℕ → Option (List ℕ)
+right_text version form arguments wrong = option_or (meant_text version wrong.0 wrong.1) (exchanged_text version form arguments)
+
+abbrev pub wrong_text : Version → List ℕ → List Argument → List (List ℕ) → Argument × List ℕ → List ℕ
+wrong_text version word form arguments wrong =
+    word ++ form_text form ++ codes ": " ++ range_of version wrong.0 ++ besides (right_text version form arguments wrong)
 
 -- ---- the hint of a line
 abbrev pub form_hint : Version → List ℕ → List Argument → List (List ℕ) → Option (List ℕ)
 form_hint version word form arguments =
-    if length arguments == length form then option_map (wrong_text version word form) (first_wrong version form arguments)
+    if length arguments == length form then option_map (wrong_text version word form arguments) (first_wrong version form arguments)
     else Some (words_text word form arguments)
 
 abbrev pub command_hint : Version → List ℕ → Option Command → List (List ℕ) → Option (List ℕ)

@@ -4,6 +4,7 @@ pub mod Tools
 pub mod Meant
 pub mod Hints
 pub mod Records
+pub mod Puts
 pub mod Standing
 pub mod Scripts
 pub mod Kept

@@ -1,6 +1,5 @@
--- How near two words are: how many letters have to be put in, left out or exchanged with their neighbours, so that the
--- one becomes the other. Another letter in the place of one counts 2, since it is put in and the one is left out. No
--- letter that was exchanged is touched again.
+-- How near two words are: how many changes of a letter make the one of the other. A change is a letter put in, a letter left
+-- out, or two neighbours exchanged. So another letter in the place of one counts 2, since it is put in and the one is left out.
 use Rattle.std.specs.Prelude.{ℕ, ◌+◌, Bool, true, false, ◌==◌, ◌||◌, ◌&&◌, List, [], ◌∷◌, nat_le, if◌then◌else◌}
 use Rattle.mst_lang.specs.Arguments.{is_text}
 
@@ -23,18 +22,36 @@ exchanged near _ _ = false
 abbrev pub one_change : (List ℕ → List ℕ → Bool) → List ℕ → List ℕ → Bool
 one_change near one other = near one other || (left_out near one other || (put_in near one other || exchanged near one other))
 
--- `near` after at most one change, behind the letters at the front that they share
-abbrev pub one_more : (List ℕ → List ℕ → Bool) → List ℕ → List ℕ → Bool
-one_more near [] other = one_change near [] other
-one_more near (a ∷ one) [] = one_change near (a ∷ one) []
-one_more near (a ∷ one) (b ∷ other) = one_change near (a ∷ one) (b ∷ other) || (a == b && one_more near one other)
+-- a test of what follows the letters at the front that they share, some of them or all
+abbrev pub behind_shared : (List ℕ → List ℕ → Bool) → List ℕ → List ℕ → Bool
+behind_shared test [] other = test [] other
+behind_shared test (a ∷ one) [] = test (a ∷ one) []
+behind_shared test (a ∷ one) (b ∷ other) = test (a ∷ one) (b ∷ other) || (a == b && behind_shared test one other)
 
--- at most one change, at most two
+-- at most one change
 abbrev pub is_within_one : List ℕ → List ℕ → Bool
-is_within_one = one_more is_text
+is_within_one = behind_shared (one_change is_text)
+
+-- two changes of the same letters: of three the middle one is left out and its neighbours are exchanged, or the first one is
+-- exchanged with the second, and then with the third
+abbrev pub closed_up : List ℕ → List ℕ → Bool
+closed_up (a ∷ middle ∷ b ∷ one) (c ∷ d ∷ other) = a == d && (b == c && is_text one other)
+closed_up _ _ = false
+
+abbrev pub put_back : List ℕ → List ℕ → Bool
+put_back (a ∷ b ∷ c ∷ one) (d ∷ e ∷ f ∷ other) = a == f && (b == d && (c == e && is_text one other))
+put_back _ _ = false
+
+-- in either word
+abbrev pub in_either : (List ℕ → List ℕ → Bool) → List ℕ → List ℕ → Bool
+in_either test one other = test one other || test other one
+
+-- at most two changes
+abbrev pub two_changes : List ℕ → List ℕ → Bool
+two_changes one other = one_change is_within_one one other || (in_either closed_up one other || in_either put_back one other)
 
 abbrev pub is_within_two : List ℕ → List ℕ → Bool
-is_within_two = one_more is_within_one
+is_within_two = behind_shared two_changes
 
 -- ---- the same word, written in another way
 -- a small letter for a capital one

@@ -17,7 +17,7 @@ use Rattle.mst_lang.specs.declared.line.TreeChange.TheVariants.{Priority, PortPr
 use Rattle.mst_net.specs.Tables.{port_eq}
 use Rattle.mst_net.specs.declared.refusal.Refusal.{Refusal}
 use Rattle.mst_net.specs.declared.refusal.Refusal.TheVariants.{E04, E05, E06}
-use Rattle.mst_hints.specs.Hints.{nearest}
+use Rattle.mst_hints.specs.Hints.{near_alone}
 use Rattle.mst_hints.specs.declared.record.Record.{Record}
 use Rattle.mst_hints.specs.declared.record.Record.TheVariants.{Bridge, Port, Lan, Plug}
 
@@ -133,9 +133,9 @@ added_by command arguments =
     if is_text command (codes "addbridge") then added_bridge arguments
     else (if is_text command (codes "addport") then added_port arguments else (if is_text command (codes "addlan") then added_lan arguments else None))
 
--- the command that a word is, or was to be: the nearest one where it is none
+-- the command that a word is, or was to be: the nearest one where it is none and asks for nothing else
 abbrev pub command_meant : List ℕ → Option (List ℕ)
-command_meant word = if is_some (command_of word) then Some word else nearest word
+command_meant word = if is_some (command_of word) then Some word else near_alone word
 
 -- by the words of the line, of which a comment adds nothing
 abbrev pub added_in : List (List ℕ) → Option Record

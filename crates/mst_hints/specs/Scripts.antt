@@ -16,6 +16,7 @@ use Rattle.mst_net.specs.declared.refusal.Refusal.{Refusal}
 use Rattle.mst_net.specs.declared.refusal.Refusal.TheVariants.{E04, E16}
 use Rattle.mst_hints.specs.Hints.{hint_of, hint_line}
 use Rattle.mst_hints.specs.Records.{missing_of, added_of, made_by, same_record}
+use Rattle.mst_hints.specs.Puts.{Put, put_by, with_put}
 use Rattle.mst_hints.specs.Standing.{Making, record_text, standing_of}
 use Rattle.mst_hints.specs.declared.record.Record.{Record}
 use Rattle.mst_hints.specs.declared.whose.Script.{Script}
@@ -108,6 +109,12 @@ abbrev pub with_making : ℕ → List Making → Option Record → List Making
 with_making number makings None = makings
 with_making number makings (Some made) = (made, number) ∷ makings
 
+-- ---- what lines put into what
+-- by the edit of a line that was made
+abbrev pub put_of : Bool → Result Line Fault → Option Put
+put_of true (Ok (edit e)) = put_by e
+put_of _ reading = None
+
 -- whether the line marks
 abbrev pub is_mark : Result Line Fault → Bool
 is_mark (Ok Mark) = true
@@ -115,7 +122,8 @@ is_mark _ = false
 
 -- ---- the lines that came so far
 -- what stands before each hint, whether the script is run, its version, once its first line has come, the number of the next
--- line, the network, whether it was marked, and the lines that were to add a record and those that made one
+-- line, the network, whether it was marked, the lines that were to add a record and those that made one, and what they put into
+-- what
 pub record Past : Type 0 where
   pub of : List ℕ
   pub asks : Bool
@@ -125,9 +133,10 @@ pub record Past : Type 0 where
   pub marked : Bool
   pub adds : List Adding
   pub makings : List Making
+  pub puts : List Put
 
 abbrev pub nothing : Script → Past
-nothing script = record { of = text_before script; asks = is_run script; version = None; number = 1; net = empty_net; marked = false; adds = []; makings = [] }
+nothing script = record { of = text_before script; asks = is_run script; version = None; number = 1; net = empty_net; marked = false; adds = []; makings = []; puts = [] }
 
 -- and with one line more
 abbrev pub past_after : Past → List ℕ → Past
@@ -141,6 +150,7 @@ past_after past line = let reading = saying_with past.asks past.version line in 
       marked = past.marked || is_mark reading;
       adds = noted past.number past.adds (added_of line) made;
       makings = with_making past.number past.makings (making_of made reading);
+      puts = with_put past.puts (put_of made reading);
     }
 
 -- ---- the hints
@@ -155,17 +165,17 @@ abbrev pub missing_hint : List Adding → Option Record → Option (List ℕ)
 missing_hint adds = option_map (λ wanted. absent_text (last_adding wanted adds) wanted)
 
 -- of a line that is read, by what it makes of the network: the record that isn't there, or what stands in the way
-abbrev pub refused_text : List Adding → List Making → Net → Line → Refusal → Option (List ℕ)
-refused_text adds makings net line refusal = option_or (missing_hint adds (missing_of line refusal)) (standing_of makings net line refusal)
+abbrev pub refused_text : List Adding → List Making → List Put → Net → Line → Refusal → Option (List ℕ)
+refused_text adds makings puts net line refusal = option_or (missing_hint adds (missing_of line refusal)) (standing_of makings puts net line refusal)
 
-abbrev pub refused_hint : List Adding → List Making → Net → Line → Result Net Refusal → Option (List ℕ)
-refused_hint adds makings net line (Ok new) = None
-refused_hint adds makings net line (Err refusal) = refused_text adds makings net line refusal
+abbrev pub refused_hint : List Adding → List Making → List Put → Net → Line → Result Net Refusal → Option (List ℕ)
+refused_hint adds makings puts net line (Ok new) = None
+refused_hint adds makings puts net line (Err refusal) = refused_text adds makings puts net line refusal
 
 -- of a line by how it is read
 abbrev pub read_hint : Past → List ℕ → Result Line Fault → Option (List ℕ)
 read_hint past line (Err f) = hint_of (version_with past.version line) line
-read_hint past line (Ok read) = refused_hint past.adds past.makings past.net read (after_line past.marked read past.net)
+read_hint past line (Ok read) = refused_hint past.adds past.makings past.puts past.net read (after_line past.marked read past.net)
 
 -- what is printed of the next line
 abbrev pub hint_after : Past → List ℕ → List ℕ

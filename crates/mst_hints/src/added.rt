@@ -8,7 +8,7 @@ ghost use Rattle.mst_hints.specs.Records.{added_of as added_of_line, added_by as
 use crate::form::form_of;
 use crate::hint::LONGEST;
 use crate::record::Record;
-use crate::unknown::nearest;
+use crate::unknown::near_alone;
 use crate::words::next_word;
 use mst_ids::{Name, PortName, PortNumber};
 use mst_lang::parse_number;
@@ -28,13 +28,13 @@ pub(crate) fn added_of(line: &[u8]) -> Option<Record>
     }
 }
 
-/// The command that a word is, or was to be: the nearest one where it is none.
+/// The command that a word is, or was to be: the nearest one where it is none and asks for nothing else.
 fn command_meant(word: &[u8]) -> Option<&[u8]>
     ensures { option_map (λ text. text.now) result ≡ command_of_word word.now }
 {
     match form_of(word) {
         Some(_) => Some(word),
-        None => nearest(word),
+        None => near_alone(word),
     }
 }
 

@@ -1,12 +1,13 @@
 ghost use Rattle.std.specs.Prelude.{◌≡◌, ◌++◌, ◌∷◌, [], true, Some, IfOk, OnOk, is_some, length, codes, decimal};
 ghost use Rattle.mst_lang.specs.Forms.{command_of};
 ghost use Rattle.mst_lang.specs.Words.{words};
-ghost use Rattle.mst_hints.specs.Hints.{hint_of, hint_line, too_long, byte_text, is_pcap as pcap, is_utf16 as utf16, has_order_mark as order_mark, unknown_text as unknown_of, number_text, words_text, wrong_text, form_hint, command_hint, form_text as form_text_of, takes_text as takes_text_of, count_text as count_text_of, besides, meant_text};
+ghost use Rattle.mst_hints.specs.Meant.{meaning};
+ghost use Rattle.mst_hints.specs.Hints.{hint_of, hint_line, too_long, byte_text, is_pcap as pcap, is_utf16 as utf16, has_order_mark as order_mark, unknown_text as unknown_of, number_text, words_text, wrong_text, form_hint, command_hint, form_text as form_text_of, takes_text as takes_text_of, count_text as count_text_of, besides, word_is, pair_text, exchanged_text, right_text};
 
 use crate::advice::push_advice;
 use crate::form::form_of;
-use crate::meant::meant_by;
-use crate::right::first_wrong;
+use crate::meant::{Meant, meant_by};
+use crate::right::{exchanged, first_wrong};
 use crate::unknown::push_unknown;
 use crate::words::{are_plain, has_comment, next_word, word_count};
 use mst_ids::{push_bytes, push_decimal, push_end, push_word};
@@ -172,7 +173,7 @@ fn push_form_hint(
         None => Ok(false),
         Some((argument, wrong)) => {
             push_start(of, number, out)?;
-            push_wrong(version, word, form, argument, wrong, out)?;
+            push_wrong(version, word, form, arguments, argument, wrong, out)?;
             push_end(out)?;
             Ok(true)
         }
@@ -262,37 +263,72 @@ fn push_wrong(
     version: Version,
     word: &[u8],
     form: &[Argument],
+    arguments: &[u8],
     argument: Argument,
     wrong: &[u8],
     out: &mut Vec<u8>,
 ) -> Result<(), AllocError>
-    ensures { OnOk result (out.new.items ≡ out.old.items ++ wrong_text version word.now form.now (argument, wrong.now)) }
+    ensures { OnOk result (out.new.items ≡ out.old.items ++ wrong_text version word.now form.now (words arguments.now) (argument, wrong.now)) }
 {
     push_bytes(word, out)?;
     push_form(form, out)?;
     push_bytes(b": ", out)?;
     push_bytes(argument.range(version).as_bytes(), out)?;
-    push_meant(version, argument, wrong, out)
+    push_right(version, form, arguments, argument, wrong, out)
 }
 
-/// Appends what the word was meant to be, where that can be told.
-fn push_meant(
+/// Appends what the word was meant to be, or which words are to be exchanged, where that can be told.
+fn push_right(
     version: Version,
+    form: &[Argument],
+    arguments: &[u8],
     argument: Argument,
     word: &[u8],
     out: &mut Vec<u8>,
 ) -> Result<(), AllocError>
-    ensures { OnOk result (out.new.items ≡ out.old.items ++ besides (meant_text version argument word.now)) }
+    ensures { OnOk result (out.new.items ≡ out.old.items ++ besides (right_text version form.now (words arguments.now) (argument, word.now))) }
 {
     match meant_by(version, argument, word) {
-        Some(meant) => {
-            push_bytes(b"; ", out)?;
-            push_bytes(word, out)?;
-            push_bytes(b" is ", out)?;
-            meant.push_text(word, out)
-        }
+        Some(meant) => push_meant(word, meant, out),
+        None => push_exchanged(version, form, arguments, out),
+    }
+}
+
+/// Appends what the word was meant to be.
+fn push_meant(word: &[u8], meant: Meant, out: &mut Vec<u8>) -> Result<(), AllocError>
+    ensures { OnOk result (out.new.items ≡ out.old.items ++ besides (Some (word_is word.now (meaning word.now meant)))) }
+{
+    push_bytes(b"; ", out)?;
+    push_bytes(word, out)?;
+    push_bytes(b" is ", out)?;
+    meant.push_text(word, out)
+}
+
+/// Appends which two words are to be exchanged, if that makes the line one that is read.
+fn push_exchanged(
+    version: Version,
+    form: &[Argument],
+    arguments: &[u8],
+    out: &mut Vec<u8>,
+) -> Result<(), AllocError>
+    ensures { OnOk result (out.new.items ≡ out.old.items ++ besides (exchanged_text version form.now (words arguments.now))) }
+{
+    match exchanged(version, form, arguments) {
+        Some((one, other)) => push_pair(one, other, out),
         None => Ok(()),
     }
+}
+
+/// Appends that two words are to be exchanged.
+fn push_pair(one: &[u8], other: &[u8], out: &mut Vec<u8>) -> Result<(), AllocError>
+    ensures { OnOk result (out.new.items ≡ out.old.items ++ besides (Some (pair_text (one.now, other.now)))) }
+{
+    push_bytes(b"; ", out)?;
+    push_bytes(one, out)?;
+    push_word(other, out)?;
+    push_bytes(b" is ", out)?;
+    push_bytes(other, out)?;
+    push_word(one, out)
 }
 
 /// Appends the words of a form, each after a space.

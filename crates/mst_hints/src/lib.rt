@@ -13,6 +13,7 @@ mod hint;
 pub mod laws;
 mod meant;
 mod near;
+mod puts;
 mod record;
 mod right;
 mod script;

@@ -1,6 +1,6 @@
 ghost use Rattle.std.specs.Prelude.{◌≡◌};
 ghost use Rattle.mst_lang.specs.Arguments.{is_text};
-ghost use Rattle.mst_hints.specs.Near.{one_change, is_in_case as in_case, is_joined as joined, is_within_one as within_one, is_within_two as within_two, lower_case};
+ghost use Rattle.mst_hints.specs.Near.{closed_up, one_change, put_back, is_in_case as in_case, is_joined as joined, is_within_one as within_one, is_within_two as within_two, lower_case, two_changes};
 
 /// Whether one word becomes the other by at most one change: a letter put in, left out, or exchanged with its
 /// neighbour.
@@ -39,7 +39,7 @@ fn is_one_change(one: &[u8], other: &[u8]) -> bool
     }
 }
 
-/// Whether one word becomes the other by at most two changes.
+/// Whether one word becomes the other by at most two changes, also of the same letters.
 pub fn is_within_two(one: &[u8], other: &[u8]) -> bool
     ensures { result ≡ within_two one.now other.now }
 {
@@ -52,8 +52,17 @@ pub fn is_within_two(one: &[u8], other: &[u8]) -> bool
     }
 }
 
-/// Whether at most one change is left, as they are or after one at the front.
+/// Whether at most two changes are left.
 fn are_two_changes(one: &[u8], other: &[u8]) -> bool
+    ensures { result ≡ two_changes one.now other.now }
+{
+    is_one_more(one, other)
+        || (is_closed_up(one, other) || is_closed_up(other, one))
+        || (is_put_back(one, other) || is_put_back(other, one))
+}
+
+/// Whether at most one change is left, as they are or after one at the front.
+fn is_one_more(one: &[u8], other: &[u8]) -> bool
     ensures { result ≡ one_change within_one one.now other.now }
 {
     if is_within_one(one, other) {
@@ -71,6 +80,28 @@ fn are_two_changes(one: &[u8], other: &[u8]) -> bool
     }
     match (one, other) {
         ([a, b, one @ ..], [c, d, other @ ..]) => *a == *d && *b == *c && is_within_one(one, other),
+        _ => false,
+    }
+}
+
+/// Whether of three letters the middle one is left out, and its neighbours are exchanged.
+fn is_closed_up(one: &[u8], other: &[u8]) -> bool
+    ensures { result ≡ closed_up one.now other.now }
+{
+    match (one, other) {
+        ([a, _, b, one @ ..], [c, d, other @ ..]) => *a == *d && *b == *c && one == other,
+        _ => false,
+    }
+}
+
+/// Whether the first letter is exchanged with the second, and then with the third.
+fn is_put_back(one: &[u8], other: &[u8]) -> bool
+    ensures { result ≡ put_back one.now other.now }
+{
+    match (one, other) {
+        ([a, b, c, one @ ..], [d, e, f, other @ ..]) => {
+            *a == *f && *b == *d && *c == *e && one == other
+        }
         _ => false,
     }
 }

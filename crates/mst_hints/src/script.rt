@@ -2,11 +2,12 @@ ghost use Rattle.std.specs.Prelude.{◌≡◌, ◌≢◌, ◌+◌, ◌++◌, ◌
 ghost use Rattle.std.specs.Option.{option_map_or};
 ghost use Rattle.mst_hints.specs.Kept.{IsKept};
 ghost use Rattle.mst_hints.specs.Hints.{hint_line};
-ghost use Rattle.mst_hints.specs.Scripts.{Past, nothing, past_after, hint_after, version_with, reading_with, saying_with, after_line, net_after, net_with, is_made, is_mark as marks, making_of as making_of_line, read_hint, refused_hint, refused_text, absent_text, since_text};
+ghost use Rattle.mst_hints.specs.Scripts.{Past, nothing, past_after, hint_after, version_with, reading_with, saying_with, after_line, net_after, net_with, is_made, is_mark as marks, making_of as making_of_line, put_of as put_of_line, read_hint, refused_hint, refused_text, absent_text, since_text};
 
 use crate::added::added_of;
 use crate::adds::Adds;
 use crate::hint::{push_hint, push_start};
+use crate::puts::{Holder, Puts, put_by};
 use crate::record::{Record, made_by, missing_of};
 use crate::standing::push_record;
 use crate::whose::Script;
@@ -18,7 +19,6 @@ use std::alloc::{AllocError, Global};
 /// Tells what would be right in the lines of a script, one after another.
 #[derive(Drop)]
 pub struct ScriptHints {
-    pub(crate) alloc: Global,
     /// The version of the script, once its first line has come.
     pub(crate) version: Option<Version>,
     /// What stands before each hint.
@@ -32,6 +32,7 @@ pub struct ScriptHints {
     /// Whether a line has marked it.
     pub(crate) marked: bool,
     pub(crate) adds: Adds,
+    pub(crate) puts: Puts,
 }
 
 impl ScriptHints {
@@ -41,7 +42,6 @@ impl ScriptHints {
         ensures { IsKept (nothing script) result }
     {
         ScriptHints {
-            alloc,
             version: None,
             of: script.text_before(),
             asks: script.is_run(),
@@ -49,6 +49,7 @@ impl ScriptHints {
             network: Network::new(alloc),
             marked: false,
             adds: Adds::new(alloc),
+            puts: Puts::new(alloc),
         }
     }
 
@@ -71,6 +72,7 @@ impl ScriptHints {
         let made = self.push_read(version, line, &reading, out)?;
         self.adds.note(self.number, added_of(line), made)?;
         self.adds.note_made(self.number, making_of(made, &reading))?;
+        self.puts.note(put_of(made, &reading))?;
         self.marked = self.marked || is_mark(&reading);
         self.version = Some(version);
         self.number += 1;
@@ -90,6 +92,7 @@ impl ScriptHints {
         ensures net { OnOk result (self.new.network.net ≡ net_with self.old.network.net reading.now) }
         ensures text { OnOk result ((past : Past) → IsKept past self.old → out.new.items ≡ out.old.items ++ hint_line past.of past.number (read_hint past line.now reading.now)) }
         ensures adds { self.new.adds ≡ self.old.adds }
+        ensures puts { self.new.puts ≡ self.old.puts }
         ensures marked { self.new.marked ≡ self.old.marked }
         ensures number { self.new.number ≡ self.old.number }
         ensures version { self.new.version ≡ self.old.version }
@@ -109,8 +112,9 @@ impl ScriptHints {
     fn push_made(&mut self, line: &Line, out: &mut Vec<u8>) -> Result<bool, AllocError>
         ensures made { IfOk result (λ made. made ≡ is_ok (after_line self.old.marked line.now self.old.network.net)) }
         ensures net { OnOk result (self.new.network.net ≡ net_after line.now self.old.network.net) }
-        ensures text { OnOk result ((past : Past) → IsKept past self.old → out.new.items ≡ out.old.items ++ hint_line past.of past.number (refused_hint past.adds past.makings past.net line.now (after_line past.marked line.now past.net))) }
+        ensures text { OnOk result ((past : Past) → IsKept past self.old → out.new.items ≡ out.old.items ++ hint_line past.of past.number (refused_hint past.adds past.makings past.puts past.net line.now (after_line past.marked line.now past.net))) }
         ensures adds { self.new.adds ≡ self.old.adds }
+        ensures puts { self.new.puts ≡ self.old.puts }
         ensures marked { self.new.marked ≡ self.old.marked }
         ensures number { self.new.number ≡ self.old.number }
         ensures version { self.new.version ≡ self.old.version }
@@ -134,7 +138,7 @@ impl ScriptHints {
         refusal: Refusal,
         out: &mut Vec<u8>,
     ) -> Result<(), AllocError>
-        ensures { OnOk result ((past : Past) → IsKept past self.now → out.new.items ≡ out.old.items ++ hint_line past.of past.number (refused_text past.adds past.makings past.net line.now refusal)) }
+        ensures { OnOk result ((past : Past) → IsKept past self.now → out.new.items ≡ out.old.items ++ hint_line past.of past.number (refused_text past.adds past.makings past.puts past.net line.now refusal)) }
     {
         match missing_of(line, refusal) {
             Some(wanted) => push_absent(
@@ -197,6 +201,16 @@ fn making_of(made: bool, reading: &Result<Line, Fault>) -> Option<Record>
 {
     match reading {
         Ok(Line::Edit(edit)) if made => made_by(edit),
+        _ => None,
+    }
+}
+
+/// What a line put into what, if it was made and did.
+fn put_of(made: bool, reading: &Result<Line, Fault>) -> Option<(Holder, Record)>
+    ensures { result ≡ put_of_line made reading.now }
+{
+    match reading {
+        Ok(Line::Edit(edit)) if made => put_by(edit),
         _ => None,
     }
 }

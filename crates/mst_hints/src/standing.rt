@@ -1,13 +1,14 @@
-ghost use Rattle.std.specs.Prelude.{◌≡◌, ◌++◌, [], Some, IfOk, OnOk, find};
-ghost use Rattle.std.specs.Option.{option_copied, option_map_or};
-ghost use Rattle.mst_lang.specs.Arguments.{is_text};
+ghost use Rattle.std.specs.Prelude.{◌≡◌, ◌&&◌, ◌++◌, [], Some, OnOk, find};
+ghost use Rattle.std.specs.Option.{option_map, option_map_or};
 ghost use Rattle.mst_hints.specs.Kept.{IsKept};
 ghost use Rattle.mst_hints.specs.Hints.{hint_line};
 ghost use Rattle.mst_hints.specs.Scripts.{Past};
-ghost use Rattle.mst_hints.specs.Standing.{standing_of, standing_for, there_text, mac_hint, plugged_text, unplugged_text, bridge_has_text, lan_has_text, has_port_text, limit_text, trees_text, mark_text, record_text, lan_text, port_name_text, made_text};
-ghost use Rattle.mst_hints.specs.Standing as standing;
+ghost use Rattle.mst_hints.specs.Standing.{standing_of, standing_for, there_text, mac_hint, plugged_text, unplugged_text, bridge_has_text, lan_has_text, has_port_text, held_text, holder_text, limit_text, since_held, trees_text, mark_text, record_text, lan_text, made_text};
+ghost use Rattle.mst_hints.specs.Puts.{held_by, is_held, same_holder};
+ghost use Rattle.mst_hints.specs.Puts as puts;
 
 use crate::hint::{push_start, push_text};
+use crate::puts::{Holder, is_same};
 use crate::record::{Record, bridge_for, lan_for, made_by, port_for};
 use crate::script::ScriptHints;
 use mst_ids::{Mac, Name, PortName, push_bytes, push_decimal, push_end};
@@ -23,7 +24,7 @@ impl ScriptHints {
         refusal: Refusal,
         out: &mut Vec<u8>,
     ) -> Result<(), AllocError>
-        ensures { OnOk result ((past : Past) → IsKept past self.now → out.new.items ≡ out.old.items ++ hint_line past.of past.number (standing_of past.makings past.net line.now refusal)) }
+        ensures { OnOk result ((past : Past) → IsKept past self.now → out.new.items ≡ out.old.items ++ hint_line past.of past.number (standing_of past.makings past.puts past.net line.now refusal)) }
     {
         match line {
             Line::Edit(edit) => self.push_standing_for(edit, refusal, out),
@@ -42,7 +43,7 @@ impl ScriptHints {
         refusal: Refusal,
         out: &mut Vec<u8>,
     ) -> Result<(), AllocError>
-        ensures { OnOk result ((past : Past) → IsKept past self.now → out.new.items ≡ out.old.items ++ hint_line past.of past.number (standing_for past.makings past.net edit.now refusal)) }
+        ensures { OnOk result ((past : Past) → IsKept past self.now → out.new.items ≡ out.old.items ++ hint_line past.of past.number (standing_for past.makings past.puts past.net edit.now refusal)) }
     {
         match refusal {
             Refusal::E07 | Refusal::E09 => match made_by(edit) {
@@ -89,29 +90,36 @@ impl ScriptHints {
         push_end(out)
     }
 
-    /// Which bridge has the MAC address, if one has it.
+    /// Which bridge has the MAC address.
     fn push_holder(&self, edit: &Edit, out: &mut Vec<u8>) -> Result<(), AllocError>
-        ensures { OnOk result ((past : Past) → IsKept past self.now → out.new.items ≡ out.old.items ++ hint_line past.of past.number (mac_hint past.makings past.net edit.now)) }
+        ensures { OnOk result ((past : Past) → IsKept past self.now → out.new.items ≡ out.old.items ++ hint_line past.of past.number (mac_hint past.makings past.puts past.net edit.now)) }
     {
         match edit {
-            Edit::AddBridge { mac, .. } => match self.bridge_with_mac(*mac)? {
-                Some(bridge) => self.push_has_mac(&bridge, out),
-                None => Ok(()),
-            },
+            Edit::AddBridge { mac, .. } => {
+                self.push_has_mac(&self.held_by(&Holder::AtMac(*mac)), out)
+            }
             _ => Ok(()),
         }
     }
 
     /// That this bridge has it.
-    fn push_has_mac(&self, bridge: &Name, out: &mut Vec<u8>) -> Result<(), AllocError>
-        ensures { OnOk result ((past : Past) → IsKept past self.now → out.new.items ≡ out.old.items ++ hint_line past.of past.number (Some (standing.holder_text past.makings bridge.now))) }
+    fn push_has_mac(&self, held: &Option<Record>, out: &mut Vec<u8>) -> Result<(), AllocError>
+        ensures { OnOk result ((past : Past) → IsKept past self.now → out.new.items ≡ out.old.items ++ hint_line past.of past.number (Some (holder_text past.makings held.now))) }
     {
-        let holder = Record::Bridge(*bridge);
         push_start(self.of, self.number, out)?;
-        push_record(&holder, out)?;
+        push_held(held, b"a bridge", out)?;
         push_bytes(b" has this MAC address", out)?;
-        push_since_made(self.adds.last_made(&holder), out)?;
+        self.push_since_held(held, out)?;
         push_end(out)
+    }
+
+    fn push_since_held(&self, held: &Option<Record>, out: &mut Vec<u8>) -> Result<(), AllocError>
+        ensures { OnOk result ((past : Past) → IsKept past self.now → out.new.items ≡ out.old.items ++ since_held past.makings held.now) }
+    {
+        match held {
+            Some(record) => push_since_made(self.adds.last_made(record), out),
+            None => Ok(()),
+        }
     }
 
     /// That the port is in a LAN.
@@ -128,13 +136,12 @@ impl ScriptHints {
 
     /// That the bridge has a port.
     fn push_bridge_has(&self, bridge: &Name, out: &mut Vec<u8>) -> Result<(), AllocError>
-        ensures { OnOk result ((past : Past) → IsKept past self.now → out.new.items ≡ out.old.items ++ hint_line past.of past.number (Some (bridge_has_text past.net bridge.now))) }
+        ensures { OnOk result ((past : Past) → IsKept past self.now → out.new.items ≡ out.old.items ++ hint_line past.of past.number (Some (bridge_has_text past.puts past.net bridge.now))) }
     {
-        let port = self.port_of_bridge(bridge)?;
         push_start(self.of, self.number, out)?;
         push_has_port(
             &Record::Bridge(*bridge),
-            port,
+            &self.held_by(&Holder::OnBridge(*bridge)),
             b"; delport comes first",
             out,
         )?;
@@ -143,32 +150,55 @@ impl ScriptHints {
 
     /// That a port is in the LAN.
     fn push_lan_has(&self, lan: &Name, out: &mut Vec<u8>) -> Result<(), AllocError>
-        ensures { OnOk result ((past : Past) → IsKept past self.now → out.new.items ≡ out.old.items ++ hint_line past.of past.number (Some (lan_has_text past.net lan.now))) }
+        ensures { OnOk result ((past : Past) → IsKept past self.now → out.new.items ≡ out.old.items ++ hint_line past.of past.number (Some (lan_has_text past.puts past.net lan.now))) }
     {
-        let port = self.port_in_lan(lan)?;
         push_start(self.of, self.number, out)?;
-        push_has_port(&Record::Lan(*lan), port, b"; unplug comes first", out)?;
+        push_has_port(
+            &Record::Lan(*lan),
+            &self.held_by(&Holder::InLan(*lan)),
+            b"; unplug comes first",
+            out,
+        )?;
         push_end(out)
     }
 
     // ---- what is in the network
 
-    /// The first bridge, by name, that has this MAC address. It takes memory, for the names.
-    fn bridge_with_mac(&self, mac: Mac) -> Result<Option<Name>, AllocError>
-        ensures { IfOk result (λ found. found ≡ standing.bridge_with_mac mac self.now.network.net) }
+    /// Of what lines put there the first that is there still. It takes no memory. Where what a line put there first is there still,
+    /// it looks up nothing else.
+    fn held_by(&self, holder: &Holder) -> Option<Record>
+        ensures { (past : Past) → IsKept past self.now → result ≡ held_by past.puts past.net holder.now }
     {
-        let names = self.network.bridge_names(self.alloc)?;
-        Ok(self.first_with_mac(&names, mac).copied())
+        let first = self.puts.first(holder)?;
+        if self.is_held(holder, &first) {
+            Some(first)
+        } else {
+            self.first_held(self.puts.all.as_slice(), holder)
+        }
     }
 
-    fn first_with_mac<'a>(&self, names: &'a [Name], mac: Mac) -> Option<&'a Name>
-        ensures { option_copied result ≡ find (standing.has_mac mac self.now.network.net) names.now }
+    fn first_held(&self, puts: &[(Holder, Record)], holder: &Holder) -> Option<Record>
+        ensures { result ≡ option_map (λ put. put.1) (find (λ put. same_holder put.0 holder.now && is_held self.now.network.net holder.now put.1) puts.now) }
     {
-        names.iter().find(|name| self.has_mac(name, mac))
+        let (_, held) = puts.iter().find(|(place, held)| is_same(place, holder)
+            && self.is_held(holder, held))?;
+        Some(*held)
+    }
+
+    /// Whether what was put there is there still.
+    fn is_held(&self, holder: &Holder, held: &Record) -> bool
+        ensures { result ≡ is_held self.now.network.net holder.now held.now }
+    {
+        match (holder, held) {
+            (Holder::AtMac(mac), Record::Bridge(bridge)) => self.has_mac(bridge, *mac),
+            (Holder::OnBridge(_), Record::Port(port)) => self.network.port(port).is_some(),
+            (Holder::InLan(lan), Record::Port(port)) => self.is_in(port, lan),
+            _ => false,
+        }
     }
 
     fn has_mac(&self, bridge: &Name, mac: Mac) -> bool
-        ensures { result ≡ standing.has_mac mac self.now.network.net bridge.now }
+        ensures { result ≡ puts.has_mac mac self.now.network.net bridge.now }
     {
         match self.network.bridge(bridge) {
             Some(seen) => seen.mac == mac,
@@ -178,7 +208,7 @@ impl ScriptHints {
 
     /// The LAN that a port is in.
     fn lan_of(&self, port: &PortName) -> Option<Name>
-        ensures { result ≡ standing.lan_of self.now.network.net port.now }
+        ensures { result ≡ puts.lan_of self.now.network.net port.now }
     {
         match self.network.port(port) {
             Some(seen) => seen.lan,
@@ -186,42 +216,14 @@ impl ScriptHints {
         }
     }
 
-    /// The first port, by name, of a bridge. It takes memory, for the names.
-    fn port_of_bridge(&self, bridge: &Name) -> Result<Option<PortName>, AllocError>
-        ensures { IfOk result (λ found. found ≡ standing.port_of_bridge self.now.network.net bridge.now) }
-    {
-        let names = self.network.port_names(self.alloc)?;
-        Ok(first_of_bridge(&names, bridge).copied())
-    }
-
-    /// The first port, by name, in a LAN. It takes memory, for the names.
-    fn port_in_lan(&self, lan: &Name) -> Result<Option<PortName>, AllocError>
-        ensures { IfOk result (λ found. found ≡ standing.port_in_lan self.now.network.net lan.now) }
-    {
-        let names = self.network.port_names(self.alloc)?;
-        Ok(self.first_in_lan(&names, lan).copied())
-    }
-
-    fn first_in_lan<'a>(&self, names: &'a [PortName], lan: &Name) -> Option<&'a PortName>
-        ensures { option_copied result ≡ find (λ port. standing.is_in_lan self.now.network.net lan.now port) names.now }
-    {
-        names.iter().find(|port| self.is_in(port, lan))
-    }
-
     fn is_in(&self, port: &PortName, lan: &Name) -> bool
-        ensures { result ≡ standing.is_in_lan self.now.network.net lan.now port.now }
+        ensures { result ≡ puts.is_in_lan self.now.network.net lan.now port.now }
     {
         match self.lan_of(port) {
             Some(own) => own == *lan,
             None => false,
         }
     }
-}
-
-fn first_of_bridge<'a>(names: &'a [PortName], bridge: &Name) -> Option<&'a PortName>
-    ensures { option_copied result ≡ find (λ port. is_text port.bridge bridge.now) names.now }
-{
-    names.iter().find(|port| port.bridge == *bridge)
 }
 
 /// What marks are for.
@@ -273,16 +275,13 @@ fn limit(made: &Record) -> &'static [u8]
     }
 }
 
-/// How many trees a bridge may have.
+/// That the bridge has as many trees as one may have.
 fn push_trees(of: &[u8], number: u64, bridge: &Name, out: &mut Vec<u8>) -> Result<(), AllocError>
     ensures { OnOk result (out.new.items ≡ out.old.items ++ hint_line of.now number (Some (trees_text bridge.now))) }
 {
     push_start(of, number, out)?;
     push_record(&Record::Bridge(*bridge), out)?;
-    push_bytes(
-        b" would have more than 64 trees, of which tree 0 is one",
-        out,
-    )?;
+    push_bytes(b" has 64 trees besides tree 0", out)?;
     push_end(out)
 }
 
@@ -322,28 +321,26 @@ fn push_lan(lan: Option<Name>, out: &mut Vec<u8>) -> Result<(), AllocError>
 
 /// That the record has this port, and what comes first.
 fn push_has_port(
-    holder: &Record,
-    port: Option<PortName>,
+    named: &Record,
+    port: &Option<Record>,
     first: &[u8],
     out: &mut Vec<u8>,
 ) -> Result<(), AllocError>
-    ensures { OnOk result (out.new.items ≡ out.old.items ++ has_port_text holder.now port first.now) }
+    ensures { OnOk result (out.new.items ≡ out.old.items ++ has_port_text named.now port.now first.now) }
 {
-    push_record(holder, out)?;
-    push_bytes(b" has port", out)?;
-    push_port_name(port, out)?;
+    push_record(named, out)?;
+    push_bytes(b" has ", out)?;
+    push_held(port, b"a port", out)?;
     push_bytes(first, out)
 }
 
-fn push_port_name(port: Option<PortName>, out: &mut Vec<u8>) -> Result<(), AllocError>
-    ensures { OnOk result (out.new.items ≡ out.old.items ++ port_name_text port) }
+/// A record in words, or these words.
+fn push_held(held: &Option<Record>, words: &[u8], out: &mut Vec<u8>) -> Result<(), AllocError>
+    ensures { OnOk result (out.new.items ≡ out.old.items ++ held_text held.now words.now) }
 {
-    match port {
-        Some(name) => {
-            push_bytes(b" ", out)?;
-            name.push_text(out)
-        }
-        None => Ok(()),
+    match held {
+        Some(record) => push_record(record, out),
+        None => push_bytes(words, out),
     }
 }
 

@@ -72,8 +72,8 @@ fn meant(word: &[u8], arguments: &[u8]) -> Option<&'static [u8]>
     }
 }
 
-/// The nearest command of a word that asks for nothing in other tools.
-fn near_alone(word: &[u8]) -> Option<&'static [u8]>
+/// The nearest command of a word that asks for nothing by itself.
+pub(crate) fn near_alone(word: &[u8]) -> Option<&'static [u8]>
     ensures { option_map (λ text. text.now) result ≡ nearest_alone word.now }
 {
     if asks(word) { None } else { nearest(word) }
@@ -100,7 +100,7 @@ fn next_command(arguments: &[u8]) -> Option<&[u8]>
 
 /// The command that is nearest to the word: it but for its case, or at most two changes from it.
 #[tactic(auto, unfolding(crate::specs::Hints::nearest))]
-pub(crate) fn nearest(word: &[u8]) -> Option<&'static [u8]>
+fn nearest(word: &[u8]) -> Option<&'static [u8]>
     ensures { option_map (λ text. text.now) result ≡ nearest_of word.now }
 {
     match command_in_case(word) {

@@ -2,7 +2,8 @@ use Rattle.std.proofs.Common.{◌∙◌, ◌++◌, [], Some, codes, ap}
 use Rattle.std.proofs.lemmas.Result.{on_ok_weaker}
 use Rattle.std.specs.Option.{option_map_or}
 use Rattle.mst_hints.specs.Hints.{hint_line}
-use Rattle.mst_hints.specs.Standing.{lan_of, lan_text, made_text, plugged_text, record_text}
+use Rattle.mst_hints.specs.Puts.{lan_of}
+use Rattle.mst_hints.specs.Standing.{lan_text, made_text, plugged_text, record_text}
 use Rattle.mst_hints.specs.declared.record.Record.TheVariants.{Port}
 use Rattle.mst_hints.proofs.Lined.{joined, lined}
 use Rattle.mst_hints.proofs.script.ScriptHints.push_plugged.Goals as goal

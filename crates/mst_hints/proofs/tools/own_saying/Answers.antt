@@ -1,0 +1,13 @@
+use Rattle.std.proofs.Common.{◌∙◌, ◌≡◌, ◌∷◌, [], List, ℕ, Bor, map, ap}
+use Rattle.std.specs.Option.{option_map}
+use Rattle.std.specs.Prelude.{Option}
+use Rattle.mst_hints.specs.Tools.{own_sayings}
+use Rattle.mst_hints.proofs.Said.{said_found, saying_entry}
+use Rattle.mst_hints.proofs.tools.own_saying.Goals as goal
+
+pub returns : goal.returns
+unfolding own_sayings
+returns c =
+    let same : map saying_entry c.as_slice.result.now ≡ own_sayings = ap (map saying_entry) c.as_slice.ensures in
+    ap (λ (o : Option (Bor (List ℕ))). option_map (λ (text : Bor (List ℕ)). text.now) o) c.first_among.ensures
+    ∙ said_found (c.args.word.now ∷ []) c.as_slice.result.now own_sayings same
