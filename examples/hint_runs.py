@@ -98,6 +98,8 @@ UNREAD_LINE, UNREAD_HINT = ASKING_LINES[ASKING_LINES.index(b"line 3"):], ASKING_
 NO_NETWORK = b"bridges 0 on 0 ports 0 enabled 0 regions 0 trees 0\nvlan 1-4094 islands 0\n"
 CAPTURES = b"# none\n00\n"
 TOO_SHORT = b"capture 2 B02 too short\n"
+# What a check prints of captures without a message.
+UNCHECKED = b"check captures 0 agree 0\n"
 # Lines of a policy that aren't read, each with its hint; and a change with two such lines, each of which is a step.
 PROMISES = {
     "rot 0 A": ("E01 no such expectation", "no expectation rot; root?"),
@@ -155,7 +157,7 @@ def cases(folder):
         ("hints of what is full or held", ["run", "--hints", "-"], FULL, 1, FULL_LINES, FULL_HINTS),
         ("no hints of what isn't refused", ["run", "--hints", "-"], b"showlag\n# addlna\n\n", 0, b"", b""),
         ("no hints of nothing", ["--hints"], b"", 0, b"", b""),
-        ("hints of a check", ["check", "--hints", script, os.devnull], b"", 1, HINTED_RUN, HINTS),
+        ("hints of a check", ["check", "--hints", script, os.devnull], b"", 1, HINTED_RUN + UNCHECKED, HINTS),
         ("hints of a check, and no hints of captures", ["check", "--hints", "-", captures], HINTED, 1, HINTED_RUN + TOO_SHORT, HINTS),
         ("hints of a check of standard input", ["check", "--hints", script, "-"], CAPTURES, 1, HINTED_RUN + TOO_SHORT, HINTS),
         ("hints and what isn't explained", ["explain", "--hints", script, "B", "1"], b"", 1, HINTED_LINES + EXPLAINED, HINTS),

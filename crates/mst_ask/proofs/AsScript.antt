@@ -163,11 +163,11 @@ module _ (form : Form) (version : Version) (base : Net) where
   asked_of number now line (Ok (Script (query q))) t says is h =
       turn_of t (stepped form now h.0) h.2 (same_of now (h.0).state (ap (λ (u : Step). u.state.net) h.1.2 ∙ ap (λ (u : State). u.net) (answered_keeps (of_script form) (h.0).lacking number now.state q h.1.0)) is)
   asked_of number now line (Ok (Script (edit e))) t says is (inl h) = turn_of t (edited form number now line (after e now.state.net)) h (edited_of number now line e (after e now.state.net) is (script_said version line (edit e) says) refl)
-  asked_of number now line (Ok (Script (edit e))) t says is (inr h) = turn_of t (starved form number now) h is
+  asked_of number now line (Ok (Script (edit e))) t says is (inr h) = turn_of t (starved form number now) h.1 is
   asked_of number now line (Ok (Word question)) t says is (inl h) = turn_of t (answered form now h.0 h.1) h.3 is
-  asked_of number now line (Ok (Word question)) t says is (inr h) = turn_of t (starved form number now) h is
+  asked_of number now line (Ok (Word question)) t says is (inr h) = turn_of t (starved form number now) h.1 is
   asked_of number now line (Ok (Undo count)) t says is (inl h) = turn_of t (undone form number count now (back count now.state.net now.made)) h (undone_of number count now (back count now.state.net now.made) is refl)
-  asked_of number now line (Ok (Undo count)) t says is (inr h) = turn_of t (starved form number now) h is
+  asked_of number now line (Ok (Undo count)) t says is (inr h) = turn_of t (starved form number now) h.1 is
 
   all_of : (number : ℕ) (now : Standing) (lines : List (List ℕ)) (turns : List Turn) → IsOf version base now → AsksBy form version number now lines turns → IsOf version base (left_after now turns)
   unfolding AsksBy

@@ -1,5 +1,6 @@
 -- That lines can be asked, and what they do in one way.
 use Rattle.std.proofs.Common.{◌≡◌, ◌⊎◌, inl, inr, ℕ, ◌+◌, Bool, true, false, true≢false, zero, suc, List, [], ◌∷◌, Option, Some, None, Result, Ok, Err, refl, sym, ap, subst, ◌∙◌}
+use Rattle.std.specs.Prelude.{IsOk, IsSome}
 use Rattle.std.specs.List.{AllByRecursion}
 use Rattle.mst_lang.specs.Faults as fault
 use Rattle.mst_lang.specs.Ranges.{InRange}
@@ -20,6 +21,8 @@ use Rattle.mst_print.specs.Shape.{of_script}
 use Rattle.mst_print.specs.declared.form.Form.{Form}
 use Rattle.mst_print.specs.declared.form.Shape.{Shape}
 use Rattle.mst_rows.specs.Rows.{Row}
+use Rattle.mst_tool.specs.Ask.{is_refused}
+use Rattle.mst_tool.proofs.EarlyRefusals.{refused_answer}
 use Rattle.mst_tool.proofs.WholeLoad.{OneOfEach, one_answer}
 use Rattle.mst_ask.specs.Requests.{request_of}
 use Rattle.mst_ask.specs.Standing.{Made, Standing, Turn, Asks, AsksBy, AsksLine, IsStanding, answered, back, declined, edited, lacking_of, left_after, passed, starved, stepped, undone}
@@ -88,11 +91,11 @@ module _ (laws : Laws) (form : Form) where
   turn_kept number now line (Ok (Script Mark)) t is ranges h = turn_is t (stepped form now h.0) h.2 (record { state = mark_kept number now.state h.0 is.state h.1; made = is.made })
   turn_kept number now line (Ok (Script (query q))) t is ranges h = turn_is t (stepped form now h.0) h.2 (record { state = query_kept number now.state q h.0 is.state h.1; made = is.made })
   turn_kept number now line (Ok (Script (edit e))) t is ranges (inl h) = turn_is t (edited form number now line (after e now.state.net)) h (edited_kept number now line e (after e now.state.net) is (ranges e refl) refl)
-  turn_kept number now line (Ok (Script (edit e))) t is ranges (inr h) = turn_is t (starved form number now) h is
+  turn_kept number now line (Ok (Script (edit e))) t is ranges (inr h) = turn_is t (starved form number now) h.1 is
   turn_kept number now line (Ok (Word question)) t is ranges (inl h) = turn_is t (answered form now h.0 h.1) h.3 is
-  turn_kept number now line (Ok (Word question)) t is ranges (inr h) = turn_is t (starved form number now) h is
+  turn_kept number now line (Ok (Word question)) t is ranges (inr h) = turn_is t (starved form number now) h.1 is
   turn_kept number now line (Ok (Undo count)) t is ranges (inl h) = turn_is t (undone form number count now (back count now.state.net now.made)) h (undone_kept number count now (back count now.state.net now.made) is refl)
-  turn_kept number now line (Ok (Undo count)) t is ranges (inr h) = turn_is t (starved form number now) h is
+  turn_kept number now line (Ok (Undo count)) t is ranges (inr h) = turn_is t (starved form number now) h.1 is
 
   pub line_kept : (version : Version) (number : ℕ) (now : Standing) (line : List ℕ) (t : Turn) → IsStanding now → AsksLine form version number now line t → IsStanding t.standing
   line_kept version number now line t is h = turn_kept number now line (request_of version line) t is (ranges_of version line) h
@@ -119,7 +122,11 @@ module _ (laws : Laws) (form : Form) where
         by (Err r) a = let s = answered_by (of_script form) false number now.state q (Err r) in (stepped form now s, (s, (Err r, a, refl), refl))
         by (Ok rows) a = let s = answered_by (of_script form) false number now.state q (Ok rows) in (stepped form now s, (s, (Ok rows, a, refl), refl))
     some_turn number now line (Ok (Script (edit e))) is = (edited form number now line (after e now.state.net), inl refl)
-    some_turn number now line (Ok (Word question)) is = (starved form number now, inr refl)
+    some_turn number now line (Ok (Word question)) is = by (is_refused now.state.net question) refl
+      where
+        by : (refused : Bool) → is_refused now.state.net question ≡ refused → (t : Turn) × Asks form number now line (Ok (Word question)) t
+        by true h = let a = refused_answer form now.state.net question h in (answered form now a.0 a.1, inl (a.0, a.1, a.2, refl))
+        by false h = (starved form number now, inr (h, refl))
     some_turn number now line (Ok (Undo count)) is = (undone form number count now (back count now.state.net now.made), inl refl)
 
     pub some_turns : (version : Version) (number : ℕ) (now : Standing) (lines : List (List ℕ)) → IsStanding now → (turns : List Turn) × AsksBy form version number now lines turns
@@ -142,11 +149,11 @@ module _ (laws : Laws) (form : Form) where
   not_both : (s t full : Turn) (number : ℕ) (now : Standing) → full.lacking ≡ false → s ≡ full → t ≡ starved form number now → s.lacking ≡ t.lacking → ⊥
   not_both s t full number now none h k alike = true≢false (sym (ap (λ (u : Turn). u.lacking) k) ∙ sym alike ∙ ap (λ (u : Turn). u.lacking) h ∙ none)
 
-  either_one : (s t full : Turn) (number : ℕ) (now : Standing) → full.lacking ≡ false → (s ≡ full) ⊎ (s ≡ starved form number now) → (t ≡ full) ⊎ (t ≡ starved form number now) → s.lacking ≡ t.lacking → s ≡ t
-  either_one s t full number now none (inl h) (inl k) alike = h ∙ sym k
-  either_one s t full number now none (inr h) (inr k) alike = h ∙ sym k
-  either_one s t full number now none (inl h) (inr k) alike = absurd (not_both s t full number now none h k alike)
-  either_one s t full number now none (inr h) (inl k) alike = absurd (not_both t s full number now none k h (sym alike))
+  either_one : (s t full : Turn) (May : Type 0) (number : ℕ) (now : Standing) → full.lacking ≡ false → (s ≡ full) ⊎ (May × (s ≡ starved form number now)) → (t ≡ full) ⊎ (May × (t ≡ starved form number now)) → s.lacking ≡ t.lacking → s ≡ t
+  either_one s t full May number now none (inl h) (inl k) alike = h ∙ sym k
+  either_one s t full May number now none (inr h) (inr k) alike = h.1 ∙ sym k.1
+  either_one s t full May number now none (inl h) (inr k) alike = absurd (not_both s t full number now none h k.1 alike)
+  either_one s t full May number now none (inr h) (inl k) alike = absurd (not_both t s full number now none k h.1 (sym alike))
 
   -- the steps of both lack memory where the turns do
   steps_alike : (now : Standing) (s t : Turn) (a b : Step) → s ≡ stepped form now a → t ≡ stepped form now b → s.lacking ≡ t.lacking → a.lacking ≡ b.lacking
@@ -166,11 +173,11 @@ module _ (laws : Laws) (form : Form) where
         let answer : h.1.0 ≡ k.1.0 = answers q now.state h.1.0 k.1.0 is.state.network h.1.1 k.1.1 in
         let same : h.0 ≡ k.0 = h.1.2 ∙ (λ i. answered_by (of_script form) (lacks i) number now.state q (answer i)) ∙ sym k.1.2 in
         h.2 ∙ ap (stepped form now) same ∙ sym k.2
-    one_turn number now line (Ok (Script (edit e))) s t is h k alike = either_one s t (edited form number now line (after e now.state.net)) number now (edited_full number now line (after e now.state.net)) h k alike
-    one_turn number now line (Ok (Undo count)) s t is h k alike = either_one s t (undone form number count now (back count now.state.net now.made)) number now (undone_full number count now (back count now.state.net now.made)) h k alike
-    one_turn number now line (Ok (Word question)) s t is (inr h) (inr k) alike = h ∙ sym k
-    one_turn number now line (Ok (Word question)) s t is (inl h) (inr k) alike = absurd (not_both s t (answered form now h.0 h.1) number now refl h.3 k alike)
-    one_turn number now line (Ok (Word question)) s t is (inr h) (inl k) alike = absurd (not_both t s (answered form now k.0 k.1) number now refl k.3 h (sym alike))
+    one_turn number now line (Ok (Script (edit e))) s t is h k alike = either_one s t (edited form number now line (after e now.state.net)) (IsOk (after e now.state.net)) number now (edited_full number now line (after e now.state.net)) h k alike
+    one_turn number now line (Ok (Undo count)) s t is h k alike = either_one s t (undone form number count now (back count now.state.net now.made)) (IsSome (back count now.state.net now.made)) number now (undone_full number count now (back count now.state.net now.made)) h k alike
+    one_turn number now line (Ok (Word question)) s t is (inr h) (inr k) alike = h.1 ∙ sym k.1
+    one_turn number now line (Ok (Word question)) s t is (inl h) (inr k) alike = absurd (not_both s t (answered form now h.0 h.1) number now refl h.3 k.1 alike)
+    one_turn number now line (Ok (Word question)) s t is (inr h) (inl k) alike = absurd (not_both t s (answered form now k.0 k.1) number now refl k.3 h.1 (sym alike))
     one_turn number now line (Ok (Word question)) s t is (inl h) (inl k) alike =
         let same = one_answer one form now.state.net question h.0 k.0 h.1 k.1 is.state.network h.2 k.2 in
         h.3 ∙ (λ i. answered form now (sym same.0 i) (sym same.1 i)) ∙ sym k.3

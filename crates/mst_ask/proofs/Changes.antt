@@ -1,5 +1,6 @@
 -- What stands where an edit was made or taken back.
-use Rattle.std.proofs.Common.{◌≡◌, ℕ, ◌+◌, ◌<◌, false, List, [], ◌∷◌, ◌++◌, Vec, length, map, take, drop, reverse, Some, None, Ok, sym, ap, ◌∙◌, subst}
+use Rattle.std.proofs.Common.{◌≡◌, ℕ, ◌+◌, ◌-◌, ◌<◌, ◌≤◌, false, List, [], ◌∷◌, ◌++◌, Vec, length, map, take, drop, reverse, Some, None, is_some, Ok, sym, ap, ◌∙◌, subst, arith}
+use Rattle.std.specs.Prelude.{IsSome}
 use Rattle.std.specs.Global.{Global}
 use Rattle.std.specs.List.{take-map, drop-map}
 use Rattle.std.proofs.lemmas.List.{length-map, map-append}
@@ -77,3 +78,10 @@ pub undo_none : (old : Standing) (kept : IsKept old) (form : Form) (number count
 undo_none old kept form number count many =
     ap (undone form number count (standing_of old))
     (sym (back_beyond old.version (net_of_script old.script.items) (planned_state old.planner).net (lines_kept old) kept.net count (subst (λ n. n < count) (sym (length-map old.made.items (λ (l : Vec ℕ Global). l.items))) many)))
+
+-- there were as many, so that they may be taken back
+pub undo_may : (old : Standing) (kept : IsKept old) (count : ℕ) → count ≤ length old.made.items → IsSome (back count (planned_state old.planner).net (standing_of old).made)
+undo_may old kept count few =
+    let lines = lines_kept old in
+    let all : length lines ≡ length old.made.items = length-map old.made.items (λ (l : Vec ℕ Global). l.items) in
+    ap is_some (back_to old.version (net_of_script old.script.items) (planned_state old.planner).net lines kept.net (length lines - count) count (omega (arith, all, few)))

@@ -38,14 +38,14 @@ count_one true m n h = omega (arith, h)
 count_one false m n h = omega (arith, h)
 
 module _ (shape : Shape) (lines : List (List ℕ)) where
-  pub loading_begins : (t : Tally) → t ≡ record { state = empty_state; version = None; number = 1; refused = 0; memory = 0; differing = 0 } → Loading shape lines lines t []
+  pub loading_begins : (t : Tally) → t ≡ record { state = empty_state; version = None; number = 1; refused = 0; memory = 0; differing = 0; answered = 0 } → Loading shape lines lines t []
   loading_begins t same = subst (λ u. Loading shape lines lines u []) (sym same) (record {
     goes = λ more h. h;
     state = refl;
     refused = refl;
     memory = refl;
     version = refl;
-    counted = record { refused = omega arith; memory = omega arith; differing = omega arith };
+    counted = record { refused = omega arith; memory = omega arith; differing = omega arith; answered = omega arith };
   })
 
   pub loading_on : (t u : Tally) (done : List Step) (line : List ℕ) (left rest : List (List ℕ)) (made : Step) → left ≡ line ∷ rest → Loading shape lines left t done
@@ -62,6 +62,7 @@ module _ (shape : Shape) (lines : List (List ℕ)) where
       refused = count_one made.refused t.refused t.number was.counted.refused;
       memory = count_one made.lacking t.memory t.number was.counted.memory;
       differing = count_one made.differs t.differing t.number was.counted.differing;
+      answered = count_one made.answers t.answered t.number was.counted.answered;
     };
   })
     where

@@ -1,5 +1,5 @@
 -- A standing planner, and what questions do to it.
-use Rattle.std.specs.Prelude.{◌≡◌, ◌⊎◌, ◌==◌, ◌||◌, ◌++◌, ◌+◌, ℕ, zero, suc, Bool, true, false, not, List, [], ◌∷◌, map, take, count_by, Option, None, Some, Result, Ok, Err, if◌then◌else◌, reverse}
+use Rattle.std.specs.Prelude.{◌≡◌, ◌⊎◌, ◌==◌, ◌||◌, ◌++◌, ◌+◌, ℕ, zero, suc, Bool, true, false, not, List, [], ◌∷◌, map, take, count_by, Option, None, Some, IsSome, Result, Ok, Err, IsOk, if◌then◌else◌, reverse}
 use Rattle.std.specs.List.{AllByRecursion, flat_map}
 use Rattle.mst_kinds.specs.declared.ask_line.AskLine.TheVariants.{Undone, Done}
 use Rattle.mst_kinds.specs.declared.kind.Kind.TheVariants as kind
@@ -20,7 +20,7 @@ use Rattle.mst_print.specs.Shape.{coded, listed, of_script}
 use Rattle.mst_print.specs.declared.form.Form.{Form}
 use Rattle.mst_rows.specs.Cells.{number as number_cell, word}
 use Rattle.mst_rows.specs.Rows.{Row, row_of}
-use Rattle.mst_tool.specs.Ask.{IsAnswer, Told}
+use Rattle.mst_tool.specs.Ask.{IsAnswer, Told, is_refused}
 use Rattle.mst_tool.specs.declared.asked.Question.{Question}
 use Rattle.mst_ask.specs.Requests.{request_of}
 use Rattle.mst_ask.specs.declared.request.Request.{Request}
@@ -121,23 +121,24 @@ undone form number count now None = declined form number now (fault.code_of E02)
 undone form number count now (Some was) = turned form (record { state = record now.state { net = was.0 }; made = was.1 }) (listed form (undone_rows count now.made)) false false false
 
 -- ---- what a question does
--- for want of memory an edit isn't made, nor is one taken back, nor a word of the program answered
-abbrev pub OrStarved : Form → ℕ → Standing → Turn → Turn → Type 0
-OrStarved form number now done t = (t ≡ done) ⊎ (t ≡ starved form number now)
+-- for want of memory an edit isn't made that may be, nor is one taken back that may be
+abbrev pub OrStarved : Form → ℕ → Standing → Type 0 → Turn → Turn → Type 0
+OrStarved form number now May done t = (t ≡ done) ⊎ (May × (t ≡ starved form number now))
 
 -- what a word of the program is answered, of the network as it stands
 abbrev pub Tells : Form → ℕ → Standing → Question → Turn → Type 0
 Tells form number now question t = (told : Told) × (text : List ℕ) × IsAnswer form now.state.net question told text × (t ≡ answered form now told text)
 
--- what the line of this number does, which asks this
+-- What the line of this number does, which asks this. What refuses it comes first and takes no memory: an edit and what takes edits back are
+-- refused so whatever is in the way, and a word of the program where the tables of the network tell it
 abbrev pub Asks : Form → ℕ → Standing → List ℕ → Result Request Fault → Turn → Type 0
 Asks form number now line (Err f) t = t ≡ declined form number now (fault.code_of f) (fault.text_of f)
 Asks form number now line (Ok (Script Blank)) t = t ≡ passed now
 Asks form number now line (Ok (Script Mark)) t = (s : Step) × ServesRead (of_script form) number now.state (Ok Mark) s × (t ≡ stepped form now s)
 Asks form number now line (Ok (Script (query q))) t = (s : Step) × ServesRead (of_script form) number now.state (Ok (query q)) s × (t ≡ stepped form now s)
-Asks form number now line (Ok (Script (edit e))) t = OrStarved form number now (edited form number now line (after e now.state.net)) t
-Asks form number now line (Ok (Word question)) t = Tells form number now question t ⊎ (t ≡ starved form number now)
-Asks form number now line (Ok (Undo count)) t = OrStarved form number now (undone form number count now (back count now.state.net now.made)) t
+Asks form number now line (Ok (Script (edit e))) t = OrStarved form number now (IsOk (after e now.state.net)) (edited form number now line (after e now.state.net)) t
+Asks form number now line (Ok (Word question)) t = Tells form number now question t ⊎ ((is_refused now.state.net question ≡ false) × (t ≡ starved form number now))
+Asks form number now line (Ok (Undo count)) t = OrStarved form number now (IsSome (back count now.state.net now.made)) (undone form number count now (back count now.state.net now.made)) t
 
 abbrev pub AsksLine : Form → Version → ℕ → Standing → List ℕ → Turn → Type 0
 AsksLine form version number now line t = Asks form number now line (request_of version line) t

@@ -3,6 +3,7 @@ ghost use Rattle.mst_engine.specs.Served.{IsFew};
 ghost use Rattle.mst_io.specs.Devices.{Hears, Works, IsBroken, IsCalled, IsCut, IsRead, IsStopped, Stops, StopsAtZero, stopped_by};
 ghost use Rattle.mst_print.specs.Shape.{of_script};
 ghost use Rattle.mst_tool.specs.Load.{LoadsFront};
+ghost use Rattle.mst_tool.specs.Run.{Follows};
 ghost use Rattle.mst_ask.specs.Answering.{Answered, AnsweredEnded, AnsweredFront};
 ghost use Rattle.mst_ask.specs.Asking.{Stands, StandsEnded, StandsFront};
 ghost use Rattle.mst_ask.specs.Kept.{IsKept, standing_of};
@@ -34,13 +35,15 @@ use std::alloc::Global;
 ///   a line `undone LINE` for each. The mark stays. Where there are fewer, it is refused as a bad argument.
 ///
 /// Behind each answer stands `done STATUS`: 0, or 1 where it was refused or tells of something that differs, or 3 for want of memory:
-/// it is refused then, and nothing changes. A blank line and a comment have no answer. In [`Form::Json`] each `done` and each
-/// `undone` is a record on a line of its own.
+/// it is refused then, and nothing changes. What refuses a question comes first: an edit and `undo` meet want of memory only where they
+/// would be made, and a word of the program only where the tables of the network don't tell what is in its way. A blank line and a
+/// comment have no answer. In [`Form::Json`] each `done` and each `undone` is a record on a line of its own.
 ///
 /// The sources are called up to so many times each, as turns are given, and the sink is flushed before each call of the second one.
 /// [`RunFault::Read`] is answered just where the sink works and a source has failed, or all turns of it were used and none found the
 /// end; [`RunFault::Write`] just where the sink has failed, or took nothing of a part that had a byte; [`RunFault::Memory`] where there
-/// was none to keep the script, or where one of its lines was refused for want of it: the second source wasn't called then.
+/// was none to keep the script, or where one of its lines was refused for want of it. The second source is called only where the
+/// script was read to its end, and not where [`RunFault::Memory`] is answered.
 pub fn ask_within<S: Source, Q: Source, K: Sink>(
     alloc: Global,
     form: Form,
@@ -62,6 +65,7 @@ pub fn ask_within<S: Source, Q: Source, K: Sink>(
     ensures ended_questions { IsOk result → IsRead (Q.told questions.old) (Q.told questions.new) }
     ensures read_fault { result ≡ Err RunFault.Read ↔ (IsCut turns (S.told script.old) (S.told script.new) ⊎ IsCut turns (Q.told questions.old) (Q.told questions.new)) × Works (K.told sink.old) (K.told sink.new) }
     ensures write_fault { result ≡ Err RunFault.Write ↔ IsBroken (K.told sink.old) (K.told sink.new) }
+    ensures order { Follows (S.told script.old) (S.told script.new) (Q.told questions.old) (Q.told questions.new) }
     ensures script_calls { IsCalled turns (S.told script.old) (S.told script.new) }
     ensures questions_calls { IsCalled turns (Q.told questions.old) (Q.told questions.new) }
     ensures sink_calls { StopsAtZero (K.told sink.old) (K.told sink.new) }

@@ -1,8 +1,9 @@
-ghost use Rattle.std.specs.Prelude.{◌≡◌, ◌<◌, ◌≤◌, ◌^◌, ℕ, List, [], false, true, length, take, drop, vec_len, Ok, IfOk, OnOk, OnErr};
+ghost use Rattle.std.specs.Prelude.{◌≡◌, ◌<◌, ◌≤◌, ◌^◌, ℕ, List, [], false, true, length, take, drop, vec_len, Ok, IsOk, IfOk, OnOk, OnErr};
 ghost use Rattle.std.specs.Io.KnownBytes.{Appends};
 ghost use Rattle.mst_lang.specs.Lines.{lines_of};
 ghost use Rattle.mst_lang.specs.Reading.{reading_as};
 ghost use Rattle.mst_lang.specs.declared.line.Line.TheVariants as lines;
+ghost use Rattle.mst_net.specs.After.{after};
 ghost use Rattle.mst_engine.specs.Engine.{IsReady, does, tally_of, tallied, version_from};
 ghost use Rattle.mst_engine.specs.Feeding.{IsCounted};
 ghost use Rattle.mst_engine.specs.Script.{version_of};
@@ -223,10 +224,26 @@ impl Standing {
         }
     }
 
-    /// Makes an edit, and keeps its line.
+    /// Makes an edit, and keeps its line. What refuses it comes first, and takes no memory.
     fn make(&mut self, line: &[u8], edit: &Edit) -> Reply
         requires kept { IsKept self.old }
         requires says { reading_as self.old.version line.now ≡ Ok (lines.Edit edit.now) }
+        ensures kept { IsKept self.new }
+        ensures same { SameScript self.old self.new }
+        ensures asked { (number : ℕ) → Asks self.old.form number (standing_of self.old) line.now (Ok (Said (lines.Edit edit.now))) (replied self.old.form number (standing_of self.new) result) }
+    {
+        match self.planner.rehearse(edit) {
+            Ok(()) => self.keep_and_stage(line, edit),
+            Err(Refusal::E99) => Reply::Line(LineReply::Starved),
+            Err(refusal) => Reply::Line(LineReply::Refused(refusal)),
+        }
+    }
+
+    /// Keeps the line of an edit that nothing refuses, and makes it.
+    fn keep_and_stage(&mut self, line: &[u8], edit: &Edit) -> Reply
+        requires kept { IsKept self.old }
+        requires says { reading_as self.old.version line.now ≡ Ok (lines.Edit edit.now) }
+        requires may { IsOk (after edit.now (planned_state self.old.planner).net) }
         ensures kept { IsKept self.new }
         ensures same { SameScript self.old self.new }
         ensures asked { (number : ℕ) → Asks self.old.form number (standing_of self.old) line.now (Ok (Said (lines.Edit edit.now))) (replied self.old.form number (standing_of self.new) result) }

@@ -26,6 +26,7 @@ module _ (input : Input) where
     refused = sym (add-zero t.refused);
     memory = sym (add-zero t.memory);
     differing = sym (add-zero t.differing);
+    answered = sym (add-zero t.answered);
   }
 
   pub Feeds-join : (d e : List Step) (t u v : Tally) (p q r xs ys : List ℕ) → Feeds input d t p xs u q → Feeds input e u q ys v r → Feeds input (d ++ e) t p (xs ++ ys) v r
@@ -39,6 +40,7 @@ module _ (input : Input) where
     state = g.state ∙ ap (λ now. left_by now e) f.state ∙ sym (left_by-append t.state d e);
     memory = omega (arith, f.memory, g.memory, sum_by-append (λ s. cond s.lacking 1 0) d e);
     differing = omega (arith, f.differing, g.differing, sum_by-append (λ s. cond s.differs 1 0) d e);
+    answered = omega (arith, f.answered, g.answered, sum_by-append (λ s. cond s.answers 1 0) d e);
   }
 
   -- a byte that ends no line
@@ -51,6 +53,7 @@ module _ (input : Input) where
     refused = sym (add-zero t.refused);
     memory = sym (add-zero t.memory);
     differing = sym (add-zero t.differing);
+    answered = sym (add-zero t.answered);
   }
     where
       not_end : (b : ℕ) → b ≢ 10 → nat_eq b 10 ≡ false
@@ -69,6 +72,7 @@ module _ (input : Input) where
     refused = sym (ap (λ n. t.refused + n) (sum_by-cons (λ s. cond s.refused 1 0) made [] ∙ add-zero _));
     memory = sym (ap (λ n. t.memory + n) (sum_by-cons (λ s. cond s.lacking 1 0) made [] ∙ add-zero _));
     differing = sym (ap (λ n. t.differing + n) (sum_by-cons (λ s. cond s.differs 1 0) made [] ∙ add-zero _));
+    answered = sym (ap (λ n. t.answered + n) (sum_by-cons (λ s. cond s.answers 1 0) made [] ∙ add-zero _));
   })
 
   -- a byte that ends a line, of whose text a front went out

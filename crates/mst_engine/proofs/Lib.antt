@@ -9,3 +9,4 @@ pub mod OneComparison
 pub mod Saved
 pub mod Told
 pub mod Sent
+pub mod Uncounted

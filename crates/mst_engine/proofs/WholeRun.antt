@@ -20,7 +20,7 @@ use Rattle.mst_io.proofs.Known.{AppendsFront-after}
 
 -- where an input begins
 pub begins_counted : (t : Tally) (from : State) → t ≡ begun from → IsCounted t
-begins_counted t from same = subst IsCounted (sym same) (record { refused = omega arith; memory = omega arith; differing = omega arith })
+begins_counted t from same = subst IsCounted (sym same) (record { refused = omega arith; memory = omega arith; differing = omega arith; answered = omega arith })
 
 ends_held : (p : List ℕ) → lines_held last_line p (ending p ++ []) ≡ lines_held last_line p []
 ends_held [] = refl
@@ -66,6 +66,7 @@ module _ (input : Input) (from : State) where
         memory = all.memory ∙ omega arith;
         refused = all.refused ∙ omega arith;
         differing = all.differing ∙ omega arith;
+        answered = all.answered ∙ omega arith;
       }
 
   -- one that was stopped by the writer

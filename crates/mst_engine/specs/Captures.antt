@@ -28,15 +28,15 @@ capture_of line = if is_skipped line then None else Some (reading line)
 
 -- a message that isn't read, or has no sender. No message changes the state
 abbrev pub faulty : Form → ℕ → BpduFault → State → Step
-faulty form number fault now = record { state = now; text = listed form (fault_row number fault ∷ []); refused = true; lacking = false; differs = false }
+faulty form number fault now = record { state = now; text = listed form (fault_row number fault ∷ []); refused = true; lacking = false; differs = false; answers = false }
 
 -- a message that isn't compared, for want of memory
 abbrev pub uncompared : Form → ℕ → State → Step
-uncompared form number now = record { state = now; text = listed form (fault_row number B99 ∷ []); refused = false; lacking = true; differs = false }
+uncompared form number now = record { state = now; text = listed form (fault_row number B99 ∷ []); refused = false; lacking = true; differs = false; answers = false }
 
 -- a message that differs
 abbrev pub differing : State → List ℕ → Step
-differing now text = record { state = now; text = text; refused = false; lacking = false; differs = true }
+differing now text = record { state = now; text = text; refused = false; lacking = false; differs = true; answers = false }
 
 -- a message of this port that has these differences: with none it agrees. For want of memory it isn't compared
 abbrev pub compared : Form → Bool → ℕ → State → PortName → List Difference → Step

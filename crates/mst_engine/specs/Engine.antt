@@ -54,8 +54,8 @@ RunsOn (Captures form) known number now lines steps = Compares form number now l
 abbrev pub IsReady : Input → Engine → Type 0
 IsReady input e = (form : Form) → input ≡ Captures form → e.planner.is_settled ≡ true
 
--- the state, what is known of the version, the number of the next line, how many lines were refused, and how many
--- messages differ
+-- the state, what is known of the version, the number of the next line, how many lines were refused, how many
+-- messages differ, and how many lines were answered
 pub record Tally : Type 0 where
   pub state : State
   pub version : Option Version
@@ -63,13 +63,14 @@ pub record Tally : Type 0 where
   pub refused : ℕ
   pub memory : ℕ
   pub differing : ℕ
+  pub answered : ℕ
 
 abbrev pub tally_of : Engine → Tally
-tally_of e = record { state = planned_state e.planner; version = e.version; number = e.number; refused = e.refused; memory = e.memory; differing = e.differing }
+tally_of e = record { state = planned_state e.planner; version = e.version; number = e.number; refused = e.refused; memory = e.memory; differing = e.differing; answered = e.answered }
 
 -- where an input begins, in this state
 abbrev pub begun : State → Tally
-begun now = record { state = now; version = None; number = 1; refused = 0; memory = 0; differing = 0 }
+begun now = record { state = now; version = None; number = 1; refused = 0; memory = 0; differing = 0; answered = 0 }
 
 -- what is counted of a whole input
 abbrev pub outcome_of : Tally → Outcome
@@ -84,6 +85,7 @@ tallied input t line s = record {
   refused = t.refused + (if s.refused then 1 else 0);
   memory = t.memory + (if s.lacking then 1 else 0);
   differing = t.differing + (if s.differs then 1 else 0);
+  answered = t.answered + (if s.answers then 1 else 0);
 }
 
 -- what a reply prints
@@ -127,6 +129,16 @@ is_difference (Differing text) = true
 is_difference (Faulty fault) = false
 is_difference Uncompared = false
 
+abbrev pub is_answer : Reply → Bool
+is_answer Silent = false
+is_answer (Text text) = true
+is_answer (Unread f) = false
+is_answer (Refused r) = false
+is_answer Starved = false
+is_answer (Differing text) = false
+is_answer (Faulty fault) = false
+is_answer Uncompared = false
+
 -- the step that gives this state and this reply
 abbrev pub replied : Shape → ℕ → State → Reply → Step
 replied shape number new reply = record {
@@ -135,4 +147,5 @@ replied shape number new reply = record {
   refused = is_refusal reply;
   lacking = is_starved reply;
   differs = is_difference reply;
+  answers = is_answer reply;
 }

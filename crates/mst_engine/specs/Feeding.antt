@@ -1,7 +1,7 @@
 -- What was done with the bytes of an input that came so far.
 use Rattle.std.specs.Prelude.{◌≡◌, ℕ, ◌+◌, ◌≤◌, List, ◌++◌, length, Option}
 use Rattle.mst_lang.specs.Lines.{last_line}
-use Rattle.mst_engine.specs.Steps.{Step, left_by, texts_of, refusals_of, lacks_of, differing_of}
+use Rattle.mst_engine.specs.Steps.{Step, left_by, texts_of, refusals_of, lacks_of, differing_of, answers_of}
 use Rattle.mst_io.specs.Held.{lines_held}
 use Rattle.mst_io.specs.Written.{AppendsFront}
 use Rattle.mst_engine.specs.Engine.{Tally, RunsOn}
@@ -12,6 +12,7 @@ pub record IsCounted (t : Tally) : Type 0 where
   pub refused : t.refused ≤ t.number
   pub memory : t.memory ≤ t.number
   pub differing : t.differing ≤ t.number
+  pub answered : t.answered ≤ t.number
 
 -- The bytes were taken: these steps were made, and what follows runs from the new state on, whatever counts as the
 -- last line
@@ -23,6 +24,7 @@ pub record Feeds (input : Input) (done : List Step) (old : Tally) (part bytes : 
   pub refused : new.refused ≡ old.refused + refusals_of done
   pub memory : new.memory ≡ old.memory + lacks_of done
   pub differing : new.differing ≡ old.differing + differing_of done
+  pub answered : new.answered ≡ old.answered + answers_of done
 
 -- the writer failed in what these lines print: a front of it went out
 pub record BreaksIn (input : Input) (written now : Option (List ℕ)) (old : Tally) (lines : List (List ℕ)) : Type 0 where

@@ -26,11 +26,11 @@ use Rattle.mst_print.specs.declared.form.Shape.{Shape}
 
 -- a line that is refused changes nothing
 abbrev pub refused : Shape → ℕ → List ℕ → List ℕ → State → Step
-refused shape number code text now = record { state = now; text = coded shape number code text; refused = true; lacking = false; differs = false }
+refused shape number code text now = record { state = now; text = coded shape number code text; refused = true; lacking = false; differs = false; answers = false }
 
 -- nor does one that is refused for want of memory
 abbrev pub starved : Shape → ℕ → State → Step
-starved shape number now = record { state = now; text = coded shape number (refusal.code_of E99) (refusal.text_of E99); refused = false; lacking = true; differs = false }
+starved shape number now = record { state = now; text = coded shape number (refusal.code_of E99) (refusal.text_of E99); refused = false; lacking = true; differs = false; answers = false }
 
 -- an edit, by what it makes of the network. For want of memory it isn't made
 abbrev pub edited : Shape → Bool → ℕ → State → Result Net Refusal → Step

@@ -3,7 +3,7 @@ use Rattle.std.specs.Prelude.{◌≡◌, ℕ, ◌+◌, ◌<◌, ◌^◌, List, O
 use Rattle.std.specs.Io.KnownBytes.{Appends, Consumes}
 use Rattle.mst_compare.specs.report.State.{State}
 use Rattle.mst_lang.specs.Lines.{lines_of, ended_lines}
-use Rattle.mst_engine.specs.Steps.{Step, left_by, texts_of, refusals_of, lacks_of, differing_of}
+use Rattle.mst_engine.specs.Steps.{Step, left_by, texts_of, refusals_of, lacks_of, differing_of, answers_of}
 use Rattle.mst_io.specs.Written.{AppendsFront, Reads}
 use Rattle.mst_engine.specs.Engine.{Tally, RunsOn}
 use Rattle.mst_engine.specs.declared.engine.Input.{Input}
@@ -20,6 +20,7 @@ pub record Served (input : Input) (from : State) (reads written now : Option (Li
   pub memory : t.memory ≡ lacks_of steps
   pub refused : t.refused ≡ refusals_of steps
   pub differing : t.differing ≡ differing_of steps
+  pub answered : t.answered ≡ answers_of steps
 
 -- a front of what the input prints was written
 pub record ServedFront (input : Input) (from : State) (reads written now : Option (List ℕ)) : Type 0 where

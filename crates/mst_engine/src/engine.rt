@@ -46,6 +46,8 @@ pub struct Engine {
     pub memory: u64,
     /// How many captured messages of the input differ from the planned ones.
     pub differing: u64,
+    /// How many queries of the input were answered, or how many captured messages agree.
+    pub answered: u64,
     /// The digests of tables that captured messages were compared with.
     digests: Digests,
 }
@@ -85,6 +87,7 @@ impl Engine {
             refused: 0,
             memory: 0,
             differing: 0,
+            answered: 0,
             digests: Digests::new(alloc),
         }
     }
@@ -110,6 +113,7 @@ impl Engine {
         self.refused = 0;
         self.memory = 0;
         self.differing = 0;
+        self.answered = 0;
     }
 
     /// Serves a line, and counts it.
@@ -119,6 +123,7 @@ impl Engine {
         requires refused { self.old.refused < 2 ^ 60 }
         requires memory { self.old.memory < 2 ^ 60 }
         requires differing { self.old.differing < 2 ^ 60 }
+        requires answered { self.old.answered < 2 ^ 60 }
         ensures ready { IsReady input self.new }
         ensures served { does input self.old.version self.old.number (planned_state self.old.planner) line.now (replied (shape_of input) self.old.number (planned_state self.new.planner) result) }
         ensures counted { tally_of self.new ≡ tallied input (tally_of self.old) line.now (replied (shape_of input) self.old.number (planned_state self.new.planner) result) }
@@ -162,7 +167,8 @@ impl Engine {
             Reply::Unread(_) | Reply::Refused(_) | Reply::Faulty(_) => self.refused += 1,
             Reply::Starved | Reply::Uncompared => self.memory += 1,
             Reply::Differing(_) => self.differing += 1,
-            Reply::Silent | Reply::Text(_) => {}
+            Reply::Text(_) => self.answered += 1,
+            Reply::Silent => {}
         }
         reply
     }

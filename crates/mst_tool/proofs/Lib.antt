@@ -3,8 +3,10 @@ pub mod LinesTaken
 pub mod PolicyLines
 pub mod ChangeLines
 pub mod Shown
+pub mod NoneCaptured
 pub mod WholeCheck
 pub mod WholeLoad
+pub mod EarlyRefusals
 pub mod WholeDiff
 pub mod WholeVerify
 pub mod WholeAlter

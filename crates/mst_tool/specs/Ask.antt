@@ -1,17 +1,21 @@
 -- What is asked of the network that a script leaves, and what asking it promises, where it prints in this form.
-use Rattle.std.specs.Prelude.{◌≡◌, ◌+◌, ◌++◌, ◌⊎◌, ◌==◌, ℕ, Bool, true, false, List, Option, None, Some, Result, Ok, Err, codes, if◌then◌else◌}
+use Rattle.std.specs.Prelude.{◌≡◌, ◌+◌, ◌++◌, ◌⊎◌, ◌==◌, ◌&&◌, not, ℕ, Bool, true, false, List, Option, None, Some, is_some, Result, Ok, Err, codes, if◌then◌else◌}
 use Rattle.std.specs.Io.KnownBytes.{Appends}
-use Rattle.std.specs.Option.{option_map}
+use Rattle.std.specs.FinMap as fin
+use Rattle.std.specs.Option.{option_map, option_map_or}
 use Rattle.std.specs.Str.{bytes_eq}
+use Rattle.mst_ids.specs.declared.name.PortName.{PortName}
 use Rattle.mst_lang.specs.Arguments.{tree, vid}
 use Rattle.mst_lang.specs.Faults as fault
 use Rattle.mst_lang.specs.Lines.{lines_of}
 use Rattle.mst_lang.specs.declared.line.Fault.{Fault}
 use Rattle.mst_kinds.specs.declared.refusal_line.RefusalLine.TheVariants as refusal
 use Rattle.mst_advise.specs.declared.goal.Goal.{Goal}
+use Rattle.mst_advise.specs.declared.goal.Goal.TheVariants as goal
+use Rattle.mst_engine.specs.net.After.{has_bridge, is_plugged}
 use Rattle.mst_engine.specs.net.Tables.{Net}
-use Rattle.mst_engine.specs.report.Advising.{Advises, unadvised_of}
-use Rattle.mst_engine.specs.report.Explaining.{Explains, unexplained_of}
+use Rattle.mst_engine.specs.report.Advising.{Advises, unadvised_of, unrooted_of}
+use Rattle.mst_engine.specs.report.Explaining.{Explains, has_asked, unexplained_of}
 use Rattle.mst_engine.specs.report.Explaining as unexplained
 use Rattle.mst_engine.specs.report.Picturing.{Depicts, DepictsVlan}
 use Rattle.mst_engine.specs.report.State.{empty_state}
@@ -22,6 +26,7 @@ use Rattle.mst_engine.specs.sweep.SweepParts.{whole_part}
 use Rattle.mst_engine.specs.report.declared.advising.Advised.{Advised as WhatIsAdvised}
 use Rattle.mst_engine.specs.report.declared.advising.Advised.TheVariants.{Already, Edits, Nothing}
 use Rattle.mst_engine.specs.report.declared.explaining.Unexplained.{Unexplained}
+use Rattle.mst_engine.specs.report.declared.explaining.Unexplained.TheVariants.{NoBridge, NoPort, NoTree}
 use Rattle.mst_tool.specs.Asked.{asked_of, forward_of, part_value, root_of}
 use Rattle.mst_tool.specs.Load.{LoadsFront}
 use Rattle.mst_tool.specs.Shown.{IsShown, advice_row, explain_row, pairs_row, summary_row, sweep_row}
@@ -157,6 +162,32 @@ IsAnswer form net (VlanPicture n) told text = (told ≡ given) × DepictsVlan ne
 IsAnswer form net (undrawn_question f) told text = (told ≡ not_given) × (text ≡ undrawn_in form (fault.code_of f) (fault.text_of f))
 IsAnswer form net (Advice goal) told text = TellsAdvice form net goal (unadvised_of net goal) told text
 IsAnswer form net (Unadvised f) told text = (told ≡ not_given) × (text ≡ unadvised_in form (fault.code_of f) (fault.text_of f))
+
+-- ---- what is refused whatever memory there is
+-- the port has no aggregation key, so that no other stands for it
+abbrev pub is_keyless : Net → PortName → Bool
+is_keyless net port = option_map_or (λ row. row.settings.key == 0) (fin.get net.ports port) false
+
+-- why a port isn't explained, as far as the tables of the network tell it: there is no bridge of the name; there is no port of it, or the
+-- port is in no LAN; or it has no key, and its bridge doesn't have the tree that is asked
+abbrev pub unexplained_early : Net → PortName → Option ℕ → Option Unexplained
+unexplained_early net port tree =
+    if not (has_bridge port.bridge net) then Some NoBridge
+    else (if not (is_plugged port net) then Some NoPort else (if is_keyless net port && not (has_asked net port.bridge tree) then Some NoTree else None))
+
+-- and why there is no advice: of a root they tell all that is in the way
+abbrev pub unadvised_early : Net → Goal → Option Unexplained
+unadvised_early net (goal.Root tree bridge) = unrooted_of net tree bridge
+unadvised_early net (goal.Forward tree port) = unexplained_early net port (Some tree)
+
+-- words that ask nothing are refused, and what is asked where the tables of the network tell what is in the way
+abbrev pub is_refused : Net → Question → Bool
+is_refused net (unread_question f) = true
+is_refused net (undrawn_question f) = true
+is_refused net (Unadvised f) = true
+is_refused net (Explain asked) = is_some (unexplained_early net asked.port asked.tree)
+is_refused net (Advice goal) = is_some (unadvised_early net goal)
+is_refused net other = false
 
 -- what is counted of a script with what is asked of its network
 abbrev pub counted_with : Outcome → Told → Outcome

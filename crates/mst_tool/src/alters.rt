@@ -7,6 +7,7 @@ ghost use Rattle.mst_print.specs.Shape.{of_script};
 ghost use Rattle.mst_tool.specs.Alter.{Alters, AltersFront, TellsSteps, counted_along, course_of, policy_if};
 ghost use Rattle.mst_tool.specs.Lines.{AreLines, AreSteps};
 ghost use Rattle.mst_tool.specs.Load.{LoadsOrEnded, LoadsScript};
+ghost use Rattle.mst_tool.specs.Run.{Follows};
 
 use crate::opened::open_question;
 use crate::policies::{read_change, read_policy};
@@ -68,8 +69,8 @@ pub fn steps<S: Read + Drop, C: Read + Drop, P: Read + Drop, W: Write>(
 /// the one that finds the end included.
 ///
 /// [`RunFault::Read`] is answered just where the sink works and a source has failed, or all turns of it were used and none found the
-/// end, but where memory was wanted for a line of the change or of the policy before; [`RunFault::Write`] just where the sink has failed,
-/// or took nothing of a part that had a byte.
+/// end; [`RunFault::Write`] just where the sink has failed, or took nothing of a part that had a byte. Each source is called only where
+/// the one before it was read to its end.
 pub fn steps_within<S: Source, C: Source, P: Source, K: Sink>(
     alloc: Global,
     form: Form,
@@ -92,9 +93,10 @@ pub fn steps_within<S: Source, C: Source, P: Source, K: Sink>(
     ensures ended_script { IsOk result → IsRead (S.told script.old) (S.told script.new) }
     ensures ended_change { IsOk result → IsRead (C.told change.old) (C.told change.new) }
     ensures ended_policy { IsOk result → IsRead (P.told policy.old) (P.told policy.new) }
-    ensures read_fault { result ≡ Err RunFault.Read → (IsCut turns (S.told script.old) (S.told script.new) ⊎ (IsCut turns (C.told change.old) (C.told change.new) ⊎ IsCut turns (P.told policy.old) (P.told policy.new))) × Works (K.told sink.old) (K.told sink.new) }
-    ensures cut { IsCut turns (S.told script.old) (S.told script.new) ⊎ (IsCut turns (C.told change.old) (C.told change.new) ⊎ IsCut turns (P.told policy.old) (P.told policy.new)) → Works (K.told sink.old) (K.told sink.new) → (result ≡ Err RunFault.Read) ⊎ (result ≡ Err RunFault.Memory) }
+    ensures read_fault { result ≡ Err RunFault.Read ↔ (IsCut turns (S.told script.old) (S.told script.new) ⊎ (IsCut turns (C.told change.old) (C.told change.new) ⊎ IsCut turns (P.told policy.old) (P.told policy.new))) × Works (K.told sink.old) (K.told sink.new) }
     ensures write_fault { result ≡ Err RunFault.Write ↔ IsBroken (K.told sink.old) (K.told sink.new) }
+    ensures change_order { Follows (S.told script.old) (S.told script.new) (C.told change.old) (C.told change.new) }
+    ensures policy_order { Follows (C.told change.old) (C.told change.new) (P.told policy.old) (P.told policy.new) }
     ensures script_calls { IsCalled turns (S.told script.old) (S.told script.new) }
     ensures change_calls { IsCalled turns (C.told change.old) (C.told change.new) }
     ensures policy_calls { IsCalled turns (P.told policy.old) (P.told policy.new) }
@@ -154,7 +156,8 @@ fn read_both<C: Source, P: Source>(
     ensures few { IfOk result (λ both. length (all_lines both.change.ended) < 2 ^ 60) }
     ensures ended_change { IsOk result → IsRead (C.told change.old) (C.told change.new) }
     ensures ended_policy { IsOk result → IsRead (P.told policy.old) (P.told policy.new) }
-    ensures read { result ≡ Err RunFault.Read → IsCut turns (C.told change.old) (C.told change.new) ⊎ IsCut turns (P.told policy.old) (P.told policy.new) }
+    ensures read { result ≡ Err RunFault.Read ↔ (IsCut turns (C.told change.old) (C.told change.new) ⊎ IsCut turns (P.told policy.old) (P.told policy.new)) }
+    ensures order { Follows (C.told change.old) (C.told change.new) (P.told policy.old) (P.told policy.new) }
     ensures write { result ≢ Err RunFault.Write }
     ensures change_calls { IsCalled turns (C.told change.old) (C.told change.new) }
     ensures policy_calls { IsCalled turns (P.told policy.old) (P.told policy.new) }

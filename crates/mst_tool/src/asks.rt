@@ -1,8 +1,8 @@
-ghost use Rattle.std.specs.Prelude.{◌≡◌, ◌≤◌, ◌↔◌, ◌^◌, ℕ, false, true, List, Option, Err, IfOk, IsOk, OnOk, OnErr};
+ghost use Rattle.std.specs.Prelude.{◌≡◌, ◌≤◌, ◌↔◌, ◌^◌, ℕ, false, true, List, Option, None, Err, IfOk, IsOk, OnOk, OnErr};
 ghost use Rattle.std.specs.Io.KnownBytes.{Appends};
 ghost use Rattle.mst_engine.specs.report.Picturing.{Depicts, DepictsVlan};
 ghost use Rattle.mst_engine.specs.report.Planned.{planned_state};
-ghost use Rattle.mst_tool.specs.Ask.{Asks, AsksFront, IsAnswer, answer_text, told_of, counted_with, is_nothing as none_advised, keeps};
+ghost use Rattle.mst_tool.specs.Ask.{Asks, AsksFront, IsAnswer, answer_text, told_of, counted_with, is_nothing as none_advised, is_refused, keeps, unadvised_early, unexplained_early};
 ghost use Rattle.mst_io.specs.Devices.{Hears, Works, IsBroken, IsCut, IsRead, IsCalled, IsStopped, StopsAtZero};
 ghost use Rattle.mst_tool.specs.Load.{LoadsEnded, LoadsScript};
 ghost use Rattle.mst_engine.specs.Served.{IsFew};
@@ -11,6 +11,7 @@ ghost use Rattle.mst_io.specs.Written.{AppendsFront};
 ghost use Rattle.mst_tool.specs.declared.asked.Question.TheVariants.{Advice, Explain};
 
 use crate::asked::{Asked, Question};
+use crate::early::{why_unadvised, why_unexplained};
 use crate::opened::{open_advice, open_explanation, open_pairs, open_question, open_sweep};
 use mst_advise::Goal;
 use mst_engine::laws::{one_load, states};
@@ -157,7 +158,8 @@ pub fn ask_within<S: Source, K: Sink>(
 }
 
 /// The answer to what is asked, of the planner's network as it stands. It stays as it is, with its mark, but where advice is asked:
-/// then the planner is of any network afterwards. `AllocError`: memory was wanted and refused.
+/// then the planner is of any network afterwards. `AllocError`: memory was wanted and refused. Words that ask nothing are told without
+/// memory, and so is what is in the way where the network's tables tell it.
 pub fn answer_to(
     alloc: Global,
     planner: &mut Planner,
@@ -165,6 +167,7 @@ pub fn answer_to(
     question: &Question,
 ) -> Result<Answer, AllocError>
     ensures answer { IfOk result (λ answer. IsAnswer form (planned_state planner.old).net question.now (told_of answer) (answer_text form answer)) }
+    ensures memory { OnErr result (is_refused (planned_state planner.old).net question.now ≡ false) }
     ensures state { keeps question.now ≡ true → planned_state planner.new ≡ planned_state planner.old }
 {
     match question {
@@ -187,8 +190,25 @@ pub fn answer_to(
     }
 }
 
-/// Explains a port, once the plan is settled. `AllocError`: memory was wanted and refused.
+/// Explains a port. `AllocError`: memory was wanted and refused. What the network's tables tell to be in the way comes first.
 fn explained(
+    alloc: Global,
+    planner: &mut Planner,
+    form: Form,
+    asked: &Asked,
+) -> Result<Answer, AllocError>
+    ensures answer { IfOk result (λ answer. IsAnswer form (planned_state planner.old).net (Explain asked.now) (told_of answer) (answer_text form answer)) }
+    ensures memory { OnErr result (unexplained_early (planned_state planner.old).net asked.now.port asked.now.tree ≡ None) }
+    ensures state { planned_state planner.new ≡ planned_state planner.old }
+{
+    match why_unexplained(planner.network(), &asked.port, asked.tree) {
+        Some(why) => Ok(Answer::Refused(why)),
+        None => explained_by_plan(alloc, planner, form, asked),
+    }
+}
+
+/// Explains a port, once the plan is settled. `AllocError`: memory was wanted and refused.
+fn explained_by_plan(
     alloc: Global,
     planner: &mut Planner,
     form: Form,
@@ -273,9 +293,26 @@ fn depicted_vlan(planner: &mut Planner, vid: Vid) -> Result<Vec<u8>, AllocError>
     planner.vlan_picture(vid)
 }
 
+/// Tells which settings bring about what is wanted. `AllocError`: memory was wanted and refused. What the network's tables tell to be in
+/// the way comes first.
+fn advise(
+    alloc: Global,
+    planner: &mut Planner,
+    form: Form,
+    goal: &Goal,
+) -> Result<Answer, AllocError>
+    ensures answer { IfOk result (λ answer. IsAnswer form (planned_state planner.old).net (Advice goal.now) (told_of answer) (answer_text form answer)) }
+    ensures memory { OnErr result (unadvised_early (planned_state planner.old).net goal.now ≡ None) }
+{
+    match why_unadvised(planner.network(), goal) {
+        Some(why) => Ok(Answer::NotAdvised(why)),
+        None => advise_by_plan(alloc, planner, form, goal),
+    }
+}
+
 /// Tells which settings bring about what is wanted, once the plan is settled. For that edits are made, and the planner is of any network
 /// afterwards. `AllocError`: memory was wanted and refused.
-fn advise(
+fn advise_by_plan(
     alloc: Global,
     planner: &mut Planner,
     form: Form,

@@ -1,14 +1,18 @@
-ghost use Rattle.std.specs.Prelude.{◌≡◌, ◌+◌, ◌^◌, ◌<◌, ◌≤◌, ◌↔◌, ◌⊎◌, ℕ, false, List, Option, Ok, Err, IfOk, IsOk, OnOk, OnErr};
+ghost use Rattle.std.specs.Prelude.{◌≡◌, ◌+◌, ◌∷◌, [], ◌^◌, ◌<◌, ◌≤◌, ◌↔◌, ◌⊎◌, ℕ, false, List, Option, Ok, Err, IfOk, IsOk, OnOk, OnErr};
+ghost use Rattle.std.specs.Io.KnownBytes.{Appends};
 ghost use Rattle.mst_engine.specs.report.Planned.{planned_state};
-ghost use Rattle.mst_tool.specs.Check.{Checks, ChecksFront, ChecksEnded, ChecksScript};
-ghost use Rattle.mst_io.specs.Devices.{Hears, Works, IsBroken, IsCut, IsRead, IsCalled, Stops, StopsAtZero, stopped_by};
+ghost use Rattle.mst_io.specs.Written.{AppendsFront};
+ghost use Rattle.mst_print.specs.Shape.{listed};
+ghost use Rattle.mst_tool.specs.Check.{Checks, ChecksFront, ChecksEnded, ChecksScript, counted_captures, idle_text, is_idle as is_idle_by, none_row};
+ghost use Rattle.mst_tool.specs.Run.{Follows};
+ghost use Rattle.mst_io.specs.Devices.{Hears, Works, IsBroken, IsCut, IsRead, IsCalled, IsStopped, Stops, StopsAtZero, stopped_by};
 ghost use Rattle.mst_engine.specs.Engine.{tally_of, outcome_of};
 ghost use Rattle.mst_engine.specs.Served.{Served, ServedFront, ServedEnded, IsFew, both};
 ghost use Rattle.mst_engine.specs.declared.engine.Input.TheVariants.{Captures};
 
 use mst_engine::laws::{has_steps, one_comparison, one_run, states};
 use mst_engine::{Engine, Input, serve_input};
-use mst_io::{FromRead, Outcome, RunFault, Sink, Source, TURNS, ToWrite};
+use mst_io::{FromRead, Outcome, RunFault, Sink, Source, TURNS, ToWrite, WriteFailed, put};
 use mst_print::Form;
 use std::alloc::Global;
 use std::io::{Read, Write};
@@ -20,7 +24,8 @@ use std::io::{Read, Write};
 /// The captures are lines as a script's are, and count from 1 again. One that is blank, or whose first byte other
 /// than space and tab is `#`, prints nothing. Each other one prints `capture N CODE TEXT` where it isn't read or has
 /// no sender, `capture N B:P agrees`, or a line for each difference, and changes nothing. In [`Form::Json`] each of these
-/// lines is a record on a line of its own. The captures are read once the script has ended.
+/// lines is a record on a line of its own. The captures are read once the script has ended. Where none of their lines is a message a
+/// last line says so, `check captures 0 agree 0`, and counts as one refused line.
 ///
 /// The readers and the writer are called as by [`run`](crate::run). After [`RunFault::Read`] all that the complete
 /// lines print has gone out, of what was read; after [`RunFault::Memory`] all that the script prints, and no capture
@@ -71,8 +76,8 @@ pub fn check_from<S: Read, C: Read, W: Write>(
 /// included.
 ///
 /// [`RunFault::Read`] is answered just where the sink works and a source has failed, or all turns of it were used and
-/// none found the end; [`RunFault::Write`] just where the sink has failed, or took nothing of a part that had a byte. After
-/// [`RunFault::Memory`] the second source wasn't called.
+/// none found the end; [`RunFault::Write`] just where the sink has failed, or took nothing of a part that had a byte. The second
+/// source is called only where the first was read to its end, and not where [`RunFault::Memory`] is answered.
 pub fn check_within<S: Source, C: Source, K: Sink>(
     alloc: Global,
     form: Form,
@@ -94,6 +99,7 @@ pub fn check_within<S: Source, C: Source, K: Sink>(
     ensures ended_captures { IsOk result → IsRead (C.told captures.old) (C.told captures.new) }
     ensures read_fault { result ≡ Err RunFault.Read ↔ (IsCut turns (S.told script.old) (S.told script.new) ⊎ IsCut turns (C.told captures.old) (C.told captures.new)) × Works (K.told sink.old) (K.told sink.new) }
     ensures write_fault { result ≡ Err RunFault.Write ↔ IsBroken (K.told sink.old) (K.told sink.new) }
+    ensures order { Follows (S.told script.old) (S.told script.new) (C.told captures.old) (C.told captures.new) }
     ensures script_calls { IsCalled turns (S.told script.old) (S.told script.new) }
     ensures captures_calls { IsCalled turns (C.told captures.old) (C.told captures.new) }
     ensures sink_calls { StopsAtZero (K.told sink.old) (K.told sink.new) }
@@ -114,7 +120,10 @@ pub fn check_within<S: Source, C: Source, K: Sink>(
             let served = engine.outcome();
             match serve_captures(&mut engine, form, captures, sink, turns) {
                 Err(fault) => Err(fault),
-                Ok(()) => Ok(sum_of(&served, &engine.outcome())),
+                Ok(()) => match put_none(&engine, form, sink) {
+                    Err(_) => Err(RunFault::Write),
+                    Ok(()) => Ok(sum_of(&served, &compared(&engine))),
+                },
             }
         }
     }
@@ -151,6 +160,55 @@ fn serve_captures<C: Source, K: Sink>(
     }
     engine.restart();
     serve_input(Input::Captures(form), engine, captures, sink, turns)
+}
+
+/// Whether no captured message was served.
+fn is_idle(engine: &Engine) -> bool
+    ensures { result ≡ is_idle_by (tally_of engine.now) }
+{
+    engine.refused == 0 && engine.memory == 0 && engine.differing == 0 && engine.answered == 0
+}
+
+/// Writes that there was no captured message, if there was none.
+fn put_none<K: Sink>(engine: &Engine, form: Form, sink: &mut K) -> Result<(), WriteFailed>
+    requires working { (K.told sink.old).failed ≡ false }
+    ensures ok { OnOk result (Appends (K.contents sink.old) (K.contents sink.new) (idle_text form (tally_of engine.now))) }
+    ensures err { OnErr result (AppendsFront (K.contents sink.old) (K.contents sink.new) (idle_text form (tally_of engine.now))) }
+    ensures works { OnOk result (Works (K.told sink.old) (K.told sink.new)) }
+    ensures broken { OnErr result (IsStopped (K.told sink.old) (K.told sink.new)) }
+    ensures lent { K.lent sink.new ≡ K.lent sink.old }
+{
+    if is_idle(engine) {
+        put(sink, none_said(form))
+    } else {
+        Ok(())
+    }
+}
+
+/// What says that there was no captured message.
+fn none_said(form: Form) -> &'static [u8]
+    ensures { result.now ≡ listed form (none_row ∷ []) }
+{
+    match form {
+        Form::Text => b"check captures 0 agree 0\n",
+        Form::Json => b"{\"kind\":\"check\",\"capture_count\":0,\"agree_count\":0}\n",
+    }
+}
+
+/// What the captures have counted. That there was no message counts as one refused line.
+fn compared(engine: &Engine) -> Outcome
+    requires { IsFew (outcome_of (tally_of engine.now)) }
+    ensures counted { result ≡ counted_captures (tally_of engine.now) }
+    ensures few { IsFew result }
+{
+    if is_idle(engine) {
+        return Outcome {
+            refused: 1,
+            memory: engine.memory,
+            differing: engine.differing,
+        };
+    }
+    engine.outcome()
 }
 
 /// What two inputs have counted.

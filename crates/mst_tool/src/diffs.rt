@@ -2,6 +2,7 @@ ghost use Rattle.std.specs.Prelude.{◌≡◌, ◌≤◌, ◌↔◌, ◌⊎◌, 
 ghost use Rattle.mst_engine.specs.report.Planned.{planned_state};
 ghost use Rattle.mst_io.specs.Devices.{Hears, Works, IsBroken, IsCut, IsRead, IsCalled, StopsAtZero};
 ghost use Rattle.mst_tool.specs.Diff.{CountsOf, Diffs, DiffsFront, DiffsEnded, DiffsScripts, TellsDifference, counted_both, differs_by};
+ghost use Rattle.mst_tool.specs.Run.{Follows};
 ghost use Rattle.mst_engine.specs.Served.{IsFew};
 
 use crate::opened::open_question;
@@ -104,7 +105,8 @@ pub fn diff_from<O: Read, N: Read, W: Write>(
 /// these with 2^32 of them. A turn is one call of a source, the one that finds the end included.
 ///
 /// [`RunFault::Read`] is answered just where the sink works and a source has failed, or all turns of it were used and
-/// none found the end; [`RunFault::Write`] just where the sink has failed, or took nothing of a part that had a byte.
+/// none found the end; [`RunFault::Write`] just where the sink has failed, or took nothing of a part that had a byte. The second
+/// source is called only where the first was read to its end.
 pub fn diff_within<O: Source, N: Source, K: Sink>(
     alloc: Global,
     form: Form,
@@ -126,6 +128,7 @@ pub fn diff_within<O: Source, N: Source, K: Sink>(
     ensures ended_new { IsOk result → IsRead (N.told new.old) (N.told new.new) }
     ensures read_fault { result ≡ Err RunFault.Read ↔ (IsCut turns (O.told old.old) (O.told old.new) ⊎ IsCut turns (N.told new.old) (N.told new.new)) × Works (K.told sink.old) (K.told sink.new) }
     ensures write_fault { result ≡ Err RunFault.Write ↔ IsBroken (K.told sink.old) (K.told sink.new) }
+    ensures order { Follows (O.told old.old) (O.told old.new) (N.told new.old) (N.told new.new) }
     ensures old_calls { IsCalled turns (O.told old.old) (O.told old.new) }
     ensures new_calls { IsCalled turns (N.told new.old) (N.told new.new) }
     ensures sink_calls { StopsAtZero (K.told sink.old) (K.told sink.new) }

@@ -9,6 +9,7 @@ mod asked;
 mod asks;
 mod checks;
 mod diffs;
+mod early;
 mod lines;
 mod opened;
 mod policies;

@@ -1,4 +1,4 @@
-ghost use Rattle.std.specs.Prelude.{◌≡◌, ◌≢◌, ◌+◌, ◌≤◌, ◌<◌, ◌^◌, ◌∷◌, [], ℕ, List, false, length, Err, IfOk, IsOk, OnOk};
+ghost use Rattle.std.specs.Prelude.{◌≡◌, ◌≢◌, ◌+◌, ◌≤◌, ◌<◌, ◌↔◌, ◌^◌, ◌∷◌, [], ℕ, List, false, length, Err, IfOk, IsOk, OnOk};
 ghost use Rattle.mst_io.specs.Devices.{Hears, IsCalled, IsCut, IsRead};
 ghost use Rattle.mst_io.specs.Held.{ending};
 ghost use Rattle.mst_lang.specs.Lines.{drop_cr};
@@ -98,8 +98,8 @@ fn finish<L: TakesLines + Drop>(
 /// Takes the lines that a source gives in so many turns, from the first on, and answers with what has taken them. A turn is one call of
 /// the source, the one that finds the end included.
 ///
-/// [`RunFault::Read`] is answered where the source has failed, or all turns were used and none found the end, and
-/// [`RunFault::Memory`] where memory was wanted for a line and refused: the source isn't called again then.
+/// [`RunFault::Read`] is answered just where the source has failed, or all turns were used and none found the end, and
+/// [`RunFault::Memory`] where memory was wanted for a line before that, and refused: the source isn't called again then.
 pub(crate) fn read_lines<S: Source, L: TakesLines + Drop>(
     alloc: Global,
     lines: L,
@@ -110,7 +110,8 @@ pub(crate) fn read_lines<S: Source, L: TakesLines + Drop>(
     requires turns { turns ≤ 2 ^ 32 }
     ensures ok { IfOk result (AreTaken L.with_lines lines (S.remaining source.old)) }
     ensures ended { IsOk result → IsRead (S.told source.old) (S.told source.new) }
-    ensures read { result ≡ Err RunFault.Read → IsCut turns (S.told source.old) (S.told source.new) }
+    ensures read { result ≡ Err RunFault.Read ↔ IsCut turns (S.told source.old) (S.told source.new) }
+    ensures left { result ≡ Err RunFault.Memory → 0 < turns }
     ensures write { result ≢ Err RunFault.Write }
     ensures calls { IsCalled turns (S.told source.old) (S.told source.new) }
     ensures lent { S.lent source.new ≡ S.lent source.old }
@@ -131,7 +132,8 @@ pub(crate) fn read_lines<S: Source, L: TakesLines + Drop>(
             }
         }
         match feed(alloc, &mut reading, &mut held, &chunk[..count]) {
-            Err(_) => return Err(RunFault::Memory),
+            Err(_) if turn + 1 < turns => return Err(RunFault::Memory),
+            Err(_) => return Err(RunFault::Read),
             Ok(()) => {}
         }
     }

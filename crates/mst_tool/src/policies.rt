@@ -1,4 +1,4 @@
-ghost use Rattle.std.specs.Prelude.{◌≡◌, ◌≢◌, ◌≤◌, ◌<◌, ◌^◌, false, length, Err, IfOk, IsOk};
+ghost use Rattle.std.specs.Prelude.{◌≡◌, ◌≢◌, ◌≤◌, ◌<◌, ◌↔◌, ◌^◌, false, length, Err, IfOk, IsOk};
 ghost use Rattle.mst_io.specs.Devices.{Hears, IsCalled, IsCut, IsRead};
 ghost use Rattle.mst_change.specs.Steps.{all_lines};
 ghost use Rattle.mst_tool.specs.Lines.{AreLines, AreSteps};
@@ -31,8 +31,8 @@ impl TakesLines for Change {
 
 /// Reads the policy that a source gives in so many turns. A turn is one call of the source, the one that finds the end included.
 ///
-/// [`RunFault::Read`] is answered where the source has failed, or all turns were used and none found the end, and
-/// [`RunFault::Memory`] where memory was wanted for a line and refused: the source isn't called again then.
+/// [`RunFault::Read`] is answered just where the source has failed, or all turns were used and none found the end, and
+/// [`RunFault::Memory`] where memory was wanted for a line before that, and refused: the source isn't called again then.
 pub(crate) fn read_policy<S: Source>(
     alloc: Global,
     source: &mut S,
@@ -43,7 +43,8 @@ pub(crate) fn read_policy<S: Source>(
     ensures ok { IfOk result (AreLines (S.remaining source.old)) }
     ensures few { IfOk result (λ policy. length policy < 2 ^ 60) }
     ensures ended { IsOk result → IsRead (S.told source.old) (S.told source.new) }
-    ensures read { result ≡ Err RunFault.Read → IsCut turns (S.told source.old) (S.told source.new) }
+    ensures read { result ≡ Err RunFault.Read ↔ IsCut turns (S.told source.old) (S.told source.new) }
+    ensures left { result ≡ Err RunFault.Memory → 0 < turns }
     ensures write { result ≢ Err RunFault.Write }
     ensures calls { IsCalled turns (S.told source.old) (S.told source.new) }
     ensures lent { S.lent source.new ≡ S.lent source.old }
@@ -63,7 +64,8 @@ pub(crate) fn read_change<S: Source>(
     ensures ok { IfOk result (λ change. AreSteps (S.remaining source.old) change.ended) }
     ensures few { IfOk result (λ change. length (all_lines change.ended) < 2 ^ 60) }
     ensures ended { IsOk result → IsRead (S.told source.old) (S.told source.new) }
-    ensures read { result ≡ Err RunFault.Read → IsCut turns (S.told source.old) (S.told source.new) }
+    ensures read { result ≡ Err RunFault.Read ↔ IsCut turns (S.told source.old) (S.told source.new) }
+    ensures left { result ≡ Err RunFault.Memory → 0 < turns }
     ensures write { result ≢ Err RunFault.Write }
     ensures calls { IsCalled turns (S.told source.old) (S.told source.new) }
     ensures lent { S.lent source.new ≡ S.lent source.old }

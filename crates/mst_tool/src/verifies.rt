@@ -4,6 +4,7 @@ ghost use Rattle.mst_engine.specs.report.Planned.{planned_state};
 ghost use Rattle.mst_io.specs.Devices.{Hears, Works, IsBroken, IsCut, IsRead, IsCalled, StopsAtZero};
 ghost use Rattle.mst_print.specs.Shape.{of_script};
 ghost use Rattle.mst_tool.specs.Load.{LoadsOrEnded, LoadsScript};
+ghost use Rattle.mst_tool.specs.Run.{Follows};
 ghost use Rattle.mst_tool.specs.Verify.{Verifies, VerifiesFront, TellsVerification, counted_with, counts_of};
 
 use crate::opened::open_question;
@@ -58,8 +59,8 @@ pub fn verify<S: Read + Drop, P: Read + Drop, W: Write>(
 /// [`verify`] does: it is that with 2^32 of them. A turn is one call of a source, the one that finds the end included.
 ///
 /// [`RunFault::Read`] is answered just where the sink works and a source has failed, or all turns of it were used and none found the
-/// end, but where memory was wanted for a line of the policy before; [`RunFault::Write`] just where the sink has failed, or took
-/// nothing of a part that had a byte.
+/// end; [`RunFault::Write`] just where the sink has failed, or took nothing of a part that had a byte. The second source is called only
+/// where the first was read to its end.
 pub fn verify_within<S: Source, P: Source, K: Sink>(
     alloc: Global,
     form: Form,
@@ -78,9 +79,9 @@ pub fn verify_within<S: Source, P: Source, K: Sink>(
     ensures memory { result ≡ Err RunFault.Memory → LoadsScript (of_script form) (S.remaining script.old) (K.contents sink.old) (K.contents sink.new) }
     ensures ended_script { IsOk result → IsRead (S.told script.old) (S.told script.new) }
     ensures ended_policy { IsOk result → IsRead (P.told policy.old) (P.told policy.new) }
-    ensures read_fault { result ≡ Err RunFault.Read → (IsCut turns (S.told script.old) (S.told script.new) ⊎ IsCut turns (P.told policy.old) (P.told policy.new)) × Works (K.told sink.old) (K.told sink.new) }
-    ensures cut { IsCut turns (S.told script.old) (S.told script.new) ⊎ IsCut turns (P.told policy.old) (P.told policy.new) → Works (K.told sink.old) (K.told sink.new) → (result ≡ Err RunFault.Read) ⊎ (result ≡ Err RunFault.Memory) }
+    ensures read_fault { result ≡ Err RunFault.Read ↔ (IsCut turns (S.told script.old) (S.told script.new) ⊎ IsCut turns (P.told policy.old) (P.told policy.new)) × Works (K.told sink.old) (K.told sink.new) }
     ensures write_fault { result ≡ Err RunFault.Write ↔ IsBroken (K.told sink.old) (K.told sink.new) }
+    ensures order { Follows (S.told script.old) (S.told script.new) (P.told policy.old) (P.told policy.new) }
     ensures script_calls { IsCalled turns (S.told script.old) (S.told script.new) }
     ensures policy_calls { IsCalled turns (P.told policy.old) (P.told policy.new) }
     ensures sink_calls { StopsAtZero (K.told sink.old) (K.told sink.new) }

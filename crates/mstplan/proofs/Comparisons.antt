@@ -4,7 +4,7 @@ use Rattle.std.specs.Prelude.{IfOk, OnErr}
 use Rattle.std.specs.Io.KnownBytes.{Keeps, append_known}
 use Rattle.std.proofs.KnownBytes.{Appends-kept}
 use Rattle.mst_tool.specs.Alter.{Alters, AltersFront}
-use Rattle.mst_tool.specs.Check.{Checks, ChecksFront, ChecksEnded, ComparesEnded, ChecksScript}
+use Rattle.mst_tool.specs.Check.{Checks, ChecksFront, ChecksEnded, ComparesEnded, ChecksScript, checked_text}
 use Rattle.mst_tool.specs.Diff.{Diffs, DiffsFront, DiffsEnded, DiffsScripts, LoadsNewEnded, both_texts}
 use Rattle.mst_tool.specs.Load.{LoadsEnded, LoadsFront, LoadsOrEnded, LoadsScript}
 use Rattle.mst_tool.specs.Verify.{Verifies, VerifiesFront}
@@ -37,7 +37,7 @@ module _ (form : Form) (scripts captures : Option (List ℕ)) where
     captures_read = h.captures_read;
     runs = h.runs;
     compares = h.compares;
-    printed = Appends-kept a b c (texts_of h.steps ++ texts_of h.compared) h.printed k;
+    printed = Appends-kept a b c (checked_text form h.steps h.compared h.captured) h.printed k;
     memory = h.memory;
     refused = h.refused;
     differing = h.differing;
@@ -55,7 +55,7 @@ module _ (form : Form) (scripts captures : Option (List ℕ)) where
     captures_read = h.captures_read;
     runs = h.runs;
     compares = h.compares;
-    printed = front_kept a b c (texts_of h.steps ++ texts_of h.compared) h.printed k;
+    printed = front_kept a b c (checked_text form h.steps h.compared h.captured) h.printed k;
     only = h.only;
     only_compared = h.only_compared;
   }
@@ -63,7 +63,7 @@ module _ (form : Form) (scripts captures : Option (List ℕ)) where
   -- what was written in full is a front of it
   checks_front : (a b : Option (List ℕ)) (outcome : Outcome) → Checks form scripts captures a b outcome → ChecksFront form scripts captures a b
   checks_front a b outcome h =
-      let text = texts_of h.steps ++ texts_of h.compared in
+      let text = checked_text form h.steps h.compared h.captured in
       record {
         script = h.script;
         captured = h.captured;

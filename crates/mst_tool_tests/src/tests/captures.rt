@@ -306,12 +306,12 @@ fn readers_fail(rt: HostRuntime) {
     }
 }
 
-/// Both inputs' refused lines are counted, and a check of nothing prints nothing.
+/// Both inputs' refused lines are counted, and a check of no message says so, which counts as one.
 #[test]
 fn counts_both(rt: HostRuntime) -> Result<(), Fail> {
     let (whole, _, checked) = check_both(rt.alloc(), b"", b"")?;
-    assert!(rt; whole.is_empty());
-    assert_eq!(rt; checked, Ok(counts(0, 0)));
+    assert_eq!(rt; whole.as_slice(), b"check captures 0 agree 0\n");
+    assert_eq!(rt; checked, Ok(counts(1, 0)));
     let (_, _, checked) = check_both(rt.alloc(), b"no\nno\n", b"0\n")?;
     assert_eq!(rt; checked, Ok(counts(3, 0)));
     Ok(())

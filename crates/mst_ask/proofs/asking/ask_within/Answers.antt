@@ -1,4 +1,4 @@
-use Rattle.std.proofs.Common.{◌≡◌, Result, Err, ap, subst, inl, inr}
+use Rattle.std.proofs.Common.{◌≡◌, Result, Err, refl, ap, subst, inl, inr}
 use Rattle.mst_io.specs.declared.outcome.RunFault.{RunFault}
 use Rattle.mst_io.proofs.Calls.{stops_after, works_both, works_unbroken}
 use Rattle.mst_ask.specs.Opening.{OpensNot}
@@ -112,3 +112,16 @@ returns-clause-sink_calls g c = stops_after _ _ _ (c.in-Ok-open.ensures.works (�
 
 pub returns-clause-ended_script : goal.returns-clause-ended_script
 returns-clause-ended_script g c ok = (c.in-Ok.ensures.ok.whole c.in-Ok-open.ensures.ok.whole).1
+
+-- ---- the questions follow the script
+pub returns-in-Err-clause-order : goal.returns-in-Err-clause-order
+returns-in-Err-clause-order g c = inl refl
+
+pub returns-in-Err-open-clause-order : goal.returns-in-Err-open-clause-order
+returns-in-Err-open-clause-order g c = inl refl
+
+pub returns-in-Err-serve_questions-clause-order : goal.returns-in-Err-serve_questions-clause-order
+returns-in-Err-serve_questions-clause-order g c = inr (c.in-Ok.ensures.ok.whole c.in-Ok-open.ensures.ok.whole).1
+
+pub returns-clause-order : goal.returns-clause-order
+returns-clause-order g c = inr (c.in-Ok.ensures.ok.whole c.in-Ok-open.ensures.ok.whole).1

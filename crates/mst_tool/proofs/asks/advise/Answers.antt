@@ -1,19 +1,19 @@
-use Rattle.std.proofs.Common.{[], None, ap, sym, ◌∙◌}
+use Rattle.std.proofs.Common.{◌≡◌, None, ap, refl, sym, ◌∙◌}
 use Rattle.mst_engine.specs.net.Contents.{Contents}
-use Rattle.mst_print.proofs.Shown.{grew_none}
-use Rattle.mst_tool.specs.Shown.{advice_row}
-use Rattle.mst_tool.proofs.WholeLoad.{advice_shown, unadvised_told}
+use Rattle.mst_tool.specs.Ask.{unadvised_early}
+use Rattle.mst_tool.proofs.EarlyRefusals.{unadvised_so, whatever}
+use Rattle.mst_tool.proofs.WholeLoad.{unadvised_told}
 use Rattle.mst_tool.proofs.asks.advise.Goals as goal
 
-pub returns-in-Some : goal.returns-in-Some
-returns-in-Some c =
-    unadvised_told c.args.form c.args.planner.now.contents.net c.settle.new.self.contents.net c.args.goal.now c.in-Some.why
-    (ap (λ (k : Contents). k.net) c.settle.ensures.same) (sym c.unadvised.ensures ∙ c.in-Some.is)
+pub returns-in-Some-clause-answer : goal.returns-in-Some-clause-answer
+returns-in-Some-clause-answer c =
+    let net = c.args.planner.now.contents.net in
+    let wanted = c.args.goal.now in
+    let early = sym (c.why_unadvised.ensures ∙ ap (λ (k : Contents). unadvised_early k.net wanted) c.network.ensures) ∙ c.in-Some.is in
+    unadvised_told c.args.form net net wanted c.in-Some.why refl (unadvised_so net wanted c.in-Some.why early)
 
-pub returns-in_ok-text-in-None : goal.returns-in_ok-text-in-None
-returns-in_ok-text-in-None c =
-    let printer = c.in_ok-printer-in-None.printer in
-    let put = c.in_ok-told-in-None.ensures.told printer [] (grew_none printer) in
-    advice_shown c.args.form c.args.planner.now.contents.net c.settle.new.self.contents.net c.args.goal.now c.in_ok-told-in-None.told c.is_nothing.result put.0 c.in_ok-text-in-None.text.items
-    (ap (λ (k : Contents). k.net) c.settle.ensures.same) (sym c.unadvised.ensures ∙ c.in-None.is) put.1
-    (c.in_ok-text-in-None.ensures c.args.form None (advice_row c.args.goal.now) printer put.0 c.in_ok-printer-in-None.ensures put.2) c.is_nothing.ensures
+pub returns-in-None-clause-memory : goal.returns-in-None-clause-memory
+returns-in-None-clause-memory c =
+    let net = c.args.planner.now.contents.net in
+    let wanted = c.args.goal.now in
+    whatever c.advise_by_plan.result (unadvised_early net wanted ≡ None) (sym (c.why_unadvised.ensures ∙ ap (λ (k : Contents). unadvised_early k.net wanted) c.network.ensures) ∙ c.in-None.is)

@@ -1,19 +1,19 @@
-use Rattle.std.proofs.Common.{[], None, ap, sym, ◌∙◌}
+use Rattle.std.proofs.Common.{◌≡◌, None, ap, refl, sym, ◌∙◌}
 use Rattle.mst_engine.specs.net.Contents.{Contents}
-use Rattle.mst_print.proofs.Shown.{grew_none}
-use Rattle.mst_tool.specs.Shown.{explain_row}
-use Rattle.mst_tool.proofs.WholeLoad.{explained_shown, unexplained_told}
+use Rattle.mst_tool.specs.Ask.{unexplained_early}
+use Rattle.mst_tool.proofs.EarlyRefusals.{unexplained_so, whatever}
+use Rattle.mst_tool.proofs.WholeLoad.{unexplained_told}
 use Rattle.mst_tool.proofs.asks.explained.Goals as goal
 
 pub returns-in-Some-clause-answer : goal.returns-in-Some-clause-answer
 returns-in-Some-clause-answer c =
-    unexplained_told c.args.form c.args.planner.now.contents.net c.settle.new.self.contents.net c.args.asked.now c.in-Some.why
-    (ap (λ (k : Contents). k.net) c.settle.ensures.same) (sym c.unexplained.ensures ∙ c.in-Some.is)
+    let net = c.args.planner.now.contents.net in
+    let asked = c.args.asked.now in
+    let early = sym (c.why_unexplained.ensures ∙ ap (λ (k : Contents). unexplained_early k.net asked.port asked.tree) c.network.ensures) ∙ c.in-Some.is in
+    unexplained_told c.args.form net net asked c.in-Some.why refl (unexplained_so net asked.port asked.tree c.in-Some.why early)
 
-pub returns-in_ok-text-in-None-clause-answer : goal.returns-in_ok-text-in-None-clause-answer
-returns-in_ok-text-in-None-clause-answer c =
-    let printer = c.in_ok-printer-in-None.printer in
-    let put = c.in_ok-put_explanation-in-None.ensures printer [] (grew_none printer) in
-    explained_shown c.args.form c.args.planner.now.contents.net c.settle.new.self.contents.net c.args.asked.now put.0 c.in_ok-text-in-None.text.items
-    (ap (λ (k : Contents). k.net) c.settle.ensures.same) (sym c.unexplained.ensures ∙ c.in-None.is) put.1
-    (c.in_ok-text-in-None.ensures c.args.form None (explain_row c.args.asked.now) printer put.0 c.in_ok-printer-in-None.ensures put.2)
+pub returns-in-None-clause-memory : goal.returns-in-None-clause-memory
+returns-in-None-clause-memory c =
+    let net = c.args.planner.now.contents.net in
+    let asked = c.args.asked.now in
+    whatever c.explained_by_plan.result (unexplained_early net asked.port asked.tree ≡ None) (sym (c.why_unexplained.ensures ∙ ap (λ (k : Contents). unexplained_early k.net asked.port asked.tree) c.network.ensures) ∙ c.in-None.is)

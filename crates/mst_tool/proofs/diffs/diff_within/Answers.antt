@@ -155,3 +155,19 @@ returns-clause-ok g c =
 
 pub returns-in-Err-clause-heard_new : goal.returns-in-Err-clause-heard_new
 returns-in-Err-clause-heard_new g c = Hears-none g.N.Source.hears c.args.new.now
+
+-- ---- the new script follows the old one
+pub returns-in-Err-clause-order : goal.returns-in-Err-clause-order
+returns-in-Err-clause-order g c = inl refl
+
+pub returns-in-Err-serve_input-clause-order : goal.returns-in-Err-serve_input-clause-order
+returns-in-Err-serve_input-clause-order g c = inr c.in-Ok.ensures.stops.0
+
+pub returns-in-Err-what_differs-clause-order : goal.returns-in-Err-what_differs-clause-order
+returns-in-Err-what_differs-clause-order g c = inr c.in-Ok.ensures.stops.0
+
+pub returns-in-Err-put-clause-order : goal.returns-in-Err-put-clause-order
+returns-in-Err-put-clause-order g c = inr c.in-Ok.ensures.stops.0
+
+pub returns-clause-order : goal.returns-clause-order
+returns-clause-order g c = inr c.in-Ok.ensures.stops.0

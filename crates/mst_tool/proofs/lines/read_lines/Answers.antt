@@ -60,3 +60,6 @@ returns-in-Err-finish-clause-heard g c = Hears-more g.S.Source.hears c.args.sour
 
 pub returns-in-Ok-finish-clause-heard : goal.returns-in-Ok-finish-clause-heard
 returns-in-Ok-finish-clause-heard g c = Hears-more g.S.Source.hears c.args.source.now c.turns.source c.fill.new.self _ c.turns.invariant.heard c.in-Ok.ensures.heard
+
+pub returns-in-Err-2-clause-heard : goal.returns-in-Err-2-clause-heard
+returns-in-Err-2-clause-heard g c = Hears-more g.S.Source.hears c.args.source.now c.turns.source c.fill.new.self _ c.turns.invariant.heard c.in-Ok.ensures.heard

@@ -1,4 +1,4 @@
-use Rattle.std.proofs.Common.{◌≡◌, ◌⊎◌, Result, Err, refl, sym, subst, ◌∙◌, inl, inr}
+use Rattle.std.proofs.Common.{◌≡◌, ◌⊎◌, Result, Ok, Err, refl, sym, ap, subst, ◌∙◌, inl, inr}
 use Rattle.std.specs.Io.KnownBytes.{Appends}
 use Rattle.mst_engine.specs.Engine.{tally_of}
 use Rattle.mst_engine.specs.Served.{Served, ServedFront, ServedEnded}
@@ -7,8 +7,8 @@ use Rattle.mst_io.specs.Devices.{IsCut}
 use Rattle.mst_io.specs.Written.{AppendsFront}
 use Rattle.mst_io.specs.declared.outcome.Outcome.{Outcome}
 use Rattle.mst_io.specs.declared.outcome.RunFault.{RunFault}
-use Rattle.mst_io.specs.declared.outcome.RunFault.TheVariants.{Read}
-use Rattle.mst_io.proofs.Calls.{works_both, stops_after, stops_working, read_uncut}
+use Rattle.mst_io.specs.declared.outcome.RunFault.TheVariants.{Read, Write, Memory}
+use Rattle.mst_io.proofs.Calls.{broken_after, works_both, works_unbroken, stops_after, stops_working, read_uncut}
 use Rattle.mst_io.proofs.Chains.{Hears-none}
 use Rattle.mst_print.specs.Shape.{of_script}
 use Rattle.mst_tool.specs.Verify.{Verifies, counted_with, counts_of}
@@ -18,6 +18,21 @@ use Rattle.mst_tool.proofs.verifies.verify_within.Goals as goal
 
 one_fault : (r : Result Outcome RunFault) (a b : RunFault) → r ≡ Err a → r ≡ Err b → a ≡ b
 one_fault r a b p q = cc
+
+not_read : (r : Result Outcome RunFault) → r ≡ Err Write → r ≡ Err Read → ⊥
+not_read r p q = cc
+
+not_err : (r : Result Outcome RunFault) (outcome : Outcome) (fault : RunFault) → r ≡ Ok outcome → r ≡ Err fault → ⊥
+not_err r outcome fault p q = cc
+
+not_memory : (r : Result Outcome RunFault) → r ≡ Err Memory → r ≡ Err Read → ⊥
+not_memory r p q = cc
+
+abbrev fails : (A : Type 0) → RunFault → Result A RunFault
+fails A fault = Err fault
+
+same_fault : (A : Type 0) (a b : RunFault) → fails A a ≡ fails A b → a ≡ b
+same_fault A a b p = cc
 
 pub returns-in-Err-clause-fault : goal.returns-in-Err-clause-fault
 returns-in-Err-clause-fault g c =
@@ -96,8 +111,28 @@ returns-in-Err-put-clause-sink_calls g c = stops_after _ _ _ c.in-Ok.ensures.sto
 pub returns-clause-sink_calls : goal.returns-clause-sink_calls
 returns-clause-sink_calls g c = stops_working _ _ (works_both _ _ _ c.in-Ok.ensures.stops.1 c.in-Ok-put.ensures.works)
 
-pub returns-clause-cut : goal.returns-clause-cut
-returns-clause-cut g c cut works = absurd (by cut)
+pub returns-in-Err-read_policy-clause-read_fault : goal.returns-in-Err-read_policy-clause-read_fault
+returns-in-Err-read_policy-clause-read_fault g c = (λ e. (inr (c.in-Err-read_policy.ensures.read.0 (ap Err (same_fault _ _ _ e))), c.in-Ok.ensures.stops.1), λ h. by h.0)
+  where
+    by : IsCut c.args.turns (g.S.Source.told c.args.script.now) (g.S.Source.told c.serve_input.new.source)
+        ⊎ IsCut c.args.turns (g.P.Source.told c.args.policy.now) (g.P.Source.told c.read_policy.new.source) → fails Outcome c.in-Err-read_policy.fault ≡ Err Read
+    by (inl cut) = absurd (read_uncut c.args.turns _ _ c.in-Ok.ensures.stops.0 cut)
+    by (inr cut) = ap Err (same_fault _ _ _ (c.in-Err-read_policy.ensures.read.1 cut))
+
+pub returns-in-Err-verified-clause-read_fault : goal.returns-in-Err-verified-clause-read_fault
+returns-in-Err-verified-clause-read_fault g c = (λ e. absurd (not_memory _ refl e), λ h. absurd (by h.0))
+  where
+    by : IsCut c.args.turns (g.S.Source.told c.args.script.now) (g.S.Source.told c.serve_input.new.source)
+        ⊎ IsCut c.args.turns (g.P.Source.told c.args.policy.now) (g.P.Source.told c.read_policy.new.source) → ⊥
+    by (inl cut) = read_uncut c.args.turns _ _ c.in-Ok.ensures.stops.0 cut
+    by (inr cut) = read_uncut c.args.turns _ _ (c.in-Ok-read_policy.ensures.ended refl) cut
+
+pub returns-in-Err-put-clause-read_fault : goal.returns-in-Err-put-clause-read_fault
+returns-in-Err-put-clause-read_fault g c =
+    (λ e. absurd (not_read _ refl e), λ h. absurd (works_unbroken _ _ h.1 (broken_after _ _ (g.K.Sink.told c.put.new.sink) c.in-Ok.ensures.stops.1 c.in-Err-put.ensures.broken.broken)))
+
+pub returns-clause-read_fault : goal.returns-clause-read_fault
+returns-clause-read_fault g c = (λ e. absurd (not_err _ _ _ refl e), λ h. absurd (by h.0))
   where
     by : IsCut c.args.turns (g.S.Source.told c.args.script.now) (g.S.Source.told c.serve_input.new.source)
         ⊎ IsCut c.args.turns (g.P.Source.told c.args.policy.now) (g.P.Source.told c.read_policy.new.source) → ⊥
@@ -116,3 +151,19 @@ returns-clause-ok g c =
     subst (Verifies c.args.form scripts policies written now) (sym (c.with_verdict.ensures ∙ (λ i. counted_with (c.outcome-served.ensures i) (counts_of found))))
     (verifies c.one_load.ensures.same c.args.form scripts policies written mid t (subst (λ from. Served (Network (of_script c.args.form)) from scripts written mid t) c.new-engine.ensures.empty c.in-Ok.ensures.ok)
     c.in-Ok-read_policy.lines (counts_of found) found.text.items c.in-Ok-read_policy.ensures.ok c.in-Ok-verified.ensures.told now (subst (Appends mid now) c.as_slice.ensures.value c.in-Ok-put.ensures.ok))
+
+-- ---- the policy follows the script
+pub returns-in-Err-clause-order : goal.returns-in-Err-clause-order
+returns-in-Err-clause-order g c = inl refl
+
+pub returns-in-Err-read_policy-clause-order : goal.returns-in-Err-read_policy-clause-order
+returns-in-Err-read_policy-clause-order g c = inr c.in-Ok.ensures.stops.0
+
+pub returns-in-Err-verified-clause-order : goal.returns-in-Err-verified-clause-order
+returns-in-Err-verified-clause-order g c = inr c.in-Ok.ensures.stops.0
+
+pub returns-in-Err-put-clause-order : goal.returns-in-Err-put-clause-order
+returns-in-Err-put-clause-order g c = inr c.in-Ok.ensures.stops.0
+
+pub returns-clause-order : goal.returns-clause-order
+returns-clause-order g c = inr c.in-Ok.ensures.stops.0

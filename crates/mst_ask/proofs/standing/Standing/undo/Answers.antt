@@ -1,10 +1,13 @@
-use Rattle.std.proofs.Common.{◌∙◌, ◌-◌, ap, arith, inl}
+use Rattle.std.proofs.Common.{◌∙◌, ◌-◌, ap, arith, inl, inr, refl}
 use Rattle.mst_net.specs.Contents.{Contents}
-use Rattle.mst_ask.proofs.Changes.{undo_kept, undo_none, undo_stands}
+use Rattle.mst_ask.proofs.Changes.{undo_kept, undo_may, undo_none, undo_stands}
 use Rattle.mst_ask.proofs.standing.Standing.undo.Goals as goal
 
 pub returns-then-count-made-clause-asked : goal.returns-then-count-made-clause-asked
 returns-then-count-made-clause-asked c number line = inl (undo_none c.args.self.now c.requires.kept c.args.self.now.form number c.args.count (omega (arith, c.len-made.ensures, c.if-count-made.true)))
+
+pub returns-in-Err-clause-asked : goal.returns-in-Err-clause-asked
+returns-in-Err-clause-asked c number line = inr (undo_may c.args.self.now c.requires.kept c.args.count (omega (arith, c.len-made.ensures, c.if-count-made.false)), refl)
 
 pub returns-in-Ok-clause-kept : goal.returns-in-Ok-clause-kept
 returns-in-Ok-clause-kept c =

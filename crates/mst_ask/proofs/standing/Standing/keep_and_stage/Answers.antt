@@ -1,5 +1,5 @@
 use Rattle.mst_ask.proofs.Changes.{edit_kept}
-use Rattle.mst_ask.proofs.standing.Standing.make.Goals as goal
+use Rattle.mst_ask.proofs.standing.Standing.keep_and_stage.Goals as goal
 
 pub returns-in-Ok-stage-clause-kept : goal.returns-in-Ok-stage-clause-kept
 returns-in-Ok-stage-clause-kept c =
