@@ -1,6 +1,6 @@
 #!/usr/bin/env python3
 """Runs the built program on a table of cases, and compares the exit status and both outputs of each; and then on what is large in
-each way (large_runs.py): networks as large as they may be, long scripts, answers of megabytes.
+each way (large_runs.py, size_runs.py): networks as large as they may be, long scripts, answers of megabytes.
 
 usage: check-program.py PROGRAM
 
@@ -26,6 +26,7 @@ import ask_runs  # noqa: E402
 import edits_runs  # noqa: E402
 import hint_runs  # noqa: E402
 import large_runs  # noqa: E402
+import size_runs  # noqa: E402
 import steps_runs  # noqa: E402
 import verify_runs  # noqa: E402
 from hint_runs import HINTED, HINTED_RUN, HINTS, told_within  # noqa: E402
@@ -38,6 +39,7 @@ TREE = b"tree 0\n"
 REFUSED = b"line 1 E01 no such command\n"
 SHORT = b"# none\n00\n"
 TOO_SHORT = b"capture 2 B02 too short\n"
+NO_CAPTURES = b"check captures 0 agree 0\n"
 
 # Three bridges of a region in a triangle, and one of its own, which two of them are linked to. A is the root of the CIST,
 # and C that of tree 1. The first line is refused; the queries and the mark say nothing.
@@ -690,15 +692,15 @@ def cases(folder):
         ("help of a command", ["sweep", "--help"], b"", 0, USAGE, b""),
         ("version", ["--version"], b"", 0, VERSION, b""),
         ("version, short", ["-V"], b"", 0, VERSION, b""),
-        ("version of a command", ["run", "--version"], b"", 2, b"", USAGE),
         ("run with no file", ["run"], b"", 2, b"", USAGE),
         ("two files", ["run", script, script], b"", 2, b"", USAGE),
         ("an unknown word", ["walk"], b"", 2, b"", USAGE),
         ("check FILE CAPTURES", ["check", script, captures], b"no\n", 1, TREE + TOO_SHORT, b""),
         ("check - CAPTURES", ["check", "-", captures], b"no\n", 1, REFUSED + TOO_SHORT, b""),
         ("check FILE -", ["check", script, "-"], SHORT, 1, TREE + TOO_SHORT, b""),
-        ("check - -", ["check", "-", "-"], b"showtree 0\n00\n", 1, TREE + b"line 2 E01 no such command\n", b""),
-        ("check with nothing to compare", ["check", script, "-"], b"# none\n \n", 0, TREE, b""),
+        ("check - -", ["check", "-", "-"], b"showtree 0\n00\n", 1, TREE + b"line 2 E01 no such command\n" + NO_CAPTURES, b""),
+        ("check with nothing to compare", ["check", script, "-"], b"# none\n \n", 1, TREE + NO_CAPTURES, b""),
+        ("check with no captures", ["check", script, os.devnull], b"", 1, TREE + NO_CAPTURES, b""),
         ("captures that aren't there", ["check", script, absent], b"", 3, b"", cannot),
         ("captures that aren't there, of standard input's script", ["check", "-", absent], b"no\n", 3, b"", cannot),
         ("a script that isn't there", ["check", absent, captures], b"", 3, b"", cannot),
@@ -714,8 +716,62 @@ def cases(folder):
         ("an empty word", ["run", ""], b"", 3, b"", unopened("")),
         ("an empty command", [""], b"", 2, b"", USAGE),
         ("a command with a blank", ["run ", script], b"", 2, b"", USAGE),
-        ("help is no command", ["help"], b"", 2, b"", USAGE),
-        ("an unknown option", ["--fast"], b"", 2, b"", USAGE),
+    ]
+
+
+# What is told of words that the program hasn't: what they were meant for.
+NO_FLAG = "flags are --json and --hints, what a command takes stands without --"
+MEANT = [
+    (["help"], "help", "mstplan --help?"),
+    (["version"], "version", "mstplan --version?"),
+    (["Version"], "Version", "mstplan --version?"),
+    (["-version"], "-version", "mstplan --version?"),
+    (["--verson"], "--verson", "mstplan --version?"),
+    (["run", "--version"], "--version", "mstplan --version?"),
+    (["json", "run", "-"], "json", "--json?"),
+    (["--JSON", "run", "-"], "--JSON", "--json?"),
+    (["run", "-", "--jsn"], "--jsn", "--json?"),
+    (["run", "-json", "-"], "-json", "--json?"),
+    (["--hint", "run", "-"], "--hint", "--hints?"),
+    (["run", "-", "--hint"], "--hint", "--hints?"),
+    (["sweep", "-", "--pairs"], "--pairs", NO_FLAG),
+    (["--summary", "-"], "--summary", NO_FLAG),
+    (["steps", "-", "-", "--policy", "-"], "--policy", NO_FLAG),
+    (["--fast"], "--fast", NO_FLAG),
+    (["run", "-", "--json=yes"], "--json=yes", NO_FLAG),
+    (["run", "-", "--\x1b[2J"], "--\\x1b[2J", NO_FLAG),
+]
+
+
+def meant_cases():
+    told = [(words, f"error: no such word {word}; {meant}\n".encode()) for words, word, meant in MEANT]
+    return [
+        *((f"a word that was meant for another, {words}", words, b"no\n", 2, b"", text) for words, text in told),
+        ("a command that is nearly one", ["sumary", "-"], b"", 2, b"", USAGE),
+        ("help of a command that there isn't", ["walk", "--help"], b"", 2, b"", USAGE),
+        ("a file that is called as the version is", ["diff", "version"], b"", 2, b"", USAGE),
+        ("a name with a hyphen", ["run", "-x"], b"", 2, b"", USAGE),
+        ("a word with a hyphen", ["dot", "-", "-vlan", "10"], b"", 2, b"", USAGE),
+    ]
+
+
+# A policy of which nothing can be judged.
+NOTHING_JUDGED = b"policy 0 E17 nothing to judge\nverify expectations 0 hold 0\n"
+
+
+def verify_cases(folder):
+    """A policy that promises nothing, and promises of all in a network that has nothing: no status 0. What else is verified is in verify_runs.py."""
+    script = os.path.join(folder, "paired")
+    everything = os.path.join(folder, "of everything")
+    with open(everything, "wb") as file:
+        file.write(b"reach 10 *\nalways region *\n")
+    no_bridge = b"policy 1 E04 no such bridge\npolicy 2 E04 no such bridge\nverify expectations 0 hold 0\n"
+    return [
+        ("verify with an empty policy", ["verify", script, "-"], b"", 1, NOTHING_JUDGED, b""),
+        ("verify with a policy of comments", ["verify", script, "-"], b"# none\n\n", 1, NOTHING_JUDGED, b""),
+        ("verify - -", ["verify", "-", "-"], PAIRED, 1, NOTHING_JUDGED, b""),
+        ("verify - -, a refused line", ["verify", "-", "-"], b"no\n" + PAIRED, 1, REFUSED + NOTHING_JUDGED, b""),
+        ("verify, all of an empty network", ["verify", "-", everything], b"", 1, no_bridge, b""),
     ]
 
 
@@ -835,10 +891,11 @@ def flag_cases(folder):
 
 def asked_cases(folder):
     """The cases of what is asked of a script's network."""
-    return explain_cases(folder) + diff_cases(folder) + sweep_cases(folder) + summary_cases(folder) + dot_cases(folder) + advise_cases(folder) + ask_cases(folder)
+    return explain_cases(folder) + diff_cases(folder) + sweep_cases(folder) + summary_cases(folder) + dot_cases(folder) + advise_cases(folder) + ask_cases(folder) + verify_cases(folder)
 
 
 def fits(text, expected):
+    """Whether a text is what is expected: it, or what fits it."""
     if isinstance(expected, re.Pattern):
         return expected.fullmatch(text) is not None
     if isinstance(expected, Json):
@@ -946,7 +1003,7 @@ def check_closed(program, folder, words, closed, status, out, err):
     words = [os.path.join(folder, word) if word in ("script", "captures", "hinted.script") else word for word in words]
     shell = ["sh", "-c", 'exec "$0" "$@" ' + closed, program] + words
     ran = subprocess.run(shell, stdin=subprocess.DEVNULL, stdout=subprocess.PIPE, stderr=subprocess.PIPE, timeout=60)
-    if (ran.returncode, ran.stdout, ran.stderr) == (status, out, err):
+    if ran.returncode == status and fits(ran.stdout, out) and fits(ran.stderr, err):
         return True
     print(f"FAILED {words} {closed}: status {ran.returncode}, {ran.stdout[:200]!r}, {ran.stderr[:200]!r}")
     return False
@@ -965,6 +1022,16 @@ def closed_cases():
         (["--help"], ">&-", 3, b"", write),
         (["--version"], ">&-", 3, b"", write),
         (["run", "script"], "2>&-", 0, TREE, b""),
+        (["run", "absent"], "2>&-", 3, b"", b""),
+        (["run", "absent"], "2>/dev/full", 3, b"", b""),
+        (["walk"], "2>&-", 2, b"", b""),
+        (["walk"], "2>/dev/full", 2, b"", b""),
+        (["--fast"], "2>&-", 2, b"", b""),
+        (["--help"], "2>&-", 0, USAGE, b""),
+        (["--version"], "2>&-", 0, VERSION, b""),
+        (["--help"], ">&- 2>&-", 3, b"", b""),
+        (["run", "script"], ">&- 2>&-", 3, b"", b""),
+        (["run", "-"], "<&- 2>&-", 3, b"", b""),
         (["explain", "-", "A", "1"], "<&-", 3, b"", read),
         (["explain", "script", "A", "1"], ">&-", 3, b"", write),
         (["sweep", "-"], "<&-", 3, b"", read),
@@ -1026,6 +1093,7 @@ def check_dashes(program, folder):
         (["explain", "--", "-", "A", "-1"], 1, BAD, b""),
         (["run", "./--json"], 1, REFUSED, b""),
         (["run", "--", "-"], 0, b"", b""),
+        (["run", "--", "-", "--pairs"], 2, b"", USAGE),
         (["run", "--", "-x", "-x"], 2, b"", USAGE),
         (["run", "--"], 2, b"", USAGE),
         (["run", "-x"], 2, b"", USAGE),
@@ -1036,6 +1104,46 @@ def check_dashes(program, folder):
         ran = subprocess.run([program, *words], input=b"", capture_output=True, timeout=60, check=False, cwd=folder)
         if not (ran.returncode == status and fits(ran.stdout, out) and fits(ran.stderr, err)):
             print(f"FAILED {words}: status {ran.returncode}, {ran.stdout[:200]!r}, {ran.stderr[:200]!r}")
+            passed = False
+    return passed
+
+
+def check_called(program, folder):
+    """The name that the program is called by is no flag and no `--`, whatever it is."""
+    refused = {"line": 1, "error": "E01", "text": "no such command"}
+    path = os.path.join(folder, "called.script")
+    with open(path, "wb") as file:
+        file.write(b"no\n")
+    passed = True
+    for name in ("--json", "--hints", "--", "-x", "", "run"):
+        for words, out in ((["run", path], REFUSED), (["run", path, "--json"], Json(refused))):
+            ran = subprocess.run([name, *words], executable=program, stdin=subprocess.DEVNULL, capture_output=True, timeout=60, check=False)
+            if not (ran.returncode == 1 and fits(ran.stdout, out) and ran.stderr == b""):
+                print(f"FAILED called {name!r}, {words}: status {ran.returncode}, {ran.stdout[:200]!r}, {ran.stderr[:200]!r}")
+                passed = False
+    return passed
+
+
+def check_unread(program, folder):
+    """Standard output, or standard error, that who was to read it has closed before the program is started: it ends quietly, and the status is
+    0, or what it is without a reader of errors."""
+    path, absent = os.path.join(folder, "called.script"), os.path.join(folder, "absent")
+    cases = [
+        *(("stdout", words, 0) for words in (["--help"], ["--version"], ["sweep", "--help"], ["run", path], ["run", "--json", path], ["summary", path])),
+        *(("stdout", words, 0) for words in (["verify", path, os.devnull], ["check", path, os.devnull], ["ask", path])),
+        *(("stderr", words, 3) for words in (["run", absent], ["run", "--hints", path])),
+        *(("stderr", words, 2) for words in (["walk"], ["--fast"], [path], ["sweep", path, "1"])),
+        *(("stderr", words, 0) for words in (["--help"], ["--version"])),
+    ]
+    passed = True
+    for device, words, status in cases:
+        reading, writing = os.pipe()
+        os.close(reading)
+        how = {"stdout": subprocess.PIPE, "stderr": subprocess.PIPE, device: writing}
+        ran = subprocess.run([program, *words], stdin=subprocess.DEVNULL, timeout=60, check=False, **how)
+        os.close(writing)
+        if ran.returncode != status or (device == "stdout" and ran.stderr):
+            print(f"FAILED {device} that no one reads, {words}: status {ran.returncode}, {ran.stderr!r}")
             passed = False
     return passed
 
@@ -1066,7 +1174,7 @@ def main():
         sys.exit(__doc__)
     program = os.path.abspath(sys.argv[1])
     with tempfile.TemporaryDirectory() as folder:
-        passed = [check(program, *case) for case in cases(folder) + word_cases(folder) + alone_cases(folder) + asked_cases(folder) + flag_cases(folder)]
+        passed = [check(program, *case) for case in cases(folder) + word_cases(folder) + alone_cases(folder) + meant_cases() + asked_cases(folder) + flag_cases(folder)]
         passed += [
             check_full(program, [], b"showtree 0\n"),
             check_full(program, ["check", "-", os.devnull], b"showtree 0\n"),
@@ -1092,6 +1200,8 @@ def main():
             check_left(program, folder),
             check_denied(program, folder),
             check_dashes(program, folder),
+            check_called(program, folder),
+            check_unread(program, folder),
         ]
         passed += [check_closed(program, folder, *case) for case in closed_cases() + failing_hints()]
         passed += hint_runs.checks(program, folder)
@@ -1101,6 +1211,7 @@ def main():
         passed += steps_runs.checks(program, folder)
         passed += advise_runs.checks(program, folder)
         passed += large_runs.checks(program, folder)
+        passed += size_runs.checks(program, folder)
     print(f"{sum(passed)} passed, {len(passed) - sum(passed)} failed")
     sys.exit(0 if all(passed) else 1)
 

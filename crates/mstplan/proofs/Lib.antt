@@ -10,3 +10,4 @@ pub mod Hinted
 pub mod Shown
 pub mod Parting
 pub mod Moved
+pub mod Meanings

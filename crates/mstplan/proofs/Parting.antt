@@ -68,9 +68,9 @@ take_all words i = sym (map-append string_bytes (take i words) (drop i words)) �
 
 -- ---- the words as they change
 
--- where all before this place were looked at
+-- where all before this place were looked at, these are to be the words that are left
 abbrev pub LookedAt : List (List ℕ) → List (String Global) → ℕ → Type 0
-LookedAt all words i = without_flags all ≡ texts (take i words) ++ without_flags (texts (drop i words))
+LookedAt all words i = all ≡ texts (take i words) ++ without_flags (texts (drop i words))
 
 pub flag_gone : (all : List (List ℕ)) (words new : List (String Global)) (i : ℕ) (d : String Global) → i < length words → is_dashes (string_bytes (get_or words i d)) ≡ false → is_flag (string_bytes (get_or words i d)) ≡ true
     → new ≡ take i words ++ drop (i + 1) words → LookedAt all words i → LookedAt all new i
@@ -89,12 +89,12 @@ word_kept all words i d h dashes is was =
     ∙ sym (append_assoc (texts (take i words)) (string_bytes (get_or words i d) ∷ []) rest)
     ∙ ap (λ l. l ++ rest) (sym (map-append string_bytes (take i words) (get_or words i d ∷ [])) ∙ ap texts (sym one))
 
-pub all_looked_at : (all : List (List ℕ)) (words : List (String Global)) (i : ℕ) → length words ≤ i → LookedAt all words i → texts words ≡ without_flags all
+pub all_looked_at : (all : List (List ℕ)) (words : List (String Global)) (i : ℕ) → length words ≤ i → LookedAt all words i → texts words ≡ all
 all_looked_at all words i h was =
     let none : drop i words ≡ [] = drop_of_length-le words h in
     sym (was ∙ ap (λ l. texts (take i words) ++ without_flags (texts l)) none ∙ ap (λ l. texts (take i words) ++ texts l) (sym none) ∙ take_all words i)
 
-pub looked_at_dashes : (all : List (List ℕ)) (words : List (String Global)) (i : ℕ) (d : String Global) → i < length words → is_dashes (string_bytes (get_or words i d)) ≡ true → LookedAt all words i → texts words ≡ without_flags all
+pub looked_at_dashes : (all : List (List ℕ)) (words : List (String Global)) (i : ℕ) (d : String Global) → i < length words → is_dashes (string_bytes (get_or words i d)) ≡ true → LookedAt all words i → texts words ≡ all
 looked_at_dashes all words i d h dashes was = sym (was ∙ ap (λ l. texts (take i words) ++ l) (stays_behind words i d h dashes) ∙ take_all words i)
 
 -- one word less

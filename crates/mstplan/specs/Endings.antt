@@ -8,6 +8,8 @@ use Rattle.mstplan.specs.Buffered.{is_broken}
 use Rattle.mstplan.specs.Said.{shown}
 use Rattle.mstplan.specs.declared.endings.Stop.{Stop}
 use Rattle.mstplan.specs.declared.endings.Stop.TheVariants.{Told, NoWord, Unopened, Fault}
+use Rattle.mstplan.specs.declared.strays.Meant.{Meant}
+use Rattle.mstplan.specs.declared.strays.Meant.TheVariants.{File, Json, Hints, Help, Version, Flag}
 use Rattle.mstplan.specs.declared.sources.Unopened.{Unopened as Why}
 use Rattle.mstplan.specs.declared.sources.Unopened.TheVariants.{Missing, Denied, Folder, Other}
 
@@ -57,10 +59,19 @@ behind_name Denied = codes ": permission denied"
 behind_name Folder = codes " is a folder"
 behind_name Other = []
 
+-- what stands behind a word that the program hasn't: what it was meant for
+abbrev pub behind_word : List ℕ → Meant → List ℕ
+behind_word word File = codes "; mstplan run " ++ (shown word ++ codes "?\n")
+behind_word word Json = codes "; --json?\n"
+behind_word word Hints = codes "; --hints?\n"
+behind_word word Help = codes "; mstplan --help?\n"
+behind_word word Version = codes "; mstplan --version?\n"
+behind_word word Flag = codes "; flags are --json and --hints, what a command takes stands without --\n"
+
 -- what standard error gets. The words of the program were told before
 abbrev pub line_of : Stop → List ℕ
 line_of (Told status) = []
-line_of (NoWord word) = codes "error: no such word " ++ (shown word.now ++ (codes "; mstplan run " ++ (shown word.now ++ codes "?\n")))
+line_of (NoWord word meant) = codes "error: no such word " ++ (shown word.now ++ behind_word word.now meant)
 line_of (Unopened name why) = before_name why ++ (shown name.now ++ (behind_name why ++ codes "\n"))
 line_of (Fault fault) = message_of fault ++ codes "\n"
 
@@ -72,6 +83,6 @@ said_of (Some stop) = line_of stop
 -- 2 for a file without a command, and 3 where a file can't be opened, a device failed or memory was wanted
 abbrev pub status_of_stop : Stop → ℕ
 status_of_stop (Told status) = status
-status_of_stop (NoWord word) = 2
+status_of_stop (NoWord word meant) = 2
 status_of_stop (Unopened name why) = 3
 status_of_stop (Fault fault) = 3

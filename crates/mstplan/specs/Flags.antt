@@ -27,6 +27,11 @@ abbrev pub without_flags : List (List ℕ) → List (List ℕ)
 without_flags [] = []
 without_flags (word ∷ words) = if is_dashes word then word ∷ words else if is_flag word then without_flags words else word ∷ without_flags words
 
+-- the same of all words, of which the first is the program's name, and no flag whatever it is
+abbrev pub without_flags_behind : List (List ℕ) → List (List ℕ)
+without_flags_behind [] = []
+without_flags_behind (name ∷ words) = name ∷ without_flags words
+
 -- what is printed by these flags
 abbrev pub form_of : Flags → Form
 form_of flags = if flags.json then Json else Text

@@ -1,5 +1,6 @@
 pub mod Endings
 pub mod Said
+pub mod Strays
 pub mod Words
 pub mod Flags
 pub mod Inputs

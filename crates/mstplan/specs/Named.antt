@@ -16,7 +16,7 @@ pub record IsNamed (IsGiven : Option (List ℕ) → Type 0) (IsFile : List ℕ �
 -- why the input of this name isn't read: its file, and no other, couldn't be opened for the reason that is told, or there is no memory
 abbrev pub IsWhyNot : (List ℕ → Why → Type 0) → Bor (List ℕ) → Stop → Type 0
 IsWhyNot IsUnopened name (Told status) = ⊥
-IsWhyNot IsUnopened name (NoWord word) = ⊥
+IsWhyNot IsUnopened name (NoWord word meant) = ⊥
 IsWhyNot IsUnopened name (Unopened file why) = (file ≡ name) × (name.now ≢ codes "-") × IsUnopened name.now why
 IsWhyNot IsUnopened name (Fault fault) = fault ≡ Memory
 

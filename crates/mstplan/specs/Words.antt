@@ -8,6 +8,9 @@ use Rattle.mst_io.specs.declared.outcome.RunFault.TheVariants.{Memory, Write}
 use Rattle.mst_tool.specs.Ask.{advice_question, dot_question, sweep_question}
 use Rattle.mstplan.specs.declared.endings.Stop.{Stop}
 use Rattle.mstplan.specs.declared.endings.Stop.TheVariants.{Told, NoWord, Unopened, Fault}
+use Rattle.mstplan.specs.Strays.{IsStray}
+use Rattle.mstplan.specs.declared.strays.Meant.{Meant}
+use Rattle.mstplan.specs.declared.strays.Meant.TheVariants.{File}
 use Rattle.mstplan.specs.declared.words.Asked.{Asked}
 use Rattle.mstplan.specs.declared.words.GoalWords.{GoalWords}
 use Rattle.mstplan.specs.declared.words.PortWords.{PortWords}
@@ -207,10 +210,14 @@ pub record IsFileAlone (IsThere : List ℕ → Type 0) (words : List (List ℕ))
   pub alone : words ≡ word ∷ []
   pub meant : (list_any is_of_path word ≡ true) ⊎ IsThere word
 
--- words that ask for nothing are told with status 2, or as a file that has no command
+-- this word was meant for that, which there is no word for: for a file, where it stands alone, or for another word
+abbrev pub IsMeant : (List ℕ → Type 0) → List (List ℕ) → List ℕ → Meant → Type 0
+IsMeant IsThere words word meant = ((meant ≡ File) × IsFileAlone IsThere words word) ⊎ IsStray words word meant
+
+-- words that ask for nothing are told with status 2, or by one of them and what it was meant for
 abbrev pub IsWrong : (List ℕ → Type 0) → List (List ℕ) → Stop → Type 0
 IsWrong IsThere words (Told status) = status ≡ 2
-IsWrong IsThere words (NoWord word) = IsFileAlone IsThere words word.now
+IsWrong IsThere words (NoWord word meant) = IsMeant IsThere words word.now meant
 IsWrong IsThere words (Unopened file why) = ⊥
 IsWrong IsThere words (Fault fault) = ⊥
 

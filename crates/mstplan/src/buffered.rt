@@ -81,6 +81,7 @@ fn run_hinting<S: Source, W: Write + Drop, K: Sink>(
     requires empty { writer_buffer buffered.old ≡ [] }
     ensures ends { Ends form (S.remaining source.old) (S.remaining source.new) (W.contents (writer_inner buffered.old)) (W.contents (writer_inner buffered.new)) result.0 }
     ensures hints { IsHinted hints true result.0 Script.Run (S.remaining source.old) (S.remaining source.new) (seen_by K.told K.contents K.lent errors.old) (seen_by K.told K.contents K.lent errors.new) result.1 }
+    ensures source { ReadBy result.0 (S.told source.old) (S.told source.new) }
 {
     let mut telling = Telling::new(alloc, hints, Script::Run);
     let mut hinting = Hinting::new(source, errors, &mut telling);
@@ -88,9 +89,9 @@ fn run_hinting<S: Source, W: Write + Drop, K: Sink>(
     (ended, hinting.close())
 }
 
-/// Runs a script, and writes what it prints in large parts, with its hints, where they are wanted. `None`: there was no memory for
-/// the buffer, and no device was called.
-pub(crate) fn run_buffered<R: Read + Drop, W: Write + Drop, K: Sink>(
+/// Runs the script that a reader gives, and writes what it prints in large parts, with its hints, where they are wanted. `None`: there was
+/// no memory for the buffer, and no device was called.
+pub(crate) fn run_reader<R: Read + Drop, W: Write + Drop, K: Sink>(
     alloc: Global,
     form: Form,
     hints: bool,
@@ -101,18 +102,29 @@ pub(crate) fn run_buffered<R: Read + Drop, W: Write + Drop, K: Sink>(
     ensures ran { IfSome result (λ ran. EndsHinted form hints (R.remaining reader) (outputs W.contents (seen_by K.told K.contents K.lent) writer errors.old) (outputs W.contents (seen_by K.told K.contents K.lent) ran.writer errors.new) ran.ended ran.hints) }
     ensures starved { IfNone result (errors.new ≡ errors.old) }
 {
+    let mut source = FromRead::new(&mut reader);
+    run_buffered(alloc, form, hints, &mut source, writer, errors)
+}
+
+/// Runs the script that a source gives, in the same way, and tells how the source stands: a read fault is told just where it has failed,
+/// or has given no end in so many calls.
+fn run_buffered<S: Source, W: Write + Drop, K: Sink>(
+    alloc: Global,
+    form: Form,
+    hints: bool,
+    source: &mut S,
+    writer: W,
+    errors: &mut K,
+) -> Option<Ran<W>>
+    requires working { (S.told source.old).failed ≡ false }
+    ensures ran { IfSome result (λ ran. EndsHinted form hints (S.remaining source.old) (outputs W.contents (seen_by K.told K.contents K.lent) writer errors.old) (outputs W.contents (seen_by K.told K.contents K.lent) ran.writer errors.new) ran.ended ran.hints) }
+    ensures source { IfSome result (λ ran. ReadBy ran.ended (S.told source.old) (S.told source.new)) }
+    ensures starved { IfNone result (errors.new ≡ errors.old) }
+{
     match BufWriter::new(alloc, writer) {
         Err(_) => None,
         Ok(mut buffered) => {
-            let mut source = FromRead::new(&mut reader);
-            let (ended, hints) = run_hinting(
-                alloc,
-                form,
-                hints,
-                &mut source,
-                &mut buffered,
-                errors,
-            );
+            let (ended, hints) = run_hinting(alloc, form, hints, source, &mut buffered, errors);
             let (writer, _) = buffered.into_parts();
             Some(Ran {
                 ended,
@@ -193,6 +205,7 @@ fn ask_hinting<S: Source, W: Write + Drop, K: Sink>(
     requires empty { writer_buffer buffered.old ≡ [] }
     ensures ends { EndsAsk form question.now (S.remaining source.old) (S.remaining source.new) (W.contents (writer_inner buffered.old)) (W.contents (writer_inner buffered.new)) result.0 }
     ensures hints { IsHinted hints true result.0 Script.Loaded (S.remaining source.old) (S.remaining source.new) (seen_by K.told K.contents K.lent errors.old) (seen_by K.told K.contents K.lent errors.new) result.1 }
+    ensures source { AskedBy result.0 (S.told source.old) (S.told source.new) }
 {
     let mut telling = Telling::new(alloc, hints, Script::Loaded);
     let mut hinting = Hinting::new(source, errors, &mut telling);
@@ -200,9 +213,9 @@ fn ask_hinting<S: Source, W: Write + Drop, K: Sink>(
     (ended, hinting.close())
 }
 
-/// Asks a script's network, and writes what that prints in large parts, with the script's hints, where they are wanted. `None`:
-/// there was no memory for the buffer, and no device was called.
-pub(crate) fn ask_buffered<R: Read + Drop, W: Write + Drop, K: Sink>(
+/// Asks the network of the script that a reader gives, and writes what that prints in large parts, with the script's hints, where they are
+/// wanted. `None`: there was no memory for the buffer, and no device was called.
+pub(crate) fn ask_reader<R: Read + Drop, W: Write + Drop, K: Sink>(
     alloc: Global,
     form: Form,
     hints: bool,
@@ -214,16 +227,34 @@ pub(crate) fn ask_buffered<R: Read + Drop, W: Write + Drop, K: Sink>(
     ensures ran { IfSome result (λ ran. EndsAskHinted form hints question.now (R.remaining reader) (outputs W.contents (seen_by K.told K.contents K.lent) writer errors.old) (outputs W.contents (seen_by K.told K.contents K.lent) ran.writer errors.new) ran.ended ran.hints) }
     ensures starved { IfNone result (errors.new ≡ errors.old) }
 {
+    let mut source = FromRead::new(&mut reader);
+    ask_buffered(alloc, form, hints, question, &mut source, writer, errors)
+}
+
+/// Asks the network of the script that a source gives, in the same way, and tells how the source stands, as a run does.
+fn ask_buffered<S: Source, W: Write + Drop, K: Sink>(
+    alloc: Global,
+    form: Form,
+    hints: bool,
+    question: &Question,
+    source: &mut S,
+    writer: W,
+    errors: &mut K,
+) -> Option<Ran<W>>
+    requires working { (S.told source.old).failed ≡ false }
+    ensures ran { IfSome result (λ ran. EndsAskHinted form hints question.now (S.remaining source.old) (outputs W.contents (seen_by K.told K.contents K.lent) writer errors.old) (outputs W.contents (seen_by K.told K.contents K.lent) ran.writer errors.new) ran.ended ran.hints) }
+    ensures source { IfSome result (λ ran. AskedBy ran.ended (S.told source.old) (S.told source.new)) }
+    ensures starved { IfNone result (errors.new ≡ errors.old) }
+{
     match BufWriter::new(alloc, writer) {
         Err(_) => None,
         Ok(mut buffered) => {
-            let mut source = FromRead::new(&mut reader);
             let (ended, hints) = ask_hinting(
                 alloc,
                 form,
                 hints,
                 question,
-                &mut source,
+                source,
                 &mut buffered,
                 errors,
             );

@@ -1,12 +1,13 @@
-ghost use Rattle.std.specs.Prelude.{◌≡◌, option_map};
+ghost use Rattle.std.specs.Prelude.{◌≡◌, ◌++◌, option_map};
 ghost use Rattle.mst_io.specs.Devices.{seen_by};
-ghost use Rattle.mstplan.specs.Endings.{before_name as before_file, behind_name as behind_file, is_left as left_alone, line_of, message_of, said_of, status_after, status_of_stop, status_with, told_fault, told_of, told_of_hints};
-ghost use Rattle.mstplan.specs.Said.{IsSaid};
+ghost use Rattle.mstplan.specs.Endings.{before_name as before_file, behind_name as behind_file, behind_word as behind_stray, is_left as left_alone, line_of, message_of, said_of, status_after, status_of_stop, status_with, told_fault, told_of, told_of_hints};
+ghost use Rattle.mstplan.specs.Said.{IsSaid, shown};
 
 use crate::buffered::{Ran, is_write_fault};
 use crate::piped::Piped;
 use crate::said::{Part, say};
 use crate::sources::Unopened;
+use crate::strays::Meant;
 use mst_tool::{Outcome, RunFault, Sink, status};
 
 /// Why a script isn't run, or not to its end, or not in full.
@@ -14,8 +15,8 @@ use mst_tool::{Outcome, RunFault, Sink, status};
 pub(crate) enum Stop<'a> {
     /// The words ask for help or are at fault. That was told, and this is the exit status.
     Told(u8),
-    /// This word stands in the place of a command, and may be meant for a file.
-    NoWord(&'a str),
+    /// This word stands where the program has no such word, and was meant for that.
+    NoWord(&'a str, Meant),
     /// The file of this name can't be opened, for this reason.
     Unopened(&'a str, Unopened),
     /// A fault of a device, or want of memory.
@@ -70,7 +71,7 @@ pub(crate) fn status_of_stop(stop: Stop<'_>) -> u8
 {
     match stop {
         Stop::Told(status) => status,
-        Stop::NoWord(_) => 2,
+        Stop::NoWord(_, _) => 2,
         Stop::Unopened(_, _) | Stop::Fault(_) => 3,
     }
 }
@@ -140,7 +141,7 @@ pub(crate) fn tell_stop<K: Sink>(errors: &mut K, stop: Stop<'_>)
 {
     match stop {
         Stop::Told(_) => say(errors, &[]),
-        Stop::NoWord(word) => tell_word(errors, word),
+        Stop::NoWord(word, meant) => tell_word(errors, word, meant),
         Stop::Unopened(name, why) => tell_unopened(errors, name, why),
         Stop::Fault(fault) => {
             say(
@@ -151,20 +152,39 @@ pub(crate) fn tell_stop<K: Sink>(errors: &mut K, stop: Stop<'_>)
     }
 }
 
-/// Tells of a word that stands in the place of a command, and how a script of this name is run.
-fn tell_word<K: Sink>(errors: &mut K, word: &str)
-    ensures { IsSaid (seen_by K.told K.contents K.lent errors.old) (seen_by K.told K.contents K.lent errors.new) (line_of (Stop.NoWord word.entry)) }
+/// Tells of a word that the program hasn't, and what it was meant for.
+fn tell_word<K: Sink>(errors: &mut K, word: &str, meant: Meant)
+    ensures { IsSaid (seen_by K.told K.contents K.lent errors.old) (seen_by K.told K.contents K.lent errors.new) (line_of (Stop.NoWord word.entry meant)) }
 {
+    let (before, name, behind) = behind_word(word, meant);
     say(
         errors,
         &[
             Part::Text(b"error: no such word "),
             Part::Name(word),
-            Part::Text(b"; mstplan run "),
-            Part::Name(word),
-            Part::Text(b"?\n"),
+            Part::Text(before.as_bytes()),
+            Part::Name(name),
+            Part::Text(behind.as_bytes()),
         ],
     );
+}
+
+/// What stands behind such a word: a text, the word again, if it was meant for a file, and the rest.
+fn behind_word<'a>(word: &'a str, meant: Meant) -> (&'static str, &'a str, &'static str)
+    ensures { result.0.now ++ (shown result.1.now ++ result.2.now) ≡ behind_stray word.entry.now meant }
+{
+    match meant {
+        Meant::File => ("; mstplan run ", word, "?\n"),
+        Meant::Json => ("; --json?\n", "", ""),
+        Meant::Hints => ("; --hints?\n", "", ""),
+        Meant::Help => ("; mstplan --help?\n", "", ""),
+        Meant::Version => ("; mstplan --version?\n", "", ""),
+        Meant::Flag => (
+            "; flags are --json and --hints, what a command takes stands without --\n",
+            "",
+            "",
+        ),
+    }
 }
 
 /// Tells why the file of a name can't be opened.

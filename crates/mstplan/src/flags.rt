@@ -1,6 +1,6 @@
 ghost use Rattle.std.specs.Prelude.{◌≡◌, map, string_bytes};
-ghost use Rattle.mstplan.specs.Flags.{flags_in, form_of, has_flag as stands_among, has_json as told_in_json, is_flag as flag_word, no_flags, takes as takes_flags, without_flags};
-ghost use Rattle.mstplan.specs.Words.{is_dashes as dashes, words_of};
+ghost use Rattle.mstplan.specs.Flags.{flags_in, form_of, has_flag as stands_among, has_json as told_in_json, is_flag as flag_word, no_flags, takes as takes_flags, without_flags_behind};
+ghost use Rattle.mstplan.specs.Words.{behind_name, is_dashes as dashes, words_of};
 
 use crate::words::Asked;
 use mst_tool::Form;
@@ -12,7 +12,7 @@ const JSON: &str = "--json";
 const HINTS: &str = "--hints";
 
 /// The word behind which no word is a flag, and none is read as an option.
-const DASHES: &str = "--";
+pub(crate) const DASHES: &str = "--";
 
 /// The flags among the program's words.
 #[derive(Clone, Copy)]
@@ -59,11 +59,11 @@ fn has_flag(words: &[String], flag: &str) -> bool
     false
 }
 
-/// Takes the flags out of the words.
+/// Takes the flags out of the words behind the first, which is the program's name.
 fn take_flags(words: &mut Vec<String>)
-    ensures { map string_bytes words.new.items ≡ without_flags (map string_bytes words.old.items) }
+    ensures { map string_bytes words.new.items ≡ without_flags_behind (map string_bytes words.old.items) }
 {
-    let mut place = 0;
+    let mut place = 1;
     while place < words.len() {
         let word = &words[place];
         if is_dashes(word) {
@@ -98,6 +98,16 @@ impl Flags {
         }
     }
 
+    /// The flags among the words behind the first, which is the program's name.
+    fn behind(words: &[String]) -> Flags
+        ensures { result ≡ flags_in (behind_name words.now) }
+    {
+        match words {
+            [] => Flags::none(),
+            [_, behind @ ..] => Flags::among(behind),
+        }
+    }
+
     /// What is printed by them.
     pub(crate) fn form(self) -> Form
         ensures { result ≡ form_of self }
@@ -124,12 +134,12 @@ fn has_json(asked: &Asked<'_>) -> bool
 }
 
 impl Parted {
-    /// Takes the flags out of the words.
+    /// Takes the flags out of the words behind the program's name.
     pub(crate) fn of(mut words: Vec<String>) -> Parted
-        ensures flags { result.flags ≡ flags_in (map string_bytes words.items) }
-        ensures words { map string_bytes result.words.items ≡ without_flags (map string_bytes words.items) }
+        ensures flags { result.flags ≡ flags_in (behind_name words.items) }
+        ensures words { map string_bytes result.words.items ≡ without_flags_behind (map string_bytes words.items) }
     {
-        let flags = Flags::among(words.as_slice());
+        let flags = Flags::behind(words.as_slice());
         take_flags(&mut words);
         Parted { flags, words }
     }

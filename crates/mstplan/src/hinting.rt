@@ -166,7 +166,7 @@ fn compare_hinting<F: Source, S: Source, T: Source, W: Write + Drop, K: Sink, A:
 /// Tells what is asked of what three readers give, and writes that in large parts. The hints of the first, where they are asked for, are
 /// told as it goes, and those of the second and of the third behind them at the end. `None`: there was no memory for the buffer, and no
 /// device was called.
-pub(crate) fn compare_buffered<
+pub(crate) fn compare_readers<
     F: Read + Drop,
     S: Read + Drop,
     T: Read + Drop,
@@ -185,21 +185,49 @@ pub(crate) fn compare_buffered<
     ensures ran { IfSome result (λ ran. EndsComparisonHinted comparison hints (inputs (F.remaining first) (S.remaining second) (T.remaining third)) (outputs W.contents (seen_by K.told K.contents K.lent) writer errors.old) (outputs W.contents (seen_by K.told K.contents K.lent) ran.writer errors.new) ran.ended ran.hints) }
     ensures starved { IfNone result (errors.new ≡ errors.old) }
 {
+    compare_buffered(
+        alloc,
+        comparison,
+        hints,
+        &mut FromRead::new(&mut first),
+        &mut FromRead::new(&mut second),
+        &mut FromRead::new(&mut third),
+        writer,
+        errors,
+    )
+}
+
+/// Tells what is asked of what three sources give, in the same way, and how they stand: a read fault is told just where one of them has
+/// failed, or has given no end in so many calls.
+fn compare_buffered<F: Source, S: Source, T: Source, W: Write + Drop, K: Sink>(
+    alloc: Global,
+    comparison: Comparison,
+    hints: bool,
+    first: &mut F,
+    second: &mut S,
+    third: &mut T,
+    writer: W,
+    errors: &mut K,
+) -> Option<Ran<W>>
+    requires first { (F.told first.old).failed ≡ false }
+    requires second { (S.told second.old).failed ≡ false }
+    requires third { (T.told third.old).failed ≡ false }
+    ensures ran { IfSome result (λ ran. EndsComparisonHinted comparison hints (inputs (F.remaining first.old) (S.remaining second.old) (T.remaining third.old)) (outputs W.contents (seen_by K.told K.contents K.lent) writer errors.old) (outputs W.contents (seen_by K.told K.contents K.lent) ran.writer errors.new) ran.ended ran.hints) }
+    ensures sources { IfSome result (λ ran. ComparedAllBy comparison ran.ended (F.told first.old) (F.told first.new) (S.told second.old) (S.told second.new) (T.told third.old) (T.told third.new)) }
+    ensures starved { IfNone result (errors.new ≡ errors.old) }
+{
     match BufWriter::new(alloc, writer) {
         Err(_) => None,
         Ok(mut buffered) => {
-            let mut source = FromRead::new(&mut first);
-            let mut other = FromRead::new(&mut second);
-            let mut last = FromRead::new(&mut third);
             let mut kept = Vec::new(alloc);
             let mut kept_last = Vec::new(alloc);
             let told = compare_hinting(
                 alloc,
                 comparison,
                 hints,
-                &mut source,
-                &mut other,
-                &mut last,
+                first,
+                second,
+                third,
                 &mut buffered,
                 errors,
                 &mut ToWrite::new(&mut kept),

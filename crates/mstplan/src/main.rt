@@ -19,6 +19,7 @@ mod piped;
 mod program;
 mod said;
 mod sources;
+mod strays;
 mod words;
 
 use closed::StandIns;

@@ -6,11 +6,11 @@ ghost use Rattle.mstplan.specs.Flags.{form_of};
 ghost use Rattle.mstplan.specs.Inputs.{Inputs};
 ghost use Rattle.mstplan.specs.Named.{IsNamed, AreNamed, IsWhyNot, IsWhyNone};
 
-use crate::buffered::{Ran, ask_buffered, run_buffered};
+use crate::buffered::{Ran, ask_reader, run_reader};
 use crate::compared::Comparison;
 use crate::endings::Stop;
 use crate::flags::Flags;
-use crate::hinting::compare_buffered;
+use crate::hinting::compare_readers;
 use crate::inputs::{is_standard, open_input, open_named};
 use crate::sources::Sources;
 use mst_tool::{Question, RunFault, Sink};
@@ -33,10 +33,10 @@ pub(crate) fn run_named<'a, S: Sources, W: Write + Drop, K: Sink>(
 {
     let form = flags.form();
     let ran = if name == "-" {
-        run_buffered(alloc, form, flags.hints, sources.given(), writer, errors)
+        run_reader(alloc, form, flags.hints, sources.given(), writer, errors)
     } else {
         match sources.open(name) {
-            Ok(file) => run_buffered(alloc, form, flags.hints, file, writer, errors),
+            Ok(file) => run_reader(alloc, form, flags.hints, file, writer, errors),
             Err(why) => return Err(Stop::Unopened(name, why)),
         }
     };
@@ -63,7 +63,7 @@ pub(crate) fn ask_named<'a, S: Sources, W: Write + Drop, K: Sink>(
 {
     let form = flags.form();
     let ran = if name == "-" {
-        ask_buffered(
+        ask_reader(
             alloc,
             form,
             flags.hints,
@@ -74,7 +74,7 @@ pub(crate) fn ask_named<'a, S: Sources, W: Write + Drop, K: Sink>(
         )
     } else {
         match sources.open(name) {
-            Ok(file) => ask_buffered(alloc, form, flags.hints, question, file, writer, errors),
+            Ok(file) => ask_reader(alloc, form, flags.hints, question, file, writer, errors),
             Err(why) => return Err(Stop::Unopened(name, why)),
         }
     };
@@ -115,7 +115,7 @@ pub(crate) fn compare_named<'a, S: Sources, W: Write + Drop, K: Sink>(
         Ok(behind) => behind,
         Err(stop) => return Err(stop),
     };
-    match compare_buffered(
+    match compare_readers(
         alloc, comparison, hints, first, second, behind, writer, errors,
     ) {
         Some(ran) => Ok(ran),

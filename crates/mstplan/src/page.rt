@@ -1,5 +1,5 @@
 /// The number of this release, which `--version` prints behind the program's name.
-pub(crate) const VERSION: &str = "0.54.0";
+pub(crate) const VERSION: &str = "0.55.0";
 
 /// What stands at the end of the program's help: the commands of scripts, the exit statuses, and where all of it is said.
 pub(crate) const PAGE: &str = "\
@@ -73,7 +73,8 @@ Flags, anywhere among the words before --, behind which no word is a flag:
 Exit statuses:
   0  nothing of the below
   1  a line or a capture was refused, a capture differs from the plan, a port isn't explained, two networks differ, a failure, a
-     pair of failures or a step of a change cuts a VLAN, a promise of a policy isn't kept, or nothing is advised
+     pair of failures or a step of a change cuts a VLAN, a promise of a policy isn't kept, or nothing is promised, captured or
+     advised
   2  the program's words are wrong
   3  a file couldn't be opened, a read or a write failed, or memory was wanted and refused
 

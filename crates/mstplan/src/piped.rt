@@ -1,4 +1,6 @@
 ghost use Rattle.std.specs.Prelude.{◌≡◌, ◌||◌, false};
+ghost use Rattle.std.specs.Io.{WritesAtMost};
+ghost use Rattle.std.specs.Io.KnownBytes.{Keeps, WriteAppends};
 ghost use Rattle.mstplan.specs.Piped.{closes as closes_pipe};
 
 use std::io::{ErrorKind, Result, Write};
@@ -34,13 +36,20 @@ impl<W: Drop> Piped<W> {
 impl<W: Write + Drop> Write for Piped<W> {
     ghost contents = { λ p. W.contents p.writer };
 
-    fn write(&mut self, buf: &[u8]) -> Result<usize> {
+    fn write(&mut self, buf: &[u8]) -> Result<usize>
+        ensures bound { WritesAtMost result buf.now }
+        ensures bytes { WriteAppends (W.contents self.old.writer) (W.contents self.new.writer) result buf.now }
+        ensures closed { self.new.is_closed ≡ (self.old.is_closed || closes_pipe result) }
+    {
         let answer = self.writer.write(buf);
         self.note(&answer);
         answer
     }
 
-    fn flush(&mut self) -> Result<()> {
+    fn flush(&mut self) -> Result<()>
+        ensures bytes { Keeps (W.contents self.old.writer) (W.contents self.new.writer) }
+        ensures closed { self.new.is_closed ≡ (self.old.is_closed || closes_pipe result) }
+    {
         let answer = self.writer.flush();
         self.note(&answer);
         answer

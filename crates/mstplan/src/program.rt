@@ -1,8 +1,9 @@
 ghost use Rattle.std.specs.Prelude.{◌≡◌, map, Err, IfOk, IfErr, OnErr, option_map, string_bytes};
 ghost use Rattle.mst_io.specs.Devices.{seen_by};
 ghost use Rattle.mstplan.specs.Buffered.{outputs};
-ghost use Rattle.mstplan.specs.Flags.{flags_in, no_flags, without_flags};
+ghost use Rattle.mstplan.specs.Flags.{flags_in, no_flags, without_flags_behind};
 ghost use Rattle.mstplan.specs.Program.{Serves, ServesWords, drawn_question, goal_question, part_question, port_question, IsWhyUnserved, IsWhyUnasked, IsCarriedOut, IsProgram, output_of};
+ghost use Rattle.mstplan.specs.Words.{behind_name};
 
 use crate::buffered::Ran;
 use crate::compared::Comparison;
@@ -209,7 +210,7 @@ pub(crate) fn run_program<R: Print + Eprint + AllocGlobal, S: Sources, W: Write 
     output: W,
     errors: &mut K,
 ) -> Ended<W>
-    ensures words { IfOk given.entry (λ words. IsProgram (S.is_given sources.now) (S.is_file sources.now) (S.is_unopened sources.now) (S.is_there sources.now) (flags_in (map string_bytes words.items)) (without_flags (map string_bytes words.items)) is_terminal
+    ensures words { IfOk given.entry (λ words. IsProgram (S.is_given sources.now) (S.is_file sources.now) (S.is_unopened sources.now) (S.is_there sources.now) (flags_in (behind_name words.items)) (without_flags_behind (map string_bytes words.items)) is_terminal
         (W.contents output) (option_map (output_of W.contents) result.output) (seen_by K.told K.contents K.lent errors.old) (seen_by K.told K.contents K.lent errors.new) result.status) }
     ensures wordless { IfErr given.entry (λ stop. IsCarriedOut (S.is_given sources.now) (S.is_file sources.now) (S.is_unopened sources.now) no_flags (Err stop)
         (W.contents output) (option_map (output_of W.contents) result.output) (seen_by K.told K.contents K.lent errors.old) (seen_by K.told K.contents K.lent errors.new) result.status) }

@@ -1,6 +1,6 @@
-use crate::buffered::{ask_buffered, run_buffered};
+use crate::buffered::{ask_reader, run_reader};
 use crate::compared::Comparison;
-use crate::hinting::compare_buffered;
+use crate::hinting::compare_readers;
 use crate::piped::Piped;
 use crate::said::{Part, say};
 use mst_tool::{Between, Form, Outcome, Question, RunFault, ToWrite};
@@ -59,7 +59,7 @@ impl Read for Cut {
 #[test]
 fn what_was_served_before_a_read_fault_is_written(rt: HostRuntime) -> Result<()> {
     let mut told = Vec::new(rt.alloc());
-    let Some(ran) = run_buffered(
+    let Some(ran) = run_reader(
         rt.alloc(),
         Form::Text,
         true,
@@ -87,7 +87,7 @@ fn hints_that_fail_leave_the_run(rt: HostRuntime) -> Result<()> {
         called_again: 0,
         kind: ErrorKind::Other,
     };
-    let Some(ran) = run_buffered(
+    let Some(ran) = run_reader(
         rt.alloc(),
         Form::Text,
         true,
@@ -118,7 +118,7 @@ fn a_reader_that_goes_is_noted(rt: HostRuntime) -> Result<()> {
         called_again: 0,
         kind: ErrorKind::BrokenPipe,
     });
-    let Some(ran) = run_buffered(
+    let Some(ran) = run_reader(
         rt.alloc(),
         Form::Text,
         false,
@@ -163,7 +163,7 @@ fn no_device_is_called_after_a_write_fault(rt: HostRuntime) -> Result<()> {
         kind: ErrorKind::Other,
     };
     let mut told = Vec::new(rt.alloc());
-    let Some(ran) = run_buffered(
+    let Some(ran) = run_reader(
         rt.alloc(),
         Form::Text,
         false,
@@ -183,7 +183,7 @@ fn no_device_is_called_after_a_write_fault(rt: HostRuntime) -> Result<()> {
 fn a_run_to_the_end_is_written(rt: HostRuntime) -> Result<()> {
     let script: &[u8] = b"qqq\nshowtree 0\n";
     let mut told = Vec::new(rt.alloc());
-    let Some(ran) = run_buffered(
+    let Some(ran) = run_reader(
         rt.alloc(),
         Form::Text,
         false,
@@ -211,7 +211,7 @@ fn a_check_to_the_end_is_written(rt: HostRuntime) -> Result<()> {
     let script: &[u8] = b"showtree 0\n";
     let captures: &[u8] = b"# none\n00\n";
     let mut told = Vec::new(rt.alloc());
-    let compared = compare_buffered(
+    let compared = compare_readers(
         rt.alloc(),
         Comparison::Captures(Form::Text),
         false,
@@ -241,7 +241,7 @@ fn an_explanation_to_the_end_is_written(rt: HostRuntime) -> Result<()> {
         b"qqq\naddbridge A 02:00:00:00:00:01\naddport A 1\naddlan x\nplug A 1 x\nshowtree 0\n";
     let question = Question::explain(b"A", b"1", None);
     let mut told = Vec::new(rt.alloc());
-    let Some(ran) = ask_buffered(
+    let Some(ran) = ask_reader(
         rt.alloc(),
         Form::Text,
         false,
@@ -273,7 +273,7 @@ fn how_networks_differ_is_written(rt: HostRuntime) -> Result<()> {
     new.write_all(old)?;
     new.write_all(b"qqq\nsettreeprio B 0 4\n")?;
     let mut told = Vec::new(rt.alloc());
-    let compared = compare_buffered(
+    let compared = compare_readers(
         rt.alloc(),
         Comparison::Networks(Between::Plans, Form::Text),
         true,
@@ -309,7 +309,7 @@ fn questions_of_a_network_are_answered(rt: HostRuntime) -> Result<()> {
     let script: &[u8] = b"qqq\naddbridge A 02:00:00:00:00:01\n";
     let questions: &[u8] = b"showtree 0\nundo\n";
     let mut told = Vec::new(rt.alloc());
-    let answered = compare_buffered(
+    let answered = compare_readers(
         rt.alloc(),
         Comparison::Questions(Form::Text),
         true,
@@ -338,7 +338,7 @@ fn what_a_policy_promises_is_told(rt: HostRuntime) -> Result<()> {
     let script: &[u8] = b"qqq\naddbridge A 02:00:00:00:00:01\naddbridge B 02:00:00:00:00:02\n";
     let policy: &[u8] = b"# of two bridges\nroot 0 C\nreach 10 A,B\napart 10 A B\n";
     let mut told = Vec::new(rt.alloc());
-    let verified = compare_buffered(
+    let verified = compare_readers(
         rt.alloc(),
         Comparison::Policy(Form::Text),
         true,
@@ -372,7 +372,7 @@ fn what_a_policy_promises_is_told(rt: HostRuntime) -> Result<()> {
 fn nothing_is_told_of_a_policy_that_cannot_be_read(rt: HostRuntime) -> Result<()> {
     let script: &[u8] = b"qqq\naddbridge A 02:00:00:00:00:01\n";
     let mut told = Vec::new(rt.alloc());
-    let verified = compare_buffered(
+    let verified = compare_readers(
         rt.alloc(),
         Comparison::Policy(Form::Text),
         true,
@@ -402,7 +402,7 @@ fn the_edits_between_networks_are_told(rt: HostRuntime) -> Result<()> {
     let old: &[u8] = b"addbridge A 02:00:00:00:00:01\naddlan x\n";
     let new: &[u8] = b"qqq\naddbridge A 02:00:00:00:00:01\nsettreeprio A 0 4\n";
     let mut told = Vec::new(rt.alloc());
-    let compared = compare_buffered(
+    let compared = compare_readers(
         rt.alloc(),
         Comparison::Networks(Between::Settings, Form::Text),
         true,
@@ -440,7 +440,7 @@ fn what_the_steps_of_a_change_do_is_told(rt: HostRuntime) -> Result<()> {
     let change: &[u8] = b"# the only LAN\nrrr\nlan x down\n";
     let policy: &[u8] = b"root 0 A\nreach 1-4094 A,B\n";
     let mut told = Vec::new(rt.alloc());
-    let altered = compare_buffered(
+    let altered = compare_readers(
         rt.alloc(),
         Comparison::Steps(true, Form::Text),
         true,

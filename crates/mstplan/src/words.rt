@@ -2,12 +2,13 @@ ghost use Rattle.std.specs.Prelude.{◌≡◌, ◌≢◌, ◌⊎◌, true, false
 ghost use Rattle.std.specs.List.{list_any};
 ghost use Rattle.clap.specs.Words.{app_of, first_of, found_of, kind_of, rows_of, rule_of, subcommand_rows_of, with_subcommand};
 ghost use Rattle.mstplan.specs.Flags.{asked_with};
-ghost use Rattle.mstplan.specs.Words.{words_of, port_word, tree_word, value_of, asked_of, request_of, asked_by, are_plain, are_worded as words_asking, behind_name, without_dashes, is_help, is_version, is_of_path, IsAnswer, IsFileAlone, IsRefusal, IsWrong, wanted_rule, sweep_app, dot_app, ask_app, steps_app, advise_app, two_app, program, no_command as without_command};
+ghost use Rattle.mstplan.specs.Words.{words_of, port_word, tree_word, value_of, asked_of, request_of, asked_by, are_plain, are_worded as words_asking, behind_name, without_dashes, is_help, is_version, is_of_path, IsAnswer, IsFileAlone, IsMeant, IsRefusal, IsWrong, wanted_rule, sweep_app, dot_app, ask_app, steps_app, advise_app, two_app, program, no_command as without_command};
 
 use crate::endings::Stop;
 use crate::flags::Flags;
 use crate::page::{PAGE, VERSION};
 use crate::sources::Sources;
+use crate::strays::{Meant, Stray, stray_among};
 use clap::error::ErrorKind;
 use clap::{Arg, ArgMatches, Command, Error};
 use mst_tool::{Question, RunFault};
@@ -268,8 +269,8 @@ fn tell_words<'a, R: Print + Eprint, S: Sources>(
     match error.kind() {
         ErrorKind::OutOfMemory => Stop::Fault(RunFault::Memory),
         ErrorKind::DisplayHelp | ErrorKind::DisplayVersion => tell_answer(rt, error),
-        _ => match file_alone(sources, words) {
-            Some(word) => Stop::NoWord(word),
+        _ => match wrong_word(sources, words) {
+            Some(stray) => Stop::NoWord(stray.word, stray.meant),
             None => {
                 let _ = error.print(rt);
                 Stop::Told(2)
@@ -286,6 +287,19 @@ fn tell_answer<R: Print + Eprint>(rt: &R, error: &Error) -> Stop<'static>
         Ok(()) => Stop::Told(0),
         Err(error) if error.kind() == io::ErrorKind::BrokenPipe => Stop::Told(0),
         Err(_) => Stop::Fault(RunFault::Write),
+    }
+}
+
+/// A word behind the program's name of which it is known what it was meant for.
+fn wrong_word<'a, S: Sources>(sources: &S, words: &'a [String]) -> Option<Stray<'a>>
+    ensures { IfSome result (λ stray. IsMeant (S.is_there sources.now) (behind_name words.now) stray.word.now stray.meant) }
+{
+    match file_alone(sources, words) {
+        Some(word) => Some(Stray {
+            word,
+            meant: Meant::File,
+        }),
+        None => stray_among(words),
     }
 }
 

@@ -36,3 +36,13 @@ returns-clause-hints g c =
     let by = subst (λ v. AskedBy c.ask_into-ended.result (g.S.Source.told v) (g.S.Source.told left)) c.new-hinting.ensures.source_now c.ask_into-ended.ensures.source in
     closed_alone c.args.hints c.ask_into-ended.result Loaded (see c.args.source.now) (see left) (look c.args.errors.now) (look c.close.new.self.errors.now) c.close.result (by) closed
     )
+
+pub returns-clause-source : goal.returns-clause-source
+returns-clause-source g c =
+    let see = seen_by g.S.Source.told g.S.Source.remaining g.S.Source.lent in
+    let look = seen_by g.K.Sink.told g.K.Sink.contents g.K.Sink.lent in
+    let told = g.S.Source.told in
+    let left = c.ask_into-ended.new.source.source.now in
+    let name = source_name see look c.new-hinting.result c.ask_into-ended.new.source c.ask_into-ended.ensures.heard in
+    subst (λ v. AskedBy c.ask_into-ended.result (told c.args.source.now) (told v)) (search rules)
+    (subst (λ v. AskedBy c.ask_into-ended.result (told v) (told left)) c.new-hinting.ensures.source_now c.ask_into-ended.ensures.source)
