@@ -42,6 +42,3 @@ fn main(rt: HostRuntime) -> ExitCode {
     );
     ExitCode::from(ended.status)
 }
-
-#[cfg(test)]
-mod tests;
