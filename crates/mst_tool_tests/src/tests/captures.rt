@@ -310,7 +310,7 @@ fn readers_fail(rt: HostRuntime) {
 #[test]
 fn counts_both(rt: HostRuntime) -> Result<(), Fail> {
     let (whole, _, checked) = check_both(rt.alloc(), b"", b"")?;
-    assert_eq!(rt; whole.as_slice(), b"check captures 0 agree 0\n");
+    assert_eq!(rt; whole.as_slice(), b"check captures 0 agree 0\n".as_slice());
     assert_eq!(rt; checked, Ok(counts(1, 0)));
     let (_, _, checked) = check_both(rt.alloc(), b"no\nno\n", b"0\n")?;
     assert_eq!(rt; checked, Ok(counts(3, 0)));
