@@ -676,6 +676,7 @@ def capture_cases(folder):
     captures = written(folder, "captures", CAPTURES)
     yield "captures of each kind", "check", ["-", captures], REGION
     yield "captures of another network", "check", ["-", captures], NAMED
+    yield "no captures", "check", ["-", written(folder, "no captures", "# Nothing yet.\n")], NAMED
     for name in ("triangle", "region"):
         yield f"{name}.captures", "check", ["-", os.path.join(HERE, f"{name}.captures")], read("examples", f"{name}.script")
 
