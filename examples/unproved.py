@@ -1,5 +1,5 @@
 #!/usr/bin/env python3
-"""Builds the program without proving it, and keeps it as a file: for the first day. It takes two to four minutes.
+"""Builds the program without proving it, and keeps it as a file: for the first day. It takes some five minutes of a processor.
 
 usage: unproved.py FOLDER    (leaves FOLDER/mstplan)
 
