@@ -43,7 +43,7 @@ pub(crate) fn take_last(
     if held.is_empty() {
         return Ok(());
     }
-    take_byte(alloc, hints, held, b'\n', out)
+    end_line(alloc, hints, held, out)
 }
 
 /// Takes a byte of a script and appends the hint of the line that it completes, if it has one. `AllocError`: memory was
