@@ -17,7 +17,7 @@ import tempfile
 
 HERE = os.path.dirname(os.path.abspath(__file__))
 TOP = os.path.join(HERE, os.pardir, os.pardir)
-BELOW = ("mst_ids", "mst_vector", "mst_settle")
+BELOW = ("mst_ids", "mst_vector", "mst_topology", "mst_progress", "mst_queue", "mst_turns", "mst_settle")
 # From nothing a step leads to each bridge but the root at least; a repair takes no more than this.
 BRIDGES, FEW = 128, 32
 SECONDS = 900

@@ -14,7 +14,7 @@ use Rattle.mst_vector.specs.declared.cist.CistBridge.{CistBridge}
 use Rattle.mst_vector.specs.declared.cist.CistVector.{CistVector}
 use Rattle.mst_vector.specs.declared.msti.MstiBridge.{MstiBridge}
 use Rattle.mst_vector.specs.declared.msti.MstiVector.{MstiVector}
-use Rattle.mst_settle.specs.Topology.{HasBridge}
+use Rattle.mst_topology.specs.Topology.{HasBridge}
 use Rattle.mst_net.specs.ByTree.{by_tree}
 use Rattle.mst_net.specs.Tables.{Net, BridgeRow, IsNetwork}
 use Rattle.mst_config.specs.Regions.{region_of}

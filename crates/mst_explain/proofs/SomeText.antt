@@ -9,7 +9,7 @@ use Rattle.mst_vector.specs.Cist.{cist_rules}
 use Rattle.mst_vector.specs.CistLaws.{cist_lawful}
 use Rattle.mst_vector.specs.Msti.{msti_rules}
 use Rattle.mst_vector.specs.MstiLaws.{msti_lawful}
-use Rattle.mst_settle.specs.Topology.{Topology}
+use Rattle.mst_topology.specs.Topology.{Topology}
 use Rattle.mst_roles.specs.net.Tables.{Net, IsNetwork}
 use Rattle.mst_roles.specs.net.ByTree.{by_tree}
 use Rattle.mst_lag.specs.View.{LogicalPort, view_ports, is_on, is_up}

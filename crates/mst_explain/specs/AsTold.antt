@@ -2,7 +2,7 @@
 use Rattle.std.specs.Prelude.{◌≡◌, ◌≢◌, ◌↔◌, ℕ, List, Option, Some}
 use Rattle.mst_ids.specs.declared.name.PortName.{PortName}
 use Rattle.mst_vector.specs.Rules.{Rules}
-use Rattle.mst_settle.specs.Topology.{Topology, HasBridge}
+use Rattle.mst_topology.specs.Topology.{Topology, HasBridge}
 use Rattle.mst_lag.specs.View.{LogicalPort}
 use Rattle.mst_roles.specs.trees.Outcome.{TreeOutcome}
 use Rattle.mst_roles.specs.declared.kind.Role.{Role}

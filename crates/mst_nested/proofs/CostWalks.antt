@@ -1,6 +1,6 @@
 -- A walk with a cost is a walk.
 use Rattle.std.proofs.Common.{inl, inr, refl, ap, ℕ}
-use Rattle.mst_settle.specs.Topology.{TreePort}
+use Rattle.mst_topology.specs.Topology.{TreePort}
 use Rattle.mst_graph.specs.Walks.{Walk, stay, along, bridge_at, lan_at}
 use Rattle.mst_graph.proofs.Walks.{joined_to}
 use Rattle.mst_nested.specs.Ports.{port_ends}

@@ -4,7 +4,7 @@ use Rattle.mst_vector.specs.Cist.{cist_bridge_vector, cist_components}
 use Rattle.mst_vector.specs.declared.cist.CistVector.{CistVector}
 use Rattle.mst_vector.specs.declared.cist.CistBridge.{CistBridge}
 use Rattle.mst_vector.specs.declared.cist.CistPort.{CistPort}
-use Rattle.mst_settle.specs.Topology.{TreePort, HasBridge, KeyTests}
+use Rattle.mst_topology.specs.Topology.{TreePort, HasBridge, KeyTests}
 use Rattle.mst_graph.specs.Walks.{bridge_at, stay, along}
 use Rattle.mst_nested.specs.Ports.{port_ends}
 use Rattle.mst_nested.specs.Trees.{Trees, IsEnabled, IsInternal, IsSettled, IsFree, HasTree, SamePart}

@@ -7,7 +7,7 @@ use Rattle.mst_vector.specs.declared.cist.CistBridge.{CistBridge}
 use Rattle.mst_vector.specs.declared.cist.CistPort.{CistPort}
 use Rattle.mst_vector.specs.declared.msti.MstiVector.{MstiVector}
 use Rattle.mst_vector.specs.declared.msti.MstiBridge.{MstiBridge}
-use Rattle.mst_settle.specs.Topology.{TreePort, HasBridge, KeyTests}
+use Rattle.mst_topology.specs.Topology.{TreePort, HasBridge, KeyTests}
 use Rattle.mst_graph.specs.Walks.{Walk, bridge_at, lan_at, along}
 use Rattle.mst_nested.specs.Ports.{port_ends}
 use Rattle.mst_nested.specs.Trees.{Trees, TakesPart, IsEnabled, IsInternal, IsSettled, IsFree, SameRegion, SamePart}

@@ -3,8 +3,8 @@ use Rattle.std.proofs.Common.{◌≡◌, ◌⊎◌, inl, inr, refl, sym, ◌∙�
 use Rattle.mst_vector.specs.declared.cist.CistBridge.{CistBridge}
 use Rattle.mst_vector.specs.declared.cist.CistPort.{CistPort}
 use Rattle.mst_vector.specs.declared.msti.MstiBridge.{MstiBridge}
-use Rattle.mst_settle.specs.Topology.{TreePort, HasBridge, KeyTests}
-use Rattle.mst_settle.proofs.Offers.{bridge_among, found, lost}
+use Rattle.mst_topology.specs.Topology.{TreePort, HasBridge, KeyTests}
+use Rattle.mst_topology.proofs.Offers.{bridge_among, found, lost}
 use Rattle.mst_graph.specs.Walks.{Walk, Node, bridge_at, lan_at}
 use Rattle.mst_nested.specs.Ports.{port_ends}
 use Rattle.mst_nested.specs.Trees.{Trees, IsEnabled, IsInternal, IsSettled, IsFree, HasTree, SameRegion, SamePart}

@@ -6,9 +6,9 @@ use Rattle.mst_vector.specs.declared.cist.CistBridge.{CistBridge}
 use Rattle.mst_vector.specs.declared.cist.CistPort.{CistPort}
 use Rattle.mst_vector.specs.declared.msti.MstiBridge.{MstiBridge}
 use Rattle.mst_vector.specs.declared.msti.MstiPort.{MstiPort}
-use Rattle.mst_settle.specs.Topology.{TreePort, Topology, HasBridge, HasPort, KeyTests}
-use Rattle.mst_settle.proofs.Rank.{Among, among-contains, contains-among}
-use Rattle.mst_settle.proofs.Unique.{cons_option}
+use Rattle.mst_topology.specs.Topology.{TreePort, Topology, HasBridge, HasPort, KeyTests}
+use Rattle.mst_topology.proofs.Rank.{Among, among-contains, contains-among}
+use Rattle.mst_topology.proofs.Unique.{cons_option}
 use Rattle.mst_nested.specs.Trees.{Trees, IsTree, IsInternal, IsSettled}
 use Rattle.mst_nested.proofs.Ports.{some_is}
 use Rattle.mst_nested.proofs.Parts.{IsOuter, sides, outer_not_internal}

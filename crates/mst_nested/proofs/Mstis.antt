@@ -5,7 +5,7 @@ use Rattle.mst_vector.specs.Msti.{msti_rules, msti_bridge_vector}
 use Rattle.mst_vector.specs.declared.cist.CistPort.{CistPort}
 use Rattle.mst_vector.specs.declared.msti.MstiVector.{MstiVector}
 use Rattle.mst_vector.specs.declared.msti.MstiPort.{MstiPort}
-use Rattle.mst_settle.specs.Topology.{TreePort, KeyTests}
+use Rattle.mst_topology.specs.Topology.{TreePort, KeyTests}
 use Rattle.mst_graph.specs.Walks.{Node, Walk, bridge_at, lan_at, stay, along}
 use Rattle.mst_nested.specs.Ports.{port_ends}
 use Rattle.mst_nested.specs.Trees.{Trees, TakesPart, IsSamePort, IsInternal, IsSettled, IsFree, HasTree, SamePart}

@@ -10,9 +10,9 @@ use Rattle.mst_vector.specs.declared.cist.CistPort.{CistPort}
 use Rattle.mst_vector.specs.declared.msti.MstiVector.{MstiVector}
 use Rattle.mst_vector.specs.declared.msti.MstiBridge.{MstiBridge}
 use Rattle.mst_vector.specs.declared.msti.MstiPort.{MstiPort}
-use Rattle.mst_settle.specs.Topology.{TreePort, Topology, HasBridge, HasPort}
-use Rattle.mst_settle.specs.Settled.{Settled, IsDesignated}
-use Rattle.mst_settle.proofs.Unique.{vectors_agree, ports_agree}
+use Rattle.mst_topology.specs.Topology.{TreePort, Topology, HasBridge, HasPort}
+use Rattle.mst_topology.specs.Settled.{Settled, IsDesignated}
+use Rattle.mst_topology.proofs.Unique.{vectors_agree, ports_agree}
 use Rattle.mst_nested.specs.Trees.{Trees, TakesPart, IsInternal, HasTree}
 use Rattle.mst_nested.specs.Outcome.{MstiSettings, IsOutcome}
 use Rattle.mst_nested.proofs.SamePorts.{IsWithinTopology, settled_too, designated_too}

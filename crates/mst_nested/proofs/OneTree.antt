@@ -1,6 +1,6 @@
 -- Root and designated ports of one settled tree, within a region.
 use Rattle.std.proofs.Common.{◌≡◌, sym, ◌∙◌, ap, ℕ, ◌<◌, Option, Some, None, IsTrue, arith}
-use Rattle.mst_settle.specs.Topology.{TreePort}
+use Rattle.mst_topology.specs.Topology.{TreePort}
 use Rattle.mst_graph.specs.Walks.{Node, bridge_at, lan_at}
 use Rattle.mst_nested.proofs.Settled.{SettledTree}
 use Rattle.mst_nested.proofs.Ports.{Placed, Heard, node_vector, lan_vector_is, some_is}

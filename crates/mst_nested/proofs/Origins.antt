@@ -1,7 +1,7 @@
 -- Where the vectors of a region's bridges come from in one settled tree, and what walks from there cost.
 use Rattle.std.proofs.Common.{◌≡◌, ◌≢◌, ◌⊎◌, inl, inr, refl, sym, ◌∙◌, ap, subst, ℕ, zero, suc, ◌+◌, ◌<◌, ◌≤◌, Bool, true, false, IsTrue, arith}
-use Rattle.mst_settle.specs.Topology.{TreePort, HasBridge}
-use Rattle.mst_settle.specs.Settled.{IsRootPathVector}
+use Rattle.mst_topology.specs.Topology.{TreePort, HasBridge}
+use Rattle.mst_topology.specs.Settled.{IsRootPathVector}
 use Rattle.mst_nested.specs.Trees.{TakesPart, IsUnrestricted}
 use Rattle.mst_nested.specs.Costs.{CostWalk, at_start, enter}
 use Rattle.mst_nested.proofs.Settled.{SettledTree}

@@ -6,8 +6,8 @@ use Rattle.mst_vector.specs.CistLaws.{cist_lawful}
 use Rattle.mst_vector.specs.declared.cist.CistVector.{CistVector}
 use Rattle.mst_vector.specs.declared.cist.CistBridge.{CistBridge}
 use Rattle.mst_vector.specs.declared.cist.CistPort.{CistPort}
-use Rattle.mst_settle.specs.Topology.{TreePort, HasBridge, KeyTests}
-use Rattle.mst_settle.proofs.Below.{one_designated}
+use Rattle.mst_topology.specs.Topology.{TreePort, HasBridge, KeyTests}
+use Rattle.mst_topology.proofs.Below.{one_designated}
 use Rattle.mst_graph.specs.Walks.{Node, bridge_at, lan_at}
 use Rattle.mst_nested.specs.Ports.{port_ends}
 use Rattle.mst_nested.specs.Trees.{Trees, IsEnabled, IsLanOf, IsInternal, IsSettled, IsFree, SamePart}

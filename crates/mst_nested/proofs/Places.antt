@@ -1,6 +1,6 @@
 -- Bridges and LANs in parts, joined by ports that have a role inside a part or lead out of it.
 use Rattle.std.specs.Prelude.{◌≡◌, ◌≢◌, ◌⊎◌, ℕ, ◌+◌, ◌*◌, ◌<◌}
-use Rattle.mst_settle.specs.Topology.{TreePort}
+use Rattle.mst_topology.specs.Topology.{TreePort}
 use Rattle.mst_graph.specs.Walks.{Node, bridge_at, lan_at}
 use Rattle.mst_graph.specs.TreesInParts.{Levels}
 

@@ -3,10 +3,10 @@ use Rattle.std.proofs.Common.{◌≡◌, ◌≢◌, ◌⊎◌, inl, inr, refl, s
 use Rattle.mst_vector.specs.Rules.{Rules, IsMetric}
 use Rattle.mst_vector.specs.declared.cist.CistBridge.{CistBridge}
 use Rattle.mst_vector.specs.declared.cist.CistPort.{CistPort}
-use Rattle.mst_settle.specs.Topology.{TreePort, Topology, IsTopology, KeyTests}
-use Rattle.mst_settle.specs.Settled.{Designates, IsDesignated}
-use Rattle.mst_settle.proofs.Below.{one_designated}
-use Rattle.mst_settle.proofs.KeyTests.{fails}
+use Rattle.mst_topology.specs.Topology.{TreePort, Topology, IsTopology, KeyTests}
+use Rattle.mst_topology.specs.Settled.{Designates, IsDesignated}
+use Rattle.mst_topology.proofs.Below.{one_designated}
+use Rattle.mst_topology.proofs.KeyTests.{fails}
 use Rattle.mst_nested.specs.Trees.{Trees, TakesPart, IsSettled, IsBoundary}
 use Rattle.mst_nested.proofs.Settled.{SettledTree, cist_tree}
 use Rattle.mst_nested.proofs.Ports.{Placed, Heard, placed, heard, some_is}

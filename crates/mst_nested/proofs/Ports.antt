@@ -2,12 +2,12 @@
 use Rattle.std.proofs.Common.{◌≡◌, ◌⊎◌, inl, inr, refl, sym, ◌∙◌, ap, ℕ, ◌+◌, [], ◌∷◌, ◌++◌, Option, Some, None, Bool, true, false, IsTrue, arith}
 use Rattle.std.specs.Ordering.{is_gt}
 use Rattle.std.proofs.lemmas.Cmp.{nat_list_cmp_total}
-use Rattle.mst_settle.specs.Topology.{TreePort, HasBridge}
-use Rattle.mst_settle.specs.Settled.{IsDesignatedVector, Designates, IsRootPathVector, IsSilent}
-use Rattle.mst_settle.proofs.Orders.{first_part}
-use Rattle.mst_settle.proofs.KeyTests.{fails}
-use Rattle.mst_settle.proofs.Below.{one_designated}
-use Rattle.mst_settle.proofs.Offers.{chosen}
+use Rattle.mst_topology.specs.Topology.{TreePort, HasBridge}
+use Rattle.mst_topology.specs.Settled.{IsDesignatedVector, Designates, IsRootPathVector, IsSilent}
+use Rattle.mst_topology.proofs.Orders.{first_part}
+use Rattle.mst_topology.proofs.KeyTests.{fails}
+use Rattle.mst_topology.proofs.Below.{one_designated}
+use Rattle.mst_topology.proofs.Offers.{chosen}
 use Rattle.mst_graph.specs.Walks.{Node, bridge_at, lan_at}
 use Rattle.mst_nested.specs.Trees.{TakesPart}
 use Rattle.mst_nested.proofs.Orders.{Upto, AreClose, close}

@@ -1,6 +1,6 @@
 -- Ports with roles are a forest.
 use Rattle.std.proofs.Common.{◌≡◌, ◌⊎◌, inl, inr, sym, ◌∙◌, ap, ◌<◌, arith}
-use Rattle.mst_settle.specs.Topology.{TreePort}
+use Rattle.mst_topology.specs.Topology.{TreePort}
 use Rattle.mst_graph.specs.Walks.{Node, bridge_at, lan_at}
 use Rattle.mst_nested.specs.Ports.{port_ends}
 use Rattle.mst_graph.specs.TreesInParts.{Climbs, HasTreesInParts}

@@ -1,6 +1,6 @@
 -- Ports with roles join what is enabled.
 use Rattle.std.proofs.Common.{◌≡◌, ◌⊎◌, inl, inr, refl, sym, ◌∙◌, ap, subst, ℕ, arith}
-use Rattle.mst_settle.specs.Topology.{TreePort}
+use Rattle.mst_topology.specs.Topology.{TreePort}
 use Rattle.mst_graph.specs.Walks.{Node, Walk, bridge_at, lan_at}
 use Rattle.mst_nested.specs.Ports.{port_ends}
 use Rattle.mst_graph.specs.Joined.{IsJoined}

@@ -1,8 +1,8 @@
 -- Topologies with the same bridges and the same ports that take part have the same settled vectors.
 use Rattle.std.proofs.Common.{inl, inr, Option, Some, None}
 use Rattle.mst_vector.specs.Rules.{Rules}
-use Rattle.mst_settle.specs.Topology.{TreePort, Topology, HasBridge}
-use Rattle.mst_settle.specs.Settled.{IsDesignatedVector, Designates, IsRootPathVector, CanTake, IsVectorOf, Settled, IsDesignated}
+use Rattle.mst_topology.specs.Topology.{TreePort, Topology, HasBridge}
+use Rattle.mst_topology.specs.Settled.{IsDesignatedVector, Designates, IsRootPathVector, CanTake, IsVectorOf, Settled, IsDesignated}
 use Rattle.mst_nested.specs.Trees.{TakesPart}
 
 -- what takes part in t takes part in u

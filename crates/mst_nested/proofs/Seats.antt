@@ -2,7 +2,7 @@
 use Rattle.std.proofs.Common.{◌≡◌, ◌≢◌, ◌⊎◌, inl, inr, refl, sym, ◌∙◌, ap, ℕ, suc, Option, Some, None}
 use Rattle.mst_vector.specs.declared.cist.CistVector.{CistVector}
 use Rattle.mst_vector.specs.declared.cist.CistPort.{CistPort}
-use Rattle.mst_settle.specs.Topology.{TreePort, KeyTests}
+use Rattle.mst_topology.specs.Topology.{TreePort, KeyTests}
 use Rattle.mst_graph.specs.Walks.{Node, bridge_at, lan_at, stay, along}
 use Rattle.mst_nested.specs.Ports.{port_ends}
 use Rattle.mst_nested.specs.Trees.{Trees, IsInternal, IsSettled, IsFree, SamePart}

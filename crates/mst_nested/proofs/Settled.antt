@@ -11,7 +11,7 @@ use Rattle.mst_vector.specs.declared.cist.CistPort.{CistPort}
 use Rattle.mst_vector.specs.declared.msti.MstiVector.{MstiVector}
 use Rattle.mst_vector.specs.declared.msti.MstiBridge.{MstiBridge}
 use Rattle.mst_vector.specs.declared.msti.MstiPort.{MstiPort}
-use Rattle.mst_settle.specs.Topology.{Topology, KeyTests}
+use Rattle.mst_topology.specs.Topology.{Topology, KeyTests}
 use Rattle.mst_nested.specs.Trees.{Trees, IsTree, IsSettled}
 use Rattle.mst_nested.proofs.Within.{Within, IsWithin, cist_within, cist_is_within, msti_within, msti_is_within}
 

@@ -10,8 +10,8 @@ use Rattle.mst_vector.specs.declared.cist.CistPort.{CistPort}
 use Rattle.mst_vector.specs.declared.msti.MstiVector.{MstiVector}
 use Rattle.mst_vector.specs.declared.msti.MstiBridge.{MstiBridge}
 use Rattle.mst_vector.specs.declared.msti.MstiPort.{MstiPort}
-use Rattle.mst_settle.specs.Topology.{TreePort, Topology, IsTopology, HasBridge, HasPort, KeyTests}
-use Rattle.mst_settle.proofs.Exists.{exists}
+use Rattle.mst_topology.specs.Topology.{TreePort, Topology, IsTopology, HasBridge, HasPort, KeyTests}
+use Rattle.mst_topology.proofs.Exists.{exists}
 use Rattle.mst_nested.specs.Trees.{Trees, IsTree, IsSamePort, IsInternal, IsNested}
 use Rattle.mst_nested.specs.Outcome.{MstiSettings, CanNest, IsOutcome}
 use Rattle.mst_nested.proofs.Ports.{some_is}

@@ -7,9 +7,9 @@ use Rattle.mst_vector.specs.MstiLaws.{msti_lawful}
 use Rattle.mst_vector.specs.declared.cist.CistVector.{CistVector}
 use Rattle.mst_vector.specs.declared.cist.CistPort.{CistPort}
 use Rattle.mst_vector.specs.declared.msti.MstiPort.{MstiPort}
-use Rattle.mst_settle.specs.Topology.{TreePort, KeyTests}
-use Rattle.mst_settle.specs.Settled.{Designates}
-use Rattle.mst_settle.proofs.Below.{one_designated}
+use Rattle.mst_topology.specs.Topology.{TreePort, KeyTests}
+use Rattle.mst_topology.specs.Settled.{Designates}
+use Rattle.mst_topology.proofs.Below.{one_designated}
 use Rattle.mst_graph.specs.Walks.{Node, bridge_at, lan_at}
 use Rattle.mst_nested.specs.Trees.{Trees, IsSamePort, IsInternal, IsSettled, IsFree, HasTree, SamePart}
 use Rattle.mst_nested.proofs.Settled.{cist_tree, msti_tree}

@@ -4,10 +4,10 @@ use Rattle.mst_vector.specs.Cist.{cist_rules}
 use Rattle.mst_vector.specs.CistLaws.{cist_lawful}
 use Rattle.mst_vector.specs.declared.cist.CistVector.{CistVector}
 use Rattle.mst_vector.specs.declared.cist.CistPort.{CistPort}
-use Rattle.mst_settle.specs.Topology.{TreePort, KeyTests}
-use Rattle.mst_settle.specs.Settled.{Designates, IsSilent}
-use Rattle.mst_settle.proofs.Below.{one_designated}
-use Rattle.mst_settle.proofs.Offers.{chosen}
+use Rattle.mst_topology.specs.Topology.{TreePort, KeyTests}
+use Rattle.mst_topology.specs.Settled.{Designates, IsSilent}
+use Rattle.mst_topology.proofs.Below.{one_designated}
+use Rattle.mst_topology.proofs.Offers.{chosen}
 use Rattle.mst_graph.specs.Walks.{Node, bridge_at, lan_at}
 use Rattle.mst_nested.specs.Ports.{port_ends}
 use Rattle.mst_nested.specs.Trees.{Trees, IsEnabled, IsInternal, IsSettled, IsFree, HasTree}

@@ -2,7 +2,7 @@
 use Rattle.std.specs.Prelude.{◌≡◌, ℕ}
 use Rattle.mst_vector.specs.declared.cist.CistBridge.{CistBridge}
 use Rattle.mst_vector.specs.declared.cist.CistPort.{CistPort}
-use Rattle.mst_settle.specs.Topology.{TreePort, HasBridge}
+use Rattle.mst_topology.specs.Topology.{TreePort, HasBridge}
 use Rattle.mst_nested.specs.Trees.{Trees, IsEnabled, HasTree, SameRegion}
 use Rattle.mst_nested.specs.Roles.{Forwards}
 

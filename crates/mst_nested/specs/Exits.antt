@@ -3,7 +3,7 @@ use Rattle.std.specs.Prelude.{◌≡◌, ◌<◌, Some}
 use Rattle.mst_vector.specs.declared.cist.CistVector.{CistVector}
 use Rattle.mst_vector.specs.declared.cist.CistBridge.{CistBridge}
 use Rattle.mst_vector.specs.declared.cist.CistPort.{CistPort}
-use Rattle.mst_settle.specs.Topology.{TreePort, HasBridge}
+use Rattle.mst_topology.specs.Topology.{TreePort, HasBridge}
 use Rattle.mst_graph.specs.Walks.{bridge_at, lan_at}
 use Rattle.mst_nested.specs.Trees.{Trees, IsEnabled, SamePart}
 use Rattle.mst_nested.specs.Roles.{IsCistRoot}

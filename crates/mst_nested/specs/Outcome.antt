@@ -5,7 +5,7 @@ use Rattle.mst_vector.specs.declared.cist.CistBridge.{CistBridge}
 use Rattle.mst_vector.specs.declared.cist.CistPort.{CistPort}
 use Rattle.mst_vector.specs.declared.msti.MstiBridge.{MstiBridge}
 use Rattle.mst_vector.specs.declared.msti.MstiPort.{MstiPort}
-use Rattle.mst_settle.specs.Topology.{TreePort, Topology, HasBridge, HasPort}
+use Rattle.mst_topology.specs.Topology.{TreePort, Topology, HasBridge, HasPort}
 use Rattle.mst_nested.specs.Trees.{Trees, TakesPart, IsSamePort, IsSettled}
 
 -- what is set for each MSTI: of a bridge, if it has the tree, and of a port

@@ -4,7 +4,7 @@ use Rattle.mst_vector.specs.declared.cist.CistVector.{CistVector}
 use Rattle.mst_vector.specs.declared.cist.CistBridge.{CistBridge}
 use Rattle.mst_vector.specs.declared.msti.MstiVector.{MstiVector}
 use Rattle.mst_vector.specs.declared.msti.MstiBridge.{MstiBridge}
-use Rattle.mst_settle.specs.Topology.{HasBridge}
+use Rattle.mst_topology.specs.Topology.{HasBridge}
 use Rattle.mst_graph.specs.Walks.{Walk, bridge_at}
 use Rattle.mst_nested.specs.Ports.{port_ends}
 use Rattle.mst_nested.specs.Trees.{Trees, TakesPart, IsEnabled, IsInternal, SamePart}

@@ -1,6 +1,6 @@
 -- Ports as the edges of a graph of bridges and LANs.
 use Rattle.mst_graph.specs.Walks.{Ends, Node, bridge_at, lan_at}
-use Rattle.mst_settle.specs.Topology.{TreePort}
+use Rattle.mst_topology.specs.Topology.{TreePort}
 
 -- a port has two ends: its bridge and its LAN
 abbrev pub port_ends : {N L K P : Type 0} → Ends (Node N L) (TreePort N L K P)

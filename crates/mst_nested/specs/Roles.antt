@@ -5,8 +5,8 @@ use Rattle.mst_vector.specs.Cist.{cist_rules}
 use Rattle.mst_vector.specs.Msti.{msti_rules}
 use Rattle.mst_vector.specs.declared.cist.CistPort.{CistPort}
 use Rattle.mst_vector.specs.declared.msti.MstiPort.{MstiPort}
-use Rattle.mst_settle.specs.Topology.{TreePort, Topology}
-use Rattle.mst_settle.specs.Settled.{Designates}
+use Rattle.mst_topology.specs.Topology.{TreePort, Topology}
+use Rattle.mst_topology.specs.Settled.{Designates}
 use Rattle.mst_nested.specs.Trees.{Trees, TakesPart, IsSamePort, IsInternal, IsBoundary, HasTree}
 
 module _ {N L K B P V : Type 0} (m : Rules B P V) (t : Topology N L K B P) (v : N → Option V) where

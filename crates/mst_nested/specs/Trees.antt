@@ -10,8 +10,8 @@ use Rattle.mst_vector.specs.declared.cist.CistPort.{CistPort}
 use Rattle.mst_vector.specs.declared.msti.MstiVector.{MstiVector}
 use Rattle.mst_vector.specs.declared.msti.MstiBridge.{MstiBridge}
 use Rattle.mst_vector.specs.declared.msti.MstiPort.{MstiPort}
-use Rattle.mst_settle.specs.Topology.{TreePort, Topology, IsTopology, HasBridge, HasPort}
-use Rattle.mst_settle.specs.Settled.{Designates, Settled}
+use Rattle.mst_topology.specs.Topology.{TreePort, Topology, IsTopology, HasBridge, HasPort}
+use Rattle.mst_topology.specs.Settled.{Designates, Settled}
 use Rattle.mst_graph.specs.Walks.{Node, Walk}
 use Rattle.mst_nested.specs.Ports.{port_ends}
 

@@ -2,7 +2,7 @@
 use Rattle.std.proofs.Common.{◌≡◌, refl, sym, ap, subst, ◌∙◌, ℕ, zero, suc, ◌<◌, false, List, [], ◌∷◌, length, get_or, Option, Some, None, arith}
 use Rattle.std.specs.Option.{option_map}
 use Rattle.std.proofs.lemmas.List.{length-map}
-use Rattle.mst_roles.specs.settle.Topology.{KeyTests}
+use Rattle.mst_topology.specs.Topology.{KeyTests}
 use Rattle.mst_roles.specs.nested.Trees.{Trees, IsSettled}
 use Rattle.mst_note_text.specs.Chains.{InternalChain, top, up}
 use Rattle.mst_note_text.specs.Children.{HasSteps}

@@ -4,9 +4,9 @@ use Rattle.std.specs.List.{Contains, find}
 use Rattle.std.specs.FinMap as fin
 use Rattle.mst_ids.specs.declared.name.PortName.{PortName}
 use Rattle.mst_vector.specs.Rules.{Rules, IsMetric}
-use Rattle.mst_roles.specs.settle.Topology.{TreePort}
-use Rattle.mst_roles.specs.settle.Settled.{IsDesignated, Designates}
-use Rattle.mst_roles.proofs.settle_lemmas.Below.{one_designated}
+use Rattle.mst_topology.specs.Topology.{TreePort}
+use Rattle.mst_topology.specs.Settled.{IsDesignated, Designates}
+use Rattle.mst_topology.proofs.Below.{one_designated}
 use Rattle.mst_roles.specs.net.Tables.{Net, Numbers}
 use Rattle.mst_lag.specs.View.{LogicalPort}
 use Rattle.mst_lag.specs.Viewed.{Viewed, named_port}

@@ -2,7 +2,7 @@
 use Rattle.std.proofs.Common.{◌≡◌, inl, inr, refl, sym, ◌∙◌, ap, subst, ℕ, zero, suc, ◌<◌, Option, Some, None, arith}
 use Rattle.mst_vector.specs.declared.cist.CistVector.{CistVector}
 use Rattle.mst_vector.specs.declared.msti.MstiVector.{MstiVector}
-use Rattle.mst_roles.specs.settle.Topology.{KeyTests}
+use Rattle.mst_topology.specs.Topology.{KeyTests}
 use Rattle.mst_roles.specs.nested.Trees.{Trees, IsSettled}
 use Rattle.mst_roles.proofs.nested_lemmas.Settled.{cist_tree, msti_tree}
 use Rattle.mst_roles.proofs.nested_lemmas.Origins.{near_step}

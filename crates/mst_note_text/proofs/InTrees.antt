@@ -13,7 +13,7 @@ use Rattle.mst_vector.specs.Msti.{msti_rules}
 use Rattle.mst_vector.specs.MstiLaws.{msti_lawful}
 use Rattle.mst_vector.specs.declared.cist.CistVector.{CistVector}
 use Rattle.mst_vector.specs.declared.msti.MstiVector.{MstiVector}
-use Rattle.mst_roles.specs.settle.Topology.{HasBridge}
+use Rattle.mst_topology.specs.Topology.{HasBridge}
 use Rattle.mst_roles.specs.settle.Assignment.{vector_of, designated_of}
 use Rattle.mst_roles.specs.net.Tables.{Net, Numbers, BridgeRow}
 use Rattle.mst_roles.specs.net.ByTree.{ByTree, by_tree, port_priority_in}

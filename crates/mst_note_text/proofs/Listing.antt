@@ -18,7 +18,7 @@ use Rattle.mst_roles.specs.config.Regions.{region_of}
 use Rattle.mst_roles.proofs.config_lemmas.SameRegion.{told}
 use Rattle.mst_vector.specs.Cist.{cist_rules}
 use Rattle.mst_vector.specs.declared.cist.CistBridge.{CistBridge}
-use Rattle.mst_roles.specs.settle.Topology.{HasBridge}
+use Rattle.mst_topology.specs.Topology.{HasBridge}
 use Rattle.mst_roles.specs.nested.Trees.{HasTree, SameRegion}
 use Rattle.mst_roles.specs.trees.Apart.{Apart}
 use Rattle.mst_roles.specs.trees.Cist.{cist_sight, cist_of, cist_bridge}

@@ -1,8 +1,8 @@
 -- Parents in one settled tree: a bridge's vector is a step from its parent, or its own where it has none.
 use Rattle.std.proofs.Common.{◌≡◌, inl, inr, refl, sym, ◌∙◌, ap, ℕ, Option, Some}
 use Rattle.mst_vector.specs.Rules.{Rules}
-use Rattle.mst_roles.specs.settle.Topology.{TreePort, Topology}
-use Rattle.mst_roles.proofs.settle_lemmas.Below.{one_designated}
+use Rattle.mst_topology.specs.Topology.{TreePort, Topology}
+use Rattle.mst_topology.proofs.Below.{one_designated}
 use Rattle.mst_roles.proofs.nested_lemmas.Settled.{SettledTree}
 use Rattle.mst_roles.proofs.nested_lemmas.Ports.{Placed, Heard, some_is}
 use Rattle.mst_roles.proofs.nested_lemmas.Origins.{Took, took, names_port, on_same_lan}

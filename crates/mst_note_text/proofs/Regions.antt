@@ -2,7 +2,7 @@
 use Rattle.std.proofs.Common.{◌≡◌, ◌⊎◌, inl, inr, refl, sym, ◌∙◌, ap, ℕ, zero, suc, Bool, true, false, eqb-true, eq-eqb}
 use Rattle.std.proofs.lemmas.Bool.{eqb-false}
 use Rattle.mst_vector.specs.declared.cist.CistBridge.{CistBridge}
-use Rattle.mst_roles.specs.settle.Topology.{KeyTests}
+use Rattle.mst_topology.specs.Topology.{KeyTests}
 use Rattle.mst_roles.specs.graph.Walks.{bridge_at, lan_at, Walk, stay, along}
 use Rattle.mst_roles.specs.nested.Ports.{port_ends}
 use Rattle.mst_roles.specs.nested.Trees.{Trees, TakesPart, IsSettled, HasTree, SameRegion}

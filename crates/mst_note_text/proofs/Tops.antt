@@ -5,7 +5,7 @@ use Rattle.mst_vector.specs.declared.cist.CistVector.{CistVector}
 use Rattle.mst_vector.specs.declared.cist.CistBridge.{CistBridge}
 use Rattle.mst_vector.specs.declared.msti.MstiVector.{MstiVector}
 use Rattle.mst_vector.specs.declared.msti.MstiBridge.{MstiBridge}
-use Rattle.mst_roles.specs.settle.Topology.{HasBridge, KeyTests}
+use Rattle.mst_topology.specs.Topology.{HasBridge, KeyTests}
 use Rattle.mst_roles.specs.nested.Trees.{Trees, IsSettled, HasTree}
 use Rattle.mst_roles.proofs.nested_lemmas.Settled.{cist_tree, msti_tree}
 use Rattle.mst_roles.proofs.nested_lemmas.Within.{cist_root, cist_far_regional, cist_far_external, cist_external, msti_within}

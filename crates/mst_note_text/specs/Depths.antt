@@ -4,8 +4,8 @@ use Rattle.mst_vector.specs.Rules.{Rules}
 use Rattle.mst_vector.specs.Cist.{cist_rules}
 use Rattle.mst_vector.specs.Msti.{msti_rules}
 use Rattle.mst_vector.specs.declared.cist.CistBridge.{CistBridge}
-use Rattle.mst_roles.specs.settle.Topology.{TreePort, Topology, HasBridge}
-use Rattle.mst_roles.specs.settle.Settled.{Designates}
+use Rattle.mst_topology.specs.Topology.{TreePort, Topology, HasBridge}
+use Rattle.mst_topology.specs.Settled.{Designates}
 use Rattle.mst_roles.specs.nested.Trees.{Trees, HasTree, SameRegion}
 use Rattle.mst_roles.specs.nested.Roles.{IsRootPort}
 use Rattle.mst_note_text.specs.Chains.{InternalChain, ExternalChain}

@@ -5,7 +5,7 @@ ghost use Rattle.mst_vector.specs.declared.cist.CistVector.{CistVector};
 ghost use Rattle.mst_vector.specs.declared.cist.CistBridge.{CistBridge};
 ghost use Rattle.mst_vector.specs.declared.msti.MstiVector.{MstiVector};
 ghost use Rattle.mst_vector.specs.declared.msti.MstiBridge.{MstiBridge};
-ghost use Rattle.mst_roles.specs.settle.Topology.{HasBridge, KeyTests};
+ghost use Rattle.mst_topology.specs.Topology.{HasBridge, KeyTests};
 ghost use Rattle.mst_roles.specs.nested.Trees.{Trees, IsSettled, HasTree, SameRegion};
 ghost use Rattle.mst_note_text.specs.declared.parent.Parent.{Parent};
 ghost use Rattle.mst_note_text.specs.declared.parent.Depths.{Depths};

@@ -1,11 +1,11 @@
 -- What stays touched as more is touched.
 use Rattle.std.proofs.Common.{◌≡◌, ℕ, ◌+◌, ◌≤◌, Option, true, subst, inl, inr}
 use Rattle.std.specs.List.{Contains}
-use Rattle.mst_settle.specs.Topology.{TreePort, Topology, HasPort}
-use Rattle.mst_settle.specs.Chains.{IsAt, IsLast, upto_place}
+use Rattle.mst_topology.specs.Topology.{TreePort, Topology, HasPort}
+use Rattle.mst_topology.specs.Chains.{IsAt, IsLast, upto_place}
 use Rattle.mst_settle.specs.Assignment.{Assignment, KeepsOutcome}
-use Rattle.mst_settle.proofs.Chains.{one_there}
-use Rattle.mst_settle.proofs.Lowest.{before_here_after}
+use Rattle.mst_topology.proofs.Chains.{one_there}
+use Rattle.mst_topology.proofs.Lowest.{before_here_after}
 use Rattle.mst_settle.proofs.Roomy.{keeps_trans}
 use Rattle.mst_repair.specs.Differences.{IsTouched, PortIsDone, NumberIsDone, BridgeIsDone}
 

@@ -7,11 +7,11 @@ use Rattle.std.proofs.lemmas.Cmp.{nat_eq_equiv}
 use Rattle.std.proofs.lemmas.List.{length-map, get_or-map}
 use Rattle.std.proofs.lemmas.Map.Lookups.{exact_unsigned}
 use Rattle.std.proofs.lemmas.Map.Views.{Contains-from_lookup, Contains-keys_from_lookup, IsSome-lookup_from_Contains, exact_unsigned_eq, tells_apart}
-use Rattle.mst_settle.specs.Topology.{TreePort, Topology, HasBridge, HasPort}
-use Rattle.mst_settle.specs.Wiring.{settings_in, port_in, topology_of}
-use Rattle.mst_settle.specs.Places.{in_map}
+use Rattle.mst_topology.specs.Topology.{TreePort, Topology, HasBridge, HasPort}
+use Rattle.mst_topology.specs.Wiring.{settings_in, port_in, topology_of}
+use Rattle.mst_topology.specs.Places.{in_map}
 use Rattle.mst_settle.specs.Assignment.{Assignment, KeepsOutcome}
-use Rattle.mst_settle.proofs.Mapped.{at_from}
+use Rattle.mst_topology.proofs.Mapped.{at_from}
 use Rattle.mst_settle.proofs.Roomy.{keeps_trans}
 use Rattle.mst_repair.specs.Differences.{CoversDifferences, IsTouched, PortIsDone, BridgeIsDone, TouchesMissing}
 use Rattle.mst_repair.proofs.Kept.{port_kept, done_kept}

@@ -2,9 +2,9 @@
 use Rattle.std.proofs.Common.{◌≡◌, ℕ, ◌<◌, List, Result, Ok, Err, IfOk, sym, subst}
 use Rattle.std.specs.List.{Contains}
 use Rattle.std.specs.declared.alloc.AllocError.{AllocError}
-use Rattle.mst_settle.specs.Topology.{TreePort, Topology}
-use Rattle.mst_settle.specs.Wiring.{port_in, topology_of}
-use Rattle.mst_settle.specs.Slots.{HasRoom}
+use Rattle.mst_topology.specs.Topology.{TreePort, Topology}
+use Rattle.mst_topology.specs.Wiring.{port_in, topology_of}
+use Rattle.mst_topology.specs.Slots.{HasRoom}
 use Rattle.mst_settle.specs.Assignment.{Assignment, KeepsSpace}
 use Rattle.mst_repair.specs.Differences.{Wirings, HasSpaceOn, HasSpaceForBoth}
 use Rattle.mst_repair.proofs.Rewired.{from_mapped}

@@ -3,13 +3,13 @@ use Rattle.std.proofs.Common.{◌≡◌, ℕ, ◌≤◌, List, [], length, Optio
 use Rattle.std.specs.List.{Contains}
 use Rattle.std.specs.Prelude.{◌↔◌}
 use Rattle.mst_vector.specs.Rules.{Rules}
-use Rattle.mst_settle.specs.Topology.{TreePort, Topology, IsTopology, HasPort}
+use Rattle.mst_topology.specs.Topology.{TreePort, Topology, IsTopology, HasPort}
 use Rattle.mst_settle.specs.Assignment.{Assignment, vector_of, designated_of, IsSettledFor, HasSpaceFor, KeepsOutcome}
-use Rattle.mst_settle.specs.Slots.{HasRoom}
-use Rattle.mst_settle.specs.Settled.{IsDesignated}
+use Rattle.mst_topology.specs.Slots.{HasRoom}
+use Rattle.mst_topology.specs.Settled.{IsDesignated}
 use Rattle.mst_settle.specs.Parts.{SameParts}
-use Rattle.mst_settle.specs.Repair.{WithinBounds}
-use Rattle.mst_settle.specs.Repairable.{IsRepairable}
+use Rattle.mst_topology.specs.Repair.{WithinBounds}
+use Rattle.mst_queue.specs.Repairable.{IsRepairable}
 use Rattle.mst_settle.proofs.PartsAlone.{settled_there, designated_there}
 use Rattle.mst_repair.specs.Differences.{TouchesMissing}
 use Rattle.mst_repair.specs.Held.{Tree, topology_on, IsHeld}

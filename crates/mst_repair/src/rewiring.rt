@@ -4,7 +4,8 @@ ghost use Rattle.mst_repair.specs.Differences.{CoversDifferences, HasSpaceForBot
 
 use crate::comparing::{TellsApart, same_tree_port};
 use mst_ids::PortNo;
-use mst_settle::{Settler, TreePort, Wiring};
+use mst_settle::Settler;
+use mst_topology::{TreePort, Wiring};
 use std::alloc::{AllocError, Global};
 use std::marker::Model;
 

@@ -10,8 +10,8 @@ use Rattle.mst_vector.specs.Cist.{cist_rules}
 use Rattle.mst_vector.specs.Msti.{msti_rules}
 use Rattle.mst_vector.specs.declared.cist.CistPort.{CistPort}
 use Rattle.mst_vector.specs.declared.msti.MstiPort.{MstiPort}
-use Rattle.mst_settle.specs.Topology.{TreePort, Topology, IsTopology, HasPort}
-use Rattle.mst_settle.specs.Settled.{IsDesignated}
+use Rattle.mst_topology.specs.Topology.{TreePort, Topology, IsTopology, HasPort}
+use Rattle.mst_topology.specs.Settled.{IsDesignated}
 use Rattle.mst_nested.specs.Trees.{Trees, TakesPart, IsEnabled, IsInternal, HasTree}
 use Rattle.mst_nested.specs.Roles.{IsRootPort, IsDesignatedPort, IsMstiRoot, IsMstiDesignated, ForwardsInRegion, Forwards}
 use Rattle.mst_trees.specs.net.Tables.{Net, IsNetwork, port_eq}

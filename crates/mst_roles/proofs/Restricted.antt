@@ -11,7 +11,7 @@ use Rattle.mst_vector.specs.Msti.{msti_rules}
 use Rattle.mst_vector.specs.declared.cist.CistPort.{CistPort}
 use Rattle.mst_vector.specs.declared.msti.MstiPort.{MstiPort}
 use Rattle.std.specs.Cmp.Lexicographic.{pointwise, bytes_decides}
-use Rattle.mst_settle.specs.Topology.{TreePort, Topology, IsTest, KeyTests}
+use Rattle.mst_topology.specs.Topology.{TreePort, Topology, IsTest, KeyTests}
 use Rattle.mst_nested.specs.Trees.{Trees, TakesPart}
 use Rattle.mst_nested.specs.Roles.{IsRootPort, IsCistRoot, IsMstiRoot}
 use Rattle.mst_trees.specs.net.Tables.{Net, IsNetwork, port_eq}

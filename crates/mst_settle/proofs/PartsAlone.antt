@@ -2,8 +2,8 @@
 use Rattle.std.specs.Prelude.{Option, Some, None}
 use Rattle.std.proofs.Common.{inl, inr}
 use Rattle.mst_vector.specs.Rules.{Rules}
-use Rattle.mst_settle.specs.Topology.{TreePort, Topology}
-use Rattle.mst_settle.specs.Settled.{IsDesignatedVector, Designates, IsRootPathVector, CanTake, Settled, IsDesignated}
+use Rattle.mst_topology.specs.Topology.{TreePort, Topology}
+use Rattle.mst_topology.specs.Settled.{IsDesignatedVector, Designates, IsRootPathVector, CanTake, Settled, IsDesignated}
 use Rattle.mst_settle.specs.Parts.{SameParts}
 
 module _ {N L K B P V : Type 0} (m : Rules B P V) (v : N → Option V) where

@@ -1,8 +1,8 @@
 ghost use Rattle.std.specs.Prelude.{◌≡◌, ℕ, None};
 ghost use Rattle.mst_settle.specs.Assignment.{vector_of, designated_of};
 
-use crate::by_number::ByNumber;
 use mst_ids::{BridgeNo, LanNo, PortNo};
+use mst_topology::ByNumber;
 use mst_vector::Metric;
 use std::alloc::Global;
 use std::marker::Model;

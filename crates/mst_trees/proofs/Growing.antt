@@ -10,8 +10,8 @@ use Rattle.mst_vector.specs.Msti.{msti_rules}
 use Rattle.mst_vector.specs.declared.cist.CistVector.{CistVector}
 use Rattle.mst_vector.specs.declared.msti.MstiVector.{MstiVector}
 use Rattle.mst_vector.specs.declared.msti.MstiBridge.{MstiBridge}
-use Rattle.mst_settle.specs.Topology.{HasBridge}
-use Rattle.mst_settle.specs.Settled.{IsDesignated}
+use Rattle.mst_topology.specs.Topology.{HasBridge}
+use Rattle.mst_topology.specs.Settled.{IsDesignated}
 use Rattle.mst_settle.specs.Assignment.{Assignment, vector_of, designated_of, IsSettledFor}
 use Rattle.mst_net.specs.Tables.{Net, Numbers, BridgeRow}
 use Rattle.mst_net.specs.ByTree.{by_tree}

@@ -17,7 +17,7 @@ use Rattle.std.proofs.lemmas.Map.Made.{is_member-Decides, length-le_from_is_memb
 use Rattle.mst_vector.specs.Cist.{cist_rules}
 use Rattle.mst_vector.specs.declared.msti.MstiVector.{MstiVector}
 use Rattle.mst_settle.specs.Assignment.{Assignment, vector_of}
-use Rattle.mst_settle.specs.Repair.{WithinBounds, CountsVectors}
+use Rattle.mst_topology.specs.Repair.{WithinBounds, CountsVectors}
 use Rattle.mst_lag.specs.Viewed.{Viewed}
 use Rattle.mst_lag.specs.declared.in_view.PortInView.{PortInView}
 use Rattle.mst_trees.specs.Numbered.{IsSettledBy}

@@ -13,8 +13,8 @@ use Rattle.mst_vector.specs.declared.cist.CistBridge.{CistBridge}
 use Rattle.mst_vector.specs.declared.cist.CistPort.{CistPort}
 use Rattle.mst_vector.specs.declared.msti.MstiBridge.{MstiBridge}
 use Rattle.mst_vector.specs.declared.msti.MstiPort.{MstiPort}
-use Rattle.mst_settle.specs.Topology.{TreePort, HasBridge, HasPort}
-use Rattle.mst_settle.specs.Settled.{IsDesignated}
+use Rattle.mst_topology.specs.Topology.{TreePort, HasBridge, HasPort}
+use Rattle.mst_topology.specs.Settled.{IsDesignated}
 use Rattle.mst_net.specs.Tables.{Net, BridgeRow, IsNetwork}
 use Rattle.mst_net.specs.After.{table_of}
 use Rattle.mst_net.specs.ByTree.{by_tree}

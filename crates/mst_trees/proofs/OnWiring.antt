@@ -12,12 +12,12 @@ use Rattle.mst_vector.specs.declared.cist.CistBridge.{CistBridge}
 use Rattle.mst_vector.specs.declared.cist.CistPort.{CistPort}
 use Rattle.mst_vector.specs.declared.msti.MstiBridge.{MstiBridge}
 use Rattle.mst_vector.specs.declared.msti.MstiPort.{MstiPort}
-use Rattle.mst_settle.specs.Topology.{TreePort, Topology, IsTopology, HasBridge, HasPort}
-use Rattle.mst_settle.specs.Settled.{Settled, IsDesignated}
+use Rattle.mst_topology.specs.Topology.{TreePort, Topology, IsTopology, HasBridge, HasPort}
+use Rattle.mst_topology.specs.Settled.{Settled, IsDesignated}
 use Rattle.mst_settle.specs.Assignment.{vector_of, designated_of, IsSettledFor}
-use Rattle.mst_settle.specs.Repair.{WithinBounds}
+use Rattle.mst_topology.specs.Repair.{WithinBounds}
 use Rattle.mst_settle.specs.Parts.{SameParts}
-use Rattle.mst_settle.specs.Wiring.{settings_in, port_in, topology_of}
+use Rattle.mst_topology.specs.Wiring.{settings_in, port_in, topology_of}
 use Rattle.mst_repair.specs.Held.{Tree, IsHeld}
 use Rattle.mst_net.specs.Tables.{Net, Numbers}
 use Rattle.mst_net.specs.Seen.{bridge_row}

@@ -7,7 +7,7 @@ use Rattle.mst_ids.specs.declared.name.PortName.{PortName}
 use Rattle.mst_vector.specs.Rules.{Rules}
 use Rattle.mst_vector.specs.Cist.{cist_rules}
 use Rattle.mst_vector.specs.Msti.{msti_rules}
-use Rattle.mst_settle.specs.Settled.{IsDesignated}
+use Rattle.mst_topology.specs.Settled.{IsDesignated}
 use Rattle.mst_settle.specs.Assignment.{vector_of, designated_of}
 use Rattle.mst_net.specs.Tables.{Net, Numbers}
 use Rattle.mst_lag.specs.Viewed.{Viewed}

@@ -7,8 +7,8 @@ use Rattle.mst_vector.specs.Rules.{Rules}
 use Rattle.mst_vector.specs.Cist.{cist_rules}
 use Rattle.mst_vector.specs.Msti.{msti_rules}
 use Rattle.mst_vector.specs.declared.msti.MstiVector.{MstiVector}
-use Rattle.mst_settle.specs.Topology.{TreePort, Topology, IsTopology}
-use Rattle.mst_settle.specs.Settled.{Settled}
+use Rattle.mst_topology.specs.Topology.{TreePort, Topology, IsTopology}
+use Rattle.mst_topology.specs.Settled.{Settled}
 use Rattle.mst_settle.specs.Renamed.{Renaming, IsRenamed}
 use Rattle.mst_settle.specs.Assignment.{Assignment, vector_of, designated_of, IsSettledFor}
 use Rattle.mst_net.specs.Tables.{Net, Numbers}

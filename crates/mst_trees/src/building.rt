@@ -3,7 +3,7 @@ ghost use Rattle.mst_trees.specs.Apart.{Apart};
 ghost use Rattle.mst_trees.specs.Wirings.{HaveNumbers};
 
 use mst_ids::BridgeNo;
-use mst_settle::{Bridges, TreePort, Wiring};
+use mst_topology::{Bridges, TreePort, Wiring};
 use mst_vector::Metric;
 use std::alloc::{AllocError, Global};
 

@@ -12,7 +12,7 @@ use Rattle.mst_summary.specs.vector.Cist.{cist_rules}
 use Rattle.mst_summary.specs.vector.Msti.{msti_rules}
 use Rattle.mst_summary.specs.vector.declared.cist.CistBridge.{CistBridge}
 use Rattle.mst_summary.specs.vector.declared.msti.MstiBridge.{MstiBridge}
-use Rattle.mst_summary.specs.settle.Topology.{HasBridge}
+use Rattle.mst_topology.specs.Topology.{HasBridge}
 use Rattle.mst_summary.specs.plan_text.config.Regions.{region_of}
 use Rattle.mst_summary.specs.trees.Apart.{Apart}
 use Rattle.mst_summary.specs.trees.Cist.{cist_bridge, cist_of, cist_sight}

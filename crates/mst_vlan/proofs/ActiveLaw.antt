@@ -12,7 +12,7 @@ use Rattle.mst_roles.specs.vector.Msti.{msti_rules}
 use Rattle.mst_roles.specs.vector.declared.cist.CistBridge.{CistBridge}
 use Rattle.mst_roles.specs.vector.declared.cist.CistPort.{CistPort}
 use Rattle.mst_roles.specs.vector.declared.msti.MstiBridge.{MstiBridge}
-use Rattle.mst_roles.specs.settle.Topology.{TreePort, HasBridge, KeyTests}
+use Rattle.mst_topology.specs.Topology.{TreePort, HasBridge, KeyTests}
 use Rattle.mst_graph.specs.Joined.{IsJoined, HasNoLoop, Other}
 use Rattle.mst_graph.proofs.Members.{in_filter, from_filter}
 use Rattle.mst_nested.specs.Ports.{port_ends as plug_ends}

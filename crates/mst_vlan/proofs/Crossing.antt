@@ -4,7 +4,7 @@ use Rattle.std.specs.Prelude.{if◌then◌else◌, ◌↔◌}
 use Rattle.mst_ids.specs.declared.name.PortName.{PortName}
 use Rattle.mst_roles.specs.vector.Msti.{msti_rules}
 use Rattle.mst_roles.specs.vector.declared.cist.CistPort.{CistPort}
-use Rattle.mst_roles.specs.settle.Topology.{TreePort}
+use Rattle.mst_topology.specs.Topology.{TreePort}
 use Rattle.mst_graph.specs.Walks.{bridge_at, lan_at}
 use Rattle.mst_nested.specs.Exits.{IsCrossing, IsExit}
 use Rattle.mst_nested.specs.Roles.{Forwards}

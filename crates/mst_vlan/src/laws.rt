@@ -8,7 +8,7 @@ ghost use Rattle.mst_roles.specs.vector.declared.cist.CistBridge.{CistBridge};
 ghost use Rattle.mst_roles.specs.vector.declared.cist.CistPort.{CistPort};
 ghost use Rattle.mst_roles.specs.vector.declared.cist.CistVector.{CistVector};
 ghost use Rattle.mst_roles.specs.vector.declared.msti.MstiVector.{MstiVector};
-ghost use Rattle.mst_roles.specs.settle.Topology.{TreePort, HasBridge};
+ghost use Rattle.mst_topology.specs.Topology.{TreePort, HasBridge};
 ghost use Rattle.mst_graph.specs.Islands.{Island};
 ghost use Rattle.mst_graph.specs.Joined.{HasNoLoop};
 ghost use Rattle.mst_graph.specs.Walks.{Node, Walk, bridge_at, lan_at};

@@ -1,5 +1,5 @@
 use Rattle.std.proofs.Common.{◌≡◌, ◌≤◌, ℕ, length, ap, arith}
-use Rattle.mst_settle.specs.Slots.{HasRoom}
+use Rattle.mst_topology.specs.Slots.{HasRoom}
 use Rattle.mst_settle.proofs.Roomy.{keeps_trans}
 use Rattle.mst_repair.proofs.Marked.{all_more, all_there}
 use Rattle.mst_repair.proofs.differences.reserve_bridges.Goals as goal

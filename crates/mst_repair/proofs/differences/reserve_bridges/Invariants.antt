@@ -1,6 +1,6 @@
 use Rattle.std.proofs.Common.{ℕ, take}
 use Rattle.std.specs.List.{All}
-use Rattle.mst_settle.specs.Slots.{HasRoom}
+use Rattle.mst_topology.specs.Slots.{HasRoom}
 use Rattle.mst_settle.specs.Assignment.{KeepsOutcome}
 use Rattle.mst_repair.proofs.differences.reserve_bridges.Given as goal
 

@@ -1,5 +1,5 @@
 use Rattle.std.proofs.Common.{◌≡◌, sym, ◌∙◌, subst}
-use Rattle.mst_settle.specs.Topology.{HasPort}
+use Rattle.mst_topology.specs.Topology.{HasPort}
 use Rattle.mst_repair.proofs.differences.same_at.Goals as goal
 
 pub returns-in-None-None : goal.returns-in-None-None

@@ -1,8 +1,8 @@
 use Rattle.std.proofs.Common.{◌≡◌, true, length, ap}
 use Rattle.std.specs.List.{Contains}
-use Rattle.mst_settle.specs.Topology.{TreePort, HasPort}
-use Rattle.mst_settle.specs.Chains.{IsLast}
-use Rattle.mst_settle.proofs.Lowest.{next_step, walk_port}
+use Rattle.mst_topology.specs.Topology.{TreePort, HasPort}
+use Rattle.mst_topology.specs.Chains.{IsLast}
+use Rattle.mst_topology.proofs.Lowest.{next_step, walk_port}
 use Rattle.mst_settle.proofs.Roomy.{keeps_all, keeps_trans}
 use Rattle.mst_repair.proofs.Kept.{lans_more}
 use Rattle.mst_repair.proofs.differences.touch_lans_of.Goals as goal

@@ -1,9 +1,9 @@
 use Rattle.std.proofs.Common.{◌≡◌, ℕ, ◌≤◌, true}
 use Rattle.std.specs.List.{Contains}
-use Rattle.mst_settle.specs.Topology.{TreePort}
+use Rattle.mst_topology.specs.Topology.{TreePort}
 use Rattle.mst_settle.specs.Assignment.{KeepsOutcome}
-use Rattle.mst_settle.specs.Chains.{IsAt, upto_place}
-use Rattle.mst_settle.proofs.Lowest.{IsNextAt}
+use Rattle.mst_topology.specs.Chains.{IsAt, upto_place}
+use Rattle.mst_topology.proofs.Lowest.{IsNextAt}
 use Rattle.mst_repair.proofs.differences.touch_lans_of.Given as goal
 
 -- the LANs of the bridge's ports at later places are touched

@@ -1,6 +1,6 @@
 use Rattle.std.proofs.Common.{rules, ◌≡◌, ◌≤◌, ◌++◌, ◌∷◌, [], length, IsTrue, ap, arith}
 use Rattle.std.proofs.lemmas.List.Elements.{Contains-append_left}
-use Rattle.mst_settle.specs.Topology.{TreePort}
+use Rattle.mst_topology.specs.Topology.{TreePort}
 use Rattle.mst_repair.proofs.Marked.{all_there}
 use Rattle.mst_repair.proofs.Noted.{IsNoted, found_more, noted_more}
 use Rattle.mst_repair.proofs.rewiring.note_missing.Goals.{then-not-is_wired+in_ok-push, else-not-is_wired}

@@ -1,5 +1,5 @@
 use Rattle.std.proofs.Common.{◌≡◌, Some, None, refl}
-use Rattle.mst_settle.specs.Wiring.{topology_of}
+use Rattle.mst_topology.specs.Wiring.{topology_of}
 use Rattle.mst_settle.specs.Assignment.{HasSpaceFor, KeepsSpace}
 use Rattle.mst_settle.proofs.Scratch.{space_kept}
 use Rattle.mst_repair.specs.Held.{topology_on}

@@ -1,8 +1,8 @@
 use Rattle.std.proofs.Common.{◌≡◌, ℕ, Some, sym}
 use Rattle.mst_settle.specs.Assignment.{Assignment, vector_of, designated_of}
-use Rattle.mst_settle.specs.Slots.{HasRoom}
-use Rattle.mst_settle.proofs.Places.{keys_room}
-use Rattle.mst_settle.proofs.Loaded.{overwritten}
+use Rattle.mst_topology.specs.Slots.{HasRoom}
+use Rattle.mst_topology.proofs.Places.{keys_room}
+use Rattle.mst_topology.proofs.Loaded.{overwritten}
 use Rattle.mst_settle.proofs.settler.Settler.load.Goals as goal
 
 pub invariant_of-self : goal.invariant_of-self

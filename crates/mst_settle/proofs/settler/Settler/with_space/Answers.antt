@@ -1,7 +1,7 @@
 use Rattle.std.proofs.Common.{◌≡◌, ◌<◌, ◌≤◌, subst, sym, inl, inr, arith}
-use Rattle.mst_settle.specs.Slots.{HasRoom}
-use Rattle.mst_settle.proofs.Entries.{same_or_other}
-use Rattle.mst_settle.proofs.Roomy.{below_other}
+use Rattle.mst_topology.specs.Slots.{HasRoom}
+use Rattle.mst_topology.proofs.Entries.{same_or_other}
+use Rattle.mst_topology.proofs.Reserved.{below_other}
 use Rattle.mst_settle.proofs.settler.Settler.with_space.Goals as goal
 
 pub loop-bridge-preserved : goal.loop-bridge-preserved

@@ -1,5 +1,5 @@
 use Rattle.std.proofs.Common.{ℕ, ◌<◌}
-use Rattle.mst_settle.specs.Slots.{HasRoom}
+use Rattle.mst_topology.specs.Slots.{HasRoom}
 use Rattle.mst_settle.proofs.settler.Settler.with_space.Given as goal
 
 -- there is space for the bridges below the next, and then for the LANs

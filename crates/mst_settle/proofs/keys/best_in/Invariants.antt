@@ -1,6 +1,0 @@
-use Rattle.mst_settle.specs.Best.{IsBestOf}
-use Rattle.mst_settle.specs.Keys.{IsKeyIn}
-use Rattle.mst_settle.proofs.keys.best_in.Given as goal
-
-abbrev pub invariant-loop-place : goal.invariant-loop-place
-invariant-loop-place g l = IsBestOf g.M.Metric.rules.order (IsKeyIn l.entries l.fn.block) l.place l.best

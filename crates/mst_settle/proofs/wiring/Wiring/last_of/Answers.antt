@@ -1,8 +1,0 @@
-use Rattle.std.proofs.Common.{rules, ◌≡◌}
-use Rattle.mst_settle.specs.Places.{option_at}
-use Rattle.mst_settle.proofs.wiring.Wiring.last_of.Goals as goal
-
-pub returns : goal.returns
-returns g c =
-    let value : c.flatten.result ≡ option_at c.self.inside.last_of c.args.bridge = search rules in
-    rw value (rw (← c.self.view_is) (c.self.invariant.chains.of c.args.bridge))

@@ -1,0 +1,14 @@
+pub mod Topology
+pub mod Settled
+pub mod ByNumber
+pub mod Places
+pub mod Chains
+pub mod Wiring
+pub mod Slots
+pub mod Seen
+pub mod Best
+pub mod Keys
+pub mod Settling
+pub mod Repair
+pub mod Touched
+pub mod Effects
