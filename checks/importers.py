@@ -1,0 +1,370 @@
+#!/usr/bin/env python3
+"""Runs each importer on its samples and the program on what it writes: no line may be refused, what couldn't be told is named,
+and a plan is to fit what the sample's devices say of themselves.
+
+usage: importers.py PROGRAM
+
+The samples: campus/ is made up, and so is cisco/, by the documented forms of the texts; lab/, ovs/rstp and ovs/stp are of the
+networks that the scripts of lab/ make; ovs/bonds is of one too, whose bridge behind a bond
+is a root that no plan has, and ovs/settings of ovsdb-server alone, whose devices say nothing of a spanning tree. What no lab
+has is in a few made-up hosts (strange_hosts). Then each importer reads 2,000 inputs that are no device's (fuzz.py). It takes about
+a quarter of a minute.
+"""
+
+import json
+import os
+import shutil
+import subprocess
+import sys
+import tempfile
+
+sys.dont_write_bytecode = True
+TOP = os.path.join(os.path.dirname(os.path.abspath(__file__)), os.pardir)
+TOOLS, FILES = os.path.join(TOP, "tools", "import"), os.path.join(TOP, "examples", "import")
+sys.path.append(TOOLS)
+
+import cisco  # noqa: E402
+import fuzz  # noqa: E402
+import lldp  # noqa: E402
+import ovs  # noqa: E402
+
+# Each sample: its importer, its words, what reads the same network, how much its devices say, and what is told.
+SAMPLES = [
+    ("links.py", ["campus/links.txt"], None, 0, [
+        "assumed: MAC addresses, and so who is root where priorities are equal; priorities, regions, VLANs",
+    ]),
+    ("links.py", ["campus/switches.txt"], None, 0, [
+        "assumed: MAC addresses, and so who is root where priorities are equal; priorities, regions, VLANs",
+    ]),
+    ("cisco.py", ["cisco/campus"], cisco.read, 114, [
+        "acc1: spanning-tree bpduguard enable isn't planned",
+        "core2.cdp line 32 isn't understood: Weather: fair",
+        "dist2.config line 6 isn't understood: spanning-tree colour blue",
+        "acc1: these hear of no port of these switches, and each has a LAN of its own: Gi1/0/10",
+        "speeds aren't told: all costs are those that the switches print",
+    ]),
+    ("lldp.py", ["lab"], lldp.read, 52, [
+        "access-north-side-1 br0 is named access-north-sid",
+        "access-north-side-1 p4 hears of d\"esk\ufffd\\x1b[2J p1, which is no interface of these hosts",
+    ]),
+    ("ovs.py", ["ovs/rstp"], lambda path: ovs.read([path]), 40, [
+        "costs that aren't set are assumed to be those that Open vSwitch makes of speeds",
+    ]),
+    ("ovs.py", ["ovs/stp"], lambda path: ovs.read([path]), 34, [
+        "costs that aren't set are assumed to be those that Open vSwitch makes of speeds",
+    ]),
+    ("ovs.py", ["ovs/bonds"], None, 0, [
+        "costs that aren't set are assumed to be those that Open vSwitch makes of speeds",
+        *(f"{its}-bond is a bond: Open vSwitch runs no spanning tree on it and always forwards there, and the plan has it take part" for its in ("edge edge", "south south")),
+        *(f"{its}-bond: its port number isn't told, and {number} is assumed" for its, number in (("edge edge", 1), ("south south", 7))),
+    ]),
+    ("ovs.py", ["ovs/settings"], lambda path: ovs.read([path]), 0, [
+        "core eth5 has rstp-enable=false, so it takes no part in the spanning tree: it is left out",
+        "core to-edge: its port number isn't told, and 1 is assumed",
+        "costs that aren't set are assumed to be those that Open vSwitch makes of speeds",
+        "distribution-north is named distribution-nor",
+        "distribution-north has priority 30720, which is no multiple of 4096: 28672 stands for it",
+        "distribution-north eth3 has stp-path-cost=low, which is no number",
+        "distribution-north eth2: its port number isn't told, and 1 is assumed",
+        "edge has Max Age 50, which isn't from 6 to 40: 40 stands for it",
+        "edge eth4 has priority 100, which is no multiple of 16: 96 stands for it",
+        "edge bond0 is a bond: Open vSwitch runs no spanning tree on it and always forwards there, and the plan has it take part",
+        "edge bond0: its port number isn't told, and 4 is assumed",
+        "edge bond0: no cable is told: it has a LAN of its own",
+        "edge eth4: its port number isn't told, and 1 is assumed",
+        "edge to-core: its port number isn't told, and 2 is assumed",
+        "edge to-plain: its port number isn't told, and 3 is assumed",
+        "plain has neither RSTP nor STP enabled: it is left out, and what it joins isn't known",
+        "core eth1 and distribution-north eth2: the speed isn't told",
+        "core to-edge and edge to-core: the speed isn't told",
+        "distribution-north eth3 and edge eth4: the speed isn't told",
+        "LAN rack-4-cable-2-to-edge is named rack-4-cable-2-t",
+        "edge to-plain: its peer isn't a port of these bridges: it has a LAN of its own",
+    ]),
+]
+
+
+def link(name, address, up=True, master=None, **info):
+    """A link as iproute2 has it, as far as the importer reads it."""
+    flags = ["UP", "LOWER_UP"] if up else ["UP", "NO-CARRIER"]
+    return {"ifname": name, "flags": flags, "address": address, "linkinfo": info, "master": master}
+
+
+def bridge(identifier, stp_state=1, filtering=0):
+    says = {"bridge_id": identifier, "stp_state": stp_state, "max_age": 2000, "vlan_filtering": filtering, "root_port": 0}
+    return link("br0", identifier[5:], info_kind="bridge", info_data=says | {"root_path_cost": 0})
+
+
+def port(name, address, its, up=True, kind="veth", guard=False, **more):
+    """A port of br0 that has this identifier."""
+    says = {"id": hex(its), "no": hex(its & 0x3FF), "cost": 4, "state": "forwarding", "guard": guard, "root_block": guard}
+    says |= {"bridge_id": "8000.2:0:0:0:0:1", "root_id": "8000.2:0:0:0:0:1", "designated_port": its}
+    return link(name, address, up, "br0", info_kind=kind, info_slave_kind="bridge", info_slave_data=says, **more)
+
+
+def heard(name, host, of, mau="1000BaseTFD - Four-pair Category 5 UTP, full duplex mode", description=None):
+    """A neighbour as lldpctl -f json0 has it."""
+    told = {"id": [{"type": "ifname", "value": of}], "auto-negotiation": [{"current": [{"value": mau}]}]}
+    told |= {"descr": [{"value": description}]} if description else {}
+    return {"name": name, "chassis": [{"id": [{"type": "local", "value": host}], "name": [{"value": host}]}], "port": [told]}
+
+
+def heard_by_key(name, host, of):
+    """One as lldpctl -f json has it."""
+    return {name: {"chassis": {host: {"id": {"type": "local", "value": host}}}, "port": {"id": {"type": "ifname", "value": of}}}}
+
+
+def vlan_host(octet, far):
+    """A host with two bridges, each with a VLAN interface on one cable, and a stranger on another."""
+    address = f"02:00:00:00:{octet:02x}:01"
+    links = [link("eno1", address), link("eno2", address)]
+    for count, vid in enumerate((10, 20)):
+        its = bridge(f"8000.2:0:0:{count}:{octet:x}:0") | {"ifname": f"br{vid}"}
+        on = port(f"eno1.{vid}", address, 0x8001, kind="vlan", info_data={"protocol": "802.1Q", "id": vid})
+        links += [its, on | {"link": "eno1", "master": f"br{vid}"}]
+    smuggled = "p1\naddbridge evil 02:00:00:00:ee:ee"
+    hostile = heard("eno2", "core\u00e9\"1\x1b[2J", smuggled, description="up\u202e\u2028\x07link\nlan x down")
+    return links, [heard("eno1", far, "eno1"), hostile]
+
+
+def strange_hosts():
+    """Links and neighbours of hosts with a bond, a bridge with STP off, VLANs, and what else isn't in a lab."""
+    return {
+        "a": (
+            [bridge("8000.2:0:0:0:0:1", stp_state=2, filtering=1), port("bond0", "02:00:00:00:0a:01", 0x8001, kind="bond")]
+            + [link(name, "02:00:00:00:0a:01", master="bond0") for name in ("eth0", "eth1")]
+            + [port("eth2", "02:00:00:00:0a:02", 0x8402, guard=True), port("eth3", "02:00:00:00:0a:03", 0x8003, up=False)],
+            [heard("eth0", "b", "eth0"), heard("eth1", "b", "eth1"), heard("eth2", "c", "eth0", "2p5GbaseX - 2.5G")],
+        ),
+        "b": (
+            [bridge("9001.2:0:0:0:0:2", filtering=1), port("bond0", "02:00:00:00:0b:01", 0x4001, kind="bond")]
+            + [link(name, "02:00:00:00:0b:01", master="bond0") for name in ("eth0", "eth1")]
+            + [port("eth2", "02:00:00:00:0b:02", 0x8002), port("eth3", "02:00:00:00:0b:03", 0x8003)],
+            [heard("eth0", "a", "eth0"), heard("eth1", "a", "eth1"), heard("eth2", "c", "eth1", "2p5GbaseX - 2.5G")]
+            + [heard_by_key("eth2", "c", "eth1"), heard("eth9", "c", "eth1"), heard("eth3", "a", "eth0", "")],
+        ),
+        "c": (
+            [bridge("8000.2:0:0:0:0:3", stp_state=0)]
+            + [port(name, f"02:00:00:00:0c:0{name[-1]}", 0x8001) for name in ("eth0", "eth1")],
+            [heard("eth0", "a", "eth2", "2p5GbaseX - 2.5G")],
+        ),
+        "d": ([bridge("8000.2:0:0:0:0:1")], []),
+        "distribution-e-1": vlan_host(0xe1, "distribution-e-2"),
+        "distribution-e-2": vlan_host(0xe2, "distribution-e-1"),
+    }
+
+
+STRANGE_TOLD = [
+    "a br0 is run by a daemon: its priorities and costs may be others than the kernel's",
+    "a br0 filters VLANs, and no a.vlan tells which",
+    "a br0 eth2 has number 1026 and priority 128, as its identifier is read",
+    "a br0 eth2 shuts itself where it hears a BPDU: that isn't in the script",
+    "b br0 has priority 36865, which is no multiple of 4096: 36864 stands for it",
+    "c has no bridge with STP on (in the JSON of ip -j -d link)",
+    "d br0 has the MAC address of a br0: it is left out",
+    "b eth2 hears of c eth1, and not the other way round",
+    "a br0 eth3 has no link: it is in no LAN",
+    "a br0 eth2 and b br0 eth2: the speed isn't told",
+    "b.lldp is of lldpctl -f json, where a neighbour's name can make up others: -f json0 can't",
+    "b.link has no eth9, which is to hear of c: that is left out",
+    "b eth3 hears of a eth0, which hears of another one, and that of it: this is left out",
+    *(f"distribution-e-{it} br{vid} is named distributio.br{vid}" for it, vid in ((1, 10), (1, 20))),
+    *(f"distribution-e-2 br{vid} is named distribut.2.br{vid}" for vid in (10, 20)),
+    *(f"distribution-e-{it} eno2 hears of core{letter}\"1\\x1b[2J up\\u202e\\u2028\\x07link\\nlan x down, which is no interface of "
+      "these hosts" for it, letter in ((1, "\u00e9"), (2, "\ufffd"))),
+    "distribution-e-2.lldp has bytes that aren't UTF-8: they are replaced",
+    "b br0 eth3 hears of no other bridge: it has a LAN of its own, of unknown speed",
+]
+STRANGE_LINES = [
+    "settreeprio b 0 36864", "settreeportprio b 1 0 64", "setportvlans b 2 1,10-20", "setportvlans b 3 none",
+    "setportrestrrole a 1026 yes", "setportpathcost a 1 4", "plug a 1 a-b.2", "plug b 1 a-b.2",
+    "plug a 4095 a-b.3", "plug b 4095 a-b.3", "setkey a 1 1", "setkey a 4095 1", "setkey b 1 1", "setkey b 4095 1",
+    "plug a 1026 a-b", "plug b 2 a-b", "plug b 3 b-eth3",
+    "plug distributio.br10 1 di.br10-dis.br10",
+    "plug distribut.2.br10 1 di.br10-dis.br10",
+]
+
+
+def imported(importer, words):
+    """What an importer writes and tells, and its status."""
+    words = [sys.executable, os.path.join(TOOLS, importer), *words]
+    ran = subprocess.run(words, capture_output=True, text=True, cwd=FILES, check=False)
+    return ran.stdout, ran.stderr.splitlines(), ran.returncode
+
+
+def answers(program, script):
+    ran = subprocess.run([program, "run", "-"], input=script, capture_output=True, text=True, check=False)
+    return ran.stdout.splitlines(), ran.returncode
+
+
+def check_sample(program, importer, words, read, says, wanted):
+    """What is wrong with a sample, as a list."""
+    script, told, status = imported(importer, words)
+    wrong = [] if status == 0 else [f"status {status}"]
+    wrong += [f"told, and not wanted: {line}" for line in told if line not in wanted]
+    wrong += [f"wanted, and not told: {line}" for line in wanted if line not in told]
+    refused, _ = answers(program, script)
+    wrong += refused
+    if read:
+        tree, _ = answers(program, script + "showtree 0\nshowtree 1\nshowtree 2\n")
+        others, compared = read(os.path.join(FILES, *words))[0].differences(tree)
+        wrong += others + ([] if compared == says else [f"{compared} values compared, and not {says}"])
+    return wrong
+
+
+def check_strange(program):
+    """The made-up hosts, and the same ones with a file missing and one that is no JSON."""
+    with tempfile.TemporaryDirectory() as folder:
+        for host, (links, neighbours) in strange_hosts().items():
+            for end, it in (("link", links), ("lldp", {"lldp": {"interface": neighbours}})):
+                # one host's neighbour has a letter in Latin-1, which is no UTF-8
+                text = json.dumps(it).encode().replace(b"\\u00e9", b"\xe9" if host.endswith("-2") else b"\\u00e9")
+                with open(os.path.join(folder, f"{host}.{end}"), "wb") as file:
+                    file.write(text)
+        with open(os.path.join(folder, "b.vlan"), "w", encoding="utf-8") as file:
+            json.dump([{"ifname": "eth2", "vlans": [{"vlan": 1, "flags": ["PVID"]}, {"vlan": 10, "vlanEnd": 20}]}], file)
+        wrong = check_sample(program, "lldp.py", [folder], None, 0, STRANGE_TOLD)
+        lines = imported("lldp.py", [folder])[0].splitlines()
+        wrong += [f"not in the script: {line}" for line in STRANGE_LINES if line not in lines]
+        os.remove(os.path.join(folder, "a.lldp"))
+        with open(os.path.join(folder, "b.lldp"), "w", encoding="utf-8") as file:
+            file.write("{")
+        script, told, status = imported("lldp.py", [folder])
+        unread = [line for line in told if "can't be read" in line]
+        wrong += answers(program, script)[0] + ([] if status == 1 and len(unread) == 2 else [f"status {status}, {unread}"])
+    return wrong
+
+
+TABLE = """one a:1 b:1 10G 7 vlans=10,20-29
+two a:2 b:4096
+three a:2 b:2 0
+four a:2 b:2 1G 65536
+five a:2 b:2 vlans=4095
+six:1 a:2
+seven seventeen-letters:1 a:2
+one a:3
+eight a:1
+nine a:2 b:2 1G 7 colour=blue
+switch a mac=00:1b:21:AA:00:01 region=HQ
+switch b mac=00:1b:21:aa:00:01
+switch c mac=00:1b:21:aa:00
+switch d region=nowhere
+region HQ revision=1 1=10,20 2=30
+region HX 1=10 2=10
+region HY revision=65536
+\x1b[2J
+"""
+TABLE_TOLD = [
+    "assumed: MAC addresses, and so who is root where priorities are equal; priorities, regions",
+    "line 2: 4096 is no port's number, 1 to 4095: two a:2 b:4096",
+    "line 3: 0 is no speed in kb/s, 1 to 9999999999: three a:2 b:2 0",
+    "line 4: 65536 is no key, 0 to 65535: four a:2 b:2 1G 65536",
+    "line 5: 4095 is no VID, or no two with the first one not greater: five a:2 b:2 vlans=4095",
+    "line 6: six:1 is no name of a LAN: 1 to 16 letters, digits, _, - and ., the first a letter or a digit: six:1 a:2",
+    "line 7: seventeen-letters is no name of a switch: 1 to 16 letters, digits, _, - and ., the first a letter or a digit: "
+    "seven seventeen-letters:1 a:2",
+    "line 8: the LAN one stands twice: one a:3",
+    "line 9: the port a:1 stands twice: eight a:1",
+    "line 10: colour=blue isn't one of vlans=: nine a:2 b:2 1G 7 colour=blue",
+    "line 12: the MAC address 00:1b:21:aa:00:01 stands twice: switch b mac=00:1b:21:aa:00:01",
+    "line 13: 00:1b:21:aa:00 is no MAC address: switch c mac=00:1b:21:aa:00",
+    "line 16: VLAN 10 stands in two trees: region HX 1=10 2=10",
+    "line 17: 65536 is no revision, 0 to 65535: region HY revision=65536",
+    "line 18: a line has a LAN, and one port A:1 or more: \\x1b[2J",
+    "line 14: no line has the region nowhere: switch d region=nowhere",
+]
+TABLE_LINES = [
+    "addbridge a 00:1b:21:aa:00:01", "setmstconfid a 1 HQ", "setvid2mstid a 1 10,20", "setvid2mstid a 2 30",
+    "addbridge b 02:00:00:00:00:01", "addbridge d 02:00:00:00:00:02", "addlan one", "speed one 10000000",
+    "addport a 1", "setkey a 1 7", "setportvlans a 1 10,20-29", "plug a 1 one",
+    "addport b 1", "setkey b 1 7", "setportvlans b 1 10,20-29", "plug b 1 one",
+]
+
+
+def check_table(program):
+    """A table with lines that can't be read: each is told with its number and its text, and the others are in the script."""
+    ran = subprocess.run([sys.executable, os.path.join(TOOLS, "links.py")], input=TABLE, capture_output=True, text=True, check=False)
+    wrong = [] if ran.returncode == 1 else [f"status {ran.returncode}"]
+    wrong += [f"told: {line}" for line in ran.stderr.splitlines() if line not in TABLE_TOLD]
+    wrong += [f"not told: {line}" for line in TABLE_TOLD if line not in ran.stderr.splitlines()]
+    wrong += [] if ran.stdout.splitlines() == TABLE_LINES else ran.stdout.splitlines()
+    return wrong + answers(program, ran.stdout)[0]
+
+
+def check_words(_):
+    """What each importer does with --help, with wrong words, and with what can't be read or written."""
+    wrong = []
+    for importer in fuzz.IMPORTERS:
+        script = os.path.join(TOOLS, importer)
+        for words, status in ((["--help"], 0), ([os.path.join(FILES, "none")], 1 if importer == "ovs.py" else 3),
+                              (["a", "b", "c", "d"] if importer != "ovs.py" else [], 2)):
+            out, told, its = imported(importer, words)
+            if its != status or ("usage: " in out) != (status == 0) or any("Traceback" in line for line in told):
+                wrong.append(f"{importer} {' '.join(words)}: status {its}, {told[-1:]}")
+        with open("/dev/full", "wb") as full:
+            ran = subprocess.run([sys.executable, script, "--help"], stdout=full, stderr=subprocess.PIPE, text=True, check=False)
+        if ran.returncode != 3 or "standard output can't be written" not in ran.stderr:
+            wrong.append(f"{importer} with a full disk: status {ran.returncode}, {ran.stderr}")
+    return wrong
+
+
+def check_bundles(program):
+    """The links that count as one, and the one LAN of a bridge that passes BPDUs on."""
+    wrong = []
+    for words, wanted in (
+        (("ovs.py", ["ovs/bonds"]), "lag south-edge-7 8000.02:00:00:00:01:03.0007+8000.02:00:00:00:01:05.0001 speed 20000000 "
+                                    "up south-edge-7,south-edge-8 lans south-edge-7,south-edge-8 "
+                                    "ports edge:1,edge:4095,south:7,south:4095"),
+        (("cisco.py", ["cisco/campus"]), "lag core1-core2 8000.00:1b:21:aa:00:01.0001+8000.00:1b:21:aa:00:02.0001 speed 2000000 "
+                                         "up core1-core2,core1-core2.2 lans core1-core2,core1-core2.2 "
+                                         "ports core1:1,core1:4095,core2:1,core2:4095"),
+    ):
+        lines, _ = answers(program, imported(*words)[0] + "showlag\n")
+        wrong += [] if lines == [wanted] else lines or [f"no bundle in {words[1][0]}"]
+    plugs = [line.split()[-1] for line in imported("ovs.py", ["ovs/bonds"])[0].splitlines() if line.startswith("plug ")]
+    ports = sorted(map(plugs.count, set(plugs)))[-2:]
+    return wrong + ([] if ports == [3, 4] else [f"the relay and the hub have {ports} ports, and not 3 and 4"])
+
+
+def check_cisco(program):
+    """Roles that the switches print compared with a plan, by the importer itself, as they are and with one changed; and a switch
+    with a tree for each VLAN, which is refused by name."""
+    wrong = []
+    with tempfile.TemporaryDirectory() as folder:
+        shutil.copytree(os.path.join(FILES, "cisco", "campus"), folder, dirs_exist_ok=True)
+        with open(os.path.join(folder, "acc1.mst"), "r+", encoding="utf-8") as file:
+            text = file.read().replace("Gi1/0/2          Altn BLK", "Gi1/0/2          Desg FWD", 1)
+            file.seek(0)
+            file.write(text)
+        other = [f"acc1 Gi1/0/2: the device says {its}" for its in ("Designated, the plan Alternate", "True, the plan False")]
+        for where, status, lines in (
+            ("cisco/campus", 0, ["114 values compared, 0 differ"]),
+            (folder, 1, [*other, "114 values compared, 2 differ"]),
+            ("cisco/per-vlan", 1, ["0 values compared, 0 differ"]),
+        ):
+            out, told, its = imported("cisco.py", ["--check", program, where])
+            if (out.splitlines(), its) != (lines, status):
+                wrong.append(f"{where}: status {its}, {out}")
+    refused = ["core1 is left out: its mode is rapid-pvst, which has a tree for each VLAN, and those aren't planned"]
+    return wrong + ([] if told == refused else told)
+
+
+def main():
+    if len(sys.argv) != 2:
+        sys.exit(__doc__)
+    program = os.path.abspath(sys.argv[1])
+    checks = [(" ".join([importer, *words]), check_sample(program, importer, words, *more)) for importer, words, *more in SAMPLES]
+    others = {"made-up hosts": check_strange, "a table": check_table, "words": check_words, "bundles": check_bundles,
+              "Cisco's roles": check_cisco}
+    checks += [(name, its(program)) for name, its in others.items()]
+    checks += [(f"{fuzz.INPUTS} inputs of {importer}", fuzz.check(program, importer)) for importer in fuzz.IMPORTERS]
+    for name, wrong in checks:
+        for line in wrong:
+            print(f"FAILED {name}: {line}")
+    failed = sum(1 for _, wrong in checks if wrong)
+    print(f"{len(checks) - failed} passed, {failed} failed")
+    sys.exit(1 if failed else 0)
+
+
+if __name__ == "__main__":
+    main()

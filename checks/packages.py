@@ -1,0 +1,236 @@
+#!/usr/bin/env python3
+"""Makes the packages of a program, unpacks them into a folder of their own, and checks what is in them.
+
+usage: packages.py PROGRAM [--root]
+
+Checked are: two packages of one program are equal; each file's owner and mode; the program differs from PROGRAM in the name of its
+loader and the table that it reads alone, and runs from there; the manual page renders without a warning and names each command;
+the completion is read by bash and completes; each other command runs on its sample; the .tar.gz has the same files. Where a tool
+for one of them isn't there (man, bash), it is named, and the check is left out. Where dpkg-deb isn't there, that is said, and
+nothing is checked, with status 0.
+
+With --root, as root, a Debian of its own is made with debootstrap in a folder (of this machine's release and from its source of
+packages), the .deb is installed there by apt, and the program and an importer run there. It takes some minutes.
+
+It ends with status 0; 1 where a check fails; 2 for wrong words.
+"""
+
+import os
+import re
+import shutil
+import subprocess
+import sys
+import tarfile
+import tempfile
+
+sys.dont_write_bytecode = True
+
+TOOLS = os.path.join(os.path.dirname(os.path.abspath(__file__)), os.pardir, "tools")
+sys.path.append(TOOLS)
+
+import package  # noqa: E402
+
+DOC = "usr/share/doc/mstplan"
+SOURCES = "/etc/apt/sources.list.d/debian.sources"
+# Each command with words and standard input below the samples, and how its first line begins.
+RUNS = [
+    ("mstplan-import-links", ["import/campus/links.txt"], None, "addbridge core1 "),
+    ("mstplan-import-lldp", ["import/lab"], None, "mstplan 2"),
+    ("mstplan-import-ovs", ["import/ovs/rstp"], None, "mstplan 2"),
+    ("mstplan-import-cisco", ["import/cisco/campus"], None, "mstplan 2"),
+    ("mstplan-captures", [], "triangle.tcpdump", "# "),
+    ("mstplan-page", ["--help"], None, "usage: "),
+]
+
+
+def ran(*words, **more):
+    return subprocess.run(words, capture_output=True, check=False, **more)
+
+
+class Checks:
+    """Checks, and how many of them failed."""
+
+    def __init__(self):
+        self.passed, self.failed = 0, 0
+
+    def say(self, text, wrong):
+        """A check and what is wrong, as a list of lines, or an empty one."""
+        self.passed += not wrong
+        self.failed += bool(wrong)
+        for line in wrong:
+            print(f"FAILED {text}: {line}")
+
+    def left_out(self, text, tool):
+        print(f"left out, for {tool} is missing: {text}")
+
+
+def made(program, folder):
+    """Makes packages in a folder, and leaves the .deb's path, or what is wrong."""
+    its = ran(sys.executable, os.path.join(TOOLS, "package.py"), program, folder, text=True)
+    return its.stdout.split(), [] if its.returncode == 0 else its.stderr.splitlines() or ["no package"]
+
+
+def modes(root, deb):
+    """What is wrong with the owners and modes of a package's files."""
+    wrong = []
+    for line in ran("dpkg-deb", "-c", deb, text=True).stdout.splitlines():
+        if line.split()[1] != "root/root":
+            wrong.append(f"not root's: {line}")
+    for at, folders, names in os.walk(root):
+        for name in (*folders, *names):
+            path = os.path.join(at, name)
+            is_run = os.path.isdir(path) or at.endswith("/bin") or open(path, "rb").read(2) == b"#!"
+            mode = os.stat(path).st_mode & 0o7777
+            if mode != (0o755 if is_run else 0o644):
+                wrong.append(f"{os.path.relpath(path, root)} has mode {mode:o}")
+    return wrong
+
+
+def program_of(program, root):
+    """What is wrong with the packaged program: it is to differ in what the loader reads alone, and to say what PROGRAM says."""
+    packaged = os.path.join(root, "usr/bin/mstplan")
+    with open(program, "rb") as one, open(packaged, "rb") as other:
+        before, after = one.read(), other.read()
+    elf = package.Elf(before)
+    may = {at for kind in (package.SEGMENT_LOADER, package.SEGMENT_DYNAMIC) for at in range(elf.segment(kind)[0], sum(elf.segment(kind)))}
+    differ = [at for at, (old, new) in enumerate(zip(before, after)) if old != new and at not in may]
+    has_loader = package.LOADER + b"\0" in after or elf.segment(package.SEGMENT_LOADER) == (0, 0)
+    wrong = [] if len(before) == len(after) and has_loader else ["it hasn't the system's loader"]
+    wrong += [f"{len(differ)} octets of code or data differ"] if differ else []
+    wrong += [f"it needs {it}" for it in re.findall(r"=> (\S*toolchain\S*|not found)", ran("ldd", packaged, text=True).stdout)]
+    script = os.path.join(root, DOC, "examples/campus.script")
+    for words in (["--version"], ["summary", script], ["run", script]):
+        if ran(packaged, *words).stdout != ran(program, *words).stdout:
+            wrong.append(f"{' '.join(words)} prints something else than PROGRAM")
+    return wrong
+
+
+def manual_of(root, commands):
+    """What is wrong with the manual page."""
+    shown = ran("man", "-l", "--warnings=w", os.path.join(root, "usr/share/man/man1/mstplan.1.gz"), text=True,
+                env={**os.environ, "MANWIDTH": "100", "LC_ALL": "C.UTF-8"})
+    wrong = shown.stderr.splitlines() + ([] if shown.returncode == 0 else [f"status {shown.returncode}"])
+    return wrong + [f"it has no {it}" for it in (*commands, "--hints", "addbridge B MAC", "NAME") if it not in shown.stdout]
+
+
+def completion_of(root, commands):
+    """What is wrong with the completion."""
+    path = os.path.join(root, "usr/share/bash-completion/completions/mstplan")
+    wrong = ran("bash", "-n", path, text=True).stderr.splitlines()
+    for words, wanted in (("''", commands), ("su", ["summary"]), ("summary --j", ["--json"]), ("check --h", ["--help", "--hints"]),
+                          ("as", ["ask"]), ("dot --", ["--help", "--hints", "--version"]), ("ask --", ["--help", "--hints", "--json", "--version"])):
+        count = len(words.split())
+        text = f'. "$1"; COMP_WORDS=(mstplan {words}); COMP_CWORD={count}; _mstplan; echo "${{COMPREPLY[@]}}"'
+        found = ran("bash", "-c", text, "bash", path, text=True).stdout.split()
+        wrong += [] if sorted(found) == sorted(wanted) else [f"behind mstplan {words} stands {' '.join(found)}"]
+    return wrong
+
+
+def commands_of(root):
+    """What is wrong with the other commands."""
+    wrong, samples = [], os.path.join(root, DOC, "examples")
+    for command, words, given, begins in RUNS:
+        path = os.path.join(root, "usr/bin", command)
+        if not os.path.exists(path):
+            print(f"left out, for it isn't in the package: {command}")
+            continue
+        with open(os.path.join(samples, given) if given else os.devnull, "rb") as file:
+            its = ran(path, *words, cwd=samples, stdin=file)
+        if its.returncode != 0 or not its.stdout.decode().startswith(begins):
+            wrong.append(f"{command}: status {its.returncode}, {its.stdout[:80]!r}, {its.stderr[-200:]!r}")
+    if "usage: mstplan-import-lldp " not in ran(os.path.join(root, "usr/bin/mstplan-import-lldp"), "--help", text=True).stdout:
+        wrong.append("mstplan-import-lldp's page doesn't name it")
+    return wrong
+
+
+def archive_of(root, archive, folder):
+    """What is wrong with the .tar.gz: it is to have the .deb's files, and to run where it is unpacked."""
+    with tarfile.open(archive) as its:
+        its.extractall(folder)
+    top = os.path.join(folder, os.listdir(folder)[0])
+    same = ran("diff", "-r", os.path.join(root, "usr"), top, text=True)
+    summary = ran(os.path.join(top, "bin/mstplan"), "summary", os.path.join(top, "share/doc/mstplan/examples/campus.script"))
+    return same.stdout.splitlines() + ([] if summary.returncode == 0 else ["the program doesn't run"])
+
+
+def source():
+    """This machine's release of Debian, and where its packages come from."""
+    with open("/etc/os-release", encoding="utf-8") as file:
+        release = re.search(r"^VERSION_CODENAME=(\S+)", file.read(), re.MULTILINE)
+    text = ""
+    for path in (SOURCES, "/etc/apt/sources.list"):
+        if os.path.exists(path):
+            with open(path, encoding="utf-8") as file:
+                text += file.read()
+    place = re.search(r"^URIs: (\S+)|^deb (?:\[.*\] )?(\S+)", text, re.MULTILINE)
+    return release[1] if release else "stable", (place[1] or place[2]) if place else "http://deb.debian.org/debian"
+
+
+def root_of(deb, folder):
+    """What is wrong where the package is installed in a Debian of its own."""
+    release, place = source()
+    its = ran("debootstrap", "--variant=minbase", release, folder, place, text=True)
+    if its.returncode != 0:
+        return [f"debootstrap: status {its.returncode}", *its.stdout.splitlines()[-3:]]
+    shutil.copy(deb, folder)
+    name, quiet = os.path.basename(deb), {**os.environ, "DEBIAN_FRONTEND": "noninteractive", "PATH": "/usr/sbin:/usr/bin:/sbin:/bin"}
+    wrong = []
+    for text, wanted in (
+        (f"apt-get install -y --no-install-recommends ./{name}", "Setting up mstplan"),
+        (f"mstplan summary /{DOC}/examples/campus.script", "tree 0 root core1 4096 of 6 next core2 8192"),
+        ("apt-get install -y python3", "Setting up python3"),
+        (f"mstplan-import-links /{DOC}/examples/import/campus/links.txt | mstplan run - && echo nothing refused", "nothing refused"),
+        ("apt-get remove -y mstplan && ! command -v mstplan", "Removing mstplan"),
+    ):
+        its = ran("chroot", folder, "sh", "-c", f"cd / && {text}", text=True, env=quiet)
+        if its.returncode != 0 or wanted not in its.stdout:
+            wrong += [f"{text}: status {its.returncode}", *its.stdout.splitlines()[-5:], *its.stderr.splitlines()[-5:]]
+    return wrong
+
+
+def check_contents(checks, program, folder):
+    """The packages and what is in them: the .deb's path, or None."""
+    (first, wrong), (second, _) = (made(program, os.path.join(folder, it)) for it in ("first", "second"))
+    checks.say("packages", wrong)
+    if wrong:
+        return None
+    different = [os.path.basename(one) for one, other in zip(first, second) if open(one, "rb").read() != open(other, "rb").read()]
+    checks.say("made twice", [f"{it} isn't the same again" for it in different])
+    deb, archive = first
+    root = os.path.join(folder, "unpacked")
+    checks.say("unpacked", ran("dpkg-deb", "-x", deb, root, text=True).stderr.splitlines())
+    commands = re.findall(r"^  ([a-z]+)  ", ran(program, "--help", text=True).stdout.partition("Options:")[0], re.MULTILINE)
+    checks.say("owners and modes", modes(root, deb))
+    checks.say("the program", program_of(program, root))
+    checks.say("commands", commands_of(root))
+    checks.say("the archive", archive_of(root, archive, os.path.join(folder, "archive")))
+    for tool, text, its in (("man", "the manual page", manual_of), ("bash", "the completion", completion_of)):
+        if shutil.which(tool):
+            checks.say(text, its(root, commands))
+        else:
+            checks.left_out(text, tool)
+    return deb
+
+
+def main():
+    words = [it for it in sys.argv[1:] if it != "--root"]
+    if len(words) != 1 or words[0].startswith("-"):
+        print(__doc__.strip())
+        sys.exit(0 if "--help" in words else 2)
+    if not shutil.which("dpkg-deb"):
+        print("skipped: dpkg-deb is missing")
+        return
+    checks = Checks()
+    with tempfile.TemporaryDirectory() as folder:
+        deb = check_contents(checks, os.path.abspath(words[0]), folder)
+        if "--root" in sys.argv and deb:
+            if os.geteuid() == 0 and shutil.which("debootstrap"):
+                checks.say("a Debian of its own", root_of(deb, os.path.join(folder, "root")))
+            else:
+                checks.left_out("a Debian of its own", "debootstrap, or being root,")
+    print(f"{checks.passed} passed, {checks.failed} failed")
+    sys.exit(1 if checks.failed else 0)
+
+
+if __name__ == "__main__":
+    main()

@@ -1,0 +1,216 @@
+#!/usr/bin/env python3
+"""Changes in steps (`mstplan steps FILE CHANGE [POLICY]`), for program.py: what is told of each step is what the texts of `run` say of
+the networks before and after it.
+
+usage: steps_runs.py PROGRAM [COUNT] [FIRST]    (so many networks, or 250; program.py takes fewer)
+
+Networks and changes are drawn by their numbers. The lines of `verify` behind a step are those that `verify` tells of a script that makes the
+network. The exit status is 1 where an answer differs.
+"""
+
+import concurrent.futures
+import itertools
+import os
+import subprocess
+import sys
+import tempfile
+
+SAMPLES = os.path.join(os.path.dirname(os.path.abspath(__file__)), os.pardir, "examples")
+# nothing is to be left beside what is imported
+sys.dont_write_bytecode = True
+
+import sketch  # noqa: E402
+
+COUNT = 250
+IN_THE_GATE = 20
+POLICY = ["reach 1-4094 *", "root 0 A", "always reach 5 A,B", "root 2 B", "region A,C"]
+
+
+# ---- what a step does, by the texts of the networks before and after it
+
+
+def links(text, vid, staying):
+    """The ports that link such a bridge to another such one over their logical LAN, with that LAN."""
+    ports = {sketch.at(name): (name[0], port["lan"]) for name, port in text.trees[0].ports.items() if name[0] in staying}
+    ends = {word: ports[word] for word in text.active[vid] if word in ports}
+    return {(word, lan) for word, (bridge, lan) in ends.items() if any(it[0] != bridge and it[1] == lan for it in ends.values())}
+
+
+def on_in(text):
+    return {name for name, entry in text.trees[0].bridges.items() if entry} if 0 in text.trees else set()
+
+
+def moved_vids(old, new):
+    """The VIDs whose links between bridges that are on before and afterwards aren't the same."""
+    staying, known, moved = on_in(old) & on_in(new), {}, []
+    if not staying:
+        return []
+    for vid in range(1, 4095):
+        key = frozenset(old.active[vid]), frozenset(new.active[vid])
+        if key not in known:
+            known[key] = links(old, vid, staying) != links(new, vid, staying)
+        if known[key]:
+            moved.append(vid)
+    return moved
+
+
+def step_lines(number, numbers, old, new):
+    """The lines of a step, and whether it moves and whether it cuts something."""
+    roots, ports, cut = sketch.change_told(old, new)
+    joined = sketch.change_told(new, old)[2]
+    moved = {*moved_vids(old, new), *itertools.chain(*cut.values(), *joined.values())}
+    told = f"roots {roots} ports {ports} moved {sketch.list_of(moved)} cut {sketch.vids_in(cut)} joined {sketch.vids_in(joined)}"
+    first = f"step {number} lines {numbers[0]}-{numbers[-1]} {told}"
+    return [first, *(f"cut {sketch.list_of(vids)} parts {parts}" for parts, vids in cut.items())], bool(moved), bool(cut)
+
+
+# ---- the steps of a change
+
+
+def behind(script, change, last=None):
+    """A script with the lines of a change behind its own, or those up to a number; blank ones are comments there."""
+    return [*script, *(line or "#" for line in change[:last])]
+
+
+def refused_in(program, script, change):
+    """The refused lines of a change behind a script, by their numbers: what is told of each, and whether it isn't read."""
+    lines = [line.split() for line in sketch.refused(program, behind(script, change))]
+    here = [line for line in lines if int(line[1]) > len(script)]
+    return {int(line[1]) - len(script): (" ".join(line[2:]), line[2] in sketch.UNREAD) for line in here}
+
+
+def steps_of(change, refused):
+    """The numbers of the lines with an edit, a list for each step: one that isn't read counts."""
+    steps, begun = [], []
+    for number, line in enumerate([*change, ""], 1):
+        is_silent = line.startswith("#") or line and sketch.is_quiet(line) and not refused.get(number, ("", False))[1]
+        if line and not is_silent:
+            begun.append(number)
+        if not line and begun:
+            steps, begun = [*steps, begun], []
+    return steps
+
+
+def judged(program, script, policy):
+    """The lines of `verify` but the last, of the network that a script leaves."""
+    with tempfile.NamedTemporaryFile("w", suffix=".policy", encoding="ascii") as file:
+        file.write("\n".join([*policy, ""]))
+        file.flush()
+        printed = sketch.run(program, ["verify", "-", file.name], sketch.edits_of(script))[0].splitlines()
+    return [line for line in printed[:-1] if not line.startswith("line ")]
+
+
+def wanted_of(program, script, change, policy):
+    """What `steps` is to print, and its status."""
+    lines, refused = list(sketch.refused(program, script)), refused_in(program, script, change)
+    old, counts, is_bad = sketch.text_of(program, script), [0, 0, 0], bool(lines)
+    steps = steps_of(change, refused)
+    for number, numbers in enumerate(steps, 1):
+        made = behind(script, change, numbers[-1])
+        new = sketch.text_of(program, made)
+        lines += [f"change {it} {refused[it][0]}" for it in numbers if it in refused]
+        told, moves, cuts = step_lines(number, numbers, old, new)
+        fails = judged(program, made, policy) if policy is not None else []
+        lines += [*told, *fails]
+        counts = [a + b for a, b in zip(counts, (moves, cuts, bool(fails)))]
+        is_bad = is_bad or cuts or bool(fails) or any(it in refused for it in numbers)
+        old = new
+    failing = f" failing {counts[2]}" if policy is not None else ""
+    return [*lines, f"steps {len(steps)} moving {counts[0]} cutting {counts[1]}{failing}"], 1 if is_bad else 0
+
+
+# ---- networks and changes
+
+
+def edit(draws, bridges):
+    """A line of a change: mostly a setting, and now and then something that comes or goes."""
+    bridge, port, lan = draws.one_of(bridges), draws.below(6) + 1, draws.below(9)
+    forms = [
+        f"unplug {bridge} {port}", f"plug {bridge} {port} L{lan}", f"delport {bridge} {port}", f"addport {bridge} {port + 6}", f"plug {bridge} {port + 6} L{lan}",
+        f"addlan L{lan}", "addbridge Z 02:00:00:00:00:aa", f"setkey {bridge} {port} {draws.below(2)}", f"delbridge {bridge}", "no such line", "# a comment",
+    ]
+    return draws.one_of(forms) if draws.below(4) == 0 else sketch.settings(draws, bridges)
+
+
+def drawn_change(number):
+    draws = sketch.Draws(number + 10**8)
+    lines = []
+    for _ in range(2 + draws.below(14)):
+        lines += [""] * draws.below(3) + [edit(draws, "ABCD")]
+    return lines
+
+
+def differing(program, script, change, policy):
+    """What differs of a network and a change. The script comes by standard input."""
+    wanted, status = wanted_of(program, script, change, policy)
+    with tempfile.TemporaryDirectory() as folder:
+        paths = []
+        for name, lines in (("change", change), ("policy", policy)):
+            if lines is not None:
+                paths.append(os.path.join(folder, name))
+                with open(paths[-1], "w", encoding="ascii") as file:
+                    file.write("\n".join([*lines, ""]))
+        return sketch.differing(program, ["steps", "-", *paths], script, wanted, status)
+
+
+def faults_of(program, number):
+    script, change = sketch.drawn(number), drawn_change(number)
+    return differing(program, script, change, POLICY if number % 3 == 0 else None)
+
+
+def check(program, count, first=0):
+    """What differs, of so many networks."""
+    with concurrent.futures.ThreadPoolExecutor(os.cpu_count()) as pool:
+        found = pool.map(lambda number: faults_of(program, number), range(first, first + count))
+        return list(itertools.chain.from_iterable(found))
+
+
+# ---- the examples
+
+
+DRAIN = """step 1 lines 2-2 roots - ports 4 moved 1-4094 cut - joined -
+step 2 lines 4-4 roots - ports 4 moved 1-4094 cut - joined -
+step 3 lines 7-8 roots - ports 0 moved - cut - joined -
+step 4 lines 10-10 roots - ports 0 moved - cut - joined -
+"""
+WORSE = """step 1 lines 2-2 roots - ports 0 moved 1-9,11-19,21-4094 cut 1-9,11-19,21-4094 joined -
+cut 1-9,11-19,21-4094 parts acc1 acc2,core1,core2,dist1,dist2
+step 2 lines 4-4 roots - ports 4 moved 1-4094 cut - joined 1-9,11-19,21-4094
+change 8 E04 no such bridge
+step 3 lines 6-8 roots 0 ports 6 moved 1-9,11-19,21-29,31-39,41-4094 cut - joined -
+fails 2 now root 0 core2 of 6
+steps 3 moving 3 cutting 1 failing 1
+"""
+
+
+def check_words(program, words, typed, status, printed):
+    ran = subprocess.run([program, "steps", *words], input=typed.encode(), capture_output=True, check=False)
+    if (ran.returncode, ran.stdout.decode(), ran.stderr) == (status, printed, b""):
+        return True
+    print(f"steps {words}: status {ran.returncode}, {ran.stdout}, {ran.stderr}")
+    return False
+
+
+def check_examples(program):
+    script, drain, worse, keep = [os.path.join(SAMPLES, it) for it in ("campus.script", "campus.change", "worse.change", "keep.policy")]
+    with open(drain, encoding="ascii") as file:
+        change = file.read()
+    return [
+        check_words(program, [script, drain, keep], "", 0, DRAIN + "steps 4 moving 2 cutting 0 failing 0\n"),
+        check_words(program, [script, drain], "", 0, DRAIN + "steps 4 moving 2 cutting 0\n"),
+        check_words(program, [script, "-"], change.replace("\n", "\r\n"), 0, DRAIN + "steps 4 moving 2 cutting 0\n"),
+        check_words(program, [script, worse, keep], "", 1, WORSE),
+        check_words(program, ["-", "-"], "no\n", 1, "line 1 E01 no such command\nsteps 0 moving 0 cutting 0\n"),
+        check_words(program, ["-", "-", "-"], "", 0, "steps 0 moving 0 cutting 0 failing 0\n"),
+    ]
+
+
+def checks(program, _folder):
+    """Whether the examples are told as they are printed in docs/USING.md, and drawn changes as the texts say."""
+    faults = check(program, IN_THE_GATE)
+    print("".join(f"{it}\n" for it in faults), end="")
+    return [*check_examples(program), not faults]
+
+
+if __name__ == "__main__":
+    sketch.check_drawn(check, COUNT, "networks: as the texts say", __doc__)

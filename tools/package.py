@@ -1,0 +1,345 @@
+#!/usr/bin/env python3
+"""Makes packages of a built program, for machines without the toolchain: mstplan_VERSION_amd64.deb and mstplan_VERSION_amd64.tar.gz.
+
+usage: package.py PROGRAM [FOLDER]    (FOLDER takes the packages; the one where it is called, if left out)
+
+PROGRAM is crates/mstplan/out/mstplan, which `rt ci` leaves where all is proved, or one that unproved.py has made. VERSION is what
+`PROGRAM --version` prints, with +unproved behind it for a program from any other place than crates/mstplan/out.
+
+Both packages have the program, its manual page and its completion for bash, which are made of its `--help`, scripts and samples
+of examples/, the texts of docs/, and as commands of their own the importers (mstplan-import-links, -lldp, -ovs and -cisco),
+mstplan-captures and, where tools/page.py is there, mstplan-page. These need Python 3.10 or later; the program needs the C library
+alone. The .tar.gz runs from wherever it is unpacked.
+
+The program as it is built names the toolchain's loader and the place of its libraries. In the packages it names the system's
+loader, and no place: the loader's name and the table of entries that it reads are changed where they stand, so neither patchelf nor
+a linker is needed, and all else, code and data, is the same byte for byte.
+
+The packages are the same, byte for byte, for one program and one state of the repository: times are SOURCE_DATE_EPOCH in seconds,
+or else 0. They end with status 0; 1 where dpkg-deb is missing, so that only the .tar.gz is made; 2 for wrong words; 3 where
+PROGRAM can't be run or isn't of the form that is known, and where a file can't be read or written.
+"""
+
+import glob
+import gzip
+import hashlib
+import os
+import re
+import shutil
+import struct
+import subprocess
+import sys
+import tarfile
+import tempfile
+
+sys.dont_write_bytecode = True
+
+import mstplan  # noqa: E402
+
+HERE = os.path.dirname(os.path.abspath(__file__))
+TOP = os.path.dirname(HERE)
+PROVED = os.path.join(TOP, "crates", "mstplan", "out", "mstplan")
+MAINTAINER = "Nuvaingy maintainers <maintainers@users.noreply.nuvaingy.example>"
+LOADER = b"/lib64/ld-linux-x86-64.so.2"
+# Debian's packages of the libraries that a program may need.
+PACKAGES = {"libc.so.6": "libc6", "libm.so.6": "libc6", "ld-linux-x86-64.so.2": "libc6", "libgcc_s.so.1": "libgcc-s1"}
+# Segments and entries of ELF: the loader's name, the entries for the loader, and of these the end, libraries, and where they are.
+SEGMENT_DYNAMIC, SEGMENT_LOADER, SEGMENT_LOADED = 2, 3, 1
+END, NEEDED, TEXTS, PLACES = 0, 1, 5, (15, 29)
+# The commands, each with its file below tools/.
+COMMANDS = {
+    "mstplan-import-links": "import/links.py", "mstplan-import-lldp": "import/lldp.py", "mstplan-import-ovs": "import/ovs.py",
+    "mstplan-import-cisco": "import/cisco.py", "mstplan-captures": "captures.py", "mstplan-page": "page.py",
+}
+# What goes along with them, and what a reader tries them with.
+MODULES = ("mstplan.py", "import/network.py", "frames.py", "web/*")
+EXAMPLES = ("*.script", "*.captures", "*.tcpdump", "small/*", "import/campus/*", "import/cisco/*/*", "import/lab/*", "import/ovs/*")
+WRAPPER = """#!/bin/sh
+here=$(dirname "$(readlink -f "$0")")
+exec python3 "$here/../share/mstplan/{file}" "$@"
+"""
+DESCRIPTION = """Description: planner for spanning tree networks{suffix}
+ mstplan plans Ethernet networks that run rapid and multiple spanning trees
+ (RSTP and MSTP, IEEE 802.1Q-2022 clause 13). It reads a script of bridges,
+ ports, LANs and cables, and tells which bridge is the root of each tree, which
+ ports forward and which parts of a VLAN stay connected.
+"""
+COMPLETION = """# Completion of mstplan for bash, made of its help.
+_mstplan()
+{{
+    local word=${{COMP_WORDS[COMP_CWORD]}} command= at words="{commands}" flags="--help --version"
+    COMPREPLY=()
+    for (( at = 1; at < COMP_CWORD; at++ )); do
+        if [[ ${{COMP_WORDS[at]}} != -* ]]; then
+            command=${{COMP_WORDS[at]}}
+            break
+        fi
+    done
+    case $command in
+{cases}
+    esac
+    if [[ $word == -* ]]; then
+        COMPREPLY=( $(compgen -W "$flags" -- "$word") )
+    elif [[ -z $command ]]; then
+        COMPREPLY=( $(compgen -W "$words" -- "$word") )
+    fi
+}}
+complete -o default -F _mstplan mstplan
+"""
+
+
+def said(program, *words):
+    """What a program prints, as text. Ends with 3 where it can't be run or fails."""
+    try:
+        return mstplan.Program(program).text(*words)
+    except mstplan.Failed as why:
+        return fault(str(why))
+
+
+def fault(text):
+    print(f"package.py: {text}", file=sys.stderr)
+    sys.exit(3)
+
+
+class Elf:
+    """A program of ELF with 64 bits, the lower octet first: its octets, and its segments as (type, offset, address, size)."""
+
+    def __init__(self, data):
+        self.data = bytearray(data)
+        if data[:6] != b"\x7fELF\x02\x01":
+            fault("the program is none of ELF with 64 bits")
+        (start,), (size, count) = struct.unpack_from("<Q", data, 32), struct.unpack_from("<HH", data, 54)
+        heads = [struct.unpack_from("<IIQQQQQQ", data, start + at * size) for at in range(count)]
+        self.segments = [(kind, offset, address, length) for kind, _, offset, address, _, length, _, _ in heads]
+
+    def segment(self, kind):
+        """The offset and the size of the segment of a type, both 0 where there is none: a program may need no loader."""
+        return next(((offset, length) for its, offset, _, length in self.segments if its == kind), (0, 0))
+
+    def entries(self):
+        """The entries for the loader, as (tag, value), and their offset."""
+        offset, length = self.segment(SEGMENT_DYNAMIC)
+        return [struct.unpack_from("<QQ", self.data, at) for at in range(offset, offset + length, 16)], offset
+
+    def libraries(self):
+        """The names of the libraries that it needs."""
+        entries, _ = self.entries()
+        texts = next((value for tag, value in entries if tag == TEXTS), 0)
+        start = next((offset + texts - address for kind, offset, address, length in self.segments
+                      if kind == SEGMENT_LOADED and address <= texts < address + length), 0)
+        names = [start + value for tag, value in entries if tag == NEEDED]
+        return [self.data[at:self.data.index(b"\0", at)].decode() for at in names]
+
+    def use_system(self):
+        """Names the system's loader, and no place for libraries but the system's; both in place."""
+        offset, length = self.segment(SEGMENT_LOADER)
+        if length and length <= len(LOADER):
+            fault("the name of the program's loader is too short to be replaced")
+        self.data[offset:offset + length] = LOADER.ljust(length, b"\0") if length else b""
+        entries, offset = self.entries()
+        kept = [it for it in entries if it[0] not in PLACES]
+        kept += [(END, 0)] * (len(entries) - len(kept))
+        for at, it in enumerate(kept):
+            struct.pack_into("<QQ", self.data, offset + 16 * at, *it)
+
+
+def needed(elf):
+    """The packages that Debian has what the program needs in, the C library of the least version that has all its symbols."""
+    libraries = elf.libraries()
+    strange = [it for it in libraries if it not in PACKAGES]
+    if strange:
+        fault(f"the program needs {' '.join(strange)}, which isn't known")
+    versions = [tuple(map(int, it.split(b"."))) for it in re.findall(rb"\0GLIBC_([0-9]+\.[0-9]+)", bytes(elf.data))]
+    least = ".".join(map(str, max(versions, default=(2, 34))))
+    return sorted({f"{PACKAGES[it]} (>= {least})" if PACKAGES[it] == "libc6" else PACKAGES[it] for it in libraries})
+
+
+def roff(text):
+    """A text as roff has it."""
+    text = text.replace("\\", "\\e").replace("-", "\\-")
+    return "\\&" + text if text.startswith((".", "'")) else text
+
+
+def roff_body(lines, heading):
+    """Lines of a help as roff: a heading ends with a colon, an item has two spaces before it and two before what it means."""
+    for line in lines:
+        item = re.fullmatch(r"  (\S.*?)(?:\s{2,}(\S.*))?", line)
+        if re.fullmatch(r"\S.*:", line):
+            name, more = re.fullmatch(r"([^,(]+)(.*):", line).groups()
+            yield f'{heading} "{roff(name.strip())}"'
+            if more:
+                yield roff(more.strip(" ,")[:1].upper() + more.strip(" ,")[1:] + ".")
+        elif item:
+            yield f".TP\n.B {roff(item[1])}\n{roff(item[2] or '')}".rstrip()
+        elif line.strip():
+            yield roff(line.strip())
+        else:
+            yield ".PP"
+
+
+def manual(version, page, pages):
+    """The manual page of the program's help and of those of its commands."""
+    lines = page.splitlines()
+    about = lines[0].split(". ")[0].rstrip(".")
+    at = next(at for at, line in enumerate(lines) if line.startswith("Usage:"))
+    yield f'.TH MSTPLAN 1 "" "mstplan {version}" "User Commands"'
+    yield f".SH NAME\nmstplan \\- {roff(about[0].lower() + about[1:])}"
+    yield f".SH SYNOPSIS\n.B {roff(lines[at].removeprefix('Usage:').strip())}"
+    yield f".SH DESCRIPTION\n{roff(lines[0])}."
+    yield from (line.upper() if line.startswith(".SH") else line for line in roff_body(lines[at + 1:], ".SH"))
+    yield ".SH WORDS OF EACH COMMAND"
+    for command, its in pages.items():
+        first, *others = its.splitlines()
+        yield f".SS {command}\n{roff(first)}."
+        for line in others:
+            if line.startswith("Usage:"):
+                yield f".PP\n.B {roff(line.removeprefix('Usage:').strip())}"
+        yield from roff_body([line for line in others if re.match(r"  [<\[]", line)], ".SS")
+    yield ".SH FILES\n.TP\n.I /usr/share/doc/mstplan/\nThe language in full (docs/RULES.md), a walk (docs/USING.md), and examples."
+    yield f".SH SEE ALSO\n{', '.join(map(roff, sorted(COMMANDS)))}"
+
+
+def completion(page, commands):
+    """The completion for bash: commands first, then files; behind - the flags that go with the command. A flag of which the page names no
+    command goes with each."""
+    flags = {}
+    for flag, text in re.findall(r"^  (--[a-z-]+) (.+\n(?: {4,}.+\n)*)", page, re.MULTILINE):
+        its = re.findall(r"[a-z]+", text.rpartition("(")[2])
+        for command in [it for it in commands if it in its] or commands:
+            flags.setdefault(command, []).append(flag)
+    every = sorted({flag for its in flags.values() for flag in its})
+    cases = [f'        "") flags+=" {" ".join(every)}" ;;']
+    cases += [f'        {command}) flags+=" {" ".join(its)}" ;;' for command, its in sorted(flags.items())]
+    return COMPLETION.format(commands=" ".join(commands), cases="\n".join(cases))
+
+
+def write(root, name, data, mode=0o644):
+    """Writes a file below a folder, text or bytes."""
+    path = os.path.join(root, name)
+    os.makedirs(os.path.dirname(path), exist_ok=True)
+    with open(path, "wb") as file:
+        file.write(data if isinstance(data, bytes) else data.encode())
+    os.chmod(path, mode)
+
+
+def read(*path):
+    with open(os.path.join(*path), "rb") as file:
+        return file.read()
+
+
+def add_commands(root):
+    """The importers and other commands, whose pages get the names that they have here."""
+    share = os.path.join("share", "mstplan")
+    for command, name in COMMANDS.items():
+        if not os.path.exists(os.path.join(HERE, name)):
+            print(f"package.py: tools/{name} isn't there: no {command}", file=sys.stderr)
+            continue
+        begin, page, end = read(HERE, name).decode().split('"""', 2)
+        page = re.sub(rf"(?<![\w/]){re.escape(os.path.basename(name))}\b", command, page)
+        write(root, os.path.join(share, name), '"""'.join((begin, page, end)), 0o755)
+        write(root, os.path.join("bin", command), WRAPPER.format(file=name), 0o755)
+    for path in sorted(it for name in MODULES for it in glob.glob(os.path.join(HERE, name)) if os.path.isfile(it)):
+        write(root, os.path.join(share, os.path.relpath(path, HERE)), read(path))
+
+
+def add_texts(root):
+    """Texts and examples, in the folders that the texts name."""
+    doc = os.path.join("share", "doc", "mstplan")
+    paths = [os.path.join(TOP, "README.md"), *glob.glob(os.path.join(TOP, "docs", "*.[ms][dv]*"))]
+    paths += [it for name in EXAMPLES for it in glob.glob(os.path.join(TOP, "examples", name))]
+    for path in sorted(it for it in paths if os.path.isfile(it)):
+        write(root, os.path.join(doc, os.path.relpath(path, TOP)), read(path))
+
+
+def add_program(root, program, version):
+    """The program with the system's loader, its manual page and its completion: the packages that it needs."""
+    page = said(program, "--help")
+    block = re.search(r"^Commands:\n((?:  .*\n)+)", page, re.MULTILINE) or fault("the program's help names no commands")
+    commands = re.findall(r"^  ([a-z]+) ", block[1], re.MULTILINE)
+    elf = Elf(read(program))
+    elf.use_system()
+    write(root, "bin/mstplan", bytes(elf.data), 0o755)
+    text = "\n".join(manual(version, page, {it: said(program, it, "--help") for it in commands})) + "\n"
+    write(root, "share/man/man1/mstplan.1.gz", gzip.compress(text.encode(), mtime=0))
+    write(root, "share/bash-completion/completions/mstplan", completion(page, commands))
+    return needed(elf)
+
+
+def files(root):
+    """The names of all files below a folder, sorted."""
+    return sorted(os.path.relpath(os.path.join(at, name), root) for at, _, names in os.walk(root) for name in names)
+
+
+def make_archive(root, top, path, epoch):
+    """A .tar.gz of a folder's files under the name `top`."""
+    with open(path, "wb") as raw, gzip.GzipFile("", "wb", 9, raw, epoch) as packed, tarfile.open(fileobj=packed, mode="w") as archive:
+        for name in files(root):
+            its = tarfile.TarInfo(os.path.join(top, name))
+            its.size, its.mtime = os.path.getsize(os.path.join(root, name)), epoch
+            its.mode = os.stat(os.path.join(root, name)).st_mode & 0o777
+            with open(os.path.join(root, name), "rb") as file:
+                archive.addfile(its, file)
+
+
+def make_deb(stage, version, depends, path, epoch):
+    """A .deb of a folder that has usr/."""
+    names = files(stage)
+    size = sum(os.path.getsize(os.path.join(stage, name)) for name in names)
+    sums = "".join(f"{hashlib.md5(read(stage, name)).hexdigest()}  {name}\n" for name in names)
+    control = (
+        f"Package: mstplan\nVersion: {version}\nArchitecture: amd64\nMaintainer: {MAINTAINER}\nInstalled-Size: {-(-size // 1024)}\n"
+        f"Recommends: python3 (>= 3.10)\nSuggests: graphviz\nSection: net\nPriority: optional\n"
+    )
+    control += f"Depends: {', '.join(depends)}\n" if depends else ""
+    write(stage, "DEBIAN/control", control + DESCRIPTION.format(suffix=" (not proved)" if version.endswith("+unproved") else ""))
+    write(stage, "DEBIAN/md5sums", sums)
+    for at, folders, names in os.walk(stage, topdown=False):
+        for it in (at, *(os.path.join(at, name) for name in names)):
+            os.utime(it, (epoch, epoch))
+        os.chmod(at, 0o755)
+    said_so = {**os.environ, "SOURCE_DATE_EPOCH": str(epoch)}
+    words = ["dpkg-deb", "--root-owner-group", "-Zgzip", "--build", stage, path]
+    subprocess.run(words, check=True, stdout=subprocess.DEVNULL, env=said_so)
+
+
+def make(program, folder):
+    """Makes the packages: their paths."""
+    version = said(program, "--version").split()[1]
+    if os.path.realpath(program) != os.path.realpath(PROVED):
+        version += "+unproved"
+    epoch = os.environ.get("SOURCE_DATE_EPOCH", "0")
+    epoch = int(epoch) if epoch.isdecimal() else fault(f"SOURCE_DATE_EPOCH is {epoch}, and no number of seconds")
+    name = os.path.join(folder, f"mstplan_{version}_amd64")
+    os.makedirs(folder, exist_ok=True)
+    with tempfile.TemporaryDirectory() as stage:
+        root = os.path.join(stage, "usr")
+        depends = add_program(root, program, version)
+        add_commands(root)
+        add_texts(root)
+        make_archive(root, f"mstplan-{version}", name + ".tar.gz", epoch)
+        if not shutil.which("dpkg-deb"):
+            return [name + ".tar.gz"]
+        make_deb(stage, version, depends, name + ".deb", epoch)
+    return [name + ".deb", name + ".tar.gz"]
+
+
+def main():
+    words = sys.argv[1:]
+    if any(it in ("--help", "-h") for it in words):
+        print(__doc__.strip())
+        return
+    if len(words) not in (1, 2):
+        print(__doc__.splitlines()[2], file=sys.stderr)
+        sys.exit(2)
+    try:
+        made = make(os.path.abspath(words[0]), words[1] if len(words) == 2 else ".")
+    except (OSError, subprocess.CalledProcessError) as why:
+        fault(str(why))
+    print("\n".join(made))
+    if len(made) == 1:
+        print("package.py: dpkg-deb is missing: no .deb is made", file=sys.stderr)
+        sys.exit(1)
+
+
+if __name__ == "__main__":
+    main()

@@ -1,0 +1,314 @@
+"""What mstplan answers of a script's network, in the form in which the page has it. Speeds are in kb/s."""
+
+import re
+
+import mstplan
+
+QUERIES = ["showplan", "showregions", "shownotes", "showlag"]
+DEFAULT_SPEED = 1_000_000
+ALL_VLANS = "1-4094"
+# How an entity fails, and how that is taken back.
+FAILS = {"lan": ("down", "up"), "bridge": ("off", "on")}
+# Of a script's words those that say its version, those that ask, and, of each priority, which word it is and how version 2 counts it.
+SECOND, ASKING, PRIORITIES = [b"mstplan", b"2"], (b"mark", b"changes", b"save"), {b"settreeprio": (3, 4096), b"settreeportprio": (4, 16)}
+LONGEST = 4096
+
+
+class Program(mstplan.Program):
+    """A program, and what the page tells of whole files by its answers."""
+
+    def differences(self, old, new):
+        """The records of `diff` for the networks of two scripts."""
+        return self.records("diff", old, new)
+
+    def promises(self, script, policy):
+        """What `verify` tells of a script's network and a policy: its refused lines, why others aren't kept, and how many hold."""
+        records = self.records("verify", script, policy)
+        counts = records[-1]["expectation_count"], records[-1]["hold_count"]
+        return {"broken": broken_in(policy, records[:-1]), "expectations": counts[0], "hold": counts[1]}
+
+    def steps(self, script, change, policy):
+        """The steps of a change to a script's network, in their order, and how many move, cut and fail. There may be no policy."""
+        *records, last = self.records("steps", script, change, *([] if policy is None else [policy]))
+        lines, steps, refused = lines_in(change), [], []
+        for record in records:
+            kind = record["kind"]
+            if kind == "change":
+                refused.append(kept_of(record, "line", "error", "text"))
+            elif kind == "step":
+                steps.append({**step_of(record, lines), "refused": refused, "failing": []})
+                refused = []
+            elif kind == "cut":
+                steps[-1]["parts"].append(parts_in(record))
+            else:
+                steps[-1]["failing"].append(record)
+        counts = {word: last.get(f"{word}_count") for word in ("moving", "cutting", "failing")}
+        return [{**step, "failing": broken_in(policy or b"", step["failing"])} for step in steps], counts
+
+
+def key_of(failure):
+    """A failure as the page names it; the network itself has none."""
+    return None if failure is None else " ".join(next(iter(failure.items())))
+
+
+def broken_in(policy, records):
+    """Each promise of a policy that isn't kept, or is refused, with its own line, where that is, and why."""
+    promises = [line.decode(errors="replace").strip() for line in policy.split(b"\n")]
+    return [{
+        "line": record["line"], "promise": promises[record["line"] - 1], "refused": record["kind"] == "policy",
+        "failure": key_of(record.get("failure")), "why": reason_in(record),
+    } for record in records]
+
+
+def reason_in(record):
+    """What `verify` prints of a promise behind its number and its place."""
+    if record["kind"] == "policy":
+        return f"{record['error']} {record['text']}"
+    it = {key: list_told(value) for key, value in record.items()}
+    word, tree = it["expectation"], it.get("tree")
+    if word == "root":
+        behind = f" next {it['next']}" if "next" in it else f" of {it['bridge_count']}" if "bridge_count" in it else ""
+        return f"root {tree} {it['root']}{behind}"
+    if word == "fits":
+        return note_in(it)
+    return {
+        "region": "region parts {parts}", "role": "role {tree} {ports} {role}", "reach": "reach {vids} parts {parts}",
+        "apart": "apart {vids} joined {joined}", "leaf": "leaf {tree} {bridge} parent of {bridges}", "depth": "depth {tree} {depth} {bridges}",
+        "carries": "carries {lan} without {vids}", "avoids": "avoids {lan} with {vids}",
+    }[word].format(**it)
+
+
+def note_in(it):
+    """The line of a limit that binds."""
+    if it["note"] == "cost":
+        return f"note cost {it['tree']} {it['bridge']} {'ext' if 'ext' in it else 'int'} {it.get('ext', it.get('int'))}"
+    tree = f" {it['tree']}" if it["note"] == "hops" else ""
+    return f"note {it['note']}{tree} {it['bridge']} depth {it['depth']} limit {it['limit']}"
+
+
+def list_told(value):
+    """A value of a record as a text has it: names and ports with `,` between, parts with spaces, VIDs as runs."""
+    if value is None:
+        return "-"
+    if not isinstance(value, list):
+        return value
+    if all(isinstance(it, list) for it in value):
+        is_of_runs = all(isinstance(number, int) for it in value for number in it)
+        return list_of(value) if is_of_runs else " ".join(map(",".join, value))
+    return ",".join(port_of(it) if isinstance(it, dict) else it for it in value)
+
+
+def kept_behind(promises, failing):
+    """What is told of a policy that these promises are of, as they are in one network, of another one with what fails there."""
+    lines = promises["expectations"] + sum(it["refused"] for it in promises["broken"])
+    judged = lines - sum(it["refused"] for it in failing)
+    return {**promises, "broken": failing, "expectations": judged, "hold": judged - len({it["line"] for it in failing if not it["refused"]})}
+
+
+def words_in(line):
+    return re.split(rb"[ \t]+", line.strip(b" \t"))
+
+
+def lines_in(script):
+    """A script's lines, without their ends."""
+    return [line.removesuffix(b"\r") for line in script.split(b"\n")]
+
+
+def is_second(lines):
+    """Whether a script is of version 2."""
+    return len(lines[0]) <= LONGEST and words_in(lines[0]) == SECOND
+
+
+def step_of(record, lines):
+    """A step by its record, with all lines of the change that stand with its own, and their numbers."""
+    first, last = map(int, record["lines"].split("-"))
+    while first > 1 and lines[first - 2].strip(b" \t"):
+        first -= 1
+    while last < len(lines) and lines[last].strip(b" \t"):
+        last += 1
+    typed = [[number, lines[number - 1].decode(errors="replace")] for number in range(first, last + 1)]
+    vids = {word: list_of(record[f"{word}_vids"]) for word in ("moved", "cut", "joined")}
+    return {"lines": record["lines"], "typed": typed, "trees": record["trees"], "changed": record["port_count"], **vids, "parts": []}
+
+
+def edits_in(step, script, change):
+    """The edits of a step that aren't refused, as lines of the script's version. Queries and marks aren't among them."""
+    factor, lines = is_second(lines_in(script)) - is_second(lines_in(change)), lines_in(change)
+    passed = {it["line"] for it in step["refused"]}
+    first, last = map(int, step["lines"].split("-"))
+    for number in sorted(set(range(first, last + 1)) - passed):
+        words = words_in(lines[number - 1])
+        if words[0].startswith((b"#", b"show")) or words[0] in ASKING or words == SECOND:
+            continue
+        at, size = PRIORITIES.get(words[0], (0, 1))
+        if factor and at:
+            words[at] = b"%d" % (int(words[at]) * size if factor > 0 else int(words[at]) // size)
+        yield b" ".join(words).decode()
+
+
+def parts_in(record):
+    """VIDs that are cut alike, and the parts that are left."""
+    return [list_of(record["vids"]), [",".join(names) for names in record["parts"]]]
+
+
+def port_of(record):
+    return f"{record['bridge']}:{record['port']}"
+
+
+def list_of(runs):
+    """VIDs as the page has them, by their runs: a list of these, of which the empty one is an empty text."""
+    return ",".join(f"{first}-{last}" if first < last else str(first) for first, last in runs)
+
+
+def kept_of(record, *keys):
+    """These members of a record, as far as it has them."""
+    return {key: record[key] for key in keys if key in record}
+
+
+def settings_of(saved):
+    """Bridges, LANs and ports by name, with what the records of `save` set of each, as far as the page tells it."""
+    bridges, lans, ports = {}, {}, {}
+    for record in saved:
+        command, bridge, lan = record["kind"], record.get("bridge"), record.get("lan")
+        if command == "addbridge":
+            bridges[bridge] = {"mac": record["mac"], "kind": "mstp", "on": True, "vids": {}}
+        elif command == "bridge":
+            bridges[bridge]["on"] = record["power"] == "on"
+        elif command == "kind":
+            bridges[bridge]["kind"] = record["bridge_kind"]
+        elif command == "setvid2mstid":
+            # A long list stands in several lines.
+            mapped, tree = bridges[bridge]["vids"], str(record["tree"])
+            mapped[tree] = ",".join([*filter(None, [mapped.get(tree)]), list_of(record["vids"])])
+        elif command == "addport":
+            ports[port_of(record)] = {"vlans": ALL_VLANS}
+        elif command == "setportvlans":
+            ports[port_of(record)]["vlans"] = list_of(record["vids"])
+        elif command == "setportrestrrole":
+            ports[port_of(record)]["restricted"] = record["restricted"] == "yes"
+        elif command == "addlan":
+            lans[lan] = {"up": True, "speed": DEFAULT_SPEED}
+        elif command == "lan":
+            lans[lan]["up"] = record["state"] == "up"
+        elif command == "speed":
+            lans[lan]["speed"] = record["speed"]
+    return bridges, lans, ports
+
+
+def plan_of(records):
+    """Trees by number, and groups of VLANs with equal islands, from the records of `showplan`."""
+    trees, groups = {}, []
+    for record in records:
+        if record["kind"] == "tree":
+            trees[record["tree"]] = {"bridges": {}, "ports": {}}
+        elif record["kind"] == "port":
+            trees[record["tree"]]["ports"][port_of(record)] = kept_of(record, "lan", "port_id", "ext", "int", "role")
+        elif record["kind"] == "bridge":
+            told = kept_of(record, "bridge_id", "root_id", "root", "ext", "regional_id", "regional", "int", "power")
+            trees[record["tree"]]["bridges"][record["bridge"]] = told
+        elif record["kind"] == "vlan":
+            groups.append({"vids": list_of(record["vids"]), "islands": []})
+        elif record["kind"] == "island" and record["bridges"]:
+            # An island of LANs alone has no bridge.
+            groups[-1]["islands"].append(record["bridges"])
+    return trees, groups
+
+
+def logical_lans(ports, lans, classes):
+    """The logical LANs that have a logical port, by name: their ports and members, whether they are up, and their speed."""
+    members = {record["lan"]: record["lans"] for record in classes}
+    logical = {}
+    for port, told in ports.items():
+        lan = told["lan"]
+        logical.setdefault(lan, {"ports": [], "members": members.get(lan, [lan])})["ports"].append(port)
+    for told in logical.values():
+        up = [member for member in told["members"] if lans[member]["up"]]
+        told["up"], told["speed"] = bool(up), sum(lans[member]["speed"] for member in up or told["members"])
+    return logical
+
+
+def failures_of(records):
+    """The single failures of a sweep in its order, each with the VLANs that it cuts and the parts that it leaves."""
+    failures = []
+    for record in records:
+        if record["kind"] == "cut":
+            failures[-1]["parts"].append(parts_in(record))
+        elif record["kind"] in FAILS:
+            told = {"what": record["kind"], "name": record[record["kind"]], "trees": record["trees"]}
+            failures.append({**told, "changed": record["port_count"], "cut": list_of(record["vids"]), "parts": []})
+    return failures
+
+
+def changed_by(standing, failure):
+    """What a failure changes since the mark, by the records of `changes`. It is taken back."""
+    entity, (fails, back) = f"{failure['what']} {failure['name']}", FAILS[failure["what"]]
+    standing.make(f"{entity} {fails}")
+    changed = standing.answer("changes")
+    standing.make(f"{entity} {back}")
+    return changed
+
+
+def changes_of(records, names):
+    """Roles that a failure changes, and roots with the bridges that have them, by the records of `changes`.
+
+    A bridge that the failure takes away has no root afterwards, and isn't among them. `names` are bridges by identifier.
+    """
+    roles, roots = [], {}
+    for record in records:
+        if record["kind"] == "port":
+            roles.append([record["tree"], port_of(record), record["new_role"]])
+        elif record["kind"] == "bridge" and record["old_vector"] and record["new_vector"]:
+            before, after = root_in(record["old_vector"]), root_in(record["new_vector"])
+            if before != after:
+                roots.setdefault((record["tree"], names[before], names[after]), []).append(record["bridge"])
+    return {"roles": roles, "roots": [[*pair, bridges] for pair, bridges in roots.items()]}
+
+
+def root_in(vector):
+    """The identifier of the root that a vector of the CIST has, or of the regional root in an MSTI."""
+    return vector.get("root_id", vector["regional_id"])
+
+
+def reasons_for(standing, port):
+    """Why a port has its role, by tree."""
+    reasons = {}
+    for record in standing.answer(f"explain {port.replace(':', ' ')}"):
+        told = reasons.setdefault(record["tree"], [])
+        if record["kind"] != "explain":
+            told.append(record)
+    return reasons
+
+
+def networks_of(program, script, steps, sweeping):
+    """All that the page tells of the network which a script leaves, and then of that after the edits of each step, one after another."""
+    with program.standing(script) as standing:
+        yield told_by(standing, sweeping)
+        for edits in steps:
+            for edit in edits:
+                standing.make(edit)
+            yield told_by(standing, sweeping)
+
+
+def told_by(standing, sweeping):
+    """All that the page tells of a standing program's network.
+
+    A port that is alone on its LAN isn't explained: there is nothing that it is compared with.
+    """
+    summary = standing.answer("summary")
+    bridges, lans, ports = settings_of(standing.answer("save"))
+    failures = failures_of(standing.answer("sweep")) if sweeping else []
+    plan, regions, notes, classes = map(standing.answer, QUERIES)
+    trees, groups = plan_of(plan)
+    names = {told["bridge_id"]: bridge for tree in trees.values() for bridge, told in tree["bridges"].items() if "bridge_id" in told}
+    standing.make("mark")
+    for failure in failures:
+        failure.update(changes_of(changed_by(standing, failure), names))
+    logical_ports = trees[0]["ports"]
+    logical = logical_lans(logical_ports, lans, classes)
+    compared = [port for port, told in logical_ports.items() if len(logical[told["lan"]]["ports"]) > 1]
+    return {
+        "refused": standing.refused, "summary": summary, "bridges": bridges, "lans": logical,
+        "up": {lan: told["up"] for lan, told in lans.items()}, "ports": {port: ports[port] for port in logical_ports},
+        "trees": trees, "groups": groups, "regions": regions, "notes": notes, "failures": failures, "swept": sweeping,
+        "reasons": {port: reasons_for(standing, port) for port in compared},
+    }
