@@ -45,7 +45,7 @@ unfoldable pub utf16_text : List ℕ
 utf16_text = codes "this is UTF-16; a script is plain text of one byte a character"
 
 unfoldable pub pcap_text : List ℕ
-pcap_text = codes "this is a pcap file; examples/import/captures.py makes a script of it"
+pcap_text = codes "this is a pcap file; tools/import/captures.py makes a script of it"
 
 abbrev pub byte_text : List ℕ → List ℕ
 byte_text line = if has_order_mark line then order_mark_text else (if is_utf16 line then utf16_text else (if is_pcap line then pcap_text else bad_byte))

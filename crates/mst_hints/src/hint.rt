@@ -71,7 +71,7 @@ fn byte_words(line: &[u8]) -> &'static str
     } else if is_utf16(line) {
         "this is UTF-16; a script is plain text of one byte a character"
     } else if is_pcap(line) {
-        "this is a pcap file; examples/import/captures.py makes a script of it"
+        "this is a pcap file; tools/import/captures.py makes a script of it"
     } else {
         "a line has tabs and bytes of 20 to 7E hexadecimal alone"
     }
