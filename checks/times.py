@@ -25,14 +25,14 @@ KINDS = ("proof", "edits", "tests")
 
 
 def stat_of(pid):
-    """The name, the parent and the processor seconds of a process, or None where it has ended."""
+    """The name, the parent and the processor seconds of a process and of its ended children, or None where it has ended."""
     try:
         with open(f"/proc/{pid}/stat", encoding="utf-8", errors="replace") as file:
             text = file.read()
     except OSError:
         return None
     name, fields = text[text.index("(") + 1 : text.rindex(")")], text[text.rindex(")") + 2 :].split()
-    return name, int(fields[1]), (int(fields[11]) + int(fields[12])) / TICKS
+    return name, int(fields[1]), sum(int(it) for it in fields[11:15]) / TICKS
 
 
 def below(pid, found):
@@ -75,7 +75,7 @@ def watch(pid):
             if it in found and found[it][0] == "rattle":
                 what = running[it][0] if it in running else kind_of(it)
                 if what:
-                    running[it] = what, found[it][2]
+                    running[it] = what, sum(found[each][2] for each in below(it, found) if each in found)
         time.sleep(0.2)
     for what, seconds in running.values():
         ended[what] += seconds

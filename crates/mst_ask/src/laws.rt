@@ -11,13 +11,15 @@ ghost use Rattle.mst_print.specs.declared.form.Form.{Form};
 ghost use Rattle.mst_ask.specs.Asking.{loaded_by};
 ghost use Rattle.mst_ask.specs.Standing.{AsksBy, IsStanding, Standing, Turn, edits_of, lacking_of, left_after};
 
+use mst_advising::laws::one_advice;
 use mst_engine::laws::states;
 use mst_engine::report_laws::{
-    entries_of_network, has_answer, one_advice, one_answer, one_explanation, one_picture,
-    one_summary, one_vlan_picture, pair_parts, sweep_parts,
+    entries_of_network, has_answer, one_answer, one_explanation, one_picture, one_summary,
+    one_vlan_picture,
 };
 use mst_lang::laws::edits_in_range;
 use mst_net::laws::networks;
+use mst_sweeping::laws::{pair_parts, sweep_parts};
 
 /// Any lines can be asked, the first of any number, whatever network stands.
 pub fn has_turns()

@@ -18,7 +18,7 @@ pub use mst_bpdu::{
     Bpdu, BpduFault, Difference, Field, Value, put_comparison, put_fault, read_line,
 };
 pub use mst_report::{
-    Advised, Differing, Forest, Planner, Settled, SweepPart, Unexplained, asks_plan, forwards,
+    Differing, Forest, Planner, Settled, SweepPart, Unexplained, asks_plan, forwards,
     laws as report_laws, trees_laws,
 };
 pub use senders::sender;

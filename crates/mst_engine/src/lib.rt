@@ -12,7 +12,5 @@ pub mod laws;
 mod serving;
 
 pub use engine::{Engine, Input, Reply, print, serve};
-pub use mst_compare::{
-    Advised, Differing, Planner, SweepPart, Unexplained, report_laws, trees_laws,
-};
+pub use mst_compare::{Differing, Planner, SweepPart, Unexplained, report_laws, trees_laws};
 pub use serving::serve_input;

@@ -26,7 +26,7 @@ use Rattle.mst_picture.proofs.trees_lemmas.Looking.{has_tree_at}
 use Rattle.mst_picture.proofs.roles_lemmas.Named.{port_is, port_found, found_in}
 use Rattle.mst_explain.specs.Explained.{IsExplained, AreExplained, trees_of_bridge}
 use Rattle.mst_explain.proofs.Texts.{tree_there as among_trees}
-use Rattle.mst_report.specs.Advising.{unrooted_of}
+use Rattle.mst_report.specs.Unadvised.{unrooted_of}
 use Rattle.mst_report.specs.Explaining.{logical_port_of, has_tree, has_asked, unexplained_of, asked_trees, Explains}
 use Rattle.mst_report.specs.declared.explaining.Unexplained.{Unexplained}
 use Rattle.mst_report.specs.declared.explaining.Unexplained.TheVariants.{NoBridge, NoPort, NoTree}

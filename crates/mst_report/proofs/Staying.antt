@@ -1,5 +1,5 @@
 -- What is kept of a network stays so, where its contents are as they were.
-use Rattle.std.proofs.Common.{◌≡◌, ℕ, Bool, true, false, not, List, Option, Some, None, Ok, Err, is_some, refl, sym, ap, subst, ◌∙◌}
+use Rattle.std.proofs.Common.{◌≡◌, Bool, true, false, not, Option, Some, None, Ok, Err, refl, sym, ap, subst, ◌∙◌}
 use Rattle.std.specs.Option.{option_map, option_map_or, ForSome}
 use Rattle.std.proofs.lemmas.Option.{none-some}
 use Rattle.mst_config.specs.Shared.{AreRegions}
@@ -10,10 +10,9 @@ use Rattle.mst_net.specs.Tables.{Net, Numbers}
 use Rattle.mst_net.specs.Contents.{Contents, Tables, SameContents}
 use Rattle.mst_lag.specs.Viewed.{Viewed, IsView}
 use Rattle.mst_picture.specs.changes.declared.entries.Entries.{Entries}
-use Rattle.mst_picture.specs.trees.Forest.{Forest}
-use Rattle.mst_report.specs.Standing.{standing_of}
-use Rattle.mst_report.specs.Kept.{HasPlan, HasRegions, HasView, HasMark, standing_in}
-use Rattle.mst_report.specs.declared.plan.Plan.{Plan}
+use Rattle.mst_report.specs.Kept.{HasMark}
+use Rattle.mst_plan.specs.Plan.{HasPlan, HasRegions, HasView}
+use Rattle.mst_plan.specs.declared.plan.Plan.{Plan}
 
 -- all that is kept
 abbrev pub IsKept : Net → Numbers → Bool → Bool → Bool → Option Plan → Option Entries → Type 0
@@ -50,9 +49,3 @@ effect_made edit old new made = go (refusal_of edit old) made
     go : (refusal : Option Refusal) → option_map_or Err refusal (Ok (effect edit old)) ≡ Ok new → effect edit old ≡ new
     go None e = cc
     go (Some refusal) e = cc
-
--- the trees that a plan is given stand in it
-pub given_trees : (plan : Option Plan) (regions : List (ℕ × ℕ)) (forest : Forest) → is_some plan ≡ true
-    → standing_of forest ≡ standing_in (option_map (λ (p : Plan). record { view = p.view; regions = regions; forest = forest }) plan)
-given_trees None regions forest there = cc
-given_trees (Some plan) regions forest there = refl

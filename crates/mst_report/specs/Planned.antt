@@ -3,7 +3,7 @@ use Rattle.std.specs.Prelude.{Bool, List, Option}
 use Rattle.mst_net.specs.Contents.{Contents}
 use Rattle.mst_picture.specs.changes.declared.subject.Entry.{Entry}
 use Rattle.mst_report.specs.State.{State}
-use Rattle.mst_report.specs.Standing.{Standing}
+use Rattle.mst_plan.specs.Standing.{Standing}
 
 -- its network, whether the plan is that of the network as it is now, the trees that stand, and the entries of the mark,
 -- if there is one

@@ -7,33 +7,33 @@ ghost use Rattle.mst_picture.specs.trees.Agrees.{AreOf};
 ghost use Rattle.mst_picture.specs.trees.Forest.{IsForest, SettlesNoUnused};
 ghost use Rattle.mst_lag.specs.Viewed.{IsView};
 ghost use Rattle.mst_picture.specs.changes.Stored.{kept_entries};
-ghost use Rattle.mst_report.specs.Advising.{Advises, unadvised_of};
-ghost use Rattle.mst_report.specs.Pairing.{SweepsPairs};
-ghost use Rattle.mst_report.specs.Setting.{after_steps};
-ghost use Rattle.mst_report.specs.Stepping.{IsFew, Steps};
-ghost use Rattle.mst_report.specs.Sweeping.{SweepsPart};
-ghost use Rattle.mst_report.specs.Verifying.{Verifies, counts_of};
+ghost use Rattle.mst_advising.specs.Advising.{Advises};
+ghost use Rattle.mst_report.specs.Unadvised.{unadvised_of};
+ghost use Rattle.mst_sweeping.specs.Pairing.{SweepsPairs};
+ghost use Rattle.mst_stepping.specs.Setting.{after_steps};
+ghost use Rattle.mst_stepping.specs.Stepping.{IsFew, Steps};
+ghost use Rattle.mst_sweeping.specs.Sweeping.{SweepsPart};
+ghost use Rattle.mst_judging.specs.Verifying.{Verifies, counts_of};
 ghost use Rattle.mst_rows.specs.Rows.{Row};
 
-use crate::advising::{Advised, advise_network};
 use crate::laws::entries_of_network;
-use crate::pairing::sweep_pairs;
-use crate::plan::{Plan, next_plan, renew_plan, settle_plan};
-use crate::stepping::{Course, step_network};
-use crate::sweeping::sweep_network;
-use crate::verifying::{Verdict, verify_network};
 use mst_advise::Goal;
+use mst_advising::{Advised, advise_network};
 use mst_change::Change;
 use mst_config::laws::regions_stay;
 use mst_config::touches_regions;
 use mst_ids::Tree;
+use mst_judging::{Verdict, verify_network};
 use mst_lag::View;
 use mst_lang::Edit;
 use mst_net::{Contents, Network, Refusal};
 use mst_picture::{Entries, Forest, Settled};
+use mst_plan::{Plan, next_plan, renew_plan, settle_plan};
 use mst_policy::Policy;
 use mst_rows::Rows;
+use mst_stepping::{Course, step_network};
 use mst_sweep::SweepPart;
+use mst_sweeping::{sweep_network, sweep_pairs};
 use std::alloc::{AllocError, Global};
 use std::marker::Model;
 
@@ -81,7 +81,8 @@ impl Model for Planner {
 
     ghost coded = { Prim.hlevel (codes, contents_code) };
 
-    ghost use Rattle.mst_report.specs.Kept.{HasPlan, HasRegions, HasView, HasMark, mark_entries, standing_in};
+    ghost use Rattle.mst_report.specs.Kept.{HasMark, mark_entries};
+    ghost use Rattle.mst_plan.specs.Plan.{HasPlan, HasRegions, HasView, standing_in};
 
     ghost view = { λ p. record { contents = p.network; is_settled = p.is_settled; standing = standing_in p.plan; mark = mark_entries p.mark } };
 
@@ -89,9 +90,9 @@ impl Model for Planner {
 }
 
 impl Planner {
-    ghost use Rattle.mst_report.specs.Kept.{IsPlan};
+    ghost use Rattle.mst_plan.specs.Plan.{IsPlan};
     ghost use Rattle.mst_report.specs.Planned.{planned_state};
-    ghost use Rattle.mst_report.specs.Standing.{Standing, nothing, standing_of, settlings_of, msti_settlings, KeepsBounds};
+    ghost use Rattle.mst_plan.specs.Standing.{Standing, nothing, standing_of, settlings_of, msti_settlings, KeepsBounds};
     ghost use Rattle.mst_report.specs.State.{IsState, IsMarkNow, AreEntriesNow, empty_state};
 
     /// The planner of the network with no records, which isn't settled yet: so it takes no memory.

@@ -12,10 +12,10 @@ use Rattle.mst_rows.specs.Rows.{Row}
 use Rattle.mst_diff.specs.trees.Outcome.{IsOutcome, Outcome}
 use Rattle.mst_steps.specs.declared.step.Deed.TheVariants as deed
 use Rattle.mst_verify.specs.Verified.{Counts}
-use Rattle.mst_report.specs.Setting.{after_lines, refused_lines}
-use Rattle.mst_report.specs.Stepping.{AreJudgedBy, IsStepTold, StepMade, StepTold, Steps, course_of, course_row, numbers_of, rows_told, step_made, steps_made}
-use Rattle.mst_report.specs.Verifying.{Judges}
-use Rattle.mst_report.specs.declared.stepping.Course.{Course}
+use Rattle.mst_stepping.specs.Setting.{after_lines, refused_lines}
+use Rattle.mst_stepping.specs.Stepping.{AreJudgedBy, IsStepTold, StepMade, StepTold, Steps, course_of, course_row, numbers_of, rows_told, step_made, steps_made}
+use Rattle.mst_judging.specs.Verifying.{Judges}
+use Rattle.mst_stepping.specs.declared.stepping.Course.{Course}
 use Rattle.mst_step_laws.proofs.Courses.{all_first, all_others, lines_network}
 use Rattle.mst_step_laws.proofs.StepThere.{HasGroups, HasIslands, has_step}
 

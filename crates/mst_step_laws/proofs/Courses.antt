@@ -9,7 +9,7 @@ use Rattle.mst_lang.specs.declared.line.Fault.{Fault}
 use Rattle.mst_net.specs.After.{after}
 use Rattle.mst_net.specs.Tables.{IsNetwork, Net}
 use Rattle.mst_net.specs.declared.refusal.Refusal.{Refusal}
-use Rattle.mst_report.specs.trees.Outcome.{IsOutcome, Outcome}
+use Rattle.mst_diff.specs.trees.Outcome.{IsOutcome, Outcome}
 use Rattle.mst_policy.specs.declared.policy.PolicyLine.{PolicyLine}
 use Rattle.mst_rows.specs.Rows.{Row}
 use Rattle.mst_steps.specs.StepText.{AreStepRows}
@@ -17,10 +17,10 @@ use Rattle.mst_steps.specs.declared.step.Deed.{Deed}
 use Rattle.mst_steps.specs.declared.step.Deed.TheVariants as deed
 use Rattle.mst_steps.specs.declared.step.Stepped.{Stepped}
 use Rattle.mst_verify.specs.Verified.{Counts}
-use Rattle.mst_report.specs.Setting.{after_lines, after_steps, kept_or, set_by}
-use Rattle.mst_report.specs.Stepping.{AreJudgedBy, IsStepTold, StepMade, StepTold, Steps, course_of, course_row, numbers_of, rows_told, step_made, steps_made}
-use Rattle.mst_report.specs.Verifying.{Judges}
-use Rattle.mst_report.specs.declared.stepping.Course.{Course}
+use Rattle.mst_stepping.specs.Setting.{after_lines, after_steps, kept_or, set_by}
+use Rattle.mst_stepping.specs.Stepping.{AreJudgedBy, IsStepTold, StepMade, StepTold, Steps, course_of, course_row, numbers_of, rows_told, step_made, steps_made}
+use Rattle.mst_judging.specs.Verifying.{Judges}
+use Rattle.mst_stepping.specs.declared.stepping.Course.{Course}
 
 -- ---- lines one after another
 pub steps_then : (net : Net) (steps others : List (List LineRead)) → after_steps net (steps ++ others) ≡ after_steps (after_steps net steps) others

@@ -7,9 +7,9 @@ ghost use Rattle.mst_diff.specs.Reach.{has_any};
 ghost use Rattle.mst_lang.specs.declared.line.Version.TheVariants.{V1};
 ghost use Rattle.mst_net.specs.Tables.{Net, IsNetwork};
 ghost use Rattle.mst_policy.specs.declared.policy.PolicyLine.{PolicyLine as LineOf};
-ghost use Rattle.mst_report.specs.Setting.{after_lines, after_steps};
-ghost use Rattle.mst_report.specs.Stepping.{Steps};
-ghost use Rattle.mst_report.specs.declared.stepping.Course.{Course as CourseOf};
+ghost use Rattle.mst_stepping.specs.Setting.{after_lines, after_steps};
+ghost use Rattle.mst_stepping.specs.Stepping.{Steps};
+ghost use Rattle.mst_stepping.specs.declared.stepping.Course.{Course as CourseOf};
 ghost use Rattle.mst_rows.specs.Rows.{Row};
 ghost use Rattle.mst_step_laws.specs.InReach.{IsInDiff, StepAndDiff};
 
@@ -18,8 +18,8 @@ use mst_diff::trees_laws::{has_outcome, one_outcome};
 use mst_diff::vlan_laws::islands_of_vid;
 use mst_graph::laws::group_lists;
 use mst_ids::Vid;
+use mst_judging::laws::one_judgement;
 use mst_net::laws::networks;
-use mst_report::laws::one_judgement;
 use mst_steps::laws::one_step;
 
 /// What the steps of a change do in a network: there is one list of rows and one count of them, which the network, the lines of the steps

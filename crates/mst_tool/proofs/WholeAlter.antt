@@ -7,8 +7,8 @@ use Rattle.mst_lang.specs.Lines.{lines_of}
 use Rattle.mst_policy.specs.declared.policy.PolicyLine.{PolicyLine}
 use Rattle.mst_engine.specs.net.Tables.{Net}
 use Rattle.mst_engine.specs.report.State.{State, empty_state}
-use Rattle.mst_engine.specs.report.Stepping as network
-use Rattle.mst_engine.specs.report.declared.stepping.Course.{Course}
+use Rattle.mst_stepping.specs.Stepping as network
+use Rattle.mst_stepping.specs.declared.stepping.Course.{Course}
 use Rattle.mst_engine.specs.Engine.{Tally, outcome_of}
 use Rattle.mst_engine.specs.Served.{Served}
 use Rattle.mst_engine.specs.Steps.{left_by, texts_of}

@@ -14,17 +14,17 @@ use crate::asked::{Asked, Question};
 use crate::early::{why_unadvised, why_unexplained};
 use crate::opened::{open_advice, open_explanation, open_pairs, open_question, open_sweep};
 use mst_advise::Goal;
+use mst_advising::Advised;
+use mst_advising::laws::one_advice;
 use mst_engine::laws::{one_load, states};
-use mst_engine::report_laws::{
-    one_advice, one_explanation, one_picture, one_summary, one_vlan_picture, pair_parts,
-    sweep_parts,
-};
-use mst_engine::{Advised, Engine, Input, Planner, SweepPart, Unexplained, serve_input};
+use mst_engine::report_laws::{one_explanation, one_picture, one_summary, one_vlan_picture};
+use mst_engine::{Engine, Input, Planner, SweepPart, Unexplained, serve_input};
 use mst_ids::{Tree, Vid};
 use mst_io::{FromRead, Outcome, RunFault, Sink, Source, TURNS, ToWrite, WriteFailed, put};
 use mst_kinds::{Query, RefusalLine};
 use mst_lang::Fault;
 use mst_print::{Form, Shape, Side, put_unanswered};
+use mst_sweeping::laws::{pair_parts, sweep_parts};
 use std::alloc::{AllocError, Global};
 use std::io::{Read, Write};
 

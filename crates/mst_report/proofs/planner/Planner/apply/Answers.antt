@@ -3,7 +3,7 @@ use Rattle.mst_net.specs.Contents.{Tables}
 use Rattle.mst_net.specs.Tables.{Net}
 use Rattle.mst_picture.specs.trees.Msti.{has_msti}
 use Rattle.mst_report.proofs.Staying.{kept_so, effect_made}
-use Rattle.mst_report.proofs.Swept.{same_then}
+use Rattle.mst_sweeping.proofs.Swept.{same_then}
 use Rattle.mst_report.proofs.planner.Planner.apply.Goals as goal
 
 pub invariant_of-self : goal.invariant_of-self

@@ -1,6 +1,6 @@
 use Rattle.std.proofs.Common.{subst}
 use Rattle.std.proofs.lemmas.Result.{IfOk-weaker}
-use Rattle.mst_report.specs.Pairing.{SweepsPairs}
+use Rattle.mst_sweeping.specs.Pairing.{SweepsPairs}
 use Rattle.mst_report.specs.Planned.{Planned}
 use Rattle.mst_report.proofs.planner.Planner.put_pairs.Goals as goal
 

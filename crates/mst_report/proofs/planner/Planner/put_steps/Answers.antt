@@ -3,7 +3,7 @@ use Rattle.std.specs.Option.{option_map}
 use Rattle.mst_change.specs.Reading.{LineRead}
 use Rattle.mst_policy.specs.declared.policy.PolicyLine.{PolicyLine}
 use Rattle.mst_report.specs.Planned.{Planned}
-use Rattle.mst_report.specs.Stepping.{Steps}
+use Rattle.mst_stepping.specs.Stepping.{Steps}
 use Rattle.mst_report.proofs.planner.Planner.put_steps.Goals as goal
 
 pub returns-clause-told : goal.returns-clause-told

@@ -1,7 +1,7 @@
 use Rattle.std.proofs.Common.{subst}
 use Rattle.std.proofs.lemmas.Result.{IfOk-weaker}
 use Rattle.mst_report.specs.Planned.{Planned}
-use Rattle.mst_report.specs.Sweeping.{SweepsPart}
+use Rattle.mst_sweeping.specs.Sweeping.{SweepsPart}
 use Rattle.mst_report.proofs.planner.Planner.put_sweep.Goals as goal
 
 pub returns-clause-told : goal.returns-clause-told

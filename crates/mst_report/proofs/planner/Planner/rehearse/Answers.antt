@@ -1,5 +1,5 @@
 use Rattle.mst_report.proofs.Staying.{kept_so}
-use Rattle.mst_report.proofs.Swept.{same_then}
+use Rattle.mst_sweeping.proofs.Swept.{same_then}
 use Rattle.mst_report.proofs.planner.Planner.rehearse.Goals as goal
 
 pub invariant_of-self : goal.invariant_of-self

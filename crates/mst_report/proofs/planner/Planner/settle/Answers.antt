@@ -1,7 +1,7 @@
 use Rattle.std.proofs.Common.{Option, sym, ap, subst, ◌∙◌}
 use Rattle.mst_picture.specs.trees.Msti.{has_msti}
 use Rattle.mst_report.specs.Planned.{Planned}
-use Rattle.mst_report.specs.declared.plan.Plan.{Plan}
+use Rattle.mst_plan.specs.declared.plan.Plan.{Plan}
 use Rattle.mst_report.proofs.Staying.{IsKept}
 use Rattle.mst_report.proofs.planner.Planner.settle.Goals as goal
 

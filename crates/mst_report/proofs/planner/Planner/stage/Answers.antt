@@ -1,7 +1,7 @@
 use Rattle.std.proofs.Common.{◌≡◌, IfOk, sym, subst, ◌∙◌, true≢false}
 use Rattle.mst_lang.specs.declared.line.Edit.{Edit}
 use Rattle.mst_net.specs.Contents.{CanCommit, Commits}
-use Rattle.mst_report.specs.Kept.{HasRegions}
+use Rattle.mst_plan.specs.Plan.{HasRegions}
 use Rattle.mst_report.proofs.Staying.{kept_so, view_so, regions_so, untrue}
 use Rattle.mst_report.proofs.planner.Planner.stage.Goals.{then-self, else-self}
 use Rattle.mst_report.proofs.planner.Planner.stage.Goals as goal

@@ -1,0 +1,16 @@
+use Rattle.std.proofs.Common.{◌≡◌, ◌∷◌, [], List, Ok, ap, subst, sym, ◌∙◌}
+use Rattle.std.proofs.lemmas.Result.{IfOk-weaker}
+use Rattle.mst_rows.specs.Rows.{Row}
+use Rattle.mst_trees.specs.Settled.{SettledNet}
+use Rattle.mst_advising.specs.Advising.{Tries, after_settings}
+use Rattle.mst_sweeping.specs.Sweeping.{Puts}
+use Rattle.mst_advise.specs.declared.setting.Setting.{Setting}
+use Rattle.mst_advising.proofs.advising.try_ahead.Goals as goal
+
+pub returns : goal.returns
+returns g c = IfOk-weaker c.put_if_had.result _ _
+    (λ found said is.
+    let network = c.args.network.now in
+    subst (λ (settings : List Setting). (x : List Row) × Tries c.args.goal.now network.net is.forest.outcome settings found x × Puts g.R.Rows.grew c.args.out.now c.put_if_had.new.out x) c.from_ref.ensures.value
+    (said network.net network.numbers is (ap (after_settings network.net) c.from_ref.ensures.value ∙ c.requires.made ∙ ap (λ (s : SettledNet). Ok s.net) (sym c.ahead-settled.ensures))))
+    c.put_if_had.ensures

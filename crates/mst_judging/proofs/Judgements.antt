@@ -1,0 +1,259 @@
+-- What lines of a policy expect, and what a failure leaves of what they are judged by.
+use Rattle.std.proofs.Common.{◌≡◌, ℕ, ◌+◌, ◌<◌, Bool, true, false, true≢false, ◌&&◌, cond, not, List, [], ◌∷◌, ◌++◌, length, map, take, get_or, Option, Some, None, is_some, Result, Ok, Err, refl, sym, ap, subst, ◌∙◌}
+use Rattle.std.specs.Prelude.{MatchOption}
+use Rattle.std.specs.List.{AllByRecursion, AllZip, Contains, count_by, list_all, list_any}
+use Rattle.std.specs.Option.{option_and_then, option_map, option_map_or}
+use Rattle.std.specs.FinMap as fin
+use Rattle.std.specs.Ordering.{eq_by_cmp}
+use Rattle.std.proofs.lemmas.List.{get_or-map, length-map, take_more}
+use Rattle.std.proofs.lemmas.List.Sums.{sum_by-cons}
+use Rattle.mst_lang.specs.declared.line.Edit.{Edit}
+use Rattle.mst_lang.specs.declared.line.Fault.{Fault}
+use Rattle.mst_lang.specs.declared.line.BridgeChange.TheVariants.{Power}
+use Rattle.mst_lang.specs.declared.line.LanChange.TheVariants.{State}
+use Rattle.mst_lang.specs.declared.line.LanState.TheVariants.{Down}
+use Rattle.mst_lang.specs.declared.line.Power.TheVariants.{Off}
+use Rattle.mst_net.specs.After.{after, effect, lan_with, refusal_of}
+use Rattle.mst_net.specs.ByTree.{ByTree, by_tree, table_in, vlans_in}
+use Rattle.mst_net.specs.Contents.{Contents, SameContents, Tables}
+use Rattle.mst_net.specs.Tables.{Net, Numbers, BridgeRow}
+use Rattle.mst_net.proofs.Changed.{get_changed}
+use Rattle.mst_net.proofs.Keys.{names}
+use Rattle.mst_graph.specs.declared.keys.Numbering.{Numbering}
+use Rattle.mst_ids.specs.Names.{name_cmp}
+use Rattle.mst_lag.specs.Aggregation.{same_name}
+use Rattle.mst_lag.specs.View.{LogicalPort}
+use Rattle.mst_lag.specs.Viewed.{Viewed, IsView, named_bridge, named_port}
+use Rattle.mst_lag.specs.declared.in_view.BridgeInView.{BridgeInView}
+use Rattle.mst_lag.specs.declared.in_view.PortInView.{PortInView}
+use Rattle.mst_policy.specs.Items.{item_has}
+use Rattle.mst_policy.specs.declared.expectation.Expectation.{Expectation}
+use Rattle.mst_policy.specs.declared.expectation.Expectation.TheVariants as expect
+use Rattle.mst_policy.specs.declared.expectation.Promise.{Promise}
+use Rattle.mst_policy.specs.declared.expectation.Scope.{Scope}
+use Rattle.mst_policy.specs.declared.item.NameItem.{NameItem}
+use Rattle.mst_policy.specs.declared.item.NameItem.TheVariants.{Is}
+use Rattle.mst_policy.specs.declared.policy.PolicyLine.{PolicyLine}
+use Rattle.mst_changes.specs.Subjects.{bridge_names, port_names}
+use Rattle.mst_summary.specs.Kept.{AreClasses}
+use Rattle.mst_trees.specs.Outcome.{Outcome, IsOutcome}
+use Rattle.mst_trees.proofs.Lists.{mapped_twice}
+use Rattle.mst_sweep.specs.Failures.{edit_of}
+use Rattle.mst_sweep.specs.Left.{AreLeft}
+use Rattle.mst_sweep.specs.declared.failure.Failure.{Failure}
+use Rattle.mst_sweep.specs.declared.failure.Failure.TheVariants.{Lan, Bridge}
+use Rattle.mst_sweep.proofs.Failed.{are_left}
+use Rattle.mst_sweep.proofs.SweptParts.{zip_joined}
+use Rattle.mst_verify.specs.Missing.{has_one, lans_of, missing, scope_lans}
+use Rattle.mst_verify.specs.Over.{HasItsLan, is_lan}
+use Rattle.mst_verify.specs.Judged.{asks_at, gone_of}
+use Rattle.mst_verify.specs.Verified.{AreLineReasons, AreReasonsAfter, expected_at, judged, judged_of, where_whole}
+use Rattle.mst_verify.specs.declared.lacking.Missing.{Missing}
+use Rattle.mst_verify.specs.declared.reason.Reason.{Reason}
+use Rattle.mst_verify.proofs.JudgedSomewhere.{whole}
+use Rattle.mst_judging.specs.Verifying.{AreJudged, AreReasonsEach, AreReasonsIf, HaveLans, asked_by, expected_by}
+use Rattle.mst_sweeping.proofs.SweepThere.{all_joined}
+
+-- ---- lists
+-- one more, place by place
+pub zip_more : {A B : Type 0} (R : A → B → Type 0) (xs : List A) (i : ℕ) (x : A) (ys : List B) (y : B) → i < length xs → x ≡ get_or xs i x → AllZip R (take i xs) ys → R x y → AllZip R (take (i + 1) xs) (ys ++ y ∷ [])
+zip_more R xs i x ys y below is h r = subst (λ l. AllZip R l (ys ++ y ∷ [])) (sym (take_more xs i x below ∙ ap (λ z. take i xs ++ z ∷ []) (sym is))) (zip_joined R (take i xs) (x ∷ []) ys (y ∷ []) h (r, tt))
+
+pub all_more : {A : Type 0} (P : A → Type 0) (xs : List A) (i : ℕ) (x : A) → i < length xs → x ≡ get_or xs i x → AllByRecursion P (take i xs) → P x → AllByRecursion P (take (i + 1) xs)
+all_more P xs i x below is h p = subst (AllByRecursion P) (sym (take_more xs i x below ∙ ap (λ z. take i xs ++ z ∷ []) (sym is))) (all_joined P (take i xs) (x ∷ []) h (p, tt))
+
+-- what follows of each, place by place
+pub zip_weaker : {A B : Type 0} (R S : A → B → Type 0) → ((x : A) (y : B) → R x y → S x y) → (xs : List A) (ys : List B) → AllZip R xs ys → AllZip S xs ys
+zip_weaker R S f [] [] h = tt
+zip_weaker R S f [] (y ∷ ys) h = absurd h
+zip_weaker R S f (x ∷ xs) [] h = absurd h
+zip_weaker R S f (x ∷ xs) (y ∷ ys) h = (f x y h.0, zip_weaker R S f xs ys h.1)
+
+-- ---- what lines expect
+-- a line is judged by its flag
+expected_read : (net : Net) (read : Result Promise Fault) (place : Option Failure) → cond (is_some (judged_of net read)) (asked_by read place) None ≡ option_and_then (λ promise. cond (asks_at promise place) (Some promise.expectation) None) (judged_of net read)
+expected_read net (Err fault) place = refl
+expected_read net (Ok promise) place = by (missing net promise)
+  where
+    by : (what : Option Missing) → cond (is_some (where_whole promise what)) (asked_by (Ok promise) place) None ≡ option_and_then (λ promise. cond (asks_at promise place) (Some promise.expectation) None) (where_whole promise what)
+    by None = refl
+    by (Some what) = refl
+
+pub flag_of : (net : Net) (lines : List PolicyLine) (flags : List Bool) → AreJudged net lines flags → (n : ℕ) (line : PolicyLine) (d : Bool) → n < length lines → line ≡ get_or lines n line → get_or flags n d ≡ is_some (judged net line)
+flag_of net lines flags are n line d below line_is =
+    ap (λ l. get_or l n d) are ∙ get_or-map (λ (l : PolicyLine). is_some (judged net l)) lines n line d below ∙ ap (λ (l : PolicyLine). is_some (judged net l)) (sym line_is)
+
+pub expected_so : (net : Net) (line : PolicyLine) (flag : Bool) (place : Option Failure) → flag ≡ is_some (judged net line) → expected_by line flag place ≡ expected_at net line place
+expected_so net line flag place e = ap (λ f. cond f (asked_by line.read place) None) e ∙ expected_read net line.read place
+
+-- ---- the LANs that they name
+none_some : {A : Type 0} (x : A) → None ≡ Some x → ⊥
+none_some x e = absurd (cc)
+
+not_false : (b : Bool) → not b ≡ false → b ≡ true
+not_false true e = refl
+not_false false e = sym e
+
+and_second : (a b : Bool) → (a && b) ≡ true → b ≡ true
+and_second true b e = e
+and_second false b e = absurd (true≢false (sym e))
+
+all_appended : {A : Type 0} (test : A → Bool) (xs ys : List A) → list_all test (xs ++ ys) ≡ true → list_all test ys ≡ true
+all_appended test [] ys e = e
+all_appended test (x ∷ xs) ys e = all_appended test xs ys (and_second (test x) (list_all test (xs ++ ys)) e)
+
+-- so the LAN that it names is there
+tied_names : (net : Net) (lan : List ℕ) → list_any (item_has (Is lan)) (fin.keys net.lans) ≡ list_any (eq_by_cmp name_cmp lan) (fin.keys net.lans)
+tied_names net lan = λ i. list_any (λ x. names.ties lan x i) (fin.keys net.lans)
+
+one_there : (net : Net) (lan : List ℕ) → list_all (has_one (fin.keys net.lans)) (Is lan ∷ []) ≡ true → is_lan net lan ≡ true
+one_there net lan e = fin.contains_key-keys net.lans lan ∙ sym (tied_names net lan) ∙ by (list_any (item_has (Is lan)) (fin.keys net.lans)) e
+  where
+    by : (b : Bool) → (b && true) ≡ true → b ≡ true
+    by true e = refl
+    by false e = e
+
+has_lan : (net : Net) (e : Expectation) → list_all (has_one (fin.keys net.lans)) (lans_of e) ≡ true → HasItsLan net e
+has_lan net (expect.Root tree b next) h = tt
+has_lan net (expect.Region bridges) h = tt
+has_lan net (expect.Role tree ports roles) h = tt
+has_lan net (expect.Reach vids bridges) h = tt
+has_lan net (expect.Apart vids bridges others) h = tt
+has_lan net (expect.Leaf tree bridges) h = tt
+has_lan net (expect.Depth tree steps) h = tt
+has_lan net (expect.Carries lan vids) h = one_there net lan h
+has_lan net (expect.Avoids lan vids) h = one_there net lan h
+has_lan net expect.Fits h = tt
+
+judged_lan : (net : Net) (promise : Promise) → missing net promise ≡ None → HasItsLan net promise.expectation
+judged_lan net promise e =
+    has_lan net promise.expectation (all_appended (has_one (fin.keys net.lans)) (scope_lans promise.scope) (lans_of promise.expectation)
+    (not_false (list_all (has_one (fin.keys net.lans)) (scope_lans promise.scope ++ lans_of promise.expectation)) (whole net promise e).0))
+
+pub have_lans : (net : Net) (place : Option Failure) → HaveLans net net place
+have_lans net place line e h = go line.read h
+  where
+    asked : (promise : Promise) → HasItsLan net promise.expectation → (b : Bool) → cond b (Some promise.expectation) None ≡ Some e → HasItsLan net e
+    asked promise has true k = subst (HasItsLan net) (some_same promise.expectation e k) has
+      where
+        some_same : (a b : Expectation) → Some a ≡ Some b → a ≡ b
+        some_same a b k = cc
+    asked promise has false k = absurd (none_some e k)
+
+    by : (promise : Promise) (what : Option Missing) → missing net promise ≡ what → option_and_then (λ promise. cond (asks_at promise place) (Some promise.expectation) None) (where_whole promise what) ≡ Some e → HasItsLan net e
+    by promise None m k = asked promise (judged_lan net promise m) (asks_at promise place) k
+    by promise (Some what) m k = absurd (none_some e k)
+
+    go : (read : Result Promise Fault) → option_and_then (λ promise. cond (asks_at promise place) (Some promise.expectation) None) (judged_of net read) ≡ Some e → HasItsLan net e
+    go (Err fault) k = absurd (none_some e k)
+    go (Ok promise) k = by promise (missing net promise) refl k
+
+-- a failure takes no LAN away
+some_kept : {A : Type 0} (t : Bool) (f : A → A) (o : Option A) → is_some (cond t (option_map f o) o) ≡ is_some o
+some_kept true f None = refl
+some_kept true f (Some x) = refl
+some_kept false f o = refl
+
+lan_kept : (failure : Failure) (net : Net) (lan : List ℕ) → is_lan (effect (edit_of failure) net) lan ≡ is_lan net lan
+lan_kept (Lan own) net lan = ap is_some (get_changed names net.lans own (lan_with (State Down)) lan) ∙ some_kept (same_name own lan) (lan_with (State Down)) (fin.get net.lans lan)
+lan_kept (Bridge bridge) net lan = refl
+
+its_lan_kept : (failure : Failure) (net : Net) (e : Expectation) → HasItsLan net e → HasItsLan (effect (edit_of failure) net) e
+its_lan_kept failure net (expect.Root tree b next) h = tt
+its_lan_kept failure net (expect.Region bridges) h = tt
+its_lan_kept failure net (expect.Role tree ports roles) h = tt
+its_lan_kept failure net (expect.Reach vids bridges) h = tt
+its_lan_kept failure net (expect.Apart vids bridges others) h = tt
+its_lan_kept failure net (expect.Leaf tree bridges) h = tt
+its_lan_kept failure net (expect.Depth tree steps) h = tt
+its_lan_kept failure net (expect.Carries lan vids) h = lan_kept failure net lan ∙ h
+its_lan_kept failure net (expect.Avoids lan vids) h = lan_kept failure net lan ∙ h
+its_lan_kept failure net expect.Fits h = tt
+
+pub have_lans_ahead : (net : Net) (failure : Failure) (place : Option Failure) → HaveLans net (effect (edit_of failure) net) place
+have_lans_ahead net failure place line e h = its_lan_kept failure net e (have_lans net place line e h)
+
+-- ---- classes of VIDs
+all_names : {A B : Type 0} (P : B → Type 0) (name : A → B) (xs : List A) → AllByRecursion (λ x. P (name x)) xs → AllByRecursion P (map name xs)
+all_names P name [] h = tt
+all_names P name (x ∷ xs) h = (h.0, all_names P name xs h.1)
+
+names_all : {A B : Type 0} (P : B → Type 0) (name : A → B) (xs : List A) → AllByRecursion P (map name xs) → AllByRecursion (λ x. P (name x)) xs
+names_all P name [] h = tt
+names_all P name (x ∷ xs) h = (h.0, names_all P name xs h.1)
+
+seen_names : (net : Net) (numbers : Numbers) (v : Viewed) → IsView net numbers v → map (λ (b : BridgeInView). b.name) v.bridges ≡ bridge_names net
+seen_names net numbers v view = sym (mapped_twice (λ (e : List ℕ × BridgeRow). e.0) named_bridge v.bridges) ∙ ap (map (λ (e : List ℕ × BridgeRow). e.0)) view.bridges
+
+seen_ports : (net : Net) (numbers : Numbers) (v : Viewed) → IsView net numbers v → map (λ (p : PortInView). p.name) v.ports ≡ port_names net
+seen_ports net numbers v view = sym (mapped_twice (λ (p : LogicalPort). p.name) named_port v.ports) ∙ ap (map (λ (p : LogicalPort). p.name)) view.ports
+
+-- those of a network are those of one that has the same names and the same settings by tree and VID
+classes_left : (a b : Net) (n k : Numbers) (v w : Viewed) → IsView a n v → IsView b k w → AreLeft a b → (c : Numbering) → AreClasses v c → AreClasses w c
+classes_left a b n k v w of_v of_w left c are =
+    let set : v.settings ≡ w.settings = of_v.settings ∙ left.settings ∙ sym of_w.settings in
+    let bridges : map (λ (b : BridgeInView). b.name) v.bridges ≡ map (λ (b : BridgeInView). b.name) w.bridges = seen_names a n v of_v ∙ left.bridges ∙ sym (seen_names b k w of_w) in
+    let ports : map (λ (p : PortInView). p.name) v.ports ≡ map (λ (p : PortInView). p.name) w.ports = seen_ports a n v of_v ∙ left.ports ∙ sym (seen_ports b k w of_w) in
+    record {
+      tables = are.tables;
+      sets = are.sets;
+      have_tables = names_all (λ name. Contains are.tables (table_in w.settings.tables name)) (λ (b : BridgeInView). b.name) w.bridges
+          (subst (λ (s : ByTree). AllByRecursion (λ name. Contains are.tables (table_in s.tables name)) (map (λ (b : BridgeInView). b.name) w.bridges)) set
+          (subst (AllByRecursion (λ name. Contains are.tables (table_in v.settings.tables name))) bridges (all_names (λ name. Contains are.tables (table_in v.settings.tables name)) (λ (b : BridgeInView). b.name) v.bridges are.have_tables)));
+      have_sets = names_all (λ name. Contains are.sets (vlans_in w.settings.vlans name)) (λ (p : PortInView). p.name) w.ports
+          (subst (λ (s : ByTree). AllByRecursion (λ name. Contains are.sets (vlans_in s.vlans name)) (map (λ (p : PortInView). p.name) w.ports)) set
+          (subst (AllByRecursion (λ name. Contains are.sets (vlans_in v.settings.vlans name))) ports (all_names (λ name. Contains are.sets (vlans_in v.settings.vlans name)) (λ (p : PortInView). p.name) v.ports are.have_sets)));
+      numbers = are.numbers;
+      tell = are.tell;
+      classes = are.classes;
+    }
+
+-- so they are those of a network that failed
+pub classes_stay : (failure : Failure) (a b : Net) (n k : Numbers) (v w : Viewed) → after (edit_of failure) a ≡ Ok b → IsView a n v → IsView b k w → (c : Numbering) → AreClasses v c → AreClasses w c
+classes_stay failure a b n k v w e of_v of_w c are = classes_left a b n k v w of_v of_w (are_left failure a b e) c are
+
+-- ---- reasons after a failure
+pub made_by : (failure : Failure) (net : Net) → refusal_of (edit_of failure) net ≡ None → after (edit_of failure) net ≡ Ok (effect (edit_of failure) net)
+made_by failure net accepted = ap (λ r. option_map_or Err r (Ok (effect (edit_of failure) net))) accepted
+
+module _ (failure : Failure) (net : Net) (edit : Edit) (is : edit ≡ edit_of failure) where
+  pub made_ahead : refusal_of edit net ≡ None → after (edit_of failure) net ≡ Ok (effect edit net)
+  made_ahead accepted = subst (λ (e : Edit). after (edit_of failure) net ≡ Ok (effect e net)) (sym is) (made_by failure net (subst (λ (e : Edit). refusal_of e net ≡ None) is accepted))
+
+  pub have_lans_there : (place : Option Failure) → HaveLans net (effect edit net) place
+  have_lans_there place = subst (λ (e : Edit). HaveLans net (effect e net) place) (sym is) (have_lans_ahead net failure place)
+
+-- those in the network that it makes are those of the line in its place
+line_after : (net failed : Net) (o p : Outcome) (failure : Failure) → after (edit_of failure) net ≡ Ok failed → IsOutcome failed p → (line : PolicyLine) (those : List Reason)
+    → AreReasonsIf failed p net (gone_of failure) (expected_at net line (Some failure)) those → AreLineReasons net o line (Some failure) those
+line_after net failed o p failure e is line those h = by (expected_at net line (Some failure)) h
+  where
+    by : (expected : Option Expectation) → AreReasonsIf failed p net (gone_of failure) expected those → MatchOption expected (those ≡ []) (λ expectation. AreReasonsAfter net failure expectation those)
+    by None h = h
+    by (Some expectation) h = record { failed = failed; made = e; outcome = p; is_outcome = is; are = h }
+
+pub lines_after : (net failed : Net) (o p : Outcome) (failure : Failure) → after (edit_of failure) net ≡ Ok failed → IsOutcome failed p → (lines : List PolicyLine) (all : List (List Reason))
+    → AllZip (λ line those. AreReasonsIf failed p net (gone_of failure) (expected_at net line (Some failure)) those) lines all → AreReasonsEach net o lines (Some failure) all
+lines_after net failed o p failure e is lines all h =
+    zip_weaker (λ line those. AreReasonsIf failed p net (gone_of failure) (expected_at net line (Some failure)) those) (λ line those. AreLineReasons net o line (Some failure) those)
+    (line_after net failed o p failure e is) lines all h
+
+pub as_many : (net : Net) (lines : List PolicyLine) (flags : List Bool) → AreJudged net lines flags → length flags ≡ length lines
+as_many net lines flags are = ap length are ∙ length-map lines (λ (line : PolicyLine). is_some (judged net line))
+
+-- how many are judged
+pub flags_counted : (net : Net) (lines : List PolicyLine) (flags : List Bool) → AreJudged net lines flags → count_by (λ flag. flag) flags ≡ count_by (λ line. is_some (judged net line)) lines
+flags_counted net lines flags are = ap (count_by (λ flag. flag)) are ∙ by lines
+  where
+    by : (lines : List PolicyLine) → count_by (λ flag. flag) (map (λ (line : PolicyLine). is_some (judged net line)) lines) ≡ count_by (λ line. is_some (judged net line)) lines
+    by [] = refl
+    by (line ∷ lines) =
+        sum_by-cons (λ flag. cond flag 1 0) (is_some (judged net line)) (map (λ (line : PolicyLine). is_some (judged net line)) lines)
+        ∙ ap (λ n. cond (is_some (judged net line)) 1 0 + n) (by lines) ∙ sym (sum_by-cons (λ (l : PolicyLine). cond (is_some (judged net l)) 1 0) line lines)
+
+-- ---- contents that are as they were
+pub to_now : (old now : Contents) → SameContents old now → (P : Net → Numbers → Type 0) → P old.net old.numbers → P now.net now.numbers
+to_now old now same P h = subst (λ (t : Tables). P t.net t.numbers) (λ i. record { net = sym same.net i; numbers = sym same.numbers i }) h
+
+pub to_old : (old now : Contents) → SameContents old now → (P : Net → Numbers → Type 0) → P now.net now.numbers → P old.net old.numbers
+to_old old now same P h = subst (λ (t : Tables). P t.net t.numbers) (λ i. record { net = same.net i; numbers = same.numbers i }) h

@@ -1,0 +1,3 @@
+pub mod ByName
+pub mod EditNumbers
+pub mod TreesGiven

@@ -1,0 +1,3 @@
+pub mod Standing
+pub mod Plan
+pub mod ByName

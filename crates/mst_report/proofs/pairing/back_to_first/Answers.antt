@@ -1,5 +1,0 @@
-use Rattle.mst_report.proofs.Paired.{second_back}
-use Rattle.mst_report.proofs.pairing.back_to_first.Goals as goal
-
-pub renew-requires : goal.renew-requires
-renew-requires c = second_back c.args.first.now c.args.second.now c.args.network.now.net c.args.network.now.numbers c.args.seen.now c.requires

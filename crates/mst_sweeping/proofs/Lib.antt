@@ -1,0 +1,4 @@
+pub mod Swept
+pub mod SweptParts
+pub mod SweepThere
+pub mod Paired

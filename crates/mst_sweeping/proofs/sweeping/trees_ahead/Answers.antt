@@ -1,0 +1,23 @@
+use Rattle.mst_sweeping.proofs.Swept.{if_ok}
+use Rattle.mst_sweeping.proofs.sweeping.trees_ahead.Goals as goal
+
+pub repaired-requires : goal.repaired-requires
+repaired-requires g c =
+    let tables = g.C.Contents.tables c.args.contents.now in
+    record {
+      net = tables.net;
+      numbers = tables.numbers;
+      of = record { network = c.known.ensures.network; numbered = c.known.ensures.numbered; view = c.in_ok-renew.ensures; regions = c.requires.regions };
+    }
+
+pub returns-clause-trees : goal.returns-clause-trees
+returns-clause-trees g c =
+    let tables = g.C.Contents.tables c.args.contents.now in
+    if_ok c.repaired.result _ _ (λ trees is.
+    let forest = is tables.net tables.numbers (record { network = c.known.ensures.network; numbered = c.known.ensures.numbered; view = c.in_ok-renew.ensures; regions = c.requires.regions }) in
+    record {
+      of = record { network = c.known.ensures.network; numbered = c.known.ensures.numbered; view = c.in_ok-renew.ensures; regions = forest.regions };
+      regions = c.requires.regions;
+      forest = forest;
+    })
+    c.repaired.ensures.outcome
