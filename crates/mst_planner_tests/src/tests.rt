@@ -1,7 +1,6 @@
 mod calls;
-mod edits;
-mod groups;
-mod network;
+mod digests;
+mod lines;
 mod records;
 mod refused;
 mod repairs;

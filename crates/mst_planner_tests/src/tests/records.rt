@@ -1,122 +1,97 @@
 //! What a network holds, and that an edit which is prepared and then dropped, or abandoned, leaves it, also where memory
-//! is refused once (`examples/refuse-memory.py`).
+//! is refused once (`checks/refuse_memory.py`).
 
-ghost use Rattle.mst_net.specs.Contents.{CanCommit};
-ghost use Rattle.std.specs.Prelude.{IfOk, IfSome};
-
-use super::refused::{Broken, twice};
+use super::refused::SCRIPT;
+use mst_ids::push_decimal;
 use mst_lang::{Edit, Line, parse_line};
-use mst_net::{Contents, Network, Ready, Refusal};
+use mst_net::{Contents, Network, Refusal};
 use mst_save::put_saved;
-use mst_trials::regions::ONE_VID_TWO_TREES;
 use std::alloc::{AllocError, Global};
+use std::test::Fail;
 
-/// The lines that make a network.
-fn saved(alloc: Global, network: &Network) -> Result<Vec<u8>, AllocError> {
-    let mut out = Vec::new(alloc);
-    put_saved::<Network, Vec<u8>>(alloc, network, &mut out)?;
-    Ok(out)
+fn put_number(number: usize, out: &mut Vec<u8>) -> Result<(), AllocError> {
+    push_decimal(number as u64, out)?;
+    out.push(b' ')?;
+    Ok(())
 }
 
-/// All that a network holds: the lines that make it, and the numbers of its records in the order of their names.
-fn held(alloc: Global, network: &Network) -> Result<Vec<u8>, AllocError> {
-    let mut held = saved(alloc, network)?;
+/// The numbers of a network's records in the order of their names.
+fn put_numbers(alloc: Global, network: &Network, out: &mut Vec<u8>) -> Result<(), AllocError> {
     for name in &network.bridge_names(alloc)? {
         if let Some(bridge) = network.bridge(name) {
-            add_number(alloc, &mut held, bridge.number.0)?;
+            put_number(bridge.number.0, out)?;
         }
     }
     for name in &network.port_names(alloc)? {
         if let Some(port) = network.port(name) {
-            add_number(alloc, &mut held, port.number.0)?;
+            put_number(port.number.0, out)?;
         }
     }
     for name in &network.lan_names(alloc)? {
         if let Some(lan) = network.lan(name) {
-            add_number(alloc, &mut held, lan.number.0)?;
+            put_number(lan.number.0, out)?;
         }
     }
-    Ok(held)
+    Ok(())
 }
 
-fn add_number(alloc: Global, text: &mut Vec<u8>, number: usize) -> Result<(), AllocError> {
-    let word = format!(in alloc; " {number}")?;
-    text.extend_from_slice(word.as_bytes())
+/// All that a network holds: the lines that make it, and the numbers of its records.
+pub(super) fn held(alloc: Global, network: &Network) -> Result<Vec<u8>, AllocError> {
+    let mut out = Vec::new(alloc);
+    put_saved::<Network, Vec<u8>>(alloc, network, &mut out)?;
+    put_numbers(alloc, network, &mut out)?;
+    Ok(out)
 }
 
 /// The same, which is asked again where memory was refused for it.
-pub(super) fn held_again(alloc: Global, network: &Network) -> Result<Vec<u8>, Broken> {
+fn held_again(alloc: Global, network: &Network) -> Result<Vec<u8>, AllocError> {
     match held(alloc, network) {
         Ok(held) => Ok(held),
-        Err(_) => twice(held(alloc, network)),
+        Err(_) => held(alloc, network),
     }
 }
 
-/// Whether a network holds this.
-fn check_held(alloc: Global, network: &Network, before: &[u8]) -> Result<(), Broken> {
-    if held_again(alloc, network)?.as_slice() == before {
-        Ok(())
-    } else {
-        Err(Broken::Changed)
-    }
-}
-
-/// Prepares an edit of a network that holds this, and prepares it again where memory was refused. `None`: the network
-/// refuses it.
-fn prepare_again(
-    alloc: Global,
-    network: &mut Network,
-    before: &[u8],
-    edit: &Edit,
-) -> Result<Option<Ready>, Broken>
-    ensures { IfOk result (λ found. IfSome found (λ ready. CanCommit ready network.new)) }
-{
+/// Makes an edit.
+fn make(network: &mut Network, edit: &Edit) -> Result<(), Refusal> {
     match network.prepare(edit) {
-        Ok(ready) => return Ok(Some(ready)),
-        Err(Refusal::E99) => {}
-        Err(_) => return Ok(None),
-    }
-    check_held(alloc, network, before)?;
-    match network.prepare(edit) {
-        Ok(ready) => Ok(Some(ready)),
-        Err(_) => Err(Broken::Twice),
-    }
-}
-
-/// Prepares an edit and drops it, prepares and abandons it, and then makes it.
-fn edit_at_last(alloc: Global, network: &mut Network, edit: &Edit) -> Result<(), Broken> {
-    let before = held_again(alloc, network)?;
-    match prepare_again(alloc, network, before.as_slice(), edit) {
-        Ok(ready) => drop(ready),
-        Err(broken) => return Err(broken),
-    }
-    check_held(alloc, network, before.as_slice())?;
-    match prepare_again(alloc, network, before.as_slice(), edit) {
-        Ok(Some(ready)) => network.abandon(ready),
-        Ok(None) => {}
-        Err(broken) => return Err(broken),
-    }
-    check_held(alloc, network, before.as_slice())?;
-    match prepare_again(alloc, network, before.as_slice(), edit) {
-        Ok(Some(ready)) => network.commit(ready),
-        Ok(None) => {}
-        Err(broken) => return Err(broken),
-    }
-    Ok(())
-}
-
-/// Makes the edits of a script so.
-fn edits_at_last(alloc: Global, script: &[u8]) -> Result<(), Broken> {
-    let mut network = Network::new(alloc);
-    for line in script.split(|byte| *byte == b'\n') {
-        if let Ok(Line::Edit(edit)) = parse_line(line) {
-            edit_at_last(alloc, &mut network, &edit)?;
+        Ok(ready) => {
+            network.commit(ready);
+            Ok(())
         }
+        Err(refusal) => Err(refusal),
     }
-    Ok(())
+}
+
+/// Prepares an edit and drops it, prepares and abandons it, and then makes it, again where memory was refused. Before it is made
+/// at last the network has to hold what it held.
+fn make_at_last(alloc: Global, network: &mut Network, edit: &Edit) -> Result<bool, AllocError> {
+    let before = held_again(alloc, network)?;
+    match network.prepare(edit) {
+        Ok(ready) => drop(ready),
+        Err(_) => {}
+    }
+    let dropped = held_again(alloc, network)?;
+    match network.prepare(edit) {
+        Ok(ready) => network.abandon(ready),
+        Err(_) => {}
+    }
+    let abandoned = held_again(alloc, network)?;
+    if dropped != before || abandoned != before {
+        return Ok(false);
+    }
+    if make(network, edit) != Err(Refusal::E99) {
+        return Ok(true);
+    }
+    Ok(held_again(alloc, network)? == before && make(network, edit) != Err(Refusal::E99))
 }
 
 #[test]
-fn edits_that_are_not_made_leave_the_records(rt: HostRuntime) {
-    assert_eq!(rt; edits_at_last(rt.alloc(), ONE_VID_TWO_TREES), Ok(()));
+fn edits_that_are_not_made_leave_the_records(rt: HostRuntime) -> Result<(), Fail> {
+    let mut network = Network::new(rt.alloc());
+    for line in SCRIPT.lines() {
+        if let Ok(Line::Edit(edit)) = parse_line(line.as_bytes()) {
+            assert!(rt; make_at_last(rt.alloc(), &mut network, &edit)?, "{line}");
+        }
+    }
+    Ok(())
 }

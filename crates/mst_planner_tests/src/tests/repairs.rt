@@ -1,12 +1,10 @@
 //! Edits that a planner makes one at a time: how often bridges are settled, and that what it answers is what a
 //! planner that is made anew answers.
 
-use super::edits::edit_of;
-use mst_compare::Planner;
-use mst_ids::{Tree, Vid};
-use mst_lang::{Edit, Query};
-use std::alloc::{AllocError, Global};
-use std::test::Fail;
+use super::lines::{is_applied, is_staged, planner_of};
+use mst_ids::Tree;
+use mst_lang::Query;
+use std::alloc::Global;
 
 /// Bridges A, B and C, and their ports in the LANs X, Y and Z between each two of them.
 pub(super) const TRIANGLE: &str = "\
@@ -63,9 +61,77 @@ plug B 1 X
 plug C 1 X
 ";
 
+/// Bridge H and nine leaves of a star about it.
+const STAR: &str = "\
+addbridge H 02:00:00:00:00:01
+kind H rstp
+addbridge L1 02:00:00:00:01:01
+kind L1 rstp
+addlan K1
+addport H 1
+addport L1 1
+plug H 1 K1
+plug L1 1 K1
+addbridge L2 02:00:00:00:01:02
+kind L2 rstp
+addlan K2
+addport H 2
+addport L2 1
+plug H 2 K2
+plug L2 1 K2
+addbridge L3 02:00:00:00:01:03
+kind L3 rstp
+addlan K3
+addport H 3
+addport L3 1
+plug H 3 K3
+plug L3 1 K3
+addbridge L4 02:00:00:00:01:04
+kind L4 rstp
+addlan K4
+addport H 4
+addport L4 1
+plug H 4 K4
+plug L4 1 K4
+addbridge L5 02:00:00:00:01:05
+kind L5 rstp
+addlan K5
+addport H 5
+addport L5 1
+plug H 5 K5
+plug L5 1 K5
+addbridge L6 02:00:00:00:01:06
+kind L6 rstp
+addlan K6
+addport H 6
+addport L6 1
+plug H 6 K6
+plug L6 1 K6
+addbridge L7 02:00:00:00:01:07
+kind L7 rstp
+addlan K7
+addport H 7
+addport L7 1
+plug H 7 K7
+plug L7 1 K7
+addbridge L8 02:00:00:00:01:08
+kind L8 rstp
+addlan K8
+addport H 8
+addport L8 1
+plug H 8 K8
+plug L8 1 K8
+addbridge L9 02:00:00:00:01:09
+kind L9 rstp
+addlan K9
+addport H 9
+addport L9 1
+plug H 9 K9
+plug L9 1 K9
+";
+
 /// What makes a network, an edit of it, and how often bridges are settled for that at least and at most, in the CIST
 /// and in tree 1.
-#[derive(Clone, Copy)]
 struct Case {
     made_by: [&'static str; 2],
     edit: &'static str,
@@ -73,146 +139,89 @@ struct Case {
     msti: (u64, u64),
 }
 
-fn cases() -> [Case; 7] {
-    [
-        Case {
-            made_by: [TRIANGLE, EACH_ITS_OWN_REGION],
-            edit: "bridge A off",
-            cist: (2, 6),
-            msti: (0, 0),
-        },
-        Case {
-            made_by: [
-                TRIANGLE,
-                "kind A rstp\nkind B rstp\nkind C rstp\nbridge A off\n",
-            ],
-            edit: "bridge A on",
-            cist: (3, 6),
-            msti: (0, 0),
-        },
-        Case {
-            made_by: [TRIANGLE, EACH_ITS_OWN_REGION],
-            edit: "setmaxhops A 30",
-            cist: (0, 0),
-            msti: (0, 0),
-        },
-        Case {
-            made_by: ["addbridge A 02:00:00:00:00:01\n", ""],
-            edit: "settreeprio A 0 0",
-            cist: (1, 2),
-            msti: (0, 0),
-        },
-        Case {
-            made_by: [TRIANGLE, ONE_REGION],
-            edit: "settreeportcost C 1 1 30000",
-            cist: (0, 0),
-            msti: (1, 2),
-        },
-        Case {
-            made_by: [SPLIT_REGION, ""],
-            edit: "settreeprio C 0 8",
-            cist: (3, 6),
-            msti: (1, 2),
-        },
-        Case {
-            made_by: [TRIANGLE, EACH_ITS_OWN_REGION],
-            edit: "setportrestrrole B 1 yes",
-            cist: (1, 2),
-            msti: (0, 0),
-        },
-    ]
-}
-
-/// Whether the line says an edit, which isn't refused. It is staged then.
-pub(super) fn is_staged(planner: &mut Planner, line: &str) -> bool {
-    match edit_of(line) {
-        Some(edit) => planner.stage(&edit).is_ok(),
-        None => false,
-    }
-}
-
-/// A planner of the network that these lines make, if none is refused.
-pub(super) fn planner_of(alloc: Global, lines: &str) -> Option<Planner> {
-    let mut planner = Planner::new(alloc);
-    for line in lines.lines() {
-        if !is_staged(&mut planner, line) {
-            return None;
-        }
-    }
-    Some(planner)
-}
-
-/// Whether the line says an edit, which isn't refused. It is applied then.
-fn is_applied(planner: &mut Planner, line: &str) -> bool {
-    match edit_of(line) {
-        Some(edit) => planner.apply(&edit).is_ok(),
-        None => false,
-    }
-}
+const CASES: [Case; 8] = [
+    Case {
+        made_by: [TRIANGLE, EACH_ITS_OWN_REGION],
+        edit: "bridge A off",
+        cist: (2, 6),
+        msti: (0, 0),
+    },
+    Case {
+        made_by: [
+            TRIANGLE,
+            "kind A rstp\nkind B rstp\nkind C rstp\nbridge A off\n",
+        ],
+        edit: "bridge A on",
+        cist: (3, 6),
+        msti: (0, 0),
+    },
+    Case {
+        made_by: [TRIANGLE, EACH_ITS_OWN_REGION],
+        edit: "setmaxhops A 30",
+        cist: (0, 0),
+        msti: (0, 0),
+    },
+    Case {
+        made_by: ["addbridge A 02:00:00:00:00:01\n", ""],
+        edit: "settreeprio A 0 0",
+        cist: (1, 2),
+        msti: (0, 0),
+    },
+    Case {
+        made_by: [TRIANGLE, ONE_REGION],
+        edit: "settreeportcost C 1 1 30000",
+        cist: (0, 0),
+        msti: (1, 2),
+    },
+    Case {
+        made_by: [SPLIT_REGION, ""],
+        edit: "settreeprio C 0 8",
+        cist: (3, 6),
+        msti: (1, 2),
+    },
+    Case {
+        made_by: [TRIANGLE, EACH_ITS_OWN_REGION],
+        edit: "setportrestrrole B 1 yes",
+        cist: (1, 2),
+        msti: (0, 0),
+    },
+    // One leaf of a star is settled, and no other bridge.
+    Case {
+        made_by: [STAR, ""],
+        edit: "setportpathcost L5 1 30000",
+        cist: (1, 2),
+        msti: (0, 0),
+    },
+];
 
 /// How often bridges are settled in the CIST and in tree 1 for an edit of the network that these lines make.
-fn settlings_for(alloc: Global, lines: &str, edit: &str) -> Option<(u64, u64)> {
-    let mut planner = planner_of(alloc, lines)?;
+fn settlings_for(alloc: Global, made_by: &[&str], edit: &str) -> Option<(u64, u64)> {
+    let tree = Tree::new(1)?;
+    let mut planner = planner_of(alloc, made_by)?;
     planner.settle().ok()?;
     if !is_applied(&mut planner, edit) {
         return None;
     }
-    Some((
-        planner.settlings(Tree::cist()),
-        planner.settlings(Tree::new(1)?),
-    ))
+    Some((planner.settlings(Tree::cist()), planner.settlings(tree)))
 }
 
 fn is_within(number: u64, bounds: (u64, u64)) -> bool {
     bounds.0 <= number && number <= bounds.1
 }
 
-#[test]
-fn settlings_keep_the_bound(rt: HostRuntime) -> Result<(), Fail> {
-    let cases = cases();
-    for case in &cases {
-        let mut lines = String::from_str(rt.alloc(), case.made_by[0])?;
-        lines.push_str(case.made_by[1])?;
-        let Some((cist, msti)) = settlings_for(rt.alloc(), lines.as_str(), case.edit) else {
-            assert!(rt; false, "refused: {}", case.edit);
-            return Ok(());
-        };
-        assert!(rt;
-            is_within(cist, case.cist),
-            "{}: {cist} in the CIST",
-            case.edit
-        );
-        assert!(rt;
-            is_within(msti, case.msti),
-            "{}: {msti} in tree 1",
-            case.edit
-        );
+/// Whether bridges are settled as often as the case says.
+fn is_kept(alloc: Global, case: &Case) -> bool {
+    match settlings_for(alloc, &case.made_by, case.edit) {
+        Some((cist, msti)) => is_within(cist, case.cist) && is_within(msti, case.msti),
+        None => false,
     }
-    Ok(())
-}
-
-/// The lines of a leaf of a star about bridge H.
-fn leaf_lines(alloc: Global, leaf: u8) -> Result<String, AllocError> {
-    format!(in alloc;
-        "addbridge L{leaf} 02:00:00:00:01:{leaf:02x}\nkind L{leaf} rstp\naddlan K{leaf}\naddport H {leaf}\n\
-        addport L{leaf} 1\nplug H {leaf} K{leaf}\nplug L{leaf} 1 K{leaf}\n"
-    )
 }
 
 #[test]
-fn a_leaf_of_a_star_is_settled_alone(rt: HostRuntime) -> Result<(), Fail> {
-    let mut star = String::from_str(rt.alloc(), "addbridge H 02:00:00:00:00:01\nkind H rstp\n")?;
-    for leaf in 1..100 {
-        let lines = leaf_lines(rt.alloc(), leaf)?;
-        star.push_str(lines.as_str())?;
+fn settlings_keep_the_bound(rt: HostRuntime) {
+    for case in &CASES {
+        assert!(rt; is_kept(rt.alloc(), case), "{}", case.edit);
     }
-    let ran = settlings_for(rt.alloc(), star.as_str(), "setportpathcost L50 1 30000");
-    let Some((cist, _)) = ran else {
-        assert!(rt; false, "refused");
-        return Ok(());
-    };
-    assert!(rt; is_within(cist, (1, 2)), "{cist}");
-    Ok(())
 }
 
 /// Four bridges with three ports each, and six LANs.
@@ -253,96 +262,97 @@ plug D 2 S
 plug A 2 S
 ";
 
-/// Numbers drawn one after another, the same in each run.
-#[derive(Drop)]
-pub(super) struct Draws {
-    pub(super) state: u64,
-}
+/// Edits of this network, which were drawn; some of them are refused.
+const EDITS: &str = "\
+bridge D on
+settreeportcost A 1 2 9000
+plug D 3 S
+settreeportprio A 2 1 13
+setportrestrrole D 2 yes
+unplug A 1
+settreeportcost C 2 0 5000
+setportrestrrole A 3 no
+unplug C 1
+lan R up
+unplug D 3
+plug A 3 U
+unplug D 2
+unplug B 1
+setportpathcost B 3 1000
+setportrestrrole B 3 yes
+settreeportcost B 1 0 1000
+settreeportprio B 2 1 14
+lan U up
+settreeportprio B 3 0 0
+setvid2mstid C 1 10-13
+setportpathcost B 2 7000
+plug C 3 T
+plug B 1 R
+plug A 2 R
+kind A rstp
+setvid2mstid D 0 10-15
+settreeprio A 1 11
+settreeportprio C 2 0 3
+kind D rstp
+kind D rstp
+settreeportprio B 1 1 12
+settreeportcost D 1 1 9000
+lan U up
+lan R up
+kind C mstp
+kind D rstp
+setportrestrrole A 2 yes
+plug A 1 R
+settreeportcost D 3 0 8000
+plug A 1 T
+setportpathcost D 2 15000
+plug C 2 S
+settreeportcost D 1 0 7000
+setvid2mstid C 1 10-11
+setvid2mstid A 0 10-22
+kind A mstp
+kind B mstp
+settreeportcost C 1 0 4000
+setportrestrrole A 2 no
+unplug D 3
+settreeportprio A 2 0 11
+settreeportprio A 3 0 10
+plug B 3 Q
+lan R down
+setportpathcost D 2 6000
+unplug B 3
+setportrestrrole A 1 yes
+unplug B 3
+setvid2mstid D 0 10-22
+";
 
-impl Draws {
-    pub(super) fn draw(&mut self) -> usize {
-        self.state = self
-            .state
-            .wrapping_mul(6_364_136_223_846_793_005)
-            .wrapping_add(1_442_695_040_888_963_407);
-        (self.state >> 33) as usize
+/// The whole plan of a planner that is made anew by the first of these edits.
+fn plan_made_anew(alloc: Global, count: usize) -> Option<Vec<u8>> {
+    let mut planner = planner_of(alloc, &[DRAWN])?;
+    for line in EDITS.lines().take(count) {
+        is_staged(&mut planner, line);
     }
+    planner.answer(&Query::ShowPlan).ok()
 }
 
-/// A drawn line of a script, which says an edit of the drawn network.
-fn drawn_line(alloc: Global, draws: &mut Draws) -> Result<String, AllocError> {
-    let bridge = ["A", "B", "C", "D"][draws.draw() % 4];
-    let lan = ["P", "Q", "R", "S", "T", "U"][draws.draw() % 6];
-    let port = draws.draw() % 3 + 1;
-    let tree = draws.draw() % 3;
-    let step = draws.draw() % 16;
-    let is_first = draws.draw() % 2 == 0;
-    match draws.draw() % 11 {
-        0 => format!(in alloc; "bridge {bridge} {}", if is_first { "on" } else { "off" }),
-        1 => format!(in alloc; "lan {lan} {}", if is_first { "up" } else { "down" }),
-        2 => format!(in alloc; "kind {bridge} {}", if is_first { "mstp" } else { "rstp" }),
-        3 => format!(in alloc; "plug {bridge} {port} {lan}"),
-        4 => format!(in alloc; "unplug {bridge} {port}"),
-        5 => format!(in alloc; "setportpathcost {bridge} {port} {step}000"),
-        6 => format!(in alloc; "settreeportcost {bridge} {port} {tree} {step}000"),
-        7 => format!(in alloc; "settreeprio {bridge} {tree} {step}"),
-        8 => format!(in alloc;
-            "setportrestrrole {bridge} {port} {}",
-            if is_first { "yes" } else { "no" }
-        ),
-        9 => format!(in alloc; "settreeportprio {bridge} {port} {tree} {step}"),
-        _ => format!(in alloc; "setvid2mstid {bridge} {tree} 10-{}", step + 10),
-    }
-}
-
-/// The texts of the trees and of a VLAN, one after another.
-fn plan_text(alloc: Global, planner: &mut Planner) -> Option<Vec<u8>> {
-    let mut texts = Vec::new(alloc);
-    for tree in 0..3_u64 {
-        let tree = Tree::new(tree)?;
-        let text = planner.answer(&Query::ShowTree { tree }).ok()?;
-        texts.extend_from_slice(text.as_slice()).ok()?;
-    }
-    let vid = Vid::new(10)?;
-    let vlan = planner.answer(&Query::ShowVlan { vid }).ok()?;
-    texts.extend_from_slice(vlan.as_slice()).ok()?;
-    Some(texts)
-}
-
-/// The texts of a planner that is made anew by these edits.
-fn text_made_anew(alloc: Global, edits: &[Edit]) -> Option<Vec<u8>> {
-    let mut planner = planner_of(alloc, DRAWN)?;
-    for edit in edits {
-        if planner.stage(edit).is_err() {
-            return None;
+/// Makes the edits one at a time, and gives the first after which the plan isn't that of a planner that is made anew.
+fn first_other_plan(alloc: Global) -> Option<&'static str> {
+    let Some(mut planner) = planner_of(alloc, &[DRAWN]) else {
+        return Some("refused");
+    };
+    let mut count: usize = 0;
+    for line in EDITS.lines() {
+        is_applied(&mut planner, line);
+        count = count.saturating_add(1);
+        let plan = planner.answer(&Query::ShowPlan).ok();
+        if plan.is_none() || plan != plan_made_anew(alloc, count) {
+            return Some(line);
         }
     }
-    plan_text(alloc, &mut planner)
+    None
 }
 
 #[test]
-fn a_repaired_plan_is_the_one_made_anew(rt: HostRuntime) -> Result<(), Fail> {
-    let mut draws = Draws { state: 2026 };
-    let mut edits = Vec::new(rt.alloc());
-    let Some(mut planner) = planner_of(rt.alloc(), DRAWN) else {
-        assert!(rt; false, "refused");
-        return Ok(());
-    };
-    for _ in 0..60 {
-        let line = drawn_line(rt.alloc(), &mut draws)?;
-        let Some(edit) = edit_of(line.as_str()) else {
-            assert!(rt; false, "no edit: {line}");
-            return Ok(());
-        };
-        if planner.apply(&edit).is_ok() {
-            edits.push(edit)?;
-        }
-        let repaired = plan_text(rt.alloc(), &mut planner);
-        assert!(rt; repaired.is_some());
-        assert!(rt;
-            repaired == text_made_anew(rt.alloc(), edits.as_slice()),
-            "after {line}"
-        );
-    }
-    Ok(())
+fn a_repaired_plan_is_the_one_made_anew(rt: HostRuntime) {
+    assert_eq!(rt; first_other_plan(rt.alloc()), None);
 }

@@ -1,7 +1,0 @@
-mod bpdu;
-mod config;
-mod graph;
-mod hints;
-mod rows;
-mod save;
-mod vector;
