@@ -420,17 +420,11 @@ def difference(program, command, words, script):
 
 
 def worked_scripts():
-    """The scripts of the worked rows, which are texts of bytes in crates/mst_trials."""
-    for path in sorted(glob.glob(os.path.join(TOP, "crates", "mst_trials", "src", "*.rt"))):
-        for text in re.findall(r'b"((?:[^"\\]|\\.)*)"', read(path), re.DOTALL):
-            plain = re.sub(r"\\\n\s*", "", text)
-            script = re.sub(r"\\(x[0-9a-f]{2}|.)", lambda it: {"n": "\n", "r": "\r", "t": "\t"}.get(it[1]) or eval_byte(it[1]), plain)
-            if "addbridge " in script and "\n" in script:
-                yield f"a row of {os.path.basename(path)}", script
-
-
-def eval_byte(escape):
-    return chr(int(escape[1:], 16)) if escape[0] == "x" else escape
+    """The scripts of the worked texts (checks/texts.py)."""
+    for path in sorted(glob.glob(os.path.join(TOP, "checks", "texts", "*.txt"))):
+        for name, script in re.findall(r"^== file (\S+\.script)\n((?:(?!== ).*\n)*)", read(path), re.MULTILINE):
+            if "addbridge " in script:
+                yield f"{name} of {os.path.basename(path)}", script
 
 
 def chain(length, kind, cost):

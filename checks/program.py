@@ -26,6 +26,7 @@ import ask_runs  # noqa: E402
 import edits_runs  # noqa: E402
 import hint_runs  # noqa: E402
 import large_runs  # noqa: E402
+import line_runs  # noqa: E402
 import size_runs  # noqa: E402
 import steps_runs  # noqa: E402
 import verify_runs  # noqa: E402
@@ -1174,7 +1175,7 @@ def main():
         sys.exit(__doc__)
     program = os.path.abspath(sys.argv[1])
     with tempfile.TemporaryDirectory() as folder:
-        passed = [check(program, *case) for case in cases(folder) + word_cases(folder) + alone_cases(folder) + meant_cases() + asked_cases(folder) + flag_cases(folder)]
+        passed = [check(program, *case) for case in cases(folder) + word_cases(folder) + alone_cases(folder) + meant_cases() + asked_cases(folder) + flag_cases(folder) + line_runs.cases(folder)]
         passed += [
             check_full(program, [], b"showtree 0\n"),
             check_full(program, ["check", "-", os.devnull], b"showtree 0\n"),

@@ -1,20 +1,15 @@
-mod ask;
-mod asks;
-mod captures;
-mod changes;
+mod calls;
+mod damaged;
 mod devices;
-mod diffs;
-mod faults;
-mod forms;
 mod hinted;
-mod verifies;
+mod shown;
 
 use mst_tool::Outcome;
 
-fn counts(refused: u64, memory: u64) -> Outcome {
+fn counts(refused: u64, differing: u64) -> Outcome {
     Outcome {
         refused,
-        memory,
-        differing: 0,
+        memory: 0,
+        differing,
     }
 }

@@ -8,16 +8,16 @@ use std::io::{self, ErrorKind, Read, Write};
 pub struct Source<'a> {
     left: &'a [u8],
     step: usize,
-    pub fails: bool,
+    fails: bool,
     pub calls: u32,
 }
 
 impl<'a> Source<'a> {
-    pub fn new(script: &'a [u8], step: usize) -> Source<'a> {
+    pub fn new(script: &'a [u8], step: usize, fails: bool) -> Source<'a> {
         Source {
             left: script,
             step,
-            fails: false,
+            fails,
             calls: 0,
         }
     }
@@ -34,26 +34,21 @@ impl<'a> Read for Source<'a> {
     }
 }
 
-/// Takes at most `step` bytes a call, and `room` in all. At the next call it takes none, or fails, if it is to,
-/// and then takes everything.
+/// Takes at most 16 bytes a call, and `room` in all. At the next call it takes none, or fails, if it is to, and then takes everything.
 #[derive(Drop)]
 pub struct Sink {
     pub taken: Vec<u8>,
-    step: usize,
     room: usize,
-    pub fails: bool,
-    pub calls: u32,
+    fails: bool,
     pub flushes: u32,
 }
 
 impl Sink {
-    pub fn new(alloc: Global, room: usize) -> Sink {
+    pub fn new(alloc: Global, room: usize, fails: bool) -> Sink {
         Sink {
             taken: Vec::new(alloc),
-            step: 1,
             room,
-            fails: false,
-            calls: 0,
+            fails,
             flushes: 0,
         }
     }
@@ -61,7 +56,6 @@ impl Sink {
 
 impl Write for Sink {
     fn write(&mut self, buf: &[u8]) -> io::Result<usize> {
-        self.calls = self.calls.saturating_add(1);
         if self.room == 0 {
             self.room = usize::MAX;
             if self.fails {
@@ -69,7 +63,7 @@ impl Write for Sink {
             }
             return Ok(0);
         }
-        let count = buf.len().min(self.step).min(self.room);
+        let count = buf.len().min(16).min(self.room);
         self.taken.extend_from_slice(&buf[..count])?;
         self.room -= count;
         Ok(count)

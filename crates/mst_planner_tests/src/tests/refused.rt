@@ -91,7 +91,11 @@ fn add_answer(planner: &mut Planner, query: &Query, texts: &mut Vec<u8>) -> Resu
 }
 
 /// Makes a line's call, once, and adds what it answers to others.
-fn serve_once(planner: &mut Planner, line: &str, answers: &mut Vec<u8>) -> Result<(), Refusal> {
+pub(super) fn serve_once(
+    planner: &mut Planner,
+    line: &str,
+    answers: &mut Vec<u8>,
+) -> Result<(), Refusal> {
     match parse_line(line.as_bytes()) {
         Ok(Line::Edit(edit)) => planner.apply(&edit),
         Ok(Line::Query(query)) => add_answer(planner, &query, answers),

@@ -2,8 +2,9 @@
 //! planner that is made anew answers.
 
 use super::lines::{is_applied, is_staged, planner_of};
+use super::refused::serve_once;
+use mst_compare::Planner;
 use mst_ids::Tree;
-use mst_lang::Query;
 use std::alloc::Global;
 
 /// Bridges A, B and C, and their ports in the LANs X, Y and Z between each two of them.
@@ -326,13 +327,25 @@ unplug B 3
 setvid2mstid D 0 10-22
 ";
 
-/// The whole plan of a planner that is made anew by the first of these edits.
-fn plan_made_anew(alloc: Global, count: usize) -> Option<Vec<u8>> {
+/// What is asked of the plan after each of them.
+const QUERIES: &str = "showtree 0\nshowtree 1\nshowtree 2\nshowvlan 10\n";
+
+/// The answers to these.
+fn plan_text(alloc: Global, planner: &mut Planner) -> Option<Vec<u8>> {
+    let mut texts = Vec::new(alloc);
+    for line in QUERIES.lines() {
+        serve_once(planner, line, &mut texts).ok()?;
+    }
+    Some(texts)
+}
+
+/// Those of a planner that is made anew by the first of these edits.
+fn text_made_anew(alloc: Global, count: usize) -> Option<Vec<u8>> {
     let mut planner = planner_of(alloc, &[DRAWN])?;
     for line in EDITS.lines().take(count) {
         is_staged(&mut planner, line);
     }
-    planner.answer(&Query::ShowPlan).ok()
+    plan_text(alloc, &mut planner)
 }
 
 /// Makes the edits one at a time, and gives the first after which the plan isn't that of a planner that is made anew.
@@ -344,8 +357,8 @@ fn first_other_plan(alloc: Global) -> Option<&'static str> {
     for line in EDITS.lines() {
         is_applied(&mut planner, line);
         count = count.saturating_add(1);
-        let plan = planner.answer(&Query::ShowPlan).ok();
-        if plan.is_none() || plan != plan_made_anew(alloc, count) {
+        let text = plan_text(alloc, &mut planner);
+        if text.is_none() || text != text_made_anew(alloc, count) {
             return Some(line);
         }
     }
