@@ -245,7 +245,7 @@ def add_commands(root):
 def add_texts(root):
     """Texts and examples, in the folders that the texts name."""
     doc = os.path.join("share", "doc", "mstplan")
-    paths = [os.path.join(TOP, "README.md"), *glob.glob(os.path.join(TOP, "docs", "*.[ms][dv]*"))]
+    paths = [os.path.join(TOP, "README.md"), os.path.join(TOP, "CHANGELOG.md"), *glob.glob(os.path.join(TOP, "docs", "*.[ms][dv]*"))]
     paths += [it for name in EXAMPLES for it in glob.glob(os.path.join(TOP, "examples", name))]
     for path in sorted(it for it in paths if os.path.isfile(it)):
         write(root, os.path.join(doc, os.path.relpath(path, TOP)), read(path))

@@ -61,8 +61,12 @@ def part_with(kept, symbol):
 
 
 def main():
-    if len(sys.argv) != 2:
-        sys.exit(__doc__)
+    if sys.argv[1:] in (["--help"], ["-h"]):
+        print(__doc__.strip())
+        return
+    if len(sys.argv) != 2 or sys.argv[1].startswith("-"):
+        print("usage: unproved.py FOLDER", file=sys.stderr)
+        sys.exit(2)
     folder = os.path.abspath(sys.argv[1])
     built, kept = os.path.join(folder, "tried"), os.path.join(folder, "kept")
     for it in (built, kept):
