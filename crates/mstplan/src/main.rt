@@ -10,6 +10,7 @@ mod closed;
 mod compared;
 mod endings;
 mod flags;
+mod forms;
 mod hinting;
 mod inputs;
 mod invites;

@@ -6,7 +6,8 @@ ghost use Rattle.mstplan.specs.Words.{words_of, port_word, tree_word, value_of, 
 
 use crate::endings::Stop;
 use crate::flags::Flags;
-use crate::page::{PAGE, VERSION};
+use crate::forms;
+use crate::page::{PAGE, VERSION, VERSION_RECORD};
 use crate::sources::Sources;
 use crate::strays::{Meant, Stray, stray_among};
 use clap::error::ErrorKind;
@@ -214,7 +215,7 @@ pub(crate) fn asked_for<'a, R: Print + Eprint + AllocGlobal, S: Sources>(
     ensures help { is_help (behind_name words.now) ≡ true → IsErrAnd result IsAnswer }
     ensures version { is_version (behind_name words.now) ≡ true → IsErrAnd result IsAnswer }
 {
-    match asked_by_words(rt, sources, words) {
+    match asked_by_words(rt, sources, flags.json, words) {
         Err(stop) => Err(stop),
         Ok(asked) if !are_worded(&asked) => {
             let _ = eprintln!(rt; "{}", wrong_words(&asked));
@@ -236,6 +237,7 @@ pub(crate) fn asked_for<'a, R: Print + Eprint + AllocGlobal, S: Sources>(
 fn asked_by_words<'a, R: Print + Eprint + AllocGlobal, S: Sources>(
     rt: &R,
     sources: &S,
+    is_json: bool,
     words: &'a [String],
 ) -> Result<Asked<'a>, Stop<'a>>
     ensures asked { are_plain (behind_name words.now) ≡ true → IfOk result (λ asked. asked_by (without_dashes (behind_name words.now)) ≡ Some (words_of asked)) }
@@ -247,7 +249,7 @@ fn asked_by_words<'a, R: Print + Eprint + AllocGlobal, S: Sources>(
         Err(refused) => Err(starved(refused)),
         Ok(command) => match command.try_get_matches_from(words) {
             Ok(matches) => Ok(asked_in(&matches)),
-            Err(error) => Err(tell_words(rt, sources, words, &error)),
+            Err(error) => Err(tell_words(rt, sources, is_json, words, &error)),
         },
     }
 }
@@ -257,6 +259,7 @@ fn asked_by_words<'a, R: Print + Eprint + AllocGlobal, S: Sources>(
 fn tell_words<'a, R: Print + Eprint, S: Sources>(
     rt: &R,
     sources: &S,
+    is_json: bool,
     words: &'a [String],
     error: &Error,
 ) -> Stop<'a>
@@ -268,7 +271,7 @@ fn tell_words<'a, R: Print + Eprint, S: Sources>(
 {
     match error.kind() {
         ErrorKind::OutOfMemory => Stop::Fault(RunFault::Memory),
-        ErrorKind::DisplayHelp | ErrorKind::DisplayVersion => tell_answer(rt, error),
+        ErrorKind::DisplayHelp | ErrorKind::DisplayVersion => tell_answer(rt, is_json, error),
         _ => match wrong_word(sources, words) {
             Some(stray) => Stop::NoWord(stray.word, stray.meant),
             None => {
@@ -279,11 +282,16 @@ fn tell_words<'a, R: Print + Eprint, S: Sources>(
     }
 }
 
-/// Tells the help or the version on standard output.
-fn tell_answer<R: Print + Eprint>(rt: &R, error: &Error) -> Stop<'static>
+/// Tells the help or the version on standard output; the version as a record where JSON is asked for.
+fn tell_answer<R: Print + Eprint>(rt: &R, is_json: bool, error: &Error) -> Stop<'static>
     ensures { (result ≡ Stop.Told 0) ⊎ (result ≡ Stop.Fault RunFault.Write) }
 {
-    match error.print(rt) {
+    let told = if is_json && error.kind() == ErrorKind::DisplayVersion {
+        print!(rt; "{}", VERSION_RECORD)
+    } else {
+        error.print(rt)
+    };
+    match told {
         Ok(()) => Stop::Told(0),
         Err(error) if error.kind() == io::ErrorKind::BrokenPipe => Stop::Told(0),
         Err(_) => Stop::Fault(RunFault::Write),
@@ -342,10 +350,18 @@ fn with_sweep<'a>(alloc: Global, before: Command<'a>) -> Result<Command<'a>, All
         .about(
             "Makes the network of a script, and tells what each single failure does to it, or each pair",
         )
+        .after_help(forms::SWEEP)
         .arg(wanted(alloc, "FILE", SCRIPT))?
         .arg(Arg::new(alloc, "PART").help(PART))?
         .arg(Arg::new(alloc, "OF_PAIRS").help(OF_PAIRS))?;
     before.subcommand(sweep)
+}
+
+/// What is said of a command: what it does, and what stands at the end of its help.
+#[derive(Clone, Copy)]
+struct Said<'a> {
+    about: &'a str,
+    forms: &'a str,
 }
 
 /// A word of a command that has to be there: what it is called, and what is said of it.
@@ -360,14 +376,15 @@ fn with_two<'a>(
     alloc: Global,
     before: Command<'a>,
     name: &'a str,
-    about: &'a str,
+    said: Said<'a>,
     first: Word<'a>,
     second: Word<'a>,
 ) -> Result<Command<'a>, AllocError>
     ensures { IfOk result (λ command. app_of command ≡ with_subcommand (app_of before.entry) (two_app name.entry.now first.entry.id.now second.entry.id.now).top) }
 {
     let command = Command::new(alloc, name)
-        .about(about)
+        .about(said.about)
+        .after_help(said.forms)
         .arg(wanted(alloc, first.id, first.help))?
         .arg(wanted(alloc, second.id, second.help))?;
     before.subcommand(command)
@@ -381,6 +398,7 @@ fn with_dot<'a>(alloc: Global, before: Command<'a>) -> Result<Command<'a>, Alloc
         .about(
             "Makes the network of a script, and draws it with one of its trees or with a VLAN, for Graphviz",
         )
+        .after_help(forms::DOT)
         .arg(wanted(alloc, "FILE", SCRIPT))?
         .arg(wanted(alloc, "TREE", DRAWN))?
         .arg(Arg::new(alloc, "VID").help(DRAWN_VLAN))?;
@@ -395,6 +413,7 @@ fn with_ask<'a>(alloc: Global, before: Command<'a>) -> Result<Command<'a>, Alloc
         .about(
             "Makes the network of a script once, and answers the questions of it on standard input",
         )
+        .after_help(forms::ASK)
         .arg(wanted(alloc, "FILE", ASKED))?;
     before.subcommand(ask)
 }
@@ -403,7 +422,10 @@ fn with_ask<'a>(alloc: Global, before: Command<'a>) -> Result<Command<'a>, Alloc
 fn with_verify<'a>(alloc: Global, before: Command<'a>) -> Result<Command<'a>, AllocError>
     ensures { IfOk result (λ command. app_of command ≡ with_subcommand (app_of before.entry) (two_app (codes "verify") (codes "FILE") (codes "POLICY")).top) }
 {
-    let about = "Makes the network of a script, and tells whether it does what a policy promises";
+    let said = Said {
+        about: "Makes the network of a script, and tells whether it does what a policy promises",
+        forms: forms::VERIFY,
+    };
     let file = Word {
         id: "FILE",
         help: SCRIPT,
@@ -412,15 +434,17 @@ fn with_verify<'a>(alloc: Global, before: Command<'a>) -> Result<Command<'a>, Al
         id: "POLICY",
         help: POLICY,
     };
-    with_two(alloc, before, "verify", about, file, policy)
+    with_two(alloc, before, "verify", said, file, policy)
 }
 
 /// A command line with the command that tells the edits between two networks behind those that it has.
 fn with_edits<'a>(alloc: Global, before: Command<'a>) -> Result<Command<'a>, AllocError>
     ensures { IfOk result (λ command. app_of command ≡ with_subcommand (app_of before.entry) (two_app (codes "edits") (codes "OLD") (codes "NEW")).top) }
 {
-    let about =
-        "Makes the networks of two scripts, and tells the edits that make the second of the first";
+    let said = Said {
+        about: "Makes the networks of two scripts, and tells the edits that make the second of the first",
+        forms: forms::EDITS,
+    };
     let old = Word {
         id: "OLD",
         help: OLD,
@@ -429,7 +453,7 @@ fn with_edits<'a>(alloc: Global, before: Command<'a>) -> Result<Command<'a>, All
         id: "NEW",
         help: NEW,
     };
-    with_two(alloc, before, "edits", about, old, new)
+    with_two(alloc, before, "edits", said, old, new)
 }
 
 /// A command line with the command that tells what the steps of a change do behind those that it has.
@@ -438,6 +462,7 @@ fn with_steps<'a>(alloc: Global, before: Command<'a>) -> Result<Command<'a>, All
 {
     let steps = Command::new(alloc, "steps")
         .about("Makes the network of a script, and tells what each step of a change does to it")
+        .after_help(forms::STEPS)
         .arg(wanted(alloc, "FILE", SCRIPT))?
         .arg(wanted(alloc, "CHANGE", CHANGE))?
         .arg(Arg::new(alloc, "POLICY").help(KEPT))?;
@@ -450,6 +475,7 @@ fn with_advise<'a>(alloc: Global, before: Command<'a>) -> Result<Command<'a>, Al
 {
     let advise = Command::new(alloc, "advise")
         .about("Makes the network of a script, and tells which settings bring about what is wanted")
+        .after_help(forms::ADVISE)
         .arg(wanted(alloc, "FILE", SCRIPT))?
         .arg(wanted(alloc, "GOAL", GOAL))?
         .arg(wanted(alloc, "TREE", OF_TREE))?
@@ -464,25 +490,30 @@ fn command<'a>(alloc: Global) -> Result<Command<'a>, AllocError>
 {
     let run = Command::new(alloc, "run")
         .about("Runs a script")
+        .after_help(forms::RUN)
         .arg(wanted(alloc, "FILE", SCRIPT))?;
     let check = Command::new(alloc, "check")
         .about("Runs a script, and compares captured messages with the plan at its end")
+        .after_help(forms::CHECK)
         .arg(wanted(alloc, "FILE", SCRIPT))?
         .arg(wanted(alloc, "CAPTURES", CAPTURES))?;
     let explain = Command::new(alloc, "explain")
         .about("Makes the network of a script, and tells why a port has its role there")
+        .after_help(forms::EXPLAIN)
         .arg(wanted(alloc, "FILE", SCRIPT))?
         .arg(wanted(alloc, "B", BRIDGE))?
         .arg(wanted(alloc, "P", PORT))?
         .arg(Arg::new(alloc, "TREE").help(TREE))?;
     let diff = Command::new(alloc, "diff")
         .about("Makes the networks of two scripts, and tells what is another in the second")
+        .after_help(forms::DIFF)
         .arg(wanted(alloc, "OLD", OLD))?
         .arg(wanted(alloc, "NEW", NEW))?;
     let summary = Command::new(alloc, "summary")
         .about(
             "Makes the network of a script, and tells its roots, what blocks and what LANs carry",
         )
+        .after_help(forms::SUMMARY)
         .arg(wanted(alloc, "FILE", SCRIPT))?;
     let before = no_command(alloc)?
         .subcommand(run)?

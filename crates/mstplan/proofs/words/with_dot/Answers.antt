@@ -9,8 +9,8 @@ use Rattle.mstplan.proofs.words.with_dot.Goals as goal
 
 pub returns : goal.returns
 returns c =
-    let file_is = c.in_ok-arg.ensures.shape c.wanted.ensures.local ∙ ap₂ with_rule (ap app_of_fields c.about.ensures ∙ c.new.ensures.app) c.wanted.ensures.rule in
-    let file_local = c.in_ok-arg.ensures.globals ∙ ap₂ (λ x y. x || y) (ap (λ f. f.has_globals) c.about.ensures ∙ c.new.ensures.local) c.wanted.ensures.local in
+    let file_is = c.in_ok-arg.ensures.shape c.wanted.ensures.local ∙ ap₂ with_rule (ap app_of_fields c.after_help.ensures ∙ ap app_of_fields c.about.ensures ∙ c.new.ensures.app) c.wanted.ensures.rule in
+    let file_local = c.in_ok-arg.ensures.globals ∙ ap₂ (λ x y. x || y) (ap (λ f. f.has_globals) c.after_help.ensures ∙ ap (λ f. f.has_globals) c.about.ensures ∙ c.new.ensures.local) c.wanted.ensures.local in
     let tree_is = c.in_ok-arg-2.ensures.shape c.wanted-2.ensures.local ∙ ap₂ with_rule file_is c.wanted-2.ensures.rule in
     let tree_local = c.in_ok-arg-2.ensures.globals ∙ ap₂ (λ x y. x || y) file_local c.wanted-2.ensures.local in
     let vid_is : rule_of c.help.result ≡ new_rule (codes "VID") = ap rule_of c.help.ensures ∙ c.new-2.ensures.rule in

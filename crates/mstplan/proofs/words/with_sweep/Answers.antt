@@ -9,8 +9,8 @@ use Rattle.mstplan.proofs.words.with_sweep.Goals as goal
 
 pub returns : goal.returns
 returns c =
-    let file_is = c.in_ok-arg.ensures.shape c.wanted.ensures.local ∙ ap₂ with_rule (ap app_of_fields c.about.ensures ∙ c.new.ensures.app) c.wanted.ensures.rule in
-    let file_local = c.in_ok-arg.ensures.globals ∙ ap₂ (λ x y. x || y) (ap (λ f. f.has_globals) c.about.ensures ∙ c.new.ensures.local) c.wanted.ensures.local in
+    let file_is = c.in_ok-arg.ensures.shape c.wanted.ensures.local ∙ ap₂ with_rule (ap app_of_fields c.after_help.ensures ∙ ap app_of_fields c.about.ensures ∙ c.new.ensures.app) c.wanted.ensures.rule in
+    let file_local = c.in_ok-arg.ensures.globals ∙ ap₂ (λ x y. x || y) (ap (λ f. f.has_globals) c.after_help.ensures ∙ ap (λ f. f.has_globals) c.about.ensures ∙ c.new.ensures.local) c.wanted.ensures.local in
     let part_is : rule_of c.help.result ≡ new_rule (codes "PART") = ap rule_of c.help.ensures ∙ c.new-2.ensures.rule in
     let part_local : c.help.result.global ≡ false = ap (λ (a : Arg). a.global) c.help.ensures ∙ c.new-2.ensures.optional.1 in
     let parted_is = c.in_ok-arg-2.ensures.shape part_local ∙ ap₂ with_rule file_is part_is in
