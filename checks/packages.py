@@ -40,6 +40,10 @@ RUNS = [
     ("mstplan-import-cisco", ["import/cisco/campus"], None, "mstplan 2"),
     ("mstplan-captures", [], "triangle.tcpdump", "# "),
     ("mstplan-page", ["--help"], None, "usage: "),
+    ("mstplan-order", ["--help"], None, "usage: "),
+    ("mstplan-promises", ["--help"], None, "usage: "),
+    ("mstplan-export", ["--help"], None, "usage: "),
+    ("mstplan-ci", ["--help"], None, "usage: "),
 ]
 
 

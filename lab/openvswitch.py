@@ -10,9 +10,11 @@ end. It takes about two minutes, and exits with 1 where a plan and the devices d
 
 import contextlib
 import os
+import shlex
+import sys
 import time
 
-from lab import inside, ip, main, make_spaces, run, settle, start
+from lab import TOOLS, inside, ip, main, make_spaces, run, settle, start
 
 import ovs
 
@@ -143,6 +145,24 @@ class Switch:
         return ovs.read([path])
 
 
+def try_export(lab, switch, network):
+    """Types what tools/export.py writes of a few settings, and reads the database again: then nothing is left to be set."""
+    ports = {port.label: f"{bridge.name} {number}" for bridge in network.bridges for number, port in bridge.ports.items()}
+    edits = ["settreeprio west 0 16384", f"setportpathcost {ports['east-2']} 150000", f"settreeportprio {ports['south-2']} 0 64",
+             f"setportvlans {ports['north-1']} 1-9,20"]
+    paths = [os.path.join(lab.folder, it) for it in ("now.script", "wanted.script", "again.script")]
+    for path, more in zip(paths, ([], edits)):
+        with open(path, "w", encoding="utf-8") as file:
+            file.write("\n".join([*network.script(), *more, ""]))
+    commands = run(sys.executable, os.path.join(TOOLS, "export.py"), lab.program, *paths[:2], "--to", "ovs").splitlines()
+    for command in (it for it in commands if not it.startswith("#")):
+        switch.ask(*shlex.split(command)[1:])
+    with open(paths[2], "w", encoding="utf-8") as file:
+        file.write("\n".join([*switch.collect(lab.folder, "exported")[0].script(), ""]))
+    status, told = lab.ask(["edits", paths[2], paths[1]], "")
+    lab.say(status == 0, f"exported: {len(commands)} lines, {len(told) - 1} settings are left", told[1:])
+
+
 def try_protocol(lab, stack, folder, protocol):
     """The network with bridges of a protocol as it stands, and then with cables that are down."""
     make_spaces(stack, [SPACE])
@@ -163,6 +183,8 @@ def try_protocol(lab, stack, folder, protocol):
     network, _ = switch.collect(lab.folder, "after")
     lab.compare(f"{protocol} with cables down", network, script + edits, APART)
     lab.check(f"{protocol} with cables down", script + edits, listening)
+    if protocol == "rstp":
+        try_export(lab, switch, network)
 
 
 def experiment(lab, _, folder):

@@ -1,18 +1,22 @@
 """Runs mstplan, and reads what it prints: in texts, in lines of JSON, and standing, one question after another.
 
 The tools beside the program share it. Where the program can't be run, ends with a fault, or prints what isn't an answer, `Failed` says so:
-a tool tells that as a fault of its own.
+a tool tells that as a fault of its own. What records say is told as texts have it, and lines of scripts are read here, too.
 """
 
 import contextlib
 import json
 import os
+import re
 import subprocess
 import tempfile
 
 # The statuses of an answer: all is as wanted, or something is told that isn't, or is refused. All others are faults.
 WANTED, TOLD = 0, 1
 MOST_OF_A_MESSAGE = 300
+# Of a script's words those that say its version, those that ask, and, of each priority, which word it is and how version 2 counts it.
+SECOND, ASKING, PRIORITIES = [b"mstplan", b"2"], (b"mark", b"changes", b"save"), {b"settreeprio": (3, 4096), b"settreeportprio": (4, 16)}
+LONGEST = 4096
 
 
 class Failed(Exception):
@@ -67,6 +71,11 @@ class Program:
         if len(answers) != 1:
             raise self.failed([word], f"{len(answers)} answers in place of one")
         return answers[0]
+
+    def saved(self, script):
+        """The network of a script as `save` has it, and the script's refused lines."""
+        with self.standing(script) as standing:
+            return standing.saved(), standing.refused
 
     @contextlib.contextmanager
     def standing(self, script):
@@ -123,6 +132,10 @@ class Standing:
         if told:
             raise self.program.failed(["ask"], f"{edit}: {str(told)[:MOST_OF_A_MESSAGE]}")
 
+    def saved(self):
+        """The network as `save` has it."""
+        return script_of(self.answer("save"))
+
 
 def ended(status, said):
     """How a program ended, and what it said."""
@@ -137,3 +150,92 @@ def written(script):
         with open(path, "wb") as file:
             file.write(script)
         yield path
+
+
+# ---- records as texts have them
+
+
+def reason_in(record):
+    """What `verify` prints of a promise behind its number and its place."""
+    if record["kind"] == "policy":
+        return f"{record['error']} {record['text']}"
+    it = {key: list_told(value) for key, value in record.items()}
+    word, tree = it["expectation"], it.get("tree")
+    if word == "root":
+        behind = f" next {it['next']}" if "next" in it else f" of {it['bridge_count']}" if "bridge_count" in it else ""
+        return f"root {tree} {it['root']}{behind}"
+    if word == "fits":
+        return note_in(it)
+    return {
+        "region": "region parts {parts}", "role": "role {tree} {ports} {role}", "reach": "reach {vids} parts {parts}",
+        "apart": "apart {vids} joined {joined}", "leaf": "leaf {tree} {bridge} parent of {bridges}", "depth": "depth {tree} {depth} {bridges}",
+        "carries": "carries {lan} without {vids}", "avoids": "avoids {lan} with {vids}",
+    }[word].format(**it)
+
+
+def note_in(it):
+    """The line of a limit that binds."""
+    if it["note"] == "cost":
+        return f"note cost {it['tree']} {it['bridge']} {'ext' if 'ext' in it else 'int'} {it.get('ext', it.get('int'))}"
+    tree = f" {it['tree']}" if it["note"] == "hops" else ""
+    return f"note {it['note']}{tree} {it['bridge']} depth {it['depth']} limit {it['limit']}"
+
+
+def list_told(value):
+    """A value of a record as a text has it: names and ports with `,` between, parts with spaces, VIDs as runs."""
+    if value is None:
+        return "-"
+    if not isinstance(value, list):
+        return value
+    if all(isinstance(it, list) for it in value):
+        is_of_runs = all(isinstance(number, int) for it in value for number in it)
+        return list_of(value) if is_of_runs else " ".join(map(",".join, value))
+    return ",".join(port_of(it) if isinstance(it, dict) else it for it in value)
+
+
+def port_of(record):
+    return f"{record['bridge']}:{record['port']}"
+
+
+def list_of(runs):
+    """VIDs by their runs: a list of these, of which the empty one is an empty text."""
+    return ",".join(f"{first}-{last}" if first < last else str(first) for first, last in runs)
+
+
+def line_of(record):
+    """A record of `save` or of `edits` as the line of a script that it stands for."""
+    return " ".join(str(list_told(value)) for key, value in record.items() if key != "vids" or "vlans" not in record)
+
+
+def script_of(records):
+    """The script whose lines these records of `save` or of `edits` stand for."""
+    return "".join(f"{line_of(it)}\n" for it in records).encode()
+
+
+# ---- lines of scripts
+
+
+def words_in(line):
+    return re.split(rb"[ \t]+", line.strip(b" \t"))
+
+
+def lines_in(script):
+    """A script's lines, without their ends."""
+    return [line.removesuffix(b"\r") for line in script.split(b"\n")]
+
+
+def is_second(lines):
+    """Whether a script is of version 2."""
+    return len(lines[0]) <= LONGEST and words_in(lines[0]) == SECOND
+
+
+def edit_in(line, newer):
+    """A line of a script as a text, where it is an edit, and else None: it is blank or a comment, it asks, or says the version. Its
+    priorities are written for a script that is newer by so many versions, 1 to -1."""
+    words = words_in(line)
+    if not words[0] or words[0].startswith((b"#", b"show")) or words[0] in ASKING or words == SECOND:
+        return None
+    at, size = PRIORITIES.get(words[0], (0, 1))
+    if newer and at:
+        words[at] = b"%d" % (int(words[at]) * size if newer > 0 else int(words[at]) // size)
+    return b" ".join(words).decode()

@@ -8,8 +8,8 @@ PROGRAM is crates/mstplan/out/mstplan, which `rt ci` leaves where all is proved,
 
 Both packages have the program, its manual page and its completion for bash, which are made of its `--help`, scripts and samples
 of examples/, the texts of docs/, and as commands of their own the importers (mstplan-import-links, -lldp, -ovs and -cisco),
-mstplan-captures and, where tools/page.py is there, mstplan-page. These need Python 3.10 or later; the program needs the C library
-alone. The .tar.gz runs from wherever it is unpacked.
+mstplan-captures, mstplan-page, mstplan-order, mstplan-promises, mstplan-export and mstplan-ci. These need Python 3.10 or later; the
+program needs the C library alone. The .tar.gz runs from wherever it is unpacked.
 
 The program as it is built names the toolchain's loader and the place of its libraries. In the packages it names the system's
 loader, and no place: the loader's name and the table of entries that it reads are changed where they stand, so neither patchelf nor
@@ -50,9 +50,10 @@ END, NEEDED, TEXTS, PLACES = 0, 1, 5, (15, 29)
 COMMANDS = {
     "mstplan-import-links": "import/links.py", "mstplan-import-lldp": "import/lldp.py", "mstplan-import-ovs": "import/ovs.py",
     "mstplan-import-cisco": "import/cisco.py", "mstplan-captures": "captures.py", "mstplan-page": "page.py",
+    "mstplan-order": "order.py", "mstplan-promises": "promises.py", "mstplan-export": "export.py", "mstplan-ci": "ci.py",
 }
 # What goes along with them, and what a reader tries them with.
-MODULES = ("mstplan.py", "import/network.py", "frames.py", "web/*")
+MODULES = ("mstplan.py", "command.py", "settings.py", "forms.py", "shell_forms.py", "import/network.py", "frames.py", "web/*")
 EXAMPLES = ("*.script", "*.captures", "*.tcpdump", "small/*", "import/campus/*", "import/cisco/*/*", "import/lab/*", "import/ovs/*")
 WRAPPER = """#!/bin/sh
 here=$(dirname "$(readlink -f "$0")")

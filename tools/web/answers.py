@@ -1,17 +1,13 @@
 """What mstplan answers of a script's network, in the form in which the page has it. Speeds are in kb/s."""
 
-import re
-
 import mstplan
+from mstplan import edit_in, is_second, lines_in, list_of, port_of, reason_in
 
 QUERIES = ["showplan", "showregions", "shownotes", "showlag"]
 DEFAULT_SPEED = 1_000_000
 ALL_VLANS = "1-4094"
 # How an entity fails, and how that is taken back.
 FAILS = {"lan": ("down", "up"), "bridge": ("off", "on")}
-# Of a script's words those that say its version, those that ask, and, of each priority, which word it is and how version 2 counts it.
-SECOND, ASKING, PRIORITIES = [b"mstplan", b"2"], (b"mark", b"changes", b"save"), {b"settreeprio": (3, 4096), b"settreeportprio": (4, 16)}
-LONGEST = 4096
 
 
 class Program(mstplan.Program):
@@ -60,63 +56,11 @@ def broken_in(policy, records):
     } for record in records]
 
 
-def reason_in(record):
-    """What `verify` prints of a promise behind its number and its place."""
-    if record["kind"] == "policy":
-        return f"{record['error']} {record['text']}"
-    it = {key: list_told(value) for key, value in record.items()}
-    word, tree = it["expectation"], it.get("tree")
-    if word == "root":
-        behind = f" next {it['next']}" if "next" in it else f" of {it['bridge_count']}" if "bridge_count" in it else ""
-        return f"root {tree} {it['root']}{behind}"
-    if word == "fits":
-        return note_in(it)
-    return {
-        "region": "region parts {parts}", "role": "role {tree} {ports} {role}", "reach": "reach {vids} parts {parts}",
-        "apart": "apart {vids} joined {joined}", "leaf": "leaf {tree} {bridge} parent of {bridges}", "depth": "depth {tree} {depth} {bridges}",
-        "carries": "carries {lan} without {vids}", "avoids": "avoids {lan} with {vids}",
-    }[word].format(**it)
-
-
-def note_in(it):
-    """The line of a limit that binds."""
-    if it["note"] == "cost":
-        return f"note cost {it['tree']} {it['bridge']} {'ext' if 'ext' in it else 'int'} {it.get('ext', it.get('int'))}"
-    tree = f" {it['tree']}" if it["note"] == "hops" else ""
-    return f"note {it['note']}{tree} {it['bridge']} depth {it['depth']} limit {it['limit']}"
-
-
-def list_told(value):
-    """A value of a record as a text has it: names and ports with `,` between, parts with spaces, VIDs as runs."""
-    if value is None:
-        return "-"
-    if not isinstance(value, list):
-        return value
-    if all(isinstance(it, list) for it in value):
-        is_of_runs = all(isinstance(number, int) for it in value for number in it)
-        return list_of(value) if is_of_runs else " ".join(map(",".join, value))
-    return ",".join(port_of(it) if isinstance(it, dict) else it for it in value)
-
-
 def kept_behind(promises, failing):
     """What is told of a policy that these promises are of, as they are in one network, of another one with what fails there."""
     lines = promises["expectations"] + sum(it["refused"] for it in promises["broken"])
     judged = lines - sum(it["refused"] for it in failing)
     return {**promises, "broken": failing, "expectations": judged, "hold": judged - len({it["line"] for it in failing if not it["refused"]})}
-
-
-def words_in(line):
-    return re.split(rb"[ \t]+", line.strip(b" \t"))
-
-
-def lines_in(script):
-    """A script's lines, without their ends."""
-    return [line.removesuffix(b"\r") for line in script.split(b"\n")]
-
-
-def is_second(lines):
-    """Whether a script is of version 2."""
-    return len(lines[0]) <= LONGEST and words_in(lines[0]) == SECOND
 
 
 def step_of(record, lines):
@@ -133,31 +77,16 @@ def step_of(record, lines):
 
 def edits_in(step, script, change):
     """The edits of a step that aren't refused, as lines of the script's version. Queries and marks aren't among them."""
-    factor, lines = is_second(lines_in(script)) - is_second(lines_in(change)), lines_in(change)
+    newer, lines = is_second(lines_in(script)) - is_second(lines_in(change)), lines_in(change)
     passed = {it["line"] for it in step["refused"]}
     first, last = map(int, step["lines"].split("-"))
-    for number in sorted(set(range(first, last + 1)) - passed):
-        words = words_in(lines[number - 1])
-        if words[0].startswith((b"#", b"show")) or words[0] in ASKING or words == SECOND:
-            continue
-        at, size = PRIORITIES.get(words[0], (0, 1))
-        if factor and at:
-            words[at] = b"%d" % (int(words[at]) * size if factor > 0 else int(words[at]) // size)
-        yield b" ".join(words).decode()
+    edits = (edit_in(lines[number - 1], newer) for number in sorted(set(range(first, last + 1)) - passed))
+    return [it for it in edits if it is not None]
 
 
 def parts_in(record):
     """VIDs that are cut alike, and the parts that are left."""
     return [list_of(record["vids"]), [",".join(names) for names in record["parts"]]]
-
-
-def port_of(record):
-    return f"{record['bridge']}:{record['port']}"
-
-
-def list_of(runs):
-    """VIDs as the page has them, by their runs: a list of these, of which the empty one is an empty text."""
-    return ",".join(f"{first}-{last}" if first < last else str(first) for first, last in runs)
 
 
 def kept_of(record, *keys):

@@ -1,0 +1,134 @@
+#!/usr/bin/env python3
+"""Orders of changes (tools/order.py), for tools.py: the order that it finds is the least of all orders, by what `steps` says of each.
+
+usage: order_runs.py PROGRAM [COUNT] [FIRST]    (so many networks, or 200; tools.py takes fewer)
+
+Networks, changes of 2 to 4 steps and policies are drawn by their numbers; a policy is of lines that hold now. Every other change is one of
+edits between two networks. The exit status is 1 where something differs.
+"""
+
+import concurrent.futures
+import contextlib
+import itertools
+import os
+import re
+import subprocess
+import sys
+
+TOP = os.path.join(os.path.dirname(os.path.abspath(__file__)), os.pardir)
+ORDER = os.path.join(TOP, "tools", "order.py")
+# nothing is to be left beside what is imported
+sys.dont_write_bytecode = True
+sys.path.append(os.path.join(TOP, "tools"))
+
+import mstplan  # noqa: E402
+import sketch  # noqa: E402
+import verify_runs  # noqa: E402
+
+COUNT, IN_THE_GATE = 200, 24
+ORDERED = re.compile(r"^# steps ([0-9,]+|-)(?:, of which ([0-9]+) break the policy)?$", re.MULTILINE)
+
+
+def policy_of(program, script, draws):
+    """A few lines that hold in the network of a script."""
+    text = sketch.text_of(program.path, script)
+    judged = verify_runs.Judged(text, text)
+    kept = [line for line in verify_runs.lines_of(judged) if not verify_runs.reasons(judged, line)]
+    return [draws.one_of(kept) for _ in range(2)] if kept else []
+
+
+def edit(draws):
+    """A line of a change. Some need another one before them."""
+    bridge = draws.one_of("ABCD")
+    needing = [f"addport {bridge} 20", f"plug {bridge} 20 L1", "addlan N", f"plug {bridge} 20 N", f"unplug {bridge} 1", f"plug {bridge} 1 L0"]
+    return draws.one_of(needing) if draws.below(3) == 0 else sketch.settings(draws, "ABCD")
+
+
+def change_of(draws):
+    """Steps, each a list of lines, without one that is no edit."""
+    steps = [[line for line in (edit(draws) for _ in range(1 + draws.below(2))) if not line.startswith(("show", "mark"))] for _ in range(2 + draws.below(3))]
+    return [step for step in steps if step]
+
+
+def text_of(steps, is_second):
+    return ("\n\n".join(["mstplan 2"] * is_second + ["\n".join(step) for step in steps]) + "\n").encode()
+
+
+def behind(program, script, edits):
+    """The network that a script leaves with edits behind it, without lines that are refused."""
+    return program.saved(script + "\n".join([*edits, ""]).encode())[0]
+
+
+class Tried:
+    """What `steps` says of each order of a change: the least number of failing steps, and the least order that has so few."""
+
+    def __init__(self, program, network, steps, policy, wanted):
+        self.program, self.network, self.steps, self.policy, self.is_second = program, network, steps, policy, wanted is not None
+        given = self.tried(range(len(steps)))
+        self.wanted = wanted or (given[1] if given else None)
+        self.orders = {order: self.tried(order) for order in itertools.permutations(range(len(steps)))}
+
+    def tried(self, order):
+        """How many steps of an order fail, and the network that it ends in; None where a line is refused."""
+        change = text_of([self.steps[at] for at in order], self.is_second)
+        records = self.program.records("steps", self.network, change, self.policy)
+        if any(it["kind"] == "change" for it in records):
+            return None
+        edits = [mstplan.edit_in(line, not self.is_second) for line in mstplan.lines_in(change)]
+        return records[-1]["failing_count"], behind(self.program, self.network, [it for it in edits if it])
+
+    def least(self):
+        """(how many steps fail, the order by the steps' numbers), or None."""
+        found = [(told[0], order) for order, told in self.orders.items() if told and self.wanted in (None, told[1])]
+        return min(((failing, ",".join(str(at + 1) for at in order) or "-") for failing, order in found), default=None)
+
+
+def run(program, network, change, policy, *flags):
+    """The order that the tool tells and how many steps fail, or None; and its status."""
+    with contextlib.ExitStack() as paths:
+        script, other, promises = (paths.enter_context(mstplan.written(it)) for it in (network, change, policy))
+        files = ["--edits", other, promises] if "--by" in flags else [other, promises]
+        ran = subprocess.run([sys.executable, ORDER, *flags, program.path, script, *files], capture_output=True, check=False)
+    printed = ran.stdout.decode()
+    found = ORDERED.search(printed)
+    if ran.returncode not in (0, 1) or not found and not printed.startswith("none\n"):
+        return f"status {ran.returncode}, {printed}, {ran.stderr.decode()}", None
+    return (int(found[2] or 0), found[1]) if found else None, ran.returncode
+
+
+def faults_of_change(program, what, network, steps, policy, wanted):
+    """What differs of one change, or of the edits to a network that is wanted, each a step of its own."""
+    least = Tried(program, network, steps, policy, wanted).least()
+    kept = least if least and not least[0] else None
+    given, flags = (text_of(steps, False), []) if wanted is None else (wanted, ["--by", "line"])
+    faults = []
+    for words, expected in ((flags, kept), ([*flags, "--fewest"], least)):
+        status = 1 if expected is None or expected[0] else 0
+        told = run(program, network, given, policy, *words)
+        faults += [] if told == (expected, status) else [f"{what} {words}: {told} in place of {expected}, {status}"]
+    return faults
+
+
+def faults_of(path, number):
+    program, draws, script = mstplan.Program(path), sketch.Draws(number + 10**6), sketch.drawn(number)
+    network, _ = program.saved("\n".join([*script, ""]).encode())
+    policy = "\n".join([*policy_of(program, script, draws), ""]).encode()
+    steps, wanted = change_of(draws), None
+    if number % 2:
+        new = behind(program, "\n".join([*script, ""]).encode(), [line for step in steps for line in step])
+        # so many that all their orders can be tried
+        edits = [mstplan.line_of(it) for it in program.records("edits", network, new)[1:]][:4]
+        wanted = behind(program, network, edits)
+        steps = [[mstplan.line_of(it)] for it in program.records("edits", network, wanted)[1:]]
+    return faults_of_change(program, f"network {number}", network, steps, policy, wanted)
+
+
+def check(path, count, first=0):
+    """What differs, of so many networks."""
+    with concurrent.futures.ThreadPoolExecutor(os.cpu_count()) as pool:
+        found = pool.map(lambda number: faults_of(path, number), range(first, first + count))
+        return list(itertools.chain.from_iterable(found))
+
+
+if __name__ == "__main__":
+    sketch.check_drawn(check, COUNT, "networks: the least orders", __doc__)

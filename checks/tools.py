@@ -1,0 +1,107 @@
+#!/usr/bin/env python3
+"""Tries the tools that search and translate beside the program, on drawn networks: order.py against all orders of small changes, promises.py
+by `verify`, export.py by what importers read again, ci.py by what `verify` prints; and what each prints of the samples and of wrong words.
+
+usage: tools.py PROGRAM
+
+Each of order_runs.py, promises_runs.py, export_runs.py and ci_runs.py can be called alone for more networks. It takes about a minute of a
+processor. The exit status is 1 where something differs.
+"""
+
+import concurrent.futures
+import itertools
+import os
+import subprocess
+import sys
+import time
+
+# nothing is to be left beside what is imported
+sys.dont_write_bytecode = True
+
+import ci_runs  # noqa: E402
+import export_runs  # noqa: E402
+import order_runs  # noqa: E402
+import promises_runs  # noqa: E402
+
+TOP = os.path.join(os.path.dirname(os.path.abspath(__file__)), os.pardir)
+CAMPUS, CHANGED, CHANGE, WORSE, KEEP, POLICY = (
+    os.path.join(TOP, "examples", it) for it in ("campus.script", "campus-changed.script", "campus.change", "worse.change", "keep.policy", "campus.policy"))
+NONE, ABSENT = os.devnull, "/nonexistent/file"
+# Of each tool words behind PROGRAM (but of ci.py, which has none), how it ends, and what it prints.
+CASES = [
+    ("order.py", [CAMPUS, CHANGE, KEEP], 0, "# steps 1,2,3,4"),
+    ("order.py", [CAMPUS, "--fewest", CHANGE, KEEP], 0, "# steps 1,2,3,4"),
+    ("order.py", [CAMPUS, CHANGE, NONE], 0, "# steps 1,2,3,4"),
+    ("order.py", [CAMPUS, NONE, KEEP], 0, "# steps -"),
+    ("order.py", [CAMPUS, "-", KEEP], 0, "# steps -"),
+    ("order.py", [CAMPUS, WORSE, KEEP], 1, "nowhere 3 lines 6-8 behind 1,2 refused settreeprio core9 0 0: E04 no such bridge"),
+    ("order.py", [CAMPUS, KEEP, KEEP], 1, "nowhere line 1 E01 no such command"),
+    ("order.py", [CAMPUS, "--edits", CHANGED, KEEP], 1, "end fails 2 now root 0 core2 of 6"),
+    ("order.py", [CAMPUS, "--edits", CHANGED, NONE], 0, "# steps 1,2,3"),
+    ("order.py", [CAMPUS, "--edits", CHANGED, "--fewest", KEEP], 1, "# steps 1,2,3, of which 1 break the policy"),
+    ("order.py", [CAMPUS, CHANGE, KEEP, "--most", "2"], 3, ""),
+    ("order.py", [CAMPUS, CHANGE], 2, ""),
+    ("order.py", [CAMPUS, CHANGE, ABSENT], 3, ""),
+    ("order.py", ["-", "-", KEEP], 3, ""),
+    ("promises.py", [CAMPUS], 0, "always reach 1-4094 *"),
+    ("promises.py", [CAMPUS, "--trees", "1"], 0, "# 2 more trees have no lines of their own: --trees 3 has them"),
+    ("promises.py", [CHANGE], 1, ""),
+    ("promises.py", [CAMPUS, "--links", "some"], 2, ""),
+    ("promises.py", [ABSENT], 3, ""),
+    ("export.py", [CAMPUS, CHANGED, "--to", "cisco", "--interface", "Gi1/0/{port}"], 0, "spanning-tree mst 0 priority 8192"),
+    ("export.py", [CAMPUS, CHANGED, "--to", "arista", "--interface", "Ethernet{port}"], 0, "spanning-tree mst 0 priority 8192"),
+    ("export.py", [CAMPUS, CHANGED, "--to", "cisco"], 1, "! by hand: line 2 setportvlans acc2 2 10,20: no interface's name is known for acc2:2; --interface or --names tells it"),
+    ("export.py", [CAMPUS, CHANGED, "--to", "mstpctl,iproute2", "--interface", "{bridge}.{port}"], 0, "bridge vlan add dev acc2.2 vid 10"),
+    ("export.py", [CAMPUS, CHANGED, "--to", "iproute2", "--interface", "{bridge}.{port}"], 1, "# by hand: line 3 settreeprio core1 0 8192: there is no such command"),
+    ("export.py", [CAMPUS, "--change", CHANGE, "--to", "cisco", "--interface", "Gi1/0/{port}"], 1, "! step 1 lines 2-2"),
+    ("export.py", [CAMPUS, CAMPUS, "--to", "ovs"], 0, ""),
+    ("export.py", [CAMPUS, "--to", "ovs"], 2, ""),
+    ("export.py", [CAMPUS, CHANGED, "--to", "junos"], 2, ""),
+    ("export.py", [CAMPUS, CHANGED, "--to", "cisco,ovs"], 2, ""),
+    ("export.py", [CAMPUS, CHANGED, "--to", "ovs", "--interface", "{it}"], 2, ""),
+    ("export.py", [CAMPUS, ABSENT, "--to", "ovs"], 3, ""),
+    ("ci.py", [NONE, POLICY], 3, ""),
+    ("ci.py", [NONE], 2, ""),
+]
+
+
+def faults_of_case(program, tool, words, status, line):
+    """What is wrong with one call: its status, the line that it is to print, and that only one which fails may print nothing."""
+    path = os.path.join(TOP, "tools", tool)
+    programs = [] if tool == "ci.py" else [program]
+    ran = subprocess.run([sys.executable, path, *programs, *words], input=b"", capture_output=True, check=False)
+    printed = ran.stdout.decode().splitlines()
+    if ran.returncode == status and (not line or line in printed) and b"Traceback" not in ran.stderr and (status < 2 or not printed and ran.stderr):
+        return []
+    return [f"{tool} {' '.join(words)}: status {ran.returncode}, {printed[:8]}, {ran.stderr[-300:]}"]
+
+
+def faults_of_cases(program):
+    """What is wrong with all of them, with a program that isn't there, and with the pages."""
+    absent = [("order.py", [CAMPUS, CHANGE, KEEP]), ("promises.py", [CAMPUS]), ("export.py", [CAMPUS, CHANGED, "--to", "ovs"])]
+    calls = [(program, *it) for it in CASES] + [(ABSENT, tool, words, 3, "") for tool, words in absent]
+    calls += [(program, tool, ["--help"], 0, "") for tool in ("order.py", "promises.py", "export.py", "ci.py")]
+    with concurrent.futures.ThreadPoolExecutor(os.cpu_count()) as pool:
+        return list(itertools.chain.from_iterable(pool.map(lambda it: faults_of_case(*it), calls)))
+
+
+def main():
+    if len(sys.argv) != 2:
+        sys.exit(__doc__)
+    program, bad = os.path.abspath(sys.argv[1]), 0
+    for what, its in (
+        ("words", faults_of_cases),
+        *((f"{its.IN_THE_GATE} networks: {name}", lambda program, its=its: its.check(program, its.IN_THE_GATE))
+          for name, its in (("order.py", order_runs), ("promises.py", promises_runs), ("export.py", export_runs), ("ci.py", ci_runs))),
+        ("a campus of 50 switches: promises.py", promises_runs.faults_of_campus),
+        ("samples and no answers: ci.py", ci_runs.faults_of_words),
+    ):
+        began = time.monotonic()
+        faults = its(program)
+        print("".join(f"{it}\n" for it in faults[:5]) + f"{what}: {len(faults)} faults ({time.monotonic() - began:.0f} s)", flush=True)
+        bad += len(faults)
+    sys.exit(1 if bad else 0)
+
+
+if __name__ == "__main__":
+    main()

@@ -1,0 +1,197 @@
+#!/usr/bin/env python3
+"""Tells a CI service which promises of a policy aren't kept: as JUnit's XML, as GitHub's annotations, as GitLab's code quality report.
+
+LINES is what `mstplan verify --json FILE POLICY` has printed. Each line of the policy is a test case, by its number and its words; why
+it isn't kept is its failure, and that it is refused its error. Refused lines of FILE are errors, too, and so is a policy of which
+nothing was judged. Without an option, and with --github, the same stands on standard output for people. The status is that of `verify`
+(take care that a pipe doesn't hide another one: an empty LINES is status 3).
+
+For example: mstplan verify --json campus.script campus.policy | ci.py - campus.policy --script campus.script --junit report.xml
+"""
+
+import argparse
+import hashlib
+import json
+import re
+import sys
+from dataclasses import dataclass
+from xml.sax.saxutils import escape, quoteattr
+
+sys.dont_write_bytecode = True
+
+import mstplan  # noqa: E402
+from command import OK, STATUSES, TOLD, Files, guarded, name_of, write  # noqa: E402
+
+TOOL = "ci.py"
+# How many reasons a report has of a line, and an annotation.
+MOST_REASONS, MOST_ANNOTATED = 200, 5
+FAILURE, ERROR = "failure", "error"
+TYPES = {FAILURE: "not kept", ERROR: "refused"}
+
+
+def printable(text):
+    """A text without what isn't of ASCII: no report can be broken by it."""
+    return re.sub("[^ -~]", lambda it: it[0].encode("unicode_escape").decode(), text)
+
+
+@dataclass
+class Case:
+    """A line of a file: what is said there, and why it isn't as wanted (nothing where it is), as a failure or as an error."""
+    path: str
+    line: int
+    name: str
+    kind: str
+    reasons: list
+
+    @property
+    def title(self):
+        return printable(f"{self.line}: {self.name}")
+
+    def texts(self, most):
+        """The reasons, so many of them at most."""
+        others = len(self.reasons) - most
+        return self.reasons[:most] + [f"and {others} more"] * (others > 0)
+
+
+class Verified:
+    """What `verify` tells of a network and a policy, a case for each line."""
+
+    def __init__(self, lines, policy, policy_path, script_path):
+        values = self.values(lines)
+        answers = [it["records"] for it in values if it.get("query") == "verify" and "records" in it]
+        if len(answers) != 1 or not answers[0] or answers[0][-1].get("kind") != "verify":
+            raise mstplan.Failed(f"LINES has {len(answers)} answers of `mstplan verify --json` in place of one: nothing is known")
+        *self.records, last = answers[0]
+        self.counts = last["expectation_count"], last["hold_count"]
+        refused = {it["line"] for it in self.records if it["kind"] == "policy"}
+        promises = self.promises(policy, refused)
+        if len(promises) != self.counts[0] + len(refused - {0}):
+            raise mstplan.Failed(f"{name_of(policy_path)} has {len(promises)} lines that promise something, and LINES tells of another policy")
+        self.cases = list(self.cases_of(promises, policy_path))
+        told = [it for it in values if "error" in it and "line" in it]
+        self.cases += [Case(script_path, it["line"], "refused line", ERROR, [f"{it['error']} {it['text']}"]) for it in told]
+
+    @staticmethod
+    def values(lines):
+        try:
+            values = [json.loads(line) for line in lines.splitlines() if line.strip()]
+        except ValueError as fault:
+            raise mstplan.Failed(f"LINES isn't what `mstplan verify --json` prints: {fault}") from fault
+        if not all(isinstance(it, dict) for it in values):
+            raise mstplan.Failed("LINES has a line that is no object")
+        return values
+
+    @staticmethod
+    def promises(policy, refused):
+        """The lines of the policy that say something, by number: comments that are too long are refused and say something, too."""
+        lines = {number: line.decode(errors="replace").split() for number, line in enumerate(mstplan.lines_in(policy), start=1)}
+        return {number: " ".join(its) for number, its in lines.items() if its and not its[0].startswith("#") or number in refused}
+
+    def cases_of(self, promises, path):
+        reasons = {}
+        for it in self.records:
+            reasons.setdefault(it["line"], []).append(self.reason(it))
+        kinds = {it["line"]: ERROR if it["kind"] == "policy" else FAILURE for it in self.records}
+        # the line 0 stands for a policy of which nothing is judged
+        for number, promise in ({0: "the policy"} if 0 in reasons else promises).items():
+            yield Case(path, max(number, 1), promise, kinds.get(number, FAILURE), reasons.get(number, []))
+
+    @staticmethod
+    def reason(record):
+        """Where a promise isn't kept, and why."""
+        failure = record.get("failure")
+        place = "" if record["kind"] == "policy" else "now " if failure is None else " ".join(next(iter(failure.items()))) + " "
+        return place + mstplan.reason_in(record)
+
+    def wrong(self, kind=None):
+        return [it for it in self.cases if it.reasons and kind in (None, it.kind)]
+
+
+def junit(verified, name):
+    """The lines of JUnit's XML."""
+    counts = f'tests="{len(verified.cases)}" failures="{len(verified.wrong(FAILURE))}" errors="{len(verified.wrong(ERROR))}" skipped="0"'
+    suite = quoteattr(printable(name))
+    yield '<?xml version="1.0" encoding="UTF-8"?>'
+    yield f'<testsuites name="mstplan verify" {counts}>'
+    yield f"  <testsuite name={suite} {counts}>"
+    for it in verified.cases:
+        head = f'    <testcase classname={suite} name={quoteattr(it.title)} file={quoteattr(printable(it.path))} line="{it.line}"'
+        if not it.reasons:
+            yield f"{head}/>"
+            continue
+        text = escape("\n".join(map(printable, it.texts(MOST_REASONS))))
+        yield f"{head}>"
+        yield f"      <{it.kind} type={quoteattr(TYPES[it.kind])} message={quoteattr(printable(it.reasons[0]))}>{text}</{it.kind}>"
+        yield "    </testcase>"
+    yield "  </testsuite>"
+    yield "</testsuites>"
+
+
+def escaped(text, marks="%\r\n"):
+    """A text as a workflow command of GitHub takes it; as a property without `:` and `,` as well."""
+    return "".join(f"%{ord(it):02X}" if it in marks else it for it in text)
+
+
+def annotations(verified):
+    """GitHub's workflow commands, one for each line that isn't as wanted."""
+    for it in verified.wrong():
+        text = escaped("\n".join(printable(line) for line in [it.title, *it.texts(MOST_ANNOTATED)]))
+        path, title = (escaped(printable(word), "%\r\n:,") for word in (it.path, f"mstplan verify: {TYPES[it.kind]}"))
+        yield f"::error file={path},line={it.line},title={title}::{text}"
+
+
+def quality(verified):
+    """GitLab's code quality report."""
+    return [{
+        "description": printable(f"{it.title}: {'; '.join(it.texts(MOST_ANNOTATED))}"),
+        "check_name": f"mstplan-verify-{TYPES[it.kind].replace(' ', '-')}",
+        "fingerprint": hashlib.sha256("\n".join([it.path, it.title, *it.reasons]).encode("utf-8", "backslashreplace")).hexdigest(),
+        "severity": "major", "location": {"path": it.path, "lines": {"begin": it.line}},
+    } for it in verified.wrong()]
+
+
+def told(verified):
+    """The same for people."""
+    for it in verified.wrong():
+        yield printable(f"{it.path}:{it.line}: {it.name}")
+        yield from (printable(f"    {text}") for text in it.texts(MOST_REASONS))
+    yield f"{verified.counts[1]} of {verified.counts[0]} promises are kept"
+
+
+def words_of():
+    parser = argparse.ArgumentParser(description=__doc__, epilog=STATUSES, formatter_class=argparse.RawDescriptionHelpFormatter)
+    parser.add_argument("lines", metavar="LINES", help="what `mstplan verify --json FILE POLICY` has printed; - is standard input")
+    parser.add_argument("policy", metavar="POLICY", help="the policy that was judged, by the name that it has in the repository")
+    parser.add_argument("--script", metavar="FILE", default="script", help="the name of the network's script, where its refused lines are told")
+    parser.add_argument("--junit", metavar="XML", help="where JUnit's XML goes; - is standard output, with nothing else there")
+    parser.add_argument("--gitlab", metavar="JSON", help="where GitLab's code quality report goes; - as with --junit")
+    parser.add_argument("--github", action="store_true", help="GitHub's workflow commands on standard output, which annotate the files")
+    words = parser.parse_args()
+    if "-" in (words.junit, words.gitlab) and (words.github or words.junit == words.gitlab):
+        parser.error("one thing goes to standard output: --junit -, --gitlab - or --github")
+    return words
+
+
+def put(path, text):
+    if path == "-":
+        write(text)
+    else:
+        with open(path, "w", encoding="utf-8") as file:
+            file.write(text)
+
+
+def main():
+    words, files = words_of(), Files()
+    lines = files.bytes_of(words.lines)
+    verified = Verified(lines, files.bytes_of(words.policy), words.policy, words.script)
+    if words.junit:
+        put(words.junit, "".join(f"{it}\n" for it in junit(verified, name_of(words.policy))))
+    if words.gitlab:
+        put(words.gitlab, json.dumps(quality(verified), indent=1) + "\n")
+    if "-" not in (words.junit, words.gitlab):
+        write("".join(f"{it}\n" for it in (*told(verified), *(annotations(verified) if words.github else ()))))
+    return TOLD if verified.wrong() else OK
+
+
+if __name__ == "__main__":
+    guarded(TOOL, main)
