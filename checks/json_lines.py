@@ -7,7 +7,10 @@ Over the scripts of the examples, those of the worked rows and some drawn ones i
 record the line of the text is made again, by the table of crates/mst_kinds: all lines of a text have to come so, and what a record has
 besides is what stood above its line. Each key has the type that docs/JSON.md says, in every object, and none is there twice. Then it
 looks at names that read like words of the texts, and asks for what users ask for, with no state: in Python, and by jq and pandas where
-the machine has them. The exit status is 1 where something differs. The gate runs it on the program that it has built (.ci/run).
+the machine has them. Where it has python3-jsonschema (4.0 or later), all that was printed is held against docs/mstplan.schema.json:
+each object and each record against the definition of its kind, a line of each kind against the whole, and each record with a key
+less, with a key more, and with a null where none may be has to be refused; what may be null there has to be so somewhere. The exit
+status is 1 where something differs. The gate runs it on the program that it has built (.ci/run).
 """
 
 import collections
@@ -36,6 +39,7 @@ ASKED = re.compile(r"\s*(show\w+|changes|save)(\s|$)")
 MOST_EXPLAINED = 3
 ALL_EXPLAINED = 20
 MOST_IN_PAIRS = 20
+MOST_TOLD = 40
 # Their answers say no words behind these.
 BARE = ("diff", "verify", "steps", "edits")
 # What is promised of each script: little of it is kept.
@@ -46,6 +50,7 @@ root 0 core2 next core1
 root 1 A
 region *
 role 0 *:* Disabled
+role 1 *:* Root
 always reach 1-4094 *
 apart 10,20 * *
 leaf 0 *
@@ -79,6 +84,11 @@ delport A 1
 # no script here comes to these: contests in which no component differs, a root port without a rival, and an internal cost over its limit that a
 # promise finds
 RARE = {("VerifyLine", "InternalCost"), ("ContestLine", "DesignatedOver"), ("ContestLine", "RootAlone"), ("ContestLine", "RootOver")}
+# and so to these nulls, by the key and the kind: identifiers of no bridge of the network, and contests that a bridge's own vector is in
+RARE_NULLS = {
+    *itertools.product(("root", "regional", "designated_bridge"), ("TreeLineBridgeInCist", "TreeLineBridgeInMsti")),
+    *itertools.product(("winner", "loser"), ("ContestLineRootAlone", "ContestLineRootOver", "ContestLineRootByCost", "ContestLineRootById")),
+}
 # Whether a failure cuts this VID is asked of the campus.
 VID = 30
 
@@ -314,7 +324,7 @@ def lines_of(records):
         yield line_of(kind, values)
 
 
-MET = set()
+MET, PRINTED = set(), set()
 
 
 # ---- a run without --json, and one with it
@@ -401,6 +411,7 @@ def difference(program, command, words, script):
         return f"status {text[0]} and {made[0]}, {text[2]!r} and {made[2]!r}"
     try:
         values = values_of(made[1])
+        PRINTED.update(made[1].splitlines())
         again = [line for value in values for line in text_of(value)]
         if again != text[1].splitlines():
             pairs = itertools.zip_longest(text[1].splitlines(), again)
@@ -414,6 +425,93 @@ def difference(program, command, words, script):
     except (ValueError, KeyError, IndexError, TypeError, AttributeError) as fault:
         return f"{type(fault).__name__}: {fault}"
     return None
+
+
+# ---- what was printed, by the schema
+
+# Against the whole it takes some hundredths of a second for each record: so one line is of each kind, where there is a short one.
+MOST_WHOLE = 1000
+
+
+def definition_of(value):
+    """The name of the schema's definition of an object, a record or a line."""
+    first, *_ = value
+    if "records" in value:
+        kind = kind_of(value["query"], {key: it for key, it in value.items() if key not in ("line", "query", "records")}, True)
+    elif first == "kind":
+        kind = kind_of(value["kind"], dict(itertools.islice(value.items(), 1, None)))
+    else:
+        return {"line": "RefusalLineLine", "side": f"RefusalLine{value.get('side', '').title()}Line"}.get(first) or f"RefusalLine{value['query'].title()}"
+    return kind.enum + kind.name
+
+
+class Schema:
+    """docs/mstplan.schema.json, with a validator for each of its definitions."""
+
+    def __init__(self, draft):
+        self.text = json.loads(read("docs", "mstplan.schema.json"))
+        draft.check_schema(self.text)
+        self.whole = draft(self.text)
+        self.each = {name: draft({**its, "$defs": self.named(its)}) for name, its in self.text["$defs"].items()}
+        self.met = {}
+        self.nulls = set()
+
+    def named(self, its):
+        """What a definition names but for records, each of which is looked at alone: a validator goes over all that stands beside it."""
+        return {name: self.text["$defs"][name] for name in re.findall(r'"#/\$defs/(\w+)"', json.dumps(its)) if name != "Record"}
+
+    def faults_of(self, name, value):
+        """What is wrong with an object by the definition of its kind."""
+        for key, it in value.items():
+            if it is None:
+                self.nulls.add((key, name))
+        self.met.setdefault(name, value)
+        return [f"{name}: {fault.message[:200]}" for fault in self.each[name].iter_errors(value)]
+
+    def may_be_null(self):
+        """Each key that may be null, with its definition."""
+        for name, its in self.text["$defs"].items():
+            yield from ((key, name) for key, it in its.get("properties", {}).items() if NULL in [it, *it.get("anyOf", [])] or it.get("type") == "null")
+
+    def accepted(self):
+        """The wrong objects that the schema lets pass."""
+        nulls = set(self.may_be_null())
+        for name, value in self.met.items():
+            wrong = [{key: it for key, it in value.items() if key != left} for left in value if left in self.text["$defs"][name]["required"]]
+            wrong += [{**value, "another": 1}, *({**value, key: None} for key in value if (key, name) not in nulls)]
+            yield from (f"{name} takes {it}" for it in wrong if self.each[name].is_valid(it))
+
+
+NULL = {"type": "null"}
+
+
+def parts_of_line(value):
+    """A line without its records, and these."""
+    if "records" not in value:
+        return [value]
+    return [{**value, "records": []}, *value["records"]]
+
+
+def schema_faults():
+    """What is wrong by the schema, or nothing where the machine can't read it."""
+    try:
+        draft = importlib.import_module("jsonschema").Draft202012Validator
+    except (ImportError, AttributeError):
+        print("skipped, for python3-jsonschema isn't there (4.0 or later): the schema")
+        return
+    schema = Schema(draft)
+    lines = sorted(PRINTED, key=lambda it: (len(it), it))
+    parts = {json.dumps(part): (part, line) for line in lines for part in parts_of_line(json.loads(line))}
+    whole = set()
+    for part, line in parts.values():
+        name = definition_of(part)
+        if name not in schema.met and len(line) < MOST_WHOLE:
+            whole.add(line)
+        yield from schema.faults_of(name, part)
+    yield from (f"the whole doesn't take {line[:200]}" for line in sorted(whole) if not schema.whole.is_valid(json.loads(line)))
+    yield from schema.accepted()
+    yield from (f"{name}: {key} is never null" for key, name in set(schema.may_be_null()) - schema.nulls - RARE_NULLS)
+    print(f"by the schema: {len(parts)} objects and records, and {len(whole)} whole lines")
 
 
 # ---- scripts, and what is asked of them
@@ -652,6 +750,7 @@ CAPTURES = "\n".join([
     sent([MESSAGE]),
     sent([MESSAGE], cost="00004e21"),
     sent([MESSAGE], name="-"),
+    sent([MESSAGE], name=""),
     sent([MESSAGE], digest="00" * 16),
     sent([MESSAGE.replace("80 80", "80 70")]),
     sent([MESSAGE.replace("8001020000000001", "8001020000000002")]),
@@ -823,6 +922,10 @@ def main():
     if unmet():
         print(f"FAILED kinds of lines that no script came to: {sorted(unmet())}")
     passed.append(not unmet())
+    faults = list(schema_faults())
+    for fault in faults[:MOST_TOLD]:
+        print(f"FAILED by the schema: {fault}")
+    passed.append(not faults)
     print(f"{sum(passed)} passed, {len(passed) - sum(passed)} failed")
     sys.exit(0 if all(passed) else 1)
 

@@ -3,11 +3,12 @@
 
 usage: packages.py PROGRAM [--root]
 
-Checked are: two packages of one program are equal; each file's owner and mode; the program differs from PROGRAM in the name of its
-loader and the table that it reads alone, and runs from there; the manual page renders without a warning and names each command;
-the completion is read by bash and completes; each other command runs on its sample; the .tar.gz has the same files. Where a tool
-for one of them isn't there (man, bash), it is named, and the check is left out. Where dpkg-deb isn't there, that is said, and
-nothing is checked, with status 0.
+Checked are: two packages of one program are equal; each file's owner and mode; of what is loaded the program differs from PROGRAM in
+the name of its loader and the table that it reads alone, it has no symbols, and it runs from there; the manual pages render without a
+warning, and the program's names each command; the completion is read by bash and completes; each other command calls itself by its
+name, and some run on a sample; what README.md and docs/USING.md name of examples, docs and tools is there; the .tar.gz has the same
+files; lintian finds no error. Where a tool for one of them isn't there (man, bash, lintian), it is named, and the check is left out.
+Where dpkg-deb isn't there, that is said, and nothing is checked, with status 0.
 
 With --root, as root, a Debian of its own is made with debootstrap in a folder (of this machine's release and from its source of
 packages), the .deb is installed there by apt, and the program and an importer run there. It takes some minutes.
@@ -32,19 +33,24 @@ import package  # noqa: E402
 
 DOC = "usr/share/doc/mstplan"
 SOURCES = "/etc/apt/sources.list.d/debian.sources"
-# Each command with words and standard input below the samples, and how its first line begins.
+# Some commands with words and standard input below the samples, and how the first line begins that each prints.
 RUNS = [
     ("mstplan-import-links", ["import/campus/links.txt"], None, "addbridge core1 "),
     ("mstplan-import-lldp", ["import/lab"], None, "mstplan 2"),
     ("mstplan-import-ovs", ["import/ovs/rstp"], None, "mstplan 2"),
     ("mstplan-import-cisco", ["import/cisco/campus"], None, "mstplan 2"),
+    ("mstplan-import-captures", ["triangle.tcpdump"], None, "mstplan 2"),
     ("mstplan-captures", [], "triangle.tcpdump", "# "),
-    ("mstplan-page", ["--help"], None, "usage: "),
+    ("mstplan-digest", ["ac36177f50283cd4b83821d8ab26de62"], None, "# "),
+    ("mstplan-page", ["../../../../bin/mstplan", "campus.script"], None, "<!"),
     ("mstplan-order", ["--help"], None, "usage: "),
     ("mstplan-promises", ["--help"], None, "usage: "),
     ("mstplan-export", ["--help"], None, "usage: "),
     ("mstplan-ci", ["--help"], None, "usage: "),
 ]
+# What the texts name of the repository, and what of that isn't for a package: what makes one.
+NAMED = re.compile(r"(?<![\w/.])(?:(?:examples|docs)/[\w./-]*\w|tools/(?:import/)?\w+\.py)")
+OF_REPOSITORY = {f"tools/{it}" for it in package.OF_REPOSITORY}
 
 
 def ran(*words, **more):
@@ -90,17 +96,26 @@ def modes(root, deb):
     return wrong
 
 
+def loaded(elf):
+    """What of a program is loaded, but for what the loader reads."""
+    data = bytearray(elf.data)
+    for kind in (package.SEGMENT_LOADER, package.SEGMENT_DYNAMIC):
+        offset, length = elf.segment(kind)
+        data[offset:offset + length] = bytes(length)
+    # of its head the place and the number of sections
+    data[40:48], data[60:64] = bytes(8), bytes(4)
+    return [data[offset:offset + length] for kind, offset, _, length in elf.segments if kind == package.SEGMENT_LOADED]
+
+
 def program_of(program, root):
     """What is wrong with the packaged program: it is to differ in what the loader reads alone, and to say what PROGRAM says."""
     packaged = os.path.join(root, "usr/bin/mstplan")
     with open(program, "rb") as one, open(packaged, "rb") as other:
-        before, after = one.read(), other.read()
-    elf = package.Elf(before)
-    may = {at for kind in (package.SEGMENT_LOADER, package.SEGMENT_DYNAMIC) for at in range(elf.segment(kind)[0], sum(elf.segment(kind)))}
-    differ = [at for at, (old, new) in enumerate(zip(before, after)) if old != new and at not in may]
-    has_loader = package.LOADER + b"\0" in after or elf.segment(package.SEGMENT_LOADER) == (0, 0)
-    wrong = [] if len(before) == len(after) and has_loader else ["it hasn't the system's loader"]
-    wrong += [f"{len(differ)} octets of code or data differ"] if differ else []
+        before, after = package.Elf(one.read()), package.Elf(other.read())
+    has_loader = package.LOADER + b"\0" in after.data or after.segment(package.SEGMENT_LOADER) == (0, 0)
+    wrong = [] if has_loader else ["it hasn't the system's loader"]
+    wrong += [] if loaded(before) == loaded(after) else ["code or data differ"]
+    wrong += ["it has symbols"] if b"\0.symtab\0" in after.data else []
     wrong += [f"it needs {it}" for it in re.findall(r"=> (\S*toolchain\S*|not found)", ran("ldd", packaged, text=True).stdout)]
     script = os.path.join(root, DOC, "examples/campus.script")
     for words in (["--version"], ["summary", script], ["run", script]):
@@ -110,11 +125,16 @@ def program_of(program, root):
 
 
 def manual_of(root, commands):
-    """What is wrong with the manual page."""
-    shown = ran("man", "-l", "--warnings=w", os.path.join(root, "usr/share/man/man1/mstplan.1.gz"), text=True,
-                env={**os.environ, "MANWIDTH": "100", "LC_ALL": "C.UTF-8"})
-    wrong = shown.stderr.splitlines() + ([] if shown.returncode == 0 else [f"status {shown.returncode}"])
-    return wrong + [f"it has no {it}" for it in (*commands, "--hints", "addbridge B MAC", "NAME") if it not in shown.stdout]
+    """What is wrong with the manual pages."""
+    wrong = []
+    for command in ["mstplan", *package.commands_of_tools()]:
+        shown = ran("man", "-l", "--warnings=w", os.path.join(root, f"usr/share/man/man1/{command}.1.gz"), text=True,
+                    env={**os.environ, "MANWIDTH": "100", "LC_ALL": "C.UTF-8"})
+        wanted = (*commands, "--hints", "addbridge B MAC", "NAME") if command == "mstplan" else ("NAME", f"{command} - ", "SYNOPSIS")
+        its = shown.stderr.splitlines() + ([] if shown.returncode == 0 else [f"status {shown.returncode}"])
+        its += [f"it has no {it}" for it in wanted if it not in re.sub(r"\s+", " ", shown.stdout)]
+        wrong += [f"{command}: {it}" for it in its]
+    return wrong
 
 
 def completion_of(root, commands):
@@ -122,7 +142,9 @@ def completion_of(root, commands):
     path = os.path.join(root, "usr/share/bash-completion/completions/mstplan")
     wrong = ran("bash", "-n", path, text=True).stderr.splitlines()
     for words, wanted in (("''", commands), ("su", ["summary"]), ("summary --j", ["--json"]), ("check --h", ["--help", "--hints"]),
-                          ("as", ["ask"]), ("dot --", ["--help", "--hints", "--version"]), ("ask --", ["--help", "--hints", "--json", "--version"])):
+                          ("as", ["ask"]), ("advise campus.script ''", ["root", "forward"]), ("advise - f", ["forward"]),
+                          ("dot campus.script v", ["vlan"]), ("sweep --json campus.script p", ["pairs"]), ("sweep campus.script pairs 3/", [f"3/{it}" for it in (2, 4, 8, 16)]),
+                          ("sweep campus.script 1", [f"1/{it}" for it in (2, 4, 8, 16)]), ("dot --", ["--help", "--hints", "--version"]), ("ask --", ["--help", "--hints", "--json", "--version"])):
         count = len(words.split())
         text = f'. "$1"; COMP_WORDS=(mstplan {words}); COMP_CWORD={count}; _mstplan; echo "${{COMPREPLY[@]}}"'
         found = ran("bash", "-c", text, "bash", path, text=True).stdout.split()
@@ -133,18 +155,33 @@ def completion_of(root, commands):
 def commands_of(root):
     """What is wrong with the other commands."""
     wrong, samples = [], os.path.join(root, DOC, "examples")
+    for command in package.commands_of_tools():
+        its = ran(os.path.join(root, "usr/bin", command), "--help", text=True)
+        if its.returncode != 0 or not re.search(rf"^usage: {command}( |$)", its.stdout, re.MULTILINE):
+            wrong.append(f"{command} --help: status {its.returncode}, and it doesn't call itself so")
+        wrong += [f"{command} --help names {it}" for it in re.findall(r"\bpython3 \S+", its.stdout)]
     for command, words, given, begins in RUNS:
-        path = os.path.join(root, "usr/bin", command)
-        if not os.path.exists(path):
-            print(f"left out, for it isn't in the package: {command}")
-            continue
         with open(os.path.join(samples, given) if given else os.devnull, "rb") as file:
-            its = ran(path, *words, cwd=samples, stdin=file)
+            its = ran(os.path.join(root, "usr/bin", command), *words, cwd=samples, stdin=file)
         if its.returncode != 0 or not its.stdout.decode().startswith(begins):
             wrong.append(f"{command}: status {its.returncode}, {its.stdout[:80]!r}, {its.stderr[-200:]!r}")
-    if "usage: mstplan-import-lldp " not in ran(os.path.join(root, "usr/bin/mstplan-import-lldp"), "--help", text=True).stdout:
-        wrong.append("mstplan-import-lldp's page doesn't name it")
     return wrong
+
+
+def texts_of(root):
+    """What the texts name, and the package hasn't."""
+    wrong, commands = [], {os.path.join("tools", *its) for its in package.commands_of_tools().values()}
+    for text in ("README.md", "docs/USING.md"):
+        with open(os.path.join(root, DOC, text), encoding="utf-8") as file:
+            names = set(NAMED.findall(file.read())) - OF_REPOSITORY - commands
+        wrong += [f"{text} names {it}" for it in sorted(names) if not os.path.exists(os.path.join(root, DOC, it))]
+    return wrong
+
+
+def errors_of(deb):
+    """The errors that lintian finds."""
+    its = ran("lintian", "--fail-on", "error", "--allow-root", deb, text=True)
+    return [line for line in its.stdout.splitlines() if line.startswith("E:")] or ([f"lintian: {its.stderr}"] if its.returncode else [])
 
 
 def archive_of(root, archive, folder):
@@ -207,12 +244,17 @@ def check_contents(checks, program, folder):
     checks.say("owners and modes", modes(root, deb))
     checks.say("the program", program_of(program, root))
     checks.say("commands", commands_of(root))
+    checks.say("what the texts name", texts_of(root))
     checks.say("the archive", archive_of(root, archive, os.path.join(folder, "archive")))
-    for tool, text, its in (("man", "the manual page", manual_of), ("bash", "the completion", completion_of)):
+    for tool, text, its in (("man", "the manual pages", manual_of), ("bash", "the completion", completion_of)):
         if shutil.which(tool):
             checks.say(text, its(root, commands))
         else:
             checks.left_out(text, tool)
+    if shutil.which("lintian"):
+        checks.say("lintian", errors_of(deb))
+    else:
+        checks.left_out("errors of the package", "lintian")
     return deb
 
 

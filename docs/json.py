@@ -1,15 +1,28 @@
 #!/usr/bin/env python3
-"""Compares the tables of docs/JSON.md with the table of the kinds of lines (crates/mst_kinds), of which they are made.
+"""Compares what is told of JSON with the table of the kinds of lines (crates/mst_kinds), of which it is made: the tables of
+docs/JSON.md, and docs/mstplan.schema.json, a JSON Schema (draft 2020-12) of each line that the program prints with --json.
 
-usage: json.py --check docs/JSON.md     (the status is 1 where a table of the page differs, with a line for each difference)
-       json.py --update docs/JSON.md    (writes the tables into the page)
+usage: json.py --check     (the status is 1 where one of them differs, with a line for each difference)
+       json.py --update    (writes both)
+
+What a key's type is in a schema, and which keys of which kinds may be null, stands here; checks/json_lines.py compares it with what
+the program prints.
 """
 
+import collections
+import fnmatch
 import os
 import re
 import sys
 
-TOP = os.path.join(os.path.dirname(os.path.abspath(__file__)), os.pardir, "crates", "mst_kinds")
+HERE = os.path.dirname(os.path.abspath(__file__))
+# this file has the name of Python's own module, which it wants
+sys.path = [it for it in sys.path if os.path.abspath(it) != HERE]
+
+import json  # noqa: E402
+
+TOP = os.path.join(HERE, os.pardir, "crates", "mst_kinds")
+PAGE, SCHEMA = os.path.join(HERE, "JSON.md"), os.path.join(HERE, "mstplan.schema.json")
 TYPES = {
     "words": "string",
     "numbers": "number",
@@ -24,12 +37,26 @@ TYPES = {
     "objects": "object",
     "failures": "failure",
 }
+# The keys that may be null, by their kinds. Where a line ends with ` -`, the last one is.
+NULLS = {
+    "TreeLine::*": ("root", "regional", "designated_bridge"),
+    "ChangeLine::*": ("old_vector", "new_vector", "old_role", "new_role"),
+    "ContestLine::Root*": ("winner", "loser"),
+    "CaptureLine::Text": ("capture_text",),
+    "VerifyLine::*": ("failure", "next"),
+    "VerifyLine::Role": ("role",),
+}
 TABLE = re.compile(r"(<!-- table of (\w+) -->\n).*?(?=<!-- end of table -->)", re.DOTALL)
+# A kind: its enumeration and its variant, its line as its comment has it, its first word, and its parts.
+Kind = collections.namedtuple("Kind", "enum name line first parts")
 
 
 def read(*path):
     with open(os.path.join(TOP, *path), encoding="utf-8") as file:
         return file.read()
+
+
+# ---- the table of the code
 
 
 def variants(text, enum):
@@ -42,63 +69,206 @@ def texts(text, enum):
     return dict(re.findall(rf'{enum}::(\w+) => b"(.*?)"', text))
 
 
-def member(part, names, marks):
-    """What a record has of a part of a line: `^` where the line hasn't it."""
-    place, *words = part.split()
-    above = "^" if place in ("Above", "AbovePort", "Told") else ""
-    if not words:
-        return f"`bridge{above}` `port{above}`"
-    word = f' "{marks[words[1]]}"' if place in ("Said", "Told") else ""
-    return f"`{names[words[0]]}{above}`{word}"
-
-
 def fixed(first, parts, marks):
     """The fixed words of a line, in their order."""
     return [marks[first]] + [marks[part.split()[-1]] for part in parts if part.startswith(("Mark", "Said"))]
 
 
-def kinds():
-    """The lines of each group of kinds, with the keys of their records."""
-    names, marks = texts(read("src", "key.rt"), "Key"), texts(read("src", "mark.rt"), "Mark")
+def groups():
+    """What each group of kinds is of, with its kinds."""
+    marks = texts(read("src", "mark.rt"), "Mark")
     for told, _ in variants(read("src", "kind.rt"), "Kind"):
         enum = re.search(rf"/// {re.escape(told)}\n    \w+\((\w+)\)", read("src", "kind.rt")).group(1)
-        text = read("src", re.sub(r"(?<!^)(?=[A-Z])", "_", enum).lower() + ".rt")
-        yield f"\n**{told}**\n\n| Line | Keys |\n|---|---|"
-        for line, variant in variants(text, enum):
-            parts = re.search(rf"{enum}::{variant} =>\s+parts!\[(.*?)\]", text).group(1).split(", ")
-            words = iter(line.split("`")[1].split())
-            if not all(word in words for word in fixed(re.search(rf"{enum}::{variant} => Mark::(\w+)", text).group(1), parts, marks)):
-                sys.exit(f"{enum}::{variant}: {line} hasn't the words of its parts")
-            yield f"| {line} | {' '.join(member(part, names, marks) for part in parts if part and not part.startswith('Mark'))} |"
+        text, its = read("src", re.sub(r"(?<!^)(?=[A-Z])", "_", enum).lower() + ".rt"), []
+        for line, name in variants(text, enum):
+            parts = re.search(rf"{enum}::{name} =>\s+parts!\[(.*?)\]", text).group(1).split(", ")
+            first, words = re.search(rf"{enum}::{name} => Mark::(\w+)", text).group(1), iter(line.split("`")[1].split())
+            if not all(word in words for word in fixed(first, parts, marks)):
+                sys.exit(f"{enum}::{name}: {line} hasn't the words of its parts")
+            its.append(Kind(enum, name, line, marks[first], [part for part in parts if part and not part.startswith("Mark")]))
+        yield told, its
+
+
+def members(kind):
+    """The members of a record of a kind: (key, its fixed word or None, whether it stands above the line, `may` or `is` null or '')."""
+    names, marks = texts(read("src", "key.rt"), "Key"), texts(read("src", "mark.rt"), "Mark")
+    may = {key for pattern, keys in NULLS.items() if fnmatch.fnmatchcase(f"{kind.enum}::{kind.name}", pattern) for key in keys}
+    found = []
+    for place, *words in map(str.split, kind.parts):
+        above = place in ("Above", "AbovePort", "Told")
+        word = marks[words[1]] if place in ("Said", "Told") else None
+        found += [(names[it] if words else it, word, above) for it in words[:1] or ("bridge", "port")]
+    is_null = kind.line.split("`")[1].endswith(" -")
+    return [(*it, "is" if is_null and it is found[-1] else "may" if it[0] in may else "") for it in found]
 
 
 def keys():
-    """Each key, with its type and its meaning."""
+    """Each key, by its name: its type and its meaning."""
     names = texts(read("src", "key.rt"), "Key")
     sorts = dict(re.findall(r"^sort_of key\.(\w+) = (\w+)$", read("specs", "Sorts.antt"), re.MULTILINE))
-    yield "| Key | Type | Meaning |\n|---|---|---|"
     for meaning, key in sorted(variants(read("src", "key.rt"), "Key"), key=lambda it: names[it[1]]):
-        yield f"| `{names[key]}` | {TYPES[sorts.get(key, 'words')]} | {meaning[0].lower() + meaning[1:].rstrip('.')} |"
+        yield names[key], TYPES[sorts.get(key, "words")], meaning[0].lower() + meaning[1:].rstrip(".")
+
+
+# ---- the tables of the page
+
+
+def cell(key, word, above, null):
+    """What the page says of a member."""
+    said = f' "{word}"' if word else " null" if null == "is" else ""
+    return f"`{key}{'^' * above}{'?' * (null == 'may')}`{said}"
+
+
+def table_of_kinds():
+    for told, kinds in groups():
+        yield f"\n**{told}**\n\n| Line | Keys |\n|---|---|"
+        for kind in kinds:
+            yield f"| {kind.line} | {' '.join(cell(*it) for it in members(kind))} |"
+
+
+def table_of_keys():
+    yield "| Key | Type | Meaning |\n|---|---|---|"
+    yield from (f"| `{key}` | {its} | {meaning} |" for key, its, meaning in keys())
 
 
 def with_tables(page):
-    made = {"kinds": "\n".join(kinds()), "keys": "\n".join(keys())}
+    made = {"kinds": "\n".join(table_of_kinds()), "keys": "\n".join(table_of_keys())}
     return TABLE.sub(lambda it: it.group(1) + made[it.group(2)].strip() + "\n", page)
 
 
+# ---- the schema
+
+
+def ref(name):
+    return {"$ref": f"#/$defs/{name}"}
+
+
+def any_of(*its):
+    return {"anyOf": list(its)}
+
+
+def array(of):
+    return {"type": "array", "items": of}
+
+
+def number(least=0, most=None):
+    return {"type": "integer", "minimum": least, **({} if most is None else {"maximum": most})}
+
+
+def form(pattern):
+    return {"type": "string", "pattern": f"^{pattern}$"}
+
+
+def closed(properties, *may_lack, **more):
+    """An object with these members and no others."""
+    its = {"type": "object", "properties": properties, "required": [key for key in properties if key not in may_lack]}
+    return {**more, **its, "additionalProperties": False}
+
+
+TEXT, NULL = {"type": "string"}, {"type": "null"}
+OCTET = "[0-9a-f]{2}"
+BRIDGE_ID, PORT_ID = form(f"[0-9a-f]{{4}}\\.{OCTET}(:{OCTET}){{5}}"), form("[0-9a-f]{4}")
+VID, TREE, PORT = number(1, 4094), number(0, 4094), {"bridge": TEXT, "port": number(1, 4095)}
+ROLE = {"enum": ["Root", "Designated", "Alternate", "Backup", "Master", "Disabled"]}
+OF_MSTI = {"regional_id": BRIDGE_ID, "int": number(), "designated_id": BRIDGE_ID, "designated_port_id": PORT_ID, "receiver_id": PORT_ID}
+# What records have, each a definition of its own.
+PARTS = {
+    "Vids": array({"type": "array", "prefixItems": [VID, VID], "items": False, "minItems": 2}),
+    "Port": closed(PORT),
+    "ActivePort": closed({**PORT, "member": {"type": "boolean"}}),
+    "Failure": any_of(closed({"lan": TEXT}), closed({"bridge": TEXT})),
+    "Vector": any_of(closed({"root_id": BRIDGE_ID, "ext": number(), **OF_MSTI}), closed(OF_MSTI)),
+    "RegionSide": any_of(closed({"name": TEXT, "revision": number(0, 65535), "region": TEXT}),
+                         closed({"region_kind": {"const": "rstp"}, "revision": NULL, "region": TEXT})),
+}
+SCHEMAS = {
+    "string": TEXT, "number": number(), "port": ref("Port"), "port or null": ref("Port"), "VIDs": ref("Vids"), "array of strings": array(TEXT),
+    "array of ports": array(ref("Port")), "array of numbers": array(number()), "array of arrays of strings": array(array(TEXT)),
+    "array of active ports": array(ref("ActivePort")), "failure": ref("Failure"),
+}
+# What is known of some keys beside their types.
+FORMS = {
+    "port": PORT["port"], "vid": VID, "tree": TREE, "trees": array(TREE), "revision": number(0, 65535), "status": {"enum": [0, 1, 3]},
+    **OF_MSTI, "root_id": BRIDGE_ID, "bridge_id": BRIDGE_ID, "port_id": PORT_ID, "role": ROLE, "old_role": ROLE, "new_role": ROLE,
+    "mac": form(f"{OCTET}(:{OCTET}){{5}}"), "digest": form("[0-9a-f]{32}"), "lines": form("[0-9]+-[0-9]+"), "error": form("[A-Z][0-9]{2}"),
+    "old_vector": ref("Vector"), "new_vector": ref("Vector"), "old_region": ref("RegionSide"), "new_region": ref("RegionSide"),
+}
+# The kinds that nothing prints as JSON: records of `check` stand alone, and so do hints.
+UNPRINTED = {("Query", "Check"), ("RefusalLine", "Hinted")}
+# What is refused of a script, what of a question, and the kinds whose records stand alone.
+REFUSED, UNANSWERED, ALONE = ("Line", "OldLine", "NewLine"), ("Explain", "Dot", "Advise"), ("CaptureLine", "AskLine")
+
+
+def values(kind, table):
+    """What each member of a record of a kind is."""
+    for key, word, _, null in members(kind):
+        its, meaning = table[key]
+        plain = {"const": word} if word else FORMS.get(key) or SCHEMAS[its]
+        yield key, {"description": meaning, **(NULL if null == "is" else any_of(plain, NULL) if null else plain)}
+
+
+def definition(kind, table):
+    """The object of a kind."""
+    its, title = dict(values(kind, table)), {"title": kind.line.replace("`", "")}
+    if kind.enum == "Query":
+        line = {"description": "the number of the script's line that asks", **number(1)}
+        return closed({"line": line, "query": {"const": kind.first}, **its, "records": array(ref("Record"))}, "line", **title)
+    if kind.enum == "RefusalLine" and kind.name in REFUSED:
+        return closed(its, **title)
+    return closed({"query" if kind.enum == "RefusalLine" and kind.name in UNANSWERED else "kind": {"const": kind.first}, **its}, **title)
+
+
+def schema():
+    """The schema: a definition for each kind, and one for each sort of objects, whose kinds it names."""
+    table = {key: its for key, *its in keys()}
+    kinds = [kind for _, its in groups() for kind in its if (kind.enum, kind.name) not in UNPRINTED]
+    sorts = {"Answer": [], "RecordAlone": [], "Refused": [], "Unanswered": [], "Record": []}
+    made = {}
+    for kind in kinds:
+        name = kind.enum + kind.name
+        made[name] = definition(kind, table)
+        of_refusal = "Refused" if kind.name in REFUSED else "Unanswered" if kind.name in UNANSWERED else "Record"
+        sort = {"Query": "Answer", "RefusalLine": of_refusal}.get(kind.enum, "RecordAlone" if kind.enum in ALONE else "Record")
+        sorts[sort].append(ref(name))
+    return {
+        "$schema": "https://json-schema.org/draft/2020-12/schema",
+        "title": "A line that mstplan prints with --json",
+        "description": "Made by docs/json.py of the table of kinds of lines; docs/JSON.md tells what stays in later versions.",
+        **any_of(*(ref(sort) for sort in sorts if sort != "Record")),
+        "$defs": {**{sort: any_of(*its) for sort, its in sorts.items()}, **PARTS, **made},
+    }
+
+
+# ---- both files
+
+
+def contents(path):
+    if not os.path.exists(path):
+        return ""
+    with open(path, encoding="utf-8") as file:
+        return file.read()
+
+
+def differences(name, old, new):
+    """What differs between a file and what it is to be."""
+    there, wanted = old.splitlines(), new.splitlines()
+    told = [f"{name}: not so: {it}" for it in there if it not in wanted] + [f"{name}: left out: {it}" for it in wanted if it not in there]
+    return told or [f"{name}: another order"] * (old != new)
+
+
 def main():
-    if len(sys.argv) != 3 or sys.argv[1] not in ("--check", "--update"):
+    if sys.argv[1:] not in (["--check"], ["--update"]):
         sys.exit(__doc__)
-    with open(sys.argv[2], encoding="utf-8") as file:
-        old = file.read()
-    new = with_tables(old)
-    if sys.argv[1] == "--update":
-        with open(sys.argv[2], "w", encoding="utf-8") as file:
-            file.write(new)
-    elif old != new:
-        there, wanted = old.splitlines(), new.splitlines()
-        print("\n".join([f"not so: {it}" for it in there if it not in wanted] + [f"left out: {it}" for it in wanted if it not in there]) or "another order")
-        sys.exit(1)
+    made = {PAGE: with_tables(contents(PAGE)), SCHEMA: json.dumps(schema(), indent=1) + "\n"}
+    told = []
+    for path, new in made.items():
+        if sys.argv[1] == "--update":
+            with open(path, "w", encoding="utf-8") as file:
+                file.write(new)
+        else:
+            told += differences(os.path.basename(path), contents(path), new)
+    print("\n".join(told), end="\n" * bool(told))
+    sys.exit(1 if told else 0)
 
 
 if __name__ == "__main__":

@@ -6,20 +6,22 @@ usage: package.py PROGRAM [FOLDER]    (FOLDER takes the packages; the one where 
 PROGRAM is crates/mstplan/out/mstplan, which `rt ci` leaves where all is proved, or one that unproved.py has made. VERSION is what
 `PROGRAM --version` prints, with +unproved behind it for a program from any other place than crates/mstplan/out.
 
-Both packages have the program, its manual page and its completion for bash, which are made of its `--help`, scripts and samples
-of examples/, the texts of docs/, and as commands of their own the importers (mstplan-import-links, -lldp, -ovs and -cisco),
-mstplan-captures, mstplan-page, mstplan-order, mstplan-promises, mstplan-export and mstplan-ci. These need Python 3.10 or later; the
-program needs the C library alone. The .tar.gz runs from wherever it is unpacked.
+Both packages have the program, its completion for bash, all of examples/, the texts of docs/, and each file of tools/ and of
+tools/import/ that is run as a command of its own: page.py is mstplan-page, import/links.py mstplan-import-links; but for the two that
+are of use in the repository alone, this one and unproved.py. Each command has a manual page, which is made of its `--help`. These
+commands need Python 3.10 or later; the program needs the C library alone. The .tar.gz runs from wherever it is unpacked.
 
 The program as it is built names the toolchain's loader and the place of its libraries. In the packages it names the system's
 loader, and no place: the loader's name and the table of entries that it reads are changed where they stand, so neither patchelf nor
-a linker is needed, and all else, code and data, is the same byte for byte.
+a linker is needed. What is never loaded, as symbols, is left out, and all else, code and data, is the same byte for byte.
 
-The packages are the same, byte for byte, for one program and one state of the repository: times are SOURCE_DATE_EPOCH in seconds,
-or else 0. They end with status 0; 1 where dpkg-deb is missing, so that only the .tar.gz is made; 2 for wrong words; 3 where
-PROGRAM can't be run or isn't of the form that is known, and where a file can't be read or written.
+The packages are the same, byte for byte, for one program and one state of the repository: times are SOURCE_DATE_EPOCH in seconds, or
+else that of the last commit, or where git doesn't tell it 0. They end with status 0; 1 where dpkg-deb is missing, so that only the
+.tar.gz is made; 2 for wrong words; 3 where PROGRAM can't be run or isn't of the form that is known, and where a file can't be read or
+written.
 """
 
+import email.utils
 import glob
 import gzip
 import hashlib
@@ -31,6 +33,7 @@ import subprocess
 import sys
 import tarfile
 import tempfile
+import time
 
 sys.dont_write_bytecode = True
 
@@ -46,15 +49,14 @@ PACKAGES = {"libc.so.6": "libc6", "libm.so.6": "libc6", "ld-linux-x86-64.so.2": 
 # Segments and entries of ELF: the loader's name, the entries for the loader, and of these the end, libraries, and where they are.
 SEGMENT_DYNAMIC, SEGMENT_LOADER, SEGMENT_LOADED = 2, 3, 1
 END, NEEDED, TEXTS, PLACES = 0, 1, 5, (15, 29)
-# The commands, each with its file below tools/.
-COMMANDS = {
-    "mstplan-import-links": "import/links.py", "mstplan-import-lldp": "import/lldp.py", "mstplan-import-ovs": "import/ovs.py",
-    "mstplan-import-cisco": "import/cisco.py", "mstplan-captures": "captures.py", "mstplan-page": "page.py",
-    "mstplan-order": "order.py", "mstplan-promises": "promises.py", "mstplan-export": "export.py", "mstplan-ci": "ci.py",
-}
-# What goes along with them, and what a reader tries them with.
-MODULES = ("mstplan.py", "command.py", "settings.py", "forms.py", "shell_forms.py", "import/network.py", "frames.py", "web/*")
-EXAMPLES = ("*.script", "*.captures", "*.tcpdump", "small/*", "import/campus/*", "import/cisco/*/*", "import/lab/*", "import/ovs/*")
+# A section's flag of what is loaded, and that of one that has another's number.
+ALLOCATED, HAS_NUMBER = 2, 64
+# What tools/ has of use: commands, what they import, and what they put together.
+TOOLS = ("*.py", "import/*.py", "web/*")
+# The tools that are of use in the repository alone.
+OF_REPOSITORY = ("package.py", "unproved.py")
+# What stands before the name of a file below tools/, for a command of the folder that is first.
+PLACES_OF = {("", ""): "", ("", "import"): "import/", ("import", ""): "../", ("import", "import"): ""}
 WRAPPER = """#!/bin/sh
 here=$(dirname "$(readlink -f "$0")")
 exec python3 "$here/../share/mstplan/{file}" "$@"
@@ -65,23 +67,49 @@ DESCRIPTION = """Description: planner for spanning tree networks{suffix}
  ports, LANs and cables, and tells which bridge is the root of each tree, which
  ports forward and which parts of a VLAN stay connected.
 """
+COPYRIGHT = """mstplan
+
+Copyright {year} {maintainer}
+
+No licence has been given yet. So nobody but the holders of the copyright may
+copy, change or pass on this program, these commands and these texts, beyond
+what the law allows without a licence.
+"""
+CHANGES = """mstplan ({version}) unstable; urgency=medium
+
+  * This package has no changelog of its own: what has changed is told by the
+    history of the repository.
+
+ -- {maintainer}  {date}
+"""
 COMPLETION = """# Completion of mstplan for bash, made of its help.
 _mstplan()
 {{
-    local word=${{COMP_WORDS[COMP_CWORD]}} command= at words="{commands}" flags="--help --version"
+    local word=${{COMP_WORDS[COMP_CWORD]}} command= last= at place=0 flags="--help --version" words= part=1
     COMPREPLY=()
     for (( at = 1; at < COMP_CWORD; at++ )); do
-        if [[ ${{COMP_WORDS[at]}} != -* ]]; then
-            command=${{COMP_WORDS[at]}}
-            break
+        last=${{COMP_WORDS[at]}}
+        if [[ $last != -?* ]]; then
+            command=${{command:-$last}}
+            (( place++ ))
         fi
     done
     case $command in
 {cases}
     esac
-    if [[ $word == -* ]]; then
+    if [[ $word =~ ^([0-9]+)/ ]]; then
+        part=${{BASH_REMATCH[1]}}
+    fi
+    case $command:$place:$last in
+        :*) words="{commands}" ;;
+        advise:2:*) words="root forward" ;;
+        dot:2:*) words="vlan" ;;
+        sweep:2:*) words="pairs $part/2 $part/4 $part/8 $part/16" ;;
+        sweep:3:pairs) words="$part/2 $part/4 $part/8 $part/16" ;;
+    esac
+    if [[ $word == -?* ]]; then
         COMPREPLY=( $(compgen -W "$flags" -- "$word") )
-    elif [[ -z $command ]]; then
+    elif [[ -n $words ]]; then
         COMPREPLY=( $(compgen -W "$words" -- "$word") )
     fi
 }}
@@ -144,6 +172,31 @@ class Elf:
             struct.pack_into("<QQ", self.data, offset + 16 * at, *it)
 
 
+    def strip(self):
+        """Leaves out what is never loaded (symbols, comments): the sections that are get a table of their own, behind all that is."""
+        (start,), (size, count, names) = struct.unpack_from("<Q", self.data, 40), struct.unpack_from("<HHH", self.data, 58)
+        heads = [list(struct.unpack_from("<IIQQQQIIQQ", self.data, start + at * size)) for at in range(count)]
+        if not start or not heads:
+            return
+        kept = [at for at, head in enumerate(heads) if at in (0, names) or head[2] & ALLOCATED]
+        numbers = {at: number for number, at in enumerate(kept)}
+        texts, table = bytearray(b"\0"), bytearray()
+        for head in (heads[at] for at in kept[1:]):
+            begin = heads[names][4] + head[0]
+            head[0] = len(texts)
+            texts += self.data[begin:self.data.index(b"\0", begin) + 1]
+            head[6] = numbers.get(head[6], 0)
+            head[7] = numbers.get(head[7], 0) if head[2] & HAS_NUMBER else head[7]
+        end = max(offset + length for _, offset, _, length in self.segments)
+        heads[names][4:6] = end, len(texts)
+        for at in kept:
+            table += struct.pack("<IIQQQQIIQQ", *heads[at])
+        self.data = (self.data[:end] + texts).ljust(end + -(-len(texts) // 8) * 8 + -end % 8, b"\0")
+        struct.pack_into("<Q", self.data, 40, len(self.data))
+        struct.pack_into("<HHH", self.data, 58, 64, len(kept), numbers[names])
+        self.data += table
+
+
 def needed(elf):
     """The packages that Debian has what the program needs in, the C library of the least version that has all its symbols."""
     libraries = elf.libraries()
@@ -197,7 +250,34 @@ def manual(version, page, pages):
                 yield f".PP\n.B {roff(line.removeprefix('Usage:').strip())}"
         yield from roff_body([line for line in others if re.match(r"  [<\[]", line)], ".SS")
     yield ".SH FILES\n.TP\n.I /usr/share/doc/mstplan/\nThe language in full (docs/RULES.md), a walk (docs/USING.md), and examples."
-    yield f".SH SEE ALSO\n{', '.join(map(roff, sorted(COMMANDS)))}"
+    yield see_also(sorted(commands_of_tools()))
+
+
+def see_also(commands):
+    return ".SH SEE ALSO\n" + "\n".join(f".BR {roff(it)} (1)" + "," * (it != commands[-1]) for it in commands)
+
+
+def paragraph(lines):
+    """A paragraph of a tool's page as roff: an example, items below a heading, or a text."""
+    if all(line.startswith("  ") for line in lines):
+        return ["", ".nf", *(roff(line) for line in lines), ".fi"]
+    if re.fullmatch(r"[^.]*:", lines[0]) and all(line.startswith("  ") for line in lines[1:]):
+        return roff_body([re.sub(r"^ {4,}", "", line) for line in lines], ".SH")
+    return [".PP", *(".br\n" * line.startswith("  ") + roff(line.strip()) for line in lines)]
+
+
+def manual_of_tool(command, version, page):
+    """The manual page of a tool, of what it says of itself."""
+    paragraphs = [[line.rstrip() for line in it.splitlines()] for it in re.split(r"\n\s*\n", page.strip("\n"))]
+    usage = next(it for it in paragraphs if it[0].startswith("usage:"))
+    first, *others = [it for it in paragraphs if it is not usage]
+    about = re.split(r"[.:;] |[.:;]$", " ".join(first))[0]
+    yield f'.TH {command.upper()} 1 "" "mstplan {version}" "User Commands"'
+    yield f".SH NAME\n{roff(command)} \\- {roff(about[0].lower() + about[1:])}"
+    yield f".SH SYNOPSIS\n.B {roff(re.sub(r' +', ' ', ' '.join(usage)).removeprefix('usage:').strip())}"
+    yield ".SH DESCRIPTION"
+    yield from (line.upper() if line.startswith(".SH") else line for its in (first, *others) for line in paragraph(its))
+    yield see_also(["mstplan", *(it for it in sorted(commands_of_tools()) if it != command)])
 
 
 def completion(page, commands):
@@ -228,28 +308,52 @@ def read(*path):
         return file.read()
 
 
-def add_commands(root):
-    """The importers and other commands, whose pages get the names that they have here."""
-    share = os.path.join("share", "mstplan")
-    for command, name in COMMANDS.items():
-        if not os.path.exists(os.path.join(HERE, name)):
-            print(f"package.py: tools/{name} isn't there: no {command}", file=sys.stderr)
-            continue
-        begin, page, end = read(HERE, name).decode().split('"""', 2)
-        page = re.sub(rf"(?<![\w/]){re.escape(os.path.basename(name))}\b", command, page)
-        write(root, os.path.join(share, name), '"""'.join((begin, page, end)), 0o755)
-        write(root, os.path.join("bin", command), WRAPPER.format(file=name), 0o755)
-    for path in sorted(it for name in MODULES for it in glob.glob(os.path.join(HERE, name)) if os.path.isfile(it)):
-        write(root, os.path.join(share, os.path.relpath(path, HERE)), read(path))
+def commands_of_tools():
+    """Each command, with the folder and the name of its file below tools/: a file is one where it is to be run."""
+    commands = {}
+    for path in sorted(it for name in TOOLS[:2] for it in glob.glob(os.path.join(HERE, name))):
+        folder, name = os.path.split(os.path.relpath(path, HERE))
+        if b'\nif __name__ == "__main__":\n' in read(path) and name not in OF_REPOSITORY:
+            commands["-".join(filter(None, ("mstplan", folder, name.removesuffix(".py"))))] = (folder, name)
+    return commands
 
 
-def add_texts(root):
-    """Texts and examples, in the folders that the texts name."""
+def with_commands(text, folder, commands):
+    """A text of a command of a folder below tools/, where the files that are commands have the names that they have in the package."""
+    named = {PLACES_OF[folder, its] + name: command for command, (its, name) in commands.items()}
+    named |= {os.path.join("tools", *its): command for command, its in commands.items()}
+    return re.sub(r"(?<![\w./])(?:python3 )?((?:\w+/|\.\./)*\w+\.py)\b", lambda it: named.get(it[1], it[0]), text)
+
+
+def add_commands(root, version):
+    """The tools, each by the name that it has here, so that it says that of itself, with a manual page; and what goes along with them."""
+    commands, share = commands_of_tools(), os.path.join("share", "mstplan")
+    texts = {os.path.relpath(path, HERE): read(path) for name in TOOLS for path in sorted(glob.glob(os.path.join(HERE, name))) if os.path.isfile(path)}
+    imported = {word for text in texts.values() for word in re.findall(rb"^\s*(?:from|import) (\w+)", text, re.MULTILINE)}
+    for name, text in texts.items():
+        is_module = os.path.split(name) not in commands.values() or os.path.basename(name).removesuffix(".py").encode() in imported
+        if is_module and name not in OF_REPOSITORY:
+            write(root, os.path.join(share, name), re.sub(rb"^#!.*\n", b"", text))
+    for command, (folder, name) in commands.items():
+        write(root, os.path.join(share, folder, command), with_commands(read(HERE, folder, name).decode(), folder, commands), 0o755)
+        write(root, os.path.join("bin", command), WRAPPER.format(file=os.path.join(folder, command)), 0o755)
+        ran = subprocess.run([os.path.join(root, "bin", command), "--help"], capture_output=True, check=True, text=True, env={**os.environ, "COLUMNS": "120"})
+        add_manual(root, command, manual_of_tool(command, version, ran.stdout))
+
+
+def add_manual(root, command, lines):
+    write(root, f"share/man/man1/{command}.1.gz", gzip.compress(("\n".join(lines) + "\n").encode(), mtime=0))
+
+
+def add_texts(root, version, epoch):
+    """Texts and examples, in the folders that the texts name; who may do what with them; and what has changed."""
     doc = os.path.join("share", "doc", "mstplan")
-    paths = [os.path.join(TOP, "README.md"), os.path.join(TOP, "CHANGELOG.md"), *glob.glob(os.path.join(TOP, "docs", "*.[ms][dv]*"))]
-    paths += [it for name in EXAMPLES for it in glob.glob(os.path.join(TOP, "examples", name))]
-    for path in sorted(it for it in paths if os.path.isfile(it)):
+    paths = [os.path.join(TOP, "README.md"), os.path.join(TOP, "CHANGELOG.md"), *glob.glob(os.path.join(TOP, "docs", "*")), *glob.glob(os.path.join(TOP, "examples", "**"), recursive=True)]
+    for path in sorted(it for it in paths if os.path.isfile(it) and not it.endswith(".py")):
         write(root, os.path.join(doc, os.path.relpath(path, TOP)), read(path))
+    write(root, os.path.join(doc, "copyright"), COPYRIGHT.format(year=time.gmtime(epoch).tm_year, maintainer=MAINTAINER))
+    changes = CHANGES.format(version=version, maintainer=MAINTAINER, date=email.utils.formatdate(epoch).replace("-0000", "+0000"))
+    write(root, os.path.join(doc, "changelog.gz"), gzip.compress(changes.encode(), mtime=0))
 
 
 def add_program(root, program, version):
@@ -259,9 +363,9 @@ def add_program(root, program, version):
     commands = re.findall(r"^  ([a-z]+) ", block[1], re.MULTILINE)
     elf = Elf(read(program))
     elf.use_system()
+    elf.strip()
     write(root, "bin/mstplan", bytes(elf.data), 0o755)
-    text = "\n".join(manual(version, page, {it: said(program, it, "--help") for it in commands})) + "\n"
-    write(root, "share/man/man1/mstplan.1.gz", gzip.compress(text.encode(), mtime=0))
+    add_manual(root, "mstplan", manual(version, page, {it: said(program, it, "--help") for it in commands}))
     write(root, "share/bash-completion/completions/mstplan", completion(page, commands))
     return needed(elf)
 
@@ -303,20 +407,30 @@ def make_deb(stage, version, depends, path, epoch):
     subprocess.run(words, check=True, stdout=subprocess.DEVNULL, env=said_so)
 
 
+def epoch_of():
+    """The time that files get."""
+    epoch = os.environ.get("SOURCE_DATE_EPOCH")
+    if epoch is None:
+        try:
+            epoch = subprocess.run(["git", "-C", TOP, "log", "-1", "--format=%ct"], capture_output=True, check=True, text=True).stdout.strip()
+        except (OSError, subprocess.CalledProcessError):
+            epoch = "0"
+    return int(epoch) if epoch.isdecimal() else fault(f"SOURCE_DATE_EPOCH is {epoch}, and no number of seconds")
+
+
 def make(program, folder):
     """Makes the packages: their paths."""
     version = said(program, "--version").split()[1]
     if os.path.realpath(program) != os.path.realpath(PROVED):
         version += "+unproved"
-    epoch = os.environ.get("SOURCE_DATE_EPOCH", "0")
-    epoch = int(epoch) if epoch.isdecimal() else fault(f"SOURCE_DATE_EPOCH is {epoch}, and no number of seconds")
+    epoch = epoch_of()
     name = os.path.join(folder, f"mstplan_{version}_amd64")
     os.makedirs(folder, exist_ok=True)
     with tempfile.TemporaryDirectory() as stage:
         root = os.path.join(stage, "usr")
         depends = add_program(root, program, version)
-        add_commands(root)
-        add_texts(root)
+        add_commands(root, version)
+        add_texts(root, version, epoch)
         make_archive(root, f"mstplan-{version}", name + ".tar.gz", epoch)
         if not shutil.which("dpkg-deb"):
             return [name + ".tar.gz"]
