@@ -36,6 +36,7 @@ NOBODY = 65534
 # Any text that has a usage line.
 USAGE = object()
 VERSION = re.compile(rb"mstplan \d+\.\d+\.\d+\n")
+VERSION_RECORD = re.compile(rb'\{"kind":"version","release":"\d+\.\d+\.\d+","json":1,"script":2\}\n')
 TREE = b"tree 0\n"
 REFUSED = b"line 1 E01 no such command\n"
 SHORT = b"# none\n00\n"
@@ -693,6 +694,7 @@ def cases(folder):
         ("help of a command", ["sweep", "--help"], b"", 0, USAGE, b""),
         ("version", ["--version"], b"", 0, VERSION, b""),
         ("version, short", ["-V"], b"", 0, VERSION, b""),
+        ("version, JSON", ["--version", "--json"], b"", 0, VERSION_RECORD, b""),
         ("run with no file", ["run"], b"", 2, b"", USAGE),
         ("two files", ["run", script, script], b"", 2, b"", USAGE),
         ("an unknown word", ["walk"], b"", 2, b"", USAGE),
@@ -914,6 +916,21 @@ def check(program, name, words, given, status, out, err):
         return True
     print(f"FAILED {name}: status {ran.returncode}, {ran.stdout[:200]!r}, {ran.stderr[:200]!r}")
     return False
+
+
+def check_helps(program):
+    """The help of each word: its flags and statuses, two examples of that word, and no line of over 100 letters; and one number of the release."""
+    wrong = []
+    for word in re.findall(r"^  ([a-z]+)  ", run(program, ["--help"], b"").stdout.decode().partition("Options:")[0], re.MULTILINE):
+        told = run(program, [word, "--help"], b"").stdout.decode()
+        examples = re.findall(r"^  .*\bmstplan (\w+) .*$", told.partition("Examples:\n")[2], re.MULTILINE)
+        is_whole = "Flags: --" in told and "Exit status: 0, or 1 where" in told and len(examples) == 2 and word in examples[0]
+        wrong += [] if is_whole and max(map(len, told.splitlines())) <= 100 else [word]
+    release = run(program, ["--version"], b"").stdout.split()[1]
+    wrong += [] if b'"release":"' + release + b'"' in run(program, ["--version", "--json"], b"").stdout else ["--version"]
+    if wrong:
+        print(f"FAILED the help of {' '.join(wrong)}")
+    return not wrong
 
 
 def check_full(program, words, given):
@@ -1191,6 +1208,7 @@ def main():
             check_full(program, ["--help"], b""),
             check_full(program, ["--version"], b""),
             check_page(program),
+            check_helps(program),
             check_terminal(program, [], b"showtree 0\n", 0, TREE, INVITED),
             check_terminal(program, [], b"", 0, b"", INVITED),
             check_terminal(program, ["run", "-"], b"no\n", 1, REFUSED, b""),
