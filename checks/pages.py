@@ -31,7 +31,7 @@ import xml.etree.ElementTree
 TOP = os.path.join(os.path.dirname(os.path.abspath(__file__)), os.pardir)
 SAMPLES = os.path.join(TOP, "examples")
 SYSTEM_PYTHON = "/usr/bin/python3"
-# It takes two or three minutes.
+# It takes three minutes.
 SECONDS, SECONDS_OF_A_STEP, SECONDS_TO_END = 420, 60, 20
 MOST_PORTS, MOST_FAILURES, MOST_VLANS = 16, 16, 6
 CAMPUS = ["4", "10"]
@@ -48,6 +48,7 @@ BLOCKING = {"Alternate", "Backup"}
 # nothing is to be left beside what is imported
 sys.dont_write_bytecode = True
 
+import page_views  # noqa: E402
 import sketch  # noqa: E402
 import steps_runs  # noqa: E402
 
@@ -563,6 +564,8 @@ def check_all_reasons(program, folder, expect):
     script, policy = os.path.join(SAMPLES, "campus.script"), written(folder, "all.policy", REASONS)
     data = data_in(made(program, folder, "reasons", expect, [script, "--policy", policy]))
     check_reasons(program, [script, policy], data["after"]["promises"]["broken"], expect)
+    said = [it["said"] for it in data["after"]["promises"]["broken"]]
+    expect.equal("reasons: sentences", [it for it in said if not page_views.is_sentence(it)], [])
     expect.equal("reasons: lines", sorted({it["line"] for it in data["after"]["promises"]["broken"]}), list(range(1, len(REASONS) + 1)))
     script, policy = written(folder, "long.script", long_script()), written(folder, "long.policy", ["fits", "root 1 Z"])
     broken = data_in(made(program, folder, "long", expect, [script, "--policy", policy]))["after"]["promises"]["broken"]
@@ -807,8 +810,9 @@ def check_pages(browser, program, folder, expect):
     check_strange(browser, program, folder, expect)
     check_refused(browser, program, folder, expect)
     check_promise_sheet(browser, program, folder, expect)
+    views = page_views.check_views(browser, program, folder, expect, made)
     changes, more = check_changes(browser, program, folder, expect)
-    return len(scripts) + 5 + changes, compared + more
+    return len(scripts) + 5 + views + changes, compared + more
 
 
 def late(_signal, _frame):

@@ -17,6 +17,8 @@ MOST_OF_A_MESSAGE = 300
 # Of a script's words those that say its version, those that ask, and, of each priority, which word it is and how version 2 counts it.
 SECOND, ASKING, PRIORITIES = [b"mstplan", b"2"], (b"mark", b"changes", b"save"), {b"settreeprio": (3, 4096), b"settreeportprio": (4, 16)}
 LONGEST = 4096
+# How an answer's records begin and stand beside each other, and how much is read of it at a time.
+RECORDS, BETWEEN, PIECE = b'"records":[', b'},{"kind":', 1 << 20
 
 
 class Failed(Exception):
@@ -113,11 +115,38 @@ class Standing:
         self.errors.seek(0)
         raise self.program.failed(words, f"{asked}: {ended(status, self.errors.read())}")
 
-    def ask(self, line):
-        """What it tells of a line."""
+    def send(self, line):
         with contextlib.suppress(BrokenPipeError):
             os.write(self.ran.stdin.fileno(), f"{line}\n".encode())
+
+    def ask(self, line):
+        """What it tells of a line."""
+        self.send(line)
         return self.told(line)
+
+    def records(self, line):
+        """The records of its answer to a line, one after another as they come: a large answer is nowhere whole."""
+        self.send(line)
+        head, found, text = self.ran.stdout.readline(PIECE).partition(RECORDS)
+        if not found:
+            raise self.program.failed(["ask"], f"{line}: no answer, but {head.decode(errors='replace')[:MOST_OF_A_MESSAGE]}")
+        while not text.endswith(b"\n"):
+            whole = text.rfind(BETWEEN)
+            if whole >= 0:
+                yield from self.listed(line, text[:whole + 1])
+                text = text[whole + 2:]
+            piece = self.ran.stdout.readline(PIECE)
+            if not piece:
+                self.told(line)
+            text += piece
+        yield from self.listed(line, text.rstrip()[:-2])
+        self.told(line)
+
+    def listed(self, line, text):
+        try:
+            return json.loads(b"[%b]" % text)
+        except ValueError as fault:
+            raise self.program.failed(["ask"], f"{line}: the answer isn't JSON: {fault}") from fault
 
     def answer(self, line):
         """The records of its answer to a line."""

@@ -27,8 +27,12 @@ sys.path.insert(0, WEB)
 import answers  # noqa: E402
 import mstplan  # noqa: E402
 import places  # noqa: E402
+import broken  # noqa: E402
 
-SCRIPTS = ("network.js", "picture.js", "telling.js", "steps.js", "page.js")
+SCRIPTS = (
+    "network.js", "words.js", "boxes.js", "cables.js", "picture.js", "paint.js", "sight.js", "overview.js", "telling.js", "sheets.js", "steps.js", "page.js",
+    "keys.js",
+)
 STATUSES = """exit status: 0; 1 where a line of a script or of the change is refused (the page is made, and tells it); 2 where the words
 are wrong; 3 where a file can't be read or written, or PROGRAM doesn't answer"""
 MOST_REFUSED = 20
@@ -96,7 +100,7 @@ class Maker:
         for step, network in zip(steps, networks[1:]):
             step["network"], failing = network, step.pop("failing")
             if self.policy is not None:
-                network["promises"] = answers.kept_behind(networks[0]["promises"], failing)
+                network["promises"] = broken.kept_behind(networks[0]["promises"], failing)
         told = {"name": os.path.basename(change_path), **counts, "steps": steps}
         return {"after": networks[0], "change": told, "places": places.layout(networks)}
 

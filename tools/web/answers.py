@@ -1,9 +1,10 @@
 """What mstplan answers of a script's network, in the form in which the page has it. Speeds are in kb/s."""
 
 import mstplan
-from mstplan import edit_in, is_second, lines_in, list_of, port_of, reason_in
+from broken import broken_in
+from mstplan import edit_in, is_second, lines_in, list_of, port_of
 
-QUERIES = ["showplan", "showregions", "shownotes", "showlag"]
+QUERIES = ["showregions", "shownotes", "showlag"]
 DEFAULT_SPEED = 1_000_000
 ALL_VLANS = "1-4094"
 # How an entity fails, and how that is taken back.
@@ -40,27 +41,6 @@ class Program(mstplan.Program):
                 steps[-1]["failing"].append(record)
         counts = {word: last.get(f"{word}_count") for word in ("moving", "cutting", "failing")}
         return [{**step, "failing": broken_in(policy or b"", step["failing"])} for step in steps], counts
-
-
-def key_of(failure):
-    """A failure as the page names it; the network itself has none."""
-    return None if failure is None else " ".join(next(iter(failure.items())))
-
-
-def broken_in(policy, records):
-    """Each promise of a policy that isn't kept, or is refused, with its own line, where that is, and why."""
-    promises = [line.decode(errors="replace").strip() for line in policy.split(b"\n")]
-    return [{
-        "line": record["line"], "promise": promises[record["line"] - 1], "refused": record["kind"] == "policy",
-        "failure": key_of(record.get("failure")), "why": reason_in(record),
-    } for record in records]
-
-
-def kept_behind(promises, failing):
-    """What is told of a policy that these promises are of, as they are in one network, of another one with what fails there."""
-    lines = promises["expectations"] + sum(it["refused"] for it in promises["broken"])
-    judged = lines - sum(it["refused"] for it in failing)
-    return {**promises, "broken": failing, "expectations": judged, "hold": judged - len({it["line"] for it in failing if not it["refused"]})}
 
 
 def step_of(record, lines):
@@ -125,7 +105,7 @@ def settings_of(saved):
 
 
 def plan_of(records):
-    """Trees by number, and groups of VLANs with equal islands, from the records of `showplan`."""
+    """Trees by number, and groups of VLANs with equal islands of two bridges and more, from the records of `showplan`."""
     trees, groups = {}, []
     for record in records:
         if record["kind"] == "tree":
@@ -137,8 +117,8 @@ def plan_of(records):
             trees[record["tree"]]["bridges"][record["bridge"]] = told
         elif record["kind"] == "vlan":
             groups.append({"vids": list_of(record["vids"]), "islands": []})
-        elif record["kind"] == "island" and record["bridges"]:
-            # An island of LANs alone has no bridge.
+        elif record["kind"] == "island" and len(record["bridges"]) > 1:
+            # Every other bridge is alone, which the page needn't be told: there are more of these than all else.
             groups[-1]["islands"].append(record["bridges"])
     return trees, groups
 
@@ -178,19 +158,19 @@ def changed_by(standing, failure):
 
 
 def changes_of(records, names):
-    """Roles that a failure changes, and roots with the bridges that have them, by the records of `changes`.
+    """Ports that get another role by a failure, by tree and role, and roots with the bridges that have them, by the records of `changes`.
 
     A bridge that the failure takes away has no root afterwards, and isn't among them. `names` are bridges by identifier.
     """
-    roles, roots = [], {}
+    roles, roots = {}, {}
     for record in records:
         if record["kind"] == "port":
-            roles.append([record["tree"], port_of(record), record["new_role"]])
+            roles.setdefault((record["tree"], record["new_role"]), []).append(port_of(record))
         elif record["kind"] == "bridge" and record["old_vector"] and record["new_vector"]:
             before, after = root_in(record["old_vector"]), root_in(record["new_vector"])
             if before != after:
                 roots.setdefault((record["tree"], names[before], names[after]), []).append(record["bridge"])
-    return {"roles": roles, "roots": [[*pair, bridges] for pair, bridges in roots.items()]}
+    return {"roles": [[*told, ",".join(ports)] for told, ports in roles.items()], "roots": [[*pair, ",".join(bridges)] for pair, bridges in roots.items()]}
 
 
 def root_in(vector):
@@ -226,8 +206,8 @@ def told_by(standing, sweeping):
     summary = standing.answer("summary")
     bridges, lans, ports = settings_of(standing.answer("save"))
     failures = failures_of(standing.answer("sweep")) if sweeping else []
-    plan, regions, notes, classes = map(standing.answer, QUERIES)
-    trees, groups = plan_of(plan)
+    regions, notes, classes = map(standing.answer, QUERIES)
+    trees, groups = plan_of(standing.records("showplan"))
     names = {told["bridge_id"]: bridge for tree in trees.values() for bridge, told in tree["bridges"].items() if "bridge_id" in told}
     standing.make("mark")
     for failure in failures:

@@ -10,6 +10,8 @@ const bridgeOf = port => port.slice(0, port.indexOf(":"));
 const numberOf = port => port.slice(port.indexOf(":") + 1);
 const mapOf = object => new Map(Object.entries(object));
 const byOrder = (a, b) => (a < b ? -1 : a > b ? 1 : 0);
+/** Names with numbers go by these. */
+const byNumbers = new Intl.Collator("en", { numeric: true }).compare;
 
 /** The value that a map has for a key, made and kept where it has none. */
 function kept(map, key, make) {
@@ -32,6 +34,11 @@ class Vids {
   has(vid) { return this.runs.some(([first, last]) => first <= vid && vid <= last); }
   get count() { return this.runs.reduce((sum, [first, last]) => sum + last - first + 1, 0); }
   get first() { return this.runs[0]?.[0] ?? null; }
+  /** The list of all others. */
+  without(vid) {
+    const cut = ([first, last]) => (vid < first || vid > last ? [[first, last]] : [[first, vid - 1], [vid + 1, last]].filter(([a, b]) => a <= b));
+    return listOf(this.runs.flatMap(cut));
+  }
 }
 const vidsRead = new Map();
 const vids = text => kept(vidsRead, text ?? "", () => new Vids(text));
@@ -41,12 +48,14 @@ class Failure {
   constructor(told) {
     Object.assign(this, told);
     this.key = `${told.what} ${told.name}`;
-    this.roleAfter = new Map();
-    for (const [tree, port, role] of told.roles) kept(this.roleAfter, tree, () => new Map()).set(port, role);
-    this.rootAfter = new Map();
-    for (const [tree, , root, bridges] of told.roots) {
-      for (const bridge of bridges) kept(this.rootAfter, tree, () => new Map()).set(bridge, root);
-    }
+  }
+  /** The role of each port that gets another one, and the root of each bridge that does, by tree; made when it is asked for. */
+  get roleAfter() { return this.rolesMade ??= this.byTree(this.roles); }
+  get rootAfter() { return this.rootsMade ??= this.byTree(this.roots.map(([tree, , root, bridges]) => [tree, root, bridges])); }
+  byTree(lists) {
+    const made = new Map();
+    for (const [tree, value, names] of lists) for (const name of names.split(",")) kept(made, tree, () => new Map()).set(name, value);
+    return made;
   }
   takesAway(what, name) { return this.what === what && this.name === name; }
   partsOf(vid) { return this.parts.find(([cut]) => vids(cut).has(vid))?.[1] ?? []; }
@@ -74,13 +83,17 @@ class Network {
     this.carriedBy = new Map(told.summary.filter(it => it.kind === "carries").flatMap(it =>
       it.lans ? it.lans.map(lan => [lan, `1-${LAST_VID}`]) : [[it.lan, listOf(it.vids)]]));
     this.joins = new Map();
+    this.linksMade = new Map();
+    this.portsAt = new Map();
+    for (const port of this.ports.keys()) kept(this.portsAt, bridgeOf(port), () => []).push(port);
+    this.cutBy = new Map();
   }
 
   /** The name of the bridge with an identifier, or the identifier where none has it. */
   named(id) { return this.names.get(id) ?? id; }
   isOn(bridge, failure) { return this.bridges.get(bridge).on && !failure?.takesAway("bridge", bridge); }
   bridgeIn(tree, bridge) { return this.trees.get(tree)?.bridges.get(bridge); }
-  portsOf(bridge) { return [...this.ports.keys()].filter(port => bridgeOf(port) === bridge); }
+  portsOf(bridge) { return this.portsAt.get(bridge) ?? []; }
   lanOf(port) { return this.trees.get(CIST).ports.get(port).lan; }
 
   /** A logical LAN is down where no member of it is up, or the one that is left fails. */
@@ -123,6 +136,9 @@ class Network {
       .map(port => ({ port, bridge: bridgeOf(port), tree: this.treeOf(bridgeOf(port), vid) }))));
   }
 
+  /** Of these the members on LANs that may join some. */
+  linksOf(vid) { return kept(this.linksMade, vid, () => this.joinsOf(vid).filter(members => members.length > 1)); }
+
   /** The bridges that have a port in a VLAN. Any other is an island of its own, which nothing of the VLAN is to reach. */
   having(vid) { return new Set(this.joinsOf(vid).flat().map(({ bridge }) => bridge)); }
 
@@ -137,13 +153,40 @@ class Network {
     const above = new Map();
     const top = bridge => (above.get(bridge) === bridge ? bridge : top(above.get(bridge)));
     for (const bridge of this.bridges.keys()) if (this.isOn(bridge, failure)) above.set(bridge, bridge);
-    for (const members of this.joinsOf(vid)) {
+    for (const members of this.linksOf(vid)) {
       const active = members.filter(({ port, tree }) => FORWARDING.has(this.role(tree, port, failure)));
       for (const { bridge } of active.slice(1)) above.set(top(bridge), top(active[0].bridge));
     }
     const islands = new Map();
     for (const bridge of above.keys()) kept(islands, top(bridge), () => []).push(bridge);
     return [...islands.values()].map(island => island.sort()).sort((a, b) => b.length - a.length || byOrder(a[0], b[0]));
+  }
+
+  /** Switches that a failure, or none, cuts off from most of those that they reach without it, each with the VLANs in which it does. */
+  cutOff(failure) {
+    return kept(this.cutBy, failure, () => {
+      const found = new Map();
+      for (const [cut, parts] of failure?.parts ?? []) {
+        const lists = parts.map(part => part.split(","));
+        for (const island of this.islands(vids(cut).first, null)) {
+          const within = new Set(island), own = lists.filter(([first]) => within.has(first)).sort((a, b) => b.length - a.length);
+          for (const bridge of own.slice(1).flat()) found.set(bridge, [found.get(bridge), cut].filter(Boolean).join(","));
+        }
+      }
+      return found;
+    });
+  }
+
+  /** Whether all bridges are of kind rstp, of which each is a region of its own. */
+  get isAllRstp() { return this.regions.length > 0 && this.regions.every(it => it.region_kind === "rstp"); }
+
+  /** Switches and LANs with a text in their names, or in a switch's MAC; of no text all. */
+  found(text) {
+    const wanted = (text ?? "").trim().toLowerCase(), has = name => name.toLowerCase().includes(wanted);
+    return {
+      bridges: [...this.bridges].filter(([name, { mac }]) => has(name) || mac.includes(wanted)).map(([name]) => name).sort(byNumbers),
+      lans: [...this.lans.keys()].filter(has).sort(byNumbers),
+    };
   }
 
   /** Whether a LAN has ports of two bridges. */
@@ -190,6 +233,7 @@ function partsOf(before, after) {
 class Tally {
   compared = 0;
   wrong = [];
+  every = 1;
 
   /** Lists are compared as sets of texts. */
   expect(what, own, told) {
@@ -198,19 +242,36 @@ class Tally {
   }
 }
 
+// Of many switches some failures are compared, so that it takes seconds: so many steps from LAN to LAN.
+const MOST_WORK = 1e8;
+
 /** A network beside what is told of it and of its failures. */
 class Comparison {
   constructor(network, tally) {
     Object.assign(this, { network, tally });
     this.classes = classesOf([network]);
-    this.islands = new Map(this.classes.map(({ first }) => [first, network.islands(first, null)]));
+    this.made = new Map();
   }
 
-  standing() {
+  islands(vid) { return kept(this.made, vid, () => this.network.islands(vid, null)); }
+
+  /** Of how many failures one is compared. */
+  every(count) {
+    const { lans, bridges } = this.network, work = count * this.classes.length * (lans.size + bridges.size);
+    const every = Math.max(1, Math.ceil(work / MOST_WORK));
+    this.tally.every = Math.max(this.tally.every, every);
+    return every;
+  }
+
+  /** Islands, blocked ports, and what LANs carry; it may be left for a while between. */
+  * standing() {
     const { network, tally } = this;
     for (const { first } of this.classes) {
       const group = network.groups.find(it => vids(it.vids).has(first));
-      tally.expect(`islands of VLAN ${first}`, this.islands.get(first), group.islands.map(island => [...island].sort()));
+      // The page isn't told of bridges that are alone.
+      const own = this.islands(first).filter(island => island.length > 1);
+      tally.expect(`islands of VLAN ${first}`, own, group.islands.map(island => [...island].sort()));
+      yield;
     }
     for (const { tree, ports: blocked } of network.summary.filter(it => it.kind === "blocked")) {
       const ports = [...network.trees.get(tree).ports.keys()].filter(port => BLOCKING.has(network.role(tree, port, null)));
@@ -223,21 +284,24 @@ class Comparison {
       const told = network.carried(lan);
       const fits = own.every(({ first }) => told.has(first)) && own.reduce((sum, { count }) => sum + count, 0) === told.count;
       tally.expect(`VLANs that LAN ${lan} carries`, [fits], [true]);
+      yield;
     }
   }
 
-  after(failure) {
+  /** What a failure cuts and changes; it may be left for a while between. */
+  * after(failure) {
     const { network, tally } = this;
     let cut = 0;
     for (const { first, count } of this.classes) {
-      const parts = partsOf(this.islands.get(first), network.islands(first, failure)).map(part => part.join(","));
+      const parts = partsOf(this.islands(first), network.islands(first, failure)).map(part => part.join(","));
       tally.expect(`${failure.key}, VLAN ${first}`, parts, failure.partsOf(first));
       if (parts.length) cut += count;
+      yield;
     }
     tally.expect(`VLANs that ${failure.key} cuts`, [cut], [vids(failure.cut).count]);
     tally.expect(`roots after ${failure.key}`, new Set(failure.roots.map(([tree]) => tree)), failure.trees);
-    const isUsed = ([tree, port, role]) => role !== "Disabled" && network.role(tree, port, null) !== "Disabled";
-    const changed = failure.roles.filter(isUsed);
+    const isUsed = (tree, port, role) => role !== "Disabled" && network.role(tree, port, null) !== "Disabled";
+    const changed = [...failure.roleAfter].flatMap(([tree, roles]) => [...roles].filter(([port, role]) => isUsed(tree, port, role)));
     tally.expect(`roles after ${failure.key}`, [changed.length], [failure.changed]);
   }
 }

@@ -1,4 +1,4 @@
-// What is shown, and how clicks, keys and the page's address change it.
+// What is shown, by what the page has.
 "use strict";
 
 const byId = id => document.getElementById(id);
@@ -8,16 +8,18 @@ const TIMES = ["before", "after"];
 const networks = (ALL.before ? [ALL.before, ALL.after] : [ALL.after, ...(ALL.change?.steps ?? []).map(it => it.network)]).map(told => new Network(told));
 const change = ALL.change ? new Change(ALL.change, networks) : null;
 const FIRST_PLACE = ALL.before ? 1 : 0;
-const sight = new Sight(byId("network"), ALL.places);
+const sight = new Sight(byId("network"));
+const boxes = new Boxes(ALL.places);
 const tally = new Tally();
 const LACKS = { steps: !change, promises: !networks[0].promises, failures: !networks[0].swept };
 const SHEETS = [
-  ["steps", "Steps"], ["promises", "Promises"], ["failures", "Single failures"], ["vlans", "VLANs"], ["links", "Links"], ["blocked", "Blocked ports"],
+  ["steps", "Steps"], ["promises", "Promises"], ["failures", "Single failures"], ["switches", "Switches"], ["vlans", "VLANs"], ["links", "Links"],
+  ["blocked", "Blocked ports"],
 ].filter(([name]) => !LACKS[name]);
 const MOST_BUTTONS = 12, MOST_GROUPS = 8;
-const shown = { tree: CIST, vid: null, failure: null, selected: null, sheet: SHEETS[0][0], otherTime: "" };
+const shown = { tree: CIST, vid: null, failure: null, selected: null, sheet: SHEETS[0][0], otherTime: "", find: "", isWhole: false };
 // What is shown of the network at a place. Rings are roles that the other one, where there is one, has otherwise.
-let place, network, other, picture, telling;
+let place, network, other, picture, telling, sheets;
 
 /** Goes to a network of the page, with what is selected as far as it is there. */
 function goTo(at) {
@@ -25,10 +27,18 @@ function goTo(at) {
   place = at;
   network = networks[place];
   other = (ALL.before ? networks[1 - place] : networks[place - 1]) ?? null;
-  picture = new Picture(network, ALL.places);
-  telling = new Telling(network, ALL, bridge => picture.hue(bridge));
+  picture = new Picture(network, boxes);
+  sight.resize(picture.layout);
+  telling = new Telling(network, ALL, picture);
+  sheets = new Sheets(network, telling);
   if (!network.trees.has(shown.tree)) shown.tree = CIST;
   shown.failure = network.failures.get(shown.failure?.key) ?? null;
+}
+
+/** Draws the picture anew, with the boxes that are open now. */
+function redraw() {
+  picture.draw();
+  sight.resize(picture.layout);
 }
 
 function roleBefore(tree, port) {
@@ -41,23 +51,24 @@ function put(id, content) {
 
 function showControls() {
   const button = (key, value, text, isOn, title = "") =>
-    markup`<button data-${key}="${value}" class="${isOn ? "on" : ""}" title="${title}">${text}</button>`;
+    markup`<button data-${key}="${value}" class="${isOn ? "on" : ""}" aria-pressed="${Boolean(isOn)}" title="${title}">${text}</button>`;
   const { treeNumbers: trees, groups } = network;
   if (ALL.before) put("times", TIMES.map((time, i) => button("net", time, i ? "After" : "Before", i === place)));
   const isShown = tree => shown.vid === null && shown.tree === tree;
   const more = trees.slice(MOST_BUTTONS).map(tree => markup`<option ${isShown(tree) ? "selected" : ""}>${tree}</option>`);
   put("trees", [
     trees.slice(0, MOST_BUTTONS).map(tree => button("tree", tree, tree === CIST ? "0 CIST" : tree, isShown(tree))),
-    more.length ? markup`<select id="moretrees"><option>…</option>${more}</select>` : "",
+    more.length ? markup`<select id="moretrees" aria-label="more trees"><option>…</option>${more}</select>` : "",
   ]);
-  const short = text => (text.length > 14 ? `${text.slice(0, 12)}…` : text);
   put("groups", groups.length > MOST_GROUPS ? "" : groups.map(group =>
-    button("vlan", vids(group.vids).first, short(group.vids), shown.vid !== null && vids(group.vids).has(shown.vid), group.vids)));
+    button("vlan", vids(group.vids).first, shortened(group.vids, 14), shown.vid !== null && vids(group.vids).has(shown.vid), group.vids)));
   if (document.activeElement !== byId("vlan")) byId("vlan").value = shown.vid ?? "";
+  byId("boxes").hidden = !boxes.rows;
+  byId("boxes").textContent = boxes.isAnyClosed ? "open all" : "close all";
 }
 
 function showBanner() {
-  const told = telling.banner(shown), banner = byId("banner");
+  const told = sheets.banner(shown), banner = byId("banner");
   banner.hidden = !told;
   if (!told) return;
   banner.className = told[0] ? "warned" : "";
@@ -69,26 +80,59 @@ function showStep() {
   if (!change) return;
   Object.assign(byId("step"), { max: networks.length - 1, value: place, disabled: networks.length === 1 });
   put("place", change.heading(place));
+  byId("steptold").className = place ? "" : "short";
   put("steptold", change.told(place));
 }
 
+function sheetTold(name, isWhole) {
+  return name === "steps" ? change.sheet(place) : sheets.told(name, shown, isWhole);
+}
+
 function showSheet() {
-  const isOn = name => (shown.sheet === name ? "on" : "");
-  put("tabs", SHEETS.map(([name, title]) => markup`<button class="${isOn(name)}" data-sheet="${name}">${title}</button>`));
-  const sheets = { promises: "promiseSheet", vlans: "vlanSheet", links: "linkSheet", blocked: "blockedSheet", failures: "failureSheet" };
-  put("sheet", shown.sheet === "steps" ? change.sheet(place) : telling[sheets[shown.sheet]](shown));
+  const tab = ([name, title]) => {
+    const isOn = shown.sheet === name;
+    return markup`<button role="tab" aria-controls="sheet" aria-selected="${isOn}" class="${isOn ? "on" : ""}" data-sheet="${name}">${title}</button>`;
+  };
+  put("tabs", SHEETS.map(tab));
+  put("sheet", sheetTold(shown.sheet, shown.isWhole));
+}
+
+function showPanel() {
+  put("panel", shown.find ? telling.found(shown) : telling.panel(shown));
+}
+
+/** Shows something, and leaves the focus where it is: what had it may have been made anew, with the same data. */
+function keepingFocus(show) {
+  const at = document.activeElement, part = at?.closest("#panel, #sheet, #tabs, #trees, #times, #groups, #network, #banner, #chips");
+  const data = Object.entries(at?.dataset ?? {}).map(([key, value]) => `[data-${key}="${CSS.escape(value)}"]`).join("");
+  show();
+  if (!part || document.contains(at)) return;
+  const again = data && at !== part ? part.querySelector(data) : null;
+  (again ?? (part.hidden ? byId("panel") : part)).focus({ preventScroll: true });
 }
 
 function showAll() {
   const otherTime = change ? "before the step" : `${TIMES[1 - place]} the change`;
   shown.otherTime = shown.failure ? "was" : otherTime;
-  showHead();
-  showControls();
-  showStep();
-  showBanner();
-  picture.paint(shown, roleBefore);
-  put("panel", telling.panel(shown));
-  showSheet();
+  keepingFocus(() => {
+    showHead();
+    showControls();
+    showStep();
+    showBanner();
+    new Painter(picture, shown, roleBefore).paint();
+    showPanel();
+    showSheet();
+  });
+}
+
+/** All sheets with all of their rows, which are printed one after another. */
+function makePrint() {
+  put("print", SHEETS.map(([name, title]) => markup`<h2>${title}</h2>${sheetTold(name, true)}`));
+  sight.svg.setAttribute("viewBox", textOf(sight.whole));
+}
+function endPrint() {
+  put("print", "");
+  sight.see(sight.frame);
 }
 
 function showLegend() {
@@ -110,6 +154,13 @@ function showLegend() {
   put("legend", [roles, lines]);
 }
 
+/** How many regions there are. An RSTP switch is one of its own, which isn't counted with those of MST. */
+function regionsTold({ region_count: count }) {
+  const alone = network.regions.filter(it => it.region_kind === "rstp").length;
+  if (network.isAllRstp) return "all RSTP, no MST region";
+  return alone ? `${counted(count - alone, "MST region")}, ${counted(alone, "RSTP switch", "RSTP switches")}` : counted(count, "region");
+}
+
 function showHead() {
   const counts = network.summary.find(it => it.kind === "bridges"), { promises, failures, refused } = network;
   const cutting = told => [...told.failures.values()].filter(it => it.cut).length;
@@ -119,10 +170,11 @@ function showHead() {
   const failing = cuts > 1 ? `${cuts} of ${swept} cut a VLAN` : `${cuts || "none"} of ${swept} cuts a VLAN`;
   const kept = promises && (promises.broken.length ? `${promises.hold} of ${counted(promises.expectations, "promise")} kept` : "all promises kept");
   const scripts = ALL.before ? `${ALL.before.script} → ${ALL.after.script}` : [ALL.after.script, ALL.change?.name].filter(Boolean).join(", ");
-  byId("made").textContent = `${scripts} · ${ALL.version} · ${ALL.made}`;
+  const compared = tally.every > 1 ? ` · 1 in ${tally.every} failures compared` : "";
+  byId("made").textContent = `${scripts} · ${ALL.version} · ${ALL.made}${compared}`;
   put("chips", [
     chip(`${counted(counts.bridge_count, "switch", "switches")}${counts.on_count === counts.bridge_count ? "" : `, ${counts.on_count} on`}`),
-    chip(counted(network.lans.size, "link")), chip(counted(counts.region_count, "region")), chip(counted(counts.tree_count, "tree")),
+    chip(counted(network.lans.size, "link")), chip(regionsTold(counts)), chip(counted(counts.tree_count, "tree")),
     network.swept ? jump("failures", failing, cuts) : "",
     ALL.before && network.swept ? chip(`${TIMES[1 - place]}: ${cutting(other)}`) : "",
     promises ? jump("promises", kept, promises.broken.length) : "",
@@ -132,137 +184,13 @@ function showHead() {
   ]);
 }
 
-// ---- the address, so that a view can be sent
-
-function showAddress() {
-  const told = new URLSearchParams();
-  if (ALL.before && place === 0) told.set("net", "before");
-  if (change && place) told.set("step", place);
-  if (shown.vid !== null) told.set("vlan", shown.vid);
-  else if (shown.tree !== CIST) told.set("tree", shown.tree);
-  if (shown.failure) told.set("fail", shown.failure.key);
-  if (shown.selected) told.set("at", shown.selected);
-  if (shown.sheet !== SHEETS[0][0]) told.set("sheet", shown.sheet);
-  try {
-    history.replaceState(null, "", `#${told}`);
-  } catch (fault) {
-    // A page in a frame without an address has none to change.
-    if (fault.name !== "SecurityError") throw fault;
-  }
-}
-
-/** The place of the network that an address says. */
-function placeIn(told) {
-  if (ALL.before) return told.get("net") === "before" ? 0 : 1;
-  const step = Number(told.get("step"));
-  return Number.isInteger(step) && networks[step] ? step : FIRST_PLACE;
-}
-
-function readAddress() {
-  const told = new URLSearchParams(location.hash.slice(1)), tree = Number(told.get("tree") ?? CIST), vid = Number(told.get("vlan"));
-  goTo(placeIn(told));
-  shown.tree = network.trees.has(tree) ? tree : CIST;
-  shown.vid = Number.isInteger(vid) && vid >= 1 && vid <= LAST_VID ? vid : null;
-  shown.failure = network.failures.get(told.get("fail")) ?? null;
-  shown.selected = told.get("at");
-  shown.sheet = SHEETS.some(([name]) => name === told.get("sheet")) ? told.get("sheet") : SHEETS[0][0];
-}
-
-// ---- clicks and keys
-
-const toTop = () => scrollTo({ top: 0, behavior: "smooth" });
-const isInSheet = at => Boolean(at.closest("#sheet"));
-
-/** What a click does, by the first of these names that the element has as data-NAME. */
-const CLICKS = {
-  zoom: how => ({ in: () => sight.scale(0.75), out: () => sight.scale(1.33), fit: () => sight.see(sight.whole),
-    save: () => picture.save(`${network.script.replace(/\.\w+$/, "")}${change && place ? `-step-${place}` : ""}.svg`, sight.whole) })[how](),
-  net: time => {
-    shown.failure = null;
-    goTo(TIMES.indexOf(time));
-  },
-  step: (number, at) => {
-    goTo(Number(number));
-    if (isInSheet(at)) toTop();
-  },
-  fail: (key, at) => {
-    const failure = network.failures.get(key);
-    shown.failure = shown.failure === failure ? null : failure;
-    if (!isInSheet(at)) return;
-    const lan = [...network.lans].find(([, { members }]) => failure.what === "lan" && members.includes(failure.name));
-    shown.selected = lan ? `lan ${lan[0]}` : key;
-    toTop();
-  },
-  clear: what => { shown[what === "vlan" ? "vid" : "failure"] = null; },
-  port: (port, at) => {
-    shown.selected = `port ${port}`;
-    if (at.dataset.tree === undefined) return;
-    CLICKS.tree(at.dataset.tree);
-    toTop();
-  },
-  lan: lan => { shown.selected = `lan ${lan}`; },
-  bridge: bridge => { shown.selected = `bridge ${bridge}`; },
-  tree: tree => {
-    shown.tree = Number(tree);
-    shown.vid = null;
-  },
-  vlan: (vid, at) => {
-    shown.vid = Number(vid);
-    if (isInSheet(at)) toTop();
-  },
-  sheet: name => { shown.sheet = name; },
-  open: name => {
-    shown.sheet = name;
-    byId("sheet").scrollIntoView({ behavior: "smooth" });
-  },
-};
-
-function changed() {
-  showAll();
-  showAddress();
-}
-
-document.addEventListener("click", event => {
-  const isInPicture = event.target.closest("#network");
-  if (isInPicture && sight.hasMoved) return;
-  const at = event.target.closest(Object.keys(CLICKS).map(name => `[data-${name}]`).join(","));
-  if (!at && !isInPicture) return;
-  const name = at && Object.keys(CLICKS).find(it => it in at.dataset);
-  if (at) CLICKS[name](at.dataset[name], at);
-  else shown.selected = null;
-  if (name !== "zoom") changed();
-});
-document.addEventListener("change", event => {
-  if (event.target.id !== "moretrees") return;
-  CLICKS.tree(Number(event.target.value) || CIST);
-  changed();
-});
-byId("step").addEventListener("input", ({ target }) => {
-  goTo(Number(target.value));
-  changed();
-});
-byId("vlan").addEventListener("input", ({ target }) => {
-  const vid = Number(target.value), isFine = target.value === "" || (Number.isInteger(vid) && vid >= 1 && vid <= LAST_VID);
-  target.classList.toggle("warned", !isFine);
-  shown.vid = isFine && target.value !== "" ? vid : null;
-  changed();
-});
-document.addEventListener("keydown", event => {
-  if (event.key !== "Escape") return;
-  shown[shown.failure ? "failure" : shown.selected ? "selected" : "vid"] = null;
-  changed();
-});
-addEventListener("hashchange", () => {
-  readAddress();
-  showAll();
-});
-
 /** What is compared, one after another: the network that is shown first, all others, and the steps. */
 function* comparisons() {
   for (const it of [network, ...networks.filter(other => other !== network)]) {
-    const comparison = new Comparison(it, tally);
-    yield comparison.standing();
-    for (const failure of it.failures.values()) yield comparison.after(failure);
+    const comparison = new Comparison(it, tally), failures = [...it.failures.values()];
+    yield* comparison.standing();
+    const every = comparison.every(failures.length);
+    for (const failure of failures.filter((_, i) => i % every === 0)) yield* comparison.after(failure);
   }
   for (const step of change?.steps ?? []) yield step.compare(tally);
 }
@@ -281,7 +209,13 @@ async function compareAll() {
   showHead();
 }
 
-readAddress();
-showLegend();
-showAll();
-compareAll();
+function begin() {
+  readAddress();
+  showLegend();
+  if (shown.selected) reveal(shown.selected);
+  showAll();
+  requestAnimationFrame(() => setTimeout(() => {
+    document.documentElement.dataset.shown = Math.round(performance.now());
+    compareAll();
+  }, 0));
+}

@@ -9,8 +9,12 @@ import re
 import shutil
 import subprocess
 
+import folds
+
 BOX_HEIGHT, BOX_WIDTH, LAN_WIDTH, END_WIDTH = 54, 116, 90, 26
 BESIDE, BELOW, BELOW_RANK = 44, 104, 122
+# A name that is long makes its box broader, by the widths of letters.
+LETTER, LAN_LETTER, BESIDE_NAME = 9.2, 6.2, 18
 # Between two blocks of a rank, in a picture of few nodes and in any other.
 BROAD, NARROW, FEW = 210, 110, 14
 # In rows of how many alike switches may stand, and the form of the picture that is best, width by height.
@@ -81,7 +85,13 @@ def widths_of(network, near):
         for port in told["ports"] if len(told["ports"]) > 1 else []:
             ends[port.split(":")[0]] += 1
     broad = {name: END_WIDTH * math.ceil(ends[name] * 2 / 3) + 16 if ends[name] > 6 else 0 for name in near}
-    return {name: LAN_WIDTH if name.startswith("lan ") else max(BOX_WIDTH, broad[name]) for name in near}
+    return {name: max(LAN_WIDTH if name.startswith("lan ") else BOX_WIDTH, broad[name], room_for(name)) for name in near}
+
+
+def room_for(name):
+    """The width of a box in which a name fits; that of a LAN is in smaller letters."""
+    letter = LAN_LETTER if name.startswith("lan ") else LETTER
+    return math.ceil(letter * len(name)) + BESIDE_NAME
 
 
 class Block:
@@ -165,6 +175,10 @@ def layout(networks):
     whole = network_of_all(networks)
     near = neighbours_of(whole)
     rank = ranks_of(near, tops_of(whole, near))
+    boxes = folds.folded(near, rank)
+    if boxes:
+        # Where they stand the page works out, by what is open.
+        return boxes
     tried = [laid_out(whole, near, rank, fold) for fold in FOLDS]
     best = min(tried, key=lambda it: (abs(math.log(max(it["width"], 1) / it["height"] / FORM)), it["width"]))
     spots = {}

@@ -1,0 +1,258 @@
+"""What a page of hundreds of switches is to do, and what any page does by keyboard, printed, in the dark and by Back: pages.py asks it."""
+
+import collections
+import json
+import os
+import re
+import subprocess
+import sys
+
+TOP = os.path.join(os.path.dirname(os.path.abspath(__file__)), os.pardir)
+# Of 200 switches in 11 parts, and of 1,002 in 50.
+LARGE, LARGEST = (11, 16), (50, 18)
+# What page.py may need itself of the large one, and when its first view is to stand.
+OWN_SECONDS, OWN_MEGABYTES, VIEW_MILLISECONDS, LOADS = 5, 100, 2000, 3
+MOST_SEEN, LEAST_LETTER = 60, 6
+OWN = """
+import resource, runpy, sys
+sys.argv = sys.argv[1:]
+sys.path.insert(0, sys.argv[0].rsplit("/", 1)[0])
+try:
+    runpy.run_path(sys.argv[0], run_name="__main__")
+finally:
+    used = resource.getrusage(resource.RUSAGE_SELF)
+    print(used.ru_utime + used.ru_stime, used.ru_maxrss / 1024)
+"""
+# Names that just fit, on cables that lie beside each other.
+NAMES = ["WWWWWWWWWWWWWWWW", "distribution-one", "mmmmmmmmmmmmmmmm"]
+LAID = """
+const rects = [...document.querySelectorAll("#network .node")].map(it => it.querySelector(".box:last-of-type, .box").getBoundingClientRect());
+const over = (a, b) => a.left < b.right - 1 && b.left < a.right - 1 && a.top < b.bottom - 1 && b.top < a.bottom - 1;
+const pairs = list => list.filter((a, i) => list.slice(i + 1).some(b => over(a, b))).length;
+const names = [...document.querySelectorAll("#network .node")].filter(it => it.querySelector(".name"));
+const labels = [...document.querySelectorAll("#network .cable .name")].map(it => it.getBoundingClientRect()).filter(it => it.width);
+return {
+  boxes: rects.length, over: pairs(rects), labels: labels.length, labelsOver: pairs(labels),
+  wide: names.filter(it => it.querySelector(".name").getBoundingClientRect().width > it.querySelector(".box").getBoundingClientRect().width).length,
+  letter: Math.min(...names.map(it => parseFloat(getComputedStyle(it.querySelector(".name")).fontSize))) * document.getElementById("network").getScreenCTM().a,
+};"""
+SIGNS = 'return [...document.querySelectorAll("#network .port")].map(it => [it.dataset.port, it.dataset.role]);'
+IN_SIGHT = """
+const node = document.querySelector(`#network [data-bridge="${arguments[0]}"]`).getBoundingClientRect();
+const all = document.getElementById("network").getBoundingClientRect();
+return node.left >= all.left && node.right <= all.right && node.top >= all.top && node.bottom <= all.bottom;"""
+# What the keyboard is to reach, and how many of these it doesn't, or has no words for.
+REACHED = """
+const kinds = { switches: "#network .node", cables: "#network .cable", ports: "#network .port", rows: "#sheet .row", links: "#panel .jump" };
+return Object.fromEntries(Object.entries(kinds).map(([kind, selector]) => {
+  const all = [...document.querySelectorAll(selector)], isSign = selector.startsWith("#network");
+  return [kind, [all.length > 0, all.filter(it => it.tabIndex !== 0 || isSign && !(it.getAttribute("role") === "button" && it.getAttribute("aria-label"))).length]];
+}));"""
+HEADING = 'return document.querySelector("#panel h2").textContent;'
+BANNER = 'const banner = document.getElementById("banner"); return banner.hidden ? null : banner.innerText;'
+
+
+def campus(pairs, access):
+    words = [sys.executable, os.path.join(TOP, "bench", "campus.py"), str(pairs), str(access)]
+    return subprocess.check_output(words, text=True).splitlines()
+
+
+def written(folder, name, lines):
+    path = os.path.join(folder, name)
+    with open(path, "w", encoding="ascii") as file:
+        file.write("\n".join([*lines, ""]))
+    return path
+
+
+def names_script():
+    """Names of 16 letters, in a network that is all RSTP, with cables that lie beside each other."""
+    lines = [line for place, name in enumerate(NAMES, 1) for line in (f"addbridge {name} 02:00:00:00:00:{place:02x}", f"kind {name} rstp")]
+    for number in range(1, 8):
+        lan, ends = f"parallel-cable-{number}", NAMES[:2] if number < 5 else NAMES[1:]
+        lines.append(f"addlan {lan}")
+        lines += [line for name in ends for line in (f"addport {name} {number}", f"plug {name} {number} {lan}")]
+    return lines
+
+
+def own_needs(program, script, path):
+    """The processor's seconds and the megabytes that page.py needs itself, without PROGRAM's."""
+    words = [sys.executable, "-c", OWN, os.path.join(TOP, "tools", "page.py"), program, script, path, "--no-sweep"]
+    return map(float, subprocess.run(words, capture_output=True, text=True, check=True).stdout.split())
+
+
+def network_in(lines):
+    """Switches and LANs of a script, as far as their places go by them."""
+    words = [line.split() for line in lines]
+    lans = collections.defaultdict(lambda: {"ports": []})
+    for word in words:
+        if word[0] == "plug":
+            lans[word[3]]["ports"].append(f"{word[1]}:{word[2]}")
+    bridges = {word[1]: {} for word in words if word[0] == "addbridge"}
+    tree = {"kind": "tree", "tree": 0, "root": "c1", "next": "c2", "bridge_count": len(bridges)}
+    return {"bridges": bridges, "lans": lans, "summary": [tree]}
+
+
+def check_places(expect):
+    """Each of 1,002 switches is in one place of the picture, which begins with few boxes."""
+    sys.path[:0] = [os.path.join(TOP, "tools", "web"), os.path.join(TOP, "tools")]
+    import places  # the tool's own
+    network = network_in(campus(*LARGEST))
+    made = places.layout([network])
+    boxes = made["boxes"]
+    expect.equal("places of 1,002 switches", sorted(inside(made["rows"], boxes, True)), sorted(network["bridges"]))
+    expect.equal("places: few boxes", len(inside(made["rows"], boxes, False)) <= MOST_SEEN, True)
+
+
+def inside(rows, boxes, is_all):
+    """The names in rows, with those in boxes: in all of them, or in those that are open."""
+    found = []
+    for name in (name for row in rows for name in row):
+        is_open = name in boxes and (is_all or boxes[name]["open"])
+        found += inside(boxes[name]["rows"], boxes, is_all) if is_open else [name]
+    return found
+
+
+def check_large(browser, program, folder, expect):
+    """200 switches: what page.py needs, the first view, the boxes, the search, and the sheet of switches."""
+    script, path = written(folder, "large.script", campus(*LARGE)), os.path.join(folder, "large.html")
+    seconds, megabytes = own_needs(program, script, path)
+    expect.equal(f"large: page.py needs {seconds:.1f} s, {megabytes:.0f} MB", (seconds < OWN_SECONDS, megabytes < OWN_MEGABYTES), (True, True))
+    times = []
+    while len(times) < LOADS and min(times, default=VIEW_MILLISECONDS) >= VIEW_MILLISECONDS:
+        browser.open(path)
+        painted = browser.run('return performance.getEntriesByName("first-contentful-paint")[0]?.startTime ?? 0;')
+        times.append(max(painted, int(browser.run("return document.documentElement.dataset.shown"))))
+    expect.equal(f"large: first view after {times} ms", min(times) < VIEW_MILLISECONDS, True)
+    expect.equal("large: compared", browser.compared()[1], 0)
+    laid = browser.run(LAID)
+    expect.equal("large: boxes", (laid["boxes"] <= MOST_SEEN, laid["over"], laid["wide"], laid["letter"] > LEAST_LETTER), (True, 0, 0, True))
+    check_boxes(browser, path, expect)
+    check_find(browser, expect)
+    expect.equal("large: errors of the browser", browser.errors(), [])
+
+
+def check_boxes(browser, path, expect):
+    """A box opens and closes, by a click and by Enter; all of them open have the role of each port."""
+    from selenium.webdriver.common.keys import Keys
+
+    members = 'return document.querySelectorAll("#network [data-bridge^=\'a3.\']").length;'
+    box = "#network [data-fold='fold a3.0']"
+    found = [browser.run(members)]
+    browser.click(box)
+    found.append(browser.run(members))
+    expect.equal("box: in its place nothing lies on another", browser.run(LAID)["over"], 0)
+    browser.run(f'document.querySelector("{box}").focus();')
+    browser.driver.switch_to.active_element.send_keys(Keys.ENTER)
+    found.append(browser.run(members))
+    focus = browser.run("return document.activeElement.dataset.fold ?? null;")
+    expect.equal("box: opens by a click, closes by Enter, keeps the focus", (found, focus), ([0, LARGE[1], 0], "fold a3.0"))
+    browser.click("#boxes")
+    with open(path, encoding="utf-8") as file:
+        data = json.loads(re.search(r'<script id="data" type="application/json">(.*)</script>', file.read())[1])
+    roles = sorted([port, told["role"]] for port, told in data["after"]["trees"]["0"]["ports"].items())
+    expect.equal("boxes: all roles", sorted(browser.run(SIGNS)), roles)
+    expect.equal("boxes: nothing lies on another", browser.run(LAID)["over"], 0)
+    browser.click("#boxes")
+    expect.equal("boxes: closed again", browser.run(members), 0)
+
+
+def check_find(browser, expect):
+    """What is typed finds switches, and Enter goes to the first; the sheet of switches goes by it as well."""
+    from selenium.webdriver.common.by import By
+    from selenium.webdriver.common.keys import Keys
+
+    browser.click("#tabs [data-sheet='switches']")
+    rows = 'return document.querySelectorAll("#sheet .row").length;'
+    all_rows, field = browser.run(rows), browser.driver.find_element(By.ID, "find")
+    field.send_keys("a7.1")
+    wanted = len([place for place in range(LARGE[1]) if f"a7.{place}".startswith("a7.1")])
+    expect.equal("find: rows of the sheet", (all_rows, browser.run(rows)), (2 + LARGE[0] * (2 + LARGE[1]), wanted))
+    field.send_keys("2", Keys.ENTER)
+    expect.equal("find: goes there", (browser.run(HEADING), browser.run(IN_SIGHT, "a7.12")), ("Switch a7.12", True))
+
+
+def check_keyboard(browser, path, expect):
+    """Tab reaches all that a click opens, and Enter opens it; Back leaves what was opened, and stays on the page."""
+    from selenium.webdriver.common.by import By
+    from selenium.webdriver.common.keys import Keys
+
+    browser.open(path)
+    expect.equal("keyboard: reached", browser.run(REACHED), dict.fromkeys(("switches", "cables", "ports", "rows", "links"), [True, 0]))
+    browser.driver.find_element(By.ID, "find").send_keys(Keys.TAB * 2)
+    expect.equal("keyboard: Tab goes on into the picture", browser.run("return Boolean(document.activeElement.closest('#network'));"), True)
+    cases = [("#network [data-bridge='dist1']", "Switch dist1"), ("#network [data-port='acc1:2']", "Port acc1:2"), ("#panel [data-lan]", "LAN dist2-acc1")]
+    for selector, heading in cases:
+        browser.run(f'document.querySelector("{selector}").focus();')
+        browser.driver.switch_to.active_element.send_keys(Keys.ENTER)
+        expect.equal(f"keyboard: {selector}", browser.run(HEADING), heading)
+    for heading in ("Port acc1:2", "Switch dist1", "Overview"):
+        browser.driver.back()
+        expect.equal("Back", (browser.run(HEADING), browser.driver.current_url.startswith("file:")), (heading, True))
+    browser.run('document.querySelector("#sheet .row").focus();')
+    browser.driver.switch_to.active_element.send_keys(Keys.ENTER)
+    shown = browser.run(BANNER)
+    browser.driver.back()
+    expect.equal("Back leaves a failure", ("has failed" in (shown or ""), browser.run(BANNER)), (True, None))
+
+
+def check_media(browser, path, expect):
+    """In the dark the ground is dark; printed, upright and across, all sheets are there, and the picture is on the paper."""
+    from selenium.webdriver.common.print_page_options import PrintOptions
+
+    browser.open(path)
+    ground = "return getComputedStyle(document.body).backgroundColor.match(/[0-9]+/g).slice(0, 3).every(it => it < 60);"
+    found = []
+    for scheme in ("light", "dark"):
+        browser.driver.execute_cdp_cmd("Emulation.setEmulatedMedia", {"features": [{"name": "prefers-color-scheme", "value": scheme}]})
+        found.append(browser.run(ground))
+    expect.equal("dark by the system's setting", found, [False, True])
+    browser.run('addEventListener("beforeprint", () => { window.printed = document.querySelectorAll("#print h2").length; });')
+    tabs = browser.run('return document.querySelectorAll("#tabs button").length;')
+    for across, (width, height) in ((False, (700, 1040)), (True, (1040, 700))):
+        options = PrintOptions()
+        options.orientation = "landscape" if across else "portrait"
+        browser.run("window.printed = 0;")
+        is_made = len(browser.driver.print_page(options)) > 10_000
+        expect.equal(f"print {options.orientation}: sheets", (is_made, browser.run("return window.printed;")), (True, tabs))
+        browser.driver.execute_cdp_cmd("Emulation.setEmulatedMedia", {"media": "print"})
+        browser.driver.execute_cdp_cmd("Emulation.setDeviceMetricsOverride", {"width": width, "height": height, "deviceScaleFactor": 1, "mobile": False})
+        box = browser.run('const it = document.getElementById("network").getBoundingClientRect(); return [it.left, it.right, it.width, it.height];')
+        expect.equal(f"print {options.orientation}: picture", (box[0] >= 0, box[1] <= width, box[2] > 300, 150 < box[3] < height), (True,) * 4)
+        browser.driver.execute_cdp_cmd("Emulation.clearDeviceMetricsOverride", {})
+        browser.driver.execute_cdp_cmd("Emulation.setEmulatedMedia", {"media": ""})
+
+
+def check_words(browser, names, pair, expect):
+    """Names of 16 letters, labels, a network that is all RSTP; a cut where a tree is shown, and the banner's VLAN."""
+    browser.open(names)
+    laid = browser.run(LAID)
+    expect.equal("names", [laid[it] for it in ("over", "wide", "labelsOver")] + [laid["labels"] > 2], [0, 0, 0, True])
+    chips = browser.run('return document.getElementById("chips").innerText;')
+    expect.equal("all RSTP", ("all RSTP, no MST region" in chips, re.search(r"\d region", chips)), (True, None))
+    apart = 'return [...document.querySelectorAll("#network .node.apart")].map(it => it.dataset.bridge);'
+    browser.open(pair, "fail=lan+dist1-acc2")
+    expect.equal("a cut where a tree is shown", browser.run(apart), ["acc2"])
+    for vid, told in ((10, "VLAN 10 isn't cut"), (1, "VLAN 1 is cut")):
+        browser.open(pair, f"vlan={vid}&fail=lan+dist1-acc2")
+        expect.equal(f"banner of VLAN {vid}", told in browser.run(BANNER), True)
+    browser.click("#tabs [data-sheet='promises']")
+    said = browser.run('return [...document.querySelectorAll("#sheet .said")].map(it => it.textContent);')
+    expect.equal("promises in sentences", (len(said) > 0, [it for it in said if not is_sentence(it)]), (True, []))
+
+
+def is_sentence(text):
+    return text[:1].isalnum() and text.endswith(".") and " " in text
+
+
+def check_views(browser, program, folder, expect, made):
+    """All of these. `made` makes a page."""
+    samples = os.path.join(TOP, "examples")
+    old, new, policy = (os.path.join(samples, name) for name in ("campus.script", "campus-changed.script", "campus.policy"))
+    check_places(expect)
+    check_large(browser, program, folder, expect)
+    campus_page = made(program, folder, "views", expect, [old])
+    check_keyboard(browser, campus_page, expect)
+    check_media(browser, campus_page, expect)
+    names = made(program, folder, "names", expect, [written(folder, "names.script", names_script())])
+    check_words(browser, names, made(program, folder, "cut", expect, [new, "--old", old, "--policy", policy]), expect)
+    return 4

@@ -1,0 +1,132 @@
+// The sheets below the picture. Each is a table: its heads, and its rows, of which a long one shows the first.
+"use strict";
+
+const MOST_ROWS = 200;
+
+class Sheets {
+  constructor(network, telling) {
+    Object.assign(this, { network, telling });
+  }
+
+  /** A sheet by its name, with all of its rows or the first ones. */
+  told(name, shown, isWhole) {
+    const { before, heads, rows } = this[name](shown), seen = isWhole ? rows : rows.slice(0, MOST_ROWS);
+    const more = markup`<button class="action" data-rows="all">Show all ${rows.length} rows</button>`;
+    return [before ?? "", rows.length || !before ? table(heads, seen) : "", seen.length < rows.length ? more : ""];
+  }
+
+  failures(shown) {
+    const cutting = [...this.network.failures.values()].sort((a, b) => Boolean(b.cut) - Boolean(a.cut));
+    const rows = cutting.map(failure => ({ data: { fail: failure.key }, isSelected: shown.failure === failure, cells: [
+      markup`${failure.what === "lan" ? "LAN" : "switch"} <b>${failure.name}</b>`,
+      failure.cut ? markup`<span class="warning">${listed(failure.cut)}</span>` : markup`<span class="fine">none</span>`,
+      failure.parts.map(([cut, parts]) => line([failure.parts.length > 1 ? [listed(cut), ": "] : "", partsTold(parts)])),
+      failure.roots.map(([tree, before, after]) => line(`${treeName(tree)}: ${before} → ${after}`)),
+      failure.changed,
+    ] }));
+    return { heads: ["What fails", "VLANs cut", "Parts", "New roots", "#Roles changed"], rows };
+  }
+
+  /** Each promise that isn't kept, with its line in the policy, where it isn't, and why; a click shows the failure. */
+  promises(shown) {
+    const { broken, policy, expectations, hold } = this.network.promises;
+    if (!broken.length) return { before: markup`<div class="fine">All ${expectations} promises of ${policy} are kept.</div>`, heads: [], rows: [] };
+    const rows = broken.map(it => {
+      const failure = this.network.failures.get(it.failure);
+      const [what, name] = (it.failure ?? "").split(" ");
+      const place = it.refused ? "the line is refused" : it.failure ? `after ${entityName({ what, name })} has failed` : "now";
+      const why = markup`<span class="warning said">${it.said}</span><div><code class="minor">${it.why}</code></div>`;
+      const cells = [it.line, markup`<b>${it.promise}</b>`, place, why];
+      return failure ? { data: { fail: failure.key }, isSelected: shown.failure === failure, cells } : cells;
+    });
+    const before = minor(`${hold} of ${counted(expectations, "promise")} of ${policy} ${hold === 1 ? "is" : "are"} kept.`);
+    return { before, heads: ["#Line", "Promise", "Where it isn't kept", "Why"], rows };
+  }
+
+  /** All switches, or those that were looked for. */
+  switches(shown) {
+    const { network, telling } = this, tree = shown.tree;
+    const found = network.found(shown.find).bridges;
+    const rows = found.map(bridge => {
+      const { mac, on } = network.bridges.get(bridge), ports = network.portsOf(bridge);
+      const rootPort = ports.find(port => ["Root", "Master"].includes(network.role(tree, port, shown.failure)));
+      const blocked = ports.filter(port => BLOCKING.has(network.role(tree, port, shown.failure))).length;
+      const isRoot = network.root(tree, bridge, shown.failure) === bridge, by = rootPort ? `root port ${numberOf(rootPort)}` : DASH;
+      const state = !on ? "off" : !network.bridgeIn(tree, bridge) ? "not in this tree" : isRoot ? markup`<b>root</b>` : by;
+      return { data: { bridge }, isSelected: shown.selected === `bridge ${bridge}`, cells: [
+        markup`<b>${bridge}</b>`, mac, telling.regionText(bridge), network.priority(tree, bridge) ?? DASH, state, ports.length, blocked,
+      ] };
+    });
+    const before = shown.find ? minor(`${counted(rows.length, "switch", "switches")} of ${network.bridges.size} by “${shown.find}”.`) : "";
+    return { before, heads: ["Switch", "MAC", "Region", "#Priority", `In ${treeName(tree)}`, "#Ports", "#Blocked"], rows };
+  }
+
+  vlans() {
+    const rows = this.network.groups.map(group => {
+      const list = vids(group.vids), islands = this.network.inhabited(list.first, null);
+      const apart = listed(islands.slice(0, MOST_ISLANDS).map(island => some(island, MOST_NAMES).flat().join("")).join(" | "));
+      const told = islands.length < 2 ? markup`<span class="fine">whole</span>`
+        : markup`<span class="warning">${islands.length} islands</span>: ${apart}${islands.length > MOST_ISLANDS ? " | …" : ""}`;
+      const { size } = this.network.having(list.first);
+      return { data: { vlan: list.first }, cells: [markup`<b>${listed(group.vids)}</b>`, list.count, size, told] };
+    });
+    return { heads: ["VLANs", "#Number", "#Switches with a port in it", "Of these"], rows };
+  }
+
+  links() {
+    const links = [...this.network.lans].map(([lan, told]) => ({ lan, ...told, carried: this.network.carried(lan) }));
+    links.sort((a, b) => b.carried.count - a.carried.count || byOrder(a.lan, b.lan));
+    const rows = links.map(({ lan, ports, speed, carried }) => ({ data: { lan }, cells: [
+      markup`<b>${lan}</b>`, ports.join(` ${DASH} `), speedText(speed), carried.count,
+      carried.count === LAST_VID ? "all" : carried.count ? listed(carried.text)
+        : minor(this.network.isBetween(lan) ? "spare: carries nothing while all is well" : "one switch alone"),
+    ] }));
+    return { heads: ["LAN", "Ends", "Speed", "#VLANs carried", ""], rows };
+  }
+
+  blocked() {
+    const { network } = this;
+    const rows = network.treeNumbers.flatMap(tree => [...network.trees.get(tree).ports]
+      .filter(([, { role }]) => BLOCKING.has(role)).map(([port, { lan, role }]) => ({ data: { port, tree }, cells: [
+        markup`<b>${port}</b>`, lan, treeName(tree), roleTag(role), joined(this.telling.why(port, tree), " "),
+      ] })));
+    return { heads: ["Port", "LAN", "Tree", "Role", "Why"], rows };
+  }
+
+  // ---- above the picture
+
+  /** What is told above the picture, and whether it is in red: of a failure, of the VLAN that is shown, or of both. */
+  banner({ vid, failure }) {
+    if (!failure) return vid === null ? null : this.bannerOfVlan(vid);
+    const roots = failure.roots.map(([tree, , root]) => `; new root ${root} of ${treeName(tree)}`);
+    const islands = vid === null ? 0 : this.network.inhabited(vid, failure).length;
+    const isCut = vid === null ? Boolean(failure.cut) : failure.partsOf(vid).length > 0;
+    const told = vid === null ? this.cutTold(failure.cut, isCut) : this.cutOfVlan(vid, failure, isCut, islands);
+    return [isCut || islands > 1, markup`<button data-clear="failure">Back to the whole network</button>
+      <b>After ${entityName(failure)} has failed</b>${told}${roots};
+      ${counted(failure.changed, "role")} of ports in use ${failure.changed === 1 ? "changes" : "change"}.
+      ${minor("Dashed rings: another role than before.")}`];
+  }
+
+  cutTold(cut, isCut) {
+    return markup`: ${isCut ? markup`<span class="warning">VLANs ${listed(cut)} are cut</span>` : "no VLAN is cut"}`;
+  }
+
+  /** Of the VLAN that is shown first, and then of others. */
+  cutOfVlan(vid, failure, isCut, islands) {
+    const others = vids(failure.cut).without(vid), was = this.network.inhabited(vid, null).length;
+    const parts = isCut ? markup`<span class="warning">VLAN ${vid} is cut</span>: ${partsTold(failure.partsOf(vid))}` : `VLAN ${vid} isn't cut`;
+    const apart = markup`, <span class="warning">and is in ${counted(islands, "island")}</span>${was === islands ? " as before" : ""}`;
+    const before = !isCut && islands > 1 ? apart : "", more = others ? markup`; ${isCut ? "so are VLANs" : "other VLANs are:"} ${listed(shortened(others, 60))}` : "";
+    return markup`, ${parts}${before}${more}`;
+  }
+
+  bannerOfVlan(vid) {
+    const islands = this.network.inhabited(vid, null).length, without = this.network.bridges.size - this.network.having(vid).size;
+    const whole = without ? "reaches every switch that is on and has a port in it" : "reaches every switch that is on";
+    const told = islands > 1 ? `is in ${islands} islands; switches in red aren't in the largest` : whole;
+    const pale = without ? `; ${counted(without, "pale switch has", "pale switches have")} none` : "";
+    return [islands > 1, markup`<button data-clear="vlan">Back to trees</button><b>VLAN ${vid}</b> ${told}${pale}.
+      ${minor("Each switch is drawn with its own tree of this VLAN.")}`];
+  }
+}
