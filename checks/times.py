@@ -1,7 +1,7 @@
 #!/usr/bin/env python3
 """Counts what `rt ci` costs, by crate: the processor seconds of its proof, of its must-fail edits and of its tests.
 
-usage: times.py PID       (beside a run: counts what the process PID starts, and what that starts, until SIGTERM, which prints the table)
+usage: times.py PID       (beside a run: counts what the process PID starts, and what that starts, until SIGTERM or its end, and prints the table)
        times.py FILE ..   (prints one table of what several runs wrote into files by --log FILE)
 
 It looks five times a second at each `rattle` that runs below PID: the last look before its end is off by a fifth of a second at most. What
@@ -63,11 +63,13 @@ def kind_of(pid):
 
 
 def watch(pid):
-    """Counts until SIGTERM: the seconds by crate and kind."""
+    """Counts until SIGTERM, or until the process has ended: the seconds by crate and kind."""
     ended, running, stops = collections.Counter(), {}, []
     signal.signal(signal.SIGTERM, lambda *_: stops.append(True))
     while not stops:
         found = {int(it): stat for it in os.listdir("/proc") if it.isdigit() and (stat := stat_of(it))}
+        if pid not in found:
+            break
         for it in [it for it in running if it not in found]:
             what, seconds = running.pop(it)
             ended[what] += seconds
