@@ -3,7 +3,6 @@ ghost use Rattle.mst_ids.specs.Vids.{run_text};
 ghost use Rattle.mst_save.specs.Runs.{vids_of};
 ghost use Rattle.mst_edits.specs.TableLines.{move, moves_to, is_one_line as has_one_line};
 
-use crate::vids::run_from;
 use mst_ids::{Name, Tree, VidSet};
 use mst_save::{Line, begun, run_length, with_run};
 use std::alloc::{AllocError, Global};
@@ -27,12 +26,13 @@ pub(crate) fn add_moves(
 ) -> Result<(), AllocError>
     ensures { OnOk result (moves.new.items ≡ moves.old.items ++ moves_to name.now tree vids.now) }
 {
-    let Some(run) = run_from(vids, 0) else {
+    let _set = vids.contains(0);
+    let Some(run) = vids.run_from(0) else {
         return Ok(());
     };
     let mut line = begun(name, tree, run);
     let mut next = run.1 + 1;
-    while let Some(run) = run_from(vids, next) {
+    while let Some(run) = vids.run_from(next) {
         line = add_next(name, tree, &line, run, moves)?;
         next = run.1 + 1;
     }

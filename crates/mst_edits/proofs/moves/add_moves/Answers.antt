@@ -6,16 +6,16 @@ use Rattle.mst_edits.proofs.MovesInTurn.{moves_of, one_line}
 use Rattle.mst_edits.proofs.moves.add_moves.Goals as goal
 
 pub begun-line-requires-clause-least : goal.begun-line-requires-clause-least
-begun-line-requires-clause-least c = (first_run c.args.name.now c.args.tree c.args.vids.now c.in-Some.run' c.in-Some.ensures.set c.in-Some.ensures.runs).0
+begun-line-requires-clause-least c = (first_run c.args.name.now c.args.tree c.args.vids.now c.in-Some.run' c.contains-set.ensures.set c.in-Some.ensures.runs).0
 
 pub begun-line-requires-clause-order : goal.begun-line-requires-clause-order
-begun-line-requires-clause-order c = (first_run c.args.name.now c.args.tree c.args.vids.now c.in-Some.run' c.in-Some.ensures.set c.in-Some.ensures.runs).1
+begun-line-requires-clause-order c = (first_run c.args.name.now c.args.tree c.args.vids.now c.in-Some.run' c.contains-set.ensures.set c.in-Some.ensures.runs).1
 
 pub loop-run-init : goal.loop-run-init
 loop-run-init c =
     let line = c.begun-line in (
       [],
-      begin c.args.name.now c.args.tree c.args.vids.now line.result.vids line.result.length c.in-Some.run' c.in-Some.ensures.set c.in-Some.ensures.runs line.ensures.vids line.ensures.long line.ensures.short,
+      begin c.args.name.now c.args.tree c.args.vids.now line.result.vids line.result.length c.in-Some.run' c.contains-set.ensures.set c.in-Some.ensures.runs line.ensures.vids line.ensures.long line.ensures.short,
       sym (append-nil c.args.moves.now.items),
     )
 
