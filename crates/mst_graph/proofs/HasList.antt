@@ -1,44 +1,32 @@
 -- There is a list of islands.
-use Rattle.std.proofs.Common.{◌≡◌, ℕ, zero, suc, ◌+◌, ◌==◌, inl, cond, nat_eq, List, [], ◌∷◌, ◌++◌, length, map, refl, sym, ap, subst, arith}
+use Rattle.std.proofs.Common.{◌≡◌, ℕ, zero, suc, ◌+◌, inl, nat_eq, List, [], ◌∷◌, ◌++◌, length, map, refl, sym, ap, subst, arith}
 use Rattle.std.specs.Cmp.{nat_eq_equiv, on_equiv}
 use Rattle.std.specs.List.{Contains}
-use Rattle.std.proofs.lemmas.List.{append-nil, append_assoc, length-map, get_or-map}
+use Rattle.std.proofs.lemmas.List.{append-nil, append_assoc}
 use Rattle.std.proofs.lemmas.List.Elements.{All-contains, Contains-append_left}
 use Rattle.mst_graph.specs.Groups.{AreGroups}
 use Rattle.mst_graph.proofs.Exists.{has_groups}
 use Rattle.mst_graph.specs.Walks.{Node, bridge_at, lan_at}
 use Rattle.mst_graph.specs.Islands.{Link, Island, nodes, members, AreJoined, AreIslands, HaveEnds}
-use Rattle.mst_graph.specs.Labels.{IsMerged}
 use Rattle.mst_graph.specs.Labelling.{IsPlaced, label_of, AreLabels, HavePlaces}
 use Rattle.mst_graph.proofs.Joins.{have_places, joined_groups, split_groups}
 use Rattle.mst_graph.proofs.Labelled.{none_labelled, more_labelled}
 use Rattle.mst_graph.proofs.OneList.{island_with}
 use Rattle.mst_graph.proofs.Own.{Own, none_own, one_own}
+use Rattle.mst_graph.proofs.Parents.{after_merge, merged}
 use Rattle.mst_graph.proofs.Splits.{map_of_map}
 
 -- a label for each place
 record Labels (count : ℕ) : Type 0 where
   labels : List ℕ
-  lists : List (List ℕ)
-  own : Own count labels lists
+  own : Own count labels
 
 own_labels : (count : ℕ) → Labels count
-own_labels zero = record { labels = []; lists = []; own = none_own }
+own_labels zero = record { labels = []; own = none_own }
 own_labels (suc n) =
     let before = own_labels n in
     let more : n + 1 ≡ suc n = omega arith in
-    subst Labels more (record { labels = _; lists = _; own = one_own n before.labels before.lists before.own })
-
--- the labels of which one gives way
-after_merge : ℕ → ℕ → List ℕ → List ℕ
-after_merge few many labels = map (λ l. cond (l == few) many l) labels
-
-merged : (few many : ℕ) (labels : List ℕ) → IsMerged few many labels (after_merge few many labels)
-unfolding after_merge
-merged few many labels = record {
-  as_long = length-map labels (λ l. cond (l == few) many l);
-  labels = λ place below. get_or-map (λ l. cond (l == few) many l) labels place 0 0 below;
-}
+    subst Labels more (record { labels = _; own = one_own n before.labels before.own })
 
 module _ (bridges lans : List ℕ) where
   record Found (links : List (Link ℕ ℕ)) : Type 0 where
@@ -48,7 +36,7 @@ module _ (bridges lans : List ℕ) where
   start : Found []
   start =
       let l = own_labels (length bridges + length lans) in
-      record { labels = l.labels; found = none_labelled bridges lans l.labels l.own.labels_long l.own.own }
+      record { labels = l.labels; found = none_labelled bridges lans l.labels l.own.as_long l.own.own }
 
   go_on : (links rest : List (Link ℕ ℕ)) → HavePlaces bridges lans (links ++ rest) → Found links → Found (links ++ rest)
   go_on links [] placed f = subst Found (sym (append-nil links)) f

@@ -1,20 +1,11 @@
 -- Nodes are bridges and then LANs.
-use Rattle.std.proofs.Common.{◌≡◌, ℕ, ◌+◌, ◌<◌, List, [], ◌∷◌, ◌++◌, Option, length, map, filter_map, take, get_or, refl, sym, ap, ◌∙◌}
+use Rattle.std.proofs.Common.{◌≡◌, List, [], ◌∷◌, ◌++◌, map, filter_map, refl, ap, ◌∙◌}
 use Rattle.std.specs.List.{Contains}
-use Rattle.std.proofs.lemmas.List.{take_more}
-use Rattle.std.proofs.lemmas.List.Elements.{filter_map-append}
 use Rattle.mst_graph.specs.Groups.{IsThinned, nothing, kept, left_out}
 use Rattle.mst_graph.proofs.Members.{here, there}
-use Rattle.mst_graph.specs.declared.node.NodeNo.{NodeNo}
-use Rattle.mst_graph.specs.declared.node.NodeNo.TheVariants.{Bridge, Lan}
 use Rattle.mst_graph.specs.Walks.{Node, bridge_at, lan_at}
 use Rattle.mst_graph.specs.Islands.{nodes}
-use Rattle.mst_graph.specs.Split.{bridge_in, lan_in, node_of, bridge_no, lan_no, node_nos}
-
-pub one_more : {X Y : Type 0} (h : X → Option Y) (xs : List X) (i : ℕ) (x : X) → i < length xs → x ≡ get_or xs i x
-    → filter_map h (take (i + 1) xs) ≡ filter_map h (take i xs) ++ filter_map h (x ∷ [])
-one_more h xs i x below is =
-    ap (filter_map h) (take_more xs i x below ∙ ap (λ y. take i xs ++ y ∷ []) (sym is)) ∙ filter_map-append h (take i xs) (x ∷ [])
+use Rattle.mst_graph.specs.Split.{bridge_in, lan_in}
 
 module _ {N L : Type 0} where
   lans_only : (lans : List L) (group : List (Node N L)) → IsThinned group (map lan_at lans) → (filter_map bridge_in group ≡ []) × (map lan_at (filter_map lan_in group) ≡ group)
@@ -38,25 +29,3 @@ kept_each f g (v ∷ vs) same = ap (λ x. x ∷ map f vs) (same v (here v vs)) �
 pub map_of_map : {X Y Z : Type 0} (f : Y → Z) (g : X → Y) (xs : List X) → map f (map g xs) ≡ map (λ x. f (g x)) xs
 map_of_map f g [] = refl
 map_of_map f g (x ∷ xs) = ap (λ ys. f (g x) ∷ ys) (map_of_map f g xs)
-
--- nodes by record numbers as nodes
-pub bridges_of : (ns : List NodeNo) → filter_map bridge_no ns ≡ filter_map bridge_in (map node_of ns)
-bridges_of [] = refl
-bridges_of (Bridge n ∷ ns) = ap (λ xs. n ∷ xs) (bridges_of ns)
-bridges_of (Lan n ∷ ns) = bridges_of ns
-
-pub lans_of : (ns : List NodeNo) → filter_map lan_no ns ≡ filter_map lan_in (map node_of ns)
-lans_of [] = refl
-lans_of (Bridge n ∷ ns) = lans_of ns
-lans_of (Lan n ∷ ns) = ap (λ xs. n ∷ xs) (lans_of ns)
-
-pub nodes_of : (bridges lans : List ℕ) → map node_of (node_nos bridges lans) ≡ nodes bridges lans
-nodes_of [] [] = refl
-nodes_of [] (n ∷ lans) = ap (λ xs. lan_at n ∷ xs) (nodes_of [] lans)
-nodes_of (n ∷ bridges) lans = ap (λ xs. bridge_at n ∷ xs) (nodes_of bridges lans)
-
-pub one_node_of : (a b : NodeNo) → node_of a ≡ node_of b → a ≡ b
-one_node_of (Bridge n) (Bridge m) e = cc
-one_node_of (Bridge n) (Lan m) e = cc
-one_node_of (Lan n) (Bridge m) e = cc
-one_node_of (Lan n) (Lan m) e = cc

@@ -1,5 +1,6 @@
 pub mod Adding
 pub mod TreesInParts
+pub mod Filling
 pub mod Groups
 pub mod Islands
 pub mod Joined
@@ -7,6 +8,7 @@ pub mod Labelling
 pub mod Labels
 pub mod Numbers
 pub mod Order
+pub mod Places
 pub mod Renaming
 pub mod Split
 pub mod Walks

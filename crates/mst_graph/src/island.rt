@@ -1,7 +1,5 @@
-ghost use Rattle.std.specs.Prelude.{◌≡◌, IfOk, filter_map};
-ghost use Rattle.mst_graph.specs.Split.{bridge_no, lan_no};
+ghost use Rattle.std.specs.Prelude.{◌≡◌, ◌++◌, ◌∷◌, [], OnOk};
 
-use crate::node::NodeNo;
 use mst_ids::{BridgeNo, LanNo};
 use std::alloc::{AllocError, Global};
 use std::marker::Model;
@@ -37,19 +35,32 @@ impl Island {
         self.lans.as_slice()
     }
 
-    /// The bridges and the LANs among nodes.
-    pub(crate) fn of(alloc: Global, nodes: &[NodeNo]) -> Result<Island, AllocError>
-        ensures bridges { IfOk result (λ i. i.bridges ≡ filter_map bridge_no nodes.now) }
-        ensures lans { IfOk result (λ i. i.lans ≡ filter_map lan_no nodes.now) }
+    /// An island with no bridge and no LAN.
+    pub(crate) fn new(alloc: Global) -> Island
+        ensures bridges { result.bridges ≡ [] }
+        ensures lans { result.lans ≡ [] }
     {
-        let mut bridges = Vec::new(alloc);
-        let mut lans = Vec::new(alloc);
-        for node in nodes {
-            match node {
-                NodeNo::Bridge(number) => bridges.push(*number)?,
-                NodeNo::Lan(number) => lans.push(*number)?,
-            }
+        Island {
+            bridges: Vec::new(alloc),
+            lans: Vec::new(alloc),
         }
-        Ok(Island { bridges, lans })
+    }
+
+    /// Adds a bridge after the others.
+    pub(crate) fn add_bridge(&mut self, bridge: BridgeNo) -> Result<(), AllocError>
+        ensures bridges { OnOk result (self.new.bridges ≡ self.old.bridges ++ bridge ∷ []) }
+        ensures lans { OnOk result (self.new.lans ≡ self.old.lans) }
+    {
+        self.bridges.push(bridge)?;
+        Ok(())
+    }
+
+    /// Adds a LAN after the others.
+    pub(crate) fn add_lan(&mut self, lan: LanNo) -> Result<(), AllocError>
+        ensures bridges { OnOk result (self.new.bridges ≡ self.old.bridges) }
+        ensures lans { OnOk result (self.new.lans ≡ self.old.lans ++ lan ∷ []) }
+    {
+        self.lans.push(lan)?;
+        Ok(())
     }
 }

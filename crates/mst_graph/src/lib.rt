@@ -3,6 +3,7 @@
 #![tactic(auto)]
 
 mod bodies;
+mod filling;
 mod grouping;
 mod island;
 mod joining;
@@ -11,6 +12,7 @@ mod labelling;
 mod labels;
 pub mod laws;
 mod node;
+mod number_places;
 mod places;
 
 pub use bodies::groups_by_body;

@@ -1,13 +1,6 @@
 use mst_ids::{BridgeNo, LanNo};
 use std::marker::Model;
 
-/// A bridge or a LAN, by the number of its record.
-#[derive(Clone, Copy)]
-pub(crate) enum NodeNo {
-    Bridge(BridgeNo),
-    Lan(LanNo),
-}
-
 /// A link between a bridge and a LAN, by the numbers of their records.
 #[derive(Clone, Copy)]
 pub struct Link {

@@ -1,11 +1,12 @@
-use Rattle.std.proofs.Common.{map, take}
-use Rattle.mst_graph.specs.Labels.{ListPlaces}
+use Rattle.std.proofs.Common.{ℕ, List, take}
+use Rattle.mst_graph.specs.Places.{placed}
+use Rattle.mst_graph.specs.Labels.{AreParents, HaveLabels}
 use Rattle.mst_graph.specs.Labelling.{AreLabels}
 use Rattle.mst_graph.proofs.labelling.labels_by.Given as goal
 
--- the labels are equal just where the links so far join the nodes
+-- the parents give labels that are equal just where the links so far join the nodes
 abbrev pub invariant-loop-link : goal.invariant-loop-link
 invariant-loop-link l = record {
-  listed : ListPlaces l.labels.labels.items (map (λ v. v.items) l.labels.places.items);
-  labels : AreLabels l.places.bridges.keys l.places.lans.keys (take l.link-index l.links) l.labels.labels.items;
+  parents : AreParents l.parents.items;
+  labels : (labels : List ℕ) × HaveLabels l.parents.items labels × AreLabels (placed l.places.bridges) (placed l.places.lans) (take l.link-index l.links) labels;
 }
