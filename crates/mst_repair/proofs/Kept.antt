@@ -9,12 +9,9 @@ use Rattle.mst_topology.proofs.Lowest.{before_here_after}
 use Rattle.mst_settle.proofs.Roomy.{keeps_trans}
 use Rattle.mst_repair.specs.Differences.{IsTouched, PortIsDone, NumberIsDone, BridgeIsDone}
 
--- three steps, and four
+-- three steps
 pub keeps_three : {V : Type 0} {a b c d : Assignment V} → KeepsOutcome a b → KeepsOutcome b c → KeepsOutcome c d → KeepsOutcome a d
 keeps_three {V} {a} {b} {c} {d} h i j = keeps_trans a b d h (keeps_trans b c d i j)
-
-pub keeps_four : {V : Type 0} {a b c d e : Assignment V} → KeepsOutcome a b → KeepsOutcome b c → KeepsOutcome c d → KeepsOutcome d e → KeepsOutcome a e
-keeps_four {V} {a} {b} {c} {d} {e} h i j k = keeps_trans a b e h (keeps_three i j k)
 
 pub touched_kept : {P V : Type 0} (a b : Assignment V) → KeepsOutcome a b → (p : TreePort ℕ ℕ ℕ P) → IsTouched a p → IsTouched b p
 touched_kept a b k p h = (k.touched_bridges p.bridge h.0, k.touched_lans p.lan h.1)

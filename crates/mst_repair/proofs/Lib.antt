@@ -5,3 +5,4 @@ pub mod Rewired
 pub mod Spaced
 pub mod Touched
 pub mod Standing
+pub mod Tables

@@ -4,6 +4,7 @@
 
 mod comparing;
 mod differences;
+mod own;
 mod rewiring;
 mod spanning_tree;
 

@@ -5,10 +5,10 @@ ghost use Rattle.mst_topology.specs.Wiring.{topology_of, settings_in as settings
 ghost use Rattle.mst_topology.specs.Chains.{IsAt, IsLast};
 
 use crate::bridges::Bridges;
+use crate::by_number::ByNumber;
 use crate::wiring::{TreePort, Wiring};
 use mst_ids::{BridgeNo, LanNo, PortNo};
 use mst_vector::Metric;
-use std::collections::BTreeMap;
 use std::marker::Model;
 
 /// The bridges and ports of one tree: the bridges that are in it, on a wiring that it shares with other trees. Those ports
@@ -20,7 +20,7 @@ use std::marker::Model;
 pub struct Topology<'a, M: Metric> {
     wiring: &'a Wiring<M::Port>,
     bridges: &'a Bridges<M>,
-    own: &'a BTreeMap<usize, M::Port>,
+    own: &'a ByNumber<M::Port>,
 }
 
 impl<'a, M: Metric> Model for Topology<'a, M> {
@@ -30,20 +30,20 @@ impl<'a, M: Metric> Model for Topology<'a, M> {
 
     ghost Value = { TopologyOf ℕ ℕ ℕ M.Bridge M.Port };
 
-    ghost view = { λ t. topology_of t.wiring.now t.bridges.now t.own.now.entries };
+    ghost view = { λ t. topology_of t.wiring.now t.bridges.now t.own.now };
 
     ghost use Rattle.mst_topology.specs.Topology.{IsTopology};
 
-    ghost invariant = { λ t. IsTopology M.rules (topology_of t.wiring.now t.bridges.now t.own.now.entries) };
+    ghost invariant = { λ t. IsTopology M.rules (topology_of t.wiring.now t.bridges.now t.own.now) };
 }
 
 /// The settings of a port in a tree: its own ones, if it has such there, and else those of the wiring.
-fn settings_in<P: Copy>(own: &BTreeMap<usize, P>, port: &TreePort<P>) -> P
-    ensures { result ≡ settings_of_port own.now.entries port.now }
+fn settings_in<P: Copy>(own: &ByNumber<P>, port: &TreePort<P>) -> P
+    ensures { result ≡ settings_of_port own.now port.now }
 {
-    match own.get(&port.number.0) {
+    match own.get(port.number.0) {
         None => port.settings,
-        Some(settings) => *settings,
+        Some(settings) => settings,
     }
 }
 
@@ -53,10 +53,10 @@ impl<'a, M: Metric> Topology<'a, M> {
     pub fn new(
         wiring: &'a Wiring<M::Port>,
         bridges: &'a Bridges<M>,
-        own: &'a BTreeMap<usize, M::Port>,
+        own: &'a ByNumber<M::Port>,
     ) -> Self
-        requires { IsTopology M.rules (topology_of wiring.now bridges.now own.now.entries) }
-        ensures { result ≡ topology_of wiring.now bridges.now own.now.entries }
+        requires { IsTopology M.rules (topology_of wiring.now bridges.now own.now) }
+        ensures { result ≡ topology_of wiring.now bridges.now own.now }
     {
         Topology {
             wiring,

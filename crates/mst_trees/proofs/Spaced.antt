@@ -1,7 +1,5 @@
 -- The space of a settler for the wirings from which and to which the MSTIs of a view go.
-use Rattle.std.proofs.Common.{◌≡◌, ℕ, List, [], sym, subst, arith}
-use Rattle.std.specs.List.{Contains}
-use Rattle.mst_topology.specs.Topology.{TreePort}
+use Rattle.std.proofs.Common.{◌≡◌, [], sym, subst, arith}
 use Rattle.mst_settle.specs.Assignment.{Assignment, KeepsSpace}
 use Rattle.mst_repair.specs.Differences.{Wirings, HasSpaceOn, HasSpaceForBoth}
 use Rattle.mst_repair.proofs.Spaced.{on_kept}

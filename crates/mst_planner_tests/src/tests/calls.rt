@@ -12,11 +12,10 @@ use mst_lag::{View, view};
 use mst_net::{Contents, Network, laws as net_laws};
 use mst_rows::{Counts, Value, put};
 use mst_settle::Settler;
-use mst_topology::{Bridges, Topology, Wiring};
+use mst_topology::{Bridges, ByNumber, Topology, Wiring};
 use mst_vector::{CistBridge, CistMetric};
 use mst_vlan::{Role, active, forwards, role};
 use std::alloc::{AllocError, Global};
-use std::collections::BTreeMap;
 use std::test::Fail;
 
 /// A second link of A and B, of one class with the first.
@@ -102,7 +101,7 @@ fn settled_alone(alloc: Global, id: BridgeId) -> Result<(u64, Option<BridgeId>),
     let mut bridges = Bridges::<CistMetric>::new(alloc);
     bridges.add(BridgeNo(3), bridge)?;
     let wiring = Wiring::new(alloc);
-    let own = BTreeMap::new(alloc);
+    let own = ByNumber::new(alloc);
     let topology = Topology::new(&wiring, &bridges, &own);
     let settler = Settler::from_scratch(alloc, &topology)?;
     let root = match settler.vector(BridgeNo(3)) {

@@ -1,12 +1,13 @@
-use Rattle.std.proofs.Common.{refl, inl, inr}
-use Rattle.std.specs.Map.{keys_of}
+use Rattle.std.proofs.Common.{◌≡◌, ◌⊎◌, refl, inl, inr, arith}
+use Rattle.mst_topology.specs.Places.{in_map}
 use Rattle.mst_settle.proofs.Roomy.{keeps_trans}
 use Rattle.mst_settle.proofs.Scratch.{space_kept}
 use Rattle.mst_repair.specs.Differences.{NumberIsDone}
 use Rattle.mst_repair.proofs.Kept.{number_kept}
-use Rattle.mst_repair.proofs.Marked.{given_more, given_all}
-use Rattle.mst_repair.proofs.Rewired.{own_or_none}
+use Rattle.mst_repair.proofs.Marked.{below_next}
+use Rattle.mst_repair.proofs.Rewired.{below_both}
 use Rattle.mst_repair.proofs.differences.touch_own.Goals as goal
+use Rattle.mst_repair.proofs.differences.touch_own.Goals.{then-not-same_own, else-not-same_own}
 
 pub touch_number-requires-clause-from : goal.touch_number-requires-clause-from
 touch_number-requires-clause-from g c = space_kept c.args.from.now c.args.settler.now c.loop-number.settler c.requires.from c.loop-number.invariant.keeps.space
@@ -16,16 +17,29 @@ touch_number-requires-clause-to g c = space_kept c.args.to.now c.args.settler.no
 
 pub loop-number-preserved : goal.loop-number-preserved
 loop-number-preserved g c =
-    let before = c.loop-number.invariant in
-    let keeps = c.touch_number.ensures.keeps in
-    record {
-      keeps = keeps_trans c.args.settler.now c.loop-number.settler c.touch_number.new.settler before.keeps keeps;
-      done = given_more (NumberIsDone c.args.from.now c.args.to.now c.loop-number.settler) (NumberIsDone c.args.from.now c.args.to.now c.touch_number.new.settler) (keys_of c.args.own.now.entries) c.loop-number.number-iterator c.next.new.self c.in-Some.number.now
-          c.in-Some.ensures.steps (number_kept c.args.from.now c.args.to.now c.loop-number.settler c.touch_number.new.settler keeps) before.done c.touch_number.ensures.done;
-    }
+    let l = c.loop-number in
+    let before = l.invariant in
+    elim c.if-not-same_own.branch [
+      | then-not-same_own w ↦ rw w.settler-is (record {
+        keeps = keeps_trans c.args.settler.now l.settler w.touch_number.new.settler before.keeps w.touch_number.ensures.keeps;
+        done = below_next (λ n. (in_map c.args.own_from.now n ≡ in_map c.args.own_to.now n) ⊎ NumberIsDone c.args.from.now c.args.to.now l.settler n)
+            (λ n. (in_map c.args.own_from.now n ≡ in_map c.args.own_to.now n) ⊎ NumberIsDone c.args.from.now c.args.to.now w.touch_number.new.settler n) l.number
+            (λ n h. elim h [ inl same ↦ inl same | inr done ↦ inr (number_kept c.args.from.now c.args.to.now l.settler w.touch_number.new.settler w.touch_number.ensures.keeps n done) ])
+            before.done (inr w.touch_number.ensures.done);
+      })
+      | else-not-same_own w ↦ rw w.settler-is (record {
+        keeps = before.keeps;
+        done = below_next (λ n. (in_map c.args.own_from.now n ≡ in_map c.args.own_to.now n) ⊎ NumberIsDone c.args.from.now c.args.to.now l.settler n)
+            (λ n. (in_map c.args.own_from.now n ≡ in_map c.args.own_to.now n) ⊎ NumberIsDone c.args.from.now c.args.to.now l.settler n) l.number
+            (λ n h. h) before.done (inl (c.same_own.ensures w.if-not-same_own.false));
+      })
+    ]
 
 pub returns-clause-done : goal.returns-clause-done
-returns-clause-done g c = λ p h. elim (own_or_none c.args.own.now.entries p.number) [
-  | inl none ↦ inl none
-  | inr among ↦ inr (given_all (NumberIsDone c.args.from.now c.args.to.now c.loop-number.settler) (keys_of c.args.own.now.entries) c.loop-number.number-iterator c.in-None.ensures.steps.0 c.loop-number.invariant.done p.number among p h refl)
-]
+returns-clause-done g c = λ p h.
+    let bound = c.max-bound.ensures in
+    elim (below_both {Q = NumberIsDone c.args.from.now c.args.to.now c.loop-number.settler} c.args.own_from.now c.args.own_to.now c.bound.result c.bound-2.result c.loop-number.number
+    c.bound.ensures c.bound-2.ensures (omega arith) c.loop-number.invariant.done p.number) [
+      | inl same ↦ inl same
+      | inr done ↦ inr (done p h refl)
+    ]

@@ -15,11 +15,11 @@ repaired_msti-requires-clause-held c =
     (c.requires.held c.args.tree c.in-Some.msti.now (sym c.in-Some.ensures.value))
 
 pub repaired_msti-requires-clause-own : goal.repaired_msti-requires-clause-own
-repaired_msti-requires-clause-own c = subst (AreOwn c.ground.inside.view.now c.ground.inside.internal.now c.args.tree) (sym c.in_ok-own.ensures) (c.ground.invariant.own c.args.tree)
+repaired_msti-requires-clause-own c = subst (AreOwn c.ground.inside.view.now c.ground.inside.internal.now c.args.tree) (sym c.own_of-own.ensures) (c.ground.invariant.own c.args.tree)
 
 pub repaired_msti-requires-in-None-clause-own : goal.repaired_msti-requires-in-None-clause-own
 repaired_msti-requires-in-None-clause-own c =
-    subst (AreOwn c.ground.inside.view.now c.ground.inside.internal.now c.args.tree) (sym c.in_ok-own.ensures) (c.ground.invariant.own c.args.tree)
+    subst (AreOwn c.ground.inside.view.now c.ground.inside.internal.now c.args.tree) (sym c.own_of-own.ensures) (c.ground.invariant.own c.args.tree)
 
 pub repaired_msti-requires-clause-space : goal.repaired_msti-requires-clause-space
 repaired_msti-requires-clause-space c =
@@ -45,8 +45,8 @@ returns-in-Some-clause-settled c =
     (settled_from g former c.args.tree (vector_of c.in-Some.msti.now.outcome) (among_some former c.args.tree c.in-Some.msti.now c.in-Some.ensures.value)
     c.ground.inside.rewiring.now.to c.ground.invariant.to c.repaired_msti.result c.repaired_msti.ensures.settled c.repaired_msti.ensures.held)
 
-pub returns-in_ok-anew-in-None-clause-settled : goal.returns-in_ok-anew-in-None-clause-settled
-returns-in_ok-anew-in-None-clause-settled c =
+pub returns-clause-settled : goal.returns-clause-settled
+returns-clause-settled c =
     let former = c.args.former.now.entries in
     let g : Ground = record { view = c.ground.inside.view.now; internal = c.ground.inside.internal.now; from = c.ground.inside.rewiring.now.from } in
     subst (λ g. IfOk c.repaired_msti-in-None.result (IsSettledFrom g former c.args.tree)) c.ground.view_is

@@ -1,4 +1,4 @@
-use Rattle.std.proofs.Common.{ℕ, ◌<◌, arith}
+use Rattle.std.proofs.Common.{arith}
 use Rattle.mst_repair.proofs.Spaced.{below_bounds}
 use Rattle.mst_repair.proofs.rewiring.Rewiring.settler.Goals as goal
 
