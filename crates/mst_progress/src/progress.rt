@@ -1,12 +1,12 @@
-ghost use Rattle.std.specs.Prelude.{◌≡◌, ℕ, Option, None, false};
+ghost use Rattle.std.specs.Prelude.{◌≡◌, ℕ, ◌^◌, ◌≤◌, Option, Some, None, false};
 ghost use Rattle.std.specs.Option.{ForSome};
 ghost use Rattle.mst_topology.specs.Places.{option_at};
 ghost use Rattle.mst_topology.specs.Topology.{TreePort as TreePortOf, HasPort};
-ghost use Rattle.mst_topology.specs.Settled.{Designates, IsSilent};
+ghost use Rattle.mst_topology.specs.Settled.{Designates, IsSilent, IsDesignated};
 ghost use Rattle.mst_topology.specs.Effects.{IsUnconcerned};
 ghost use Rattle.mst_topology.specs.Settling.{IsLowest, Offers, OffersOf};
 ghost use Rattle.mst_topology.specs.Repair.{IsDue, key_of};
-ghost use Rattle.mst_progress.specs.Progress.{IsProgress, vector_of};
+ghost use Rattle.mst_progress.specs.Progress.{IsProgress, vector_of, vectors_with};
 
 use mst_ids::{BridgeNo, LanNo, PortNo};
 use mst_topology::{
@@ -14,6 +14,22 @@ use mst_topology::{
 };
 use mst_vector::Metric;
 use std::marker::Model;
+
+/// The vector of a bridge, if another bridge, or this one, had this vector.
+fn vector_with<V: Copy>(
+    vectors: &ByNumber<Option<V>>,
+    bridge: BridgeNo,
+    stored: Option<V>,
+    number: BridgeNo,
+) -> Option<V>
+    ensures { result ≡ vectors_with (option_at vectors.now) bridge stored number }
+{
+    if number == bridge {
+        stored
+    } else {
+        vectors.get(number.0).flatten()
+    }
+}
 
 /// A topology, the vectors of its bridges so far, and the designated ports of its LANs by these: what is
 /// due at a bridge follows from them.
@@ -93,8 +109,15 @@ impl<'t, 'w, 's, M: Metric> Progress<'t, 'w, 's, M> {
         }
     }
 
+    /// The vector of a bridge.
+    pub fn vector(&self, bridge: BridgeNo) -> Option<M::Vector>
+        ensures { result ≡ vector_of self.now bridge }
+    {
+        self.vectors.get(bridge.0).flatten()
+    }
+
     /// The root path priority vector of a bridge at one of its ports, if another bridge is heard there.
-    fn offered(&self, port: &TreePort<M::Port>) -> Option<M::Vector>
+    pub fn offered(&self, port: &TreePort<M::Port>) -> Option<M::Vector>
         requires { HasPort self.now.topology port.now }
         ensures some { ForSome result (λ x. Offers M.rules self.now.topology (vector_of self.now) port.now x) }
         ensures none { result ≡ None → (x : M.Vector) → Offers M.rules self.now.topology (vector_of self.now) port.now x → ⊥ }
@@ -113,6 +136,36 @@ impl<'t, 'w, 's, M: Metric> Progress<'t, 'w, 's, M> {
         let bridge = self.topology.bridge(port.bridge)?;
         let sender = self.topology.bridge(from.bridge)?;
         Some(M::root_path_vector(message, sender, bridge, &port.settings))
+    }
+
+    /// The root path priority vector of a bridge at one of its ports, if another bridge was heard there: when the
+    /// LAN had this designated port, and a bridge this vector.
+    pub fn offered_before(
+        &self,
+        port: &TreePort<M::Port>,
+        designated: Option<PortNo>,
+        written: BridgeNo,
+        stored: Option<M::Vector>,
+    ) -> Option<M::Vector>
+        requires port { HasPort self.now.topology port.now }
+        requires designated { IsDesignated M.rules self.now.topology (vectors_with (vector_of self.now) written stored) port.now.lan designated }
+        requires cost { (x : M.Vector) → stored ≡ Some x → M.rules.cost x ≤ 2 ^ 62 }
+        ensures some { ForSome result (λ x. Offers M.rules self.now.topology (vectors_with (vector_of self.now) written stored) port.now x) }
+        ensures none { result ≡ None → (x : M.Vector) → Offers M.rules self.now.topology (vectors_with (vector_of self.now) written stored) port.now x → ⊥ }
+    {
+        if !port.is_part || port.is_restricted {
+            return None;
+        }
+        let designated = designated?;
+        let from = self.topology.port(designated)?;
+        if from.bridge == port.bridge {
+            return None;
+        }
+        let root = vector_with(self.vectors, written, stored, from.bridge);
+        let message = designated_vector_with::<M>(self.topology, root, &from)?;
+        let receiver = self.topology.bridge(port.bridge)?;
+        let sender = self.topology.bridge(from.bridge)?;
+        Some(M::root_path_vector(message, sender, receiver, &port.settings))
     }
 
     /// The best root path priority vector of a bridge, with its port.

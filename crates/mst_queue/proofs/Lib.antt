@@ -6,3 +6,7 @@ pub mod Turns
 pub mod Turning
 pub mod Start
 pub mod OnlyOnce
+pub mod Setting
+pub mod Compared
+pub mod Mixed
+pub mod Taken

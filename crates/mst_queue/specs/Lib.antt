@@ -1,2 +1,4 @@
 pub mod Space
 pub mod Repairable
+pub mod Known
+pub mod Mixed

@@ -2,9 +2,14 @@
 //! lemmas tell what a bridge's turn does.
 #![tactic(auto)]
 
+mod known;
 mod looking;
+mod noting;
 mod queue;
+mod taking;
 mod touched;
 
+pub use known::KnownKeys;
 pub use looking::look_at;
+pub use noting::note;
 pub use queue::Queue;

@@ -1,26 +1,29 @@
-ghost use Rattle.std.specs.Prelude.{◌≡◌, ℕ};
+ghost use Rattle.std.specs.Prelude.{◌≡◌, ◌≢◌, ℕ, Option};
+ghost use Rattle.std.specs.List.{Contains};
 ghost use Rattle.mst_topology.specs.Slots.{HasRoom};
 ghost use Rattle.mst_topology.specs.Topology.{TreePort as TreePortOf, HasPort};
-ghost use Rattle.mst_topology.specs.Effects.{LooksAnew, KeysAreRight, LansKeysAreRight, IsUnconcerned, IsConcerned, IsBridgeOn, IsNear};
+ghost use Rattle.mst_topology.specs.Effects.{LooksAnew, KeysAreRight, LansKeysAreRight, IsBridgeOn, IsNear};
 ghost use Rattle.mst_progress.specs.Progress.{vector_of};
 
+use crate::known::KnownKeys;
 use crate::queue::Queue;
 use mst_ids::{BridgeNo, LanNo};
 use mst_progress::Progress;
-use mst_topology::{Keys, Seen, TreePort};
+use mst_topology::Seen;
 use mst_vector::Metric;
 
 /// Finds the key of a bridge anew.
-pub fn look_at<M: Metric>(keys: &mut Keys<M>, progress: &Progress<M>, bridge: BridgeNo)
+pub fn look_at<M: Metric>(keys: &mut KnownKeys<M>, progress: &Progress<M>, bridge: BridgeNo)
     requires { HasRoom keys.old bridge }
-    ensures { LooksAnew M.rules progress.now.topology (vector_of progress.now) keys.old keys.new (λ n. n ≡ bridge) }
+    ensures looked { LooksAnew M.rules progress.now.topology (vector_of progress.now) keys.old keys.new (λ n. n ≡ bridge) }
+    ensures others { (n : ℕ) (k : Option M.Vector) → n ≢ bridge → Contains keys.new (n, k) → Contains keys.old (n, k) }
 {
     keys.set(bridge.0, progress.key(bridge));
 }
 
 /// Finds the key of a bridge anew, if it wasn't looked at in this round.
 pub fn look_once<M: Metric>(
-    keys: &mut Keys<M>,
+    keys: &mut KnownKeys<M>,
     looked: &mut Seen,
     progress: &Progress<M>,
     bridge: BridgeNo,
@@ -28,6 +31,7 @@ pub fn look_once<M: Metric>(
     requires room { HasRoom keys.old bridge }
     requires seen { KeysAreRight M.rules progress.now.topology (vector_of progress.now) looked.old keys.old }
     ensures looked { LooksAnew M.rules progress.now.topology (vector_of progress.now) keys.old keys.new (λ n. n ≡ bridge) }
+    ensures others { (n : ℕ) (k : Option M.Vector) → n ≢ bridge → Contains keys.new (n, k) → Contains keys.old (n, k) }
     ensures seen { KeysAreRight M.rules progress.now.topology (vector_of progress.now) looked.new keys.new }
 {
     if !looked.has(bridge.0) {
@@ -38,7 +42,7 @@ pub fn look_once<M: Metric>(
 
 /// Finds the keys of the bridges on a LAN anew that weren't looked at in this round.
 fn look_on_once<M: Metric>(
-    keys: &mut Keys<M>,
+    keys: &mut KnownKeys<M>,
     looked: &mut Seen,
     progress: &Progress<M>,
     lan: LanNo,
@@ -87,47 +91,6 @@ impl<M: Metric> Queue<M> {
         while let Some(place) = next {
             let port = topology.at(place);
             self.look_on_new(progress, port.lan);
-            next = topology.before_of(place);
-        }
-    }
-
-    /// Finds the keys of the bridges on a port's LAN anew, each once in a round, if that port concerns them.
-    fn look_along(
-        &mut self,
-        progress: &Progress<M>,
-        port: &TreePort<M::Port>,
-        stored: Option<M::Vector>,
-    )
-        requires port { HasPort progress.now.topology port.now }
-        requires rooms { (p : TreePortOf ℕ ℕ ℕ M.Port) → HasPort progress.now.topology p → HasRoom self.old.keys p.bridge }
-        requires seen { KeysAreRight M.rules progress.now.topology (vector_of progress.now) self.old.looked self.old.keys }
-        requires lans_seen { LansKeysAreRight M.rules progress.now.topology (vector_of progress.now) self.old.looked_on self.old.keys }
-        ensures looked { LooksAnew M.rules progress.now.topology (vector_of progress.now) self.old.keys self.new.keys (λ n. IsBridgeOn progress.now.topology port.now.lan n × (IsUnconcerned M.rules progress.now.topology (vector_of progress.now) stored port.now → ⊥)) }
-        ensures seen { KeysAreRight M.rules progress.now.topology (vector_of progress.now) self.new.looked self.new.keys }
-        ensures lans_seen { LansKeysAreRight M.rules progress.now.topology (vector_of progress.now) self.new.looked_on self.new.keys }
-    {
-        if progress.concerns(port, stored) {
-            self.look_on_new(progress, port.lan);
-        }
-    }
-
-    /// Finds the keys of the bridges anew, each once, that a bridge concerns whose vector was written over another, or none.
-    pub fn look_after(
-        &mut self,
-        progress: &Progress<M>,
-        bridge: BridgeNo,
-        stored: Option<M::Vector>,
-    )
-        requires { (p : TreePortOf ℕ ℕ ℕ M.Port) → HasPort progress.now.topology p → HasRoom self.old.keys p.bridge }
-        ensures { LooksAnew M.rules progress.now.topology (vector_of progress.now) self.old.keys self.new.keys (IsConcerned M.rules progress.now.topology (vector_of progress.now) stored bridge) }
-    {
-        self.looked_on.clear();
-        self.looked.clear();
-        let topology = progress.topology();
-        let mut next = topology.last_of(bridge);
-        while let Some(place) = next {
-            let port = topology.at(place);
-            self.look_along(progress, &port, stored);
             next = topology.before_of(place);
         }
     }

@@ -1,16 +1,19 @@
 ghost use Rattle.std.specs.Prelude.{◌≡◌, []};
 
-use mst_topology::{Keys, Seen};
+use crate::known::KnownKeys;
+use mst_ids::PortNo;
+use mst_topology::{ByNumber, Seen};
 use mst_vector::Metric;
 use std::alloc::{AllocError, Global};
 
-/// The bridges of one tree, with keys where another vector is due than they have, and the bridges and
-/// the LANs that were looked at in this round.
+/// The bridges of one tree, with keys where another vector is due than they have, the bridges and the LANs that were looked
+/// at in this round, and the designated ports that LANs had before it.
 #[derive(Drop)]
 pub struct Queue<M: Metric> {
-    pub keys: Keys<M>,
+    pub keys: KnownKeys<M>,
     pub looked: Seen,
     pub looked_on: Seen,
+    pub former: ByNumber<Option<PortNo>>,
 }
 
 impl<M: Metric> Queue<M> {
@@ -19,9 +22,10 @@ impl<M: Metric> Queue<M> {
         ensures { result.keys ≡ [] }
     {
         Queue {
-            keys: Keys::new(alloc),
+            keys: KnownKeys::new(alloc),
             looked: Seen::new(alloc),
             looked_on: Seen::new(alloc),
+            former: ByNumber::new(alloc),
         }
     }
 }

@@ -16,7 +16,7 @@ ghost use Rattle.mst_topology.specs.Repair.{WithinBounds};
 use crate::settling::{Settling, settle_one};
 use mst_ids::BridgeNo;
 use mst_progress::Progress;
-use mst_queue::look_at;
+use mst_queue::{look_at, note};
 use mst_topology::{Slots, Topology, turn};
 use mst_vector::Metric;
 
@@ -43,6 +43,12 @@ impl<M: Metric> Settling<M> {
             let stored = self.vectors.get(bridge.0).flatten();
             let vector = turn::<M>(stored, next.1);
             settle_one(&mut self.vectors, &mut self.settlings, bridge, vector);
+            note::<M>(
+                &mut self.queue.former,
+                topology,
+                &self.designations.ports,
+                bridge,
+            );
             self.designations
                 .hear_around::<M>(topology, &self.vectors, bridge);
             let progress = Progress::new(topology, &self.vectors, &self.designations.ports);

@@ -8,7 +8,7 @@ use Rattle.mst_queue.proofs.looking.look_once.Goals as goal
 pub returns-then-not-has-clause-seen : goal.returns-then-not-has-clause-seen
 returns-then-not-has-clause-seen g c =
     let put : (k : ℕ) → IsSeen c.put.new.self k → (k ≡ c.args.bridge) ⊎ IsSeen c.args.looked.now k = rw c.bridge-then-not-has.view_is at c.put.ensures in
-    keys_more g.M.Metric.rules c.args.progress.now.topology (vector_of c.args.progress.now) c.args.looked.now c.put.new.self c.args.keys.now c.look_at.new.keys c.args.bridge c.requires.seen c.look_at.ensures put
+    keys_more g.M.Metric.rules c.args.progress.now.topology (vector_of c.args.progress.now) c.args.looked.now c.put.new.self c.args.keys.now c.look_at.new.keys c.args.bridge c.requires.seen c.look_at.ensures.looked put
 
 pub returns-else-not-has-clause-looked : goal.returns-else-not-has-clause-looked
 returns-else-not-has-clause-looked g c =

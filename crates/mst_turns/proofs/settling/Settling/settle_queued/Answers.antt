@@ -1,11 +1,12 @@
-use Rattle.std.proofs.Common.{rules, refl, ◌∙◌, ap, ◌≡◌, ◌+◌, ◌*◌, ◌≤◌, length, None, arith}
+use Rattle.std.proofs.Common.{rules, refl, sym, ◌∙◌, ap, subst, ◌≡◌, ◌+◌, ◌*◌, ◌≤◌, length, None, arith}
 use Rattle.std.specs.Map.{keys_of}
 use Rattle.mst_topology.specs.Places.{option_at}
 use Rattle.mst_topology.specs.Repair.{IsWritten, turned_at}
-use Rattle.mst_topology.specs.Effects.{LooksAnew, IsConcerned}
+use Rattle.mst_topology.specs.Effects.{LooksAnew, IsConcerned, HasRightKey}
 use Rattle.mst_queue.proofs.Bounds.{once_sorted}
 use Rattle.mst_queue.proofs.Counts.{none_differ}
 use Rattle.mst_topology.proofs.Standing.{left_by_write}
+use Rattle.mst_queue.proofs.Taken.{with_before}
 use Rattle.mst_queue.proofs.Turning.{turn_room, turn_few, heard_right, costs_kept, turned_right, all_settled, all_bounded, differ_room, keys_length}
 use Rattle.mst_turns.proofs.settling.Settling.settle_queued.Goals as goal
 
@@ -54,10 +55,28 @@ pub look_at-requires : goal.look_at-requires
 look_at-requires g c =
     c.loop-next.invariant.space.in_queue c.in-Some.next.0 (turn_room g.M.Metric.rules g.met.M.Metric.lawful c.args.topology.now c.requires.progress.topology (option_at c.args.self.now.vectors) (keys_of c.args.self.now.vectors) (once_sorted (keys_of c.args.self.now.vectors) c.requires.ordered) c.loop-next.self.vectors c.loop-next.self.designations.ports c.loop-next.self.queue.keys c.loop-next.self.settlings (keys_of c.args.self.now.designations.ports) c.loop-next.invariant c.requires.size c.in-Some.next.0 c.in-Some.next.1 (c.in-Some.ensures.some c.in-Some.next refl))
 
-pub look_after-requires : goal.look_after-requires
-look_after-requires g c = λ p h.
+pub look_after-requires-clause-taking : goal.look_after-requires-clause-taking
+look_after-requires-clause-taking g c = rw c.new-progress.ensures (
+    let stored : c.flatten-stored.result ≡ option_at c.loop-next.self.vectors c.in-Some.next.0 = search rules in
+    let before = with_before (option_at c.loop-next.self.vectors) (option_at c.settle_one.new.vectors) c.in-Some.next.0 c.turn-vector.result c.flatten-stored.result c.settle_one.ensures.vectors stored in
     let space = c.loop-next.invariant.space in
-    c.look_at.ensures.rooms p.bridge (space.in_queue p.bridge (space.for_bridges_of_ports p (rw c.new-progress.ensures at h)))
+    record {
+      topology = c.requires.progress.topology;
+      rooms = λ p h. c.look_at.ensures.looked.rooms p.bridge (space.in_queue p.bridge (space.for_bridges_of_ports p h));
+      noted = λ lan o on e. rw (before, c.note.ensures lan o on e) (c.loop-next.invariant.designated lan);
+      cost = λ x e. c.loop-next.invariant.costs c.in-Some.next.0 x (sym stored ∙ e);
+    })
+
+pub look_after-requires-clause-before : goal.look_after-requires-clause-before
+look_after-requires-clause-before g c = rw c.new-progress.ensures (
+    let stored : c.flatten-stored.result ≡ option_at c.loop-next.self.vectors c.in-Some.next.0 = search rules in
+    let before = with_before (option_at c.loop-next.self.vectors) (option_at c.settle_one.new.vectors) c.in-Some.next.0 c.turn-vector.result c.flatten-stored.result c.settle_one.ensures.vectors stored in
+    λ n other.
+    let right = subst (λ z. HasRightKey g.M.Metric.rules c.args.topology.now z c.loop-next.self.queue.keys n) (sym before) (c.loop-next.invariant.right n) in
+    λ k o h d. right k o (c.look_at.ensures.others n k other h) d)
+
+pub look_after-requires-clause-own : goal.look_after-requires-clause-own
+look_after-requires-clause-own g c = c.look_at.ensures.looked.found c.in-Some.next.0 refl
 
 pub loop-next-smaller : goal.loop-next-smaller
 loop-next-smaller g c =
@@ -70,7 +89,7 @@ loop-next-preserved g c =
     let stored : c.flatten-stored.result ≡ option_at c.loop-next.self.vectors c.in-Some.next.0 = search rules in
     let value : c.turn-vector.result ≡ turned_at g.M.Metric.rules.order (option_at c.loop-next.self.vectors c.in-Some.next.0) c.in-Some.next.1 = c.turn-vector.ensures ∙ ap (λ z. turned_at g.M.Metric.rules.order z c.in-Some.next.1) stored in
     let written : IsWritten (option_at c.loop-next.self.vectors) c.in-Some.next.0 (turned_at g.M.Metric.rules.order (option_at c.loop-next.self.vectors c.in-Some.next.0) c.in-Some.next.1) (option_at c.settle_one.new.vectors) = rw value at c.settle_one.ensures.vectors in
-    let looked : LooksAnew g.M.Metric.rules c.args.topology.now (option_at c.settle_one.new.vectors) c.loop-next.self.queue.keys c.look_at.new.keys (λ k. k ≡ c.in-Some.next.0) = rw c.new-progress.ensures at c.look_at.ensures in
+    let looked : LooksAnew g.M.Metric.rules c.args.topology.now (option_at c.settle_one.new.vectors) c.loop-next.self.queue.keys c.look_at.new.keys (λ k. k ≡ c.in-Some.next.0) = rw c.new-progress.ensures at c.look_at.ensures.looked in
     let around : LooksAnew g.M.Metric.rules c.args.topology.now (option_at c.settle_one.new.vectors) c.look_at.new.keys c.look_after.new.self.keys (IsConcerned g.M.Metric.rules c.args.topology.now (option_at c.settle_one.new.vectors) (option_at c.loop-next.self.vectors c.in-Some.next.0) c.in-Some.next.0) =
     rw (c.new-progress.ensures, stored) at c.look_after.ensures in
     turned_right g.M.Metric.rules g.met.M.Metric.lawful c.args.topology.now c.requires.progress.topology (option_at c.args.self.now.vectors) (keys_of c.args.self.now.vectors) (once_sorted (keys_of c.args.self.now.vectors) c.requires.ordered) c.loop-next.self.vectors c.loop-next.self.designations.ports c.loop-next.self.queue.keys c.loop-next.self.settlings (keys_of c.args.self.now.designations.ports) c.loop-next.invariant c.requires.size c.in-Some.next.0 c.in-Some.next.1 (c.in-Some.ensures.some c.in-Some.next refl) c.settle_one.new.vectors c.hear_around.new.self.ports c.look_at.new.keys c.look_after.new.self.keys c.settle_one.new.settlings
