@@ -6,10 +6,10 @@ use Rattle.mst_graph.specs.Islands.{AreIslands}
 use Rattle.mst_plan_text.specs.trees.Settled.{SettledNet, outcome_of, IsSettledNet}
 use Rattle.mst_plan_text.proofs.trees_lemmas.Entries.{all_weaker}
 use Rattle.mst_plan_text.specs.vlan.Reach.{bridges_on, lans_up}
-use Rattle.mst_plan_text.specs.Alike.{AreAlike}
+use Rattle.mst_classes.specs.Alike.{AreAlike}
 use Rattle.mst_plan_text.proofs.Classes.{links_shared}
 use Rattle.mst_diff.specs.Reach.{Sides}
-use Rattle.mst_diff.specs.Classes.{HasOnly}
+use Rattle.mst_classes.specs.Classes.{HasOnly}
 use Rattle.mst_diff.specs.Seen.{AreSidesOf}
 
 -- what is in the first list, or in the second, is in both

@@ -8,7 +8,7 @@ use Rattle.mst_ids.specs.Vids.{is_vid}
 use Rattle.mst_graph.specs.Groups.{AreGroups}
 use Rattle.mst_graph.specs.Numbers.{AreNumbers, HaveBodies}
 use Rattle.mst_graph.proofs.Alike.{alike_groups}
-use Rattle.mst_plan_text.specs.Alike.{AreAlike, TellApart}
+use Rattle.mst_classes.specs.Alike.{AreAlike, TellApart}
 use Rattle.mst_plan_text.specs.Bodies.{NumberEach}
 use Rattle.mst_plan_text.specs.PlanText.{all_vids}
 use Rattle.mst_plan_text.proofs.Bodied.{zip_at}

@@ -7,8 +7,8 @@ ghost use Rattle.mst_plan_text.specs.Bodies.{NumberEach};
 ghost use Rattle.mst_diff.specs.Reach.{has_any, differ, reach_row, reach_unless, group_rows, AreReachRows};
 ghost use Rattle.mst_diff.specs.Seen.{AreSidesOf, seen_sides, sides_at as sides_at_vid};
 
-use crate::classes::classes_of_both;
 use crate::sides::{Sides, copies, sides_of_vid};
+use mst_classes::classes_of_both;
 use mst_graph::groups_by_body;
 use mst_ids::{Name, Vid, VidSet};
 use mst_kinds::{ChangeLine, Kind};

@@ -35,7 +35,7 @@ use Rattle.mst_policy.specs.declared.item.NameItem.{NameItem}
 use Rattle.mst_policy.specs.declared.item.NameItem.TheVariants.{Is}
 use Rattle.mst_policy.specs.declared.policy.PolicyLine.{PolicyLine}
 use Rattle.mst_changes.specs.Subjects.{bridge_names, port_names}
-use Rattle.mst_summary.specs.Kept.{AreClasses}
+use Rattle.mst_classes.specs.Classes.{AreClasses}
 use Rattle.mst_trees.specs.Outcome.{Outcome, IsOutcome}
 use Rattle.mst_trees.proofs.Lists.{mapped_twice}
 use Rattle.mst_sweep.specs.Failures.{edit_of}

@@ -11,7 +11,7 @@ use Rattle.mst_policy.specs.declared.policy.PolicyLine.{PolicyLine}
 use Rattle.mst_trees.specs.Outcome.{Outcome, IsOutcome}
 use Rattle.mst_trees.specs.Settled.{outcome_of}
 use Rattle.mst_diff.specs.Reach.{has_any}
-use Rattle.mst_summary.specs.Kept.{AreClasses}
+use Rattle.mst_classes.specs.Classes.{AreClasses}
 use Rattle.mst_sweep.specs.declared.failure.Failure.{Failure}
 use Rattle.mst_verify.specs.Judged.{asks_at, places}
 use Rattle.mst_verify.specs.Named.{Gone}

@@ -16,7 +16,7 @@ use Rattle.mst_text.specs.trees.Forest.{Forest}
 use Rattle.mst_text.proofs.trees_lemmas.Entries.{all_weaker}
 use Rattle.mst_text.proofs.trees_lemmas.Lists.{all_contained}
 use Rattle.mst_text.specs.vlan.Reach.{vid_links}
-use Rattle.mst_plan_text.specs.Alike.{AreAlike, TellApart}
+use Rattle.mst_classes.specs.Alike.{AreAlike, TellApart}
 use Rattle.mst_plan_text.specs.Bodies.{NumberEach, pair_of, pairs_at, pairs_of}
 use Rattle.mst_plan_text.proofs.Grouped.{place_of_vid}
 use Rattle.mst_plan_text.proofs.VidsAlike.{links_alike, ports_alike}

@@ -6,5 +6,4 @@ pub use Rattle.mst_text.specs.roles as roles
 pub use Rattle.mst_text.specs.vlan as vlan
 pub use Rattle.mst_text.specs as text
 pub mod PlanText
-pub mod Alike
 pub mod Bodies

@@ -3,15 +3,11 @@
 #![tactic(auto)]
 
 mod active;
-mod alike;
-mod distinct;
 mod groups;
 pub mod laws;
 mod plan;
 mod trees;
 
-pub use alike::numbers_of_vids;
-pub use distinct::{tables, vlan_sets};
 pub use groups::{set_of, vids};
 pub use mst_text::{
     Forest, Island, Role, Settled, bridge_id, bridge_names, forwards, has_tree, is_had, is_member,

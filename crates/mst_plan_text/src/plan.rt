@@ -6,10 +6,9 @@ ghost use Rattle.mst_text.specs.VlanText.{ports_of_vid};
 ghost use Rattle.mst_plan_text.specs.PlanText.{all_vids, ArePlanRows, AreVidsRows};
 
 use crate::active::actives;
-use crate::alike::numbers_of_vids;
-use crate::distinct::{tables, vlan_sets};
 use crate::groups::{put_groups, vids};
 use crate::trees::put_trees;
+use mst_classes::{numbers_of_vids, tables, vlan_sets};
 use mst_graph::{groups_by_body, number_keys};
 use mst_ids::Vid;
 use mst_rows::Rows;

@@ -18,13 +18,13 @@ use Rattle.mst_diff.specs.text.VlanText.{active_port, ports_of_vid}
 use Rattle.mst_diff.specs.trees.Agrees.{AreOf}
 use Rattle.mst_diff.specs.trees.Forest.{Forest, IsForest}
 use Rattle.mst_diff.specs.trees.Outcome.{Outcome}
-use Rattle.mst_diff.specs.plan_text.Alike.{AreAlike}
+use Rattle.mst_classes.specs.Alike.{AreAlike}
 use Rattle.mst_diff.proofs.trees_lemmas.Entries.{all_weaker}
 use Rattle.mst_diff.proofs.trees_lemmas.Lists.{all_contained, filter_mapped}
 use Rattle.mst_diff.proofs.plan_text_lemmas.VidsAlike.{links_alike, ports_alike}
 use Rattle.mst_steps.specs.declared.links.Link.{Link}
 use Rattle.mst_steps.specs.Links.{link_of, carried}
-use Rattle.mst_diff.specs.Classes.{HasOnly}
+use Rattle.mst_classes.specs.Classes.{HasOnly}
 use Rattle.mst_steps.specs.Seen.{seen_link_of, seen_carried}
 
 module _ (net : Net) (numbers : Numbers) (v : Viewed) (f : Forest) (of : AreOf net numbers v f.regions) (is : IsForest net numbers f) (vid : ℕ) where

@@ -4,7 +4,7 @@ use Rattle.std.specs.List.{AllZip}
 use Rattle.std.proofs.lemmas.Bool.{eqb-true}
 use Rattle.mst_ids.specs.Vids.{is_vid}
 use Rattle.mst_graph.specs.Numbers.{AreNumbers}
-use Rattle.mst_diff.specs.plan_text.Alike.{AreAlike, TellApart}
+use Rattle.mst_classes.specs.Alike.{AreAlike, TellApart}
 use Rattle.mst_diff.proofs.plan_text_lemmas.Bodied.{zip_at}
 use Rattle.mst_diff.proofs.plan_text_lemmas.Grouped.{place_of_vid}
 

@@ -13,14 +13,14 @@ use Rattle.mst_vlan.specs.Reach.{bridges_on, lans_up, vid_links, AreIslandsOf}
 use Rattle.mst_diff.specs.trees.Agrees.{AreOf}
 use Rattle.mst_diff.specs.trees.Forest.{Forest, IsForest}
 use Rattle.mst_diff.specs.trees.Outcome.{Outcome}
-use Rattle.mst_diff.specs.plan_text.Alike.{AreAlike}
+use Rattle.mst_classes.specs.Alike.{AreAlike}
 use Rattle.mst_diff.proofs.roles_lemmas.Named.{port_is, port_same}
 use Rattle.mst_sweep.specs.Parts.{AreParts}
 use Rattle.mst_sweep.proofs.StillJoined.{no_parts}
 use Rattle.mst_steps.specs.declared.links.Link.{Link}
 use Rattle.mst_steps.specs.Links.{carried, shared, staying, stays, same_link, same_links}
 use Rattle.mst_steps.specs.MovedVids.{IsCut, IsJoined, IsMoved, links_differ}
-use Rattle.mst_diff.specs.Classes.{HasOnly}
+use Rattle.mst_classes.specs.Classes.{HasOnly}
 use Rattle.mst_steps.specs.Seen.{seen_carried, seen_differ}
 use Rattle.mst_steps.proofs.Carried.{carried_alike, carried_same, ends_alike, ends_by, links_by}
 use Rattle.mst_steps.proofs.OnNamed.{stays_same}

@@ -9,7 +9,8 @@ ghost use Rattle.mst_steps.specs.MovedVids.{AreVidsWhere, IsJoined, IsMoved};
 
 use crate::change::Change;
 use crate::fates::fates_at;
-use mst_diff::{classes_of_both, flagged, vids};
+use mst_classes::classes_of_both;
+use mst_diff::{flagged, vids};
 use mst_graph::Numbering;
 use mst_ids::Vid;
 use mst_sweep::{Cuts, cuts_of};

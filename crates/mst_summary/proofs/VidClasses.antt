@@ -31,7 +31,7 @@ use Rattle.mst_diff.specs.roles.Seen.{seen_role, seen_tree}
 use Rattle.mst_vlan.specs.Reach.{bridges_on, lans_up}
 use Rattle.mst_vlan.specs.Seen.{seen_member}
 use Rattle.mst_vlan.specs.declared.island.Island.{Island as IslandNos}
-use Rattle.mst_diff.specs.plan_text.Alike.{AreAlike}
+use Rattle.mst_classes.specs.Alike.{AreAlike}
 use Rattle.mst_diff.specs.plan_text.Bodies.{NumberEach}
 use Rattle.mst_diff.specs.plan_text.PlanText.{all_vids}
 use Rattle.mst_diff.proofs.plan_text_lemmas.Bodied.{zip_at}
@@ -39,7 +39,8 @@ use Rattle.mst_diff.proofs.plan_text_lemmas.Classes.{links_shared}
 use Rattle.mst_diff.proofs.plan_text_lemmas.Grouped.{place_of_vid, vids_long}
 use Rattle.mst_diff.specs.Reach.{has_any}
 use Rattle.mst_summary.specs.Carries.{are_of_two}
-use Rattle.mst_summary.specs.Kept.{AreClasses, count_at}
+use Rattle.mst_classes.specs.Classes.{AreClasses}
+use Rattle.mst_summary.specs.Kept.{count_at}
 use Rattle.mst_summary.specs.Seen.{seen_with_bridge, seen_on, seen_carries, seen_over}
 use Rattle.mst_summary.specs.Vlans.{with_bridge, HasIslands}
 use Rattle.mst_summary.proofs.Lists.{count_mapped, count_alike}

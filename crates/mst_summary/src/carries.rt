@@ -4,7 +4,7 @@ ghost use Rattle.mst_rows.specs.Rows.{Row};
 ghost use Rattle.mst_diff.specs.trees.Settled.{outcome_of};
 ghost use Rattle.mst_summary.specs.Carries.{all_carries, are_all as all_vids_are, carried as carried_over, carries_row, carries_rows, full_carries, full_of, full_rows};
 ghost use Rattle.mst_slips.specs.Kept.{kept_at};
-ghost use Rattle.mst_summary.specs.Kept.{AreClasses};
+ghost use Rattle.mst_classes.specs.Classes.{AreClasses};
 ghost use Rattle.mst_summary.specs.Seen.{seen_on, seen_over};
 
 use crate::joining::joining_lans;

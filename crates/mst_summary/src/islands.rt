@@ -3,7 +3,8 @@ ghost use Rattle.std.specs.List.{All, AllZip, flat_map};
 ghost use Rattle.mst_rows.specs.Rows.{Row};
 ghost use Rattle.mst_diff.specs.trees.Settled.{outcome_of};
 ghost use Rattle.mst_diff.specs.plan_text.Bodies.{NumberEach};
-ghost use Rattle.mst_summary.specs.Kept.{AreClasses, count_at};
+ghost use Rattle.mst_classes.specs.Classes.{AreClasses};
+ghost use Rattle.mst_summary.specs.Kept.{count_at};
 ghost use Rattle.mst_summary.specs.Seen.{seen_with_bridge};
 ghost use Rattle.mst_summary.specs.Vlans.{HasIslands, islands_row, group_rows, AreVlanRows};
 

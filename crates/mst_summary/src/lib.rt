@@ -4,7 +4,6 @@
 
 mod blocked;
 mod carries;
-mod classes;
 mod counts;
 mod in_use;
 mod islands;
@@ -16,7 +15,6 @@ mod over;
 mod roots;
 mod summary;
 
-pub use classes::classes_of_vids;
 pub use kept::ports_by_lan;
 pub use looked_up::role;
 pub use mst_diff::{

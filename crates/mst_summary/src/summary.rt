@@ -8,11 +8,11 @@ ghost use Rattle.mst_summary.specs.SummaryText.{AreSummaryRows};
 
 use crate::blocked::put_blocked;
 use crate::carries::put_carries;
-use crate::classes::classes_of_vids;
 use crate::counts::{count, put_counts};
 use crate::in_use::used_trees;
 use crate::islands::put_vlans;
 use crate::roots::put_roots;
+use mst_classes::classes_of_vids;
 use mst_config::Regions;
 use mst_diff::Settled;
 use mst_ids::Tree;

@@ -4,7 +4,7 @@ use Rattle.std.specs.Bool.{MatchBool}
 use Rattle.std.proofs.lemmas.List.{length-map}
 use Rattle.mst_net.specs.Tables.{Net}
 use Rattle.mst_diff.specs.trees.Outcome.{Outcome}
-use Rattle.mst_diff.specs.plan_text.Alike.{AreAlike, TellApart}
+use Rattle.mst_classes.specs.Alike.{AreAlike, TellApart}
 use Rattle.mst_diff.proofs.plan_text_lemmas.Grouped.{place_of_vid}
 use Rattle.mst_graph.specs.Numbers.{AreNumbers}
 use Rattle.mst_graph.specs.declared.keys.Numbering.{Numbering}

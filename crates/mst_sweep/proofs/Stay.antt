@@ -24,14 +24,14 @@ use Rattle.mst_diff.proofs.trees_lemmas.Lists.{all_there, all_contained, all_map
 use Rattle.mst_diff.proofs.trees_lemmas.Seen.{bridge_seen}
 use Rattle.mst_vlan.specs.Reach.{bridges_on, lans_up, vid_links, AreIslandsOf}
 use Rattle.mst_vlan.proofs.Renumbered.{bridge_listed}
-use Rattle.mst_diff.specs.plan_text.Alike.{AreAlike}
+use Rattle.mst_classes.specs.Alike.{AreAlike}
 use Rattle.mst_diff.proofs.plan_text_lemmas.Classes.{links_shared}
 use Rattle.mst_diff.specs.changes.Subjects.{bridge_names}
 use Rattle.mst_diff.proofs.changes_lemmas.Lists.{filter_map-map}
 use Rattle.mst_diff.specs.Seen.{seen_in_both, seen_both}
 use Rattle.mst_diff.proofs.Lists.{filter_map-filter_map, find-found}
 use Rattle.mst_diff.proofs.Named.{found_named, names_are}
-use Rattle.mst_diff.specs.Classes.{HasOnly}
+use Rattle.mst_classes.specs.Classes.{HasOnly}
 use Rattle.mst_net.proofs.Keys.{names}
 use Rattle.mst_sweep.specs.declared.parts.Stays.{Stays}
 use Rattle.mst_sweep.specs.Parts.{home, stays_at, staying, AreParts}

@@ -12,7 +12,7 @@ use Rattle.mst_diff.specs.trees.Agrees.{AreOf}
 use Rattle.mst_diff.specs.trees.Forest.{Forest, IsForest}
 use Rattle.mst_diff.specs.trees.Outcome.{Outcome}
 use Rattle.mst_vlan.specs.Reach.{AreIslandsOf}
-use Rattle.mst_diff.specs.plan_text.Alike.{TellApart}
+use Rattle.mst_classes.specs.Alike.{TellApart}
 use Rattle.mst_sweep.specs.Parts.{home}
 use Rattle.mst_sweep.specs.declared.baseline.Baseline.{Baseline}
 

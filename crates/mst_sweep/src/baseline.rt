@@ -7,7 +7,8 @@ ghost use Rattle.mst_sweep.specs.Baseline.{AreHomes, IsBaseline};
 
 use crate::homes::homes_of;
 use indexmap::IndexMap;
-use mst_diff::{Planned, numbers_of_vids, tables, vlan_sets};
+use mst_classes::{numbers_of_vids, tables, vlan_sets};
+use mst_diff::Planned;
 use mst_graph::{Numbering, number_keys};
 use mst_ids::{BridgeNo, Vid};
 use std::alloc::{AllocError, Global};

@@ -7,10 +7,10 @@ use Rattle.mst_graph.specs.Groups.{AreGroups}
 use Rattle.mst_graph.specs.declared.keys.Numbering.{Numbering}
 use Rattle.mst_graph.proofs.Members.{from_filter}
 use Rattle.mst_lag.specs.Viewed.{Viewed}
-use Rattle.mst_summary.specs.plan_text.Alike.{AreAlike}
+use Rattle.mst_classes.specs.Alike.{AreAlike}
 use Rattle.mst_summary.specs.plan_text.Bodies.{NumberEach}
 use Rattle.mst_summary.specs.plan_text.PlanText.{all_vids}
-use Rattle.mst_summary.specs.Kept.{AreClasses}
+use Rattle.mst_classes.specs.Classes.{AreClasses}
 use Rattle.mst_summary.specs.diff.Classes.{flag_at}
 use Rattle.mst_sweep.specs.Cuts.{names_of, parts_at}
 use Rattle.mst_verify.specs.Islands.{AreOfClasses}

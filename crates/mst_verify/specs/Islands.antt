@@ -12,7 +12,7 @@ use Rattle.mst_summary.specs.net.Contents.{IsNumbered}
 use Rattle.mst_summary.specs.trees.Outcome.{Outcome}
 use Rattle.mst_summary.specs.trees.Settled.{SettledNet, outcome_of}
 use Rattle.mst_sweep.specs.Baseline.{AreHomes}
-use Rattle.mst_summary.specs.Kept.{AreClasses}
+use Rattle.mst_classes.specs.Classes.{AreClasses}
 use Rattle.mst_verify.specs.Holds.{IsReached}
 use Rattle.mst_verify.specs.Reasons.{Parts}
 use Rattle.mst_verify.specs.declared.before.Before.{Before}

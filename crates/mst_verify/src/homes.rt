@@ -1,7 +1,7 @@
 ghost use Rattle.std.specs.Prelude.{◌≡◌, ◌<◌, ◌+◌, ℕ, IfOk, MatchOption, length, slice_index, vec_len, ⊤};
 ghost use Rattle.std.specs.List.{All};
 ghost use Rattle.mst_summary.specs.trees.Settled.{outcome_of};
-ghost use Rattle.mst_summary.specs.Kept.{AreClasses};
+ghost use Rattle.mst_classes.specs.Classes.{AreClasses};
 ghost use Rattle.mst_sweep.specs.Baseline.{AreHomes};
 ghost use Rattle.mst_verify.specs.Islands.{AreMade};
 

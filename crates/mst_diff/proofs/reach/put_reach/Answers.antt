@@ -7,7 +7,7 @@ use Rattle.mst_plan_text.specs.PlanText.{all_vids}
 use Rattle.mst_plan_text.proofs.Grouped.{vids_long}
 use Rattle.mst_plan_text.proofs.Classes.{numbers_below, each_below}
 use Rattle.mst_rows.specs.Rows.{Row}
-use Rattle.mst_diff.specs.Classes.{HasOnly}
+use Rattle.mst_classes.specs.Classes.{HasOnly}
 use Rattle.mst_diff.specs.Reach.{Sides, differ, group_rows}
 use Rattle.mst_diff.specs.Seen.{AreSidesOf, seen_sides, sides_at}
 use Rattle.mst_diff.specs.declared.sides.Sides.{Sides as KeptSides}

@@ -4,7 +4,7 @@ use Rattle.std.proofs.lemmas.Result.{IfOk-weaker}
 use Rattle.mst_lag.specs.Viewed.{IsView}
 use Rattle.mst_net.specs.After.{after}
 use Rattle.mst_net.specs.Contents.{Tables, ahead_of}
-use Rattle.mst_summary.specs.Kept.{AreClasses}
+use Rattle.mst_classes.specs.Classes.{AreClasses}
 use Rattle.mst_trees.specs.Settled.{SettledNet, outcome_of}
 use Rattle.mst_sweep.specs.Failures.{edit_of}
 use Rattle.mst_verify.specs.Verified.{expected_at}

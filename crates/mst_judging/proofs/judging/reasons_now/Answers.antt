@@ -1,7 +1,7 @@
 use Rattle.std.proofs.Common.{◌≡◌, None, refl, subst, sym}
 use Rattle.std.specs.List.{AllZip}
 use Rattle.std.proofs.lemmas.Result.{IfOk-weaker}
-use Rattle.mst_summary.specs.Kept.{AreClasses}
+use Rattle.mst_classes.specs.Classes.{AreClasses}
 use Rattle.mst_trees.specs.Settled.{SettledNet, outcome_of}
 use Rattle.mst_verify.specs.Islands.{AreMade}
 use Rattle.mst_verify.specs.Verified.{expected_at}

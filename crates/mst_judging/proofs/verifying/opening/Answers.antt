@@ -1,7 +1,7 @@
 use Rattle.std.proofs.Common.{◌≡◌, ◌++◌, subst}
 use Rattle.std.specs.List.{count_by, flat_map}
 use Rattle.mst_diff.specs.Reach.{has_any}
-use Rattle.mst_summary.specs.Kept.{AreClasses}
+use Rattle.mst_classes.specs.Classes.{AreClasses}
 use Rattle.mst_trees.specs.Outcome.{IsOutcome}
 use Rattle.mst_trees.specs.Settled.{SettledNet, outcome_of}
 use Rattle.mst_verify.specs.Seen.{IsBefore}

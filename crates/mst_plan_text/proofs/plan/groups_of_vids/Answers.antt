@@ -7,7 +7,7 @@ use Rattle.mst_ids.specs.declared.name.PortName.{PortName}
 use Rattle.mst_text.specs.trees.Agrees.{AreOf}
 use Rattle.mst_text.specs.trees.Settled.{outcome_of}
 use Rattle.mst_text.specs.VlanText.{ports_of_vid}
-use Rattle.mst_plan_text.specs.Alike.{TellApart}
+use Rattle.mst_classes.specs.Alike.{TellApart}
 use Rattle.mst_plan_text.specs.Bodies.{NumberEach, pair_of, pairs_at, pairs_of}
 use Rattle.mst_plan_text.specs.PlanText.{all_vids}
 use Rattle.mst_plan_text.proofs.Classes.{numbers_below, each_below, are_pairs}

@@ -1,7 +1,7 @@
 use Rattle.std.proofs.Common.{Vec, Global, ◌≡◌, ℕ, List, length, map, sym, ap, subst, ◌∙◌}
 use Rattle.std.proofs.lemmas.Result.{IfOk-weaker}
 use Rattle.mst_diff.specs.Reach.{has_any}
-use Rattle.mst_diff.specs.Classes.{HasOnly}
+use Rattle.mst_classes.specs.Classes.{HasOnly}
 use Rattle.mst_sweep.specs.Cuts.{names_of}
 use Rattle.mst_sweep.specs.Parts.{AreParts}
 use Rattle.mst_sweep.proofs.Stay.{parts_moved}

@@ -1,6 +1,6 @@
 use Rattle.std.proofs.Common.{◌+◌, ℕ, Bool, List, length, map, ap, subst, ◌∙◌}
 use Rattle.std.specs.List.{AllZip}
-use Rattle.mst_diff.specs.plan_text.Alike.{TellApart}
+use Rattle.mst_classes.specs.Alike.{TellApart}
 use Rattle.mst_sweep.specs.Baseline.{AreHomes}
 use Rattle.mst_sweep.proofs.baseline.Baseline.new.Goals as goal
 

@@ -1,0 +1,6 @@
+pub mod Gathered
+pub mod Moving
+pub mod Starting
+pub mod Split
+pub mod Told
+pub mod Pairing

@@ -1,0 +1,37 @@
+use Rattle.std.proofs.Common.{◌≡◌, ◌<◌, ℕ, Bool, List, length, get_or, nat_eq, subst, sym}
+use Rattle.std.specs.List.{All}
+use Rattle.std.proofs.lemmas.Result.{IfOk-weaker}
+use Rattle.std.proofs.lemmas.List.{get_or_default}
+use Rattle.mst_graph.specs.Numbers.{AreNumbers}
+use Rattle.mst_net.specs.ByTree.{table_in, vlans_in}
+use Rattle.mst_lag.specs.declared.in_view.BridgeInView.{BridgeInView}
+use Rattle.mst_lag.specs.declared.in_view.PortInView.{PortInView}
+use Rattle.mst_classes.specs.Alike.{TellApart}
+use Rattle.mst_lag.proofs.Lists.{all_weaker}
+use Rattle.mst_classes.proofs.classes.classes_of_both.Goals as goal
+
+firsts_below : (told numbers firsts : List ℕ) → length told ≡ 4094 → AreNumbers nat_eq told numbers firsts → All (λ place. place < 4094) firsts
+firsts_below told numbers firsts long are = λ n d below. let e = get_or_default firsts n d 0 below in subst (λ place. place < 4094) (sym e) (subst (λ k. get_or firsts n 0 < k) long (are.first n below).0)
+
+pub returns-clause-classes : goal.returns-clause-classes
+returns-clause-classes c = IfOk-weaker c.number_keys.result _ _
+    (λ classes are.
+    let told : List ℕ = c.in_ok-numbers.numbers.items in
+    let tables : List (List ℕ) = c.meet_tables-2.new.met.keys in
+    let sets : List (List Bool) = c.meet_sets-2.new.met.keys in
+    let v = c.args.old.now in
+    record {
+      tables = tables;
+      sets = sets;
+      old = record {
+        tables_there = all_weaker _ _ (λ (b : BridgeInView). c.in_ok-meet_tables-2.ensures.before (table_in v.settings.tables b.name)) v.bridges c.in_ok-meet_tables.ensures.there;
+        sets_there = all_weaker _ _ (λ (p : PortInView). c.in_ok-meet_sets-2.ensures.before (vlans_in v.settings.vlans p.name)) v.ports c.in_ok-meet_sets.ensures.there;
+      };
+      new = record { tables_there = c.in_ok-meet_tables-2.ensures.there; sets_there = c.in_ok-meet_sets-2.ensures.there };
+      numbers = told;
+      tell = subst (λ ts. TellApart ts sets told) c.as_slice.ensures.keys (subst (λ ss. TellApart c.as_slice.result.now ss told) c.as_slice-2.ensures.keys c.in_ok-numbers.ensures);
+      are = are;
+    }) c.number_keys.ensures
+
+pub returns-clause-vids : goal.returns-clause-vids
+returns-clause-vids c = IfOk-weaker c.number_keys.result _ _ (λ classes are. firsts_below c.in_ok-numbers.numbers.items classes.numbers.items classes.firsts.items c.in_ok-numbers.ensures.as_long are) c.number_keys.ensures

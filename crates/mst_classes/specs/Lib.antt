@@ -1,0 +1,4 @@
+pub mod Alike
+pub mod Classes
+pub mod Pairs
+pub mod Splitting

@@ -1,0 +1,36 @@
+ghost use Rattle.std.specs.Prelude.{◌<◌, IfOk};
+ghost use Rattle.std.specs.List.{All};
+ghost use Rattle.mst_classes.specs.Classes.{AreClasses, AreClassesOf};
+
+use crate::alike::numbers_of_vids;
+use crate::distinct::{meet_sets, meet_tables, tables, vlan_sets};
+use indexmap::IndexSet;
+use mst_graph::{Numbering, number_keys};
+use mst_lag::View;
+use std::alloc::{AllocError, Global};
+
+/// Classes of VIDs that no table and no set of VLANs of a port tells apart. `AllocError`: memory was wanted and refused.
+pub fn classes_of_vids(alloc: Global, view: &View) -> Result<Numbering, AllocError>
+    ensures { IfOk result (AreClasses view.now) }
+{
+    let tables = tables(alloc, view)?;
+    let sets = vlan_sets(alloc, view)?;
+    let numbers = numbers_of_vids(alloc, tables.as_slice(), sets.as_slice())?;
+    number_keys(alloc, numbers)
+}
+
+/// Classes of VIDs that no table and no set of VLANs of either network tells apart. `AllocError`: memory was wanted and
+/// refused.
+pub fn classes_of_both(alloc: Global, old: &View, new: &View) -> Result<Numbering, AllocError>
+    ensures classes { IfOk result (AreClassesOf old.now new.now) }
+    ensures vids { IfOk result (λ classes. All (λ place. place < 4094) classes.firsts.items) }
+{
+    let mut tables = IndexSet::new(alloc);
+    meet_tables(old, &mut tables)?;
+    meet_tables(new, &mut tables)?;
+    let mut sets = IndexSet::new(alloc);
+    meet_sets(old, &mut sets)?;
+    meet_sets(new, &mut sets)?;
+    let numbers = numbers_of_vids(alloc, tables.as_slice(), sets.as_slice())?;
+    number_keys(alloc, numbers)
+}
