@@ -11,5 +11,5 @@ pub use mst_roles::{
     Forest, Role, Settled, bridge_id, cist_port, forwards, has_tree, is_had, msti_port,
     mstis_in_use, port_forwards, port_role, role, role_of, trees_in_use, trees_laws,
 };
-pub use reaching::{is_member, reach, reach_from};
-pub use topology::{active, active_ports};
+pub use reaching::{bridges_on, is_member, islands_of, lans_up, reach, reach_from};
+pub use topology::{active, active_ports, forwarding};

@@ -1,5 +1,5 @@
 ghost use Rattle.std.specs.Prelude.{◌≡◌, IfOk, map, filter};
-ghost use Rattle.mst_graph.specs.Islands.{AreIslands};
+ghost use Rattle.mst_graph.specs.Islands.{AreIslands, HaveEnds};
 ghost use Rattle.mst_ids.specs.Vids.{has};
 ghost use Rattle.mst_roles.specs.net.Tables.{Net, Numbers};
 ghost use Rattle.mst_roles.specs.trees.Agrees.{AreOf, Known};
@@ -16,8 +16,8 @@ use mst_lag::{PortInView, View};
 use mst_roles::{Forest, Settled};
 use std::alloc::{AllocError, Global};
 
-/// The bridges that are on.
-fn bridges_on(alloc: Global, view: &View) -> Result<Vec<BridgeNo>, AllocError>
+/// The numbers of the bridges that are on. `AllocError`: memory was wanted and refused.
+pub fn bridges_on(alloc: Global, view: &View) -> Result<Vec<BridgeNo>, AllocError>
     ensures { IfOk result (λ bridges. bridges.items ≡ seen_bridges view.now) }
 {
     view.bridges()
@@ -27,8 +27,8 @@ fn bridges_on(alloc: Global, view: &View) -> Result<Vec<BridgeNo>, AllocError>
         .collect(alloc)
 }
 
-/// The logical LANs that are up.
-fn lans_up(alloc: Global, view: &View) -> Result<Vec<LanNo>, AllocError>
+/// The numbers of the logical LANs that are up. `AllocError`: memory was wanted and refused.
+pub fn lans_up(alloc: Global, view: &View) -> Result<Vec<LanNo>, AllocError>
     ensures { IfOk result (λ lans. lans.items ≡ seen_lans view.now) }
 {
     view.lans()
@@ -93,6 +93,21 @@ fn listed(alloc: Global, joined: &[mst_graph::Island]) -> Result<Vec<Island>, Al
         islands.push(Island { bridges, lans })?;
     }
     Ok(islands)
+}
+
+/// The islands of these bridges and LANs that links join, each list of a type of its own. `AllocError`: memory was
+/// wanted and refused.
+pub fn islands_of(
+    alloc: Global,
+    bridges: &[BridgeNo],
+    lans: &[LanNo],
+    links: &[Link],
+) -> Result<Vec<Island>, AllocError>
+    requires { HaveEnds bridges.now lans.now links.now }
+    ensures { IfOk result (λ islands. AreIslands bridges.now lans.now links.now (map as_island islands.items)) }
+{
+    let joined = islands(alloc, bridges, lans, links)?;
+    listed(alloc, joined.as_slice())
 }
 
 /// The islands of a VID: two of the bridges that are on and the logical LANs that are up are in one just where

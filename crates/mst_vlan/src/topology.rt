@@ -4,7 +4,7 @@ ghost use Rattle.std.specs.Option.{ForSome};
 ghost use Rattle.mst_lag.specs.View.{IsUnrestricted};
 ghost use Rattle.mst_lag.specs.Viewed.{named_port};
 ghost use Rattle.mst_roles.specs.trees.Settled.{outcome_of};
-ghost use Rattle.mst_roles.specs.Seen.{seen_tree};
+ghost use Rattle.mst_roles.specs.Seen.{seen_tree, seen_forwards};
 ghost use Rattle.mst_vlan.specs.Active.{active_ports as active_in, JoinWithoutLoop};
 ghost use Rattle.mst_vlan.specs.Seen.{seen_active};
 
@@ -64,6 +64,26 @@ pub(crate) fn forwarding_ports(
         }
     }
     Ok(ports)
+}
+
+/// Whether each logical port of the view forwards for a VID, in the order of the view. For n ports it takes n steps.
+/// `AllocError`: memory was wanted and refused.
+pub fn forwarding(
+    alloc: Global,
+    view: &View,
+    forest: &Forest,
+    vid: Vid,
+) -> Result<Vec<bool>, AllocError>
+    ensures { IfOk result (λ flags. flags.items ≡ map (seen_forwards view.now forest.now vid) view.now.ports) }
+{
+    let mut flags = Vec::new(alloc);
+    let mut known = None;
+    for port in view.ports() {
+        let tree = tree_beside(view, known, port.bridge, vid);
+        known = Some((port.bridge, tree));
+        flags.push(forwards_in(view, forest, port, tree))?;
+    }
+    Ok(flags)
 }
 
 /// The numbers of ports.
