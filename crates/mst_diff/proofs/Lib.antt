@@ -18,3 +18,5 @@ pub mod SameSides
 pub mod SidesGrouped
 pub mod ReachTurned
 pub mod FirstNamed
+pub mod SameIslands
+pub mod MetSides

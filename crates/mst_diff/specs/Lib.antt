@@ -11,6 +11,7 @@ pub mod Roots
 pub mod Ports
 pub mod Classes
 pub mod Reach
+pub mod Met
 pub mod DiffText
 pub mod Seen
 pub mod Turned

@@ -41,6 +41,10 @@ pub record Sides : Type 0 where
 abbrev pub sides_of : List (List (List ℕ)) → List (List (List ℕ)) → Sides
 sides_of olds news = record { old = without olds news; new = without news olds }
 
+-- nothing on either side
+abbrev pub no_sides : Sides
+no_sides = record { old = []; new = [] }
+
 -- there is an island on one of them
 abbrev pub differ : Sides → Bool
 differ s = has_any s.old || has_any s.new

@@ -1,5 +1,5 @@
 -- What differs between two views with their forests.
-use Rattle.std.specs.Prelude.{◌≡◌, ℕ, ◌-◌, ◌==◌, List, [], ◌∷◌, Option, None, Some, map, filter, filter_map, slice_index, slice_index_or, if◌then◌else◌}
+use Rattle.std.specs.Prelude.{◌≡◌, ℕ, ◌+◌, ◌-◌, ◌<◌, ◌==◌, Bool, false, length, List, [], ◌∷◌, Option, None, Some, map, filter, filter_map, slice_index, slice_index_or, if◌then◌else◌}
 use Rattle.std.specs.List.{Contains, find, list_any}
 use Rattle.std.specs.Map.{lookup}
 use Rattle.std.specs.Option.{option_map, unwrap_or}
@@ -32,7 +32,8 @@ use Rattle.mst_diff.specs.declared.regions.RegionChange.{RegionChange}
 use Rattle.mst_diff.specs.DiffText.{AreDiffRowsOf}
 use Rattle.mst_diff.specs.Regions.{region_unless}
 use Rattle.mst_diff.specs.Roots.{root_pair, root_row, same_pair, with_new, tree_roots}
-use Rattle.mst_diff.specs.Reach.{has_any, same_names, AreSides, Sides}
+use Rattle.mst_carried.specs.Carried.{ViewWithTrees}
+use Rattle.mst_diff.specs.Reach.{has_any, no_sides, same_names, AreSides, Sides}
 use Rattle.mst_diff.specs.declared.sides.Sides.{Sides as KeptSides}
 
 -- ---- bridges
@@ -124,6 +125,27 @@ one_group v i = if has_any i.bridges then filter_map (seen_bridge v) i.bridges �
 -- an island, unless it is among others
 abbrev pub apart_group : List (List (List ℕ)) → List (List ℕ) → List (List (List ℕ))
 apart_group others group = if list_any (λ other. same_names other group) others then [] else group ∷ []
+
+-- the view with its trees
+abbrev pub with_trees : SettledNet → ViewWithTrees
+with_trees s = record { view = s.view; forest = s.forest }
+
+-- the bridges that are on and the logical LANs that are up, by name
+abbrev pub seen_names_on : Viewed → List (List ℕ)
+seen_names_on v = map (λ b. b.name) (filter (λ b. (bridge_row b.bridge).is_on) v.bridges)
+
+abbrev pub seen_names_up : Viewed → List (List ℕ)
+seen_names_up v = map (λ l. l.name) (filter (λ l. l.is_up) v.lans)
+
+-- the same ones are in two views
+pub record HaveSameEnds (v w : Viewed) : Type 0 where
+  pub bridges : seen_names_on v ≡ seen_names_on w
+  pub lans : seen_names_up v ≡ seen_names_up w
+
+-- for each of these VIDs, counted from 0, there is a flag, and where it is false there is nothing on either side of the VID
+pub record TellUnlike (s t : SettledNet) (places : List ℕ) (flags : List Bool) : Type 0 where
+  pub as_long : length flags ≡ length places
+  pub none : (i : ℕ) → i < length places → slice_index_or flags i false ≡ false → AreSidesOf s t (slice_index places i + 1) no_sides
 
 -- ---- all rows
 -- from one settled network to another

@@ -3,6 +3,7 @@
 
 mod all_roots;
 mod both;
+mod carriages;
 mod change;
 mod classes;
 mod diff;
@@ -12,6 +13,7 @@ mod reach;
 mod regions;
 mod roots;
 mod sides;
+mod unlike;
 
 pub use both::{Both, bridges_of_both};
 pub use classes::flagged;

@@ -7,7 +7,10 @@ ghost use Rattle.mst_plan_text.specs.Bodies.{NumberEach};
 ghost use Rattle.mst_diff.specs.Reach.{has_any, differ, reach_row, reach_unless, group_rows, AreReachRows};
 ghost use Rattle.mst_diff.specs.Seen.{AreSidesOf, seen_sides, sides_at as sides_at_vid};
 
-use crate::sides::{Sides, copies, sides_of_vid};
+use crate::carriages::Carriages;
+use crate::sides::{Sides, copies, sides_unless};
+use crate::unlike::unlike;
+use mst_carried::Carriage;
 use mst_classes::classes_of_both;
 use mst_graph::groups_by_body;
 use mst_ids::{Name, Vid, VidSet};
@@ -17,7 +20,22 @@ use mst_rows::{Rows, Value, put};
 use std::alloc::{AllocError, Global};
 
 /// The sides of the VIDs at these places, which are counted from 0.
-fn sides_at(
+fn sides_at(alloc: Global, both: &Carriages, places: &[usize]) -> Result<Vec<Sides>, AllocError>
+    requires { All (λ place. place < 4094) places.now }
+    ensures as_long { IfOk result (λ all. vec_len all ≡ length places.now) }
+    ensures sides { IfOk result (λ all. AllZip (λ place sides. AreSidesOf both.now.old.now both.now.new.now (place + 1) sides) places.now (map seen_sides all.items)) }
+{
+    let flags = unlike(alloc, both, places)?;
+    let mut all = Vec::new(alloc);
+    for i in 0..places.len() {
+        let vid = Vid::new(places[i] as u64 + 1).unwrap();
+        all.push(sides_unless(alloc, both, vid, flags[i])?)?;
+    }
+    Ok(all)
+}
+
+/// The sides of the VIDs at these places, by tables that are made for it of the ports that carry each VID.
+fn sides_between(
     alloc: Global,
     old: &Settled,
     new: &Settled,
@@ -25,14 +43,19 @@ fn sides_at(
 ) -> Result<Vec<Sides>, AllocError>
     requires { All (λ place. place < 4094) places.now }
     ensures as_long { IfOk result (λ all. vec_len all ≡ length places.now) }
-    ensures sides { IfOk result (λ all. AllZip (λ place both. AreSidesOf old.now new.now (place + 1) both) places.now (map seen_sides all.items)) }
+    ensures sides { IfOk result (λ all. AllZip (λ place sides. AreSidesOf old.now new.now (place + 1) sides) places.now (map seen_sides all.items)) }
 {
-    let mut all = Vec::new(alloc);
-    for place in places {
-        let vid = Vid::new(*place as u64 + 1).unwrap();
-        all.push(sides_of_vid(alloc, old, new, vid)?)?;
-    }
-    Ok(all)
+    old.known();
+    new.known();
+    let before = Carriage::new(alloc, old.view(), old.forest())?;
+    let after = Carriage::new(alloc, new.view(), new.forest())?;
+    let both = Carriages {
+        old,
+        new,
+        before: &before,
+        after: &after,
+    };
+    sides_at(alloc, &both, places)
 }
 
 /// Whether there is an island.
@@ -136,7 +159,8 @@ fn count(vids: &[Vid], numbers: &[usize], sides: &[Sides]) -> u64
 /// Puts the rows of VIDs whose islands have other bridges, VIDs of equal sides in one row, and answers how many VIDs
 /// there are in these rows. `AllocError`: memory was wanted and refused; some of them may have been put.
 ///
-/// Islands are made once for VIDs that no table and no set of VLANs of either network tells apart.
+/// Islands are made once for VIDs that no table and no set of VLANs of either network tells apart, and for none that the
+/// same ports carry before and after.
 pub(crate) fn put_reach<R: Rows>(
     alloc: Global,
     old: &Settled,
@@ -151,7 +175,7 @@ pub(crate) fn put_reach<R: Rows>(
     let before = old.view();
     let after = new.view();
     let classes = classes_of_both(alloc, before, after)?;
-    let sides = sides_at(alloc, old, new, classes.firsts.as_slice())?;
+    let sides = sides_between(alloc, old, new, classes.firsts.as_slice())?;
     let kept = copies(alloc, sides.as_slice())?;
     let vids = vids(alloc)?;
     let groups = groups_by_body(alloc, vids.as_slice(), classes.numbers.as_slice(), sides)?;

@@ -1,15 +1,17 @@
-ghost use Rattle.std.specs.Prelude.{◌≡◌, ◌++◌, ℕ, List, IfOk, OnOk, map};
-ghost use Rattle.std.specs.List.{list_any};
+ghost use Rattle.std.specs.Prelude.{◌≡◌, ◌++◌, ℕ, List, IfOk, OnOk, map, false};
 ghost use Rattle.mst_graph.specs.Islands.{Island as NamedIsland};
 ghost use Rattle.mst_plan_text.specs.trees.Settled.{outcome_of};
 ghost use Rattle.mst_plan_text.specs.vlan.Reach.{AreIslandsOf};
-ghost use Rattle.mst_diff.specs.Reach.{has_any, island_bridges, same_names, without};
-ghost use Rattle.mst_diff.specs.Seen.{apart_group, one_group, seen_groups, seen_sides, AreSidesOf};
+ghost use Rattle.mst_diff.specs.Met.{AreMet};
+ghost use Rattle.mst_diff.specs.Reach.{has_any, island_bridges, no_sides, sides_of as sides_between, without};
+ghost use Rattle.mst_diff.specs.Seen.{apart_group, one_group, seen_groups, seen_sides, with_trees, AreSidesOf};
 
+use crate::carriages::Carriages;
+use indexmap::IndexSet;
+use mst_carried::Carriage;
 use mst_ids::{Name, Vid};
 use mst_lag::View;
 use mst_plan_text::{Island, Settled, bridge_names};
-use mst_vlan::{active_ports, reach_from};
 use std::alloc::{AllocError, Global};
 
 /// The islands of a VID before that aren't there afterwards, and those afterwards that weren't there before, each by its
@@ -58,40 +60,42 @@ fn groups(alloc: Global, view: &View, islands: &[Island]) -> Result<Vec<Vec<Name
     Ok(groups)
 }
 
-/// The bridges of the islands of a VID that have one, by their first bridges.
-fn groups_of(alloc: Global, plan: &Settled, vid: Vid) -> Result<Vec<Vec<Name>>, AllocError>
+/// The bridges of the islands of a VID that have one, by their first bridges, from the table of what carries each VID.
+fn groups_of(
+    alloc: Global,
+    plan: &Settled,
+    carriage: &Carriage,
+    vid: Vid,
+) -> Result<Vec<Vec<Name>>, AllocError>
+    requires { carriage.now ≡ with_trees plan.now }
     ensures { IfOk result (λ groups. (islands : List (NamedIsland (List ℕ) (List ℕ))) × AreIslandsOf plan.now.net (outcome_of plan.now) vid islands × (map (λ group. group.items) groups.items ≡ island_bridges islands)) }
 {
     plan.known();
-    let ports = active_ports(alloc, plan, vid)?;
-    let islands = reach_from(alloc, plan, ports.as_slice(), vid)?;
+    let islands = carriage.islands(alloc, vid)?;
     groups(alloc, plan.view(), islands.as_slice())
 }
 
-/// Whether one of these has these names.
-fn any_is(groups: &[Vec<Name>], group: &[Name]) -> bool
-    ensures { result ≡ list_any (λ other. same_names other.items group.now) groups.now }
+/// These islands, to be found by hash.
+fn met<'a>(alloc: Global, groups: &'a [Vec<Name>]) -> Result<IndexSet<&'a [Name]>, AllocError>
+    ensures { IfOk result (λ met. AreMet (map (λ group. group.items) groups.now) met.keys) }
 {
-    groups.iter().any(|other| other.as_slice() == group)
+    let mut met = IndexSet::new(alloc);
+    for group in groups {
+        met.insert(group.as_slice())?;
+    }
+    Ok(met)
 }
 
-/// Whether an island is among these.
-fn is_among(groups: &[Vec<Name>], group: &[Name]) -> bool
-    ensures { result ≡ list_any (λ other. same_names other group.now) (map (λ group. group.items) groups.now) }
-{
-    any_is(groups, group)
-}
-
-/// Puts an island behind these, unless it is among those of the other network.
+/// Puts an island behind these, unless it is among those that were met.
 fn add_unless(
     alloc: Global,
     group: &[Name],
-    others: &[Vec<Name>],
+    met: &IndexSet<&[Name]>,
     apart: &mut Vec<Vec<Name>>,
 ) -> Result<(), AllocError>
-    ensures { OnOk result (map (λ group. group.items) apart.new.items ≡ map (λ group. group.items) apart.old.items ++ apart_group (map (λ group. group.items) others.now) group.now) }
+    ensures { (others : List (List (List ℕ))) → AreMet others met.now.keys → OnOk result (map (λ group. group.items) apart.new.items ≡ map (λ group. group.items) apart.old.items ++ apart_group others group.now) }
 {
-    if is_among(others, group) {
+    if met.contains(group) {
         return Ok(());
     }
     apart.push(Vec::from_slice(alloc, group)?)?;
@@ -106,34 +110,63 @@ fn apart(
 ) -> Result<Vec<Vec<Name>>, AllocError>
     ensures { IfOk result (λ apart. map (λ group. group.items) apart.items ≡ without (map (λ group. group.items) groups.now) (map (λ group. group.items) others.now)) }
 {
+    let met = met(alloc, others)?;
     let mut apart = Vec::new(alloc);
     for group in groups {
-        add_unless(alloc, group.as_slice(), others, &mut apart)?;
+        add_unless(alloc, group.as_slice(), &met, &mut apart)?;
     }
     Ok(apart)
+}
+
+/// Both sides, where these are the islands before and after: nothing where they are the same.
+fn sides_of(alloc: Global, olds: &[Vec<Name>], news: &[Vec<Name>]) -> Result<Sides, AllocError>
+    ensures { IfOk result (λ sides. seen_sides sides ≡ sides_between (map (λ group. group.items) olds.now) (map (λ group. group.items) news.now)) }
+{
+    if olds == news {
+        return Ok(none(alloc));
+    }
+    let old = apart(alloc, olds, news)?;
+    let new = apart(alloc, news, olds)?;
+    Ok(Sides { old, new })
+}
+
+/// No island on either side.
+fn none(alloc: Global) -> Sides
+    ensures { seen_sides result ≡ no_sides }
+{
+    Sides {
+        old: Vec::new(alloc),
+        new: Vec::new(alloc),
+    }
 }
 
 /// Both sides of a VID: nothing where its islands have the same bridges before and after. `AllocError`: memory was
 /// wanted and refused.
 ///
-/// It makes the islands of the VID in both networks, and looks for each one among all of the other side, of which there
-/// are at most 1,024.
-pub(crate) fn sides_of_vid(
-    alloc: Global,
-    old: &Settled,
-    new: &Settled,
-    vid: Vid,
-) -> Result<Sides, AllocError>
-    ensures { IfOk result (λ sides. AreSidesOf old.now new.now vid (seen_sides sides)) }
+/// It makes the islands of the VID in both networks, and finds each one among those of the other side by hash.
+fn sides_of_vid(alloc: Global, both: &Carriages, vid: Vid) -> Result<Sides, AllocError>
+    ensures { IfOk result (λ sides. AreSidesOf both.now.old.now both.now.new.now vid (seen_sides sides)) }
 {
-    let olds = groups_of(alloc, old, vid)?;
-    let news = groups_of(alloc, new, vid)?;
-    let gone = apart(alloc, olds.as_slice(), news.as_slice())?;
-    let come = apart(alloc, news.as_slice(), olds.as_slice())?;
-    Ok(Sides {
-        old: gone,
-        new: come,
-    })
+    let olds = groups_of(alloc, both.old, both.before, vid)?;
+    let news = groups_of(alloc, both.new, both.after, vid)?;
+    sides_of(alloc, olds.as_slice(), news.as_slice())
+}
+
+/// Both sides of a VID, where it is known of some VIDs that there is nothing on either. `AllocError`: memory was wanted
+/// and refused.
+pub(crate) fn sides_unless(
+    alloc: Global,
+    both: &Carriages,
+    vid: Vid,
+    may_differ: bool,
+) -> Result<Sides, AllocError>
+    requires { may_differ ≡ false → AreSidesOf both.now.old.now both.now.new.now vid no_sides }
+    ensures { IfOk result (λ sides. AreSidesOf both.now.old.now both.now.new.now vid (seen_sides sides)) }
+{
+    if may_differ {
+        return sides_of_vid(alloc, both, vid);
+    }
+    Ok(none(alloc))
 }
 
 /// A copy of these islands.

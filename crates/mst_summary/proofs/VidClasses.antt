@@ -119,7 +119,7 @@ any_changed : {A B : Type 0} (f : A → B) (xs : List A) → has_any (map f xs) 
 any_changed f [] = refl
 any_changed f (x ∷ xs) = refl
 
-each_is : {A : Type 0} (P : A → Type 0) → ((x : A) → P x) → (xs : List A) → AllByRecursion P xs
+pub each_is : {A : Type 0} (P : A → Type 0) → ((x : A) → P x) → (xs : List A) → AllByRecursion P xs
 each_is P f [] = tt
 each_is P f (x ∷ xs) = (f x, each_is P f xs)
 

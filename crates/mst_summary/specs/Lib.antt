@@ -15,5 +15,7 @@ pub mod Blocked
 pub mod Vlans
 pub mod Carries
 pub mod SummaryText
+pub mod Grouped
+pub mod Places
 pub mod Seen
 pub mod Kept

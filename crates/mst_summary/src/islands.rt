@@ -1,6 +1,7 @@
 ghost use Rattle.std.specs.Prelude.{◌≡◌, ◌++◌, ◌∷◌, [], ◌+◌, ◌<◌, List, IfOk, OnOk, length, map, vec_len};
 ghost use Rattle.std.specs.List.{All, AllZip, flat_map};
 ghost use Rattle.mst_rows.specs.Rows.{Row};
+ghost use Rattle.mst_diff.specs.Seen.{with_trees};
 ghost use Rattle.mst_diff.specs.trees.Settled.{outcome_of};
 ghost use Rattle.mst_diff.specs.plan_text.Bodies.{NumberEach};
 ghost use Rattle.mst_classes.specs.Classes.{AreClasses};
@@ -8,12 +9,13 @@ ghost use Rattle.mst_summary.specs.Kept.{count_at};
 ghost use Rattle.mst_summary.specs.Seen.{seen_with_bridge};
 ghost use Rattle.mst_summary.specs.Vlans.{HasIslands, islands_row, group_rows, AreVlanRows};
 
+use mst_carried::Carriage;
 use mst_diff::{Settled, has_bridge, set_of, vids};
 use mst_graph::{Numbering, groups_by_body};
 use mst_ids::Vid;
 use mst_kinds::{Kind, SummaryLine};
 use mst_rows::{Rows, Value, put};
-use mst_vlan::{Island, active_ports, reach_from};
+use mst_vlan::Island;
 use std::alloc::{AllocError, Global};
 
 /// How many of these islands have a bridge.
@@ -23,25 +25,37 @@ fn with_bridge(islands: &[Island]) -> u64
     islands.iter().filter(|island| has_bridge(island)).count() as u64
 }
 
-/// How many islands with a bridge a VID has.
-fn islands_of(alloc: Global, plan: &Settled, vid: Vid) -> Result<u64, AllocError>
+/// How many islands with a bridge a VID has, from the table of what carries each VID.
+fn islands_of(
+    alloc: Global,
+    plan: &Settled,
+    carriage: &Carriage,
+    vid: Vid,
+) -> Result<u64, AllocError>
+    requires { carriage.now ≡ with_trees plan.now }
     ensures { IfOk result (HasIslands plan.now.net (outcome_of plan.now) vid) }
 {
-    let active = active_ports(alloc, plan, vid)?;
-    let islands = reach_from(alloc, plan, active.as_slice(), vid)?;
+    plan.known();
+    let islands = carriage.islands(alloc, vid)?;
     Ok(with_bridge(islands.as_slice()))
 }
 
 /// How many the VIDs at these places have, which are counted from 0.
-fn counts_at(alloc: Global, plan: &Settled, places: &[usize]) -> Result<Vec<u64>, AllocError>
-    requires { All (λ place. place < 4094) places.now }
+fn counts_at(
+    alloc: Global,
+    plan: &Settled,
+    carriage: &Carriage,
+    places: &[usize],
+) -> Result<Vec<u64>, AllocError>
+    requires carriage { carriage.now ≡ with_trees plan.now }
+    requires places { All (λ place. place < 4094) places.now }
     ensures as_long { IfOk result (λ counts. vec_len counts ≡ length places.now) }
     ensures counts { IfOk result (λ counts. AllZip (λ place count. HasIslands plan.now.net (outcome_of plan.now) (place + 1) count) places.now counts.items) }
 {
     let mut counts = Vec::new(alloc);
     for place in places {
         let vid = Vid::new(*place as u64 + 1).unwrap();
-        counts.push(islands_of(alloc, plan, vid)?)?;
+        counts.push(islands_of(alloc, plan, carriage, vid)?)?;
     }
     Ok(counts)
 }
@@ -94,15 +108,17 @@ fn put_groups<R: Rows>(
 pub(crate) fn put_vlans<R: Rows>(
     alloc: Global,
     plan: &Settled,
+    carriage: &Carriage,
     classes: &Numbering,
     out: &mut R,
 ) -> Result<(), AllocError>
-    requires { AreClasses plan.now.view classes.now }
+    requires carriage { carriage.now ≡ with_trees plan.now }
+    requires classes { AreClasses plan.now.view classes.now }
     ensures { (first : R) (rows : List Row) → R.grew first out.old rows
         → OnOk result ((own : List Row) × AreVlanRows plan.now.net (outcome_of plan.now) own × R.grew first out.new (rows ++ own)) }
 {
     plan.known();
-    let counts = counts_at(alloc, plan, classes.firsts.as_slice())?;
+    let counts = counts_at(alloc, plan, carriage, classes.firsts.as_slice())?;
     let kept = Vec::from_slice(alloc, counts.as_slice())?;
     let vids = vids(alloc)?;
     let groups = groups_by_body(alloc, vids.as_slice(), classes.numbers.as_slice(), counts)?;

@@ -5,6 +5,8 @@
 mod blocked;
 mod carries;
 mod counts;
+mod crossing;
+mod grouped;
 mod in_use;
 mod islands;
 mod joining;
@@ -12,6 +14,7 @@ mod kept;
 pub mod laws;
 mod looked_up;
 mod over;
+mod places;
 mod roots;
 mod summary;
 

@@ -1,13 +1,17 @@
-ghost use Rattle.std.specs.Prelude.{◌≡◌, ◌==◌, ◌++◌, ◌∷◌, [], List, Some, None, not, filter, length, IfOk, OnOk};
+ghost use Rattle.std.specs.Prelude.{◌≡◌, ◌==◌, ◌++◌, ◌∷◌, [], ℕ, List, Some, None, nat_eq, not, filter, length, IfOk, OnOk};
 ghost use Rattle.std.specs.List.{Contains, flat_map};
 ghost use Rattle.mst_lag.specs.Viewed.{named_bridge};
 ghost use Rattle.mst_rows.specs.Rows.{Row};
 ghost use Rattle.mst_diff.specs.net.ByTree.{by_tree};
 ghost use Rattle.mst_diff.specs.Reach.{has_any};
 ghost use Rattle.mst_diff.specs.trees.Settled.{outcome_of};
+ghost use Rattle.mst_summary.specs.declared.roots.Follower.{Follower as FollowerIn};
+ghost use Rattle.mst_summary.specs.Grouped.{group_at};
 ghost use Rattle.mst_summary.specs.Roots.{follower as follower_of, followers as followers_in, followers_of as those_of, with_lesser, least as least_of, next_of, priority_of, root_row, group_rows};
 ghost use Rattle.mst_summary.specs.Seen.{seen_root};
 
+use crate::grouped::{add, group_for};
+use indexmap::IndexMap;
 use mst_diff::{Settled, bridge_id, root_of};
 use mst_ids::{BridgeId, Name, Tree};
 use mst_kinds::{Kind, SummaryLine};
@@ -49,19 +53,18 @@ fn push_followers(
     followers.extend(bridges.filter_map(|bridge| as_follower(plan, tree, bridge)))
 }
 
-/// Those that name the root of this identifier.
-fn followers_of(
+/// These by the identifiers of their roots.
+fn by_root(
     alloc: Global,
-    id: BridgeId,
     followers: &[Follower],
-) -> Result<Vec<Follower>, AllocError>
-    ensures { IfOk result (λ group. group.items ≡ those_of id followers.now) }
+) -> Result<IndexMap<u64, Vec<Follower>>, AllocError>
+    ensures { IfOk result (λ groups. (id : ℕ) → group_at nat_eq groups id ≡ those_of id followers.now) }
 {
-    followers
-        .iter()
-        .filter(|follower| follower.root == id)
-        .copied()
-        .collect(alloc)
+    let mut groups = IndexMap::new(alloc);
+    for follower in followers {
+        add(alloc, follower.root.number(), *follower, &mut groups)?;
+    }
+    Ok(groups)
 }
 
 /// Those that haven't this identifier themselves.
@@ -205,20 +208,21 @@ fn put_group<R: Rows>(
     put_root(plan, tree, name, group.len() as u64, next, out)
 }
 
-/// Puts the row of a bridge, if it is the root of one of these.
+/// Puts the row of a bridge, if it is the root of one of these, which are grouped by their roots.
 fn put_bridge<R: Rows>(
     alloc: Global,
     plan: &Settled,
     tree: Tree,
-    followers: &[Follower],
+    groups: &IndexMap<u64, Vec<Follower>>,
     bridge: &BridgeInView,
     out: &mut R,
 ) -> Result<(), AllocError>
-    ensures { (first : R) (rows : List Row) → R.grew first out.old rows → OnOk result (R.grew first out.new (rows ++ seen_root plan.now tree followers.now bridge.now)) }
+    ensures { (followers : List FollowerIn) → ((id : ℕ) → group_at nat_eq groups.now id ≡ those_of id followers)
+        → (first : R) (rows : List Row) → R.grew first out.old rows → OnOk result (R.grew first out.new (rows ++ seen_root plan.now tree followers bridge.now)) }
 {
     let id = bridge_id(plan.settings(), tree, bridge);
-    let group = followers_of(alloc, id, followers)?;
-    put_group(alloc, plan, tree, &bridge.name, id, group.as_slice(), out)
+    let group = group_for(groups, &id.number());
+    put_group(alloc, plan, tree, &bridge.name, id, group, out)
 }
 
 /// Puts the rows of the bridges that are the root of one of these.
@@ -231,8 +235,9 @@ fn put_each<R: Rows>(
 ) -> Result<(), AllocError>
     ensures { (first : R) (rows : List Row) → R.grew first out.old rows → OnOk result (R.grew first out.new (rows ++ flat_map (seen_root plan.now tree followers.now) plan.now.view.bridges)) }
 {
+    let groups = by_root(alloc, followers)?;
     for bridge in plan.view().bridges() {
-        put_bridge(alloc, plan, tree, followers, bridge, out)?;
+        put_bridge(alloc, plan, tree, &groups, bridge, out)?;
     }
     Ok(())
 }
@@ -240,7 +245,7 @@ fn put_each<R: Rows>(
 /// Puts the rows of the roots in a tree, in an MSTI of the regional roots, by name: the priority of each, how many
 /// bridges name it, and which of these has the next least identifier.
 ///
-/// It goes over the bridges that have the tree once for each bridge.
+/// It goes over the bridges that have the tree once to group them by their roots, and once more over each group.
 pub(crate) fn put_roots<R: Rows>(
     alloc: Global,
     plan: &Settled,

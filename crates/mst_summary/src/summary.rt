@@ -12,6 +12,7 @@ use crate::counts::{count, put_counts};
 use crate::in_use::used_trees;
 use crate::islands::put_vlans;
 use crate::roots::put_roots;
+use mst_carried::Carriage;
 use mst_classes::classes_of_vids;
 use mst_config::Regions;
 use mst_diff::Settled;
@@ -54,7 +55,7 @@ fn put_trees<R: Rows>(
 /// refused; some of the rows may have been put.
 ///
 /// It goes over the ports once for each tree and once for each class of VIDs, which no table and no set of VLANs tells
-/// apart, and makes islands once for each class.
+/// apart, and makes islands once for each class, by a table of what carries each VID.
 pub fn put_summary<R: Rows>(
     alloc: Global,
     plan: &Settled,
@@ -72,7 +73,8 @@ pub fn put_summary<R: Rows>(
     put_counts(&counts, out)?;
     put_trees(alloc, plan, trees.as_slice(), out)?;
     let numbering = classes_of_vids(alloc, view)?;
-    put_vlans(alloc, plan, &numbering, out)?;
-    put_carries(alloc, plan, &numbering, out)?;
+    let carriage = Carriage::new(alloc, view, plan.forest())?;
+    put_vlans(alloc, plan, &carriage, &numbering, out)?;
+    put_carries(alloc, plan, &carriage, &numbering, out)?;
     put_slips(alloc, view, regions, out)
 }

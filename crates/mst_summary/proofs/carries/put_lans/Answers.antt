@@ -9,7 +9,7 @@ use Rattle.mst_summary.proofs.carries.put_lans.Goals.{then-are_all+in_ok-push, e
 
 pub loop-lan-preserved : goal.loop-lan-preserved
 loop-lan-preserved g c =
-    let s = c.args.plan.now in
+    let s = c.args.kept.now.plan.now in
     let lans : List (List ℕ) = c.args.lans.now in
     let i : ℕ = c.loop-lan.lan-index in
     let lan : List ℕ = c.lan-item.result in
@@ -38,5 +38,5 @@ loop-lan-preserved g c =
 
 pub returns-clause-rows : goal.returns-clause-rows
 returns-clause-rows g c first rows grew =
-    let s = c.args.plan.now in
+    let s = c.args.kept.now.plan.now in
     rows_all (g.R.Rows.grew first c.loop-lan.out) (λ lan. carries_rows lan (carried s.net (outcome_of s) lan)) c.args.lans.now c.loop-lan.lan-index rows c.loop-lan-test.false (c.loop-lan.invariant.rows first rows grew)

@@ -1,9 +1,21 @@
-use Rattle.std.proofs.Common.{ap, ◌∙◌}
+use Rattle.std.proofs.Common.{ap, subst, ◌∙◌}
+use Rattle.mst_diff.specs.net.Tables.{Net, Numbers}
+use Rattle.mst_diff.specs.trees.Agrees.{AreOf}
+use Rattle.mst_diff.specs.trees.Forest.{IsForest}
+use Rattle.mst_diff.specs.trees.Settled.{outcome_of}
+use Rattle.mst_diff.proofs.trees_lemmas.SettledNet.{forest_of}
+use Rattle.mst_vlan.specs.Reach.{AreReached}
+use Rattle.mst_carried.specs.Carried.{ViewWithTrees}
 use Rattle.mst_summary.specs.Seen.{seen_with_bridge}
 use Rattle.mst_summary.proofs.VidClasses.{islands_counted}
 use Rattle.mst_summary.proofs.islands.islands_of.Goals as goal
 
 pub returns : goal.returns
 returns c =
-    let r = c.in_ok-islands.ensures in
-    (r.named, r.are_islands, c.with_bridge.ensures ∙ ap seen_with_bridge c.as_slice-2.ensures.value ∙ islands_counted c.args.plan.now.numbers c.in_ok-islands.islands.items r.named r.bridges)
+    let s = c.args.plan.now in
+    let is = c.known.ensures in
+    let all = c.in_ok-islands.islands.items in
+    let reached =
+    subst (λ (w : ViewWithTrees). (net : Net) (numbers : Numbers) (f : IsForest net numbers w.forest) → AreOf net numbers w.view w.forest.regions → AreReached net numbers f.outcome c.args.vid all) c.requires c.in_ok-islands.ensures in
+    let r : AreReached s.net s.numbers (outcome_of s) c.args.vid all = reached s.net s.numbers (forest_of s is) is.of in
+    (r.named, r.are_islands, c.with_bridge.ensures ∙ ap seen_with_bridge c.as_slice.ensures.value ∙ islands_counted s.numbers all r.named r.bridges)

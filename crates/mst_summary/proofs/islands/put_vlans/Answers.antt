@@ -13,16 +13,16 @@ use Rattle.mst_summary.proofs.islands.put_vlans.Goals as goal
 
 pub groups_by_body-requires-clause-as_long : goal.groups_by_body-requires-clause-as_long
 groups_by_body-requires-clause-as_long g c =
-    ap length c.as_slice-4.ensures.value ∙ c.requires.classes.as_long ∙ c.requires.tell.as_long ∙ sym (ap length (c.as_slice-3.ensures.value ∙ c.in_ok-vids.ensures) ∙ vids_long)
+    ap length c.as_slice-4.ensures.value ∙ c.requires.classes.classes.as_long ∙ c.requires.classes.tell.as_long ∙ sym (ap length (c.as_slice-3.ensures.value ∙ c.in_ok-vids.ensures) ∙ vids_long)
 
 pub groups_by_body-requires-clause-below : goal.groups_by_body-requires-clause-below
 groups_by_body-requires-clause-below g c =
-    let k = c.requires in
+    let k = c.requires.classes in
     each_below k.numbers c.args.classes.now.numbers.items c.args.classes.now.firsts.items _ k.classes (c.in_ok-counts.ensures.as_long ∙ ap length c.as_slice.ensures.value) c.as_slice-4.result.now c.as_slice-4.ensures.value
 
 pub put_groups-requires : goal.put_groups-requires
 put_groups-requires g c =
-    let k = c.requires in
+    let k = c.requires.classes in
     let firsts : List ℕ = c.args.classes.now.firsts.items in
     let long : length c.as_slice-7.result.now ≡ length firsts =
     ap length (c.as_slice-7.ensures.value ∙ c.in_ok-kept.ensures.items) ∙ c.as_slice-2.ensures.len ∙ c.in_ok-counts.ensures.as_long ∙ ap length c.as_slice.ensures.value in
@@ -32,7 +32,7 @@ put_groups-requires g c =
 pub returns : goal.returns
 returns g c first rows grew =
     let s = c.args.plan.now in
-    let k = c.requires in
+    let k = c.requires.classes in
     let cs = c.args.classes.now in
     let classes : List ℕ = cs.numbers.items in
     let firsts : List ℕ = cs.firsts.items in

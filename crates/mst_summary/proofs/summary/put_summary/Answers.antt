@@ -9,6 +9,7 @@ use Rattle.mst_summary.specs.Carries.{all_carries, full_carries}
 use Rattle.mst_summary.specs.Counts.{counts_of, counts_row}
 use Rattle.mst_summary.specs.Seen.{seen_tree_rows, seen_counts, seen_trees}
 use Rattle.mst_summary.specs.SummaryText.{all_trees_rows}
+use Rattle.mst_diff.proofs.trees_lemmas.SettledNet.{known_of}
 use Rattle.mst_summary.proofs.Named.{counts_named, tree_rows_named}
 use Rattle.mst_summary.proofs.summary.put_summary.Goals as goal
 
@@ -16,6 +17,9 @@ use Rattle.mst_summary.proofs.summary.put_summary.Goals as goal
 regrouped : (rows : List Row) (counts : Row) (trees vlans carried full slips : List Row)
     → (((((rows ++ counts ∷ []) ++ trees) ++ vlans) ++ carried) ++ full) ++ slips ≡ rows ++ (((((counts ∷ trees) ++ vlans) ++ carried) ++ full) ++ slips)
 regrouped rows counts trees vlans carried full slips = simp append_assoc
+
+pub new-requires : goal.new-requires
+new-requires g c = known_of c.args.plan.now c.known.ensures c.view-view.result.now c.forest.result.now c.view-view.ensures c.forest.ensures
 
 pub returns : goal.returns
 returns g c first rows grew =
