@@ -1,5 +1,6 @@
 pub mod OnNamed
 pub mod Carried
+pub mod CarryAlike
 pub mod Users
 pub mod PortsByName
 pub mod PortsOfBoth

@@ -21,6 +21,10 @@ use Rattle.mst_steps.specs.declared.ports.BothPorts.{BothPorts}
 abbrev pub seen_link_of : PortInView → Link
 seen_link_of p = record { port = p.name; lan = p.lan }
 
+-- of a port and its logical LAN, by name
+abbrev pub link_by : PortName × List ℕ → Link
+link_by names = record { port = names.0; lan = names.1 }
+
 abbrev pub seen_carried : Viewed → Forest → ℕ → List Link
 seen_carried v f vid = map seen_link_of (filter (seen_member v vid) (seen_active v f vid))
 

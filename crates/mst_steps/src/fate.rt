@@ -1,5 +1,5 @@
-ghost use Rattle.std.specs.Prelude.{◌≡◌, ◌||◌, map, IfOk};
-ghost use Rattle.mst_diff.specs.trees.Agrees.{Known};
+ghost use Rattle.std.specs.Prelude.{◌≡◌, ◌||◌, false, map, IfOk};
+ghost use Rattle.mst_carried.specs.Carried.{CarryAlike};
 ghost use Rattle.mst_diff.specs.Reach.{has_any};
 ghost use Rattle.mst_sweep.specs.Between.{OfNetworks};
 ghost use Rattle.mst_sweep.specs.Cuts.{names_of};
@@ -12,7 +12,7 @@ use crate::links::{Link, are_same, between, carried};
 use crate::parts::{is_any, parts};
 use mst_diff::vlan_laws::islands_of_vid;
 use mst_ids::{Name, Vid};
-use mst_sweep::homes_of;
+use mst_sweep::homes_by;
 use std::alloc::{AllocError, Global};
 
 /// What becomes of a VID: the parts that it is cut into, whether it is joined, and whether it moves.
@@ -52,16 +52,14 @@ fn fate_by(
     afterwards: &[Link],
     vid: Vid,
 ) -> Result<Fate, AllocError>
-    requires old { Known change.now.old.now.view.now change.now.old.now.forest.now.regions }
-    requires new { Known change.now.new.now.view.now change.now.new.now.forest.now.regions }
     requires before { before.now ≡ seen_carried change.now.old.now.view.now change.now.old.now.forest.now vid }
     requires afterwards { afterwards.now ≡ seen_carried change.now.new.now.view.now change.now.new.now.forest.now vid }
     ensures parts { IfOk result (λ fate. OfNetworks change.now.old.now change.now.new.now (λ a before b afterwards. AreParts a before b afterwards vid (names_of fate.parts))) }
     ensures joins { IfOk result (λ fate. OfNetworks change.now.old.now change.now.new.now (λ a before b afterwards. IsJoined a before b afterwards vid fate.joins)) }
     ensures moves { IfOk result (λ fate. OfNetworks change.now.old.now change.now.new.now (λ a before b afterwards. IsMoved a before b afterwards vid fate.moves)) }
 {
-    let olds = homes_of(alloc, change.old, vid)?;
-    let news = homes_of(alloc, change.new, vid)?;
+    let olds = homes_by(alloc, change.before, vid)?;
+    let news = homes_by(alloc, change.afterwards, vid)?;
     let apart = parts(
         alloc,
         change.old,
@@ -90,24 +88,28 @@ fn fate_by(
     })
 }
 
-/// What becomes of a VID. Where the same active ports are members on the same LANs before and afterwards, no islands are made.
-/// `AllocError`: memory was wanted and refused.
-pub(crate) fn fate_of(alloc: Global, change: &Change, vid: Vid) -> Result<Fate, AllocError>
-    requires old { Known change.now.old.now.view.now change.now.old.now.forest.now.regions }
-    requires new { Known change.now.new.now.view.now change.now.new.now.forest.now.regions }
+/// What becomes of a VID. Where the same ports carry it on the same LANs before and afterwards, no islands are made. `AllocError`:
+/// memory was wanted and refused.
+pub(crate) fn fate_of(
+    alloc: Global,
+    change: &Change,
+    vid: Vid,
+    differs: bool,
+) -> Result<Fate, AllocError>
+    requires { differs ≡ false → CarryAlike change.now.before.now change.now.afterwards.now vid }
     ensures parts { IfOk result (λ fate. OfNetworks change.now.old.now change.now.new.now (λ a before b afterwards. AreParts a before b afterwards vid (names_of fate.parts))) }
     ensures joins { IfOk result (λ fate. OfNetworks change.now.old.now change.now.new.now (λ a before b afterwards. IsJoined a before b afterwards vid fate.joins)) }
     ensures moves { IfOk result (λ fate. OfNetworks change.now.old.now change.now.new.now (λ a before b afterwards. IsMoved a before b afterwards vid fate.moves)) }
 {
     islands_of_vid();
-    let before = carried(alloc, change.old, vid)?;
-    let afterwards = carried(alloc, change.new, vid)?;
-    if are_same(before.as_slice(), afterwards.as_slice()) {
+    if !differs {
         return Ok(Fate {
             parts: Vec::new(alloc),
             joins: false,
             moves: false,
         });
     }
+    let before = carried(alloc, change.before, vid)?;
+    let afterwards = carried(alloc, change.afterwards, vid)?;
     fate_by(alloc, change, before.as_slice(), afterwards.as_slice(), vid)
 }

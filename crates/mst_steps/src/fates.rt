@@ -1,6 +1,5 @@
 ghost use Rattle.std.specs.Prelude.{◌≡◌, ◌<◌, ◌+◌, IfOk, length, map, vec_len};
 ghost use Rattle.std.specs.List.{All, AllZip};
-ghost use Rattle.mst_diff.specs.trees.Agrees.{Known};
 ghost use Rattle.mst_diff.specs.Reach.{has_any};
 ghost use Rattle.mst_sweep.specs.Between.{OfNetworks};
 ghost use Rattle.mst_sweep.specs.Cuts.{names_of};
@@ -9,6 +8,7 @@ ghost use Rattle.mst_steps.specs.MovedVids.{IsJoined, IsMoved};
 
 use crate::change::Change;
 use crate::fate::fate_of;
+use mst_carried::differing;
 use mst_ids::{Name, Vid};
 use std::alloc::{AllocError, Global};
 
@@ -26,9 +26,7 @@ pub(crate) fn fates_at(
     change: &Change,
     places: &[usize],
 ) -> Result<Fates, AllocError>
-    requires old { Known change.now.old.now.view.now change.now.old.now.forest.now.regions }
-    requires new { Known change.now.new.now.view.now change.now.new.now.forest.now.regions }
-    requires vids { All (λ place. place < 4094) places.now }
+    requires { All (λ place. place < 4094) places.now }
     ensures as_long { IfOk result (λ fates. (vec_len fates.parts ≡ length places.now) × (vec_len fates.joins ≡ length places.now) × (vec_len fates.moves ≡ length places.now)) }
     ensures parts { IfOk result (λ fates. OfNetworks change.now.old.now change.now.new.now (λ a before b afterwards.
         AllZip (λ place parts. AreParts a before b afterwards (place + 1) parts) places.now (map names_of fates.parts.items))) }
@@ -37,12 +35,13 @@ pub(crate) fn fates_at(
     ensures moves { IfOk result (λ fates. OfNetworks change.now.old.now change.now.new.now (λ a before b afterwards.
         AllZip (λ place moves. IsMoved a before b afterwards (place + 1) moves) places.now fates.moves.items)) }
 {
+    let differing = differing(alloc, change.before, change.afterwards, places)?;
     let mut parts = Vec::new(alloc);
     let mut joins = Vec::new(alloc);
     let mut moves = Vec::new(alloc);
-    for place in places {
-        let vid = Vid::new(*place as u64 + 1).unwrap();
-        let of = fate_of(alloc, change, vid)?;
+    for index in 0..places.len() {
+        let vid = Vid::new(places[index] as u64 + 1).unwrap();
+        let of = fate_of(alloc, change, vid, differing[index])?;
         parts.push(of.parts)?;
         joins.push(of.joins)?;
         moves.push(of.moves)?;

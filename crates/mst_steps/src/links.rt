@@ -3,11 +3,11 @@ ghost use Rattle.std.specs.HashSet.{contains};
 ghost use Rattle.std.specs.List.{list_any};
 ghost use Rattle.mst_lag.specs.Aggregation.{same_name};
 ghost use Rattle.mst_steps.specs.Links.{same_links, shared as shared_of, staying as staying_of};
-ghost use Rattle.mst_steps.specs.Seen.{seen_carried, seen_stays, is_other as is_other_by, AreUsers};
+ghost use Rattle.mst_steps.specs.Seen.{link_by, seen_carried, seen_stays, is_other as is_other_by, AreUsers};
 
 use crate::change::{Change, stays};
 use indexmap::{IndexMap, IndexSet};
-use mst_diff::{Planned, is_member, port_forwards};
+use mst_carried::Carriage;
 use mst_ids::{Name, PortName, Vid};
 use std::alloc::{AllocError, Global};
 
@@ -18,20 +18,25 @@ pub struct Link {
     pub lan: Name,
 }
 
-/// What carries a VID: its active ports that are members. `AllocError`: memory was wanted and refused.
-pub(crate) fn carried(alloc: Global, plan: &Planned, vid: Vid) -> Result<Vec<Link>, AllocError>
-    ensures { IfOk result (λ links. links.items ≡ seen_carried plan.now.view.now plan.now.forest.now vid) }
+/// The links of these ports, each with its logical LAN.
+fn links_by(alloc: Global, carried: &[(PortName, Name)]) -> Result<Vec<Link>, AllocError>
+    ensures { IfOk result (λ links. links.items ≡ map link_by carried.now) }
 {
-    plan.view
-        .ports()
+    carried
         .iter()
-        .filter(|port| port_forwards(plan.view, plan.forest, port, vid))
-        .filter(|port| is_member(plan.view, port, vid))
-        .map(|port| Link {
-            port: port.name,
-            lan: port.lan,
+        .map(|names| Link {
+            port: names.0,
+            lan: names.1,
         })
         .collect(alloc)
+}
+
+/// What carries a VID: its active ports that are members. `AllocError`: memory was wanted and refused.
+pub(crate) fn carried(alloc: Global, carriage: &Carriage, vid: Vid) -> Result<Vec<Link>, AllocError>
+    ensures { IfOk result (λ links. links.items ≡ seen_carried carriage.now.view carriage.now.forest vid) }
+{
+    let carried = carriage.carried(alloc, vid)?;
+    links_by(alloc, carried.as_slice())
 }
 
 /// Whether two lists of links are the same.

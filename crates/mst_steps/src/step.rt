@@ -17,6 +17,7 @@ use crate::fates::are_some;
 use crate::on::bridges_on;
 use crate::ports::{moved_ports, ports_of_both};
 use crate::told::{Told, told_of};
+use mst_carried::Carriage;
 use mst_diff::{Both, Planned, bridges_of_both, set_of};
 use mst_ids::{Tree, VidSet, push_bytes, push_decimal};
 use mst_kinds::{AdviseLine, Kind, StepLine};
@@ -211,12 +212,16 @@ fn told_between(
     ensures joined { IfOk result (λ told. OfNetworks old.now new.now (λ a before b afterwards. AreVidsWhere (IsJoined a before b afterwards) told.joined.items)) }
     ensures moved { IfOk result (λ told. OfNetworks old.now new.now (λ a before b afterwards. AreVidsWhere (IsMoved a before b afterwards) told.moved.items)) }
 {
+    let before = Carriage::new(alloc, old.view, old.forest)?;
+    let afterwards = Carriage::new(alloc, new.view, new.forest)?;
     let turned = bridges_of_both(alloc, new.view, old.view)?;
     let old_on = bridges_on(alloc, old.view)?;
     let new_on = bridges_on(alloc, new.view)?;
     let change = Change {
         old,
         new,
+        before: &before,
+        afterwards: &afterwards,
         both,
         turned: turned.as_slice(),
         old_on: &old_on,

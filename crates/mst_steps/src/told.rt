@@ -1,5 +1,4 @@
 ghost use Rattle.std.specs.Prelude.{◌≡◌, ◌∷◌, ℕ, IfOk, vec_len};
-ghost use Rattle.mst_diff.specs.trees.Agrees.{Known};
 ghost use Rattle.mst_diff.specs.plan_text.Bodies.{NumberEach};
 ghost use Rattle.mst_sweep.specs.Between.{OfNetworks};
 ghost use Rattle.mst_sweep.specs.declared.cuts.CutBy.{CutBy as CutByOf};
@@ -29,8 +28,6 @@ pub(crate) struct Told {
 ///
 /// It looks once at what carries each class of VIDs that nothing tells apart in either network, and makes islands where that isn't the same.
 pub(crate) fn told_of(alloc: Global, change: &Change) -> Result<Told, AllocError>
-    requires old { Known change.now.old.now.view.now change.now.old.now.forest.now.regions }
-    requires new { Known change.now.new.now.view.now change.now.new.now.forest.now.regions }
     ensures numbered { IfOk result (λ told. NumberEach told.classes.numbers.items (vec_len told.cuts.parts)) }
     ensures cut { IfOk result (λ told. OfNetworks change.now.old.now change.now.new.now (λ a before b afterwards.
         (by : CutByOf) → AreCutsBy (AreParts a before b afterwards) by told.cuts.vids.items (rows_of by told.classes.numbers.items told.cuts))) }

@@ -1,4 +1,5 @@
 pub mod HomesNamed
+pub mod HomesOf
 pub mod AllFailures
 pub mod Failed
 pub mod Moved

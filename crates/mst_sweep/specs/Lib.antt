@@ -13,3 +13,4 @@ pub mod Seen
 pub mod Baseline
 pub mod Apart
 pub mod Touched
+pub mod Breaking

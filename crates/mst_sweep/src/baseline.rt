@@ -5,11 +5,12 @@ ghost use Rattle.mst_diff.specs.trees.Agrees.{AreOf, Known};
 ghost use Rattle.mst_diff.specs.trees.Forest.{IsForest};
 ghost use Rattle.mst_sweep.specs.Baseline.{AreHomes, IsBaseline};
 
-use crate::homes::homes_of;
+use crate::homes::homes_by;
 use indexmap::IndexMap;
-use mst_classes::{numbers_of_vids, tables, vlan_sets};
+use mst_carried::Carriage;
+use mst_classes::classes_of_vids;
 use mst_diff::Planned;
-use mst_graph::{Numbering, number_keys};
+use mst_graph::Numbering;
 use mst_ids::{BridgeNo, Vid};
 use std::alloc::{AllocError, Global};
 
@@ -24,19 +25,18 @@ pub struct Baseline {
 /// The places of islands of the VIDs at these places, which are counted from 0.
 fn homes_at(
     alloc: Global,
-    plan: &Planned,
+    carriage: &Carriage,
     places: &[usize],
 ) -> Result<Vec<IndexMap<BridgeNo, usize>>, AllocError>
-    requires known { Known plan.now.view.now plan.now.forest.now.regions }
-    requires vids { All (λ place. place < 4094) places.now }
+    requires { All (λ place. place < 4094) places.now }
     ensures as_long { IfOk result (λ homes. vec_len homes ≡ length places.now) }
-    ensures homes { IfOk result (λ homes. (net : Net) (k : Numbers) (is : IsForest net k plan.now.forest.now) → AreOf net k plan.now.view.now plan.now.forest.now.regions
+    ensures homes { IfOk result (λ homes. (net : Net) (k : Numbers) (is : IsForest net k carriage.now.forest) → AreOf net k carriage.now.view carriage.now.forest.regions
         → AllZip (λ place homes. AreHomes net k is.outcome (place + 1) homes) places.now (map (λ h. h.entries) homes.items)) }
 {
     let mut homes = Vec::new(alloc);
     for place in places {
         let vid = Vid::new(*place as u64 + 1).unwrap();
-        homes.push(homes_of(alloc, plan, vid)?)?;
+        homes.push(homes_by(alloc, carriage, vid)?)?;
     }
     Ok(homes)
 }
@@ -49,11 +49,9 @@ impl Baseline {
         requires { Known plan.now.view.now plan.now.forest.now.regions }
         ensures { IfOk result (IsBaseline plan.now.view.now plan.now.forest.now) }
     {
-        let tables = tables(alloc, plan.view)?;
-        let sets = vlan_sets(alloc, plan.view)?;
-        let numbers = numbers_of_vids(alloc, tables.as_slice(), sets.as_slice())?;
-        let classes = number_keys(alloc, numbers)?;
-        let homes = homes_at(alloc, plan, classes.firsts.as_slice())?;
+        let classes = classes_of_vids(alloc, plan.view)?;
+        let carriage = Carriage::new(alloc, plan.view, plan.forest)?;
+        let homes = homes_at(alloc, &carriage, classes.firsts.as_slice())?;
         Ok(Baseline { classes, homes })
     }
 }

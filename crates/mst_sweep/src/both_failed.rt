@@ -1,5 +1,6 @@
-ghost use Rattle.std.specs.Prelude.{◌≡◌, ◌++◌, ◌<◌, ◌||◌, false, List, [], IfOk, OnOk, length, map, slice_index, slice_index_or, vec_len, ◌+◌, ◌∷◌};
+ghost use Rattle.std.specs.Prelude.{◌≡◌, ◌++◌, ◌<◌, ◌||◌, ℕ, false, true, List, [], IfOk, OnOk, length, map, slice_index, slice_index_or, vec_len, ◌+◌, ◌∷◌};
 ghost use Rattle.std.specs.Bool.{MatchBool};
+ghost use Rattle.std.specs.Option.{ForSome, option_copied};
 ghost use Rattle.mst_ids.specs.Vids.{runs_from};
 ghost use Rattle.mst_rows.specs.Rows.{Row};
 ghost use Rattle.mst_diff.specs.trees.Agrees.{Known};
@@ -8,6 +9,7 @@ ghost use Rattle.mst_diff.specs.Reach.{has_any};
 ghost use Rattle.mst_diff.specs.Seen.{seen_both};
 ghost use Rattle.mst_sweep.specs.Between.{OfNetworks, OfPair, pair_of};
 ghost use Rattle.mst_sweep.specs.Baseline.{IsBaseline};
+ghost use Rattle.mst_sweep.specs.Breaking.{HasNoParts, IsCarriageOf};
 ghost use Rattle.mst_sweep.specs.Parts.{AreParts};
 ghost use Rattle.mst_sweep.specs.CutClasses.{AreCutClasses, ArePartsBut};
 ghost use Rattle.mst_sweep.specs.Left.{AreLeft};
@@ -17,10 +19,12 @@ ghost use Rattle.mst_sweep.specs.Pairs.{pair_row, pair_rows, pairs_row, ArePairR
 ghost use Rattle.mst_sweep.specs.Touched.{AreWhereTouched};
 
 use crate::baseline::Baseline;
+use crate::breaking::{breaks, carriage_if_many};
 use crate::cuts::{CutBy, Cuts, cuts_of, is_any, parts_at, parts_of_firsts, put_cuts};
 use crate::failure::Failure;
 use crate::pairs::pairs;
 use crate::touched::{places_of, touched};
+use mst_carried::Carriage;
 use mst_diff::{Both, Planned, set_of};
 use mst_graph::Numbering;
 use mst_ids::{Name, Vid, VidSet};
@@ -82,24 +86,26 @@ fn parts_unless(
     alloc: Global,
     old: &Planned,
     new: &Planned,
+    carriage: Option<&Carriage>,
     baseline: &Baseline,
     both: &[Both],
-    touched: &[usize],
     class: usize,
+    breaks: bool,
     flag: bool,
 ) -> Result<Vec<Vec<Name>>, AllocError>
     requires new { Known new.now.view.now new.now.forest.now.regions }
+    requires carriage { ForSome (option_copied carriage) (IsCarriageOf new.now) }
     requires both { both.now ≡ seen_both old.now.view.now new.now.view.now }
-    requires touched { AreWhereTouched old.now.view.now old.now.forest.now new.now.view.now new.now.forest.now touched.now }
     requires baseline { IsBaseline old.now.view.now old.now.forest.now baseline.now }
     requires there { class < length baseline.now.classes.firsts.items }
+    requires others { breaks ≡ false → flag ≡ false → HasNoParts old.now new.now (slice_index baseline.now.classes.firsts.items class + 1) }
     ensures { IfOk result (λ parts. OfNetworks old.now new.now (λ a before b afterwards.
         AreLeft a b → MatchBool flag (names_of parts ≡ []) (AreParts a before b afterwards (slice_index baseline.now.classes.firsts.items class + 1) (names_of parts)))) }
 {
     if flag {
         return Ok(Vec::new(alloc));
     }
-    parts_at(alloc, old, new, baseline, both, touched, class)
+    parts_at(alloc, old, new, carriage, baseline, both, class, breaks)
 }
 
 /// Whether a class has one of two flags.
@@ -109,6 +115,93 @@ fn is_flagged(one: &[bool], other: &[bool], class: usize) -> bool
     ensures { result ≡ (slice_index_or one.now class false || slice_index_or other.now class false) }
 {
     one[class] || other[class]
+}
+
+/// Whether a link between bridges goes of the first VID of a class, and it has neither of two flags.
+fn breaks_but(
+    old: &Planned,
+    new: &Planned,
+    baseline: &Baseline,
+    touched: &[usize],
+    one: &[bool],
+    other: &[bool],
+    class: usize,
+) -> bool
+    requires touched { AreWhereTouched old.now.view.now old.now.forest.now new.now.view.now new.now.forest.now touched.now }
+    requires baseline { IsBaseline old.now.view.now old.now.forest.now baseline.now }
+    requires there { class < length baseline.now.classes.firsts.items }
+    requires one { length one.now ≡ length baseline.now.classes.firsts.items }
+    requires other { length other.now ≡ length baseline.now.classes.firsts.items }
+    ensures { result ≡ false → (slice_index_or one.now class false || slice_index_or other.now class false) ≡ false → HasNoParts old.now new.now (slice_index baseline.now.classes.firsts.items class + 1) }
+{
+    if is_flagged(one, other, class) {
+        return false;
+    }
+    breaks(old, new, baseline, touched, class)
+}
+
+/// For each class whether it is so of it.
+fn breaking_but(
+    alloc: Global,
+    old: &Planned,
+    new: &Planned,
+    baseline: &Baseline,
+    touched: &[usize],
+    one: &[bool],
+    other: &[bool],
+) -> Result<Vec<bool>, AllocError>
+    requires touched { AreWhereTouched old.now.view.now old.now.forest.now new.now.view.now new.now.forest.now touched.now }
+    requires baseline { IsBaseline old.now.view.now old.now.forest.now baseline.now }
+    requires one { length one.now ≡ length baseline.now.classes.firsts.items }
+    requires other { length other.now ≡ length baseline.now.classes.firsts.items }
+    ensures as_long { IfOk result (λ flags. vec_len flags ≡ length baseline.now.classes.firsts.items) }
+    ensures others { IfOk result (λ flags. (class : ℕ) → slice_index_or flags.items class true ≡ false → (slice_index_or one.now class false || slice_index_or other.now class false) ≡ false
+        → HasNoParts old.now new.now (slice_index baseline.now.classes.firsts.items class + 1)) }
+{
+    let mut flags = Vec::new(alloc);
+    for class in 0..one.len() {
+        let breaks = breaks_but(old, new, baseline, touched, one, other, class);
+        flags.push(breaks)?;
+    }
+    Ok(flags)
+}
+
+/// The parts of the first VID of each class, and none where the class has one of two flags, by which of the others a link between
+/// bridges goes of.
+fn parts_of_breaking_but(
+    alloc: Global,
+    old: &Planned,
+    new: &Planned,
+    carriage: Option<&Carriage>,
+    baseline: &Baseline,
+    both: &[Both],
+    breaking: &[bool],
+    one: &[bool],
+    other: &[bool],
+) -> Result<Vec<Vec<Vec<Name>>>, AllocError>
+    requires new { Known new.now.view.now new.now.forest.now.regions }
+    requires carriage { ForSome (option_copied carriage) (IsCarriageOf new.now) }
+    requires baseline { IsBaseline old.now.view.now old.now.forest.now baseline.now }
+    requires both { both.now ≡ seen_both old.now.view.now new.now.view.now }
+    requires as_long { length breaking.now ≡ length baseline.now.classes.firsts.items }
+    requires others { (class : ℕ) → slice_index_or breaking.now class true ≡ false → (slice_index_or one.now class false || slice_index_or other.now class false) ≡ false
+        → HasNoParts old.now new.now (slice_index baseline.now.classes.firsts.items class + 1) }
+    requires one { length one.now ≡ length baseline.now.classes.firsts.items }
+    requires other { length other.now ≡ length baseline.now.classes.firsts.items }
+    ensures as_long { IfOk result (λ parts. vec_len parts ≡ length baseline.now.classes.firsts.items) }
+    ensures parts { IfOk result (λ parts. OfNetworks old.now new.now (λ a before b afterwards.
+        AreLeft a b → ArePartsBut a before b afterwards baseline.now.classes.firsts.items one.now other.now (map names_of parts.items))) }
+{
+    let mut parts = Vec::new(alloc);
+    for class in 0..one.len() {
+        let breaks = breaking[class];
+        let flag = is_flagged(one, other, class);
+        let of = parts_unless(
+            alloc, old, new, carriage, baseline, both, class, breaks, flag,
+        )?;
+        parts.push(of)?;
+    }
+    Ok(parts)
 }
 
 /// The parts of the first VID of each class, and none where the class has one of two flags.
@@ -129,16 +222,21 @@ fn parts_but(
         AreLeft a b → ArePartsBut a before b afterwards baseline.now.classes.firsts.items one.now other.now (map names_of parts.items))) }
 {
     let both = pairs(alloc, old, new)?;
-    let places = where_touched(alloc, old, new)?;
-    let pairs = both.as_slice();
-    let touched = places.as_slice();
-    let mut parts = Vec::new(alloc);
-    for class in 0..one.len() {
-        let flag = is_flagged(one, other, class);
-        let of = parts_unless(alloc, old, new, baseline, pairs, touched, class, flag)?;
-        parts.push(of)?;
-    }
-    Ok(parts)
+    let touched = where_touched(alloc, old, new)?;
+    let flags = breaking_but(alloc, old, new, baseline, touched.as_slice(), one, other)?;
+    let breaking = flags.as_slice();
+    let carriage = carriage_if_many(alloc, new, breaking)?;
+    parts_of_breaking_but(
+        alloc,
+        old,
+        new,
+        carriage.as_ref(),
+        baseline,
+        both.as_slice(),
+        breaking,
+        one,
+        other,
+    )
 }
 
 /// Puts the row of a pair.

@@ -1,8 +1,11 @@
-ghost use Rattle.std.specs.Prelude.{◌≡◌, ◌<◌, ◌+◌, ◌++◌, ◌∷◌, [], List, IfOk, OnOk, length, map, filter, slice_index, vec_len};
+ghost use Rattle.std.specs.Prelude.{◌≡◌, ◌<◌, ◌+◌, ◌++◌, ◌∷◌, [], ℕ, List, false, true, IfOk, OnOk, length, map, filter, slice_index, slice_index_or, vec_len};
 ghost use Rattle.std.specs.List.{AllZip, flat_map, list_any};
+ghost use Rattle.std.specs.Option.{ForSome, option_copied};
 ghost use Rattle.mst_ids.specs.Vids.{runs_from};
 ghost use Rattle.mst_rows.specs.Rows.{Row};
-ghost use Rattle.mst_diff.specs.trees.Agrees.{Known};
+ghost use Rattle.mst_net.specs.Tables.{Net, Numbers};
+ghost use Rattle.mst_diff.specs.trees.Agrees.{AreOf, Known};
+ghost use Rattle.mst_diff.specs.trees.Forest.{IsForest};
 ghost use Rattle.mst_diff.specs.plan_text.Bodies.{NumberEach};
 ghost use Rattle.mst_diff.specs.Reach.{has_any};
 ghost use Rattle.mst_diff.specs.Seen.{seen_both};
@@ -15,15 +18,16 @@ ghost use Rattle.mst_sweep.specs.declared.cuts.CutBy.TheVariants.{One as OneOf, 
 ghost use Rattle.mst_sweep.specs.declared.failure.Failure.{Failure as FailureOf};
 ghost use Rattle.mst_sweep.specs.CutClasses.{AreClasses};
 ghost use Rattle.mst_sweep.specs.Baseline.{AreHomes, IsBaseline};
+ghost use Rattle.mst_sweep.specs.Breaking.{HasNoParts, IsCarriageOf};
 ghost use Rattle.mst_sweep.specs.Touched.{AreWhereTouched};
 
 use crate::baseline::Baseline;
+use crate::breaking::{breaking, carriage_if_many};
 use crate::failure::Failure;
-use crate::homes::homes_of;
-use crate::links::breaks_no_link;
+use crate::homes::{homes_by, homes_of};
 use crate::parts::{all_parts, staying};
 use indexmap::IndexMap;
-use mst_diff::vlan_laws::islands_of_vid;
+use mst_carried::Carriage;
 use mst_diff::{Both, Planned, set_of, vids};
 use mst_graph::laws::group_lists;
 use mst_graph::{Numbering, groups_by_body};
@@ -54,70 +58,99 @@ pub struct Cuts {
     pub(crate) parts: Vec<Vec<Vec<Name>>>,
 }
 
+/// The places of the islands of a VID in the network after a failure, by what carries each VID there if that is known.
+fn homes_after(
+    alloc: Global,
+    new: &Planned,
+    carriage: Option<&Carriage>,
+    vid: Vid,
+) -> Result<IndexMap<BridgeNo, usize>, AllocError>
+    requires new { Known new.now.view.now new.now.forest.now.regions }
+    requires carriage { ForSome (option_copied carriage) (IsCarriageOf new.now) }
+    ensures { IfOk result (λ homes. (net : Net) (numbers : Numbers) (is : IsForest net numbers new.now.forest.now) → AreOf net numbers new.now.view.now new.now.forest.now.regions → AreHomes net numbers is.outcome vid homes.entries) }
+{
+    match carriage {
+        Some(carriage) => homes_by(alloc, carriage, vid),
+        None => homes_of(alloc, new, vid),
+    }
+}
+
 /// The parts of a VID, by the places of its islands before.
 fn parts(
     alloc: Global,
     old: &Planned,
     new: &Planned,
+    carriage: Option<&Carriage>,
     homes: &IndexMap<BridgeNo, usize>,
     both: &[Both],
     vid: Vid,
 ) -> Result<Vec<Vec<Name>>, AllocError>
     requires new { Known new.now.view.now new.now.forest.now.regions }
+    requires carriage { ForSome (option_copied carriage) (IsCarriageOf new.now) }
     requires both { both.now ≡ seen_both old.now.view.now new.now.view.now }
     ensures { IfOk result (λ parts. OfNumbered old.now new.now (λ a n before b k afterwards.
         AreHomes a n before vid homes.now.entries → AreParts a before b afterwards vid (names_of parts))) }
 {
-    let news = homes_of(alloc, new, vid)?;
+    let news = homes_after(alloc, new, carriage, vid)?;
     let all = staying(alloc, homes, &news, both)?;
     all_parts(alloc, all.as_slice())
 }
 
-/// The parts of a VID: none where no link that joined bridges goes, so that no islands are made.
-fn parts_if_cut(
-    alloc: Global,
-    old: &Planned,
-    new: &Planned,
-    homes: &IndexMap<BridgeNo, usize>,
-    both: &[Both],
-    touched: &[usize],
-    vid: Vid,
-) -> Result<Vec<Vec<Name>>, AllocError>
-    requires new { Known new.now.view.now new.now.forest.now.regions }
-    requires both { both.now ≡ seen_both old.now.view.now new.now.view.now }
-    requires touched { AreWhereTouched old.now.view.now old.now.forest.now new.now.view.now new.now.forest.now touched.now }
-    ensures { IfOk result (λ parts. OfNumbered old.now new.now (λ a n before b k afterwards.
-        AreLeft a b → AreHomes a n before vid homes.now.entries → AreParts a before b afterwards vid (names_of parts))) }
-{
-    islands_of_vid();
-    if breaks_no_link(old, new, vid, touched) {
-        return Ok(Vec::new(alloc));
-    }
-    parts(alloc, old, new, homes, both, vid)
-}
-
-/// The parts of the first VID of a class.
+/// The parts of the first VID of a class: none where no link between bridges goes of it, so that no islands are made.
 pub(crate) fn parts_at(
     alloc: Global,
     old: &Planned,
     new: &Planned,
+    carriage: Option<&Carriage>,
     baseline: &Baseline,
     both: &[Both],
-    touched: &[usize],
     class: usize,
+    breaks: bool,
 ) -> Result<Vec<Vec<Name>>, AllocError>
     requires new { Known new.now.view.now new.now.forest.now.regions }
-    requires both { both.now ≡ seen_both old.now.view.now new.now.view.now }
-    requires touched { AreWhereTouched old.now.view.now old.now.forest.now new.now.view.now new.now.forest.now touched.now }
+    requires carriage { ForSome (option_copied carriage) (IsCarriageOf new.now) }
     requires baseline { IsBaseline old.now.view.now old.now.forest.now baseline.now }
+    requires both { both.now ≡ seen_both old.now.view.now new.now.view.now }
     requires there { class < length baseline.now.classes.firsts.items }
+    requires others { breaks ≡ false → HasNoParts old.now new.now (slice_index baseline.now.classes.firsts.items class + 1) }
     ensures { IfOk result (λ parts. OfNetworks old.now new.now (λ a before b afterwards.
         AreLeft a b → AreParts a before b afterwards (slice_index baseline.now.classes.firsts.items class + 1) (names_of parts))) }
 {
+    if !breaks {
+        return Ok(Vec::new(alloc));
+    }
     let firsts = baseline.classes.firsts.as_slice();
     let homes = baseline.homes.as_slice();
     let vid = Vid::new(firsts[class] as u64 + 1).unwrap();
-    parts_if_cut(alloc, old, new, &homes[class], both, touched, vid)
+    parts(alloc, old, new, carriage, &homes[class], both, vid)
+}
+
+/// The parts of the first VID of each class, by which of them a link between bridges goes of.
+fn parts_of_breaking(
+    alloc: Global,
+    old: &Planned,
+    new: &Planned,
+    carriage: Option<&Carriage>,
+    baseline: &Baseline,
+    both: &[Both],
+    breaking: &[bool],
+) -> Result<Vec<Vec<Vec<Name>>>, AllocError>
+    requires new { Known new.now.view.now new.now.forest.now.regions }
+    requires carriage { ForSome (option_copied carriage) (IsCarriageOf new.now) }
+    requires baseline { IsBaseline old.now.view.now old.now.forest.now baseline.now }
+    requires both { both.now ≡ seen_both old.now.view.now new.now.view.now }
+    requires as_long { length breaking.now ≡ length baseline.now.classes.firsts.items }
+    requires others { (class : ℕ) → slice_index_or breaking.now class true ≡ false → HasNoParts old.now new.now (slice_index baseline.now.classes.firsts.items class + 1) }
+    ensures as_long { IfOk result (λ parts. vec_len parts ≡ length baseline.now.classes.firsts.items) }
+    ensures parts { IfOk result (λ parts. OfNetworks old.now new.now (λ a before b afterwards.
+        AreLeft a b → AllZip (λ place parts. AreParts a before b afterwards (place + 1) parts) baseline.now.classes.firsts.items (map names_of parts.items))) }
+{
+    let mut parts = Vec::new(alloc);
+    for class in 0..breaking.len() {
+        let breaks = breaking[class];
+        parts.push(parts_at(alloc, old, new, carriage, baseline, both, class, breaks)?)?;
+    }
+    Ok(parts)
 }
 
 /// The parts of the first VID of each class.
@@ -137,11 +170,10 @@ pub(crate) fn parts_of_firsts(
     ensures parts { IfOk result (λ parts. OfNetworks old.now new.now (λ a before b afterwards.
         AreLeft a b → AllZip (λ place parts. AreParts a before b afterwards (place + 1) parts) baseline.now.classes.firsts.items (map names_of parts.items))) }
 {
-    let mut parts = Vec::new(alloc);
-    for class in 0..baseline.classes.firsts.len() {
-        parts.push(parts_at(alloc, old, new, baseline, both, touched, class)?)?;
-    }
-    Ok(parts)
+    let flags = breaking(alloc, old, new, baseline, touched)?;
+    let breaking = flags.as_slice();
+    let carriage = carriage_if_many(alloc, new, breaking)?;
+    parts_of_breaking(alloc, old, new, carriage.as_ref(), baseline, both, breaking)
 }
 
 /// Whether there are parts.

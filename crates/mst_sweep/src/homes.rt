@@ -9,6 +9,7 @@ ghost use Rattle.mst_sweep.specs.Seen.{seen_home};
 ghost use Rattle.mst_sweep.specs.Baseline.{AreHomes};
 
 use indexmap::IndexMap;
+use mst_carried::Carriage;
 use mst_diff::Planned;
 use mst_ids::{BridgeNo, Vid};
 use mst_vlan::{Island, reach};
@@ -51,5 +52,18 @@ pub fn homes_of(
     ensures { IfOk result (λ homes. (net : Net) (numbers : Numbers) (is : IsForest net numbers plan.now.forest.now) → AreOf net numbers plan.now.view.now plan.now.forest.now.regions → AreHomes net numbers is.outcome vid homes.entries) }
 {
     let islands = reach(alloc, plan.view, plan.forest, vid)?;
+    places(alloc, islands.as_slice())
+}
+
+/// The same, from what carries each VID in a network: so islands of many VIDs take less time. `AllocError`: memory was wanted and
+/// refused.
+pub fn homes_by(
+    alloc: Global,
+    carriage: &Carriage,
+    vid: Vid,
+) -> Result<IndexMap<BridgeNo, usize>, AllocError>
+    ensures { IfOk result (λ homes. (net : Net) (numbers : Numbers) (is : IsForest net numbers carriage.now.forest) → AreOf net numbers carriage.now.view carriage.now.forest.regions → AreHomes net numbers is.outcome vid homes.entries) }
+{
+    let islands = carriage.islands(alloc, vid)?;
     places(alloc, islands.as_slice())
 }

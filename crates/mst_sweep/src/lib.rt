@@ -4,6 +4,7 @@
 
 mod baseline;
 mod both_failed;
+mod breaking;
 mod cuts;
 mod failing;
 mod failure;
@@ -24,7 +25,7 @@ pub use both_failed::{Single, cut_classes, put_last_of_pairs, put_pair};
 pub use cuts::{CutBy, Cuts, cuts_of, put_cuts};
 pub use failing::Failing;
 pub use failure::{Failure, failures};
-pub use homes::homes_of;
+pub use homes::{homes_by, homes_of};
 pub use parts::{Stays, all_parts, staying};
 pub use ports::changes_role;
 pub use roots::moved_roots;

@@ -4,15 +4,16 @@ use Rattle.mst_sweep.specs.Cuts.{names_of}
 use Rattle.mst_steps.specs.MovedVids.{links_differ}
 use Rattle.mst_steps.specs.Seen.{seen_differ}
 use Rattle.mst_steps.proofs.SameFate.{differ_same}
+use Rattle.mst_sweep.proofs.HomesOf.{homes_of_plan}
 use Rattle.mst_steps.proofs.fate.fate_by.Goals as goal
 
 pub returns-clause-parts : goal.returns-clause-parts
-returns-clause-parts c a b n k is are of so = c.in_ok-apart.ensures a b n k is are of so (c.in_ok-olds.ensures a n is of) (c.in_ok-news.ensures b k are so)
+returns-clause-parts c a b n k is are of so = c.in_ok-apart.ensures a b n k is are of so (homes_of_plan c.args.vid c.in_ok-olds.olds.entries c.args.change.now.old.now c.args.change.now.before.now c.args.change.now.is_before c.in_ok-olds.ensures a n is of) (homes_of_plan c.args.vid c.in_ok-news.news.entries c.args.change.now.new.now c.args.change.now.afterwards.now c.args.change.now.is_afterwards c.in_ok-news.ensures b k are so)
 
 pub returns-clause-joins : goal.returns-clause-joins
 returns-clause-joins c a b n k is are of so = (
   names_of c.in_ok-joined.joined,
-  c.in_ok-joined.ensures b a k n are is so of (c.in_ok-news.ensures b k are so) (c.in_ok-olds.ensures a n is of),
+  c.in_ok-joined.ensures b a k n are is so of (homes_of_plan c.args.vid c.in_ok-news.news.entries c.args.change.now.new.now c.args.change.now.afterwards.now c.args.change.now.is_afterwards c.in_ok-news.ensures b k are so) (homes_of_plan c.args.vid c.in_ok-olds.olds.entries c.args.change.now.old.now c.args.change.now.before.now c.args.change.now.is_before c.in_ok-olds.ensures a n is of),
   c.is_any-joins.ensures ∙ ap (λ ps. has_any (map (λ names. names.items) ps)) c.as_slice.ensures.value,
 )
 
@@ -30,10 +31,10 @@ returns-clause-moves c a b n k is are of so =
     let apart : has_any (map (λ names. names.items) c.as_slice-2.result.now) ≡ cut = ap (λ ps. has_any (map (λ names. names.items) ps)) c.as_slice-2.ensures.value in (
       cut,
       joins,
-      (names_of c.in_ok-apart.apart, c.in_ok-apart.ensures a b n k is are of so (c.in_ok-olds.ensures a n is of) (c.in_ok-news.ensures b k are so), refl),
+      (names_of c.in_ok-apart.apart, c.in_ok-apart.ensures a b n k is are of so (homes_of_plan c.args.vid c.in_ok-olds.olds.entries c.args.change.now.old.now c.args.change.now.before.now c.args.change.now.is_before c.in_ok-olds.ensures a n is of) (homes_of_plan c.args.vid c.in_ok-news.news.entries c.args.change.now.new.now c.args.change.now.afterwards.now c.args.change.now.is_afterwards c.in_ok-news.ensures b k are so), refl),
       (
         names_of c.in_ok-joined.joined,
-        c.in_ok-joined.ensures b a k n are is so of (c.in_ok-news.ensures b k are so) (c.in_ok-olds.ensures a n is of),
+        c.in_ok-joined.ensures b a k n are is so of (homes_of_plan c.args.vid c.in_ok-news.news.entries c.args.change.now.new.now c.args.change.now.afterwards.now c.args.change.now.is_afterwards c.in_ok-news.ensures b k are so) (homes_of_plan c.args.vid c.in_ok-olds.olds.entries c.args.change.now.old.now c.args.change.now.before.now c.args.change.now.is_before c.in_ok-olds.ensures a n is of),
         c.is_any-joins.ensures ∙ ap (λ ps. has_any (map (λ names. names.items) ps)) c.as_slice.ensures.value,
       ),
       c.is_moved-moves.ensures ∙ (λ i. apart i || joins || differ i),

@@ -13,10 +13,10 @@ loop-place-preserved c = record {
       let places = c.args.places.now in
       let place : ℕ = get_or places i 0 in
       let vid : c.unwrap-vid.result ≡ place + 1 = first_of (grind (arith, common_steps), search (rules, common_steps)) in
-      let pushed = ap (map (λ h. h.entries)) c.in_ok-push.ensures.items ∙ map-append (λ h. h.entries) c.loop-place.homes.items (c.in_ok-homes_of.field-0 ∷ []) in
+      let pushed = ap (map (λ h. h.entries)) c.in_ok-push.ensures.items ∙ map-append (λ h. h.entries) c.loop-place.homes.items (c.in_ok-homes_by.field-0 ∷ []) in
       subst (AtPlaces (AreHomes net k is.outcome) (take (i + 1) places)) (sym pushed)
-      (places_more (AreHomes net k is.outcome) places i place c.unwrap-vid.result c.loop-place-test.true refl vid (map (λ h. h.entries) c.loop-place.homes.items) c.in_ok-homes_of.field-0.entries
-      (c.loop-place.invariant.homes net k is of) (c.in_ok-homes_of.ensures net k is of));
+      (places_more (AreHomes net k is.outcome) places i place c.unwrap-vid.result c.loop-place-test.true refl vid (map (λ h. h.entries) c.loop-place.homes.items) c.in_ok-homes_by.field-0.entries
+      (c.loop-place.invariant.homes net k is of) (c.in_ok-homes_by.ensures net k is of));
 }
 
 pub returns-clause-homes : goal.returns-clause-homes

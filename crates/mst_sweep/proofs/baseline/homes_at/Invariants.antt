@@ -10,6 +10,6 @@ use Rattle.mst_sweep.proofs.baseline.homes_at.Given as goal
 abbrev pub invariant-loop-place : goal.invariant-loop-place
 invariant-loop-place l = record {
   as_long : length l.homes.items ≡ l.place-index;
-  homes : (net : Net) (k : Numbers) (is : IsForest net k l.plan.forest.now) → AreOf net k l.plan.view.now l.plan.forest.now.regions
+  homes : (net : Net) (k : Numbers) (is : IsForest net k l.carriage.forest) → AreOf net k l.carriage.view l.carriage.forest.regions
       → AllZip (λ place homes. AreHomes net k is.outcome (place + 1) homes) (take l.place-index l.places) (map (λ h. h.entries) l.homes.items);
 }

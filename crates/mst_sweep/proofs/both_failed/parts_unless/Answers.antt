@@ -16,3 +16,6 @@ returns c = IfOk-weaker c.parts_at.result _ _
     (λ parts told a b n k is are of so left.
     let place : ℕ = get_or c.args.baseline.now.classes.firsts.items c.args.class 0 in
     subst (λ flag. MatchBool flag (names_of parts ≡ []) (AreParts a is.outcome b are.outcome (place + 1) (names_of parts))) (sym c.if-flag.false) (told a b n k is are of so left)) c.parts_at.ensures
+
+pub parts_at-requires-clause-others : goal.parts_at-requires-clause-others
+parts_at-requires-clause-others c off = c.requires.others off c.if-flag.false

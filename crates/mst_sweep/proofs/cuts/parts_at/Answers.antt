@@ -8,8 +8,13 @@ use Rattle.mst_sweep.specs.Parts.{AreParts}
 use Rattle.mst_sweep.specs.Baseline.{AreHomes}
 use Rattle.mst_sweep.proofs.cuts.parts_at.Goals as goal
 
+pub returns-then-not-breaks : goal.returns-then-not-breaks
+returns-then-not-breaks c a b n k is are of so left =
+    subst (AreParts a is.outcome b are.outcome (get_or c.args.baseline.now.classes.firsts.items c.args.class 0 + 1)) (sym (ap (map (λ names. names.items)) c.new.ensures.items))
+    (c.requires.others c.if-not-breaks.true a b n k is are of so left)
+
 pub returns : goal.returns
-returns c = IfOk-weaker c.parts_if_cut.result _ _
+returns c = IfOk-weaker c.parts.result _ _
     (λ parts told a b n k is are of so left.
     let i : ℕ = c.args.class in
     let baseline = c.args.baseline.now in
@@ -26,4 +31,4 @@ returns c = IfOk-weaker c.parts_if_cut.result _ _
     let at : AreHomes a n is.outcome (place + 1) (get_or (map (λ h. h.entries) baseline.homes.items) i []) =
     zip_at (λ place homes. AreHomes a n is.outcome (place + 1) homes) firsts (map (λ h. h.entries) baseline.homes.items) i 0 [] (c.requires.baseline.homes a n is of) below in
     let homes : AreHomes a n is.outcome c.unwrap-vid.result h.entries = subst (λ vid. AreHomes a n is.outcome vid h.entries) (sym vid) (subst (AreHomes a n is.outcome (place + 1)) kept at) in
-    subst (λ vid. AreParts a is.outcome b are.outcome vid (names_of parts)) vid (told a b n k is are of so left homes)) c.parts_if_cut.ensures
+    subst (λ vid. AreParts a is.outcome b are.outcome vid (names_of parts)) vid (told a b n k is are of so homes)) c.parts.ensures

@@ -1,28 +1,15 @@
-use Rattle.std.proofs.Common.{◌+◌, ◌<◌, ◌≤◌, ℕ, List, ◌∷◌, [], get_or, length, map, refl, sym, subst, ap, ◌∙◌, arith}
-use Rattle.std.proofs.lemmas.Grind.{common_steps}
-use Rattle.std.proofs.lemmas.List.{map-append}
-use Rattle.std.proofs.Common.{take}
-use Rattle.mst_sweep.specs.Cuts.{names_of}
-use Rattle.mst_sweep.specs.Parts.{AreParts}
-use Rattle.mst_sweep.proofs.Placed.{AtPlaces, places_more, places_all}
+use Rattle.std.proofs.Common.{◌≡◌, ◌+◌, ℕ, Bool, List, false, true, get_or, length, sym, subst, ap, ◌∙◌}
+use Rattle.std.specs.Option.{ForSome}
+use Rattle.mst_sweep.specs.Breaking.{HasNoParts, IsCarriageOf}
 use Rattle.mst_sweep.proofs.cuts.parts_of_firsts.Goals as goal
 
-pub loop-class-preserved : goal.loop-class-preserved
-loop-class-preserved c = record {
-  as_long = grind (arith, common_steps);
-  parts = λ a b n k is are of so left.
-      let i : ℕ = c.loop-class.class in
-      let firsts : List ℕ = c.args.baseline.now.classes.firsts.items in
-      let place : ℕ = get_or firsts i 0 in
-      let below : i < length firsts = omega (arith, c.loop-class-test.true, c.len-class-end.ensures) in
-      let pushed = ap (map names_of) c.in_ok-push.ensures.items ∙ map-append names_of c.loop-class.parts.items (c.in_ok-parts_at.field-0 ∷ []) in
-      subst (AtPlaces (AreParts a is.outcome b are.outcome) (take (i + 1) firsts)) (sym pushed)
-      (places_more (AreParts a is.outcome b are.outcome) firsts i place (place + 1) below refl refl (map names_of c.loop-class.parts.items) (names_of c.in_ok-parts_at.field-0)
-      (c.loop-class.invariant.parts a b n k is are of so left) (c.in_ok-parts_at.ensures a b n k is are of so left));
-}
+pub parts_of_breaking-requires-clause-carriage : goal.parts_of_breaking-requires-clause-carriage
+parts_of_breaking-requires-clause-carriage c = subst (λ o. ForSome o (IsCarriageOf c.args.new.now)) (sym c.as_ref.ensures.value) c.in_ok-carriage.ensures
 
-pub returns-clause-parts : goal.returns-clause-parts
-returns-clause-parts c a b n k is are of so left =
-    let firsts : List ℕ = c.args.baseline.now.classes.firsts.items in
-    let past : length firsts ≤ c.loop-class.class = omega (arith, c.loop-class-test.false, c.len-class-end.ensures) in
-    places_all (AreParts a is.outcome b are.outcome) firsts c.loop-class.class past (map names_of c.loop-class.parts.items) (c.loop-class.invariant.parts a b n k is are of so left)
+pub parts_of_breaking-requires-clause-as_long : goal.parts_of_breaking-requires-clause-as_long
+parts_of_breaking-requires-clause-as_long c = c.as_slice-breaking.ensures.len ∙ c.in_ok-flags.ensures.as_long
+
+pub parts_of_breaking-requires-clause-others : goal.parts_of_breaking-requires-clause-others
+parts_of_breaking-requires-clause-others c =
+    subst (λ (flags : List Bool). (class : ℕ) → get_or flags class true ≡ false → HasNoParts c.args.old.now c.args.new.now (get_or c.args.baseline.now.classes.firsts.items class 0 + 1)) (sym c.as_slice-breaking.ensures.value)
+    c.in_ok-flags.ensures.others

@@ -6,7 +6,7 @@ use Rattle.mst_diff.specs.trees.Forest.{IsForest}
 use Rattle.mst_sweep.specs.Left.{AreLeft}
 use Rattle.mst_sweep.specs.Cuts.{names_of}
 use Rattle.mst_sweep.specs.Parts.{AreParts}
-use Rattle.mst_sweep.proofs.cuts.parts_of_firsts.Given as goal
+use Rattle.mst_sweep.proofs.cuts.parts_of_breaking.Given as goal
 
 -- the parts of the classes so far
 abbrev pub invariant-loop-class : goal.invariant-loop-class

@@ -5,7 +5,7 @@ use Rattle.mst_diff.specs.trees.Forest.{IsForest}
 use Rattle.mst_sweep.specs.Left.{AreLeft}
 use Rattle.mst_sweep.specs.Cuts.{names_of}
 use Rattle.mst_sweep.proofs.ButFlagged.{AreUnless}
-use Rattle.mst_sweep.proofs.both_failed.parts_but.Given as goal
+use Rattle.mst_sweep.proofs.both_failed.parts_of_breaking_but.Given as goal
 
 -- the parts of the classes so far
 abbrev pub invariant-loop-class : goal.invariant-loop-class
