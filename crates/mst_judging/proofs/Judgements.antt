@@ -15,7 +15,7 @@ use Rattle.mst_lang.specs.declared.line.LanState.TheVariants.{Down}
 use Rattle.mst_lang.specs.declared.line.Power.TheVariants.{Off}
 use Rattle.mst_net.specs.After.{after, effect, lan_with, refusal_of}
 use Rattle.mst_net.specs.ByTree.{ByTree, by_tree, table_in, vlans_in}
-use Rattle.mst_net.specs.Contents.{Contents, SameContents, Tables}
+use Rattle.mst_net.specs.Contents.{Contents, PerKind, SameContents, Tables, numbers_after}
 use Rattle.mst_net.specs.Tables.{Net, Numbers, BridgeRow}
 use Rattle.mst_net.proofs.Changed.{get_changed}
 use Rattle.mst_net.proofs.Keys.{names}
@@ -211,6 +211,14 @@ classes_left a b n k v w of_v of_w left c are =
 -- so they are those of a network that failed
 pub classes_stay : (failure : Failure) (a b : Net) (n k : Numbers) (v w : Viewed) → after (edit_of failure) a ≡ Ok b → IsView a n v → IsView b k w → (c : Numbering) → AreClasses v c → AreClasses w c
 classes_stay failure a b n k v w e of_v of_w c are = classes_left a b n k v w of_v of_w (are_left failure a b e) c are
+
+-- and the numbers of records are
+pub numbers_stay : (failure : Failure) (edit : Edit) (next : PerKind) (numbers : Numbers) → edit ≡ edit_of failure → numbers_after edit next numbers ≡ numbers
+numbers_stay failure edit next numbers is = ap (λ (e : Edit). numbers_after e next numbers) is ∙ by failure
+  where
+    by : (failure : Failure) → numbers_after (edit_of failure) next numbers ≡ numbers
+    by (Lan lan) = refl
+    by (Bridge bridge) = refl
 
 -- ---- reasons after a failure
 pub made_by : (failure : Failure) (net : Net) → refusal_of (edit_of failure) net ≡ None → after (edit_of failure) net ≡ Ok (effect (edit_of failure) net)

@@ -2,6 +2,7 @@
 use Rattle.std.specs.Prelude.{◌≡◌, ◌+◌, ◌++◌, ◌<◌, ℕ, Bool, is_some, count_by, List, [], ◌∷◌, Option, None, Some, Result, Ok, Err, MatchOption, Vec, length, get_or, map, slice_index_or, nat_lt, ◌||◌, if◌then◌else◌}
 use Rattle.std.specs.List.{AllZip, flat_map}
 use Rattle.std.specs.declared.alloc.Global.{Global}
+use Rattle.mst_carried.specs.Carried.{ViewWithTrees}
 use Rattle.mst_lang.specs.declared.line.Fault.{Fault}
 use Rattle.mst_net.specs.Tables.{Net, Numbers}
 use Rattle.mst_rows.specs.Rows.{Row}
@@ -13,6 +14,7 @@ use Rattle.mst_trees.specs.Settled.{outcome_of}
 use Rattle.mst_diff.specs.Reach.{has_any}
 use Rattle.mst_classes.specs.Classes.{AreClasses}
 use Rattle.mst_sweep.specs.declared.failure.Failure.{Failure}
+use Rattle.mst_verify.specs.Islands.{HasIslandsOf}
 use Rattle.mst_verify.specs.Judged.{asks_at, places}
 use Rattle.mst_verify.specs.Named.{Gone}
 use Rattle.mst_verify.specs.Over.{HasItsLan}
@@ -71,11 +73,16 @@ expected_by line is_judged place = if is_judged then asked_by line.read place el
 abbrev pub HaveLans : Net → Net → Option Failure → Type 0
 HaveLans net there place = (line : PolicyLine) (expectation : Expectation) → expected_at net line place ≡ Some expectation → HasItsLan there expectation
 
--- what lines are judged by is that of the network: their flags, and what is kept of it for all failures
-pub record IsJudging (net : Net) (j : Judging) : Type 0 where
+-- the view and the trees are those of a plan
+abbrev pub IsCarriage : Plan → ViewWithTrees → Type 0
+IsCarriage p c = c ≡ record { view = p.view; forest = p.forest }
+
+-- what lines are judged by is that of the network whose records have these numbers: their flags, and what is kept of it for all failures
+pub record IsJudging (net : Net) (numbers : Numbers) (j : Judging) : Type 0 where
   pub flags : AreJudged net j.lines.now j.flags.now
   pub classes : AreClasses j.plan.now.view j.before.now.classes
   pub before : IsBefore net j.before.now
+  pub islands : HasIslandsOf j.carriage.now numbers j.before.now
 
 -- ---- reasons
 -- why what is expected doesn't hold in a network: for no reason, where nothing is

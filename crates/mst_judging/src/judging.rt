@@ -17,6 +17,7 @@ ghost use Rattle.mst_verify.specs.Over.{HasItsLan};
 ghost use Rattle.mst_verify.specs.Seen.{IsBefore};
 ghost use Rattle.mst_verify.specs.Verified.{expected_at, judged as judged_in, reason_rows};
 
+use mst_carried::Carriage;
 use mst_config::laws::regions_stay;
 use mst_ids::{Name, Vid, VidSet};
 use mst_lag::{View, view};
@@ -37,10 +38,12 @@ pub(crate) struct Finding {
     pub(crate) reasons: Vec<Vec<Reason>>,
 }
 
-/// What the lines of a policy are judged by: the plan of the network, what is kept of it for all failures, and which lines are judged.
+/// What the lines of a policy are judged by: the plan of the network, what carries its VIDs, what is kept of it for all failures, and
+/// which lines are judged.
 #[derive(Clone, Copy)]
 pub(crate) struct Judging<'a> {
     pub(crate) plan: &'a Plan,
+    pub(crate) carriage: &'a Carriage<'a>,
     pub(crate) before: &'a Before,
     pub(crate) lines: &'a [PolicyLine],
     pub(crate) flags: &'a [bool],
@@ -113,6 +116,20 @@ fn add_asked(expectation: &Expectation, set: &mut VidSet) {
         Expectation::Apart { vids, .. } => add_all(vids, set),
         _ => {}
     }
+}
+
+/// The VIDs of whose islands those lines ask that have a flag.
+pub(crate) fn every_asked(lines: &[PolicyLine], flags: &[bool]) -> VidSet
+    requires { length flags.now ≡ length lines.now }
+{
+    let mut vids = VidSet::none();
+    for n in 0..lines.len() {
+        match &lines[n].read {
+            Ok(promise) if flags[n] => add_asked(&promise.expectation, &mut vids),
+            _ => {}
+        }
+    }
+    vids
 }
 
 /// The VIDs of whose islands the lines ask that are judged in a place, if some line is judged there.
@@ -204,11 +221,11 @@ fn reasons_now(
     vids: &VidSet,
 ) -> Result<Vec<Vec<Reason>>, AllocError>
     requires of { IsPlan network.now.net network.now.numbers judging.now.plan.now }
-    requires judging { IsJudging network.now.net judging.now }
+    requires judging { IsJudging network.now.net network.now.numbers judging.now }
     ensures { IfOk result (λ all. AreReasonsEach network.now.net (plan_outcome network.now.net network.now.numbers judging.now.plan.now) judging.now.lines.now None (reasons_in all)) }
 {
     let settled = Settled::new(network, &judging.plan.view, &judging.plan.forest);
-    let homes = Homes::new(alloc, &settled, judging.before, vids)?;
+    let homes = Homes::beside(alloc, judging.carriage, &settled, judging.before, vids)?;
     let judged = Judged {
         plan: &settled,
         before: judging.before,
@@ -226,7 +243,7 @@ fn find_now(
     found: &mut Vec<Finding>,
 ) -> Result<(), AllocError>
     requires of { IsPlan network.now.net network.now.numbers judging.now.plan.now }
-    requires judging { IsJudging network.now.net judging.now }
+    requires judging { IsJudging network.now.net network.now.numbers judging.now }
     ensures { OnOk result (FindsAt network.now.net (plan_outcome network.now.net network.now.numbers judging.now.plan.now) judging.now.lines.now None found.old.items found.new.items) }
 {
     match asked_vids(judging, &None) {
@@ -259,7 +276,7 @@ fn reasons_ahead(
     seen: &mut View,
 ) -> Result<Vec<Vec<Reason>>, AllocError>
     requires of { IsPlan network.now.net network.now.numbers judging.now.plan.now }
-    requires judging { IsJudging network.now.net judging.now }
+    requires judging { IsJudging network.now.net network.now.numbers judging.now }
     requires ready { CanCommit ready.now network.now }
     requires edit { ready.now ≡ edit_of failure.now }
     requires seen { IsViewBut failure.now (ahead_of network.now ready.now).net (ahead_of network.now ready.now).numbers seen.old }
@@ -277,7 +294,7 @@ fn reasons_ahead(
     )?;
     let settled = Settled::ahead(network, ready, seen, &trees);
     settled.known();
-    let homes = Homes::new(alloc, &settled, judging.before, vids)?;
+    let homes = Homes::beside(alloc, judging.carriage, &settled, judging.before, vids)?;
     let judged = Judged {
         plan: &settled,
         before: judging.before,
@@ -298,7 +315,7 @@ fn reasons_then(
     seen: &mut View,
 ) -> Result<Vec<Vec<Reason>>, AllocError>
     requires of { IsPlan network.old.net network.old.numbers judging.now.plan.now }
-    requires judging { IsJudging network.old.net judging.now }
+    requires judging { IsJudging network.old.net network.old.numbers judging.now }
     requires ready { CanCommit ready network.old }
     requires edit { ready ≡ edit_of failure.now }
     requires seen { IsViewBut failure.now (ahead_of network.old ready).net (ahead_of network.old ready).numbers seen.old }
@@ -322,7 +339,7 @@ fn reasons_after(
     seen: &mut View,
 ) -> Result<Vec<Vec<Reason>>, AllocError>
     requires of { IsPlan network.old.net network.old.numbers judging.now.plan.now }
-    requires judging { IsJudging network.old.net judging.now }
+    requires judging { IsJudging network.old.net network.old.numbers judging.now }
     requires seen { IsView network.old.net network.old.numbers seen.old }
     ensures reasons { IfOk result (λ all. AreReasonsEach network.old.net (plan_outcome network.old.net network.old.numbers judging.now.plan.now) judging.now.lines.now (Some failure.now) (reasons_in all)) }
     ensures same { SameContents network.old network.new }
@@ -347,7 +364,7 @@ fn find_after(
     found: &mut Vec<Finding>,
 ) -> Result<(), AllocError>
     requires of { IsPlan network.old.net network.old.numbers judging.now.plan.now }
-    requires judging { IsJudging network.old.net judging.now }
+    requires judging { IsJudging network.old.net network.old.numbers judging.now }
     requires seen { IsView network.old.net network.old.numbers seen.old }
     ensures found { OnOk result (FindsAt network.old.net (plan_outcome network.old.net network.old.numbers judging.now.plan.now) judging.now.lines.now (Some failure.now) found.old.items found.new.items) }
     ensures same { SameContents network.old network.new }
@@ -373,7 +390,7 @@ pub(crate) fn find_all(
     judging: &Judging,
 ) -> Result<Vec<Finding>, AllocError>
     requires of { IsPlan network.old.net network.old.numbers judging.now.plan.now }
-    requires judging { IsJudging network.old.net judging.now }
+    requires judging { IsJudging network.old.net network.old.numbers judging.now }
     ensures found { IfOk result (λ found. AreFound network.old.net (plan_outcome network.old.net network.old.numbers judging.now.plan.now) judging.now.lines.now found.items) }
     ensures same { SameContents network.old network.new }
 {

@@ -6,11 +6,13 @@ ghost use Rattle.mst_diff.specs.Reach.{has_any};
 ghost use Rattle.mst_trees.specs.Outcome.{IsOutcome, Outcome};
 ghost use Rattle.mst_plan.specs.Plan.{IsPlan};
 ghost use Rattle.mst_sweeping.specs.Sweeping.{Puts};
-ghost use Rattle.mst_judging.specs.Verifying.{AreCounted, AreFound, AreTold, IsJudging, IsOpened, Judges, Verifies, counts_of, found_at, plan_outcome, rows_at, tells_some};
+ghost use Rattle.mst_judging.specs.Verifying.{AreCounted, AreFound, AreTold, IsCarriage, IsJudging, IsOpened, Judges, Verifies, counts_of, found_at, plan_outcome, rows_at, tells_some};
 ghost use Rattle.mst_rows.specs.Rows.{Row};
+ghost use Rattle.mst_verify.specs.Islands.{HasIslandsOf};
 ghost use Rattle.mst_verify.specs.Verified.{reason_rows, refused_row, refused_rows, whole_rows};
 
-use crate::judging::{Finding, Judging, find_all, judged_lines};
+use crate::judging::{Finding, Judging, every_asked, find_all, judged_lines};
+use mst_carried::Carriage;
 use mst_kinds::{Kind, RefusalLine};
 use mst_net::Network;
 use mst_plan::Plan;
@@ -115,11 +117,14 @@ fn opening<R: Rows>(
     alloc: Global,
     network: &Network,
     plan: &Plan,
+    carriage: &Carriage,
     lines: &[PolicyLine],
     out: &mut R,
 ) -> Result<Opened, AllocError>
-    requires { IsPlan network.now.net network.now.numbers plan.now }
+    requires of { IsPlan network.now.net network.now.numbers plan.now }
+    requires carriage { IsCarriage plan.now carriage.now }
     ensures opened { IfOk result (IsOpened network.now.net plan.now lines.now) }
+    ensures islands { IfOk result (λ opened. HasIslandsOf carriage.now network.now.numbers opened.before) }
     ensures outcome { IfOk result (λ _. IsOutcome network.now.net (plan_outcome network.now.net network.now.numbers plan.now)) }
     ensures put { (first : R) (rows : List Row) → R.grew first out.old rows → OnOk result (R.grew first out.new (rows ++ flat_map (refused_rows network.now.net) lines.now)) }
 {
@@ -127,7 +132,8 @@ fn opening<R: Rows>(
     settled.known();
     let refused = put_refused(&settled, lines, out)?;
     let flags = judged_lines(alloc, &settled, lines)?;
-    let before = Before::new(alloc, &settled)?;
+    let asked = every_asked(lines, flags.as_slice());
+    let before = Before::with_islands(alloc, &settled, carriage, &asked)?;
     Ok(Opened {
         before,
         flags,
@@ -212,7 +218,7 @@ fn put_judged<R: Rows>(
     out: &mut R,
 ) -> Result<(u64, u64), AllocError>
     requires of { IsPlan network.old.net network.old.numbers judging.now.plan.now }
-    requires judging { IsJudging network.old.net judging.now }
+    requires judging { IsJudging network.old.net network.old.numbers judging.now }
     ensures told { IfOk result (λ counts. AreCounted network.old.net (plan_outcome network.old.net network.old.numbers judging.now.plan.now) judging.now.lines.now counts.0 counts.1 (Puts R.grew out.old out.new)) }
     ensures same { SameContents network.old network.new }
 {
@@ -236,9 +242,11 @@ pub fn judge_network<R: Rows>(
     ensures same { SameContents network.old network.new }
 {
     told_where_unkept();
-    let opened = opening(alloc, network, plan, lines, out)?;
+    let carriage = Carriage::new(alloc, &plan.view, &plan.forest)?;
+    let opened = opening(alloc, network, plan, &carriage, lines, out)?;
     let judging = Judging {
         plan,
+        carriage: &carriage,
         before: &opened.before,
         lines,
         flags: opened.flags.as_slice(),

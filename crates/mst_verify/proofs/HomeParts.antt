@@ -14,11 +14,12 @@ use Rattle.mst_lag.specs.declared.in_view.BridgeInView.{BridgeInView}
 use Rattle.mst_summary.specs.net.Contents.{IsNumbered}
 use Rattle.mst_summary.specs.net.Tables.{Net, Numbers}
 use Rattle.mst_summary.specs.trees.Outcome.{Outcome}
+use Rattle.mst_summary.proofs.trees_lemmas.Lists.{some_is}
 use Rattle.mst_sweep.specs.Baseline.{AreHomes}
 use Rattle.mst_sweep.specs.Parts.{home}
 use Rattle.mst_sweep.proofs.Joined.{has_home, home_on, home_joined, joined_home}
 use Rattle.mst_verify.specs.Holds.{IsReached}
-use Rattle.mst_verify.specs.Islands.{home_of, with_homes, names_in, HaveNumbers, AreReachParts}
+use Rattle.mst_verify.specs.Islands.{home_of, with_homes, names_in, HaveNumbers, AreReachParts, TellReached}
 use Rattle.mst_verify.specs.Reasons.{Parts}
 use Rattle.mst_verify.specs.declared.parting.Home.{Home}
 use Rattle.mst_verify.specs.declared.parting.Home.TheVariants as at
@@ -53,14 +54,8 @@ module _ (net : Net) (numbers : Numbers) (o : Outcome) (vid : ℕ) (numbered : I
   abbrev islands : List (Island (List ℕ) (List ℕ))
   islands = are.0
 
-  abbrev number_of : List ℕ → ℕ
-  number_of name = option_map_or (λ n. n) (fin.get numbers.bridges name) 0
-
-  abbrev pub key : List ℕ → Home
-  key name = home_of homes (number_of name)
-
-  key_is : (name : List ℕ) (n : ℕ) → fin.get numbers.bridges name ≡ Some n → key name ≡ at_home (home islands name) n
-  key_is name n e = ap (λ (o : Option ℕ). home_of homes (option_map_or (λ n. n) o 0)) e ∙ ap (λ (o : Option ℕ). at_home o n) (are.2 name n e)
+  home_is : (name : List ℕ) (n : ℕ) → fin.get numbers.bridges name ≡ Some n → home_of homes n ≡ at_home (home islands name) n
+  home_is name n e = ap (λ (o : Option ℕ). at_home o n) (are.2 name n e)
 
   module _ (x y : List ℕ) (n m : ℕ) (x_is : fin.get numbers.bridges x ≡ Some n) (y_is : fin.get numbers.bridges y ≡ Some m) where
     reached : (h : Option ℕ) → home islands x ≡ h → (k : Option ℕ) → home islands y ≡ k → at_home h n ≡ at_home k m → IsReached net o vid x y
@@ -71,15 +66,29 @@ module _ (net : Net) (numbers : Numbers) (o : Outcome) (vid : ℕ) (numbered : I
     reached None e (Some j) f same = absurd (not_alone j n (sym same))
     reached None e None f same = inl (numbered.bridges_differ x y n x_is (y_is ∙ ap Some (sym (one_alone n m same))))
 
-    pub same_reached : key x ≡ key y → IsReached net o vid x y
-    same_reached same = reached (home islands x) refl (home islands y) refl (sym (key_is x n x_is) ∙ same ∙ key_is y m y_is)
+    same_reached : home_of homes n ≡ home_of homes m → IsReached net o vid x y
+    same_reached same = reached (home islands x) refl (home islands y) refl (sym (home_is x n x_is) ∙ same ∙ home_is y m y_is)
 
-    pub reached_same : IsReached net o vid x y → key x ≡ key y
-    reached_same (inl same) = ap key same
+    reached_same : IsReached net o vid x y → home_of homes n ≡ home_of homes m
+    reached_same (inl same) = ap (home_of homes) (some_is n m (sym x_is ∙ ap (fin.get numbers.bridges) same ∙ y_is))
     reached_same (inr t) =
         let h = has_home net o vid islands are.1 x t.first in
         let k : home islands y ≡ Some h.0 = sym (joined_home net o vid islands are.1 x y t.first t.second t.joined) ∙ h.1 in
-        key_is x n x_is ∙ ap (λ (o : Option ℕ). at_home o n) h.1 ∙ sym (key_is y m y_is ∙ ap (λ (o : Option ℕ). at_home o m) k)
+        home_is x n x_is ∙ ap (λ (o : Option ℕ). at_home o n) h.1 ∙ sym (home_is y m y_is ∙ ap (λ (o : Option ℕ). at_home o m) k)
+
+  -- the places of islands tell which bridges are reached
+  pub homes_tell : TellReached net numbers o vid homes
+  homes_tell x y n m x_is y_is = (same_reached x y n m x_is y_is, reached_same x y n m x_is y_is)
+
+module _ (net : Net) (numbers : Numbers) (o : Outcome) (vid : ℕ) (homes : List (ℕ × ℕ)) (tell : TellReached net numbers o vid homes) where
+  abbrev number_of : List ℕ → ℕ
+  number_of name = option_map_or (λ n. n) (fin.get numbers.bridges name) 0
+
+  abbrev pub key : List ℕ → Home
+  key name = home_of homes (number_of name)
+
+  key_is : (name : List ℕ) (n : ℕ) → fin.get numbers.bridges name ≡ Some n → key name ≡ home_of homes n
+  key_is name n e = ap (λ (o : Option ℕ). home_of homes (option_map_or (λ n. n) o 0)) e
 
   module _ (bridges : List BridgeInView) (have : HaveNumbers numbers bridges) where
     number_in : (name : List ℕ) → Contains (names_in bridges) name → (n : ℕ) × (fin.get numbers.bridges name ≡ Some n)
@@ -98,4 +107,7 @@ module _ (net : Net) (numbers : Numbers) (o : Outcome) (vid : ℕ) (numbered : I
         (λ x y hx hy.
         let n = number_in x hx in
         let m = number_in y hy in
-        (λ e. same_reached x y n.0 m.0 n.1 m.1 ((decides (key x) (key y)).0 e), λ r. (decides (key x) (key y)).1 (reached_same x y n.0 m.0 n.1 m.1 r)))
+        let at_x = key_is x n.0 n.1 in
+        let at_y = key_is y m.0 m.1 in
+        let told = tell x y n.0 m.0 n.1 m.1 in
+        (λ e. told.0 (sym at_x ∙ (decides (key x) (key y)).0 e ∙ at_y), λ r. (decides (key x) (key y)).1 (at_x ∙ told.1 r ∙ sym at_y)))

@@ -4,6 +4,7 @@ use Rattle.std.specs.Prelude.{⊤}
 use Rattle.std.specs.HashMap.{HashMap}
 use Rattle.std.proofs.lemmas.Slice.Zip.{AllZip-long}
 use Rattle.std.proofs.lemmas.List.{get_or_default}
+use Rattle.mst_carried.specs.Carried.{ViewWithTrees}
 use Rattle.mst_lag.specs.Viewed.{Viewed}
 use Rattle.mst_summary.specs.net.Tables.{Net, Numbers}
 use Rattle.mst_summary.specs.trees.Agrees.{AreOf, Known}
@@ -12,12 +13,16 @@ use Rattle.mst_summary.specs.trees.Settled.{SettledNet, IsSettledNet, outcome_of
 use Rattle.mst_summary.proofs.trees_lemmas.SettledNet.{forest_of}
 use Rattle.mst_summary.proofs.plan_text_lemmas.Bodied.{zip_at}
 use Rattle.mst_sweep.specs.Baseline.{AreHomes}
-use Rattle.mst_verify.specs.Islands.{AreMade}
+use Rattle.mst_verify.specs.Islands.{AreMade, IsOfPlan}
 
 module _ (s : SettledNet) (is : IsSettledNet s) (v : Viewed) (f : Forest) (same_view : v ≡ s.view) (same_forest : f ≡ s.forest) where
   -- a view and a forest that are those of a settled network
   pub known_of : Known v f.regions
   known_of = subst (λ (w : Viewed). Known w f.regions) (sym same_view) (subst (λ (g : Forest). Known s.view g.regions) (sym same_forest) (record { net = s.net; numbers = s.numbers; of = is.of }))
+
+  -- so they are those that a table of what carries its VIDs is of
+  pub is_of_plan : (c : ViewWithTrees) → c ≡ record { view = v; forest = f } → IsOfPlan s c
+  is_of_plan c is = is ∙ (λ i. record { view = same_view i; forest = same_forest i })
 
   pub homes_told : (vid : ℕ) (homes : List (ℕ × ℕ)) → ((net : Net) (numbers : Numbers) (i : IsForest net numbers f) → AreOf net numbers v f.regions → AreHomes net numbers i.outcome vid homes)
       → AreHomes s.net s.numbers (outcome_of s) vid homes

@@ -13,6 +13,8 @@ pub mod OverNamed
 pub mod NamedIn
 pub mod HomeParts
 pub mod HomesMade
+pub mod StillReached
+pub mod StillMade
 pub mod VidParts
 pub mod ClassParts
 pub mod VidReasons

@@ -1,16 +1,16 @@
 -- Which islands bridges are in, as they are kept for the classes of VIDs of a network.
-use Rattle.std.specs.Prelude.{◌≡◌, ℕ, ◌+◌, ◌<◌, Bool, true, false, List, [], Option, Some, MatchOption, length, map, slice_index, slice_index_or, nat_eq, ⊤}
+use Rattle.std.specs.Prelude.{◌≡◌, ◌↔◌, ℕ, ◌+◌, ◌<◌, Bool, true, false, List, [], Option, Some, None, MatchOption, length, map, slice_index, slice_index_or, nat_eq, ⊤}
 use Rattle.std.specs.List.{AllZip, Contains}
 use Rattle.std.specs.Map.{lookup}
-use Rattle.std.specs.Option.{option_map_or}
+use Rattle.std.specs.Option.{option_map, option_map_or}
 use Rattle.std.specs.FinMap as fin
 use Rattle.std.specs.HashMap.{HashMap}
+use Rattle.mst_carried.specs.Carried.{ViewWithTrees}
 use Rattle.mst_graph.specs.Groups.{AreGroups}
 use Rattle.mst_lag.specs.declared.in_view.BridgeInView.{BridgeInView}
 use Rattle.mst_summary.specs.net.Tables.{Net, Numbers}
-use Rattle.mst_summary.specs.net.Contents.{IsNumbered}
 use Rattle.mst_summary.specs.trees.Outcome.{Outcome}
-use Rattle.mst_summary.specs.trees.Settled.{SettledNet, outcome_of}
+use Rattle.mst_summary.specs.trees.Settled.{SettledNet, IsSettledNet, outcome_of}
 use Rattle.mst_sweep.specs.Baseline.{AreHomes}
 use Rattle.mst_classes.specs.Classes.{AreClasses}
 use Rattle.mst_verify.specs.Holds.{IsReached}
@@ -24,14 +24,47 @@ use Rattle.mst_verify.specs.declared.parting.Home.TheVariants.{Island, Alone}
 abbrev pub AreMade : {S : Type 0} → SettledNet → List ℕ → List (Option (HashMap ℕ ℕ S)) → Type 0
 AreMade s firsts made = AllZip (λ place homes. MatchOption homes ⊤ (λ h. AreHomes s.net s.numbers (outcome_of s) (place + 1) h.entries)) firsts made
 
+-- where a bridge is: in the island of this place, or alone
+abbrev pub home_of : List (ℕ × ℕ) → ℕ → Home
+home_of homes bridge = option_map_or Island (lookup (nat_eq bridge) homes) (Alone bridge)
+
+-- two bridges are at one place just where frames of a VID reach the one from the other
+abbrev pub TellReached : Net → Numbers → Outcome → ℕ → List (ℕ × ℕ) → Type 0
+TellReached net numbers o vid homes =
+    (x y : List ℕ) (n m : ℕ) → fin.get numbers.bridges x ≡ Some n → fin.get numbers.bridges y ≡ Some m → (home_of homes n ≡ home_of homes m) ↔ IsReached net o vid x y
+
+-- what is kept for a class of the network before a failure
+abbrev pub kept_at : Before → ℕ → Option (List (ℕ × ℕ))
+kept_at before class = option_map (λ h. h.entries) (slice_index_or before.homes.items class None)
+
+-- it is this, and the flag of the class says that it tells its islands afterwards, too
+pub record StillTells (before : Before) (homes : Homes) (class : ℕ) (kept : List (ℕ × ℕ)) : Type 0 where
+  pub flag : slice_index_or homes.differ.items class true ≡ false
+  pub is : kept_at before class ≡ Some kept
+
+-- and it does
+abbrev pub AreStill : SettledNet → Before → Homes → Type 0
+AreStill s before homes =
+    (class : ℕ) (kept : List (ℕ × ℕ)) → class < length before.classes.firsts.items → StillTells before homes class kept
+    → TellReached s.net s.numbers (outcome_of s) (slice_index before.classes.firsts.items class + 1) kept
+
 -- what is kept for a network is right: the classes of its VIDs, and their islands
 pub record AreKept (s : SettledNet) (before : Before) (homes : Homes) : Type 0 where
   pub classes : AreClasses s.view before.classes
   pub made : AreMade s before.classes.firsts.items homes.made.items
+  pub still : AreStill s before homes
 
--- where a bridge is: in the island of this place, or alone
-abbrev pub home_of : List (ℕ × ℕ) → ℕ → Home
-home_of homes bridge = option_map_or Island (lookup (nat_eq bridge) homes) (Alone bridge)
+-- the view and the trees are those of a network
+abbrev pub IsOfPlan : SettledNet → ViewWithTrees → Type 0
+IsOfPlan s c = c ≡ record { view = s.view; forest = s.forest }
+
+-- the islands that are kept are those of a network with this view and these trees, whose records have these numbers
+pub record HasIslandsOf (c : ViewWithTrees) (numbers : Numbers) (before : Before) : Type 0 where
+  pub network : SettledNet
+  pub settled : IsSettledNet network
+  pub is_of : IsOfPlan network c
+  pub have_numbers : network.numbers ≡ numbers
+  pub made : AreMade network before.classes.firsts.items before.homes.items
 
 -- bridges with where they are
 abbrev pub with_homes : List (ℕ × ℕ) → List BridgeInView → List (List ℕ × Home)
@@ -49,10 +82,10 @@ HaveNumbers numbers bridges = (b : BridgeInView) → Contains bridges b → fin.
 abbrev pub AreReachParts : Net → Outcome → List (List ℕ) → ℕ → Parts → Type 0
 AreReachParts net o bridges vid parts = AreGroups (IsReached net o vid) bridges parts
 
--- they are so in each network where the places of a VID's islands are these
+-- they are so in each network where these places tell which bridges a VID reaches
 abbrev pub ArePartsBy : List (ℕ × ℕ) → List BridgeInView → Parts → Type 0
 ArePartsBy homes bridges parts =
-    (net : Net) (numbers : Numbers) (o : Outcome) (vid : ℕ) → IsNumbered net numbers → HaveNumbers numbers bridges → AreHomes net numbers o vid homes → AreReachParts net o (names_in bridges) vid parts
+    (net : Net) (numbers : Numbers) (o : Outcome) (vid : ℕ) → HaveNumbers numbers bridges → TellReached net numbers o vid homes → AreReachParts net o (names_in bridges) vid parts
 
 -- for each class with a flag, the parts of its first VID
 abbrev pub AreOfClasses : (ℕ → Parts → Type 0) → List ℕ → List Bool → List Parts → Type 0

@@ -4,22 +4,28 @@ ghost use Rattle.std.specs.HashSet.{contains};
 ghost use Rattle.mst_ids.specs.declared.name.PortName.{PortName as PortNameOf};
 ghost use Rattle.mst_summary.specs.net.Tables.{port_eq};
 ghost use Rattle.mst_classes.specs.Classes.{AreClasses};
+ghost use Rattle.mst_verify.specs.Islands.{HasIslandsOf, IsOfPlan};
 ghost use Rattle.mst_verify.specs.Seen.{IsBefore};
 
-use indexmap::IndexSet;
+use crate::homes::made_at;
+use crate::vids::classes_asked;
+use indexmap::{IndexMap, IndexSet};
+use mst_carried::Carriage;
 use mst_classes::classes_of_vids;
 use mst_graph::Numbering;
-use mst_ids::PortName;
+use mst_ids::{BridgeNo, PortName, VidSet};
 use mst_lag::View;
 use mst_summary::Settled;
 use std::alloc::{AllocError, Global};
 
 /// What is kept of a network for all its failures: the classes of its VIDs that no table and no set of VLANs tells apart, which no failure
-/// changes, and its enabled logical ports.
+/// changes, its enabled logical ports, and the islands of some classes.
 #[derive(Drop)]
 pub struct Before {
     pub(crate) classes: Numbering,
     pub(crate) enabled: IndexSet<PortName>,
+    // For each class, if they are kept, the places of islands, by the numbers of the bridges in them.
+    pub(crate) homes: Vec<Option<IndexMap<BridgeNo, usize>>>,
 }
 
 /// The names of the enabled logical ports.
@@ -45,6 +51,34 @@ impl Before {
         let view = plan.view();
         let classes = classes_of_vids(alloc, view)?;
         let enabled = enabled_ports(alloc, view)?;
-        Ok(Before { classes, enabled })
+        let homes = Vec::new(alloc);
+        Ok(Before {
+            classes,
+            enabled,
+            homes,
+        })
+    }
+
+    /// The same, with the islands of the classes that have one of these VIDs, where `carriage` tells what carries the network's VIDs.
+    /// `AllocError`: memory was wanted and refused.
+    pub fn with_islands(
+        alloc: Global,
+        plan: &Settled,
+        carriage: &Carriage,
+        vids: &VidSet,
+    ) -> Result<Before, AllocError>
+        requires { IsOfPlan plan.now carriage.now }
+        ensures classes { IfOk result (λ before. AreClasses plan.now.view before.classes) }
+        ensures ports { IfOk result (IsBefore plan.now.net) }
+        ensures islands { IfOk result (HasIslandsOf carriage.now plan.now.numbers) }
+    {
+        plan.known();
+        let mut before = Before::new(alloc, plan)?;
+        let places = before.classes.firsts.as_slice();
+        let numbers = before.classes.numbers.as_slice();
+        let asked = classes_asked(alloc, numbers, vids, places.len())?;
+        let homes = made_at(alloc, plan, Some(carriage), places, asked.as_slice())?;
+        before.homes = homes;
+        Ok(before)
     }
 }

@@ -3,14 +3,15 @@ ghost use Rattle.std.specs.List.{All};
 ghost use Rattle.mst_summary.specs.trees.Settled.{outcome_of};
 ghost use Rattle.mst_classes.specs.Classes.{AreClasses};
 ghost use Rattle.mst_sweep.specs.Baseline.{AreHomes};
-ghost use Rattle.mst_verify.specs.Islands.{AreMade};
+ghost use Rattle.mst_verify.specs.Islands.{AreKept, AreMade, HasIslandsOf, IsOfPlan};
 
 use crate::before::Before;
 use crate::vids::classes_asked;
 use indexmap::IndexMap;
+use mst_carried::{Carriage, differing};
 use mst_ids::{BridgeNo, Vid, VidSet};
 use mst_summary::{Planned, Settled};
-use mst_sweep::homes_of;
+use mst_sweep::{homes_by, homes_of};
 use std::alloc::{AllocError, Global};
 
 /// The islands of some classes of VIDs in a network, made once for all expectations that ask for them.
@@ -18,6 +19,8 @@ use std::alloc::{AllocError, Global};
 pub struct Homes {
     // For each class, if they are made, the places of islands, by the numbers of the bridges in them.
     pub(crate) made: Vec<Option<IndexMap<BridgeNo, usize>>>,
+    // For each class a flag, false only where what is kept of the network before the failure tells its islands here, too.
+    pub(crate) differ: Vec<bool>,
 }
 
 /// The places of the islands of a VID, by the numbers of the bridges in them.
@@ -36,39 +39,90 @@ pub(crate) fn homes_in(
     homes_of(alloc, &planned, vid)
 }
 
-/// Those of the VID at a place, which is counted from 0, where the flag says so.
+/// Those of the VID at a place, which is counted from 0.
+fn made_one(
+    alloc: Global,
+    plan: &Settled,
+    carriage: &Carriage,
+    place: usize,
+) -> Result<IndexMap<BridgeNo, usize>, AllocError>
+    requires there { place < 4094 }
+    requires carriage { IsOfPlan plan.now carriage.now }
+    ensures { IfOk result (λ homes. AreHomes plan.now.net plan.now.numbers (outcome_of plan.now) (place + 1) homes.entries) }
+{
+    plan.known();
+    let vid = Vid::new(place as u64 + 1).unwrap();
+    homes_by(alloc, carriage, vid)
+}
+
+/// The same, where the flag says so and there is a table to make them by.
 fn made_if(
     alloc: Global,
     plan: &Settled,
+    carriage: Option<&Carriage>,
     place: usize,
     flag: bool,
 ) -> Result<Option<IndexMap<BridgeNo, usize>>, AllocError>
-    requires { place < 4094 }
+    requires there { place < 4094 }
+    requires carriage { MatchOption carriage ⊤ (λ c. IsOfPlan plan.now c.now) }
     ensures { IfOk result (λ made. MatchOption made ⊤ (λ homes. AreHomes plan.now.net plan.now.numbers (outcome_of plan.now) (place + 1) homes.entries)) }
 {
-    if !flag {
-        return Ok(None);
+    match carriage {
+        Some(carriage) if flag => Ok(Some(made_one(alloc, plan, carriage, place)?)),
+        _ => Ok(None),
     }
-    let vid = Vid::new(place as u64 + 1).unwrap();
-    Ok(Some(homes_in(alloc, plan, vid)?))
 }
 
 /// Those of the VIDs at these places, which are counted from 0, where the flags say so.
-fn made_at(
+pub(crate) fn made_at(
     alloc: Global,
     plan: &Settled,
+    carriage: Option<&Carriage>,
     places: &[usize],
     flags: &[bool],
 ) -> Result<Vec<Option<IndexMap<BridgeNo, usize>>>, AllocError>
     requires vids { All (λ place. place < 4094) places.now }
     requires flags { length flags.now ≡ length places.now }
+    requires carriage { MatchOption carriage ⊤ (λ c. IsOfPlan plan.now c.now) }
     ensures { IfOk result (λ made. AreMade plan.now places.now made.items) }
 {
     let mut made = Vec::new(alloc);
     for class in 0..places.len() {
-        made.push(made_if(alloc, plan, places[class], flags[class])?)?;
+        made.push(made_if(alloc, plan, carriage, places[class], flags[class])?)?;
     }
     Ok(made)
+}
+
+/// The same, by a table of the network that is made once, if any VID is asked for.
+fn made_of(
+    alloc: Global,
+    plan: &Settled,
+    places: &[usize],
+    flags: &[bool],
+    is_none: bool,
+) -> Result<Vec<Option<IndexMap<BridgeNo, usize>>>, AllocError>
+    requires vids { All (λ place. place < 4094) places.now }
+    requires flags { length flags.now ≡ length places.now }
+    ensures { IfOk result (λ made. AreMade plan.now places.now made.items) }
+{
+    if is_none {
+        return made_at(alloc, plan, None, places, flags);
+    }
+    plan.known();
+    let carriage = Carriage::new(alloc, plan.view(), plan.forest())?;
+    made_at(alloc, plan, Some(&carriage), places, flags)
+}
+
+/// The classes that have both flags.
+fn with_both(alloc: Global, asked: &[bool], differ: &[bool]) -> Result<Vec<bool>, AllocError>
+    requires { length asked.now ≡ length differ.now }
+    ensures { IfOk result (λ flags. length flags.items ≡ length differ.now) }
+{
+    let mut flags = Vec::new(alloc);
+    for class in 0..differ.len() {
+        flags.push(asked[class] && differ[class])?;
+    }
+    Ok(flags)
 }
 
 impl Homes {
@@ -81,7 +135,8 @@ impl Homes {
         vids: &VidSet,
     ) -> Result<Homes, AllocError>
         requires { AreClasses plan.now.view before.now.classes }
-        ensures { IfOk result (λ homes. AreMade plan.now before.now.classes.firsts.items homes.made.items) }
+        ensures made { IfOk result (λ homes. AreMade plan.now before.now.classes.firsts.items homes.made.items) }
+        ensures kept { IfOk result (AreKept plan.now before.now) }
     {
         let flags = classes_asked(
             alloc,
@@ -90,7 +145,36 @@ impl Homes {
             before.classes.firsts.len(),
         )?;
         let places = before.classes.firsts.as_slice();
-        let made = made_at(alloc, plan, places, flags.as_slice())?;
-        Ok(Homes { made })
+        let made = made_of(alloc, plan, places, flags.as_slice(), vids.is_empty())?;
+        let differ = Vec::new(alloc);
+        Ok(Homes { made, differ })
+    }
+
+    /// The same, where islands are kept of the network before the failure, of which `old` tells what carries its VIDs: none are made for
+    /// a class that the same ports carry in both networks, as what is kept of it tells its islands here, too. `AllocError`: memory was
+    /// wanted and refused.
+    pub fn beside(
+        alloc: Global,
+        old: &Carriage,
+        plan: &Settled,
+        before: &Before,
+        vids: &VidSet,
+    ) -> Result<Homes, AllocError>
+        requires classes { AreClasses plan.now.view before.now.classes }
+        requires islands { HasIslandsOf old.now plan.now.numbers before.now }
+        ensures { IfOk result (AreKept plan.now before.now) }
+    {
+        if vids.is_empty() {
+            return Homes::new(alloc, plan, before, vids);
+        }
+        plan.known();
+        let places = before.classes.firsts.as_slice();
+        let numbers = before.classes.numbers.as_slice();
+        let asked = classes_asked(alloc, numbers, vids, places.len())?;
+        let carriage = Carriage::new(alloc, plan.view(), plan.forest())?;
+        let differ = differing(alloc, old, &carriage, places)?;
+        let flags = with_both(alloc, asked.as_slice(), differ.as_slice())?;
+        let made = made_at(alloc, plan, Some(&carriage), places, flags.as_slice())?;
+        Ok(Homes { made, differ })
     }
 }

@@ -3,7 +3,8 @@
 //!
 //! An expectation is judged in the network itself, and in those that single failures make of it ([`asks_now`], [`asks`]). A network that is
 //! judged is a [`Judged`]: its plan, what is kept of the network before the failure ([`Before`]), the islands that are made already
-//! ([`Homes`]), and the bridge that failed. [`reasons`] says
+//! ([`Homes`]), and the bridge that failed. Islands are made only for the VIDs that a failure lets other ports carry: what is kept of the
+//! network before it tells those of the others. [`reasons`] says
 //! why an expectation doesn't hold there, each reason as a value, and none where it does: so who asks may keep reasons for as long as it
 //! takes to judge all failures, and tell them afterwards in the order of a policy's lines.
 #![tactic(auto)]

@@ -1,12 +1,13 @@
-ghost use Rattle.std.specs.Prelude.{◌≡◌, ◌+◌, ◌<◌, IfOk, length, map, slice_index};
+ghost use Rattle.std.specs.Prelude.{◌≡◌, ◌+◌, ◌<◌, IfOk, MatchOption, length, map, slice_index, ⊤};
 ghost use Rattle.mst_graph.specs.Groups.{AreGroups};
 ghost use Rattle.mst_summary.specs.trees.Settled.{outcome_of};
 ghost use Rattle.mst_summary.specs.plan_text.Bodies.{NumberEach};
 ghost use Rattle.mst_sweep.specs.Cuts.{names_of, parts_at as parts_at_vid};
 ghost use Rattle.mst_verify.specs.Named.{vids_in};
-ghost use Rattle.mst_verify.specs.Islands.{home_of, with_homes, names_in, AreKept, ArePartsBy, AreReachParts, HaveNumbers};
+ghost use Rattle.mst_verify.specs.Islands.{home_of, with_homes, names_in, AreKept, ArePartsBy, AreReachParts, HaveNumbers, StillTells};
 
-use crate::homes::homes_in;
+use crate::before::Before;
+use crate::homes::{Homes, homes_in};
 use crate::judged::Judged;
 use crate::vids::{classes_of, vids_of};
 use indexmap::IndexMap;
@@ -60,6 +61,20 @@ fn parts(
     groups(alloc, pairs)
 }
 
+/// What is kept of the network before the failure for a class, if it tells the islands of the class here, too.
+fn still<'a>(
+    before: &'a Before,
+    homes: &Homes,
+    class: usize,
+) -> Option<&'a IndexMap<BridgeNo, usize>>
+    ensures { MatchOption result ⊤ (λ h. StillTells before.now homes.now class h.now.entries) }
+{
+    match (homes.differ.get(class), before.homes.get(class)) {
+        (Some(false), Some(Some(kept))) => Some(kept),
+        _ => None,
+    }
+}
+
 /// The parts of these bridges that are in one island of the VIDs of a class, by their first bridges.
 pub(crate) fn parts_at(
     alloc: Global,
@@ -75,6 +90,9 @@ pub(crate) fn parts_at(
     judged.plan.known();
     let made = judged.homes.made.as_slice();
     if let Some(homes) = &made[class] {
+        return parts(alloc, homes, bridges);
+    }
+    if let Some(homes) = still(judged.before, judged.homes, class) {
         return parts(alloc, homes, bridges);
     }
     let firsts = judged.before.classes.firsts.as_slice();
@@ -94,15 +112,18 @@ pub(crate) fn copy(alloc: Global, parts: &[Vec<Name>]) -> Result<Vec<Vec<Name>>,
     Ok(copied)
 }
 
-/// Copies of the parts of each of these.
-fn copies(alloc: Global, bodies: &[Vec<Vec<Name>>]) -> Result<Vec<Vec<Vec<Name>>>, AllocError>
-    ensures { IfOk result (λ copied. map names_of copied.items ≡ map names_of bodies.now) }
+/// The parts of each of these, borrowed.
+fn borrowed<'a>(
+    alloc: Global,
+    bodies: &'a [Vec<Vec<Name>>],
+) -> Result<Vec<&'a Vec<Vec<Name>>>, AllocError>
+    ensures { IfOk result (λ borrowed. map (λ parts. parts.now) borrowed.items ≡ bodies.now) }
 {
-    let mut copied = Vec::new(alloc);
+    let mut borrowed = Vec::new(alloc);
     for parts in bodies {
-        copied.push(copy(alloc, parts.as_slice())?)?;
+        borrowed.push(parts)?;
     }
-    Ok(copied)
+    Ok(borrowed)
 }
 
 /// The groups of these VIDs whose classes have equal parts, by their least VIDs.
@@ -117,6 +138,6 @@ pub(crate) fn grouped(
 {
     let vids = vids_of(alloc, vids)?;
     let classes = classes_of(alloc, numbers, vids.as_slice(), bodies.len())?;
-    let copied = copies(alloc, bodies)?;
-    groups_by_body(alloc, vids.as_slice(), classes.as_slice(), copied)
+    let borrowed = borrowed(alloc, bodies)?;
+    groups_by_body(alloc, vids.as_slice(), classes.as_slice(), borrowed)
 }

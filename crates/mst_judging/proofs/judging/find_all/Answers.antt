@@ -27,7 +27,7 @@ pub find_after-requires-clause-of : goal.find_after-requires-clause-of
 find_after-requires-clause-of c = to_now c.args.network.now c.loop-failure.network c.loop-failure.invariant.same (λ net numbers. IsPlan net numbers c.args.judging.now.plan.now) c.requires.of
 
 pub find_after-requires-clause-judging : goal.find_after-requires-clause-judging
-find_after-requires-clause-judging c = to_now c.args.network.now c.loop-failure.network c.loop-failure.invariant.same (λ net numbers. IsJudging net c.args.judging.now) c.requires.judging
+find_after-requires-clause-judging c = to_now c.args.network.now c.loop-failure.network c.loop-failure.invariant.same (λ net numbers. IsJudging net numbers c.args.judging.now) c.requires.judging
 
 pub loop-failure-preserved : goal.loop-failure-preserved
 loop-failure-preserved c =

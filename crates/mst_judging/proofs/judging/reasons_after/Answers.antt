@@ -15,7 +15,7 @@ pub reasons_then-requires-clause-of : goal.reasons_then-requires-clause-of
 reasons_then-requires-clause-of c = to_now c.args.network.now c.prepare.new.self c.prepare.ensures.same (λ net numbers. IsPlan net numbers c.args.judging.now.plan.now) c.requires.of
 
 pub reasons_then-requires-clause-judging : goal.reasons_then-requires-clause-judging
-reasons_then-requires-clause-judging c = to_now c.args.network.now c.prepare.new.self c.prepare.ensures.same (λ net numbers. IsJudging net c.args.judging.now) c.requires.judging
+reasons_then-requires-clause-judging c = to_now c.args.network.now c.prepare.new.self c.prepare.ensures.same (λ net numbers. IsJudging net numbers c.args.judging.now) c.requires.judging
 
 pub reasons_then-requires-clause-ready : goal.reasons_then-requires-clause-ready
 reasons_then-requires-clause-ready c =

@@ -7,13 +7,15 @@ use Rattle.mst_net.specs.Contents.{Tables, ahead_of}
 use Rattle.mst_classes.specs.Classes.{AreClasses}
 use Rattle.mst_trees.specs.Settled.{SettledNet, outcome_of}
 use Rattle.mst_sweep.specs.Failures.{edit_of}
+use Rattle.mst_net.specs.Tables.{Numbers}
+use Rattle.mst_verify.specs.Islands.{HasIslandsOf}
 use Rattle.mst_verify.specs.Verified.{expected_at}
 use Rattle.mst_judging.specs.Verifying.{AreReasonsIf, HaveLans, plan_outcome, reasons_in}
-use Rattle.mst_judging.proofs.Judgements.{as_many, classes_stay, have_lans_there, lines_after, made_ahead}
+use Rattle.mst_judging.proofs.Judgements.{as_many, classes_stay, have_lans_there, lines_after, made_ahead, numbers_stay}
 use Rattle.mst_judging.proofs.judging.reasons_ahead.Goals as goal
 
-pub new-requires : goal.new-requires
-new-requires c =
+pub beside-requires-clause-classes : goal.beside-requires-clause-classes
+beside-requires-clause-classes c =
     let old = c.args.network.now in
     let edit = c.args.ready.now in
     let f = c.args.failure.now in
@@ -23,19 +25,13 @@ new-requires c =
     (classes_stay f old.net (ahead_of old edit).net old.numbers (ahead_of old edit).numbers j.plan.now.view c.trees_ahead.new.seen (made_ahead f old.net edit c.requires.edit c.requires.ready.accepted) c.requires.of.of.view view
     j.before.now.classes c.requires.judging.classes)
 
-pub judge-requires-clause-kept : goal.judge-requires-clause-kept
-judge-requires-clause-kept c =
+pub beside-requires-clause-islands : goal.beside-requires-clause-islands
+beside-requires-clause-islands c =
     let old = c.args.network.now in
     let edit = c.args.ready.now in
-    let f = c.args.failure.now in
     let j = c.args.judging.now in
-    let view = subst (λ (t : Tables). IsView t.net t.numbers c.trees_ahead.new.seen) c.ahead.ensures c.in_ok-trees.ensures.seen in
-    record {
-      classes = subst (λ (s : SettledNet). AreClasses s.view j.before.now.classes) (sym c.ahead-settled.ensures)
-          (classes_stay f old.net (ahead_of old edit).net old.numbers (ahead_of old edit).numbers j.plan.now.view c.trees_ahead.new.seen (made_ahead f old.net edit c.requires.edit c.requires.ready.accepted) c.requires.of.of.view view
-          j.before.now.classes c.requires.judging.classes);
-      made = c.in_ok-homes.ensures;
-    }
+    subst (λ (s : SettledNet). HasIslandsOf j.carriage.now s.numbers j.before.now) (sym c.ahead-settled.ensures)
+    (subst (λ (numbers : Numbers). HasIslandsOf j.carriage.now numbers j.before.now) (sym (numbers_stay c.args.failure.now edit old.next old.numbers c.requires.edit)) c.requires.judging.islands)
 
 pub judge-requires-clause-flags : goal.judge-requires-clause-flags
 judge-requires-clause-flags c = as_many c.args.network.now.net c.args.judging.now.lines.now c.args.judging.now.flags.now c.requires.judging.flags

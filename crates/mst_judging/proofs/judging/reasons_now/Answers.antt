@@ -3,20 +3,19 @@ use Rattle.std.specs.List.{AllZip}
 use Rattle.std.proofs.lemmas.Result.{IfOk-weaker}
 use Rattle.mst_classes.specs.Classes.{AreClasses}
 use Rattle.mst_trees.specs.Settled.{SettledNet, outcome_of}
-use Rattle.mst_verify.specs.Islands.{AreMade}
+use Rattle.mst_verify.specs.Islands.{HasIslandsOf}
 use Rattle.mst_verify.specs.Verified.{expected_at}
 use Rattle.mst_judging.specs.Verifying.{AreReasonsIf, HaveLans, reasons_in}
 use Rattle.mst_judging.proofs.Judgements.{as_many, have_lans}
 use Rattle.mst_judging.proofs.judging.reasons_now.Goals as goal
 
-pub new-requires : goal.new-requires
-new-requires c = subst (λ (s : SettledNet). AreClasses s.view c.args.judging.now.before.now.classes) (sym c.new-settled.ensures) c.requires.judging.classes
+pub beside-requires-clause-classes : goal.beside-requires-clause-classes
+beside-requires-clause-classes c = subst (λ (s : SettledNet). AreClasses s.view c.args.judging.now.before.now.classes) (sym c.new-settled.ensures) c.requires.judging.classes
 
-pub judge-requires-clause-kept : goal.judge-requires-clause-kept
-judge-requires-clause-kept c = record {
-  classes = subst (λ (s : SettledNet). AreClasses s.view c.args.judging.now.before.now.classes) (sym c.new-settled.ensures) c.requires.judging.classes;
-  made = c.in_ok-homes.ensures;
-}
+pub beside-requires-clause-islands : goal.beside-requires-clause-islands
+beside-requires-clause-islands c =
+    let j = c.args.judging.now in
+    subst (λ (s : SettledNet). HasIslandsOf j.carriage.now s.numbers j.before.now) (sym c.new-settled.ensures) c.requires.judging.islands
 
 pub judge-requires-clause-flags : goal.judge-requires-clause-flags
 judge-requires-clause-flags c = as_many c.args.network.now.net c.args.judging.now.lines.now c.args.judging.now.flags.now c.requires.judging.flags

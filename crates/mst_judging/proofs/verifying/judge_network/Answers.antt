@@ -7,6 +7,9 @@ use Rattle.mst_judging.proofs.Judgements.{zip_weaker}
 use Rattle.mst_sweeping.proofs.Swept.{put_then}
 use Rattle.mst_judging.proofs.verifying.judge_network.Goals as goal
 
+pub new-requires : goal.new-requires
+new-requires g c = record { net = c.args.network.now.net; numbers = c.args.network.now.numbers; of = c.requires.of }
+
 pub put_judged-requires-clause-judging : goal.put_judged-requires-clause-judging
 put_judged-requires-clause-judging g c =
     let opened = c.in_ok-opened.ensures.opened in
@@ -14,6 +17,7 @@ put_judged-requires-clause-judging g c =
       flags = subst (λ (l : List Bool). AreJudged c.args.network.now.net c.args.lines.now l) (sym c.as_slice.ensures.value) opened.flags;
       classes = opened.classes;
       before = opened.before;
+      islands = c.in_ok-opened.ensures.islands;
     }
 
 pub returns-clause-told : goal.returns-clause-told

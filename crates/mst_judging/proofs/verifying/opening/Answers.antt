@@ -1,13 +1,20 @@
-use Rattle.std.proofs.Common.{◌≡◌, ◌++◌, subst}
+use Rattle.std.proofs.Common.{◌≡◌, ◌++◌, sym, subst}
 use Rattle.std.specs.List.{count_by, flat_map}
 use Rattle.mst_diff.specs.Reach.{has_any}
 use Rattle.mst_classes.specs.Classes.{AreClasses}
 use Rattle.mst_trees.specs.Outcome.{IsOutcome}
 use Rattle.mst_trees.specs.Settled.{SettledNet, outcome_of}
+use Rattle.mst_verify.specs.Islands.{HasIslandsOf, IsOfPlan}
 use Rattle.mst_verify.specs.Seen.{IsBefore}
 use Rattle.mst_verify.specs.Verified.{refused_rows}
 use Rattle.mst_judging.specs.Verifying.{AreJudged}
 use Rattle.mst_judging.proofs.verifying.opening.Goals as goal
+
+pub with_islands-requires : goal.with_islands-requires
+with_islands-requires g c = subst (λ (s : SettledNet). IsOfPlan s c.args.carriage.now) (sym c.new-settled.ensures) c.requires.carriage
+
+pub returns-clause-islands : goal.returns-clause-islands
+returns-clause-islands g c = subst (λ (s : SettledNet). HasIslandsOf c.args.carriage.now s.numbers c.in_ok-before.before) c.new-settled.ensures c.in_ok-before.ensures.islands
 
 pub returns-clause-opened : goal.returns-clause-opened
 returns-clause-opened g c =

@@ -11,13 +11,13 @@ use Rattle.mst_verify.proofs.parting.parts.Goals as goal
 
 pub returns : goal.returns
 returns c = IfOk-weaker c.groups.result _ _
-    (λ parts told net numbers o vid numbered have are.
+    (λ parts told net numbers o vid have tell.
     let homes = c.args.homes.now.entries in
     let bridges = c.args.bridges.now in
     let pairs : List (List ℕ × Home) = c.in_ok-pairs.pairs.items in
-    let own = key net numbers o vid numbered homes are in
+    let own = key net numbers o vid homes tell in
     let firsts : map (λ (p : List ℕ × Home). p.0) pairs ≡ names_in bridges = ap (map (λ (p : List ℕ × Home). p.0)) c.in_ok-pairs.ensures ∙ first_names homes bridges in
-    let keyed = subst (AreKeyed own) (sym c.in_ok-pairs.ensures) (are_keyed net numbers o vid numbered homes are bridges have) in
+    let keyed = subst (AreKeyed own) (sym c.in_ok-pairs.ensures) (are_keyed net numbers o vid homes tell bridges have) in
     let same : Home → Home → Bool = ghosts.eq in
-    parts_are net numbers o vid numbered homes are bridges have same (homes_decide same (λ i j. refl) (λ n m. refl) (λ i n. refl) (λ n i. refl)) (names_of parts)
+    parts_are net numbers o vid homes tell bridges have same (homes_decide same (λ i j. refl) (λ n m. refl) (λ i n. refl) (λ n i. refl)) (names_of parts)
     (subst (λ things. AreGroups (λ x y. same (own x) (own y) ≡ true) things (names_of parts)) firsts (told own keyed))) c.groups.ensures
