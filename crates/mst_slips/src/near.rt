@@ -1,7 +1,8 @@
-ghost use Rattle.std.specs.Prelude.{◌≡◌, ℕ, ◌==◌, ◌||◌, map, nat_eq, length};
+ghost use Rattle.std.specs.Prelude.{◌≡◌, ℕ, ◌==◌, ◌||◌, [], filter, map, nat_eq, length};
 ghost use Rattle.std.specs.Char.{to_ascii_lowercase};
 ghost use Rattle.std.specs.Cmp.Lexicographic.{pointwise};
-ghost use Rattle.mst_slips.specs.Near.{are_one_in_lower_case, are_one_letter_apart, are_near};
+ghost use Rattle.mst_lag.specs.Aggregation.{same_name};
+ghost use Rattle.mst_slips.specs.Near.{are_numbered, are_one_in_lower_case, are_one_letter_apart, are_near, is_letter};
 
 use mst_ids::ConfName;
 
@@ -32,10 +33,44 @@ fn is_one_letter_apart(a: &[u8], b: &[u8]) -> bool
     }
 }
 
-/// Whether two names of configurations are nearly one: they differ only by the case of letters, or by one letter.
+/// Whether a text has no letter.
+fn has_no_letter(text: &[u8]) -> bool
+    ensures { result ≡ same_name [] (filter is_letter text.now) }
+{
+    match text {
+        [] => true,
+        [x, xs @ ..] => x.is_ascii_digit() && has_no_letter(xs),
+    }
+}
+
+/// Whether two texts are one without their digits.
+fn is_numbered(a: &[u8], b: &[u8]) -> bool
+    ensures { result ≡ are_numbered a.now b.now }
+{
+    match a {
+        [] => has_no_letter(b),
+        [x, xs @ ..] => {
+            if x.is_ascii_digit() {
+                return is_numbered(xs, b);
+            }
+            match b {
+                [] => false,
+                [y, ys @ ..] => {
+                    if y.is_ascii_digit() {
+                        is_numbered(a, ys)
+                    } else {
+                        x == y && is_numbered(xs, ys)
+                    }
+                }
+            }
+        }
+    }
+}
+
+/// Whether two names of configurations are nearly one: they differ only by the case of letters, or by one letter, and not in digits alone.
 pub(crate) fn is_near(a: &ConfName, b: &ConfName) -> bool
     ensures { result ≡ are_near a.now b.now }
 {
     let (a, b) = (a.as_bytes(), b.as_bytes());
-    is_one_in_lower_case(a, b) || is_one_letter_apart(a, b)
+    !is_numbered(a, b) && (is_one_in_lower_case(a, b) || is_one_letter_apart(a, b))
 }
