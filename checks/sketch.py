@@ -482,8 +482,10 @@ def lans_told(saved):
 
 
 def is_near(one, other):
-    """Whether two names are one but for the case of letters, or but for one letter."""
+    """Whether two names are one but for the case of letters, or but for one letter. Names that differ in digits alone are a numbering."""
     short, long = sorted((one, other), key=len)
+    if re.sub("[0-9]", "", one) == re.sub("[0-9]", "", other):
+        return False
     if len(short) == len(long):
         return one.lower() == other.lower() or sum(a != b for a, b in zip(one, other)) == 1
     return any(long[:at] + long[at + 1 :] == short for at in range(len(long)))
