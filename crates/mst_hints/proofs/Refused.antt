@@ -89,5 +89,6 @@ module _ (adds : List Adding) (makings : List Making) (puts : List Put) (net : N
   line_hinted (query (queries.ShowTree tree)) marked r h = made r h
   line_hinted (query (queries.ShowVlan vid)) marked r h = made r h
   line_hinted (query queries.Save) marked r h = made r h
+  line_hinted (query queries.Digest) marked r h = made r h
   line_hinted Blank marked r h = made r h
   line_hinted Mark marked r h = made r h

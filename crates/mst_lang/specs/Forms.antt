@@ -24,7 +24,7 @@ use Rattle.mst_lang.specs.declared.line.TreeChange.{TreeChange}
 use Rattle.mst_lang.specs.declared.line.TreeChange.TheVariants as trees
 use Rattle.mst_lang.specs.declared.line.Query.TheVariants as queries
 use Rattle.mst_lang.specs.declared.line.Command.{Command}
-use Rattle.mst_lang.specs.declared.line.Command.TheVariants.{AddBridge, DelBridge, Bridge, Kind, AddPort, DelPort, AddLan, DelLan, Lan, Speed, Plug, Unplug, SetKey, SetSysPri, SetTreePrio, SetTreePortPrio, SetPortPathCost, SetPortRestrRole, SetTreePortCost, SetMstConfId, SetVidToMstId, SetMaxHops, SetMaxAge, SetPortVlans, ShowPlan, ShowLag, ShowRegions, ShowNotes, ShowTree, ShowVlan, ShowMstConfId, Mark, Changes, Save}
+use Rattle.mst_lang.specs.declared.line.Command.TheVariants.{AddBridge, DelBridge, Bridge, Kind, AddPort, DelPort, AddLan, DelLan, Lan, Speed, Plug, Unplug, SetKey, SetSysPri, SetTreePrio, SetTreePortPrio, SetPortPathCost, SetPortRestrRole, SetTreePortCost, SetMstConfId, SetVidToMstId, SetMaxHops, SetMaxAge, SetPortVlans, ShowPlan, ShowLag, ShowRegions, ShowNotes, ShowTree, ShowVlan, ShowMstConfId, Mark, Changes, Save, Digest}
 use Rattle.mst_lang.specs.declared.line.Fault.{Fault}
 
 -- ---- kinds of arguments
@@ -149,13 +149,14 @@ rule_of ShowMstConfId = takes (codes "showmstconfid") (BridgeName ∷ []) (λ b.
 rule_of Mark = takes (codes "mark") [] lines.Mark
 rule_of Changes = takes (codes "changes") [] (lines.Query queries.Changes)
 rule_of Save = takes (codes "save") [] (lines.Query queries.Save)
+rule_of Digest = takes (codes "digest") [] (lines.Query queries.Digest)
 
 -- every command, in the order in which they are told
 abbrev pub all_commands : List Command
 all_commands =
     AddBridge ∷ DelBridge ∷ Bridge ∷ Kind ∷ AddPort ∷ DelPort ∷ AddLan ∷ DelLan ∷ Lan ∷ Speed ∷ Plug ∷ Unplug ∷ SetKey ∷ SetSysPri ∷ SetTreePrio ∷ SetTreePortPrio ∷ SetPortPathCost
     ∷ SetPortRestrRole ∷ SetTreePortCost ∷ SetMstConfId ∷ SetVidToMstId ∷ SetMaxHops ∷ SetMaxAge ∷ SetPortVlans ∷ ShowPlan ∷ ShowLag ∷ ShowRegions ∷ ShowNotes ∷ ShowTree ∷ ShowVlan
-    ∷ ShowMstConfId ∷ Mark ∷ Changes ∷ Save ∷ []
+    ∷ ShowMstConfId ∷ Mark ∷ Changes ∷ Save ∷ Digest ∷ []
 
 -- the words that are commands
 abbrev pub commands : List (List ℕ × Command)

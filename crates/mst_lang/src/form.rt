@@ -60,7 +60,7 @@ macro_rules! forms {
     };
 }
 
-static FORMS: [Form; 34] = forms! {
+static FORMS: [Form; 35] = forms! {
     b"addbridge" AddBridge [BridgeName MacAddress] "a new bridge";
     b"delbridge" DelBridge [BridgeName] "takes it away";
     b"bridge" Bridge [BridgeName OnOrOff] "switches it";
@@ -95,6 +95,7 @@ static FORMS: [Form; 34] = forms! {
     b"mark" Mark [] "remembers the network for changes";
     b"changes" Changes [] "prints what has changed since the mark";
     b"save" Save [] "prints a script that makes the network";
+    b"digest" Digest [] "prints the digest of that script";
 };
 
 /// Every command.

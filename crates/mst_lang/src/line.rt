@@ -160,6 +160,8 @@ pub enum Query {
     Changes,
     /// A script of version 2 that makes the network.
     Save,
+    /// The digest of that script.
+    Digest,
 }
 
 /// What a line says.
@@ -210,6 +212,7 @@ pub enum Command {
     Mark,
     Changes,
     Save,
+    Digest,
 }
 
 /// Why a line isn't read. It is displayed as its [`text`](Fault::text).

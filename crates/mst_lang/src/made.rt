@@ -33,6 +33,7 @@ pub(crate) fn made_of_none(command: Command) -> Result<Line, Fault>
         Command::Mark => Ok(Line::Mark),
         Command::Changes => Ok(Line::Query(Query::Changes)),
         Command::Save => Ok(Line::Query(Query::Save)),
+        Command::Digest => Ok(Line::Query(Query::Digest)),
         _ => Err(Fault::E01),
     }
 }

@@ -1,3 +1,4 @@
+pub mod Digest
 pub mod EditLine
 pub mod Runs
 pub mod Saved
