@@ -69,6 +69,7 @@ first_of_query query.Steps = mark.Steps
 first_of_query query.Edits = mark.Edits
 first_of_query query.AdviseRoot = mark.Advise
 first_of_query query.AdviseForward = mark.Advise
+first_of_query query.Digest = mark.Digest
 
 abbrev pub parts_of_query : Query → List Part
 -- `showtree T`
@@ -117,6 +118,8 @@ parts_of_query query.Edits = []
 parts_of_query query.AdviseRoot = part.Said key.Goal mark.Root ∷ part.Key key.Tree ∷ part.Key key.Bridge ∷ []
 -- `advise forward T B P`
 parts_of_query query.AdviseForward = part.Said key.Goal mark.Forward ∷ part.Key key.Tree ∷ part.Key key.Bridge ∷ part.Key key.Port ∷ []
+-- `digest`
+parts_of_query query.Digest = []
 
 -- ---- a line of the text of a tree
 abbrev pub first_of_tree_line : TreeLine → Mark
@@ -409,7 +412,10 @@ first_of_summary_line summary_line.Vlan = mark.Vlan
 first_of_summary_line summary_line.Carries = mark.Carries
 first_of_summary_line summary_line.CarriesAll = mark.Carries
 first_of_summary_line summary_line.LookRegion = mark.Look
+first_of_summary_line summary_line.LookTable = mark.Look
 first_of_summary_line summary_line.LookLan = mark.Look
+first_of_summary_line summary_line.LookVlans = mark.Look
+first_of_summary_line summary_line.Digest = mark.Digest
 
 abbrev pub parts_of_summary_line : SummaryLine → List Part
 -- `bridges N on N ports N enabled N regions N trees N`
@@ -428,8 +434,14 @@ parts_of_summary_line summary_line.Carries = part.Key key.Lan ∷ part.Key key.V
 parts_of_summary_line summary_line.CarriesAll = part.Mark mark.Every ∷ part.Commas key.Lans ∷ []
 -- `look region CNAME B,.. CNAME B,..`
 parts_of_summary_line summary_line.LookRegion = part.Said key.Look mark.Region ∷ part.Key key.Name ∷ part.Commas key.Bridges ∷ part.Key key.OtherName ∷ part.Commas key.OtherBridges ∷ []
+-- `look region NAME REV B table without VIDS`
+parts_of_summary_line summary_line.LookTable = part.Said key.Look mark.Region ∷ part.Key key.Name ∷ part.Key key.Revision ∷ part.Key key.Bridge ∷ part.Mark mark.Table ∷ part.Mark mark.Without ∷ part.Key key.Vids ∷ []
 -- `look lan L speed S next S`
 parts_of_summary_line summary_line.LookLan = part.Said key.Look mark.Lan ∷ part.Key key.Lan ∷ part.Mark mark.Speed ∷ part.Key key.Speed ∷ part.Mark mark.Next ∷ part.Key key.NextSpeed ∷ []
+-- `look vlans B:P VIDS C:Q VIDS`
+parts_of_summary_line summary_line.LookVlans = part.Said key.Look mark.Vlans ∷ part.Port ∷ part.Key key.Vids ∷ part.Key key.OtherPort ∷ part.Key key.OtherVids ∷ []
+-- `digest DIGEST`
+parts_of_summary_line summary_line.Digest = part.Key key.Digest ∷ []
 
 -- ---- a line of what a capture has
 abbrev pub first_of_capture_line : CaptureLine → Mark
@@ -476,6 +488,8 @@ first_of_refusal_line refusal_line.Dot = mark.Dot
 first_of_refusal_line refusal_line.Policy = mark.Policy
 first_of_refusal_line refusal_line.Change = mark.Change
 first_of_refusal_line refusal_line.Advise = mark.Advise
+first_of_refusal_line refusal_line.StepPolicy = mark.Policy
+first_of_refusal_line refusal_line.StepChange = mark.Change
 
 abbrev pub parts_of_refusal_line : RefusalLine → List Part
 -- `line N CODE TEXT`
@@ -496,6 +510,10 @@ parts_of_refusal_line refusal_line.Policy = part.Key key.Line ∷ part.Key key.E
 parts_of_refusal_line refusal_line.Change = part.Key key.Line ∷ part.Key key.Error ∷ part.Key key.Text ∷ []
 -- `advise CODE TEXT`
 parts_of_refusal_line refusal_line.Advise = part.Key key.Error ∷ part.Key key.Text ∷ []
+-- `policy N CODE TEXT`, behind a step
+parts_of_refusal_line refusal_line.StepPolicy = part.Above key.Step ∷ part.Key key.Line ∷ part.Key key.Error ∷ part.Key key.Text ∷ []
+-- `change N CODE TEXT`, behind a step
+parts_of_refusal_line refusal_line.StepChange = part.Above key.Step ∷ part.Key key.Line ∷ part.Key key.Error ∷ part.Key key.Text ∷ []
 
 -- ---- a line of a standing planner
 abbrev pub first_of_ask_line : AskLine → Mark
@@ -517,6 +535,7 @@ first_of_verify_line verify_line.Region = mark.Fails
 first_of_verify_line verify_line.Role = mark.Fails
 first_of_verify_line verify_line.Reach = mark.Fails
 first_of_verify_line verify_line.Apart = mark.Fails
+first_of_verify_line verify_line.Together = mark.Fails
 first_of_verify_line verify_line.Leaf = mark.Fails
 first_of_verify_line verify_line.Depth = mark.Fails
 first_of_verify_line verify_line.Carries = mark.Fails
@@ -525,6 +544,7 @@ first_of_verify_line verify_line.Hops = mark.Fails
 first_of_verify_line verify_line.Age = mark.Fails
 first_of_verify_line verify_line.ExternalCost = mark.Fails
 first_of_verify_line verify_line.InternalCost = mark.Fails
+first_of_verify_line verify_line.Same = mark.Same
 first_of_verify_line verify_line.Counts = mark.Verify
 
 abbrev pub parts_of_verify_line : VerifyLine → List Part
@@ -542,6 +562,8 @@ parts_of_verify_line verify_line.Role = part.Key key.Line ∷ part.Key key.Failu
 parts_of_verify_line verify_line.Reach = part.Key key.Line ∷ part.Key key.Failure ∷ part.Said key.Expectation mark.Reach ∷ part.Key key.Vids ∷ part.Mark mark.Parts ∷ part.Key key.Parts ∷ []
 -- `fails N PLACE apart VIDS joined B,.. ..`
 parts_of_verify_line verify_line.Apart = part.Key key.Line ∷ part.Key key.Failure ∷ part.Said key.Expectation mark.Apart ∷ part.Key key.Vids ∷ part.Mark mark.Joined ∷ part.Key key.Joined ∷ []
+-- `fails N PLACE together VIDS parts B,.. ..`
+parts_of_verify_line verify_line.Together = part.Key key.Line ∷ part.Key key.Failure ∷ part.Said key.Expectation mark.Together ∷ part.Key key.Vids ∷ part.Mark mark.Parts ∷ part.Key key.Parts ∷ []
 -- `fails N PLACE leaf T B parent of C,..`
 parts_of_verify_line verify_line.Leaf = part.Key key.Line ∷ part.Key key.Failure ∷ part.Said key.Expectation mark.Leaf ∷ part.Key key.Tree ∷ part.Key key.Bridge ∷ part.Mark mark.Parent ∷ part.Mark mark.Of ∷ part.Commas key.Bridges ∷ []
 -- `fails N PLACE depth T D B,..`
@@ -558,13 +580,22 @@ parts_of_verify_line verify_line.Age = part.Key key.Line ∷ part.Key key.Failur
 parts_of_verify_line verify_line.ExternalCost = part.Key key.Line ∷ part.Key key.Failure ∷ part.Told key.Expectation mark.Fits ∷ part.Mark mark.Note ∷ part.Said key.Note mark.Cost ∷ part.Key key.Tree ∷ part.Key key.Bridge ∷ part.Mark mark.Ext ∷ part.Key key.Ext ∷ []
 -- `fails N PLACE note cost T B int C`
 parts_of_verify_line verify_line.InternalCost = part.Key key.Line ∷ part.Key key.Failure ∷ part.Told key.Expectation mark.Fits ∷ part.Mark mark.Note ∷ part.Said key.Note mark.Cost ∷ part.Key key.Tree ∷ part.Key key.Bridge ∷ part.Mark mark.Int ∷ part.Key key.Int ∷ []
+-- `same N failures M`
+parts_of_verify_line verify_line.Same = part.Key key.Line ∷ part.Mark mark.Failures ∷ part.Key key.FailureCount ∷ []
 -- `verify expectations N hold M`
-parts_of_verify_line verify_line.Counts = part.Mark mark.Expectations ∷ part.Key key.ExpectationCount ∷ part.Mark mark.Hold ∷ part.Key key.HoldCount ∷ []
+parts_of_verify_line verify_line.Counts = part.Mark mark.Expectations ∷ part.Key key.ExpectationCount ∷ part.Mark mark.Hold ∷ part.Key key.HoldCount ∷ part.Above key.Promises ∷ []
+
+-- the same of a line of a policy behind a step: in front the number of that step, of the record alone
+abbrev pub parts_behind_step : VerifyLine → List Part
+parts_behind_step line = part.Above key.Step ∷ parts_of_verify_line line
 
 -- ---- a line of what the steps of a change do
 abbrev pub first_of_step_line : StepLine → Mark
 first_of_step_line step_line.Step = mark.Step
 first_of_step_line step_line.Cut = mark.Cut
+first_of_step_line step_line.Start = mark.Start
+first_of_step_line step_line.Mends = mark.Mends
+first_of_step_line step_line.Restarts = mark.Restarts
 first_of_step_line step_line.Counts = mark.Steps
 first_of_step_line step_line.JudgedCounts = mark.Steps
 
@@ -573,20 +604,32 @@ abbrev pub parts_of_step_line : StepLine → List Part
 parts_of_step_line step_line.Step = part.Key key.Step ∷ part.Mark mark.Lines ∷ part.Key key.Lines ∷ part.Mark mark.Roots ∷ part.Commas key.Trees ∷ part.Mark mark.Ports ∷ part.Key key.PortCount ∷ part.Mark mark.Moved ∷ part.Key key.MovedVids ∷ part.Mark mark.Cut ∷ part.Key key.CutVids ∷ part.Mark mark.Joined ∷ part.Key key.JoinedVids ∷ []
 -- `cut VIDS parts B,.. ..`, behind a step
 parts_of_step_line step_line.Cut = part.Above key.Step ∷ part.Key key.Vids ∷ part.Mark mark.Parts ∷ part.Key key.Parts ∷ []
+-- `start unkept S`
+parts_of_step_line step_line.Start = part.Above key.Step ∷ part.Mark mark.Unkept ∷ part.Key key.UnkeptCount ∷ []
+-- `mends N`
+parts_of_step_line step_line.Mends = part.Above key.Step ∷ part.Key key.Line ∷ []
+-- `restarts B:P,..`
+parts_of_step_line step_line.Restarts = part.Above key.Step ∷ part.Commas key.Ports ∷ []
 -- `steps K moving M cutting N`
 parts_of_step_line step_line.Counts = part.Key key.StepCount ∷ part.Mark mark.Moving ∷ part.Key key.MovingCount ∷ part.Mark mark.Cutting ∷ part.Key key.CuttingCount ∷ []
--- `steps K moving M cutting N failing F`
-parts_of_step_line step_line.JudgedCounts = part.Key key.StepCount ∷ part.Mark mark.Moving ∷ part.Key key.MovingCount ∷ part.Mark mark.Cutting ∷ part.Key key.CuttingCount ∷ part.Mark mark.Failing ∷ part.Key key.FailingCount ∷ []
+-- `steps K moving M cutting N failing F unkept U`
+parts_of_step_line step_line.JudgedCounts = part.Key key.StepCount ∷ part.Mark mark.Moving ∷ part.Key key.MovingCount ∷ part.Mark mark.Cutting ∷ part.Key key.CuttingCount ∷ part.Mark mark.Failing ∷ part.Key key.FailingCount ∷ part.Mark mark.Unkept ∷ part.Key key.UnkeptCount ∷ []
 
 -- ---- a line of which settings bring about what is wanted
 abbrev pub first_of_advise_line : AdviseLine → Mark
 first_of_advise_line advise_line.Priority = mark.Edit
 first_of_advise_line advise_line.ExternalCost = mark.Edit
 first_of_advise_line advise_line.InternalCost = mark.Edit
+first_of_advise_line advise_line.PortPriority = mark.Edit
 first_of_advise_line advise_line.Does = mark.Does
 first_of_advise_line advise_line.Cut = mark.Cut
 first_of_advise_line advise_line.Counts = mark.Advise
 first_of_advise_line advise_line.None = mark.Advise
+first_of_advise_line advise_line.BecauseOff = mark.Because
+first_of_advise_line advise_line.BecauseDown = mark.Because
+first_of_advise_line advise_line.BecauseApart = mark.Because
+first_of_advise_line advise_line.BecauseRestricted = mark.Because
+first_of_advise_line advise_line.BecauseTried = mark.Because
 
 abbrev pub parts_of_advise_line : AdviseLine → List Part
 -- `edit settreeprio B T PRIO`
@@ -595,6 +638,8 @@ parts_of_advise_line advise_line.Priority = part.Said key.Command mark.SetTreePr
 parts_of_advise_line advise_line.ExternalCost = part.Said key.Command mark.SetPortPathCost ∷ part.Key key.Bridge ∷ part.Key key.Port ∷ part.Key key.Ext ∷ []
 -- `edit settreeportcost B P T COST`
 parts_of_advise_line advise_line.InternalCost = part.Said key.Command mark.SetTreePortCost ∷ part.Key key.Bridge ∷ part.Key key.Port ∷ part.Key key.Tree ∷ part.Key key.Int ∷ []
+-- `edit settreeportprio B P T PRIO`
+parts_of_advise_line advise_line.PortPriority = part.Said key.Command mark.SetTreePortPrio ∷ part.Key key.Bridge ∷ part.Key key.Port ∷ part.Key key.Tree ∷ part.Key key.PortPriority ∷ []
 -- `does roots T,.. ports N moved VIDS cut VIDS joined VIDS`
 parts_of_advise_line advise_line.Does = part.Mark mark.Roots ∷ part.Commas key.Trees ∷ part.Mark mark.Ports ∷ part.Key key.PortCount ∷ part.Mark mark.Moved ∷ part.Key key.MovedVids ∷ part.Mark mark.Cut ∷ part.Key key.CutVids ∷ part.Mark mark.Joined ∷ part.Key key.JoinedVids ∷ []
 -- `cut VIDS parts B,.. ..`, behind what the edits do
@@ -603,6 +648,16 @@ parts_of_advise_line advise_line.Cut = part.Key key.Vids ∷ part.Mark mark.Part
 parts_of_advise_line advise_line.Counts = part.Mark mark.Edits ∷ part.Key key.EditCount ∷ []
 -- `advise none`
 parts_of_advise_line advise_line.None = part.Said key.Result mark.None ∷ []
+-- `because off B`
+parts_of_advise_line advise_line.BecauseOff = part.Said key.Because mark.Off ∷ part.Key key.OffBridge ∷ []
+-- `because down L`
+parts_of_advise_line advise_line.BecauseDown = part.Said key.Because mark.Down ∷ part.Key key.DownLan ∷ []
+-- `because apart B,..`
+parts_of_advise_line advise_line.BecauseApart = part.Said key.Because mark.Apart ∷ part.Commas key.Bridges ∷ []
+-- `because restricted`
+parts_of_advise_line advise_line.BecauseRestricted = part.Said key.Because mark.Restricted ∷ []
+-- `because tried N`
+parts_of_advise_line advise_line.BecauseTried = part.Said key.Because mark.Tried ∷ part.Key key.TrialCount ∷ []
 
 -- ---- all kinds
 abbrev pub first_of : Kind → Mark
@@ -622,6 +677,7 @@ first_of (kind.Capture line) = first_of_capture_line line
 first_of (kind.Refusal line) = first_of_refusal_line line
 first_of (kind.Ask line) = first_of_ask_line line
 first_of (kind.Verify line) = first_of_verify_line line
+first_of (kind.StepVerify line) = first_of_verify_line line
 first_of (kind.Step line) = first_of_step_line line
 first_of (kind.Advise line) = first_of_advise_line line
 
@@ -642,5 +698,6 @@ parts_of (kind.Capture line) = parts_of_capture_line line
 parts_of (kind.Refusal line) = parts_of_refusal_line line
 parts_of (kind.Ask line) = parts_of_ask_line line
 parts_of (kind.Verify line) = parts_of_verify_line line
+parts_of (kind.StepVerify line) = parts_behind_step line
 parts_of (kind.Step line) = parts_of_step_line line
 parts_of (kind.Advise line) = parts_of_advise_line line

@@ -8,7 +8,7 @@ use Rattle.mst_kinds.specs.declared.part.Part.{Part}
 use Rattle.mst_kinds.specs.declared.part.Part.TheVariants as part
 use Rattle.mst_kinds.specs.Kinds.{parts_of}
 
--- a giver is a port, or a bridge's own vector; an own port is that of a record
+-- a giver is a port, or a bridge's own vector; an own port is that of a record; lines are a first one and a last one; flags stand in promises alone
 pub data Sort : Type 0 where
   words : Sort
   numbers : Sort
@@ -23,6 +23,9 @@ pub data Sort : Type 0 where
   objects : Sort
   failures : Sort
   own_port : Sort
+  lines : Sort
+  promises : Sort
+  flags : Sort
 
 abbrev pub sort_of : Key → Sort
 sort_of key.Tree = numbers
@@ -97,6 +100,16 @@ sort_of key.FailingCount = numbers
 sort_of key.EditCount = numbers
 sort_of key.OtherBridges = names
 sort_of key.NextSpeed = numbers
+sort_of key.Lines = lines
+sort_of key.UnkeptCount = numbers
+sort_of key.FailureCount = numbers
+sort_of key.NetworkCount = numbers
+sort_of key.TrialCount = numbers
+sort_of key.Promises = promises
+sort_of key.Finally = flags
+sort_of key.Holds = flags
+sort_of key.OtherPort = a_port
+sort_of key.OtherVids = vids
 sort_of k = words
 
 -- the types of the values that a part takes, and those of a kind, in their order

@@ -180,7 +180,7 @@ pub enum Key {
     NextPriority,
     /// How many islands with a bridge.
     IslandCount,
-    /// The number of a line, from 1 on.
+    /// The number of a line, from 1 on; 0 of a policy as a whole.
     Line,
     /// `agrees`, `unplanned`, `repeated` or `missing` of a capture; `none` of advice.
     Result,
@@ -212,9 +212,9 @@ pub enum Key {
     ExpectationCount,
     /// How many of them hold.
     HoldCount,
-    /// The number of a step, from 1 on.
+    /// The number of a step, from 1 on; 0 of what is before the first.
     Step,
-    /// The numbers of the first and of the last line of a step that has an edit, as `N-M`.
+    /// The numbers of the first and of the last line of a step that has an edit.
     Lines,
     /// The VIDs whose links, or whose islands, a step changes.
     MovedVids,
@@ -228,7 +228,7 @@ pub enum Key {
     MovingCount,
     /// How many of them cut some VID.
     CuttingCount,
-    /// After how many of them the policy isn't kept.
+    /// How many of them break a promise.
     FailingCount,
     /// `root` or `forward`: what advice is asked for.
     Goal,
@@ -236,7 +236,7 @@ pub enum Key {
     Command,
     /// How many edits.
     EditCount,
-    /// `region` or `lan`: where a slip may be.
+    /// `region`, `lan` or `vlans`: where a slip may be.
     Look,
     /// The name of an MST configuration, too.
     OtherName,
@@ -248,6 +248,30 @@ pub enum Key {
     CaptureCount,
     /// How many of them agree with the plan.
     AgreeCount,
+    /// How many lines of a policy aren't kept in a network.
+    UnkeptCount,
+    /// After how many failures a reason is there that is told without them.
+    FailureCount,
+    /// In how many networks a promise is judged.
+    NetworkCount,
+    /// How many settings are tried.
+    TrialCount,
+    /// Each promise of a policy, with whether it holds.
+    Promises,
+    /// The words of a promise, with one space between.
+    Promise,
+    /// `always`, `after lan` or `after bridge`: the scope of a promise; null where it has none.
+    Scope,
+    /// Whether a promise is one of the end alone.
+    Finally,
+    /// Whether a promise holds; null where it is judged in no network.
+    Holds,
+    /// Why there is no advice: `off`, `down`, `apart`, `restricted` or `tried`.
+    Because,
+    /// The other port of the LAN.
+    OtherPort,
+    /// The VIDs of the other port.
+    OtherVids,
 }
 
 impl Key {
@@ -378,6 +402,18 @@ impl Key {
             Key::NextSpeed => b"next_speed",
             Key::CaptureCount => b"capture_count",
             Key::AgreeCount => b"agree_count",
+            Key::UnkeptCount => b"unkept_count",
+            Key::FailureCount => b"failure_count",
+            Key::NetworkCount => b"network_count",
+            Key::TrialCount => b"trial_count",
+            Key::Promises => b"promises",
+            Key::Promise => b"promise",
+            Key::Scope => b"scope",
+            Key::Finally => b"finally",
+            Key::Holds => b"holds",
+            Key::Because => b"because",
+            Key::OtherPort => b"other_port",
+            Key::OtherVids => b"other_vids",
         }
     }
 }

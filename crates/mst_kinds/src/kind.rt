@@ -57,6 +57,8 @@ pub enum Kind {
     Ask(AskLine),
     /// A line of whether a network does what a policy promises.
     Verify(VerifyLine),
+    /// The same of the network behind a step of a change.
+    StepVerify(VerifyLine),
     /// A line of what the steps of a change do.
     Step(StepLine),
     /// A line of which settings bring about what is wanted.
@@ -85,6 +87,7 @@ impl Kind {
             Kind::Refusal(line) => line.first(),
             Kind::Ask(line) => line.first(),
             Kind::Verify(line) => line.first(),
+            Kind::StepVerify(line) => line.first(),
             Kind::Step(line) => line.first(),
             Kind::Advise(line) => line.first(),
         }
@@ -111,6 +114,7 @@ impl Kind {
             Kind::Refusal(line) => line.parts(),
             Kind::Ask(line) => line.parts(),
             Kind::Verify(line) => line.parts(),
+            Kind::StepVerify(line) => line.parts_behind_step(),
             Kind::Step(line) => line.parts(),
             Kind::Advise(line) => line.parts(),
         }

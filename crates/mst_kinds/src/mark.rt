@@ -147,6 +147,16 @@ pub enum Mark {
     Every,
     Captures,
     Agree,
+    Together,
+    Same,
+    Failures,
+    Start,
+    Unkept,
+    Mends,
+    Restarts,
+    Because,
+    Tried,
+    Table,
 }
 
 impl Mark {
@@ -298,6 +308,16 @@ impl Mark {
             Mark::Every => b"*",
             Mark::Captures => b"captures",
             Mark::Agree => b"agree",
+            Mark::Together => b"together",
+            Mark::Same => b"same",
+            Mark::Failures => b"failures",
+            Mark::Start => b"start",
+            Mark::Unkept => b"unkept",
+            Mark::Mends => b"mends",
+            Mark::Restarts => b"restarts",
+            Mark::Because => b"because",
+            Mark::Tried => b"tried",
+            Mark::Table => b"table",
         }
     }
 }

@@ -53,6 +53,8 @@ pub enum Query {
     AdviseRoot,
     /// `advise forward T B P`
     AdviseForward,
+    /// `digest`
+    Digest,
 }
 
 impl Query {
@@ -84,6 +86,7 @@ impl Query {
             Query::Edits => Mark::Edits,
             Query::AdviseRoot => Mark::Advise,
             Query::AdviseForward => Mark::Advise,
+            Query::Digest => Mark::Digest,
         }
     }
 
@@ -115,6 +118,7 @@ impl Query {
             Query::Edits => parts![],
             Query::AdviseRoot => parts![Said Goal Root, Key Tree, Key Bridge],
             Query::AdviseForward => parts![Said Goal Forward, Key Tree, Key Bridge, Key Port],
+            Query::Digest => parts![],
         }
     }
 }

@@ -25,6 +25,10 @@ pub enum RefusalLine {
     Change,
     /// `advise CODE TEXT`
     Advise,
+    /// `policy N CODE TEXT`, behind a step
+    StepPolicy,
+    /// `change N CODE TEXT`, behind a step
+    StepChange,
 }
 
 impl RefusalLine {
@@ -42,6 +46,8 @@ impl RefusalLine {
             RefusalLine::Policy => Mark::Policy,
             RefusalLine::Change => Mark::Change,
             RefusalLine::Advise => Mark::Advise,
+            RefusalLine::StepPolicy => Mark::Policy,
+            RefusalLine::StepChange => Mark::Change,
         }
     }
 
@@ -59,6 +65,8 @@ impl RefusalLine {
             RefusalLine::Policy => parts![Key Line, Key Error, Key Text],
             RefusalLine::Change => parts![Key Line, Key Error, Key Text],
             RefusalLine::Advise => parts![Key Error, Key Text],
+            RefusalLine::StepPolicy => parts![Above Step, Key Line, Key Error, Key Text],
+            RefusalLine::StepChange => parts![Above Step, Key Line, Key Error, Key Text],
         }
     }
 }

@@ -11,9 +11,15 @@ pub enum StepLine {
     Step,
     /// `cut VIDS parts B,.. ..`, behind a step
     Cut,
+    /// `start unkept S`
+    Start,
+    /// `mends N`
+    Mends,
+    /// `restarts B:P,..`
+    Restarts,
     /// `steps K moving M cutting N`
     Counts,
-    /// `steps K moving M cutting N failing F`
+    /// `steps K moving M cutting N failing F unkept U`
     JudgedCounts,
 }
 
@@ -25,6 +31,9 @@ impl StepLine {
         match self {
             StepLine::Step => Mark::Step,
             StepLine::Cut => Mark::Cut,
+            StepLine::Start => Mark::Start,
+            StepLine::Mends => Mark::Mends,
+            StepLine::Restarts => Mark::Restarts,
             StepLine::Counts => Mark::Steps,
             StepLine::JudgedCounts => Mark::Steps,
         }
@@ -38,10 +47,13 @@ impl StepLine {
             StepLine::Step =>
                 parts![Key Step, Mark Lines, Key Lines, Mark Roots, Commas Trees, Mark Ports, Key PortCount, Mark Moved, Key MovedVids, Mark Cut, Key CutVids, Mark Joined, Key JoinedVids],
             StepLine::Cut => parts![Above Step, Key Vids, Mark Parts, Key Parts],
+            StepLine::Start => parts![Above Step, Mark Unkept, Key UnkeptCount],
+            StepLine::Mends => parts![Above Step, Key Line],
+            StepLine::Restarts => parts![Above Step, Commas Ports],
             StepLine::Counts =>
                 parts![Key StepCount, Mark Moving, Key MovingCount, Mark Cutting, Key CuttingCount],
             StepLine::JudgedCounts =>
-                parts![Key StepCount, Mark Moving, Key MovingCount, Mark Cutting, Key CuttingCount, Mark Failing, Key FailingCount],
+                parts![Key StepCount, Mark Moving, Key MovingCount, Mark Cutting, Key CuttingCount, Mark Failing, Key FailingCount, Mark Unkept, Key UnkeptCount],
         }
     }
 }

@@ -23,8 +23,14 @@ pub enum SummaryLine {
     CarriesAll,
     /// `look region CNAME B,.. CNAME B,..`
     LookRegion,
+    /// `look region NAME REV B table without VIDS`
+    LookTable,
     /// `look lan L speed S next S`
     LookLan,
+    /// `look vlans B:P VIDS C:Q VIDS`
+    LookVlans,
+    /// `digest DIGEST`, of the network
+    Digest,
 }
 
 impl SummaryLine {
@@ -41,7 +47,10 @@ impl SummaryLine {
             SummaryLine::Carries => Mark::Carries,
             SummaryLine::CarriesAll => Mark::Carries,
             SummaryLine::LookRegion => Mark::Look,
+            SummaryLine::LookTable => Mark::Look,
             SummaryLine::LookLan => Mark::Look,
+            SummaryLine::LookVlans => Mark::Look,
+            SummaryLine::Digest => Mark::Digest,
         }
     }
 
@@ -62,8 +71,13 @@ impl SummaryLine {
             SummaryLine::CarriesAll => parts![Mark Every, Commas Lans],
             SummaryLine::LookRegion =>
                 parts![Said Look Region, Key Name, Commas Bridges, Key OtherName, Commas OtherBridges],
+            SummaryLine::LookTable =>
+                parts![Said Look Region, Key Name, Key Revision, Key Bridge, Mark Table, Mark Without, Key Vids],
             SummaryLine::LookLan =>
                 parts![Said Look Lan, Key Lan, Mark Speed, Key Speed, Mark Next, Key NextSpeed],
+            SummaryLine::LookVlans =>
+                parts![Said Look Vlans, Port, Key Vids, Key OtherPort, Key OtherVids],
+            SummaryLine::Digest => parts![Key Digest],
         }
     }
 }

@@ -1,5 +1,5 @@
 ghost use Rattle.std.specs.Prelude.{◌≡◌};
-ghost use Rattle.mst_kinds.specs.Kinds.{first_of_verify_line, parts_of_verify_line};
+ghost use Rattle.mst_kinds.specs.Kinds.{first_of_verify_line, parts_behind_step, parts_of_verify_line};
 
 use crate::mark::Mark;
 use crate::part::{Part, parts};
@@ -21,6 +21,8 @@ pub enum VerifyLine {
     Reach,
     /// `fails N PLACE apart VIDS joined B,.. ..`
     Apart,
+    /// `fails N PLACE together VIDS parts B,.. ..`
+    Together,
     /// `fails N PLACE leaf T B parent of C,..`
     Leaf,
     /// `fails N PLACE depth T D B,..`
@@ -37,6 +39,8 @@ pub enum VerifyLine {
     ExternalCost,
     /// `fails N PLACE note cost T B int C`
     InternalCost,
+    /// `same N failures M`
+    Same,
     /// `verify expectations N hold M`
     Counts,
 }
@@ -54,6 +58,7 @@ impl VerifyLine {
             VerifyLine::Role => Mark::Fails,
             VerifyLine::Reach => Mark::Fails,
             VerifyLine::Apart => Mark::Fails,
+            VerifyLine::Together => Mark::Fails,
             VerifyLine::Leaf => Mark::Fails,
             VerifyLine::Depth => Mark::Fails,
             VerifyLine::Carries => Mark::Fails,
@@ -62,6 +67,7 @@ impl VerifyLine {
             VerifyLine::Age => Mark::Fails,
             VerifyLine::ExternalCost => Mark::Fails,
             VerifyLine::InternalCost => Mark::Fails,
+            VerifyLine::Same => Mark::Same,
             VerifyLine::Counts => Mark::Verify,
         }
     }
@@ -70,39 +76,52 @@ impl VerifyLine {
     pub fn parts(self) -> &'static [Part]
         ensures { result.now ≡ parts_of_verify_line self }
     {
+        match self.parts_behind_step() {
+            [_, parts @ ..] => parts,
+            [] => parts![],
+        }
+    }
+
+    /// The same of a line behind a step, which has the number of that step in front, in its record alone.
+    pub fn parts_behind_step(self) -> &'static [Part]
+        ensures { result.now ≡ parts_behind_step self }
+    {
         match self {
             VerifyLine::OtherRoot =>
-                parts![Key Line, Key Failure, Said Expectation Root, Key Tree, Key Root, Mark Of, Key BridgeCount],
+                parts![Above Step, Key Line, Key Failure, Said Expectation Root, Key Tree, Key Root, Mark Of, Key BridgeCount],
             VerifyLine::NoRoot =>
-                parts![Key Line, Key Failure, Said Expectation Root, Key Tree, Key Root],
+                parts![Above Step, Key Line, Key Failure, Said Expectation Root, Key Tree, Key Root],
             VerifyLine::OtherNext =>
-                parts![Key Line, Key Failure, Said Expectation Root, Key Tree, Key Root, Mark Next, Key Next],
+                parts![Above Step, Key Line, Key Failure, Said Expectation Root, Key Tree, Key Root, Mark Next, Key Next],
             VerifyLine::Region =>
-                parts![Key Line, Key Failure, Said Expectation Region, Mark Parts, Key Parts],
+                parts![Above Step, Key Line, Key Failure, Said Expectation Region, Mark Parts, Key Parts],
             VerifyLine::Role =>
-                parts![Key Line, Key Failure, Said Expectation Role, Key Tree, Commas Ports, Key Role],
+                parts![Above Step, Key Line, Key Failure, Said Expectation Role, Key Tree, Commas Ports, Key Role],
             VerifyLine::Reach =>
-                parts![Key Line, Key Failure, Said Expectation Reach, Key Vids, Mark Parts, Key Parts],
+                parts![Above Step, Key Line, Key Failure, Said Expectation Reach, Key Vids, Mark Parts, Key Parts],
             VerifyLine::Apart =>
-                parts![Key Line, Key Failure, Said Expectation Apart, Key Vids, Mark Joined, Key Joined],
+                parts![Above Step, Key Line, Key Failure, Said Expectation Apart, Key Vids, Mark Joined, Key Joined],
+            VerifyLine::Together =>
+                parts![Above Step, Key Line, Key Failure, Said Expectation Together, Key Vids, Mark Parts, Key Parts],
             VerifyLine::Leaf =>
-                parts![Key Line, Key Failure, Said Expectation Leaf, Key Tree, Key Bridge, Mark Parent, Mark Of, Commas Bridges],
+                parts![Above Step, Key Line, Key Failure, Said Expectation Leaf, Key Tree, Key Bridge, Mark Parent, Mark Of, Commas Bridges],
             VerifyLine::Depth =>
-                parts![Key Line, Key Failure, Said Expectation Depth, Key Tree, Key Depth, Commas Bridges],
+                parts![Above Step, Key Line, Key Failure, Said Expectation Depth, Key Tree, Key Depth, Commas Bridges],
             VerifyLine::Carries =>
-                parts![Key Line, Key Failure, Said Expectation Carries, Key Lan, Mark Without, Key Vids],
+                parts![Above Step, Key Line, Key Failure, Said Expectation Carries, Key Lan, Mark Without, Key Vids],
             VerifyLine::Avoids =>
-                parts![Key Line, Key Failure, Said Expectation Avoids, Key Lan, Mark With, Key Vids],
+                parts![Above Step, Key Line, Key Failure, Said Expectation Avoids, Key Lan, Mark With, Key Vids],
             VerifyLine::Hops =>
-                parts![Key Line, Key Failure, Told Expectation Fits, Mark Note, Said Note Hops, Key Tree, Key Bridge, Mark Depth, Key Depth, Mark Limit, Key Limit],
+                parts![Above Step, Key Line, Key Failure, Told Expectation Fits, Mark Note, Said Note Hops, Key Tree, Key Bridge, Mark Depth, Key Depth, Mark Limit, Key Limit],
             VerifyLine::Age =>
-                parts![Key Line, Key Failure, Told Expectation Fits, Mark Note, Said Note Age, Above Tree, Key Bridge, Mark Depth, Key Depth, Mark Limit, Key Limit],
+                parts![Above Step, Key Line, Key Failure, Told Expectation Fits, Mark Note, Said Note Age, Above Tree, Key Bridge, Mark Depth, Key Depth, Mark Limit, Key Limit],
             VerifyLine::ExternalCost =>
-                parts![Key Line, Key Failure, Told Expectation Fits, Mark Note, Said Note Cost, Key Tree, Key Bridge, Mark Ext, Key Ext],
+                parts![Above Step, Key Line, Key Failure, Told Expectation Fits, Mark Note, Said Note Cost, Key Tree, Key Bridge, Mark Ext, Key Ext],
             VerifyLine::InternalCost =>
-                parts![Key Line, Key Failure, Told Expectation Fits, Mark Note, Said Note Cost, Key Tree, Key Bridge, Mark Int, Key Int],
+                parts![Above Step, Key Line, Key Failure, Told Expectation Fits, Mark Note, Said Note Cost, Key Tree, Key Bridge, Mark Int, Key Int],
+            VerifyLine::Same => parts![Above Step, Key Line, Mark Failures, Key FailureCount],
             VerifyLine::Counts =>
-                parts![Mark Expectations, Key ExpectationCount, Mark Hold, Key HoldCount],
+                parts![Above Step, Mark Expectations, Key ExpectationCount, Mark Hold, Key HoldCount, Above Promises],
         }
     }
 }

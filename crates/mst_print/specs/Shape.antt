@@ -9,7 +9,7 @@ use Rattle.mst_kinds.specs.declared.query.Query.TheVariants as asked
 use Rattle.mst_kinds.specs.declared.refusal_line.RefusalLine.{RefusalLine}
 use Rattle.mst_kinds.specs.declared.refusal_line.RefusalLine.TheVariants.{Line, OldLine, NewLine}
 use Rattle.mst_lang.specs.declared.line.Query.{Query}
-use Rattle.mst_lang.specs.declared.line.Query.TheVariants.{ShowPlan, ShowLag, ShowRegions, ShowNotes, ShowTree, ShowVlan, ShowConfiguration, Changes, Save}
+use Rattle.mst_lang.specs.declared.line.Query.TheVariants.{ShowPlan, ShowLag, ShowRegions, ShowNotes, ShowTree, ShowVlan, ShowConfiguration, Changes, Save, Digest}
 use Rattle.mst_rows.specs.Answers.{answer_text, follow, head_text, record_line, records_text, refusal_line, unanswered_line}
 use Rattle.mst_rows.specs.Cells.{word, number as number_cell}
 use Rattle.mst_rows.specs.Lines.{row_line}
@@ -54,6 +54,7 @@ query_row (ShowVlan vid) = row_of (kind.Query asked.ShowVlan) (number_cell vid â
 query_row (ShowConfiguration bridge) = row_of (kind.Query asked.ShowMstconfid) (word bridge âˆ· [])
 query_row Changes = row_of (kind.Query asked.Changes) []
 query_row Save = row_of (kind.Query asked.Save) []
+query_row Digest = row_of (kind.Query asked.Digest) []
 
 -- ---- what prints an answer
 -- it got these rows between

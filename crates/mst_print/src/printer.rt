@@ -86,6 +86,7 @@ impl Printer {
             }
             Query::Changes => Printer::open(alloc, form, line, Kind::Query(Asked::Changes), &[]),
             Query::Save => Printer::open(alloc, form, line, Kind::Query(Asked::Save), &[]),
+            Query::Digest => Printer::open(alloc, form, line, Kind::Query(Asked::Digest), &[]),
         }
     }
 

@@ -17,11 +17,13 @@ use Rattle.mst_kinds.specs.declared.part.Part.TheVariants as part
 use Rattle.mst_kinds.specs.declared.refusal_line.RefusalLine.{RefusalLine}
 use Rattle.mst_kinds.specs.declared.refusal_line.RefusalLine.TheVariants as refused
 use Rattle.mst_rows.specs.declared.value.ActivePort.{ActivePort}
+use Rattle.mst_rows.specs.declared.value.PromiseScope.{PromiseScope}
+use Rattle.mst_rows.specs.declared.value.PromiseScope.TheVariants as scope
 use Rattle.mst_rows.specs.Printed.{comma, json_text, items_text, members_text}
-use Rattle.mst_rows.specs.Cells.{Bare, nothing, text, count, Cell, absent, own, word, number, port, vids, names, ports, trees, groups, active, object, failed_lan, failed_bridge, no_failure}
+use Rattle.mst_rows.specs.Cells.{PromiseSaid, Bare, nothing, text, count, Cell, absent, own, word, number, port, vids, names, ports, trees, groups, active, object, failed_lan, failed_bridge, no_failure, lines, promises}
 use Rattle.mst_rows.specs.Rows.{Row, row_of, first_cell, left_cells}
-use Rattle.mst_rows.specs.Records.{natural, items_of, list_value, place, port_value, active_value, run_value, names_value, bare_value, fields, cell_value, bridge_value, number_value, parts_members, row_members, record_value, with_line, answer_value, refusal_value, unanswered_value}
-use Rattle.mst_rows.specs.Answers.{named, joined, array_text, place_text, port_json, flag_text, active_json, run_json, names_json, bare_json, field_json, value_text, bridge_text, number_text, parts_json, row_json, record_text, records_text, line_text, answer_text, record_line, front_json, refusal_line, unanswered_line}
+use Rattle.mst_rows.specs.Records.{natural, items_of, list_value, place, port_value, active_value, run_value, names_value, bare_value, fields, scope_value, holds_value, promise_told, promise_value, cell_value, bridge_value, number_value, parts_members, row_members, record_value, with_line, answer_value, refusal_value, unanswered_value}
+use Rattle.mst_rows.specs.Answers.{named, joined, array_text, place_text, port_json, flag_text, active_json, run_json, names_json, bare_json, field_json, scope_json, holds_json, promise_words_json, promise_told_json, promise_json, value_text, bridge_text, number_text, parts_json, row_json, record_text, records_text, line_text, answer_text, record_line, front_json, refusal_line, unanswered_line}
 use Rattle.mst_rows.proofs.PrintedLaws.{members_text-member, members_text-none, json_text-object, items_text-item, items_text-none, json_text-array, json_text-string, json_text-number, json_text-null, json_text-true, json_text-false}
 
 -- ---- members and items
@@ -113,6 +115,46 @@ failed_is k n =
     json_text-object (member k (string n) no_members)
     ∙ ap (λ l. 123 ∷ l) (member_is false k (string n) (quoted n) no_members (json_text-string n) ∙ ap (λ l. named k (quoted n) ++ l) (members_text-none true))
 
+scope_is : (s : PromiseScope) → json_text (scope_value s) ≡ scope_json s
+scope_is scope.Now = json_text-null
+scope_is scope.Always = json_text-string (codes "always")
+scope_is scope.AfterLan = json_text-string (codes "after lan")
+scope_is scope.AfterBridge = json_text-string (codes "after bridge")
+
+holds_is : (h : Option Bool) → json_text (holds_value h) ≡ holds_json h
+holds_is None = json_text-null
+holds_is (Some flag) = flag_is flag
+
+-- what is told of a promise, behind its words
+told_is : (p : PromiseSaid) → members_text true (promise_told p) ≡ 44 ∷ (promise_told_json p ++ 125 ∷ [])
+told_is p =
+    let first = named (key_text key.NetworkCount) (decimal p.networks) in
+    let last = named (key_text key.Holds) (holds_json p.holds) in
+    member_is true (key_text key.NetworkCount) (natural p.networks) (decimal p.networks) (member (key_text key.Holds) (holds_value p.holds) no_members) (natural_is p.networks)
+    ∙ ap (λ l. 44 ∷ (first ++ l)) (member_is true (key_text key.Holds) (holds_value p.holds) (holds_json p.holds) no_members (holds_is p.holds) ∙ ap (λ l. 44 ∷ (last ++ l)) (members_text-none true))
+    ∙ ap (λ l. 44 ∷ l) (sym (append_assoc first (44 ∷ last) (125 ∷ [])))
+
+promise_is : (p : PromiseSaid) → json_text (promise_value p) ≡ promise_json p
+promise_is p =
+    let line = named (key_text key.Line) (decimal p.line) in
+    let words = named (key_text key.Promise) (quoted p.promise) in
+    let of_scope = named (key_text key.Scope) (scope_json p.scope) in
+    let final = named (key_text key.Finally) (flag_text p.is_final) in
+    let more = 44 ∷ (promise_told_json p ++ 125 ∷ []) in
+    let fourth = member (key_text key.Finally) (boolean p.is_final) (promise_told p) in
+    let third = member (key_text key.Scope) (scope_value p.scope) fourth in
+    let second = member (key_text key.Promise) (string p.promise) third in
+    let fourth_is : members_text true fourth ≡ 44 ∷ (final ++ more) =
+    member_is true (key_text key.Finally) (boolean p.is_final) (flag_text p.is_final) (promise_told p) (flag_is p.is_final) ∙ ap (λ l. 44 ∷ (final ++ l)) (told_is p) in
+    let third_is : members_text true third ≡ 44 ∷ (of_scope ++ 44 ∷ (final ++ more)) =
+    member_is true (key_text key.Scope) (scope_value p.scope) (scope_json p.scope) fourth (scope_is p.scope) ∙ ap (λ l. 44 ∷ (of_scope ++ l)) fourth_is in
+    let second_is : members_text true second ≡ 44 ∷ (words ++ 44 ∷ (of_scope ++ 44 ∷ (final ++ more))) =
+    member_is true (key_text key.Promise) (string p.promise) (quoted p.promise) third (json_text-string p.promise) ∙ ap (λ l. 44 ∷ (words ++ l)) third_is in
+    json_text-object (member (key_text key.Line) (natural p.line) second)
+    ∙ ap (λ l. 123 ∷ l) (member_is false (key_text key.Line) (natural p.line) (decimal p.line) second (natural_is p.line) ∙ ap (λ l. line ++ l) second_is
+    ∙ sym (append_assoc line (44 ∷ (words ++ 44 ∷ (of_scope ++ 44 ∷ final))) more
+    ∙ ap (λ l. line ++ 44 ∷ l) (append_assoc words (44 ∷ (of_scope ++ 44 ∷ final)) more ∙ ap (λ l. words ++ 44 ∷ l) (append_assoc of_scope (44 ∷ final) more))))
+
 value_is : (c : Cell) → json_text (cell_value c) ≡ value_text c
 value_is absent = json_text-null
 value_is own = json_text-null
@@ -129,6 +171,8 @@ value_is (object fs) = json_text-object (fields fs) ∙ ap (λ l. 123 ∷ l) (fi
 value_is (failed_lan n) = failed_is (codes "lan") n
 value_is (failed_bridge n) = failed_is (codes "bridge") n
 value_is no_failure = json_text-null
+value_is (lines first last) = run_is (first, last)
+value_is (promises ps) = list_is promise_value promise_json promise_is ps
 
 bridge_is : (c : Cell) → json_text (bridge_value c) ≡ bridge_text c
 bridge_is (port p) = json_text-string p.bridge
@@ -239,6 +283,9 @@ key_front k ps cs = front_is (key_text k) (cell_value (first_cell cs)) (value_te
 told_front : (k : Key) (m : Mark) (ps : List Part) (cs : List Cell) → json_text (json.object (parts_members (part.Told k m ∷ ps) cs no_members)) ++ 10 ∷ [] ≡ 123 ∷ (front_json (part.Told k m ∷ ps) cs ++ codes "}\n")
 told_front k m ps cs = front_is (key_text k) (string (mark_text m)) (quoted (mark_text m)) ps cs (json_text-string (mark_text m))
 
+above_front : (k : Key) (ps : List Part) (cs : List Cell) → json_text (json.object (parts_members (part.Above k ∷ ps) cs no_members)) ++ 10 ∷ [] ≡ 123 ∷ (front_json (part.Above k ∷ ps) cs ++ codes "}\n")
+above_front k ps cs = front_is (key_text k) (cell_value (first_cell cs)) (value_text (first_cell cs)) ps (left_cells (part.Above k) cs) (value_is (first_cell cs))
+
 pub refusal_is : (line : RefusalLine) (cs : List Cell) → json_text (refusal_value (row_of (kind.Refusal line) cs)) ++ 10 ∷ [] ≡ refusal_line (row_of (kind.Refusal line) cs)
 refusal_is refused.Line cs = key_front key.Line (drop 1 (parts_of_refusal_line refused.Line)) cs
 refusal_is refused.Hinted cs = key_front key.Line (drop 1 (parts_of_refusal_line refused.Hinted)) cs
@@ -249,6 +296,8 @@ refusal_is refused.Dot cs = key_front key.Error (drop 1 (parts_of_refusal_line r
 refusal_is refused.Policy cs = key_front key.Line (drop 1 (parts_of_refusal_line refused.Policy)) cs
 refusal_is refused.Change cs = key_front key.Line (drop 1 (parts_of_refusal_line refused.Change)) cs
 refusal_is refused.Advise cs = key_front key.Error (drop 1 (parts_of_refusal_line refused.Advise)) cs
+refusal_is refused.StepPolicy cs = above_front key.Step (drop 1 (parts_of_refusal_line refused.StepPolicy)) cs
+refusal_is refused.StepChange cs = above_front key.Step (drop 1 (parts_of_refusal_line refused.StepChange)) cs
 
 pub unanswered_is : (row : Row) → json_text (unanswered_value row) ++ 10 ∷ [] ≡ unanswered_line row
 unanswered_is row =

@@ -12,13 +12,16 @@ use Rattle.mst_ids.specs.declared.name.PortName.{PortName}
 use Rattle.mst_kinds.specs.Kinds.{first_of, parts_of}
 use Rattle.mst_kinds.specs.Words.{key_text, mark_text}
 use Rattle.mst_kinds.specs.declared.key.Key.{Key}
+use Rattle.mst_kinds.specs.declared.key.Key.TheVariants as key
 use Rattle.mst_kinds.specs.declared.part.Part.{Part}
 use Rattle.mst_kinds.specs.declared.part.Part.TheVariants as part
 use Rattle.mst_rows.specs.declared.value.ActivePort.{ActivePort}
+use Rattle.mst_rows.specs.declared.value.PromiseScope.{PromiseScope}
+use Rattle.mst_rows.specs.declared.value.PromiseScope.TheVariants as scope
 use Rattle.mst_rows.specs.Printed.{json_text}
-use Rattle.mst_rows.specs.Cells.{Bare, nothing, text, count, Cell, absent, own, word, number, port, vids, names, ports, trees, groups, active, object, failed_lan, failed_bridge, no_failure}
+use Rattle.mst_rows.specs.Cells.{PromiseSaid, Bare, nothing, text, count, Cell, absent, own, word, number, port, vids, names, ports, trees, groups, active, object, failed_lan, failed_bridge, no_failure, lines, promises}
 use Rattle.mst_rows.specs.Rows.{Row, first_cell, other_cells}
-use Rattle.mst_rows.specs.Records.{natural, items_of, list_value, place, port_value, active_value, run_value, names_value, fields, cell_value, bridge_value, number_value, parts_members, row_members, record_value, answer_value, refusal_value, unanswered_value}
+use Rattle.mst_rows.specs.Records.{natural, items_of, list_value, place, port_value, active_value, run_value, names_value, fields, scope_value, holds_value, promise_told, promise_value, cell_value, bridge_value, number_value, parts_members, row_members, record_value, answer_value, refusal_value, unanswered_value}
 use Rattle.mst_rows.specs.Small.{Fits64, HasSmall, IsSmall, RowIsSmall}
 
 -- ---- all numbers are, and nothing nests deep
@@ -105,6 +108,23 @@ flat_fields ((k, count n) ∷ fs) h = flat_member 0 (key_text k) (natural n) (fi
 flat_failed : (k n : List ℕ) → IsFlat 1 (json.object (member k (string n) no_members))
 flat_failed k n = flat_object 0 _ (flat_member 0 k (string n) no_members (flat_string 0 n) (flat_nothing 0))
 
+flat_scope : (n : ℕ) (s : PromiseScope) → IsFlat n (scope_value s)
+flat_scope n scope.Now = flat_null n
+flat_scope n scope.Always = flat_string n (codes "always")
+flat_scope n scope.AfterLan = flat_string n (codes "after lan")
+flat_scope n scope.AfterBridge = flat_string n (codes "after bridge")
+
+flat_holds : (n : ℕ) (h : Option Bool) → IsFlat n (holds_value h)
+flat_holds n None = flat_null n
+flat_holds n (Some flag) = flat_flag n flag
+
+flat_promise : (p : PromiseSaid) → Fits64 p.line × Fits64 p.networks → IsFlat 1 (promise_value p)
+flat_promise p h =
+    let told : HasFlat 0 (promise_told p) =
+    flat_member 0 (key_text key.NetworkCount) (natural p.networks) _ (flat_natural 0 p.networks h.1) (flat_member 0 (key_text key.Holds) (holds_value p.holds) no_members (flat_holds 0 p.holds) (flat_nothing 0)) in
+    flat_object 0 _ (flat_member 0 (key_text key.Line) (natural p.line) _ (flat_natural 0 p.line h.0) (flat_member 0 (key_text key.Promise) (string p.promise) _ (flat_string 0 p.promise)
+    (flat_member 0 (key_text key.Scope) (scope_value p.scope) _ (flat_scope 0 p.scope) (flat_member 0 (key_text key.Finally) (boolean p.is_final) _ (flat_flag 0 p.is_final) told))))
+
 flat_cell : (c : Cell) → IsSmall c → IsFlat 2 (cell_value c)
 flat_cell absent h = flat_null 2
 flat_cell own h = flat_null 2
@@ -121,6 +141,8 @@ flat_cell (object fs) h = deeper 1 2 _ (omega arith) (flat_object 0 (fields fs) 
 flat_cell (failed_lan n) h = deeper 1 2 _ (omega arith) (flat_failed (codes "lan") n)
 flat_cell (failed_bridge n) h = deeper 1 2 _ (omega arith) (flat_failed (codes "bridge") n)
 flat_cell no_failure h = flat_null 2
+flat_cell (lines first last) h = deeper 1 2 _ (omega arith) (flat_run (first, last) h)
+flat_cell (promises ps) h = flat_list 1 promise_value _ flat_promise ps h
 
 -- ---- rows
 small_first : (cs : List Cell) → AllByRecursion IsSmall cs → IsSmall (first_cell cs)

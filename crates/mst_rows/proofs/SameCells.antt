@@ -2,8 +2,8 @@
 use Rattle.std.proofs.Common.{◌≡◌, ◌∙◌, ℕ, Bool, true, false, List, [], ◌∷◌, Option, Some, None, map, refl, sym, ap, ap₂, subst}
 use Rattle.std.proofs.lemmas.Fmt.{decimal_injective}
 use Rattle.std.specs.List.{AllByRecursion}
-use Rattle.std.specs.Prelude.{codes, decimal}
-use Rattle.json.specs.Json.{Json, null, string}
+use Rattle.std.specs.Prelude.{◌==◌, codes, decimal, if◌then◌else◌, length}
+use Rattle.json.specs.Json.{Json, null, boolean, string}
 use Rattle.mst_ids.specs.declared.name.PortName.{PortName}
 use Rattle.mst_kinds.specs.Words.{key_text}
 use Rattle.mst_kinds.specs.Sorts.{Sort}
@@ -11,8 +11,10 @@ use Rattle.mst_kinds.specs.Sorts as sort
 use Rattle.mst_kinds.specs.declared.key.Key.{Key}
 use Rattle.mst_kinds.proofs.Table.{keys_differ}
 use Rattle.mst_rows.specs.declared.value.ActivePort.{ActivePort}
-use Rattle.mst_rows.specs.Cells.{Bare, nothing, text, count, Cell, absent, own, word, number, port, vids, names, ports, trees, groups, active, object, failed_lan, failed_bridge, no_failure}
-use Rattle.mst_rows.specs.Records.{natural, items_of, list_value, port_value, active_value, run_value, names_value, bare_value, fields, cell_value, bridge_value, number_value}
+use Rattle.mst_rows.specs.declared.value.PromiseScope.{PromiseScope}
+use Rattle.mst_rows.specs.declared.value.PromiseScope.TheVariants as scope
+use Rattle.mst_rows.specs.Cells.{PromiseSaid, Bare, nothing, text, count, Cell, absent, own, word, number, port, vids, names, ports, trees, groups, active, object, failed_lan, failed_bridge, no_failure, lines, promises}
+use Rattle.mst_rows.specs.Records.{natural, items_of, list_value, port_value, active_value, run_value, names_value, bare_value, fields, scope_value, holds_value, promise_value, cell_value, bridge_value, number_value}
 use Rattle.mst_rows.specs.Small.{Fits64, HasSmall, IsSmall}
 use Rattle.mst_rows.specs.Fits.{IsOf}
 
@@ -86,6 +88,46 @@ same_fields ((a, x) ∷ fs) ((b, y) ∷ gs) h k e =
     let others : fields fs ≡ fields gs = cc in
     ap₂ ◌∷◌ (λ i. (keys_differ a b key i, same_bare x y a b h.0 k.0 value i)) (same_fields fs gs h.1 k.1 others)
 
+-- a scope, by the length of its word, and whether a promise holds, if that is known
+read_scope : Json → PromiseScope
+read_scope (string s) = if length s == 6 then scope.Always else if length s == 9 then scope.AfterLan else scope.AfterBridge
+read_scope j = scope.Now
+
+scope_again : (s : PromiseScope) → read_scope (scope_value s) ≡ s
+unfolding read_scope
+scope_again scope.Now = refl
+scope_again scope.Always = refl
+scope_again scope.AfterLan = refl
+scope_again scope.AfterBridge = refl
+
+read_holds : Json → Option Bool
+read_holds (boolean b) = Some b
+read_holds j = None
+
+holds_again : (h : Option Bool) → read_holds (holds_value h) ≡ h
+unfolding read_holds
+holds_again None = refl
+holds_again (Some flag) = refl
+
+same_promise : (p q : PromiseSaid) → Fits64 p.line × Fits64 p.networks → Fits64 q.line × Fits64 q.networks → promise_value p ≡ promise_value q → p ≡ q
+same_promise p q h k e =
+    let line : natural p.line ≡ natural q.line = cc in
+    let words : p.promise ≡ q.promise = cc in
+    let scopes : scope_value p.scope ≡ scope_value q.scope = cc in
+    let final : p.is_final ≡ q.is_final = cc in
+    let networks : natural p.networks ≡ natural q.networks = cc in
+    let holding : holds_value p.holds ≡ holds_value q.holds = cc in
+    let one = sym (scope_again p.scope) ∙ ap read_scope scopes ∙ scope_again q.scope in
+    let other = sym (holds_again p.holds) ∙ ap read_holds holding ∙ holds_again q.holds in
+    λ i. record {
+      line = same_number p.line q.line h.0 k.0 line i;
+      promise = words i;
+      scope = one i;
+      is_final = final i;
+      networks = same_number p.networks q.networks h.1 k.1 networks i;
+      holds = other i;
+    }
+
 -- ---- values, by their types
 -- what a value of a type holds, if it holds something
 abbrev Held : Sort → Type 0
@@ -102,6 +144,9 @@ Held sort.active_ports = List ActivePort
 Held sort.objects = List (Key × Bare)
 Held sort.failures = Bool × List ℕ
 Held sort.own_port = PortName
+Held sort.lines = ℕ × ℕ
+Held sort.promises = List PromiseSaid
+Held sort.flags = ⊥
 
 abbrev failed : Bool × List ℕ → Cell
 failed (true, n) = failed_bridge n
@@ -123,6 +168,9 @@ holding sort.objects (Some fs) = object fs
 holding sort.failures (Some f) = failed f
 holding sort.failures None = no_failure
 holding sort.own_port (Some p) = port p
+holding sort.lines (Some run) = lines run.0 run.1
+holding sort.promises (Some ps) = promises ps
+holding sort.flags (Some x) = absurd x
 holding s None = absent
 
 held : (s : Sort) (c : Cell) → IsOf s c → (x : Option (Held s)) × (c ≡ holding s x)
@@ -146,6 +194,8 @@ held sort.failures (failed_lan n) is = (Some (false, n), refl)
 held sort.failures (failed_bridge n) is = (Some (true, n), refl)
 held sort.failures no_failure is = (None, refl)
 held sort.own_port (port p) is = (Some p, refl)
+held sort.lines (lines first last) is = (Some (first, last), refl)
+held sort.promises (promises ps) is = (Some ps, refl)
 held s c is = absurd is
 
 same_failed : (f g : Bool × List ℕ) → cell_value (failed f) ≡ cell_value (failed g) → failed f ≡ failed g
@@ -198,6 +248,14 @@ same_holding sort.failures None (Some g) h k e = absurd (not_failed g (sym e))
 same_holding sort.own_port (Some p) (Some q) h k e = ap port (same_port p q h k e)
 same_holding sort.own_port (Some p) None h k e = absurd (cc)
 same_holding sort.own_port None (Some q) h k e = absurd (cc)
+same_holding sort.lines (Some a) (Some b) h k e = ap (λ (run : ℕ × ℕ). lines run.0 run.1) (same_run a b h k e)
+same_holding sort.lines (Some a) None h k e = absurd (cc)
+same_holding sort.lines None (Some b) h k e = absurd (cc)
+same_holding sort.promises (Some a) (Some b) h k e = ap promises (same_array promise_value _ same_promise a b h k e)
+same_holding sort.promises (Some a) None h k e = absurd (cc)
+same_holding sort.promises None (Some b) h k e = absurd (cc)
+same_holding sort.flags (Some x) y h k e = absurd x
+same_holding sort.flags None (Some y) h k e = absurd y
 same_holding s None None h k e = refl
 
 -- two values of one type with one JSON

@@ -5,11 +5,14 @@ use Rattle.mst_ids.specs.declared.name.PortName.{PortName}
 use Rattle.mst_kinds.specs.Kinds.{first_of, parts_of}
 use Rattle.mst_kinds.specs.Words.{key_text, mark_text}
 use Rattle.mst_kinds.specs.declared.key.Key.{Key}
+use Rattle.mst_kinds.specs.declared.key.Key.TheVariants as key
 use Rattle.mst_kinds.specs.declared.part.Part.{Part}
 use Rattle.mst_kinds.specs.declared.part.Part.TheVariants as part
 use Rattle.mst_rows.specs.declared.value.ActivePort.{ActivePort}
+use Rattle.mst_rows.specs.declared.value.PromiseScope.{PromiseScope}
+use Rattle.mst_rows.specs.declared.value.PromiseScope.TheVariants as scope
 use Rattle.mst_rows.specs.Printed.{comma}
-use Rattle.mst_rows.specs.Cells.{Bare, nothing, text, count, Cell, absent, own, word, number, port, vids, names, ports, trees, groups, active, object, failed_lan, failed_bridge, no_failure}
+use Rattle.mst_rows.specs.Cells.{PromiseSaid, Bare, nothing, text, count, Cell, absent, own, word, number, port, vids, names, ports, trees, groups, active, object, failed_lan, failed_bridge, no_failure, lines, promises}
 use Rattle.mst_rows.specs.Rows.{Row, first_cell, left_cells}
 
 -- ---- values
@@ -52,6 +55,28 @@ bare_json (count n) = decimal n
 abbrev pub field_json : Key × Bare → List ℕ
 field_json f = named (key_text f.0) (bare_json f.1)
 
+abbrev pub scope_json : PromiseScope → List ℕ
+scope_json scope.Now = codes "null"
+scope_json scope.Always = quoted (codes "always")
+scope_json scope.AfterLan = quoted (codes "after lan")
+scope_json scope.AfterBridge = quoted (codes "after bridge")
+
+abbrev pub holds_json : Option Bool → List ℕ
+holds_json None = codes "null"
+holds_json (Some flag) = flag_text flag
+
+-- the members of a promise's text, and those of what is told of it
+abbrev pub promise_words_json : PromiseSaid → List ℕ
+promise_words_json p =
+    named (key_text key.Line) (decimal p.line) ++ 44 ∷ (named (key_text key.Promise) (quoted p.promise)
+    ++ 44 ∷ (named (key_text key.Scope) (scope_json p.scope) ++ 44 ∷ named (key_text key.Finally) (flag_text p.is_final)))
+
+abbrev pub promise_told_json : PromiseSaid → List ℕ
+promise_told_json p = named (key_text key.NetworkCount) (decimal p.networks) ++ 44 ∷ named (key_text key.Holds) (holds_json p.holds)
+
+abbrev pub promise_json : PromiseSaid → List ℕ
+promise_json p = 123 ∷ (promise_words_json p ++ 44 ∷ (promise_told_json p ++ 125 ∷ []))
+
 abbrev pub value_text : Cell → List ℕ
 value_text absent = codes "null"
 value_text own = codes "null"
@@ -68,6 +93,8 @@ value_text (object fs) = 123 ∷ (joined false (map field_json fs) ++ 125 ∷ []
 value_text (failed_lan n) = 123 ∷ (named (codes "lan") (quoted n) ++ 125 ∷ [])
 value_text (failed_bridge n) = 123 ∷ (named (codes "bridge") (quoted n) ++ 125 ∷ [])
 value_text no_failure = codes "null"
+value_text (lines first last) = run_json (first, last)
+value_text (promises ps) = array_text (map promise_json ps)
 
 -- ---- records
 abbrev pub bridge_text : Cell → List ℕ

@@ -1,14 +1,25 @@
 -- What values say.
-use Rattle.std.specs.Prelude.{ℕ, List}
+use Rattle.std.specs.Prelude.{ℕ, Bool, List, Option}
 use Rattle.mst_ids.specs.declared.name.PortName.{PortName}
 use Rattle.mst_kinds.specs.declared.key.Key.{Key}
 use Rattle.mst_rows.specs.declared.value.ActivePort.{ActivePort}
+use Rattle.mst_rows.specs.declared.value.PromiseScope.{PromiseScope}
 
 -- what a field of an object says
 pub data Bare : Type 0 where
   nothing : Bare
   text : List ℕ → Bare
   count : ℕ → Bare
+
+-- what is told of a promise: its line, its words, its scope, whether it is one of the end alone, in how many networks it was judged, and whether it
+-- holds, which isn't known where it was in none
+pub record PromiseSaid : Type 0 where
+  pub line : ℕ
+  pub promise : List ℕ
+  pub scope : PromiseScope
+  pub is_final : Bool
+  pub networks : ℕ
+  pub holds : Option Bool
 
 -- what a value says: an identifier is the word that it is written as, and VIDs are their longest runs
 pub data Cell : Type 0 where
@@ -27,3 +38,5 @@ pub data Cell : Type 0 where
   failed_lan : List ℕ → Cell
   failed_bridge : List ℕ → Cell
   no_failure : Cell
+  lines : ℕ → ℕ → Cell
+  promises : List PromiseSaid → Cell

@@ -1,15 +1,18 @@
 -- Rows as values of JSON: a record, and the object of an answer.
-use Rattle.std.specs.Prelude.{ℕ, List, [], ◌∷◌, map, Option, Some, None, codes, decimal}
+use Rattle.std.specs.Prelude.{ℕ, Bool, List, [], ◌∷◌, map, Option, Some, None, codes, decimal}
 use Rattle.json.specs.Json.{Json, null, boolean, string, array, Items, no_items, item, Members, no_members, member}
 use Rattle.json.specs.Json as json
 use Rattle.mst_ids.specs.declared.name.PortName.{PortName}
 use Rattle.mst_kinds.specs.Kinds.{first_of, parts_of}
 use Rattle.mst_kinds.specs.Words.{key_text, mark_text}
 use Rattle.mst_kinds.specs.declared.key.Key.{Key}
+use Rattle.mst_kinds.specs.declared.key.Key.TheVariants as key
 use Rattle.mst_kinds.specs.declared.part.Part.{Part}
 use Rattle.mst_kinds.specs.declared.part.Part.TheVariants as part
 use Rattle.mst_rows.specs.declared.value.ActivePort.{ActivePort}
-use Rattle.mst_rows.specs.Cells.{Bare, nothing, text, count, Cell, absent, own, word, number, port, vids, names, ports, trees, groups, active, object, failed_lan, failed_bridge, no_failure}
+use Rattle.mst_rows.specs.declared.value.PromiseScope.{PromiseScope}
+use Rattle.mst_rows.specs.declared.value.PromiseScope.TheVariants as scope
+use Rattle.mst_rows.specs.Cells.{PromiseSaid, Bare, nothing, text, count, Cell, absent, own, word, number, port, vids, names, ports, trees, groups, active, object, failed_lan, failed_bridge, no_failure, lines, promises}
 use Rattle.mst_rows.specs.Rows.{Row, first_cell, left_cells}
 
 -- ---- values
@@ -49,6 +52,26 @@ abbrev pub fields : List (Key × Bare) → Members
 fields [] = no_members
 fields (f ∷ fs) = member (key_text f.0) (bare_value f.1) (fields fs)
 
+-- the scope of a promise, if it has one, and whether it holds, if that is known
+abbrev pub scope_value : PromiseScope → Json
+scope_value scope.Now = null
+scope_value scope.Always = string (codes "always")
+scope_value scope.AfterLan = string (codes "after lan")
+scope_value scope.AfterBridge = string (codes "after bridge")
+
+abbrev pub holds_value : Option Bool → Json
+holds_value None = null
+holds_value (Some flag) = boolean flag
+
+-- what is told of a promise, behind its words
+abbrev pub promise_told : PromiseSaid → Members
+promise_told p = member (key_text key.NetworkCount) (natural p.networks) (member (key_text key.Holds) (holds_value p.holds) no_members)
+
+abbrev pub promise_value : PromiseSaid → Json
+promise_value p =
+    json.object (member (key_text key.Line) (natural p.line) (member (key_text key.Promise) (string p.promise)
+    (member (key_text key.Scope) (scope_value p.scope) (member (key_text key.Finally) (boolean p.is_final) (promise_told p)))))
+
 abbrev pub cell_value : Cell → Json
 cell_value absent = null
 cell_value own = null
@@ -65,6 +88,8 @@ cell_value (object fs) = json.object (fields fs)
 cell_value (failed_lan n) = json.object (member (codes "lan") (string n) no_members)
 cell_value (failed_bridge n) = json.object (member (codes "bridge") (string n) no_members)
 cell_value no_failure = null
+cell_value (lines first last) = run_value (first, last)
+cell_value (promises ps) = list_value (map promise_value ps)
 
 -- ---- records
 -- a record's own port: its bridge and its number

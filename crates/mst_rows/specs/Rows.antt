@@ -8,9 +8,10 @@ use Rattle.mst_kinds.specs.declared.kind.Kind.{Kind}
 use Rattle.mst_kinds.specs.declared.part.Part.{Part}
 use Rattle.mst_kinds.specs.declared.part.Part.TheVariants as part
 use Rattle.mst_rows.specs.declared.value.Vector.{Vector}
+use Rattle.mst_rows.specs.declared.value.PromiseTold.{PromiseTold}
 use Rattle.mst_rows.specs.declared.value.Value.{Value}
 use Rattle.mst_rows.specs.declared.value.Value.TheVariants as value
-use Rattle.mst_rows.specs.Cells.{Bare, Cell, absent, own, word, number, port, vids, names, ports, trees, groups, active, object, failed_lan, failed_bridge, no_failure}
+use Rattle.mst_rows.specs.Cells.{PromiseSaid, Bare, Cell, absent, own, word, number, port, vids, names, ports, trees, groups, active, object, failed_lan, failed_bridge, no_failure, lines, promises}
 use Rattle.mst_rows.specs.Objects.{cist_vector, msti_vector, mstp_region, rstp_region}
 
 -- a port, or a bridge's own vector
@@ -27,6 +28,10 @@ vector None v = msti_vector (bridge_id_text v.regional) v.int (bridge_id_text v.
 abbrev pub region : Option (List ℕ × ℕ) → List ℕ → List (Key × Bare)
 region (Some configuration) first = mstp_region configuration.0 configuration.1 first
 region None first = rstp_region first
+
+-- a promise, with its words
+abbrev pub said : PromiseTold → PromiseSaid
+said p = record { line = p.line; promise = p.promise.now; scope = p.scope; is_final = p.is_final; networks = p.networks; holds = p.holds }
 
 abbrev pub cell : Value → Cell
 cell value.Absent = absent
@@ -49,6 +54,8 @@ cell (value.Region r) = object (region r.now.configuration r.now.first)
 cell (value.FailedLan n) = failed_lan n.now
 cell (value.FailedBridge n) = failed_bridge n.now
 cell value.NoFailure = no_failure
+cell (value.Lines first last) = lines first last
+cell (value.Promises ps) = promises (map said ps.now)
 
 -- these values say this, one by one
 abbrev pub AreCells : List Value → List Cell → Type 0

@@ -6,11 +6,11 @@ ghost use Rattle.mst_rows.specs.Cells.{Cell};
 ghost use Rattle.mst_rows.specs.Rows.{AreCells, cell, first_cell, giver, row_of};
 ghost use Rattle.mst_rows.specs.Answers.{active_json, bridge_text, first_json, flag_text, follow, head_text, line_text, named, number_text, part_json, parts_json, place_text, port_json, record_text, records_text, row_json, value_text};
 
-use crate::array::{push_array, push_groups};
+use crate::array::{push_array, push_groups, push_promises};
 use crate::escape::push_quoted;
 use crate::field::{push_region, push_vector};
 use crate::rows::Rows;
-use crate::runs::push_runs;
+use crate::runs::{push_run, push_runs};
 use crate::text::left;
 use crate::value::{ActivePort, Value};
 use mst_ids::{ConfName, Name, PortName, Tree, push_bytes, push_decimal};
@@ -195,7 +195,7 @@ pub(crate) fn push_key(key: &[u8], out: &mut Vec<u8>) -> Result<(), AllocError>
 
 /// Appends a member: a key and a string.
 #[tactic(auto, unfolding(crate::specs::Answers::named))]
-fn push_string(key: &[u8], text: &[u8], out: &mut Vec<u8>) -> Result<(), AllocError>
+pub(crate) fn push_string(key: &[u8], text: &[u8], out: &mut Vec<u8>) -> Result<(), AllocError>
     ensures { OnOk result (out.new.items ≡ out.old.items ++ named key.now (quoted text.now)) }
 {
     push_key(key, out)?;
@@ -204,7 +204,7 @@ fn push_string(key: &[u8], text: &[u8], out: &mut Vec<u8>) -> Result<(), AllocEr
 
 /// Appends a member: a key and a number.
 #[tactic(auto, unfolding(crate::specs::Answers::named))]
-fn push_number(key: &[u8], number: u64, out: &mut Vec<u8>) -> Result<(), AllocError>
+pub(crate) fn push_number(key: &[u8], number: u64, out: &mut Vec<u8>) -> Result<(), AllocError>
     ensures { OnOk result (out.new.items ≡ out.old.items ++ named key.now (decimal number)) }
 {
     push_key(key, out)?;
@@ -213,7 +213,7 @@ fn push_number(key: &[u8], number: u64, out: &mut Vec<u8>) -> Result<(), AllocEr
 
 /// Appends a member: a key and null.
 #[tactic(auto, unfolding(crate::specs::Answers::named))]
-fn push_null(key: &[u8], out: &mut Vec<u8>) -> Result<(), AllocError>
+pub(crate) fn push_null(key: &[u8], out: &mut Vec<u8>) -> Result<(), AllocError>
     ensures { OnOk result (out.new.items ≡ out.old.items ++ named key.now (codes "null")) }
 {
     push_key(key, out)?;
@@ -244,6 +244,8 @@ fn push_value(value: &Value<'_>, out: &mut Vec<u8>) -> Result<(), AllocError>
         Value::FailedLan(lan) => push_failed(b"lan", lan, out),
         Value::FailedBridge(bridge) => push_failed(b"bridge", bridge, out),
         Value::NoFailure => push_bytes(b"null", out),
+        Value::Lines(first, last) => push_run(first, last, out),
+        Value::Promises(promises) => push_promises(promises, out),
     }
 }
 
@@ -288,7 +290,7 @@ pub(crate) fn push_active(port: &ActivePort, out: &mut Vec<u8>) -> Result<(), Al
 
 /// Appends a member: a key and whether something is so.
 #[tactic(auto, unfolding(crate::specs::Answers::named))]
-fn push_flag(key: &[u8], flag: bool, out: &mut Vec<u8>) -> Result<(), AllocError>
+pub(crate) fn push_flag(key: &[u8], flag: bool, out: &mut Vec<u8>) -> Result<(), AllocError>
     ensures { OnOk result (out.new.items ≡ out.old.items ++ named key.now (flag_text flag)) }
 {
     push_key(key, out)?;

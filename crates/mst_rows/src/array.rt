@@ -1,11 +1,13 @@
 ghost use Rattle.std.specs.Prelude.{◌≡◌, ◌++◌, OnOk, map, false};
 ghost use Rattle.json.specs.Print.{quoted};
 ghost use Rattle.mst_rows.specs.Printed.{comma};
-ghost use Rattle.mst_rows.specs.Answers.{active_json, array_text, joined, names_json, port_json};
+ghost use Rattle.mst_rows.specs.Answers.{active_json, array_text, joined, names_json, port_json, promise_json};
+ghost use Rattle.mst_rows.specs.Rows.{said};
 
 use crate::answer::{push_active, push_comma, push_port};
 use crate::escape::push_quoted;
-use crate::value::ActivePort;
+use crate::promise::push_promise;
+use crate::value::{ActivePort, PromiseTold};
 use mst_ids::{Name, PortName, Tree, push_bytes, push_decimal};
 use std::alloc::AllocError;
 
@@ -62,6 +64,14 @@ impl Item for Vec<Name> {
     }
 }
 
+impl Item for PromiseTold<'_> {
+    ghost json = { λ p. promise_json (said p) };
+
+    fn push(&self, out: &mut Vec<u8>) -> Result<(), AllocError> {
+        push_promise(self, out)
+    }
+}
+
 /// Appends an array of these items.
 pub(crate) fn push_array<I: Item>(items: &[I], out: &mut Vec<u8>) -> Result<(), AllocError>
     ensures { OnOk result (out.new.items ≡ out.old.items ++ array_text (map I.json items.now)) }
@@ -88,4 +98,14 @@ pub(crate) fn push_groups(groups: &[Vec<Name>], out: &mut Vec<u8>) -> Result<(),
     ensures { OnOk result (out.new.items ≡ out.old.items ++ array_text (map names_json (map (λ g. g.items) groups.now))) }
 {
     push_array::<Vec<Name>>(groups, out)
+}
+
+/// Appends an array of the objects of promises.
+pub(crate) fn push_promises(
+    promises: &[PromiseTold<'_>],
+    out: &mut Vec<u8>,
+) -> Result<(), AllocError>
+    ensures { OnOk result (out.new.items ≡ out.old.items ++ array_text (map promise_json (map said promises.now))) }
+{
+    push_array::<PromiseTold<'_>>(promises, out)
 }

@@ -22,19 +22,20 @@ fn push_each(vids: &VidSet, out: &mut Vec<u8>) -> Result<(), AllocError>
     let mut next = 0;
     while let Some((first, last)) = vids.run_from(next) {
         push_comma(follows, out)?;
-        push_run(first, last, out)?;
+        push_run(u64::from(first), u64::from(last), out)?;
         follows = true;
         next = last + 1;
     }
     Ok(())
 }
 
-fn push_run(first: u16, last: u16, out: &mut Vec<u8>) -> Result<(), AllocError>
+/// Appends an array of a first number and a last one.
+pub(crate) fn push_run(first: u64, last: u64, out: &mut Vec<u8>) -> Result<(), AllocError>
     ensures { OnOk result (out.new.items ≡ out.old.items ++ run_json (first, last)) }
 {
     push_bytes(b"[", out)?;
-    push_decimal(u64::from(first), out)?;
+    push_decimal(first, out)?;
     push_bytes(b",", out)?;
-    push_decimal(u64::from(last), out)?;
+    push_decimal(last, out)?;
     push_bytes(b"]", out)
 }

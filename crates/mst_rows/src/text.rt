@@ -1,4 +1,4 @@
-ghost use Rattle.std.specs.Prelude.{◌≡◌, ◌++◌, OnOk, map, decimal, codes};
+ghost use Rattle.std.specs.Prelude.{◌≡◌, ◌∷◌, ◌++◌, OnOk, map, decimal, codes};
 ghost use Rattle.std.specs.List.{flat_map};
 ghost use Rattle.mst_ids.specs.Words.{after_space, comma_list, listed, port_text};
 ghost use Rattle.mst_rows.specs.Rows.{cell, first_cell, giver, left_cells, region as region_of, row_of, vector as vector_of};
@@ -161,6 +161,8 @@ fn push_value(value: &Value<'_>, out: &mut Vec<u8>) -> Result<(), AllocError>
             push_word(bridge.as_bytes(), out)
         }
         Value::NoFailure => push_word(b"now", out),
+        Value::Lines(first, last) => push_lines(first, last, out),
+        Value::Promises(_) => Ok(()),
     }
 }
 
@@ -169,6 +171,15 @@ fn push_number(number: u64, out: &mut Vec<u8>) -> Result<(), AllocError>
 {
     push_bytes(b" ", out)?;
     push_decimal(number, out)
+}
+
+/// Appends `N-M` after a space.
+fn push_lines(first: u64, last: u64, out: &mut Vec<u8>) -> Result<(), AllocError>
+    ensures { OnOk result (out.new.items ≡ out.old.items ++ after_space (decimal first ++ 45 ∷ decimal last)) }
+{
+    push_number(first, out)?;
+    push_bytes(b"-", out)?;
+    push_decimal(last, out)
 }
 
 /// Appends each list of names as one word after a space, or `-` where there is none.

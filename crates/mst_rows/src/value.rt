@@ -43,6 +43,39 @@ pub enum Value<'a> {
     FailedBridge(&'a Name),
     /// Nothing fails: `now` in a line, and `null` in a record.
     NoFailure,
+    /// The numbers of a first line and of a last one: `N-M` in a line, and an array in a record.
+    Lines(u64, u64),
+    /// Promises: nothing in a line, and an array of objects in a record.
+    Promises(&'a [PromiseTold<'a>]),
+}
+
+/// After which failures a promise is judged.
+#[derive(Clone, Copy)]
+pub enum PromiseScope {
+    /// In the network itself.
+    Now,
+    /// In the network itself, and after each failure.
+    Always,
+    /// After the failure of each of some LANs.
+    AfterLan,
+    /// After the failure of each of some bridges.
+    AfterBridge,
+}
+
+/// A promise of a policy, and whether it holds.
+#[derive(Clone, Copy)]
+pub struct PromiseTold<'a> {
+    /// The number of its line.
+    pub line: u64,
+    /// The words of its line, with one space between.
+    pub promise: &'a [u8],
+    pub scope: PromiseScope,
+    /// Whether it is one of the end alone.
+    pub is_final: bool,
+    /// In how many networks it was judged.
+    pub networks: u64,
+    /// Whether it holds; nothing where it was judged in no network.
+    pub holds: Option<bool>,
 }
 
 /// A port that is active for a VLAN, and whether it is a member: `B:P` in a line, or `[B:P]`.
