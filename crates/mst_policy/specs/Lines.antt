@@ -1,21 +1,29 @@
 -- The lines of a policy that say something.
 use Rattle.std.specs.Prelude.{ℕ, ◌+◌, List, [], ◌∷◌, ◌++◌, Result, Ok, Err, Option, Some, None}
+use Rattle.std.specs.List.{flat_map}
+use Rattle.mst_ids.specs.Words.{after_space}
+use Rattle.mst_lang.specs.Words.{words}
 use Rattle.mst_lang.specs.declared.line.Fault.{Fault}
 use Rattle.mst_policy.specs.Reading.{reading}
 use Rattle.mst_policy.specs.declared.expectation.Promise.{Promise}
 use Rattle.mst_policy.specs.declared.policy.PolicyLine.{PolicyLine}
 
-abbrev pub numbered : ℕ → Result Promise Fault → PolicyLine
-numbered number read = record { number = number; read = read }
+-- words with one space between two of them
+abbrev pub spaced : List (List ℕ) → List ℕ
+spaced [] = []
+spaced (word ∷ words) = word ++ flat_map after_space words
 
--- what was read of a line, under its number: nothing where it is blank or a comment
-abbrev pub line_read : ℕ → Result (Option Promise) Fault → List PolicyLine
-line_read number (Ok None) = []
-line_read number (Ok (Some promise)) = numbered number (Ok promise) ∷ []
-line_read number (Err fault) = numbered number (Err fault) ∷ []
+abbrev pub numbered : ℕ → List ℕ → Result Promise Fault → PolicyLine
+numbered number text read = record { number = number; words = text; read = read }
+
+-- what was read of a line, under its number: nothing where it is blank or a comment. Its words go with what it promises
+abbrev pub line_read : ℕ → List ℕ → Result (Option Promise) Fault → List PolicyLine
+line_read number text (Ok None) = []
+line_read number text (Ok (Some promise)) = numbered number text (Ok promise) ∷ []
+line_read number text (Err fault) = numbered number [] (Err fault) ∷ []
 
 abbrev pub line_of : ℕ → List ℕ → List PolicyLine
-line_of number line = line_read number (reading line)
+line_of number line = line_read number (spaced (words line)) (reading line)
 
 -- all lines, numbered from n on
 abbrev pub policy_from : ℕ → List (List ℕ) → List PolicyLine

@@ -1,5 +1,5 @@
 -- What a line of a policy promises, or the least fault of it.
-use Rattle.std.specs.Prelude.{ℕ, Bool, List, [], ◌∷◌, length, nat_lt, Result, Ok, Err, Option, Some, None, if◌then◌else◌, codes}
+use Rattle.std.specs.Prelude.{ℕ, Bool, true, false, List, [], ◌∷◌, length, nat_lt, Result, Ok, Err, Option, Some, None, if◌then◌else◌, codes}
 use Rattle.std.specs.Option.{option_map}
 use Rattle.std.specs.List.{list_all}
 use Rattle.mst_lang.specs.Words.{words, is_plain}
@@ -14,9 +14,16 @@ use Rattle.mst_policy.specs.declared.expectation.Scope.TheVariants.{Now, AfterLa
 use Rattle.mst_policy.specs.declared.expectation.Expectation.{Expectation}
 use Rattle.mst_policy.specs.declared.expectation.Promise.{Promise}
 
--- ---- scopes
+-- ---- promises
+-- what is expected in a scope
 abbrev pub promise : Scope → Expectation → Promise
-promise scope expectation = record { scope = scope; expectation = expectation }
+promise scope expectation = record { is_final = false; scope = scope; expectation = expectation }
+
+-- the same of the end alone
+abbrev pub in_the_end : Promise → Promise
+in_the_end promise = record promise { is_final = true }
+
+-- ---- scopes
 
 -- what is expected in a scope, which is there if its list is one. Words that are no expectation are E01, whatever is wrong with
 -- the list, and that is E02, whatever else is wrong with the expectation
@@ -33,10 +40,20 @@ after (kind ∷ list ∷ others) =
 after _ = Err E01
 
 -- what words promise: an expectation, in the scope that the first of them says, if it says one
-abbrev pub promised : List ℕ → List (List ℕ) → Result Promise Fault
-promised word others =
+abbrev pub scoped : List ℕ → List (List ℕ) → Result Promise Fault
+scoped word others =
     if is_text word (codes "after") then after others
     else (if is_text word (codes "always") then in_scope (Some Always) (expected others) else in_scope (Some Now) (expected (word ∷ others)))
+
+-- ---- the end
+-- the words behind `finally`: what they promise is of the end alone
+abbrev pub finally : List (List ℕ) → Result Promise Fault
+finally [] = Err E01
+finally (word ∷ others) = with (Ok in_the_end) (scoped word others)
+
+-- what the words of a line promise: `finally` is the first of them, or none
+abbrev pub promised : List ℕ → List (List ℕ) → Result Promise Fault
+promised word others = if is_text word (codes "finally") then finally others else scoped word others
 
 -- ---- lines
 -- a line by its words: nothing where it has none, or is a comment, whatever bytes that holds; else a promise, all of whose

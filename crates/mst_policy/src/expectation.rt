@@ -55,6 +55,11 @@ pub enum Expectation {
         names: NameList,
         others: NameList,
     },
+    /// For each VID those of the bridges that were in one island before are in one.
+    Together {
+        vids: VidSet,
+        names: NameList,
+    },
     /// None of the bridges is the parent of a bridge in the tree.
     Leaf {
         tree: Tree,
@@ -82,6 +87,8 @@ pub enum Expectation {
 /// What a line of a policy promises.
 #[derive(Drop)]
 pub struct Promise {
+    /// It is of the network behind all steps of a change alone.
+    pub is_final: bool,
     pub scope: Scope,
     pub expectation: Expectation,
 }

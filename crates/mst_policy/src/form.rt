@@ -39,6 +39,7 @@ pub enum Kind {
     Role,
     Reach,
     Apart,
+    Together,
     Leaf,
     Depth,
     Carries,
@@ -68,13 +69,14 @@ macro_rules! forms {
     };
 }
 
-static FORMS: [Form; 11] = forms! {
+static FORMS: [Form; 12] = forms! {
     b"root" Root [Tree Bridge];
     b"root" RootNext [Tree Bridge Next NextBridge];
     b"region" Region [Names];
     b"role" Role [Tree Ports Roles];
     b"reach" Reach [Vids Names];
     b"apart" Apart [Vids Names Names];
+    b"together" Together [Vids Names];
     b"leaf" Leaf [Tree Names];
     b"depth" Depth [Tree Steps];
     b"carries" Carries [Lan Vids];

@@ -1,7 +1,8 @@
 //! The language of policies: what each line promises of a network.
 //!
 //! A policy is cut into lines and words as a script is, and its lines have a script's names, port numbers, trees and VIDs. A
-//! line is an expectation, or a scope and an expectation behind it: the scope says in which networks it is judged.
+//! line is an expectation, or a scope and an expectation behind it: the scope says in which networks it is judged. With `finally`
+//! in front it is of the end of a change alone.
 //! [`parse_promise`] gives what a line promises, or the least [`Fault`](mst_lang::Fault) of it. [`forms`] is the table of
 //! expectations that it goes by.
 #![tactic(auto)]
@@ -15,6 +16,7 @@ mod item;
 pub mod laws;
 mod policy;
 mod read;
+mod wording;
 
 pub use expectation::{Expectation, Promise, Roles, Scope};
 pub use fault::text;
@@ -22,3 +24,4 @@ pub use form::{Argument, Form, Kind, form_of, forms, is_argument};
 pub use item::{NameItem, NameList, PortItem, PortList, PortsOf};
 pub use policy::{Policy, PolicyLine};
 pub use read::parse_promise;
+pub use wording::Wording;

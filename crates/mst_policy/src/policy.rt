@@ -3,6 +3,7 @@ ghost use Rattle.mst_policy.specs.Lines.{line_of};
 
 use crate::expectation::Promise;
 use crate::read::parse_promise;
+use crate::wording::Wording;
 use mst_lang::Fault;
 use std::alloc::{AllocError, Global};
 use std::marker::Model;
@@ -12,6 +13,8 @@ use std::marker::Model;
 pub struct PolicyLine {
     /// Its number among all lines.
     pub number: u64,
+    /// Its words where it is read, else none.
+    pub words: Wording,
     /// What it promises, or the least fault of it.
     pub read: Result<Promise, Fault>,
 }
@@ -49,12 +52,17 @@ impl Policy {
     {
         match parse_promise(alloc, line)? {
             Ok(None) => Ok(()),
-            Ok(Some(promise)) => self.push(PolicyLine {
-                number,
-                read: Ok(promise),
-            }),
+            Ok(Some(promise)) => {
+                let words = Wording::of(alloc, line)?;
+                self.push(PolicyLine {
+                    number,
+                    words,
+                    read: Ok(promise),
+                })
+            }
             Err(fault) => self.push(PolicyLine {
                 number,
+                words: Wording::none(alloc),
                 read: Err(fault),
             }),
         }

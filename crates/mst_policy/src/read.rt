@@ -2,7 +2,7 @@ ghost use Rattle.std.specs.Prelude.{◌≡◌, ◌∷◌, IfOk};
 ghost use Rattle.std.specs.Option.{option_map};
 ghost use Rattle.mst_lang.specs.Words.{words};
 ghost use Rattle.mst_policy.specs.Arguments.{names_value};
-ghost use Rattle.mst_policy.specs.Reading.{reading, promised, after as after_words, in_scope as promised_in};
+ghost use Rattle.mst_policy.specs.Reading.{reading, promised, after as after_words, finally as finally_words, in_scope as promised_in, in_the_end, scoped as scoped_words};
 ghost use Rattle.mst_policy.specs.declared.expectation.Scope.TheVariants.{AfterLan, AfterBridge};
 
 use crate::arguments::names;
@@ -45,7 +45,7 @@ pub fn parse_promise(
     }
 }
 
-/// What the words of a line promise: an expectation, in the scope that the first of them says, if it says one.
+/// What the words of a line promise: `finally` is the first of them, or none.
 fn promise(
     alloc: Global,
     line: &[u8],
@@ -54,6 +54,46 @@ fn promise(
 ) -> Result<Result<Promise, Fault>, AllocError>
     requires { words line.now ≡ word.now ∷ words others.now }
     ensures { IfOk result (λ read. read ≡ promised word.now (words others.now)) }
+{
+    if is_word(word, b"finally") {
+        finally(alloc, others)
+    } else {
+        scoped(alloc, line, word, others)
+    }
+}
+
+/// What the words behind `finally` promise, of the end alone.
+fn finally(alloc: Global, text: &[u8]) -> Result<Result<Promise, Fault>, AllocError>
+    ensures { IfOk result (λ read. read ≡ finally_words (words text.now)) }
+{
+    let Some((word, others)) = next_word(text) else {
+        return Ok(Err(Fault::E01));
+    };
+    match scoped(alloc, text, word, others)? {
+        Ok(promise) => Ok(Ok(of_the_end(promise))),
+        Err(fault) => Ok(Err(fault)),
+    }
+}
+
+fn of_the_end(promise: Promise) -> Promise
+    ensures { result ≡ in_the_end promise }
+{
+    Promise {
+        is_final: true,
+        scope: promise.scope,
+        expectation: promise.expectation,
+    }
+}
+
+/// What words promise: an expectation, in the scope that the first of them says, if it says one.
+fn scoped(
+    alloc: Global,
+    line: &[u8],
+    word: &[u8],
+    others: &[u8],
+) -> Result<Result<Promise, Fault>, AllocError>
+    requires { words line.now ≡ word.now ∷ words others.now }
+    ensures { IfOk result (λ read. read ≡ scoped_words word.now (words others.now)) }
 {
     if is_word(word, b"after") {
         after(alloc, others)
@@ -118,7 +158,11 @@ fn in_scope(scope: Option<Scope>, expectation: Result<Expectation, Fault>) -> Re
         };
     };
     match expectation {
-        Ok(expectation) => Ok(Promise { scope, expectation }),
+        Ok(expectation) => Ok(Promise {
+            is_final: false,
+            scope,
+            expectation,
+        }),
         Err(fault) => Err(fault),
     }
 }

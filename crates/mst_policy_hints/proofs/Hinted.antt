@@ -11,7 +11,7 @@ use Rattle.mst_lang.specs.declared.line.Fault.{Fault}
 use Rattle.mst_lang.specs.declared.line.Fault.TheVariants.{E01, E02, E03}
 use Rattle.mst_policy.specs.Arguments.{with, names, names_value, ports, roles, steps, none_of, one, two, three}
 use Rattle.mst_policy.specs.Forms.{all_kinds, expected, is_right, kind_of, may_stand, root, root_alone, root_next, rule_of, takes}
-use Rattle.mst_policy.specs.Reading.{after, in_scope, promise, promised, reading, worded}
+use Rattle.mst_policy.specs.Reading.{after, finally, in_scope, in_the_end, promise, promised, reading, scoped, worded}
 use Rattle.mst_policy.specs.declared.expectation.Expectation.{Expectation}
 use Rattle.mst_policy.specs.declared.expectation.Expectation.TheVariants as expectations
 use Rattle.mst_policy.specs.declared.expectation.Promise.{Promise}
@@ -23,7 +23,7 @@ use Rattle.mst_policy.specs.declared.form.Kind.{Kind}
 use Rattle.mst_policy.specs.declared.form.Kind.TheVariants as kinds
 use Rattle.mst_policy.specs.declared.item.NameItem.{NameItem}
 use Rattle.mst_hints.specs.Hints.{too_long}
-use Rattle.mst_policy_hints.specs.Hints.{after_hint, after_text, arguments_of, behind_hint, byte_text, expected_hint, failing_text, first_wrong, form_hint, form_of, has_form, hint_of, promise_hint, worded_hint, wrong_text}
+use Rattle.mst_policy_hints.specs.Hints.{after_hint, after_text, arguments_of, behind_hint, byte_text, expected_hint, failing_text, finally_hint, first_wrong, form_hint, form_of, has_form, hint_of, is_finally, promise_hint, scoped_hint, worded_hint, wrong_text}
 
 -- ---- tests
 and_no : (a : Bool) → (a && false) ≡ true → ⊥
@@ -127,6 +127,7 @@ says_alike kinds.Region = one_says Names names expectations.Region (λ w. refl)
 says_alike kinds.Role = three_says Tree Ports Roles tree ports roles expectations.Role (λ w. refl) (λ w. refl) (λ w. refl)
 says_alike kinds.Reach = two_says Vids Names vids names expectations.Reach (λ w. refl) (λ w. refl)
 says_alike kinds.Apart = three_says Vids Names Names vids names names expectations.Apart (λ w. refl) (λ w. refl) (λ w. refl)
+says_alike kinds.Together = two_says Vids Names vids names expectations.Together (λ w. refl) (λ w. refl)
 says_alike kinds.Leaf = two_says Tree Names tree names expectations.Leaf (λ w. refl) (λ w. refl)
 says_alike kinds.Depth = two_says Tree Steps tree steps expectations.Depth (λ w. refl) (λ w. refl)
 says_alike kinds.Carries = two_says Lan Vids name vids expectations.Carries (λ w. refl) (λ w. refl)
@@ -197,12 +198,20 @@ if_hinted : {A : Type 0} (b : Bool) (h k : Option (List ℕ)) (r s : Result A Fa
 if_hinted true h k r s first second = first
 if_hinted false h k r s first second = second
 
-promise_hinted : (word : List ℕ) (others : List (List ℕ)) → is_some (promise_hint word others) ≡ is_err (promised word others)
-promise_hinted word others =
+scoped_hinted : (word : List ℕ) (others : List (List ℕ)) → is_some (scoped_hint word others) ≡ is_err (scoped word others)
+scoped_hinted word others =
     if_hinted (is_text word (codes "after")) (after_hint others) _ (after others) _ (after_hinted others)
     (if_hinted (is_text word (codes "always")) (expected_hint others) (expected_hint (word ∷ others)) (in_scope (Some Always) (expected others)) (in_scope (Some Now) (expected (word ∷ others)))
     (expected_hinted others ∙ sym (with_err (promise Always) (expected others)))
     (expected_hinted (word ∷ others) ∙ sym (with_err (promise Now) (expected (word ∷ others)))))
+
+finally_hinted : (words : List (List ℕ)) → is_some (finally_hint words) ≡ is_err (finally words)
+finally_hinted [] = refl
+finally_hinted (word ∷ others) = scoped_hinted word others ∙ sym (with_err in_the_end (scoped word others))
+
+promise_hinted : (word : List ℕ) (others : List (List ℕ)) → is_some (promise_hint word others) ≡ is_err (promised word others)
+promise_hinted word others =
+    if_hinted (is_finally word) (finally_hint others) (scoped_hint word others) (finally others) (scoped word others) (finally_hinted others) (scoped_hinted word others)
 
 words_hinted : (plain : Bool) (bytes : List ℕ) (words : List (List ℕ)) → is_some (worded_hint plain bytes words) ≡ is_err (worded plain words)
 words_hinted plain bytes [] = if_hinted plain None (Some bytes) (Ok None) (Err E01) refl refl

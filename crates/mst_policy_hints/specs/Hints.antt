@@ -43,16 +43,26 @@ is_scope word = is_text word (codes "after") || is_text word (codes "always")
 unfoldable pub one_scope_text : List ℕ
 one_scope_text = codes "a line has one scope"
 
--- what is said of it: of a scope that it is one too many, of a kind of failures that it stands behind `after`, of a command of
--- scripts that it is one, and else which word is nearest to it
+-- `finally` stands before a scope
+abbrev pub is_finally : List ℕ → Bool
+is_finally word = is_text word (codes "finally")
+
+unfoldable pub comes_first_text : List ℕ
+comes_first_text = codes "finally comes first"
+
+-- what is said of it: of `finally` where it stands, of a scope that it is one too many, of a kind of failures that it stands behind
+-- `after`, of a command of scripts that it is one, and else which word is nearest to it
 abbrev pub said_nearest : List ℕ → Option (List ℕ)
 said_nearest word = if is_script_word word then Some command_text else option_map question (nearest word)
 
 abbrev pub said_failing : List ℕ → Option (List ℕ)
 said_failing word = if is_failing word then Some (question (codes "after " ++ word)) else said_nearest word
 
+abbrev pub said_scope : List ℕ → Option (List ℕ)
+said_scope word = if is_scope word then Some one_scope_text else said_failing word
+
 abbrev pub said_of : List ℕ → Option (List ℕ)
-said_of word = if is_scope word then Some one_scope_text else said_failing word
+said_of word = if is_finally word then Some comes_first_text else said_scope word
 
 abbrev pub unknown_text : List ℕ → List ℕ
 unknown_text word = codes "no expectation " ++ word ++ besides (said_of word)
@@ -143,11 +153,24 @@ abbrev pub after_hint : List (List ℕ) → Option (List ℕ)
 after_hint (failing ∷ list ∷ others) = if is_failing failing then behind_hint failing list others else Some after_text
 after_hint _ = Some after_text
 
--- ---- the hint of a line
-abbrev pub promise_hint : List ℕ → List (List ℕ) → Option (List ℕ)
-promise_hint word others =
+-- of an expectation, and of the scope that the first word says, if it says one
+abbrev pub scoped_hint : List ℕ → List (List ℕ) → Option (List ℕ)
+scoped_hint word others =
     if is_text word (codes "after") then after_hint others
     else (if is_text word (codes "always") then expected_hint others else expected_hint (word ∷ others))
+
+-- ---- the hint of what stands behind `finally`
+unfoldable pub finally_text : List ℕ
+finally_text = codes "finally has an expectation behind it"
+
+-- of the words behind `finally`
+abbrev pub finally_hint : List (List ℕ) → Option (List ℕ)
+finally_hint [] = Some finally_text
+finally_hint (word ∷ others) = scoped_hint word others
+
+-- ---- the hint of a line
+abbrev pub promise_hint : List ℕ → List (List ℕ) → Option (List ℕ)
+promise_hint word others = if is_finally word then finally_hint others else scoped_hint word others
 
 -- of a line by its words, by whether all its bytes are plain, and by what is told where they aren't
 abbrev pub worded_hint : Bool → List ℕ → List (List ℕ) → Option (List ℕ)

@@ -10,9 +10,9 @@ use Rattle.mst_policy_hints.specs.declared.near.Near.TheVariants.{InCase, ByOne,
 abbrev pub rows : List Row
 rows = map row_of all_kinds
 
--- the words of scopes
-abbrev pub scopes : List (List ℕ)
-scopes = codes "after" ∷ codes "always" ∷ []
+-- the words that stand before an expectation
+abbrev pub fronts : List (List ℕ)
+fronts = codes "after" ∷ codes "always" ∷ codes "finally" ∷ []
 
 -- whether a word of a policy is as near to another one: it but for its case, or at most one or two changes from it
 abbrev pub is_near : Near → List ℕ → List ℕ → Bool
@@ -20,15 +20,15 @@ is_near InCase text word = is_in_case text word
 is_near ByOne text word = is_within_one text word
 is_near ByTwo text word = is_within_two text word
 
--- the first expectation of the table that is as near, and the first scope
+-- the first expectation of the table that is as near, and the first word that stands before one
 abbrev pub expectation_near : Near → List ℕ → Option (List ℕ)
 expectation_near near word = option_map (λ row. row.0) (find (λ row. is_near near row.0 word) rows)
 
-abbrev pub scope_near : Near → List ℕ → Option (List ℕ)
-scope_near near word = find (λ text. is_near near text word) scopes
+abbrev pub front_near : Near → List ℕ → Option (List ℕ)
+front_near near word = find (λ text. is_near near text word) fronts
 
 unfoldable pub word_near : Near → List ℕ → Option (List ℕ)
-word_near near word = option_or (expectation_near near word) (scope_near near word)
+word_near near word = option_or (expectation_near near word) (front_near near word)
 
 -- the word that is nearest
 abbrev pub by_changes : List ℕ → Option (List ℕ)

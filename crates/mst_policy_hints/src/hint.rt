@@ -1,11 +1,11 @@
 ghost use Rattle.std.specs.Prelude.{◌≡◌, ◌++◌, ◌∷◌, Some, OnOk};
 ghost use Rattle.mst_hints.specs.Hints.{hint_line, too_long};
 ghost use Rattle.mst_lang.specs.Words.{words};
-ghost use Rattle.mst_policy_hints.specs.Hints.{after_hint, after_text, behind_hint, byte_text as byte_text_of, expected_hint, failing_text, form_hint, form_of as form_of_words, formless_text, all_forms_text, has_form as has_form_of, hint_of, number_text, promise_hint, scope_text, words_text, wrong_text};
+ghost use Rattle.mst_policy_hints.specs.Hints.{after_hint, after_text, behind_hint, byte_text as byte_text_of, expected_hint, failing_text, finally_hint, finally_text, form_hint, form_of as form_of_words, formless_text, all_forms_text, has_form as has_form_of, hint_of, number_text, promise_hint, scope_text, scoped_hint, words_text, wrong_text};
 
 use crate::bytes::byte_text;
 use crate::form::{first_wrong, form_of, is_expectation, push_form, push_forms};
-use crate::unknown::{is_failing, push_unknown};
+use crate::unknown::{is_failing, is_finally, push_unknown};
 use mst_hints::{has_comment, push_count, push_start, push_text, word_count};
 use mst_ids::{push_bytes, push_end};
 use mst_lang::{LONGEST, are_plain, next_word};
@@ -70,6 +70,51 @@ fn push_promise_hint(
     requires { words line.now ≡ word.now ∷ words others.now }
     ensures { OnOk result (out.new.items ≡ out.old.items ++ hint_line of.now number (promise_hint word.now (words others.now))) }
 {
+    if is_finally(word) {
+        push_finally_hint(of, number, others, out)
+    } else {
+        push_scoped_hint(of, number, line, word, others, out)
+    }
+}
+
+/// Appends the hint of the words behind `finally`, if there is one.
+fn push_finally_hint(
+    of: &[u8],
+    number: u64,
+    text: &[u8],
+    out: &mut Vec<u8>,
+) -> Result<(), AllocError>
+    ensures { OnOk result (out.new.items ≡ out.old.items ++ hint_line of.now number (finally_hint (words text.now))) }
+{
+    match next_word(text) {
+        Some((word, others)) => push_scoped_hint(of, number, text, word, others, out),
+        None => push_finally(of, number, out),
+    }
+}
+
+/// Appends that an expectation stands behind `finally`.
+#[tactic(auto, unfolding(crate::specs::Hints::finally_text))]
+fn push_finally(of: &[u8], number: u64, out: &mut Vec<u8>) -> Result<(), AllocError>
+    ensures { OnOk result (out.new.items ≡ out.old.items ++ hint_line of.now number (Some finally_text)) }
+{
+    push_text(of, number, "finally has an expectation behind it", out)?;
+    Ok(())
+}
+
+// ---- scopes
+
+/// Appends the hint of an expectation, and of the scope that the first word says, if there is one.
+fn push_scoped_hint(
+    of: &[u8],
+    number: u64,
+    line: &[u8],
+    word: &[u8],
+    others: &[u8],
+    out: &mut Vec<u8>,
+) -> Result<(), AllocError>
+    requires { words line.now ≡ word.now ∷ words others.now }
+    ensures { OnOk result (out.new.items ≡ out.old.items ++ hint_line of.now number (scoped_hint word.now (words others.now))) }
+{
     if word == b"after".as_slice() {
         push_after_hint(of, number, others, out)
     } else if word == b"always".as_slice() {
@@ -78,8 +123,6 @@ fn push_promise_hint(
         push_expected_hint(of, number, line, out)
     }
 }
-
-// ---- scopes
 
 /// Appends the hint of the words behind `after`, if there is one.
 fn push_after_hint(of: &[u8], number: u64, text: &[u8], out: &mut Vec<u8>) -> Result<(), AllocError>

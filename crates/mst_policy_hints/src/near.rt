@@ -1,6 +1,6 @@
 ghost use Rattle.std.specs.Prelude.{◌≡◌, find};
 ghost use Rattle.std.specs.Option.{option_map};
-ghost use Rattle.mst_policy_hints.specs.Near.{by_changes as by_changes_of, expectation_near as expectation_near_to, is_near as is_near_to, nearest as nearest_of, scope_near as scope_near_to, word_near as word_near_to};
+ghost use Rattle.mst_policy_hints.specs.Near.{by_changes as by_changes_of, expectation_near as expectation_near_to, is_near as is_near_to, front_near as front_near_to, nearest as nearest_of, word_near as word_near_to};
 
 use mst_hints::{is_in_case, is_within_one, is_within_two};
 use mst_policy::{Form, forms};
@@ -53,7 +53,7 @@ fn word_near(near: Near, word: &[u8]) -> Option<&'static [u8]>
 {
     match expectation_near(near, word) {
         Some(text) => Some(text),
-        None => scope_near(near, word),
+        None => front_near(near, word),
     }
 }
 
@@ -71,14 +71,16 @@ fn first_near(forms: &'static [Form], near: Near, word: &[u8]) -> Option<&'stati
     Some(form.word)
 }
 
-/// The first word of a scope that is as near.
-fn scope_near(near: Near, word: &[u8]) -> Option<&'static [u8]>
-    ensures { option_map (λ text. text.now) result ≡ scope_near_to near word.now }
+/// The first word that stands before an expectation and is as near.
+fn front_near(near: Near, word: &[u8]) -> Option<&'static [u8]>
+    ensures { option_map (λ text. text.now) result ≡ front_near_to near word.now }
 {
     if is_near(near, b"after", word) {
         Some(b"after")
     } else if is_near(near, b"always", word) {
         Some(b"always")
+    } else if is_near(near, b"finally", word) {
+        Some(b"finally")
     } else {
         None
     }

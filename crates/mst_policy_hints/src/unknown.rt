@@ -1,6 +1,6 @@
 ghost use Rattle.std.specs.Prelude.{◌≡◌, ◌++◌, OnOk};
 ghost use Rattle.mst_hints.specs.Hints.{besides};
-ghost use Rattle.mst_policy_hints.specs.Hints.{is_failing as is_failing_word, is_scope as is_scope_word, said_failing, is_script_word as is_script_word_of, said_nearest, said_of, unknown_text};
+ghost use Rattle.mst_policy_hints.specs.Hints.{is_failing as is_failing_word, is_finally as is_finally_word, is_scope as is_scope_word, said_failing, is_script_word as is_script_word_of, said_nearest, said_of, said_scope, unknown_text};
 
 use crate::near::nearest;
 use mst_hints::{is_command, push_question, push_saying};
@@ -29,10 +29,29 @@ fn is_scope(word: &[u8]) -> bool
     word == b"after".as_slice() || word == b"always".as_slice()
 }
 
-/// Appends what is said of it, if something is: a scope is one too many.
-#[tactic(auto, unfolding(crate::specs::Hints::one_scope_text))]
+/// Whether a word is `finally`.
+pub(crate) fn is_finally(word: &[u8]) -> bool
+    ensures { result ≡ is_finally_word word.now }
+{
+    word == b"finally".as_slice()
+}
+
+/// Appends what is said of it, if something is: `finally` comes first.
+#[tactic(auto, unfolding(crate::specs::Hints::comes_first_text))]
 fn push_said(word: &[u8], out: &mut Vec<u8>) -> Result<(), AllocError>
     ensures { OnOk result (out.new.items ≡ out.old.items ++ besides (said_of word.now)) }
+{
+    if is_finally(word) {
+        push_saying(b"finally comes first", out)
+    } else {
+        push_said_scope(word, out)
+    }
+}
+
+/// Appends that a scope is one too many, or what else is said of the word.
+#[tactic(auto, unfolding(crate::specs::Hints::one_scope_text))]
+fn push_said_scope(word: &[u8], out: &mut Vec<u8>) -> Result<(), AllocError>
+    ensures { OnOk result (out.new.items ≡ out.old.items ++ besides (said_scope word.now)) }
 {
     if is_scope(word) {
         push_saying(b"a line has one scope", out)
