@@ -4,6 +4,8 @@ pub mod CarryAlike
 pub mod Users
 pub mod PortsByName
 pub mod PortsOfBoth
+pub mod Anew
+pub mod NoneAnew
 pub mod Flagged
 pub mod SameFate
 pub mod CutMoves

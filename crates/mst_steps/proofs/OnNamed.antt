@@ -15,7 +15,7 @@ use Rattle.mst_steps.specs.Links.{is_on, stays}
 use Rattle.mst_steps.specs.Seen.{seen_on, seen_stays}
 
 -- a test of those that pass another
-any-filter : {A : Type 0} (f test : A → Bool) (xs : List A) → list_any test (filter f xs) ≡ list_any (λ x. f x && test x) xs
+pub any-filter : {A : Type 0} (f test : A → Bool) (xs : List A) → list_any test (filter f xs) ≡ list_any (λ x. f x && test x) xs
 any-filter f test [] = refl
 any-filter {A} f test (x ∷ xs) = go (f x) (any-filter f test xs)
   where

@@ -1,6 +1,7 @@
 -- A step has one list of rows, and one answer of whether it moves and whether it cuts.
-use Rattle.std.proofs.Common.{◌≡◌, ℕ, ◌||◌, Bool, List, ◌∷◌, refl, sym, ap, ◌∙◌}
+use Rattle.std.proofs.Common.{◌≡◌, ℕ, ◌||◌, Bool, List, [], ◌∷◌, ◌++◌, refl, sym, ap, ◌∙◌}
 use Rattle.std.specs.List.{Contains, flat_map}
+use Rattle.std.proofs.lemmas.List.{append-nil}
 use Rattle.mst_net.specs.Tables.{Net}
 use Rattle.mst_rows.specs.Rows.{Row}
 use Rattle.mst_diff.specs.trees.Outcome.{Outcome}
@@ -20,9 +21,11 @@ use Rattle.mst_sweep.specs.SweepText.{failure_row, AreFailureRows}
 use Rattle.mst_sweep.proofs.CutsBy.{one_list, one_cut}
 use Rattle.mst_sweep.proofs.OneSweep.{one_parts}
 use Rattle.mst_steps.specs.declared.step.Deed.{Deed}
+use Rattle.mst_steps.specs.declared.step.Deed.TheVariants as deed
 use Rattle.mst_steps.specs.declared.step.Stepped.{Stepped}
 use Rattle.mst_steps.specs.MovedVids.{AreVidsWhere, IsCut, IsJoined, IsMoved, links_differ}
-use Rattle.mst_steps.specs.StepText.{cut_by, deed_row, AreStepRows, IsAsInSweep}
+use Rattle.mst_steps.specs.Restarts.{restarting}
+use Rattle.mst_steps.specs.StepText.{cut_by, deed_row, restart_rows, AreStepRows, IsAsInSweep}
 
 -- the VIDs that are so are one list, where of each VID one is so
 one_where : (Is : ℕ → Bool → Type 0) → ((vid : ℕ) (c d : Bool) → Is vid c → Is vid d → c ≡ d) → (us vs : List ℕ) → AreVidsWhere Is us → AreVidsWhere Is vs → us ≡ vs
@@ -34,6 +37,11 @@ one_where Is single us vs x y =
 
 one_cut_flag : (a b : Net) (o p : Outcome) → OneList → (vid : ℕ) (c d : Bool) → IsCut a o b p vid c → IsCut a o b p vid d → c ≡ d
 one_cut_flag a b o p one vid c d x y = x.2 ∙ ap has_any (one_parts a b o p one vid x.0 y.0 x.1 y.1) ∙ sym y.2
+
+-- no row of no ports
+no_restarts : (step : Deed) → restart_rows step [] ≡ []
+no_restarts (deed.Step step) = refl
+no_restarts deed.Edits = refl
 
 module _ (a b : Net) (o p : Outcome) (one : OneList) (grouping : OneGrouping) where
   one_moved : (vid : ℕ) (c d : Bool) → IsMoved a o b p vid c → IsMoved a o b p vid d → c ≡ d
@@ -56,7 +64,7 @@ module _ (a b : Net) (o p : Outcome) (one : OneList) (grouping : OneGrouping) wh
     cut_rows = one_list (AreParts a o b p) (one_parts a b o p one) grouping (cut_by step) x.cut y.cut x.cut_rows y.cut_rows x.are_cut y.are_cut
 
     pub rows_same : rows ≡ other
-    rows_same = x.are ∙ (λ i. deed_row step (moved_roots a o b p) (moved_ports a o b p) (runs_of (moved i)) (runs_of (cut i)) (runs_of (joined i)) ∷ cut_rows i) ∙ sym y.are
+    rows_same = x.are ∙ (λ i. deed_row step (moved_roots a o b p) (moved_ports a o b p) (runs_of (moved i)) (runs_of (cut i)) (runs_of (joined i)) ∷ cut_rows i ++ restart_rows step (restarting a b)) ∙ sym y.are
 
     pub told_same : told ≡ said
     told_same =
@@ -65,7 +73,7 @@ module _ (a b : Net) (o p : Outcome) (one : OneList) (grouping : OneGrouping) wh
         λ i. record { moves = moves i; cuts = cuts i }
 
   -- ---- beside a failure
-  module _ (step : Deed) (failure : Failure) (rows failed : List Row) (told : Stepped) (cuts : Bool) (x : AreStepRows a o b p step rows told) (y : AreFailureRows a o b p failure failed cuts) where
+  module _ (step : Deed) (failure : Failure) (rows failed : List Row) (told : Stepped) (cuts : Bool) (none : restarting a b ≡ []) (x : AreStepRows a o b p step rows told) (y : AreFailureRows a o b p failure failed cuts) where
     -- the VIDs that the step cuts are cut by the failure, into the same parts
     by_failure : AreCutsBy (AreParts a o b p) (by.One failure) x.cut (flat_map (group_rows (by.One failure) x.are_cut.parts) x.are_cut.groups)
     by_failure = record {
@@ -92,7 +100,10 @@ module _ (a b : Net) (o p : Outcome) (one : OneList) (grouping : OneGrouping) wh
       joined = runs_of x.joined;
       parts = x.are_cut.parts;
       groups = x.are_cut.groups;
-      of_step = x.are ∙ ap (λ rows. deed_row step (moved_roots a o b p) (moved_ports a o b p) (runs_of x.moved) (runs_of x.cut) (runs_of x.joined) ∷ rows) x.are_cut.are;
+      of_step =
+          x.are
+          ∙ ap (λ rows. deed_row step (moved_roots a o b p) (moved_ports a o b p) (runs_of x.moved) (runs_of x.cut) (runs_of x.joined) ∷ rows)
+          ((λ i. x.are_cut.are i ++ restart_rows step (none i)) ∙ ap (λ none. flat_map (group_rows (cut_by step) x.are_cut.parts) x.are_cut.groups ++ none) (no_restarts step) ∙ append-nil (flat_map (group_rows (cut_by step) x.are_cut.parts) x.are_cut.groups));
       of_failure = y.are ∙ (λ i. failure_row failure (moved_roots a o b p) (moved_ports a o b p) (runs_of (sym same_cut i)) ∷ sym same_rows i);
       both_cut = x.cuts ∙ ap has_any same_cut ∙ sym y.some;
     }

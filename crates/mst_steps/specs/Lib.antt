@@ -1,4 +1,5 @@
 pub mod Links
 pub mod MovedVids
+pub mod Restarts
 pub mod StepText
 pub mod Seen

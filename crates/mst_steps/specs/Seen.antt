@@ -1,9 +1,11 @@
 -- What is seen of a step in two views with their forests, and how it is kept.
-use Rattle.std.specs.Prelude.{◌≡◌, ℕ, ◌&&◌, not, Bool, false, List, Option, Some, map, filter, filter_map}
+use Rattle.std.specs.Prelude.{◌≡◌, ℕ, ◌==◌, ◌&&◌, ◌||◌, not, Bool, false, List, Option, Some, map, filter, filter_map, nat_eq}
+use Rattle.std.specs.Cmp.Lexicographic.{pointwise}
 use Rattle.std.specs.List.{Contains, find, list_any}
 use Rattle.std.specs.Map.{lookup}
 use Rattle.std.specs.Option.{option_map, option_map_or}
 use Rattle.mst_ids.specs.declared.name.PortName.{PortName}
+use Rattle.mst_net.specs.ByTree.{table_in}
 use Rattle.mst_net.specs.Seen.{bridge_row}
 use Rattle.mst_net.specs.Tables.{port_eq}
 use Rattle.mst_lag.specs.Aggregation.{same_name}
@@ -11,6 +13,8 @@ use Rattle.mst_lag.specs.Viewed.{Viewed}
 use Rattle.mst_lag.specs.declared.in_view.PortInView.{PortInView}
 use Rattle.mst_vlan.specs.Seen.{seen_active, seen_member}
 use Rattle.mst_diff.specs.trees.Forest.{Forest}
+use Rattle.mst_diff.specs.declared.both.Both.{Both}
+use Rattle.mst_diff.specs.Regions.{same_told}
 use Rattle.mst_sweep.specs.Seen.{seen_port_moved}
 use Rattle.mst_steps.specs.Links.{shared, staying, same_links}
 use Rattle.mst_steps.specs.declared.links.Link.{Link}
@@ -62,3 +66,18 @@ seen_both_ports v w = filter_map (seen_port_in_both w.ports) v.ports
 -- it has another role in a tree afterwards, and neither is Disabled
 abbrev pub seen_moved : Viewed → Forest → Viewed → Forest → ℕ → BothPorts → Bool
 seen_moved v f w g tree both = seen_port_moved v f w g tree both.old both.new
+
+-- ---- what starts anew
+-- a bridge stays what it was, or doesn't
+abbrev pub seen_as_it_was : Viewed → Viewed → Both → Bool
+seen_as_it_was v w both =
+    let old = bridge_row both.old.bridge in
+    let new = bridge_row both.new.bridge in
+    old.mac == new.mac && same_told old new && (old.is_rstp || pointwise nat_eq (table_in v.settings.tables both.old.name) (table_in w.settings.tables both.old.name))
+
+abbrev pub seen_anew : Viewed → Viewed → Both → Bool
+seen_anew v w both = not (seen_as_it_was v w both)
+
+-- a port that is enabled in both: its bridge is one of these, or its LAN is another one
+abbrev pub seen_restarts : (List ℕ → Bool) → BothPorts → Bool
+seen_restarts is_anew p = p.old.is_enabled && p.new.is_enabled && (is_anew p.old.name.bridge || not (same_name p.old.lan p.new.lan))

@@ -1,5 +1,5 @@
 //! What one step of a change does between two settled networks: the trees whose roots move, how many roles, and the VIDs that move, that
-//! are cut and that are joined. So a step of which no VID moves is work that no traffic notices.
+//! are cut and that are joined, and the logical ports that start anew.
 #![tactic(auto)]
 
 mod change;
@@ -10,8 +10,9 @@ mod links;
 mod on;
 mod parts;
 mod ports;
+mod restarts;
 mod step;
 mod told;
 
 pub use links::Link;
-pub use step::{Deed, Step, Stepped, Walked, put_last, put_step};
+pub use step::{Deed, PolicyCounts, Step, Stepped, Walked, put_last, put_step};

@@ -1,4 +1,4 @@
-ghost use Rattle.std.specs.Prelude.{◌≡◌, ◌++◌, ◌∷◌, [], List, IfOk, OnOk, None, Some, vec_len};
+ghost use Rattle.std.specs.Prelude.{◌≡◌, ◌++◌, ◌∷◌, [], List, true, IfOk, OnOk, None, Some, vec_len};
 ghost use Rattle.mst_ids.specs.Vids.{runs_from};
 ghost use Rattle.mst_rows.specs.Rows.{Row};
 ghost use Rattle.mst_diff.specs.trees.Agrees.{Known};
@@ -10,16 +10,18 @@ ghost use Rattle.mst_sweep.specs.declared.cuts.CutBy.{CutBy as CutByOf};
 ghost use Rattle.mst_sweep.specs.Cuts.{rows_of, runs_of, AreCutsBy};
 ghost use Rattle.mst_sweep.specs.Parts.{AreParts};
 ghost use Rattle.mst_steps.specs.MovedVids.{AreVidsWhere, IsJoined, IsMoved};
-ghost use Rattle.mst_steps.specs.StepText.{cut_by as cut_by_of, deed_row, does_row, last_row, lines_word as lines_word_of, step_row, AreStepRows};
+ghost use Rattle.mst_steps.specs.StepText.{cut_by as cut_by_of, deed_row, does_row, last_row, restart_rows, step_row, AreStepRows};
+ghost use Rattle.mst_steps.specs.declared.step.Deed.TheVariants.{Step as StepOf};
 
 use crate::change::Change;
 use crate::fates::are_some;
 use crate::on::bridges_on;
 use crate::ports::{moved_ports, ports_of_both};
+use crate::restarts::restarting;
 use crate::told::{Told, told_of};
 use mst_carried::Carriage;
 use mst_diff::{Both, Planned, bridges_of_both, set_of};
-use mst_ids::{Tree, VidSet, push_bytes, push_decimal};
+use mst_ids::{PortName, Tree, VidSet};
 use mst_kinds::{AdviseLine, Kind, StepLine};
 use mst_rows::{Rows, Value, put};
 use mst_sweep::{CutBy, moved_roots, put_cuts};
@@ -52,6 +54,13 @@ pub struct Stepped {
     pub cuts: bool,
 }
 
+/// Behind how many steps a policy isn't kept that was kept before, and how many of its lines aren't in the end.
+#[derive(Clone, Copy)]
+pub struct PolicyCounts {
+    pub failing: u64,
+    pub unkept: u64,
+}
+
 /// How many steps a change has, how many of them move some VID, and how many cut some.
 #[derive(Clone, Copy)]
 pub struct Walked {
@@ -60,21 +69,9 @@ pub struct Walked {
     pub cutting: u64,
 }
 
-/// The numbers of a first and a last line, as one word.
-fn lines_word(alloc: Global, first: u64, last: u64) -> Result<Vec<u8>, AllocError>
-    ensures { IfOk result (λ word. word.items ≡ lines_word_of first last) }
-{
-    let mut word = Vec::new(alloc);
-    push_decimal(first, &mut word)?;
-    push_bytes(b"-", &mut word)?;
-    push_decimal(last, &mut word)?;
-    Ok(word)
-}
-
-/// Puts the row of a step, by the word of its lines.
+/// Puts the row of a step.
 fn put_row<'a, R: Rows>(
     step: &Step,
-    lines: &'a [u8],
     roots: &'a [Tree],
     ports: u64,
     moved: &'a VidSet,
@@ -82,13 +79,12 @@ fn put_row<'a, R: Rows>(
     joined: &'a VidSet,
     out: &mut R,
 ) -> Result<(), AllocError>
-    requires { lines.now ≡ lines_word_of step.now.first step.now.last }
     ensures { (first : R) (rows : List Row) → R.grew first out.old rows
         → OnOk result (R.grew first out.new (rows ++ step_row step.now roots.now ports (runs_from 0 moved.now) (runs_from 0 cut.now) (runs_from 0 joined.now) ∷ [])) }
 {
     let values = [
         Value::Number(step.number),
-        Value::Word(lines),
+        Value::Lines(step.first, step.last),
         Value::Trees(roots),
         Value::Number(ports),
         Value::Vids(moved),
@@ -122,7 +118,6 @@ fn put_does<'a, R: Rows>(
 
 /// Puts the row of either.
 fn put_deed<R: Rows>(
-    alloc: Global,
     deed: &Deed,
     roots: &[Tree],
     ports: u64,
@@ -135,19 +130,7 @@ fn put_deed<R: Rows>(
         → OnOk result (R.grew first out.new (rows ++ deed_row deed.now roots.now ports (runs_from 0 moved.now) (runs_from 0 cut.now) (runs_from 0 joined.now) ∷ [])) }
 {
     match deed {
-        Deed::Step(step) => {
-            let lines = lines_word(alloc, step.first, step.last)?;
-            put_row(
-                step,
-                lines.as_slice(),
-                roots,
-                ports,
-                moved,
-                cut,
-                joined,
-                out,
-            )
-        }
+        Deed::Step(step) => put_row(step, roots, ports, moved, cut, joined, out),
         Deed::Edits => put_does(roots, ports, moved, cut, joined, out),
     }
 }
@@ -162,25 +145,48 @@ fn cut_by(deed: &Deed) -> CutBy
     }
 }
 
+/// Puts the row of the ports that start anew in a step.
+fn put_restart_row<'a, R: Rows>(
+    step: &Step,
+    ports: &'a [PortName],
+    out: &mut R,
+) -> Result<(), AllocError>
+    requires { has_any ports.now ≡ true }
+    ensures { (first : R) (rows : List Row) → R.grew first out.old rows → OnOk result (R.grew first out.new (rows ++ restart_rows (StepOf step.now) ports.now)) }
+{
+    let values = [Value::Number(step.number), Value::Ports(ports)];
+    put::<R>(Kind::Step(StepLine::Restarts), &values, out)
+}
+
+/// Puts that row behind a step, if there are such ports.
+fn put_restarts<R: Rows>(deed: &Deed, ports: &[PortName], out: &mut R) -> Result<(), AllocError>
+    ensures { (first : R) (rows : List Row) → R.grew first out.old rows → OnOk result (R.grew first out.new (rows ++ restart_rows deed.now ports.now)) }
+{
+    match (deed, ports) {
+        (Deed::Edits, _) => Ok(()),
+        (Deed::Step(_), []) => Ok(()),
+        (Deed::Step(step), [..]) => put_restart_row(step, ports, out),
+    }
+}
+
 /// Puts the rows of a step, by what is told of it.
 fn put_told<R: Rows>(
-    alloc: Global,
     deed: &Deed,
     roots: &[Tree],
     ports: u64,
     told: &Told,
+    restarting: &[PortName],
     out: &mut R,
 ) -> Result<Stepped, AllocError>
     requires { NumberEach told.now.classes.numbers.items (vec_len told.now.cuts.parts) }
     ensures { IfOk result (λ stepped. (stepped.moves ≡ has_any told.now.moved.items) × (stepped.cuts ≡ has_any told.now.cuts.vids.items)
         × ((first : R) (rows : List Row) → R.grew first out.old rows
-        → R.grew first out.new (rows ++ deed_row deed.now roots.now ports (runs_of told.now.moved.items) (runs_of told.now.cuts.vids.items) (runs_of told.now.joined.items) ∷ rows_of (cut_by_of deed.now) told.now.classes.numbers.items told.now.cuts))) }
+        → R.grew first out.new (rows ++ (deed_row deed.now roots.now ports (runs_of told.now.moved.items) (runs_of told.now.cuts.vids.items) (runs_of told.now.joined.items) ∷ rows_of (cut_by_of deed.now) told.now.classes.numbers.items told.now.cuts ++ restart_rows deed.now restarting.now)))) }
 {
     let moved = told.moved.as_slice();
     let cut = told.cuts.vids.as_slice();
     let joined = told.joined.as_slice();
     put_deed(
-        alloc,
         deed,
         roots,
         ports,
@@ -190,6 +196,7 @@ fn put_told<R: Rows>(
         out,
     )?;
     put_cuts(&cut_by(deed), &told.classes, &told.cuts, out)?;
+    put_restarts(deed, restarting, out)?;
     Ok(Stepped {
         moves: are_some(moved),
         cuts: are_some(cut),
@@ -231,7 +238,7 @@ fn told_between(
 }
 
 /// Puts the rows of a step, or of edits that are advised: which trees' roots move, how many roles, which VIDs move, which are cut and into which parts, and which are
-/// joined, and answers whether some move and whether some are cut. `old` is the plan of the network before the step, `new` that of the
+/// joined, and of a step which logical ports start anew, and answers whether some move and whether some are cut. `old` is the plan of the network before the step, `new` that of the
 /// network after it. `AllocError`: memory was wanted and refused; some of the rows may have been put.
 ///
 /// It looks at the roles of each logical port once for each tree, and once at what carries each class of VIDs that nothing tells apart in
@@ -253,7 +260,9 @@ pub fn put_step<R: Rows>(
     let roots = moved_roots(alloc, old, new, both.as_slice())?;
     let shared = ports_of_both(alloc, old.view, new.view)?;
     let ports = moved_ports(old, new, shared.as_slice());
-    put_told(alloc, deed, roots.as_slice(), ports, &told, out)
+    let anew = restarting(alloc, old, new, both.as_slice(), shared.as_slice())?;
+    let restarting = anew.as_slice();
+    put_told(deed, roots.as_slice(), ports, &told, restarting, out)
 }
 
 /// Puts the row of how many steps there are, how many of them move some VID and how many cut some.
@@ -268,30 +277,35 @@ fn put_counts<R: Rows>(walked: &Walked, out: &mut R) -> Result<(), AllocError>
     put::<R>(Kind::Step(StepLine::Counts), &values, out)
 }
 
-/// Puts that row with how many steps a policy fails after.
-fn put_judged_counts<R: Rows>(walked: &Walked, failing: u64, out: &mut R) -> Result<(), AllocError>
-    ensures { (first : R) (rows : List Row) → R.grew first out.old rows → OnOk result (R.grew first out.new (rows ++ last_row walked.now (Some failing) ∷ [])) }
+/// Puts that row with what a policy comes to.
+fn put_judged_counts<R: Rows>(
+    walked: &Walked,
+    policy: &PolicyCounts,
+    out: &mut R,
+) -> Result<(), AllocError>
+    ensures { (first : R) (rows : List Row) → R.grew first out.old rows → OnOk result (R.grew first out.new (rows ++ last_row walked.now (Some policy.now) ∷ [])) }
 {
     let values = [
         Value::Number(walked.steps),
         Value::Number(walked.moving),
         Value::Number(walked.cutting),
-        Value::Number(failing),
+        Value::Number(policy.failing),
+        Value::Number(policy.unkept),
     ];
     put::<R>(Kind::Step(StepLine::JudgedCounts), &values, out)
 }
 
-/// Puts the last row: how many steps there are, how many of them move some VID, how many cut some, and with a policy after how many of them
-/// it isn't kept. `AllocError`: memory was wanted and refused; part of the row may have been put.
+/// Puts the last row: how many steps there are, how many of them move some VID, how many cut some, and with a policy what it comes to.
+/// `AllocError`: memory was wanted and refused; part of the row may have been put.
 pub fn put_last<R: Rows>(
     walked: &Walked,
-    failing: Option<u64>,
+    judged: Option<PolicyCounts>,
     out: &mut R,
 ) -> Result<(), AllocError>
-    ensures { (first : R) (rows : List Row) → R.grew first out.old rows → OnOk result (R.grew first out.new (rows ++ last_row walked.now failing ∷ [])) }
+    ensures { (first : R) (rows : List Row) → R.grew first out.old rows → OnOk result (R.grew first out.new (rows ++ last_row walked.now judged ∷ [])) }
 {
-    match failing {
+    match judged {
         None => put_counts(walked, out),
-        Some(failing) => put_judged_counts(walked, failing, out),
+        Some(policy) => put_judged_counts(walked, &policy, out),
     }
 }

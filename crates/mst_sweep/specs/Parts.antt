@@ -47,7 +47,11 @@ part_led all x = if list_any (came_apart x) all && leads all x then part all x �
 abbrev pub all_parts : List Stays → List (List (List ℕ))
 all_parts all = flat_map (part_led all) all
 
--- these are the parts of a VID: none where no island came apart
+-- these are the parts that a VID has of these bridges: none where no two of them came apart
+abbrev pub ArePartsOf : List (List ℕ) → Net → Outcome → Net → Outcome → ℕ → List (List (List ℕ)) → Type 0
+ArePartsOf bridges a o b p vid parts =
+    (olds news : List (Island (List ℕ) (List ℕ))) × AreIslandsOf a o vid olds × AreIslandsOf b p vid news × (parts ≡ all_parts (staying olds news bridges))
+
+-- and of all bridges
 abbrev pub AreParts : Net → Outcome → Net → Outcome → ℕ → List (List (List ℕ)) → Type 0
-AreParts a o b p vid parts =
-    (olds news : List (Island (List ℕ) (List ℕ))) × AreIslandsOf a o vid olds × AreIslandsOf b p vid news × (parts ≡ all_parts (staying olds news (bridge_names a)))
+AreParts a o b p vid parts = ArePartsOf (bridge_names a) a o b p vid parts
