@@ -1,13 +1,9 @@
 -- A reason is told just where an expectation doesn't hold: of what LANs carry, of roles, and of limits.
-use Rattle.std.proofs.Common.{◌≡◌, ◌↔◌, ◌⊎◌, inl, inr, ℕ, ◌==◌, ◌||◌, Bool, true, false, not, true≢false, List, [], ◌∷◌, map, Option, Some, None, refl, sym, ap, subst, ◌∙◌, arith}
+use Rattle.std.proofs.Common.{◌≡◌, ◌↔◌, ◌⊎◌, inl, inr, ℕ, ◌||◌, Bool, true, false, not, true≢false, List, [], ◌∷◌, map, Option, Some, None, refl, sym, ap, ◌∙◌, arith}
 use Rattle.std.specs.Prelude.{if◌then◌else◌}
-use Rattle.std.specs.List.{Contains, filter, filter_map, flat_map}
-use Rattle.std.specs.Option.{option_and_then}
+use Rattle.std.specs.List.{Contains, filter, flat_map}
 use Rattle.std.proofs.lemmas.Bool.{eqb-true}
 use Rattle.mst_ids.specs.Vids.{set_where}
-use Rattle.mst_kinds.specs.declared.kind.Kind.{Kind}
-use Rattle.mst_rows.specs.Cells.{Cell}
-use Rattle.mst_rows.specs.Rows.{Row}
 use Rattle.mst_graph.proofs.Members.{in_filter, from_filter}
 use Rattle.mst_summary.specs.net.Tables.{Net}
 use Rattle.mst_lag.specs.Trees.{is_among}
@@ -25,7 +21,7 @@ use Rattle.mst_verify.specs.Holds.{is_wanted, HaveRoles, AllGoOver, NoneGoesOver
 use Rattle.mst_verify.specs.Reasons.{same_role, all_roles, ports_of_role, role_reason, role_reasons, carries_reason, avoids_reason}
 use Rattle.mst_verify.specs.declared.reason.Reason.{Reason}
 use Rattle.mst_verify.specs.declared.reason.Reason.TheVariants as why
-use Rattle.mst_verify.proofs.Things.{there_any, any_there, not_any, told_if, passes_none, none_passes, each_none, none_each}
+use Rattle.mst_verify.proofs.Things.{there_any, not_any, told_if, passes_none, none_passes, each_none, none_each}
 
 -- ---- what LANs carry
 not_wrong : (b : Bool) → not b ≡ false → b ≡ true

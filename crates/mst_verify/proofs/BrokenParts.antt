@@ -1,11 +1,10 @@
 -- A reason is told just where an expectation doesn't hold: of regions and of islands.
-use Rattle.std.proofs.Common.{◌≡◌, ◌↔◌, ◌⊎◌, inl, inr, ℕ, ◌&&◌, ◌||◌, Bool, true, false, true≢false, List, [], ◌∷◌, refl, sym, ap, subst, ◌∙◌}
-use Rattle.std.specs.Prelude.{if◌then◌else◌}
-use Rattle.std.specs.List.{Contains, filter, flat_map, list_any}
+use Rattle.std.proofs.Common.{◌≡◌, ◌↔◌, inl, inr, ℕ, ◌&&◌, ◌||◌, Bool, true, false, true≢false, List, [], ◌∷◌, refl, sym, ap, subst, ◌∙◌}
+use Rattle.std.specs.List.{Contains, list_any}
 use Rattle.std.specs.Cmp.Lexicographic.{bytes_decides}
 use Rattle.mst_ids.specs.Vids.{set_where}
-use Rattle.mst_graph.specs.Groups.{AreGroups, BeginWith, IsThinned, StandOnce, no_groups, one_more, kept}
-use Rattle.mst_graph.proofs.Members.{here, there, cases, in_none, in_whole, in_filter, from_filter, passing, thinned_none}
+use Rattle.mst_graph.specs.Groups.{AreGroups, IsThinned, StandOnce, no_groups, one_more, kept}
+use Rattle.mst_graph.proofs.Members.{here, cases, in_none, in_whole, in_filter, passing, thinned_none}
 use Rattle.mst_graph.proofs.Unique as unique
 use Rattle.mst_summary.specs.net.Tables.{Net}
 use Rattle.mst_summary.specs.plan_text.config.Regions.{same_region}
@@ -19,7 +18,7 @@ use Rattle.mst_verify.specs.Holds.{AllReach, AreApart, AreOneRegion, AreTogether
 use Rattle.mst_verify.specs.Reasons.{has_two, AreRegionReasons, Parts, group_reasons, AreVidReasons, reach_reason, AreReachReasons, is_in, either_on, has_both, AreBoth, apart_reason, AreApartReasons}
 use Rattle.mst_verify.specs.declared.reason.Reason.{Reason}
 use Rattle.mst_verify.specs.declared.reason.Reason.TheVariants as why
-use Rattle.mst_verify.proofs.Things.{any_passes, any_there, none_passes, passes_none, not_any, told_if, each_none, none_each, thinned_self}
+use Rattle.mst_verify.proofs.Things.{any_passes, none_passes, passes_none, told_if, each_none, none_each, thinned_self}
 
 -- ---- two groups
 module _ {A : Type 0} (R : A → A → Type 0) where

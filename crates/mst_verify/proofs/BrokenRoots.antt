@@ -19,7 +19,7 @@ use Rattle.mst_summary.proofs.trees_lemmas.Lists.{all_contained, no_some, some_i
 use Rattle.mst_summary.proofs.trees_lemmas.Looking.{first_found}
 use Rattle.mst_summary.proofs.trees_lemmas.Views.{bridges_are, entry_there, same_mac}
 use Rattle.mst_verify.specs.Holds.{IsOneRoot}
-use Rattle.mst_verify.specs.Reasons.{root_count, other_root, other_next, root_reasons, AreRootReasons}
+use Rattle.mst_verify.specs.Reasons.{root_count, other_root, other_next, AreRootReasons}
 use Rattle.mst_verify.specs.Roots.{concerned, is_concerned, is_root_of, identifier, IsNextRoot}
 use Rattle.mst_verify.specs.declared.reason.Reason.{Reason}
 use Rattle.mst_verify.specs.declared.reason.Reason.TheVariants as why

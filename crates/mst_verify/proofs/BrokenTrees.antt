@@ -1,16 +1,11 @@
 -- A reason is told just where an expectation doesn't hold: of parents, of steps to them, and of limits.
-use Rattle.std.proofs.Common.{◌≡◌, ◌↔◌, ◌⊎◌, inl, inr, ℕ, ◌<◌, ◌≤◌, Bool, true, false, not, true≢false, List, [], ◌∷◌, Option, Some, None, refl, sym, ap, subst, ◌∙◌, arith}
-use Rattle.std.specs.Prelude.{nat_lt, if◌then◌else◌}
-use Rattle.std.specs.List.{Contains, filter, filter_map, flat_map}
-use Rattle.std.specs.Option.{option_and_then}
-use Rattle.std.specs.FinMap as fin
+use Rattle.std.proofs.Common.{◌≡◌, ◌↔◌, ◌⊎◌, inl, inr, ℕ, ◌≤◌, true, false, true≢false, List, [], sym, ◌∙◌, arith}
+use Rattle.std.specs.Prelude.{nat_lt}
 use Rattle.std.proofs.lemmas.Bool.Decides.{nat_tests}
-use Rattle.mst_graph.proofs.Members.{in_none, in_whole}
+use Rattle.mst_graph.proofs.Members.{in_whole}
 use Rattle.mst_summary.specs.net.Tables.{Net, IsNetwork}
-use Rattle.mst_summary.specs.trees.Outcome.{Outcome, IsOutcome, trees_of}
+use Rattle.mst_summary.specs.trees.Outcome.{Outcome, IsOutcome}
 use Rattle.mst_summary.specs.diff.Reach.{has_any}
-use Rattle.mst_note_text.specs.Children.{HasSteps}
-use Rattle.mst_note_text.specs.Depths.{ParentIn}
 use Rattle.mst_verify.specs.Holds.{AreLeaves, IsShallow}
 use Rattle.mst_verify.specs.Reasons.{leaf_reason, AreLeafReasons, AreDepthReasons}
 use Rattle.mst_verify.specs.declared.reason.Reason.{Reason}

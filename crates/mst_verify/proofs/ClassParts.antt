@@ -7,7 +7,6 @@ use Rattle.mst_sweep.specs.Cuts.{names_of, parts_at}
 use Rattle.mst_verify.specs.Islands.{AreOfClasses}
 use Rattle.mst_verify.specs.Reasons.{Parts, group_reasons}
 use Rattle.mst_verify.specs.declared.reason.Reason.{Reason}
-use Rattle.mst_verify.specs.declared.reason.Reason.TheVariants as why
 
 -- ---- a group of VIDs
 abbrev Kept : Type 0

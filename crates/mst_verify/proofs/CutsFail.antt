@@ -1,9 +1,9 @@
 -- In a network that is whole, all bridges that are left reach each other after a failure just where it cuts no VID.
-use Rattle.std.proofs.Common.{◌≡◌, ◌≢◌, ◌↔◌, inl, inr, ℕ, ◌==◌, ◌&&◌, not, Bool, true, false, true≢false, List, [], ◌∷◌, Some, Ok, refl, sym, ap, subst, ◌∙◌}
+use Rattle.std.proofs.Common.{◌≡◌, ◌≢◌, ◌↔◌, inl, inr, ℕ, ◌==◌, not, Bool, true, false, true≢false, List, [], ◌∷◌, Some, Ok, refl, sym, ap, subst, ◌∙◌}
 use Rattle.std.specs.FinMap as fin
 use Rattle.std.specs.List.{Contains}
 use Rattle.std.specs.Option.{option_map, option_and_then}
-use Rattle.std.proofs.lemmas.Bool.{eqb-true, eq-eqb}
+use Rattle.std.proofs.lemmas.Bool.{eq-eqb}
 use Rattle.mst_ids.specs.Vids.{has}
 use Rattle.mst_graph.specs.Islands.{Island}
 use Rattle.mst_graph.proofs.Members.{in_filter, from_filter}
@@ -35,20 +35,7 @@ use Rattle.mst_verify.specs.Named.{is_gone, is_named, named, vids_in}
 use Rattle.mst_verify.specs.Whole.{AreAllVids, Fails, IsWhole, NoneIsCut, reach_all}
 use Rattle.mst_verify.proofs.Failed.{in_range, not_gone, on_key, stays_on}
 use Rattle.mst_verify.proofs.ReachLinked.{same_or_not}
-use Rattle.mst_verify.proofs.Things.{any_there, there_any}
-
--- ---- booleans
-true_both : (b c : Bool) → b ≡ true → c ≡ true → (b && c) ≡ true
-true_both b c e f = ap (λ b. b && c) e ∙ f
-
-no_true : (b : Bool) → (b ≡ true → ⊥) → b ≡ false
-no_true true n = absurd (n refl)
-no_true false n = refl
-
--- two numbers that aren't apart are one
-same_place : (i j : ℕ) (b : Bool) → (j == i) ≡ b → (not (j == i) ≡ true → ⊥) → j ≡ i
-same_place i j true k n = eqb-true j i k
-same_place i j false k n = absurd (n (ap not k))
+use Rattle.mst_verify.proofs.Things.{any_there, no_true, same_place, there_any, true_both}
 
 -- ---- one VID
 module _ (net failed : Net) (failure : Failure) (e : after (edit_of failure) net ≡ Ok failed) where
@@ -131,7 +118,7 @@ module _ (single : (net : Net) (o p : Outcome) → IsNetwork net → IsOutcome n
   parts_of : (vid : ℕ) → Contains (vids_in vids) vid → AreParts net o failed p vid (cuts.parts vid)
   parts_of vid h = cuts.are_parts vid (is_vid_there vid (a_vid vid h))
 
-  holds_uncut : HoldsAfter net failure (reach_all vids) → NoneIsCut vids cut
+  holds_uncut : HoldsAfter net o failure (reach_all vids) → NoneIsCut vids cut
   holds_uncut holds vid h k =
       let parts = parts_of vid h in
       let some = (from_filter cuts_some all_vids vid (subst (λ vids. Contains vids vid) cuts.cut k)).1 in
@@ -143,7 +130,7 @@ module _ (single : (net : Net) (o p : Outcome) → IsNetwork net → IsOutcome n
       uncut_reach net failed failure fails.made o p vid parts.0 parts.1 parts.2 parts.3 (whole vid h)
       (λ some. none vid h (subst (λ vids. Contains vids vid) (sym cuts.cut) (in_filter cuts_some all_vids vid (a_vid vid h) (ap has_any parts.4 ∙ some))))
 
-  uncut_holds : NoneIsCut vids cut → HoldsAfter net failure (reach_all vids)
+  uncut_holds : NoneIsCut vids cut → HoldsAfter net o failure (reach_all vids)
   uncut_holds none other q e its =
       let first = fails.made in
       let same : other ≡ failed = cc in
@@ -151,11 +138,11 @@ module _ (single : (net : Net) (o p : Outcome) → IsNetwork net → IsOutcome n
       let outcome : q ≡ p = single failed q p ok (subst (λ n. IsOutcome n q) same its) fails.is_made in
       subst (λ n. AllReach n q vids (named n (gone_of failure) (Any ∷ []))) (sym same) (subst (λ q. AllReach failed q vids (named failed (gone_of failure) (Any ∷ []))) (sym outcome) (uncut_here none))
 
-  pub holds_where_uncut : HoldsAfter net failure (reach_all vids) ↔ NoneIsCut vids cut
+  pub holds_where_uncut : HoldsAfter net o failure (reach_all vids) ↔ NoneIsCut vids cut
   holds_where_uncut = (holds_uncut, uncut_holds)
 
   -- by all VIDs
-  pub holds_where_none : AreAllVids vids → HoldsAfter net failure (reach_all vids) ↔ (has_any cut ≡ false)
+  pub holds_where_none : AreAllVids vids → HoldsAfter net o failure (reach_all vids) ↔ (has_any cut ≡ false)
   holds_where_none all = (
     λ holds. no_true (has_any cut) (λ some.
         let vid = any_there cut some in
@@ -168,7 +155,7 @@ module _ (single : (net : Net) (o p : Outcome) → IsNetwork net → IsOutcome n
 pub told_where_cut : (single : (net : Net) (o p : Outcome) → IsNetwork net → IsOutcome net o → IsOutcome net p → o ≡ p)
     → (networks : (edit : Edit) (net new : Net) → InRange edit → IsNetwork net → after edit net ≡ Ok new → IsNetwork new)
     → (net : Net) (o : Outcome) → IsNetwork net → IsOutcome net o → (failure : Failure) → Contains (failures net) failure → (vids : List Bool) → AreAllVids vids → IsWhole net o vids → (told : Told) → IsTold net o failure told
-    → HoldsAfter net failure (reach_all vids) ↔ (told.cuts ≡ false)
+    → HoldsAfter net o failure (reach_all vids) ↔ (told.cuts ≡ false)
 told_where_cut single networks net o ok is failure can vids all whole told t =
     let fails : Fails net o failure t.failed t.outcome = record { is_network = ok; is_outcome = is; can_fail = can; made = t.made; is_made = t.is_outcome } in
     let h = holds_where_none single networks net o failure t.failed t.outcome fails vids whole t.is.vids t.is.cut t.is.are_cuts all in

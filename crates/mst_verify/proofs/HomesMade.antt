@@ -13,7 +13,7 @@ use Rattle.mst_summary.specs.trees.Settled.{SettledNet, IsSettledNet, outcome_of
 use Rattle.mst_summary.proofs.trees_lemmas.SettledNet.{forest_of}
 use Rattle.mst_summary.proofs.plan_text_lemmas.Bodied.{zip_at}
 use Rattle.mst_sweep.specs.Baseline.{AreHomes}
-use Rattle.mst_verify.specs.Islands.{AreMade, IsOfPlan}
+use Rattle.mst_verify.specs.Islands.{AreMade, HasHomesBy, IsOfPlan}
 
 module _ (s : SettledNet) (is : IsSettledNet s) (v : Viewed) (f : Forest) (same_view : v ≡ s.view) (same_forest : f ≡ s.forest) where
   -- a view and a forest that are those of a settled network
@@ -34,6 +34,11 @@ module _ (s : SettledNet) (is : IsSettledNet s) (v : Viewed) (f : Forest) (same_
 -- what a VID has, if it is made
 abbrev pub HasHomes : {S : Type 0} → SettledNet → ℕ → Option (HashMap ℕ ℕ S) → Type 0
 HasHomes s vid homes = MatchOption homes ⊤ (λ h. AreHomes s.net s.numbers (outcome_of s) vid h.entries)
+
+-- as it has in each network with this view and these trees
+pub has_homes : {S : Type 0} (c : ViewWithTrees) (s : SettledNet) → IsSettledNet s → IsOfPlan s c → (vid : ℕ) (homes : Option (HashMap ℕ ℕ S)) → MatchOption homes ⊤ (λ h. HasHomesBy c vid h.entries) → HasHomes s vid homes
+has_homes c s is of vid None h = tt
+has_homes c s is of vid (Some m) h = h s is of
 
 module _ {S : Type 0} (s : SettledNet) (firsts : List ℕ) (made : List (Option (HashMap ℕ ℕ S))) (are : AreMade s firsts made) where
   pub made_there : (i : ℕ) → i < length firsts → i < length made

@@ -1,6 +1,6 @@
 -- A promise of which nothing is missing is judged in some network.
-use Rattle.std.proofs.Common.{◌≡◌, ◌&&◌, not, Bool, true, false, true≢false, List, [], ◌∷◌, cond, map, Option, Some, None, refl, sym, ◌∙◌}
-use Rattle.std.specs.List.{Contains, list_all}
+use Rattle.std.proofs.Common.{◌≡◌, ◌&&◌, ◌||◌, not, Bool, true, false, true≢false, List, [], ◌∷◌, cond, map, Some, None, refl, sym}
+use Rattle.std.specs.List.{list_all}
 use Rattle.mst_graph.proofs.Members.{here, in_map, passing, there}
 use Rattle.mst_net.specs.Tables.{Net}
 use Rattle.mst_policy.specs.Items.{item_has}
@@ -9,12 +9,11 @@ use Rattle.mst_policy.specs.declared.expectation.Scope.{Scope}
 use Rattle.mst_policy.specs.declared.expectation.Scope.TheVariants as scope
 use Rattle.mst_policy.specs.declared.item.NameItem.{NameItem}
 use Rattle.mst_sweep.specs.Failures.{failures}
-use Rattle.mst_sweep.specs.declared.failure.Failure.{Failure}
 use Rattle.mst_sweep.proofs.CutApart.{both_true}
-use Rattle.mst_verify.specs.Judged.{IsJudgedSomewhere, asks, asks_now, name_of}
+use Rattle.mst_verify.specs.Judged.{IsJudgedSomewhere, asks, has_now, looks_back, name_of}
 use Rattle.mst_verify.specs.Missing.{has_failure, have_failures, lacks_bridge, lacks_failure, lacks_failure_of, lacks_lan, lacks_port, lacks_tree, missing}
-use Rattle.mst_verify.specs.declared.lacking.Missing.{Missing}
 use Rattle.mst_verify.specs.declared.lacking.Missing.TheVariants as lacking
+use Rattle.mst_verify.proofs.Things.{true_both}
 
 -- nothing is missing: so neither a LAN is, nor a failure
 pub whole : (net : Net) (promise : Promise) → missing net promise ≡ None → (lacks_lan net promise ≡ false) × (lacks_failure net promise ≡ false)
@@ -32,8 +31,8 @@ not_false : (b : Bool) → not b ≡ false → b ≡ true
 not_false true e = refl
 not_false false e = sym e
 
-module _ (net : Net) (promise : Promise) where
-  after_one : (items : List NameItem) → have_failures net promise items ≡ true → IsJudgedSomewhere net promise
+module _ (net : Net) (has_prior : Bool) (promise : Promise) (looks : (has_prior || not (looks_back promise.expectation)) ≡ true) where
+  after_one : (items : List NameItem) → have_failures net promise items ≡ true → IsJudgedSomewhere net has_prior promise
   after_one [] e = absurd (true≢false (sym e))
   after_one (item ∷ items) e =
       let first = both_true (has_failure net promise item) (list_all (has_failure net promise) items) e in
@@ -44,14 +43,14 @@ module _ (net : Net) (promise : Promise) where
         is_asked = (both_true (item_has item (name_of f.0)) (asks promise f.0) f.2).1;
       }
 
-  in_itself : asks_now promise.scope ≡ true → IsJudgedSomewhere net promise
-  in_itself e = record { place = None; there = here None (map Some (failures net)); is_asked = e }
+  in_itself : has_now promise.scope ≡ true → IsJudgedSomewhere net has_prior promise
+  in_itself e = record { place = None; there = here None (map Some (failures net)); is_asked = true_both (has_now promise.scope) (has_prior || not (looks_back promise.expectation)) e looks }
 
-  by_scope : (s : Scope) → promise.scope ≡ s → lacks_failure_of net promise s ≡ false → IsJudgedSomewhere net promise
-  by_scope scope.Now is e = in_itself (λ i. asks_now (is i))
+  by_scope : (s : Scope) → promise.scope ≡ s → lacks_failure_of net promise s ≡ false → IsJudgedSomewhere net has_prior promise
+  by_scope scope.Now is e = in_itself (λ i. has_now (is i))
   by_scope (scope.AfterLan names) is e = after_one names (not_false (have_failures net promise names) e)
   by_scope (scope.AfterBridge names) is e = after_one names (not_false (have_failures net promise names) e)
-  by_scope scope.Always is e = in_itself (λ i. asks_now (is i))
+  by_scope scope.Always is e = in_itself (λ i. has_now (is i))
 
-  pub judged_somewhere : missing net promise ≡ None → IsJudgedSomewhere net promise
+  pub judged_somewhere : missing net promise ≡ None → IsJudgedSomewhere net has_prior promise
   judged_somewhere e = by_scope promise.scope refl (whole net promise e).1

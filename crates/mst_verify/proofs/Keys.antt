@@ -3,9 +3,8 @@ use Rattle.std.proofs.Common.{◌≡◌, ℕ, zero, suc, List, [], ◌∷◌, So
 use Rattle.std.specs.List.{Contains, filter}
 use Rattle.std.specs.FinMap as fin
 use Rattle.mst_ids.specs.Names.{name_cmp}
-use Rattle.mst_ids.specs.declared.name.PortName.{PortName}
 use Rattle.mst_graph.specs.Groups.{StandOnce}
-use Rattle.mst_graph.proofs.Members.{from_filter, in_map, from_map}
+use Rattle.mst_graph.proofs.Members.{in_map, from_map}
 use Rattle.mst_summary.specs.net.ByTree.{by_tree}
 use Rattle.mst_summary.specs.net.Tables.{Net, BridgeRow, IsNetwork}
 use Rattle.mst_summary.specs.vector.Cist.{cist_rules}

@@ -2,9 +2,8 @@
 use Rattle.std.proofs.Common.{◌≡◌, ℕ, ◌&&◌, ◌||◌, Bool, true, false, cond, List, [], ◌∷◌, ◌++◌, filter, map, refl, sym, ap, ◌∙◌}
 use Rattle.std.specs.List.{list_all, list_any}
 use Rattle.std.specs.FinMap as fin
-use Rattle.mst_ids.specs.declared.name.PortName.{PortName}
 use Rattle.mst_lag.specs.Trees.{is_among}
-use Rattle.mst_lag.specs.View.{LogicalPort, view_ports}
+use Rattle.mst_lag.specs.View.{LogicalPort}
 use Rattle.mst_lag.specs.Viewed.{Viewed, member_lan, named_bridge, named_port}
 use Rattle.mst_lag.specs.declared.in_view.BridgeInView.{BridgeInView}
 use Rattle.mst_lag.specs.declared.in_view.MemberLan.{MemberLan}
@@ -13,7 +12,7 @@ use Rattle.mst_policy.specs.Items.{item_has}
 use Rattle.mst_policy.specs.declared.item.NameItem.{NameItem}
 use Rattle.mst_policy.specs.declared.expectation.Promise.{Promise}
 use Rattle.mst_summary.specs.net.Seen.{bridge_row}
-use Rattle.mst_summary.specs.net.Tables.{Net, Numbers, BridgeRow, LanRow}
+use Rattle.mst_summary.specs.net.Tables.{Net, Numbers, BridgeRow}
 use Rattle.mst_summary.specs.changes.Subjects.{port_names}
 use Rattle.mst_summary.specs.plan_text.PlanText.{is_had}
 use Rattle.mst_summary.specs.trees.Agrees.{AreOf}

@@ -2,11 +2,14 @@ pub use Rattle.mst_summary.proofs.trees_lemmas as trees_lemmas
 pub use Rattle.mst_summary.proofs.roles_lemmas as roles_lemmas
 pub use Rattle.mst_summary.proofs.plan_text_lemmas as plan_text_lemmas
 pub mod Things
+pub mod OfVids
+pub mod StayTogether
 pub mod Keys
 pub mod RootsThere
 pub mod BrokenLists
 pub mod BrokenParts
 pub mod BrokenTrees
+pub mod ReasonsTogether
 pub mod BrokenRoots
 pub mod Limits
 pub mod OverNamed
@@ -15,7 +18,9 @@ pub mod HomeParts
 pub mod HomesMade
 pub mod StillReached
 pub mod StillMade
+pub mod BesideParts
 pub mod VidParts
+pub mod ClassesOfBoth
 pub mod ClassParts
 pub mod VidReasons
 pub mod EitherOn
@@ -31,13 +36,11 @@ pub mod RootsSeen
 pub mod LimitRows
 pub mod FlatMore
 pub mod VidFlags
-pub mod NoLimitRows
 pub mod Failed
 pub mod OneReasons
 pub mod SomeChildren
 pub mod SomeReasons
-pub mod OneVerified
 pub mod ReachLinked
 pub mod CutsFail
-pub mod KeptTold
+pub mod TogetherSwept
 pub mod JudgedSomewhere

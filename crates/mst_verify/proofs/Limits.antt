@@ -1,10 +1,9 @@
 -- A reason is told just where an expectation doesn't hold: of limits. Each note is of a limit, and has a reason, or is of a restricted role.
 use Rattle.std.proofs.Common.{◌≡◌, ◌↔◌, ◌⊎◌, inl, inr, ℕ, ◌==◌, ◌++◌, Bool, true, false, not, true≢false, List, [], ◌∷◌, Option, Some, None, is_some, refl, sym, ap, subst, ◌∙◌}
 use Rattle.std.specs.Prelude.{nat_le, nat_lt, if◌then◌else◌}
-use Rattle.std.specs.List.{AllByRecursion, Contains, filter, filter_map, flat_map, range_with_len}
+use Rattle.std.specs.List.{AllByRecursion, Contains, flat_map, range_with_len}
 use Rattle.std.specs.Option.{option_map_or}
 use Rattle.std.specs.FinMap as fin
-use Rattle.mst_kinds.specs.declared.kind.Kind.{Kind}
 use Rattle.mst_rows.specs.Rows.{Row}
 use Rattle.mst_graph.proofs.Members.{in_none, in_filter, from_filter}
 use Rattle.mst_lag.specs.View.{LogicalPort, view_ports}
@@ -12,7 +11,7 @@ use Rattle.mst_summary.specs.net.Tables.{Net, BridgeRow}
 use Rattle.mst_summary.specs.vector.declared.cist.CistVector.{CistVector}
 use Rattle.mst_summary.specs.vector.declared.msti.MstiVector.{MstiVector}
 use Rattle.mst_summary.specs.trees.Outcome.{Outcome}
-use Rattle.mst_summary.proofs.trees_lemmas.Lists.{all_contained, no_some}
+use Rattle.mst_summary.proofs.trees_lemmas.Lists.{all_contained}
 use Rattle.mst_note_text.specs.AreDepths.{TreeDepths}
 use Rattle.mst_note_text.specs.NotesText.{hops_note, age_note, external_note, internal_note, greatest_cost, hops_notes, age_notes, cist_notes, msti_notes, bridge_notes, tree_notes, trees_notes, restricted_note, restricted_notes, AreNoteRows}
 use Rattle.mst_verify.specs.Holds.{is_restricted, limit_notes, NoLimitBinds}

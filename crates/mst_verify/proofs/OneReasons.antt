@@ -2,57 +2,34 @@
 use Rattle.std.proofs.Common.{◌≡◌, ◌⊎◌, inl, inr, ℕ, ◌≤◌, ◌||◌, Bool, true, List, [], ◌∷◌, Option, Some, None, refl, sym, ap, subst, ◌∙◌, arith}
 use Rattle.std.specs.Prelude.{nat_lt, MatchOption, if◌then◌else◌}
 use Rattle.std.specs.FinMap as fin
-use Rattle.std.specs.List.{Contains, filter, filter_map, flat_map}
-use Rattle.mst_ids.specs.Vids.{has}
+use Rattle.std.specs.List.{filter, filter_map}
 use Rattle.mst_graph.specs.Groups.{AreGroups, StandOnce}
-use Rattle.mst_graph.proofs.Alike.{alike_groups}
-use Rattle.mst_graph.proofs.Members.{here, in_whole}
+use Rattle.mst_graph.proofs.Members.{in_whole}
 use Rattle.mst_graph.proofs.Unique as unique
 use Rattle.mst_policy.specs.declared.expectation.Expectation.{Expectation}
 use Rattle.mst_policy.specs.declared.expectation.Expectation.TheVariants as expect
 use Rattle.mst_rows.specs.Rows.{Row}
 use Rattle.mst_summary.specs.net.Tables.{Net, IsNetwork}
-use Rattle.mst_summary.specs.plan_text.PlanText.{all_vids}
 use Rattle.mst_summary.specs.plan_text.config.Regions.{same_region}
 use Rattle.mst_summary.specs.diff.Reach.{has_any}
 use Rattle.mst_summary.specs.roles.nested.Trees.{IsSettled}
 use Rattle.mst_summary.specs.trees.Outcome.{Outcome, trees_of}
 use Rattle.mst_vlan.specs.Reach.{bridges_on}
-use Rattle.mst_summary.proofs.plan_text_lemmas.OnePlan.{vids_once}
 use Rattle.mst_note_text.specs.Children.{HasSteps}
 use Rattle.mst_note_text.specs.Depths.{ParentIn}
 use Rattle.mst_note_text.specs.NotesText.{AreNoteRows}
-use Rattle.mst_verify.specs.Named.{Gone, is_named, named, vids_in}
+use Rattle.mst_verify.specs.Named.{Gone, Prior, is_named, named}
 use Rattle.mst_verify.specs.Holds.{AreTogether, IsReached}
-use Rattle.mst_verify.specs.Reasons.{limit_reason, root_reasons, AreRootReasons, has_two, AreRegionReasons, Parts, group_reasons, AreVidReasons, reach_reason, AreReachReasons, is_in, either_on, has_both, AreBoth, apart_reason, AreApartReasons, AreThose, leaf_reason, AreLeafReasons, AreDepthReasons, AreFitsReasons, AreReasons}
+use Rattle.mst_verify.specs.Reasons.{limit_reason, root_reasons, AreRootReasons, has_two, AreRegionReasons, Parts, reach_reason, AreReachReasons, is_in, either_on, has_both, AreBoth, apart_reason, AreApartReasons, AreThose, leaf_reason, AreLeafReasons, AreDepthReasons, AreFitsReasons, AreReasons}
 use Rattle.mst_verify.specs.Roots.{IsNextRoot}
 use Rattle.mst_verify.specs.declared.reason.Reason.{Reason}
 use Rattle.mst_verify.specs.declared.reason.Reason.TheVariants as why
 use Rattle.mst_verify.proofs.BrokenRoots.{one_next}
+use Rattle.mst_verify.proofs.OfVids.{one_of_vids}
+use Rattle.mst_verify.proofs.ReasonsTogether.{OneIslands, one_together}
 use Rattle.mst_verify.proofs.Keys.{keys_once, names_once, on_once}
 use Rattle.mst_verify.proofs.RootsThere.{roots_there}
 use Rattle.mst_verify.proofs.Things.{any_there, each_same, once_filtered}
-
--- ---- VIDs, by parts of which each VID has one list
-module _ (HasParts : ℕ → Parts → Type 0) (single : (vid : ℕ) (parts other : Parts) → HasParts vid parts → HasParts vid other → parts ≡ other) (tell : List ℕ → Parts → List Reason) (vids : List Bool) (reasons others : List Reason)
-    (x : AreVidReasons HasParts tell vids reasons) (y : AreVidReasons HasParts tell vids others) where
-  parts_same : (vid : ℕ) → Contains (vids_in vids) vid → x.parts vid ≡ y.parts vid
-  parts_same vid h = single vid (x.parts vid) (y.parts vid) (x.are_parts vid h) (y.are_parts vid h)
-
-  second : AreGroups (λ u v. x.parts u ≡ x.parts v) (vids_in vids) y.groups
-  second =
-      alike_groups (λ u v. y.parts u ≡ y.parts v) (λ u v. x.parts u ≡ x.parts v) (vids_in vids) y.groups
-      (λ u v h k. (λ e. parts_same u h ∙ e ∙ sym (parts_same v k), λ e. sym (parts_same u h) ∙ e ∙ parts_same v k)) y.are_groups
-
-  groups_same : x.groups ≡ y.groups
-  groups_same = unique.one_list (λ u v. x.parts u ≡ x.parts v) (vids_in vids) (once_filtered (has vids) all_vids vids_once) x.groups y.groups x.are_groups second
-
-  group_same : (group : List ℕ) → Contains x.groups group → group_reasons tell x.parts group ≡ group_reasons tell y.parts group
-  group_same [] h = refl
-  group_same (vid ∷ more) h = ap (tell (vid ∷ more)) (parts_same vid (in_whole (x.are_groups.in_order (vid ∷ more) h) vid (here vid more)))
-
-  one_of_vids : reasons ≡ others
-  one_of_vids = x.are ∙ each_same (group_reasons tell x.parts) (group_reasons tell y.parts) x.groups group_same ∙ ap (flat_map (group_reasons tell y.parts)) groups_same ∙ sym y.are
 
 -- ---- those things for which something holds
 those_same : {A : Type 0} (P : A → Type 0) (things those others : List A) → StandOnce things → AreThose P things those → AreThose P things others → those ≡ others
@@ -124,14 +101,15 @@ module _ (net : Net) (o : Outcome) where
     one_root : (tree : ℕ) (b : List ℕ) (wanted : Option (List ℕ)) (reasons others : List Reason) → AreRootReasons net o tree b wanted reasons → AreRootReasons net o tree b wanted others → reasons ≡ others
     one_root tree b wanted reasons others x y = x.are ∙ ap (root_reasons net o tree b wanted) (next_same tree b x.next y.next x.is_next y.is_next) ∙ sym y.are
 
-    -- ---- all ten
-    module _ (before : Net) (gone : Gone) (one : (notes other : List Row) → AreNoteRows net o notes → AreNoteRows net o other → notes ≡ other) where
-      pub reasons_same : (e : Expectation) (reasons others : List Reason) → AreReasons net o before gone e reasons → AreReasons net o before gone e others → reasons ≡ others
+    -- ---- all eleven
+    module _ (before : Net) (gone : Gone) (prior : Prior) (islands : OneIslands) (one : (notes other : List Row) → AreNoteRows net o notes → AreNoteRows net o other → notes ≡ other) where
+      pub reasons_same : (e : Expectation) (reasons others : List Reason) → AreReasons net o before gone prior e reasons → AreReasons net o before gone prior e others → reasons ≡ others
       reasons_same (expect.Root tree b next) reasons others x y = one_root tree b next reasons others x y
       reasons_same (expect.Region names) reasons others x y = one_region (named net gone names) (names_once net (is_named gone names)) reasons others x y
       reasons_same (expect.Role tree ports roles) reasons others x y = x ∙ sym y
       reasons_same (expect.Reach vids names) reasons others x y = one_reach vids (named net gone names) (names_once net (is_named gone names)) reasons others x y
       reasons_same (expect.Apart vids names more) reasons others x y = one_apart vids (named net gone names) (named net gone more) reasons others x y
+      reasons_same (expect.Together vids names) reasons others x y = one_together net o vids gone names islands prior reasons others x y
       reasons_same (expect.Leaf tree names) reasons others x y = one_leaf tree (named net gone names) reasons others x y
       reasons_same (expect.Depth tree steps) reasons others x y = one_depth tree steps reasons others x y
       reasons_same (expect.Carries lan vids) reasons others x y = x ∙ sym y

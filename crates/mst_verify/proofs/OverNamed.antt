@@ -1,5 +1,5 @@
 -- Which VIDs go over a LAN, as it is seen of the ports of its logical LAN.
-use Rattle.std.proofs.Common.{◌≡◌, ℕ, Bool, true, false, true≢false, List, map, Option, refl, sym, ap, subst, ◌∙◌, Less, Equal, Greater}
+use Rattle.std.proofs.Common.{◌≡◌, ℕ, Bool, true, true≢false, List, map, Option, refl, sym, ap, subst, ◌∙◌, Less, Equal, Greater}
 use Rattle.std.specs.List.{Contains}
 use Rattle.std.specs.Option.{option_map_or}
 use Rattle.std.specs.Ordering.{eq_by_cmp, is_eq}

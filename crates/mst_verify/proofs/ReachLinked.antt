@@ -1,5 +1,5 @@
 -- Where all may pass, bridges reach each other just where enabled ports link them.
-use Rattle.std.proofs.Common.{◌≡◌, ◌≢◌, ◌↔◌, ◌⊎◌, inl, inr, ℕ, Bool, true, false, true≢false, List, None, Ok, refl, sym, ◌∙◌}
+use Rattle.std.proofs.Common.{◌≡◌, ◌≢◌, ◌↔◌, ◌⊎◌, inl, inr, ℕ, Bool, true, false, true≢false, List, None, Ok, is_some, refl, sym, ◌∙◌}
 use Rattle.std.specs.Cmp.Lexicographic.{bytes_decides}
 use Rattle.std.specs.List.{Contains}
 use Rattle.mst_lang.specs.Ranges.{InRange}
@@ -17,9 +17,9 @@ use Rattle.mst_sweep.specs.declared.failure.Failure.{Failure}
 use Rattle.mst_sweep.specs.declared.failure.Failure.TheVariants.{Lan, Bridge}
 use Rattle.mst_sweep.proofs.CutApart.{joined_linked, linked_joined}
 use Rattle.mst_verify.specs.Holds.{AllReach, IsReached}
-use Rattle.mst_verify.specs.Judged.{asks, gone_of, IsKept}
+use Rattle.mst_verify.specs.Judged.{asks, asks_now, gone_of, IsKept}
 use Rattle.mst_verify.specs.Linked.{AllPass, AllAreLinked, AreLinkedOn, StayLinked, always_reach}
-use Rattle.mst_verify.specs.Named.{named, vids_in}
+use Rattle.mst_verify.specs.Named.{Prior, named, vids_in}
 use Rattle.mst_verify.proofs.Failed.{in_range, stay_members, stays_free}
 use Rattle.mst_verify.proofs.Things.{any_there}
 
@@ -59,8 +59,13 @@ asked : (vids : List Bool) (names : List NameItem) (failure : Failure) → asks 
 asked vids names (Lan lan) = refl
 asked vids names (Bridge bridge) = refl
 
+-- and for the network itself, whether one is before it or not
+asked_now : (vids : List Bool) (names : List NameItem) (has_prior : Bool) → asks_now has_prior (always_reach vids names) ≡ true
+asked_now vids names true = refl
+asked_now vids names false = refl
+
 module _ (active : ActiveLink) (outcomes : (net : Net) → IsNetwork net → (o : Outcome) × IsOutcome net o)
-    (networks : (edit : Edit) (net new : Net) → InRange edit → IsNetwork net → after edit net ≡ Ok new → IsNetwork new) (net : Net) (o : Outcome) (vids : List Bool) (names : List NameItem) (ok : IsNetwork net) (is : IsOutcome net o)
+    (networks : (edit : Edit) (net new : Net) → InRange edit → IsNetwork net → after edit net ≡ Ok new → IsNetwork new) (net : Net) (o : Outcome) (prior : Prior) (vids : List Bool) (names : List NameItem) (ok : IsNetwork net) (is : IsOutcome net o)
     (pass : AllPass net vids) where
   still : (failure : Failure) (failed : Net) → after (edit_of failure) net ≡ Ok failed → AllPass failed vids
   still failure failed e = record {
@@ -72,20 +77,20 @@ module _ (active : ActiveLink) (outcomes : (net : Net) → IsNetwork net → (o 
   network : (failure : Failure) → Contains (failures net) failure → (failed : Net) → after (edit_of failure) net ≡ Ok failed → IsNetwork failed
   network failure h failed e = networks (edit_of failure) net failed (in_range net ok failure h) ok e
 
-  kept_linked : IsKept net o (always_reach vids names) → StayLinked net names
+  kept_linked : IsKept net o prior (always_reach vids names) → StayLinked net names
   kept_linked kept = record {
-    now = reach_linked active net o vids (named net None names) ok is pass (kept.now refl);
+    now = reach_linked active net o vids (named net None names) ok is pass (kept.now (asked_now vids names (is_some prior)));
     failed = λ failure h left e.
         let its = network failure h left e in
         let p = outcomes left its in
         reach_linked active left p.0 vids (named left (gone_of failure) names) its p.1 (still failure left e) (kept.failed failure h (asked vids names failure) left p.0 e p.1);
   }
 
-  linked_kept : StayLinked net names → IsKept net o (always_reach vids names)
+  linked_kept : StayLinked net names → IsKept net o prior (always_reach vids names)
   linked_kept stay = record {
     now = λ _. linked_reach active net o vids (named net None names) ok is pass stay.now;
     failed = λ failure h _ failed p e its. linked_reach active failed p vids (named failed (gone_of failure) names) (network failure h failed e) its (still failure failed e) (stay.failed failure h failed e);
   }
 
-  pub kept_where_linked : IsKept net o (always_reach vids names) ↔ StayLinked net names
+  pub kept_where_linked : IsKept net o prior (always_reach vids names) ↔ StayLinked net names
   kept_where_linked = (kept_linked, linked_kept)

@@ -1,9 +1,8 @@
 -- The reasons of roles that are seen are those of the ports under names.
-use Rattle.std.proofs.Common.{◌≡◌, ℕ, ◌||◌, not, Bool, List, [], ◌∷◌, ◌++◌, map, Option, refl, sym, ap, ◌∙◌}
+use Rattle.std.proofs.Common.{◌≡◌, ℕ, ◌||◌, not, List, [], ◌∷◌, ◌++◌, map, Option, refl, sym, ap, ◌∙◌}
 use Rattle.std.specs.Prelude.{if◌then◌else◌}
-use Rattle.std.specs.List.{AllByRecursion, Contains, filter, flat_map}
+use Rattle.std.specs.List.{Contains, filter, flat_map}
 use Rattle.mst_ids.specs.declared.name.PortName.{PortName}
-use Rattle.mst_graph.proofs.Members.{from_filter}
 use Rattle.mst_lag.specs.View.{LogicalPort}
 use Rattle.mst_lag.specs.Viewed.{named_port}
 use Rattle.mst_lag.specs.declared.in_view.PortInView.{PortInView}
@@ -22,7 +21,6 @@ use Rattle.mst_summary.proofs.trees_lemmas.SettledNet.{forest_of}
 use Rattle.mst_verify.specs.Holds.{is_wanted}
 use Rattle.mst_verify.specs.Reasons.{all_roles, ports_of_role, role_reason, role_reasons, same_role}
 use Rattle.mst_verify.specs.Seen.{seen_role_reason, seen_with_role}
-use Rattle.mst_verify.specs.declared.reason.Reason.{Reason}
 use Rattle.mst_verify.specs.declared.reason.Reason.TheVariants as why
 
 module _ (s : SettledNet) (is : IsSettledNet s) (tree : ℕ) (ports : List PortInView) (there : (p : PortInView) → Contains ports p → Contains s.view.ports p) (roles : Roles) where

@@ -16,7 +16,7 @@ use Rattle.mst_summary.specs.trees.Outcome.{Outcome}
 use Rattle.mst_summary.specs.diff.Reach.{has_any}
 use Rattle.mst_summary.specs.diff.Roots.{root_of}
 use Rattle.mst_summary.specs.plan_text.config.Regions.{same_region}
-use Rattle.mst_summary.specs.Roots.{follower, least, with_lesser}
+use Rattle.mst_summary.specs.Roots.{least, with_lesser}
 use Rattle.mst_summary.specs.declared.roots.Follower.{Follower}
 use Rattle.mst_summary.proofs.Next.{least_of}
 use Rattle.mst_summary.proofs.trees_lemmas.Entries.{all_weaker}

@@ -1,7 +1,6 @@
 -- Each expectation has a list of reasons in a network, none where it holds.
 use Rattle.std.proofs.Common.{◌≡◌, ◌≢◌, ◌↔◌, ◌⊎◌, inl, inr, ℕ, zero, suc, ◌≤◌, ◌==◌, ◌||◌, not, Bool, true, false, true≢false, List, [], ◌∷◌, map, Option, Some, None, refl, sym, ap, subst, ◌∙◌, arith, eq-eqb}
-use Rattle.std.specs.Prelude.{nat_lt, MatchOption, if◌then◌else◌}
-use Rattle.std.specs.Cmp.{IsEquivalence}
+use Rattle.std.specs.Prelude.{nat_lt, MatchOption, ⊤, if◌then◌else◌}
 use Rattle.std.specs.Cmp.Lexicographic.{bytes_decides}
 use Rattle.std.specs.FinMap as fin
 use Rattle.std.specs.List.{Contains, filter, filter_map, flat_map}
@@ -11,7 +10,6 @@ use Rattle.mst_graph.specs.Groups.{AreGroups}
 use Rattle.mst_graph.specs.Islands.{AreJoined, Island, link_ends}
 use Rattle.mst_graph.specs.Walks.{bridge_at, stay}
 use Rattle.mst_graph.proofs.Alike.{alike_groups}
-use Rattle.mst_graph.proofs.Exists.{has_groups}
 use Rattle.mst_graph.proofs.Members.{here, there, cases, from_filter, in_filter, in_none}
 use Rattle.mst_graph.proofs.Walks.{back, joined_to}
 use Rattle.mst_lag.specs.Aggregation.{same_name}
@@ -27,49 +25,18 @@ use Rattle.mst_summary.specs.trees.Outcome.{Outcome, trees_of}
 use Rattle.mst_vlan.specs.Reach.{AreIslandsOf, bridges_on, vid_links}
 use Rattle.mst_sweep.specs.Parts.{home}
 use Rattle.mst_sweep.proofs.Joined.{has_home, home_joined, home_on, joined_home}
-use Rattle.mst_sweep.proofs.SameParts.{parts_decide, same_parts}
-use Rattle.mst_verify.specs.Named.{Gone, named, ports_named, vids_in}
+use Rattle.mst_verify.specs.Named.{Gone, Prior, named, ports_named}
 use Rattle.mst_verify.specs.Holds.{AreTogether, IsReached}
 use Rattle.mst_verify.specs.Over.{not_as_wanted}
-use Rattle.mst_verify.specs.Reasons.{root_reasons, AreRootReasons, has_two, AreRegionReasons, role_reasons, Parts, group_reasons, AreVidReasons, reach_reason, AreReachReasons, either_on, has_both, is_in, AreBoth, apart_reason, AreApartReasons, leaf_reason, AreLeafReasons, AreDepthReasons, carries_reason, avoids_reason, limit_reason, AreReasons}
+use Rattle.mst_verify.specs.Reasons.{root_reasons, AreRootReasons, has_two, AreRegionReasons, role_reasons, Parts, reach_reason, AreReachReasons, either_on, has_both, is_in, AreBoth, apart_reason, AreApartReasons, leaf_reason, AreLeafReasons, AreDepthReasons, carries_reason, avoids_reason, limit_reason, AreReasons}
 use Rattle.mst_verify.specs.Roots.{concerned, identifier, IsNextRoot}
 use Rattle.mst_verify.specs.Seen.{is_child_of}
 use Rattle.mst_verify.specs.declared.reason.Reason.{Reason}
 use Rattle.mst_verify.specs.declared.reason.Reason.TheVariants as why
+use Rattle.mst_verify.proofs.OfVids.{groups_of, some_of_vids}
+use Rattle.mst_verify.proofs.ReasonsTogether.{IslandsOf, some_together}
 use Rattle.mst_verify.proofs.ChildrenTold.{are_deepest, deepest, greatest, none_deeper, of_bridge, some_deepest}
 use Rattle.mst_verify.proofs.SomeChildren.{has_children}
-
--- ---- groups, by a test of a relation
-same_bool : (b c : Bool) → (b ≡ true → c ≡ true) → (c ≡ true → b ≡ true) → b ≡ c
-same_bool true c f g = sym (f refl)
-same_bool false true f g = absurd (true≢false (sym (g refl)))
-same_bool false false f g = refl
-
-module _ {A : Type 0} (R : A → A → Type 0) (same : A → A → Bool) (decides : (x y : A) → (same x y ≡ true) ↔ R x y) (itself : (x : A) → R x x) (turned : (x y : A) → R x y → R y x) (on : (x y z : A) → R x y → R y z → R x z) where
-  equivalence : IsEquivalence same
-  equivalence = record {
-    refl = λ x. (decides x x).1 (itself x);
-    symm = λ x y. same_bool (same x y) (same y x) (λ e. (decides y x).1 (turned x y ((decides x y).0 e))) (λ e. (decides x y).1 (turned y x ((decides y x).0 e)));
-    congr = λ x y z e. let r = (decides x y).0 e in same_bool (same x z) (same y z) (λ k. (decides y z).1 (on y x z (turned x y r) ((decides x z).0 k))) (λ k. (decides x z).1 (on x y z r ((decides y z).0 k)));
-  }
-
-  groups_of : (things : List A) → (groups : List (List A)) × AreGroups R things groups
-  groups_of things = let g = has_groups same equivalence things in (g.0, alike_groups (λ x y. same x y ≡ true) R things g.0 (λ x y _ _. decides x y) g.1)
-
--- ---- VIDs that have parts
-module _ (HasParts : ℕ → Parts → Type 0) (tell : List ℕ → Parts → List Reason) (some : (vid : ℕ) → (parts : Parts) × HasParts vid parts) (vids : List Bool) where
-  abbrev parts : ℕ → Parts
-  parts vid = (some vid).0
-
-  abbrev vid_groups : (groups : List (List ℕ)) × AreGroups (λ x y. parts x ≡ parts y) (vids_in vids) groups
-  vid_groups =
-      groups_of (λ x y. parts x ≡ parts y) (λ x y. same_parts (parts x) (parts y)) (λ x y. ((parts_decide (parts x) (parts y)).0, (parts_decide (parts x) (parts y)).1)) (λ x. refl) (λ x y e. sym e) (λ x y z e k. e ∙ k) (vids_in vids)
-
-  some_of_vids : (reasons : List Reason) × AreVidReasons HasParts tell vids reasons
-  some_of_vids = (
-    flat_map (group_reasons tell parts) vid_groups.0,
-    record { parts = parts; are_parts = λ vid _. (some vid).1; groups = vid_groups.0; are_groups = vid_groups.1; are = refl },
-  )
 
 -- ---- bridges in the islands of a VID
 module _ (net : Net) (o : Outcome) (vid : ℕ) (islands : List (Island (List ℕ) (List ℕ))) (are : AreIslandsOf net o vid islands) where
@@ -216,20 +183,22 @@ module _ (net : Net) (o : Outcome) where
           },
         )
 
-  -- ---- all ten
-  module _ (ok : IsNetwork net) (settled : IsSettled (trees_of net o)) (islands : (vid : ℕ) → (islands : List (Island (List ℕ) (List ℕ))) × AreIslandsOf net o vid islands) (notes : (notes : List Row) × AreNoteRows net o notes) (before : Net) (gone : Gone) where
+  -- ---- all eleven
+  module _ (ok : IsNetwork net) (settled : IsSettled (trees_of net o)) (islands : IslandsOf net o) (notes : (notes : List Row) × AreNoteRows net o notes) (before : Net) (gone : Gone) (prior : Prior)
+      (olds : MatchOption prior ⊤ (λ p. IslandsOf p.0 p.1)) where
     some_reach : (vids : List Bool) (bridges : List (List ℕ)) → (reasons : List Reason) × AreReachReasons net o vids bridges reasons
     some_reach vids bridges = some_of_vids (λ vid parts. AreGroups (IsReached net o vid) bridges parts) reach_reason (λ vid. reached_parts net o vid (islands vid).0 (islands vid).1 bridges) vids
 
     some_apart : (vids : List Bool) (bridges others : List (List ℕ)) → (reasons : List Reason) × AreApartReasons net o vids bridges others reasons
     some_apart vids bridges others = some_of_vids (AreBoth net o bridges others) apart_reason (λ vid. both_parts net o vid (islands vid).0 (islands vid).1 bridges others) vids
 
-    pub some_reasons : (e : Expectation) → (reasons : List Reason) × AreReasons net o before gone e reasons
+    pub some_reasons : (e : Expectation) → (reasons : List Reason) × AreReasons net o before gone prior e reasons
     some_reasons (expect.Root tree b next) = some_root tree b next
     some_reasons (expect.Region names) = some_region (named net gone names)
     some_reasons (expect.Role tree ports roles) = (role_reasons net o tree (ports_named net before ports) roles, refl)
     some_reasons (expect.Reach vids names) = some_reach vids (named net gone names)
     some_reasons (expect.Apart vids names others) = some_apart vids (named net gone names) (named net gone others)
+    some_reasons (expect.Together vids names) = some_together net o vids gone names islands prior olds
     some_reasons (expect.Leaf tree names) = some_leaf ok settled tree (named net gone names)
     some_reasons (expect.Depth tree steps) = some_depth ok settled tree steps
     some_reasons (expect.Carries lan vids) = (carries_reason lan (not_as_wanted net o lan true vids), refl)

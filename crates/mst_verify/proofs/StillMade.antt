@@ -1,5 +1,5 @@
 -- What is kept of a network for its classes of VIDs still tells their islands where they are carried alike.
-use Rattle.std.proofs.Common.{◌≡◌, ◌+◌, ◌<◌, ℕ, Bool, true, false, true≢false, List, [], length, get_or, Option, Some, None, refl, sym, ap, subst, ◌∙◌}
+use Rattle.std.proofs.Common.{◌≡◌, ◌+◌, ◌<◌, ℕ, Bool, true, false, true≢false, List, [], length, get_or, Option, Some, None, sym, ap, subst, ◌∙◌}
 use Rattle.std.specs.HashMap.{HashMap}
 use Rattle.std.specs.Option.{option_map}
 use Rattle.std.proofs.lemmas.List.{get_or_default}
@@ -8,7 +8,7 @@ use Rattle.mst_summary.specs.trees.Settled.{SettledNet, IsSettledNet, outcome_of
 use Rattle.mst_summary.proofs.plan_text_lemmas.Bodied.{zip_at}
 use Rattle.mst_summary.proofs.trees_lemmas.Lists.{some_is}
 use Rattle.mst_sweep.specs.Baseline.{AreHomes}
-use Rattle.mst_verify.specs.Islands.{AreMade, AreStill, HasIslandsOf, IsOfPlan, TellReached}
+use Rattle.mst_verify.specs.Islands.{AreAlike, AreMade, AreStill, HasIslandsOf, IsOfPlan}
 use Rattle.mst_verify.specs.declared.before.Before.{Before}
 use Rattle.mst_verify.specs.declared.homes.Homes.{Homes}
 use Rattle.mst_verify.proofs.HomeParts.{homes_tell}
@@ -31,7 +31,15 @@ module _ {S : Type 0} (s : SettledNet) (firsts : List ℕ) (made : List (Option 
 pub none_still : (s : SettledNet) (before : Before) (homes : Homes) → homes.differ.items ≡ [] → AreStill s before homes
 none_still s before homes none class kept below told = absurd (true≢false (sym (ap (λ flags. get_or flags class true) none) ∙ told.flag))
 
+pub none_alike : (old : ViewWithTrees) (t : SettledNet) (firsts : List ℕ) (flags : List Bool) → flags ≡ [] → AreAlike old t firsts flags
+none_alike old t firsts flags none class below told = absurd (true≢false (sym (ap (λ flags. get_or flags class true) none) ∙ told))
+
 -- where the flags tell which are carried alike
+pub all_alike : (old new : ViewWithTrees) (t : SettledNet) → IsOfPlan t new → (firsts : List ℕ) (flags : List Bool) → AreFlags old new firsts flags → AreAlike old t firsts flags
+all_alike old new t is firsts flags are class below told =
+    let there : class < length flags = subst (λ n. class < n) (sym are.as_long) below in
+    subst (λ (c : ViewWithTrees). CarryAlike old c (get_or firsts class 0 + 1)) is (are.alike class below (sym (get_or_default flags class true false there) ∙ told))
+
 pub all_still : (old new : ViewWithTrees) (before : Before) (homes : Homes) (t : SettledNet) → IsSettledNet t → HasIslandsOf old t.numbers before → IsOfPlan t new
     → AreFlags old new before.classes.firsts.items homes.differ.items → AreStill t before homes
 all_still old new before homes t are has is flags class kept below told =
@@ -44,5 +52,5 @@ all_still old new before homes t are has is flags class kept below told =
     let by_old : CarryAlike (record { view = s.view; forest = s.forest }) new (get_or firsts class 0 + 1) = subst (λ c. CarryAlike c new (get_or firsts class 0 + 1)) has.is_of alike in
     let by_both : CarryAlike (record { view = s.view; forest = s.forest }) (record { view = t.view; forest = t.forest }) (get_or firsts class 0 + 1)
     = subst (λ c. CarryAlike (record { view = s.view; forest = s.forest }) c (get_or firsts class 0 + 1)) is by_old in
-    still_tell s t has.settled are has.have_numbers (get_or firsts class 0 + 1) by_both kept
-    (homes_tell s.net s.numbers (outcome_of s) (get_or firsts class 0 + 1) has.settled.of.numbered kept (made_places s firsts before.homes.items has.made class kept below told.is))
+    still_tell s t has.settled are (get_or firsts class 0 + 1) by_both has.have_numbers kept
+    (homes_tell s.net s.numbers (outcome_of s) (get_or firsts class 0 + 1) has.settled.of.numbered kept (made_places s firsts before.homes.items (has.made s has.settled has.is_of) class kept below told.is))

@@ -39,7 +39,7 @@ module _ (net : Net) (numbers : Numbers) (v : Viewed) (f : Forest) (of : AreOf n
       ap (filter (is_member net vid)) (active_listed net numbers v f of is vid) ∙ filter_mapped (is_member net vid) named_port (seen_active v f vid)
       ∙ (λ i. map named_port (filter (λ (p : PortInView). has (vlans_in (sym of.view.settings i).vlans p.name) vid) (seen_active v f vid)))
 
-  links_carried : vid_links net is.outcome vid ≡ map link_by_names (seen_carried v f vid)
+  pub links_carried : vid_links net is.outcome vid ≡ map link_by_names (seen_carried v f vid)
   links_carried =
       let own = filter (seen_member v vid) (seen_active v f vid) in
       ap (map link_of) members ∙ map_of_map link_of named_port own ∙ sym (map_of_map link_by_names names_of own)
@@ -83,12 +83,12 @@ module _ (a b : Net) (o p : Outcome) (vid : ℕ) (ok : IsNetwork b) (same : vid_
   reached_too x y (inr t) = joined_reached x y (subst (λ links. AreJoined links (bridge_at x) (bridge_at y)) same t.joined)
 
 -- ---- so places that tell what it reaches in the one network tell it in the other
-module _ (s t : SettledNet) (is : IsSettledNet s) (are : IsSettledNet t) (numbers : s.numbers ≡ t.numbers) (vid : ℕ) (alike : seen_carried s.view s.forest vid ≡ seen_carried t.view t.forest vid) where
-  links_alike : vid_links s.net (outcome_of s) vid ≡ vid_links t.net (outcome_of t) vid
+module _ (s t : SettledNet) (is : IsSettledNet s) (are : IsSettledNet t) (vid : ℕ) (alike : seen_carried s.view s.forest vid ≡ seen_carried t.view t.forest vid) where
+  pub links_alike : vid_links s.net (outcome_of s) vid ≡ vid_links t.net (outcome_of t) vid
   links_alike = links_carried s.net s.numbers s.view s.forest is.of (forest_of s is) vid ∙ ap (map link_by_names) alike ∙ sym (links_carried t.net t.numbers t.view t.forest are.of (forest_of t are) vid)
 
-  pub still_tell : (homes : List (ℕ × ℕ)) → TellReached s.net s.numbers (outcome_of s) vid homes → TellReached t.net t.numbers (outcome_of t) vid homes
-  still_tell homes tell x y n m x_is y_is =
+  pub still_tell : s.numbers ≡ t.numbers → (homes : List (ℕ × ℕ)) → TellReached s.net s.numbers (outcome_of s) vid homes → TellReached t.net t.numbers (outcome_of t) vid homes
+  still_tell numbers homes tell x y n m x_is y_is =
       let told = tell x y n m (subst (λ (k : Numbers). fin.get k.bridges x ≡ Some n) (sym numbers) x_is) (subst (λ (k : Numbers). fin.get k.bridges y ≡ Some m) (sym numbers) y_is) in (
         λ e. reached_too s.net t.net (outcome_of s) (outcome_of t) vid are.of.network links_alike x y (told.0 e),
         λ r. told.1 (reached_too t.net s.net (outcome_of t) (outcome_of s) vid is.of.network (sym links_alike) x y r),

@@ -1,8 +1,9 @@
 -- Lists: whether there is something, and what a filter and a map to lists leave.
-use Rattle.std.proofs.Common.{◌≡◌, ◌↔◌, ◌⊎◌, inl, inr, Bool, true, false, cond, ◌||◌, true≢false, List, [], ◌∷◌, ◌++◌, map, Option, Some, None, refl, sym, ap, subst, ◌∙◌}
+use Rattle.std.proofs.Common.{◌≡◌, ◌↔◌, ◌⊎◌, inl, inr, ℕ, ◌==◌, Bool, true, false, cond, not, ◌&&◌, ◌||◌, true≢false, List, [], ◌∷◌, ◌++◌, map, Option, Some, None, refl, sym, ap, subst, ◌∙◌}
 use Rattle.std.specs.Prelude.{if◌then◌else◌}
-use Rattle.std.specs.List.{Contains, filter, filter_map, flat_map, list_any}
-use Rattle.mst_graph.specs.Groups.{IsThinned, StandOnce, nothing, kept, left_out}
+use Rattle.std.specs.List.{Contains, cons_option, filter, filter_map, flat_map, list_any}
+use Rattle.std.proofs.lemmas.Bool.{eqb-true}
+use Rattle.mst_graph.specs.Groups.{IsThinned, StandOnce, nothing, kept}
 use Rattle.mst_graph.proofs.Members.{here, there, cases, in_none, in_filter, from_filter}
 use Rattle.mst_summary.specs.diff.Reach.{has_any}
 use Rattle.mst_summary.proofs.trees_lemmas.Lists.{kept_in, kept_from, no_some}
@@ -107,3 +108,36 @@ each_same f g (x ∷ xs) h = let first = h x (here x xs) in let others = each_sa
 pub flat_named : {A B C : Type 0} (name : A → B) (f g : B → List C) → ((x : B) → f x ≡ g x) → (xs : List A) → flat_map (λ x. f (name x)) xs ≡ flat_map g (map name xs)
 flat_named name f g same [] = refl
 flat_named name f g same (x ∷ xs) = λ i. same (name x) i ++ flat_named name f g same xs i
+
+-- those of which a test of their names passes, where what is made of a thing has its name
+module _ {A B : Type 0} (h : A → Option B) (name : A → List ℕ) (made : B → List ℕ) (same : (x : A) (y : B) → h x ≡ Some y → made y ≡ name x) (test : List ℕ → Bool) where
+  abbrev passed : List A → List A
+  passed = filter (λ x. test (name x))
+
+  abbrev after : List B → List B
+  after = filter (λ y. test (made y))
+
+  pub kept_named : (xs : List A) → filter_map h (passed xs) ≡ after (filter_map h xs)
+  kept_named [] = refl
+  kept_named (x ∷ xs) = go (test (name x)) refl (h x) refl (kept_named xs)
+    where
+      go : (b : Bool) → test (name x) ≡ b → (o : Option B) → h x ≡ o → filter_map h (passed xs) ≡ after (filter_map h xs) → filter_map h (cond b (x ∷ passed xs) (passed xs)) ≡ after (cons_option o (filter_map h xs))
+      go true e None f rest = ap (λ o. cons_option o (filter_map h (passed xs))) f ∙ rest
+      go true e (Some y) f rest =
+          ap (λ o. cons_option o (filter_map h (passed xs))) f ∙ ap (λ ys. y ∷ ys) rest
+          ∙ sym (ap (λ b. cond b (y ∷ after (filter_map h xs)) (after (filter_map h xs))) (ap test (same x y f) ∙ e))
+      go false e None f rest = rest
+      go false e (Some y) f rest = rest ∙ sym (ap (λ b. cond b (y ∷ after (filter_map h xs)) (after (filter_map h xs))) (ap test (same x y f) ∙ e))
+
+-- ---- booleans
+pub true_both : (b c : Bool) → b ≡ true → c ≡ true → (b && c) ≡ true
+true_both b c e f = ap (λ b. b && c) e ∙ f
+
+pub no_true : (b : Bool) → (b ≡ true → ⊥) → b ≡ false
+no_true true n = absurd (n refl)
+no_true false n = refl
+
+-- two numbers that aren't apart are one
+pub same_place : (i j : ℕ) (b : Bool) → (j == i) ≡ b → (not (j == i) ≡ true → ⊥) → j ≡ i
+same_place i j true k n = eqb-true j i k
+same_place i j false k n = absurd (n (ap not k))

@@ -31,7 +31,15 @@ module _ (v : Viewed) (c : Numbering) (k : AreClasses v c) where
   pub each_class : (count : ℕ) → count ≡ length c.firsts.items → NumberEach c.numbers.items count
   each_class count e = numbers_below told c.numbers.items c.firsts.items count tell.as_long are e
 
-  module _ (HasParts : ℕ → Parts → Type 0) (moved : (x y : ℕ) → AreAlike k.tables k.sets x y → (parts : Parts) → HasParts x parts → HasParts y parts)
+  -- VIDs of one class are alike
+  pub one_alike : (i j : ℕ) → i < 4094 → j < 4094 → get_or c.numbers.items i 0 ≡ get_or c.numbers.items j 0 → AreAlike k.tables k.sets (i + 1) (j + 1)
+  one_alike i j li lj same =
+      let i_told : i < length told = subst (λ n. i < n) (sym tell.as_long) li in
+      let j_told : j < length told = subst (λ n. j < n) (sym tell.as_long) lj in
+      tell.alike i j li lj (eqb-true (get_or told i 0) (get_or told j 0) ((are.equal i j 0 i_told j_told).0 same))
+
+  module _ (HasParts : ℕ → Parts → Type 0)
+      (moved : (i j : ℕ) → i < 4094 → j < 4094 → get_or c.numbers.items i 0 ≡ get_or c.numbers.items j 0 → (parts : Parts) → HasParts (i + 1) parts → HasParts (j + 1) parts)
       (flags : List Bool) (bodies : List Parts) (of : AreOfClasses HasParts c.firsts.items flags bodies) where
     there : (i : ℕ) → i < 4094 → get_or flags (get_or c.numbers.items i 0) false ≡ true → HasParts (i + 1) (get_or bodies (get_or c.numbers.items i 0) [])
     there i l flag =
@@ -41,8 +49,7 @@ module _ (v : Viewed) (c : Numbering) (k : AreClasses v c) where
         let first = are.first n below in
         let k : ℕ = get_or c.firsts.items n 0 in
         let k_below : k < 4094 = subst (λ m. k < m) tell.as_long first.0 in
-        let same : get_or told k 0 ≡ get_or told i 0 = eqb-true (get_or told k 0) (get_or told i 0) ((are.equal k i 0 first.0 l_told).0 first.1) in
-        moved (k + 1) (i + 1) (tell.alike k i k_below l same) (get_or bodies n []) (of n below flag)
+        moved k i k_below l first.1 (get_or bodies n []) (of n below flag)
 
     pub vids_have : (vid : ℕ) → Contains all_vids vid → flag_at c.numbers.items flags vid ≡ true → HasParts vid (parts_at c.numbers.items bodies vid)
     vids_have vid h flag =
@@ -63,7 +70,7 @@ module _ (net : Net) (o : Outcome) (x y : ℕ) (same : vid_links net o x ≡ vid
   reached_moved a b (inr t) = inr (together_moved a b t)
 
 module _ (s : SettledNet) (is : IsSettledNet s) (c : Numbering) (k : AreClasses s.view c) (x y : ℕ) (alike : AreAlike k.tables k.sets x y) where
-  same_links : vid_links s.net (outcome_of s) x ≡ vid_links s.net (outcome_of s) y
+  pub same_links : vid_links s.net (outcome_of s) x ≡ vid_links s.net (outcome_of s) y
   same_links = links_shared s.net s.numbers s.view s.forest is.of (outcome_of s) k.tables k.sets k.have_tables k.have_sets x y alike
 
   pub reach_moved : (bridges : List (List ℕ)) (parts : Parts) → AreReachParts s.net (outcome_of s) bridges x parts → AreReachParts s.net (outcome_of s) bridges y parts

@@ -1,22 +1,22 @@
 -- The reasons of groups of VIDs, where their classes have the parts.
-use Rattle.std.proofs.Common.{Vec, Global, ◌≡◌, ◌<◌, ◌≤◌, ℕ, zero, suc, Bool, true, List, get_or, length, map, sym, subst, arith}
-use Rattle.std.specs.List.{All, Contains, flat_map}
+use Rattle.std.proofs.Common.{Vec, Global, ◌≡◌, ◌+◌, ◌<◌, ◌≤◌, ℕ, zero, suc, Bool, true, List, get_or, length, map, sym, subst, ◌∙◌, arith}
+use Rattle.std.specs.List.{All, Contains}
 use Rattle.std.proofs.lemmas.List.{get_or_default}
 use Rattle.mst_ids.specs.Vids.{has}
-use Rattle.mst_graph.specs.Groups.{AreGroups}
 use Rattle.mst_graph.specs.declared.keys.Numbering.{Numbering}
 use Rattle.mst_graph.proofs.Members.{from_filter}
 use Rattle.mst_lag.specs.Viewed.{Viewed}
-use Rattle.mst_classes.specs.Alike.{AreAlike}
 use Rattle.mst_summary.specs.plan_text.Bodies.{NumberEach}
 use Rattle.mst_summary.specs.plan_text.PlanText.{all_vids}
 use Rattle.mst_classes.specs.Classes.{AreClasses}
 use Rattle.mst_summary.specs.diff.Classes.{flag_at}
 use Rattle.mst_sweep.specs.Cuts.{names_of, parts_at}
+use Rattle.mst_verify.specs.Grouping.{HasBody}
 use Rattle.mst_verify.specs.Islands.{AreOfClasses}
 use Rattle.mst_verify.specs.Named.{vids_in}
-use Rattle.mst_verify.specs.Reasons.{AreVidReasons, Parts, group_reasons}
+use Rattle.mst_verify.specs.Reasons.{AreVidReasons, Parts}
 use Rattle.mst_verify.specs.declared.reason.Reason.{Reason}
+use Rattle.mst_verify.proofs.OfVids.{so_of_vids}
 use Rattle.mst_verify.proofs.VidParts.{each_class, vids_have}
 
 abbrev Kept : Type 0
@@ -46,19 +46,15 @@ module _ (v : Viewed) (c : Numbering) (k : AreClasses v c) where
       let low : n ≤ get_or c.firsts.items n 0 = at_least n l in
       omega arith
 
-  pub vid_reasons : (HasParts : ℕ → Parts → Type 0) → ((x y : ℕ) → AreAlike k.tables k.sets x y → (parts : Parts) → HasParts x parts → HasParts y parts)
-      → (tell : List ℕ → Parts → List Reason) (vids flags : List Bool) (bodies kept : List Kept) (numbers : List ℕ) (groups : List (List ℕ)) (reasons : List Reason) → numbers ≡ c.numbers.items → kept ≡ bodies
+  -- where the parts that are told are those of the classes, and VIDs of one class have one list of parts
+  pub vid_reasons : (HasParts : ℕ → Parts → Type 0)
+      → ((i j : ℕ) → i < 4094 → j < 4094 → get_or c.numbers.items i 0 ≡ get_or c.numbers.items j 0 → (parts : Parts) → HasParts (i + 1) parts → HasParts (j + 1) parts)
+      → (tell : List ℕ → Parts → List Reason) (vids flags : List Bool) (bodies kept : List Kept) (numbers : List ℕ) (reasons : List Reason) → numbers ≡ c.numbers.items → kept ≡ bodies
       → AreOfClasses HasParts c.firsts.items flags (map names_of bodies)
       → ((vid : ℕ) → Contains (vids_in vids) vid → flag_at numbers flags vid ≡ true)
-      → AreGroups (λ x y. parts_at numbers (map names_of kept) x ≡ parts_at numbers (map names_of kept) y) (vids_in vids) groups
-      → reasons ≡ flat_map (group_reasons tell (parts_at numbers (map names_of kept))) groups
-      → AreVidReasons HasParts tell vids reasons
-  vid_reasons HasParts moved tell vids flags bodies kept numbers groups reasons same same_kept of asked are_groups are = record {
-    parts = parts_at numbers (map names_of kept);
-    are_parts = λ vid h. subst (λ ns. HasParts vid (parts_at ns (map names_of kept) vid)) (sym same)
-        (subst (λ bs. HasParts vid (parts_at c.numbers.items (map names_of bs) vid)) (sym same_kept)
-        (vids_have v c k HasParts moved flags (map names_of bodies) of vid (from_filter (has vids) all_vids vid h).0 (subst (λ ns. flag_at ns flags vid ≡ true) same (asked vid h))));
-    groups = groups;
-    are_groups = are_groups;
-    are = are;
-  }
+      → AreVidReasons (HasBody numbers (map names_of kept)) tell vids reasons → AreVidReasons HasParts tell vids reasons
+  vid_reasons HasParts moved tell vids flags bodies kept numbers reasons same same_kept of asked told =
+      so_of_vids (HasBody numbers (map names_of kept)) HasParts tell vids reasons
+      (λ vid h parts is.
+      let class_has = vids_have v c k HasParts moved flags (map names_of bodies) of vid (from_filter (has vids) all_vids vid h).0 (subst (λ ns. flag_at ns flags vid ≡ true) same (asked vid h)) in
+      subst (HasParts vid) (sym (is ∙ (λ i. parts_at (same i) (map names_of (same_kept i)) vid))) class_has) told

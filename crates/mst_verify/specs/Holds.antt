@@ -1,5 +1,5 @@
 -- Whether an expectation holds in a network with its settled outcome, by name.
-use Rattle.std.specs.Prelude.{◌≡◌, ◌⊎◌, ℕ, ◌≤◌, Bool, true, false, not, List, [], Option, Some, None, filter}
+use Rattle.std.specs.Prelude.{◌≡◌, ◌⊎◌, ℕ, ◌≤◌, Bool, true, false, not, List, [], Option, Some, None, filter, ⊤}
 use Rattle.std.specs.List.{Contains}
 use Rattle.std.specs.Option.{ForSome}
 use Rattle.mst_kinds.specs.declared.kind.Kind.{Kind}
@@ -24,7 +24,8 @@ use Rattle.mst_summary.specs.diff.Roots.{root_name}
 use Rattle.mst_policy.specs.declared.expectation.Expectation.{Expectation}
 use Rattle.mst_policy.specs.declared.expectation.Expectation.TheVariants as expect
 use Rattle.mst_policy.specs.declared.expectation.Roles.{Roles}
-use Rattle.mst_verify.specs.Named.{Gone, named, ports_named, vids_in}
+use Rattle.mst_policy.specs.declared.item.NameItem.{NameItem}
+use Rattle.mst_verify.specs.Named.{Gone, Prior, named, ports_named, vids_in}
 use Rattle.mst_verify.specs.Over.{goes_over}
 use Rattle.mst_verify.specs.Roots.{concerned, IsNextRoot}
 
@@ -69,6 +70,16 @@ AllReach net o vids bridges = (vid : ℕ) → Contains (vids_in vids) vid → (x
 abbrev pub AreApart : Net → Outcome → List Bool → List (List ℕ) → List (List ℕ) → Type 0
 AreApart net o vids bridges others = (vid : ℕ) → Contains (vids_in vids) vid → (x y : List ℕ) → Contains bridges x → Contains others y → AreTogether net o vid x y → ⊥
 
+-- those that were together before and are on here, too, are together here
+abbrev pub AllStayTogether : Net → Outcome → Net → Outcome → List Bool → List (List ℕ) → Type 0
+AllStayTogether a p net o vids bridges =
+    (vid : ℕ) → Contains (vids_in vids) vid → (x y : List ℕ) → Contains bridges x → Contains bridges y → Contains (bridges_on net) x → Contains (bridges_on net) y → AreTogether a p vid x y → AreTogether net o vid x y
+
+-- where nothing is before, nothing is asked
+abbrev pub StayTogether : Prior → Net → Outcome → List Bool → Gone → List NameItem → Type 0
+StayTogether None net o vids lost names = ⊤
+StayTogether (Some prior) net o vids lost names = AllStayTogether prior.0 prior.1 net o vids (named prior.0 lost names)
+
 -- ---- parents
 abbrev pub AreLeaves : Net → Outcome → ℕ → List (List ℕ) → Type 0
 AreLeaves net o tree bridges = (child bridge : List ℕ) → Contains bridges bridge → ParentIn (trees_of net o) tree child bridge → ⊥
@@ -97,17 +108,18 @@ limit_notes notes = filter (λ note. not (is_restricted note.kind)) notes
 abbrev pub NoLimitBinds : Net → Outcome → Type 0
 NoLimitBinds net o = (notes : List Row) → AreNoteRows net o notes → limit_notes notes ≡ []
 
--- ---- all ten
+-- ---- all eleven
 -- an expectation holds in a network with this outcome. It is the one before all failures, or one that a failure makes of that one,
--- `before`, and then this bridge is gone, if it was one
-abbrev pub Holds : Net → Outcome → Net → Gone → Expectation → Type 0
-Holds net o before lost (expect.Root tree b next) = IsOneRoot net o tree b × ForSome next (IsNextRoot net o tree b)
-Holds net o before lost (expect.Region names) = AreOneRegion net (named net lost names)
-Holds net o before lost (expect.Role tree ports roles) = HaveRoles net o tree (ports_named net before ports) roles
-Holds net o before lost (expect.Reach vids names) = AllReach net o vids (named net lost names)
-Holds net o before lost (expect.Apart vids names others) = AreApart net o vids (named net lost names) (named net lost others)
-Holds net o before lost (expect.Leaf tree names) = AreLeaves net o tree (named net lost names)
-Holds net o before lost (expect.Depth tree steps) = IsShallow net o tree steps
-Holds net o before lost (expect.Carries lan vids) = AllGoOver net o lan vids
-Holds net o before lost (expect.Avoids lan vids) = NoneGoesOver net o lan vids
-Holds net o before lost expect.Fits = NoLimitBinds net o
+-- `before`, and then this bridge is gone, if it was one. What stays together was so in the network that is prior to it
+abbrev pub Holds : Net → Outcome → Net → Gone → Prior → Expectation → Type 0
+Holds net o before lost prior (expect.Root tree b next) = IsOneRoot net o tree b × ForSome next (IsNextRoot net o tree b)
+Holds net o before lost prior (expect.Region names) = AreOneRegion net (named net lost names)
+Holds net o before lost prior (expect.Role tree ports roles) = HaveRoles net o tree (ports_named net before ports) roles
+Holds net o before lost prior (expect.Reach vids names) = AllReach net o vids (named net lost names)
+Holds net o before lost prior (expect.Apart vids names others) = AreApart net o vids (named net lost names) (named net lost others)
+Holds net o before lost prior (expect.Together vids names) = StayTogether prior net o vids lost names
+Holds net o before lost prior (expect.Leaf tree names) = AreLeaves net o tree (named net lost names)
+Holds net o before lost prior (expect.Depth tree steps) = IsShallow net o tree steps
+Holds net o before lost prior (expect.Carries lan vids) = AllGoOver net o lan vids
+Holds net o before lost prior (expect.Avoids lan vids) = NoneGoesOver net o lan vids
+Holds net o before lost prior expect.Fits = NoLimitBinds net o

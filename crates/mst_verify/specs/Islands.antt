@@ -5,20 +5,25 @@ use Rattle.std.specs.Map.{lookup}
 use Rattle.std.specs.Option.{option_map, option_map_or}
 use Rattle.std.specs.FinMap as fin
 use Rattle.std.specs.HashMap.{HashMap}
-use Rattle.mst_carried.specs.Carried.{ViewWithTrees}
+use Rattle.mst_carried.specs.Carried.{ViewWithTrees, CarryAlike}
 use Rattle.mst_graph.specs.Groups.{AreGroups}
 use Rattle.mst_lag.specs.declared.in_view.BridgeInView.{BridgeInView}
 use Rattle.mst_summary.specs.net.Tables.{Net, Numbers}
 use Rattle.mst_summary.specs.trees.Outcome.{Outcome}
 use Rattle.mst_summary.specs.trees.Settled.{SettledNet, IsSettledNet, outcome_of}
+use Rattle.mst_policy.specs.declared.item.NameItem.{NameItem}
 use Rattle.mst_sweep.specs.Baseline.{AreHomes}
+use Rattle.mst_sweep.specs.Parts.{ArePartsOf}
 use Rattle.mst_classes.specs.Classes.{AreClasses}
 use Rattle.mst_verify.specs.Holds.{IsReached}
+use Rattle.mst_verify.specs.Named.{Gone, Prior, named}
 use Rattle.mst_verify.specs.Reasons.{Parts}
+use Rattle.mst_verify.specs.declared.beside.Beside.{Beside}
 use Rattle.mst_verify.specs.declared.before.Before.{Before}
 use Rattle.mst_verify.specs.declared.homes.Homes.{Homes}
 use Rattle.mst_verify.specs.declared.parting.Home.{Home}
 use Rattle.mst_verify.specs.declared.parting.Home.TheVariants.{Island, Alone}
+use Rattle.mst_verify.specs.declared.prior.Prior.{Prior as KeptPrior}
 
 -- for the first VID of each class, if they are made, the places of islands, by the numbers of bridges
 abbrev pub AreMade : {S : Type 0} → SettledNet → List ℕ → List (Option (HashMap ℕ ℕ S)) → Type 0
@@ -33,9 +38,13 @@ abbrev pub TellReached : Net → Numbers → Outcome → ℕ → List (ℕ × �
 TellReached net numbers o vid homes =
     (x y : List ℕ) (n m : ℕ) → fin.get numbers.bridges x ≡ Some n → fin.get numbers.bridges y ≡ Some m → (home_of homes n ≡ home_of homes m) ↔ IsReached net o vid x y
 
--- what is kept for a class of the network before a failure
+-- what is kept for a class
+abbrev pub kept_in : {S : Type 0} → List (Option (HashMap ℕ ℕ S)) → ℕ → Option (List (ℕ × ℕ))
+kept_in kept class = option_map (λ h. h.entries) (slice_index_or kept class None)
+
+-- and for one of the network before a failure
 abbrev pub kept_at : Before → ℕ → Option (List (ℕ × ℕ))
-kept_at before class = option_map (λ h. h.entries) (slice_index_or before.homes.items class None)
+kept_at before class = kept_in before.homes.items class
 
 -- it is this, and the flag of the class says that it tells its islands afterwards, too
 pub record StillTells (before : Before) (homes : Homes) (class : ℕ) (kept : List (ℕ × ℕ)) : Type 0 where
@@ -58,14 +67,63 @@ pub record AreKept (s : SettledNet) (before : Before) (homes : Homes) : Type 0 w
 abbrev pub IsOfPlan : SettledNet → ViewWithTrees → Type 0
 IsOfPlan s c = c ≡ record { view = s.view; forest = s.forest }
 
--- the islands that are kept are those of a network with this view and these trees, whose records have these numbers
+-- the places of islands of a VID are these in each network with this view and these trees
+abbrev pub HasHomesBy : ViewWithTrees → ℕ → List (ℕ × ℕ) → Type 0
+HasHomesBy c vid homes = (s : SettledNet) → IsSettledNet s → IsOfPlan s c → AreHomes s.net s.numbers (outcome_of s) vid homes
+
+-- these are made in each network with this view and these trees
+abbrev pub AreMadeBy : {S : Type 0} → ViewWithTrees → List ℕ → List (Option (HashMap ℕ ℕ S)) → Type 0
+AreMadeBy c firsts made = (s : SettledNet) → IsSettledNet s → IsOfPlan s c → AreMade s firsts made
+
+-- the islands that are kept are those of each network with this view and these trees, of which there is one whose records have these numbers
 pub record HasIslandsOf (c : ViewWithTrees) (numbers : Numbers) (before : Before) : Type 0 where
   pub network : SettledNet
   pub settled : IsSettledNet network
   pub is_of : IsOfPlan network c
   pub have_numbers : network.numbers ≡ numbers
-  pub made : AreMade network before.classes.firsts.items before.homes.items
+  pub made : AreMadeBy c before.classes.firsts.items before.homes.items
 
+-- ---- the network before
+-- a network with its outcome is one with this view and these trees
+pub record IsOneOf (net : Net) (o : Outcome) (c : ViewWithTrees) : Type 0 where
+  pub network : SettledNet
+  pub settled : IsSettledNet network
+  pub is_of : IsOfPlan network c
+  pub net_is : network.net ≡ net
+  pub outcome_is : outcome_of network ≡ o
+
+-- there is a network before where something is kept of one, and it is one of that
+abbrev pub IsKeptOf : Prior → Option KeptPrior → Type 0
+IsKeptOf None None = ⊤
+IsKeptOf (Some prior) (Some kept) = IsOneOf prior.0 prior.1 kept.old.now
+IsKeptOf _ _ = ⊥
+
+-- where the flag of a class is false the same ports carry its first VID in the network before, on the same LANs
+abbrev pub AreAlike : ViewWithTrees → SettledNet → List ℕ → List Bool → Type 0
+AreAlike old s firsts flags =
+    (class : ℕ) → class < length firsts → slice_index_or flags class true ≡ false → CarryAlike old (record { view = s.view; forest = s.forest }) (slice_index firsts class + 1)
+
+-- what is kept of the network before this one is right: the classes of VIDs of both, and islands of some in each
+pub record IsBeside (s : SettledNet) (kept : KeptPrior) : Type 0 where
+  pub old_classes : AreClasses kept.old.now.view kept.classes.now
+  pub new_classes : AreClasses s.view kept.classes.now
+  pub olds : AreMadeBy kept.old.now kept.classes.now.firsts.items kept.olds.now
+  pub news : AreMade s kept.classes.now.firsts.items kept.news.now
+  pub alike : AreAlike kept.old.now s kept.classes.now.firsts.items kept.differ.now
+
+-- and so is what is kept of two networks that no failure makes of each other
+pub record AreBeside (old : ViewWithTrees) (s : SettledNet) (beside : Beside) : Type 0 where
+  pub old_classes : AreClasses old.view beside.classes
+  pub new_classes : AreClasses s.view beside.classes
+  pub olds : AreMadeBy old beside.classes.firsts.items beside.olds.items
+  pub news : AreMade s beside.classes.firsts.items beside.news.items
+  pub alike : AreAlike old s beside.classes.firsts.items beside.differ.items
+
+-- these are the parts that a VID has of the bridges of NAMES in each network of which this is kept
+abbrev pub ArePartsBeside : SettledNet → KeptPrior → Gone → List NameItem → ℕ → Parts → Type 0
+ArePartsBeside s kept lost names vid parts = (net : Net) (o : Outcome) → IsOneOf net o kept.old.now → ArePartsOf (named net lost names) net o s.net (outcome_of s) vid parts
+
+-- ---- parts
 -- bridges with where they are
 abbrev pub with_homes : List (ℕ × ℕ) → List BridgeInView → List (List ℕ × Home)
 with_homes homes bridges = map (λ b. (b.name, home_of homes b.bridge.number)) bridges

@@ -1,5 +1,5 @@
 -- In which networks a promise is judged, and that it is kept.
-use Rattle.std.specs.Prelude.{◌≡◌, ℕ, ◌&&◌, ◌||◌, not, Bool, true, false, List, ◌∷◌, Option, None, Some, Ok, map}
+use Rattle.std.specs.Prelude.{◌≡◌, ℕ, ◌&&◌, ◌||◌, not, Bool, true, false, List, ◌∷◌, Option, None, Some, is_some, Ok, map}
 use Rattle.std.specs.List.{Contains}
 use Rattle.std.specs.Option.{option_map_or}
 use Rattle.mst_summary.specs.net.After.{after}
@@ -16,7 +16,7 @@ use Rattle.mst_policy.specs.declared.expectation.Expectation.TheVariants as expe
 use Rattle.mst_policy.specs.declared.expectation.Scope.{Scope}
 use Rattle.mst_policy.specs.declared.expectation.Scope.TheVariants as scope
 use Rattle.mst_policy.specs.declared.expectation.Promise.{Promise}
-use Rattle.mst_verify.specs.Named.{Gone}
+use Rattle.mst_verify.specs.Named.{Gone, Prior}
 use Rattle.mst_verify.specs.Holds.{Holds}
 
 -- the name of what fails
@@ -48,12 +48,21 @@ fails_its_own expectation (failing.Bridge bridge) = is_its_bridge expectation br
 abbrev pub asks_for : List NameItem → List ℕ → Bool → Bool
 asks_for names name is_own = has names name && (not is_own || lists names name)
 
--- the network itself is judged
-abbrev pub asks_now : Scope → Bool
-asks_now scope.Now = true
-asks_now (scope.AfterLan names) = false
-asks_now (scope.AfterBridge names) = false
-asks_now scope.Always = true
+-- a scope has the network itself
+abbrev pub has_now : Scope → Bool
+has_now scope.Now = true
+has_now (scope.AfterLan names) = false
+has_now (scope.AfterBridge names) = false
+has_now scope.Always = true
+
+-- an expectation looks back at the network before
+abbrev pub looks_back : Expectation → Bool
+looks_back (expect.Together vids names) = true
+looks_back _ = false
+
+-- the network itself is judged, where it is said whether a network is before it: of what looks back, only then
+abbrev pub asks_now : Bool → Promise → Bool
+asks_now has_prior promise = has_now promise.scope && (has_prior || not (looks_back promise.expectation))
 
 -- that of a failure is judged
 abbrev pub scope_asks : Scope → Failure → Bool → Bool
@@ -70,21 +79,21 @@ abbrev pub places : Net → List (Option Failure)
 places net = None ∷ map Some (failures net)
 
 -- one is judged there
-abbrev pub asks_at : Promise → Option Failure → Bool
-asks_at promise None = asks_now promise.scope
-asks_at promise (Some failure) = asks promise failure
+abbrev pub asks_at : Bool → Promise → Option Failure → Bool
+asks_at has_prior promise None = asks_now has_prior promise
+asks_at has_prior promise (Some failure) = asks promise failure
 
 -- it is judged somewhere
-pub record IsJudgedSomewhere (net : Net) (promise : Promise) : Type 0 where
+pub record IsJudgedSomewhere (net : Net) (has_prior : Bool) (promise : Promise) : Type 0 where
   pub place : Option Failure
   pub there : Contains (places net) place
-  pub is_asked : asks_at promise place ≡ true
+  pub is_asked : asks_at has_prior promise place ≡ true
 
--- the expectation holds in the network that a failure makes
-abbrev pub HoldsAfter : Net → Failure → Expectation → Type 0
-HoldsAfter net failure expectation = (failed : Net) (o : Outcome) → after (edit_of failure) net ≡ Ok failed → IsOutcome failed o → Holds failed o net (gone_of failure) expectation
+-- the expectation holds in the network that a failure makes: before that is the network itself
+abbrev pub HoldsAfter : Net → Outcome → Failure → Expectation → Type 0
+HoldsAfter net o failure expectation = (failed : Net) (p : Outcome) → after (edit_of failure) net ≡ Ok failed → IsOutcome failed p → Holds failed p net (gone_of failure) (Some (net, o)) expectation
 
 -- the promise is kept: the expectation holds in each network in which it is judged
-pub record IsKept (net : Net) (o : Outcome) (promise : Promise) : Type 0 where
-  pub now : asks_now promise.scope ≡ true → Holds net o net None promise.expectation
-  pub failed : (failure : Failure) → Contains (failures net) failure → asks promise failure ≡ true → HoldsAfter net failure promise.expectation
+pub record IsKept (net : Net) (o : Outcome) (prior : Prior) (promise : Promise) : Type 0 where
+  pub now : asks_now (is_some prior) promise ≡ true → Holds net o net None prior promise.expectation
+  pub failed : (failure : Failure) → Contains (failures net) failure → asks promise failure ≡ true → HoldsAfter net o failure promise.expectation

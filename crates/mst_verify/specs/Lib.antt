@@ -12,10 +12,10 @@ pub mod Holds
 pub mod Judged
 pub mod Reasons
 pub mod Missing
+pub mod Placed
 pub mod Seen
 pub mod Islands
-pub mod Told
-pub mod Verified
-pub mod OneText
+pub mod Grouping
+pub mod Compared
 pub mod Linked
 pub mod Whole

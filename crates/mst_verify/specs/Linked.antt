@@ -1,5 +1,5 @@
 -- Bridges that enabled ports link, and that stay so.
-use Rattle.std.specs.Prelude.{◌≡◌, ◌≢◌, ℕ, true, Bool, List, Ok, None}
+use Rattle.std.specs.Prelude.{◌≡◌, ◌≢◌, ℕ, true, false, Bool, List, Ok, None}
 use Rattle.std.specs.List.{Contains}
 use Rattle.mst_lag.specs.View.{IsUnrestricted}
 use Rattle.mst_policy.specs.declared.expectation.Expectation.TheVariants as expect
@@ -39,4 +39,4 @@ pub record StayLinked (net : Net) (names : List NameItem) : Type 0 where
 
 -- `always reach VIDS NAMES`
 abbrev pub always_reach : List Bool → List NameItem → Promise
-always_reach vids names = record { scope = scope.Always; expectation = expect.Reach vids names }
+always_reach vids names = record { is_final = false; scope = scope.Always; expectation = expect.Reach vids names }

@@ -1,5 +1,5 @@
 -- What a promise names and the network hasn't, or that nothing is judged of it there.
-use Rattle.std.specs.Prelude.{ℕ, ◌==◌, ◌||◌, ◌&&◌, not, Bool, true, false, List, [], ◌∷◌, ◌++◌, Option, Some, None, map, codes, if◌then◌else◌}
+use Rattle.std.specs.Prelude.{ℕ, ◌==◌, ◌||◌, ◌&&◌, not, Bool, false, List, [], ◌∷◌, ◌++◌, Option, Some, None, map, codes, if◌then◌else◌}
 use Rattle.std.specs.List.{list_all, list_any}
 use Rattle.std.specs.Option.{option_map_or}
 use Rattle.std.specs.FinMap as fin
@@ -43,6 +43,7 @@ bridges_of (expect.Region names) = names
 bridges_of (expect.Role tree ports roles) = map (λ item. item.bridge) ports
 bridges_of (expect.Reach vids names) = names
 bridges_of (expect.Apart vids names others) = names ++ others
+bridges_of (expect.Together vids names) = names
 bridges_of (expect.Leaf tree names) = names
 bridges_of _ = []
 

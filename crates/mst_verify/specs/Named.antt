@@ -1,17 +1,26 @@
 -- Which bridges and logical ports the lists of an expectation have in a network.
-use Rattle.std.specs.Prelude.{ℕ, ◌&&◌, not, Bool, false, List, Option, None, Some, filter}
+use Rattle.std.specs.Prelude.{ℕ, ◌&&◌, not, Bool, false, List, Option, MatchOption, filter, ⊤}
 use Rattle.std.specs.List.{list_any}
 use Rattle.std.specs.Option.{option_map_or}
 use Rattle.std.specs.FinMap as fin
 use Rattle.mst_ids.specs.Vids.{has}
 use Rattle.mst_ids.specs.declared.name.PortName.{PortName}
-use Rattle.mst_summary.specs.net.Tables.{Net, port_eq}
+use Rattle.mst_summary.specs.net.Tables.{IsNetwork, Net, port_eq}
+use Rattle.mst_summary.specs.trees.Outcome.{Outcome}
 use Rattle.mst_lag.specs.Aggregation.{same_name}
 use Rattle.mst_lag.specs.View.{LogicalPort, view_ports}
 use Rattle.mst_summary.specs.plan_text.PlanText.{all_vids}
 use Rattle.mst_policy.specs.Items as policy
 use Rattle.mst_policy.specs.declared.item.NameItem.{NameItem}
 use Rattle.mst_policy.specs.declared.item.PortItem.{PortItem}
+
+-- the network before the one that is judged, with a settled outcome of it, if there is one
+abbrev pub Prior : Type 0
+Prior = Option (Net × Outcome)
+
+-- it is a network
+abbrev pub OfNetwork : Prior → Type 0
+OfNetwork prior = MatchOption prior ⊤ (λ p. IsNetwork p.0)
 
 -- ---- bridges
 -- the bridge that failed, if one did

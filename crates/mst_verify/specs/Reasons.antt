@@ -1,5 +1,5 @@
 -- Why an expectation doesn't hold in a network.
-use Rattle.std.specs.Prelude.{◌≡◌, ◌⊎◌, ◌↔◌, ℕ, ◌<◌, ◌≤◌, ◌==◌, ◌&&◌, ◌||◌, not, nat_lt, Bool, true, false, List, [], ◌∷◌, ◌++◌, length, map, filter, filter_map, Option, Some, None, MatchOption, if◌then◌else◌}
+use Rattle.std.specs.Prelude.{◌≡◌, ◌⊎◌, ◌↔◌, ℕ, ◌≤◌, ◌==◌, ◌&&◌, ◌||◌, not, nat_lt, Bool, true, false, List, [], ◌∷◌, length, map, filter, filter_map, Option, Some, None, MatchOption, if◌then◌else◌}
 use Rattle.std.specs.List.{Contains, flat_map, list_any}
 use Rattle.std.specs.Option.{option_map_or, option_and_then}
 use Rattle.std.specs.FinMap as fin
@@ -24,12 +24,14 @@ use Rattle.mst_summary.specs.roles.Roles.{role_in}
 use Rattle.mst_summary.specs.roles.declared.kind.Role.{Role}
 use Rattle.mst_summary.specs.roles.declared.kind.Role.TheVariants as a_role
 use Rattle.mst_vlan.specs.Reach.{bridges_on}
+use Rattle.mst_sweep.specs.Parts.{ArePartsOf}
 use Rattle.mst_summary.specs.changes.Values.{role_number}
 use Rattle.mst_summary.specs.diff.Reach.{has_any}
 use Rattle.mst_policy.specs.declared.expectation.Expectation.{Expectation}
 use Rattle.mst_policy.specs.declared.expectation.Expectation.TheVariants as expect
 use Rattle.mst_policy.specs.declared.expectation.Roles.{Roles}
-use Rattle.mst_verify.specs.Named.{Gone, named, ports_named, vids_in}
+use Rattle.mst_policy.specs.declared.item.NameItem.{NameItem}
+use Rattle.mst_verify.specs.Named.{Gone, Prior, named, ports_named, vids_in}
 use Rattle.mst_verify.specs.Over.{not_as_wanted}
 use Rattle.mst_verify.specs.Roots.{concerned, is_root_of, IsNextRoot}
 use Rattle.mst_verify.specs.Holds.{is_wanted, AreTogether, IsReached}
@@ -144,6 +146,14 @@ apart_reason vids parts = if has_any parts then why.Apart (set_where (is_among v
 abbrev pub AreApartReasons : Net → Outcome → List Bool → List (List ℕ) → List (List ℕ) → List Reason → Type 0
 AreApartReasons net o vids bridges others reasons = AreVidReasons (AreBoth net o bridges others) apart_reason vids reasons
 
+-- the parts of these bridges that were in one island before, where they came apart
+abbrev pub together_reason : List ℕ → Parts → List Reason
+together_reason vids parts = if has_any parts then why.Together (set_where (is_among vids)) parts ∷ [] else []
+
+abbrev pub AreTogetherReasons : Prior → Net → Outcome → List Bool → Gone → List NameItem → List Reason → Type 0
+AreTogetherReasons None net o vids lost names reasons = reasons ≡ []
+AreTogetherReasons (Some prior) net o vids lost names reasons = AreVidReasons (ArePartsOf (named prior.0 lost names) prior.0 prior.1 net o) together_reason vids reasons
+
 -- ---- parents
 -- those of these things for which this holds, in their order
 pub record AreThose {A : Type 0} (P : A → Type 0) (things those : List A) : Type 0 where
@@ -212,15 +222,20 @@ pub record AreFitsReasons (net : Net) (o : Outcome) (reasons : List Reason) : Ty
   pub are_notes : AreNoteRows net o notes
   pub are : reasons ≡ filter_map (λ note. limit_reason note.kind note.cells) notes
 
--- ---- all ten
-abbrev pub AreReasons : Net → Outcome → Net → Gone → Expectation → List Reason → Type 0
-AreReasons net o before lost (expect.Root tree b next) reasons = AreRootReasons net o tree b next reasons
-AreReasons net o before lost (expect.Region names) reasons = AreRegionReasons net (named net lost names) reasons
-AreReasons net o before lost (expect.Role tree ports roles) reasons = reasons ≡ role_reasons net o tree (ports_named net before ports) roles
-AreReasons net o before lost (expect.Reach vids names) reasons = AreReachReasons net o vids (named net lost names) reasons
-AreReasons net o before lost (expect.Apart vids names others) reasons = AreApartReasons net o vids (named net lost names) (named net lost others) reasons
-AreReasons net o before lost (expect.Leaf tree names) reasons = AreLeafReasons net o tree (named net lost names) reasons
-AreReasons net o before lost (expect.Depth tree steps) reasons = AreDepthReasons net o tree steps reasons
-AreReasons net o before lost (expect.Carries lan vids) reasons = reasons ≡ carries_reason lan (not_as_wanted net o lan true vids)
-AreReasons net o before lost (expect.Avoids lan vids) reasons = reasons ≡ avoids_reason lan (not_as_wanted net o lan false vids)
-AreReasons net o before lost expect.Fits reasons = AreFitsReasons net o reasons
+-- ---- all eleven
+abbrev pub AreReasons : Net → Outcome → Net → Gone → Prior → Expectation → List Reason → Type 0
+AreReasons net o before lost prior (expect.Root tree b next) reasons = AreRootReasons net o tree b next reasons
+AreReasons net o before lost prior (expect.Region names) reasons = AreRegionReasons net (named net lost names) reasons
+AreReasons net o before lost prior (expect.Role tree ports roles) reasons = reasons ≡ role_reasons net o tree (ports_named net before ports) roles
+AreReasons net o before lost prior (expect.Reach vids names) reasons = AreReachReasons net o vids (named net lost names) reasons
+AreReasons net o before lost prior (expect.Apart vids names others) reasons = AreApartReasons net o vids (named net lost names) (named net lost others) reasons
+AreReasons net o before lost prior (expect.Together vids names) reasons = AreTogetherReasons prior net o vids lost names reasons
+AreReasons net o before lost prior (expect.Leaf tree names) reasons = AreLeafReasons net o tree (named net lost names) reasons
+AreReasons net o before lost prior (expect.Depth tree steps) reasons = AreDepthReasons net o tree steps reasons
+AreReasons net o before lost prior (expect.Carries lan vids) reasons = reasons ≡ carries_reason lan (not_as_wanted net o lan true vids)
+AreReasons net o before lost prior (expect.Avoids lan vids) reasons = reasons ≡ avoids_reason lan (not_as_wanted net o lan false vids)
+AreReasons net o before lost prior expect.Fits reasons = AreFitsReasons net o reasons
+
+-- there is at most one list of them
+abbrev pub HasOneList : Net → Outcome → Net → Gone → Prior → Expectation → Type 0
+HasOneList net o before lost prior expectation = (reasons other : List Reason) → AreReasons net o before lost prior expectation reasons → AreReasons net o before lost prior expectation other → reasons ≡ other

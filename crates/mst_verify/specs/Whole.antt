@@ -1,8 +1,9 @@
--- Networks in which all bridges reach each other, and what a failure cuts of these.
+-- What a failure cuts of a network, and of one in which all bridges reach each other.
 use Rattle.std.specs.Prelude.{◌≡◌, ℕ, true, Bool, List, [], ◌∷◌, Ok}
 use Rattle.std.specs.List.{Contains}
 use Rattle.std.specs.FinMap as fin
-use Rattle.mst_ids.specs.Vids.{has}
+use Rattle.mst_ids.specs.Vids.{has, runs_from}
+use Rattle.mst_rows.specs.Rows.{Row}
 use Rattle.mst_policy.specs.declared.expectation.Expectation.{Expectation}
 use Rattle.mst_policy.specs.declared.expectation.Expectation.TheVariants as expect
 use Rattle.mst_policy.specs.declared.item.NameItem.TheVariants.{Any}
@@ -10,10 +11,14 @@ use Rattle.mst_summary.specs.net.After.{after}
 use Rattle.mst_summary.specs.net.Tables.{Net, IsNetwork}
 use Rattle.mst_summary.specs.plan_text.PlanText.{all_vids}
 use Rattle.mst_summary.specs.trees.Outcome.{Outcome, IsOutcome}
+use Rattle.mst_sweep.specs.Cuts.{cut_row}
+use Rattle.mst_sweep.specs.declared.cuts.CutBy.TheVariants.{One}
 use Rattle.mst_sweep.specs.Failures.{edit_of, failures}
 use Rattle.mst_sweep.specs.declared.failure.Failure.{Failure}
 use Rattle.mst_verify.specs.Holds.{AllReach}
 use Rattle.mst_verify.specs.Named.{vids_in}
+use Rattle.mst_verify.specs.declared.reason.Reason.{Reason}
+use Rattle.mst_verify.specs.declared.reason.Reason.TheVariants as why
 
 -- in each of the VIDs all bridges reach each other
 abbrev pub IsWhole : Net → Outcome → List Bool → Type 0
@@ -30,6 +35,15 @@ pub record Fails (net : Net) (o : Outcome) (failure : Failure) (failed : Net) (p
   pub can_fail : Contains (failures net) failure
   pub made : after (edit_of failure) net ≡ Ok failed
   pub is_made : IsOutcome failed p
+
+-- `together VIDS *`
+abbrev pub all_together : List Bool → Expectation
+all_together vids = expect.Together vids (Any ∷ [])
+
+-- a reason of it after a failure as a row of a sweep
+abbrev pub as_cut : Failure → Reason → List Row
+as_cut failure (why.Together vids parts) = cut_row (One failure) (runs_from 0 vids) parts ∷ []
+as_cut failure _ = []
 
 -- none of the VIDs is cut
 abbrev pub NoneIsCut : List Bool → List ℕ → Type 0

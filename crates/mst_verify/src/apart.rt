@@ -1,23 +1,21 @@
-ghost use Rattle.std.specs.Prelude.{◌≡◌, ◌++◌, ◌+◌, ◌<◌, IfOk, OnOk, filter, length, map, slice_index, true, vec_len};
-ghost use Rattle.std.specs.List.{flat_map, list_any};
+ghost use Rattle.std.specs.Prelude.{◌≡◌, ◌+◌, ◌<◌, IfOk, filter, length, map, slice_index, true, vec_len};
+ghost use Rattle.std.specs.List.{list_any};
 ghost use Rattle.mst_summary.specs.trees.Settled.{outcome_of};
-ghost use Rattle.mst_summary.specs.plan_text.Bodies.{NumberEach};
-ghost use Rattle.mst_sweep.specs.Cuts.{names_of, parts_at as parts_at_vid};
+ghost use Rattle.mst_sweep.specs.Cuts.{names_of};
 ghost use Rattle.mst_verify.specs.Named.{named as named_in, is_named as is_named_of};
 ghost use Rattle.mst_verify.specs.Islands.{AreKept, AreOfClasses};
 ghost use Rattle.mst_verify.specs.Seen.{are_of_both, seen_either};
-ghost use Rattle.mst_verify.specs.Reasons.{AreApartReasons, AreBoth, apart_reason, group_reasons};
+ghost use Rattle.mst_verify.specs.Reasons.{AreApartReasons, AreBoth};
 
+use crate::grouping::{Telling, vid_reasons};
 use crate::judged::Judged;
-use crate::lists::Parts;
 use crate::named::is_named;
-use crate::parting::{copy, grouped, parts_at};
+use crate::parting::parts_at;
 use crate::reason::Reason;
-use crate::vids::{class_of, classes_asked};
-use mst_ids::{Name, Vid, VidSet};
+use crate::vids::classes_asked;
+use mst_ids::{Name, VidSet};
 use mst_lag::BridgeInView;
 use mst_policy::NameList;
-use mst_summary::set_of;
 use std::alloc::{AllocError, Global};
 
 /// Whether a bridge is on and one of either list.
@@ -137,42 +135,6 @@ fn bodies(
     Ok(bodies)
 }
 
-/// Adds the reason of a group of VIDs that have such parts, if there are any.
-fn add_parts(
-    alloc: Global,
-    group: &[Vid],
-    parts: &[Vec<Name>],
-    reasons: &mut Vec<Reason>,
-) -> Result<(), AllocError>
-    ensures { OnOk result (reasons.new.items ≡ reasons.old.items ++ apart_reason group.now (map (λ part. part.items) parts.now)) }
-{
-    if let [_, ..] = parts {
-        reasons.push(Reason::Apart {
-            vids: set_of(group),
-            parts: Parts::of(copy(alloc, parts)?),
-        })?;
-    }
-    Ok(())
-}
-
-/// Adds the reason of a group of VIDs, if they have such parts.
-fn add_group(
-    alloc: Global,
-    group: &[Vid],
-    numbers: &[usize],
-    bodies: &[Vec<Vec<Name>>],
-    reasons: &mut Vec<Reason>,
-) -> Result<(), AllocError>
-    requires { NumberEach numbers.now (length bodies.now) }
-    ensures { OnOk result (reasons.new.items ≡ reasons.old.items ++ group_reasons apart_reason (parts_at_vid numbers.now (map names_of bodies.now)) group.now) }
-{
-    let Some(vid) = group.first() else {
-        return Ok(());
-    };
-    let number = class_of(numbers, *vid, bodies.len());
-    add_parts(alloc, group, bodies[number].as_slice(), reasons)
-}
-
 /// For which VIDs bridges of both lists are in one island, and which these are, VIDs of equal islands in one reason, by the least VID.
 /// `AllocError`: memory was wanted and refused.
 ///
@@ -192,23 +154,5 @@ pub(crate) fn apart_reasons(
     let count = judged.before.classes.firsts.len();
     let flags = classes_asked(alloc, numbers, vids, count)?;
     let bodies = bodies(alloc, judged, names, others, flags.as_slice())?;
-    let groups = grouped(alloc, numbers, vids, bodies.as_slice())?;
-    told(alloc, groups.as_slice(), numbers, bodies.as_slice())
-}
-
-/// The reasons of groups of VIDs.
-fn told(
-    alloc: Global,
-    groups: &[Vec<Vid>],
-    numbers: &[usize],
-    bodies: &[Vec<Vec<Name>>],
-) -> Result<Vec<Reason>, AllocError>
-    requires { NumberEach numbers.now (length bodies.now) }
-    ensures { IfOk result (λ reasons. reasons.items ≡ flat_map (group_reasons apart_reason (parts_at_vid numbers.now (map names_of bodies.now))) (map (λ group. group.items) groups.now)) }
-{
-    let mut reasons = Vec::new(alloc);
-    for group in groups {
-        add_group(alloc, group.as_slice(), numbers, bodies, &mut reasons)?;
-    }
-    Ok(reasons)
+    vid_reasons(alloc, Telling::Apart, numbers, vids, bodies.as_slice())
 }

@@ -1,15 +1,32 @@
 ghost use Rattle.std.specs.Prelude.{◌≡◌, false};
 ghost use Rattle.std.specs.Option.{option_map_or};
 ghost use Rattle.mst_lag.specs.Aggregation.{same_name};
-ghost use Rattle.mst_verify.specs.Judged.{is_its_bridge as is_bridge_of, is_its_lan as is_lan_of, asks_for as list_asks_for, asks_now as scope_asks_now, scope_asks, asks as promise_asks};
+ghost use Rattle.mst_verify.specs.Judged.{is_its_bridge as is_bridge_of, is_its_lan as is_lan_of, asks_for as list_asks_for, asks_now as promise_asks_now, asks as promise_asks, has_now as scope_has_now, looks_back as looks_back_of, scope_asks};
 
 use mst_ids::Name;
 use mst_policy::{Expectation, NameList, Promise, Scope};
 use mst_sweep::Failure;
 
-/// Whether the network itself is judged.
-pub fn asks_now(scope: &Scope) -> bool
-    ensures { result ≡ scope_asks_now scope.now }
+/// Whether the network itself is judged, where it is said whether one is prior to it: of what stays together, only then.
+pub fn asks_now(has_prior: bool, promise: &Promise) -> bool
+    ensures { result ≡ promise_asks_now has_prior promise.now }
+{
+    has_now(&promise.scope) && (has_prior || !looks_back(&promise.expectation))
+}
+
+/// Whether an expectation looks back at the network before.
+fn looks_back(expectation: &Expectation) -> bool
+    ensures { result ≡ looks_back_of expectation.now }
+{
+    match expectation {
+        Expectation::Together { .. } => true,
+        _ => false,
+    }
+}
+
+/// Whether a scope has the network itself.
+fn has_now(scope: &Scope) -> bool
+    ensures { result ≡ scope_has_now scope.now }
 {
     match scope {
         Scope::Now => true,

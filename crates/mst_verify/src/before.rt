@@ -77,7 +77,7 @@ impl Before {
         let places = before.classes.firsts.as_slice();
         let numbers = before.classes.numbers.as_slice();
         let asked = classes_asked(alloc, numbers, vids, places.len())?;
-        let homes = made_at(alloc, plan, Some(carriage), places, asked.as_slice())?;
+        let homes = made_at(alloc, carriage, places, asked.as_slice())?;
         before.homes = homes;
         Ok(before)
     }

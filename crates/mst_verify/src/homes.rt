@@ -1,9 +1,9 @@
-ghost use Rattle.std.specs.Prelude.{◌≡◌, ◌<◌, ◌+◌, ℕ, IfOk, MatchOption, length, slice_index, vec_len, ⊤};
+ghost use Rattle.std.specs.Prelude.{◌≡◌, ◌<◌, ◌+◌, IfOk, MatchOption, [], length, ⊤};
 ghost use Rattle.std.specs.List.{All};
-ghost use Rattle.mst_summary.specs.trees.Settled.{outcome_of};
+ghost use Rattle.mst_summary.specs.trees.Settled.{outcome_of, SettledNet};
 ghost use Rattle.mst_classes.specs.Classes.{AreClasses};
 ghost use Rattle.mst_sweep.specs.Baseline.{AreHomes};
-ghost use Rattle.mst_verify.specs.Islands.{AreKept, AreMade, HasIslandsOf, IsOfPlan};
+ghost use Rattle.mst_verify.specs.Islands.{AreAlike, AreKept, AreMade, AreMadeBy, HasHomesBy, HasIslandsOf};
 
 use crate::before::Before;
 use crate::vids::classes_asked;
@@ -42,15 +42,12 @@ pub(crate) fn homes_in(
 /// Those of the VID at a place, which is counted from 0.
 fn made_one(
     alloc: Global,
-    plan: &Settled,
     carriage: &Carriage,
     place: usize,
 ) -> Result<IndexMap<BridgeNo, usize>, AllocError>
-    requires there { place < 4094 }
-    requires carriage { IsOfPlan plan.now carriage.now }
-    ensures { IfOk result (λ homes. AreHomes plan.now.net plan.now.numbers (outcome_of plan.now) (place + 1) homes.entries) }
+    requires { place < 4094 }
+    ensures { IfOk result (λ homes. HasHomesBy carriage.now (place + 1) homes.entries) }
 {
-    plan.known();
     let vid = Vid::new(place as u64 + 1).unwrap();
     homes_by(alloc, carriage, vid)
 }
@@ -58,37 +55,48 @@ fn made_one(
 /// The same, where the flag says so and there is a table to make them by.
 fn made_if(
     alloc: Global,
-    plan: &Settled,
-    carriage: Option<&Carriage>,
+    carriage: &Carriage,
     place: usize,
     flag: bool,
 ) -> Result<Option<IndexMap<BridgeNo, usize>>, AllocError>
-    requires there { place < 4094 }
-    requires carriage { MatchOption carriage ⊤ (λ c. IsOfPlan plan.now c.now) }
-    ensures { IfOk result (λ made. MatchOption made ⊤ (λ homes. AreHomes plan.now.net plan.now.numbers (outcome_of plan.now) (place + 1) homes.entries)) }
+    requires { place < 4094 }
+    ensures { IfOk result (λ made. MatchOption made ⊤ (λ homes. HasHomesBy carriage.now (place + 1) homes.entries)) }
 {
-    match carriage {
-        Some(carriage) if flag => Ok(Some(made_one(alloc, plan, carriage, place)?)),
-        _ => Ok(None),
+    if flag {
+        return Ok(Some(made_one(alloc, carriage, place)?));
     }
+    Ok(None)
 }
 
 /// Those of the VIDs at these places, which are counted from 0, where the flags say so.
 pub(crate) fn made_at(
     alloc: Global,
-    plan: &Settled,
-    carriage: Option<&Carriage>,
+    carriage: &Carriage,
     places: &[usize],
     flags: &[bool],
 ) -> Result<Vec<Option<IndexMap<BridgeNo, usize>>>, AllocError>
     requires vids { All (λ place. place < 4094) places.now }
     requires flags { length flags.now ≡ length places.now }
-    requires carriage { MatchOption carriage ⊤ (λ c. IsOfPlan plan.now c.now) }
-    ensures { IfOk result (λ made. AreMade plan.now places.now made.items) }
+    ensures { IfOk result (λ made. AreMadeBy carriage.now places.now made.items) }
 {
     let mut made = Vec::new(alloc);
     for class in 0..places.len() {
-        made.push(made_if(alloc, plan, carriage, places[class], flags[class])?)?;
+        made.push(made_if(alloc, carriage, places[class], flags[class])?)?;
+    }
+    Ok(made)
+}
+
+/// None for each of these places.
+fn none_at(
+    alloc: Global,
+    places: &[usize],
+) -> Result<Vec<Option<IndexMap<BridgeNo, usize>>>, AllocError>
+    ensures { IfOk result (λ made. (s : SettledNet) → AreMade s places.now made.items) }
+{
+    let mut made = Vec::new(alloc);
+    for class in 0..places.len() {
+        let _class = class;
+        made.push(None)?;
     }
     Ok(made)
 }
@@ -106,15 +114,19 @@ fn made_of(
     ensures { IfOk result (λ made. AreMade plan.now places.now made.items) }
 {
     if is_none {
-        return made_at(alloc, plan, None, places, flags);
+        return none_at(alloc, places);
     }
     plan.known();
     let carriage = Carriage::new(alloc, plan.view(), plan.forest())?;
-    made_at(alloc, plan, Some(&carriage), places, flags)
+    made_at(alloc, &carriage, places, flags)
 }
 
 /// The classes that have both flags.
-fn with_both(alloc: Global, asked: &[bool], differ: &[bool]) -> Result<Vec<bool>, AllocError>
+pub(crate) fn with_both(
+    alloc: Global,
+    asked: &[bool],
+    differ: &[bool],
+) -> Result<Vec<bool>, AllocError>
     requires { length asked.now ≡ length differ.now }
     ensures { IfOk result (λ flags. length flags.items ≡ length differ.now) }
 {
@@ -136,6 +148,7 @@ impl Homes {
     ) -> Result<Homes, AllocError>
         requires { AreClasses plan.now.view before.now.classes }
         ensures made { IfOk result (λ homes. AreMade plan.now before.now.classes.firsts.items homes.made.items) }
+        ensures none { IfOk result (λ homes. homes.differ.items ≡ []) }
         ensures kept { IfOk result (AreKept plan.now before.now) }
     {
         let flags = classes_asked(
@@ -162,7 +175,8 @@ impl Homes {
     ) -> Result<Homes, AllocError>
         requires classes { AreClasses plan.now.view before.now.classes }
         requires islands { HasIslandsOf old.now plan.now.numbers before.now }
-        ensures { IfOk result (AreKept plan.now before.now) }
+        ensures kept { IfOk result (AreKept plan.now before.now) }
+        ensures alike { IfOk result (λ homes. AreAlike old.now plan.now before.now.classes.firsts.items homes.differ.items) }
     {
         if vids.is_empty() {
             return Homes::new(alloc, plan, before, vids);
@@ -174,7 +188,7 @@ impl Homes {
         let carriage = Carriage::new(alloc, plan.view(), plan.forest())?;
         let differ = differing(alloc, old, &carriage, places)?;
         let flags = with_both(alloc, asked.as_slice(), differ.as_slice())?;
-        let made = made_at(alloc, plan, Some(&carriage), places, flags.as_slice())?;
+        let made = made_at(alloc, &carriage, places, flags.as_slice())?;
         Ok(Homes { made, differ })
     }
 }

@@ -64,7 +64,7 @@ fn any_bridge(bridges: &[BridgeInView], item: &NameItem) -> bool
 }
 
 /// Whether an item is for one of these bridges.
-fn has_bridge(bridges: &[BridgeInView], item: &NameItem) -> bool
+pub fn has_bridge(bridges: &[BridgeInView], item: &NameItem) -> bool
     ensures { result ≡ has_one_of (map (λ b. b.name) bridges.now) item.now }
 {
     any_bridge(bridges, item)
@@ -85,7 +85,7 @@ fn any_lan(lans: &[MemberLan], item: &NameItem) -> bool
 }
 
 /// Whether an item is for one of these LANs.
-fn has_lan(lans: &[MemberLan], item: &NameItem) -> bool
+pub fn has_lan(lans: &[MemberLan], item: &NameItem) -> bool
     ensures { result ≡ has_one_of (map (λ l. l.name) lans.now) item.now }
 {
     any_lan(lans, item)
@@ -106,7 +106,7 @@ fn any_port(ports: &[PortInView], item: &PortItem) -> bool
 }
 
 /// Whether an item is for one of these ports.
-fn has_port(ports: &[PortInView], item: &PortItem) -> bool
+pub fn has_port(ports: &[PortInView], item: &PortItem) -> bool
     ensures { result ≡ has_port_of (map (λ p. p.name) ports.now) item.now }
 {
     any_port(ports, item)
@@ -195,6 +195,7 @@ fn are_bridges(bridges: &[BridgeInView], expectation: &Expectation) -> bool
         Expectation::Apart { names, others, .. } => {
             have_both(bridges, names.as_slice(), others.as_slice())
         }
+        Expectation::Together { names, .. } => have_bridges(bridges, names.as_slice()),
         Expectation::Leaf { names, .. } => have_bridges(bridges, names.as_slice()),
         _ => true,
     }
@@ -335,7 +336,7 @@ fn any_fails(
 }
 
 /// Whether a promise is judged after some failure that an item has.
-fn has_failure(plan: &Settled, promise: &Promise, item: &NameItem) -> bool
+pub fn has_failure(plan: &Settled, promise: &Promise, item: &NameItem) -> bool
     ensures { result ≡ has_failure_of plan.now.net promise.now item.now }
 {
     plan.known();

@@ -1,10 +1,9 @@
 //! Laws of what a policy promises. Their functions do nothing: a caller has their clauses.
-ghost use Rattle.std.specs.Prelude.{◌≡◌, ◌↔◌, ℕ, Bool, false, [], List, None};
-ghost use Rattle.std.specs.List.{Contains};
+ghost use Rattle.std.specs.Prelude.{◌≡◌, ◌↔◌, ℕ, Bool, true, false, [], List, None, Some};
+ghost use Rattle.std.specs.List.{Contains, flat_map};
 ghost use Rattle.mst_policy.specs.declared.expectation.Expectation.{Expectation as ExpectationOf};
 ghost use Rattle.mst_policy.specs.declared.expectation.Promise.{Promise as PromiseOf};
 ghost use Rattle.mst_policy.specs.declared.item.NameItem.{NameItem as ItemOf};
-ghost use Rattle.mst_policy.specs.declared.policy.PolicyLine.{PolicyLine as LineOf};
 ghost use Rattle.mst_rows.specs.Rows.{Row};
 ghost use Rattle.mst_summary.specs.net.Tables.{Net, IsNetwork};
 ghost use Rattle.mst_summary.specs.trees.Outcome.{Outcome, IsOutcome};
@@ -12,15 +11,13 @@ ghost use Rattle.mst_sweep.specs.Cuts.{AreCuts};
 ghost use Rattle.mst_sweep.specs.Failures.{failures};
 ghost use Rattle.mst_sweep.specs.SweepText.{Told, IsTold};
 ghost use Rattle.mst_sweep.specs.declared.failure.Failure.{Failure as FailureOf};
-ghost use Rattle.mst_verify.specs.Named.{Gone};
+ghost use Rattle.mst_verify.specs.Named.{Gone, OfNetwork, Prior};
 ghost use Rattle.mst_verify.specs.Holds.{AllReach, Holds};
-ghost use Rattle.mst_verify.specs.Judged.{HoldsAfter, IsJudgedSomewhere, IsKept};
+ghost use Rattle.mst_verify.specs.Judged.{HoldsAfter, IsJudgedSomewhere, IsKept, gone_of, looks_back};
 ghost use Rattle.mst_verify.specs.Linked.{AllPass, AllAreLinked, StayLinked, always_reach};
 ghost use Rattle.mst_verify.specs.Missing.{missing};
-ghost use Rattle.mst_verify.specs.OneText.{AreOneJudgement, AreOneText, HasOneList};
-ghost use Rattle.mst_verify.specs.Reasons.{AreReasons};
-ghost use Rattle.mst_verify.specs.Verified.{IsTold as IsLineTold, IsToldWhereBroken};
-ghost use Rattle.mst_verify.specs.Whole.{AreAllVids, Fails, IsWhole, NoneIsCut, reach_all};
+ghost use Rattle.mst_verify.specs.Reasons.{AreReasons, HasOneList};
+ghost use Rattle.mst_verify.specs.Whole.{AreAllVids, Fails, IsWhole, NoneIsCut, all_together, as_cut, reach_all};
 ghost use Rattle.mst_verify.specs.declared.reason.Reason.{Reason as ReasonOf};
 
 use mst_net::laws::networks;
@@ -30,8 +27,8 @@ use mst_vlan::laws::{islands_of_vid, joined_without_loop};
 
 /// A reason is told exactly where an expectation doesn't hold.
 pub fn told_where_broken()
-    ensures { (net : Net) (o : Outcome) (before : Net) (gone : Gone) (expectation : ExpectationOf) (reasons : List ReasonOf) → IsNetwork net → IsOutcome net o
-        → AreReasons net o before gone expectation reasons → (reasons ≡ []) ↔ Holds net o before gone expectation }
+    ensures { (net : Net) (o : Outcome) (before : Net) (gone : Gone) (prior : Prior) (expectation : ExpectationOf) (reasons : List ReasonOf) → IsNetwork net → IsOutcome net o
+        → AreReasons net o before gone prior expectation reasons → (reasons ≡ []) ↔ Holds net o before gone prior expectation }
 {
     nested();
     notes();
@@ -39,45 +36,27 @@ pub fn told_where_broken()
 
 /// There is one list of reasons why an expectation doesn't hold in a network.
 pub fn reason_lists()
-    ensures one { (net : Net) (o : Outcome) (before : Net) (gone : Gone) (expectation : ExpectationOf) → IsNetwork net → IsOutcome net o → HasOneList net o before gone expectation }
-    ensures some { (net : Net) (o : Outcome) (before : Net) (gone : Gone) (expectation : ExpectationOf) → IsNetwork net → IsOutcome net o → (reasons : List ReasonOf) × AreReasons net o before gone expectation reasons }
+    ensures one { (net : Net) (o : Outcome) (before : Net) (gone : Gone) (prior : Prior) (expectation : ExpectationOf) → IsNetwork net → IsOutcome net o → HasOneList net o before gone prior expectation }
+    ensures some { (net : Net) (o : Outcome) (before : Net) (gone : Gone) (prior : Prior) (expectation : ExpectationOf) → IsNetwork net → IsOutcome net o → OfNetwork prior → (reasons : List ReasonOf) × AreReasons net o before gone prior expectation reasons }
 {
     nested();
     notes();
     islands_of_vid();
 }
 
-/// A line that is judged has no rows just where its promise is kept, and one that isn't has none.
-pub fn told_where_unkept()
-    ensures { (net : Net) (o : Outcome) (line : LineOf) (rows : List Row) → IsNetwork net → IsOutcome net o → IsLineTold net o line rows → IsToldWhereBroken net o line rows }
-{
-    one_outcome();
-    networks();
-    told_where_broken();
-}
-
-/// A promise of which the network lacks nothing is judged in some network: in the network itself, or in that of some failure.
+/// A promise of which the network lacks nothing is judged in some network: in the network itself, or in that of some failure. But what looks back
+/// may need that a network is before it.
 pub fn judged_somewhere()
-    ensures { (net : Net) (promise : PromiseOf) → missing net promise ≡ None → IsJudgedSomewhere net promise }
+    ensures beside { (net : Net) (promise : PromiseOf) → missing net promise ≡ None → IsJudgedSomewhere net true promise }
+    ensures alone { (net : Net) (promise : PromiseOf) → missing net promise ≡ None → looks_back promise.expectation ≡ false → IsJudgedSomewhere net false promise }
 {}
-
-/// A policy has one list of rows of a network, and one count of its lines, whichever settled outcome it is judged by; and so its lines
-/// have by themselves.
-pub fn one_verification()
-    ensures whole { (net : Net) (o p : Outcome) (lines : List LineOf) → IsNetwork net → IsOutcome net o → IsOutcome net p → AreOneText net o p lines }
-    ensures lines { (net : Net) (o p : Outcome) (lines : List LineOf) → IsNetwork net → IsOutcome net o → IsOutcome net p → AreOneJudgement net o p lines }
-{
-    one_outcome();
-    networks();
-    reason_lists();
-}
 
 /// Where no logical port's role is restricted and each is a member of the VLANs of the VIDs, of which there is one, bridges reach each other in
 /// these exactly where any two of them are on, and enabled ports link them. And so it is always promised exactly of bridges that are linked
 /// so, and stay it after each failure.
 pub fn reach_where_linked()
     ensures now { (net : Net) (o : Outcome) (vids : List Bool) (bridges : List (List ℕ)) → IsNetwork net → IsOutcome net o → AllPass net vids → AllReach net o vids bridges ↔ AllAreLinked net bridges }
-    ensures always { (net : Net) (o : Outcome) (vids : List Bool) (names : List ItemOf) → IsNetwork net → IsOutcome net o → AllPass net vids → IsKept net o (always_reach vids names) ↔ StayLinked net names }
+    ensures always { (net : Net) (o : Outcome) (prior : Prior) (vids : List Bool) (names : List ItemOf) → IsNetwork net → IsOutcome net o → AllPass net vids → IsKept net o prior (always_reach vids names) ↔ StayLinked net names }
 {
     joined_without_loop();
     has_outcome();
@@ -88,10 +67,23 @@ pub fn reach_where_linked()
 /// all VIDs, where a sweep doesn't count it among those that cut some.
 pub fn cuts_are_failures()
     ensures vids { (net failed : Net) (o p : Outcome) (failure : FailureOf) (vids : List Bool) (cut : List ℕ) (rows : List Row)
-        → Fails net o failure failed p → IsWhole net o vids → AreCuts net o failed p failure cut rows → HoldsAfter net failure (reach_all vids) ↔ NoneIsCut vids cut }
+        → Fails net o failure failed p → IsWhole net o vids → AreCuts net o failed p failure cut rows → HoldsAfter net o failure (reach_all vids) ↔ NoneIsCut vids cut }
     ensures counted { (net : Net) (o : Outcome) (failure : FailureOf) (vids : List Bool) (told : Told)
-        → IsNetwork net → IsOutcome net o → Contains (failures net) failure → AreAllVids vids → IsWhole net o vids → IsTold net o failure told → HoldsAfter net failure (reach_all vids) ↔ (told.cuts ≡ false) }
+        → IsNetwork net → IsOutcome net o → Contains (failures net) failure → AreAllVids vids → IsWhole net o vids → IsTold net o failure told → HoldsAfter net o failure (reach_all vids) ↔ (told.cuts ≡ false) }
 {
     one_outcome();
     networks();
+}
+
+/// The reasons why all bridges don't stay together in all VIDs after a failure are the rows of a sweep of what it cuts. So they stay together exactly
+/// where a sweep doesn't count it among those that cut some VID.
+pub fn together_as_in_sweep()
+    ensures rows { (net failed : Net) (o p : Outcome) (failure : FailureOf) (vids : List Bool) (reasons : List ReasonOf) (cut : List ℕ) (rows : List Row)
+        → Fails net o failure failed p → AreAllVids vids → AreReasons failed p net (gone_of failure) (Some (net, o)) (all_together vids) reasons → AreCuts net o failed p failure cut rows → flat_map (as_cut failure) reasons ≡ rows }
+    ensures counted { (net : Net) (o : Outcome) (failure : FailureOf) (vids : List Bool) (told : Told)
+        → IsNetwork net → IsOutcome net o → Contains (failures net) failure → AreAllVids vids → IsTold net o failure told → HoldsAfter net o failure (all_together vids) ↔ (told.cuts ≡ false) }
+{
+    one_outcome();
+    networks();
+    islands_of_vid();
 }

@@ -1,23 +1,19 @@
-ghost use Rattle.std.specs.Prelude.{◌≡◌, ◌++◌, ◌+◌, ◌<◌, IfOk, OnOk, length, map, slice_index, true, vec_len};
-ghost use Rattle.std.specs.List.{flat_map};
+ghost use Rattle.std.specs.Prelude.{◌≡◌, ◌+◌, ◌<◌, IfOk, length, map, slice_index, true, vec_len};
 ghost use Rattle.mst_summary.specs.trees.Settled.{outcome_of};
-ghost use Rattle.mst_summary.specs.plan_text.Bodies.{NumberEach};
-ghost use Rattle.mst_sweep.specs.Cuts.{names_of, parts_at as parts_at_vid};
+ghost use Rattle.mst_sweep.specs.Cuts.{names_of};
 ghost use Rattle.mst_verify.specs.Named.{named as named_in};
 ghost use Rattle.mst_verify.specs.Islands.{names_in, AreKept, AreOfClasses, AreReachParts, HaveNumbers};
-ghost use Rattle.mst_verify.specs.Reasons.{AreReachReasons, group_reasons, reach_reason};
+ghost use Rattle.mst_verify.specs.Reasons.{AreReachReasons};
 
+use crate::grouping::{Telling, vid_reasons};
 use crate::judged::Judged;
-use crate::lists::Parts;
 use crate::named::named;
-use crate::parting::{copy, grouped, parts_at};
+use crate::parting::parts_at;
 use crate::reason::Reason;
-use crate::regions::has_two;
-use crate::vids::{class_of, classes_asked};
-use mst_ids::{Name, Vid, VidSet};
+use crate::vids::classes_asked;
+use mst_ids::{Name, VidSet};
 use mst_lag::BridgeInView;
 use mst_policy::NameList;
-use mst_summary::set_of;
 use std::alloc::{AllocError, Global};
 
 /// The parts of these bridges for the VIDs of a class, if it has a flag.
@@ -59,42 +55,6 @@ fn bodies(
     Ok(bodies)
 }
 
-/// Adds the reason of a group of VIDs whose bridges are in these parts, if there are two.
-fn add_parts(
-    alloc: Global,
-    group: &[Vid],
-    parts: &[Vec<Name>],
-    reasons: &mut Vec<Reason>,
-) -> Result<(), AllocError>
-    ensures { OnOk result (reasons.new.items ≡ reasons.old.items ++ reach_reason group.now (map (λ part. part.items) parts.now)) }
-{
-    if has_two(parts) {
-        reasons.push(Reason::Reach {
-            vids: set_of(group),
-            parts: Parts::of(copy(alloc, parts)?),
-        })?;
-    }
-    Ok(())
-}
-
-/// Adds the reason of a group of VIDs, if their bridges are in two parts.
-fn add_group(
-    alloc: Global,
-    group: &[Vid],
-    numbers: &[usize],
-    bodies: &[Vec<Vec<Name>>],
-    reasons: &mut Vec<Reason>,
-) -> Result<(), AllocError>
-    requires { NumberEach numbers.now (length bodies.now) }
-    ensures { OnOk result (reasons.new.items ≡ reasons.old.items ++ group_reasons reach_reason (parts_at_vid numbers.now (map names_of bodies.now)) group.now) }
-{
-    let Some(vid) = group.first() else {
-        return Ok(());
-    };
-    let number = class_of(numbers, *vid, bodies.len());
-    add_parts(alloc, group, bodies[number].as_slice(), reasons)
-}
-
 /// For which VIDs bridges aren't all in one island, and in which parts they are then, VIDs of equal parts in one reason, by the least VID.
 /// `AllocError`: memory was wanted and refused.
 ///
@@ -114,23 +74,5 @@ pub(crate) fn reach_reasons(
     let bridges = named(alloc, judged, names)?;
     let flags = classes_asked(alloc, numbers, vids, count)?;
     let bodies = bodies(alloc, judged, bridges.as_slice(), flags.as_slice())?;
-    let groups = grouped(alloc, numbers, vids, bodies.as_slice())?;
-    told(alloc, groups.as_slice(), numbers, bodies.as_slice())
-}
-
-/// The reasons of groups of VIDs.
-fn told(
-    alloc: Global,
-    groups: &[Vec<Vid>],
-    numbers: &[usize],
-    bodies: &[Vec<Vec<Name>>],
-) -> Result<Vec<Reason>, AllocError>
-    requires { NumberEach numbers.now (length bodies.now) }
-    ensures { IfOk result (λ reasons. reasons.items ≡ flat_map (group_reasons reach_reason (parts_at_vid numbers.now (map names_of bodies.now))) (map (λ group. group.items) groups.now)) }
-{
-    let mut reasons = Vec::new(alloc);
-    for group in groups {
-        add_group(alloc, group.as_slice(), numbers, bodies, &mut reasons)?;
-    }
-    Ok(reasons)
+    vid_reasons(alloc, Telling::Reach, numbers, vids, bodies.as_slice())
 }

@@ -41,6 +41,11 @@ pub enum Reason {
         vids: VidSet,
         parts: Parts,
     },
+    /// Bridges that were in one island of these VIDs before are in several.
+    Together {
+        vids: VidSet,
+        parts: Parts,
+    },
     /// A bridge is the parent of others.
     Leaf {
         tree: Tree,

@@ -1,7 +1,8 @@
-ghost use Rattle.std.specs.Prelude.{IfOk};
+ghost use Rattle.std.specs.Prelude.{IfOk, MatchOption, ⊤};
 ghost use Rattle.mst_summary.specs.net.Tables.{Net};
 ghost use Rattle.mst_summary.specs.trees.Settled.{outcome_of};
-ghost use Rattle.mst_verify.specs.Islands.{AreKept};
+ghost use Rattle.mst_verify.specs.Islands.{AreKept, IsBeside, IsKeptOf};
+ghost use Rattle.mst_verify.specs.Named.{Prior};
 ghost use Rattle.mst_verify.specs.Over.{HasItsLan};
 ghost use Rattle.mst_verify.specs.Reasons.{AreReasons};
 ghost use Rattle.mst_verify.specs.Seen.{IsBefore};
@@ -17,6 +18,7 @@ use crate::reason::Reason;
 use crate::regions::region_reasons;
 use crate::roles::role_reasons;
 use crate::roots::root_reasons;
+use crate::together::together_reasons;
 use mst_policy::Expectation;
 use std::alloc::{AllocError, Global};
 
@@ -31,8 +33,9 @@ pub fn reasons(
 ) -> Result<Vec<Reason>, AllocError>
     requires kept { AreKept judged.now.plan.now judged.now.before.now judged.now.homes.now }
     requires lan { HasItsLan judged.now.plan.now.net expectation.now }
-    ensures { IfOk result (λ reasons. (before : Net) → IsBefore before judged.now.before.now
-        → AreReasons judged.now.plan.now.net (outcome_of judged.now.plan.now) before judged.now.gone expectation.now reasons.items) }
+    requires prior { MatchOption judged.now.prior ⊤ (IsBeside judged.now.plan.now) }
+    ensures { IfOk result (λ reasons. (before : Net) (prior : Prior) → IsBefore before judged.now.before.now → IsKeptOf prior judged.now.prior
+        → AreReasons judged.now.plan.now.net (outcome_of judged.now.plan.now) before judged.now.gone prior expectation.now reasons.items) }
 {
     match expectation {
         Expectation::Root { tree, bridge, next } => {
@@ -48,6 +51,7 @@ pub fn reasons(
             names,
             others,
         } => apart_reasons(alloc, judged, vids, names, others),
+        Expectation::Together { vids, names } => together_reasons(alloc, judged, vids, names),
         Expectation::Leaf { tree, names } => leaf_reasons(alloc, judged, *tree, names),
         Expectation::Depth { tree, steps } => depth_reasons(alloc, judged, *tree, *steps),
         Expectation::Carries { lan, vids } => carries_reasons(alloc, judged, lan, vids),

@@ -1,12 +1,11 @@
-use Rattle.std.proofs.Common.{Vec, Global, ◌≡◌, ℕ, Bool, List, length, map, sym, ap, subst, ◌∙◌, arith}
-use Rattle.std.specs.List.{flat_map}
+use Rattle.std.proofs.Common.{Vec, Global, ◌≡◌, ◌+◌, ℕ, Bool, List, length, map, ap, subst, ◌∙◌, arith}
 use Rattle.std.proofs.lemmas.Result.{IfOk-weaker}
 use Rattle.mst_summary.specs.trees.Settled.{outcome_of}
-use Rattle.mst_sweep.specs.Cuts.{names_of, parts_at}
+use Rattle.mst_sweep.specs.Cuts.{names_of}
 use Rattle.mst_verify.specs.Islands.{AreOfClasses}
 use Rattle.mst_verify.specs.Named.{named}
-use Rattle.mst_verify.specs.Reasons.{AreBoth, Parts, apart_reason, group_reasons}
-use Rattle.mst_verify.proofs.VidParts.{both_moved}
+use Rattle.mst_verify.specs.Reasons.{AreBoth, Parts, apart_reason}
+use Rattle.mst_verify.proofs.VidParts.{both_moved, one_alike}
 use Rattle.mst_verify.proofs.VidReasons.{numbered, vid_reasons}
 use Rattle.mst_verify.proofs.apart.apart_reasons.Goals as goal
 
@@ -24,24 +23,16 @@ bodies-requires-clause-flags c =
     let flags : length c.as_slice.result.now ≡ length c.in_ok-flags.flags.items = ap length c.as_slice.ensures.value in
     omega (arith, c.in_ok-flags.ensures.as_long, c.len-count.ensures)
 
-pub grouped-requires : goal.grouped-requires
-grouped-requires c =
+pub vid_reasons-requires : goal.vid_reasons-requires
+vid_reasons-requires c =
     let s = c.args.judged.now.plan.now in
     let classes = c.args.judged.now.before.now.classes in
     let flags : length c.as_slice.result.now ≡ length c.in_ok-flags.flags.items = ap length c.as_slice.ensures.value in
     numbered s.view classes c.requires.classes c.as_slice-numbers.result.now (length c.as_slice-2.result.now) c.as_slice-numbers.ensures.value
     (c.as_slice-2.ensures.len ∙ c.in_ok-bodies.ensures.as_long ∙ omega (arith, flags, c.in_ok-flags.ensures.as_long, c.len-count.ensures))
 
-pub told-requires : goal.told-requires
-told-requires c =
-    let s = c.args.judged.now.plan.now in
-    let classes = c.args.judged.now.before.now.classes in
-    let flags : length c.as_slice.result.now ≡ length c.in_ok-flags.flags.items = ap length c.as_slice.ensures.value in
-    numbered s.view classes c.requires.classes c.as_slice-numbers.result.now (length c.as_slice-4.result.now) c.as_slice-numbers.ensures.value
-    (c.as_slice-4.ensures.len ∙ c.in_ok-bodies.ensures.as_long ∙ omega (arith, flags, c.in_ok-flags.ensures.as_long, c.len-count.ensures))
-
 pub returns : goal.returns
-returns c = IfOk-weaker c.told.result _ _
+returns c = IfOk-weaker c.vid_reasons.result _ _
     (λ reasons told.
     let s = c.args.judged.now.plan.now in
     let o = outcome_of s in
@@ -49,18 +40,11 @@ returns c = IfOk-weaker c.told.result _ _
     let classes = c.args.judged.now.before.now.classes in
     let k = c.requires.classes in
     let gone = c.args.judged.now.gone in
-    let names = c.args.names.now in
-    let vids = c.args.vids.now in
     let flags : List Bool = c.in_ok-flags.flags.items in
     let bodies : List Kept = c.in_ok-bodies.bodies.items in
-    let kept : List Kept = c.as_slice-2.result.now in
-    let numbers : List ℕ = c.as_slice-numbers.result.now in
-    let groups : List (List ℕ) = map (λ (g : Vec ℕ Global). g.items) c.in_ok-groups.groups.items in
-    let bridges : List (List ℕ) = named s.net gone names in
+    let bridges : List (List ℕ) = named s.net gone c.args.names.now in
     let others : List (List ℕ) = named s.net gone c.args.others.now in
     let R : ℕ → Parts → Type 0 = AreBoth s.net o bridges others in
     let of : AreOfClasses R classes.firsts.items flags (map names_of bodies) = subst (λ fs. AreOfClasses R classes.firsts.items fs (map names_of bodies)) c.as_slice.ensures.value c.in_ok-bodies.ensures.parts in
-    let same : c.as_slice-4.result.now ≡ kept = c.as_slice-4.ensures.value ∙ sym c.as_slice-2.ensures.value in
-    vid_reasons s.view classes k R (λ x y alike parts h. both_moved s is classes k x y alike bridges others parts h) apart_reason vids flags bodies kept numbers groups reasons.items
-    c.as_slice-numbers.ensures.value c.as_slice-2.ensures.value of c.in_ok-flags.ensures.asked c.in_ok-groups.ensures
-    (told ∙ (λ i. flat_map (group_reasons apart_reason (parts_at numbers (map names_of (same i)))) (map (λ (g : Vec ℕ Global). g.items) (c.as_slice-3.ensures.value i))))) c.told.ensures
+    vid_reasons s.view classes k R (λ i j li lj same parts h. both_moved s is classes k (i + 1) (j + 1) (one_alike s.view classes k i j li lj same) bridges others parts h) apart_reason c.args.vids.now flags bodies c.as_slice-2.result.now
+    c.as_slice-numbers.result.now reasons.items c.as_slice-numbers.ensures.value c.as_slice-2.ensures.value of c.in_ok-flags.ensures.asked told) c.vid_reasons.ensures

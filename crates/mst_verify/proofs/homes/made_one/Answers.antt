@@ -9,10 +9,9 @@ use Rattle.mst_verify.proofs.homes.made_one.Goals as goal
 
 pub returns : goal.returns
 returns c =
-    let s = c.args.plan.now in
     let from : ViewWithTrees = c.args.carriage.now in
     let vid : c.unwrap-vid.result ≡ c.args.place + 1 = first_of (grind (arith, common_steps), search (rules, common_steps)) in
     IfOk-weaker c.homes_by.result _ _
-    (λ homes told. subst (λ vid. AreHomes s.net s.numbers (outcome_of s) vid homes.entries) vid
-    (homes_told s c.known.ensures from.view from.forest (ap (λ (t : ViewWithTrees). t.view) c.requires.carriage) (ap (λ (t : ViewWithTrees). t.forest) c.requires.carriage) c.unwrap-vid.result homes.entries told))
+    (λ homes told s is of. subst (λ vid. AreHomes s.net s.numbers (outcome_of s) vid homes.entries) vid
+    (homes_told s is from.view from.forest (ap (λ (t : ViewWithTrees). t.view) of) (ap (λ (t : ViewWithTrees). t.forest) of) c.unwrap-vid.result homes.entries told))
     c.homes_by.ensures

@@ -1,4 +1,4 @@
-use Rattle.std.proofs.Common.{◌++◌, List, not, map, ap, ◌∙◌}
+use Rattle.std.proofs.Common.{◌++◌, not, map, ap, ◌∙◌}
 use Rattle.std.specs.List.{list_all}
 use Rattle.mst_lag.specs.declared.in_view.MemberLan.{MemberLan}
 use Rattle.mst_verify.specs.Missing.{lans_of, has_one, scope_lans}

@@ -1,5 +1,9 @@
+use Rattle.std.proofs.Common.{true, false, not, refl, ap}
 use Rattle.mst_verify.proofs.JudgedSomewhere.{judged_somewhere}
 use Rattle.mst_verify.proofs.laws.judged_somewhere.Goals as goal
 
-pub returns : goal.returns
-returns c net promise none = judged_somewhere net promise none
+pub returns-clause-beside : goal.returns-clause-beside
+returns-clause-beside c net promise none = judged_somewhere net true promise refl none
+
+pub returns-clause-alone : goal.returns-clause-alone
+returns-clause-alone c net promise none looks = judged_somewhere net false promise (ap not looks) none

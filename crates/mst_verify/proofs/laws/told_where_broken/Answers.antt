@@ -6,7 +6,7 @@ use Rattle.mst_summary.specs.net.Tables.{Net, IsNetwork}
 use Rattle.mst_summary.specs.roles.nested.Trees.{IsSettled}
 use Rattle.mst_summary.specs.trees.Outcome.{Outcome, IsOutcome, trees_of}
 use Rattle.mst_note_text.specs.NotesText.{AreNoteRows}
-use Rattle.mst_verify.specs.Named.{Gone, is_named, named, ports_named}
+use Rattle.mst_verify.specs.Named.{Gone, Prior, is_named, named, ports_named}
 use Rattle.mst_verify.specs.Holds.{Holds}
 use Rattle.mst_verify.specs.Reasons.{AreReasons}
 use Rattle.mst_verify.specs.declared.reason.Reason.{Reason}
@@ -16,17 +16,19 @@ use Rattle.mst_verify.proofs.BrokenLists.{carries_broken, avoids_broken, role_br
 use Rattle.mst_verify.proofs.BrokenParts.{region_broken, reach_broken, apart_broken}
 use Rattle.mst_verify.proofs.BrokenTrees.{leaf_broken, depth_broken}
 use Rattle.mst_verify.proofs.BrokenRoots.{root_broken}
+use Rattle.mst_verify.proofs.ReasonsTogether.{together_broken}
 use Rattle.mst_verify.proofs.Limits.{fits_broken}
 use Rattle.mst_verify.proofs.laws.told_where_broken.Goals as goal
 
-module _ (net : Net) (o : Outcome) (before : Net) (gone : Gone) (ok : IsNetwork net) (is : IsOutcome net o) (settled : IsSettled (trees_of net o))
+module _ (net : Net) (o : Outcome) (before : Net) (gone : Gone) (prior : Prior) (ok : IsNetwork net) (is : IsOutcome net o) (settled : IsSettled (trees_of net o))
     (one : (notes other : List Row) → AreNoteRows net o notes → AreNoteRows net o other → notes ≡ other) where
-  broken : (e : Expectation) (reasons : List Reason) → AreReasons net o before gone e reasons → (reasons ≡ []) ↔ Holds net o before gone e
+  broken : (e : Expectation) (reasons : List Reason) → AreReasons net o before gone prior e reasons → (reasons ≡ []) ↔ Holds net o before gone prior e
   broken (expect.Root tree b next) reasons r = root_broken net ok o tree (roots_there net ok o settled tree) b next reasons r
   broken (expect.Region names) reasons r = region_broken net (named net gone names) (names_once net (is_named gone names)) reasons r
   broken (expect.Role tree ports roles) reasons r = role_broken net o tree (ports_named net before ports) roles reasons r
   broken (expect.Reach vids names) reasons r = reach_broken net o vids (named net gone names) (names_once net (is_named gone names)) reasons r
   broken (expect.Apart vids names others) reasons r = apart_broken net o vids (named net gone names) (named net gone others) reasons r
+  broken (expect.Together vids names) reasons r = together_broken net o vids gone names prior reasons r
   broken (expect.Leaf tree names) reasons r = leaf_broken net o ok is tree (named net gone names) reasons r
   broken (expect.Depth tree steps) reasons r = depth_broken net o tree steps reasons r
   broken (expect.Carries lan vids) reasons r = carries_broken net o lan vids reasons r
@@ -34,5 +36,5 @@ module _ (net : Net) (o : Outcome) (before : Net) (gone : Gone) (ok : IsNetwork 
   broken expect.Fits reasons r = fits_broken net o one reasons r
 
 pub returns : goal.returns
-returns c net o before gone e reasons ok is r =
-    broken net o before gone ok is (c.nested.ensures.settled net o ok is) (λ notes other a b. c.notes.ensures.one_list net o notes other ok is a b) e reasons r
+returns c net o before gone prior e reasons ok is r =
+    broken net o before gone prior ok is (c.nested.ensures.settled net o ok is) (λ notes other a b. c.notes.ensures.one_list net o notes other ok is a b) e reasons r

@@ -1,4 +1,4 @@
-use Rattle.std.proofs.Common.{◌≡◌, ℕ, ◌+◌, Bool, false, List, filter, length, sym, ap, subst, ◌∙◌}
+use Rattle.std.proofs.Common.{◌≡◌, ℕ, ◌+◌, Bool, false, List, filter, ap, subst, ◌∙◌}
 use Rattle.std.specs.List.{AllZip, Contains}
 use Rattle.std.proofs.lemmas.Result.{IfOk-weaker}
 use Rattle.mst_graph.proofs.Members.{from_filter}
@@ -7,9 +7,7 @@ use Rattle.mst_summary.proofs.trees_lemmas.Entries.{all_weaker}
 use Rattle.mst_summary.proofs.trees_lemmas.Lists.{all_there}
 use Rattle.mst_summary.proofs.trees_lemmas.Looking.{filter_alike}
 use Rattle.mst_summary.specs.trees.Settled.{outcome_of}
-use Rattle.mst_summary.specs.plan_text.Bodies.{NumberEach}
 use Rattle.mst_summary.specs.plan_text.PlanText.{all_vids}
-use Rattle.mst_summary.proofs.plan_text_lemmas.Classes.{numbers_below}
 use Rattle.mst_summary.proofs.plan_text_lemmas.OnePlan.{is_vid_there}
 use Rattle.mst_summary.specs.diff.Classes.{flag_at}
 use Rattle.mst_summary.specs.Seen.{seen_on, seen_over}
@@ -18,7 +16,6 @@ use Rattle.mst_verify.specs.Named.{vids_in}
 use Rattle.mst_verify.specs.Over.{goes_over, is_wrong}
 use Rattle.mst_verify.specs.Seen.{seen_logical}
 use Rattle.mst_verify.proofs.OverNamed.{over_named}
-use Rattle.mst_verify.proofs.VidParts.{each_class}
 use Rattle.mst_verify.proofs.over.wrong_vids.Goals as goal
 
 pub returns : goal.returns

@@ -1,5 +1,4 @@
-use Rattle.std.proofs.Common.{◌≡◌, ℕ, nat_eq, Vec, Global, Bool, true, List, Option, map, refl, sym, ap, subst, ◌∙◌}
-use Rattle.std.specs.List.{Contains}
+use Rattle.std.proofs.Common.{◌≡◌, ℕ, nat_eq, Vec, Global, true, List, Option, map, refl, sym, ap, subst, ◌∙◌}
 use Rattle.std.specs.FinMap as fin
 use Rattle.std.specs.Option.{option_eq}
 use Rattle.std.proofs.lemmas.Result.{IfOk-weaker}

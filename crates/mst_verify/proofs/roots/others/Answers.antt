@@ -1,8 +1,7 @@
-use Rattle.std.proofs.Common.{◌≡◌, ◌<◌, ◌≤◌, List, get_or, length, subst, ap, ◌∙◌}
+use Rattle.std.proofs.Common.{◌≡◌, ◌<◌, ◌≤◌, get_or, length, subst, ap, ◌∙◌}
 use Rattle.mst_lag.specs.Viewed.{named_bridge}
 use Rattle.mst_lag.specs.declared.in_view.BridgeInView.{BridgeInView}
 use Rattle.mst_verify.specs.Seen.{seen_other_root}
-use Rattle.mst_verify.specs.declared.reason.Reason.{Reason}
 use Rattle.mst_verify.proofs.FlatMore.{flat_all, flat_more}
 use Rattle.mst_verify.proofs.roots.others.Goals as goal
 

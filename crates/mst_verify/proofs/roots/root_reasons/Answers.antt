@@ -1,4 +1,4 @@
-use Rattle.std.proofs.Common.{◌≡◌, not, true, false, List, refl, sym, ap, ◌∙◌}
+use Rattle.std.proofs.Common.{not, true, false, List, refl, sym, ap, ◌∙◌}
 use Rattle.std.proofs.lemmas.Result.{IfOk-weaker}
 use Rattle.std.specs.List.{filter}
 use Rattle.std.specs.Option.{option_map}

@@ -1,4 +1,4 @@
-use Rattle.std.proofs.Common.{◌≡◌, ℕ, ◌<◌, true, length}
+use Rattle.std.proofs.Common.{◌≡◌, ℕ, true, length}
 use Rattle.std.specs.List.{Contains}
 use Rattle.std.proofs.Common.{take}
 use Rattle.mst_summary.specs.diff.Classes.{flag_at}

@@ -1,4 +1,4 @@
-use Rattle.std.proofs.Common.{◌&&◌, sym, ap, ◌∙◌}
+use Rattle.std.proofs.Common.{◌&&◌, ap, ◌∙◌}
 use Rattle.std.specs.List.{list_any}
 use Rattle.mst_summary.specs.net.Tables.{port_eq}
 use Rattle.mst_verify.proofs.NamedIn.{enabled_named}

@@ -22,5 +22,5 @@ returns-clause-islands c =
       settled = c.known.ensures;
       is_of = c.requires;
       have_numbers = refl;
-      made = subst (λ firsts. AreMade s firsts c.in_ok-homes.homes.items) places c.in_ok-homes.ensures;
+      made = λ t is of. subst (λ firsts. AreMade t firsts c.in_ok-homes.homes.items) places (c.in_ok-homes.ensures t is of);
     }

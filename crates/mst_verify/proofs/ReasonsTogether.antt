@@ -1,0 +1,59 @@
+-- Why bridges don't stay together: a reason is told just where they don't, there is one list of reasons, and there is one.
+use Rattle.std.proofs.Common.{◌≡◌, ◌↔◌, ℕ, List, [], Some, None, Bool, refl, sym, ap, ◌∙◌}
+use Rattle.std.specs.Prelude.{MatchOption, ⊤}
+use Rattle.mst_graph.specs.Islands.{Island}
+use Rattle.mst_ids.specs.Vids.{set_where}
+use Rattle.mst_lag.specs.Trees.{is_among}
+use Rattle.mst_policy.specs.declared.item.NameItem.{NameItem}
+use Rattle.mst_summary.specs.diff.Reach.{has_any}
+use Rattle.mst_summary.specs.net.Tables.{Net}
+use Rattle.mst_summary.specs.trees.Outcome.{Outcome}
+use Rattle.mst_vlan.specs.Reach.{AreIslandsOf}
+use Rattle.mst_sweep.specs.Parts.{all_parts, staying, ArePartsOf}
+use Rattle.mst_verify.specs.Holds.{StayTogether}
+use Rattle.mst_verify.specs.Named.{Gone, Prior, named}
+use Rattle.mst_verify.specs.Reasons.{AreTogetherReasons, Parts, together_reason}
+use Rattle.mst_verify.specs.declared.reason.Reason.{Reason}
+use Rattle.mst_verify.specs.declared.reason.Reason.TheVariants as why
+use Rattle.mst_verify.proofs.BrokenParts.{vids_broken}
+use Rattle.mst_verify.proofs.OfVids.{one_of_vids, some_of_vids}
+use Rattle.mst_verify.proofs.StayTogether.{stay_whole, whole_stay}
+use Rattle.mst_verify.proofs.Things.{told_if}
+
+abbrev pub IslandsOf : Net → Outcome → Type 0
+IslandsOf net o = (vid : ℕ) → (islands : List (Island (List ℕ) (List ℕ))) × AreIslandsOf net o vid islands
+
+-- there is one list of islands
+abbrev pub OneIslands : Type 0
+OneIslands = (net : Net) (o : Outcome) (vid : ℕ) (islands others : List (Island (List ℕ) (List ℕ))) → AreIslandsOf net o vid islands → AreIslandsOf net o vid others → islands ≡ others
+
+pub one_parts : OneIslands → (bridges : List (List ℕ)) (a b : Net) (o p : Outcome) (vid : ℕ) (parts other : Parts) → ArePartsOf bridges a o b p vid parts → ArePartsOf bridges a o b p vid other → parts ≡ other
+one_parts one bridges a b o p vid parts other s t =
+    let olds = one a o vid s.0 t.0 s.2 t.2 in
+    let news = one b p vid s.1 t.1 s.3 t.3 in
+    s.4 ∙ (λ i. all_parts (staying (olds i) (news i) bridges)) ∙ sym t.4
+
+module _ (net : Net) (o : Outcome) (vids : List Bool) (lost : Gone) (names : List NameItem) where
+  pub together_broken : (prior : Prior) (reasons : List Reason) → AreTogetherReasons prior net o vids lost names reasons → (reasons ≡ []) ↔ StayTogether prior net o vids lost names
+  together_broken None reasons r = (λ e. tt, λ _. r)
+  together_broken (Some prior) reasons r =
+      let a = prior.0 in
+      let q = prior.1 in
+      let bridges : List (List ℕ) = named a lost names in
+      let b = vids_broken (ArePartsOf bridges a q net o) together_reason has_any (λ group parts. told_if (has_any parts) (why.Together (set_where (is_among group)) parts)) vids reasons r in (
+        λ e vid h. (let p = r.are_parts vid h in whole_stay a net q o vid p.0 p.1 p.2 p.3 bridges (ap has_any (sym p.4) ∙ b.0 e vid h)),
+        λ all. b.1 (λ vid h. let p = r.are_parts vid h in ap has_any p.4 ∙ stay_whole a net q o vid p.0 p.1 p.2 p.3 bridges (all vid h)),
+      )
+
+  pub one_together : OneIslands → (prior : Prior) (reasons others : List Reason) → AreTogetherReasons prior net o vids lost names reasons → AreTogetherReasons prior net o vids lost names others → reasons ≡ others
+  one_together one None reasons others x y = x ∙ sym y
+  one_together one (Some prior) reasons others x y =
+      let bridges : List (List ℕ) = named prior.0 lost names in
+      one_of_vids (ArePartsOf bridges prior.0 prior.1 net o) (λ vid parts other s t. one_parts one bridges prior.0 net prior.1 o vid parts other s t) together_reason vids reasons others x y
+
+  pub some_together : IslandsOf net o → (prior : Prior) → MatchOption prior ⊤ (λ p. IslandsOf p.0 p.1) → (reasons : List Reason) × AreTogetherReasons prior net o vids lost names reasons
+  some_together news None olds = ([], refl)
+  some_together news (Some prior) olds =
+      let bridges : List (List ℕ) = named prior.0 lost names in
+      some_of_vids (ArePartsOf bridges prior.0 prior.1 net o) together_reason
+      (λ vid. (all_parts (staying (olds vid).0 (news vid).0 bridges), ((olds vid).0, (news vid).0, (olds vid).1, (news vid).1, refl))) vids

@@ -1,9 +1,0 @@
-use Rattle.std.proofs.Common.{◌≡◌, map, take}
-use Rattle.std.specs.List.{flat_map}
-use Rattle.mst_sweep.specs.Cuts.{names_of, parts_at}
-use Rattle.mst_verify.specs.Reasons.{group_reasons, apart_reason}
-use Rattle.mst_verify.proofs.apart.told.Given as goal
-
--- the reasons of the groups so far
-abbrev pub invariant-loop-group : goal.invariant-loop-group
-invariant-loop-group l = l.reasons.items ≡ flat_map (λ group. group_reasons apart_reason (parts_at l.numbers (map names_of l.bodies)) group.items) (take l.group-index l.groups)
