@@ -1,0 +1,10 @@
+pub mod GoesOn
+pub mod TextLines
+pub mod Only
+pub mod Lines
+pub mod NewRows
+pub mod Whole
+pub mod OneTold
+pub mod UnkeptTold
+pub mod MadeNets
+pub mod NothingBack

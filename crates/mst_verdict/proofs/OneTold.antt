@@ -1,0 +1,151 @@
+-- What is told of lines is settled by the network, what is before it, and the lines alone.
+use Rattle.std.proofs.Common.{◌≡◌, ◌∙◌, ◌++◌, ◌∷◌, [], List, map, is_some, Option, Some, None, Ok, Bool, true, false, refl, sym, ap, subst, inl, inr}
+use Rattle.std.specs.Prelude.{MatchOption}
+use Rattle.std.specs.List.{AllZip, Contains, filter}
+use Rattle.mst_graph.proofs.Members.{cases, from_map, here, there}
+use Rattle.mst_policy.specs.declared.expectation.Expectation.{Expectation}
+use Rattle.mst_policy.specs.declared.policy.PolicyLine.{PolicyLine}
+use Rattle.mst_rows.specs.Rows.{Row}
+use Rattle.mst_summary.specs.net.After.{after}
+use Rattle.mst_summary.specs.net.Tables.{Net, IsNetwork}
+use Rattle.mst_summary.specs.trees.Outcome.{Outcome, IsOutcome}
+use Rattle.mst_sweep.specs.Failures.{edit_of, failures}
+use Rattle.mst_sweep.specs.declared.failure.Failure.{Failure}
+use Rattle.mst_verify.specs.Judged.{gone_of, places}
+use Rattle.mst_verify.specs.Named.{Gone, OfNetwork, Prior}
+use Rattle.mst_verify.specs.Placed.{AreReasonsAfter, AreReasonsAt}
+use Rattle.mst_verify.specs.Reasons.{AreReasons, HasOneList}
+use Rattle.mst_verify.specs.declared.reason.Reason.{Reason}
+use Rattle.mst_verdict.specs.Told.{AreFound, AreLineReasons, Found, IsFoundAt, IsLineTold, expected_at, found_rows, has_reason, lacking_rows}
+use Rattle.mst_verdict.specs.Verified.{Counts, IsVerdict, IsVerified, all_refused, counts_in, joined, judged_in, last_row, promises_in, rows_of_read}
+
+-- ---- lists
+-- two lists of what is told of things, each of which tells one only
+pub zip_same : {A B : Type 0} (R : A → B → Type 0) (xs : List A) (ys zs : List B) → ((x : A) → Contains xs x → (y z : B) → R x y → R x z → y ≡ z) → AllZip R xs ys → AllZip R xs zs → ys ≡ zs
+zip_same R [] [] [] one h k = refl
+zip_same R [] (y ∷ ys) zs one h k = absurd h
+zip_same R [] [] (z ∷ zs) one h k = absurd k
+zip_same R (x ∷ xs) [] zs one h k = absurd h
+zip_same R (x ∷ xs) (y ∷ ys) [] one h k = absurd k
+zip_same R (x ∷ xs) (y ∷ ys) (z ∷ zs) one h k =
+    let first = one x (here x xs) y z h.0 k.0 in
+    let others = zip_same R xs ys zs (λ w c. one w (there x w xs c)) h.1 k.1 in
+    λ i. first i ∷ others i
+
+-- of each thing something is told
+pub zip_some : {A B : Type 0} (R : A → B → Type 0) (xs : List A) → ((x : A) → Contains xs x → (y : B) × R x y) → (ys : List B) × AllZip R xs ys
+zip_some R [] some = ([], tt)
+zip_some R (x ∷ xs) some =
+    let first = some x (here x xs) in
+    let rest = zip_some R xs (λ w c. some w (there x w xs c)) in
+    (first.0 ∷ rest.0, (first.1, rest.1))
+
+no_some : {A : Type 0} (x : A) → None ≡ Some x → ⊥
+no_some x e = absurd (cc)
+
+some_is : {A : Type 0} (x y : A) → Some x ≡ Some y → x ≡ y
+some_is x y e = cc
+
+pub of_place : (net : Net) (failure : Failure) → Contains (places net) (Some failure) → Contains (failures net) failure
+of_place net failure h = elim (cases None (Some failure) (map Some (failures net)) h) [
+  | inl e ↦ absurd (no_some failure e)
+  | inr k ↦ let r = from_map Some (failures net) (Some failure) k in subst (Contains (failures net)) (some_is r.0 failure r.2) r.1
+]
+
+-- a failure makes a network
+pub record MakesNet (net : Net) (failure : Failure) : Type 0 where
+  pub failed : Net
+  pub made : after (edit_of failure) net ≡ Ok failed
+  pub is_network : IsNetwork failed
+
+module _ (net : Net) (o : Outcome) (is : IsNetwork net) (are : IsOutcome net o) (makes : (failure : Failure) → Contains (failures net) failure → MakesNet net failure) (prior : Prior) where
+  -- ---- at most one
+  module _ (single : (net : Net) (o p : Outcome) → IsNetwork net → IsOutcome net o → IsOutcome net p → o ≡ p)
+      (one : (net : Net) (o : Outcome) (before : Net) (gone : Gone) (prior : Prior) (e : Expectation) → IsNetwork net → IsOutcome net o → HasOneList net o before gone prior e) where
+    after_same : (failure : Failure) → Contains (failures net) failure → (e : Expectation) (reasons others : List Reason) → AreReasonsAfter net o failure e reasons → AreReasonsAfter net o failure e others → reasons ≡ others
+    after_same failure h e reasons others x y =
+        let m = makes failure h in
+        let first = x.made in
+        let second = y.made in
+        let own = m.made in
+        let made : y.failed ≡ x.failed = cc in
+        let its : m.failed ≡ x.failed = cc in
+        let ok : IsNetwork x.failed = subst IsNetwork its m.is_network in
+        let outcome : y.outcome ≡ x.outcome = single x.failed y.outcome x.outcome ok (subst (λ n. IsOutcome n y.outcome) made y.is_outcome) x.is_outcome in
+        let other : AreReasons x.failed x.outcome net (gone_of failure) (Some (net, o)) e others =
+        subst (λ p. AreReasons x.failed p net (gone_of failure) (Some (net, o)) e others) outcome (subst (λ n. AreReasons n y.outcome net (gone_of failure) (Some (net, o)) e others) made y.are) in
+        one x.failed x.outcome net (gone_of failure) (Some (net, o)) e ok x.is_outcome reasons others x.are other
+
+    at_same : (place : Option Failure) → Contains (places net) place → (e : Expectation) (reasons others : List Reason) → AreReasonsAt net o prior place e reasons → AreReasonsAt net o prior place e others → reasons ≡ others
+    at_same None h e reasons others x y = one net o net None prior e is are reasons others x y
+    at_same (Some failure) h e reasons others x y = after_same failure (of_place net failure h) e reasons others x y
+
+    module _ (once : Bool) (line : PolicyLine) where
+      reasons_same : (place : Option Failure) → Contains (places net) place → (reasons others : List Reason) → AreLineReasons once net o prior line place reasons → AreLineReasons once net o prior line place others → reasons ≡ others
+      reasons_same place h reasons others = go (expected_at once net (is_some prior) line place)
+        where
+          go : (expected : Option Expectation) → MatchOption expected (reasons ≡ []) (λ e. AreReasonsAt net o prior place e reasons) → MatchOption expected (others ≡ []) (λ e. AreReasonsAt net o prior place e others) → reasons ≡ others
+          go None x y = x ∙ sym y
+          go (Some e) x y = at_same place h e reasons others x y
+
+      place_same : (place : Option Failure) → Contains (places net) place → (f g : Found) → IsFoundAt once net o prior line place f → IsFoundAt once net o prior line place g → f ≡ g
+      place_same place h f g x y =
+          let reasons = reasons_same place h f.reasons g.reasons x.are y.are in
+          λ i. record { place = (x.at ∙ sym y.at) i; reasons = reasons i }
+
+      pub found_same : (found other : List Found) → AreFound once net o prior line found → AreFound once net o prior line other → found ≡ other
+      found_same found other x y = x.are ∙ ap (filter has_reason) (zip_same (IsFoundAt once net o prior line) (places net) x.all y.all place_same x.each y.each) ∙ sym y.are
+
+    pub told_same : (line : PolicyLine) (rows other : List Row) → IsLineTold net o prior line rows → IsLineTold net o prior line other → rows ≡ other
+    told_same line rows other x y = x.are ∙ ap (λ found. lacking_rows net line ++ found_rows line.number found) (found_same false line x.found y.found x.are_found y.are_found) ∙ sym y.are
+
+  -- ---- and one at least
+  module _ (of : OfNetwork prior) (outcomes : (net : Net) → IsNetwork net → (o : Outcome) × IsOutcome net o)
+      (some : (net : Net) (o : Outcome) (before : Net) (gone : Gone) (prior : Prior) (e : Expectation) → IsNetwork net → IsOutcome net o → OfNetwork prior → (reasons : List Reason) × AreReasons net o before gone prior e reasons) where
+    some_after : (failure : Failure) → Contains (failures net) failure → (e : Expectation) → (reasons : List Reason) × AreReasonsAfter net o failure e reasons
+    some_after failure h e =
+        let m = makes failure h in
+        let p = outcomes m.failed m.is_network in
+        let r = some m.failed p.0 net (gone_of failure) (Some (net, o)) e m.is_network p.1 is in
+        (r.0, record { failed = m.failed; made = m.made; outcome = p.0; is_outcome = p.1; are = r.1 })
+
+    some_at : (place : Option Failure) → Contains (places net) place → (e : Expectation) → (reasons : List Reason) × AreReasonsAt net o prior place e reasons
+    some_at None h e = some net o net None prior e is are of
+    some_at (Some failure) h e = some_after failure (of_place net failure h) e
+
+    module _ (once : Bool) (line : PolicyLine) where
+      some_reasons : (place : Option Failure) → Contains (places net) place → (reasons : List Reason) × AreLineReasons once net o prior line place reasons
+      some_reasons place h = go (expected_at once net (is_some prior) line place)
+        where
+          go : (expected : Option Expectation) → (reasons : List Reason) × MatchOption expected (reasons ≡ []) (λ e. AreReasonsAt net o prior place e reasons)
+          go None = ([], refl)
+          go (Some e) = some_at place h e
+
+      some_place : (place : Option Failure) → Contains (places net) place → (f : Found) × IsFoundAt once net o prior line place f
+      some_place place h = let r = some_reasons place h in (record { place = place; reasons = r.0 }, record { at = refl; are = r.1 })
+
+      pub some_found : (found : List Found) × AreFound once net o prior line found
+      some_found = let z = zip_some (IsFoundAt once net o prior line) (places net) some_place in (filter has_reason z.0, record { all = z.0; each = z.1; are = refl })
+
+    pub some_told : (line : PolicyLine) → (rows : List Row) × IsLineTold net o prior line rows
+    some_told line = let f = some_found false line in (lacking_rows net line ++ found_rows line.number f.0, record { found = f.0; are_found = f.1; are = refl })
+
+-- ---- the whole of a network
+module _ (net : Net) (o : Outcome) (lines : List PolicyLine) where
+  pub verified_same : ((line : PolicyLine) (found other : List Found) → AreFound true net o None line found → AreFound true net o None line other → found ≡ other)
+      → (c d : Counts) (rows other : List Row) → IsVerified net o lines c rows → IsVerified net o lines d other → (c ≡ d) × (rows ≡ other)
+  verified_same one c d rows other x y =
+      let told : x.told ≡ y.told =
+      zip_same (IsVerdict net o) lines x.told y.told
+      (λ line _ a b v w. v.are ∙ ap (rows_of_read line.number line.read) (one line v.found w.found v.are_found w.are_found) ∙ sym w.are) x.each y.each in (
+        x.counted ∙ ap (counts_in net lines) told ∙ sym y.counted,
+        x.are ∙ (λ i. all_refused net lines ++ joined (told i) ++ last_row (judged_in net lines) (promises_in net lines (told i)) ∷ []) ∙ sym y.are,
+      )
+
+  pub verified_some : ((line : PolicyLine) → (found : List Found) × AreFound true net o None line found) → (counts : Counts) × (rows : List Row) × IsVerified net o lines counts rows
+  verified_some some =
+      let z = zip_some (IsVerdict net o) lines (λ line _. let f = some line in (rows_of_read line.number line.read f.0, record { found = f.0; are_found = f.1; are = refl })) in (
+        counts_in net lines z.0,
+        all_refused net lines ++ joined z.0 ++ last_row (judged_in net lines) (promises_in net lines z.0) ∷ [],
+        record { told = z.0; each = z.1; counted = refl; are = refl },
+      )

@@ -1,0 +1,56 @@
+//! Laws of what is told of a policy. Their functions do nothing: a caller has their clauses.
+ghost use Rattle.std.specs.Prelude.{◌≡◌, List};
+ghost use Rattle.mst_policy.specs.declared.policy.PolicyLine.{PolicyLine as LineOf};
+ghost use Rattle.mst_rows.specs.Rows.{Row};
+ghost use Rattle.mst_summary.specs.net.Tables.{Net, IsNetwork};
+ghost use Rattle.mst_summary.specs.trees.Outcome.{Outcome, IsOutcome};
+ghost use Rattle.mst_verify.specs.Named.{OfNetwork, Prior};
+ghost use Rattle.mst_verdict.specs.Told.{IsLineTold, IsToldWhereUnkept};
+ghost use Rattle.mst_verdict.specs.Verified.{Counts as PolicyCounts, IsToldWhereBroken, IsVerdict, IsVerified};
+
+use mst_net::laws::networks;
+use mst_summary::trees_laws::{has_outcome, one_outcome};
+use mst_verify::laws::{reason_lists, told_where_broken};
+
+/// A line has one list of rows in a network, by what is before that, whichever settled outcome it is judged by.
+pub fn told_lines()
+    ensures some { (net : Net) (o : Outcome) (prior : Prior) (line : LineOf) → IsNetwork net → IsOutcome net o → OfNetwork prior → (rows : List Row) × IsLineTold net o prior line rows }
+    ensures one { (net : Net) (o p : Outcome) (prior : Prior) (line : LineOf) (rows other : List Row) → IsNetwork net → IsOutcome net o → IsOutcome net p
+        → IsLineTold net o prior line rows → IsLineTold net p prior line other → rows ≡ other }
+{
+    has_outcome();
+    one_outcome();
+    networks();
+    reason_lists();
+}
+
+/// A policy has one list of rows of a network, and one count of its lines, whichever settled outcome it is judged by.
+pub fn one_verification()
+    ensures some { (net : Net) (o : Outcome) (lines : List LineOf) → IsNetwork net → IsOutcome net o → (counts : PolicyCounts) × (rows : List Row) × IsVerified net o lines counts rows }
+    ensures one { (net : Net) (o p : Outcome) (lines : List LineOf) (c d : PolicyCounts) (rows other : List Row) → IsNetwork net → IsOutcome net o → IsOutcome net p
+        → IsVerified net o lines c rows → IsVerified net p lines d other → (c ≡ d) × (rows ≡ other) }
+{
+    has_outcome();
+    one_outcome();
+    networks();
+    reason_lists();
+}
+
+/// A line that is judged has no rows just where its promise is kept, and one that isn't has none.
+pub fn told_where_unkept()
+    ensures { (net : Net) (o : Outcome) (line : LineOf) (rows : List Row) → IsNetwork net → IsOutcome net o → IsVerdict net o line rows → IsToldWhereBroken net o line rows }
+{
+    one_outcome();
+    networks();
+    told_where_broken();
+}
+
+/// The same of a line in one of several networks, of which another is before it: where it is judged it has no rows just where its promise is
+/// kept, and where it isn't no more than the row that refuses it.
+pub fn line_where_unkept()
+    ensures { (net : Net) (o : Outcome) (prior : Prior) (line : LineOf) (rows : List Row) → IsNetwork net → IsOutcome net o → IsLineTold net o prior line rows → IsToldWhereUnkept net o prior line rows }
+{
+    one_outcome();
+    networks();
+    told_where_broken();
+}
