@@ -1,20 +1,17 @@
 -- What lines of a policy expect, and what a failure leaves of what they are judged by.
-use Rattle.std.proofs.Common.{◌≡◌, ℕ, ◌+◌, ◌<◌, Bool, true, false, true≢false, ◌&&◌, cond, not, List, [], ◌∷◌, ◌++◌, length, map, take, get_or, Option, Some, None, is_some, Result, Ok, Err, refl, sym, ap, subst, ◌∙◌}
+use Rattle.std.proofs.Common.{◌≡◌, ℕ, ◌+◌, ◌<◌, Bool, true, false, true≢false, ◌&&◌, cond, not, List, [], ◌∷◌, ◌++◌, length, map, take, get_or, Option, Some, None, is_some, Bor, Result, Ok, Err, refl, sym, ap, subst, ◌∙◌}
 use Rattle.std.specs.Prelude.{MatchOption}
-use Rattle.std.specs.List.{AllByRecursion, AllZip, Contains, count_by, list_all, list_any}
+use Rattle.std.specs.List.{AllByRecursion, AllZip, Contains, list_all, list_any}
 use Rattle.std.specs.Option.{option_and_then, option_map, option_map_or}
 use Rattle.std.specs.FinMap as fin
 use Rattle.std.specs.Ordering.{eq_by_cmp}
 use Rattle.std.proofs.lemmas.List.{get_or-map, length-map, take_more}
-use Rattle.std.proofs.lemmas.List.Sums.{sum_by-cons}
 use Rattle.mst_lang.specs.declared.line.Edit.{Edit}
 use Rattle.mst_lang.specs.declared.line.Fault.{Fault}
-use Rattle.mst_lang.specs.declared.line.BridgeChange.TheVariants.{Power}
 use Rattle.mst_lang.specs.declared.line.LanChange.TheVariants.{State}
 use Rattle.mst_lang.specs.declared.line.LanState.TheVariants.{Down}
-use Rattle.mst_lang.specs.declared.line.Power.TheVariants.{Off}
 use Rattle.mst_net.specs.After.{after, effect, lan_with, refusal_of}
-use Rattle.mst_net.specs.ByTree.{ByTree, by_tree, table_in, vlans_in}
+use Rattle.mst_net.specs.ByTree.{ByTree, table_in, vlans_in}
 use Rattle.mst_net.specs.Contents.{Contents, PerKind, SameContents, Tables, numbers_after}
 use Rattle.mst_net.specs.Tables.{Net, Numbers, BridgeRow}
 use Rattle.mst_net.proofs.Changed.{get_changed}
@@ -30,8 +27,6 @@ use Rattle.mst_policy.specs.Items.{item_has}
 use Rattle.mst_policy.specs.declared.expectation.Expectation.{Expectation}
 use Rattle.mst_policy.specs.declared.expectation.Expectation.TheVariants as expect
 use Rattle.mst_policy.specs.declared.expectation.Promise.{Promise}
-use Rattle.mst_policy.specs.declared.expectation.Scope.{Scope}
-use Rattle.mst_policy.specs.declared.item.NameItem.{NameItem}
 use Rattle.mst_policy.specs.declared.item.NameItem.TheVariants.{Is}
 use Rattle.mst_policy.specs.declared.policy.PolicyLine.{PolicyLine}
 use Rattle.mst_changes.specs.Subjects.{bridge_names, port_names}
@@ -46,12 +41,21 @@ use Rattle.mst_sweep.proofs.Failed.{are_left}
 use Rattle.mst_sweep.proofs.SweptParts.{zip_joined}
 use Rattle.mst_verify.specs.Missing.{has_one, lans_of, missing, scope_lans}
 use Rattle.mst_verify.specs.Over.{HasItsLan, is_lan}
-use Rattle.mst_verify.specs.Judged.{asks_at, gone_of}
-use Rattle.mst_verify.specs.Verified.{AreLineReasons, AreReasonsAfter, expected_at, judged, judged_of, where_whole}
+use Rattle.mst_verify.specs.Islands.{IsKeptOf, IsOneOf}
+use Rattle.mst_verify.specs.Judged.{gone_of}
+use Rattle.mst_verify.specs.Named.{Prior}
+use Rattle.mst_verify.specs.Placed.{AreReasonsAfter}
 use Rattle.mst_verify.specs.declared.lacking.Missing.{Missing}
+use Rattle.mst_verify.specs.declared.prior.Prior.{Prior as KeptPrior}
 use Rattle.mst_verify.specs.declared.reason.Reason.{Reason}
 use Rattle.mst_verify.proofs.JudgedSomewhere.{whole}
-use Rattle.mst_judging.specs.Verifying.{AreJudged, AreReasonsEach, AreReasonsIf, HaveLans, asked_by, expected_by}
+use Rattle.mst_verdict.specs.Told.{expected_at, is_due, is_judged_at, judged_of, lacked, looks_at, where_whole}
+use Rattle.mst_judging.specs.Verifying.{AreLacking, AreReasonsEach, AreReasonsIf, AreReasonsOf, HaveLans, IsCarriage, IsPrior, IsPriorOf, Sitting, asked_by, expected_by, expected_in, expected_of, lacks_in, plan_outcome, sitting_of}
+use Rattle.mst_judging.specs.declared.judging.Judging.{Judging}
+use Rattle.mst_carried.specs.Carried.{ViewWithTrees}
+use Rattle.mst_plan.specs.Plan.{IsPlan}
+use Rattle.mst_plan.specs.declared.plan.Plan.{Plan}
+use Rattle.mst_trees.proofs.SettledNet.{is_settled_net}
 use Rattle.mst_sweeping.proofs.SweepThere.{all_joined}
 
 -- ---- lists
@@ -70,21 +74,25 @@ zip_weaker R S f (x ∷ xs) [] h = absurd h
 zip_weaker R S f (x ∷ xs) (y ∷ ys) h = (f x y h.0, zip_weaker R S f xs ys h.1)
 
 -- ---- what lines expect
--- a line is judged by its flag
-expected_read : (net : Net) (read : Result Promise Fault) (place : Option Failure) → cond (is_some (judged_of net read)) (asked_by read place) None ≡ option_and_then (λ promise. cond (asks_at promise place) (Some promise.expectation) None) (judged_of net read)
-expected_read net (Err fault) place = refl
-expected_read net (Ok promise) place = by (missing net promise)
+-- a line is judged by what it lacks
+pub lacks_at : (net : Net) (is_last : Bool) (lines : List PolicyLine) (missing : List (Option Missing)) → AreLacking net is_last lines missing → (n : ℕ) (line : PolicyLine) (d : Option Missing)
+    → n < length lines → line ≡ get_or lines n line → get_or missing n d ≡ lacks_in net is_last line
+lacks_at net is_last lines missing are n line d below line_is =
+    ap (λ l. get_or l n d) are ∙ get_or-map (lacks_in net is_last) lines n line d below ∙ ap (lacks_in net is_last) (sym line_is)
+
+expected_read : (j : Judging) (net : Net) (read : Result Promise Fault) (place : Option Failure) → asked_by j (cond (is_due j.is_last read) (lacked net read) None) read place
+    ≡ cond (is_due j.is_last read) (option_and_then (λ promise. cond (looks_at j.once (is_some j.prior) promise place) (Some promise.expectation) None) (judged_of net read)) None
+expected_read j net (Err fault) place = refl
+expected_read j net (Ok promise) place = by (is_due j.is_last (Ok promise)) (missing net promise)
   where
-    by : (what : Option Missing) → cond (is_some (where_whole promise what)) (asked_by (Ok promise) place) None ≡ option_and_then (λ promise. cond (asks_at promise place) (Some promise.expectation) None) (where_whole promise what)
-    by None = refl
-    by (Some what) = refl
+    by : (due : Bool) (what : Option Missing) → cond (due && (not (is_some (cond due what None)) && looks_at j.once (is_some j.prior) promise place)) (Some promise.expectation) None
+        ≡ cond due (option_and_then (λ (promise : Promise). cond (looks_at j.once (is_some j.prior) promise place) (Some promise.expectation) None) (where_whole promise what)) None
+    by false what = refl
+    by true None = refl
+    by true (Some what) = refl
 
-pub flag_of : (net : Net) (lines : List PolicyLine) (flags : List Bool) → AreJudged net lines flags → (n : ℕ) (line : PolicyLine) (d : Bool) → n < length lines → line ≡ get_or lines n line → get_or flags n d ≡ is_some (judged net line)
-flag_of net lines flags are n line d below line_is =
-    ap (λ l. get_or l n d) are ∙ get_or-map (λ (l : PolicyLine). is_some (judged net l)) lines n line d below ∙ ap (λ (l : PolicyLine). is_some (judged net l)) (sym line_is)
-
-pub expected_so : (net : Net) (line : PolicyLine) (flag : Bool) (place : Option Failure) → flag ≡ is_some (judged net line) → expected_by line flag place ≡ expected_at net line place
-expected_so net line flag place e = ap (λ f. cond f (asked_by line.read place) None) e ∙ expected_read net line.read place
+pub expected_so : (j : Judging) (net : Net) (line : PolicyLine) (lacks : Option Missing) (place : Option Failure) → lacks ≡ lacks_in net j.is_last line → expected_by j line lacks place ≡ expected_in j net line place
+expected_so j net line lacks place e = ap (λ l. asked_by j l line.read place) e ∙ expected_read j net line.read place
 
 -- ---- the LANs that they name
 none_some : {A : Type 0} (x : A) → None ≡ Some x → ⊥
@@ -119,6 +127,7 @@ has_lan net (expect.Region bridges) h = tt
 has_lan net (expect.Role tree ports roles) h = tt
 has_lan net (expect.Reach vids bridges) h = tt
 has_lan net (expect.Apart vids bridges others) h = tt
+has_lan net (expect.Together vids bridges) h = tt
 has_lan net (expect.Leaf tree bridges) h = tt
 has_lan net (expect.Depth tree steps) h = tt
 has_lan net (expect.Carries lan vids) h = one_there net lan h
@@ -130,8 +139,8 @@ judged_lan net promise e =
     has_lan net promise.expectation (all_appended (has_one (fin.keys net.lans)) (scope_lans promise.scope) (lans_of promise.expectation)
     (not_false (list_all (has_one (fin.keys net.lans)) (scope_lans promise.scope ++ lans_of promise.expectation)) (whole net promise e).0))
 
-pub have_lans : (net : Net) (place : Option Failure) → HaveLans net net place
-have_lans net place line e h = go line.read h
+pub have_lans : (j : Judging) (net : Net) (place : Option Failure) → HaveLans j net net place
+have_lans j net place line e h = go (is_judged_at j.is_last line) line.read h
   where
     asked : (promise : Promise) → HasItsLan net promise.expectation → (b : Bool) → cond b (Some promise.expectation) None ≡ Some e → HasItsLan net e
     asked promise has true k = subst (HasItsLan net) (some_same promise.expectation e k) has
@@ -140,13 +149,16 @@ have_lans net place line e h = go line.read h
         some_same a b k = cc
     asked promise has false k = absurd (none_some e k)
 
-    by : (promise : Promise) (what : Option Missing) → missing net promise ≡ what → option_and_then (λ promise. cond (asks_at promise place) (Some promise.expectation) None) (where_whole promise what) ≡ Some e → HasItsLan net e
-    by promise None m k = asked promise (judged_lan net promise m) (asks_at promise place) k
+    by : (promise : Promise) (what : Option Missing) → missing net promise ≡ what
+        → option_and_then (λ (promise : Promise). cond (looks_at j.once (is_some j.prior) promise place) (Some promise.expectation) None) (where_whole promise what) ≡ Some e → HasItsLan net e
+    by promise None m k = asked promise (judged_lan net promise m) (looks_at j.once (is_some j.prior) promise place) k
     by promise (Some what) m k = absurd (none_some e k)
 
-    go : (read : Result Promise Fault) → option_and_then (λ promise. cond (asks_at promise place) (Some promise.expectation) None) (judged_of net read) ≡ Some e → HasItsLan net e
-    go (Err fault) k = absurd (none_some e k)
-    go (Ok promise) k = by promise (missing net promise) refl k
+    go : (due : Bool) (read : Result Promise Fault)
+        → cond due (option_and_then (λ (promise : Promise). cond (looks_at j.once (is_some j.prior) promise place) (Some promise.expectation) None) (judged_of net read)) None ≡ Some e → HasItsLan net e
+    go false read k = absurd (none_some e k)
+    go true (Err fault) k = absurd (none_some e k)
+    go true (Ok promise) k = by promise (missing net promise) refl k
 
 -- a failure takes no LAN away
 some_kept : {A : Type 0} (t : Bool) (f : A → A) (o : Option A) → is_some (cond t (option_map f o) o) ≡ is_some o
@@ -164,14 +176,15 @@ its_lan_kept failure net (expect.Region bridges) h = tt
 its_lan_kept failure net (expect.Role tree ports roles) h = tt
 its_lan_kept failure net (expect.Reach vids bridges) h = tt
 its_lan_kept failure net (expect.Apart vids bridges others) h = tt
+its_lan_kept failure net (expect.Together vids bridges) h = tt
 its_lan_kept failure net (expect.Leaf tree bridges) h = tt
 its_lan_kept failure net (expect.Depth tree steps) h = tt
 its_lan_kept failure net (expect.Carries lan vids) h = lan_kept failure net lan ∙ h
 its_lan_kept failure net (expect.Avoids lan vids) h = lan_kept failure net lan ∙ h
 its_lan_kept failure net expect.Fits h = tt
 
-pub have_lans_ahead : (net : Net) (failure : Failure) (place : Option Failure) → HaveLans net (effect (edit_of failure) net) place
-have_lans_ahead net failure place line e h = its_lan_kept failure net e (have_lans net place line e h)
+have_lans_ahead : (j : Judging) (net : Net) (failure : Failure) (place : Option Failure) → HaveLans j net (effect (edit_of failure) net) place
+have_lans_ahead j net failure place line e h = its_lan_kept failure net e (have_lans j net place line e h)
 
 -- ---- classes of VIDs
 all_names : {A B : Type 0} (P : B → Type 0) (name : A → B) (xs : List A) → AllByRecursion (λ x. P (name x)) xs → AllByRecursion P (map name xs)
@@ -228,36 +241,84 @@ module _ (failure : Failure) (net : Net) (edit : Edit) (is : edit ≡ edit_of fa
   pub made_ahead : refusal_of edit net ≡ None → after (edit_of failure) net ≡ Ok (effect edit net)
   made_ahead accepted = subst (λ (e : Edit). after (edit_of failure) net ≡ Ok (effect e net)) (sym is) (made_by failure net (subst (λ (e : Edit). refusal_of e net ≡ None) is accepted))
 
-  pub have_lans_there : (place : Option Failure) → HaveLans net (effect edit net) place
-  have_lans_there place = subst (λ (e : Edit). HaveLans net (effect e net) place) (sym is) (have_lans_ahead net failure place)
+  pub have_lans_there : (j : Judging) (place : Option Failure) → HaveLans j net (effect edit net) place
+  have_lans_there j place = subst (λ (e : Edit). HaveLans j net (effect e net) place) (sym is) (have_lans_ahead j net failure place)
 
--- those in the network that it makes are those of the line in its place
-line_after : (net failed : Net) (o p : Outcome) (failure : Failure) → after (edit_of failure) net ≡ Ok failed → IsOutcome failed p → (line : PolicyLine) (those : List Reason)
-    → AreReasonsIf failed p net (gone_of failure) (expected_at net line (Some failure)) those → AreLineReasons net o line (Some failure) those
-line_after net failed o p failure e is line those h = by (expected_at net line (Some failure)) h
-  where
-    by : (expected : Option Expectation) → AreReasonsIf failed p net (gone_of failure) expected those → MatchOption expected (those ≡ []) (λ expectation. AreReasonsAfter net failure expectation those)
-    by None h = h
-    by (Some expectation) h = record { failed = failed; made = e; outcome = p; is_outcome = is; are = h }
+-- ---- the network before
+prior_there : (kept : Option (Bor ViewWithTrees)) (prior : Prior) → IsPrior (option_map (λ c. c.now) kept) prior → is_some kept ≡ is_some prior
+prior_there None None h = refl
+prior_there None (Some p) h = absurd h
+prior_there (Some c) None h = absurd h
+prior_there (Some c) (Some p) h = refl
 
-pub lines_after : (net failed : Net) (o p : Outcome) (failure : Failure) → after (edit_of failure) net ≡ Ok failed → IsOutcome failed p → (lines : List PolicyLine) (all : List (List Reason))
-    → AllZip (λ line those. AreReasonsIf failed p net (gone_of failure) (expected_at net line (Some failure)) those) lines all → AreReasonsEach net o lines (Some failure) all
-lines_after net failed o p failure e is lines all h =
-    zip_weaker (λ line those. AreReasonsIf failed p net (gone_of failure) (expected_at net line (Some failure)) those) (λ line those. AreLineReasons net o line (Some failure) those)
-    (line_after net failed o p failure e is) lines all h
+-- it is the one of which something is kept
+none_kept : (prior : Prior) → IsPrior None prior → IsKeptOf prior None
+none_kept None h = tt
+none_kept (Some p) h = absurd h
 
-pub as_many : (net : Net) (lines : List PolicyLine) (flags : List Bool) → AreJudged net lines flags → length flags ≡ length lines
-as_many net lines flags are = ap length are ∙ length-map lines (λ (line : PolicyLine). is_some (judged net line))
+pub not_kept : (kept : Option (Bor ViewWithTrees)) (prior : Prior) → kept ≡ None → IsPrior (option_map (λ c. c.now) kept) prior → IsKeptOf prior None
+not_kept kept prior e h = none_kept prior (subst (λ (k : Option (Bor ViewWithTrees)). IsPrior (option_map (λ c. c.now) k) prior) e h)
 
--- how many are judged
-pub flags_counted : (net : Net) (lines : List PolicyLine) (flags : List Bool) → AreJudged net lines flags → count_by (λ flag. flag) flags ≡ count_by (λ line. is_some (judged net line)) lines
-flags_counted net lines flags are = ap (count_by (λ flag. flag)) are ∙ by lines
-  where
-    by : (lines : List PolicyLine) → count_by (λ flag. flag) (map (λ (line : PolicyLine). is_some (judged net line)) lines) ≡ count_by (λ line. is_some (judged net line)) lines
-    by [] = refl
-    by (line ∷ lines) =
-        sum_by-cons (λ flag. cond flag 1 0) (is_some (judged net line)) (map (λ (line : PolicyLine). is_some (judged net line)) lines)
-        ∙ ap (λ n. cond (is_some (judged net line)) 1 0 + n) (by lines) ∙ sym (sum_by-cons (λ (l : PolicyLine). cond (is_some (judged net l)) 1 0) line lines)
+some_kept_of : (c : ViewWithTrees) (own : KeptPrior) (prior : Prior) → own.old.now ≡ c → IsPrior (Some c) prior → IsKeptOf prior (Some own)
+some_kept_of c own None e h = absurd h
+some_kept_of c own (Some p) e h = subst (IsOneOf p.0 p.1) (sym e) h
+
+pub kept_of : (kept : Option (Bor ViewWithTrees)) (c : Bor ViewWithTrees) (own : KeptPrior) (prior : Prior) → kept ≡ Some c → own.old.now ≡ c.now → IsPrior (option_map (λ c. c.now) kept) prior → IsKeptOf prior (Some own)
+kept_of kept c own prior is e h = some_kept_of c.now own prior e (subst (λ (k : Option (Bor ViewWithTrees)). IsPrior (option_map (λ c. c.now) k) prior) is h)
+
+-- a network is one of what carries its VIDs
+pub prior_of : (net : Net) (numbers : Numbers) (p : Plan) (c : ViewWithTrees) → IsPlan net numbers p → IsCarriage p c → IsPriorOf c (net, plan_outcome net numbers p)
+prior_of net numbers p c plan is = record {
+  network = record { net = net; numbers = numbers; view = p.view; forest = p.forest };
+  settled = is_settled_net net numbers p.view p.forest plan.of plan.forest;
+  is_of = is;
+  net_is = refl;
+  outcome_is = refl;
+}
+
+-- and its plan has a settled outcome of it
+pub plan_settled : (net : Net) (numbers : Numbers) (p : Plan) → IsPlan net numbers p → IsOutcome net (plan_outcome net numbers p)
+plan_settled net numbers p plan = (is_settled_net net numbers p.view p.forest plan.of plan.forest).is_outcome
+
+-- ---- reasons
+module _ (j : Judging) (net : Net) (numbers : Numbers) (prior : Prior) (is : IsPrior (option_map (λ c. c.now) j.prior) prior) where
+  abbrev s : Sitting
+  s = sitting_of net numbers j prior
+
+  same_expected : (line : PolicyLine) (place : Option Failure) → expected_in j net line place ≡ expected_of s line place
+  same_expected line place = ap (λ b. cond (is_judged_at j.is_last line) (expected_at j.once net b line place) None) (prior_there j.prior prior is)
+
+  pub none_of : (place : Option Failure) (lines : List PolicyLine) → AllByRecursion (λ line. expected_in j net line place ≡ None) lines → AllByRecursion (λ line. expected_of s line place ≡ None) lines
+  none_of place [] h = tt
+  none_of place (line ∷ lines) h = (sym (same_expected line place) ∙ h.0, none_of place lines h.1)
+
+  -- those in the network itself
+  line_now : (line : PolicyLine) (those : List Reason) → AreReasonsIf net s.outcome net None prior (expected_in j net line None) those → AreReasonsOf s line None those
+  line_now line those h = subst (λ (expected : Option Expectation). AreReasonsIf net s.outcome net None prior expected those) (same_expected line None) h
+
+  pub lines_now : (lines : List PolicyLine) (all : List (List Reason)) → AllZip (λ line those. AreReasonsIf net s.outcome net None prior (expected_in j net line None) those) lines all → AreReasonsEach s lines None all
+  lines_now lines all h = zip_weaker (λ line those. AreReasonsIf net s.outcome net None prior (expected_in j net line None) those) (λ line those. AreReasonsOf s line None those) line_now lines all h
+
+  -- and those in the network that a failure makes are those of the line in its place
+  module _ (failed : Net) (p : Outcome) (failure : Failure) (e : after (edit_of failure) net ≡ Ok failed) (settled : IsOutcome failed p) where
+    abbrev Then : PolicyLine → List Reason → Type 0
+    Then line those = AreReasonsIf failed p net (gone_of failure) (Some (net, s.outcome)) (expected_in j net line (Some failure)) those
+
+    line_after : (line : PolicyLine) (those : List Reason) → Then line those → AreReasonsOf s line (Some failure) those
+    line_after line those h =
+        by (expected_of s line (Some failure))
+        (subst (λ (expected : Option Expectation). AreReasonsIf failed p net (gone_of failure) (Some (net, s.outcome)) expected those) (same_expected line (Some failure)) h)
+      where
+        by : (expected : Option Expectation) → AreReasonsIf failed p net (gone_of failure) (Some (net, s.outcome)) expected those
+            → MatchOption expected (those ≡ []) (λ expectation. AreReasonsAfter net s.outcome failure expectation those)
+        by None h = h
+        by (Some expectation) h = record { failed = failed; made = e; outcome = p; is_outcome = settled; are = h }
+
+    pub lines_after : (lines : List PolicyLine) (all : List (List Reason)) → AllZip Then lines all → AreReasonsEach s lines (Some failure) all
+    lines_after lines all h = zip_weaker Then (λ line those. AreReasonsOf s line (Some failure) those) line_after lines all h
+
+pub as_many : (net : Net) (is_last : Bool) (lines : List PolicyLine) (missing : List (Option Missing)) → AreLacking net is_last lines missing → length missing ≡ length lines
+as_many net is_last lines missing are = ap length are ∙ length-map lines (lacks_in net is_last)
 
 -- ---- contents that are as they were
 pub to_now : (old now : Contents) → SameContents old now → (P : Net → Numbers → Type 0) → P old.net old.numbers → P now.net now.numbers

@@ -1,3 +1,3 @@
+pub mod Findings
 pub mod Judgements
-pub mod PolicyRows
-pub mod VerifyThere
+pub mod OneJudgement

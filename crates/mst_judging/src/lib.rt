@@ -5,4 +5,6 @@ mod judging;
 pub mod laws;
 mod verifying;
 
-pub use verifying::{Verdict, judge_network, verify_network};
+pub use judging::judge;
+pub use mst_verdict::Verdict;
+pub use verifying::verify_network;

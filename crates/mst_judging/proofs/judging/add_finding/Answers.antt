@@ -1,13 +1,14 @@
-use Rattle.std.proofs.Common.{◌++◌, false, ap, append-nil, sym, ◌∙◌}
+use Rattle.std.proofs.Common.{ap, sym, ◌∙◌}
 use Rattle.std.specs.List.{list_any}
 use Rattle.mst_diff.specs.Reach.{has_any}
-use Rattle.mst_verify.specs.Verified.{reason_rows}
-use Rattle.mst_judging.specs.Verifying.{rows_at}
-use Rattle.mst_judging.proofs.PolicyRows.{none_at}
+use Rattle.mst_verdict.specs.Judged.{line_found, reasons_in}
+use Rattle.mst_judging.proofs.Findings.{line_found_more, none_at, nothing_more}
 use Rattle.mst_judging.proofs.judging.add_finding.Goals as goal
 
+pub returns-in_ok-push : goal.returns-in_ok-push
+returns-in_ok-push c n = ap (line_found n) c.in_ok-push.ensures.items ∙ line_found_more n c.args.found.now.items (record { place = c.args.place; reasons = c.args.reasons })
+
 pub returns-else-has_some : goal.returns-else-has_some
-returns-else-has_some c number n =
+returns-else-has_some c n =
     let none = ap (list_any (λ those. has_any those.items)) (sym c.as_slice.ensures.value) ∙ sym c.has_some.ensures ∙ c.if-has_some.false in
-    let old = rows_at number n c.args.found.now.items in
-    sym (append-nil old) ∙ ap (λ those. old ++ reason_rows number c.args.place those) (sym (none_at (λ those. those.items) c.args.reasons.items none n))
+    nothing_more (line_found n c.args.found.now.items) c.args.place (reasons_in c.args.reasons) n (none_at (λ those. those.items) c.args.reasons.items none n)

@@ -1,25 +1,24 @@
-use Rattle.std.proofs.Common.{◌≡◌, ◌+◌, ◌∷◌, [], ◌++◌, List, None, Some, Option, map, take, sym, ap, subst, ◌∙◌}
+use Rattle.std.proofs.Common.{◌≡◌, ◌+◌, ◌∷◌, [], ◌++◌, List, None, Some, map, take, sym, ap, subst, ◌∙◌}
 use Rattle.std.proofs.lemmas.List.{map-append, take_all, take_more}
-use Rattle.mst_net.specs.Tables.{Net, Numbers}
 use Rattle.mst_sweep.specs.declared.failure.Failure.{Failure}
-use Rattle.mst_sweep.specs.Failures.{failures}
 use Rattle.mst_plan.specs.Plan.{IsPlan}
-use Rattle.mst_judging.specs.Verifying.{FindsAt, FoundIn, IsJudging, plan_outcome}
-use Rattle.mst_judging.specs.declared.judging.Finding.{Finding}
+use Rattle.mst_verdict.specs.declared.judgement.Finding.{Finding}
+use Rattle.mst_judging.specs.Verifying.{FindsAt, FoundIn, IsJudging, OfSittings, sitting_of}
 use Rattle.mst_judging.proofs.Judgements.{to_now, to_old}
-use Rattle.mst_judging.proofs.PolicyRows.{found_more, found_none}
+use Rattle.mst_judging.proofs.Findings.{found_more, found_none}
 use Rattle.mst_sweeping.proofs.Swept.{same_all, same_then}
 use Rattle.mst_judging.proofs.judging.find_all.Goals as goal
 
 pub loop-failure-init : goal.loop-failure-init
 loop-failure-init c =
-    let net = c.args.network.now.net in
+    let t = c.args.network.now in
     let j = c.args.judging.now in
-    let o = plan_outcome net c.args.network.now.numbers j.plan.now in
     record {
       same = same_all c.args.network.now;
-      found = found_more net o j.lines.now [] None [] c.find_now.new.found.items (found_none net o j.lines.now)
-          (subst (λ (l : List Finding). FindsAt net o j.lines.now None l c.find_now.new.found.items) c.new-found.ensures.items c.in_ok-find_now.ensures);
+      found = λ prior is.
+          let s = sitting_of t.net t.numbers j prior in
+          found_more s j.lines.now [] None [] c.find_now.new.found.items (found_none s j.lines.now)
+          (subst (λ (l : List Finding). FindsAt s j.lines.now None l c.find_now.new.found.items) c.new-found.ensures.items (c.in_ok-find_now.ensures prior is));
       seen = c.in_ok-seen.ensures;
     }
 
@@ -34,25 +33,27 @@ loop-failure-preserved c =
     let old = c.args.network.now in
     let was = c.loop-failure.invariant in
     let j = c.args.judging.now in
-    let o = plan_outcome old.net old.numbers j.plan.now in
-    let fs = c.as_slice-failure-items.result.now in
+    let fs = c.args.failures.now in
     let i = c.loop-failure.failure-index in
     let f = c.failure-item.result in
     let made = c.in_ok-find_after.ensures in
-    let finds = to_old old c.loop-failure.network was.same (λ net numbers. FindsAt net (plan_outcome net numbers j.plan.now) j.lines.now (Some f) c.loop-failure.found.items c.find_after.new.found.items) made.found in
+    let finds =
+    to_old old c.loop-failure.network was.same (λ net numbers. OfSittings net numbers j (λ s. FindsAt s j.lines.now (Some f) c.loop-failure.found.items c.find_after.new.found.items)) made.found in
     let next : None ∷ map Some (take (i + 1) fs) ≡ (None ∷ map Some (take i fs)) ++ Some f ∷ [] =
     ap (λ l. None ∷ map Some l) (take_more fs i f c.loop-failure-test.true ∙ ap (λ x. take i fs ++ x ∷ []) (sym c.failure-item.is)) ∙ ap (λ l. None ∷ l) (map-append Some (take i fs) (f ∷ [])) in
     record {
       same = same_then old c.loop-failure.network c.find_after.new.network was.same made.same;
-      found = subst (λ some. FoundIn old.net o j.lines.now some c.find_after.new.found.items) (sym next)
-          (found_more old.net o j.lines.now (None ∷ map Some (take i fs)) (Some f) c.loop-failure.found.items c.find_after.new.found.items was.found finds);
+      found = λ prior is.
+          let s = sitting_of old.net old.numbers j prior in
+          subst (λ some. FoundIn s j.lines.now some c.find_after.new.found.items) (sym next)
+          (found_more s j.lines.now (None ∷ map Some (take i fs)) (Some f) c.loop-failure.found.items c.find_after.new.found.items (was.found prior is) (finds prior is));
       seen = made.seen;
     }
 
 pub returns-clause-found : goal.returns-clause-found
-returns-clause-found c =
+returns-clause-found c = λ prior is.
     let old = c.args.network.now in
     let j = c.args.judging.now in
-    let fs = c.as_slice-failure-items.result.now in
-    let all = take_all c.loop-failure.failure-index fs c.loop-failure-test.false ∙ c.as_slice-failure-items.ensures.value ∙ c.in_ok-all.ensures old.net old.numbers c.requires.of.of.view in
-    subst (λ (l : List Failure). FoundIn old.net (plan_outcome old.net old.numbers j.plan.now) j.lines.now (None ∷ map Some l) c.loop-failure.found.items) all c.loop-failure.invariant.found
+    let fs = c.args.failures.now in
+    let all = take_all c.loop-failure.failure-index fs c.loop-failure-test.false ∙ c.requires.failures in
+    subst (λ (l : List Failure). FoundIn (sitting_of old.net old.numbers j prior) j.lines.now (None ∷ map Some l) c.loop-failure.found.items) all (c.loop-failure.invariant.found prior is)

@@ -1,44 +1,36 @@
-use Rattle.std.proofs.Common.{◌≡◌, ◌+◌, ◌∷◌, [], ◌++◌, List, Option, false, get_or, map, take, sym, ap, subst, ◌∙◌}
-use Rattle.std.specs.List.{AllZip}
-use Rattle.std.proofs.lemmas.List.{map-append, take_all}
-use Rattle.mst_trees.specs.Settled.{outcome_of}
-use Rattle.mst_policy.specs.declared.expectation.Expectation.{Expectation}
+use Rattle.std.proofs.Common.{◌≡◌, List, [], length, sym, subst, ◌∙◌}
+use Rattle.std.proofs.lemmas.Bool.{eqb-true}
+use Rattle.std.proofs.lemmas.List.{nil_from_length}
+use Rattle.std.proofs.lemmas.Result.{IfOk-weaker}
 use Rattle.mst_policy.specs.declared.policy.PolicyLine.{PolicyLine}
-use Rattle.mst_verify.specs.Verified.{expected_at}
-use Rattle.mst_verify.specs.declared.reason.Reason.{Reason}
-use Rattle.mst_judging.specs.Verifying.{AreReasonsIf, reasons_in}
-use Rattle.mst_judging.proofs.Judgements.{expected_so, flag_of, zip_more}
+use Rattle.mst_sweeping.proofs.Swept.{same_all}
+use Rattle.mst_verdict.specs.Judged.{told_in}
+use Rattle.mst_verdict.proofs.Lines.{told_there}
+use Rattle.mst_judging.specs.Verifying.{Judges, plan_outcome}
+use Rattle.mst_judging.proofs.Judgements.{plan_settled}
 use Rattle.mst_judging.proofs.judging.judge.Goals as goal
 
-pub line_reasons-requires-clause-lan : goal.line_reasons-requires-clause-lan
-line_reasons-requires-clause-lan c = λ e h.
-    let j = c.args.judging.now in
-    let n = c.loop-n.n in
-    let line : PolicyLine = get_or j.lines.now n c.index-judging-n.result in
-    let line_is : line ≡ get_or j.lines.now n line = ap (get_or j.lines.now n) c.index-judging-n.is in
-    let lans = c.requires.lans in
-    lans.2 line e (sym (expected_so lans.0 line (get_or j.flags.now n false) c.args.place.now (flag_of lans.0 j.lines.now j.flags.now lans.1 n line false c.loop-n-test.true line_is)) ∙ h)
+pub returns-then-is_empty-clause-told : goal.returns-then-is_empty-clause-told
+returns-then-is_empty-clause-told c = λ before is.
+    let old = c.args.network.now in
+    let none : c.args.lines.now ≡ [] = nil_from_length c.args.lines.now (eqb-true (length c.args.lines.now) 0 (sym c.is_empty.ensures ∙ c.if-is_empty.true)) in
+    subst (λ (lines : List PolicyLine). Judges old.net before c.args.is_last lines (told_in lines c.none.result)) (sym none)
+    (record { outcome = plan_outcome old.net old.numbers c.args.plan.now; is_outcome = plan_settled old.net old.numbers c.args.plan.now c.requires; are = tt })
 
-pub loop-n-preserved : goal.loop-n-preserved
-loop-n-preserved c = λ net before are is.
-    let j = c.args.judging.now in
-    let s = c.args.judged.now.plan.now in
-    let lost = c.args.judged.now.gone in
-    let place = c.args.place.now in
-    let n = c.loop-n.n in
-    let line : PolicyLine = get_or j.lines.now n c.index-judging-n.result in
-    let line_is : line ≡ get_or j.lines.now n line = ap (get_or j.lines.now n) c.index-judging-n.is in
-    let those = c.in_ok-line_reasons.field-0.items in
-    let R : PolicyLine → List Reason → Type 0 = λ line those. AreReasonsIf s.net (outcome_of s) before lost (expected_at net line place) those in
-    let here : R line those =
-    subst (λ (e : Option Expectation). AreReasonsIf s.net (outcome_of s) before lost e those) (expected_so net line (get_or j.flags.now n false) place (flag_of net j.lines.now j.flags.now are n line false c.loop-n-test.true line_is))
-    (c.in_ok-line_reasons.ensures before is) in
-    subst (λ items. AllZip R (take (n + 1) j.lines.now) (map (λ those. those.items) items)) (sym c.in_ok-push.ensures.items)
-    (subst (AllZip R (take (n + 1) j.lines.now)) (sym (map-append (λ those. those.items) c.loop-n.all.items (c.in_ok-line_reasons.field-0 ∷ [])))
-    (zip_more R j.lines.now n line (reasons_in c.loop-n.all) those c.loop-n-test.true line_is (c.loop-n.invariant net before are is) here))
+pub returns-then-is_empty-clause-same : goal.returns-then-is_empty-clause-same
+returns-then-is_empty-clause-same c = same_all c.args.network.now
 
-pub returns : goal.returns
-returns c = λ net before are is.
-    let s = c.args.judged.now.plan.now in
-    subst (λ (l : List PolicyLine). AllZip (λ line those. AreReasonsIf s.net (outcome_of s) before c.args.judged.now.gone (expected_at net line c.args.place.now) those) l (reasons_in c.loop-n.all))
-    (take_all c.loop-n.n c.args.judging.now.lines.now c.loop-n-test.false) (c.loop-n.invariant net before are is)
+pub judge_lines-requires-clause-failures : goal.judge_lines-requires-clause-failures
+judge_lines-requires-clause-failures c = c.as_slice.ensures.value ∙ c.in_ok-failures.ensures c.args.network.now.net c.args.network.now.numbers c.requires.of.view
+
+pub returns-clause-told : goal.returns-clause-told
+returns-clause-told c =
+    let old = c.args.network.now in
+    let o = plan_outcome old.net old.numbers c.args.plan.now in
+    IfOk-weaker c.judge_lines.result _ _
+    (λ judgement judged before is. record {
+      outcome = o;
+      is_outcome = plan_settled old.net old.numbers c.args.plan.now c.requires;
+      are = told_there old.net o before c.args.is_last judgement c.args.lines.now (judged before is);
+    })
+    c.judge_lines.ensures.judged

@@ -6,7 +6,8 @@ use Rattle.mst_config.specs.Shared.{AreRegions}
 use Rattle.mst_lag.specs.Viewed.{IsView}
 use Rattle.mst_plan.specs.Plan.{IsPlan}
 use Rattle.mst_sweeping.specs.Sweeping.{IsViewBut}
-use Rattle.mst_judging.specs.Verifying.{AreReasonsEach, IsJudging, plan_outcome, reasons_in}
+use Rattle.mst_verdict.specs.Judged.{reasons_in}
+use Rattle.mst_judging.specs.Verifying.{AreReasonsEach, IsJudging, OfSittings}
 use Rattle.mst_judging.proofs.Judgements.{to_now, to_old}
 use Rattle.mst_sweeping.proofs.Swept.{regions_ahead, seen_ahead, seen_back}
 use Rattle.mst_judging.proofs.judging.reasons_after.Goals as goal
@@ -50,7 +51,7 @@ pub returns-in-Ok-clause-reasons : goal.returns-in-Ok-clause-reasons
 returns-in-Ok-clause-reasons c =
     let j = c.args.judging.now in
     IfOk-weaker c.reasons_then.result _ _
-    (λ all are. to_old c.args.network.now c.prepare.new.self c.prepare.ensures.same (λ net numbers. AreReasonsEach net (plan_outcome net numbers j.plan.now) j.lines.now (Some c.args.failure.now) (reasons_in all)) are)
+    (λ all are. to_old c.args.network.now c.prepare.new.self c.prepare.ensures.same (λ net numbers. OfSittings net numbers j (λ s. AreReasonsEach s j.lines.now (Some c.args.failure.now) (reasons_in all))) are)
     c.reasons_then.ensures.reasons
 
 pub returns-in-Ok-clause-back : goal.returns-in-Ok-clause-back

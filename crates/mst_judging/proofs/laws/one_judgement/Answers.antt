@@ -1,8 +1,11 @@
-use Rattle.mst_judging.proofs.VerifyThere.{has_judgement}
+use Rattle.mst_judging.proofs.OneJudgement.{judged_same, judged_some, of_network}
 use Rattle.mst_judging.proofs.laws.one_judgement.Goals as goal
 
 pub returns-clause-some : goal.returns-clause-some
-returns-clause-some c = λ net lines is. has_judgement net is c.has_outcome.ensures c.networks.ensures.after c.reason_lists.ensures.some c.told_where_unkept.ensures lines
+returns-clause-some c = λ net prior is_last lines ok of.
+    let o = c.has_outcome.ensures net ok in
+    judged_some net prior is_last lines o.0 o.1 (λ line. c.told_lines.ensures.some net o.0 prior line ok o.1 (of_network prior of))
 
 pub returns-clause-one : goal.returns-clause-one
-returns-clause-one c = λ net lines n m rows other ok a b. c.one_verification.ensures.lines net a.outcome b.outcome lines ok a.is_outcome b.is_outcome n m rows other a.told b.told
+returns-clause-one c = λ net prior is_last lines told other ok of a b.
+    judged_same net prior is_last lines (λ o p. c.one_outcome.ensures net o p ok) (λ o line rows others is. c.told_lines.ensures.one net o o prior line rows others ok is is) told other a b

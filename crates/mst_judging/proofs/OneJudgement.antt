@@ -1,0 +1,48 @@
+-- Each line of a policy has one list of rows in one of several networks.
+use Rattle.std.proofs.Common.{◌≡◌, Bool, true, false, List, [], Some, None, refl, sym, subst, ◌∙◌}
+use Rattle.std.specs.Prelude.{MatchBool}
+use Rattle.mst_net.specs.Tables.{Net}
+use Rattle.mst_policy.specs.declared.policy.PolicyLine.{PolicyLine}
+use Rattle.mst_rows.specs.Rows.{Row}
+use Rattle.mst_trees.specs.Outcome.{Outcome, IsOutcome}
+use Rattle.mst_verify.specs.Named.{OfNetwork, Prior}
+use Rattle.mst_verdict.specs.Told.{AreLinesTold, IsLineTold, IsToldThere, is_judged_at}
+use Rattle.mst_verdict.proofs.OneTold.{zip_same, zip_some}
+use Rattle.mst_judging.specs.Verifying.{IsPriorNetwork, Judges}
+
+pub of_network : (prior : Prior) → IsPriorNetwork prior → OfNetwork prior
+of_network None h = tt
+of_network (Some p) h = h.0
+
+module _ (net : Net) (prior : Prior) (is_last : Bool) (lines : List PolicyLine) where
+  -- at most one
+  module _ (o : Outcome) (one : (line : PolicyLine) (rows other : List Row) → IsLineTold net o prior line rows → IsLineTold net o prior line other → rows ≡ other) where
+    there_same : (line : PolicyLine) (rows other : List Row) → IsToldThere is_last net o prior line rows → IsToldThere is_last net o prior line other → rows ≡ other
+    there_same line rows other = by (is_judged_at is_last line)
+      where
+        by : (b : Bool) → MatchBool b (IsLineTold net o prior line rows) (rows ≡ []) → MatchBool b (IsLineTold net o prior line other) (other ≡ []) → rows ≡ other
+        by true x y = one line rows other x y
+        by false x y = x ∙ sym y
+
+    lines_same : (told other : List (List Row)) → AreLinesTold net o prior is_last lines told → AreLinesTold net o prior is_last lines other → told ≡ other
+    lines_same told other = zip_same (IsToldThere is_last net o prior) lines told other (λ line _ rows others. there_same line rows others)
+
+  pub judged_same : ((o p : Outcome) → IsOutcome net o → IsOutcome net p → o ≡ p)
+      → ((o : Outcome) (line : PolicyLine) (rows other : List Row) → IsOutcome net o → IsLineTold net o prior line rows → IsLineTold net o prior line other → rows ≡ other)
+      → (told other : List (List Row)) → Judges net prior is_last lines told → Judges net prior is_last lines other → told ≡ other
+  judged_same single one told other x y =
+      lines_same x.outcome (λ line rows others. one x.outcome line rows others x.is_outcome) told other x.are
+      (subst (λ o. AreLinesTold net o prior is_last lines other) (single y.outcome x.outcome y.is_outcome x.is_outcome) y.are)
+
+  -- and one at least
+  pub judged_some : (o : Outcome) → IsOutcome net o → ((line : PolicyLine) → (rows : List Row) × IsLineTold net o prior line rows) → (told : List (List Row)) × Judges net prior is_last lines told
+  judged_some o are some =
+      let z = zip_some (IsToldThere is_last net o prior) lines (λ line _. there line) in
+      (z.0, record { outcome = o; is_outcome = are; are = z.1 })
+    where
+      there : (line : PolicyLine) → (rows : List Row) × IsToldThere is_last net o prior line rows
+      there line = by (is_judged_at is_last line)
+        where
+          by : (b : Bool) → (rows : List Row) × MatchBool b (IsLineTold net o prior line rows) (rows ≡ [])
+          by true = some line
+          by false = ([], refl)
