@@ -1,5 +1,5 @@
 -- There are rows of what a step does.
-use Rattle.std.proofs.Common.{◌≡◌, ℕ, ◌||◌, Bool, true, List, ◌∷◌, refl}
+use Rattle.std.proofs.Common.{◌≡◌, ℕ, ◌||◌, Bool, true, List, ◌∷◌, ◌++◌, refl}
 use Rattle.std.specs.Cmp.{IsEquivalence}
 use Rattle.std.specs.List.{filter}
 use Rattle.mst_ids.specs.Vids.{is_vid}
@@ -17,7 +17,8 @@ use Rattle.mst_sweep.specs.Moved.{moved_ports, moved_roots}
 use Rattle.mst_sweep.specs.Parts.{AreParts, all_parts, staying}
 use Rattle.mst_sweep.proofs.CutsBy as cuts
 use Rattle.mst_steps.specs.MovedVids.{AreVidsWhere, IsCut, IsJoined, IsMoved, links_differ}
-use Rattle.mst_steps.specs.StepText.{AreStepRows, cut_by, deed_row}
+use Rattle.mst_steps.specs.Restarts.{restarting}
+use Rattle.mst_steps.specs.StepText.{AreStepRows, cut_by, deed_row, restart_rows}
 use Rattle.mst_steps.specs.declared.step.Deed.{Deed}
 use Rattle.mst_steps.specs.declared.step.Stepped.{Stepped}
 
@@ -76,7 +77,7 @@ module _ (a b : Net) (o p : Outcome) (olds : HasIslands a o) (news : HasIslands 
   cut_rows = cuts.cut_rows (AreParts a o b p) (cut_by step) (parts a b o p olds news) each_part grouping
 
   abbrev rows : List Row
-  rows = deed_row step (moved_roots a o b p) (moved_ports a o b p) (runs_of moved) (runs_of cut) (runs_of joined) ∷ cut_rows
+  rows = deed_row step (moved_roots a o b p) (moved_ports a o b p) (runs_of moved) (runs_of cut) (runs_of joined) ∷ cut_rows ++ restart_rows step (restarting a b)
 
   abbrev told : Stepped
   told = record { moves = has_any moved; cuts = has_any cut }

@@ -1,1 +1,3 @@
 pub mod InReach
+pub mod Unkept
+pub mod Together

@@ -1,6 +1,6 @@
 //! Laws of the steps of a change. Their functions do nothing: a caller has their clauses.
-ghost use Rattle.std.specs.Prelude.{◌≡◌, ◌++◌, ℕ, true, List, Option};
-ghost use Rattle.std.specs.List.{AllByRecursion, Contains};
+ghost use Rattle.std.specs.Prelude.{◌≡◌, ◌+◌, ◌++◌, ℕ, Bool, true, List, None, Option, Some};
+ghost use Rattle.std.specs.List.{AllByRecursion, Contains, flat_map, sum_by};
 ghost use Rattle.mst_change.specs.Reading.{IsInRange, LineRead};
 ghost use Rattle.mst_change.specs.Steps.{all_lines, change_of, lines_from};
 ghost use Rattle.mst_diff.specs.Reach.{has_any};
@@ -8,7 +8,16 @@ ghost use Rattle.mst_lang.specs.declared.line.Version.TheVariants.{V1};
 ghost use Rattle.mst_net.specs.Tables.{Net, IsNetwork};
 ghost use Rattle.mst_policy.specs.declared.policy.PolicyLine.{PolicyLine as LineOf};
 ghost use Rattle.mst_stepping.specs.Setting.{after_lines, after_steps};
-ghost use Rattle.mst_stepping.specs.Stepping.{Steps};
+ghost use Rattle.mst_stepping.specs.Stepping.{AreWatched, Steps};
+ghost use Rattle.mst_diff.specs.trees.Outcome.{IsOutcome, Outcome};
+ghost use Rattle.mst_step_laws.specs.Together.{AreAllVids, as_cut, together_all};
+ghost use Rattle.mst_sweep.specs.Cuts.{AreCutsBy};
+ghost use Rattle.mst_sweep.specs.Parts.{AreParts};
+ghost use Rattle.mst_sweep.specs.declared.cuts.CutBy.TheVariants.{Step};
+ghost use Rattle.mst_verify.specs.Reasons.{AreReasons};
+ghost use Rattle.mst_verify.specs.declared.reason.Reason.{Reason as ReasonOf};
+ghost use Rattle.mst_step_laws.specs.Unkept.{AreNewsNext, broken_by, mended_by, told_unkept};
+ghost use Rattle.mst_verdict.specs.Steps.{Change as ChangeOf, unkept_count};
 ghost use Rattle.mst_stepping.specs.declared.stepping.Course.{Course as CourseOf};
 ghost use Rattle.mst_rows.specs.Rows.{Row};
 ghost use Rattle.mst_step_laws.specs.InReach.{IsInDiff, StepAndDiff};
@@ -21,6 +30,7 @@ use mst_ids::Vid;
 use mst_judging::laws::one_judgement;
 use mst_net::laws::networks;
 use mst_steps::laws::one_step;
+use mst_verify::laws::reason_lists;
 
 /// What the steps of a change do in a network: there is one list of rows and one count of them, which the network, the lines of the steps
 /// and the policy alone settle.
@@ -29,6 +39,7 @@ pub fn one_course()
         → Steps net steps policy c rows → Steps net steps policy d other → (c ≡ d) × (rows ≡ other) }
 {
     networks();
+    one_outcome();
     one_step();
     one_judgement();
 }
@@ -43,6 +54,33 @@ pub fn has_course()
     islands_of_vid();
     group_lists::<Vid>();
     one_judgement();
+}
+
+/// Of a line of the policy, what is told behind a step and whether it was kept before say whether it is kept behind the step: so who reads all
+/// that was told of it up to there knows it.
+pub fn told_is_enough()
+    ensures { (step : ℕ) (c : ChangeOf) → has_any c.now ≡ told_unkept step c }
+{}
+
+/// The lines of a policy that aren't kept at the start, with those that steps break, and without those that steps mend, are those that the last
+/// network doesn't keep. Behind two steps, one after another, no row is told of a line twice.
+pub fn unkept_to_unkept()
+    ensures count { (net : Net) (steps : List (List LineRead)) (lines : List LineOf) (unread : ℕ) (c : CourseOf) (rows : List Row) → IsNetwork net → AllByRecursion IsInRange (all_lines steps)
+        → (x : AreWatched net steps lines unread c rows) → unkept_count x.start + sum_by (broken_by lines) x.told ≡ c.unkept + sum_by (mended_by lines) x.told }
+    ensures once { (net : Net) (steps : List (List LineRead)) (lines : List LineOf) (unread : ℕ) (c : CourseOf) (rows : List Row) → IsNetwork net → AllByRecursion IsInRange (all_lines steps)
+        → (x : AreWatched net steps lines unread c rows) → AreNewsNext lines x.told }
+{
+    networks();
+    one_judgement();
+}
+
+/// Behind the first step of a change a promise that all bridges stay together, in all VIDs, is broken for the reasons that the step's `cut`
+/// lines tell: for the same VIDs, and the same parts.
+pub fn together_is_uncut()
+    ensures { (a b : Net) (o p : Outcome) (step : ℕ) (vids : List Bool) (cut : List ℕ) (rows : List Row) (reasons : List ReasonOf) → IsNetwork b → IsOutcome b p → AreAllVids vids
+        → AreCutsBy (AreParts a o b p) (Step step) cut rows → AreReasons b p b None (Some (a, o)) (together_all vids) reasons → flat_map (as_cut step) reasons ≡ rows }
+{
+    reason_lists();
 }
 
 /// Each VID that a step cuts or joins is in a `reach` row of the diff of the networks before it and after it. Where the step cuts the VID, the row

@@ -1,3 +1,4 @@
 pub mod Made
 pub mod Walked
-pub mod Tells
+pub mod Watched
+mod Planned

@@ -1,2 +1,3 @@
 pub mod Setting
 pub mod Stepping
+pub mod Taking

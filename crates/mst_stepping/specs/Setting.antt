@@ -38,27 +38,27 @@ after_steps net [] = net
 after_steps net (lines ∷ steps) = after_steps (after_lines net lines) steps
 
 -- ---- lines that are refused
--- `change N CODE TEXT`
-abbrev pub change_row : ℕ → List ℕ → List ℕ → Row
-change_row n code text = row_of (kind.Refusal refusal_line.Change) (number n ∷ word code ∷ word text ∷ [])
+-- `change N CODE TEXT`, of the step of this number
+abbrev pub change_row : ℕ → ℕ → List ℕ → List ℕ → Row
+change_row step n code text = row_of (kind.Refusal refusal_line.StepChange) (number step ∷ number n ∷ word code ∷ word text ∷ [])
 
 -- that of an edit, by what it makes of the network
-abbrev pub rows_of_edit : ℕ → Result Net Refusal → List Row
-rows_of_edit n (Ok new) = []
-rows_of_edit n (Err refused) = change_row n (refusal.code_of refused) (refusal.text_of refused) ∷ []
+abbrev pub rows_of_edit : ℕ → ℕ → Result Net Refusal → List Row
+rows_of_edit step n (Ok new) = []
+rows_of_edit step n (Err refused) = change_row step n (refusal.code_of refused) (refusal.text_of refused) ∷ []
 
 -- that of a line, if it is refused: it isn't read, or its edit is refused
-abbrev pub rows_of_read : Net → ℕ → Result Edit Fault → List Row
-rows_of_read net n (Err read) = change_row n (fault.code_of read) (fault.text_of read) ∷ []
-rows_of_read net n (Ok edit) = rows_of_edit n (after edit net)
+abbrev pub rows_of_read : ℕ → Net → ℕ → Result Edit Fault → List Row
+rows_of_read step net n (Err read) = change_row step n (fault.code_of read) (fault.text_of read) ∷ []
+rows_of_read step net n (Ok edit) = rows_of_edit step n (after edit net)
 
-abbrev pub rows_of_line : Net → LineRead → List Row
-rows_of_line net line = rows_of_read net line.number line.read
+abbrev pub rows_of_line : ℕ → Net → LineRead → List Row
+rows_of_line step net line = rows_of_read step net line.number line.read
 
--- those of lines, each of which finds what those before it have made
-abbrev pub refused_lines : Net → List LineRead → List Row
-refused_lines net [] = []
-refused_lines net (line ∷ lines) = rows_of_line net line ++ refused_lines (set_by net line.read) lines
+-- those of a step's lines, each of which finds what those before it have made
+abbrev pub refused_lines : ℕ → Net → List LineRead → List Row
+refused_lines step net [] = []
+refused_lines step net (line ∷ lines) = rows_of_line step net line ++ refused_lines step (set_by net line.read) lines
 
 -- ---- what was made
 -- the regions of the one network are those of the other, each bridge's under its number

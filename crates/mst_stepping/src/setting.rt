@@ -21,32 +21,35 @@ pub(crate) struct Made {
     pub(crate) regions_stand: bool,
 }
 
-/// Puts that a line of a change is refused.
+/// Puts that a line of a change is refused, by the number of its step.
 fn put_refusal<'a, R: Rows>(
+    step: u64,
     number: u64,
     code: &'a str,
     text: &'a str,
     out: &mut R,
 ) -> Result<(), AllocError>
-    ensures { (first : R) (rows : List Row) → R.grew first out.old rows → OnOk result (R.grew first out.new (rows ++ change_row number code.now text.now ∷ [])) }
+    ensures { (first : R) (rows : List Row) → R.grew first out.old rows → OnOk result (R.grew first out.new (rows ++ change_row step number code.now text.now ∷ [])) }
 {
     let values = [
+        Value::Number(step),
         Value::Number(number),
         Value::Word(code.as_bytes()),
         Value::Word(text.as_bytes()),
     ];
-    put::<R>(Kind::Refusal(RefusalLine::Change), &values, out)
+    put::<R>(Kind::Refusal(RefusalLine::StepChange), &values, out)
 }
 
 /// Makes an edit of a change in a network, or puts that it is refused. `AllocError`: memory was wanted and refused.
 fn make_edit<R: Rows>(
     network: &mut Network,
+    step: u64,
     number: u64,
     edit: &Edit,
     out: &mut R,
 ) -> Result<Made, AllocError>
-    ensures made { IfOk result (λ made. IsMade network.old network.new (kept_or network.old.net (after edit.now network.old.net)) (rows_of_edit number (after edit.now network.old.net)) made) }
-    ensures put { (first : R) (rows : List Row) → R.grew first out.old rows → OnOk result (R.grew first out.new (rows ++ rows_of_edit number (after edit.now network.old.net))) }
+    ensures made { IfOk result (λ made. IsMade network.old network.new (kept_or network.old.net (after edit.now network.old.net)) (rows_of_edit step number (after edit.now network.old.net)) made) }
+    ensures put { (first : R) (rows : List Row) → R.grew first out.old rows → OnOk result (R.grew first out.new (rows ++ rows_of_edit step number (after edit.now network.old.net))) }
 {
     regions_stay();
     match network.prepare(edit) {
@@ -59,7 +62,7 @@ fn make_edit<R: Rows>(
         }
         Err(Refusal::E99) => Err(AllocError),
         Err(refusal) => {
-            put_refusal(number, refusal.code(), refusal.text(), out)?;
+            put_refusal(step, number, refusal.code(), refusal.text(), out)?;
             Ok(Made {
                 refused: 1,
                 regions_stand: true,
@@ -71,16 +74,17 @@ fn make_edit<R: Rows>(
 /// Makes a line of a change in a network, or puts that it is refused.
 fn make_line<R: Rows>(
     network: &mut Network,
+    step: u64,
     line: &StepLine,
     out: &mut R,
 ) -> Result<Made, AllocError>
-    ensures made { IfOk result (λ made. IsMade network.old network.new (set_by network.old.net line.now.read) (rows_of_line network.old.net line.now) made) }
-    ensures put { (first : R) (rows : List Row) → R.grew first out.old rows → OnOk result (R.grew first out.new (rows ++ rows_of_line network.old.net line.now)) }
+    ensures made { IfOk result (λ made. IsMade network.old network.new (set_by network.old.net line.now.read) (rows_of_line step network.old.net line.now) made) }
+    ensures put { (first : R) (rows : List Row) → R.grew first out.old rows → OnOk result (R.grew first out.new (rows ++ rows_of_line step network.old.net line.now)) }
 {
     match line.read() {
-        Ok(edit) => make_edit(network, line.number(), edit, out),
+        Ok(edit) => make_edit(network, step, line.number(), edit, out),
         Err(fault) => {
-            put_refusal(line.number(), fault.code(), fault.text(), out)?;
+            put_refusal(step, line.number(), fault.code(), fault.text(), out)?;
             Ok(Made {
                 refused: 1,
                 regions_stand: true,
@@ -93,16 +97,17 @@ fn make_line<R: Rows>(
 /// wanted and refused; some of the lines may have been made, and some of the rows put.
 pub(crate) fn make_lines<R: Rows>(
     network: &mut Network,
+    step: u64,
     lines: &[StepLine],
     out: &mut R,
 ) -> Result<Made, AllocError>
-    ensures made { IfOk result (λ made. IsMade network.old network.new (after_lines network.old.net lines.now) (refused_lines network.old.net lines.now) made) }
-    ensures put { (first : R) (rows : List Row) → R.grew first out.old rows → OnOk result (R.grew first out.new (rows ++ refused_lines network.old.net lines.now)) }
+    ensures made { IfOk result (λ made. IsMade network.old network.new (after_lines network.old.net lines.now) (refused_lines step network.old.net lines.now) made) }
+    ensures put { (first : R) (rows : List Row) → R.grew first out.old rows → OnOk result (R.grew first out.new (rows ++ refused_lines step network.old.net lines.now)) }
 {
     let mut refused = 0;
     let mut regions_stand = true;
     for line in lines {
-        let made = make_line(network, line, out)?;
+        let made = make_line(network, step, line, out)?;
         refused += made.refused;
         regions_stand &= made.regions_stand;
     }

@@ -1,28 +1,34 @@
-ghost use Rattle.std.specs.Prelude.{◌≡◌, ◌+◌, ◌<◌, ◌≤◌, ◌^◌, ◌++◌, ◌∷◌, [], List, IfOk, OnOk, length};
+ghost use Rattle.std.specs.Prelude.{◌≡◌, ◌+◌, ◌-◌, ◌<◌, ◌≤◌, ◌^◌, ◌++◌, ◌∷◌, [], List, IfOk, OnOk, length, unwrap_or};
 ghost use Rattle.std.specs.Option.{option_map};
 ghost use Rattle.mst_change.specs.Steps.{all_lines};
 ghost use Rattle.mst_net.specs.Contents.{SameContents};
-ghost use Rattle.mst_diff.specs.Reach.{has_any};
 ghost use Rattle.mst_plan.specs.Plan.{IsPlan};
+ghost use Rattle.mst_policy.specs.declared.policy.PolicyLine.{PolicyLine as LineOf};
 ghost use Rattle.mst_stepping.specs.Setting.{after_lines, after_steps};
-ghost use Rattle.mst_stepping.specs.Stepping.{AreJudgedBy, AreSteps, IsFew, Steps, TakesStep, course_of, course_row, course_with, numbers_of};
+ghost use Rattle.mst_stepping.specs.Stepping.{AreRowsIn, AreWatched, IsFew, Steps, Watch, course_of, course_row, front_rows_if, lines_of, numbers_of};
+ghost use Rattle.mst_stepping.specs.Taking.{IsWatching, TakesStep, TakesSteps, course_for, course_with};
 ghost use Rattle.mst_sweeping.specs.Sweeping.{Puts};
 ghost use Rattle.mst_rows.specs.Rows.{Row};
+ghost use Rattle.mst_verdict.specs.Judged.{told_in};
 
 use crate::setting::make_lines;
+use mst_carried::Carriage;
 use mst_change::{ChangeStep, StepLine};
-use mst_judging::judge_network;
+use mst_judging::judge;
 use mst_net::Network;
 use mst_plan::{Plan, plan_beside};
-use mst_policy::Policy;
+use mst_policy::{Policy, PolicyLine};
 use mst_rows::Rows;
-use mst_steps::{Deed, Step, Stepped, Walked, put_last};
+use mst_steps::{Deed, PolicyCounts, Step, Stepped, Walked, put_last};
 use mst_sweeping::put_between;
+use mst_verdict::{Judgement, breaks, put_front, put_judged, put_start, unkept_count};
 use std::alloc::{AllocError, Global};
 
 /// What is counted of the steps of a change.
 #[derive(Clone, Copy, Debug, PartialEq, Eq)]
 pub struct Course {
+    /// How many lines of the policy can't be read: one, where it has none at all.
+    pub unread: u64,
     /// How many lines of the change are refused.
     pub refused: u64,
     /// How many steps it has.
@@ -31,8 +37,10 @@ pub struct Course {
     pub moving: u64,
     /// How many cut some.
     pub cutting: u64,
-    /// After how many of them the policy has something to tell of the network.
+    /// How many break the policy: some line isn't kept after it that was kept before.
     pub failing: u64,
+    /// How many lines of the policy the last network doesn't keep.
+    pub unkept: u64,
 }
 
 /// What is counted of one step.
@@ -40,20 +48,46 @@ pub struct Course {
 pub(crate) struct Taken {
     pub(crate) refused: u64,
     pub(crate) does: Stepped,
-    pub(crate) fails: bool,
+    pub(crate) breaks: bool,
+}
+
+/// By what the networks of a change are judged: what carries VIDs in the first, the number of the last, and the lines of the policy.
+#[derive(Clone, Copy)]
+pub(crate) struct Watching<'a> {
+    pub(crate) first: &'a Carriage<'a>,
+    pub(crate) last: u64,
+    pub(crate) lines: &'a [PolicyLine],
+}
+
+/// How things stand behind a step: the plan of the network, what the policy tells of it, and what is counted of the step.
+#[derive(Drop)]
+struct Behind {
+    plan: Plan,
+    judgement: Judgement,
+    taken: Taken,
+}
+
+/// And behind steps: the plan of the network, none where there is no step.
+#[derive(Drop)]
+struct BehindAll {
+    plan: Option<Plan>,
+    judgement: Judgement,
+    course: Course,
 }
 
 impl Course {
     /// Of no steps.
     fn new() -> Course
-        ensures { result ≡ course_of [] }
+        ensures { (lines : List LineOf) → result ≡ course_of lines 0 [] [] }
     {
         Course {
+            unread: 0,
             refused: 0,
             steps: 0,
             moving: 0,
             cutting: 0,
             failing: 0,
+            unkept: 0,
         }
     }
 
@@ -67,11 +101,28 @@ impl Course {
         ensures { result ≡ course_with self.now taken.now }
     {
         Course {
+            unread: self.unread,
             refused: self.refused + taken.refused,
             steps: self.steps + 1,
             moving: self.moving + taken.does.moves as u64,
             cutting: self.cutting + taken.does.cuts as u64,
-            failing: self.failing + taken.fails as u64,
+            failing: self.failing + taken.breaks as u64,
+            unkept: self.unkept,
+        }
+    }
+
+    /// And of the lines of the policy.
+    fn of_policy(&self, unread: u64, unkept: u64) -> Course
+        ensures { result ≡ course_for self.now unread unkept }
+    {
+        Course {
+            unread,
+            refused: self.refused,
+            steps: self.steps,
+            moving: self.moving,
+            cutting: self.cutting,
+            failing: self.failing,
+            unkept,
         }
     }
 }
@@ -87,81 +138,171 @@ fn step_of_lines(number: u64, lines: &[StepLine]) -> Step
     }
 }
 
-/// Puts the rows of a policy's lines of a network, if there is a policy, and answers whether there are some.
-fn put_judgement<R: Rows>(
+/// What a policy's lines have to tell of a network, by the network's number and its plan.
+fn judge_at(
     alloc: Global,
     network: &mut Network,
     plan: &Plan,
-    policy: Option<&Policy>,
-    out: &mut R,
-) -> Result<bool, AllocError>
+    number: u64,
+    watching: &Watching,
+) -> Result<Judgement, AllocError>
     requires { IsPlan network.old.net network.old.numbers plan.now }
-    ensures told { IfOk result (λ fails. (rows : List Row) × AreJudgedBy (option_map (λ p. p.now) policy.entry) network.old.net rows × (fails ≡ has_any rows) × Puts R.grew out.old out.new rows) }
+    ensures told { IfOk result (λ judgement. (w : Watch) → IsWatching watching.now w → AreRowsIn w number network.old.net (told_in w.lines judgement)) }
     ensures same { SameContents network.old network.new }
 {
-    match policy {
-        None => Ok(false),
-        Some(policy) => {
-            let verdict = judge_network(alloc, network, plan, policy.as_slice(), out)?;
-            Ok(verdict.tells())
-        }
+    let is_last = number == watching.last;
+    if number == 0 {
+        judge(alloc, network, plan, watching.lines, is_last, None)
+    } else {
+        let prior = Some(watching.first);
+        judge(alloc, network, plan, watching.lines, is_last, prior)
     }
 }
 
-/// Makes the lines of a step together, and puts which of them are refused, what the step does, and what the policy, if there is one, has
-/// to tell of the network after it. The plan is that of the network, and is then the one after the step.
+/// Makes the lines of a step together, and puts which of them are refused, what the step does, and what the policy tells of the network
+/// after it that it didn't tell of the one before. The plan and the judgement are those of the network before.
 fn take_step<R: Rows>(
     alloc: Global,
     network: &mut Network,
-    plan: &mut Plan,
+    plan: &Plan,
     number: u64,
     lines: &[StepLine],
-    policy: Option<&Policy>,
+    watching: &Watching,
+    before: &Judgement,
     out: &mut R,
-) -> Result<Taken, AllocError>
-    requires { IsPlan network.old.net network.old.numbers plan.old }
-    ensures told { IfOk result (λ taken. TakesStep (option_map (λ p. p.now) policy.entry) number network.old.net lines.now taken (Puts R.grew out.old out.new)) }
+) -> Result<Behind, AllocError>
+    requires { IsPlan network.old.net network.old.numbers plan.now }
+    ensures told { IfOk result (λ behind. (w : Watch) → IsWatching watching.now w → AreRowsIn w (number - 1) network.old.net (told_in w.lines before.now)
+        → TakesStep w number network.old.net lines.now (told_in w.lines before.now) (told_in w.lines behind.judgement) behind.taken (Puts R.grew out.old out.new)) }
+    ensures few { IfOk result (λ behind. behind.taken.refused ≤ length lines.now) }
     ensures network { OnOk result (network.new.net ≡ after_lines network.old.net lines.now) }
-    ensures plan { OnOk result (IsPlan network.new.net network.new.numbers plan.new) }
+    ensures plan { IfOk result (λ behind. IsPlan network.new.net network.new.numbers behind.plan) }
 {
-    let made = make_lines(network, lines, out)?;
+    let made = make_lines(network, number, lines, out)?;
     let next = plan_beside(alloc, network, plan, made.regions_stand)?;
     let step = step_of_lines(number, lines);
     let does = put_between(alloc, &Deed::Step(step), plan, &next, out)?;
-    let fails = put_judgement(alloc, network, &next, policy, out)?;
-    *plan = next;
-    Ok(Taken {
+    let now = judge_at(alloc, network, &next, number, watching)?;
+    put_judged(alloc, number, watching.lines, before, &now, out)?;
+    let taken = Taken {
         refused: made.refused,
         does,
-        fails,
+        breaks: breaks(watching.lines, before, &now),
+    };
+    Ok(Behind {
+        plan: next,
+        judgement: now,
+        taken,
     })
 }
 
-/// Takes steps one after another, and puts what is told of each, and answers what is counted of them.
+/// The plan that stands: the first one, where there is no other.
+fn standing<'a>(first: &'a Plan, now: &'a Option<Plan>) -> &'a Plan
+    ensures { result.now ≡ unwrap_or now.now first.now }
+{
+    match now {
+        None => first,
+        Some(plan) => plan,
+    }
+}
+
+/// Takes steps one after another, and puts what is told of each. The plan and the judgement are those of the network before them.
 fn take_steps<R: Rows>(
     alloc: Global,
     network: &mut Network,
-    plan: &mut Plan,
+    first: &Plan,
     steps: &[ChangeStep],
-    policy: Option<&Policy>,
+    watching: &Watching,
+    start: Judgement,
     out: &mut R,
-) -> Result<Course, AllocError>
-    requires plan { IsPlan network.old.net network.old.numbers plan.old }
+) -> Result<BehindAll, AllocError>
+    requires plan { IsPlan network.old.net network.old.numbers first.now }
     requires few { length (all_lines steps.now) < 2 ^ 64 }
-    ensures told { IfOk result (λ course. (rows : List Row) × AreSteps network.old.net steps.now (option_map (λ p. p.now) policy.entry) course rows × Puts R.grew out.old out.new rows) }
+    ensures told { IfOk result (λ behind. (w : Watch) → IsWatching watching.now w → w.first ≡ network.old.net → AreRowsIn w 0 network.old.net (told_in w.lines start)
+        → TakesSteps w steps.now (told_in w.lines behind.judgement) behind.course (Puts R.grew out.old out.new)) }
+    ensures few { IfOk result (λ behind. IsFew behind.course steps.now) }
     ensures network { OnOk result (network.new.net ≡ after_steps network.old.net steps.now) }
-    ensures plan { OnOk result (IsPlan network.new.net network.new.numbers plan.new) }
+    ensures plan { IfOk result (λ behind. IsPlan network.new.net network.new.numbers (unwrap_or behind.plan first.now)) }
 {
+    let mut plan = None;
+    let mut judgement = start;
     let mut course = Course::new();
     for step in steps {
         let number = course.steps + 1;
-        let taken = take_step(alloc, network, plan, number, step.lines(), policy, out)?;
-        course = course.with(&taken);
+        let behind = take_step(
+            alloc,
+            network,
+            standing(first, &plan),
+            number,
+            step.lines(),
+            watching,
+            &judgement,
+            out,
+        )?;
+        course = course.with(&behind.taken);
+        plan = Some(behind.plan);
+        judgement = behind.judgement;
     }
-    Ok(course)
+    Ok(BehindAll {
+        plan,
+        judgement,
+        course,
+    })
 }
 
-/// Puts the last row, with how many steps fail if there is a policy.
+/// The lines of a policy, none where there is no policy.
+fn lines_in<'a>(policy: Option<&'a Policy>) -> &'a [PolicyLine]
+    ensures { result.now ≡ lines_of (option_map (λ p. p.now) policy.entry) }
+{
+    match policy {
+        None => &[],
+        Some(policy) => policy.as_slice(),
+    }
+}
+
+/// Puts which lines of a policy can't be read, if there is one, or that it has none, and answers how many rows that are.
+fn put_unread<R: Rows>(policy: Option<&Policy>, out: &mut R) -> Result<u64, AllocError>
+    ensures count { IfOk result (λ count. count ≡ length (front_rows_if (option_map (λ p. p.now) policy.entry))) }
+    ensures put { (first : R) (rows : List Row) → R.grew first out.old rows → OnOk result (R.grew first out.new (rows ++ front_rows_if (option_map (λ p. p.now) policy.entry))) }
+{
+    match policy {
+        None => Ok(0),
+        Some(policy) => put_front(policy.as_slice(), out),
+    }
+}
+
+/// Puts what the first network doesn't keep of a policy, and then takes the steps. Answers the plan of the network after them, if there
+/// are some, and what is counted of them.
+fn watch_steps<R: Rows>(
+    alloc: Global,
+    network: &mut Network,
+    first: &Plan,
+    steps: &[ChangeStep],
+    lines: &[PolicyLine],
+    unread: u64,
+    out: &mut R,
+) -> Result<(Option<Plan>, Course), AllocError>
+    requires plan { IsPlan network.old.net network.old.numbers first.now }
+    requires few { length (all_lines steps.now) < 2 ^ 64 }
+    ensures told { IfOk result (λ behind. (rows : List Row) × AreWatched network.old.net steps.now lines.now unread behind.1 rows × Puts R.grew out.old out.new rows) }
+    ensures few { IfOk result (λ behind. IsFew behind.1 steps.now) }
+    ensures network { OnOk result (network.new.net ≡ after_steps network.old.net steps.now) }
+    ensures plan { IfOk result (λ behind. IsPlan network.new.net network.new.numbers (unwrap_or behind.0 first.now)) }
+{
+    let carriage = Carriage::new(alloc, &first.view, &first.forest)?;
+    let watching = Watching {
+        first: &carriage,
+        last: steps.len() as u64,
+        lines,
+    };
+    let start = judge_at(alloc, network, first, 0, &watching)?;
+    put_start(alloc, lines, &start, out)?;
+    let behind = take_steps(alloc, network, first, steps, &watching, start, out)?;
+    let unkept = unkept_count(lines, &behind.judgement);
+    Ok((behind.plan, behind.course.of_policy(unread, unkept)))
+}
+
+/// Puts the last row, with how many steps break the policy and how many of its lines aren't kept, if there is a policy.
 fn put_course<R: Rows>(
     policy: Option<&Policy>,
     course: &Course,
@@ -174,10 +315,16 @@ fn put_course<R: Rows>(
         moving: course.moving,
         cutting: course.cutting,
     };
-    put_last(&walked, policy.map(|_| course.failing), out)
+    let judged = PolicyCounts {
+        failing: course.failing,
+        unkept: course.unkept,
+    };
+    put_last(&walked, policy.map(|_| judged), out)
 }
 
-/// Takes the steps of a change in a network, and puts what each does, as soon as it is known, and what is counted of them. The plan is
+/// Takes the steps of a change in a network, and puts what each does, as soon as it is known, and what is counted of them. With a policy it
+/// puts first which of its lines can't be read and what the network itself doesn't keep, and behind each step what the policy tells of
+/// the network after it that it didn't tell of the one before. The plan is
 /// that of the network, and is then the one after the last step. `AllocError`: memory was wanted and refused; some of the rows may have
 /// been put, and the network is one between.
 pub fn step_network<R: Rows>(
@@ -195,7 +342,13 @@ pub fn step_network<R: Rows>(
     ensures network { OnOk result (network.new.net ≡ after_steps network.old.net steps.now) }
     ensures plan { OnOk result (IsPlan network.new.net network.new.numbers plan.new) }
 {
-    let course = take_steps(alloc, network, plan, steps, policy, out)?;
+    let unread = put_unread(policy, out)?;
+    let lines = lines_in(policy);
+    let (next, course) = watch_steps(alloc, network, plan, steps, lines, unread, out)?;
+    match next {
+        None => {}
+        Some(next) => *plan = next,
+    }
     put_course(policy, &course, out)?;
     Ok(course)
 }

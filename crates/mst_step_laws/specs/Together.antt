@@ -1,0 +1,25 @@
+-- Bridges that a step of a change parts, and what promises that all stay together.
+use Rattle.std.specs.Prelude.{◌≡◌, ℕ, Bool, true, List, [], ◌∷◌}
+use Rattle.std.specs.List.{Contains}
+use Rattle.mst_ids.specs.Vids.{has, runs_from}
+use Rattle.mst_rows.specs.Rows.{Row}
+use Rattle.mst_diff.specs.plan_text.PlanText.{all_vids}
+use Rattle.mst_policy.specs.declared.expectation.Expectation.{Expectation}
+use Rattle.mst_policy.specs.declared.expectation.Expectation.TheVariants as expect
+use Rattle.mst_policy.specs.declared.item.NameItem.TheVariants.{Any}
+use Rattle.mst_sweep.specs.Cuts.{cut_row}
+use Rattle.mst_sweep.specs.declared.cuts.CutBy.TheVariants.{Step}
+use Rattle.mst_verify.specs.declared.reason.Reason.{Reason}
+use Rattle.mst_verify.specs.declared.reason.Reason.TheVariants as why
+
+-- `together 1-4094 *`
+abbrev pub together_all : List Bool → Expectation
+together_all vids = expect.Together vids (Any ∷ [])
+
+abbrev pub AreAllVids : List Bool → Type 0
+AreAllVids vids = (vid : ℕ) → Contains all_vids vid → has vids vid ≡ true
+
+-- a reason of it behind a step, as a `cut` line of the step
+abbrev pub as_cut : ℕ → Reason → List Row
+as_cut step (why.Together vids parts) = cut_row (Step step) (runs_from 0 vids) parts ∷ []
+as_cut step _ = []
