@@ -49,7 +49,7 @@ module _ (s : SettledNet) (is : IsSettledNet s) (tree : ℕ) (name : PortName) w
   its = is_port_named s.net (this_port name)
 
   abbrev IsWanted : Type 0
-  IsWanted = Holds s.net (outcome_of s) s.net None (expect.Role tree (this_port name) forwarding)
+  IsWanted = Holds s.net (outcome_of s) s.net None None (expect.Role tree (this_port name) forwarding)
 
   -- one of these has the name
   has_name : (p : LogicalPort) → its p ≡ true → p.name ≡ name

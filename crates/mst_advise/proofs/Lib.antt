@@ -5,3 +5,4 @@ pub mod BridgeNamed
 pub mod GreatestUpto
 pub mod OthersSeen
 pub mod OneCandidates
+pub mod Beside

@@ -1,5 +1,5 @@
 -- The priorities by what is seen of the bridges in question are those by their names.
-use Rattle.std.proofs.Common.{◌≡◌, ◌&&◌, ℕ, Bool, true, false, cond, nat_lt, not, List, [], ◌∷◌, map, Option, Some, None, refl, sym, ap, ◌∙◌}
+use Rattle.std.proofs.Common.{◌≡◌, ◌&&◌, ◌==◌, ℕ, Bool, true, false, cond, nat_lt, not, List, [], ◌∷◌, map, Option, Some, None, refl, sym, ap, ◌∙◌}
 use Rattle.std.specs.Prelude.{if◌then◌else◌}
 use Rattle.std.specs.List.{AllByRecursion, Contains, cons_option, filter, filter_map, list_all}
 use Rattle.std.specs.Option.{option_map_or}
@@ -20,9 +20,9 @@ use Rattle.mst_summary.proofs.Lists.{all_mapped}
 use Rattle.mst_verify.specs.Roots.{identifier}
 use Rattle.mst_verify.specs.Seen.{concerned_followers}
 use Rattle.mst_verify.proofs.RootsTold.{follows, names_are}
-use Rattle.mst_advise.specs.Priorities.{before_best, comes_first, greatest_upto, others, priorities, root_settings}
-use Rattle.mst_advise.specs.Seen.{seen_first, seen_next, seen_others, seen_priorities}
-use Rattle.mst_advise.specs.declared.setting.Setting.{Setting}
+use Rattle.mst_advise.specs.Hindrances.{apart_by, names_root}
+use Rattle.mst_advise.specs.Priorities.{before_best, comes_first, greatest_priority, greatest_upto, others}
+use Rattle.mst_advise.specs.Seen.{ids_of, seen_apart, seen_first, seen_next, seen_others}
 use Rattle.mst_advise.specs.declared.setting.Setting.TheVariants.{Priority}
 
 -- tests that agree on each
@@ -58,14 +58,18 @@ module _ (net : Net) (o : Outcome) (tree : ℕ) (b : List ℕ) where
       w.id ∙ ap (λ (r : Option BridgeRow). option_map_or (id_in (by_tree net) tree f.name) r 0) (sym row)
 
   module _ (mac : ℕ) where
-    first_same : (p : ℕ) → seen_first tree mac fs p ≡ comes_first net tree mac (others net o tree b) p
+    pub first_same : (p : ℕ) → seen_first tree mac (ids_of fs) p ≡ comes_first net tree mac (others net o tree b) p
     first_same p =
-        all_alike (λ (f : Follower). nat_lt (bridge_id p tree mac) f.id) (λ (f : Follower). nat_lt (bridge_id p tree mac) (identifier net tree f.name)) fs
+        all_mapped (λ id. nat_lt (bridge_id p tree mac) id) (λ (f : Follower). f.id) fs
+        ∙ all_alike (λ (f : Follower). nat_lt (bridge_id p tree mac) f.id) (λ (f : Follower). nat_lt (bridge_id p tree mac) (identifier net tree f.name)) fs
         (all_weaker (Contains fs) _ (λ f h. ap (λ id. nat_lt (bridge_id p tree mac) id) (own f h)) fs (all_there fs))
         ∙ sym (all_mapped (λ (c : List ℕ). nat_lt (bridge_id p tree mac) (identifier net tree c)) name fs)
         ∙ ap (list_all (λ (c : List ℕ). nat_lt (bridge_id p tree mac) (identifier net tree c))) names
 
-    next_same : filter_map (seen_next tree (bridge_id 0 tree mac)) fs ≡ map (λ (c : List ℕ). Priority c tree 1) (before_best net tree mac (others net o tree b))
+    pub greatest_same : greatest_upto (seen_first tree mac (ids_of fs)) 15 ≡ greatest_priority net tree mac (others net o tree b)
+    greatest_same = λ i. greatest_upto (λ p. first_same p i) 15
+
+    pub next_same : filter_map (seen_next tree (bridge_id 0 tree mac)) fs ≡ map (λ (c : List ℕ). Priority c tree 1) (before_best net tree mac (others net o tree b))
     next_same =
         kept_passing (λ (f : Follower). nat_lt f.id (bridge_id 0 tree mac)) (λ (f : Follower). Priority f.name tree 1) fs
         ∙ ap (map (λ (f : Follower). Priority f.name tree 1))
@@ -75,9 +79,14 @@ module _ (net : Net) (o : Outcome) (tree : ℕ) (b : List ℕ) where
         ∙ ap (map (λ (c : List ℕ). Priority c tree 1)) (sym (filter_mapped (λ (c : List ℕ). nat_lt (identifier net tree c) (bridge_id 0 tree mac)) name fs))
         ∙ ap (λ cs. map (λ (c : List ℕ). Priority c tree 1) (filter (λ (c : List ℕ). nat_lt (identifier net tree c) (bridge_id 0 tree mac)) cs)) names
 
-    by_greatest : (g : Option ℕ) → seen_priorities tree b mac fs g ≡ priorities net tree b mac (others net o tree b) g
-    by_greatest None = ap (λ (ss : List Setting). Priority b tree 0 ∷ ss) next_same
-    by_greatest (Some p) = refl
+  -- ---- those that have another root
+  apart_seen_by : (id : ℕ) (f : Follower) → Contains (concerned_followers net o tree b) f → not (f.root == id) ≡ not (names_root net o tree id f.name)
+  apart_seen_by id f h = ap (λ (root : Option ℕ). not (option_map_or (λ root. root == id) root false)) (sym (follows net o tree b f h).root)
 
-    pub priorities_seen : seen_priorities tree b mac fs (greatest_upto (seen_first tree mac fs) 15) ≡ root_settings net tree b mac (others net o tree b)
-    priorities_seen = by_greatest (greatest_upto (seen_first tree mac fs) 15) ∙ (λ i. priorities net tree b mac (others net o tree b) (greatest_upto (λ p. first_same p i) 15))
+  pub apart_seen : (id : ℕ) → filter_map (seen_apart id) (concerned_followers net o tree b) ≡ apart_by net o tree b id
+  apart_seen id =
+      let all = concerned_followers net o tree b in
+      kept_passing (λ (f : Follower). not (f.root == id)) name all
+      ∙ ap (map name) (filter_alike (λ (f : Follower). not (f.root == id)) (λ (f : Follower). not (names_root net o tree id f.name)) all (all_weaker (Contains all) _ (apart_seen_by id) all (all_there all)))
+      ∙ sym (filter_mapped (λ (c : List ℕ). not (names_root net o tree id c)) name all)
+      ∙ ap (filter (λ (c : List ℕ). not (names_root net o tree id c))) (names_are net o tree b)

@@ -1,5 +1,6 @@
 -- What the rows of an explanation say of who gives a bridge its root priority vector.
 use Rattle.std.specs.Prelude.{ℕ, ◌-◌, List, [], ◌∷◌, Option, None, Some, filter_map}
+use Rattle.std.specs.List.{find}
 use Rattle.std.specs.Option.{option_and_then, option_map}
 use Rattle.mst_ids.specs.declared.name.PortName.{PortName}
 use Rattle.mst_kinds.specs.declared.contest_line.ContestLine.{ContestLine}
@@ -8,6 +9,7 @@ use Rattle.mst_kinds.specs.declared.kind.Kind.{Kind}
 use Rattle.mst_kinds.specs.declared.kind.Kind.TheVariants as kind
 use Rattle.mst_rows.specs.Cells.{Cell, port, number}
 use Rattle.mst_rows.specs.Rows.{Row}
+use Rattle.mst_roles.specs.net.Tables.{port_eq}
 use Rattle.mst_advise.specs.declared.contests.RootContest.{RootContest}
 
 -- a port, if it is one; and a cost, 0 where it is none
@@ -47,3 +49,7 @@ contest_of _ cells = None
 -- those that rows tell
 abbrev pub contests_in : List Row → List RootContest
 contests_in rows = filter_map (λ row. contest_of row.kind row.cells) rows
+
+-- the one that a port loses
+abbrev pub lost_by : PortName → List RootContest → Option RootContest
+lost_by p contests = find (λ c. port_eq c.loser p) contests

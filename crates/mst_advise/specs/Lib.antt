@@ -5,7 +5,11 @@ pub mod Goals
 pub mod Settings
 pub mod Contests
 pub mod Priorities
+pub mod PortPriorities
 pub mod Costs
+pub mod InQuestion
 pub mod Candidates
+pub mod Made
+pub mod Hindrances
 pub mod Told
 pub mod Seen

@@ -1,10 +1,11 @@
--- Priorities with which a bridge may be the root of a tree.
-use Rattle.std.specs.Prelude.{ℕ, zero, suc, not, Bool, List, [], ◌∷◌, Option, None, Some, filter, map, nat_lt, if◌then◌else◌}
+-- Priorities with which a bridge may be the root of a tree, or comes before some others there.
+use Rattle.std.specs.Prelude.{ℕ, zero, suc, ◌==◌, not, Bool, List, [], ◌∷◌, ◌++◌, Option, None, Some, filter, map, nat_lt, if◌then◌else◌}
 use Rattle.std.specs.List.{list_all}
 use Rattle.std.specs.Option.{option_map_or}
 use Rattle.std.specs.FinMap as fin
 use Rattle.mst_ids.specs.Identifiers.{bridge_id}
 use Rattle.mst_lag.specs.Aggregation.{same_name}
+use Rattle.mst_roles.specs.net.ByTree.{priority_in}
 use Rattle.mst_roles.specs.net.Tables.{Net}
 use Rattle.mst_roles.specs.trees.Outcome.{Outcome}
 use Rattle.mst_verify.specs.Roots.{concerned, identifier}
@@ -28,18 +29,37 @@ greatest_upto passes (suc n) = if passes (suc n) then Some (suc n) else greatest
 abbrev pub greatest_priority : Net → ℕ → ℕ → List (List ℕ) → Option ℕ
 greatest_priority net tree mac bridges = greatest_upto (comes_first net tree mac bridges) 15
 
+-- ---- of a root
 -- those whose identifier is less even than with priority 0
 abbrev pub before_best : Net → ℕ → ℕ → List (List ℕ) → List (List ℕ)
 before_best net tree mac bridges = filter (λ c. nat_lt (identifier net tree c) (bridge_id 0 tree mac)) bridges
 
+-- a priority for B, unless B has it already
+abbrev pub set_priority : Net → ℕ → List ℕ → ℕ → List Setting
+set_priority net tree b priority = if priority_in net.priorities b tree == priority then [] else Priority b tree priority ∷ []
+
 -- this priority for B; or where none suffices the best one, 0, and for those that come before it still the next one, 4096
 abbrev pub priorities : Net → ℕ → List ℕ → ℕ → List (List ℕ) → Option ℕ → List Setting
-priorities net tree b mac bridges (Some priority) = Priority b tree priority ∷ []
-priorities net tree b mac bridges None = Priority b tree 0 ∷ map (λ c. Priority c tree 1) (before_best net tree mac bridges)
+priorities net tree b mac bridges (Some priority) = set_priority net tree b priority
+priorities net tree b mac bridges None = set_priority net tree b 0 ++ map (λ c. Priority c tree 1) (before_best net tree mac bridges)
 
-abbrev pub root_settings : Net → ℕ → List ℕ → ℕ → List (List ℕ) → List Setting
-root_settings net tree b mac bridges = priorities net tree b mac bridges (greatest_priority net tree mac bridges)
+-- with a bridge's MAC address, if it is there
+abbrev pub by_mac : Net → List ℕ → (ℕ → List Setting) → List Setting
+by_mac net b settings = option_map_or (λ row. settings row.mac) (fin.get net.bridges b) []
 
--- one candidate, if B is there
-abbrev pub root_candidates : Net → Outcome → ℕ → List ℕ → List (List Setting)
-root_candidates net o tree b = option_map_or (λ row. root_settings net tree b row.mac (others net o tree b) ∷ []) (fin.get net.bridges b) []
+abbrev pub root_settings : Net → Outcome → ℕ → List ℕ → List Setting
+root_settings net o tree b =
+    by_mac net b (λ mac. priorities net tree b mac (others net o tree b) (greatest_priority net tree mac (others net o tree b)))
+
+-- ---- of a port of B
+-- the greatest priority with which B comes before all of these, if it is below B's own
+abbrev pub below_own : Net → ℕ → List ℕ → Option ℕ → List Setting
+below_own net tree b None = []
+below_own net tree b (Some priority) = if nat_lt priority (priority_in net.priorities b tree) then Priority b tree priority ∷ [] else []
+
+abbrev pub lower_priority : Net → ℕ → List ℕ → ℕ → List (List ℕ) → List Setting
+lower_priority net tree b mac bridges = below_own net tree b (greatest_priority net tree mac bridges)
+
+-- with which it comes before the bridge C; and with which before all others in question as a root
+abbrev pub lower_priorities : Net → Outcome → ℕ → List ℕ → List ℕ → List Setting
+lower_priorities net o tree b c = by_mac net b (λ mac. lower_priority net tree b mac (c ∷ []) ++ lower_priority net tree b mac (others net o tree b))

@@ -1,5 +1,5 @@
 -- What is seen of the bridges in question, with their identifiers.
-use Rattle.std.specs.Prelude.{ℕ, not, Bool, List, ◌∷◌, [], Option, None, Some, filter, filter_map, nat_lt, if◌then◌else◌}
+use Rattle.std.specs.Prelude.{ℕ, ◌==◌, not, Bool, List, Option, None, Some, filter, map, nat_lt, if◌then◌else◌}
 use Rattle.std.specs.List.{list_all}
 use Rattle.mst_ids.specs.Identifiers.{bridge_id}
 use Rattle.mst_lag.specs.Aggregation.{same_name}
@@ -13,13 +13,17 @@ use Rattle.mst_advise.specs.declared.setting.Setting.TheVariants.{Priority}
 abbrev pub seen_others : Net → Outcome → ℕ → List ℕ → List Follower
 seen_others net o tree b = filter (λ f. not (same_name f.name b)) (concerned_followers net o tree b)
 
-abbrev pub seen_first : ℕ → ℕ → List Follower → ℕ → Bool
-seen_first tree mac others priority = list_all (λ f. nat_lt (bridge_id priority tree mac) f.id) others
+-- the identifiers of these
+abbrev pub ids_of : List Follower → List ℕ
+ids_of followers = map (λ f. f.id) followers
+
+abbrev pub seen_first : ℕ → ℕ → List ℕ → ℕ → Bool
+seen_first tree mac ids priority = list_all (λ id. nat_lt (bridge_id priority tree mac) id) ids
 
 -- one whose identifier is less has its priority set
 abbrev pub seen_next : ℕ → ℕ → Follower → Option Setting
 seen_next tree best f = if nat_lt f.id best then Some (Priority f.name tree 1) else None
 
-abbrev pub seen_priorities : ℕ → List ℕ → ℕ → List Follower → Option ℕ → List Setting
-seen_priorities tree b mac others (Some priority) = Priority b tree priority ∷ []
-seen_priorities tree b mac others None = Priority b tree 0 ∷ filter_map (seen_next tree (bridge_id 0 tree mac)) others
+-- the name of one whose root isn't this one
+abbrev pub seen_apart : ℕ → Follower → Option (List ℕ)
+seen_apart id f = if not (f.root == id) then Some f.name else None

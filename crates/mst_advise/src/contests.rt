@@ -1,7 +1,8 @@
 ghost use Rattle.std.specs.Prelude.{◌≡◌, ◌++◌, ◌∷◌, [], OnOk, map};
+ghost use Rattle.std.specs.Option.{option_copied};
 ghost use Rattle.mst_kinds.specs.declared.kind.Kind.TheVariants as kind;
 ghost use Rattle.mst_rows.specs.Rows.{cell, row_of};
-ghost use Rattle.mst_advise.specs.Contests.{contest as contest_of_two, contest_by as contest_of_line, contest_in as contest_of_row, contests_in, cost_in as cost_of, excess_in as excess_of, port_in as port_of};
+ghost use Rattle.mst_advise.specs.Contests.{lost_by as lost_by_port, contest as contest_of_two, contest_by as contest_of_line, contest_in as contest_of_row, contests_in, cost_in as cost_of, excess_in as excess_of, port_in as port_of};
 
 use mst_ids::PortName;
 use mst_kinds::{ContestLine, Kind};
@@ -120,4 +121,18 @@ fn add_contest(
         None => Ok(()),
         Some(contest) => Ok(found.push(contest)?),
     }
+}
+
+/// The first contest that a port loses.
+fn first_lost<'a>(port: &PortName, contests: &'a [RootContest]) -> Option<&'a RootContest>
+    ensures { option_copied result ≡ lost_by_port port.now contests.now }
+{
+    contests.iter().find(|contest| contest.loser == *port)
+}
+
+/// The contest that a port loses.
+pub(crate) fn lost_by(port: &PortName, contests: &[RootContest]) -> Option<RootContest>
+    ensures { result ≡ lost_by_port port.now contests.now }
+{
+    first_lost(port, contests).copied()
 }

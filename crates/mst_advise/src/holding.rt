@@ -3,9 +3,14 @@ ghost use Rattle.std.specs.List.{Contains};
 ghost use Rattle.mst_lag.specs.Viewed.{named_port};
 ghost use Rattle.mst_policy.specs.declared.expectation.Expectation.TheVariants as expect;
 ghost use Rattle.mst_roles.specs.Roles.{role_in};
+ghost use Rattle.mst_roles.specs.net.Tables.{Net};
 ghost use Rattle.mst_roles.specs.trees.Settled.{outcome_of};
 ghost use Rattle.mst_summary.specs.diff.Reach.{has_any};
 ghost use Rattle.mst_verify.specs.Holds.{Holds, is_wanted};
+ghost use Rattle.mst_verify.specs.Islands.{AreKept};
+ghost use Rattle.mst_verify.specs.Over.{HasItsLan};
+ghost use Rattle.mst_verify.specs.Reasons.{AreReasons};
+ghost use Rattle.mst_verify.specs.Seen.{IsBefore};
 ghost use Rattle.mst_advise.specs.Goals.{expectation_of, forwarding, this_port};
 
 use crate::goal::Goal;
@@ -20,7 +25,7 @@ use std::alloc::{AllocError, Global};
 
 /// Whether a goal holds in a settled network: what a line of a policy says that expects it. `AllocError`: memory was wanted and refused.
 pub fn holds(alloc: Global, plan: &Settled, goal: &Goal) -> Result<bool, AllocError>
-    ensures { IfOk result (λ holds. IsTrue holds ↔ Holds plan.now.net (outcome_of plan.now) plan.now.net None (expectation_of goal.now)) }
+    ensures { IfOk result (λ holds. IsTrue holds ↔ Holds plan.now.net (outcome_of plan.now) plan.now.net None None (expectation_of goal.now)) }
 {
     match goal {
         Goal::Root { tree, bridge } => is_root(alloc, plan, *tree, bridge),
@@ -30,25 +35,41 @@ pub fn holds(alloc: Global, plan: &Settled, goal: &Goal) -> Result<bool, AllocEr
 
 /// Whether a bridge is the one root of a tree in its region.
 fn is_root(alloc: Global, plan: &Settled, tree: Tree, bridge: &Name) -> Result<bool, AllocError>
-    ensures { IfOk result (λ holds. IsTrue holds ↔ Holds plan.now.net (outcome_of plan.now) plan.now.net None (expect.Root tree bridge.now None)) }
+    ensures { IfOk result (λ holds. IsTrue holds ↔ Holds plan.now.net (outcome_of plan.now) plan.now.net None None (expect.Root tree bridge.now None)) }
 {
     plan.known();
     told_where_broken();
     let before = Before::new(alloc, plan)?;
     let homes = Homes::new(alloc, plan, &before, &VidSet::none())?;
-    let judged = Judged {
-        plan,
-        before: &before,
-        homes: &homes,
-        gone: None,
-    };
     let expectation = Expectation::Root {
         tree,
         bridge: *bridge,
         next: None,
     };
-    let reasons = reasons(alloc, &judged, &expectation)?;
+    let reasons = reasons_alone(alloc, plan, &before, &homes, &expectation)?;
     Ok(are_none(reasons.as_slice()))
+}
+
+/// Why an expectation doesn't hold in a network that no other one is prior to.
+fn reasons_alone<'a>(
+    alloc: Global,
+    plan: &'a Settled<'a>,
+    before: &'a Before,
+    homes: &'a Homes,
+    expectation: &Expectation,
+) -> Result<Vec<Reason>, AllocError>
+    requires kept { AreKept plan.now before.now homes.now }
+    requires lan { HasItsLan plan.now.net expectation.now }
+    ensures { IfOk result (λ reasons. (first : Net) → IsBefore first before.now → AreReasons plan.now.net (outcome_of plan.now) first None None expectation.now reasons.items) }
+{
+    let judged = Judged {
+        plan,
+        before,
+        homes,
+        gone: None,
+        prior: None,
+    };
+    reasons(alloc, &judged, expectation)
 }
 
 /// Whether there is no reason.
@@ -63,7 +84,7 @@ fn are_none(reasons: &[Reason]) -> bool
 
 /// Whether the logical port of this name, if there is one, forwards in a tree.
 fn is_forwarding(plan: &Settled, tree: Tree, name: &PortName) -> bool
-    ensures { IsTrue result ↔ Holds plan.now.net (outcome_of plan.now) plan.now.net None (expect.Role tree (this_port name.now) forwarding) }
+    ensures { IsTrue result ↔ Holds plan.now.net (outcome_of plan.now) plan.now.net None None (expect.Role tree (this_port name.now) forwarding) }
 {
     plan.known();
     match port_named(plan, name) {

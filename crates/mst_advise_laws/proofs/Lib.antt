@@ -2,3 +2,5 @@ mod OwnRoot
 mod PrioritySet
 mod Failing
 mod NoGreater
+mod PrioritiesSet
+mod Needed

@@ -1,13 +1,11 @@
 -- Greater priorities than the one that is advised.
-use Rattle.std.specs.Prelude.{◌≡◌, ℕ, ◌<◌, ◌≤◌, List, [], ◌∷◌, Ok, None}
+use Rattle.std.specs.Prelude.{◌≡◌, ℕ, ◌<◌, ◌≤◌, List, [], ◌∷◌, Ok}
 use Rattle.mst_net.specs.After.{after}
 use Rattle.mst_net.specs.Tables.{Net}
 use Rattle.mst_trees.specs.Outcome.{Outcome, IsOutcome}
-use Rattle.mst_verify.specs.Holds.{Holds}
 use Rattle.mst_advise.specs.Candidates.{AreCandidates}
-use Rattle.mst_advise.specs.Goals.{expectation_of}
+use Rattle.mst_advise.specs.Made.{Has}
 use Rattle.mst_advise.specs.Settings.{edit_of}
-use Rattle.mst_advise.specs.declared.goal.Goal.{Goal}
 use Rattle.mst_advise.specs.declared.goal.Goal.TheVariants.{Root}
 use Rattle.mst_advise.specs.declared.setting.Setting.{Setting}
 use Rattle.mst_advise.specs.declared.setting.Setting.TheVariants.{Priority}
@@ -21,10 +19,6 @@ pub record IsMade (net : Net) (setting : Setting) (now : Net) (r : Outcome) : Ty
   pub is_made : after (edit_of setting) net ≡ Ok now
   pub is_outcome : IsOutcome now r
 
--- a goal holds in a network with this outcome
-abbrev pub HasGoal : Net → Outcome → Goal → Type 0
-HasGoal now r goal = Holds now r now None (expectation_of goal)
-
 -- with no priority of B in the tree that is greater than p, to 15, is B its one root, whichever settled outcome the network has then
 abbrev pub NoGreaterSuffices : Net → ℕ → List ℕ → ℕ → Type 0
-NoGreaterSuffices net tree b p = (q : ℕ) → p < q → q ≤ 15 → (now : Net) (r : Outcome) → IsMade net (Priority b tree q) now r → HasGoal now r (Root tree b) → ⊥
+NoGreaterSuffices net tree b p = (q : ℕ) → p < q → q ≤ 15 → (now : Net) (r : Outcome) → IsMade net (Priority b tree q) now r → Has (Root tree b) now r → ⊥

@@ -1,1 +1,2 @@
 pub mod Greater
+pub mod Needed

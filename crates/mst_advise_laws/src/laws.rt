@@ -1,11 +1,26 @@
 //! Laws of advice. Their functions do nothing: a caller has their clauses.
 ghost use Rattle.std.specs.Prelude.{ℕ, List};
 ghost use Rattle.mst_net.specs.Tables.{Net, IsNetwork};
+ghost use Rattle.mst_rows.specs.Rows.{Row};
 ghost use Rattle.mst_trees.specs.Outcome.{Outcome, IsOutcome};
+ghost use Rattle.mst_advise.specs.declared.goal.Goal.{Goal as GoalOf};
+ghost use Rattle.mst_advising.specs.Advising.{Advises};
+ghost use Rattle.mst_advising.specs.declared.advising.Advised.TheVariants as advised;
 ghost use Rattle.mst_advise_laws.specs.Greater.{IsAdvised, NoGreaterSuffices};
+ghost use Rattle.mst_advise_laws.specs.Needed.{TellNeeded};
+
+use mst_trees::laws::one_outcome;
 
 /// The priority that is told where a bridge is to be the root of a tree is the greatest: where the one candidate sets the bridge's own priority,
 /// the bridge isn't the one root of those in question with any greater one, whichever settled outcome the network has then.
 pub fn priority_is_greatest()
     ensures { (net : Net) (o : Outcome) (tree : ℕ) (b : List ℕ) (p : ℕ) → IsNetwork net → IsOutcome net o → IsAdvised net o tree b p → NoGreaterSuffices net tree b p }
 {}
+
+/// Of the edits that are advised none can be left out: without any one of them the others don't bring about what is wanted, whichever settled
+/// outcome the network has then.
+pub fn none_is_needless()
+    ensures { (net : Net) (goal : GoalOf) (count : ℕ) (rows : List Row) → IsNetwork net → Advises net goal (advised.Edits count) rows → TellNeeded goal net rows }
+{
+    one_outcome();
+}

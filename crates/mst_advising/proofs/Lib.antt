@@ -1,3 +1,2 @@
 pub mod Tried
 pub mod OneAdvice
-pub mod Costs

@@ -1,5 +1,5 @@
 -- A network has one advice for a goal.
-use Rattle.std.proofs.Common.{◌≡◌, ◌⊎◌, ⊎_elim, ℕ, List, [], ◌∷◌, ◌++◌, length, map, Option, None, Some, Result, Ok, Err, IsErr, refl, sym, ap, subst, ◌∙◌}
+use Rattle.std.proofs.Common.{◌≡◌, ◌⊎◌, ⊎_elim, ℕ, List, [], ◌∷◌, ◌++◌, length, map, Result, Ok, Err, IsErr, refl, sym, ap, subst, ◌∙◌}
 use Rattle.std.specs.List.{AllByRecursion}
 use Rattle.mst_net.specs.Tables.{Net, IsNetwork}
 use Rattle.mst_rows.specs.Rows.{Row}
@@ -9,11 +9,13 @@ use Rattle.mst_steps.specs.declared.step.Deed.{Deed}
 use Rattle.mst_steps.specs.declared.step.Deed.TheVariants as deed
 use Rattle.mst_steps.specs.declared.step.Stepped.{Stepped}
 use Rattle.mst_advise.specs.Candidates.{AreCandidates}
-use Rattle.mst_advise.specs.Told.{count_row, none_row, setting_row}
-use Rattle.mst_advising.specs.Advising.{Has}
+use Rattle.mst_advise.specs.Hindrances.{apart_from, hindrance_of}
+use Rattle.mst_advise.specs.Made.{Has, Make, after_settings}
+use Rattle.mst_advise.specs.Told.{because_row, count_row, none_row, setting_row}
 use Rattle.mst_advise.specs.declared.goal.Goal.{Goal}
+use Rattle.mst_advise.specs.declared.goal.Goal.TheVariants.{Root, Forward}
 use Rattle.mst_advise.specs.declared.setting.Setting.{Setting}
-use Rattle.mst_advising.specs.Advising.{Advises, AdvisesIn, Bring, Fail, Lack, Make, Tells, TellsFirst, after_settings}
+use Rattle.mst_advising.specs.Advising.{AdvisesIn, AreApart, Bring, Fail, LeaveApart, Tells, TellsFirst, TellsNone, last_of}
 use Rattle.mst_advising.specs.declared.advising.Advised.{Advised}
 use Rattle.mst_advising.specs.declared.advising.Advised.TheVariants as advised
 
@@ -85,14 +87,34 @@ module _ (goal : Goal) (net : Net) (o : Outcome) (outcomes : OneOutcome) (steps 
   not_none : (candidates : List (List Setting)) (n : ℕ) (rows : List Row) → AllByRecursion (Fail goal net) candidates → TellsFirst goal net o candidates n rows → ⊥
   not_none candidates n rows fails x = none_brings x.before x.settings x.behind rows (subst (AllByRecursion (Fail goal net)) x.among fails) x.brings
 
+  -- ---- why there is none
+  -- a refused setting makes no network
+  not_made : (settings : List Setting) (now : Net) (p : Outcome) → Make net settings now p → IsErr (after_settings net settings) → ⊥
+  not_made settings now p made err = not_both (after_settings net settings) now made.is err
+
+  same_left : (tree : ℕ) (b : List ℕ) (settings : List Setting) (a c : List (List ℕ)) → LeaveApart net tree b settings a → LeaveApart net tree b settings c → a ≡ c
+  same_left tree b settings a c x y =
+      x.are ∙ (λ i. apart_from (same_now settings x.now y.now x.outcome y.outcome x.made y.made i) (same_outcome settings x.now y.now x.outcome y.outcome x.made y.made i) tree b) ∙ sym y.are
+
+  same_apart : (g : Goal) (settings : List Setting) (a c : List (List ℕ)) → AreApart g net settings a → AreApart g net settings c → a ≡ c
+  same_apart (Root tree b) settings a c x y =
+      ⊎_elim
+      (λ none. ⊎_elim (λ other. none.1 ∙ sym other.1) (λ left. absurd (not_made settings left.now left.outcome left.made none.0)) y)
+      (λ left. ⊎_elim (λ none. absurd (not_made settings left.now left.outcome left.made none.0)) (λ other. same_left tree b settings a c left other) y) x
+  same_apart (Forward tree port) settings a c x y = x ∙ sym y
+
+  one_none : (candidates : List (List Setting)) (rows other : List Row) → TellsNone goal net candidates rows → TellsNone goal net candidates other → rows ≡ other
+  one_none candidates rows other x y =
+      x.are ∙ ap (λ (apart : List (List ℕ)). because_row (hindrance_of net goal) apart (length candidates) ∷ none_row ∷ []) (same_apart goal (last_of candidates) x.apart y.apart x.are_apart y.are_apart) ∙ sym y.are
+
   one_in : (candidates : List (List Setting)) (a b : Advised) (rows other : List Row) → AdvisesIn goal net o candidates a rows → AdvisesIn goal net o candidates b other → (a ≡ b) × (rows ≡ other)
   one_in candidates advised.Already b rows other x y = absurd x
   one_in candidates (advised.Edits m) advised.Already rows other x y = absurd y
   one_in candidates advised.Nothing advised.Already rows other x y = absurd y
   one_in candidates (advised.Edits m) (advised.Edits n) rows other x y = let same = one_tells_first candidates m n rows other x y in (ap advised.Edits same.0, same.1)
-  one_in candidates (advised.Edits m) advised.Nothing rows other x y = absurd (not_none candidates m rows y.0 x)
-  one_in candidates advised.Nothing (advised.Edits n) rows other x y = absurd (not_none candidates n other x.0 y)
-  one_in candidates advised.Nothing advised.Nothing rows other x y = (refl, x.1 ∙ sym y.1)
+  one_in candidates (advised.Edits m) advised.Nothing rows other x y = absurd (not_none candidates m rows y.fail x)
+  one_in candidates advised.Nothing (advised.Edits n) rows other x y = absurd (not_none candidates n other x.fail y)
+  one_in candidates advised.Nothing advised.Nothing rows other x y = (refl, one_none candidates rows other x y)
 
   by_lists : ((lists those : List (List Setting)) → AreCandidates net o goal lists → AreCandidates net o goal those → lists ≡ those)
       → (a b : Advised) (rows other : List Row) (lists those : List (List Setting)) → AreCandidates net o goal lists → AreCandidates net o goal those

@@ -1,22 +1,25 @@
 -- What trying settings comes to.
-use Rattle.std.proofs.Common.{◌≡◌, ⊎_elim, ℕ, ◌+◌, List, [], ◌∷◌, ◌++◌, ◌<◌, length, ◌≤◌, take, drop, get_or, fold, Result, Ok, Err, IsErr, refl, sym, ap, subst, ◌∙◌, append-nil, append_assoc, arith}
+use Rattle.std.proofs.Common.{◌≡◌, ℕ, ◌+◌, List, [], ◌∷◌, ◌++◌, ◌<◌, length, ◌≤◌, take, drop, get_or, fold, map, Result, Ok, Err, IsErr, refl, sym, ap, subst, ◌∙◌, append-nil, append_assoc}
+use Rattle.std.specs.Prelude.{IfOk}
 use Rattle.std.specs.List.{AllByRecursion}
-use Rattle.std.proofs.lemmas.List.{take_more, take-append-drop}
+use Rattle.std.specs.declared.alloc.AllocError.{AllocError}
+use Rattle.std.proofs.lemmas.Result.{IfOk-weaker}
+use Rattle.std.proofs.lemmas.List.{map-append, take_all, take_more, take-append-drop}
 use Rattle.mst_net.specs.After.{after}
 use Rattle.mst_net.specs.Contents.{Contents, SameContents, Tables}
 use Rattle.mst_net.specs.Tables.{Net}
 use Rattle.mst_net.specs.declared.refusal.Refusal.{Refusal}
 use Rattle.mst_rows.specs.Rows.{Row}
-use Rattle.mst_trees.specs.Outcome.{Outcome}
-use Rattle.mst_advising.specs.Advising.{Has}
+use Rattle.mst_trees.specs.Outcome.{Outcome, IsOutcome}
 use Rattle.mst_advising.specs.declared.advising.Advised.{Advised}
 use Rattle.mst_advising.specs.declared.advising.Advised.TheVariants as advised
 use Rattle.mst_advise.specs.declared.goal.Goal.{Goal}
 use Rattle.mst_plan.specs.declared.plan.Plan.{Plan}
 use Rattle.mst_advise.specs.declared.setting.Setting.{Setting}
-use Rattle.mst_advising.specs.Advising.{AdvisesIn, Tells, CanBeTried, IsAlone, after_settings, then_set}
+use Rattle.mst_advising.specs.Advising.{Advises, AdvisesIn, Tells}
+use Rattle.mst_advise.specs.Made.{Has, after_settings, then_set}
 use Rattle.mst_advise.specs.Candidates.{AreCandidates}
-use Rattle.mst_advise.specs.Settings.{edit_of}
+use Rattle.mst_advise.specs.Settings.{alone, edit_of}
 use Rattle.mst_plan.specs.Plan.{IsPlan}
 use Rattle.mst_sweeping.specs.Sweeping.{Puts}
 
@@ -66,47 +69,45 @@ module _ (settings : List Setting) (i : ℕ) (x : Setting) (below : i < length s
       (subst IsErr (sym (fold_both (take i settings) (x ∷ drop (i + 1) settings) (Ok net)))
       (subst (λ (r : Result Net Refusal). IsErr (fold then_set (then_set r x) (drop (i + 1) settings))) (sym made) (err_stays (drop (i + 1) settings) (after (edit_of x) now) refused)))
 
--- ---- candidates, one after another
-module _ (lists : List (List Setting)) (i : ℕ) (xs : List Setting) (below : i < length lists) (is : xs ≡ get_or lists i xs) where
-  lists_taken : take (i + 1) lists ≡ take i lists ++ xs ∷ []
-  lists_taken = take_more lists i xs below ∙ ap (λ y. take i lists ++ y ∷ []) (sym is)
+-- ---- settings, each by itself
+module _ (settings : List Setting) (i : ℕ) (x : Setting) (below : i < length settings) (is : x ≡ get_or settings i x) where
+  each_taken : map alone (take (i + 1) settings) ≡ map alone (take i settings) ++ (x ∷ []) ∷ []
+  each_taken = ap (map alone) (taken settings i x below is) ∙ map-append alone (take i settings) (x ∷ [])
 
   -- those before one, it, and those behind it
-  pub lists_parted : lists ≡ take i lists ++ xs ∷ drop (i + 1) lists
-  lists_parted = sym (take-append-drop (i + 1) lists) ∙ ap (λ front. front ++ drop (i + 1) lists) lists_taken ∙ append_assoc (take i lists) (xs ∷ []) (drop (i + 1) lists)
+  pub each_parted : map alone settings ≡ map alone (take i settings) ++ (x ∷ []) ∷ map alone (drop (i + 1) settings)
+  each_parted = ap (map alone) (parted settings i x below is) ∙ map-append alone (take i settings) (x ∷ drop (i + 1) settings)
 
-  pub lists_more : (P : List Setting → Type 0) → AllByRecursion P (take i lists) → P xs → AllByRecursion P (take (i + 1) lists)
-  lists_more P all one = subst (AllByRecursion P) (sym lists_taken) (at_end (take i lists) all)
+  pub each_more : (P : List Setting → Type 0) → AllByRecursion P (map alone (take i settings)) → P (x ∷ []) → AllByRecursion P (map alone (take (i + 1) settings))
+  each_more P all one = subst (AllByRecursion P) (sym each_taken) (at_end (map alone (take i settings)) all)
     where
-      at_end : (ys : List (List Setting)) → AllByRecursion P ys → AllByRecursion P (ys ++ xs ∷ [])
+      at_end : (ys : List (List Setting)) → AllByRecursion P ys → AllByRecursion P (ys ++ (x ∷ []) ∷ [])
       at_end [] h = (one, tt)
       at_end (y ∷ ys) h = (h.0, at_end ys h.1)
 
-  -- what holds of each holds of this one
-  pub holds_at : (P : List Setting → Type 0) → AllByRecursion P lists → P xs
-  holds_at P all = there (take i lists) (subst (AllByRecursion P) lists_parted all)
-    where
-      there : (ys : List (List Setting)) → AllByRecursion P (ys ++ xs ∷ drop (i + 1) lists) → P xs
-      there [] h = h.0
-      there (y ∷ ys) h = there ys h.1
-
--- a list of one thing is that thing
-pub is_alone : {A : Type 0} (xs : List A) → length xs ≡ 1 → (x : A) → x ≡ get_or xs 0 x → xs ≡ x ∷ []
-is_alone [] one x is = absurd (omega arith)
-is_alone (y ∷ []) one x is = ap (λ z. z ∷ []) (sym is)
-is_alone (y ∷ z ∷ zs) one x is = absurd (omega arith)
-
--- where there is just one, or just none, at most
-pub all_alone : (lists : List (List Setting)) → CanBeTried lists → ((only : List Setting) → lists ≡ only ∷ [] → ⊥) → AllByRecursion IsAlone lists
-all_alone lists can none = ⊎_elim (λ few. of_few lists few none) (λ all. all) can
-  where
-    of_few : (those : List (List Setting)) → length those ≤ 1 → ((only : List Setting) → those ≡ only ∷ [] → ⊥) → AllByRecursion IsAlone those
-    of_few [] few none = tt
-    of_few (xs ∷ []) few none = absurd (none xs refl)
-    of_few (xs ∷ ys ∷ zs) few none = absurd (omega arith)
+-- all of them
+pub each_all : (settings : List Setting) (i : ℕ) → length settings ≤ i → (P : List Setting → Type 0) → AllByRecursion P (map alone (take i settings)) → AllByRecursion P (map alone settings)
+each_all settings i above P all = subst (λ (ss : List Setting). AllByRecursion P (map alone ss)) (take_all i settings above) all
 
 -- where the goal doesn't hold already
 pub now_told : (goal : Goal) (net : Net) (o : Outcome) (lists : List (List Setting)) → (Has goal net o → ⊥) → AreCandidates net o goal lists → (advice : Advised) (rows : List Row) → AdvisesIn goal net o lists advice rows → Tells goal net o advice rows
 now_told goal net o lists lacks are advised.Already rows h = absurd h
 now_told goal net o lists lacks are (advised.Edits count) rows h = (lacks, lists, are, h)
 now_told goal net o lists lacks are advised.Nothing rows h = (lacks, lists, are, h)
+
+-- a network lacks a goal, by what is settled of it
+pub lacking : (goal : Goal) (a b : Net) (o p : Outcome) → a ≡ b → o ≡ p → (Has goal a o → ⊥) → Has goal b p → ⊥
+lacking goal a b o p nets outcomes lacks has = lacks (subst (λ n. Has goal n o) (sym nets) (subst (λ q. Has goal b q) (sym outcomes) has))
+
+-- what is advised of one goal is so of the one that was asked for
+module _ {P : Type 0} (grew : P → P → List Row → Type 0) (goal : Goal) (net : Net) (o : Outcome) (is_outcome : IsOutcome net o) (lacks : Has goal net o → ⊥)
+    (wanted : Goal) (same : goal ≡ wanted) (lists : List (List Setting)) (are : AreCandidates net o wanted lists) (old new : P) (result : Result Advised AllocError) where
+  abbrev TellsOf : Goal → Advised → Type 0
+  TellsOf g advice = (rows : List Row) × Advises net g advice rows × Puts grew old new rows
+
+  pub told_of : IfOk result (λ advice. (rows : List Row) × AdvisesIn wanted net o lists advice rows × Puts grew old new rows) → IfOk result (TellsOf goal)
+  told_of said =
+      let lacks_it : Has wanted net o → ⊥ = λ has. lacks (subst (λ g. Has g net o) (sym same) has) in
+      subst (λ (g : Goal). IfOk result (TellsOf g)) (sym same)
+      (IfOk-weaker result (λ advice. (rows : List Row) × AdvisesIn wanted net o lists advice rows × Puts grew old new rows) (TellsOf wanted)
+      (λ advice told. (told.0, record { outcome = o; is_outcome = is_outcome; told = now_told wanted net o lists lacks_it are advice told.0 told.1 }, told.2)) said)

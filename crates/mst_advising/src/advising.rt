@@ -1,18 +1,24 @@
-ghost use Rattle.std.specs.Prelude.{◌≡◌, ◌∷◌, [], true, false, List, None, Ok, IfOk, IsErr};
-ghost use Rattle.mst_advise.specs.Settings.{edit_of as its_edit};
-ghost use Rattle.std.specs.List.{AllByRecursion};
+ghost use Rattle.std.specs.Prelude.{◌≡◌, ◌∷◌, ◌++◌, [], true, false, List, Ok, IfOk, OnOk, IsErr, map};
+ghost use Rattle.std.specs.Option.{option_map};
+ghost use Rattle.mst_advise.specs.Hindrances.{hindrance_of};
+ghost use Rattle.mst_advise.specs.Made.{after_settings};
+ghost use Rattle.mst_advise.specs.Settings.{alone, edit_of as its_edit};
+ghost use Rattle.mst_advise.specs.Told.{because_row, none_row};
+ghost use Rattle.mst_advise.specs.declared.goal.Goal.TheVariants as goal_is;
 ghost use Rattle.mst_net.specs.After.{after};
 ghost use Rattle.mst_net.specs.Contents.{CanCommit, SameContents, ahead_of};
 ghost use Rattle.mst_net.specs.Tables.{Net, Numbers};
 ghost use Rattle.mst_trees.specs.Agrees.{Known};
-ghost use Rattle.mst_advising.specs.Advising.{Advises, AdvisesIn, CanBeTried, IsAlone, Searches, Tries, after_settings};
+ghost use Rattle.mst_advising.specs.Advising.{Advises, AdvisesIn, Tries, TriesEach, TriesRoot};
 ghost use Rattle.mst_plan.specs.Plan.{IsPlan};
 ghost use Rattle.mst_sweeping.specs.Sweeping.{Puts};
 ghost use Rattle.mst_rows.specs.Rows.{Row};
 
 use mst_advise::{
-    Candidate, Goal, Setting, candidates, edit_of, holds, put_count, put_none, put_settings,
+    Goal, Hindrance, Setting, apart, edit_of, hindered_by, holds, port_settings, put_because,
+    put_count, put_none, put_settings, root_settings,
 };
+use mst_ids::{Name, PortName, Tree};
 use mst_net::{Network, Ready, Refusal};
 use mst_plan::{Plan, plan_beside};
 use mst_rows::Rows;
@@ -108,28 +114,26 @@ fn try_setting<R: Rows>(
     }
 }
 
-/// Tries candidates of one setting each, one after another, up to the first that brings the goal about, and leaves the network as it is.
+/// Tries settings, each by itself, one after another, up to the first that brings the goal about, and leaves the network as it is.
 fn try_each<R: Rows>(
     alloc: Global,
     goal: &Goal,
-    candidates: &[Candidate],
+    settings: &[Setting],
     network: &mut Network,
     plan: &Plan,
     out: &mut R,
-) -> Result<Option<u64>, AllocError>
-    requires plan { IsPlan network.old.net network.old.numbers plan.now }
-    requires alone { AllByRecursion IsAlone candidates.now }
+) -> Result<bool, AllocError>
+    requires { IsPlan network.old.net network.old.numbers plan.now }
     ensures told { IfOk result (λ found. (is : IsPlan network.old.net network.old.numbers plan.now)
-        → (rows : List Row) × Searches goal.now network.old.net is.forest.outcome candidates.now found rows × Puts R.grew out.old out.new rows) }
+        → (rows : List Row) × TriesEach goal.now network.old.net is.forest.outcome settings.now found rows × Puts R.grew out.old out.new rows) }
     ensures same { SameContents network.old network.new }
 {
-    for candidate in candidates {
-        let setting = &candidate.as_slice()[0];
+    for setting in settings {
         if try_setting(alloc, goal, setting, network, plan, out)? {
-            return Ok(Some(1));
+            return Ok(true);
         }
     }
-    Ok(None)
+    Ok(false)
 }
 
 /// Makes a setting in a network, and answers whether it isn't refused. `AllocError`: memory was wanted and refused.
@@ -161,76 +165,104 @@ fn make_settings(settings: &[Setting], network: &mut Network) -> Result<bool, Al
     Ok(true)
 }
 
-/// Tries settings all together. They are made in the network.
-fn try_together<R: Rows>(
+/// Tries settings with which a bridge may be the root of a tree, all together: nothing where they bring that about, or else the bridges that
+/// have another root still. They are made in the network.
+fn try_root<R: Rows>(
     alloc: Global,
-    goal: &Goal,
+    tree: Tree,
+    bridge: &Name,
     settings: &[Setting],
     network: &mut Network,
     plan: &Plan,
     out: &mut R,
-) -> Result<Option<u64>, AllocError>
+) -> Result<Option<Vec<Name>>, AllocError>
     requires { IsPlan network.old.net network.old.numbers plan.now }
-    ensures { IfOk result (λ found. (is : IsPlan network.old.net network.old.numbers plan.now)
-        → (rows : List Row) × Searches goal.now network.old.net is.forest.outcome (settings.now ∷ []) found rows × Puts R.grew out.old out.new rows) }
+    ensures { IfOk result (λ apart. (is : IsPlan network.old.net network.old.numbers plan.now)
+        → (rows : List Row) × TriesRoot tree bridge.now network.old.net is.forest.outcome settings.now (option_map (λ names. names.items) apart) rows × Puts R.grew out.old out.new rows) }
 {
     if !make_settings(settings, network)? {
-        return Ok(None);
+        return Ok(Some(Vec::new(alloc)));
     }
+    let goal = Goal::Root {
+        tree,
+        bridge: *bridge,
+    };
     let next = plan_beside(alloc, network, plan, false)?;
     let settled = Settled::new(network, &next.view, &next.forest);
-    if put_if_had(alloc, goal, settings, plan, &next, &settled, out)? {
-        return Ok(Some(settings.len() as u64));
+    settled.known();
+    if put_if_had(alloc, &goal, settings, plan, &next, &settled, out)? {
+        return Ok(None);
     }
-    Ok(None)
+    let names = apart(alloc, &settled, tree, bridge)?;
+    Ok(Some(names))
 }
 
-/// Tries candidates up to the first that brings the goal about.
-fn try_all<R: Rows>(
-    alloc: Global,
-    goal: &Goal,
-    candidates: &[Candidate],
-    network: &mut Network,
-    plan: &Plan,
+/// Puts why there is no advice, and that there is none.
+fn put_nothing<R: Rows>(
+    hindrance: &Option<Hindrance>,
+    apart: &[Name],
+    tried: u64,
     out: &mut R,
-) -> Result<Option<u64>, AllocError>
-    requires plan { IsPlan network.old.net network.old.numbers plan.now }
-    requires candidates { CanBeTried candidates.now }
-    ensures { IfOk result (λ found. (is : IsPlan network.old.net network.old.numbers plan.now)
-        → (rows : List Row) × Searches goal.now network.old.net is.forest.outcome candidates.now found rows × Puts R.grew out.old out.new rows) }
+) -> Result<(), AllocError>
+    ensures { (first : R) (rows : List Row) → R.grew first out.old rows → OnOk result (R.grew first out.new (rows ++ because_row hindrance.now apart.now tried ∷ none_row ∷ [])) }
 {
-    match candidates {
-        [only] => try_together(alloc, goal, only.as_slice(), network, plan, out),
-        each => try_each(alloc, goal, each, network, plan, out),
-    }
+    put_because(hindrance, apart, tried, out)?;
+    put_none(out)
 }
 
-/// Puts the advice for a network by its plan, where the goal doesn't hold yet, by these candidates.
-fn advise_by<R: Rows>(
+/// Puts the advice where a bridge isn't the root of a tree yet, by these settings and by what is in the way.
+fn advise_root<R: Rows>(
     alloc: Global,
-    goal: &Goal,
-    candidates: &[Candidate],
+    tree: Tree,
+    bridge: &Name,
+    settings: &[Setting],
+    hindrance: &Option<Hindrance>,
     network: &mut Network,
     plan: &Plan,
     out: &mut R,
 ) -> Result<Advised, AllocError>
     requires plan { IsPlan network.old.net network.old.numbers plan.now }
-    requires candidates { CanBeTried candidates.now }
+    requires hindrance { hindrance.now ≡ hindrance_of network.old.net (goal_is.Root tree bridge.now) }
     ensures { IfOk result (λ advice. (is : IsPlan network.old.net network.old.numbers plan.now)
-        → (rows : List Row) × AdvisesIn goal.now network.old.net is.forest.outcome candidates.now advice rows × Puts R.grew out.old out.new rows) }
+        → (rows : List Row) × AdvisesIn (goal_is.Root tree bridge.now) network.old.net is.forest.outcome (settings.now ∷ []) advice rows × Puts R.grew out.old out.new rows) }
 {
-    match try_all(alloc, goal, candidates, network, plan, out)? {
-        Some(count) => Ok(Advised::Edits(count)),
-        None => {
-            put_none(out)?;
+    let tried = try_root(alloc, tree, bridge, settings, network, plan, out)?;
+    match tried {
+        None => Ok(Advised::Edits(settings.len() as u64)),
+        Some(apart) => {
+            put_nothing(hindrance, apart.as_slice(), 1, out)?;
             Ok(Advised::Nothing)
         }
     }
 }
 
+/// Puts the advice where a port doesn't forward in a tree yet, by these settings and by what is in the way.
+fn advise_port<R: Rows>(
+    alloc: Global,
+    tree: Tree,
+    port: &PortName,
+    settings: &[Setting],
+    hindrance: &Option<Hindrance>,
+    network: &mut Network,
+    plan: &Plan,
+    out: &mut R,
+) -> Result<Advised, AllocError>
+    requires plan { IsPlan network.old.net network.old.numbers plan.now }
+    requires hindrance { hindrance.now ≡ hindrance_of network.old.net (goal_is.Forward tree port.now) }
+    ensures { IfOk result (λ advice. (is : IsPlan network.old.net network.old.numbers plan.now)
+        → (rows : List Row) × AdvisesIn (goal_is.Forward tree port.now) network.old.net is.forest.outcome (map alone settings.now) advice rows × Puts R.grew out.old out.new rows) }
+{
+    let goal = Goal::Forward { tree, port: *port };
+    if try_each(alloc, &goal, settings, network, plan, out)? {
+        return Ok(Advised::Edits(1));
+    }
+    put_nothing(hindrance, &[], settings.len() as u64, out)?;
+    Ok(Advised::Nothing)
+}
+
 /// Puts the advice for a network by its plan: nothing where the goal holds already, or the first of its candidates after which it holds,
-/// with what that does. `AllocError`: memory was wanted and refused; some of the rows may have been put. The network is any one in
-/// either case.
+/// with what that does; or why there is none. `AllocError`: memory was wanted and refused; some of the rows may have been put. The network
+/// is any one in either case.
 pub fn advise_network<R: Rows>(
     alloc: Global,
     goal: &Goal,
@@ -248,6 +280,33 @@ pub fn advise_network<R: Rows>(
         put_count(0, out)?;
         return Ok(Advised::Already);
     }
-    let all = candidates(alloc, &settled, goal)?;
-    advise_by(alloc, goal, all.as_slice(), network, plan, out)
+    let hindrance = hindered_by(&settled, goal);
+    match goal {
+        Goal::Root { tree, bridge } => {
+            let settings = root_settings(alloc, &settled, *tree, bridge)?;
+            advise_root(
+                alloc,
+                *tree,
+                bridge,
+                settings.as_slice(),
+                &hindrance,
+                network,
+                plan,
+                out,
+            )
+        }
+        Goal::Forward { tree, port } => {
+            let settings = port_settings(alloc, &settled, *tree, port)?;
+            advise_port(
+                alloc,
+                *tree,
+                port,
+                settings.as_slice(),
+                &hindrance,
+                network,
+                plan,
+                out,
+            )
+        }
+    }
 }

@@ -9,4 +9,4 @@ use Rattle.mst_advise.proofs.holding.holds.Goals as goal
 pub returns-in-Root : goal.returns-in-Root
 returns-in-Root c =
     let s = c.args.plan.now in
-    subst (λ (g : Goal). IfOk c.is_root.result (λ holds. IsTrue holds ↔ Holds s.net (outcome_of s) s.net None (expectation_of g))) (sym c.in-Root.is) c.is_root.ensures
+    subst (λ (g : Goal). IfOk c.is_root.result (λ holds. IsTrue holds ↔ Holds s.net (outcome_of s) s.net None None (expectation_of g))) (sym c.in-Root.is) c.is_root.ensures

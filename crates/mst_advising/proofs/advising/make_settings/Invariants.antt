@@ -1,5 +1,5 @@
 use Rattle.std.proofs.Common.{◌≡◌, Ok, take}
-use Rattle.mst_advising.specs.Advising.{after_settings}
+use Rattle.mst_advise.specs.Made.{after_settings}
 use Rattle.mst_advising.proofs.advising.make_settings.Given as goal
 
 -- the settings so far are made

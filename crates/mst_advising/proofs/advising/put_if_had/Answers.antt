@@ -2,7 +2,7 @@ use Rattle.std.proofs.Common.{◌≡◌, ◌++◌, ◌∷◌, [], List, length, 
 use Rattle.mst_rows.specs.Rows.{Row}
 use Rattle.mst_trees.specs.Settled.{outcome_of}
 use Rattle.mst_advise.specs.Told.{count_row, setting_row}
-use Rattle.mst_advising.specs.Advising.{Has}
+use Rattle.mst_advise.specs.Made.{Has}
 use Rattle.mst_advising.proofs.Tried.{none_put, put_then}
 use Rattle.mst_advising.proofs.advising.put_if_had.Goals as goal
 

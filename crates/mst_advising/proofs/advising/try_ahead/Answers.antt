@@ -1,8 +1,9 @@
-use Rattle.std.proofs.Common.{◌≡◌, ◌∷◌, [], List, Ok, ap, subst, sym, ◌∙◌}
+use Rattle.std.proofs.Common.{List, Ok, ap, subst, sym, ◌∙◌}
 use Rattle.std.proofs.lemmas.Result.{IfOk-weaker}
 use Rattle.mst_rows.specs.Rows.{Row}
 use Rattle.mst_trees.specs.Settled.{SettledNet}
-use Rattle.mst_advising.specs.Advising.{Tries, after_settings}
+use Rattle.mst_advise.specs.Made.{after_settings}
+use Rattle.mst_advising.specs.Advising.{Tries}
 use Rattle.mst_sweeping.specs.Sweeping.{Puts}
 use Rattle.mst_advise.specs.declared.setting.Setting.{Setting}
 use Rattle.mst_advising.proofs.advising.try_ahead.Goals as goal
