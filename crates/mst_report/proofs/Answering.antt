@@ -1,10 +1,10 @@
 -- What answers queries.
-use Rattle.std.proofs.Common.{◌≡◌, ◌≢◌, ℕ, List, [], Option, None, Some, Result, Ok, Err, MatchOption, refl, sym, ap, subst, ◌∙◌}
+use Rattle.std.proofs.Common.{◌≡◌, ◌≢◌, ℕ, List, [], ◌∷◌, Option, None, Some, Result, Ok, Err, MatchOption, refl, sym, ap, subst, ◌∙◌}
 use Rattle.std.specs.Prelude.{unwrap_or}
 use Rattle.std.specs.FinMap as fin
 use Rattle.std.specs.Option.{option_map, option_map_or}
 use Rattle.mst_lang.specs.declared.line.Query.{Query}
-use Rattle.mst_lang.specs.declared.line.Query.TheVariants.{ShowPlan, ShowLag, ShowRegions, ShowNotes, ShowTree, ShowVlan, ShowConfiguration, Changes, Save}
+use Rattle.mst_lang.specs.declared.line.Query.TheVariants.{ShowPlan, ShowLag, ShowRegions, ShowNotes, ShowTree, ShowVlan, ShowConfiguration, Changes, Save, Digest}
 use Rattle.mst_net.specs.After.{table_of}
 use Rattle.mst_net.specs.Tables.{Net, BridgeRow, IsNetwork}
 use Rattle.mst_net.specs.declared.refusal.Refusal.{Refusal}
@@ -19,6 +19,7 @@ use Rattle.mst_picture.specs.plan_text.PlanText.{ArePlanRows}
 use Rattle.mst_picture.specs.text.ConfigurationText.{configuration_rows, rows_of_bridge}
 use Rattle.mst_picture.specs.text.RegionsText.{regions_rows}
 use Rattle.mst_rows.specs.Rows.{Row}
+use Rattle.mst_save.specs.Digest.{digest_row}
 use Rattle.mst_save.specs.SaveRows.{save_rows}
 use Rattle.mst_picture.specs.text.TreeText.{tree_rows}
 use Rattle.mst_picture.specs.text.VlanText.{AreVlanRows}
@@ -54,6 +55,7 @@ module _ (outcomes : (net : Net) → IsNetwork net → (o : Outcome) × IsOutcom
   answer_there (ShowConfiguration bridge) s ok = (option_map_or (λ rows. Ok rows) (configuration_rows s.net bridge) (Err E04), refl)
   answer_there Changes s ok = changes_there s.net ok.network s.mark ok.mark
   answer_there Save s ok = (Ok (save_rows s.net), refl)
+  answer_there Digest s ok = (Ok (digest_row s.net ∷ []), refl)
 
 -- a query that has an answer and can't be refused has rows
 pub has_rows : ((query : Query) (s : State) → IsState s → (answer : Result (List Row) Refusal) × Answers query s answer)
@@ -67,6 +69,7 @@ has_rows there ShowRegions s ok other since = (regions_rows s.net, refl)
 has_rows there (ShowConfiguration bridge) s ok other since = absurd (other bridge refl)
 has_rows there Changes s ok other since = absurd (since refl)
 has_rows there Save s ok other since = (save_rows s.net, refl)
+has_rows there Digest s ok other since = (digest_row s.net ∷ [], refl)
 
 -- what tells of changes since a mark has rows
 told_rows : (net : Net) (entries : List Entry) (answer : Result (List Row) Refusal) → TellsChanges (Some entries) net answer → (rows : List Row) × TellsChanges (Some entries) net (Ok rows)
@@ -134,6 +137,7 @@ module _ (outcomes : (net : Net) (o p : Outcome) → IsNetwork net → IsOutcome
   one_rows (ShowConfiguration bridge) s a b ok x y = x ∙ sym y
   one_rows Changes s a b ok x y = one_change s.net ok s.mark a b x y
   one_rows Save s a b ok x y = x ∙ sym y
+  one_rows Digest s a b ok x y = x ∙ sym y
 
 -- the mark of which changes have rows
 pub was_marked : (net : Net) (mark : Option (List Entry)) (entries : List Entry) → mark ≡ Some entries → HasRows Changes (record { net = net; mark = mark }) → IsMark entries

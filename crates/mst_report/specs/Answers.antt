@@ -1,9 +1,9 @@
 -- What answers a query.
-use Rattle.std.specs.Prelude.{◌≡◌, ℕ, Bool, true, false, List, Option, None, Some, Result, Ok, Err}
+use Rattle.std.specs.Prelude.{◌≡◌, ℕ, Bool, true, false, List, [], ◌∷◌, Option, None, Some, Result, Ok, Err}
 use Rattle.std.specs.List.{flat_map}
 use Rattle.std.specs.Option.{option_map_or}
 use Rattle.mst_lang.specs.declared.line.Query.{Query}
-use Rattle.mst_lang.specs.declared.line.Query.TheVariants.{ShowPlan, ShowLag, ShowRegions, ShowNotes, ShowTree, ShowVlan, ShowConfiguration, Changes, Save}
+use Rattle.mst_lang.specs.declared.line.Query.TheVariants.{ShowPlan, ShowLag, ShowRegions, ShowNotes, ShowTree, ShowVlan, ShowConfiguration, Changes, Save, Digest}
 use Rattle.mst_net.specs.Tables.{Net}
 use Rattle.mst_net.specs.declared.refusal.Refusal.{Refusal}
 use Rattle.mst_net.specs.declared.refusal.Refusal.TheVariants.{E04, E16}
@@ -17,6 +17,7 @@ use Rattle.mst_note_text.specs.NotesText.{AreNoteRows}
 use Rattle.mst_picture.specs.plan_text.PlanText.{ArePlanRows}
 use Rattle.mst_picture.specs.text.ConfigurationText.{configuration_rows}
 use Rattle.mst_picture.specs.text.RegionsText.{regions_rows}
+use Rattle.mst_save.specs.Digest.{digest_row}
 use Rattle.mst_save.specs.SaveRows.{save_rows}
 use Rattle.mst_picture.specs.text.TreeText.{tree_rows}
 use Rattle.mst_picture.specs.text.VlanText.{AreVlanRows}
@@ -35,7 +36,7 @@ TellsChanges (Some entries) net answer = (was : IsMark entries) × TellsOutcome 
 -- in a state a query has this answer, rows or a refusal. The rows of a tree, of a VID, of the whole plan and of the
 -- notes are those of the network's settled outcome; those of the classes of links, of the regions and of an MST
 -- configuration go by the network itself, and a bridge that isn't there has no configuration. What saves the network
--- goes by it alone, too
+-- goes by it alone, and so does its digest
 abbrev pub Answers : Query → State → Result (List Row) Refusal → Type 0
 Answers ShowPlan s answer = TellsOutcome s.net (ArePlanRows s.net) answer
 Answers (ShowTree tree) s answer = TellsOutcome s.net (λ o rows. rows ≡ tree_rows s.net o tree) answer
@@ -46,12 +47,14 @@ Answers ShowRegions s answer = answer ≡ Ok (regions_rows s.net)
 Answers (ShowConfiguration bridge) s answer = answer ≡ option_map_or (λ rows. Ok rows) (configuration_rows s.net bridge) (Err E04)
 Answers Changes s answer = TellsChanges s.mark s.net answer
 Answers Save s answer = answer ≡ Ok (save_rows s.net)
+Answers Digest s answer = answer ≡ Ok (digest_row s.net ∷ [])
 
 -- these bytes are the lines of rows that answer a query
 abbrev pub AnswersInLines : Query → State → List ℕ → Type 0
 AnswersInLines query s text = (rows : List Row) × Answers query s (Ok rows) × (text ≡ flat_map row_line rows)
 
--- whether a query is asked of a settled plan. What saves the network is not: the tables alone settle it
+-- whether a query is asked of a settled plan. What saves the network is not, nor is its digest: the tables alone settle them
 abbrev pub asks_plan : Query → Bool
 asks_plan Save = false
+asks_plan Digest = false
 asks_plan _ = true

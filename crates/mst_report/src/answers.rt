@@ -10,11 +10,11 @@ use mst_ids::Name;
 use mst_lang::Query;
 use mst_net::{Contents, Refusal};
 
-/// Whether a query is asked of a settled plan: all are but `save`, whose rows go by the records of the network.
+/// Whether a query is asked of a settled plan: all are but `save` and `digest`, whose rows go by the records of the network.
 pub fn asks_plan(query: &Query) -> bool
     ensures { result ≡ is_of_plan query.now }
 {
-    !matches!(query, Query::Save)
+    !matches!(query, Query::Save | Query::Digest)
 }
 
 impl Planner {

@@ -11,9 +11,10 @@ ghost use Rattle.mst_advising.specs.Advising.{Advises};
 ghost use Rattle.mst_report.specs.Unadvised.{unadvised_of};
 ghost use Rattle.mst_sweeping.specs.Pairing.{SweepsPairs};
 ghost use Rattle.mst_stepping.specs.Setting.{after_steps};
-ghost use Rattle.mst_stepping.specs.Stepping.{IsFew, Steps};
+ghost use Rattle.mst_stepping.specs.Stepping.{IsFew, Steps, lines_of as policy_lines};
 ghost use Rattle.mst_sweeping.specs.Sweeping.{SweepsPart};
-ghost use Rattle.mst_judging.specs.Verifying.{Verifies, counts_of};
+ghost use Rattle.mst_judging.specs.Verifying.{Verifies};
+ghost use Rattle.mst_verdict.specs.Judged.{counts_of};
 ghost use Rattle.mst_rows.specs.Rows.{Row};
 
 use crate::laws::entries_of_network;
@@ -319,9 +320,9 @@ impl Planner {
     }
 
     /// Puts whether the network does what a policy promises: the policy's refused lines, then for each line that is judged why it isn't
-    /// kept, in the network itself and then in that of each failure for which it asks, and a last row that counts them. A line that is
-    /// judged has no rows just where its promise is kept. A policy that has no line is refused as a whole, and so counts as a refused
-    /// line. Each failure that some line asks for is looked at once, by one repair of the plan that stands, and isn't made. `AllocError`: memory was wanted and
+    /// kept, in the network itself and then in that of each failure for which it asks, and a last row that counts them. What is so without
+    /// a failure is told once, with after how many failures it is so, too. A line that is judged has no rows just where its promise is
+    /// kept. A policy of which no line is judged and none refused is refused as a whole, and so counts as a refused line. Each failure that some line asks for is looked at once, by one repair of the plan that stands, and isn't made. `AllocError`: memory was wanted and
     /// refused; some of the rows may have been put. The planner is as it was in either case, but for room for edits.
     pub fn put_verification<R: Rows>(
         &mut self,
@@ -342,10 +343,12 @@ impl Planner {
     }
 
     /// Takes the steps of a change one after another, each settled before the next, and puts what each does: which of its lines are refused,
-    /// which roots, roles and VIDs it moves, which VIDs it cuts and joins, and with a policy what that has to tell of the network after it.
-    /// A last row counts the steps, and the answer is what is counted. The planner is then that of the network after the last step.
+    /// which roots, roles and VIDs it moves, which VIDs it cuts and joins, which ports begin anew, and of a policy what is new: which of its
+    /// lines aren't kept after it, for a reason that wasn't there before, and which are kept again. In front stands which lines can't be
+    /// read, and which aren't kept before the first step. A last row counts the steps, and the answer is what is counted. The planner is
+    /// then that of the network after the last step.
     ///
-    /// Two plans stand at a time: a step costs one repair of the trees, and what carries VIDs is looked at once. `AllocError`: memory was
+    /// Three plans stand at a time, the first one among them: a step costs one repair of the trees, and what carries VIDs is looked at once. `AllocError`: memory was
     /// wanted and refused; some of the rows may have been put, and the planner is that of a network between, which isn't settled.
     pub fn put_steps<R: Rows>(
         &mut self,
@@ -358,6 +361,7 @@ impl Planner {
         ensures told { (first : R) (before : List Row) → R.grew first out.old before
             → IfOk result (λ course. (rows : List Row) × Steps self.old.contents.net change.now.ended (option_map (λ p. p.now) policy.entry) course rows × R.grew first out.new (before ++ rows)) }
         ensures few { IfOk result (λ course. IsFew course change.now.ended) }
+        ensures few_policy { IfOk result (λ course. course.unread ≤ length (policy_lines (option_map (λ p. p.now) policy.entry)) + 1) }
         ensures network { OnOk result (self.new.contents.net ≡ after_steps self.old.contents.net change.now.ended) }
         ensures settled { OnOk result (self.new.is_settled ≡ true) }
         ensures mark { self.new.mark ≡ self.old.mark }

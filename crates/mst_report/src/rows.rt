@@ -1,5 +1,5 @@
 ghost use Rattle.std.specs.Prelude.{◌≡◌, ◌++◌, true, List, Ok, Some, OnOk};
-ghost use Rattle.mst_lang.specs.declared.line.Query.TheVariants.{ShowPlan, ShowTree, ShowVlan, ShowNotes, ShowLag, ShowRegions, ShowConfiguration, Changes, Save};
+ghost use Rattle.mst_lang.specs.declared.line.Query.TheVariants.{ShowPlan, ShowTree, ShowVlan, ShowNotes, ShowLag, ShowRegions, ShowConfiguration, Changes, Save, Digest};
 ghost use Rattle.mst_picture.specs.changes.Stored.{kept_entries};
 ghost use Rattle.mst_rows.specs.Rows.{Row};
 ghost use Rattle.mst_report.specs.Answers.{Answers, asks_plan as is_of_plan};
@@ -15,7 +15,7 @@ use mst_picture::{
     Entries, put_changes, put_configuration, put_lags, put_plan, put_regions, put_tree, put_vlan,
 };
 use mst_rows::Rows;
-use mst_save::put_saved;
+use mst_save::{put_digest, put_saved};
 use std::alloc::AllocError;
 
 impl Planner {
@@ -37,6 +37,7 @@ impl Planner {
             Query::ShowConfiguration { bridge } => self.configuration(bridge, out),
             Query::Changes => self.changes(out),
             Query::Save => self.saved(out),
+            Query::Digest => self.digest(out),
         }
     }
 
@@ -133,6 +134,14 @@ impl Planner {
             → OnOk result ((rows : List Row) × Answers Save (planned_state self.now) (Ok rows) × R.grew first out.new (before ++ rows)) }
     {
         put_saved(self.alloc(), self.network(), out)
+    }
+
+    /// Puts the row of the network's digest.
+    fn digest<R: Rows>(&self, out: &mut R) -> Result<(), AllocError>
+        ensures { (first : R) (before : List Row) → R.grew first out.old before
+            → OnOk result ((rows : List Row) × Answers Digest (planned_state self.now) (Ok rows) × R.grew first out.new (before ++ rows)) }
+    {
+        put_digest(self.alloc(), self.network(), out)
     }
 
     /// Puts the rows of what has changed since this mark.

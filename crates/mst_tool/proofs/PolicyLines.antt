@@ -9,7 +9,7 @@ use Rattle.mst_io.proofs.Starts.{IsHeld, IsHeld-nothing, IsHeld-push}
 use Rattle.mst_lang.specs.Lines.{drop_cr, last_line, lines_from, lines_of}
 use Rattle.mst_lang.specs.declared.line.Fault.{Fault}
 use Rattle.mst_lang.specs.declared.line.Fault.TheVariants.{E01}
-use Rattle.mst_policy.specs.Lines.{line_of, line_read, policy_from}
+use Rattle.mst_policy.specs.Lines.{line_of, line_read, policy_from, spaced}
 use Rattle.mst_policy.specs.Reading.{reading, worded}
 use Rattle.mst_policy.specs.declared.expectation.Promise.{Promise}
 use Rattle.mst_policy.specs.declared.policy.PolicyLine.{PolicyLine}
@@ -26,10 +26,10 @@ long_says line long = ap (λ t. cond t (Err E01) (worded (list_all is_plain line
 
 held_says : (n : ℕ) (part held : List ℕ) → IsHeld part held → line_of n (drop_cr held) ≡ line_of n (drop_cr part)
 held_says n part held is =
-    ap (line_read n) (elim (held_cases part held is) [
-      | inl same ↦ ap (λ l. reading (drop_cr l)) same
-      | inr long ↦ long_says (drop_cr held) long.0 ∙ sym (long_says (drop_cr part) long.1)
-    ])
+    elim (held_cases part held is) [
+      | inl same ↦ ap (λ l. line_of n (drop_cr l)) same
+      | inr long ↦ ap (line_read n (spaced (words (drop_cr held)))) (long_says (drop_cr held) long.0) ∙ sym (ap (line_read n (spaced (words (drop_cr part)))) (long_says (drop_cr part) long.1))
+    ]
 
 last_says : (n : ℕ) (part held : List ℕ) → IsHeld part held → policy_from n (last_line held) ≡ policy_from n (last_line part)
 last_says n [] [] is = refl
@@ -46,14 +46,14 @@ policy_held (b ∷ bs) part held n is =
     ]
 
 -- ---- how many there are
-read_short : (n : ℕ) (read : Result (Option Promise) Fault) → length (line_read n read) ≤ 1
-read_short n (Ok None) = omega arith
-read_short n (Ok (Some promise)) = omega arith
-read_short n (Err fault) = omega arith
+read_short : (n : ℕ) (text : List ℕ) (read : Result (Option Promise) Fault) → length (line_read n text read) ≤ 1
+read_short n text (Ok None) = omega arith
+read_short n text (Ok (Some promise)) = omega arith
+read_short n text (Err fault) = omega arith
 
 policy_short : (n : ℕ) (lines : List (List ℕ)) → length (policy_from n lines) ≤ length lines
 policy_short n [] = omega arith
-policy_short n (line ∷ lines) = omega (arith, length-append (line_of n line) (policy_from (n + 1) lines), read_short n (reading line), policy_short (n + 1) lines)
+policy_short n (line ∷ lines) = omega (arith, length-append (line_of n line) (policy_from (n + 1) lines), read_short n (spaced (words line)) (reading line), policy_short (n + 1) lines)
 
 -- ---- so they are the lines of the policy
 module _ (begun : List PolicyLine) (reads : Option (List ℕ)) (policy : List PolicyLine) (none : begun ≡ []) (taken : AreTaken policy_with begun reads policy) where

@@ -18,7 +18,7 @@ use Rattle.mst_io.proofs.Known.{AppendsFront-after}
 use Rattle.mst_print.specs.Shape.{of_script, shown}
 use Rattle.mst_print.specs.declared.form.Form.{Form}
 use Rattle.mst_rows.specs.Rows.{Row}
-use Rattle.mst_tool.specs.Alter.{Alters, AltersFront, TellsSteps, counted_along, policy_if}
+use Rattle.mst_tool.specs.Alter.{Alters, AltersFront, TellsSteps, counted_along, policy_if, refusals_in}
 use Rattle.mst_tool.specs.Lines.{AreLines, AreSteps}
 use Rattle.mst_tool.specs.Shown.{steps_row}
 use Rattle.mst_tool.proofs.WholeLoad.{OneLoad, loads_same}
@@ -51,7 +51,7 @@ module _ (one : OneLoad) (form : Form) (judged : Bool) (scripts changes policies
     tells = tells_left;
     printed = Appends-trans written mid now (texts_of s.steps) text s.printed went;
     memory = s.memory;
-    refused = ap (λ n. n + course.refused) s.refused;
+    refused = ap (λ n. n + refusals_in course) s.refused;
     differing = omega (arith, s.differing, loads_same (of_script form) scripts written mid t s);
     only = λ others loads. one (of_script form) (lines_of s.bytes) others s.steps loads s.runs;
   }

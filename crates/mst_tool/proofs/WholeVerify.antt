@@ -7,7 +7,7 @@ use Rattle.mst_policy.specs.declared.policy.PolicyLine.{PolicyLine}
 use Rattle.mst_engine.specs.net.Tables.{Net}
 use Rattle.mst_engine.specs.report.State.{State, empty_state}
 use Rattle.mst_judging.specs.Verifying as network
-use Rattle.mst_verify.specs.Verified.{Counts}
+use Rattle.mst_verdict.specs.Verified.{Counts}
 use Rattle.mst_engine.specs.Engine.{Tally, outcome_of}
 use Rattle.mst_engine.specs.Served.{Served}
 use Rattle.mst_engine.specs.Steps.{left_by, texts_of}

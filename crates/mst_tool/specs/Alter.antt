@@ -20,15 +20,19 @@ use Rattle.mst_tool.specs.Shown.{IsShown, steps_row}
 use Rattle.mst_tool.specs.declared.alters.Stepping.{Stepping}
 
 abbrev pub course_of : Stepping → Course
-course_of s = record { refused = s.refused; steps = s.steps; moving = s.moving; cutting = s.cutting; failing = s.failing }
+course_of s = record { unread = s.unread; refused = s.refused; steps = s.steps; moving = s.moving; cutting = s.cutting; failing = s.failing; unkept = s.unkept }
 
--- 1 where a step cuts, or the policy isn't kept after it, else 0
+-- 1 where a step cuts or breaks the policy, or the last network doesn't keep it, else 0
 abbrev pub differing_by : Course → ℕ
-differing_by course = if course.cutting == 0 && course.failing == 0 then 0 else 1
+differing_by course = if course.cutting == 0 && (course.failing == 0 && course.unkept == 0) then 0 else 1
+
+-- the lines of a change that are refused, and those of a policy that can't be read
+abbrev pub refusals_in : Course → ℕ
+refusals_in course = course.refused + course.unread
 
 -- what is counted of a script and of a change
 abbrev pub counted_along : Outcome → Course → Outcome
-counted_along script course = record { refused = script.refused + course.refused; memory = script.memory; differing = script.differing + differing_by course }
+counted_along script course = record { refused = script.refused + refusals_in course; memory = script.memory; differing = script.differing + differing_by course }
 
 -- the policy, where it is judged
 abbrev pub policy_if : Bool → List PolicyLine → Option (List PolicyLine)
@@ -44,8 +48,8 @@ abbrev pub IsJudging : Bool → Option (List ℕ) → Option (List PolicyLine) �
 IsJudging judged policies policy = (lines : List PolicyLine) × AreLines policies lines × (policy ≡ policy_if judged lines)
 
 -- The edits of all of the script's lines were served, and what they print was written, and after it what the steps of the change do to
--- the network that they leave, with the policy, where it is judged. The outcome counts the lines of both that were refused, and 1 where a
--- step cuts, or the policy isn't kept after one. The script has no other steps that lack memory at the same lines
+-- the network that they leave, with the policy, where it is judged. The outcome counts the lines of all three that were refused, of the policy those
+-- that can't be read, and 1 where a step cuts or breaks the policy, or the end doesn't keep it. The script has no other steps that lack memory at the same lines
 pub record Alters (form : Form) (judged : Bool) (scripts changes policies written now : Option (List ℕ)) (outcome : Outcome) : Type 0 where
   pub script : List ℕ
   pub steps : List Step
@@ -60,7 +64,7 @@ pub record Alters (form : Form) (judged : Bool) (scripts changes policies writte
   pub tells : TellsSteps form (left_by empty_state steps).net change policy course text
   pub printed : Appends written now (texts_of steps ++ text)
   pub memory : outcome.memory ≡ lacks_of steps
-  pub refused : outcome.refused ≡ refusals_of steps + course.refused
+  pub refused : outcome.refused ≡ refusals_of steps + refusals_in course
   pub differing : outcome.differing ≡ differing_by course
   pub only : (others : List Step) → LoadsAll (of_script form) (lines_of script) others → lacking_of others ≡ lacking_of steps → others ≡ steps
 

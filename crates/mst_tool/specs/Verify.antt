@@ -6,7 +6,7 @@ use Rattle.mst_policy.specs.declared.policy.PolicyLine.{PolicyLine}
 use Rattle.mst_engine.specs.net.Tables.{Net}
 use Rattle.mst_engine.specs.report.State.{empty_state}
 use Rattle.mst_judging.specs.Verifying as network
-use Rattle.mst_verify.specs.Verified.{Counts}
+use Rattle.mst_verdict.specs.Verified.{Counts}
 use Rattle.mst_engine.specs.Script.{LoadsAll}
 use Rattle.mst_engine.specs.Steps.{Step, left_by, texts_of, refusals_of, lacks_of, lacking_of}
 use Rattle.mst_io.specs.Written.{AppendsFront, Reads}

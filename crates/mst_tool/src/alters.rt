@@ -1,4 +1,4 @@
-ghost use Rattle.std.specs.Prelude.{◌≡◌, ◌≢◌, ◌≤◌, ◌<◌, ◌↔◌, ◌⊎◌, ◌^◌, ℕ, false, length, List, Option, Err, IfOk, IsOk, OnErr, option_map};
+ghost use Rattle.std.specs.Prelude.{◌≡◌, ◌≢◌, ◌+◌, ◌≤◌, ◌<◌, ◌↔◌, ◌⊎◌, ◌^◌, ℕ, false, length, List, Option, Err, IfOk, IsOk, OnErr, option_map};
 ghost use Rattle.mst_change.specs.Steps.{all_lines};
 ghost use Rattle.mst_engine.specs.Served.{IsFew};
 ghost use Rattle.mst_engine.specs.report.Planned.{planned_state};
@@ -26,10 +26,13 @@ use std::io::{Read, Write};
 ///
 /// The script is read as by [`run`](crate::run), but its queries and its marks do nothing and print nothing, and none is refused. Then
 /// the change is read, a script of its own version, whose steps stand between blank lines, and then the policy, of which nothing is told
-/// where it isn't judged. After the lines that the script prints the answer is written: for each step `change N CODE TEXT` for each of
-/// its lines that is refused, what the step does, and the lines of [`verify`](crate::verify) but the last, and at the end how many steps
-/// there are, how many of them move and cut VLANs, and after how many the policy isn't kept. Each refused line of the change counts as one
-/// of the script does, and steps that cut, or after which the policy isn't kept, as one that differs.
+/// where it isn't judged. After the lines that the script prints the answer is written: the lines of the policy that can't be read, and
+/// which of the others the network before the change doesn't keep; for each step `change N CODE TEXT` for each of its lines that is
+/// refused, what the step does, and of the policy what is new: why lines aren't kept that had no such reason in the network before, and
+/// `mends N` of those that are kept again; and at the end how many steps there are, how many of them move and cut VLANs, how many break
+/// the policy, and how many lines of it the last network doesn't keep. Each refused line of the change, and each of the policy that can't
+/// be read, counts as one of the script does; and as one that differs where a step cuts or breaks the policy, or the last network
+/// doesn't keep it.
 ///
 /// The readers and the writer are called as by [`run`](crate::run), each reader once that before it has ended. After
 /// [`RunFault::Read`] all that the complete lines of the script print has gone out, of what was read, and nothing else; after
@@ -154,6 +157,7 @@ fn read_both<C: Source, P: Source>(
     ensures ok_change { IfOk result (λ both. AreSteps (C.remaining change.old) both.change.ended) }
     ensures ok_policy { IfOk result (λ both. AreLines (P.remaining policy.old) both.policy) }
     ensures few { IfOk result (λ both. length (all_lines both.change.ended) < 2 ^ 60) }
+    ensures few_policy { IfOk result (λ both. length both.policy < 2 ^ 60) }
     ensures ended_change { IsOk result → IsRead (C.told change.old) (C.told change.new) }
     ensures ended_policy { IsOk result → IsRead (P.told policy.old) (P.told policy.new) }
     ensures read { result ≡ Err RunFault.Read ↔ (IsCut turns (C.told change.old) (C.told change.new) ⊎ IsCut turns (P.told policy.old) (P.told policy.new)) }
@@ -179,11 +183,13 @@ fn read_both<C: Source, P: Source>(
 #[derive(Drop)]
 struct Stepping {
     text: Vec<u8>,
+    unread: u64,
     refused: u64,
     steps: u64,
     moving: u64,
     cutting: u64,
     failing: u64,
+    unkept: u64,
 }
 
 /// What the steps of a change do to the planner's network, once the plan is settled. `AllocError`: memory was wanted and refused.
@@ -197,6 +203,7 @@ fn stepped(
     requires { length (all_lines both.now.change.ended) < 2 ^ 60 }
     ensures told { IfOk result (λ found. TellsSteps form (planned_state planner.old).net both.now.change.ended (policy_if is_judged both.now.policy) (course_of found) found.text.items) }
     ensures few { IfOk result (λ found. found.refused ≤ length (all_lines both.now.change.ended)) }
+    ensures few_policy { IfOk result (λ found. found.unread ≤ length both.now.policy + 1) }
 {
     planner.settle()?;
     let mut printer = open_question(alloc, form, Query::Steps)?;
@@ -204,11 +211,13 @@ fn stepped(
     let text = printer.close()?;
     Ok(Stepping {
         text,
+        unread: course.unread,
         refused: course.refused,
         steps: course.steps,
         moving: course.moving,
         cutting: course.cutting,
         failing: course.failing,
+        unkept: course.unkept,
     })
 }
 
@@ -225,11 +234,12 @@ impl Both {
 fn with_course(script: &Outcome, found: &Stepping) -> Outcome
     requires script { IsFew script.now }
     requires change { found.now.refused < 2 ^ 60 }
+    requires policy { found.now.unread ≤ 2 ^ 60 }
     ensures { result ≡ counted_along script.now (course_of found.now) }
 {
-    let differs = found.cutting != 0 || found.failing != 0;
+    let differs = found.cutting != 0 || found.failing != 0 || found.unkept != 0;
     Outcome {
-        refused: script.refused + found.refused,
+        refused: script.refused + (found.refused + found.unread),
         memory: script.memory,
         differing: script.differing + if differs { 1 } else { 0 },
     }

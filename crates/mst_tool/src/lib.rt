@@ -24,5 +24,6 @@ pub use diffs::{Between, diff, diff_from, diff_within, edits};
 pub use mst_engine::{SweepPart, laws, report_laws, trees_laws};
 pub use mst_io::{Failed, FromRead, Outcome, RunFault, Sink, Source, TURNS, ToWrite};
 pub use mst_print::Form;
+pub use policies::read_policy;
 pub use runs::{run, run_from, run_within, status};
-pub use verifies::{verify, verify_within};
+pub use verifies::{Verification, verified, verify, verify_within};

@@ -33,11 +33,7 @@ impl TakesLines for Change {
 ///
 /// [`RunFault::Read`] is answered just where the source has failed, or all turns were used and none found the end, and
 /// [`RunFault::Memory`] where memory was wanted for a line before that, and refused: the source isn't called again then.
-pub(crate) fn read_policy<S: Source>(
-    alloc: Global,
-    source: &mut S,
-    turns: u64,
-) -> Result<Policy, RunFault>
+pub fn read_policy<S: Source>(alloc: Global, source: &mut S, turns: u64) -> Result<Policy, RunFault>
     requires source { (S.told source.old).failed ≡ false }
     requires turns { turns ≤ 2 ^ 32 }
     ensures ok { IfOk result (AreLines (S.remaining source.old)) }

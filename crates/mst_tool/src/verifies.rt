@@ -118,15 +118,19 @@ pub fn verify_within<S: Source, P: Source, K: Sink>(
 
 /// Whether a network does what a policy promises: what is printed of that, and what is counted.
 #[derive(Drop)]
-struct Verification {
-    text: Vec<u8>,
-    refused: u64,
-    judged: u64,
-    failing: u64,
+pub struct Verification {
+    pub text: Vec<u8>,
+    /// How many lines of the policy are refused; one more where it has no line.
+    pub refused: u64,
+    /// How many lines are judged.
+    pub judged: u64,
+    /// How many of these aren't kept.
+    pub failing: u64,
 }
 
-/// Whether the planner's network does what a policy promises, once the plan is settled. `AllocError`: memory was wanted and refused.
-fn verified(
+/// Whether the planner's network does what a policy promises, once the plan is settled. It stays as it is, with its mark. `AllocError`:
+/// memory was wanted and refused.
+pub fn verified(
     alloc: Global,
     form: Form,
     planner: &mut Planner,
@@ -134,6 +138,7 @@ fn verified(
 ) -> Result<Verification, AllocError>
     ensures told { IfOk result (λ found. TellsVerification form (planned_state planner.old).net policy.now (counts_of found) found.text.items) }
     ensures few { IfOk result (λ found. found.refused ≤ length policy.now + 1) }
+    ensures state { planned_state planner.new ≡ planned_state planner.old }
 {
     planner.settle()?;
     let mut printer = open_question(alloc, form, Query::Verify)?;
