@@ -24,14 +24,15 @@ use Rattle.mst_engine.specs.Script.{LoadsAll, ServesRead, marked, reading_at, ve
 use Rattle.mst_engine.specs.Steps.{Step, left_by, lacks_of}
 use Rattle.mst_engine.specs.report.State.{State, empty_state}
 use Rattle.mst_engine.proofs.OneRun.{answered_keeps}
+use Rattle.mst_policy.specs.declared.policy.PolicyLine.{PolicyLine}
 use Rattle.mst_print.specs.Shape.{of_script}
 use Rattle.mst_print.specs.declared.form.Form.{Form}
 use Rattle.mst_ask.specs.Asking.{loaded_by}
 use Rattle.mst_ask.specs.Kept.{lines_net, made_by, made_in, net_or, script_net}
 use Rattle.mst_ask.specs.Requests.{request_of}
-use Rattle.mst_ask.specs.Standing.{Made, Standing, Turn, Asks, AsksBy, answered, back, declined, edited, edits_of, left_after, passed, starved, stepped, undone}
+use Rattle.mst_ask.specs.Standing.{Made, Standing, Turn, Asks, AsksBy, answered, back, declined, edited, edits_of, left_after, passed, starved, stepped, undone, verified}
 use Rattle.mst_ask.specs.declared.request.Request.{Request}
-use Rattle.mst_ask.specs.declared.request.Request.TheVariants.{Script, Word, Undo}
+use Rattle.mst_ask.specs.declared.request.Request.TheVariants.{Script, Word, Undo, Verify}
 use Rattle.mst_ask.proofs.Kept.{back_in, back_none, lines_net-append, loads_net}
 use Rattle.mst_ask.proofs.Requests.{script_said}
 
@@ -141,7 +142,7 @@ module _ (form : Form) (version : Version) (base : Net) where
       inside other None = other
       inside other (Some found) = found
 
-      by : (length is.lines < count) ⊎ (count ≤ length is.lines) → IsOf version base (record { state = record now.state { net = was.0 }; made = was.1 })
+      by : (length is.lines < count) ⊎ (count ≤ length is.lines) → IsOf version base (record now { state = record now.state { net = was.0 }; made = was.1 })
       by (inl many) = absurd (none_some (sym (back_none version base count (lines_net version base (reverse is.lines)) is.lines many) ∙ there))
         where
           none_some : None ≡ Some was → ⊥
@@ -168,6 +169,8 @@ module _ (form : Form) (version : Version) (base : Net) where
   asked_of number now line (Ok (Word question)) t says is (inr h) = turn_of t (starved form number now) h.1 is
   asked_of number now line (Ok (Undo count)) t says is (inl h) = turn_of t (undone form number count now (back count now.state.net now.made)) h (undone_of number count now (back count now.state.net now.made) is refl)
   asked_of number now line (Ok (Undo count)) t says is (inr h) = turn_of t (starved form number now) h.1 is
+  asked_of number now line (Ok Verify) t says is (inl h) = turn_of t (verified form now h.0 h.1) h.3 is
+  asked_of number now line (Ok Verify) t says is (inr h) = turn_of t (starved form number now) h is
 
   all_of : (number : ℕ) (now : Standing) (lines : List (List ℕ)) (turns : List Turn) → IsOf version base now → AsksBy form version number now lines turns → IsOf version base (left_after now turns)
   unfolding AsksBy
@@ -208,15 +211,15 @@ both_net (x ∷ xs) ys first =
     script_net-append (version_said x) 1 empty_net (x ∷ xs) ys
     ∙ net_later (version_said x) (1 + length (x ∷ xs)) (script_net (version_said x) 1 empty_net (x ∷ xs)) ys (inr (omega arith))
 
-pub script_stands : (form : Form) (script : List ℕ) (loads : List Step) (asked : List (List ℕ)) (turns : List Turn) (whole : List Step) → LoadsAll (of_script form) (lines_of script) loads → lacks_of loads ≡ 0 → AsksBy form (version_of (lines_of script)) 1 (loaded_by loads) asked turns
-    → LoadsAll (of_script form) (lines_of script ++ edits_of (left_after (loaded_by loads) turns)) whole → lacks_of whole ≡ 0 → (left_by empty_state whole).net ≡ (left_after (loaded_by loads) turns).state.net
-script_stands form script loads asked turns whole loaded full asks again too =
+pub script_stands : (form : Form) (script : List ℕ) (loads : List Step) (policy : List PolicyLine) (asked : List (List ℕ)) (turns : List Turn) (whole : List Step) → LoadsAll (of_script form) (lines_of script) loads → lacks_of loads ≡ 0 → AsksBy form (version_of (lines_of script)) 1 (loaded_by loads policy) asked turns
+    → LoadsAll (of_script form) (lines_of script ++ edits_of (left_after (loaded_by loads policy) turns)) whole → lacks_of whole ≡ 0 → (left_by empty_state whole).net ≡ (left_after (loaded_by loads policy) turns).state.net
+script_stands form script loads policy asked turns whole loaded full asks again too =
     let lines = lines_of script in
     let version = version_of lines in
-    let now = left_after (loaded_by loads) turns in
+    let now = left_after (loaded_by loads policy) turns in
     let base = script_net version 1 empty_net lines in
-    let begins : IsOf version base (loaded_by loads) = record { lines = []; made = refl; net = loads_net (of_script form) version 1 empty_state lines loads loaded full; first = refl } in
-    let is = all_of form version base 1 (loaded_by loads) asked turns begins asks in
+    let begins : IsOf version base (loaded_by loads policy) = record { lines = []; made = refl; net = loads_net (of_script form) version 1 empty_state lines loads loaded full; first = refl } in
+    let is = all_of form version base 1 (loaded_by loads policy) asked turns begins asks in
     let edits : edits_of now ≡ reverse is.lines = ap reverse (ap (map (λ (m : Made). m.line)) is.made ∙ lines_made version base is.lines) in
     loads_net (of_script form) (version_of (lines ++ edits_of now)) 1 empty_state (lines ++ edits_of now) whole again too
     ∙ ap (λ l. script_net (version_of (lines ++ l)) 1 empty_net (lines ++ l)) edits

@@ -10,6 +10,7 @@ use Rattle.mst_lang.specs.declared.line.Line.TheVariants.{Blank, Mark, Edit as e
 use Rattle.mst_lang.specs.declared.line.Query.{Query}
 use Rattle.mst_lang.specs.declared.line.Version.{Version}
 use Rattle.mst_net.specs.After.{after}
+use Rattle.mst_judging.specs.Verifying.{Verifies}
 use Rattle.mst_net.specs.Tables.{Net, IsNetwork}
 use Rattle.mst_net.specs.declared.refusal.Refusal.{Refusal}
 use Rattle.mst_engine.specs.Script.{ServesRead, answered as answered_by, marked}
@@ -17,23 +18,31 @@ use Rattle.mst_engine.specs.Steps.{Step, silent}
 use Rattle.mst_engine.specs.report.Answers.{Answers}
 use Rattle.mst_engine.specs.report.State.{State, IsState}
 use Rattle.mst_engine.proofs.OneRun.{Laws, answered_keeps}
+use Rattle.mst_policy.specs.declared.policy.PolicyLine.{PolicyLine}
 use Rattle.mst_print.specs.Shape.{of_script}
 use Rattle.mst_print.specs.declared.form.Form.{Form}
 use Rattle.mst_print.specs.declared.form.Shape.{Shape}
 use Rattle.mst_rows.specs.Rows.{Row}
 use Rattle.mst_tool.specs.Ask.{is_refused}
+use Rattle.mst_tool.specs.Shown.{verify_row}
 use Rattle.mst_tool.proofs.EarlyRefusals.{refused_answer}
+use Rattle.mst_tool.proofs.Shown.{one_shown}
 use Rattle.mst_tool.proofs.WholeLoad.{OneOfEach, one_answer}
+use Rattle.mst_verdict.specs.Verified.{Counts}
 use Rattle.mst_ask.specs.Requests.{request_of}
-use Rattle.mst_ask.specs.Standing.{Made, Standing, Turn, Asks, AsksBy, AsksLine, IsStanding, answered, back, declined, edited, lacking_of, left_after, passed, starved, stepped, undone}
+use Rattle.mst_ask.specs.Standing.{Made, Standing, Turn, Asks, AsksBy, AsksLine, IsStanding, answered, back, declined, edited, lacking_of, left_after, passed, starved, stepped, undone, verified}
 use Rattle.mst_ask.specs.declared.request.Request.{Request}
-use Rattle.mst_ask.specs.declared.request.Request.TheVariants.{Script, Word, Undo}
+use Rattle.mst_ask.specs.declared.request.Request.TheVariants.{Script, Word, Undo, Verify}
 use Rattle.mst_ask.proofs.Requests.{script_said}
 use Rattle.mst_ask.proofs.Turns.{alike_both, asks-first, asks-none}
 
 -- what each edit that a line asks for says is in its range
 abbrev InRanges : Result Request Fault → Type 0
 InRanges request = (e : Edit) → request ≡ Ok (Script (edit e)) → InRange e
+
+-- a network is judged by a policy in one way
+abbrev pub OneVerification : Type 0
+OneVerification = (net : Net) (lines : List PolicyLine) (c d : Counts) (rows other : List Row) → IsNetwork net → Verifies net lines c rows → Verifies net lines d other → (c ≡ d) × (rows ≡ other)
 
 module _ (laws : Laws) (form : Form) where
   shape : Shape
@@ -96,6 +105,8 @@ module _ (laws : Laws) (form : Form) where
   turn_kept number now line (Ok (Word question)) t is ranges (inr h) = turn_is t (starved form number now) h.1 is
   turn_kept number now line (Ok (Undo count)) t is ranges (inl h) = turn_is t (undone form number count now (back count now.state.net now.made)) h (undone_kept number count now (back count now.state.net now.made) is refl)
   turn_kept number now line (Ok (Undo count)) t is ranges (inr h) = turn_is t (starved form number now) h.1 is
+  turn_kept number now line (Ok Verify) t is ranges (inl h) = turn_is t (verified form now h.0 h.1) h.3 is
+  turn_kept number now line (Ok Verify) t is ranges (inr h) = turn_is t (starved form number now) h is
 
   pub line_kept : (version : Version) (number : ℕ) (now : Standing) (line : List ℕ) (t : Turn) → IsStanding now → AsksLine form version number now line t → IsStanding t.standing
   line_kept version number now line t is h = turn_kept number now line (request_of version line) t is (ranges_of version line) h
@@ -128,6 +139,7 @@ module _ (laws : Laws) (form : Form) where
         by true h = let a = refused_answer form now.state.net question h in (answered form now a.0 a.1, inl (a.0, a.1, a.2, refl))
         by false h = (starved form number now, inr (h, refl))
     some_turn number now line (Ok (Undo count)) is = (undone form number count now (back count now.state.net now.made), inl refl)
+    some_turn number now line (Ok Verify) is = (starved form number now, inr refl)
 
     pub some_turns : (version : Version) (number : ℕ) (now : Standing) (lines : List (List ℕ)) → IsStanding now → (turns : List Turn) × AsksBy form version number now lines turns
     some_turns version number now [] is = ([], asks-none form version number now)
@@ -159,7 +171,7 @@ module _ (laws : Laws) (form : Form) where
   steps_alike : (now : Standing) (s t : Turn) (a b : Step) → s ≡ stepped form now a → t ≡ stepped form now b → s.lacking ≡ t.lacking → a.lacking ≡ b.lacking
   steps_alike now s t a b h k alike = sym (ap (λ (u : Turn). u.lacking) h) ∙ alike ∙ ap (λ (u : Turn). u.lacking) k
 
-  module _ (answers : (q : Query) (now : State) (a b : Result (List Row) Refusal) → IsNetwork now.net → Answers q now a → Answers q now b → a ≡ b) (one : OneOfEach) where
+  module _ (answers : (q : Query) (now : State) (a b : Result (List Row) Refusal) → IsNetwork now.net → Answers q now a → Answers q now b → a ≡ b) (one : OneOfEach) (judged : OneVerification) where
     one_turn : (number : ℕ) (now : Standing) (line : List ℕ) (request : Result Request Fault) (s t : Turn) → IsStanding now → Asks form number now line request s → Asks form number now line request t → s.lacking ≡ t.lacking → s ≡ t
     one_turn number now line (Err f) s t is h k alike = h ∙ sym k
     one_turn number now line (Ok (Script Blank)) s t is h k alike = h ∙ sym k
@@ -181,6 +193,13 @@ module _ (laws : Laws) (form : Form) where
     one_turn number now line (Ok (Word question)) s t is (inl h) (inl k) alike =
         let same = one_answer one form now.state.net question h.0 k.0 h.1 k.1 is.state.network h.2 k.2 in
         h.3 ∙ (λ i. answered form now (sym same.0 i) (sym same.1 i)) ∙ sym k.3
+    one_turn number now line (Ok Verify) s t is (inr h) (inr k) alike = h ∙ sym k
+    one_turn number now line (Ok Verify) s t is (inl h) (inr k) alike = absurd (not_both s t (verified form now h.0 h.1) number now refl h.3 k alike)
+    one_turn number now line (Ok Verify) s t is (inr h) (inl k) alike = absurd (not_both t s (verified form now k.0 k.1) number now refl k.3 h (sym alike))
+    one_turn number now line (Ok Verify) s t is (inl h) (inl k) alike =
+        let net = now.state.net in
+        let same = one_shown form verify_row (Verifies net now.policy k.0) (Verifies net now.policy h.0) (k.0 ≡ h.0) (λ rows other p q. let both = judged net now.policy k.0 h.0 rows other is.state.network p q in (both.1, both.0)) k.1 h.1 k.2 h.2 in
+        h.3 ∙ (λ i. verified form now (sym same.1 i) (sym same.0 i)) ∙ sym k.3
 
     pub one_asked : (version : Version) (number : ℕ) (now : Standing) (lines : List (List ℕ)) (a b : List Turn) → IsStanding now → AsksBy form version number now lines a → AsksBy form version number now lines b → lacking_of a ≡ lacking_of b → a ≡ b
     unfolding AsksBy

@@ -41,7 +41,7 @@ module _ (old : Standing) (planner : Planned) (made : Vec (Vec ℕ Global) Globa
     edit_stands mark =
         let edits = ap (λ lines. made_in old.version (net_of_script old.script.items) (reverse lines)) (one_more old.made.items made.items line keeps)
         ∙ made_more old.version (net_of_script old.script.items) (planned_state old.planner).net (lines_kept old) line kept.net in
-        λ i. record { state = record { net = (planned_state planner).net; mark = mark i }; made = edits i }
+        λ i. record { state = record { net = (planned_state planner).net; mark = mark i }; policy = old.policy; made = edits i }
 
   -- ---- edits that were taken back
   module _ (left count : ℕ) (all : left + count ≡ length old.made.items) (items : made.items ≡ take left old.made.items)
@@ -70,7 +70,7 @@ module _ (old : Standing) (planner : Planned) (made : Vec (Vec ℕ Global) Globa
         → replied form number (standing_of (record old { planner = planner; made = made })) (Undone text) ≡ undone form number count (standing_of old) (back count (planned_state old.planner).net (standing_of old).made)
     undo_stands form number text told mark =
         let printed = told ∙ ap (listed form) rows in
-        (λ i. turned form (record { state = record { net = (planned_state planner).net; mark = mark i }; made = made_in old.version (net_of_script old.script.items) (reverse (map (λ (l : Vec ℕ Global). l.items) made.items)) }) (printed i) false false false)
+        (λ i. turned form (record { state = record { net = (planned_state planner).net; mark = mark i }; policy = old.policy; made = made_in old.version (net_of_script old.script.items) (reverse (map (λ (l : Vec ℕ Global). l.items) made.items)) }) (printed i) false false false)
         ∙ ap (undone form number count (standing_of old)) was
 
 -- there were fewer

@@ -17,12 +17,15 @@ use Rattle.mst_engine.specs.Script.{Loads, LoadsAll, version_of}
 use Rattle.mst_engine.specs.Steps.{Step, RunsBy, left_by, lacking_of as lines_lacking, lacks_of as lines_lack, texts_of}
 use Rattle.mst_engine.specs.report.State.{IsState, empty_state}
 use Rattle.mst_engine.proofs.Steps.{runs-none}
+use Rattle.mst_policy.specs.Lines.{policy_from}
+use Rattle.mst_policy.specs.declared.policy.PolicyLine.{PolicyLine}
 use Rattle.mst_print.specs.Shape.{of_script}
 use Rattle.mst_print.specs.declared.form.Form.{Form}
 use Rattle.mst_print.specs.declared.form.Shape.{Shape}
+use Rattle.mst_tool.specs.Lines.{AreLines}
 use Rattle.mst_tool.specs.Load.{LoadsEnded, LoadsFront}
 use Rattle.mst_ask.specs.Answering.{Answered, AnsweredEnded, AnsweredFront, IsFront, IsScript}
-use Rattle.mst_ask.specs.Asking.{Answers, AnswersEnded, Stands, StandsFront, loaded_by, opening}
+use Rattle.mst_ask.specs.Asking.{Answers, AnswersEnded, Begins, Stands, StandsFront, loaded_by, opening}
 use Rattle.mst_ask.specs.Kept.{standing_of}
 use Rattle.mst_ask.specs.Lines.{lines_in}
 use Rattle.mst_ask.specs.Opening.{IsBrokenAfter, IsPrinted, Opens, OpensNot}
@@ -49,7 +52,7 @@ abbrev pub OneAsking : Type 0
 OneAsking = (form : Form) (version : Version) (number : ℕ) (now : Standing) (lines : List (List ℕ)) (a b : List Turn) → IsStanding now → AsksBy form version number now lines a → AsksBy form version number now lines b → lacking_of a ≡ lacking_of b → a ≡ b
 
 abbrev pub LeavesStanding : Type 0
-LeavesStanding = (form : Form) (lines : List (List ℕ)) (loads : List Step) → LoadsAll (of_script form) lines loads → IsStanding (loaded_by loads)
+LeavesStanding = (form : Form) (lines : List (List ℕ)) (loads : List Step) (policy : List PolicyLine) → LoadsAll (of_script form) lines loads → IsStanding (loaded_by loads policy)
 
 pub record Ways : Type 0 where
   pub loads : AlwaysLoads
@@ -71,6 +74,10 @@ no_step shape s loads h = h
 reads_all : (reads : Option (List ℕ)) → Reads reads (unwrap_or reads [])
 reads_all None = tt
 reads_all (Some bytes) = refl
+
+-- and some lines of a policy
+some_lines : (policies : Option (List ℕ)) → AreLines policies (policy_from 1 (lines_of (unwrap_or policies [])))
+some_lines policies = (unwrap_or policies [], reads_all policies, refl)
 
 module _ (ways : Ways) (form : Form) where
   empty_is : IsState empty_state
@@ -139,68 +146,97 @@ module _ (ways : Ways) (form : Form) where
       }
 
   -- ---- after the script
-  abbrev answers_by : (scripts : Option (List ℕ)) (script : List ℕ) (loads : List Step) (lines : List (List ℕ)) (turns : List Turn) → Reads scripts script → LoadsAll (of_script form) (lines_of script) loads → lines_lack loads ≡ 0
-      → AsksBy form (version_of (lines_of script)) 1 (loaded_by loads) lines turns → Answers form scripts lines
-  answers_by scripts script loads lines turns read loaded full asks = record {
+  abbrev answers_by : (scripts policies : Option (List ℕ)) (script : List ℕ) (loads : List Step) (policy : List PolicyLine) (lines : List (List ℕ)) (turns : List Turn) → Reads scripts script → LoadsAll (of_script form) (lines_of script) loads → lines_lack loads ≡ 0
+      → AreLines policies policy → AsksBy form (version_of (lines_of script)) 1 (loaded_by loads policy) lines turns → Answers form scripts policies lines
+  answers_by scripts policies script loads policy lines turns read loaded full are asks = record {
     script = script;
     loads = loads;
+    policy = policy;
     turns = turns;
     script_read = read;
     loaded = loaded;
     full = full;
+    are_lines = are;
     answered = asks;
     only_script = λ others again too. ways.one_script (of_script form) script others loads again loaded too full;
-    only_turns = λ others again. ways.one_asking form (version_of (lines_of script)) 1 (loaded_by loads) lines others turns (ways.standings form (lines_of script) loads loaded) again asks;
+    only_turns = λ others again. ways.one_asking form (version_of (lines_of script)) 1 (loaded_by loads policy) lines others turns (ways.standings form (lines_of script) loads policy loaded) again asks;
   }
 
-  pub broken_after : (turns : ℕ) (scripts left questions written now : Option (List ℕ)) (old new : Told) (script : Script) → IsScript turns scripts left old new script → IsBrokenAfter form script written now → StandsFront form scripts questions written now
-  broken_after turns scripts left questions written now old new script is b =
+  -- a front of what is told before the first question
+  begun_front : (scripts policies questions written now : Option (List ℕ)) (script : List ℕ) (loads : List Step) → Reads scripts script → LoadsAll (of_script form) (lines_of script) loads → lines_lack loads ≡ 0 → AppendsFront written now (opening form loads)
+      → StandsFront form scripts policies questions written now
+  begun_front scripts policies questions written now script loads read loaded full front =
       let asked = unwrap_or questions [] in
-      let more = ways.asks form (version_of (lines_of script.bytes.items)) 1 (loaded_by b.loads) (lines_of asked) (ways.standings form (lines_of script.bytes.items) b.loads b.loaded) in
+      let policy = policy_from 1 (lines_of (unwrap_or policies [])) in
+      let more = ways.asks form (version_of (lines_of script)) 1 (loaded_by loads policy) (lines_of asked) (ways.standings form (lines_of script) loads policy loaded) in
       inr (record {
         asked = asked;
-        answers = answers_by scripts script.bytes.items b.loads (lines_of asked) more.0 (Reads-all scripts left script.bytes.items is.consumed (is.whole b.whole).0) b.loaded b.full more.1;
+        answers = answers_by scripts policies script loads policy (lines_of asked) more.0 read loaded full (some_lines policies) more.1;
         questions_read = reads_all questions;
-        printed = AppendsFront-longer written now (opening form b.loads) (answers_of more.0) b.front;
+        printed = AppendsFront-longer written now (opening form loads) (answers_of more.0) front;
       })
 
+  pub broken_after : (turns : ℕ) (scripts left policies questions written now : Option (List ℕ)) (old new : Told) (script : Script) → IsScript turns scripts left old new script → IsBrokenAfter form script written now → StandsFront form scripts policies questions written now
+  broken_after turns scripts left policies questions written now old new script is b =
+      begun_front scripts policies questions written now script.bytes.items b.loads (Reads-all scripts left script.bytes.items is.consumed (is.whole b.whole).0) b.loaded b.full b.front
+
   -- why it wasn't loaded
-  pub not_opened : (turns : ℕ) (scripts left questions written now : Option (List ℕ)) (old new : Told) (script : Script) (fault : RunFault) → IsScript turns scripts left old new script → OpensNot form script written now fault → StandsFront form scripts questions written now
-  not_opened turns scripts left questions written now old new script Read is p = inl (script_printed turns scripts left written now old new script is p.1)
-  not_opened turns scripts left questions written now old new script Write is (inl f) = inl (script_front turns scripts left written now old new script is f)
-  not_opened turns scripts left questions written now old new script Write is (inr b) = broken_after turns scripts left questions written now old new script is b
-  not_opened turns scripts left questions written now old new script Memory is p = inl (script_printed turns scripts left written now old new script is p.1)
+  pub not_opened : (turns : ℕ) (scripts left policies questions written now : Option (List ℕ)) (old new : Told) (script : Script) (fault : RunFault) → IsScript turns scripts left old new script → OpensNot form script written now fault → StandsFront form scripts policies questions written now
+  not_opened turns scripts left policies questions written now old new script Read is p = inl (script_printed turns scripts left written now old new script is p.1)
+  not_opened turns scripts left policies questions written now old new script Write is (inl f) = inl (script_front turns scripts left written now old new script is f)
+  not_opened turns scripts left policies questions written now old new script Write is (inr b) = broken_after turns scripts left policies questions written now old new script is b
+  not_opened turns scripts left policies questions written now old new script Memory is p = inl (script_printed turns scripts left written now old new script is p.1)
 
-  module _ (turns : ℕ) (scripts left questions written mid now : Option (List ℕ)) (old new : Told) (script : Script) (asking : Asking) (is : IsScript turns scripts left old new script) (o : Opens form script written mid asking) where
-    -- what was asked, from what the script left on
-    abbrev asked_by : (lines : List (List ℕ)) (done : List Turn) → AsksBy form asking.standing.version 1 (standing_of asking.standing) lines done → Answers form scripts lines
-    asked_by lines done asks =
-        answers_by scripts script.bytes.items o.loads lines done (Reads-all scripts left script.bytes.items is.consumed (is.whole o.whole).0) o.loaded o.full
-        (subst (λ from. AsksBy form (version_of (lines_of script.bytes.items)) 1 from lines done) o.standing (subst (λ version. AsksBy form version 1 (standing_of asking.standing) lines done) o.version asks))
-
-    pub stands : (after : Asking) (outcome : Outcome) → Answered form asking.standing.version (standing_of asking.standing) questions mid now (tally_of after) → outcome ≡ record after.outcome { refused = after.loaded + after.outcome.refused } → after.loaded ≡ asking.loaded → Stands form scripts questions written now outcome
-    stands after outcome a counted same = record {
-      asked = a.bytes;
-      answers = asked_by (lines_of a.bytes) a.turns a.asks;
-      questions_read = a.read;
-      printed = Appends-trans written mid now (opening form o.loads) (answers_of a.turns) o.printed a.printed;
-      memory = ap (λ (x : Outcome). x.memory) counted ∙ a.memory;
-      refused = ap (λ (x : Outcome). x.refused) counted ∙ (λ i. (same ∙ o.refused) i + a.refused i);
-      differing = ap (λ (x : Outcome). x.differing) counted ∙ a.differing;
+  module _ (turns : ℕ) (scripts left policies questions written mid : Option (List ℕ)) (old new : Told) (script : Script) (policy : List PolicyLine) (asking : Asking) (is : IsScript turns scripts left old new script)
+      (o : Opens form script policy written mid asking) where
+    -- it was loaded, and nothing else was done
+    pub begins : Begins form scripts written mid
+    begins = record {
+      script = script.bytes.items;
+      loads = o.loads;
+      script_read = Reads-all scripts left script.bytes.items is.consumed (is.whole o.whole).0;
+      loaded = o.loaded;
+      full = o.full;
+      printed = o.printed;
+      only_script = λ others again too. ways.one_script (of_script form) script.bytes.items others o.loads again o.loaded too o.full;
     }
 
-    pub stands_front : AnsweredFront form asking.standing.version (standing_of asking.standing) questions mid now → StandsFront form scripts questions written now
-    stands_front a = inr (record {
-      asked = a.bytes;
-      answers = asked_by (lines_of a.bytes) a.turns a.asks;
-      questions_read = a.read;
-      printed = AppendsFront-after written mid now (opening form o.loads) (answers_of a.turns) o.printed a.printed;
-    })
+    pub begins_front : StandsFront form scripts policies questions written mid
+    begins_front =
+        begun_front scripts policies questions written mid script.bytes.items o.loads (Reads-all scripts left script.bytes.items is.consumed (is.whole o.whole).0) o.loaded o.full
+        (record { front = opening form o.loads; rest = []; whole = sym (append-nil (opening form o.loads)); written = o.printed })
 
-    pub stands_ended : (left_over : Option (List ℕ)) → AnsweredEnded form asking.standing.version (standing_of asking.standing) questions left_over mid now → AnswersEnded form scripts questions left_over written now
-    stands_ended left_over a = record {
-      read = a.read;
-      answers = asked_by (ended_lines a.read) a.turns a.asks;
-      consumed = a.consumed;
-      printed = Appends-trans written mid now (opening form o.loads) (answers_of a.turns) o.printed a.printed;
-    }
+    module _ (now : Option (List ℕ)) (are : AreLines policies policy) where
+      -- what was asked, from what the script left on
+      abbrev asked_by : (lines : List (List ℕ)) (done : List Turn) → AsksBy form asking.standing.version 1 (standing_of asking.standing) lines done → Answers form scripts policies lines
+      asked_by lines done asks =
+          answers_by scripts policies script.bytes.items o.loads policy lines done (Reads-all scripts left script.bytes.items is.consumed (is.whole o.whole).0) o.loaded o.full are
+          (subst (λ from. AsksBy form (version_of (lines_of script.bytes.items)) 1 from lines done) o.standing (subst (λ version. AsksBy form version 1 (standing_of asking.standing) lines done) o.version asks))
+
+      pub stands : (after : Asking) (outcome : Outcome) → Answered form asking.standing.version (standing_of asking.standing) questions mid now (tally_of after) → outcome ≡ record after.outcome { refused = after.loaded + after.outcome.refused } → after.loaded ≡ asking.loaded
+          → Stands form scripts policies questions written now outcome
+      stands after outcome a counted same = record {
+        asked = a.bytes;
+        answers = asked_by (lines_of a.bytes) a.turns a.asks;
+        questions_read = a.read;
+        printed = Appends-trans written mid now (opening form o.loads) (answers_of a.turns) o.printed a.printed;
+        memory = ap (λ (x : Outcome). x.memory) counted ∙ a.memory;
+        refused = ap (λ (x : Outcome). x.refused) counted ∙ (λ i. (same ∙ o.refused) i + a.refused i);
+        differing = ap (λ (x : Outcome). x.differing) counted ∙ a.differing;
+      }
+
+      pub stands_front : AnsweredFront form asking.standing.version (standing_of asking.standing) questions mid now → StandsFront form scripts policies questions written now
+      stands_front a = inr (record {
+        asked = a.bytes;
+        answers = asked_by (lines_of a.bytes) a.turns a.asks;
+        questions_read = a.read;
+        printed = AppendsFront-after written mid now (opening form o.loads) (answers_of a.turns) o.printed a.printed;
+      })
+
+      pub stands_ended : (left_over : Option (List ℕ)) → AnsweredEnded form asking.standing.version (standing_of asking.standing) questions left_over mid now → AnswersEnded form scripts policies questions left_over written now
+      stands_ended left_over a = record {
+        read = a.read;
+        answers = asked_by (ended_lines a.read) a.turns a.asks;
+        consumed = a.consumed;
+        printed = Appends-trans written mid now (opening form o.loads) (answers_of a.turns) o.printed a.printed;
+      }

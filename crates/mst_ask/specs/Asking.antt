@@ -8,41 +8,46 @@ use Rattle.mst_engine.specs.Steps.{Step, left_by, texts_of}
 use Rattle.mst_engine.specs.report.State.{empty_state}
 use Rattle.mst_io.specs.Written.{AppendsFront, Reads}
 use Rattle.mst_io.specs.declared.outcome.Outcome.{Outcome}
+use Rattle.mst_policy.specs.declared.policy.PolicyLine.{PolicyLine}
 use Rattle.mst_print.specs.Shape.{of_script}
 use Rattle.mst_print.specs.declared.form.Form.{Form}
+use Rattle.mst_tool.specs.Lines.{AreLines}
 use Rattle.mst_tool.specs.Load.{LoadsEnded, LoadsFront}
 use Rattle.mst_ask.specs.Standing.{Standing, Turn, AsksBy, answers_of, differing_of, done, lacking_of, lacks_of, refusals_of, status_by}
 
--- what stands where a script was loaded by these steps: no edit was made since
-abbrev pub loaded_by : List Step → Standing
-loaded_by loads = record { state = left_by empty_state loads; made = [] }
+-- what stands where a script was loaded by these steps, with a policy: no edit was made since
+abbrev pub loaded_by : List Step → List PolicyLine → Standing
+loaded_by loads policy = record { state = left_by empty_state loads; policy = policy; made = [] }
 
 -- what the script's lines print, and the end of that
 abbrev pub opening : Form → List Step → List ℕ
 opening form loads = texts_of loads ++ done form (status_by (not (steps.refusals_of loads == 0)) false false)
 
--- A script that the reader gives, and what its lines do where its network is loaded: none lacks memory. And these lines of
--- questions, and the turns that they do, from what the script leaves on. Neither has others that lack memory at the same lines
-pub record Answers (form : Form) (scripts : Option (List ℕ)) (asked : List (List ℕ)) : Type 0 where
+-- A script that the reader gives, and what its lines do where its network is loaded: none lacks memory. The lines of the policy that
+-- its reader gives. And these lines of questions, and the turns that they do, from what the script leaves on. Neither the script nor
+-- these have others that lack memory at the same lines
+pub record Answers (form : Form) (scripts policies : Option (List ℕ)) (asked : List (List ℕ)) : Type 0 where
   pub script : List ℕ
   pub loads : List Step
+  pub policy : List PolicyLine
   pub turns : List Turn
   pub script_read : Reads scripts script
   pub loaded : LoadsAll (of_script form) (lines_of script) loads
   pub full : steps.lacks_of loads ≡ 0
-  pub answered : AsksBy form (version_of (lines_of script)) 1 (loaded_by loads) asked turns
+  pub are_lines : AreLines policies policy
+  pub answered : AsksBy form (version_of (lines_of script)) 1 (loaded_by loads policy) asked turns
   pub only_script : (others : List Step) → LoadsAll (of_script form) (lines_of script) others → steps.lacks_of others ≡ 0 → others ≡ loads
-  pub only_turns : (others : List Turn) → AsksBy form (version_of (lines_of script)) 1 (loaded_by loads) asked others → lacking_of others ≡ lacking_of turns → others ≡ turns
+  pub only_turns : (others : List Turn) → AsksBy form (version_of (lines_of script)) 1 (loaded_by loads policy) asked others → lacking_of others ≡ lacking_of turns → others ≡ turns
 
 -- what all of it prints
-abbrev pub printed_by : {form : Form} {scripts : Option (List ℕ)} {asked : List (List ℕ)} → Answers form scripts asked → List ℕ
+abbrev pub printed_by : {form : Form} {scripts policies : Option (List ℕ)} {asked : List (List ℕ)} → Answers form scripts policies asked → List ℕ
 printed_by {form} a = opening form a.loads ++ answers_of a.turns
 
 -- The script was loaded and all questions were answered, and what they print was written. The outcome counts the lines and the
 -- questions that were refused, those that lacked memory, and those that tell of something that differs
-pub record Stands (form : Form) (scripts questions written now : Option (List ℕ)) (outcome : Outcome) : Type 0 where
+pub record Stands (form : Form) (scripts policies questions written now : Option (List ℕ)) (outcome : Outcome) : Type 0 where
   pub asked : List ℕ
-  pub answers : Answers form scripts (lines_of asked)
+  pub answers : Answers form scripts policies (lines_of asked)
   pub questions_read : Reads questions asked
   pub printed : Appends written now (printed_by answers)
   pub memory : outcome.memory ≡ lacks_of answers.turns
@@ -50,24 +55,40 @@ pub record Stands (form : Form) (scripts questions written now : Option (List �
   pub differing : outcome.differing ≡ differing_of answers.turns
 
 -- a front of what the script and the questions print was written
-pub record AnswersFront (form : Form) (scripts questions written now : Option (List ℕ)) : Type 0 where
+pub record AnswersFront (form : Form) (scripts policies questions written now : Option (List ℕ)) : Type 0 where
   pub asked : List ℕ
-  pub answers : Answers form scripts (lines_of asked)
+  pub answers : Answers form scripts policies (lines_of asked)
   pub questions_read : Reads questions asked
   pub printed : AppendsFront written now (printed_by answers)
 
 -- one of the two: it was stopped in the script, or after it
-abbrev pub StandsFront : Form → Option (List ℕ) → Option (List ℕ) → Option (List ℕ) → Option (List ℕ) → Type 0
-StandsFront form scripts questions written now = LoadsFront (of_script form) scripts written now ⊎ AnswersFront form scripts questions written now
+abbrev pub StandsFront : Form → Option (List ℕ) → Option (List ℕ) → Option (List ℕ) → Option (List ℕ) → Option (List ℕ) → Type 0
+StandsFront form scripts policies questions written now = LoadsFront (of_script form) scripts written now ⊎ AnswersFront form scripts policies questions written now
+
+-- The script was loaded, and what it prints was written, and the end of that, and nothing else. It has no other steps of which none
+-- lacks memory
+pub record Begins (form : Form) (scripts written now : Option (List ℕ)) : Type 0 where
+  pub script : List ℕ
+  pub loads : List Step
+  pub script_read : Reads scripts script
+  pub loaded : LoadsAll (of_script form) (lines_of script) loads
+  pub full : steps.lacks_of loads ≡ 0
+  pub printed : Appends written now (opening form loads)
+  pub only_script : (others : List Step) → LoadsAll (of_script form) (lines_of script) others → steps.lacks_of others ≡ 0 → others ≡ loads
+
+-- it was stopped for want of memory before the first question: in the script, or in the policy behind it
+abbrev pub Unasked : Form → Option (List ℕ) → Option (List ℕ) → Option (List ℕ) → Type 0
+Unasked form scripts written now = LoadsFront (of_script form) scripts written now ⊎ Begins form scripts written now
 
 -- The reader of the questions has given these bytes, as far as it tells, and has some left. The lines that they complete were
 -- answered, and the whole of what the script and these print was written, and nothing else
-pub record AnswersEnded (form : Form) (scripts questions left written now : Option (List ℕ)) : Type 0 where
+pub record AnswersEnded (form : Form) (scripts policies questions left written now : Option (List ℕ)) : Type 0 where
   pub read : List ℕ
-  pub answers : Answers form scripts (ended_lines read)
+  pub answers : Answers form scripts policies (ended_lines read)
   pub consumed : Consumes questions left read
   pub printed : Appends written now (printed_by answers)
 
--- a reader failed: that of the script, so that no question was answered, or that of the questions
-abbrev pub StandsEnded : Form → Option (List ℕ) → Option (List ℕ) → Option (List ℕ) → Option (List ℕ) → Option (List ℕ) → Option (List ℕ) → Type 0
-StandsEnded form scripts scripts_left questions questions_left written now = LoadsEnded (of_script form) scripts scripts_left written now ⊎ AnswersEnded form scripts questions questions_left written now
+-- a reader failed: that of the script or that of the policy, so that no question was answered, or that of the questions
+abbrev pub StandsEnded : Form → Option (List ℕ) → Option (List ℕ) → Option (List ℕ) → Option (List ℕ) → Option (List ℕ) → Option (List ℕ) → Option (List ℕ) → Type 0
+StandsEnded form scripts scripts_left policies questions questions_left written now =
+    LoadsEnded (of_script form) scripts scripts_left written now ⊎ (Begins form scripts written now ⊎ AnswersEnded form scripts policies questions questions_left written now)

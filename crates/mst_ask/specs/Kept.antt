@@ -64,7 +64,7 @@ lines_kept kept = map (λ line. line.items) kept.made.items
 
 -- what stands
 abbrev pub standing_of : Standing → What
-standing_of kept = record { state = planned_state kept.planner; made = made_in kept.version (net_of_script kept.script.items) (reverse (lines_kept kept)) }
+standing_of kept = record { state = planned_state kept.planner; policy = kept.policy; made = made_in kept.version (net_of_script kept.script.items) (reverse (lines_kept kept)) }
 
 -- lines are read by the version of the script, and the network is the one that the script and the lines make
 pub record IsKept (kept : Standing) : Type 0 where

@@ -7,6 +7,7 @@ use Rattle.mst_engine.specs.Steps.{Step, lacks_of, refusals_of, texts_of}
 use Rattle.mst_io.specs.Written.{AppendsFront}
 use Rattle.mst_io.specs.declared.outcome.RunFault.{RunFault}
 use Rattle.mst_io.specs.declared.outcome.RunFault.TheVariants.{Read, Write, Memory}
+use Rattle.mst_policy.specs.declared.policy.PolicyLine.{PolicyLine}
 use Rattle.mst_print.specs.Shape.{of_script}
 use Rattle.mst_print.specs.declared.form.Form.{Form}
 use Rattle.mst_ask.specs.Answering.{IsFront}
@@ -17,8 +18,8 @@ use Rattle.mst_ask.specs.Turning.{begun, tally_of}
 use Rattle.mst_ask.specs.declared.feed.Asking.{Asking}
 use Rattle.mst_ask.specs.declared.script.Script.{Script}
 
--- the whole script was loaded, no line of it lacked memory, and what it prints was written, and the end of that
-pub record Opens (form : Form) (script : Script) (written now : Option (List ℕ)) (asking : Asking) : Type 0 where
+-- the whole script was loaded, no line of it lacked memory, and what it prints was written, and the end of that. It stands with this policy
+pub record Opens (form : Form) (script : Script) (policy : List PolicyLine) (written now : Option (List ℕ)) (asking : Asking) : Type 0 where
   pub whole : script.is_whole ≡ true
   pub loads : List Step
   pub loaded : LoadsAll (of_script form) (lines_of script.bytes.items) loads
@@ -27,7 +28,7 @@ pub record Opens (form : Form) (script : Script) (written now : Option (List ℕ
   pub kept : IsKept asking.standing
   pub prints : asking.standing.form ≡ form
   pub version : asking.standing.version ≡ version_of (lines_of script.bytes.items)
-  pub standing : standing_of asking.standing ≡ loaded_by loads
+  pub standing : standing_of asking.standing ≡ loaded_by loads policy
   pub begins : tally_of asking ≡ begun (standing_of asking.standing)
   pub refused : asking.loaded ≡ refusals_of loads
   pub few : asking.loaded < 2 ^ 60

@@ -14,7 +14,7 @@ use Rattle.mst_tool.specs.Ask.{dot_question, explain_question, keeps, sweep_ques
 use Rattle.mst_tool.specs.declared.asked.Question.{Question}
 use Rattle.mst_tool.specs.declared.asked.Question.TheVariants.{Summary}
 use Rattle.mst_ask.specs.declared.request.Request.{Request}
-use Rattle.mst_ask.specs.declared.request.Request.TheVariants.{Script, Word, Undo}
+use Rattle.mst_ask.specs.declared.request.Request.TheVariants.{Script, Word, Undo, Verify}
 
 -- what stands behind `explain`: B and P, or B, P and TREE. With another number of words there is no such command
 abbrev pub explain_words : List (List ℕ) → Result Request Fault
@@ -61,6 +61,11 @@ undo_words [] = Ok (Undo 1)
 undo_words (word ∷ []) = count_of word
 undo_words _ = Err E01
 
+-- behind `verify`: nothing
+abbrev pub verify_words : List (List ℕ) → Result Request Fault
+verify_words [] = Ok Verify
+verify_words _ = Err E01
+
 -- what words ask of which the first is one of these
 abbrev pub asked_as : List ℕ → List (List ℕ) → Option (Result Request Fault)
 asked_as word behind =
@@ -68,7 +73,8 @@ asked_as word behind =
     else (if bytes_eq word (codes "summary") then Some (summary_words behind)
     else (if bytes_eq word (codes "sweep") then Some (sweep_words behind)
     else (if bytes_eq word (codes "dot") then Some (dot_words behind)
-    else (if bytes_eq word (codes "undo") then Some (undo_words behind) else None))))
+    else (if bytes_eq word (codes "undo") then Some (undo_words behind)
+    else (if bytes_eq word (codes "verify") then Some (verify_words behind) else None)))))
 
 abbrev pub asked_by : List (List ℕ) → Option (Result Request Fault)
 asked_by [] = None
@@ -95,3 +101,4 @@ abbrev pub Stays : Request → Type 0
 Stays (Script line) = Unit {0}
 Stays (Word question) = keeps question ≡ true
 Stays (Undo count) = Unit {0}
+Stays Verify = Unit {0}

@@ -16,25 +16,29 @@ use Rattle.mst_net.specs.declared.refusal.Refusal.TheVariants.{E99}
 use Rattle.mst_engine.specs.Script.{ServesRead}
 use Rattle.mst_engine.specs.Steps.{Step}
 use Rattle.mst_engine.specs.report.State.{State, IsState}
+use Rattle.mst_policy.specs.declared.policy.PolicyLine.{PolicyLine}
 use Rattle.mst_print.specs.Shape.{coded, listed, of_script}
 use Rattle.mst_print.specs.declared.form.Form.{Form}
 use Rattle.mst_rows.specs.Cells.{number as number_cell, word}
 use Rattle.mst_rows.specs.Rows.{Row, row_of}
 use Rattle.mst_tool.specs.Ask.{IsAnswer, Told, is_refused}
+use Rattle.mst_tool.specs.Verify.{TellsVerification}
 use Rattle.mst_tool.specs.declared.asked.Question.{Question}
+use Rattle.mst_verdict.specs.Verified.{Counts}
 use Rattle.mst_ask.specs.Requests.{request_of}
 use Rattle.mst_ask.specs.declared.request.Request.{Request}
-use Rattle.mst_ask.specs.declared.request.Request.TheVariants.{Script, Word, Undo}
+use Rattle.mst_ask.specs.declared.request.Request.TheVariants.{Script, Word, Undo, Verify}
 
 -- an edit that was made since the script was loaded: its line, and the network before it
 pub record Made : Type 0 where
   pub line : List ℕ
   pub before : Net
 
--- what stands between two questions: the network with its mark, and the edits that were made since the script was loaded, the
--- newest first
+-- what stands between two questions: the network with its mark, the policy by which it is judged, and the edits that were made since
+-- the script was loaded, the newest first
 pub record Standing : Type 0 where
   pub state : State
+  pub policy : List PolicyLine
   pub made : List Made
 
 -- it is a network with, if there is a mark, one of a network, and each edit was made in a network
@@ -91,7 +95,7 @@ stepped form now s = turned form (record now { state = s.state }) s.text s.refus
 
 -- an edit that was made in the line
 abbrev pub with_edit : Standing → List ℕ → Net → Standing
-with_edit now line new = record { state = record now.state { net = new }; made = record { line = line; before = now.state.net } ∷ now.made }
+with_edit now line new = record now { state = record now.state { net = new }; made = record { line = line; before = now.state.net } ∷ now.made }
 
 -- an edit, by what it makes of the network
 abbrev pub edited : Form → ℕ → Standing → List ℕ → Result Net Refusal → Turn
@@ -101,6 +105,10 @@ edited form number now line (Ok new) = turned form (with_edit now line new) [] f
 -- the answer to a word of the program
 abbrev pub answered : Form → Standing → Told → List ℕ → Turn
 answered form now told text = turned form now text (not (told.refused == 0)) false (not (told.differing == 0))
+
+-- the answer to `verify`, by what is counted of the policy
+abbrev pub verified : Form → Standing → Counts → List ℕ → Turn
+verified form now counts text = turned form now text (not (counts.refused == 0)) false (not (counts.failing == 0))
 
 -- what stood before the last so many edits, if so many were made: each is taken back in its turn, the newest first, and the
 -- network is then the one before it. The mark stays
@@ -118,7 +126,7 @@ undone_rows count made = map undone_row (take count made)
 
 abbrev pub undone : Form → ℕ → ℕ → Standing → Option (Net × List Made) → Turn
 undone form number count now None = declined form number now (fault.code_of E02) (fault.text_of E02)
-undone form number count now (Some was) = turned form (record { state = record now.state { net = was.0 }; made = was.1 }) (listed form (undone_rows count now.made)) false false false
+undone form number count now (Some was) = turned form (record now { state = record now.state { net = was.0 }; made = was.1 }) (listed form (undone_rows count now.made)) false false false
 
 -- ---- what a question does
 -- for want of memory an edit isn't made that may be, nor is one taken back that may be
@@ -128,6 +136,10 @@ OrStarved form number now May done t = (t ≡ done) ⊎ (May × (t ≡ starved f
 -- what a word of the program is answered, of the network as it stands
 abbrev pub Tells : Form → ℕ → Standing → Question → Turn → Type 0
 Tells form number now question t = (told : Told) × (text : List ℕ) × IsAnswer form now.state.net question told text × (t ≡ answered form now told text)
+
+-- what `verify` is answered: whether the network as it stands does what the policy promises
+abbrev pub TellsPolicy : Form → Standing → Turn → Type 0
+TellsPolicy form now t = (counts : Counts) × (text : List ℕ) × TellsVerification form now.state.net now.policy counts text × (t ≡ verified form now counts text)
 
 -- What the line of this number does, which asks this. What refuses it comes first and takes no memory: an edit and what takes edits back are
 -- refused so whatever is in the way, and a word of the program where the tables of the network tell it
@@ -139,6 +151,7 @@ Asks form number now line (Ok (Script (query q))) t = (s : Step) × ServesRead (
 Asks form number now line (Ok (Script (edit e))) t = OrStarved form number now (IsOk (after e now.state.net)) (edited form number now line (after e now.state.net)) t
 Asks form number now line (Ok (Word question)) t = Tells form number now question t ⊎ ((is_refused now.state.net question ≡ false) × (t ≡ starved form number now))
 Asks form number now line (Ok (Undo count)) t = OrStarved form number now (IsSome (back count now.state.net now.made)) (undone form number count now (back count now.state.net now.made)) t
+Asks form number now line (Ok Verify) t = TellsPolicy form now t ⊎ (t ≡ starved form number now)
 
 abbrev pub AsksLine : Form → Version → ℕ → Standing → List ℕ → Turn → Type 0
 AsksLine form version number now line t = Asks form number now line (request_of version line) t

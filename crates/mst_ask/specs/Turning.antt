@@ -4,6 +4,7 @@ use Rattle.mst_io.specs.Held.{lines_held}
 use Rattle.mst_io.specs.Written.{AppendsFront}
 use Rattle.mst_lang.specs.Lines.{last_line}
 use Rattle.mst_lang.specs.declared.line.Version.{Version}
+use Rattle.mst_policy.specs.declared.policy.PolicyLine.{PolicyLine}
 use Rattle.mst_print.specs.declared.form.Form.{Form}
 use Rattle.mst_ask.specs.Kept.{standing_of}
 use Rattle.mst_ask.specs.Standing.{Standing, Turn, AsksBy, answers_of, differing_of, lacks_of, left_after, refusals_of}
@@ -45,6 +46,10 @@ counted_more a v = record a {
     differing = a.outcome.differing + (if v.differs then 1 else 0);
   };
 }
+
+-- the same with a policy
+abbrev pub judged_by : Asking → List PolicyLine → Asking
+judged_by a policy = record a { standing = record a.standing { policy = policy } }
 
 -- no more are counted than there were
 pub record IsCounted (t : Tally) : Type 0 where

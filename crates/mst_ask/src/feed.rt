@@ -7,12 +7,13 @@ ghost use Rattle.mst_io.specs.Held.{ending};
 ghost use Rattle.mst_io.specs.Written.{AppendsFront};
 ghost use Rattle.mst_ask.specs.Kept.{IsKept, SameScript, standing_of};
 ghost use Rattle.mst_ask.specs.Standing.{AsksLine, IsStanding, Turn, answers_of};
-ghost use Rattle.mst_ask.specs.Turning.{Breaks, Feeds, IsCounted, begun, counted_more, tally_of, tallied};
+ghost use Rattle.mst_ask.specs.Turning.{Breaks, Feeds, IsCounted, begun, counted_more, judged_by, tally_of, tallied};
 
 use crate::laws::has_turns;
 use crate::reply::{Verdict, put_reply};
 use crate::standing::Standing;
 use mst_io::{HeldLine, Outcome, Sink, WriteFailed};
+use mst_policy::Policy;
 use mst_print::Form;
 
 /// What is kept from question to question.
@@ -43,6 +44,18 @@ impl Asking {
                 differing: 0,
             },
             loaded,
+        }
+    }
+
+    /// The same with this policy.
+    pub fn with_policy(self, policy: Policy) -> Asking
+        ensures { result ≡ judged_by self policy }
+    {
+        Asking {
+            standing: self.standing.with_policy(policy),
+            number: self.number,
+            outcome: self.outcome,
+            loaded: self.loaded,
         }
     }
 

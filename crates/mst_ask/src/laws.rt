@@ -6,6 +6,7 @@ ghost use Rattle.mst_engine.specs.Script.{LoadsAll, version_of};
 ghost use Rattle.mst_engine.specs.Steps.{Step, left_by};
 ghost use Rattle.mst_engine.specs.Steps as steps;
 ghost use Rattle.mst_engine.specs.report.State.{empty_state};
+ghost use Rattle.mst_policy.specs.declared.policy.PolicyLine.{PolicyLine as LineOf};
 ghost use Rattle.mst_print.specs.Shape.{of_script};
 ghost use Rattle.mst_print.specs.declared.form.Form.{Form};
 ghost use Rattle.mst_ask.specs.Asking.{loaded_by};
@@ -17,6 +18,7 @@ use mst_engine::report_laws::{
     entries_of_network, has_answer, one_answer, one_explanation, one_picture, one_summary,
     one_vlan_picture,
 };
+use mst_judging::laws::one_verification;
 use mst_lang::laws::edits_in_range;
 use mst_net::laws::networks;
 use mst_sweeping::laws::{pair_parts, sweep_parts};
@@ -47,11 +49,12 @@ pub fn one_asking()
     one_picture();
     one_vlan_picture();
     one_advice();
+    one_verification();
 }
 
 /// What stands after a script was loaded, and after questions.
 pub fn standings()
-    ensures loaded { (form : Form) (lines : List (List ℕ)) (loads : List Step) → LoadsAll (of_script form) lines loads → IsStanding (loaded_by loads) }
+    ensures loaded { (form : Form) (lines : List (List ℕ)) (loads : List Step) (policy : List LineOf) → LoadsAll (of_script form) lines loads → IsStanding (loaded_by loads policy) }
     ensures asked { (form : Form) (version : Version) (number : ℕ) (now : Standing) (lines : List (List ℕ)) (turns : List Turn) → IsStanding now → AsksBy form version number now lines turns → IsStanding (left_after now turns) }
 {
     states();
@@ -63,6 +66,6 @@ pub fn standings()
 /// The network that stands is that of a script alone: of the lines of the one that was loaded, and behind them those of the edits that
 /// stand. So each word of the program is answered as it is of that script, where nothing meets want of memory.
 pub fn as_script()
-    ensures { (form : Form) (script : List ℕ) (loads : List Step) (asked : List (List ℕ)) (turns : List Turn) (whole : List Step) → LoadsAll (of_script form) (lines_of script) loads → steps.lacks_of loads ≡ 0 → AsksBy form (version_of (lines_of script)) 1 (loaded_by loads) asked turns
-        → LoadsAll (of_script form) (lines_of script ++ edits_of (left_after (loaded_by loads) turns)) whole → steps.lacks_of whole ≡ 0 → (left_by empty_state whole).net ≡ (left_after (loaded_by loads) turns).state.net }
+    ensures { (form : Form) (script : List ℕ) (loads : List Step) (policy : List LineOf) (asked : List (List ℕ)) (turns : List Turn) (whole : List Step) → LoadsAll (of_script form) (lines_of script) loads → steps.lacks_of loads ≡ 0 → AsksBy form (version_of (lines_of script)) 1 (loaded_by loads policy) asked turns
+        → LoadsAll (of_script form) (lines_of script ++ edits_of (left_after (loaded_by loads policy) turns)) whole → steps.lacks_of whole ≡ 0 → (left_by empty_state whole).net ≡ (left_after (loaded_by loads policy) turns).state.net }
 {}

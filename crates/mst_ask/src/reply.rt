@@ -2,14 +2,14 @@ ghost use Rattle.std.specs.Prelude.{◌≡◌, false, OnOk, OnErr};
 ghost use Rattle.std.specs.Io.KnownBytes.{Appends};
 ghost use Rattle.mst_io.specs.Devices.{Works, IsStopped};
 ghost use Rattle.mst_io.specs.Written.{AppendsFront};
-ghost use Rattle.mst_ask.specs.Replies.{body_of, end_of, reply_text, status_of, verdict_of, verdict_of_answer, verdict_of_line};
+ghost use Rattle.mst_ask.specs.Replies.{body_of, end_of, reply_text, status_of, verdict_of, verdict_of_answer, verdict_of_line, verdict_of_verification};
 ghost use Rattle.mst_ask.specs.Standing.{done};
 
 use itoa::Buffer;
 use mst_engine::{Input, Reply as LineReply, print};
 use mst_io::{Sink, WriteFailed, put, put_parts};
 use mst_print::Form;
-use mst_tool::{Answer, put_answer};
+use mst_tool::{Answer, Verification, put_answer};
 
 /// What a question is answered by.
 #[derive(Drop)]
@@ -22,6 +22,8 @@ pub(crate) enum Reply {
     Answer(Answer),
     /// Edits were taken back: their lines, as they are printed.
     Undone(Vec<u8>),
+    /// Whether the network does what the policy promises.
+    Verified(Verification),
 }
 
 /// How a question was answered.
@@ -86,6 +88,7 @@ impl Reply {
             Reply::Silent | Reply::Undone(_) => Verdict::GIVEN,
             Reply::Line(reply) => of_line(reply),
             Reply::Answer(answer) => of_answer(answer),
+            Reply::Verified(found) => of_verification(found),
         }
     }
 }
@@ -119,6 +122,17 @@ fn of_answer(answer: &Answer) -> Verdict
             differs: *cuts != 0,
         },
         Answer::Advised { is_none: true, .. } => Verdict::DIFFERS,
+    }
+}
+
+/// How it was answered whether the network does what the policy promises.
+fn of_verification(found: &Verification) -> Verdict
+    ensures { result ≡ verdict_of_verification found.now }
+{
+    Verdict {
+        refused: found.refused != 0,
+        lacking: false,
+        differs: found.failing != 0,
     }
 }
 
@@ -159,6 +173,7 @@ fn put_body<K: Sink>(
         Reply::Line(line) => print(sink, Input::Script(form), number, line),
         Reply::Answer(answer) => put_answer(sink, form, answer),
         Reply::Undone(text) => put(sink, text.as_slice()),
+        Reply::Verified(found) => put(sink, found.text.as_slice()),
     }
 }
 
@@ -173,7 +188,7 @@ fn put_end<K: Sink>(sink: &mut K, form: Form, reply: &Reply) -> Result<(), Write
 {
     match reply {
         Reply::Silent => Ok(()),
-        Reply::Line(_) | Reply::Answer(_) | Reply::Undone(_) => {
+        Reply::Line(_) | Reply::Answer(_) | Reply::Undone(_) | Reply::Verified(_) => {
             put_done(sink, form, &reply.verdict())
         }
     }

@@ -1,6 +1,6 @@
 ghost use Rattle.std.specs.Prelude.{◌≡◌, IfOk};
 ghost use Rattle.mst_lang.specs.Words.{words};
-ghost use Rattle.mst_ask.specs.Requests.{Stays, asked_as, asked_in, count_of, dot_of, dot_words, explain_words, request_of, summary_words, sweep_of, sweep_words, undo_words};
+ghost use Rattle.mst_ask.specs.Requests.{Stays, asked_as, asked_in, count_of, dot_of, dot_words, explain_words, request_of, summary_words, sweep_of, sweep_words, undo_words, verify_words};
 
 use mst_lang::{Fault, LONGEST, Line, Version, are_plain, next_word, parse_line_as, parse_number};
 use mst_tool::Question;
@@ -13,6 +13,8 @@ pub enum Request {
     Word(Question),
     /// So many of the last edits are to be taken back, from 1.
     Undo(u64),
+    /// The network is to be judged by the policy.
+    Verify,
 }
 
 /// What a line asks, where scripts' lines are of this version, or the least fault of it. No word of the program that a line may have
@@ -55,6 +57,8 @@ fn asked_by_word(word: &[u8], behind: &[u8]) -> Option<Result<Request, Fault>>
         Some(dot(behind))
     } else if word == b"undo".as_slice() {
         Some(undo(behind))
+    } else if word == b"verify".as_slice() {
+        Some(verify(behind))
     } else {
         None
     }
@@ -155,5 +159,15 @@ fn count(word: &[u8]) -> Result<Request, Fault>
     match parse_number(word) {
         None | Some(0) => Err(Fault::E02),
         Some(count) => Ok(Request::Undo(count)),
+    }
+}
+
+/// What `verify` asks, behind which no word stands.
+fn verify(behind: &[u8]) -> Result<Request, Fault>
+    ensures { result ≡ verify_words (words behind.now) }
+{
+    match next_word(behind) {
+        None => Ok(Request::Verify),
+        Some(_) => Err(Fault::E01),
     }
 }

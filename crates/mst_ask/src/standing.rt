@@ -14,7 +14,7 @@ ghost use Rattle.mst_io.specs.Devices.{Works, IsStopped};
 ghost use Rattle.mst_io.specs.Written.{AppendsFront};
 ghost use Rattle.mst_print.specs.Shape.{listed, of_script};
 ghost use Rattle.mst_tool.specs.Ask.{keeps};
-ghost use Rattle.mst_ask.specs.declared.request.Request.TheVariants.{Script as Said, Word, Undo};
+ghost use Rattle.mst_ask.specs.declared.request.Request.TheVariants.{Script as Said, Word, Undo, Verify};
 ghost use Rattle.mst_ask.specs.Answering.{IsFront, IsLoaded};
 ghost use Rattle.mst_ask.specs.Kept.{IsKept, Keeps, SameScript, lines_kept, lines_net, made_by, net_of_script, rows_of, standing_of};
 ghost use Rattle.mst_ask.specs.Lines.{lines_in};
@@ -32,11 +32,13 @@ use mst_lang::laws::edits_in_range;
 use mst_lang::{Edit, Fault, Line, Version, parse_line_as};
 use mst_net::Refusal;
 use mst_net::laws::networks;
+use mst_policy::Policy;
 use mst_print::{Form, Shape, Side};
-use mst_tool::{Question, answer_to};
+use mst_tool::{Question, answer_to, verified};
 use std::alloc::{AllocError, Global};
 
-/// A planner with the network of a script, and the edits that were made in it since, of which the last ones can be taken back.
+/// A planner with the network of a script, a policy by which it is judged, and the edits that were made in it since, of which the last
+/// ones can be taken back.
 #[derive(Drop)]
 pub(crate) struct Standing {
     alloc: Global,
@@ -46,6 +48,7 @@ pub(crate) struct Standing {
     /// The script, of which no line met want of memory when it was loaded.
     script: Vec<u8>,
     planner: Planner,
+    policy: Policy,
     /// The lines of the edits that were made since, the newest last.
     made: Vec<Vec<u8>>,
 }
@@ -157,13 +160,13 @@ fn keep(alloc: Global, made: &mut Vec<Vec<u8>>, line: &[u8]) -> Result<(), Alloc
 }
 
 impl Standing {
-    /// What stands where a script was loaded, and no edit was made since.
+    /// What stands where a script was loaded, and no edit was made since, by a policy that has no line.
     pub fn new(alloc: Global, form: Form, script: Vec<u8>, engine: Engine) -> Standing
         requires version { version_from engine.version [] ≡ version_of (lines_of script.items) }
         requires net { (planned_state engine.planner).net ≡ net_of_script script.items }
         requires few { length script.items < 2 ^ 59 }
         ensures kept { IsKept result }
-        ensures standing { standing_of result ≡ record { state = planned_state engine.planner; made = [] } }
+        ensures standing { standing_of result ≡ record { state = planned_state engine.planner; policy = []; made = [] } }
         ensures form { result.form ≡ form }
         ensures version { result.version ≡ version_of (lines_of script.items) }
     {
@@ -177,7 +180,23 @@ impl Standing {
             version,
             script,
             planner: engine.planner,
+            policy: Policy::new(alloc),
             made: Vec::new(alloc),
+        }
+    }
+
+    /// The same with this policy.
+    pub fn with_policy(self, policy: Policy) -> Standing
+        ensures { result ≡ record self { policy = policy } }
+    {
+        Standing {
+            alloc: self.alloc,
+            form: self.form,
+            version: self.version,
+            script: self.script,
+            planner: self.planner,
+            policy,
+            made: self.made,
         }
     }
 
@@ -203,6 +222,7 @@ impl Standing {
             Ok(Request::Script(said)) => self.serve(number, line, &said),
             Ok(Request::Word(question)) => self.answer(&question),
             Ok(Request::Undo(count)) => self.undo(count),
+            Ok(Request::Verify) => self.verify(),
         }
     }
 
@@ -275,6 +295,19 @@ impl Standing {
     {
         match answer_to(self.alloc, &mut self.planner, self.form, question) {
             Ok(answer) => Reply::Answer(answer),
+            Err(_) => Reply::Line(LineReply::Starved),
+        }
+    }
+
+    /// Tells whether the network does what the policy promises.
+    fn verify(&mut self) -> Reply
+        requires kept { IsKept self.old }
+        ensures kept { IsKept self.new }
+        ensures same { SameScript self.old self.new }
+        ensures asked { (number : ℕ) (line : List ℕ) → Asks self.old.form number (standing_of self.old) line (Ok Verify) (replied self.old.form number (standing_of self.new) result) }
+    {
+        match verified(self.alloc, self.form, &mut self.planner, &self.policy) {
+            Ok(found) => Reply::Verified(found),
             Err(_) => Reply::Line(LineReply::Starved),
         }
     }

@@ -32,7 +32,8 @@ const CHANGE: &[u8] = b"lan X down\n\nlan X up\nno\n";
 
 const QUESTIONS: &[u8] =
     b"mark\nlan X down\nchanges\nundo\nexplain B 1\nsummary\nsweep\nsweep pairs\ndot 0\n\
-    dot vlan 1\nshowtree 0\nshowvlan 1\nshowregions\nshowmstconfid A\nshowlag\nshownotes\nsave\nno\n";
+    dot vlan 1\nshowtree 0\nshowvlan 1\nshowregions\nshowmstconfid A\nshowlag\nshownotes\nsave\ndigest\n\
+    verify\nno\n";
 
 #[derive(Clone, Copy)]
 enum Call {
@@ -57,7 +58,7 @@ fn trials() -> [Trial; 8] {
         (Call::Run, [SCRIPT, b"", b""], counts(1, 0)),
         (Call::Check, [SCRIPT, CAPTURES, b""], counts(2, 0)),
         (Call::Advise, [SCRIPT, b"", b""], counts(1, 0)),
-        (Call::Ask, [SCRIPT, QUESTIONS, b""], counts(2, 1)),
+        (Call::Ask, [SCRIPT, POLICY, QUESTIONS], counts(2, 2)),
         (Call::Diff, [SCRIPT, OTHER, b""], counts(2, 1)),
         (Call::Edits, [SCRIPT, OTHER, b""], counts(2, 1)),
         (Call::Verify, [SCRIPT, POLICY, b""], counts(1, 1)),
@@ -95,12 +96,15 @@ fn served(
         },
         Call::Ask => {
             let mut script = FromRead::new(&mut first);
-            let mut questions = FromRead::new(&mut second);
+            let mut policy = FromRead::new(&mut second);
+            let mut third = given(inputs, 2, cut);
+            let mut questions = FromRead::new(&mut third);
             let mut sink = ToWrite::new(writer);
             ask_within(
                 alloc,
                 Form::Text,
                 &mut script,
+                &mut policy,
                 &mut questions,
                 &mut sink,
                 TURNS,

@@ -3,7 +3,7 @@ use Rattle.mst_ask.proofs.Asked.{left_kept}
 use Rattle.mst_ask.proofs.laws.standings.Goals as goal
 
 pub returns-clause-loaded : goal.returns-clause-loaded
-returns-clause-loaded c form lines loads loaded = record { state = c.states.ensures.network (of_script form) lines loads loaded; made = tt }
+returns-clause-loaded c form lines loads policy loaded = record { state = c.states.ensures.network (of_script form) lines loads loaded; made = tt }
 
 pub returns-clause-asked : goal.returns-clause-asked
 returns-clause-asked c form version number now lines turns is asks =

@@ -10,4 +10,4 @@ pub returns-in-Ok-clause-asked : goal.returns-in-Ok-clause-asked
 returns-in-Ok-clause-asked c number line =
     let form = c.args.self.now.form in
     let answer = c.in-Ok.answer in
-    inl (told_of answer, answer_text form answer, c.in-Ok.ensures.answer, ap (λ (s : State). replied form number (record { state = s; made = (standing_of c.args.self.now).made }) (Answer answer)) (c.in-Ok.ensures.state c.requires.keeps))
+    inl (told_of answer, answer_text form answer, c.in-Ok.ensures.answer, ap (λ (s : State). replied form number (record (standing_of c.args.self.now) { state = s }) (Answer answer)) (c.in-Ok.ensures.state c.requires.keeps))

@@ -21,3 +21,8 @@ pub returns-in-Ok-Undo-clause-asked : goal.returns-in-Ok-Undo-clause-asked
 returns-in-Ok-Undo-clause-asked c =
     let old = c.args.self.now in
     subst (λ r. Asks old.form c.args.number (standing_of old) c.args.line.now r (replied old.form c.args.number (standing_of c.undo.new.self) c.undo.result)) (ap Ok (sym c.in-Ok-Undo.field-0-is) ∙ c.in-Ok-Undo.ensures.request) (c.undo.ensures.asked c.args.number c.args.line.now)
+
+pub returns-in-Ok-Verify-clause-asked : goal.returns-in-Ok-Verify-clause-asked
+returns-in-Ok-Verify-clause-asked c =
+    let old = c.args.self.now in
+    subst (λ r. Asks old.form c.args.number (standing_of old) c.args.line.now r (replied old.form c.args.number (standing_of c.verify.new.self) c.verify.result)) (ap Ok (sym c.in-Ok-Verify.field-0-is) ∙ c.in-Ok-Verify.ensures.request) (c.verify.ensures.asked c.args.number c.args.line.now)
