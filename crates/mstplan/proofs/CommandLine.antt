@@ -18,7 +18,7 @@ use Rattle.clap.proofs.WalkLemmas.{walk_stopped}
 use Rattle.mst_io.specs.declared.outcome.RunFault.TheVariants.{Memory, Write}
 use Rattle.mstplan.specs.declared.endings.Stop.{Stop}
 use Rattle.mstplan.specs.declared.endings.Stop.TheVariants.{Told, Fault}
-use Rattle.mstplan.specs.Words.{IsAnswer, IsRefusal, IsWrong, Request, advise, are_plain, are_values, ask, asked_by, asked_of, by_goal, by_one, by_one_to_three, by_port, by_two, by_two_or_three, check, diff, dot, edits, is_dashes, is_help, is_plain, is_version, program, run, steps, summary, sweep, verify, without_dashes}
+use Rattle.mstplan.specs.Words.{IsAnswer, IsRefusal, IsWrong, Request, advise, are_plain, are_values, ask, asked_by, asked_of, by_goal, by_one, by_one_or_two, by_one_to_three, by_port, by_two, by_two_or_three, check, diff, dot, edits, is_dashes, is_help, is_plain, is_version, program, run, steps, summary, sweep, verify, without_dashes}
 use Rattle.mstplan.proofs.PlainWords.{Fits, IsSingle, both_so, fits_values, is_no_help, leaf, leaf_found, level, plain_dashes, plain_turn, refuses, values_found, values_leaf}
 
 -- ---- run
@@ -144,11 +144,12 @@ ask_single : IsSingle ask_leaf
 unfolding clap_on_literals
 ask_single = refl
 
-ask_values : (values : List Text) → Fits (by_one ask values) (values_leaf ask_leaf values) (values_found ask_leaf values)
+ask_values : (values : List Text) → Fits (by_one_or_two ask values) (values_leaf ask_leaf values) (values_found ask_leaf values)
 unfolding clap_on_literals
 ask_values [] = refl
 ask_values (f ∷ []) = (refl, refl)
-ask_values (f ∷ more ∷ rest) = refl
+ask_values (f ∷ g ∷ []) = (refl, refl)
+ask_values (f ∷ g ∷ more ∷ rest) = refl
 
 -- ---- verify
 
@@ -386,7 +387,7 @@ asks_none command rest other =
     ∙ unless (bytes_eq (codes "sweep") command) (by_one_to_three sweep rest) _ other.not_sweep
     ∙ unless (bytes_eq (codes "summary") command) (by_one summary rest) _ other.not_summary
     ∙ unless (bytes_eq (codes "dot") command) (by_two_or_three dot rest) _ other.not_dot
-    ∙ unless (bytes_eq (codes "ask") command) (by_one ask rest) _ other.not_ask
+    ∙ unless (bytes_eq (codes "ask") command) (by_one_or_two ask rest) _ other.not_ask
     ∙ unless (bytes_eq (codes "verify") command) (by_two verify rest) _ other.not_verify
     ∙ unless (bytes_eq (codes "edits") command) (by_two edits rest) _ other.not_edits
     ∙ unless (bytes_eq (codes "steps") command) (by_two_or_three steps rest) _ other.not_steps
@@ -423,7 +424,7 @@ words_fit (command ∷ rest) h =
     (λ d. is_or_not (codes "sweep") command rest (fits_command (codes "sweep") sweep_leaf rest sweep_command refl (fits_values sweep_leaf sweep_single (by_one_to_three sweep) rest values sweep_values))
     (λ s. is_or_not (codes "summary") command rest (fits_command (codes "summary") summary_leaf rest summary_command refl (fits_values summary_leaf summary_single (by_one summary) rest values summary_values))
     (λ m. is_or_not (codes "dot") command rest (fits_command (codes "dot") dot_leaf rest dot_command refl (fits_values dot_leaf dot_single (by_two_or_three dot) rest values dot_values))
-    (λ p. is_or_not (codes "ask") command rest (fits_command (codes "ask") ask_leaf rest ask_command refl (fits_values ask_leaf ask_single (by_one ask) rest values ask_values))
+    (λ p. is_or_not (codes "ask") command rest (fits_command (codes "ask") ask_leaf rest ask_command refl (fits_values ask_leaf ask_single (by_one_or_two ask) rest values ask_values))
     (λ a. is_or_not (codes "verify") command rest (fits_command (codes "verify") verify_leaf rest verify_command refl (fits_values verify_leaf verify_single (by_two verify) rest values verify_values))
     (λ v. is_or_not (codes "edits") command rest (fits_command (codes "edits") edits_leaf rest edits_command refl (fits_values edits_leaf edits_single (by_two edits) rest values edits_values))
     (λ t. is_or_not (codes "steps") command rest (fits_command (codes "steps") steps_leaf rest steps_command refl (fits_values steps_leaf steps_single (by_two_or_three steps) rest values steps_values))

@@ -9,7 +9,7 @@ use Rattle.mst_tool.specs.Diff.{Diffs, DiffsFront, DiffsEnded, DiffsScripts, Loa
 use Rattle.mst_tool.specs.Load.{LoadsEnded, LoadsFront, LoadsOrEnded, LoadsScript}
 use Rattle.mst_tool.specs.Verify.{Verifies, VerifiesFront}
 use Rattle.mst_tool.specs.declared.diffs.Between.{Between}
-use Rattle.mst_ask.specs.Asking.{Stands, StandsEnded, StandsFront, printed_by}
+use Rattle.mst_ask.specs.Asking.{Begins, Stands, StandsEnded, StandsFront, Unasked, opening, printed_by}
 use Rattle.mst_tool.specs.Run.{PrintsEnded}
 use Rattle.mst_tool.specs.printing.Shape.{of_old, of_script}
 use Rattle.mst_tool.specs.engine.Steps.{texts_of}
@@ -159,8 +159,8 @@ diffs_scripts_same form olds news a b c d x y h = subst (λ now. DiffsScripts fo
 
 -- ---- questions
 
-module _ (form : Form) (scripts questions : Option (List ℕ)) where
-  stands_kept : (a b c : Option (List ℕ)) (outcome : Outcome) → Stands form scripts questions a b outcome → Keeps b c → Stands form scripts questions a c outcome
+module _ (form : Form) (scripts policies questions : Option (List ℕ)) where
+  stands_kept : (a b c : Option (List ℕ)) (outcome : Outcome) → Stands form scripts policies questions a b outcome → Keeps b c → Stands form scripts policies questions a c outcome
   stands_kept a b c outcome h k = record {
     asked = h.asked;
     answers = h.answers;
@@ -174,20 +174,36 @@ module _ (form : Form) (scripts questions : Option (List ℕ)) where
   stands_scripts_kept : (a b c : Option (List ℕ)) → LoadsFront (of_script form) scripts a b → Keeps b c → LoadsFront (of_script form) scripts a c
   stands_scripts_kept a b c h k = record { script = h.script; steps = h.steps; read = h.read; loads = h.loads; printed = front_kept a b c (texts_of h.steps) h.printed k; only = h.only }
 
-  stands_front_kept : (a b c : Option (List ℕ)) → StandsFront form scripts questions a b → Keeps b c → StandsFront form scripts questions a c
+  begins_kept : (a b c : Option (List ℕ)) → Begins form scripts a b → Keeps b c → Begins form scripts a c
+  begins_kept a b c h k = record {
+    script = h.script;
+    loads = h.loads;
+    script_read = h.script_read;
+    loaded = h.loaded;
+    full = h.full;
+    printed = Appends-kept a b c (opening form h.loads) h.printed k;
+    only_script = h.only_script;
+  }
+
+  unasked_kept : (a b c : Option (List ℕ)) → Unasked form scripts a b → Keeps b c → Unasked form scripts a c
+  unasked_kept a b c (inl h) k = inl (stands_scripts_kept a b c h k)
+  unasked_kept a b c (inr h) k = inr (begins_kept a b c h k)
+
+  stands_front_kept : (a b c : Option (List ℕ)) → StandsFront form scripts policies questions a b → Keeps b c → StandsFront form scripts policies questions a c
   stands_front_kept a b c (inl h) k = inl (stands_scripts_kept a b c h k)
   stands_front_kept a b c (inr h) k = inr (record { asked = h.asked; answers = h.answers; questions_read = h.questions_read; printed = front_kept a b c (printed_by h.answers) h.printed k })
 
   -- what was written in full is a front of it
-  stands_front : (a b : Option (List ℕ)) (outcome : Outcome) → Stands form scripts questions a b outcome → StandsFront form scripts questions a b
+  stands_front : (a b : Option (List ℕ)) (outcome : Outcome) → Stands form scripts policies questions a b outcome → StandsFront form scripts policies questions a b
   stands_front a b outcome h =
       let text = printed_by h.answers in
       inr (record { asked = h.asked; answers = h.answers; questions_read = h.questions_read; printed = record { front = text; rest = []; whole = sym (append-nil text); written = h.printed } })
 
-  stands_ended_kept : (left other_left a b c : Option (List ℕ)) → StandsEnded form scripts left questions other_left a b → Keeps b c → StandsEnded form scripts left questions other_left a c
+  stands_ended_kept : (left other_left a b c : Option (List ℕ)) → StandsEnded form scripts left policies questions other_left a b → Keeps b c → StandsEnded form scripts left policies questions other_left a c
   stands_ended_kept left other_left a b c (inl h) k =
       inl (record { read = h.read; steps = h.steps; consumed = h.consumed; loads = h.loads; printed = Appends-kept a b c (texts_of h.steps) h.printed k; only = h.only })
-  stands_ended_kept left other_left a b c (inr h) k = inr (record { read = h.read; answers = h.answers; consumed = h.consumed; printed = Appends-kept a b c (printed_by h.answers) h.printed k })
+  stands_ended_kept left other_left a b c (inr (inl h)) k = inr (inl (begins_kept a b c h k))
+  stands_ended_kept left other_left a b c (inr (inr h)) k = inr (inr (record { read = h.read; answers = h.answers; consumed = h.consumed; printed = Appends-kept a b c (printed_by h.answers) h.printed k }))
 
 -- ---- a policy
 
@@ -322,35 +338,35 @@ module _ (given : Inputs) where
   compared_kept : (how : Comparison) (a b c : Option (List ℕ)) (outcome : Outcome) → Compared how given a b outcome → Keeps b c → Compared how given a c outcome
   compared_kept (Captures form) a b c outcome h k = checks_kept form given.first given.second a b c outcome h k
   compared_kept (Networks between form) a b c outcome h k = diffs_kept between form given.first given.second a b c outcome h k
-  compared_kept (Questions form) a b c outcome h k = stands_kept form given.first given.second a b c outcome h k
+  compared_kept (Questions judged form) a b c outcome h k = stands_kept form given.first given.third given.second a b c outcome h k
   compared_kept (Policy form) a b c outcome h k = verifies_kept form given.first given.second a b c outcome h k
   compared_kept (Steps judged form) a b c outcome h k = alters_kept form judged given.first given.second given.third a b c outcome h k
 
   compared_front_kept : (how : Comparison) (a b c : Option (List ℕ)) → ComparedFront how given a b → Keeps b c → ComparedFront how given a c
   compared_front_kept (Captures form) a b c h k = checks_front_kept form given.first given.second a b c h k
   compared_front_kept (Networks between form) a b c h k = diffs_front_kept between form given.first given.second a b c h k
-  compared_front_kept (Questions form) a b c h k = stands_front_kept form given.first given.second a b c h k
+  compared_front_kept (Questions judged form) a b c h k = stands_front_kept form given.first given.third given.second a b c h k
   compared_front_kept (Policy form) a b c h k = verifies_front_kept form given.first given.second a b c h k
   compared_front_kept (Steps judged form) a b c h k = alters_front_kept form judged given.first given.second given.third a b c h k
 
   compared_front : (how : Comparison) (a b : Option (List ℕ)) (outcome : Outcome) → Compared how given a b outcome → ComparedFront how given a b
   compared_front (Captures form) a b outcome h = checks_front form given.first given.second a b outcome h
   compared_front (Networks between form) a b outcome h = diffs_front between form given.first given.second a b outcome h
-  compared_front (Questions form) a b outcome h = stands_front form given.first given.second a b outcome h
+  compared_front (Questions judged form) a b outcome h = stands_front form given.first given.third given.second a b outcome h
   compared_front (Policy form) a b outcome h = verifies_front form given.first given.second a b outcome h
   compared_front (Steps judged form) a b outcome h = alters_front form judged given.first given.second given.third a b outcome h
 
   compared_ended_kept : (how : Comparison) (left : Inputs) (a b c : Option (List ℕ)) → ComparedEnded how given left a b → Keeps b c → ComparedEnded how given left a c
   compared_ended_kept (Captures form) left a b c h k = checks_ended_kept form given.first given.second left.first left.second a b c h k
   compared_ended_kept (Networks between form) left a b c h k = diffs_ended_kept form given.first given.second left.first left.second a b c h k
-  compared_ended_kept (Questions form) left a b c h k = stands_ended_kept form given.first given.second left.first left.second a b c h k
+  compared_ended_kept (Questions judged form) left a b c h k = stands_ended_kept form given.first given.third given.second left.first left.second a b c h k
   compared_ended_kept (Policy form) left a b c h k = loaded_or_ended_kept form given.first left.first a b c h k
   compared_ended_kept (Steps judged form) left a b c h k = loaded_or_ended_kept form given.first left.first a b c h k
 
   compared_scripts_kept : (how : Comparison) (a b c : Option (List ℕ)) → ComparedScripts how given a b → Keeps b c → ComparedScripts how given a c
   compared_scripts_kept (Captures form) a b c h k = checks_script_kept form given.first given.second a b c h k
   compared_scripts_kept (Networks between form) a b c h k = diffs_scripts_kept form given.first given.second a b c h k
-  compared_scripts_kept (Questions form) a b c h k = stands_scripts_kept form given.first given.second a b c h k
+  compared_scripts_kept (Questions judged form) a b c h k = unasked_kept form given.first given.third given.second a b c h k
   compared_scripts_kept (Policy form) a b c h k = loaded_kept form given.first a b c h k
   compared_scripts_kept (Steps judged form) a b c h k = loaded_kept form given.first a b c h k
 

@@ -64,7 +64,7 @@ module _ (ended : Result Outcome RunFault) (first first_now second second_now th
   both_read : (how : Comparison) → ComparedAllBy how ended first first_now second second_now third third_now → ReadIf ended first first_now × ReadIf ended second second_now
   both_read (Captures form) by = two_read ended first first_now second second_now by
   both_read (Networks between form) by = two_read ended first first_now second second_now by
-  both_read (Questions form) by = two_read ended first first_now second second_now by
+  both_read (Questions judged form) by = let all = three_read ended first first_now third third_now second second_now by in (all.0, all.2)
   both_read (Policy form) by = two_read ended first first_now second second_now by
   both_read (Steps judged form) by = let all = three_read ended first first_now second second_now third third_now by in (all.0, all.1)
 
@@ -78,7 +78,7 @@ module _ (ended : Result Outcome RunFault) (first first_now second second_now th
   pub third_read : (how : Comparison) (hints : Bool) → ComparedAllBy how ended first first_now second second_now third third_now → are_told hints (third_script how) ≡ true → ReadIf ended third third_now
   third_read (Captures form) hints by told = absurd (untold hints told)
   third_read (Networks between form) hints by told = absurd (untold hints told)
-  third_read (Questions form) hints by told = absurd (untold hints told)
+  third_read (Questions judged form) hints by told = (three_read ended first first_now third third_now second second_now by).1
   third_read (Policy form) hints by told = absurd (untold hints told)
   third_read (Steps judged form) hints by told = (three_read ended first first_now second second_now third third_now by).2
 

@@ -11,7 +11,7 @@ use Rattle.mst_io.specs.declared.outcome.RunFault.{RunFault}
 use Rattle.mst_io.specs.declared.outcome.RunFault.TheVariants.{Read, Write, Memory}
 use Rattle.mstplan.specs.declared.compared.Comparison.{Comparison}
 use Rattle.mstplan.specs.declared.compared.Comparison.TheVariants.{Captures, Networks, Policy, Questions, Steps}
-use Rattle.mst_ask.specs.Asking.{Stands, StandsFront, StandsEnded}
+use Rattle.mst_ask.specs.Asking.{Stands, StandsFront, StandsEnded, Unasked}
 use Rattle.mst_tool.specs.Load.{LoadsFront, LoadsOrEnded, LoadsScript}
 use Rattle.mst_tool.specs.Alter.{Alters, AltersFront}
 use Rattle.mst_tool.specs.Verify.{Verifies, VerifiesFront}
@@ -21,12 +21,12 @@ use Rattle.mstplan.specs.Hinted.{AreHinted}
 use Rattle.mstplan.specs.Inputs.{Inputs}
 
 -- the captures that the second input has were compared with the plan of the first; or the networks of both were told apart; or the
--- questions that the second has were answered; or the network was verified by the policy that the second is; or the steps of the change
+-- questions that the second has were answered, with the policy that the third is; or the network was verified by the policy that the second is; or the steps of the change
 -- that the second is were told of, with the policy that the third is, where there is one
 abbrev pub Compared : Comparison → Inputs → Option (List ℕ) → Option (List ℕ) → Outcome → Type 0
 Compared (Captures form) given written now outcome = Checks form given.first given.second written now outcome
 Compared (Networks between form) given written now outcome = Diffs between form given.first given.second written now outcome
-Compared (Questions form) given written now outcome = Stands form given.first given.second written now outcome
+Compared (Questions judged form) given written now outcome = Stands form given.first given.third given.second written now outcome
 Compared (Policy form) given written now outcome = Verifies form given.first given.second written now outcome
 Compared (Steps judged form) given written now outcome = Alters form judged given.first given.second given.third written now outcome
 
@@ -34,7 +34,7 @@ Compared (Steps judged form) given written now outcome = Alters form judged give
 abbrev pub ComparedFront : Comparison → Inputs → Option (List ℕ) → Option (List ℕ) → Type 0
 ComparedFront (Captures form) given written now = ChecksFront form given.first given.second written now
 ComparedFront (Networks between form) given written now = DiffsFront between form given.first given.second written now
-ComparedFront (Questions form) given written now = StandsFront form given.first given.second written now
+ComparedFront (Questions judged form) given written now = StandsFront form given.first given.third given.second written now
 ComparedFront (Policy form) given written now = VerifiesFront form given.first given.second written now
 ComparedFront (Steps judged form) given written now = AltersFront form judged given.first given.second given.third written now
 
@@ -42,7 +42,7 @@ ComparedFront (Steps judged form) given written now = AltersFront form judged gi
 abbrev pub ComparedEnded : Comparison → Inputs → Inputs → Option (List ℕ) → Option (List ℕ) → Type 0
 ComparedEnded (Captures form) given left written now = ChecksEnded form given.first left.first given.second left.second written now
 ComparedEnded (Networks between form) given left written now = DiffsEnded form given.first left.first given.second left.second written now
-ComparedEnded (Questions form) given left written now = StandsEnded form given.first left.first given.second left.second written now
+ComparedEnded (Questions judged form) given left written now = StandsEnded form given.first left.first given.third given.second left.second written now
 ComparedEnded (Policy form) given left written now = LoadsOrEnded (of_script form) given.first left.first written now
 ComparedEnded (Steps judged form) given left written now = LoadsOrEnded (of_script form) given.first left.first written now
 
@@ -51,7 +51,7 @@ ComparedEnded (Steps judged form) given left written now = LoadsOrEnded (of_scri
 abbrev pub ComparedScripts : Comparison → Inputs → Option (List ℕ) → Option (List ℕ) → Type 0
 ComparedScripts (Captures form) given written now = ChecksScript form given.first written now
 ComparedScripts (Networks between form) given written now = DiffsScripts form given.first given.second written now
-ComparedScripts (Questions form) given written now = LoadsFront (of_script form) given.first written now
+ComparedScripts (Questions judged form) given written now = Unasked form given.first written now
 ComparedScripts (Policy form) given written now = LoadsScript (of_script form) given.first written now
 ComparedScripts (Steps judged form) given written now = LoadsScript (of_script form) given.first written now
 
@@ -89,4 +89,5 @@ AlteredBy (Err Memory) first first_now second second_now third third_now = Unit 
 -- by of how many it is told
 abbrev pub ComparedAllBy : Comparison → Result Outcome RunFault → Told → Told → Told → Told → Told → Told → Type 0
 ComparedAllBy (Steps judged form) ended first first_now second second_now third third_now = AlteredBy ended first first_now second second_now third third_now
+ComparedAllBy (Questions judged form) ended first first_now second second_now third third_now = AlteredBy ended first first_now third third_now second second_now
 ComparedAllBy _ ended first first_now second second_now third third_now = ComparedBy ended first first_now second second_now

@@ -45,7 +45,7 @@ IsHinted true alone ended of reads left errors now (Err fault) = StopsHints of r
 abbrev pub first_script : Comparison → Script
 first_script (Captures form) = Run
 first_script (Networks between form) = Old
-first_script (Questions form) = Loaded
+first_script (Questions judged form) = Loaded
 first_script (Policy form) = Loaded
 first_script (Steps judged form) = Loaded
 
@@ -53,12 +53,13 @@ first_script (Steps judged form) = Loaded
 abbrev pub second_script : Comparison → Option Script
 second_script (Captures form) = None
 second_script (Networks between form) = Some New
-second_script (Questions form) = None
+second_script (Questions judged form) = None
 second_script (Policy form) = Some of_policy
 second_script (Steps judged form) = Some of_change
 
 -- and what a third is
 abbrev pub third_script : Comparison → Option Script
+third_script (Questions true form) = Some of_policy
 third_script (Steps true form) = Some of_policy
 third_script _ = None
 

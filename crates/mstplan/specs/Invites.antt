@@ -9,7 +9,7 @@ use Rattle.mstplan.specs.declared.words.Asked.TheVariants.{Run, Ask}
 -- they don't come behind the script
 abbrev pub waits_for : ℕ → Result Asked Stop → List ℕ
 waits_for words (Ok (Run script)) = if nat_lt words 2 then codes "mstplan: reading a script from the terminal, until Ctrl-D; --help tells of its commands\n" else []
-waits_for words (Ok (Ask script)) = if bytes_eq script.now (codes "-") then [] else codes "mstplan: reading questions from the terminal, until Ctrl-D; --help tells of them\n"
+waits_for words (Ok (Ask script policy)) = if bytes_eq script.now (codes "-") then [] else codes "mstplan: reading questions from the terminal, until Ctrl-D; --help tells of them\n"
 waits_for words _ = []
 
 -- the line on standard error, before anything is read, where standard input is a terminal

@@ -1,5 +1,5 @@
 -- What the program does and how it ends, by what its words ask for.
-use Rattle.std.specs.Prelude.{◌≡◌, ℕ, Bool, true, List, codes, drop, length, option_map, is_some, Option, Some, None, Result, Ok, Err, IfOk, IfErr, IsErrAnd}
+use Rattle.std.specs.Prelude.{◌≡◌, ◌⊎◌, ℕ, Bool, true, List, codes, drop, length, option_map, is_some, Option, Some, None, Result, Ok, Err, IfOk, IfErr, IsErrAnd}
 use Rattle.std.specs.Borrow.{Bor}
 use Rattle.mst_tool.specs.Ask.{advice_question, dot_question, explain_question, sweep_question}
 use Rattle.mst_tool.specs.declared.asked.Question.{Question}
@@ -26,7 +26,7 @@ use Rattle.mstplan.specs.Flags.{form_of, asked_with}
 use Rattle.mstplan.specs.Inputs.{Inputs}
 use Rattle.mstplan.specs.Invites.{invitation}
 use Rattle.mstplan.specs.Said.{IsSaid}
-use Rattle.mstplan.specs.Named.{IsNamed, AreNamed, IsWhyNot, IsWhyNone}
+use Rattle.mstplan.specs.Named.{IsNamed, AreNamed, IsWhyNot, IsWhyNotIf, IsWhyNone}
 use Rattle.mstplan.specs.Words.{port_word, tree_word, words_of, are_plain, without_dashes, is_help, is_version, IsAnswer, IsRefusal}
 
 -- what the words that name a port ask of a network
@@ -72,8 +72,8 @@ ServesWords IsGiven IsFile flags asked script old new answer hints =
 -- What the words ask for was done with these flags, of the inputs that they name, this came to the outputs, and this was answered: the
 -- script was run; or the captures were compared with its plan; or the network that it leaves was asked of the port, of its failures
 -- or pairs of them, for its summary, for its picture or for advice; or the networks of two scripts were told apart; or the questions that came by
--- standard input were answered, of which there are none where the script comes there; or the network was verified by a policy; or the
--- edits were told that make the network of the second script of that of the first; or what the steps of a change do, with a policy, if
+-- standard input were answered, of which there are none where the script comes there, with a policy, if one is named; or the network was
+-- verified by a policy; or the edits were told that make the network of the second script of that of the first; or what the steps of a change do, with a policy, if
 -- one is named
 abbrev pub Serves : (Option (List ℕ) → Type 0) → (List ℕ → Option (List ℕ) → Type 0) → Flags → Asked → Outputs → Outputs → Result Outcome RunFault → Result (Unit {0}) RunFault → Type 0
 Serves IsGiven IsFile flags (Run script) old new answer hints = ServesRun IsGiven IsFile flags script old new answer hints
@@ -83,7 +83,8 @@ Serves IsGiven IsFile flags (Diff before after) old new answer hints = ServesBot
 Serves IsGiven IsFile flags (Sweep script word behind) old new answer hints = ServesWords IsGiven IsFile flags (part_question word behind) script old new answer hints
 Serves IsGiven IsFile flags (Summary script) old new answer hints = ServesQuestion IsGiven IsFile flags question.Summary script old new answer hints
 Serves IsGiven IsFile flags (Dot script tree vid) old new answer hints = ServesWords IsGiven IsFile flags (drawn_question tree vid) script old new answer hints
-Serves IsGiven IsFile flags (Ask script) old new answer hints = ServesBoth IsGiven IsFile flags (Questions (form_of flags)) script.now (codes "-") old new answer hints
+Serves IsGiven IsFile flags (Ask script policy) old new answer hints =
+    ServesAll IsGiven IsFile flags (Questions (is_some policy) (form_of flags)) script.now (codes "-") (word_of policy) old new answer hints
 Serves IsGiven IsFile flags (Verify script policy) old new answer hints = ServesBoth IsGiven IsFile flags (Policy (form_of flags)) script.now policy.now old new answer hints
 Serves IsGiven IsFile flags (Edits before after) old new answer hints = ServesBoth IsGiven IsFile flags (Networks Settings (form_of flags)) before.now after.now old new answer hints
 Serves IsGiven IsFile flags (Steps script change policy) old new answer hints =
@@ -105,7 +106,7 @@ IsWhyUnserved IsUnopened (Diff old new) stop = IsWhyNone IsUnopened old new None
 IsWhyUnserved IsUnopened (Sweep script word behind) stop = IsWhyUnasked IsUnopened script (part_question word behind) stop
 IsWhyUnserved IsUnopened (Summary script) stop = IsWhyNot IsUnopened script stop
 IsWhyUnserved IsUnopened (Dot script tree vid) stop = IsWhyUnasked IsUnopened script (drawn_question tree vid) stop
-IsWhyUnserved IsUnopened (Ask script) stop = IsWhyNot IsUnopened script stop
+IsWhyUnserved IsUnopened (Ask script policy) stop = IsWhyNot IsUnopened script stop ⊎ IsWhyNotIf IsUnopened policy stop
 IsWhyUnserved IsUnopened (Verify script policy) stop = IsWhyNone IsUnopened script policy None stop
 IsWhyUnserved IsUnopened (Edits old new) stop = IsWhyNone IsUnopened old new None stop
 IsWhyUnserved IsUnopened (Steps script change policy) stop = IsWhyNone IsUnopened script change policy stop

@@ -33,7 +33,7 @@ pub data Request : Type 0 where
   sweep : List ℕ → Option (List ℕ) → Option (List ℕ) → Request
   summary : List ℕ → Request
   dot : List ℕ → List ℕ → Option (List ℕ) → Request
-  ask : List ℕ → Request
+  ask : List ℕ → Option (List ℕ) → Request
   verify : List ℕ → List ℕ → Request
   edits : List ℕ → List ℕ → Request
   steps : List ℕ → List ℕ → Option (List ℕ) → Request
@@ -55,7 +55,7 @@ words_of (Diff old new) = diff old.now new.now
 words_of (Sweep script word behind) = sweep script.now (option_map (λ word. word.now) word) (option_map (λ word. word.now) behind)
 words_of (Summary script) = summary script.now
 words_of (Dot script tree vid) = dot script.now tree.now (option_map (λ word. word.now) vid)
-words_of (Ask script) = ask script.now
+words_of (Ask script policy) = ask script.now (option_map (λ word. word.now) policy)
 words_of (Verify script policy) = verify script.now policy.now
 words_of (Edits old new) = edits old.now new.now
 words_of (Steps script change policy) = steps script.now change.now (option_map (λ word. word.now) policy)
@@ -74,7 +74,7 @@ request_of command rows =
     else if bytes_eq command (codes "sweep") then sweep (value_of (codes "FILE") rows) (first_of (codes "PART") rows) (first_of (codes "OF_PAIRS") rows)
     else if bytes_eq command (codes "summary") then summary (value_of (codes "FILE") rows)
     else if bytes_eq command (codes "dot") then dot (value_of (codes "FILE") rows) (value_of (codes "TREE") rows) (first_of (codes "VID") rows)
-    else if bytes_eq command (codes "ask") then ask (value_of (codes "FILE") rows)
+    else if bytes_eq command (codes "ask") then ask (value_of (codes "FILE") rows) (first_of (codes "POLICY") rows)
     else if bytes_eq command (codes "verify") then verify (value_of (codes "FILE") rows) (value_of (codes "POLICY") rows)
     else if bytes_eq command (codes "edits") then edits (value_of (codes "OLD") rows) (value_of (codes "NEW") rows)
     else if bytes_eq command (codes "steps") then steps (value_of (codes "FILE") rows) (value_of (codes "CHANGE") rows) (first_of (codes "POLICY") rows)
@@ -125,6 +125,12 @@ abbrev pub by_two : (List ℕ → List ℕ → Request) → List (List ℕ) → 
 by_two asks (word ∷ other ∷ []) = Some (asks word other)
 by_two asks words = None
 
+-- behind one that takes one and may take another
+abbrev pub by_one_or_two : (List ℕ → Option (List ℕ) → Request) → List (List ℕ) → Option Request
+by_one_or_two asks (word ∷ []) = Some (asks word None)
+by_one_or_two asks (word ∷ other ∷ []) = Some (asks word (Some other))
+by_one_or_two asks words = None
+
 -- and behind one that takes one and may take two more
 abbrev pub by_one_to_three : (List ℕ → Option (List ℕ) → Option (List ℕ) → Request) → List (List ℕ) → Option Request
 by_one_to_three asks (word ∷ []) = Some (asks word None None)
@@ -153,7 +159,7 @@ by_goal words = None
 -- What words ask for that aren't options, behind the program's name: none for the script on standard input, `run FILE` for
 -- that of a file, `check FILE CAPTURES`, `explain FILE B P`, with or without TREE, `diff OLD NEW`, `sweep FILE`, with or without PART or
 -- `pairs`, and behind that with or without PART,
--- `summary FILE`, `dot FILE TREE`, with or without VID, `ask FILE`, `verify FILE POLICY`, `edits OLD NEW`, `steps FILE CHANGE`, with or
+-- `summary FILE`, `dot FILE TREE`, with or without VID, `ask FILE`, with or without POLICY, `verify FILE POLICY`, `edits OLD NEW`, `steps FILE CHANGE`, with or
 -- without POLICY, and `advise FILE GOAL TREE B`, with or without P.
 -- What is asked for are the words themselves. Any other words ask for nothing
 abbrev pub asked_by : List (List ℕ) → Option Request
@@ -166,7 +172,7 @@ asked_by (command ∷ words) =
     else if bytes_eq (codes "sweep") command then by_one_to_three sweep words
     else if bytes_eq (codes "summary") command then by_one summary words
     else if bytes_eq (codes "dot") command then by_two_or_three dot words
-    else if bytes_eq (codes "ask") command then by_one ask words
+    else if bytes_eq (codes "ask") command then by_one_or_two ask words
     else if bytes_eq (codes "verify") command then by_two verify words
     else if bytes_eq (codes "edits") command then by_two edits words
     else if bytes_eq (codes "steps") command then by_two_or_three steps words
@@ -182,7 +188,7 @@ are_worded (diff old new) = true
 are_worded (sweep script word behind) = is_some (sweep_question word behind)
 are_worded (summary script) = true
 are_worded (dot script tree vid) = is_some (dot_question tree vid)
-are_worded (ask script) = true
+are_worded (ask script policy) = true
 are_worded (verify script policy) = true
 are_worded (edits old new) = true
 are_worded (steps script change policy) = true
@@ -259,7 +265,7 @@ abbrev pub dot_app : App
 dot_app = with_rule (two_app (codes "dot") (codes "FILE") (codes "TREE")) (new_rule (codes "VID"))
 
 abbrev pub ask_app : App
-ask_app = with_rule (new_app (codes "ask")) (wanted_rule (codes "FILE"))
+ask_app = with_rule (with_rule (new_app (codes "ask")) (wanted_rule (codes "FILE"))) (new_rule (codes "POLICY"))
 
 abbrev pub verify_app : App
 verify_app = two_app (codes "verify") (codes "FILE") (codes "POLICY")

@@ -7,7 +7,7 @@ ghost use Rattle.mst_tool.specs.Diff.{Diffs, DiffsFront, DiffsEnded, DiffsScript
 ghost use Rattle.mst_tool.specs.Load.{LoadsFront, LoadsOrEnded, LoadsScript};
 ghost use Rattle.mst_tool.specs.Verify.{Verifies, VerifiesFront};
 ghost use Rattle.mst_tool.specs.printing.Shape.{of_script};
-ghost use Rattle.mst_ask.specs.Asking.{Stands, StandsFront, StandsEnded};
+ghost use Rattle.mst_ask.specs.Asking.{Stands, StandsFront, StandsEnded, Unasked};
 ghost use Rattle.mstplan.specs.Compared.{AlteredBy, Compared, ComparedAllBy, ComparedBy, ComparedEnded, ComparedFront, ComparedScripts, EndsComparison};
 ghost use Rattle.mstplan.specs.Hinted.{first_script as first_of, second_script as second_of, third_script as third_of};
 ghost use Rattle.mstplan.specs.Inputs.{inputs};
@@ -28,8 +28,9 @@ pub(crate) enum Comparison {
     Captures(Form),
     /// How the network of the second, a script too, differs from that of the first, by this, in this form.
     Networks(Between, Form),
-    /// What answers the questions that the second has, of the network of the script that is the first, in this form.
-    Questions(Form),
+    /// What answers the questions that the second has, of the network of the script that is the first, with the policy that the third is,
+    /// where it says that there is one, in this form.
+    Questions(bool, Form),
     /// Whether the network of the script that is the first does what the policy that the second is promises, in this form.
     Policy(Form),
     /// What the steps of the change that the second is do to the network of the script that is the first, and, where it says so, whether
@@ -45,7 +46,7 @@ impl Comparison {
         match self {
             Comparison::Captures(_) => Script::Run,
             Comparison::Networks(_, _) => Script::Old,
-            Comparison::Questions(_) | Comparison::Policy(_) | Comparison::Steps(_, _) => {
+            Comparison::Questions(_, _) | Comparison::Policy(_) | Comparison::Steps(_, _) => {
                 Script::Loaded
             }
         }
@@ -56,7 +57,7 @@ impl Comparison {
         ensures { result ≡ second_of self }
     {
         match self {
-            Comparison::Captures(_) | Comparison::Questions(_) => None,
+            Comparison::Captures(_) | Comparison::Questions(_, _) => None,
             Comparison::Networks(_, _) => Some(Script::New),
             Comparison::Policy(_) => Some(Script::Policy),
             Comparison::Steps(_, _) => Some(Script::Change),
@@ -68,7 +69,7 @@ impl Comparison {
         ensures { result ≡ third_of self }
     {
         match self {
-            Comparison::Steps(true, _) => Some(Script::Policy),
+            Comparison::Questions(true, _) | Comparison::Steps(true, _) => Some(Script::Policy),
             _ => None,
         }
     }
@@ -121,26 +122,30 @@ fn diff_to<O: Source, N: Source, W: Write>(
     diff_within(alloc, form, between, old, new, &mut sink, TURNS)
 }
 
-/// Answers the questions that a source gives, of the network of the script that another gives, and tells how the sources stand.
-fn answer_to<S: Source, Q: Source, W: Write>(
+/// Answers the questions that a source gives, of the network of the script that another gives, with the policy that a third gives, and
+/// tells how the sources stand.
+fn answer_to<S: Source, P: Source, Q: Source, W: Write>(
     alloc: Global,
     form: Form,
     script: &mut S,
+    policy: &mut P,
     questions: &mut Q,
     writer: &mut W,
 ) -> Result<Outcome, RunFault>
     requires script { (S.told script.old).failed ≡ false }
+    requires policy { (P.told policy.old).failed ≡ false }
     requires questions { (Q.told questions.old).failed ≡ false }
-    ensures ok { IfOk result (Stands form (S.remaining script.old) (Q.remaining questions.old) (W.contents writer.old) (W.contents writer.new)) }
-    ensures fault { OnErr result (StandsFront form (S.remaining script.old) (Q.remaining questions.old) (W.contents writer.old) (W.contents writer.new)) }
-    ensures read { result ≡ Err RunFault.Read → StandsEnded form (S.remaining script.old) (S.remaining script.new) (Q.remaining questions.old) (Q.remaining questions.new) (W.contents writer.old) (W.contents writer.new) }
-    ensures memory { result ≡ Err RunFault.Memory → LoadsFront (of_script form) (S.remaining script.old) (W.contents writer.old) (W.contents writer.new) }
-    ensures sources { ComparedBy result (S.told script.old) (S.told script.new) (Q.told questions.old) (Q.told questions.new) }
+    ensures ok { IfOk result (Stands form (S.remaining script.old) (P.remaining policy.old) (Q.remaining questions.old) (W.contents writer.old) (W.contents writer.new)) }
+    ensures fault { OnErr result (StandsFront form (S.remaining script.old) (P.remaining policy.old) (Q.remaining questions.old) (W.contents writer.old) (W.contents writer.new)) }
+    ensures read { result ≡ Err RunFault.Read → StandsEnded form (S.remaining script.old) (S.remaining script.new) (P.remaining policy.old) (Q.remaining questions.old) (Q.remaining questions.new) (W.contents writer.old) (W.contents writer.new) }
+    ensures memory { result ≡ Err RunFault.Memory → Unasked form (S.remaining script.old) (W.contents writer.old) (W.contents writer.new) }
+    ensures sources { AlteredBy result (S.told script.old) (S.told script.new) (P.told policy.old) (P.told policy.new) (Q.told questions.old) (Q.told questions.new) }
     ensures heard_script { Hears S.hears script.old script.new }
+    ensures heard_policy { Hears P.hears policy.old policy.new }
     ensures heard_questions { Hears Q.hears questions.old questions.new }
 {
     let mut sink = ToWrite::new(writer);
-    mst_ask::ask_within(alloc, form, script, questions, &mut sink, TURNS)
+    mst_ask::ask_within(alloc, form, script, policy, questions, &mut sink, TURNS)
 }
 
 /// Verifies the network of the script that a source gives by the policy that another gives, and tells how the sources stand.
@@ -220,7 +225,7 @@ fn compare_to<F: Source, S: Source, T: Source, W: Write>(
         Comparison::Networks(between, form) => {
             diff_to(alloc, form, between, first, second, writer)
         }
-        Comparison::Questions(form) => answer_to(alloc, form, first, second, writer),
+        Comparison::Questions(_, form) => answer_to(alloc, form, first, third, second, writer),
         Comparison::Policy(form) => verify_to(alloc, form, first, second, writer),
         Comparison::Steps(is_judged, form) => {
             steps_to(alloc, form, is_judged, first, second, third, writer)

@@ -85,6 +85,8 @@ Examples:
 
 /// Behind the help of `ask`.
 pub(crate) const ASK: &str = "\
+Forms: mstplan ask FILE
+       mstplan ask FILE POLICY
 Flags: --json, --hints.
 
 Exit status: 0, or 1 where the answer to a line, or a line of FILE, has status 1; 2 and 3 as
@@ -92,7 +94,7 @@ mstplan --help says.
 
 Examples:
   echo showtree 0 | mstplan ask campus.script
-  mstplan ask --json campus.script < questions";
+  echo verify | mstplan ask --json campus.script campus.policy";
 
 /// Behind the help of `verify`.
 pub(crate) const VERIFY: &str = "\
@@ -121,8 +123,8 @@ Forms: mstplan steps FILE CHANGE
        mstplan steps FILE CHANGE POLICY
 Flags: --json, --hints.
 
-Exit status: 0, or 1 where a line was refused, a step cuts a VLAN, or the policy has something to
-tell after one; 2 and 3 as mstplan --help says.
+Exit status: 0, or 1 where a line was refused, a step cuts a VLAN or breaks a promise of the policy,
+or the last network doesn't keep one; 2 and 3 as mstplan --help says.
 
 Examples:
   mstplan steps campus.script campus.change

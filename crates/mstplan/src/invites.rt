@@ -31,7 +31,10 @@ pub(crate) fn invite<K: Sink>(
     }
     match asked {
         Ok(Asked::Run { .. }) if words.len() < 2 => say(errors, &[Part::Text(FOR_SCRIPT)]),
-        Ok(Asked::Ask { script }) if *script != "-" => say(errors, &[Part::Text(FOR_QUESTIONS)]),
+        Ok(Asked::Ask { script, .. }) if *script != "-" => say(
+            errors,
+            &[Part::Text(FOR_QUESTIONS)],
+        ),
         _ => say(errors, &[]),
     }
 }

@@ -1,9 +1,9 @@
 /// The number of this release, which `--version` prints behind the program's name.
-pub(crate) const VERSION: &str = "0.56.1";
+pub(crate) const VERSION: &str = "0.57.0";
 
 /// What `--version --json` prints: the release, the version of the lines of JSON, and the latest version of scripts.
 pub(crate) const VERSION_RECORD: &str =
-    "{\"kind\":\"version\",\"release\":\"0.56.1\",\"json\":1,\"script\":2}\n";
+    "{\"kind\":\"version\",\"release\":\"0.57.0\",\"json\":2,\"script\":2}\n";
 
 /// What stands at the end of the program's help: the commands of scripts, the exit statuses, and where all of it is said.
 pub(crate) const PAGE: &str = "\
@@ -42,6 +42,7 @@ Commands of a script, one a line (a line that begins with # is a comment):
   mark                            remembers the network for changes
   changes                         prints what has changed since the mark
   save                            prints a script that makes the network
+  digest                          prints the digest of that script
 
 TREE is 0 for the CIST, VIDS are like 10,20-29. Behind a first line 'mstplan 2' priorities aren't steps but the numbers
 themselves.
@@ -50,6 +51,7 @@ Lines that ask FILE answers on standard input, of the network that stands then; 
   any of these commands           an edit changes the network
   explain B P, explain B P TREE, summary, sweep, sweep K/N, sweep pairs, sweep pairs K/N, dot TREE, dot vlan VID
                                   what the program's words of these names print
+  verify                          whether the network does what POLICY promises, as the word verify prints it
   undo, undo N                    takes back the last edit, or the last N
 
 Lines of a policy, whose promises verify looks at in the network of FILE, and in that of each failure where a line says so:
@@ -58,15 +60,17 @@ Lines of a policy, whose promises verify looks at in the network of FILE, and in
   role TREE PORTS ROLES           each port has one of the roles
   reach VIDS NAMES                each of the VLANs joins these bridges
   apart VIDS NAMES NAMES          none of the VLANs joins a bridge of the first list with one of the second
+  together VIDS NAMES             what was joined before the failure, or before the change, stays joined
   leaf TREE NAMES                 none of them is the parent of a bridge
   depth TREE N                    no bridge has more than N parents above it
   carries L VIDS, avoids L VIDS   all of the VLANs go over the LAN, or none
   fits                            no limit binds
-Before it stands nothing, 'after lan NAMES', 'after bridge NAMES', or 'always': in the network itself and after each failure.
+Before it stands nothing, 'after lan NAMES', 'after bridge NAMES', or 'always': in the network itself and after each failure. In front
+of all may stand 'finally': steps looks at the network behind the last step alone.
 NAMES are like core1,acc*, PORTS like acc1:2,dist*:*, ROLES like Root,Designated.
 
 A change, of which steps tells what it does, is a script of edits: a step is made of the lines between two blank ones, and the network
-settles after it. With a policy it is looked at after each step. What edits prints is a change, one step of version 2.
+settles after it. With a policy what each step changes of it is told, too. What edits prints is a change, one step of version 2.
 
 Flags, anywhere among the words before --, behind which no word is a flag:
   --json    what is printed is JSON, a line for each answer, and for each record of a capture (run, check, explain, diff,
@@ -77,8 +81,8 @@ Flags, anywhere among the words before --, behind which no word is a flag:
 Exit statuses:
   0  nothing of the below
   1  a line or a capture was refused, a capture differs from the plan, a port isn't explained, two networks differ, a failure, a
-     pair of failures or a step of a change cuts a VLAN, a promise of a policy isn't kept, or nothing is promised, captured or
-     advised
+     pair of failures or a step of a change cuts a VLAN, a promise of a policy isn't kept, or is broken by a step, or nothing is
+     promised, captured or advised
   2  the program's words are wrong
   3  a file couldn't be opened, a read or a write failed, or memory was wanted and refused
 

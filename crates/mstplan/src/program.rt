@@ -74,10 +74,10 @@ fn serve<'a, S: Sources, W: Write + Drop, K: Sink>(
             let question = drawn_of(tree, vid);
             ask_by_words(alloc, sources, flags, question, script, output, errors)
         }
-        Asked::Ask { script } => {
-            let how = Comparison::Questions(form);
+        Asked::Ask { script, policy } => {
+            let how = Comparison::Questions(policy.is_some(), form);
             compare_named(
-                alloc, sources, how, hints, script, "-", None, output, errors,
+                alloc, sources, how, hints, script, "-", policy, output, errors,
             )
         }
         Asked::Verify { script, policy } => {

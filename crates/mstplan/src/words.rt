@@ -57,9 +57,10 @@ pub(crate) enum Asked<'a> {
         tree: &'a str,
         vid: Option<&'a str>,
     },
-    /// To answer the questions of the network of a script that come by standard input.
+    /// To answer the questions of the network of a script that come by standard input, with a policy, where one is named.
     Ask {
         script: &'a str,
+        policy: Option<&'a str>,
     },
     /// To tell whether the network of a script does what a policy promises.
     Verify {
@@ -110,6 +111,8 @@ const NAME: &str = "mstplan";
 const SCRIPT: &str = "The script, or - for standard input";
 
 const ASKED: &str = "The script, or - for standard input, which then has no questions";
+
+const ASKED_BY: &str = "The file of the policy that a line verify asks by";
 
 const POLICY: &str = "The policy, one promise a line, or - for standard input";
 
@@ -414,7 +417,8 @@ fn with_ask<'a>(alloc: Global, before: Command<'a>) -> Result<Command<'a>, Alloc
             "Makes the network of a script once, and answers the questions of it on standard input",
         )
         .after_help(forms::ASK)
-        .arg(wanted(alloc, "FILE", ASKED))?;
+        .arg(wanted(alloc, "FILE", ASKED))?
+        .arg(Arg::new(alloc, "POLICY").help(ASKED_BY))?;
     before.subcommand(ask)
 }
 
@@ -582,6 +586,7 @@ fn asked_of_command<'a>(command: &str, found: &ArgMatches<'a>) -> Asked<'a>
         },
         "ask" => Asked::Ask {
             script: value_in(found, "FILE"),
+            policy: word_in(found, "POLICY"),
         },
         "verify" => Asked::Verify {
             script: value_in(found, "FILE"),
