@@ -1,5 +1,5 @@
 #!/usr/bin/env python3
-"""Standing programs (`mstplan ask FILE`), for program.py: what each line is answered by is what a program answers that is asked it
+"""Standing programs (`mstplan ask FILE [POLICY]`), for program.py: what each line is answered by is what a program answers that is asked it
 alone, of a script which has the edits that stand.
 
 usage: ask_runs.py PROGRAM [COUNT]    (so many questions, or 1,000; program.py asks fewer)
@@ -9,6 +9,7 @@ refused. The exit status is 1 where an answer differs, or doesn't come before th
 """
 
 import concurrent.futures
+import hashlib
 import itertools
 import json
 import os
@@ -41,8 +42,10 @@ UNREAD = {
     "explain": BAD_LINE, "explain B": BAD_LINE, "explain A 1 0 0": BAD_LINE, "summary 0": BAD_LINE, "dot": BAD_LINE, "dot 0 0": BAD_LINE,
     "sweep 0/1": BAD_ARGUMENT, "sweep pairs x": BAD_ARGUMENT, "sweep 1/2 pairs": BAD_ARGUMENT, "sweep pairs 1/2 3": BAD_LINE,
     "undo 0": BAD_ARGUMENT, "undo x": BAD_ARGUMENT, "undo 1 1": BAD_LINE, "undo 4294967296": BAD_ARGUMENT, "Summary": BAD_LINE,
-    "diff - -": BAD_LINE, "check": BAD_LINE, "run x": BAD_LINE, "summary \x01": BAD_LINE, f"undo {' ' * 4092}": BAD_LINE,
+    "diff - -": BAD_LINE, "verify -": BAD_LINE, "check": BAD_LINE, "run x": BAD_LINE, "summary \x01": BAD_LINE, f"undo {' ' * 4092}": BAD_LINE,
 }
+# What a standing program is given of a policy, in two of three networks: some lines hold, some don't, and one can't be read.
+POLICY = ["# of all", "reach 1-4094 *", "always root 0 A", "root", "finally region A,B", "together 1-9 *", "always together 1-9 *"]
 
 
 # ---- a network, and what is asked of it
@@ -67,7 +70,8 @@ def drawn_question(draws, bridges):
     questions = [
         f"explain {bridge} {port}", f"explain {bridge} {port} {tree}", "summary", f"dot {tree}", "dot 4095", "sweep", "sweep 2/3", "sweep pairs",
         "sweep pairs 1/4", "explain nobody 1", f"explain {bridge} x", f"explain {bridge} 1 4095", "showplan", f"showtree {tree}",
-        f"showvlan {draws.below(30) + 1}", "showregions", "showlag", "shownotes", f"showmstconfid {bridge}", "save", "changes", "mark", "mstplan 2",
+        f"showvlan {draws.below(30) + 1}", "showregions", "showlag", "shownotes", f"showmstconfid {bridge}", "save", "digest", "changes", "mark",
+        "mstplan 2", "verify", "verify",
     ]
     kind = draws.below(12)
     if kind < 3:
@@ -84,8 +88,8 @@ def drawn_question(draws, bridges):
 class Plan:
     """What a standing program has: the lines of a script, those of the edits that were made since, and what was marked."""
 
-    def __init__(self, program, script, form):
-        self.program, self.script, self.form = program, plain(program, script), form
+    def __init__(self, program, script, form, policy=os.devnull):
+        self.program, self.script, self.form, self.policy = program, plain(program, script), form, policy
         self.made, self.marked = [], None
 
     def alone(self, word, form, behind, script):
@@ -105,7 +109,7 @@ class Plan:
             return self.refused(number, UNREAD.get(line, BAD_ARGUMENT)) + self.done(1)
         if words[0] == "undo":
             return self.undone(int(words[1]) if words[1:] else 1)
-        if words[0] in ("explain", "summary", "sweep", "dot"):
+        if words[0] in ("explain", "summary", "sweep", "dot", "verify"):
             told, status = self.of_word(words)
         else:
             told, status = self.of_line(number, line)
@@ -117,7 +121,7 @@ class Plan:
     def of_word(self, words):
         """A picture is a text in either form, and that there is none a record of its own."""
         form = [] if words[0] == "dot" else self.form
-        told, status = self.alone(words[0], form, words[1:], [*self.script, *self.made])
+        told, status = self.alone(words[0], form, [self.policy] if words[0] == "verify" else words[1:], [*self.script, *self.made])
         if form != self.form and status:
             told = as_json({"query": "dot", **coded(told.strip().partition(" ")[2])})
         return told, status
@@ -189,11 +193,11 @@ def as_json(value):
 class Standing:
     """A program that stands, whose standard input stays open."""
 
-    def __init__(self, program, folder, script, form=(), given=subprocess.PIPE):
+    def __init__(self, program, folder, script, form=(), given=subprocess.PIPE, policy=()):
         path = os.path.join(folder, f"asked {time.monotonic_ns()}")
         with open(path, "wb") as file:
             file.write(as_bytes(script))
-        words = [program, "ask", *form, path]
+        words = [program, "ask", *form, path, *policy]
         self.ran = subprocess.Popen(words, stdin=given, stdout=subprocess.PIPE, stderr=subprocess.PIPE, bufsize=0)
 
     def told(self, count):
@@ -242,9 +246,12 @@ def check_network(program, folder, number, form):
     """Asks a drawn network, and compares each answer with that of a program which is asked alone."""
     script, draws = network(number), sketch.Draws(number + 10**7)
     bridges = [line.split()[1] for line in script if line.startswith("addbridge")]
-    plan = Plan(program, script, form)
+    policy = os.path.join(folder, f"policy of {number}")
+    with open(policy, "wb") as file:
+        file.write(as_bytes(POLICY))
+    plan = Plan(program, script, form, policy if number % 3 else os.devnull)
     name = f"network {number}{' in JSON' if form else ''}"
-    with Standing(program, folder, script, form) as standing:
+    with Standing(program, folder, script, form, policy=[policy] if number % 3 else []) as standing:
         if not standing.is_told(f"{name}, its script", refused_lines(program, script, form) + plan.done(1)):
             return False
         for place in range(1, QUESTIONS_EACH + 1):
@@ -308,7 +315,19 @@ SESSION = [
     ("save", ["mstplan 2", "addbridge A 02:00:00:00:00:01", "addport A 1", "addbridge B 02:00:00:00:00:02", "addport B 1", "addlan x",
               "plug A 1 x", "plug B 1 x", "done 0"]),
 ]
+# The digest of a network is the MD5 of the text that saves it, and no other where an edit is taken back.
+SAVED_DIGEST = f"digest {hashlib.md5(''.join(f'{line}{chr(10)}' for line in SESSION[-1][1][:-1]).encode()).hexdigest()}"
+SESSION += [
+    ("digest", [SAVED_DIGEST, "done 0"]), ("speed x 1000000", ["done 0"]), ("digest", [SAVED_DIGEST, "done 0"]), ("lan x down", ["done 0"]),
+    ("undo", ["undone lan x down", "done 0"]), ("digest", [SAVED_DIGEST, "done 0"]), ("digest 1", ["line 32 E01 no such command", "done 1"]),
+]
 LONE = ["mstplan 2", "addbridge A 02:00:00:00:00:01"]
+# What a promise is answered by, before and after a failure, and that nothing stands behind its word.
+PROMISED = [
+    ["verify expectations 1 hold 1", "done 0"], ["done 0"], ["fails 1 now reach 1 parts A B", "verify expectations 1 hold 0", "done 1"],
+    ["undone lan x down", "done 0"], ["line 5 E01 no such command", "done 1"],
+]
+LONE_DIGEST = hashlib.md5("".join(f"{line}\n" for line in LONE).encode()).hexdigest()
 DONE, REFUSED = {"kind": "done", "status": 0}, {"kind": "done", "status": 1}
 # The same in JSON, of a script of version 2. A line of its text is a text.
 JSON_SESSION = [
@@ -326,6 +345,7 @@ JSON_SESSION = [
     ("dot 0", ['graph "tree 0" {', '  graph [label="tree 0", nodesep=0.6, ranksep=0.8];', "  edge [fontsize=10, labeldistance=1.8];",
                '  "A" [peripheries=2];', "}", DONE]),
     ("dot x", [{"query": "dot", "error": "E03", "text": "bad VID or tree"}, REFUSED]),
+    ("digest", [{"line": 11, "query": "digest", "records": [{"kind": "digest", "digest": LONE_DIGEST}]}, DONE]),
 ]
 
 
@@ -336,10 +356,10 @@ def told_of(answers):
 
 def cases(folder):
     """Each case: its name, the words, standard input, the status, standard output and standard error."""
-    path, refused, lone, empty = (os.path.join(folder, f"asked.{name}") for name in ("script", "refused", "lone", "empty"))
+    path, refused, lone, empty, kept = (os.path.join(folder, f"asked.{name}") for name in ("script", "refused", "lone", "empty", "policy"))
     # queries and marks do nothing there, and none is refused
     asking = [*A_AND_B, "showtree 0", "mark", "changes"]
-    for name, script in ((path, asking), (refused, ["no", *asking, "plug A 1 x"]), (lone, LONE), (empty, [])):
+    for name, script in ((path, asking), (refused, ["no", *asking, "plug A 1 x"]), (lone, LONE), (empty, []), (kept, ["reach 1 *"])):
         with open(name, "wb") as file:
             file.write(as_bytes(script))
     questions, answers = as_bytes(line for line, _ in SESSION), told_of(answer for _, answer in SESSION)
@@ -356,6 +376,9 @@ def cases(folder):
          b"done 0\n" + told_of([SESSION[3][1], ["done 0"], ["done 0"]]), b""),
         ("questions that are too long", ["ask", empty], long, 1,
          b"done 0\n" + told_of([["line 2 E01 no such command", "done 1"], ["line 3 E01 no such command", "done 1"]]), b""),
+        ("a promise", ["ask", path, kept], b"verify\nlan x down\nverify\nundo\nverify 1\n", 1, b"done 0\n" + told_of(PROMISED), b""),
+        ("a promise of no policy", ["ask", path], b"verify\n", 1,
+         b"done 0\n" + told_of([["policy 0 E17 nothing to judge", "verify expectations 0 hold 0", "done 1"]]), b""),
         ("a version that is asked for", ["ask", empty], b"mstplan 2\n", 1, b"done 0\nline 1 E01 no such command\ndone 1\n", b""),
     ]
 

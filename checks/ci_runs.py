@@ -27,9 +27,10 @@ import verify_runs  # noqa: E402
 
 COUNT, IN_THE_GATE = 100, 20
 COUNTS = re.compile(r"verify expectations ([0-9]+) hold ([0-9]+)")
-TOLD = re.compile(r"(line|policy|fails) ([0-9]+) (.*)")
+TOLD = re.compile(r"(line|policy|fails|same) ([0-9]+) (.*)")
 # What a policy may have beside promises: one with marks that XML and annotations have to escape, and bytes that aren't ASCII.
-ODD = [b"# a comment", b"", b"root 0 <b>&\"'%0A::error,file=x:", b"reach 10 n\xffo*", b"root 0", b"\tfits ", b"roots\r"]
+ODD = [b"# a comment", b"", b"root 0 <b>&\"'%0A::error,file=x:", b"reach 10 n\xffo*", b"root 0", b"\tfits ", b"roots\r", b"finally  region *",
+       b"together 1-9 *"]
 
 
 def written(folder, name, data):
@@ -54,6 +55,7 @@ def wanted_of(printed):
     *lines, last = printed.decode().splitlines()
     found = {}
     for word, number, text in (TOLD.fullmatch(it).groups() for it in lines):
+        text = f"the {word} after {text.split()[1]} failures" if word == "same" else text
         found.setdefault(("script" if word == "line" else "policy", max(int(number), 1)), []).append(text)
     return found, [int(it) for it in COUNTS.fullmatch(last).groups()]
 
@@ -67,9 +69,9 @@ def cases_in(path):
     suite = xml.etree.ElementTree.parse(path).getroot()[0]
     found = {}
     for case in suite:
-        its = [line for child in case for line in child.text.split("\n")]
+        its = [line for child in case for line in (child.text or "").split("\n") if line]
         found[os.path.basename(case.get("file")), int(case.get("line"))] = its, [child.tag for child in case]
-    return found, [int(suite.get(it)) for it in ("tests", "failures", "errors")]
+    return found, [int(suite.get(it)) for it in ("tests", "failures", "errors", "skipped")]
 
 
 def differing(what, found, wanted):
@@ -88,13 +90,13 @@ def faults_of_run(program, what, script, policy):
         wanted, counts = wanted_of(printed)
         if told != status or error:
             return [f"{what}: status {told} in place of {status}, {error}"]
-        cases, (tests, failures, errors) = cases_in(report)
+        cases, (tests, failures, errors, skipped) = cases_in(report)
         broken = {place: its for place, (its, _) in cases.items() if its}
         issues = json.loads(read(quality))
     faults = differing(f"{what} XML", broken, wanted)
     tags = [tag for _, its in cases.values() for tag in its]
-    faults += differing(f"{what} counts", (tests, failures, errors), (len(cases), tags.count("failure"), tags.count("error")))
-    kept = [place for place, (its, _) in cases.items() if not its]
+    faults += differing(f"{what} counts", (tests, failures, errors, skipped), (len(cases), *map(tags.count, ("failure", "error", "skipped"))))
+    kept = [place for place, (_, its) in cases.items() if not its]
     faults += differing(f"{what} end", [len(kept) + failures, len(kept)], counts)
     noted = [re.match("::error file=(.*),line=([0-9]+),title=[^:,]*::(.*)", it) for it in text.decode().splitlines() if it.startswith("::")]
     annotated = {(os.path.basename(unescaped(it[1])), int(it[2])): unescaped(it[3]).split("\n")[1:] for it in noted}

@@ -51,6 +51,7 @@ OTHERS = [
     "showvlan {vid}",
     "showmstconfid {bridge}",
     "save",
+    "digest",
     "mark",
     "changes",
 ]

@@ -113,6 +113,10 @@ PROMISES = {
     "reach 1 * # all": ("E01 no such expectation", "a comment is a line of its own"),
     "showtree 0": ("E01 no such expectation", "no expectation showtree; that is a command of scripts"),
     "always always fits": ("E01 no such expectation", "no expectation always; a line has one scope"),
+    "always finally fits": ("E01 no such expectation", "no expectation finally; finally comes first"),
+    "finally": ("E01 no such expectation", "finally has an expectation behind it"),
+    "Finally fits": ("E01 no such expectation", "no expectation Finally; finally?"),
+    "finally together 1": ("E01 no such expectation", "together takes VIDS NAMES; 1 word stands here"),
 }
 POLICY = "".join(f"{line}\n" for line in PROMISES).encode()
 POLICY_LINES = "".join(f"policy {number} {told}\n" for number, (told, _) in enumerate(PROMISES.values(), 1)).encode()
@@ -121,9 +125,9 @@ VERIFIED = b"verify expectations 0 hold 0\n"
 CHANGE = b"settreeprio A 0 4096\n\nbridg A off\n"
 STEPS = b"""change 1 E02 bad argument
 step 1 lines 1-1 roots - ports 0 moved - cut - joined -
-%schange 3 E01 no such command
+change 3 E01 no such command
 step 2 lines 3-3 roots - ports 0 moved - cut - joined -
-%ssteps 2 moving 0 cutting 0%s
+steps 2 moving 0 cutting 0%s
 """
 CHANGE_HINTS = b"""change line 1 settreeprio B TREE PRIO: PRIO is 0 to 15, in steps of 4096; 4096 is 1
 change line 3 no command bridg; bridge?
@@ -176,9 +180,9 @@ def cases(folder):
         ("hints of two scripts of edits", ["edits", "--hints", script, other], b"", 1, both + b"mstplan 2\ndelport B 1\ndelbridge B\n", both_hints),
         ("hints of a policy", ["verify", "--hints", os.devnull, "-"], POLICY, 1, POLICY_LINES + VERIFIED, POLICY_HINTS),
         ("hints of a script and its policy", ["verify", "--hints", script, "-"], POLICY, 1, HINTED_LINES + POLICY_LINES + VERIFIED, HINTS + POLICY_HINTS),
-        ("hints of a change", ["steps", "--hints", os.devnull, "-"], CHANGE, 1, STEPS % (b"", b"", b""), CHANGE_HINTS),
+        ("hints of a change", ["steps", "--hints", os.devnull, "-"], CHANGE, 1, STEPS % b"", CHANGE_HINTS),
         ("hints of a change and a policy", ["steps", "--hints", os.devnull, change, "-"], POLICY, 1,
-         STEPS % (POLICY_LINES, POLICY_LINES, b" failing 2"), CHANGE_HINTS + POLICY_HINTS),
+         POLICY_LINES + STEPS % b" failing 0 unkept 0", CHANGE_HINTS + POLICY_HINTS),
         ("hints of the new script", ["diff", "--hints", os.devnull, "-"], MISSPELT, 1, of_side(b"new", MISSPELT_LINES) + DIFFERENCE,
          of_side(b"new", MISSPELT_HINTS)),
         ("hints of all of standard input", ["diff", "--hints", "-", "-"], MISSPELT, 1, of_side(b"old", MISSPELT_LINES) + DIFFERENCE,

@@ -34,8 +34,8 @@ sys.dont_write_bytecode = True
 import drawn_scripts  # noqa: E402
 
 DRAWN = 16
-QUERIES = ("showlag", "showregions", "shownotes", "showplan", "changes", "save")
-ASKED = re.compile(r"\s*(show\w+|changes|save)(\s|$)")
+QUERIES = ("showlag", "showregions", "shownotes", "showplan", "changes", "save", "digest")
+ASKED = re.compile(r"\s*(show\w+|changes|save|digest)(\s|$)")
 MOST_EXPLAINED = 3
 ALL_EXPLAINED = 20
 MOST_IN_PAIRS = 20
@@ -45,6 +45,11 @@ BARE = ("diff", "verify", "steps", "edits")
 # What is promised of each script: little of it is kept.
 PROMISES = """# what is promised
 root 0 A
+finally root 0 B
+together 1-4094 *
+always together 1-4094 *
+finally always reach 1-9 *
+after lan * reach 1-20 *
 root 0 B next A
 root 0 core2 next core1
 root 1 A
@@ -79,13 +84,17 @@ bridge A on
 lan X up
 setportvlans B 1 none
 
+kind B rstp
+
 delport A 1
 """
-# no script here comes to these: contests in which no component differs, a root port without a rival, and an internal cost over its limit that a
-# promise finds
-RARE = {("VerifyLine", "InternalCost"), ("ContestLine", "DesignatedOver"), ("ContestLine", "RootAlone"), ("ContestLine", "RootOver")}
-# and so to these nulls, by the key and the kind: identifiers of no bridge of the network, and contests that a bridge's own vector is in
+# no script here comes to these: contests in which no component differs, a root port without a rival, an internal cost over its limit that a
+# promise finds, and a port that none of the settings in question lets forward
+RARE = {("VerifyLine", "InternalCost"), ("ContestLine", "DesignatedOver"), ("ContestLine", "RootAlone"), ("ContestLine", "RootOver"), ("AdviseLine", "BecauseTried")}
+# and so to these nulls, by the key and the kind: identifiers of no bridge of the network, contests that a bridge's own vector is in, and
+# the network itself as a place where a promise of what stays together isn't kept: nothing is before it
 RARE_NULLS = {
+    ("failure", "VerifyLineTogether"),
     *itertools.product(("root", "regional", "designated_bridge"), ("TreeLineBridgeInCist", "TreeLineBridgeInMsti")),
     *itertools.product(("winner", "loser"), ("ContestLineRootAlone", "ContestLineRootOver", "ContestLineRootByCost", "ContestLineRootById")),
 }
@@ -114,6 +123,10 @@ def kinds():
         firsts = {(enum, name): texts["Mark"][mark] for enum, name, mark in FIRST.findall(text)}
         for enum, name, parts in PARTS.findall(text):
             parts = [part_of(part.split(), texts) for part in filter(None, parts.split(", "))]
+            if enum == "VerifyLine":
+                # the table has these lines behind a step, where the step's number is in front; two of them stand behind none
+                yield from [Kind("StepVerifyLine", name, firsts[enum, name], parts)] * (name not in ("Same", "Counts"))
+                parts = parts[1:]
             yield Kind(enum, name, firsts[enum, name], parts)
 
 
@@ -124,7 +137,9 @@ def part_of(words, texts):
     return (words[0], *(texts[it][word] for it, word in zip(("Key", "Mark"), words[1:])))
 
 
-KINDS = list(kinds())
+# (of the table's kinds nothing tells these yet)
+UNTOLD = {("SummaryLine", "LookTable"), ("SummaryLine", "LookVlans")}
+KINDS = [kind for kind in kinds() if kind[:2] not in UNTOLD]
 TYPES = dict(KEY.findall(read("docs", "JSON.md").partition("## Keys")[2]))
 
 
@@ -176,6 +191,7 @@ WORDS = {
     "array of arrays of strings": lambda it: [",".join(names) or "-" for names in it],
     "object": lambda it: ["-" if value is None else str(value) for value in it.values()],
     "failure": lambda it: [word for pair in it.items() for word in pair],
+    "two numbers": lambda it: ["-".join(map(str, it))],
 }
 
 
@@ -227,6 +243,14 @@ def is_string(value):
     return isinstance(value, str)
 
 
+def is_promise(value):
+    """Whether this is what is told of a promise: it holds or doesn't just where it is judged in some network."""
+    if not (isinstance(value, dict) and list(value) == ["line", "promise", "scope", "finally", "network_count", "holds"]):
+        return False
+    good = is_number(value["line"]) and is_string(value["promise"]) and value["scope"] in (None, "always", "after lan", "after bridge")
+    return good and isinstance(value["finally"], bool) and is_number(value["network_count"]) and (value["holds"] in (True, False) if value["network_count"] else value["holds"] is None)
+
+
 TESTS = {
     "string": is_string,
     "number": is_number,
@@ -240,6 +264,8 @@ TESTS = {
     "array of arrays of strings": all_are(all_are(is_string)),
     "object": lambda value: isinstance(value, dict),
     "failure": lambda value: isinstance(value, dict) and len(value) == 1 and set(value) <= {"lan", "bridge"},
+    "two numbers": lambda value: isinstance(value, list) and len(value) == 2 and all(map(is_number, value)) and value[0] <= value[1],
+    "array of promises": all_are(is_promise),
 }
 
 
@@ -247,7 +273,7 @@ def has_types(values):
     """Whether each key has its type, and so has each in an object below it. A list is empty where nothing is there, all else is null."""
     for key, value in values.items():
         if value is None:
-            good = not TYPES[key].startswith(("array", "VIDs"))
+            good = not TYPES[key].startswith(("array", "VIDs", "two"))
         else:
             good = TESTS[TYPES[key]](value) and (TYPES[key] not in ("object", "failure") or has_types(value))
         if not good:
@@ -269,7 +295,7 @@ class Above:
     """What the lines so far leave to those below them: what a record has that its line hasn't."""
 
     def __init__(self, records):
-        self.told, self.rank = {}, None
+        self.told, self.rank, self.step = {}, None, 0
         self.named = {record["bridge_id"].split(".")[1]: record["bridge"] for record in records if "bridge_id" in record}
 
     def holder(self, identifier):
@@ -290,10 +316,11 @@ class Above:
             return {"failure": {kind.first: values[kind.first]}}
         if kind.enum == "SweepLine" and kind.first == "cut":
             return {key: self.told[key] for key in ("failure", "other_failure") if key in self.told}
-        if kind.enum == "StepLine":
-            return {"step": self.told["step"]}
-        if kind.enum == "VerifyLine":
-            return {"expectation": "fits", "tree": 0}
+        if kind.enum == "StepLine" or kind.enum == "RefusalLine":
+            # what is refused of a step stands in front of its line
+            return {"step": self.step + (kind.name == "StepChange")}
+        if kind.enum in ("VerifyLine", "StepVerifyLine"):
+            return {"expectation": "fits", "tree": 0, "step": self.step, "promises": values.get("promises")}
         # tree 0 alone has ages and a part of the message without a number; a port that is a member of no VLAN has no VIDs, and one of all has all
         of_tree_0 = {"tree": 0, "tree_kind": "cist"} if kind.enum == "CaptureLine" else {"tree": 0}
         return {"NoVlans": {"vids": []}, "AllVlans": {"vids": [[1, 4094]]}}.get(kind.name, of_tree_0)
@@ -304,6 +331,8 @@ class Above:
         wanted = self.wanted(kind, values) if above else {}
         if any(values[key] != wanted[key] for key in above):
             raise ValueError(f"{values}, and above it stands {wanted}")
+        if kind.first == "step":
+            self.step = values["step"]
         if kind.first in ("tree", "vlan", "mstconfid", "explain", "lan", "bridge", "pair", "step") and kind.enum != "BridgeCommand":
             self.told = {**self.told, **values} if kind.enum == "TreeLine" else dict(values)
         return True

@@ -23,7 +23,7 @@ import load  # noqa: E402
 
 SECONDS = 120
 LACKING = (b"memory", b"E99", b"B99")
-QUERIES = ("showplan", "showvlan 10", "showregions", "showmstconfid B0007", "shownotes", "changes", "showtree 0", "showlag", "save")
+QUERIES = ("showplan", "showvlan 10", "showregions", "showmstconfid B0007", "shownotes", "changes", "showtree 0", "showlag", "save", "digest")
 # The bridge that the edit makes the root.
 OTHER = load.BRIDGES // 2
 EDIT = f"settreeprio B{OTHER:04} 0 0"
@@ -117,7 +117,7 @@ def mesh_words(before, after):
     deep = sum(steps > MAX_AGE for steps in after.steps.values())
     return dict(zip((query.split()[0] for query in QUERIES), (
         {**tree, **vlan}, vlan, {"region": load.BRIDGES}, {"mstconfid": 1}, {"note": deep},
-        {"bridge": load.BRIDGES, "port": moved}, tree, {}, {"mstplan": 1, "settreeprio": 1, **records},
+        {"bridge": load.BRIDGES, "port": moved}, tree, {}, {"mstplan": 1, "settreeprio": 1, **records}, {"digest": 1},
     )))
 
 

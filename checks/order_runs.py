@@ -3,8 +3,8 @@
 
 usage: order_runs.py PROGRAM [COUNT] [FIRST]    (so many networks, or 200; tools.py takes fewer)
 
-Networks, changes of 2 to 4 steps and policies are drawn by their numbers; a policy is of lines that hold now. Every other change is one of
-edits between two networks. The exit status is 1 where something differs.
+Networks, changes of 2 to 4 steps and policies are drawn by their numbers; a policy is of lines that hold now, and of some that don't, of the
+end or of what stays together. Every other change is one of edits between two networks. The exit status is 1 where something differs.
 """
 
 import concurrent.futures
@@ -30,11 +30,16 @@ ORDERED = re.compile(r"^# steps ([0-9,]+|-)(?:, of which ([0-9]+) break the poli
 
 
 def policy_of(program, script, draws):
-    """A few lines that hold in the network of a script."""
+    """A few lines that hold in the network of a script, and sometimes one of another kind."""
     text = sketch.text_of(program.path, script)
     judged = verify_runs.Judged(text, text)
-    kept = [line for line in verify_runs.lines_of(judged) if not verify_runs.reasons(judged, line)]
-    return [draws.one_of(kept) for _ in range(2)] if kept else []
+    every = verify_runs.lines_of(judged)
+    kept = [line for line in every if not verify_runs.reasons(judged, line)]
+    if not kept:
+        return []
+    broken = [line for line in every if line not in kept]
+    others = [draws.one_of(broken or kept), f"finally {draws.one_of(every)}", "together 1-20 *", "always together 1-4094 *", "root 0", "region Z", "# nothing"]
+    return [draws.one_of(kept), draws.one_of(kept), *[draws.one_of(others)] * draws.below(2)]
 
 
 def edit(draws):
@@ -60,7 +65,8 @@ def behind(program, script, edits):
 
 
 class Tried:
-    """What `steps` says of each order of a change: the least number of failing steps, and the least order that has so few."""
+    """What `steps` says of each order of a change: the least number of failing steps, the least order that has so few, and whether all is kept
+    in the end."""
 
     def __init__(self, program, network, steps, policy, wanted):
         self.program, self.network, self.steps, self.policy, self.is_second = program, network, steps, policy, wanted is not None
@@ -69,18 +75,19 @@ class Tried:
         self.orders = {order: self.tried(order) for order in itertools.permutations(range(len(steps)))}
 
     def tried(self, order):
-        """How many steps of an order fail, and the network that it ends in; None where a line is refused."""
+        """How many steps of an order fail, the network that it ends in, and how many lines aren't kept there; None where a line is refused."""
         change = text_of([self.steps[at] for at in order], self.is_second)
         records = self.program.records("steps", self.network, change, self.policy)
         if any(it["kind"] == "change" for it in records):
             return None
         edits = [mstplan.edit_in(line, not self.is_second) for line in mstplan.lines_in(change)]
-        return records[-1]["failing_count"], behind(self.program, self.network, [it for it in edits if it])
+        return records[-1]["failing_count"], behind(self.program, self.network, [it for it in edits if it]), records[-1]["unkept_count"]
 
     def least(self):
-        """(how many steps fail, the order by the steps' numbers), or None."""
-        found = [(told[0], order) for order, told in self.orders.items() if told and self.wanted in (None, told[1])]
-        return min(((failing, ",".join(str(at + 1) for at in order) or "-") for failing, order in found), default=None)
+        """((how many steps fail, the order by the steps' numbers), whether all is kept in the end), or (None, False)."""
+        found = [(told[0], order, told[2]) for order, told in self.orders.items() if told and self.wanted in (None, told[1])]
+        orders = [((failing, ",".join(str(at + 1) for at in order) or "-"), not unkept) for failing, order, unkept in found]
+        return min(orders, default=(None, False))
 
 
 def run(program, network, change, policy, *flags):
@@ -98,12 +105,13 @@ def run(program, network, change, policy, *flags):
 
 def faults_of_change(program, what, network, steps, policy, wanted):
     """What differs of one change, or of the edits to a network that is wanted, each a step of its own."""
-    least = Tried(program, network, steps, policy, wanted).least()
+    least, is_kept = Tried(program, network, steps, policy, wanted).least()
     kept = least if least and not least[0] else None
+    is_read = b"root 0\n" not in policy
     given, flags = (text_of(steps, False), []) if wanted is None else (wanted, ["--by", "line"])
     faults = []
     for words, expected in ((flags, kept), ([*flags, "--fewest"], least)):
-        status = 1 if expected is None or expected[0] else 0
+        status = 0 if expected and not expected[0] and is_kept and is_read else 1
         told = run(program, network, given, policy, *words)
         faults += [] if told == (expected, status) else [f"{what} {words}: {told} in place of {expected}, {status}"]
     return faults

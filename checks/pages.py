@@ -88,7 +88,7 @@ lan spare down
 REASONS = [
     "root 0 core2", "root 1 core1 next dist1", "region *", "role 0 acc*:2 Root,Designated", "role 1 acc*:* Disabled", "always reach 1-4094 acc1,nobody",
     "always apart 10,20 acc1 acc2", "leaf 0 core1,dist*", "depth 0 1", "carries dist2-acc1 10-12", "avoids core2-dist1 30", "root 9 core1", "no such",
-    "after bridge dist* avoids core1-dist1 1-4094", "after lan * depth 1 0", "carries nothing 1",
+    "after bridge dist* avoids core1-dist1 1-4094", "after lan * depth 1 0", "carries nothing 1", "always root 0 core2",
 ]
 REFUSED = "addbridge A 02:00:00:00:00:01\nno <b>such</b> line\nplug A 1 x\nsettreeprio A 0 16\n"
 
@@ -547,16 +547,21 @@ def check_promises(program, folder, expect):
         counts = promises["expectations"], promises["hold"]
         expect.equal("promises: counts", counts, (told[-1]["expectation_count"], told[-1]["hold_count"]))
         found = [(it["line"], dict([it["failure"].split(" ")]) if it["failure"] else None) for it in promises["broken"]]
-        expect.equal("promises: what isn't kept", found, [(it["line"], it["failure"]) for it in told[:-1]])
+        expect.equal("promises: what isn't kept", found, [(it["line"], it.get("failure")) for it in told[:-1]])
         check_reasons(program, [script, policy], promises["broken"], expect)
     return path, data["after"]["promises"]["broken"]
+
+
+def printed_of(it):
+    """The line of `verify` or of `steps` that a page's reason stands for."""
+    word, place = ("policy", "") if it["refused"] else ("same", "") if it["again"] else ("fails", f"{it['failure'] or 'now'} ")
+    return f"{word} {it['line']} {place}{it['why']}"
 
 
 def check_reasons(program, words, broken, expect):
     """What a page has of promises is what `verify` prints of them."""
     printed = subprocess.run([program, "verify", *words], capture_output=True, text=True, timeout=SECONDS_OF_A_STEP, check=False).stdout
-    found = [f"policy {it['line']} {it['why']}" if it["refused"] else f"fails {it['line']} {it['failure'] or 'now'} {it['why']}" for it in broken]
-    expect.equal(f"reasons of {words}", found, [line for line in printed.splitlines()[:-1] if not line.startswith("line ")])
+    expect.equal(f"reasons of {words}", list(map(printed_of, broken)), [line for line in printed.splitlines()[:-1] if not line.startswith("line ")])
 
 
 def check_all_reasons(program, folder, expect):
@@ -567,6 +572,11 @@ def check_all_reasons(program, folder, expect):
     said = [it["said"] for it in data["after"]["promises"]["broken"]]
     expect.equal("reasons: sentences", [it for it in said if not page_views.is_sentence(it)], [])
     expect.equal("reasons: lines", sorted({it["line"] for it in data["after"]["promises"]["broken"]}), list(range(1, len(REASONS) + 1)))
+    script, policy = os.path.join(SAMPLES, "campus-changed.script"), written(folder, "together.policy", ["always together 1-4094 *"])
+    broken = data_in(made(program, folder, "together", expect, [script, "--policy", policy]))["after"]["promises"]["broken"]
+    check_reasons(program, [script, policy], broken, expect)
+    expect.equal("reasons: what stays together", {it["why"].split()[0] for it in broken}, {"together"})
+    expect.equal("reasons: sentences of that", [it["said"] for it in broken if not page_views.is_sentence(it["said"])], [])
     script, policy = written(folder, "long.script", long_script()), written(folder, "long.policy", ["fits", "root 1 Z"])
     broken = data_in(made(program, folder, "long", expect, [script, "--policy", policy]))["after"]["promises"]["broken"]
     check_reasons(program, [script, policy], broken, expect)
@@ -613,17 +623,18 @@ def written(folder, name, lines):
 
 
 def told_in_steps(program, script, change, policy):
-    """What `steps` prints of a script and a change: what it refuses of the script, the lines of each step, and the last one."""
+    """What `steps` prints of a script and a change: what it refuses of the script, what stands in front of all steps, the lines of each, and the
+    last one."""
     files = [change, *([policy] if policy else [])]
     printed = subprocess.run([program, "steps", script, *files], capture_output=True, text=True, timeout=SECONDS_OF_A_STEP, check=False).stdout
     *lines, last = printed.splitlines()
-    groups, refused = [], [line for line in lines if line.startswith("line ")]
+    groups, refused = [[]], [line for line in lines if line.startswith("line ")]
     for line in lines[len(refused):]:
-        is_done = bool(groups) and any(it.startswith("step ") for it in groups[-1])
-        if not groups or is_done and line.startswith(("change ", "step ")):
+        is_done = len(groups) == 1 or any(it.startswith("step ") for it in groups[-1])
+        if is_done and line.startswith(("change ", "step ")):
             groups.append([])
         groups[-1].append(line)
-    return refused, groups, last
+    return refused, groups[0], groups[1:], last
 
 
 class Steps:
@@ -632,7 +643,7 @@ class Steps:
     def __init__(self, program, folder, expect, name, paths, policy=None):
         self.program, self.expect, self.name, (self.path, self.change_path), self.policy = program, expect, name, paths, policy
         self.script, self.change = sketch.edits_of([line or "#" for line in script_of(self.path)]), script_of(self.change_path)
-        refused, self.groups, self.last = told_in_steps(program, *paths, policy)
+        refused, self.front, self.groups, self.last = told_in_steps(program, *paths, policy)
         told = [f"page.py: {self.path}: {line}" for line in refused]
         lines = [line.split(" ", 1)[1] for group in self.groups for line in group if line.startswith("change ")]
         told += [f"page.py: {self.change_path}: line {line}" for line in lines]
@@ -644,6 +655,12 @@ class Steps:
 
     def step_line(self, place):
         return next(line.split() for line in self.groups[place - 1] if line.startswith("step "))
+
+    def unkept(self, place):
+        """The lines of the policy that aren't kept at a place, by what is told up to there: the last word on each."""
+        told = [line.split() for line in itertools.chain(self.front, *self.groups[:place])]
+        last = {words[1]: words[0] for words in told if words[0] in ("fails", "policy", "mends")}
+        return [line for line, word in last.items() if word != "mends"]
 
     def made(self, place):
         """The script with the lines of the first steps behind it."""
@@ -686,7 +703,7 @@ class Steps:
         browser, step = page.browser, page.browser.run(STEP)
         page.equal("place", (step["value"], step["place"].startswith(f"Step {place} of" if place else "As it is")), (str(place), True))
         page.equal("address", f"step={place}" in step["address"], place > 0)
-        page.equal("as printed", step["printed"], self.groups[place - 1] if place else [])
+        page.equal("as printed", step["printed"], self.groups[place - 1] if place else self.front)
         page.equal("the network of the place", step["otherwise"], False)
         for tree in page.text.trees:
             browser.click(f"#trees [data-tree='{tree}']")
@@ -696,10 +713,9 @@ class Steps:
         page.equal("islands", found, [sorted(map(list, page.text.islands[vid])) for vid in kinds])
         page.check_sheets()
         if self.policy:
-            fails = [line for line in self.groups[place - 1] if line.split()[0] in ("fails", "policy")] if place else []
             browser.click("#tabs [data-sheet='promises']")
-            found = browser.run("return network.promises.broken.map(it => it.line);") if place else []
-            page.equal("promises", [str(it) for it in found], [line.split()[1] for line in fails])
+            found = browser.run("return [...new Set(network.promises.broken.map(it => String(it.line)))];")
+            page.equal("promises", sorted(found), sorted(self.unkept(place)))
         swept = [line.split() for line in page.answer(["sweep", "-"]) if line.split()[0] in ("lan", "bridge")]
         browser.click("#tabs [data-sheet='failures']")
         page.equal("failures", sorted(row["fail"] for row in browser.view()["rows"]), sorted(" ".join(words[:2]) for words in swept))
@@ -731,11 +747,14 @@ def check_steps_data(program, folder, expect):
     told = [f"page.py: {change}: line 8 E04 no such bridge"]
     data = data_in(made(program, folder, "worse", expect, [script, "--change", change, "--policy", policy], 1, told))
     records = answered(program, "steps", script, change, policy)
-    names = {"lines": "lines", "trees": "trees", "changed": "port_count"}
+    names = {"trees": "trees", "changed": "port_count"}
     steps = [record for record in records if record["kind"] == "step"]
-    expect.equal("steps: counts", [data["change"][it] for it in ("moving", "cutting", "failing")], [3, 1, 1])
+    expect.equal("steps: counts", [data["change"][it] for it in ("moving", "cutting", "failing", "unkept")], [3, 1, 1, 1])
     for step, record in itertools.zip_longest(data["change"]["steps"], steps):
         expect.equal("steps: a step", {key: step[key] for key in names}, {key: record[name] for key, name in names.items()})
+        expect.equal("steps: lines of a step", step["lines"].split("-"), [str(it) for it in record["lines"]])
+        expect.equal("steps: what begins anew", step["restarts"], [f"{port['bridge']}:{port['port']}" for it in records
+                                                                   if (it["kind"], it.get("step")) == ("restarts", record["step"]) for port in it["ports"]])
         for word in ("moved", "cut", "joined"):
             expect.equal(f"steps: {word}", step[word], ",".join(f"{a}-{b}" if a < b else str(a) for a, b in record[f"{word}_vids"]))
         lines = [*script_of(script), *script_of(change)[:int(step["lines"].split("-")[1])]]

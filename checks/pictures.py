@@ -17,7 +17,7 @@ import subprocess
 import sys
 
 SAMPLES = os.path.join(os.path.dirname(os.path.abspath(__file__)), os.pardir, "examples")
-QUIET = ("show", "mark", "changes", "save")
+QUIET = ("show", "mark", "changes", "save", "digest")
 UNUSED = 4094
 LETTERS = {"Root": "R", "Designated": "D", "Alternate": "A", "Backup": "B", "Master": "M", "Disabled": "X"}
 FORWARDS = set("RDM")

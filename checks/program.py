@@ -36,7 +36,7 @@ NOBODY = 65534
 # Any text that has a usage line.
 USAGE = object()
 VERSION = re.compile(rb"mstplan \d+\.\d+\.\d+\n")
-VERSION_RECORD = re.compile(rb'\{"kind":"version","release":"\d+\.\d+\.\d+","json":1,"script":2\}\n')
+VERSION_RECORD = re.compile(rb'\{"kind":"version","release":"\d+\.\d+\.\d+","json":2,"script":2\}\n')
 TREE = b"tree 0\n"
 REFUSED = b"line 1 E01 no such command\n"
 SHORT = b"# none\n00\n"
@@ -523,6 +523,12 @@ look lan X speed 1000 next 1000000
 """
 
 
+# Names that differ in digits alone are a numbering; one that differs in a letter isn't, with digits or without.
+NUMBERED = b"".join(b"addbridge %c 02:00:00:00:00:%02x\nsetmstconfid %c 1 %s\n" % (65 + place, place, 65 + place, name)
+                    for place, name in enumerate((b"R1", b"R2", b"R10", b"r1", b"RX")))
+NUMBERED_IN_SHORT = b"look region R1 A r1 D\nlook region R1 A RX E\nlook region R2 B RX E\n"
+
+
 def summary_cases(folder):
     """Each case: its name, the words, standard input, the status, standard output and standard error."""
     script = os.path.join(folder, "swept")
@@ -534,6 +540,7 @@ def summary_cases(folder):
         ("summary, what is down and off", ["summary", "-"], C_IS_OFF, 0, OFF_IN_SHORT, b""),
         ("summary, a LAN of three and one of hosts", ["summary", "-"], OF_THREE, 0, THREE_IN_SHORT, b""),
         ("summary, slips", ["summary", os.path.join(SAMPLES, "small", "slips.script")], b"", 0, SLIPS_IN_SHORT, b""),
+        ("summary, numbered names", ["summary", "-"], NUMBERED, 0, re.compile(rb"(?:(?!look )[^\n]*\n)*" + NUMBERED_IN_SHORT), b""),
         ("summary, nothing to read", ["summary", "-"], b"", 0, NO_NETWORK, b""),
         ("summary, a refused line", ["summary", "-"], b"no\n" + TRIANGLE + b"showplan\n", 1, REFUSED + TRIANGLE_IN_SHORT, b""),
         ("summary with no file", ["summary"], b"", 2, b"", USAGE),
@@ -621,6 +628,7 @@ def advise_cases(folder):
     """Each case: its name, the words, standard input, the status, standard output and standard error. What is advised is in advise_runs.py."""
     script = os.path.join(folder, "swept")
     absent = os.path.join(folder, "absent")
+    absent_port = [{"kind": "because", "because": "down", "down_lan": "ac"}, {"kind": "advise", "result": "none"}]
     json_of_none = {"query": "advise", "goal": "root", "tree": 0, "bridge": "A", "records": [{"kind": "advise", "edit_count": 0}]}
     return [
         ("advise FILE root TREE B", ["advise", script, "root", "0", "A"], b"no\n", 0, b"advise edits 0\n", b""),
@@ -632,6 +640,11 @@ def advise_cases(folder):
         ("advise, no such bridge", ["advise", script, "root", "7", "Z"], b"", 1, b"advise E04 no such bridge\n", b""),
         ("advise, no such port", ["advise", script, "forward", "7", "A", "9"], b"", 1, b"advise E05 no such port\n", b""),
         ("advise, a tree that the bridge hasn't", ["advise", script, "root", "7", "A"], b"", 1, b"advise E03 bad VID or tree\n", b""),
+        ("advise, a LAN that is down", ["advise", "-", "forward", "0", "C", "1"], TRIANGLE + b"lan ac down\n", 1,
+         b"because down ac\nadvise none\n", b""),
+        ("advise, a LAN that is down, in JSON", ["advise", "--json", "-", "forward", "0", "C", "1"], TRIANGLE + b"lan ac down\n", 1,
+         Json({"query": "advise", "goal": "forward", "tree": 0, "bridge": "C", "port": 1, "records": absent_port}), b""),
+        ("advise, a bridge that is off", ["advise", "-", "root", "0", "B"], TRIANGLE + b"bridge B off\n", 1, b"because off B\nadvise none\n", b""),
         ("advise, another word", ["advise", script, "block", "0", "A"], b"", 2, b"", NO_GOAL),
         ("advise, a root with a port", ["advise", script, "root", "0", "A", "1"], b"", 2, b"", NO_GOAL),
         ("advise, no port to forward", ["advise", script, "forward", "0", "A"], b"", 2, b"", NO_GOAL),
@@ -655,7 +668,9 @@ def ask_cases(folder):
         ("ask -, which takes all", ["ask", "-"], PAIRED + b"no\nsummary\n", 1,
          b"line 8 E01 no such command\nline 9 E01 no such command\ndone 1\n", b""),
         ("ask with no file", ["ask"], b"", 2, b"", USAGE),
-        ("ask with a question", ["ask", script, "summary"], b"", 2, b"", USAGE),
+        ("ask with a question", ["ask", script, "summary"], b"", 3, b"", unopened("summary")),
+        ("ask with a third file", ["ask", script, script, script], b"", 2, b"", USAGE),
+        ("ask, a policy that isn't there", ["ask", script, absent], b"verify\n", 3, b"", unopened(absent)),
         ("ask, a file that isn't there", ["ask", absent], b"summary\n", 3, b"", unopened(absent)),
         ("ask, a folder", ["ask", folder], b"summary\n", 3, b"", is_folder(folder)),
     ]
@@ -755,6 +770,37 @@ def meant_cases():
         ("a file that is called as the version is", ["diff", "version"], b"", 2, b"", USAGE),
         ("a name with a hyphen", ["run", "-x"], b"", 2, b"", USAGE),
         ("a word with a hyphen", ["dot", "-", "-vlan", "10"], b"", 2, b"", USAGE),
+    ]
+
+
+def steps_cases(folder):
+    """What the steps of a change do to a policy. What else steps do is in steps_runs.py."""
+    script = os.path.join(folder, "paired")
+    parted = os.path.join(folder, "parted.change")
+    with open(parted, "wb") as file:
+        file.write(b"lan x down\n\nlan x up\n")
+    told = b"""start unkept 1
+fails 2 now root 0 A of 2
+step 1 lines 1-1 roots 0 ports 0 moved 1-4094 cut 1-4094 joined -
+cut 1-4094 parts A B
+fails 2 now root 0 A of 1
+fails 3 now together 1 parts A B
+step 2 lines 3-3 roots 0 ports 0 moved 1-4094 cut - joined 1-4094
+fails 2 now root 0 A of 2
+mends 3
+steps 2 moving 2 cutting 1 failing 1 unkept 1
+"""
+    records = [{"kind": "policy", "step": 0, "line": 0, "error": "E17", "text": "nothing to judge"},
+               {"kind": "steps", "step_count": 0, "moving_count": 0, "cutting_count": 0, "failing_count": 0, "unkept_count": 0}]
+    return [
+        ("steps, what isn't kept before", ["steps", script, parted, "-"], b"# of both\nroot 0 B\ntogether 1 *\n", 1, told, b""),
+        ("steps, of the end alone", ["steps", script, parted, "-"], b"finally root 0 A\nfinally together 1 *\n", 1,
+         b"".join(line for line in told.splitlines(keepends=True) if line[:4] in (b"step", b"cut ")).replace(b"failing 1 unkept 1", b"failing 0 unkept 0"), b""),
+        ("steps with an empty policy", ["steps", script, os.devnull, "-"], b"", 1,
+         b"policy 0 E17 nothing to judge\nsteps 0 moving 0 cutting 0 failing 0 unkept 0\n", b""),
+        ("steps with an empty policy in JSON", ["steps", "--json", script, os.devnull, "-"], b"", 1, Json({"query": "steps", "records": records}), b""),
+        ("steps, none, and a policy of the end", ["steps", script, os.devnull, "-"], b"finally root 0 B\n", 1,
+         b"start unkept 1\nfails 1 now root 0 A of 2\nsteps 0 moving 0 cutting 0 failing 0 unkept 1\n", b""),
     ]
 
 
@@ -894,7 +940,7 @@ def flag_cases(folder):
 
 def asked_cases(folder):
     """The cases of what is asked of a script's network."""
-    return explain_cases(folder) + diff_cases(folder) + sweep_cases(folder) + summary_cases(folder) + dot_cases(folder) + advise_cases(folder) + ask_cases(folder) + verify_cases(folder)
+    return explain_cases(folder) + diff_cases(folder) + sweep_cases(folder) + summary_cases(folder) + dot_cases(folder) + advise_cases(folder) + ask_cases(folder) + verify_cases(folder) + steps_cases(folder)
 
 
 def fits(text, expected):

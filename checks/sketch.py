@@ -18,7 +18,7 @@ import sys
 import tempfile
 
 QUERIES = ["showplan", "showregions", "save"]
-QUIET = ("mark", "changes", "save")
+QUIET = ("mark", "changes", "save", "digest")
 UNREAD = ("E01", "E02", "E03")
 DISABLED = "Disabled"
 CIST_FIELDS = ["root", "ext", "regional", "int", "bridge", "port"]
@@ -542,7 +542,7 @@ def settings(draws, bridges):
         f"settreeportprio {bridge} {port} {draws.below(3)} {draws.below(16)}",
         f"setportpathcost {bridge} {port} {draws.below(3)}0000",
         f"settreeportcost {bridge} {port} {draws.below(3)} {draws.below(3)}0000",
-        f"setmstconfid {bridge} {draws.below(2)} {draws.one_of(['area', 'area', 'Area', 'areas', 'arena', 'lab'])}",
+        f"setmstconfid {bridge} {draws.below(2)} {draws.one_of(['area', 'area', 'area', 'Area', 'areas', 'arena', 'lab', 'area1', 'area2'])}",
         f"setvid2mstid {bridge} {draws.below(3)} {vid}-{vid + draws.below(9)}",
         f"setportvlans {bridge} {port} {draws.one_of(['all', 'none', '5-12', '1-4000'])}",
         f"setportrestrrole {bridge} {port} {draws.one_of(['no', 'yes'])}",

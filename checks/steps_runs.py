@@ -4,8 +4,8 @@ the networks before and after it.
 
 usage: steps_runs.py PROGRAM [COUNT] [FIRST]    (so many networks, or 250; program.py takes fewer)
 
-Networks and changes are drawn by their numbers. The lines of `verify` behind a step are those that `verify` tells of a script that makes the
-network. The exit status is 1 where an answer differs.
+Networks and changes are drawn by their numbers. What a policy tells of the network before the change and of that behind each step is what
+verify_runs.py reckons of it; of that only what is new is told behind a step. The exit status is 1 where an answer differs.
 """
 
 import concurrent.futures
@@ -20,10 +20,15 @@ SAMPLES = os.path.join(os.path.dirname(os.path.abspath(__file__)), os.pardir, "e
 sys.dont_write_bytecode = True
 
 import sketch  # noqa: E402
+import verify_runs  # noqa: E402
 
 COUNT = 250
 IN_THE_GATE = 20
-POLICY = ["reach 1-4094 *", "root 0 A", "always reach 5 A,B", "root 2 B", "region A,C"]
+POLICY = [
+    "reach 1-4094 *", "root 0 A", "always reach 5 A,B", "root 2 B", "region A,C", "roots", "finally root 0 B", "finally always together 1-9 *",
+    "together 1-4094 A,B,C", "always together 3,7 *", "finally region A,Z", "always finally fits",
+]
+UNREAD = {6: "E01 no such expectation", 12: "E01 no such expectation"}
 
 
 # ---- what a step does, by the texts of the networks before and after it
@@ -91,31 +96,102 @@ def steps_of(change, refused):
     return steps
 
 
-def judged(program, script, policy):
-    """The lines of `verify` but the last, of the network that a script leaves."""
-    with tempfile.NamedTemporaryFile("w", suffix=".policy", encoding="ascii") as file:
-        file.write("\n".join([*policy, ""]))
-        file.flush()
-        printed = sketch.run(program, ["verify", "-", file.name], sketch.edits_of(script))[0].splitlines()
-    return [line for line in printed[:-1] if not line.startswith("line ")]
+def restarts_told(old, new):
+    """The ports that begin anew, by what is saved of both networks."""
+    told = [{}, {}]
+    for text, kept in zip((old, new), told):
+        for words in text.saved:
+            if words[0] == "addbridge":
+                kept[words[1]] = [words[2], "mstp", ("0", words[2]), []]
+                kept[words[1], "lans"] = {}
+            elif words[0] == "kind":
+                kept[words[1]][1] = words[2]
+            elif words[0] == "setmstconfid":
+                kept[words[1]][2] = tuple(words[2:])
+            elif words[0] == "setvid2mstid":
+                kept[words[1]][3] += [(int(words[2]), vid) for vid in sketch.numbers_in(words[3])]
+            elif words[0] == "plug":
+                kept[words[1], "lans"][int(words[2])] = words[3]
+    ports = [{it for it, port in text.trees[0].ports.items() if port["role"] != sketch.DISABLED} if 0 in text.trees else set() for text in (old, new)]
+    names = []
+    for bridge, number in sorted(ports[0] & ports[1]):
+        then, now = told[0][bridge], told[1][bridge]
+        is_other = then[:2] != now[:2] or then[1] == "mstp" and (then[2], sorted(then[3])) != (now[2], sorted(now[3]))
+        if is_other or told[0][bridge, "lans"].get(number) != told[1][bridge, "lans"].get(number):
+            names.append(f"{bridge}:{number}")
+    return [f"restarts {','.join(names)}"] if names else []
+
+
+# ---- a policy
+
+
+def lacks(text, words):
+    """What of a promise the network hasn't: its tree, or a bridge of a name or an item."""
+    if words[0] == "root" and int(words[1]) and int(words[1]) not in text.trees:
+        return "E03 bad VID or tree"
+    items = words[2:3] if words[0] == "root" else words[-1].split(",")
+    bridges = sorted(text.regions)
+    return "" if bridges and all(any(verify_runs.has(item, it) for it in bridges) for item in items) else "E04 no such bridge"
+
+
+def unkept(program, script, text, first, is_last):
+    """Why each line of the policy isn't kept in a network: `first` is the network before the change, and None of that itself."""
+    told, failures = {}, None
+    for number, line in enumerate(POLICY, 1):
+        words = line.split()
+        is_final, is_always = "finally" in words, "always" in words
+        line = " ".join(it for it in words if it not in ("finally", "always"))
+        told[number] = []
+        if number in UNREAD or is_final and not is_last:
+            continue
+        missing = lacks(text, line.split())
+        if missing:
+            told[number] = [f"policy {number} {missing}"]
+            continue
+        told[number] = [f"fails {number} now {it}" for it in verify_runs.reasons(verify_runs.Judged(text, text, None, first), line)]
+        if is_always:
+            failures = failures if failures is not None else list(verify_runs.everywhere(program, script, text))
+            told[number] += [f"fails {number} {place} {it}" for place, judged in failures for it in verify_runs.reasons(judged, line)]
+    return told
+
+
+def news(then, now):
+    """What is told of a network behind another: what is new, and what is kept again."""
+    fresh = [it for number in now for it in now[number] if it not in then[number]]
+    refused = [it for it in fresh if it.startswith("policy ")]
+    mends = [f"mends {number}" for number in now if then[number] and not now[number]]
+    return [*refused, *(it for it in fresh if it not in refused), *mends], any(now[it] and not then[it] for it in now)
+
+
+def start_told(start):
+    """What the network before the change doesn't keep."""
+    count = sum(map(bool, start.values()))
+    return [f"start unkept {count}", *news(dict.fromkeys(start, ()), start)[0]] if count else []
 
 
 def wanted_of(program, script, change, policy):
     """What `steps` is to print, and its status."""
     lines, refused = list(sketch.refused(program, script)), refused_in(program, script, change)
-    old, counts, is_bad = sketch.text_of(program, script), [0, 0, 0], bool(lines)
-    steps = steps_of(change, refused)
+    old, counts, is_bad = sketch.text_of(program, script), [0, 0, 0], bool(lines) or policy is not None
+    first, then, steps = old, None, steps_of(change, refused)
+    if policy is not None:
+        then = unkept(program, sketch.edits_of(script), old, None, not steps)
+        lines += [f"policy {number} {told}" for number, told in UNREAD.items()] + start_told(then)
     for number, numbers in enumerate(steps, 1):
         made = behind(script, change, numbers[-1])
         new = sketch.text_of(program, made)
         lines += [f"change {it} {refused[it][0]}" for it in numbers if it in refused]
         told, moves, cuts = step_lines(number, numbers, old, new)
-        fails = judged(program, made, policy) if policy is not None else []
-        lines += [*told, *fails]
-        counts = [a + b for a, b in zip(counts, (moves, cuts, bool(fails)))]
-        is_bad = is_bad or cuts or bool(fails) or any(it in refused for it in numbers)
+        lines += [*told, *restarts_told(old, new)]
+        is_broken = False
+        if policy is not None:
+            now = unkept(program, sketch.edits_of(made), new, first, number == len(steps))
+            fresh, is_broken = news(then, now)
+            lines, then = [*lines, *fresh], now
+        counts = [a + b for a, b in zip(counts, (moves, cuts, is_broken))]
+        is_bad = is_bad or cuts or any(it in refused for it in numbers)
         old = new
-    failing = f" failing {counts[2]}" if policy is not None else ""
+    failing = f" failing {counts[2]} unkept {sum(map(bool, then.values()))}" if policy is not None else ""
     return [*lines, f"steps {len(steps)} moving {counts[0]} cutting {counts[1]}{failing}"], 1 if is_bad else 0
 
 
@@ -179,7 +255,7 @@ step 2 lines 4-4 roots - ports 4 moved 1-4094 cut - joined 1-9,11-19,21-4094
 change 8 E04 no such bridge
 step 3 lines 6-8 roots 0 ports 6 moved 1-9,11-19,21-29,31-39,41-4094 cut - joined -
 fails 2 now root 0 core2 of 6
-steps 3 moving 3 cutting 1 failing 1
+steps 3 moving 3 cutting 1 failing 1 unkept 1
 """
 
 
@@ -196,12 +272,12 @@ def check_examples(program):
     with open(drain, encoding="ascii") as file:
         change = file.read()
     return [
-        check_words(program, [script, drain, keep], "", 0, DRAIN + "steps 4 moving 2 cutting 0 failing 0\n"),
+        check_words(program, [script, drain, keep], "", 0, DRAIN + "steps 4 moving 2 cutting 0 failing 0 unkept 0\n"),
         check_words(program, [script, drain], "", 0, DRAIN + "steps 4 moving 2 cutting 0\n"),
         check_words(program, [script, "-"], change.replace("\n", "\r\n"), 0, DRAIN + "steps 4 moving 2 cutting 0\n"),
         check_words(program, [script, worse, keep], "", 1, WORSE),
         check_words(program, ["-", "-"], "no\n", 1, "line 1 E01 no such command\nsteps 0 moving 0 cutting 0\n"),
-        check_words(program, ["-", "-", "-"], "", 0, "steps 0 moving 0 cutting 0 failing 0\n"),
+        check_words(program, ["-", "-", "-"], "", 1, f"{verify_runs.NOTHING}\nsteps 0 moving 0 cutting 0 failing 0 unkept 0\n"),
     ]
 
 

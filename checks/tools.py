@@ -39,6 +39,7 @@ CASES = [
     ("order.py", [CAMPUS, "--edits", CHANGED, KEEP], 1, "end fails 2 now root 0 core2 of 6"),
     ("order.py", [CAMPUS, "--edits", CHANGED, NONE], 0, "# steps 1,2,3"),
     ("order.py", [CAMPUS, "--edits", CHANGED, "--fewest", KEEP], 1, "# steps 1,2,3, of which 1 break the policy"),
+    ("order.py", [CHANGED, "--edits", CAMPUS, POLICY], 0, "# steps 1,2,3"),
     ("order.py", [CAMPUS, CHANGE, KEEP, "--most", "2"], 3, ""),
     ("order.py", [CAMPUS, CHANGE], 2, ""),
     ("order.py", [CAMPUS, CHANGE, ABSENT], 3, ""),

@@ -36,10 +36,11 @@ NOTHING_RECORD = '{"kind":"policy","line":0,"error":"E17","text":"nothing to jud
 
 
 class Judged:
-    """The texts of a network that is judged, those of the one before the failure, and the bridge that failed."""
+    """The texts of a network that is judged, those of the one before the failure, the bridge that failed, and the texts of what `together`
+    looks back at."""
 
-    def __init__(self, text, before, gone=None):
-        self.text, self.before, self.gone = text, before, gone
+    def __init__(self, text, before, gone=None, earlier=None):
+        self.text, self.before, self.gone, self.earlier = text, before, gone, earlier
         self.bridges = sorted(text.regions)
         self.over = functools.lru_cache(self.over)
 
@@ -128,6 +129,21 @@ def reach_reasons(judged, vids, names):
     return [f"reach {those} parts {told}" for those, told in judged.grouped(vids, parts_of)]
 
 
+def together_reasons(judged, vids, names):
+    """Parts of those that were in one island before and are on in both; nothing where nothing is before."""
+    among = [it for it in sorted(judged.earlier.regions) if it != judged.gone and any(has(item, it) for item in names.split(","))] if judged.earlier else []
+
+    def kept(islands):
+        return [those for those in (tuple(it for it in island if it in among) for island in islands) if those]
+
+    told = {}
+    for vid in sketch.numbers_in(vids) if among else []:
+        parts = sketch.parts(kept(judged.earlier.islands[vid]), kept(judged.text.islands[vid]))
+        if parts:
+            told.setdefault(parts, []).append(vid)
+    return [f"together {sketch.list_of(those)} parts {parts}" for parts, those in told.items()]
+
+
 def apart_reasons(judged, vids, names, others):
     first, second = judged.named(names), judged.named(others)
 
@@ -154,7 +170,7 @@ def reasons(judged, line):
         return root_reasons(judged, words[0], words[1], words[2:])
     forms = {
         "region": region_reasons, "role": role_reasons, "reach": reach_reasons, "apart": apart_reasons,
-        "carries": carries_reasons, "avoids": avoids_reasons,
+        "carries": carries_reasons, "avoids": avoids_reasons, "together": together_reasons,
     }
     return forms[word](judged, *words)
 
@@ -239,7 +255,46 @@ def failed(program, script, text, choice):
     failures = sketch.failures_of([it for it in lans if it not in down], [it for it in bridges if it not in off])
     for what, name, edit in sorted({choice.one_of(failures) for _ in range(3)}, key=failures.index) if failures else []:
         after = sketch.text_of(program, [*script, edit])
-        yield f"{what} {name}", Judged(after, text, name if what == "bridge" else None)
+        yield f"{what} {name}", Judged(after, text, name if what == "bridge" else None, text)
+
+
+# ---- what is told once
+
+
+def once(place, now, later, tells_now):
+    """The lines of a promise whose scope has `always` or a `*`: what the network itself tells isn't told again of failures."""
+    left = [[it for it in told if it in now] for _, told in later]
+    lines = [f"fails {place} now {it}" for it in now if tells_now or any(it in those for those in left)]
+    lines += [f"same {place} failures {sum(map(bool, left))}"] if any(left) else []
+    return lines + [f"fails {place} {what} {it}" for what, told in later for it in told if it not in now]
+
+
+def everywhere(program, script, text):
+    """The networks of all failures."""
+    bridges, lans, off, down, _ = sketch.states_of(text.saved)
+    for what, name, edit in sketch.failures_of([it for it in lans if it not in down], [it for it in bridges if it not in off]):
+        yield f"{what} {name}", Judged(sketch.text_of(program, [*script, edit]), text, name if what == "bridge" else None, text)
+
+
+def own_of(line):
+    """What an expectation names: its failure is left out by a scope that doesn't name it itself."""
+    word, *words = line.split()
+    if word == "root":
+        return [f"bridge {words[1]}", *(f"bridge {it}" for it in words[3:])]
+    return [f"lan {words[0]}"] if word in ("carries", "avoids") else []
+
+
+def folded(program, script, judged, lines, refused):
+    """What differs of such promises, after each failure: with `always`, and after those of all bridges or all LANs. Those of what stays together are judged after failures alone."""
+    failures = list(everywhere(program, script, judged.text))
+    policy, told = [], []
+    for line, scope in itertools.product(lines, ("always", "after lan *", "after bridge *")):
+        later = [(place, reasons(it, line)) for place, it in failures if place not in own_of(line) and (scope == "always" or place.startswith(scope[6:-2]))]
+        now = reasons(judged, line)
+        if later or scope == "always" and not line.startswith("together"):
+            policy.append(f"{scope} {line}")
+            told.append(once(len(policy), now, later, scope == "always"))
+    return differing(program, script, policy, answer(policy, told, refused), 1 if refused or any(told) or not policy else 0)
 
 
 def lists_of(names, choice):
@@ -294,7 +349,12 @@ def faults_of(program, number):
         for line in all_lines[draws.below(3) :: 3]:
             policy.append(f"after {place} {line}")
             later.append([f"fails {len(policy)} {place} {it}" for it in reasons(after, line)])
-    return faults + differing(program, script, policy, answer(policy, later, refused), 1 if refused or any(later) or not policy else 0)
+    faults += differing(program, script, policy, answer(policy, later, refused), 1 if refused or any(later) or not policy else 0)
+    if number % 4 == 0:
+        some = [it for it in all_lines[draws.below(7) :: 7] if len(it) < 200][:12]
+        some += ["together 1-4094 *", *["together 1-20 A,B,C"] * ({"A", "B", "C"} <= set(judged.bridges))]
+        faults += folded(program, script, judged, some, refused)
+    return faults
 
 
 def check(program, count, first=0):
@@ -376,7 +436,7 @@ def check_examples(program):
         check_words(program, [script, "-"], "# none yet\n\n", 1, f"{NOTHING}\nverify expectations 0 hold 0\n"),
         check_words(program, [script, "-"], "roots\n", 1, "policy 1 E01 no such expectation\nverify expectations 0 hold 0\n"),
         check_words(program, [os.devnull, "-"], "\n".join(EMPTY), 1, rows_of(EMPTY) + "verify expectations 0 hold 0\n"),
-        check_words(program, ["--json", "-", os.devnull], "", 1, f'{{"query":"verify","records":[{NOTHING_RECORD},{{"kind":"verify","expectation_count":0,"hold_count":0}}]}}\n'),
+        check_words(program, ["--json", "-", os.devnull], "", 1, f'{{"query":"verify","records":[{NOTHING_RECORD},{{"kind":"verify","expectation_count":0,"hold_count":0,"promises":[]}}]}}\n'),
         check_unjudged(program, script),
     ]
 

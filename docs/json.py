@@ -36,6 +36,9 @@ TYPES = {
     "active_ports": "array of active ports",
     "objects": "object",
     "failures": "failure",
+    "lines": "two numbers",
+    "promises": "array of promises",
+    "flags": "true or false",
 }
 # The keys that may be null, by their kinds. Where a line ends with ` -`, the last one is.
 NULLS = {
@@ -43,9 +46,14 @@ NULLS = {
     "ChangeLine::*": ("old_vector", "new_vector", "old_role", "new_role"),
     "ContestLine::Root*": ("winner", "loser"),
     "CaptureLine::Text": ("capture_text",),
-    "VerifyLine::*": ("failure", "next"),
-    "VerifyLine::Role": ("role",),
+    "*VerifyLine::*": ("failure", "next"),
+    "*VerifyLine::Role": ("role",),
 }
+# Kinds of the table that nothing tells yet.
+UNTOLD = {("SummaryLine", "LookTable"), ("SummaryLine", "LookVlans")}
+UNTOLD_KEYS = ("OtherPort", "OtherVids")
+# The kinds of lines behind a step, which are those of a policy but for two that stand behind no step.
+BEHIND, NOT_BEHIND = "StepVerify", ("Same", "Counts")
 TABLE = re.compile(r"(<!-- table of (\w+) -->\n).*?(?=<!-- end of table -->)", re.DOTALL)
 # A kind: its enumeration and its variant, its line as its comment has it, its first word, and its parts.
 Kind = collections.namedtuple("Kind", "enum name line first parts")
@@ -78,14 +86,18 @@ def groups():
     """What each group of kinds is of, with its kinds."""
     marks = texts(read("src", "mark.rt"), "Mark")
     for told, _ in variants(read("src", "kind.rt"), "Kind"):
-        enum = re.search(rf"/// {re.escape(told)}\n    \w+\((\w+)\)", read("src", "kind.rt")).group(1)
+        group, enum = re.search(rf"/// {re.escape(told)}\n    (\w+)\((\w+)\)", read("src", "kind.rt")).groups()
         text, its = read("src", re.sub(r"(?<!^)(?=[A-Z])", "_", enum).lower() + ".rt"), []
+        # where the parts of a line behind a step stand, the step comes first, and its parts alone are those behind it
+        front, prefix = ("parts_behind_step" in text) * (group != BEHIND), BEHIND.removesuffix("Verify") * (group == BEHIND)
         for line, name in variants(text, enum):
+            if (group == BEHIND and name in NOT_BEHIND) or (enum, name) in UNTOLD:
+                continue
             parts = re.search(rf"{enum}::{name} =>\s+parts!\[(.*?)\]", text).group(1).split(", ")
             first, words = re.search(rf"{enum}::{name} => Mark::(\w+)", text).group(1), iter(line.split("`")[1].split())
             if not all(word in words for word in fixed(first, parts, marks)):
                 sys.exit(f"{enum}::{name}: {line} hasn't the words of its parts")
-            its.append(Kind(enum, name, line, marks[first], [part for part in parts if part and not part.startswith("Mark")]))
+            its.append(Kind(prefix + enum, name, line, marks[first], [part for part in parts[front:] if part and not part.startswith("Mark")]))
         yield told, its
 
 
@@ -107,7 +119,8 @@ def keys():
     names = texts(read("src", "key.rt"), "Key")
     sorts = dict(re.findall(r"^sort_of key\.(\w+) = (\w+)$", read("specs", "Sorts.antt"), re.MULTILINE))
     for meaning, key in sorted(variants(read("src", "key.rt"), "Key"), key=lambda it: names[it[1]]):
-        yield names[key], TYPES[sorts.get(key, "words")], meaning[0].lower() + meaning[1:].rstrip(".")
+        if key not in UNTOLD_KEYS:
+            yield names[key], TYPES[sorts.get(key, "words")], meaning[0].lower() + meaning[1:].rstrip(".")
 
 
 # ---- the tables of the page
@@ -176,6 +189,8 @@ PARTS = {
     "Vids": array({"type": "array", "prefixItems": [VID, VID], "items": False, "minItems": 2}),
     "Port": closed(PORT),
     "ActivePort": closed({**PORT, "member": {"type": "boolean"}}),
+    "Promise": closed({"line": number(1), "promise": TEXT, "scope": {"enum": ["always", "after lan", "after bridge", None]},
+                       "finally": {"type": "boolean"}, "network_count": number(), "holds": {"type": ["boolean", "null"]}}),
     "Failure": any_of(closed({"lan": TEXT}), closed({"bridge": TEXT})),
     "Vector": any_of(closed({"root_id": BRIDGE_ID, "ext": number(), **OF_MSTI}), closed(OF_MSTI)),
     "RegionSide": any_of(closed({"name": TEXT, "revision": number(0, 65535), "region": TEXT}),
@@ -184,13 +199,14 @@ PARTS = {
 SCHEMAS = {
     "string": TEXT, "number": number(), "port": ref("Port"), "port or null": ref("Port"), "VIDs": ref("Vids"), "array of strings": array(TEXT),
     "array of ports": array(ref("Port")), "array of numbers": array(number()), "array of arrays of strings": array(array(TEXT)),
-    "array of active ports": array(ref("ActivePort")), "failure": ref("Failure"),
+    "array of active ports": array(ref("ActivePort")), "failure": ref("Failure"), "array of promises": array(ref("Promise")),
+    "two numbers": {"type": "array", "prefixItems": [number(1), number(1)], "items": False, "minItems": 2},
 }
 # What is known of some keys beside their types.
 FORMS = {
     "port": PORT["port"], "vid": VID, "tree": TREE, "trees": array(TREE), "revision": number(0, 65535), "status": {"enum": [0, 1, 3]},
     **OF_MSTI, "root_id": BRIDGE_ID, "bridge_id": BRIDGE_ID, "port_id": PORT_ID, "role": ROLE, "old_role": ROLE, "new_role": ROLE,
-    "mac": form(f"{OCTET}(:{OCTET}){{5}}"), "digest": form("[0-9a-f]{32}"), "lines": form("[0-9]+-[0-9]+"), "error": form("[A-Z][0-9]{2}"),
+    "mac": form(f"{OCTET}(:{OCTET}){{5}}"), "digest": form("[0-9a-f]{32}"), "error": form("[A-Z][0-9]{2}"),
     "old_vector": ref("Vector"), "new_vector": ref("Vector"), "old_region": ref("RegionSide"), "new_region": ref("RegionSide"),
 }
 # The kinds that nothing prints as JSON: records of `check` stand alone, and so do hints.

@@ -227,11 +227,11 @@ WHOLE = re.compile(r"^`run_program` rests on \d+ definitions in all, .*$", re.MU
 
 
 def lists():
-    """The lists of docs/READING.md: that of the loops, the first one, what is asked besides, what stands and is asked, what policies
-    and steps of changes are, what hints are, and what the program does; and the lines of the first."""
+    """The lists of docs/READING.md: that of the loops, the first one, what is asked besides, what policies are, what stands and is
+    asked, what steps of changes are, what hints are, and what the program does; and the lines of the first."""
     seen = set()
     first = definitions(CALLS, seen)
-    orders = [definitions(LOOPS, set()), first, definitions(ASKED, seen), definitions(STANDING, seen), definitions(VERIFIED, seen),
+    orders = [definitions(LOOPS, set()), first, definitions(ASKED, seen), definitions(VERIFIED, seen), definitions(STANDING, seen),
               definitions(ALTERED, seen), definitions([], seen, HINTED), definitions(PROGRAM, seen)]
     return [as_text(order) for order in orders], lines_of(first)
 

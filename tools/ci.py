@@ -2,9 +2,10 @@
 """Tells a CI service which promises of a policy aren't kept: as JUnit's XML, as GitHub's annotations, as GitLab's code quality report.
 
 LINES is what `mstplan verify --json FILE POLICY` has printed. Each line of the policy is a test case, by its number and its words; why
-it isn't kept is its failure, and that it is refused its error. Refused lines of FILE are errors, too, and so is a policy of which
-nothing was judged. Without an option, and with --github, the same stands on standard output for people. The status is that of `verify`
-(take care that a pipe doesn't hide another one: an empty LINES is status 3).
+it isn't kept is its failure, and that it is refused its error; one that is judged in no network (`together` without a scope) is skipped.
+Refused lines of FILE are errors, too, and so is a policy of which nothing was judged. Without an option, and with --github, the same
+stands on standard output for people. The status is that of `verify` (take care that a pipe doesn't hide another one: an empty LINES is
+status 3).
 
 For example: mstplan verify --json campus.script campus.policy | ci.py - campus.policy --script campus.script --junit report.xml
 """
@@ -42,6 +43,7 @@ class Case:
     name: str
     kind: str
     reasons: list
+    is_skipped: bool = False
 
     @property
     def title(self):
@@ -51,6 +53,11 @@ class Case:
         """The reasons, so many of them at most."""
         others = len(self.reasons) - most
         return self.reasons[:most] + [f"and {others} more"] * (others > 0)
+
+
+def lines_told(lines, refused):
+    """The numbers of the lines of a policy that say something: a comment that is too long is refused, and says something, too."""
+    return [number for number, line in enumerate(lines, start=1) if line and not line.startswith("#") or number in refused]
 
 
 class Verified:
@@ -63,11 +70,12 @@ class Verified:
             raise mstplan.Failed(f"LINES has {len(answers)} answers of `mstplan verify --json` in place of one: nothing is known")
         *self.records, last = answers[0]
         self.counts = last["expectation_count"], last["hold_count"]
+        lines = [" ".join(line.decode(errors="replace").split()) for line in mstplan.lines_in(policy)]
         refused = {it["line"] for it in self.records if it["kind"] == "policy"}
-        promises = self.promises(policy, refused)
-        if len(promises) != self.counts[0] + len(refused - {0}):
-            raise mstplan.Failed(f"{name_of(policy_path)} has {len(promises)} lines that promise something, and LINES tells of another policy")
-        self.cases = list(self.cases_of(promises, policy_path))
+        told = {it["line"]: it for it in last.get("promises", ())}
+        if lines_told(lines, refused) != sorted({*told, *refused} - {0}) or any(it["promise"] != lines[at - 1] for at, it in told.items()):
+            raise mstplan.Failed(f"{name_of(policy_path)} isn't the policy that LINES tells of")
+        self.cases = list(self.cases_of(lines, told, policy_path))
         told = [it for it in values if "error" in it and "line" in it]
         self.cases += [Case(script_path, it["line"], "refused line", ERROR, [f"{it['error']} {it['text']}"]) for it in told]
 
@@ -81,24 +89,23 @@ class Verified:
             raise mstplan.Failed("LINES has a line that is no object")
         return values
 
-    @staticmethod
-    def promises(policy, refused):
-        """The lines of the policy that say something, by number: comments that are too long are refused and say something, too."""
-        lines = {number: line.decode(errors="replace").split() for number, line in enumerate(mstplan.lines_in(policy), start=1)}
-        return {number: " ".join(its) for number, its in lines.items() if its and not its[0].startswith("#") or number in refused}
-
-    def cases_of(self, promises, path):
+    def cases_of(self, lines, told, path):
+        """A case for each line that says something: a promise that can be read is told by LINES, and one that is refused has its reason there."""
         reasons = {}
         for it in self.records:
             reasons.setdefault(it["line"], []).append(self.reason(it))
         kinds = {it["line"]: ERROR if it["kind"] == "policy" else FAILURE for it in self.records}
         # the line 0 stands for a policy of which nothing is judged
-        for number, promise in ({0: "the policy"} if 0 in reasons else promises).items():
-            yield Case(path, max(number, 1), promise, kinds.get(number, FAILURE), reasons.get(number, []))
+        for number in [0] if 0 in reasons else sorted({*told, *reasons}):
+            is_skipped = number not in reasons and told[number]["network_count"] == 0
+            name = lines[number - 1] if number else "the policy"
+            yield Case(path, max(number, 1), name, kinds.get(number, FAILURE), reasons.get(number, []), is_skipped)
 
     @staticmethod
     def reason(record):
         """Where a promise isn't kept, and why."""
+        if record["kind"] == "same":
+            return f"the same after {record['failure_count']} failures"
         failure = record.get("failure")
         place = "" if record["kind"] == "policy" else "now " if failure is None else " ".join(next(iter(failure.items()))) + " "
         return place + mstplan.reason_in(record)
@@ -109,7 +116,8 @@ class Verified:
 
 def junit(verified, name):
     """The lines of JUnit's XML."""
-    counts = f'tests="{len(verified.cases)}" failures="{len(verified.wrong(FAILURE))}" errors="{len(verified.wrong(ERROR))}" skipped="0"'
+    skipped = sum(it.is_skipped for it in verified.cases)
+    counts = f'tests="{len(verified.cases)}" failures="{len(verified.wrong(FAILURE))}" errors="{len(verified.wrong(ERROR))}" skipped="{skipped}"'
     suite = quoteattr(printable(name))
     yield '<?xml version="1.0" encoding="UTF-8"?>'
     yield f'<testsuites name="mstplan verify" {counts}>'
@@ -117,7 +125,7 @@ def junit(verified, name):
     for it in verified.cases:
         head = f'    <testcase classname={suite} name={quoteattr(it.title)} file={quoteattr(printable(it.path))} line="{it.line}"'
         if not it.reasons:
-            yield f"{head}/>"
+            yield f'{head}><skipped message="judged in no network"/></testcase>' if it.is_skipped else f"{head}/>"
             continue
         text = escape("\n".join(map(printable, it.texts(MOST_REASONS))))
         yield f"{head}>"

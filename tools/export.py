@@ -74,9 +74,9 @@ def steps_of(program, saved, change):
     refused = [it for it in records if it["kind"] == "change"]
     passed, steps = {it["line"] for it in refused}, []
     for it in (it for it in records if it["kind"] == "step"):
-        first, last = map(int, it["lines"].split("-"))
+        first, last = it["lines"]
         edits = [(number, mstplan.edit_in(lines[number - 1], newer)) for number in range(first, last + 1) if number not in passed]
-        steps.append((it["lines"], [it for it in edits if it[1] is not None]))
+        steps.append((mstplan.lines_of_step(it), [it for it in edits if it[1] is not None]))
     return steps, refused
 
 

@@ -15,7 +15,7 @@ import tempfile
 WANTED, TOLD = 0, 1
 MOST_OF_A_MESSAGE = 300
 # Of a script's words those that say its version, those that ask, and, of each priority, which word it is and how version 2 counts it.
-SECOND, ASKING, PRIORITIES = [b"mstplan", b"2"], (b"mark", b"changes", b"save"), {b"settreeprio": (3, 4096), b"settreeportprio": (4, 16)}
+SECOND, ASKING, PRIORITIES = [b"mstplan", b"2"], (b"mark", b"changes", b"save", b"digest"), {b"settreeprio": (3, 4096), b"settreeportprio": (4, 16)}
 LONGEST = 4096
 # How an answer's records begin and stand beside each other, and how much is read of it at a time.
 RECORDS, BETWEEN, PIECE = b'"records":[', b'},{"kind":', 1 << 20
@@ -197,7 +197,7 @@ def reason_in(record):
         return note_in(it)
     return {
         "region": "region parts {parts}", "role": "role {tree} {ports} {role}", "reach": "reach {vids} parts {parts}",
-        "apart": "apart {vids} joined {joined}", "leaf": "leaf {tree} {bridge} parent of {bridges}", "depth": "depth {tree} {depth} {bridges}",
+        "together": "together {vids} parts {parts}", "apart": "apart {vids} joined {joined}", "leaf": "leaf {tree} {bridge} parent of {bridges}", "depth": "depth {tree} {depth} {bridges}",
         "carries": "carries {lan} without {vids}", "avoids": "avoids {lan} with {vids}",
     }[word].format(**it)
 
@@ -208,6 +208,11 @@ def note_in(it):
         return f"note cost {it['tree']} {it['bridge']} {'ext' if 'ext' in it else 'int'} {it.get('ext', it.get('int'))}"
     tree = f" {it['tree']}" if it["note"] == "hops" else ""
     return f"note {it['note']}{tree} {it['bridge']} depth {it['depth']} limit {it['limit']}"
+
+
+def lines_of_step(record):
+    """The numbers of the first and of the last line of a step, as the text has them."""
+    return "{}-{}".format(*record["lines"])
 
 
 def list_told(value):

@@ -1,14 +1,18 @@
 #!/usr/bin/env python3
-"""Finds the least order of a change's steps in which every step is accepted and a policy is kept behind each.
+"""Finds the least order of a change's steps in which every step is accepted and none breaks a policy.
+
+A step breaks it where a line isn't kept behind it that was kept before, as `mstplan steps` counts it. What FILE's network doesn't keep
+already, and what stays so, breaks nothing; a line with `finally` is looked at in the end alone.
 
 PROGRAM judges: a step's lines are made and taken back in one `mstplan ask`, each network that comes about is looked at by `mstplan
-verify`, and the order that is found by `mstplan steps FILE ORDERED POLICY`. The steps are those of `mstplan steps`, with blank lines
-between; with --edits they are the edits from FILE's network to NEW's, one for each bridge and LAN or (--by line) for each line. Least is
-the order with the least numbers in front. It ends in the network that the given order ends in, where no line of that is refused.
+verify` (by `mstplan steps`, where a line of the policy looks back at FILE's network: `together`), and the order that is found by `mstplan
+steps FILE ORDERED POLICY`. The steps are those of `mstplan steps`, with blank lines between; with --edits they are the edits from FILE's
+network to NEW's, one for each bridge and LAN or (--by line) for each line. Least is the order with the least numbers in front. It ends in
+the network that the given order ends in, where no line of that is refused.
 
-It prints the change in its new order; or, with status 1, `none` and why: the end where that doesn't keep the policy, the steps that stand
-nowhere, and the longest front that there is, with what is wrong behind it. With --fewest, where no order keeps the policy, it prints the
-least of those with the fewest steps that break it, with status 1.
+It prints the change in its new order; or, with status 1, `none` and why: the end where that breaks the policy, the steps that stand
+nowhere, and the longest front that there is, with what is wrong behind it. With --fewest, where each order breaks the policy, it prints the
+least of those with the fewest steps that do, with status 1. The status is 1 also where the end doesn't keep what FILE's network doesn't.
 
 For example: order.py mstplan campus.script campus.change keep.policy > ordered.change
              order.py mstplan now.script --edits wanted.script keep.policy > ordered.change
@@ -16,7 +20,6 @@ For example: order.py mstplan campus.script campus.change keep.policy > ordered.
 
 import argparse
 import collections
-import contextlib
 import hashlib
 import sys
 import time
@@ -60,6 +63,10 @@ def numbers_of(steps):
     return [it.number for it in steps]
 
 
+def edits_of(steps):
+    return [edit for it in steps for edit in it.edits]
+
+
 def listed(numbers):
     return ",".join(map(str, numbers)) or "-"
 
@@ -69,23 +76,56 @@ def digest_of(network):
 
 
 class Judge:
-    """What a policy says of networks, each asked for once."""
+    """What a policy says of networks, each asked for once. `network` is the one before the change."""
 
-    def __init__(self, program, policy, most):
-        self.program, self.policy, self.most, self.verdicts = program, policy, most, {}
+    def __init__(self, program, policy, network, most):
+        self.program, self.policy, self.network, self.most, self.verdicts = program, policy, network, most, {}
+        records = program.records("verify", network, policy)
+        promises = records[-1]["promises"]
+        self.lines = {it["line"] for it in promises}
+        self.final = {it["line"] for it in promises if it["finally"]}
+        # lines that can't be read are refused everywhere, and break nothing; nor does a policy that says nothing (its line is 0)
+        self.unread = [it for it in records if it["kind"] == "policy" and it["line"] not in {0, *self.lines}]
+        self.looks_back = any("together" in it["promise"].split() and it["scope"] in (None, "always") for it in promises)
 
-    def verdict(self, network):
-        """Why a network doesn't keep the policy: the first reason, and how many more there are; None where it keeps all. A policy that
-        says nothing is kept, as `steps` has it."""
+    def records(self, network, edits):
+        """What is told of a network, which these edits make of the one before the change."""
+        if self.looks_back:
+            return self.program.records("steps", self.network, "\n".join(["mstplan 2", *edits, ""]).encode(), self.policy)
+        return self.program.records("verify", network, self.policy)
+
+    def unkept(self, network, edits, is_end):
+        """The lines that aren't kept in a network, each with why; those of the end alone are among them there."""
         key = digest_of(network)
         if key not in self.verdicts:
             if len(self.verdicts) >= self.most:
                 raise Stopped
-            printed, _ = self.program.run("verify", "-", self.policy, given=network)
-            first, *others = [it for it in printed.decode().splitlines()[:-1] if not it.startswith("policy 0 ")] or [None]
-            more = f" (and {len(others)} more)" if others else ""
-            self.verdicts[key] = first and first[:LONGEST_REASON] + more
-        return self.verdicts[key]
+            self.verdicts[key] = unkept_in(self.records(network, edits), self.lines)
+        return {line: why for line, why in self.verdicts[key].items() if is_end or line not in self.final}
+
+
+def unkept_in(records, lines):
+    """Of these lines of a policy those that aren't kept in the last network that is told of, each with its reasons."""
+    found = {}
+    for it in records:
+        if it["kind"] == "mends":
+            found.pop(it["line"])
+        elif it["kind"] in ("policy", "fails") and it["line"] in lines:
+            found.setdefault(it["line"], []).append(told_of(it))
+    return found
+
+
+def told_of(record):
+    """The line of `verify` or of `steps` that a record of a policy stands for."""
+    failure = record.get("failure")
+    place = "" if record["kind"] == "policy" else "now " if failure is None else f"{' '.join(next(iter(failure.items())))} "
+    return f"{record['kind']} {record['line']} {place}{mstplan.reason_in(record)}"
+
+
+def reason_of(unkept):
+    """The first reason of some lines, and how many more there are; None where there is no line."""
+    first, *others = [why for _, its in sorted(unkept.items()) for why in its] or [None]
+    return first and first[:LONGEST_REASON] + (f" (and {len(others)} more)" if others else "")
 
 
 class Search:
@@ -93,6 +133,7 @@ class Search:
 
     def __init__(self, standing, judge, steps, wanted):
         self.standing, self.judge, self.steps = standing, judge, steps
+        self.all_edits = edits_of(steps)
         # the network that is the end, or None for any; of the steps that are left and a network, with how many failing ones there is no order
         self.wanted, self.dead = wanted, {}
         self.longest, self.other_end, self.tried = [], None, 0
@@ -132,20 +173,36 @@ class Search:
             self.other_end = self.other_end or front
         for step in rest:
             self.progress(front)
-            found = self.beginning_with(step, front, [it for it in rest if it is not step], spare)
+            found = self.beginning_with(step, front, [it for it in rest if it is not step], network, spare)
             if found is not None:
                 return found
         self.dead[tuple(numbers_of(rest)), digest_of(network)] = spare
         return None
 
-    def beginning_with(self, step, front, others, spare):
-        """The least order that goes on with a step. Where there is none, the step is taken back."""
+    def breaks(self, front, step, before, after, is_last):
+        """Why a step breaks the policy: the lines that aren't kept behind it and were before it."""
+        then = self.judge.unkept(before, edits_of(front), False)
+        now = self.judge.unkept(after, edits_of([*front, step]), is_last)
+        return reason_of({line: why for line, why in now.items() if line not in then})
+
+    def broken_end(self):
+        """Why each order breaks the policy: what the end doesn't keep, and the network before the change does."""
+        if not self.wanted:
+            return None
+        then, now = self.judge.unkept(self.judge.network, [], not self.steps), self.unkept_end()
+        return reason_of({line: why for line, why in now.items() if line not in then})
+
+    def unkept_end(self):
+        return self.judge.unkept(self.wanted, self.all_edits, True)
+
+    def beginning_with(self, step, front, others, network, spare):
+        """The least order that goes on with a step from a network. Where there is none, the step is taken back."""
         made, why = self.make(step)
         if why:
             step.note(front, why)
         else:
             after = self.standing.saved()
-            fails = self.judge.verdict(after)
+            fails = self.breaks(front, step, network, after, not others)
             if fails:
                 step.note(front, fails)
             step.was_allowed |= not fails
@@ -158,10 +215,9 @@ class Search:
         return None
 
     def run(self, is_fewest):
-        """The order, and how many of its steps fail; or None and 0. Where the end doesn't keep the policy one at least does."""
-        end = self.wanted and self.judge.verdict(self.wanted)
+        """The order, and how many of its steps fail; or None and 0. Where the end breaks the policy one at least does."""
         network = self.standing.saved()
-        for spare in range(int(bool(end)), (len(self.steps) if is_fewest else 0) + 1):
+        for spare in range(int(bool(self.broken_end())), (len(self.steps) if is_fewest else 0) + 1):
             self.longest = []
             found = self.behind([], self.steps, network, spare)
             if found is not None:
@@ -171,14 +227,14 @@ class Search:
     def told_none(self):
         """Why there is no order."""
         yield "none"
-        if self.wanted and self.judge.verdict(self.wanted):
-            yield f"end {self.judge.verdict(self.wanted)}"
+        if self.broken_end():
+            yield f"end {self.broken_end()}"
             return
         for step in (it for it in self.steps if it.first and not it.was_allowed):
             front, reason = step.first
             yield f"nowhere {step.number} lines {step.where} behind {listed(front)} {reason}"
         if self.other_end:
-            yield f"other end {listed(numbers_of(self.other_end))}: the policy is kept, and the end isn't that of the given order"
+            yield f"other end {listed(numbers_of(self.other_end))}: nothing breaks, and the end isn't that of the given order"
         at = numbers_of(self.longest)
         yield f"front {listed(at)} of {len(self.steps)}"
         for step in (it for it in self.steps if it.last and it.number not in at and it.last[0] == at):
@@ -196,12 +252,12 @@ def steps_of(program, network, change):
     unread = [it for it in records if it["kind"] == "change" and it["error"] in UNREAD]
     steps, last = [], int(not newer)
     for record in (it for it in records if it["kind"] == "step" and not unread):
-        first, end = map(int, record["lines"].split("-"))
+        first, end = record["lines"]
         while end < len(lines) and lines[end].split():
             end += 1
         edits = [mstplan.edit_in(it, newer) for it in lines[first - 1:end]]
         text = b"\n".join(lines[last:end]).decode("latin-1").strip("\n").split("\n")
-        steps.append(Step(record["step"], record["lines"], text, [it for it in edits if it is not None]))
+        steps.append(Step(record["step"], mstplan.lines_of_step(record), text, [it for it in edits if it is not None]))
         last = end
     return steps, unread
 
@@ -233,14 +289,19 @@ def printed(order, is_second, failing):
     return "\n".join([*lines, ""]).encode("latin-1")
 
 
-def judged(program, script, change, policy, failing, count):
-    """Asks PROGRAM of the change that is printed, which is to be what the search has found. Cuts are told."""
+def judged(program, script, change, policy, failing, search):
+    """Asks PROGRAM of the change that is printed, which is to be what the search has found: how many lines aren't kept in the end. Cuts are
+    told."""
     records = program.records("steps", script, change, policy)
-    last = records[-1]
-    if (last["step_count"], last["failing_count"]) != (count, failing) or any(it["kind"] == "change" for it in records):
+    last, unkept = records[-1], len(search.unkept_end()) if search.wanted else records[-1]["unkept_count"]
+    found = last["step_count"], last["failing_count"], last["unkept_count"]
+    if found != (len(search.steps), failing, unkept) or any(it["kind"] == "change" for it in records):
         raise mstplan.Failed(f"`mstplan steps` doesn't find the order as it was found ({last}): this is a fault of {TOOL}")
     if last["cutting_count"]:
         tell(TOOL, f"{last['cutting_count']} steps cut some VLAN, which the policy doesn't forbid: `mstplan steps` tells")
+    if unkept and not failing:
+        tell(TOOL, f"lines of the policy that aren't kept in the end, nor before the change: {unkept}; `mstplan steps` tells")
+    return unkept
 
 
 # ---- the command
@@ -251,10 +312,10 @@ def words_of():
                                      usage="%(prog)s [options] PROGRAM FILE CHANGE POLICY\n       %(prog)s [options] PROGRAM FILE --edits NEW POLICY")
     parser.add_argument("program", metavar="PROGRAM", help="mstplan, or a file that runs it")
     parser.add_argument("script", metavar="FILE", help="the network's script; one of the files may be - for standard input")
-    parser.add_argument("files", metavar="CHANGE POLICY", nargs="+", help="the steps, and what the network is to keep behind each")
+    parser.add_argument("files", metavar="CHANGE POLICY", nargs="+", help="the steps, and what none of them is to break")
     parser.add_argument("--edits", metavar="NEW", help="in place of CHANGE: the script of the network that is wanted")
     parser.add_argument("--by", choices=("part", "line"), default="part", help="of --edits: a step for each bridge and LAN, or each line")
-    parser.add_argument("--fewest", action="store_true", help="where no order keeps the policy, one with the fewest steps that break it")
+    parser.add_argument("--fewest", action="store_true", help="where each order breaks the policy, one with the fewest steps that do")
     parser.add_argument("--most", metavar="N", type=natural, default=MOST, help=f"how many networks are looked at at most ({MOST})")
     words = parser.parse_intermixed_args()
     if len(words.files) != (1 if words.edits else 2):
@@ -268,16 +329,18 @@ def searched(program, words, network, change, policy, wanted):
     if unread:
         write("".join(["none\n", *(f"nowhere line {it['line']} {it['error']} {it['text']}\n" for it in unread)]))
         return None
-    with contextlib.ExitStack() as stack:
-        judge = Judge(program, stack.enter_context(mstplan.written(policy)), words.most)
-        search = Search(stack.enter_context(program.standing(network)), judge, steps, wanted)
+    judge = Judge(program, policy, network, words.most)
+    with program.standing(network) as standing:
+        search = Search(standing, judge, steps, wanted)
         search.wanted = search.wanted or search.given_end()
         if search.wanted is None:
-            tell(TOOL, "in the given order a line is refused, so each end is taken that keeps the policy")
+            tell(TOOL, "in the given order a line is refused, so each end is taken")
         try:
-            before = judge.verdict(network)
+            before = reason_of(judge.unkept(network, [], not steps))
             if before:
                 tell(TOOL, f"the network doesn't keep the policy before the change: {before}")
+            for it in judge.unread:
+                tell(TOOL, told_of(it))
             return search, *search.run(words.fewest)
         finally:
             tell(TOOL, f"{len(judge.verdicts)} networks looked at, {search.tried} steps tried, {time.monotonic() - search.began:.1f} s")
@@ -303,9 +366,9 @@ def main():
         return TOLD
     search, order, failing = found
     text = printed(order, mstplan.is_second(mstplan.lines_in(change)), failing)
-    judged(program, network, text, policy, failing, len(search.steps))
+    unkept = judged(program, network, text, policy, failing, search)
     write(text)
-    return TOLD if failing or refused else OK
+    return TOLD if failing or unkept or refused or search.judge.unread else OK
 
 
 if __name__ == "__main__":

@@ -72,37 +72,52 @@ class Maker:
         self.policy_name, self.policy = (os.path.basename(policy), bytes_of(policy)) if policy else (None, None)
 
     def networks(self, path, script, steps):
-        """The network of a script as the page has it, judged by the policy, and those behind the edits of each step."""
+        """The network of a script as the page has it, and those behind the edits of each step."""
         networks = list(answers.networks_of(self.program, script, steps, self.sweeping))
         for network in networks:
             network["script"] = os.path.basename(path)
-        if self.policy is not None:
-            networks[0]["promises"] = {"policy": self.policy_name, **self.program.promises(script, self.policy)}
         tell_refused(path, networks[0]["refused"])
         return networks
 
+    def judged(self, path, script):
+        """The network of a script, with what isn't kept of the policy, where there is one."""
+        network, = self.networks(path, script, [])
+        if self.policy is not None:
+            network["promises"] = {"policy": self.policy_name, **self.program.promises(script, self.policy)[0]}
+        return network
+
     def one(self, path):
-        network, = self.networks(path, bytes_of(path), [])
+        network = self.judged(path, bytes_of(path))
         return {"after": network, "places": places.layout([network])}
 
     def both(self, old_path, path):
         """Two networks, and what differs in them."""
         old, new = bytes_of(old_path), bytes_of(path)
-        (after,), (before,) = self.networks(path, new, []), self.networks(old_path, old, [])
+        after, before = self.judged(path, new), self.judged(old_path, old)
         return {"after": after, "before": before, "differences": self.program.differences(old, new), "places": places.layout([after, before])}
 
     def steps(self, path, change_path):
         """A network, and what each step of a change does to it, with the network behind the step."""
         script, change = bytes_of(path), bytes_of(change_path)
-        steps, counts = self.program.steps(script, change, self.policy)
+        steps, judged, counts = self.program.steps(script, change, self.policy)
         networks = self.networks(path, script, [answers.edits_in(step, script, change) for step in steps])
         tell_refused(change_path, [it for step in steps for it in step["refused"]])
         for step, network in zip(steps, networks[1:]):
-            step["network"], failing = network, step.pop("failing")
-            if self.policy is not None:
-                network["promises"] = broken.kept_behind(networks[0]["promises"], failing)
+            step["network"] = network
         told = {"name": os.path.basename(change_path), **counts, "steps": steps}
+        if self.policy is not None:
+            told |= self.followed(networks, script, steps, judged)
         return {"after": networks[0], "change": told, "places": places.layout(networks)}
+
+    def followed(self, networks, script, steps, judged):
+        """Gives each network of a change what isn't kept of the policy there, and each step what is new: what is told in front of all steps
+        is returned."""
+        unkept = broken.Unkept(self.policy, self.program.promises(script, self.policy)[1], len(steps))
+        for place, (network, records) in enumerate(zip(networks, judged)):
+            network["promises"] = {"policy": self.policy_name, **unkept.behind(place, records)}
+        for step, records in zip(steps, judged[1:]):
+            step.update(broken.news_in(self.policy, records))
+        return {"front": broken.front_in(self.policy, judged[0])}
 
 
 def data_of(program, words):

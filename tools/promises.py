@@ -289,6 +289,11 @@ def look_in(it):
     """The line of what is most often a slip."""
     if it["look"] == "lan":
         return f"look lan {it['lan']} speed {it['speed']} next {it['next_speed']}"
+    if it["look"] == "vlans":
+        ends = mstplan.port_of(it), mstplan.port_of(it["other_port"])
+        return f"look vlans {ends[0]} {mstplan.list_of(it['vids']) or '-'} {ends[1]} {mstplan.list_of(it['other_vids']) or '-'}"
+    if "vids" in it:
+        return f"look region {it['name']} {it['revision']} {it['bridge']} table without {mstplan.list_of(it['vids'])}"
     return f"look region {it['name']} {','.join(it['bridges'])} {it['other_name']} {','.join(it['other_bridges'])}"
 
 

@@ -2,11 +2,13 @@
 
 import mstplan
 from broken import broken_in
-from mstplan import edit_in, is_second, lines_in, list_of, port_of
+from mstplan import edit_in, is_second, lines_in, lines_of_step, list_of, port_of
 
 QUERIES = ["showregions", "shownotes", "showlag"]
 DEFAULT_SPEED = 1_000_000
 ALL_VLANS = "1-4094"
+# What `steps` tells of a policy: what isn't kept before the change and behind a step, and what is kept again.
+TOLD_OF_POLICIES = ("start", "policy", "fails", "mends")
 # How an entity fails, and how that is taken back.
 FAILS = {"lan": ("down", "up"), "bridge": ("off", "on")}
 
@@ -19,40 +21,43 @@ class Program(mstplan.Program):
         return self.records("diff", old, new)
 
     def promises(self, script, policy):
-        """What `verify` tells of a script's network and a policy: its refused lines, why others aren't kept, and how many hold."""
-        records = self.records("verify", script, policy)
-        counts = records[-1]["expectation_count"], records[-1]["hold_count"]
-        return {"broken": broken_in(policy, records[:-1]), "expectations": counts[0], "hold": counts[1]}
+        """What `verify` tells of a script's network and a policy: its refused lines, why others aren't kept, and how many hold; and each
+        promise, with where it is judged."""
+        *records, last = self.records("verify", script, policy)
+        counts = {"expectations": last["expectation_count"], "hold": last["hold_count"]}
+        return {"broken": broken_in(policy, records), **counts}, last["promises"]
 
     def steps(self, script, change, policy):
-        """The steps of a change to a script's network, in their order, and how many move, cut and fail. There may be no policy."""
+        """The steps of a change to a script's network, in their order; what is told of the policy before them, and behind each; and how many
+        move, cut and break something, and what isn't kept in the end. There may be no policy."""
         *records, last = self.records("steps", script, change, *([] if policy is None else [policy]))
-        lines, steps, refused = lines_in(change), [], []
+        lines = lines_in(change)
+        steps = [step_of(record, lines) for record in records if record["kind"] == "step"]
+        judged = [[] for _ in range(len(steps) + 1)]
         for record in records:
-            kind = record["kind"]
+            kind, step = record["kind"], steps[record["step"] - 1] if record["step"] else None
             if kind == "change":
-                refused.append(kept_of(record, "line", "error", "text"))
-            elif kind == "step":
-                steps.append({**step_of(record, lines), "refused": refused, "failing": []})
-                refused = []
+                step["refused"].append(kept_of(record, "line", "error", "text"))
             elif kind == "cut":
-                steps[-1]["parts"].append(parts_in(record))
-            else:
-                steps[-1]["failing"].append(record)
-        counts = {word: last.get(f"{word}_count") for word in ("moving", "cutting", "failing")}
-        return [{**step, "failing": broken_in(policy or b"", step["failing"])} for step in steps], counts
+                step["parts"].append(parts_in(record))
+            elif kind == "restarts":
+                step["restarts"] = [port_of(it) for it in record["ports"]]
+            elif kind in TOLD_OF_POLICIES:
+                judged[record["step"]].append(record)
+        return steps, judged, {word: last.get(f"{word}_count") for word in ("moving", "cutting", "failing", "unkept")}
 
 
 def step_of(record, lines):
     """A step by its record, with all lines of the change that stand with its own, and their numbers."""
-    first, last = map(int, record["lines"].split("-"))
+    first, last = record["lines"]
     while first > 1 and lines[first - 2].strip(b" \t"):
         first -= 1
     while last < len(lines) and lines[last].strip(b" \t"):
         last += 1
     typed = [[number, lines[number - 1].decode(errors="replace")] for number in range(first, last + 1)]
     vids = {word: list_of(record[f"{word}_vids"]) for word in ("moved", "cut", "joined")}
-    return {"lines": record["lines"], "typed": typed, "trees": record["trees"], "changed": record["port_count"], **vids, "parts": []}
+    told = {"lines": lines_of_step(record), "typed": typed, "trees": record["trees"], "changed": record["port_count"]}
+    return {**told, **vids, "parts": [], "restarts": [], "refused": []}
 
 
 def edits_in(step, script, change):

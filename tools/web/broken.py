@@ -11,12 +11,17 @@ def key_of(failure):
 
 
 def broken_in(policy, records):
-    """Each promise of a policy that isn't kept, or is refused, with its own line, where that is, and why, as printed and said."""
-    promises = [line.decode(errors="replace").strip() for line in policy.split(b"\n")]
+    """Each promise of a policy that isn't kept, or is refused, with its own line, where that is, and why, as printed and said. Where reasons
+    of the network itself aren't told again of failures, it stands behind them after how many. The line 0 is the policy as a whole."""
+    promises = ["the policy", *(line.decode(errors="replace").strip() for line in policy.split(b"\n"))]
     return [{
-        "line": record["line"], "promise": promises[record["line"] - 1], "refused": record["kind"] == "policy",
-        "failure": key_of(record.get("failure")), "why": reason_in(record), "said": said_of(record),
+        "line": record["line"], "promise": promises[record["line"]], "refused": record["kind"] == "policy",
+        "failure": key_of(record.get("failure")), "again": record.get("failure_count"), "why": why_in(record), "said": said_of(record),
     } for record in records]
+
+
+def why_in(record):
+    return f"failures {record['failure_count']}" if record["kind"] == "same" else reason_in(record)
 
 
 def named(names):
@@ -42,7 +47,9 @@ def vlans(runs):
 def said_of(record):
     """Why a promise isn't kept, in a sentence."""
     if record["kind"] == "policy":
-        return f"The line can't be judged: {record['text']} ({record['error']})."
+        return f"The {'line' if record['line'] else 'policy'} can't be judged: {record['text']} ({record['error']})."
+    if record["kind"] == "same":
+        return f"After {record['failure_count']} {'failure' if record['failure_count'] == 1 else 'failures'} it is as it is now, which is told once."
     return SAID[record["expectation"]](record)
 
 
@@ -71,6 +78,11 @@ def role_said(record):
 def reach_said(record):
     told, several = vlans(record["vids"])
     return f"{told} {'do' if several else 'does'} not join all of them: {parted(record['parts'])}."
+
+
+def together_said(record):
+    told, several = vlans(record["vids"])
+    return f"{told} {'join' if several else 'joins'} no more what was joined before: {parted(record['parts'])}."
 
 
 def apart_said(record):
@@ -106,13 +118,49 @@ def fits_said(record):
 
 
 SAID = {
-    "root": root_said, "region": region_said, "role": role_said, "reach": reach_said, "apart": apart_said, "leaf": leaf_said,
-    "depth": depth_said, "carries": carries_said, "avoids": avoids_said, "fits": fits_said,
+    "root": root_said, "region": region_said, "role": role_said, "reach": reach_said, "together": together_said,
+    "apart": apart_said, "leaf": leaf_said, "depth": depth_said, "carries": carries_said, "avoids": avoids_said, "fits": fits_said,
 }
 
 
-def kept_behind(promises, failing):
-    """What is told of a policy that these promises are of, as they are in one network, of another one with what fails there."""
-    lines = promises["expectations"] + sum(it["refused"] for it in promises["broken"])
-    judged = lines - sum(it["refused"] for it in failing)
-    return {**promises, "broken": failing, "expectations": judged, "hold": judged - len({it["line"] for it in failing if not it["refused"]})}
+def front_in(policy, records):
+    """What `steps` tells of a policy in front of all steps: lines that can't be read, and behind `start` how many aren't kept, and why."""
+    at = next((place for place, it in enumerate(records) if it["kind"] == "start"), len(records))
+    counts = [it["unkept_count"] for it in records[at:at + 1]]
+    return {"unread": broken_in(policy, records[:at]), "start": counts, "news": broken_in(policy, records[at + 1:])}
+
+
+def news_in(policy, records):
+    """What it tells behind a step: what is new, and which lines are kept again."""
+    mends = [it["line"] for it in records if it["kind"] == "mends"]
+    return {"news": broken_in(policy, [it for it in records if it["kind"] != "mends"]), "mends": mends}
+
+
+class Unkept:
+    """What isn't kept of a policy in the networks of a change: of each line the reasons that `steps` has told since it was last kept. One
+    that was told before may be over where the line has others."""
+
+    def __init__(self, policy, promises, last):
+        self.policy, self.promises, self.last, self.reasons = policy, promises, last, {}
+
+    def behind(self, step, records):
+        """What a page has of it behind a step, 0 for before the change, by what is told there."""
+        for it in records:
+            if it["kind"] == "mends":
+                del self.reasons[it["line"]]
+            elif it["kind"] != "start":
+                self.reasons[it["line"]] = [*(old for old in self.reasons.get(it["line"], []) if not is_over(old, it)), it]
+        told = sorted((it for its in self.reasons.values() for it in its), key=lambda it: (it["kind"] != "policy", it["line"]))
+        broken = [{**its, "step": it["step"]} for its, it in zip(broken_in(self.policy, told), told)]
+        refused = {it["line"] for it in broken if it["refused"]}
+        judged = [it["line"] for it in self.promises if self.is_judged(it, step) and it["line"] not in refused]
+        return {"step": step, "broken": broken, "expectations": len(judged), "hold": sum(it not in self.reasons for it in judged)}
+
+    def is_judged(self, promise, step):
+        """One of the end isn't before it, and one of what stays together isn't before the change."""
+        return (step == self.last or not promise["finally"]) and (step > 0 or promise["network_count"] > 0)
+
+
+def is_over(old, new):
+    """A line that is refused has no other reason, and one that isn't has none of being refused; none stands twice."""
+    return "policy" in (old["kind"], new["kind"]) or (old["failure"], reason_in(old)) == (new["failure"], reason_in(new))

@@ -29,17 +29,22 @@ class Sheets {
 
   /** Each promise that isn't kept, with its line in the policy, where it isn't, and why; a click shows the failure. */
   promises(shown) {
-    const { broken, policy, expectations, hold } = this.network.promises;
+    const { broken, policy, expectations, hold, step } = this.network.promises;
     if (!broken.length) return { before: markup`<div class="fine">All ${expectations} promises of ${policy} are kept.</div>`, heads: [], rows: [] };
+    // (of a network that no change is of no promise has a step)
+    const isOlder = it => it.step < step;
     const rows = broken.map(it => {
       const failure = this.network.failures.get(it.failure);
       const [what, name] = (it.failure ?? "").split(" ");
-      const place = it.refused ? "the line is refused" : it.failure ? `after ${entityName({ what, name })} has failed` : "now";
-      const why = markup`<span class="warning said">${it.said}</span><div><code class="minor">${it.why}</code></div>`;
+      const now = it.again ? `after ${counted(it.again, "failure")}` : "now";
+      const place = it.refused ? "the line is refused" : it.failure ? `after ${entityName({ what, name })} has failed` : now;
+      const since = isOlder(it) ? minor(it.step ? `told behind step ${it.step}` : "told before the first step") : "";
+      const why = markup`<span class="warning said">${it.said}</span><div><code class="minor">${it.why}</code> ${since}</div>`;
       const cells = [it.line, markup`<b>${it.promise}</b>`, place, why];
       return failure ? { data: { fail: failure.key }, isSelected: shown.failure === failure, cells } : cells;
     });
-    const before = minor(`${hold} of ${counted(expectations, "promise")} of ${policy} ${hold === 1 ? "is" : "are"} kept.`);
+    const older = broken.some(isOlder) ? " What was told behind an earlier step may be over by now, where its line has another reason." : "";
+    const before = minor(`${hold} of ${counted(expectations, "promise")} of ${policy} ${hold === 1 ? "is" : "are"} kept.${older}`);
     return { before, heads: ["#Line", "Promise", "Where it isn't kept", "Why"], rows };
   }
 

@@ -1,6 +1,12 @@
 // A change in steps: what each does to the network before it, in words and as printed, and what the page works out of the same.
 "use strict";
 
+/** The lines that tell what isn't kept of a policy, and what is kept again. */
+const printedPromises = (news, mends) => [
+  ...news.map(it => (it.refused ? `policy ${it.line} ${it.why}` : `fails ${it.line} ${it.failure ?? "now"} ${it.why}`)),
+  ...mends.map(number => `mends ${number}`),
+];
+
 /** A step of a change, with the network before it and that after it. */
 class Step {
   constructor(told, number, before, after) {
@@ -58,8 +64,12 @@ class Step {
     tally.expect(`${what}, roles`, [this.roleCount()], [this.changed]);
   }
 
-  /** What isn't kept of a policy behind it; none where there is no policy. */
-  broken() { return this.after.promises?.broken ?? []; }
+  /** The lines of a policy that aren't kept behind it, and those of them that it breaks; none where there is no policy. */
+  unkept() { return linesUnkept(this.after); }
+  breaks() {
+    const before = linesUnkept(this.before);
+    return [...this.unkept()].filter(number => !before.has(number));
+  }
 
   /** The lines of `steps` that it has there. */
   printed() {
@@ -69,10 +79,13 @@ class Step {
       ...this.refused.map(it => `change ${it.line} ${it.error} ${it.text}`),
       `step ${number} lines ${lines} ${told.join(" ")}`,
       ...this.parts.map(([those, parts]) => `cut ${those} parts ${parts.join(" ")}`),
-      ...this.broken().map(it => (it.refused ? `policy ${it.line} ${it.why}` : `fails ${it.line} ${it.failure ?? "now"} ${it.why}`)),
+      ...(this.restarts.length ? [`restarts ${this.restarts.join(",")}`] : []),
+      ...printedPromises(this.news ?? [], this.mends ?? []),
     ];
   }
 }
+
+const linesUnkept = network => new Set((network.promises?.broken ?? []).map(it => it.line));
 
 /** A change, with the network before its first step and those behind each. */
 class Change {
@@ -83,9 +96,16 @@ class Change {
 
   get counts() {
     const kinds = [["moving", "move VLANs"], ["cutting", "cut some"], ["failing", "break a promise"]];
-    return kinds.filter(([word]) => this[word] !== null).map(([word, does]) => `${this[word]} ${does}`).join(", ");
+    const told = kinds.filter(([word]) => this[word] !== null).map(([word, does]) => `${this[word]} ${does}`).join(", ");
+    return this.unkept ? `${told}; ${counted(this.unkept, "promise isn't", "promises aren't")} kept in the end` : told;
   }
-  get isWarned() { return Boolean(this.cutting || this.failing || this.steps.some(it => it.refused.length)); }
+  get isWarned() { return Boolean(this.cutting || this.failing || this.unkept || this.steps.some(it => it.refused.length)); }
+
+  /** What is printed of the policy in front of all steps: lines that aren't read, and what isn't kept before the change. */
+  printedBefore() {
+    const { unread, start, news } = this.front ?? { unread: [], start: [], news: [] };
+    return [...printedPromises(unread, []), ...start.map(count => `start unkept ${count}`), ...printedPromises(news, [])];
+  }
 
   heading(place) {
     if (!place) return markup`<b>As it is</b> ${minor("before the first step")}`;
@@ -95,7 +115,8 @@ class Change {
   /** What is typed in a step, and what it does. */
   told(place) {
     const step = this.steps[place - 1];
-    if (!step) return markup`<div>${counted(this.steps.length, "step")} of ${this.name}: ${this.counts}.</div>`;
+    const before = this.printedBefore().join("\n");
+    if (!step) return markup`<div>${counted(this.steps.length, "step")} of ${this.name}: ${this.counts}.</div>${before ? markup`<code>${before}</code>` : ""}`;
     const refused = new Set(step.refused.map(it => it.line));
     const typed = step.typed.map(([number, text]) => {
       const kind = refused.has(number) ? "warning" : text.trim().startsWith("#") ? "minor" : "";
@@ -105,12 +126,14 @@ class Change {
   }
 
   does(step) {
-    const { moved, cut, joined: together, changed, refused } = step;
+    const { moved, joined: together, changed, refused, restarts } = step;
     const roots = [...step.roots()].flatMap(([tree, pairs]) => pairs.map(([old, now]) =>
       line(markup`Root of ${treeName(tree)}: ${old} → <b>${now}</b>${old === now ? " with another priority" : ""}`)));
     return [
       refused.map(it => markup`<div class="warning">Line ${it.line} is refused: ${it.error} ${it.text}</div>`),
-      moved ? markup`<div>It moves VLANs ${listed(moved)}.</div>` : markup`<div class="fine">No traffic notices it.</div>`,
+      moved ? markup`<div>It moves VLANs ${listed(moved)}.</div>` : markup`<div class="fine">It moves no VLAN to other links.</div>`,
+      restarts.length ? markup`<div class="warning">${counted(restarts.length, "port begins", "ports begin")} anew and may discard for a while:
+        ${some(restarts, MOST_NAMES)}.</div>` : "",
       step.parts.map(([those, parts]) => markup`<div class="warning">VLANs ${listed(those)} come apart:
         ${joined(parts.map(part => part.split(",").join(", ")), " | ")}</div>`),
       together ? markup`<div>VLANs ${listed(together)} come together.</div>` : "", roots,
@@ -120,9 +143,10 @@ class Change {
 
   keeps(step) {
     if (!step.after.promises) return "";
-    const lines = new Set(step.broken().map(it => it.line)).size;
-    const told = `${counted(lines, "promise isn't kept", "promises aren't kept")} behind it.`;
-    return lines ? markup`<div class="warning">${told}</div>` : markup`<div class="fine">All promises are kept behind it.</div>`;
+    const unkept = step.unkept().size, broken = step.breaks().length, mended = step.mends.length;
+    const news = [broken ? `it breaks ${broken}` : "", mended ? `${counted(mended, "is", "are")} kept again` : ""].filter(Boolean).join(", ");
+    const told = `${counted(unkept, "promise isn't kept", "promises aren't kept")} behind it${news ? `: ${news}` : ", as before"}.`;
+    return unkept ? markup`<div class="warning">${told}</div>` : markup`<div class="fine">All promises are kept behind it.</div>`;
   }
 
   /** All steps; a click goes to the network behind one. */
@@ -132,9 +156,10 @@ class Change {
       step.number, step.lines, step.typed.filter(([, text]) => !text.trim().startsWith("#")).map(([, text]) => line(text)),
       step.moved ? listed(step.moved) : none, step.cut ? markup`<span class="warning">${listed(step.cut)}</span>` : none,
       step.joined ? listed(step.joined) : none, step.trees.map(treeName).join(", "), step.changed,
-      warned([step.refused.length ? counted(step.refused.length, "line") : "", step.broken().length ? counted(step.broken().length, "reason") : ""]
-        .filter(Boolean).join(", ")),
+      step.restarts.length || none,
+      warned([step.refused.length ? `${counted(step.refused.length, "line")} refused` : "", step.breaks().length ? `${step.breaks().length} broken` : "",
+        step.unkept().size ? `${step.unkept().size} unkept` : ""].filter(Boolean).join(", ")),
     ] }));
-    return table(["#Step", "Lines", "", "VLANs moved", "Cut", "Joined", "Roots of", "#Roles changed", "Refused, or not kept"], rows);
+    return table(["#Step", "Lines", "", "VLANs moved", "Cut", "Joined", "Roots of", "#Roles changed", "#Ports anew", "Refused, broken, not kept"], rows);
   }
 }
