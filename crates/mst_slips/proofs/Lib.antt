@@ -2,4 +2,5 @@ mod Added
 mod Fronts
 mod OneLetter
 mod SlowLans
+mod VidsThat
 mod NearRegions

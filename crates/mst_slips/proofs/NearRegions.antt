@@ -1,12 +1,13 @@
 -- What is seen of regions, under names.
 use Rattle.std.proofs.Common.{◌≡◌, ℕ, ◌==◌, ◌&&◌, Bool, true, false, true≢false, List, [], ◌∷◌, ◌++◌, map, Some, refl, sym, ap, subst, ◌∙◌, eq-eqb, arith}
-use Rattle.std.specs.Prelude.{if◌then◌else◌}
+use Rattle.std.specs.Prelude.{if◌then◌else◌, not, length}
 use Rattle.std.specs.List.{AllByRecursion, filter, flat_map}
 use Rattle.std.specs.Option.{option_map_or, unwrap_or}
 use Rattle.std.specs.FinMap as fin
 use Rattle.std.specs.Cmp.Lexicographic.{bytes_decides, nat_list_cmp_total}
 use Rattle.std.proofs.lemmas.Bool.{eqb-true}
 use Rattle.mst_ids.specs.Identifiers.{bridge_id}
+use Rattle.mst_net.specs.After.{table_of}
 use Rattle.mst_net.specs.ByTree.{ByTree, table_in}
 use Rattle.mst_net.specs.Seen.{bridge_row}
 use Rattle.mst_net.specs.Tables.{Net, Numbers, BridgeRow, IsNetwork}
@@ -20,7 +21,8 @@ use Rattle.mst_config.specs.Regions.{same_region, first_of_region, region_of}
 use Rattle.mst_config.proofs.SameRegion.{has_first, HasFirst}
 use Rattle.mst_slips.specs.Near.{are_near}
 use Rattle.mst_slips.specs.Regions.{is_named, is_named_first, are_nearly_one, bridges_with, region_row, rows_of_two, rows_of_each_two, region_rows}
-use Rattle.mst_slips.specs.Seen.{seen_named_first, seen_nearly_one, seen_with, seen_two, seen_each_two}
+use Rattle.mst_slips.specs.Tables.{is_namesake, is_alone, vids_apart, table_row, rows_beside, rows_among, table_rows}
+use Rattle.mst_slips.specs.Seen.{seen_named_first, seen_nearly_one, seen_with, seen_two, seen_each_two, seen_alone, seen_odd_row, seen_beside, seen_among}
 
 all_unmapped : {A B : Type 0} (P : B → Type 0) (f : A → B) (xs : List A) → AllByRecursion P (map f xs) → AllByRecursion (λ x. P (f x)) xs
 all_unmapped P f [] h = tt
@@ -100,6 +102,35 @@ module _ (net : Net) (numbers : Numbers) (v : Viewed) (classes : List (ℕ × �
       let rest = each_two_named behind h.1 in
       λ i. one i ++ rest i
 
+  -- the first bridges of regions that were given a name
+  abbrev firsts : List BridgeInView
+  firsts = filter (seen_named_first classes) v.bridges
+
+  firsts_there : AllByRecursion IsThere firsts
+  firsts_there = all_filtered IsThere (seen_named_first classes) v.bridges all_there
+
   pub regions_named : seen_each_two v classes (filter (seen_named_first classes) v.bridges) ≡ region_rows net
-  regions_named =
-      each_two_named (filter (seen_named_first classes) v.bridges) (all_filtered IsThere (seen_named_first classes) v.bridges all_there) ∙ ap (rows_of_each_two net) firsts_named
+  regions_named = each_two_named firsts firsts_there ∙ ap (rows_of_each_two net) firsts_named
+
+  -- ---- the bridges whose table alone differs
+  alone_named : (a : BridgeInView) → IsThere a → seen_alone v classes a ≡ is_alone net a.name
+  alone_named a here = ap (λ (names : List (List ℕ)). length names == 1) (with_named a here)
+
+  row_named : (a b : BridgeInView) → seen_odd_row v a b ≡ table_row a.bridge.conf_name a.bridge.revision a.name (vids_apart (table_of net a.name) (table_of net b.name))
+  row_named a b = ap (λ (s : ByTree). table_row a.bridge.conf_name a.bridge.revision a.name (vids_apart (table_in s.tables a.name) (table_in s.tables b.name))) view.settings
+
+  beside_named : (a : BridgeInView) → IsThere a → (others : List BridgeInView) → AllByRecursion IsThere others → seen_beside v classes a others ≡ rows_beside net (named_bridge a) (map named_bridge others)
+  beside_named a here [] there = refl
+  beside_named a here (b ∷ []) there = λ i. if alone_named a here i && not (alone_named b there.0 i) then row_named a b i ∷ [] else []
+  beside_named a here (b ∷ c ∷ others) there = refl
+
+  among_named : (bs : List BridgeInView) → AllByRecursion IsThere bs → flat_map (seen_among v classes bs) bs ≡ rows_among net (map named_bridge bs)
+  among_named bs there =
+      let names = map named_bridge bs in
+      flat_mapped (λ e. rows_beside net e (filter (is_namesake e) names)) named_bridge (seen_among v classes bs) bs
+      (all_weaker IsThere _ (λ a here.
+      beside_named a here (filter (λ b. is_namesake (named_bridge a) (named_bridge b)) bs) (all_filtered IsThere (λ b. is_namesake (named_bridge a) (named_bridge b)) bs there)
+      ∙ ap (rows_beside net (named_bridge a)) (sym (filter_mapped (is_namesake (named_bridge a)) named_bridge bs))) bs there)
+
+  pub tables_named : flat_map (seen_among v classes (filter (seen_named_first classes) v.bridges)) (filter (seen_named_first classes) v.bridges) ≡ table_rows net
+  tables_named = among_named firsts firsts_there ∙ ap (rows_among net) firsts_named

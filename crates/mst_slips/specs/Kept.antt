@@ -4,12 +4,14 @@ use Rattle.std.specs.Option.{option_map_or}
 use Rattle.std.specs.HashMap.{HashMap, get}
 use Rattle.std.specs.declared.alloc.Global.{Global}
 use Rattle.mst_rows.specs.Rows.{Row}
+use Rattle.mst_net.specs.ByTree.{ByTree, vlans_in}
 use Rattle.mst_lag.specs.Aggregation.{same_name}
 use Rattle.mst_lag.specs.Viewed.{named_port}
 use Rattle.mst_lag.specs.declared.in_view.LanInView.{LanInView}
 use Rattle.mst_lag.specs.declared.in_view.PortInView.{PortInView}
 use Rattle.mst_slips.specs.declared.kept.Kept.{Kept}
 use Rattle.mst_slips.specs.Lans.{is_beside, just_two, least, rows_where_slower}
+use Rattle.mst_slips.specs.Vlans.{rows_of_ends}
 
 -- the ports that are kept for a name, none where nothing is kept
 abbrev pub kept_at : {S : Type 0} → HashMap (List ℕ) (Vec PortInView Global) S → List ℕ → List PortInView
@@ -32,3 +34,7 @@ kept_between k lan (Some two) =
 
 abbrev pub kept_rows : Kept → LanInView → List Row
 kept_rows k lan = if lan.is_up then kept_between k lan (just_two (map (λ p. p.name.bridge) (kept_at k.by_lan lan.name))) else []
+
+-- the row of a link whose ends allow different VLANs
+abbrev pub kept_link : ByTree → Kept → LanInView → List Row
+kept_link set k lan = if lan.is_up then rows_of_ends (vlans_in set.vlans) (map (λ p. p.name) (kept_at k.by_lan lan.name)) else []

@@ -1,6 +1,9 @@
 pub mod Near
 pub mod Regions
+pub mod Vids
+pub mod Tables
 pub mod Lans
+pub mod Vlans
 pub mod Slips
 pub mod Seen
 pub mod Kept

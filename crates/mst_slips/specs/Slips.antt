@@ -3,8 +3,11 @@ use Rattle.std.specs.Prelude.{◌++◌, List}
 use Rattle.mst_rows.specs.Rows.{Row}
 use Rattle.mst_net.specs.Tables.{Net}
 use Rattle.mst_slips.specs.Regions.{region_rows}
+use Rattle.mst_slips.specs.Tables.{table_rows}
 use Rattle.mst_slips.specs.Lans.{lan_rows}
+use Rattle.mst_slips.specs.Vlans.{vlans_rows}
 
--- the rows of regions that are nearly one, and those of logical LANs that are far slower than others beside them
+-- the rows of regions that are nearly one, those of bridges whose table alone differs, those of logical LANs that are far slower
+-- than others beside them, and those of links whose ends allow different VLANs
 abbrev pub slip_rows : Net → List Row
-slip_rows net = region_rows net ++ lan_rows net
+slip_rows net = region_rows net ++ table_rows net ++ lan_rows net ++ vlans_rows net

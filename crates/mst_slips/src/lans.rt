@@ -4,10 +4,10 @@ ghost use Rattle.mst_rows.specs.Rows.{Row};
 ghost use Rattle.mst_net.specs.Tables.{Net, Numbers};
 ghost use Rattle.mst_lag.specs.Aggregation.{same_name};
 ghost use Rattle.mst_lag.specs.Viewed.{IsView, named_port};
-ghost use Rattle.mst_slips.specs.Kept.{kept_speeds, kept_between, kept_rows};
+ghost use Rattle.mst_slips.specs.Kept.{AreKept, kept_speeds, kept_between, kept_rows};
 ghost use Rattle.mst_slips.specs.Lans.{just_two as the_two, is_beside as is_beside_of, two_alone as alone, with_lesser, is_far_slower as are_far_apart, lan_row, rows_where_slower, lan_rows};
 
-use crate::kept::{Kept, keep, kept_for};
+use crate::kept::{Kept, kept_for};
 use mst_ids::Name;
 use mst_kinds::{Kind, SummaryLine};
 use mst_lag::{LanInView, PortInView, View};
@@ -180,15 +180,16 @@ fn put_lans<R: Rows>(
 
 /// Puts the rows of the logical LANs that are up, between two bridges, and far slower than the others of both, by name.
 ///
-/// It goes over the ports once, and for each logical LAN over those of its bridges.
+/// It goes for each logical LAN over the ports of its bridges.
 pub(crate) fn put_slow_lans<R: Rows>(
     alloc: Global,
     view: &View,
+    kept: &Kept,
     out: &mut R,
 ) -> Result<(), AllocError>
+    requires { AreKept view.now.ports kept.now }
     ensures { (net : Net) (numbers : Numbers) → IsView net numbers view.now
         → (first : R) (rows : List Row) → R.grew first out.old rows → OnOk result (R.grew first out.new (rows ++ lan_rows net)) }
 {
-    let kept = keep(alloc, view.ports())?;
-    put_lans(alloc, &kept, view.lans(), out)
+    put_lans(alloc, kept, view.lans(), out)
 }

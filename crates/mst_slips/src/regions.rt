@@ -39,7 +39,7 @@ fn is_named(bridge: &Bridge) -> bool
 }
 
 /// The first bridges of the regions that were given a name.
-fn named_firsts(
+pub(crate) fn named_firsts(
     alloc: Global,
     view: &View,
     regions: &Regions,
@@ -63,7 +63,7 @@ fn is_nearly_one(view: &View, a: &BridgeInView, b: &BridgeInView) -> bool
 }
 
 /// The names of the bridges of a bridge's region.
-fn bridges_with(
+pub(crate) fn bridges_with(
     alloc: Global,
     view: &View,
     regions: &Regions,
