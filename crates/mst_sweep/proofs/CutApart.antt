@@ -38,14 +38,14 @@ pub both_true : (b c : Bool) → (b && c) ≡ true → (b ≡ true) × (c ≡ tr
 both_true true c e = (refl, e)
 both_true false c e = absurd (true≢false (sym e))
 
-true_both : (b c : Bool) → b ≡ true → c ≡ true → (b && c) ≡ true
+pub true_both : (b c : Bool) → b ≡ true → c ≡ true → (b && c) ≡ true
 true_both b c e f = ap (λ b. b && c) e ∙ f
 
 pub not_true : (b : Bool) → not b ≡ true → b ≡ true → ⊥
 not_true true e f = true≢false (sym e)
 not_true false e f = true≢false (sym f)
 
-true_not : (b : Bool) → (b ≡ true → ⊥) → not b ≡ true
+pub true_not : (b : Bool) → (b ≡ true → ⊥) → not b ≡ true
 true_not true n = absurd (n refl)
 true_not false n = refl
 

@@ -20,7 +20,9 @@ pub mod CutsBy
 pub mod NoCuts
 pub mod Together
 pub mod Windows
-pub mod ButFlagged
+pub mod StillOn
+pub mod Relabelled
+pub mod WithBoth
 pub mod PairParts
 pub mod OnePairs
 pub mod PartsJoined

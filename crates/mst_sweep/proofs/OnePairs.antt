@@ -1,8 +1,7 @@
 -- The rows of pairs of failures: there is one list of them, and one only.
-use Rattle.std.proofs.Common.{◌≡◌, ℕ, ◌||◌, Bool, true, false, cond, List, [], ◌∷◌, ◌++◌, refl, sym, ap, subst, ◌∙◌}
-use Rattle.std.specs.Bool.{MatchBool}
+use Rattle.std.proofs.Common.{◌≡◌, ℕ, Bool, true, List, [], ◌∷◌, ◌++◌, refl, sym, ap, subst, ◌∙◌}
 use Rattle.std.specs.Cmp.{IsEquivalence}
-use Rattle.std.specs.List.{AllZip, count_by, flat_map}
+use Rattle.std.specs.List.{AllZip, count_by, filter_map, flat_map}
 use Rattle.mst_graph.specs.Groups.{AreGroups}
 use Rattle.mst_graph.specs.Islands.{Island}
 use Rattle.mst_net.specs.Tables.{Net, IsNetwork}
@@ -12,12 +11,11 @@ use Rattle.mst_diff.proofs.plan_text_lemmas.OnePlan.{OneGrouping}
 use Rattle.mst_diff.specs.changes.Subjects.{bridge_names}
 use Rattle.mst_diff.specs.Reach.{has_any}
 use Rattle.mst_diff.proofs.OneDiff.{OneList}
-use Rattle.mst_sweep.specs.declared.failure.Failure.{Failure}
-use Rattle.mst_sweep.specs.Parts.{staying, all_parts, AreParts}
+use Rattle.mst_sweep.specs.Parts.{all_parts}
 use Rattle.mst_rows.specs.Rows.{Row}
 use Rattle.mst_sweep.specs.declared.cuts.CutBy.{CutBy}
 use Rattle.mst_sweep.specs.declared.cuts.CutBy.TheVariants.{Both}
-use Rattle.mst_sweep.specs.Pairs.{Pair, Outcomes, ArePairParts, ArePairRows, IsPairTold, IsPairsOf, failed, last_of_pairs, pair_rows}
+use Rattle.mst_sweep.specs.Pairs.{Pair, PairIslands, Outcomes, ArePairIslands, ArePairParts, ArePairRows, IsPairTold, IsPairsOf, failed, last_of_pairs, pair_rows, stays_with_both}
 use Rattle.mst_sweep.specs.SweepText.{Told}
 use Rattle.mst_sweep.proofs.CutsBy.{one_list, one_cut, cut_vids, cut_rows, some_cuts}
 use Rattle.mst_sweep.proofs.OneSweep.{zip_same}
@@ -49,25 +47,19 @@ module _ (one : OneList) (grouping : OneGrouping) (single : (net : Net) (o p : O
 module _ (islands : (net : Net) (o : Outcome) (vid : ℕ) → IsNetwork net → (islands : List (Island (List ℕ) (List ℕ))) × AreIslandsOf net o vid islands)
     (grouping : (same : ℕ → ℕ → Bool) (things : List ℕ) → IsEquivalence same → (groups : List (List ℕ)) × AreGroups (λ x y. same x y ≡ true) things groups)
     (outcomes : (net : Net) → IsNetwork net → (o : Outcome) × IsOutcome net o) (net : Net) (is : IsNetwork net) where
-  parts_there : (o : Outcome) (fs : List Failure) (p : Outcome) (vid : ℕ) → (parts : List (List (List ℕ))) × AreParts net o (failed fs net) p vid parts
-  parts_there o fs p vid =
-      let olds = islands net o vid is in
-      let news = islands (failed fs net) p vid (failed_network fs net is) in
-      (all_parts (staying olds.0 news.0 (bridge_names net)), (olds.0, news.0, olds.1, news.1, refl))
-
   module _ (pair : Pair) (of : Outcomes) where
+    of_vid : (vid : ℕ) → (i : PairIslands) × ArePairIslands net pair of vid i
+    of_vid vid =
+        let none = islands net of.none vid is in
+        let first = islands (failed (pair.first ∷ []) net) of.first vid (failed_network (pair.first ∷ []) net is) in
+        let second = islands (failed (pair.second ∷ []) net) of.second vid (failed_network (pair.second ∷ []) net is) in
+        let both = islands (failed (pair.first ∷ pair.second ∷ []) net) of.both vid (failed_network (pair.first ∷ pair.second ∷ []) net is) in
+        (record { none = none.0; first = first.0; second = second.0; both = both.0 }, record { none = none.1; first = first.1; second = second.1; both = both.1 })
+
     pair_parts_there : (vid : ℕ) → (parts : List (List (List ℕ))) × ArePairParts net pair of vid parts
     pair_parts_there vid =
-        let first = parts_there of.none (pair.first ∷ []) of.first vid in
-        let second = parts_there of.none (pair.second ∷ []) of.second vid in
-        let both = parts_there of.none (pair.first ∷ pair.second ∷ []) of.both vid in
-        let flag : Bool = has_any first.0 || has_any second.0 in
-        (cond flag [] both.0, record { one = first.0; other = second.0; by_first = first.1; by_second = second.1; by_both = by flag both.0 both.1 })
-      where
-        by : (flag : Bool) (parts : List (List (List ℕ))) → AreParts net of.none (failed (pair.first ∷ pair.second ∷ []) net) of.both vid parts
-            → MatchBool flag (cond flag [] parts ≡ []) (AreParts net of.none (failed (pair.first ∷ pair.second ∷ []) net) of.both vid (cond flag [] parts))
-        by true parts h = refl
-        by false parts h = h
+        let i = of_vid vid in
+        (all_parts (filter_map (stays_with_both i.0 (bridge_names net)) (bridge_names net)), record { islands = i.0; are_islands = i.1; are = refl })
 
     pair_rows_there : (cuts : Bool) × (rows : List Row) × ArePairRows net pair of rows cuts
     pair_rows_there =

@@ -28,13 +28,16 @@ use Rattle.mst_classes.specs.Alike.{AreAlike}
 use Rattle.mst_diff.proofs.plan_text_lemmas.Classes.{links_shared}
 use Rattle.mst_diff.specs.changes.Subjects.{bridge_names}
 use Rattle.mst_diff.proofs.changes_lemmas.Lists.{filter_map-map}
+use Rattle.mst_diff.specs.declared.both.Both.{Both}
 use Rattle.mst_diff.specs.Seen.{seen_in_both, seen_both}
 use Rattle.mst_diff.proofs.Lists.{filter_map-filter_map, find-found}
 use Rattle.mst_diff.proofs.Named.{found_named, names_are}
 use Rattle.mst_classes.specs.Classes.{HasOnly}
 use Rattle.mst_net.proofs.Keys.{names}
 use Rattle.mst_sweep.specs.declared.parts.Stays.{Stays}
-use Rattle.mst_sweep.specs.Parts.{home, stays_at, staying, AreParts}
+use Rattle.mst_sweep.specs.Parts.{home, staying, AreParts}
+use Rattle.mst_sweep.specs.Baseline.{AreHomes}
+use Rattle.mst_sweep.specs.CutClasses.{IsKeptAlone}
 use Rattle.mst_sweep.specs.Seen.{seen_stays}
 use Rattle.mst_sweep.specs.Left.{AreLeft}
 
@@ -74,19 +77,26 @@ no_stay : (name : List ℕ) (o : Option ℕ) → option_and_then (λ before. opt
 no_stay name None = refl
 no_stay name (Some x) = refl
 
-module _ (a b : Net) (n k : Numbers) (v w : Viewed) (f g : Forest) (of : AreOf a n v f.regions) (so : AreOf b k w g.regions) (o p : Outcome) (vid : ℕ)
-    (olds news : List (Island (List ℕ) (List ℕ))) (are : AreIslandsOf b p vid news) (befores afters : List (ℕ × ℕ))
-    (before : (name : List ℕ) (m : ℕ) → fin.get n.bridges name ≡ Some m → lookup (nat_eq m) befores ≡ home olds name)
+-- by whatever is known of a bridge before, under its number and under its name
+module _ (a b : Net) (n k : Numbers) (v w : Viewed) (f g : Forest) (of : AreOf a n v f.regions) (so : AreOf b k w g.regions) (p : Outcome) (vid : ℕ)
+    (news : List (Island (List ℕ) (List ℕ))) (are : AreIslandsOf b p vid news) (seen : ℕ → Option ℕ) (named : List ℕ → Option ℕ) (afters : List (ℕ × ℕ))
+    (before : (name : List ℕ) (m : ℕ) → fin.get n.bridges name ≡ Some m → seen m ≡ named name)
     (after : (name : List ℕ) (m : ℕ) → fin.get k.bridges name ≡ Some m → lookup (nat_eq m) afters ≡ home news name) where
-  stays_named : (x : BridgeInView) → Contains v.bridges x → option_and_then (seen_stays befores afters) (seen_in_both w x) ≡ stays_at olds news x.name
+  abbrev pub seen_stay : Both → Option Stays
+  seen_stay both = option_and_then (λ before. option_map (stay both.old.name before) (lookup (nat_eq both.new.bridge.number) afters)) (seen both.old.bridge.number)
+
+  abbrev pub named_stay : List ℕ → Option Stays
+  named_stay name = option_and_then (λ before. option_map (stay name before) (home news name)) (named name)
+
+  stays_named : (x : BridgeInView) → Contains v.bridges x → option_and_then seen_stay (seen_in_both w x) ≡ named_stay x.name
   stays_named x there = go (find (λ (y : BridgeInView). same_name y.name x.name) w.bridges) refl
     where
       go : (r : Option BridgeInView) → find (λ (y : BridgeInView). same_name y.name x.name) w.bridges ≡ r
-          → option_and_then (seen_stays befores afters) (option_map (λ y. record { old = x; new = y }) r) ≡ stays_at olds news x.name
+          → option_and_then seen_stay (option_map (λ y. record { old = x; new = y }) r) ≡ named_stay x.name
       go None e =
-          sym (ap (λ r. option_and_then (λ before. option_map (stay x.name before) r) (home olds x.name))
+          sym (ap (λ r. option_and_then (λ before. option_map (stay x.name before) r) (named x.name))
           (no_home b p vid news are x.name (found_named b k w g so x.name ∙ ap (option_map (λ (y : BridgeInView). bridge_row y.bridge)) e))
-          ∙ no_stay x.name (home olds x.name))
+          ∙ no_stay x.name (named x.name))
       go (Some y) e =
           let found = find-found (λ (y : BridgeInView). same_name y.name x.name) w.bridges y e in
           let name : y.name ≡ x.name = (bytes_decides y.name x.name).0 found.1 in
@@ -94,12 +104,20 @@ module _ (a b : Net) (n k : Numbers) (v w : Viewed) (f g : Forest) (of : AreOf a
           let second = after y.name y.bridge.number (bridge_seen b k w so.view y found.0).has_number ∙ ap (home news) name in
           λ i. option_and_then (λ before. option_map (stay x.name before) (second i)) (first i)
 
+  pub all_stay_by : filter_map seen_stay (seen_both v w) ≡ filter_map named_stay (bridge_names a)
+  all_stay_by =
+      filter_map-filter_map seen_stay (seen_in_both w) v.bridges
+      ∙ kept_same _ (λ (x : BridgeInView). named_stay x.name) v.bridges (all_weaker (Contains v.bridges) _ stays_named v.bridges (all_there v.bridges))
+      ∙ sym (filter_map-map named_stay (λ (x : BridgeInView). x.name) v.bridges)
+      ∙ ap (filter_map named_stay) (names_are a n v f of)
+
+-- by the places of their islands
+module _ (a b : Net) (n k : Numbers) (v w : Viewed) (f g : Forest) (of : AreOf a n v f.regions) (so : AreOf b k w g.regions) (o p : Outcome) (vid : ℕ)
+    (olds news : List (Island (List ℕ) (List ℕ))) (are : AreIslandsOf b p vid news) (befores afters : List (ℕ × ℕ))
+    (before : (name : List ℕ) (m : ℕ) → fin.get n.bridges name ≡ Some m → lookup (nat_eq m) befores ≡ home olds name)
+    (after : (name : List ℕ) (m : ℕ) → fin.get k.bridges name ≡ Some m → lookup (nat_eq m) afters ≡ home news name) where
   pub all_stay : filter_map (seen_stays befores afters) (seen_both v w) ≡ staying olds news (bridge_names a)
-  all_stay =
-      filter_map-filter_map (seen_stays befores afters) (seen_in_both w) v.bridges
-      ∙ kept_same _ (λ (x : BridgeInView). stays_at olds news x.name) v.bridges (all_weaker (Contains v.bridges) _ stays_named v.bridges (all_there v.bridges))
-      ∙ sym (filter_map-map (stays_at olds news) (λ (x : BridgeInView). x.name) v.bridges)
-      ∙ ap (filter_map (stays_at olds news)) (names_are a n v f of)
+  all_stay = all_stay_by a b n k v w f g of so p vid news are (λ m. lookup (nat_eq m) befores) (home olds) afters before after
 
 -- ---- VIDs that the tables and the sets of the old network don't tell apart
 module _ (a b : Net) (n k : Numbers) (v w : Viewed) (f g : Forest) (of : AreOf a n v f.regions) (so : AreOf b k w g.regions) (left : AreLeft a b) (tables : List (List ℕ)) (sets : List (List Bool)) (told : HasOnly v tables sets) where
@@ -139,3 +157,14 @@ module _ (a b : Net) (n k : Numbers) (v w : Viewed) (f g : Forest) (of : AreOf a
     subst (λ ks. AreIslands (bridges_on b) (lans_up b) ks s.1) (links_shared b k w g so p tables sets told_too.tables_there told_too.sets_there x y alike) s.3,
     s.4,
   )
+
+-- ---- places of islands, of VIDs that nothing tells apart
+module _ (net : Net) (n : Numbers) (v : Viewed) (f : Forest) (of : AreOf net n v f.regions) (tables : List (List ℕ)) (sets : List (List Bool)) (told : HasOnly v tables sets) (o : Outcome) (x y : ℕ) (alike : AreAlike tables sets x y) where
+  pub homes_moved : (homes : List (ℕ × ℕ)) → AreHomes net n o x homes → AreHomes net n o y homes
+  homes_moved homes h = (h.0, subst (λ ks. AreIslands (bridges_on net) (lans_up net) ks h.0) (links_shared net n v f of o tables sets told.tables_there told.sets_there x y alike) h.1, h.2)
+
+-- and what is kept of a failure alone
+module _ (a b : Net) (n k : Numbers) (v w : Viewed) (f g : Forest) (of : AreOf a n v f.regions) (so : AreOf b k w g.regions) (left : AreLeft a b) (tables : List (List ℕ)) (sets : List (List Bool)) (told : HasOnly v tables sets) where
+  pub kept_moved : (o p : Outcome) (x y : ℕ) → AreAlike tables sets x y → (kept : Option (List (ℕ × ℕ))) → IsKeptAlone a o b k p x kept → IsKeptAlone a o b k p y kept
+  kept_moved o p x y alike None h = parts_moved a b n k v w f g of so left tables sets told o p x y alike [] h
+  kept_moved o p x y alike (Some homes) h = homes_moved b k w g so tables sets (told_too a b n k v w f g of so left tables sets told) p x y alike homes h

@@ -6,9 +6,9 @@ use Rattle.mst_diff.specs.changes.declared.ports.Planned.{Planned}
 use Rattle.mst_diff.specs.trees.Agrees.{AreOf}
 use Rattle.mst_diff.specs.trees.Forest.{IsForest}
 use Rattle.mst_diff.specs.trees.Outcome.{Outcome}
-use Rattle.mst_sweep.specs.CutClasses.{AreCutClasses}
+use Rattle.mst_sweep.specs.CutClasses.{AreKeptAlone, kept_of}
 use Rattle.mst_sweep.specs.Pairs.{Pair, Outcomes, failed}
-use Rattle.mst_sweep.specs.declared.both_failed.Single.{Single}
+use Rattle.mst_sweep.specs.declared.single.Single.{Single}
 
 -- it is so of all networks that these plans are of, with the numbers of their records and their settled outcomes
 abbrev pub OfNumbered : Planned → Planned → (Net → Numbers → Outcome → Net → Numbers → Outcome → Type 0) → Type 0
@@ -24,12 +24,12 @@ OfNetworks old new IsSo = OfNumbered old new (λ a n before b k afterwards. IsSo
 abbrev pub pair_of : Single → Single → Pair
 pair_of first second = record { first = first.failure; second = second.failure }
 
--- it is so of any network of the first plan where the second is that of it with both failures, by outcomes with either in which these
--- classes are cut
+-- it is so of any network of the first plan where the second is that of it with both failures, by outcomes with either alone of which
+-- this is kept for these classes
 abbrev pub OfPair : Planned → Planned → Single → Single → Numbering → (Net → Outcomes → Type 0) → Type 0
 OfPair old new first second classes IsSo =
     (net : Net) (n : Numbers) (is : IsForest net n old.forest.now) (are : IsForest (failed (first.failure ∷ second.failure ∷ []) net) n new.forest.now) (one other : Outcome)
     → AreOf net n old.view.now old.forest.now.regions → AreOf (failed (first.failure ∷ second.failure ∷ []) net) n new.view.now new.forest.now.regions
-    → AreCutClasses net is.outcome (failed (first.failure ∷ []) net) one classes first.cuts.items
-    → AreCutClasses net is.outcome (failed (second.failure ∷ []) net) other classes second.cuts.items
+    → AreKeptAlone net is.outcome (failed (first.failure ∷ []) net) n one classes (kept_of first)
+    → AreKeptAlone net is.outcome (failed (second.failure ∷ []) net) n other classes (kept_of second)
     → IsSo net (record { none = is.outcome; first = one; second = other; both = are.outcome })

@@ -1,13 +1,14 @@
--- What pairs of failures of a network do: the VIDs that both together cut, and neither alone.
-use Rattle.std.specs.Prelude.{◌≡◌, ℕ, ◌||◌, Bool, List, [], ◌∷◌, ◌++◌, length, map, Ok, if◌then◌else◌}
-use Rattle.std.specs.Bool.{MatchBool}
-use Rattle.std.specs.List.{AllZip, range_with_len}
+-- What pairs of failures of a network do: the VIDs of which both together part bridges that either alone leaves joined.
+use Rattle.std.specs.Prelude.{◌≡◌, ℕ, ◌==◌, ◌&&◌, Bool, false, List, [], ◌∷◌, ◌++◌, length, map, filter_map, Option, Ok, if◌then◌else◌}
+use Rattle.std.specs.List.{AllZip, position_from, range_with_len}
+use Rattle.std.specs.Option.{option_and_then, option_map, option_map_or}
 use Rattle.std.specs.FinMap as fin
 use Rattle.mst_ids.specs.Names.{name_cmp}
 use Rattle.mst_kinds.specs.declared.kind.Kind.TheVariants as kind
 use Rattle.mst_kinds.specs.declared.sweep_line.SweepLine.TheVariants as line
 use Rattle.mst_rows.specs.Cells as cell
 use Rattle.mst_rows.specs.Rows.{Row, row_of}
+use Rattle.mst_graph.specs.Islands.{Island}
 use Rattle.mst_lang.specs.declared.line.BridgeChange.TheVariants.{Power}
 use Rattle.mst_lang.specs.declared.line.LanChange.TheVariants.{State}
 use Rattle.mst_lang.specs.declared.line.Power.TheVariants.{Off}
@@ -15,11 +16,14 @@ use Rattle.mst_lang.specs.declared.line.LanState.TheVariants.{Down}
 use Rattle.mst_net.specs.After.{after, change, bridge_with, lan_with}
 use Rattle.mst_net.specs.Tables.{Net, BridgeRow, LanRow}
 use Rattle.mst_diff.specs.trees.Outcome.{Outcome, IsOutcome}
+use Rattle.mst_vlan.specs.Reach.{AreIslandsOf}
+use Rattle.mst_diff.specs.changes.Subjects.{bridge_names}
 use Rattle.mst_diff.specs.Reach.{has_any}
 use Rattle.mst_sweep.specs.declared.failure.Failure.{Failure}
 use Rattle.mst_sweep.specs.declared.failure.Failure.TheVariants.{Lan, Bridge}
 use Rattle.mst_sweep.specs.Failures.{edit_of, failures}
-use Rattle.mst_sweep.specs.Parts.{AreParts}
+use Rattle.mst_sweep.specs.Parts.{home, all_parts}
+use Rattle.mst_sweep.specs.declared.parts.Stays.{Stays}
 use Rattle.mst_sweep.specs.declared.cuts.CutBy.TheVariants.{Both}
 use Rattle.mst_sweep.specs.Cuts.{AreCutsBy, failing, runs_of}
 use Rattle.mst_sweep.specs.SweepText.{Told, AreRowsOf}
@@ -73,13 +77,37 @@ pub record AreOutcomes (net : Net) (pair : Pair) (of : Outcomes) : Type 0 where
   pub second : IsOutcome (failed (pair.second ∷ []) net) of.second
   pub both : IsOutcome (failed (pair.first ∷ pair.second ∷ []) net) of.both
 
--- the parts that both failures together make of a VID: none where one of them alone makes some
+-- the islands of a VID in a network, in it with the one and with the other failure of a pair, and with both
+pub record PairIslands : Type 0 where
+  pub none : List (Island (List ℕ) (List ℕ))
+  pub first : List (Island (List ℕ) (List ℕ))
+  pub second : List (Island (List ℕ) (List ℕ))
+  pub both : List (Island (List ℕ) (List ℕ))
+
+pub record ArePairIslands (net : Net) (pair : Pair) (of : Outcomes) (vid : ℕ) (islands : PairIslands) : Type 0 where
+  pub none : AreIslandsOf net of.none vid islands.none
+  pub first : AreIslandsOf (failed (pair.first ∷ []) net) of.first vid islands.first
+  pub second : AreIslandsOf (failed (pair.second ∷ []) net) of.second vid islands.second
+  pub both : AreIslandsOf (failed (pair.first ∷ pair.second ∷ []) net) of.both vid islands.both
+
+-- two bridges are in one island
+abbrev pub are_in_one : List (Island (List ℕ) (List ℕ)) → List ℕ → List ℕ → Bool
+are_in_one islands x y = option_map_or (λ at. option_map_or (λ other. other == at) (home islands y) false) (home islands x) false
+
+-- two bridges stay joined: they are in one island before, and in one with either failure alone
+abbrev pub stay_joined : PairIslands → List ℕ → List ℕ → Bool
+stay_joined islands x y = are_in_one islands.none x y && are_in_one islands.first x y && are_in_one islands.second x y
+
+-- a bridge that is on with both failures: by the place of the first of these bridges that stays joined with it, and by its island then
+abbrev pub stays_with_both : PairIslands → List (List ℕ) → List ℕ → Option Stays
+stays_with_both islands bridges bridge =
+    option_and_then (λ first. option_map (λ after. record { name = bridge; before = first; after = after }) (home islands.both bridge)) (position_from (stay_joined islands bridge) 0 bridges)
+
+-- the parts that both failures together make of a VID: of the bridges that either failure alone leaves joined
 pub record ArePairParts (net : Net) (pair : Pair) (of : Outcomes) (vid : ℕ) (parts : List (List (List ℕ))) : Type 0 where
-  pub one : List (List (List ℕ))
-  pub other : List (List (List ℕ))
-  pub by_first : AreParts net of.none (failed (pair.first ∷ []) net) of.first vid one
-  pub by_second : AreParts net of.none (failed (pair.second ∷ []) net) of.second vid other
-  pub by_both : MatchBool (has_any one || has_any other) (parts ≡ []) (AreParts net of.none (failed (pair.first ∷ pair.second ∷ []) net) of.both vid parts)
+  pub islands : PairIslands
+  pub are_islands : ArePairIslands net pair of vid islands
+  pub are : parts ≡ all_parts (filter_map (stays_with_both islands (bridge_names net)) (bridge_names net))
 
 -- ---- the rows
 -- `pair lan L bridge B cut VIDS`, and the rows of the parts of these VIDs: nothing where there is no such VID

@@ -1,4 +1,4 @@
-ghost use Rattle.std.specs.Prelude.{◌≡◌, ◌<◌, ◌+◌, IfOk, length, map, vec_len};
+ghost use Rattle.std.specs.Prelude.{◌≡◌, ◌<◌, ◌+◌, IfOk, length, map, slice_index, vec_len};
 ghost use Rattle.std.specs.List.{All, AllZip};
 ghost use Rattle.mst_net.specs.Tables.{Net, Numbers};
 ghost use Rattle.mst_diff.specs.trees.Agrees.{AreOf, Known};
@@ -54,4 +54,28 @@ impl Baseline {
         let homes = homes_at(alloc, &carriage, classes.firsts.as_slice())?;
         Ok(Baseline { classes, homes })
     }
+}
+
+/// The first VID of a class.
+pub(crate) fn first_vid(old: &Planned, baseline: &Baseline, class: usize) -> Vid
+    requires baseline { IsBaseline old.now.view.now old.now.forest.now baseline.now }
+    requires there { class < length baseline.now.classes.firsts.items }
+    ensures { result ≡ slice_index baseline.now.classes.firsts.items class + 1 }
+{
+    let firsts = baseline.classes.firsts.as_slice();
+    Vid::new(firsts[class] as u64 + 1).unwrap()
+}
+
+/// The places of its islands in the network before.
+pub(crate) fn homes_before<'a>(
+    old: &Planned,
+    baseline: &'a Baseline,
+    class: usize,
+) -> &'a IndexMap<BridgeNo, usize>
+    requires baseline { IsBaseline old.now.view.now old.now.forest.now baseline.now }
+    requires there { class < length baseline.now.classes.firsts.items }
+    ensures { (net : Net) (n : Numbers) (is : IsForest net n old.now.forest.now) → AreOf net n old.now.view.now old.now.forest.now.regions → AreHomes net n is.outcome (slice_index baseline.now.classes.firsts.items class + 1) result.now.entries }
+{
+    let homes = baseline.homes.as_slice();
+    &homes[class]
 }

@@ -1,5 +1,4 @@
-ghost use Rattle.std.specs.Prelude.{◌≡◌, ◌++◌, ◌<◌, ◌||◌, ℕ, false, true, List, [], IfOk, OnOk, length, map, slice_index, slice_index_or, vec_len, ◌+◌, ◌∷◌};
-ghost use Rattle.std.specs.Bool.{MatchBool};
+ghost use Rattle.std.specs.Prelude.{◌≡◌, ◌++◌, ◌<◌, ◌+◌, ◌∷◌, ℕ, false, true, List, [], IfOk, OnOk, length, map, slice_index, slice_index_or, vec_len};
 ghost use Rattle.std.specs.Option.{ForSome, option_copied};
 ghost use Rattle.mst_ids.specs.Vids.{runs_from};
 ghost use Rattle.mst_rows.specs.Rows.{Row};
@@ -7,24 +6,24 @@ ghost use Rattle.mst_diff.specs.trees.Agrees.{Known};
 ghost use Rattle.mst_diff.specs.plan_text.Bodies.{NumberEach};
 ghost use Rattle.mst_diff.specs.Reach.{has_any};
 ghost use Rattle.mst_diff.specs.Seen.{seen_both};
-ghost use Rattle.mst_sweep.specs.Between.{OfNetworks, OfPair, pair_of};
+ghost use Rattle.mst_sweep.specs.Between.{OfPair, pair_of};
 ghost use Rattle.mst_sweep.specs.Baseline.{IsBaseline};
 ghost use Rattle.mst_sweep.specs.Breaking.{HasNoParts, IsCarriageOf};
-ghost use Rattle.mst_sweep.specs.Parts.{AreParts};
-ghost use Rattle.mst_sweep.specs.CutClasses.{AreCutClasses, ArePartsBut};
-ghost use Rattle.mst_sweep.specs.Left.{AreLeft};
+ghost use Rattle.mst_sweep.specs.CutClasses.{IsPartsOfClass};
 ghost use Rattle.mst_sweep.specs.Cuts.{names_of, rows_of};
 ghost use Rattle.mst_sweep.specs.declared.cuts.CutBy.TheVariants.{Both as BothOf};
 ghost use Rattle.mst_sweep.specs.Pairs.{pair_row, pair_rows, pairs_row, ArePairRows};
-ghost use Rattle.mst_sweep.specs.Touched.{AreWhereTouched};
 
-use crate::baseline::Baseline;
-use crate::breaking::{breaks, carriage_if_many};
-use crate::cuts::{CutBy, Cuts, cuts_of, is_any, parts_at, parts_of_firsts, put_cuts};
+use crate::baseline::{Baseline, first_vid, homes_before};
+use crate::breaking::{breaking, carriage_if_many};
+use crate::cuts::{CutBy, Cuts, cuts_of, homes_after, put_cuts};
 use crate::failure::Failure;
 use crate::pairs::pairs;
-use crate::touched::{places_of, touched};
+use crate::parts::all_parts;
+use crate::single::{Single, where_touched};
+use crate::with_both::{Homes, staying_with_both};
 use mst_carried::Carriage;
+use mst_diff::vlan_laws::islands_of_vid;
 use mst_diff::{Both, Planned, set_of};
 use mst_graph::Numbering;
 use mst_ids::{Name, Vid, VidSet};
@@ -32,58 +31,11 @@ use mst_kinds::{Kind, SweepLine};
 use mst_rows::{Rows, Value, put};
 use std::alloc::{AllocError, Global};
 
-/// A single failure, and a flag for each class of VIDs: whether it cuts these alone.
-#[derive(Drop)]
-pub struct Single {
-    pub failure: Failure,
-    pub cuts: Vec<bool>,
-}
-
-/// Whether there are parts, for each of these.
-fn any_each(alloc: Global, each: &[Vec<Vec<Name>>]) -> Result<Vec<bool>, AllocError>
-    ensures { IfOk result (λ flags. flags.items ≡ map (λ parts. has_any (names_of parts)) each.now) }
-{
-    each.iter()
-        .map(|parts| is_any(parts.as_slice()))
-        .collect(alloc)
-}
-
-/// Where the ports stand that have another role than they had.
-fn where_touched(alloc: Global, old: &Planned, new: &Planned) -> Result<Vec<usize>, AllocError>
-    ensures { IfOk result (λ places. AreWhereTouched old.now.view.now old.now.forest.now new.now.view.now new.now.forest.now places.items) }
-{
-    let flags = touched(alloc, old, new)?;
-    places_of(alloc, flags.as_slice())
-}
-
-/// Which classes of VIDs are cut: a flag for each. `old` is the plan of the network with what stays the same for all its failures,
-/// `new` the plan of the network that failed. `AllocError`: memory was wanted and refused.
-pub fn cut_classes(
+/// The parts that both failures of a pair make of a class of VIDs: none where no link between bridges goes of it.
+fn parts_by_pair(
     alloc: Global,
-    old: &Planned,
-    baseline: &Baseline,
-    new: &Planned,
-) -> Result<Vec<bool>, AllocError>
-    requires new { Known new.now.view.now new.now.forest.now.regions }
-    requires baseline { IsBaseline old.now.view.now old.now.forest.now baseline.now }
-    ensures { IfOk result (λ flags. OfNetworks old.now new.now (λ a before b afterwards. AreLeft a b → AreCutClasses a before b afterwards baseline.now.classes flags.items)) }
-{
-    let both = pairs(alloc, old, new)?;
-    let places = where_touched(alloc, old, new)?;
-    let parts = parts_of_firsts(
-        alloc,
-        old,
-        new,
-        baseline,
-        both.as_slice(),
-        places.as_slice(),
-    )?;
-    any_each(alloc, parts.as_slice())
-}
-
-/// The parts of the first VID of a class, and none where there is a flag.
-fn parts_unless(
-    alloc: Global,
+    first: &Single,
+    second: &Single,
     old: &Planned,
     new: &Planned,
     carriage: Option<&Carriage>,
@@ -91,151 +43,100 @@ fn parts_unless(
     both: &[Both],
     class: usize,
     breaks: bool,
-    flag: bool,
 ) -> Result<Vec<Vec<Name>>, AllocError>
     requires new { Known new.now.view.now new.now.forest.now.regions }
     requires carriage { ForSome (option_copied carriage) (IsCarriageOf new.now) }
-    requires both { both.now ≡ seen_both old.now.view.now new.now.view.now }
     requires baseline { IsBaseline old.now.view.now old.now.forest.now baseline.now }
+    requires both { both.now ≡ seen_both old.now.view.now new.now.view.now }
     requires there { class < length baseline.now.classes.firsts.items }
-    requires others { breaks ≡ false → flag ≡ false → HasNoParts old.now new.now (slice_index baseline.now.classes.firsts.items class + 1) }
-    ensures { IfOk result (λ parts. OfNetworks old.now new.now (λ a before b afterwards.
-        AreLeft a b → MatchBool flag (names_of parts ≡ []) (AreParts a before b afterwards (slice_index baseline.now.classes.firsts.items class + 1) (names_of parts)))) }
+    requires first { length first.now.homes.items ≡ length baseline.now.classes.firsts.items }
+    requires second { length second.now.homes.items ≡ length baseline.now.classes.firsts.items }
+    requires others { breaks ≡ false → HasNoParts old.now new.now (slice_index baseline.now.classes.firsts.items class + 1) }
+    ensures { IfOk result (λ parts. OfPair old.now new.now first.now second.now baseline.now.classes (λ net outcomes.
+        IsPartsOfClass net (pair_of first.now second.now) outcomes baseline.now.classes class (names_of parts))) }
 {
-    if flag {
+    islands_of_vid();
+    if !breaks {
         return Ok(Vec::new(alloc));
     }
-    parts_at(alloc, old, new, carriage, baseline, both, class, breaks)
+    let news = homes_after(alloc, new, carriage, first_vid(old, baseline, class))?;
+    let firsts = first.homes.as_slice();
+    let seconds = second.homes.as_slice();
+    let homes = Homes {
+        none: homes_before(old, baseline, class),
+        first: &firsts[class],
+        second: &seconds[class],
+    };
+    let all = staying_with_both(alloc, &homes, &news, both)?;
+    all_parts(alloc, all.as_slice())
 }
 
-/// Whether a class has one of two flags.
-fn is_flagged(one: &[bool], other: &[bool], class: usize) -> bool
-    requires one { class < length one.now }
-    requires other { class < length other.now }
-    ensures { result ≡ (slice_index_or one.now class false || slice_index_or other.now class false) }
-{
-    one[class] || other[class]
-}
-
-/// Whether a link between bridges goes of the first VID of a class, and it has neither of two flags.
-fn breaks_but(
-    old: &Planned,
-    new: &Planned,
-    baseline: &Baseline,
-    touched: &[usize],
-    one: &[bool],
-    other: &[bool],
-    class: usize,
-) -> bool
-    requires touched { AreWhereTouched old.now.view.now old.now.forest.now new.now.view.now new.now.forest.now touched.now }
-    requires baseline { IsBaseline old.now.view.now old.now.forest.now baseline.now }
-    requires there { class < length baseline.now.classes.firsts.items }
-    requires one { length one.now ≡ length baseline.now.classes.firsts.items }
-    requires other { length other.now ≡ length baseline.now.classes.firsts.items }
-    ensures { result ≡ false → (slice_index_or one.now class false || slice_index_or other.now class false) ≡ false → HasNoParts old.now new.now (slice_index baseline.now.classes.firsts.items class + 1) }
-{
-    if is_flagged(one, other, class) {
-        return false;
-    }
-    breaks(old, new, baseline, touched, class)
-}
-
-/// For each class whether it is so of it.
-fn breaking_but(
+/// The parts of each class, by which of them a link between bridges goes of.
+fn parts_by_breaking(
     alloc: Global,
-    old: &Planned,
-    new: &Planned,
-    baseline: &Baseline,
-    touched: &[usize],
-    one: &[bool],
-    other: &[bool],
-) -> Result<Vec<bool>, AllocError>
-    requires touched { AreWhereTouched old.now.view.now old.now.forest.now new.now.view.now new.now.forest.now touched.now }
-    requires baseline { IsBaseline old.now.view.now old.now.forest.now baseline.now }
-    requires one { length one.now ≡ length baseline.now.classes.firsts.items }
-    requires other { length other.now ≡ length baseline.now.classes.firsts.items }
-    ensures as_long { IfOk result (λ flags. vec_len flags ≡ length baseline.now.classes.firsts.items) }
-    ensures others { IfOk result (λ flags. (class : ℕ) → slice_index_or flags.items class true ≡ false → (slice_index_or one.now class false || slice_index_or other.now class false) ≡ false
-        → HasNoParts old.now new.now (slice_index baseline.now.classes.firsts.items class + 1)) }
-{
-    let mut flags = Vec::new(alloc);
-    for class in 0..one.len() {
-        let breaks = breaks_but(old, new, baseline, touched, one, other, class);
-        flags.push(breaks)?;
-    }
-    Ok(flags)
-}
-
-/// The parts of the first VID of each class, and none where the class has one of two flags, by which of the others a link between
-/// bridges goes of.
-fn parts_of_breaking_but(
-    alloc: Global,
+    first: &Single,
+    second: &Single,
     old: &Planned,
     new: &Planned,
     carriage: Option<&Carriage>,
     baseline: &Baseline,
     both: &[Both],
     breaking: &[bool],
-    one: &[bool],
-    other: &[bool],
 ) -> Result<Vec<Vec<Vec<Name>>>, AllocError>
     requires new { Known new.now.view.now new.now.forest.now.regions }
     requires carriage { ForSome (option_copied carriage) (IsCarriageOf new.now) }
     requires baseline { IsBaseline old.now.view.now old.now.forest.now baseline.now }
     requires both { both.now ≡ seen_both old.now.view.now new.now.view.now }
+    requires first { length first.now.homes.items ≡ length baseline.now.classes.firsts.items }
+    requires second { length second.now.homes.items ≡ length baseline.now.classes.firsts.items }
     requires as_long { length breaking.now ≡ length baseline.now.classes.firsts.items }
-    requires others { (class : ℕ) → slice_index_or breaking.now class true ≡ false → (slice_index_or one.now class false || slice_index_or other.now class false) ≡ false
-        → HasNoParts old.now new.now (slice_index baseline.now.classes.firsts.items class + 1) }
-    requires one { length one.now ≡ length baseline.now.classes.firsts.items }
-    requires other { length other.now ≡ length baseline.now.classes.firsts.items }
+    requires others { (class : ℕ) → slice_index_or breaking.now class true ≡ false → HasNoParts old.now new.now (slice_index baseline.now.classes.firsts.items class + 1) }
     ensures as_long { IfOk result (λ parts. vec_len parts ≡ length baseline.now.classes.firsts.items) }
-    ensures parts { IfOk result (λ parts. OfNetworks old.now new.now (λ a before b afterwards.
-        AreLeft a b → ArePartsBut a before b afterwards baseline.now.classes.firsts.items one.now other.now (map names_of parts.items))) }
+    ensures parts { IfOk result (λ parts. OfPair old.now new.now first.now second.now baseline.now.classes (λ net outcomes.
+        (class : ℕ) → class < vec_len parts → IsPartsOfClass net (pair_of first.now second.now) outcomes baseline.now.classes class (slice_index_or (map names_of parts.items) class []))) }
 {
     let mut parts = Vec::new(alloc);
-    for class in 0..one.len() {
+    for class in 0..breaking.len() {
         let breaks = breaking[class];
-        let flag = is_flagged(one, other, class);
-        let of = parts_unless(
-            alloc, old, new, carriage, baseline, both, class, breaks, flag,
+        let of = parts_by_pair(
+            alloc, first, second, old, new, carriage, baseline, both, class, breaks,
         )?;
         parts.push(of)?;
     }
     Ok(parts)
 }
 
-/// The parts of the first VID of each class, and none where the class has one of two flags.
-fn parts_but(
+/// The parts that both failures of a pair make of each class of VIDs.
+fn parts_by_both(
     alloc: Global,
+    first: &Single,
+    second: &Single,
     old: &Planned,
-    new: &Planned,
     baseline: &Baseline,
-    one: &[bool],
-    other: &[bool],
+    new: &Planned,
 ) -> Result<Vec<Vec<Vec<Name>>>, AllocError>
     requires new { Known new.now.view.now new.now.forest.now.regions }
     requires baseline { IsBaseline old.now.view.now old.now.forest.now baseline.now }
-    requires one { length one.now ≡ length baseline.now.classes.firsts.items }
-    requires other { length other.now ≡ length baseline.now.classes.firsts.items }
+    requires first { length first.now.homes.items ≡ length baseline.now.classes.firsts.items }
+    requires second { length second.now.homes.items ≡ length baseline.now.classes.firsts.items }
     ensures as_long { IfOk result (λ parts. vec_len parts ≡ length baseline.now.classes.firsts.items) }
-    ensures parts { IfOk result (λ parts. OfNetworks old.now new.now (λ a before b afterwards.
-        AreLeft a b → ArePartsBut a before b afterwards baseline.now.classes.firsts.items one.now other.now (map names_of parts.items))) }
+    ensures parts { IfOk result (λ parts. OfPair old.now new.now first.now second.now baseline.now.classes (λ net outcomes.
+        (class : ℕ) → class < vec_len parts → IsPartsOfClass net (pair_of first.now second.now) outcomes baseline.now.classes class (slice_index_or (map names_of parts.items) class []))) }
 {
     let both = pairs(alloc, old, new)?;
     let touched = where_touched(alloc, old, new)?;
-    let flags = breaking_but(alloc, old, new, baseline, touched.as_slice(), one, other)?;
-    let breaking = flags.as_slice();
-    let carriage = carriage_if_many(alloc, new, breaking)?;
-    parts_of_breaking_but(
+    let flags = breaking(alloc, old, new, baseline, touched.as_slice())?;
+    let carriage = carriage_if_many(alloc, new, flags.as_slice())?;
+    parts_by_breaking(
         alloc,
+        first,
+        second,
         old,
         new,
         carriage.as_ref(),
         baseline,
         both.as_slice(),
-        breaking,
-        one,
-        other,
+        flags.as_slice(),
     )
 }
 
@@ -291,11 +192,11 @@ fn put_if_cut<R: Rows>(
     Ok(())
 }
 
-/// Puts the rows of a pair of failures: which VIDs they cut together and neither alone, and into which parts, if there are such
-/// VIDs, and answers whether there are. `old` is the plan of the network with what stays the same for all its failures, `new` the
+/// Puts the rows of a pair of failures: of which VIDs both together part bridges that either alone leaves joined, and into which parts,
+/// if there are such VIDs, and answers whether there are. `old` is the plan of the network with what stays the same for all its failures, `new` the
 /// plan of the network in which both failed. `AllocError`: memory was wanted and refused; some of the rows may have been put.
 ///
-/// Islands are made once for each class of VIDs that has no flag and of which a link that joined bridges goes.
+/// Islands are made once for each class of VIDs of which a link that joined bridges goes.
 pub fn put_pair<R: Rows>(
     alloc: Global,
     first: &Single,
@@ -308,14 +209,12 @@ pub fn put_pair<R: Rows>(
     requires old { Known old.now.view.now old.now.forest.now.regions }
     requires new { Known new.now.view.now new.now.forest.now.regions }
     requires baseline { IsBaseline old.now.view.now old.now.forest.now baseline.now }
-    requires first { length first.now.cuts.items ≡ length baseline.now.classes.firsts.items }
-    requires second { length second.now.cuts.items ≡ length baseline.now.classes.firsts.items }
+    requires first { length first.now.homes.items ≡ length baseline.now.classes.firsts.items }
+    requires second { length second.now.homes.items ≡ length baseline.now.classes.firsts.items }
     ensures { IfOk result (λ cuts. OfPair old.now new.now first.now second.now baseline.now.classes (λ net outcomes.
         (pair : List Row) × ArePairRows net (pair_of first.now second.now) outcomes pair cuts × ((grown : R) (rows : List Row) → R.grew grown out.old rows → R.grew grown out.new (rows ++ pair)))) }
 {
-    let one = first.cuts.as_slice();
-    let other = second.cuts.as_slice();
-    let parts = parts_but(alloc, old, new, baseline, one, other)?;
+    let parts = parts_by_both(alloc, first, second, old, baseline, new)?;
     let cuts = cuts_of(alloc, &baseline.classes, parts)?;
     put_if_cut(
         &first.failure,
@@ -327,7 +226,7 @@ pub fn put_pair<R: Rows>(
     Ok(are_some(cuts.vids.as_slice()))
 }
 
-/// Puts the last row: how many pairs were looked at, and how many of them cut some VID together that neither cuts alone.
+/// Puts the last row: how many pairs were looked at, and how many of them cut some VID together.
 /// `AllocError`: memory was wanted and refused; part of the row may have been put.
 pub fn put_last_of_pairs<R: Rows>(pairs: u64, cuts: u64, out: &mut R) -> Result<(), AllocError>
     ensures { (first : R) (rows : List Row) → R.grew first out.old rows → OnOk result (R.grew first out.new (rows ++ pairs_row pairs cuts ∷ [])) }

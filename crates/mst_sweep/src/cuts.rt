@@ -21,7 +21,7 @@ ghost use Rattle.mst_sweep.specs.Baseline.{AreHomes, IsBaseline};
 ghost use Rattle.mst_sweep.specs.Breaking.{HasNoParts, IsCarriageOf};
 ghost use Rattle.mst_sweep.specs.Touched.{AreWhereTouched};
 
-use crate::baseline::Baseline;
+use crate::baseline::{Baseline, first_vid, homes_before};
 use crate::breaking::{breaking, carriage_if_many};
 use crate::failure::Failure;
 use crate::homes::{homes_by, homes_of};
@@ -59,7 +59,7 @@ pub struct Cuts {
 }
 
 /// The places of the islands of a VID in the network after a failure, by what carries each VID there if that is known.
-fn homes_after(
+pub(crate) fn homes_after(
     alloc: Global,
     new: &Planned,
     carriage: Option<&Carriage>,
@@ -119,10 +119,9 @@ pub(crate) fn parts_at(
     if !breaks {
         return Ok(Vec::new(alloc));
     }
-    let firsts = baseline.classes.firsts.as_slice();
-    let homes = baseline.homes.as_slice();
-    let vid = Vid::new(firsts[class] as u64 + 1).unwrap();
-    parts(alloc, old, new, carriage, &homes[class], both, vid)
+    let homes = homes_before(old, baseline, class);
+    let vid = first_vid(old, baseline, class);
+    parts(alloc, old, new, carriage, homes, both, vid)
 }
 
 /// The parts of the first VID of each class, by which of them a link between bridges goes of.

@@ -1,5 +1,6 @@
 //! What each single failure of a network does: a LAN that goes down, or a bridge that goes off. Which trees' roots move, how
-//! many roles, and which VIDs are cut into which parts. And which VIDs each pair of failures cuts that neither cuts alone.
+//! many roles, and which VIDs are cut into which parts. And of which VIDs each pair of failures
+//! parts bridges that either failure alone leaves joined.
 #![tactic(auto)]
 
 mod baseline;
@@ -15,13 +16,15 @@ mod pairs;
 mod parts;
 mod ports;
 mod roots;
+mod single;
 mod sweep;
 mod sweep_part;
 mod touched;
 mod whole;
+mod with_both;
 
 pub use baseline::Baseline;
-pub use both_failed::{Single, cut_classes, put_last_of_pairs, put_pair};
+pub use both_failed::{put_last_of_pairs, put_pair};
 pub use cuts::{CutBy, Cuts, cuts_of, put_cuts};
 pub use failing::Failing;
 pub use failure::{Failure, failures};
@@ -29,5 +32,6 @@ pub use homes::{homes_by, homes_of};
 pub use parts::{Stays, all_parts, staying};
 pub use ports::changes_role;
 pub use roots::moved_roots;
+pub use single::{Single, kept_alone};
 pub use sweep::{put_failure, put_last};
 pub use sweep_part::SweepPart;

@@ -2,6 +2,7 @@
 use Rattle.std.proofs.Common.{◌≡◌, ℕ, ◌+◌, ◌-◌, ◌*◌, ◌/◌, ◌≤◌, ◌<◌, zero, suc, Bool, true, false, cond, List, [], ◌∷◌, ◌++◌, length, map, take, drop, get_or, min, refl, sym, ap, subst, ◌∙◌, arith, drop-cons, length-append}
 use Rattle.std.specs.FinMap as fin
 use Rattle.std.specs.List.{AllByRecursion, filter}
+use Rattle.std.specs.Option.{option_map}
 use Rattle.std.proofs.lemmas.List.{length-map, length-drop, map-append, get_or-map, drop-drop}
 use Rattle.std.proofs.lemmas.Nat.{div-mul-add}
 use Rattle.mst_lang.specs.declared.line.Edit.{Edit}
@@ -22,11 +23,11 @@ use Rattle.mst_vlan.specs.Reach.{bridges_on}
 use Rattle.mst_sweep.specs.declared.baseline.Baseline.{Baseline}
 use Rattle.mst_sweep.specs.declared.failure.Failure.{Failure}
 use Rattle.mst_sweep.specs.declared.failure.Failure.TheVariants.{Lan, Bridge}
-use Rattle.mst_sweep.specs.declared.both_failed.Single.{Single}
+use Rattle.mst_sweep.specs.declared.single.Single.{Single}
 use Rattle.mst_sweep.specs.Failures.{failures, edit_of}
 use Rattle.mst_sweep.specs.Pairs.{failed, pairs_of, with_each}
 use Rattle.mst_sweep.proofs.Windows.{piece, piece_joined, piece_mapped, twice}
-use Rattle.mst_sweeping.specs.Pairing.{IsSingle, AreSingles, HasFlags}
+use Rattle.mst_sweeping.specs.Pairing.{IsSingle, AreSingles, HasHomes}
 use Rattle.mst_sweeping.specs.Sweeping.{IsViewBut}
 use Rattle.mst_sweeping.proofs.SweepThere.{all_joined}
 
@@ -62,21 +63,21 @@ module _ (stay : (edit : Edit) (net : Net) (numbers : Numbers) (next : PerKind) 
   regions_too (Bridge bridge ∷ fs) net numbers ids are = regions_too fs (effect (edit_of (Bridge bridge)) net) numbers ids (stay (edit_of (Bridge bridge)) net numbers nothing_next ids refl are)
 
 -- ---- single failures
-module _ (net : Net) (o : Outcome) (firsts : Baseline) where
-  pub no_singles : AreSingles net o firsts [] []
+module _ (net : Net) (numbers : Numbers) (o : Outcome) (firsts : Baseline) where
+  pub no_singles : AreSingles net numbers o firsts [] []
   no_singles = record { failures = refl; each = tt }
 
-  pub more_singles : (fs : List Failure) (ss : List Single) (f : Failure) (s : Single) → AreSingles net o firsts fs ss → s.failure ≡ f → IsSingle net o firsts s → (gs : List Failure) → gs ≡ fs ++ f ∷ [] → (ts : List Single) → ts ≡ ss ++ s ∷ []
-      → AreSingles net o firsts gs ts
+  pub more_singles : (fs : List Failure) (ss : List Single) (f : Failure) (s : Single) → AreSingles net numbers o firsts fs ss → s.failure ≡ f → IsSingle net numbers o firsts s → (gs : List Failure) → gs ≡ fs ++ f ∷ [] → (ts : List Single) → ts ≡ ss ++ s ∷ []
+      → AreSingles net numbers o firsts gs ts
   more_singles fs ss f s are e is gs gs_are ts ts_are =
-      subst (AreSingles net o firsts gs) (sym ts_are) (record {
+      subst (AreSingles net numbers o firsts gs) (sym ts_are) (record {
         failures = map-append (λ s. s.failure) ss (s ∷ []) ∙ (λ i. are.failures i ++ e i ∷ []) ∙ sym gs_are;
-        each = all_joined (IsSingle net o firsts) ss (s ∷ []) are.each (is, tt);
+        each = all_joined (IsSingle net numbers o firsts) ss (s ∷ []) are.each (is, tt);
       })
 
-  pub all_flags : (ss : List Single) → AllByRecursion (IsSingle net o firsts) ss → AllByRecursion (HasFlags firsts) ss
-  all_flags [] h = tt
-  all_flags (s ∷ ss) h = (h.0.cuts.as_long, all_flags ss h.1)
+  pub all_homes : (ss : List Single) → AllByRecursion (IsSingle net numbers o firsts) ss → AllByRecursion (HasHomes firsts) ss
+  all_homes [] h = tt
+  all_homes (s ∷ ss) h = (sym (length-map s.homes.items (option_map (λ homes. homes.entries))) ∙ h.0.kept.as_long, all_homes ss h.1)
 
 -- ---- how many there are
 filter_short : {A : Type 0} (test : A → Bool) (xs : List A) → length (filter test xs) ≤ length xs

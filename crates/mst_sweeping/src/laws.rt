@@ -39,8 +39,7 @@ pub fn sweep_parts()
     mst_sweep::laws::sweep_parts();
 }
 
-/// Pairs of failures in parts: each part has rows and a number of pairs that cut some VID which neither failure cuts alone, and one
-/// of each. So many parts, each without its last row, are one after another the whole's rows without the last, and their
+/// Pairs of failures in parts: each part has rows and a number of pairs that cut some VID together, and one of each. So many parts, each without its last row, are one after another the whole's rows without the last, and their
 /// numbers have the whole's as their sum: that is the only part of one.
 pub fn pair_parts()
     ensures some { (net : Net) (part : PartOf) → IsNetwork net → (cuts : ℕ) × (rows : List Row) × SweepsPairs part net cuts rows }

@@ -3,7 +3,7 @@ ghost use Rattle.std.specs.List.{AllByRecursion};
 ghost use Rattle.mst_lag.specs.Viewed.{IsView};
 ghost use Rattle.mst_trees.specs.Forest.{IsForest};
 ghost use Rattle.mst_plan.specs.Plan.{IsPlan, AreTrees};
-ghost use Rattle.mst_sweeping.specs.Pairing.{SweepsPairs, AreSingles, HasFlags, IsSingle, IsPairing, ArePairsTold, TellsPair};
+ghost use Rattle.mst_sweeping.specs.Pairing.{SweepsPairs, AreSingles, HasHomes, IsSingle, IsPairing, ArePairsTold, TellsPair};
 ghost use Rattle.mst_sweeping.specs.Sweeping.{Puts};
 ghost use Rattle.mst_rows.specs.Rows.{Row};
 ghost use Rattle.mst_sweep.specs.Baseline.{IsBaseline};
@@ -17,7 +17,7 @@ use mst_net::Network;
 use mst_plan::Plan;
 use mst_rows::Rows;
 use mst_sweep::{
-    Baseline, Failing, Failure, Single, SweepPart, cut_classes, failures, put_last_of_pairs,
+    Baseline, Failing, Failure, Single, SweepPart, failures, kept_alone, put_last_of_pairs,
     put_pair,
 };
 use mst_trees::Forest;
@@ -32,8 +32,8 @@ pub(crate) struct Pairing<'a> {
     pub(crate) singles: &'a [Single],
 }
 
-/// Puts which VIDs each pair of a part of those of a network's failures cuts that neither cuts alone, by its plan, each as soon as
-/// it is known, and answers how many of them cut some. `AllocError`: memory was wanted and refused; some of the rows may have been
+/// Puts of which VIDs each pair of a part of those of a network's failures parts bridges that either failure alone leaves joined, by its
+/// plan, each as soon as it is known, and answers how many of them cut some. `AllocError`: memory was wanted and refused; some of the rows may have been
 /// put.
 ///
 /// A failure is looked at once alone. For a first one of pairs the trees are repaired once, and from these once for each second.
@@ -60,7 +60,7 @@ pub fn sweep_pairs<R: Rows>(
     put_pairs_of(alloc, &pairing, part, &mut seen, out)
 }
 
-/// What each of these failures cuts alone. The view is the network's, and stays so.
+/// What is kept of each of these failures alone. The view is the network's, and stays so.
 fn singles_of(
     alloc: Global,
     network: &Network,
@@ -72,7 +72,7 @@ fn singles_of(
     requires of { IsPlan network.now.net network.now.numbers plan.now }
     requires baseline { IsBaseline plan.now.view plan.now.forest baseline.now }
     requires seen { IsView network.now.net network.now.numbers seen.old }
-    ensures singles { IfOk result (λ singles. (is : IsForest network.now.net network.now.numbers plan.now.forest) → AreSingles network.now.net is.outcome baseline.now failures.now singles.items) }
+    ensures singles { IfOk result (λ singles. (is : IsForest network.now.net network.now.numbers plan.now.forest) → AreSingles network.now.net network.now.numbers is.outcome baseline.now failures.now singles.items) }
     ensures seen { OnOk result (IsView network.now.net network.now.numbers seen.new) }
 {
     let mut singles = Vec::new(alloc);
@@ -82,7 +82,7 @@ fn singles_of(
     Ok(singles)
 }
 
-/// What a failure cuts alone. The view is the network's, and stays so: it is renewed for the failure, and then back.
+/// What is kept of a failure alone. The view is the network's, and stays so: it is renewed for the failure, and then back.
 fn single_of(
     alloc: Global,
     network: &Network,
@@ -95,7 +95,7 @@ fn single_of(
     requires baseline { IsBaseline plan.now.view plan.now.forest baseline.now }
     requires seen { IsView network.now.net network.now.numbers seen.old }
     ensures failure { IfOk result (λ single. single.failure ≡ failure.now) }
-    ensures single { IfOk result (λ single. (is : IsForest network.now.net network.now.numbers plan.now.forest) → IsSingle network.now.net is.outcome baseline.now single) }
+    ensures single { IfOk result (λ single. (is : IsForest network.now.net network.now.numbers plan.now.forest) → IsSingle network.now.net network.now.numbers is.outcome baseline.now single) }
     ensures seen { OnOk result (IsView network.now.net network.now.numbers seen.new) }
 {
     let forest = trees_of_first(alloc, network, plan, failure, seen)?;
@@ -107,12 +107,9 @@ fn single_of(
         view: seen,
         forest: &forest,
     };
-    let cuts = cut_classes(alloc, &old, baseline, &new)?;
+    let kept = kept_alone(alloc, failure, &old, baseline, &new)?;
     renew(alloc, network, failure, seen)?;
-    Ok(Single {
-        failure: *failure,
-        cuts,
-    })
+    Ok(kept)
 }
 
 /// The trees of a network with a failure, repaired from those that stand. The view, which is the network's, is that network's then.
@@ -177,7 +174,7 @@ fn put_pairs_of<R: Rows>(
     Ok(cuts)
 }
 
-/// Puts what the pairs of a failure with each of others do, and answers how many of them cut what neither failure cuts alone. The
+/// Puts what the pairs of a failure with each of others do, and answers how many of them cut some VID together. The
 /// view is the network's, and stays so.
 fn put_run<R: Rows>(
     alloc: Global,
@@ -188,11 +185,11 @@ fn put_run<R: Rows>(
     out: &mut R,
 ) -> Result<u64, AllocError>
     requires pairing { IsPairing pairing.now }
-    requires one { HasFlags pairing.now.baseline.now one.now }
-    requires others { AllByRecursion (HasFlags pairing.now.baseline.now) others.now }
+    requires one { HasHomes pairing.now.baseline.now one.now }
+    requires others { AllByRecursion (HasHomes pairing.now.baseline.now) others.now }
     requires seen { IsView pairing.now.network.now.net pairing.now.network.now.numbers seen.old }
-    ensures told { IfOk result (λ cuts. (is : IsPairing pairing.now) → IsSingle pairing.now.network.now.net is.plan.forest.outcome pairing.now.baseline.now one.now
-        → AllByRecursion (IsSingle pairing.now.network.now.net is.plan.forest.outcome pairing.now.baseline.now) others.now
+    ensures told { IfOk result (λ cuts. (is : IsPairing pairing.now) → IsSingle pairing.now.network.now.net pairing.now.network.now.numbers is.plan.forest.outcome pairing.now.baseline.now one.now
+        → AllByRecursion (IsSingle pairing.now.network.now.net pairing.now.network.now.numbers is.plan.forest.outcome pairing.now.baseline.now) others.now
         → (rows : List Row) × ArePairsTold pairing.now.network.now.net is.plan.forest.outcome (with_each one.now.failure (map (λ s. s.failure) others.now)) cuts rows × Puts R.grew out.old out.new rows) }
     ensures few { IfOk result (λ cuts. cuts ≤ length others.now) }
     ensures seen { OnOk result (IsView pairing.now.network.now.net pairing.now.network.now.numbers seen.new) }
@@ -224,7 +221,7 @@ fn back_to_none(
     renew(alloc, network, failure, seen)
 }
 
-/// Puts what a pair does, and answers whether it cuts what neither failure cuts alone. The view is that of the network with the
+/// Puts what a pair does, and answers whether it cuts some VID together. The view is that of the network with the
 /// first, and stays so: it is renewed for the second, and then back. The trees are repaired from these.
 fn put_second<R: Rows>(
     alloc: Global,
@@ -236,11 +233,11 @@ fn put_second<R: Rows>(
     out: &mut R,
 ) -> Result<bool, AllocError>
     requires pairing { IsPairing pairing.now }
-    requires one { HasFlags pairing.now.baseline.now one.now }
-    requires other { HasFlags pairing.now.baseline.now other.now }
+    requires one { HasHomes pairing.now.baseline.now one.now }
+    requires other { HasHomes pairing.now.baseline.now other.now }
     requires seen { IsView (failed (one.now.failure ∷ []) pairing.now.network.now.net) pairing.now.network.now.numbers seen.old }
-    ensures told { IfOk result (λ cuts. (is : IsPairing pairing.now) → IsSingle pairing.now.network.now.net is.plan.forest.outcome pairing.now.baseline.now one.now
-        → IsSingle pairing.now.network.now.net is.plan.forest.outcome pairing.now.baseline.now other.now
+    ensures told { IfOk result (λ cuts. (is : IsPairing pairing.now) → IsSingle pairing.now.network.now.net pairing.now.network.now.numbers is.plan.forest.outcome pairing.now.baseline.now one.now
+        → IsSingle pairing.now.network.now.net pairing.now.network.now.numbers is.plan.forest.outcome pairing.now.baseline.now other.now
         → (rows : List Row) × TellsPair pairing.now.network.now.net is.plan.forest.outcome one.now other.now cuts rows × Puts R.grew out.old out.new rows) }
     ensures seen { OnOk result (IsView (failed (one.now.failure ∷ []) pairing.now.network.now.net) pairing.now.network.now.numbers seen.new) }
 {

@@ -1,13 +1,13 @@
 use Rattle.std.proofs.Common.{◌≡◌, ◌≤◌, ◌<◌, ◌+◌, ◌-◌, zero, suc, [], ◌∷◌, ◌++◌, ℕ, List, length, map, take, drop, min, get_or, refl, sym, ap, subst, ◌∙◌, append_assoc, append-nil, arith}
 use Rattle.std.proofs.lemmas.List.{drop_all, length-take, length-drop, length-map}
-use Rattle.mst_sweep.specs.declared.both_failed.Single.{Single}
+use Rattle.mst_sweep.specs.declared.single.Single.{Single}
 use Rattle.mst_sweep.specs.Failures.{failures}
 use Rattle.mst_sweep.specs.Pairs.{IsPairTold, Pair, last_of_pairs, pairs_row, pairs_of, with_each}
 use Rattle.mst_sweep.specs.SweepParts.{part_of, end_of}
 use Rattle.mst_sweep.proofs.PartsJoined.{ends_rise, length_part}
 use Rattle.mst_sweep.proofs.Windows.{piece, take_none}
-use Rattle.mst_sweeping.specs.Pairing.{ArePairsTold, IsSingle, HasFlags}
-use Rattle.mst_sweeping.proofs.Paired.{all_flags, at_index, pairs_many, run_next}
+use Rattle.mst_sweeping.specs.Pairing.{ArePairsTold, IsSingle, HasHomes}
+use Rattle.mst_sweeping.proofs.Paired.{all_homes, at_index, pairs_many, run_next}
 use Rattle.mst_sweeping.proofs.Swept.{none_told, told_then, swept, none_put, put_then}
 use Rattle.mst_sweeping.proofs.SweepThere.{all_dropped, all_taken}
 use Rattle.mst_sweeping.proofs.pairing.put_pairs_of.Goals as goal
@@ -47,12 +47,14 @@ put_run-requires-clause-others g c =
     let is = c.requires.pairing in
     let net = c.args.pairing.now.network.now.net in
     let o = is.plan.forest.outcome in
+    let numbers = c.args.pairing.now.network.now.numbers in
     let firsts = c.args.pairing.now.baseline.now in
     let ss = c.args.pairing.now.singles.now in
-    all_taken (HasFlags firsts) _ _ (all_dropped (HasFlags firsts) _ ss (all_flags net o firsts ss is.singles.each))
+    all_taken (HasHomes firsts) _ _ (all_dropped (HasHomes firsts) _ ss (all_homes net numbers o firsts ss is.singles.each))
 
 pub loop-first-preserved : goal.loop-first-preserved
 loop-first-preserved g c =
+    let numbers = c.args.pairing.now.network.now.numbers in
     let firsts = c.args.pairing.now.baseline.now in
     let ss = c.args.pairing.now.singles.now in
     let before = c.loop-first.invariant in
@@ -76,7 +78,7 @@ loop-first-preserved g c =
           let o = is.plan.forest.outcome in
           let fs = failures net in
           let was = before.told is in
-          let run = c.in_ok-cuts.ensures.told is (at_index (IsSingle net o firsts) ss i c.index-pairing-first.result here is.singles.each) (all_taken (IsSingle net o firsts) _ _ (all_dropped (IsSingle net o firsts) _ ss is.singles.each)) in
+          let run = c.in_ok-cuts.ensures.told is (at_index (IsSingle net numbers o firsts) ss i c.index-pairing-first.result here is.singles.each) (all_taken (IsSingle net numbers o firsts) _ _ (all_dropped (IsSingle net numbers o firsts) _ ss is.singles.each)) in
           let pairs : List Pair = with_each s.failure (map (λ (s : Single). s.failure) others) in
           let next = run_next ss fs is.singles.failures i s s_is here begin end before.order from to c.min-from.ensures c.min-to.ensures in (
             was.0 ++ pairs,

@@ -1,7 +1,7 @@
 use Rattle.std.proofs.Common.{◌≡◌, ◌≤◌, ◌+◌, ◌==◌, true, ◌∷◌, [], ◌++◌, List, length, map, take, refl, sym, ap, subst, ◌∙◌, arith}
 use Rattle.std.proofs.lemmas.Bool.{eqb-true}
 use Rattle.std.proofs.lemmas.List.{take_all, take_more, map-append}
-use Rattle.mst_sweep.specs.declared.both_failed.Single.{Single}
+use Rattle.mst_sweep.specs.declared.single.Single.{Single}
 use Rattle.mst_sweep.specs.declared.failure.Failure.{Failure}
 use Rattle.mst_sweep.specs.Pairs.{IsPairTold, with_each}
 use Rattle.mst_sweeping.specs.Pairing.{ArePairsTold, IsSingle}
@@ -39,7 +39,7 @@ loop-other-preserved g c =
           let net = network.net in
           let o = is.plan.forest.outcome in
           let so_far = before.told is single singles in
-          let now = made.told is single (at_place (IsSingle net o c.args.pairing.now.baseline.now) ss i s c.other-item.is c.loop-other-test.true singles) in
+          let now = made.told is single (at_place (IsSingle net network.numbers o c.args.pairing.now.baseline.now) ss i s c.other-item.is c.loop-other-test.true singles) in
           let pairs : with_each one.failure (map (λ s. s.failure) (take (i + 1) ss)) ≡ with_each one.failure (map (λ s. s.failure) (take i ss)) ++ record { first = one.failure; second = s.failure } ∷ [] =
           ap (λ l. with_each one.failure (map (λ s. s.failure) l)) more
           ∙ ap (with_each one.failure) (map-append (λ (s : Single). s.failure) (take i ss) (s ∷ []))

@@ -10,8 +10,8 @@ use Rattle.mst_sweeping.proofs.pairing.put_run.Given as goal
 -- what the pairs so far do, and the view of the network with the first failure
 abbrev pub invariant-loop-other : goal.invariant-loop-other
 invariant-loop-other g l = record {
-  told : (is : IsPairing l.pairing) → IsSingle l.pairing.network.now.net is.plan.forest.outcome l.pairing.baseline.now l.one
-      → AllByRecursion (IsSingle l.pairing.network.now.net is.plan.forest.outcome l.pairing.baseline.now) l.others
+  told : (is : IsPairing l.pairing) → IsSingle l.pairing.network.now.net l.pairing.network.now.numbers is.plan.forest.outcome l.pairing.baseline.now l.one
+      → AllByRecursion (IsSingle l.pairing.network.now.net l.pairing.network.now.numbers is.plan.forest.outcome l.pairing.baseline.now) l.others
       → (rows : List Row) × ArePairsTold l.pairing.network.now.net is.plan.forest.outcome (with_each l.one.failure (map (λ s. s.failure) (take l.other-index l.others))) l.cuts rows × Puts g.R.Rows.grew l.fn.out l.out rows;
   few : l.cuts ≤ l.other-index;
   seen : IsView (failed (l.one.failure ∷ []) l.pairing.network.now.net) l.pairing.network.now.numbers l.seen;

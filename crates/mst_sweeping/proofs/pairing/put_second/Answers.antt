@@ -5,7 +5,7 @@ pub returns-clause-told : goal.returns-clause-told
 returns-clause-told g c = λ is one other.
     let network = c.args.pairing.now.network.now in
     let trees = c.in_ok-forest.ensures.trees in
-    let said = c.in_ok-cuts.ensures network.net network.numbers is.plan.forest trees.forest one.outcome other.outcome is.plan.of trees.of one.cuts other.cuts in (
+    let said = c.in_ok-cuts.ensures network.net network.numbers is.plan.forest trees.forest one.outcome other.outcome is.plan.of trees.of one.kept other.kept in (
       said.0,
       record {
         outcomes = record { none = is.plan.forest.outcome; first = one.outcome; second = other.outcome; both = trees.forest.outcome };

@@ -1,4 +1,6 @@
-use Rattle.std.proofs.Common.{[], ◌∷◌}
+use Rattle.std.proofs.Common.{[], ◌∷◌, sym, subst}
+use Rattle.mst_trees.specs.Outcome.{IsOutcome}
+use Rattle.mst_sweep.specs.CutClasses.{AreKeptAlone, kept_of}
 use Rattle.mst_sweep.specs.Pairs.{failed}
 use Rattle.mst_sweep.proofs.Together.{failed_left}
 use Rattle.mst_sweeping.proofs.Paired.{first_back}
@@ -11,9 +13,13 @@ pub returns-clause-single : goal.returns-clause-single
 returns-clause-single c = λ is.
     let network = c.args.network.now in
     let f = c.args.failure.now in
+    let s = c.in_ok-kept.kept in
+    let e = c.in_ok-kept.ensures.failure in
     let trees = c.in_ok-forest.ensures.trees in
+    let p = trees.forest.outcome in
+    let kept = c.in_ok-kept.ensures.kept network.net (failed (f ∷ []) network.net) network.numbers network.numbers is trees.forest c.requires.of.of trees.of (failed_left (f ∷ []) network.net) in
     record {
-      outcome = trees.forest.outcome;
-      is_outcome = trees.forest.is_outcome;
-      cuts = c.in_ok-cuts.ensures network.net (failed (f ∷ []) network.net) network.numbers network.numbers is trees.forest c.requires.of.of trees.of (failed_left (f ∷ []) network.net);
+      outcome = p;
+      is_outcome = subst (λ g. IsOutcome (failed (g ∷ []) network.net) p) (sym e) trees.forest.is_outcome;
+      kept = subst (λ g. AreKeptAlone network.net is.outcome (failed (g ∷ []) network.net) network.numbers p c.args.baseline.now.classes (kept_of s)) (sym e) kept;
     }

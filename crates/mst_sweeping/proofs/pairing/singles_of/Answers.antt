@@ -14,7 +14,7 @@ loop-failure-preserved c =
     let made = c.in_ok-single_of.ensures in
     record {
       singles = λ is.
-          more_singles network.net is.outcome firsts (take i fs) c.loop-failure.singles.items f c.in_ok-single_of.field-0 (c.loop-failure.invariant.singles is) made.failure (made.single is)
+          more_singles network.net network.numbers is.outcome firsts (take i fs) c.loop-failure.singles.items f c.in_ok-single_of.field-0 (c.loop-failure.invariant.singles is) made.failure (made.single is)
           (take (i + 1) fs) (take_more fs i f c.loop-failure-test.true ∙ ap (λ x. take i fs ++ x ∷ []) (sym c.failure-item.is)) c.push.new.self.items c.in_ok-push.ensures.items;
       seen = made.seen;
     }
@@ -22,4 +22,4 @@ loop-failure-preserved c =
 pub returns-clause-singles : goal.returns-clause-singles
 returns-clause-singles c = λ is.
     let fs = c.args.failures.now in
-    subst (λ l. AreSingles c.args.network.now.net is.outcome c.args.baseline.now l c.loop-failure.singles.items) (take_all c.loop-failure.failure-index fs c.loop-failure-test.false) (c.loop-failure.invariant.singles is)
+    subst (λ l. AreSingles c.args.network.now.net c.args.network.now.numbers is.outcome c.args.baseline.now l c.loop-failure.singles.items) (take_all c.loop-failure.failure-index fs c.loop-failure-test.false) (c.loop-failure.invariant.singles is)

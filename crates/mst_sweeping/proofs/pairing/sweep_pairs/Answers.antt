@@ -1,6 +1,6 @@
 use Rattle.std.proofs.Common.{◌≡◌, ◌≤◌, length, sym, ap, subst, ◌∙◌}
 use Rattle.std.proofs.lemmas.List.{length-map}
-use Rattle.mst_sweep.specs.declared.both_failed.Single.{Single}
+use Rattle.mst_sweep.specs.declared.single.Single.{Single}
 use Rattle.mst_sweep.specs.Failures.{failures}
 use Rattle.mst_sweeping.specs.Pairing.{AreSingles}
 use Rattle.mst_sweeping.proofs.Paired.{failures_few}
@@ -13,8 +13,8 @@ put_pairs_of-requires-clause-pairing g c =
     let firsts = c.in_ok-baseline.baseline in
     let all : c.as_slice.result.now ≡ failures network.net = c.as_slice.ensures.value ∙ c.in_ok-all.ensures network.net network.numbers c.requires.of.view in
     let found = c.in_ok-singles.ensures.singles is in
-    let singles : AreSingles network.net is.outcome firsts (failures network.net) c.as_slice-2.result.now =
-    subst (AreSingles network.net is.outcome firsts (failures network.net)) (sym c.as_slice-2.ensures.value) (subst (λ fs. AreSingles network.net is.outcome firsts fs c.in_ok-singles.singles.items) all found) in
+    let singles : AreSingles network.net network.numbers is.outcome firsts (failures network.net) c.as_slice-2.result.now =
+    subst (AreSingles network.net network.numbers is.outcome firsts (failures network.net)) (sym c.as_slice-2.ensures.value) (subst (λ fs. AreSingles network.net network.numbers is.outcome firsts fs c.in_ok-singles.singles.items) all found) in
     let long : length c.as_slice-2.result.now ≡ length (failures network.net) = sym (length-map c.as_slice-2.result.now (λ (s : Single). s.failure)) ∙ ap length singles.failures in
     record {
       plan = c.requires;

@@ -2,7 +2,7 @@ use Rattle.std.proofs.Common.{sym, subst, ◌∙◌}
 use Rattle.std.proofs.lemmas.Result.{IfOk-weaker}
 use Rattle.mst_sweep.specs.Touched.{ArePlaces}
 use Rattle.mst_sweep.proofs.Unlinked.{where_touched}
-use Rattle.mst_sweep.proofs.both_failed.where_touched.Goals as goal
+use Rattle.mst_sweep.proofs.single.where_touched.Goals as goal
 
 pub returns : goal.returns
 returns c = IfOk-weaker c.places_of.result _ _

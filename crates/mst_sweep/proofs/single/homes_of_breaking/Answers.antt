@@ -1,0 +1,36 @@
+use Rattle.std.proofs.Common.{◌+◌, ◌<◌, ◌≤◌, ℕ, List, ◌∷◌, [], get_or, length, map, refl, true, false, sym, subst, ap, ◌∙◌, arith, take}
+use Rattle.std.specs.Option.{option_map}
+use Rattle.std.proofs.lemmas.Grind.{common_steps}
+use Rattle.std.proofs.lemmas.List.{get_or_default, map-append}
+use Rattle.mst_sweep.specs.CutClasses.{IsKeptAlone}
+use Rattle.mst_sweep.proofs.Placed.{AtPlaces, places_more, places_all}
+use Rattle.mst_sweep.proofs.single.homes_of_breaking.Goals as goal
+
+pub loop-class-preserved : goal.loop-class-preserved
+loop-class-preserved c = record {
+  as_long = grind (arith, common_steps);
+  homes = λ a b n k is are of so left.
+      let i : ℕ = c.loop-class.class in
+      let firsts : List ℕ = c.args.baseline.now.classes.firsts.items in
+      let place : ℕ = get_or firsts i 0 in
+      let below : i < length firsts = omega (arith, c.loop-class-test.true, c.loop-class.auto.class-end, c.requires.as_long) in
+      let pushed = ap (map (option_map (λ h. h.entries))) c.in_ok-push.ensures.items ∙ map-append (option_map (λ h. h.entries)) c.loop-class.homes.items (c.in_ok-homes_alone.field-0 ∷ []) in
+      subst (AtPlaces (IsKeptAlone a is.outcome b k are.outcome) (take (i + 1) firsts)) (sym pushed)
+      (places_more (IsKeptAlone a is.outcome b k are.outcome) firsts i place (place + 1) below refl refl (map (option_map (λ h. h.entries)) c.loop-class.homes.items) (option_map (λ h. h.entries) c.in_ok-homes_alone.field-0)
+      (c.loop-class.invariant.homes a b n k is are of so left) (c.in_ok-homes_alone.ensures a b n k is are of so left));
+}
+
+pub returns-clause-homes : goal.returns-clause-homes
+returns-clause-homes c a b n k is are of so left =
+    let firsts : List ℕ = c.args.baseline.now.classes.firsts.items in
+    let past : length firsts ≤ c.loop-class.class = omega (arith, c.loop-class-test.false, c.loop-class.auto.class-end, c.requires.as_long) in
+    places_all (IsKeptAlone a is.outcome b k are.outcome) firsts c.loop-class.class past (map (option_map (λ h. h.entries)) c.loop-class.homes.items) (c.loop-class.invariant.homes a b n k is are of so left)
+
+pub returns-clause-as_long : goal.returns-clause-as_long
+returns-clause-as_long c = omega (arith, c.loop-class.invariant.as_long, c.loop-class-test.false, c.loop-class.auto.class-end, c.requires.as_long)
+
+pub homes_alone-requires-clause-others : goal.homes_alone-requires-clause-others
+homes_alone-requires-clause-others c off =
+    let i : ℕ = c.loop-class.class in
+    let below : i < length c.args.breaking.now = omega (arith, c.loop-class-test.true, c.loop-class.auto.class-end) in
+    c.requires.others i (get_or_default c.args.breaking.now i true false below ∙ off)
