@@ -2,7 +2,7 @@ ghost use Rattle.std.specs.Prelude.{◌≡◌, ◌+◌, ◌++◌, ◌∷◌, [],
 ghost use Rattle.std.specs.List.{flat_map, list_any};
 ghost use Rattle.mst_rows.specs.Rows.{Row};
 ghost use Rattle.mst_summary.specs.diff.Reach.{has_any};
-ghost use Rattle.mst_verify.specs.Judged.{asks_at, has_now as scope_has_now};
+ghost use Rattle.mst_verify.specs.Judged.{asks_at};
 ghost use Rattle.mst_verdict.specs.Judged.{AreTexts, FoldsBy, found_at};
 ghost use Rattle.mst_verdict.specs.Once.{is_left_out as is_left, left_out, names_it as scope_names, now_at, once_rows, others, rows_now, same_rows, told_now};
 ghost use Rattle.mst_verdict.specs.Rows.{reason_row, row_at};
@@ -16,7 +16,7 @@ use mst_kinds::{Kind, VerifyLine};
 use mst_policy::{NameItem, NameList, Promise, Scope};
 use mst_rows::{Rows, Value, put};
 use mst_sweep::Failure;
-use mst_verify::{Reason, asks, asks_now};
+use mst_verify::{Reason, asks, asks_now, has_now};
 use std::alloc::{AllocError, Global};
 
 /// What a line is told once by: its number, its scope, and the lines of text of what the network itself gives.
@@ -88,18 +88,6 @@ fn names_it(scope: &Scope, failure: &Failure) -> bool
         Scope::AfterLan(names) => names.lists(name),
         Scope::AfterBridge(names) => names.lists(name),
         Scope::Always => false,
-    }
-}
-
-/// Whether a scope has the network itself.
-pub(crate) fn has_now(scope: &Scope) -> bool
-    ensures { result ≡ scope_has_now scope.now }
-{
-    match scope {
-        Scope::Now => true,
-        Scope::AfterLan(_) => false,
-        Scope::AfterBridge(_) => false,
-        Scope::Always => true,
     }
 }
 

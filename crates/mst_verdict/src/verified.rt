@@ -10,14 +10,14 @@ ghost use Rattle.mst_verdict.specs.Told.{is_now};
 ghost use Rattle.mst_verdict.specs.Verified.{IsVerified, is_broken_by, joined, rows_of_read, verdict_rows, whole_rows};
 
 use crate::judgement::{Finding, Judgement, one_if, put_found};
-use crate::once::{has_now, put_once, tells_once};
+use crate::once::{put_once, tells_once};
 use crate::promises::{count_judged, networks, promises, put_last};
 use crate::reason::At;
 use crate::refused::{put_lacking, put_missing, put_unread};
 use mst_policy::{PolicyLine, Promise, Scope};
 use mst_rows::Rows;
 use mst_sweep::Failure;
-use mst_verify::Missing;
+use mst_verify::{Missing, has_now};
 use std::alloc::{AllocError, Global};
 
 /// What is counted of a policy's lines.

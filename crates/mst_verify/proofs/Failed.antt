@@ -27,6 +27,7 @@ use Rattle.mst_sweep.specs.Failures.{edit_of, failures}
 use Rattle.mst_sweep.specs.declared.failure.Failure.{Failure}
 use Rattle.mst_sweep.specs.declared.failure.Failure.TheVariants.{Lan, Bridge}
 use Rattle.mst_sweep.proofs.Failed.{made}
+use Rattle.mst_sweep.proofs.StillOn.{on_row, row_on}
 use Rattle.mst_verify.specs.Judged.{gone_of}
 use Rattle.mst_verify.specs.Named.{is_gone}
 use Rattle.mst_verify.proofs.Keys.{key_there}
@@ -108,21 +109,8 @@ module _ (failure : Failure) (net failed : Net) (e : after (edit_of failure) net
   stay_members vid all = subst (λ n. AllAreMembers n vid) is_made (members_stay failure net vid all)
 
 -- ---- a bridge is on afterwards just where it was and isn't the one that failed
--- one that is on has a row that says so
-on_row : (net : Net) (name : List ℕ) → Contains (bridges_on net) name → (row : BridgeRow) × (fin.get net.bridges name ≡ Some row) × (row.is_on ≡ true)
-on_row net name h =
-    let e = from_map (λ (e : List ℕ × BridgeRow). e.0) (filter (λ (e : List ℕ × BridgeRow). e.1.is_on) (fin.entries net.bridges)) name h in
-    let f = from_filter (λ (e : List ℕ × BridgeRow). e.1.is_on) (fin.entries net.bridges) e.0 e.1 in
-    let found = all_contained (λ (e : List ℕ × BridgeRow). fin.get net.bridges e.0 ≡ Some e.1) (fin.entries net.bridges) e.0 (bridges_are net) f.0 in
-    (e.0.1, ap (fin.get net.bridges) (sym e.2) ∙ found, f.1)
-
 pub on_key : (net : Net) (name : List ℕ) → Contains (bridges_on net) name → Contains (fin.keys net.bridges) name
 on_key net name h = let r = on_row net name h in key_there net name r.0 r.1
-
-row_on : (net : Net) (name : List ℕ) (row : BridgeRow) → fin.get net.bridges name ≡ Some row → row.is_on ≡ true → Contains (bridges_on net) name
-row_on net name row e on =
-    in_map (λ (e : List ℕ × BridgeRow). e.0) (filter (λ (e : List ℕ × BridgeRow). e.1.is_on) (fin.entries net.bridges)) (name, row)
-    (in_filter (λ (e : List ℕ × BridgeRow). e.1.is_on) (fin.entries net.bridges) (name, row) (entry_there net name row e) on)
 
 module _ (bridge : List ℕ) (net : Net) (name : List ℕ) where
   abbrev off : Net

@@ -25,7 +25,7 @@ fn looks_back(expectation: &Expectation) -> bool
 }
 
 /// Whether a scope has the network itself.
-fn has_now(scope: &Scope) -> bool
+pub fn has_now(scope: &Scope) -> bool
     ensures { result ≡ scope_has_now scope.now }
 {
     match scope {

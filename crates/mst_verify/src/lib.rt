@@ -37,7 +37,7 @@ mod together;
 mod vids;
 mod why;
 
-pub use asking::{asks, asks_now};
+pub use asking::{asks, asks_now, has_now};
 pub use before::Before;
 pub use beside::Beside;
 pub use homes::Homes;
