@@ -1,5 +1,6 @@
 -- Whether a network does what a policy promises, and what is kept of its lines while they are judged.
 use Rattle.std.specs.Prelude.{◌≡◌, ◌++◌, ◌&&◌, not, is_some, ℕ, Bool, List, [], ◌∷◌, Option, None, Some, Result, Ok, Err, MatchOption, filter, map, slice_index_or, if◌then◌else◌, ⊤}
+use Rattle.std.specs.Bool.{MatchBool}
 use Rattle.std.specs.List.{AllZip}
 use Rattle.std.specs.Option.{option_map}
 use Rattle.mst_carried.specs.Carried.{ViewWithTrees}
@@ -22,24 +23,31 @@ use Rattle.mst_verify.specs.Seen.{IsBefore}
 use Rattle.mst_verify.specs.declared.lacking.Missing.{Missing}
 use Rattle.mst_verify.specs.declared.reason.Reason.{Reason}
 use Rattle.mst_verdict.specs.Judged.{StandsAt, line_found}
-use Rattle.mst_verdict.specs.Told.{AreLinesTold, Found, expected_at, has_reason, is_due, is_judged_at, lacked, looks_at}
-use Rattle.mst_verdict.specs.Verified.{Counts, IsVerified}
+use Rattle.mst_verdict.specs.Told.{AreLinesTold, Found, IsToldWhereUnkept, expected_at, has_reason, is_due, is_judged_at, lacked, looks_at}
+use Rattle.mst_verdict.specs.Verified.{Counts, IsToldWhereBroken, IsVerified}
 use Rattle.mst_verdict.specs.declared.judgement.Finding.{Finding}
 use Rattle.mst_judging.specs.declared.judging.Judging.{Judging}
 use Rattle.mst_judging.specs.declared.judging.Opened.{Opened}
 use Rattle.mst_plan.specs.declared.plan.Plan.{Plan}
 
--- these are the rows of a policy of the network, and this is counted of it, by a settled outcome of the network
+-- these are the rows of a policy of the network, and this is counted of it, by a settled outcome of the network: a line has rows just where
+-- its promise isn't kept
 pub record Verifies (net : Net) (lines : List PolicyLine) (counts : Counts) (rows : List Row) : Type 0 where
   pub outcome : Outcome
   pub is_outcome : IsOutcome net outcome
   pub told : IsVerified net outcome lines counts rows
+  pub broken : AllZip (IsToldWhereBroken net outcome) lines told.told
+
+-- a line that is judged in one of several networks has rows just where its promise isn't kept there, and one that isn't has none
+abbrev pub IsToldWhereDue : Bool → Net → Outcome → Prior → PolicyLine → List Row → Type 0
+IsToldWhereDue is_last net o prior line rows = MatchBool (is_judged_at is_last line) (IsToldWhereUnkept net o prior line rows) (rows ≡ [])
 
 -- these are the rows of each of its lines in one of several networks, by what is before that one and whether it is the last
 pub record Judges (net : Net) (prior : Prior) (is_last : Bool) (lines : List PolicyLine) (told : List (List Row)) : Type 0 where
   pub outcome : Outcome
   pub is_outcome : IsOutcome net outcome
   pub are : AreLinesTold net outcome prior is_last lines told
+  pub unkept : AllZip (IsToldWhereDue is_last net outcome prior) lines told
 
 -- what is before a network is one with a settled outcome
 abbrev pub IsPriorNetwork : Prior → Type 0

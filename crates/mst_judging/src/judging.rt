@@ -30,6 +30,7 @@ use mst_policy::{Expectation, PolicyLine, Promise};
 use mst_sweep::{Failure, failures};
 use mst_sweeping::{renew, trees_ahead};
 use mst_trees::Settled;
+use mst_verdict::laws::line_where_unkept;
 use mst_verdict::{Finding, Judgement, is_looked_at};
 use mst_verify::{Before, Beside, Homes, Judged, Missing, Prior, Reason, missing_in, reasons};
 use std::alloc::{AllocError, Global};
@@ -565,6 +566,7 @@ pub fn judge(
     ensures told { IfOk result (λ judgement. (before : PriorOf) → IsPrior (option_map (λ c. c.now) prior.entry) before → Judges network.old.net before is_last lines.now (told_in lines.now judgement)) }
     ensures same { SameContents network.old network.new }
 {
+    line_where_unkept();
     if lines.is_empty() {
         return Ok(Judgement::none(alloc));
     }

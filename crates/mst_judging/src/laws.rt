@@ -8,7 +8,7 @@ ghost use Rattle.mst_verdict.specs.Verified.{Counts as PolicyCounts};
 ghost use Rattle.mst_verify.specs.Named.{Prior as PriorOf};
 
 use mst_trees::laws::{has_outcome, one_outcome};
-use mst_verdict::laws::told_lines;
+use mst_verdict::laws::{line_where_unkept, told_lines, told_where_unkept};
 
 /// What is told of a policy: each network has one list of rows and one count of its lines, which the network and the lines alone settle.
 pub fn one_verification()
@@ -16,6 +16,7 @@ pub fn one_verification()
     ensures one { (net : Net) (lines : List LineOf) (c d : PolicyCounts) (rows other : List Row) → IsNetwork net → Verifies net lines c rows → Verifies net lines d other → (c ≡ d) × (rows ≡ other) }
 {
     has_outcome();
+    told_where_unkept();
     mst_verdict::laws::one_verification();
 }
 
@@ -28,5 +29,6 @@ pub fn one_judgement()
 {
     has_outcome();
     one_outcome();
+    line_where_unkept();
     told_lines();
 }

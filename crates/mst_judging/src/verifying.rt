@@ -11,6 +11,7 @@ use mst_plan::Plan;
 use mst_policy::PolicyLine;
 use mst_rows::Rows;
 use mst_sweep::failures;
+use mst_verdict::laws::told_where_unkept;
 use mst_verdict::{Verdict, put_verdict};
 use std::alloc::{AllocError, Global};
 
@@ -28,6 +29,7 @@ pub fn verify_network<R: Rows>(
     ensures few { IfOk result (λ verdict. verdict.refused ≤ length lines.now + 1) }
     ensures same { SameContents network.old network.new }
 {
+    told_where_unkept();
     let failures = failures(alloc, &plan.view)?;
     let asking = Asking {
         prior: None,

@@ -8,6 +8,7 @@ use Rattle.mst_verdict.specs.Judged.{told_in}
 use Rattle.mst_verdict.proofs.Lines.{told_there}
 use Rattle.mst_judging.specs.Verifying.{Judges, plan_outcome}
 use Rattle.mst_judging.proofs.Judgements.{plan_settled}
+use Rattle.mst_judging.proofs.OneJudgement.{all_due}
 use Rattle.mst_judging.proofs.judging.judge.Goals as goal
 
 pub returns-then-is_empty-clause-told : goal.returns-then-is_empty-clause-told
@@ -15,7 +16,7 @@ returns-then-is_empty-clause-told c = λ before is.
     let old = c.args.network.now in
     let none : c.args.lines.now ≡ [] = nil_from_length c.args.lines.now (eqb-true (length c.args.lines.now) 0 (sym c.is_empty.ensures ∙ c.if-is_empty.true)) in
     subst (λ (lines : List PolicyLine). Judges old.net before c.args.is_last lines (told_in lines c.none.result)) (sym none)
-    (record { outcome = plan_outcome old.net old.numbers c.args.plan.now; is_outcome = plan_settled old.net old.numbers c.args.plan.now c.requires; are = tt })
+    (record { outcome = plan_outcome old.net old.numbers c.args.plan.now; is_outcome = plan_settled old.net old.numbers c.args.plan.now c.requires; are = tt; unkept = tt })
 
 pub returns-then-is_empty-clause-same : goal.returns-then-is_empty-clause-same
 returns-then-is_empty-clause-same c = same_all c.args.network.now
@@ -32,5 +33,8 @@ returns-clause-told c =
       outcome = o;
       is_outcome = plan_settled old.net old.numbers c.args.plan.now c.requires;
       are = told_there old.net o before c.args.is_last judgement c.args.lines.now (judged before is);
+      unkept =
+          all_due c.args.is_last old.net o before (λ line rows told. c.line_where_unkept.ensures old.net o before line rows c.requires.of.network (plan_settled old.net old.numbers c.args.plan.now c.requires) told) c.args.lines.now
+          (told_in c.args.lines.now judgement) (told_there old.net o before c.args.is_last judgement c.args.lines.now (judged before is));
     })
     c.judge_lines.ensures.judged

@@ -1,10 +1,20 @@
+use Rattle.mst_verdict.specs.Verified.{IsToldWhereBroken, IsVerdict}
+use Rattle.mst_judging.proofs.Judgements.{zip_weaker}
 use Rattle.mst_judging.proofs.laws.one_verification.Goals as goal
 
 pub returns-clause-some : goal.returns-clause-some
 returns-clause-some c = λ net lines ok.
     let o = c.has_outcome.ensures net ok in
-    let v = c.one_verification.ensures.some net o.0 lines ok o.1 in
-    (v.0, v.1, record { outcome = o.0; is_outcome = o.1; told = v.2 })
+    let v = c.one_verification.ensures.some net o.0 lines ok o.1 in (
+      v.0,
+      v.1,
+      record {
+        outcome = o.0;
+        is_outcome = o.1;
+        told = v.2;
+        broken = zip_weaker (IsVerdict net o.0) (IsToldWhereBroken net o.0) (λ line rows is. c.told_where_unkept.ensures net o.0 line rows ok o.1 is) lines v.2.told v.2.each;
+      },
+    )
 
 pub returns-clause-one : goal.returns-clause-one
 returns-clause-one c = λ net lines n m rows other ok a b. c.one_verification.ensures.one net a.outcome b.outcome lines n m rows other ok a.is_outcome b.is_outcome a.told b.told
