@@ -305,8 +305,8 @@ impl Planner {
     }
 
     /// Puts what each pair of a part of those of the network's failures does: in the order of the failures of a sweep, each with each
-    /// behind it, by the first and then by the second. For those pairs that cut some VIDs together which neither failure cuts alone a
-    /// row with these VIDs, and the rows of their parts, as soon as they are known; and a last row that counts the pairs and those of
+    /// behind it, by the first and then by the second. For those pairs that part bridges of some VIDs which either failure alone leaves joined
+    /// a row with these VIDs, and the rows of their parts, as soon as they are known; and a last row that counts the pairs and those of
     /// them. The answer is how many these are.
     ///
     /// `AllocError`: memory was wanted and refused; some of the rows may have been put.

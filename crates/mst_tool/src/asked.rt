@@ -18,7 +18,7 @@ pub enum Question {
     Unread(Fault),
     /// What each single failure of this part does: each LAN that is up going down, and each bridge that is on going off.
     Sweep(SweepPart),
-    /// What each pair of failures of this part does: which VIDs both together cut, and neither alone.
+    /// What each pair of failures of this part does: of which VIDs both together part bridges that either alone leaves joined.
     Pairs(SweepPart),
     /// The first screen: how much there is, roots, ports that block, islands of VIDs and what LANs carry.
     Summary,

@@ -57,8 +57,8 @@ pub enum Answer {
 /// that its bridge has. Where that isn't told, a line `explain CODE TEXT` says why, by the first of these: the fault of the
 /// words, where they ask for nothing, or why the port [isn't explained](Unexplained). That counts as one refused line more.
 /// For [`Question::Sweep`] it is what each single failure of the part does, and counts as one that differs where some failure of it
-/// cuts a VID, and for [`Question::Pairs`] what each pair of failures of the part does, and counts so where some pair of it cuts a
-/// VID that neither failure cuts alone.
+/// cuts a VID, and for [`Question::Pairs`] what each pair of failures of the part does, and counts so where some pair of it parts
+/// bridges of a VID that either failure alone leaves joined.
 /// For [`Question::Summary`] it is the summary of the network, and for [`Question::Picture`] its picture with the tree, or with the VLAN
 /// for [`Question::VlanPicture`]. Where the word for the tree or the VLAN has a fault, a line `dot CODE TEXT` says so, and counts as one
 /// refused line more.
