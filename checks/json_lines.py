@@ -137,9 +137,7 @@ def part_of(words, texts):
     return (words[0], *(texts[it][word] for it, word in zip(("Key", "Mark"), words[1:])))
 
 
-# (of the table's kinds nothing tells these yet)
-UNTOLD = {("SummaryLine", "LookTable"), ("SummaryLine", "LookVlans")}
-KINDS = [kind for kind in kinds() if kind[:2] not in UNTOLD]
+KINDS = list(kinds())
 TYPES = dict(KEY.findall(read("docs", "JSON.md").partition("## Keys")[2]))
 
 

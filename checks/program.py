@@ -27,6 +27,7 @@ import edits_runs  # noqa: E402
 import hint_runs  # noqa: E402
 import large_runs  # noqa: E402
 import line_runs  # noqa: E402
+import pairs_runs  # noqa: E402
 import size_runs  # noqa: E402
 import steps_runs  # noqa: E402
 import verify_runs  # noqa: E402
@@ -476,6 +477,7 @@ vlan 10,20 islands 1
 carries ab 10,20
 carries bc -
 carries * ac
+look vlans A:1 1-9,11-19,21-4094 B:1 -
 """
 OFF_IN_SHORT = b"""bridges 3 on 2 ports 6 enabled 3 regions 3 trees 1
 tree 0 root A 32768 of 2 next B 32768
@@ -512,14 +514,25 @@ blocked 0 C:1
 vlan 1-4094 islands 1
 carries * x,y
 """
-SLIPS_IN_SHORT = b"""bridges 3 on 3 ports 4 enabled 4 regions 3 trees 1
+SLIPS_IN_SHORT = b"""bridges 6 on 6 ports 4 enabled 4 regions 5 trees 2
 tree 0 root A 32768 of 3 next B 32768
+tree 0 root D 32768 of 1 next -
+tree 0 root E 32768 of 1 next -
+tree 0 root F 32768 of 1 next -
 blocked 0 -
-vlan 1-4094 islands 1
-carries * X,Y
+tree 1 root D 32768 of 1 next -
+tree 1 root E 32768 of 1 next -
+tree 1 root F 32768 of 1 next -
+blocked 1 -
+vlan 1-99 islands 4
+vlan 100-4094 islands 5
+carries Y 1-99
+carries * X
 look region campus A Campus B
 look region campus A canpus C
+look region lab 1 F table without 16-19
 look lan X speed 1000 next 1000000
+look vlans B:2 100-4094 C:1 -
 """
 
 
@@ -1275,6 +1288,7 @@ def main():
         passed += edits_runs.checks(program, folder)
         passed += steps_runs.checks(program, folder)
         passed += advise_runs.checks(program, folder)
+        passed += pairs_runs.checks(program, folder)
         passed += large_runs.checks(program, folder)
         passed += size_runs.checks(program, folder)
     print(f"{sum(passed)} passed, {len(passed) - sum(passed)} failed")

@@ -356,27 +356,38 @@ def swept(program, script, text, lans, bridges):
     return [*lines, f"sweep lans {len(lans)} bridges {len(bridges)} cuts {cuts}"]
 
 
-def cut_by(old, new):
-    """The parts of each VID that is cut."""
-    told = {vid: parts(old.islands[vid], new.islands[vid]) for vid in range(1, 4095)}
-    return {vid: cut for vid, cut in told.items() if cut}
+def joined_in_all(texts, vid):
+    """The bridges that are on in each of some networks, in sets of those that are in one island of a VID in each."""
+    places = [{bridge: place for place, island in enumerate(text.islands[vid]) for bridge in island} for text in texts]
+    joined = {}
+    for bridge in sorted(set.intersection(*map(set, places))):
+        joined.setdefault(tuple(where[bridge] for where in places), []).append(bridge)
+    return list(joined.values())
+
+
+def cut_together(before, first, second, both):
+    """VIDs by their parts: of each set of bridges that are joined before and with either failure alone, what is together with both."""
+    groups, known = {}, {}
+    # a text has one list of islands for all VIDs that it tells of together
+    lists = [[id(text.islands[vid]) for vid in range(1, 4095)] for text in (before, first, second, both)]
+    for vid, listed in enumerate(zip(*lists), 1):
+        if listed not in known:
+            known[listed] = parts(joined_in_all((before, first, second), vid), both.islands[vid])
+        if known[listed]:
+            groups.setdefault(known[listed], []).append(vid)
+    return groups
 
 
 def paired(program, script, text, lans, bridges):
-    """What pairs of failures cut that neither cuts alone."""
+    """What pairs of failures take apart that either alone leaves joined."""
     failures = failures_of(lans, bridges)
-    alone = [cut_by(text, text_of(program, [*script, edit])) for _, _, edit in failures]
+    alone = [text_of(program, [*script, edit]) for _, _, edit in failures]
     lines, cuts = [], 0
     for (one, first), (other, second) in itertools.combinations(list(zip(failures, alone)), 2):
-        both = cut_by(text, text_of(program, [*script, one[2], other[2]]))
-        groups = {}
-        for vid, told in both.items():
-            if vid not in first and vid not in second:
-                groups.setdefault(told, []).append(vid)
+        groups = cut_together(text, first, second, text_of(program, [*script, one[2], other[2]]))
         if groups:
             cuts += 1
-            cut = list_of(itertools.chain.from_iterable(groups.values()))
-            lines.append(f"pair {one[0]} {one[1]} {other[0]} {other[1]} cut {cut}")
+            lines.append(f"pair {one[0]} {one[1]} {other[0]} {other[1]} cut {vids_in(groups)}")
             lines += [f"cut {list_of(vids)} parts {told}" for told, vids in groups.items()]
     return [*lines, f"sweep pairs {len(failures) * (len(failures) - 1) // 2} cuts {cuts}"]
 
@@ -464,20 +475,24 @@ def bridges_told(saved):
 
 
 def lans_told(saved):
-    """Logical LANs by name: (name, speed, whether it is up, the bridges of its ports)."""
+    """Logical LANs by name: (name, speed, whether it is up, its logical ports by bridge and number)."""
     speeds, states = settings_of(saved, "speed", ["1000000"]), settings_of(saved, "lan", ["up"])
     keys = {(words[1], words[2]): int(words[3]) for words in saved if words[0] == "setkey"}
     plugs, classes = {words[1]: [] for words in saved if words[0] == "addlan"}, {}
     for words in saved:
         if words[0] == "plug":
-            plugs[words[3]].append((words[1], keys.get((words[1], words[2]), 0)))
-    for lan, sides in sorted(plugs.items()):
+            plugs[words[3]].append((words[1], int(words[2]), keys.get((words[1], words[2]), 0)))
+    for lan, ports in sorted(plugs.items()):
+        sides = [(bridge, key) for bridge, _, key in ports]
         alone = len(sides) != 2 or sides[0][0] == sides[1][0] or not all(key for _, key in sides)
         classes.setdefault(lan if alone else frozenset(sides), []).append(lan)
     told = []
     for lans in classes.values():
         ups = [lan for lan in lans if states(lan) == ["up"]]
-        told.append((lans[0], sum(int(speeds(lan)[0]) for lan in ups), bool(ups), [bridge for bridge, _ in plugs[lans[0]]]))
+        ports = sorted(port[:2] for lan in lans for port in plugs[lan])
+        # of a group of LANs each bridge has one logical port, the first
+        firsts = ports if len(lans) == 1 else [port for at, port in enumerate(ports) if not at or ports[at - 1][0] != port[0]]
+        told.append((lans[0], sum(int(speeds(lan)[0]) for lan in ups), bool(ups), firsts))
     return sorted(told)
 
 
@@ -491,12 +506,16 @@ def is_near(one, other):
     return any(long[:at] + long[at + 1 :] == short for at in range(len(long)))
 
 
-def looks_at_regions(bridges):
+def named_regions(bridges):
+    """The regions that were given a name, by their first bridges: ((name, revision, table), bridges)."""
     regions = {}
     for name, mac, kind, conf, revision, table in bridges:
         if kind == "mstp":
             regions.setdefault((conf, revision, tuple(sorted(table.items()))), []).append((name, mac))
-    named = [(key, [name for name, _ in members]) for key, members in regions.items() if key[0] != members[0][1]]
+    return [(key, [name for name, _ in members]) for key, members in regions.items() if key[0] != members[0][1]]
+
+
+def looks_at_regions(named):
     return [
         f"look region {one[0]} {','.join(members)} {other[0]} {','.join(others)}"
         for (one, members), (other, others) in itertools.combinations(named, 2)
@@ -504,17 +523,42 @@ def looks_at_regions(bridges):
     ]
 
 
-def looks_at_lans(lans):
+def looks_at_tables(named):
+    """The bridge that stands against two or more, where all that have its name and its revision have one of two tables."""
     lines = []
-    for name, speed, up, ports in lans:
-        beside = [s for lan, s, is_up, others in lans if lan != name and is_up and set(others) & set(ports)]
-        if up and len(set(ports)) == 2 and beside and min(beside) >= 100 * speed:
+    for (conf, revision, table), members in named:
+        others = [(dict(key[2]), those) for key, those in named if key[:2] == (conf, revision) and key[2] != table]
+        if len(members) == 1 and len(others) == 1 and len(others[0][1]) > 1:
+            apart = [vid for vid in range(1, 4095) if dict(table).get(vid, 0) != others[0][0].get(vid, 0)]
+            lines.append(f"look region {conf} {revision} {members[0]} table without {list_of(apart)}")
+    return lines
+
+
+def looks_at_lans(lans):
+    bridges = {name: {bridge for bridge, _ in ports} for name, _, _, ports in lans}
+    lines = []
+    for name, speed, up, _ in lans:
+        beside = [s for lan, s, is_up, _ in lans if lan != name and is_up and bridges[lan] & bridges[name]]
+        if up and len(bridges[name]) == 2 and beside and min(beside) >= 100 * speed:
             lines.append(f"look lan {name} speed {speed} next {min(beside)}")
     return lines
 
 
+def looks_at_vlans(lans, saved):
+    """The links of two ports of two bridges that are members of different VLANs."""
+    allowed = {(words[1], int(words[2])): words[3] for words in saved if words[0] == "setportvlans"}
+    lines = []
+    for _, _, up, ports in lans:
+        if up and len(ports) == 2 and ports[0][0] != ports[1][0]:
+            one, other = (set() if it == "none" else set(numbers_in(it)) for it in (allowed.get(port, "1-4094") for port in ports))
+            told = (f"{at(port)} {list_of(vids)}" for port, vids in zip(ports, (one - other, other - one)))
+            lines += ["look vlans " + " ".join(told)] * (one != other)
+    return lines
+
+
 def looks(saved):
-    return looks_at_regions(bridges_told(saved)) + looks_at_lans(lans_told(saved))
+    named, lans = named_regions(bridges_told(saved)), lans_told(saved)
+    return looks_at_regions(named) + looks_at_tables(named) + looks_at_lans(lans) + looks_at_vlans(lans, saved)
 
 
 # ---- networks

@@ -73,15 +73,15 @@ def page_text(out, err, status):
     return whole[0] + (f"== error\n{whole[1]}" if err else "") + (f"== status {status}\n" if status else "")
 
 
-def difference(program, run):
-    """How a run differs from what is expected, if it does."""
+def difference(command, run):
+    """How a run of a command, which stands before the run's words, differs from what is expected, if it does."""
     with tempfile.TemporaryDirectory(prefix="texts-") as folder:
         for name, text in run.files.items():
             with open(os.path.join(folder, name), "w", encoding="utf-8", newline="") as file:
                 file.write(text)
         given = run.parts["input"].encode()
         try:
-            ran = subprocess.run([program, *run.words], input=given, capture_output=True, timeout=SECONDS, check=False, cwd=folder)
+            ran = subprocess.run([*command, *run.words], input=given, capture_output=True, timeout=SECONDS, check=False, cwd=folder)
         except subprocess.TimeoutExpired:
             return f"{run.place}: no end in {SECONDS} seconds\n"
     came = (ran.stdout.decode(errors="backslashreplace"), ran.stderr.decode(errors="backslashreplace"), ran.returncode)
@@ -98,7 +98,7 @@ def main():
     paths = [os.path.join(TOPICS, f"{name}.txt") for name in sys.argv[2:]] or sorted(glob.glob(os.path.join(TOPICS, "*.txt")))
     runs = [run for path in paths for run in runs_of(path)]
     with concurrent.futures.ThreadPoolExecutor(os.cpu_count()) as pool:
-        found = [text for text in pool.map(lambda run: difference(program, run), runs) if text]
+        found = [text for text in pool.map(lambda run: difference([program], run), runs) if text]
     print("".join(f"{text}\n" for text in found), end="")
     print(f"texts: {len(runs)} runs, {len(found)} differ")
     return 1 if found or not runs else 0

@@ -34,12 +34,16 @@ class Program:
     def failed(self, words, why):
         return Failed(f"{self.path} {' '.join(words)}: {why}")
 
-    def run(self, *words, given=b"", statuses=(WANTED, TOLD)):
-        """Standard output of one run, as bytes, and its status, which is one of these. `given` is its standard input."""
+    def ran(self, *words, given=b""):
+        """One run, with both its outputs and its status, whatever it is. `given` is its standard input."""
         try:
-            ran = subprocess.run([self.path, *words], input=given, capture_output=True, check=False)
+            return subprocess.run([self.path, *words], input=given, capture_output=True, check=False)
         except OSError as fault:
             raise Failed(f"{self.path}: {fault.strerror}") from fault
+
+    def run(self, *words, given=b"", statuses=(WANTED, TOLD)):
+        """Standard output of one run, as bytes, and its status, which is one of these."""
+        ran = self.ran(*words, given=given)
         if ran.returncode not in statuses:
             raise self.failed(words, ended(ran.returncode, ran.stderr))
         return ran.stdout, ran.returncode

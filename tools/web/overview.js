@@ -10,7 +10,7 @@ class Overview {
   told() {
     return markup`<h2>Overview</h2><div class="minor">Click a switch, a cable or a port's number; by keyboard Tab and Enter.</div>
       ${this.all.before ? this.change() : ""}${this.refusals()}${this.network.treeNumbers.map(tree => this.roots(tree))}
-      ${this.regions()}${this.ties()}${this.spares()}${this.notes()}`;
+      ${this.regions()}${this.ties()}${this.spares()}${this.looks()}${this.notes()}`;
   }
 
   change() {
@@ -106,6 +106,22 @@ class Overview {
     if (!spare.length) return "";
     const told = spare.length > MOST_NAMES ? `${spare.length} links` : joined(spare.map(([lan]) => lanJump(lan)), ", ");
     return markup`<h3>Spare links</h3><div>${told} ${minor(`${spare.length === 1 ? "carries" : "carry"} no VLAN while all is well`)}</div>`;
+  }
+
+  /** What is most often a slip. */
+  looks() {
+    const looks = this.network.summary.filter(it => it.kind === "look"), rows = looks.slice(0, MOST_NAMES).map(it => line(this.slip(it)));
+    if (looks.length > rows.length) rows.push(minor(`and ${looks.length - rows.length} more`));
+    return rows.length ? markup`<h3>Worth a look</h3>${rows}` : "";
+  }
+
+  slip(it) {
+    const { telling } = this, named = (name, bridges) => [markup`<b>${name}</b> (`, some(bridges.map(bridge => telling.bridgeJump(bridge)), MOST_NAMES), ")"];
+    const end = (port, vids) => [portJump(portText(port)), " ", vids.length ? listed(listOf(vids)) : DASH];
+    if (it.look === "lan") return [lanJump(it.lan), ` has ${speedText(it.speed)}, and the slowest link beside it ${speedText(it.next_speed)}`];
+    if (it.look === "vlans") return ["VLANs that one end of a link alone allows: ", end(it, it.vids), ", ", end(it.other_port, it.other_vids)];
+    if (it.vids) return [telling.bridgeJump(it.bridge), markup` has another MSTI than all others of <b>${it.name}</b> for VLANs `, listed(listOf(it.vids))];
+    return ["Regions whose names are nearly one: ", named(it.name, it.bridges), ", ", named(it.other_name, it.other_bridges)];
   }
 
   notes() {
