@@ -49,9 +49,6 @@ NULLS = {
     "*VerifyLine::*": ("failure", "next"),
     "*VerifyLine::Role": ("role",),
 }
-# Kinds of the table that nothing tells yet.
-UNTOLD = {("SummaryLine", "LookTable"), ("SummaryLine", "LookVlans")}
-UNTOLD_KEYS = ("OtherPort", "OtherVids")
 # The kinds of lines behind a step, which are those of a policy but for two that stand behind no step.
 BEHIND, NOT_BEHIND = "StepVerify", ("Same", "Counts")
 TABLE = re.compile(r"(<!-- table of (\w+) -->\n).*?(?=<!-- end of table -->)", re.DOTALL)
@@ -91,7 +88,7 @@ def groups():
         # where the parts of a line behind a step stand, the step comes first, and its parts alone are those behind it
         front, prefix = ("parts_behind_step" in text) * (group != BEHIND), BEHIND.removesuffix("Verify") * (group == BEHIND)
         for line, name in variants(text, enum):
-            if (group == BEHIND and name in NOT_BEHIND) or (enum, name) in UNTOLD:
+            if group == BEHIND and name in NOT_BEHIND:
                 continue
             parts = re.search(rf"{enum}::{name} =>\s+parts!\[(.*?)\]", text).group(1).split(", ")
             first, words = re.search(rf"{enum}::{name} => Mark::(\w+)", text).group(1), iter(line.split("`")[1].split())
@@ -119,8 +116,7 @@ def keys():
     names = texts(read("src", "key.rt"), "Key")
     sorts = dict(re.findall(r"^sort_of key\.(\w+) = (\w+)$", read("specs", "Sorts.antt"), re.MULTILINE))
     for meaning, key in sorted(variants(read("src", "key.rt"), "Key"), key=lambda it: names[it[1]]):
-        if key not in UNTOLD_KEYS:
-            yield names[key], TYPES[sorts.get(key, "words")], meaning[0].lower() + meaning[1:].rstrip(".")
+        yield names[key], TYPES[sorts.get(key, "words")], meaning[0].lower() + meaning[1:].rstrip(".")
 
 
 # ---- the tables of the page
