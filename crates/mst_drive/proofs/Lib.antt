@@ -1,0 +1,4 @@
+pub mod Feeds
+pub mod Drives
+pub mod Turned
+pub mod Words

@@ -1,0 +1,5 @@
+pub mod Said
+pub mod Feeding
+pub mod Driving
+pub mod Turned
+pub mod Words
